@@ -1,0 +1,10 @@
+pub mod ChangesLemmas
+pub mod FilledLemmas
+pub mod FreePlaces
+pub mod ListsLemmas
+pub mod NodeLemmas
+pub mod OrderChanges
+pub mod OrderLemmas
+pub mod PathsLemmas
+pub mod PutLemmas
+pub mod SlotsLemmas

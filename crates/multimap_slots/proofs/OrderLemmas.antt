@@ -1,0 +1,124 @@
+-- What linked nodes tell of their order, and how a push and a removal keep it.
+use Rattle.std.proofs.Common.{◌≡◌, ℕ, ◌<◌, List, [], ◌∷◌, ◌++◌, length, get_or, set, IfSome, Option, None, refl, sym, ap, subst, ◌∙◌, inl, inr}
+use Rattle.std.proofs.lemmas.Bool.{cases_lt}
+use Rattle.std.proofs.lemmas.List.{length-map, get_or_past}
+use Rattle.multimap_slots.specs.declared.order.node.Node.{Node}
+use Rattle.multimap_slots.specs.declared.order.node.State.TheVariants.{Listed, Free}
+use Rattle.multimap_slots.specs.Lists.{IsIn, AreDistinct, first_of, last_of, next_of, previous_of}
+use Rattle.multimap_slots.specs.Paths.{after, IsPath, walk}
+use Rattle.multimap_slots.specs.ListLayout.{nexts, previouses, states, IsOrdered}
+use Rattle.multimap_slots.proofs.ListsLemmas.{Split, IsIn-left, IsIn-right, IsIn-split, AreDistinct-gone, next_of-split, previous_of-split}
+use Rattle.multimap_slots.proofs.PathsLemmas.{last_or_in, walk-path, path-first, path-last, path-neighbours}
+use Rattle.multimap_slots.proofs.NodeLemmas.{field_read, length-states, nexts-relink, previouses-relink, states-relink}
+
+module _ {L : Type 0} where
+  pub IsOrdered-empty : IsOrdered {L = L} [] None None None 0
+  IsOrdered-empty = record {
+    order = [];
+    path = (refl, refl);
+    distinct = tt;
+    listed = λ p i. absurd i;
+    all_in = λ p e. absurd (let e' = e in cc);
+    counted = refl;
+    vacant = 0;
+    total = refl;
+    frees = refl;
+  }
+
+  -- the nodes are linked in just this order
+  pub record HasOrder (nodes : List (Node L)) (front back free : Option ℕ) (len : ℕ) (order : List ℕ) : Type 0 where
+    pub ordered : IsOrdered nodes front back free len
+    pub order_is : ordered.order ≡ order
+
+  module _ {nodes : List (Node L)} {front back free : Option ℕ} {len : ℕ} (o : IsOrdered nodes front back free len) where
+    pub walk-order : walk (after front (nexts nodes)) None len ≡ o.order
+    walk-order = rw o.counted (walk-path (after front (nexts nodes)) (after back (previouses nodes)) None o.order o.path)
+
+    pub walk-length : length (walk (after front (nexts nodes)) None len) ≡ len
+    walk-length = ap length walk-order ∙ sym o.counted
+
+    pub front-is : front ≡ first_of o.order
+    front-is = path-first (after front (nexts nodes)) (after back (previouses nodes)) None o.order o.path
+
+    pub back-is : back ≡ last_of o.order
+    back-is = path-last (after front (nexts nodes)) (after back (previouses nodes)) None o.order o.path
+
+    pub IsIn-within : (p : ℕ) → IsIn p o.order → p < length nodes
+    IsIn-within p i = elim (cases_lt p (length nodes)) [
+      | inl below ↦ below
+      | inr past ↦ absurd (let bad = sym (get_or_past (states nodes) p Free (rw length-map past)) ∙ o.listed p i in cc)
+    ]
+
+    -- where a place stands in the order
+    pub split_at : (p : ℕ) → IsIn p (walk (after front (nexts nodes)) None len) → Split p o.order
+    split_at p i = IsIn-split p o.order (rw walk-order at i)
+
+    module _ {p : ℕ} (s : Split p o.order) where
+      pub split_in : IsIn p o.order
+      split_in = rw s.is (IsIn-right p s.front (p ∷ s.back) (inl refl))
+
+      pub split_within : p < length nodes
+      split_within = IsIn-within p split_in
+
+      pub split_distinct : AreDistinct (s.front ++ p ∷ s.back)
+      split_distinct = subst AreDistinct s.is o.distinct
+
+      pub split_gone : IsIn p (s.front ++ s.back) → ⊥
+      split_gone = AreDistinct-gone s.front p s.back split_distinct
+
+      pub neighbours : (get_or (previouses nodes) p None ≡ last_of s.front) × (get_or (nexts nodes) p None ≡ first_of s.back)
+      neighbours =
+          path-neighbours (after front (nexts nodes)) (after back (previouses nodes)) None s.front p s.back
+          (subst (IsPath (after front (nexts nodes)) (after back (previouses nodes)) None) s.is o.path)
+
+      pub next-is : get_or (nexts nodes) p None ≡ next_of o.order p
+      next-is =
+          neighbours.1 ∙ sym (next_of-split s.front p s.back (λ i. split_gone (IsIn-left p s.front s.back i)))
+          ∙ ap (λ ps. next_of ps p) (sym s.is)
+
+      pub previous-is : get_or (previouses nodes) p None ≡ previous_of o.order p
+      previous-is =
+          neighbours.0 ∙ sym (previous_of-split s.front p s.back (λ i. split_gone (IsIn-right p s.front s.back i)))
+          ∙ ap (λ ps. previous_of ps p) (sym s.is)
+
+    -- the last of some listed places is within the nodes
+    pub last-within : (a : Option ℕ) (ps : List ℕ) → a ≡ last_of ps → ((x : ℕ) → IsIn x ps → IsIn x o.order) → IfSome a (λ q. q < length nodes)
+    last-within a ps e listed = elim (last_or_in None ps) [
+      | inl none ↦ rw (e ∙ none) tt
+      | inr some ↦ rw (e ∙ some.1) (IsIn-within some.0 (listed some.0 some.2))
+    ]
+
+    -- and so is the first
+    pub first-within : (a : Option ℕ) (ps : List ℕ) → a ≡ first_of ps → ((x : ℕ) → IsIn x ps → IsIn x o.order) → IfSome a (λ q. q < length nodes)
+    first-within a [] e listed = rw e tt
+    first-within a (p ∷ ps) e listed = rw e (IsIn-within p (listed p (inl refl)))
+
+    -- what the state of a node that was read says
+    pub state_tells : (p : ℕ) (read : Node L) → p < length nodes → read ≡ get_or nodes p read
+        → (IsIn p (walk (after front (nexts nodes)) None len) → read.state ≡ Listed) × (read.state ≡ Listed → IsIn p (walk (after front (nexts nodes)) None len))
+    state_tells p read within reading = (
+      λ i. field_read (λ n. n.state) nodes p read Free within reading ∙ o.listed p (rw walk-order at i),
+      λ e. rw walk-order (o.all_in p (sym (field_read (λ n. n.state) nodes p read Free within reading) ∙ e)),
+    )
+
+module _ {L : Type 0} {nodes : List (Node L)} {front back free : Option ℕ} {len : ℕ} where
+  -- nodes that differ in their links alone are linked alike
+  IsOrdered-same : {new : List (Node L)} → nexts new ≡ nexts nodes → previouses new ≡ previouses nodes → states new ≡ states nodes
+      → IsOrdered nodes front back free len → IsOrdered new front back free len
+  IsOrdered-same {new} same_nexts same_previouses same_states o = record {
+    order = o.order;
+    path = rw (same_nexts, same_previouses) o.path;
+    distinct = o.distinct;
+    listed = λ p i. rw same_states (o.listed p i);
+    all_in = λ p e. o.all_in p (rw same_states at e);
+    counted = o.counted;
+    vacant = o.vacant;
+    total = o.total ∙ sym (length-states new nodes same_states);
+    frees = rw (same_nexts, same_states) o.frees;
+  }
+
+  -- another link in a node that was read
+  pub IsOrdered-relink : (p : ℕ) (read : Node L) (link : L) → read ≡ get_or nodes p read
+      → IsOrdered nodes front back free len → IsOrdered (set nodes p (record read { link = link })) front back free len
+  IsOrdered-relink p read link reading o =
+      IsOrdered-same (nexts-relink nodes p read link reading) (previouses-relink nodes p read link reading) (states-relink nodes p read link reading) o

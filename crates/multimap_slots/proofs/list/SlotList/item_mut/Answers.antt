@@ -1,0 +1,7 @@
+use Rattle.std.proofs.Common.{arith}
+use Rattle.multimap_slots.proofs.FilledLemmas.{filled_within}
+use Rattle.multimap_slots.proofs.list.SlotList.item_mut.Goals as goal
+
+pub index_mut-requires : goal.index_mut-requires
+index_mut-requires g c =
+    omega (arith, c.self.inside.items.ok, filled_within c.self.invariant c.args.place (rw (← c.self.view_is) at c.requires))

@@ -1,0 +1,21 @@
+use Rattle.std.proofs.Common.{arith, refl, sym, ◌∙◌}
+use Rattle.multimap_slots.proofs.OrderLemmas.{split_at, split_within, state_tells}
+use Rattle.multimap_slots.proofs.order.Order.is_listed.Goals as goal
+
+pub returns-then-place-len : goal.returns-then-place-len
+returns-then-place-len g c = (
+  λ e. absurd (cc),
+  λ i. absurd (omega (arith, c.if-place-len.true, c.self.inside.nodes.ok, c.len.ensures, split_within c.self.invariant (split_at c.self.invariant c.args.place (rw (← c.self.view_is) at i)))),
+)
+
+pub returns-in-Listed : goal.returns-in-Listed
+returns-in-Listed g c = (
+  λ _. rw (← c.self.view_is) ((state_tells c.self.invariant c.args.place c.index.result.now (omega (arith, c.self.inside.nodes.ok)) c.index.ensures).1 c.in-Listed.is),
+  λ _. refl,
+)
+
+pub returns-in-Free : goal.returns-in-Free
+returns-in-Free g c = (
+  λ e. absurd (cc),
+  λ i. absurd (let e = sym c.in-Free.is ∙ (state_tells c.self.invariant c.args.place c.index.result.now (omega (arith, c.self.inside.nodes.ok)) c.index.ensures).0 (rw (← c.self.view_is) at i) in cc),
+)

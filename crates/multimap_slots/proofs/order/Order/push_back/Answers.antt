@@ -1,0 +1,44 @@
+use Rattle.std.proofs.Common.{◌∷◌, [], ◌++◌, refl, ap, sym, ◌∙◌, arith}
+use Rattle.std.proofs.lemmas.List.{length-map}
+use Rattle.multimap_slots.specs.ListLayout.{states, links}
+use Rattle.multimap_slots.proofs.PutLemmas.{map-put, length-put}
+use Rattle.multimap_slots.proofs.NodeLemmas.{within_more}
+use Rattle.multimap_slots.proofs.OrderLemmas.{back-is, last-within, walk-length, walk-order}
+use Rattle.multimap_slots.proofs.OrderChanges.{IsOrdered-push}
+use Rattle.multimap_slots.proofs.order.Order.push_back.Goals as goal
+
+pub claim-place-requires : goal.claim-place-requires
+claim-place-requires g c =
+    let room = rw (← c.self.view_is) at c.requires in
+    record {
+      vacant = c.self.invariant.vacant;
+      frees = c.self.invariant.frees;
+      room = λ none. omega (arith, room, none, c.self.invariant.total, walk-length c.self.invariant);
+    }
+
+pub some-end-requires : goal.some-end-requires
+some-end-requires g c = omega (arith, c.claim-place.ensures.within, c.claim-place.new.nodes.ok)
+
+pub set_next-requires : goal.set_next-requires
+set_next-requires g c =
+    within_more _ _ _ (rw c.claim-place.ensures.claims.written (length-put _ _ _)) (last-within c.self.invariant _ _ (back-is c.self.invariant) (λ x i. i))
+
+pub invariant_of-self : goal.invariant_of-self
+invariant_of-self g c =
+    rw c.some-end.ensures
+    (IsOrdered-push c.self.invariant c.claim-place.ensures.claims c.none.ensures refl refl (rw c.some-end.ensures at c.set_next.ensures.written)).ordered
+
+pub returns-clause-adds : goal.returns-clause-adds
+returns-clause-adds g c =
+    let claims = c.claim-place.ensures.claims in
+    let tied = c.set_next.ensures.written in
+    let pushed = IsOrdered-push c.self.invariant claims c.none.ensures refl refl (rw c.some-end.ensures at tied) in
+    rw (← c.self.view_is) (record {
+      was_free = claims.was_free;
+      within = rw length-map claims.within;
+      within_links = rw length-map claims.within;
+      fills = λ at_end. rw length-map (omega (arith, claims.fills (rw length-map at at_end) c.self.invariant.vacant c.self.invariant.frees, c.self.invariant.total, walk-length c.self.invariant));
+      order = walk-order pushed.ordered ∙ pushed.order_is ∙ ap (λ ps. ps ++ c.claim-place.result ∷ []) (sym (walk-order c.self.invariant));
+      states = tied.states ∙ ap states claims.written ∙ map-put _ _ _ _;
+      links = tied.links ∙ ap links claims.written ∙ map-put _ _ _ _;
+    })

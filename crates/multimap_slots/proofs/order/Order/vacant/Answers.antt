@@ -1,0 +1,8 @@
+use Rattle.std.proofs.Common.{arith}
+use Rattle.std.proofs.lemmas.List.{length-map}
+use Rattle.multimap_slots.proofs.OrderLemmas.{walk-length}
+use Rattle.multimap_slots.proofs.order.Order.vacant.Goals as goal
+
+pub returns-clause-vacant : goal.returns-clause-vacant
+returns-clause-vacant g c =
+    rw (← c.self.view_is) (rw length-map (omega (arith, c.self.invariant.total, c.self.inside.nodes.ok, walk-length c.self.invariant)))

@@ -1,0 +1,18 @@
+use Rattle.std.proofs.Common.{ap, refl}
+use Rattle.std.proofs.Math.Seq.{map-set_same}
+use Rattle.multimap_slots.proofs.NodeLemmas.{IsMoved-field, IsMoved-first}
+use Rattle.multimap_slots.proofs.order.write.set_previous.Goals as goal
+
+pub returns-in-Some-clause-written : goal.returns-in-Some-clause-written
+returns-in-Some-clause-written g c =
+    let within = rw (← c.in-Some.ensures) at c.requires in
+    record {
+      previouses = rw (← c.in-Some.ensures) (IsMoved-field (λ n. n.previous) _ _ _ _ within);
+      nexts = map-set_same _ _ _ _ _ (ap (λ n. n.next) c.index_mut-node.ensures.value);
+      states = map-set_same _ _ _ _ _ (ap (λ n. n.state) c.index_mut-node.ensures.value);
+      links = map-set_same _ _ _ _ _ (ap (λ n. n.link) c.index_mut-node.ensures.value);
+    }
+
+pub returns-in-None-clause-written : goal.returns-in-None-clause-written
+returns-in-None-clause-written g c =
+    rw (← c.in-None.ensures) (record { previouses = IsMoved-first _ _ _; nexts = refl; states = refl; links = refl })

@@ -1,0 +1,128 @@
+-- How the nodes of a slot list lie. No public clause cites this module.
+use Rattle.std.specs.Prelude.{◌≡◌, ℕ, zero, suc, ◌+◌, ◌<◌, ◌≤◌, List, [], ◌∷◌, ◌++◌, Option, Some, None, IsSome, map, get_or, slice_get, slice_set, length}
+use Rattle.multimap_slots.specs.declared.order.node.Node.{Node}
+use Rattle.multimap_slots.specs.declared.order.node.State.{State}
+use Rattle.multimap_slots.specs.declared.order.node.State.TheVariants.{Listed, Free}
+use Rattle.multimap_slots.specs.Lists.{IsIn, AreDistinct}
+use Rattle.multimap_slots.specs.Paths.{after, IsMoved, IsPath}
+
+-- the listed places in order, the state and the link of each place, and how many places fit
+pub record Places (L : Type 0) : Type 0 where
+  pub order : List ℕ
+  pub states : List State
+  pub links : List L
+  pub capacity : ℕ
+
+-- so many free places are linked from here
+abbrev pub IsFreeList : List (Option ℕ) → List State → ℕ → Option ℕ → Type 0
+IsFreeList nexts states zero at = at ≡ None
+IsFreeList nexts states (suc n) at =
+    (p : ℕ) × (at ≡ Some p) × (p < length states) × (get_or states p Free ≡ Free)
+    × IsFreeList nexts states n (get_or nexts p None)
+
+-- a list with one item written, at a place of the list or right behind it
+abbrev pub put : {X : Type 0} → List X → ℕ → X → List X
+put [] i x = x ∷ []
+put (y ∷ ys) zero x = x ∷ ys
+put (y ∷ ys) (suc i) x = y ∷ put ys i x
+
+module _ {L : Type 0} where
+  -- there is no place, listed or free
+  pub record HasNoPlaces (o : Places L) : Type 0 where
+    pub order : o.order ≡ []
+    pub states : o.states ≡ []
+    pub links : o.links ≡ []
+
+  -- no place is listed twice, each has a link, and there is room for all
+  pub record AreSound (o : Places L) : Type 0 where
+    pub distinct : AreDistinct o.order
+    pub linked : (p : ℕ) → IsIn p o.order → IsSome (slice_get o.links p)
+    pub among : length o.order ≤ length o.states
+    pub fits : length o.order ≤ o.capacity
+
+  -- only the capacity may differ
+  abbrev pub KeepsPlaces : Places L → Places L → Type 0
+  KeepsPlaces old new = new ≡ record old { capacity = new.capacity }
+
+  -- the place behind each node
+  abbrev pub nexts : List (Node L) → List (Option ℕ)
+  nexts nodes = map (λ n. n.next) nodes
+
+  -- the place before each node
+  abbrev pub previouses : List (Node L) → List (Option ℕ)
+  previouses nodes = map (λ n. n.previous) nodes
+
+  -- the state of each node
+  abbrev pub states : List (Node L) → List State
+  states nodes = map (λ n. n.state) nodes
+
+  -- the link of each node
+  abbrev pub links : List (Node L) → List L
+  links nodes = map (λ n. n.link) nodes
+
+  -- the place behind `from` is written, where none is the list's own end, and nothing else
+  pub record SetsNext (old new : List (Node L)) (front front' from to : Option ℕ) : Type 0 where
+    pub nexts : IsMoved (after front (nexts old)) (after front' (nexts new)) from to
+    pub previouses : previouses new ≡ previouses old
+    pub states : states new ≡ states old
+    pub links : links new ≡ links old
+
+  -- the place before `from` is written, where none is the list's own end, and nothing else
+  pub record SetsPrevious (old new : List (Node L)) (back back' from to : Option ℕ) : Type 0 where
+    pub previouses : IsMoved (after back (previouses old)) (after back' (previouses new)) from to
+    pub nexts : nexts new ≡ nexts old
+    pub states : states new ≡ states old
+    pub links : links new ≡ links old
+
+  -- the place is free, ahead of the free places from `free` on, and nothing else changes
+  pub record Releases (old new : List (Node L)) (place : ℕ) (free : Option ℕ) : Type 0 where
+    pub nexts : nexts new ≡ slice_set (nexts old) place free
+    pub previouses : previouses new ≡ previouses old
+    pub states : states new ≡ slice_set (states old) place Free
+    pub links : links new ≡ links old
+
+  -- the nodes are linked in one order, and each other place is on the list of free ones
+  pub record IsOrdered (nodes : List (Node L)) (front back free : Option ℕ) (len : ℕ) : Type 0 where
+    pub order : List ℕ
+    pub path : IsPath (after front (nexts nodes)) (after back (previouses nodes)) None order
+    pub distinct : AreDistinct order
+    pub listed : (p : ℕ) → IsIn p order → get_or (states nodes) p Free ≡ Listed
+    pub all_in : (p : ℕ) → get_or (states nodes) p Free ≡ Listed → IsIn p order
+    pub counted : len ≡ length order
+    pub vacant : ℕ
+    pub total : len + vacant ≡ length nodes
+    pub frees : IsFreeList (nexts nodes) (states nodes) vacant free
+
+  -- a free place is listed last, with this link
+  pub record AddsLast (old new : Places L) (place : ℕ) (link : L) : Type 0 where
+    pub was_free : get_or old.states place Free ≡ Free
+    pub within : place ≤ length old.states
+    pub within_links : place ≤ length old.links
+    pub fills : place ≡ length old.states → length old.order ≡ length old.states
+    pub order : new.order ≡ old.order ++ place ∷ []
+    pub states : new.states ≡ put old.states place Listed
+    pub links : new.links ≡ put old.links place link
+
+  -- a free place can be found, on the list of them or behind the nodes
+  pub record CanClaim (nodes : List (Node L)) (free : Option ℕ) (capacity : ℕ) : Type 0 where
+    pub vacant : ℕ
+    pub frees : IsFreeList (nexts nodes) (states nodes) vacant free
+    pub room : vacant ≡ 0 → length nodes < capacity
+
+  -- a free place has this node now
+  pub record Claims (old new : List (Node L)) (free free' : Option ℕ) (node : Node L) (place : ℕ)
+      : Type 0 where
+    pub within : place ≤ length old
+    pub was_free : get_or (states old) place Free ≡ Free
+    pub written : new ≡ put old place node
+    pub fills : place ≡ length old → (n : ℕ) → IsFreeList (nexts old) (states old) n free → n ≡ 0
+    pub frees : (n : ℕ) → IsFreeList (nexts old) (states old) n free
+        → (m : ℕ) × (m + length old + 1 ≡ n + length new)
+        × IsFreeList (nexts new) (states new) m free'
+
+-- each place has an item exactly if it is not free
+pub record IsFilled {T : Type 0} (items : List (Option T)) (order : List ℕ) (states : List State)
+    : Type 0 where
+  pub same_length : length items ≡ length states
+  pub filled : (p : ℕ) → IsIn p order → IsSome (get_or items p None)
+  pub empty : (p : ℕ) → get_or states p Free ≡ Free → get_or items p None ≡ None

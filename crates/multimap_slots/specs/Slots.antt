@@ -1,0 +1,118 @@
+-- What a contract sees of a slot list, and what each change of it leaves.
+use Rattle.std.specs.Prelude.{◌≡◌, ◌≢◌, ◌==◌, ℕ, ◌+◌, ◌≤◌, not, List, [], ◌∷◌, ◌++◌, Option, Some, None, IsSome, filter, slice_get, slice_set, get_or, length, if◌then◌else◌}
+use Rattle.std.specs.List.{filter_map}
+use Rattle.multimap_slots.specs.Lists.{IsIn, AreDistinct, without}
+
+-- the listed places in order, the item and the link of each place, and how many items fit
+pub record Slots (T L : Type 0) : Type 0 where
+  pub order : List ℕ
+  pub items : List (Option T)
+  pub links : List L
+  pub capacity : ℕ
+
+-- a listed item with its place and its link
+pub record Slot (T L : Type 0) : Type 0 where
+  pub place : ℕ
+  pub item : T
+  pub link : L
+
+module _ {T L : Type 0} where
+  -- the item that stands at the place, if there is one
+  abbrev pub item_at : Slots T L → ℕ → Option T
+  item_at s p = get_or s.items p None
+
+  -- the link of the place, if there is one
+  abbrev pub link_at : Slots T L → ℕ → Option L
+  link_at s p = slice_get s.links p
+
+  -- a place with an item and a link, where both are there
+  abbrev pub slot_of : ℕ → Option T → Option L → Option (Slot T L)
+  slot_of p None l = None
+  slot_of p (Some x) None = None
+  slot_of p (Some x) (Some l) = Some (record { place = p; item = x; link = l })
+
+  -- the slot of the place, if an item stands there
+  abbrev pub slot_at : Slots T L → ℕ → Option (Slot T L)
+  slot_at s p = slot_of p (item_at s p) (link_at s p)
+
+  -- the list: each listed item with its place and its link, in order
+  abbrev pub listed_slots : Slots T L → List (Slot T L)
+  listed_slots s = filter_map (slot_at s) s.order
+
+  -- there is no item, listed or not
+  pub record IsEmpty (s : Slots T L) : Type 0 where
+    pub order : s.order ≡ []
+    pub items : s.items ≡ []
+
+  -- no place is listed twice, each has an item and a link, and there is room for all
+  pub record IsSound (s : Slots T L) : Type 0 where
+    pub distinct : AreDistinct s.order
+    pub filled : (p : ℕ) → IsIn p s.order → IsSome (item_at s p)
+    pub linked : (p : ℕ) → IsIn p s.order → IsSome (link_at s p)
+    pub fits : length s.order ≤ s.capacity
+
+  -- so many more items fit
+  abbrev pub HasRoomFor : Slots T L → ℕ → Type 0
+  HasRoomFor s n = length s.order + n ≤ s.capacity
+
+  -- only the capacity may differ
+  abbrev pub KeepsItems : Slots T L → Slots T L → Type 0
+  KeepsItems old new = new ≡ record old { capacity = new.capacity }
+
+  -- the place is listed, with this item
+  pub record HasItem (s : Slots T L) (place : ℕ) (item : T) : Type 0 where
+    pub listed : IsIn place s.order
+    pub item_is : item_at s place ≡ Some item
+
+  -- the place is listed, with this link
+  pub record HasLink (s : Slots T L) (place : ℕ) (link : L) : Type 0 where
+    pub listed : IsIn place s.order
+    pub link_is : link_at s place ≡ Some link
+
+  -- the place is listed, with this item and this link
+  pub record HasSlot (s : Slots T L) (place : ℕ) (item : T) (link : L) : Type 0 where
+    pub listed : IsIn place s.order
+    pub item_is : item_at s place ≡ Some item
+    pub link_is : link_at s place ≡ Some link
+
+  -- each other place has the item and the link that it had
+  pub record KeepsOthers (old new : Slots T L) (place : ℕ) : Type 0 where
+    pub items : (q : ℕ) → q ≢ place → item_at new q ≡ item_at old q
+    pub links : (q : ℕ) → q ≢ place → link_at new q ≡ link_at old q
+
+  -- the item stands last in the list, at a place that had none
+  pub record PushesBack (old new : Slots T L) (place : ℕ) (item : T) (link : L) : Type 0 where
+    pub was_absent : ¬ IsIn place old.order
+    pub was_free : item_at old place ≡ None
+    pub order : new.order ≡ old.order ++ place ∷ []
+    pub item_is : item_at new place ≡ Some item
+    pub link_is : link_at new place ≡ Some link
+    pub others : KeepsOthers old new place
+    pub slots : listed_slots new
+        ≡ listed_slots old ++ record { place = place; item = item; link = link } ∷ []
+
+  -- the place has left the list, and the item that stood there has gone
+  pub record Removes (old new : Slots T L) (place : ℕ) (item : T) : Type 0 where
+    pub was_listed : IsIn place old.order
+    pub had : item_at old place ≡ Some item
+    pub order : new.order ≡ without old.order place
+    pub shorter : length new.order + 1 ≡ length old.order
+    pub freed : item_at new place ≡ None
+    pub others : KeepsOthers old new place
+    pub slots : listed_slots new ≡ filter (λ e. not (e.place == place)) (listed_slots old)
+
+  -- another item stands at the place
+  abbrev pub with_item : Slots T L → ℕ → T → Slots T L
+  with_item s place item = record s { items = slice_set s.items place (Some item) }
+
+  -- the place has another link
+  abbrev pub with_link : Slots T L → ℕ → L → Slots T L
+  with_link s place link = record s { links = slice_set s.links place link }
+
+  -- the slot with another item, if it is the one of the place
+  abbrev pub slot_with_item : ℕ → T → Slot T L → Slot T L
+  slot_with_item place item e = if e.place == place then record e { item = item } else e
+
+  -- the slot with another link, if it is the one of the place
+  abbrev pub slot_with_link : ℕ → L → Slot T L → Slot T L
+  slot_with_link place link e = if e.place == place then record e { link = link } else e

@@ -1,0 +1,24 @@
+-- What a slot list ends as, where a `&mut` to one of its items or links is returned.
+use Rattle.std.specs.Prelude.{ℕ, Option}
+use Rattle.std.specs.Borrow.{Lends, LendsIf, Fml, RattleType, MutBor}
+use Rattle.std.specs.declared.alloc.Allocator.{Ghosts}
+use Rattle.multimap_slots.specs.Slots.{Slots, with_item, with_link}
+use Rattle.multimap_slots.specs.contracts.list.SlotList.{the_row}
+
+module _ (T L A : RattleType) (alloc : Ghosts A.Denot)
+    (s : MutBor (Slots T.Denot L.Denot)) (place : ℕ) where
+  -- once the borrow r ends, the place has the last item written through r
+  abbrev pub lent_item : MutBor T.Denot → Fml
+  lent_item r = Lends (the_row T L A alloc) T s r (with_item s.now place)
+
+  -- the same where r is a reference, and at `None` the list stays as it is
+  abbrev pub lends_item : Option (MutBor T.Denot) → Fml
+  lends_item r = LendsIf (the_row T L A alloc) T s r (with_item s.now place) s.now
+
+  -- once the borrow r ends, the place has the last link written through r
+  abbrev pub lent_link : MutBor L.Denot → Fml
+  lent_link r = Lends (the_row T L A alloc) L s r (with_link s.now place)
+
+  -- the same where r is a reference, and at `None` the list stays as it is
+  abbrev pub lends_link : Option (MutBor L.Denot) → Fml
+  lends_link r = LendsIf (the_row T L A alloc) L s r (with_link s.now place) s.now

@@ -1,0 +1,44 @@
+//! The order of the list: both ends, and the neighbours of a place. None of these counts as a read.
+ghost use Rattle.std.specs.Prelude.{◌≡◌};
+ghost use Rattle.multimap_slots.specs.Lists.{first_of, last_of, next_of, previous_of};
+
+use super::SlotList;
+use std::alloc::Allocator;
+
+impl<T, L: Copy, A: Allocator> SlotList<T, L, A> {
+    /// The place of the first item.
+    pub fn front_place(&self) -> Option<usize>
+        ensures { result ≡ first_of self.now.order }
+    {
+        self.order.front()
+    }
+
+    /// The place of the last item.
+    pub fn back_place(&self) -> Option<usize>
+        ensures { result ≡ last_of self.now.order }
+    {
+        self.order.back()
+    }
+
+    /// The place behind `place`: none at the last item, and where no item of the list stands.
+    pub fn next_place(&self, place: usize) -> Option<usize>
+        ensures { result ≡ next_of self.now.order place }
+    {
+        if self.order.is_listed(place) {
+            self.order.next(place)
+        } else {
+            None
+        }
+    }
+
+    /// The place before `place`: none at the first item, and where no item of the list stands.
+    pub fn previous_place(&self, place: usize) -> Option<usize>
+        ensures { result ≡ previous_of self.now.order place }
+    {
+        if self.order.is_listed(place) {
+            self.order.previous(place)
+        } else {
+            None
+        }
+    }
+}

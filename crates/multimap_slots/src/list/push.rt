@@ -1,0 +1,89 @@
+//! Room, and items that come into the list.
+ghost use Rattle.std.specs.Prelude.{◌≡◌, ◌<◌, ◌≤◌, ◌+◌, length, IfOk, IfErr, OnOk, OnErr, IsOk, Some, None, get_or, vec_capacity};
+ghost use Rattle.multimap_slots.specs.Slots.{HasRoomFor, KeepsItems, PushesBack};
+ghost use Rattle.multimap_slots.specs.ListLayout.{put};
+
+use super::SlotList;
+use std::alloc::{AllocError, Allocator};
+use std::mem;
+
+/// Writes the item at an empty slot, or right behind the slots.
+fn put_item<T, A: Allocator>(items: &mut Vec<Option<T>, A>, place: usize, item: T)
+    requires within { place ≤ length items.old.items }
+    requires empty { get_or items.old.items place None ≡ None }
+    requires room { place ≡ length items.old.items → place < vec_capacity items.old }
+    ensures items { items.new.items ≡ put items.old.items place (Some item) }
+    ensures capacity { vec_capacity items.new ≡ vec_capacity items.old }
+{
+    if place == items.len() {
+        items.push_reserved(Some(item));
+        return;
+    }
+    // An empty slot holds nothing that would have to be let go.
+    match mem::replace(&mut items[place], Some(item)) {
+        None => {}
+        Some(_) => unreachable!(),
+    }
+}
+
+impl<T, L: Copy, A: Allocator> SlotList<T, L, A> {
+    /// Makes room for `additional` more items, so that as many calls of `push_back` take no memory.
+    ///
+    /// A refusal is want of memory, or a number of items past the greatest `usize`. Where the list
+    /// grows, its items and links are moved to new memory, and keep their places.
+    pub fn reserve(&mut self, additional: usize) -> Result<(), AllocError>
+        ensures ok { OnOk result (HasRoomFor self.new additional) }
+        ensures unchanged { KeepsItems self.old self.new }
+
+        // Where there is room already, nothing grows and nothing is refused.
+        ensures succeeds { HasRoomFor self.old additional → IsOk result }
+        ensures had_room { HasRoomFor self.old additional → self.new.capacity ≡ self.old.capacity }
+        ensures capacity { self.old.capacity ≤ self.new.capacity }
+    {
+        if self.capacity() - self.len() >= additional {
+            return Ok(());
+        }
+        self.grow(additional)
+    }
+
+    /// Makes the room that is missing, in both vectors. The free places count as room.
+    #[inline(never)]
+    fn grow(&mut self, additional: usize) -> Result<(), AllocError>
+        requires { self.old.capacity < length self.old.order + additional }
+        ensures ok { OnOk result (HasRoomFor self.new additional) }
+        ensures unchanged { KeepsItems self.old self.new }
+        ensures capacity { self.old.capacity ≤ self.new.capacity }
+    {
+        let missing = additional - self.order.vacant();
+        self.items.reserve(missing)?;
+        self.order.reserve(missing)
+    }
+
+    /// Puts the item last, with its link, and answers its place. Where memory is refused, it hands
+    /// the item back. The time is constant but where the list grows, as `reserve` says.
+    pub fn push_back(&mut self, item: T, link: L) -> Result<usize, T>
+        ensures pushed { IfOk result (λ place. PushesBack self.old self.new place item link) }
+        ensures unchanged { OnErr result (KeepsItems self.old self.new) }
+        ensures value_returned { IfErr result (λ returned. returned ≡ item) }
+
+        // Where there is room, nothing grows and nothing is refused.
+        ensures succeeds { HasRoomFor self.old 1 → IsOk result }
+        ensures had_room { HasRoomFor self.old 1 → self.new.capacity ≡ self.old.capacity }
+        ensures capacity { self.old.capacity ≤ self.new.capacity }
+    {
+        if self.reserve(1).is_err() {
+            return Err(item);
+        }
+        Ok(self.push_reserved(item, link))
+    }
+
+    fn push_reserved(&mut self, item: T, link: L) -> usize
+        requires { HasRoomFor self.old 1 }
+        ensures pushed { PushesBack self.old self.new result item link }
+        ensures capacity { self.new.capacity ≡ self.old.capacity }
+    {
+        let place = self.order.push_back(link);
+        put_item(&mut self.items, place, item);
+        place
+    }
+}

@@ -1,0 +1,208 @@
+//! Places in an order, each with a link, over one vector of nodes that also lists the free places.
+ghost use Rattle.std.specs.Prelude.{◌≡◌, ◌+◌, ◌<◌, ◌≤◌, ◌↔◌, [], length, Some, IsTrue, IfOk, OnOk, OnErr, IsOk, slice_get, slice_set};
+ghost use Rattle.multimap_slots.specs.Lists.{IsIn, first_of, last_of, next_of, previous_of, without};
+
+mod node;
+mod optional_place;
+mod write;
+
+use node::{Node, State};
+use optional_place::OptionalPlace;
+use std::alloc::{AllocError, Allocator};
+use std::marker::Model;
+use write::{claim, release, set_next, set_previous};
+
+/// Places in an order, each with a link.
+#[derive(Drop)]
+pub(crate) struct Order<L, A: Allocator> {
+    nodes: Vec<Node<L>, A>,
+    front: OptionalPlace,
+    back: OptionalPlace,
+    // The place that was freed last, from which the other free ones are linked.
+    free: OptionalPlace,
+    len: usize,
+}
+
+impl<L, A: Allocator> Model for Order<L, A> {
+    ghost use Rattle.std.specs.Prelude.{vec_capacity, None};
+    ghost use Rattle.multimap_slots.specs.Paths.{after, walk};
+    ghost use Rattle.multimap_slots.specs.ListLayout.{Places, nexts, states, links, IsOrdered};
+
+    ghost Value = { Places L };
+
+    ghost view = { λ o. record {
+      order = walk (after o.front (nexts o.nodes.items)) None o.len;
+      states = states o.nodes.items;
+      links = links o.nodes.items;
+      capacity = vec_capacity o.nodes;
+    } };
+
+    ghost invariant = { λ o. IsOrdered o.nodes.items o.front o.back o.free o.len };
+}
+
+impl<L: Copy, A: Allocator> Order<L, A> {
+    ghost use Rattle.std.specs.Borrow.{sem};
+    ghost use Rattle.multimap_slots.specs.ListLayout.{HasNoPlaces, AreSound, AddsLast, KeepsPlaces};
+    ghost use Rattle.multimap_slots.specs.OrderLends.{lends_place_link};
+    ghost use Rattle.multimap_slots.specs.declared.order.node.State.TheVariants.{Free};
+
+    pub(crate) fn new(alloc: A) -> Self
+        ensures empty { HasNoPlaces result }
+        ensures capacity { result.capacity ≡ 0 }
+    {
+        Order {
+            nodes: Vec::new(alloc),
+            front: OptionalPlace::none(),
+            back: OptionalPlace::none(),
+            free: OptionalPlace::none(),
+            len: 0,
+        }
+    }
+
+    pub(crate) fn with_capacity(alloc: A, capacity: usize) -> Result<Self, AllocError>
+        ensures empty { IfOk result HasNoPlaces }
+        ensures capacity { IfOk result (λ o. capacity ≤ o.capacity) }
+        ensures succeeds { capacity ≡ 0 → IsOk result }
+    {
+        Ok(Order {
+            nodes: Vec::with_capacity(alloc, capacity)?,
+            front: OptionalPlace::none(),
+            back: OptionalPlace::none(),
+            free: OptionalPlace::none(),
+            len: 0,
+        })
+    }
+
+    pub(crate) fn len(&self) -> usize
+        ensures len { result ≡ length self.now.order }
+        ensures sound { AreSound self.now }
+    {
+        self.len
+    }
+
+    /// How many places are free among the nodes.
+    pub(crate) fn vacant(&self) -> usize
+        ensures vacant { length self.now.order + result ≡ length self.now.states }
+        ensures fits { length self.now.states ≤ self.now.capacity }
+    {
+        self.nodes.len() - self.len
+    }
+
+    pub(crate) fn capacity(&self) -> usize
+        ensures { result ≡ self.now.capacity }
+    {
+        self.nodes.capacity()
+    }
+
+    /// Makes room for so many more nodes.
+    pub(crate) fn reserve(&mut self, additional: usize) -> Result<(), AllocError>
+        ensures ok { OnOk result (length self.old.states + additional ≤ self.new.capacity) }
+        ensures rest { KeepsPlaces self.old self.new }
+        ensures capacity { self.old.capacity ≤ self.new.capacity }
+    {
+        self.nodes.reserve(additional)
+    }
+
+    /// Lists a free place last, and answers it.
+    pub(crate) fn push_back(&mut self, link: L) -> usize
+        requires { length self.old.order < self.old.capacity }
+        ensures adds { AddsLast self.old self.new result link }
+        ensures capacity { self.new.capacity ≡ self.old.capacity }
+    {
+        let node = Node {
+            next: OptionalPlace::none(),
+            previous: self.back,
+            link,
+            state: State::Listed,
+        };
+        let place = claim(&mut self.nodes, &mut self.free, node);
+        let end = OptionalPlace::some(place);
+        set_next(&mut self.nodes, &mut self.front, self.back, end);
+        self.back = end;
+        self.len += 1;
+        place
+    }
+
+    /// Takes the place out of the order. It is free then, and the next to be given.
+    pub(crate) fn remove(&mut self, place: usize)
+        requires { IsIn place self.old.order }
+        ensures order { self.new.order ≡ without self.old.order place }
+        ensures shorter { length self.new.order + 1 ≡ length self.old.order }
+        ensures states { self.new.states ≡ slice_set self.old.states place Free }
+        ensures links { self.new.links ≡ self.old.links }
+        ensures capacity { self.new.capacity ≡ self.old.capacity }
+    {
+        let previous = self.nodes[place].previous;
+        let next = self.nodes[place].next;
+        set_next(&mut self.nodes, &mut self.front, previous, next);
+        set_previous(&mut self.nodes, &mut self.back, next, previous);
+        release(&mut self.nodes, place, self.free);
+        self.free = OptionalPlace::some(place);
+        self.len -= 1;
+    }
+
+    /// Gives up every place, and keeps the capacity.
+    pub(crate) fn clear(&mut self)
+        ensures empty { HasNoPlaces self.new }
+        ensures capacity { self.new.capacity ≡ self.old.capacity }
+    {
+        self.nodes.clear();
+        self.front = OptionalPlace::none();
+        self.back = OptionalPlace::none();
+        self.free = OptionalPlace::none();
+        self.len = 0;
+    }
+
+    pub(crate) fn is_listed(&self, place: usize) -> bool
+        ensures { IsTrue result ↔ IsIn place self.now.order }
+    {
+        if place >= self.nodes.len() {
+            return false;
+        }
+        match self.nodes[place].state {
+            State::Listed => true,
+            State::Free => false,
+        }
+    }
+
+    pub(crate) fn link(&self, place: usize) -> L
+        requires { IsIn place self.now.order }
+        ensures { slice_get self.now.links place ≡ Some result }
+    {
+        self.nodes[place].link
+    }
+
+    pub(crate) fn link_mut(&mut self, place: usize) -> &mut L
+        requires { IsIn place self.old.order }
+        ensures* lends { sem 𝓛 (lends_place_link L.row A.row A.Allocator self.entry place result) }
+        ensures value { slice_get self.old.links place ≡ Some result.now }
+    {
+        &mut self.nodes[place].link
+    }
+
+    pub(crate) fn front(&self) -> Option<usize>
+        ensures { result ≡ first_of self.now.order }
+    {
+        self.front.get()
+    }
+
+    pub(crate) fn back(&self) -> Option<usize>
+        ensures { result ≡ last_of self.now.order }
+    {
+        self.back.get()
+    }
+
+    pub(crate) fn next(&self, place: usize) -> Option<usize>
+        requires { IsIn place self.now.order }
+        ensures { result ≡ next_of self.now.order place }
+    {
+        self.nodes[place].next.get()
+    }
+
+    pub(crate) fn previous(&self, place: usize) -> Option<usize>
+        requires { IsIn place self.now.order }
+        ensures { result ≡ previous_of self.now.order place }
+    {
+        self.nodes[place].previous.get()
+    }
+}

@@ -1,0 +1,49 @@
+//! A place or none, in one word.
+ghost use Rattle.std.specs.Prelude.{◌≡◌, ◌+◌, ◌<◌, ◌^◌, None, Some, Option, IfSome};
+
+use std::marker::Model;
+
+/// A place, or none: 0 stands for none, and any other number for the place below it.
+#[derive(Clone, Copy)]
+pub(crate) struct OptionalPlace {
+    above: usize,
+}
+
+impl Model for OptionalPlace {
+    ghost use Rattle.std.specs.Prelude.{ℕ, Option};
+    ghost use Rattle.multimap_slots.specs.OptionalPlace.{place_below, number_above};
+
+    ghost Value = { Option ℕ };
+
+    ghost view = { λ o. place_below o.above };
+
+    ghost inverse = { λ p. record { above = number_above p } };
+}
+
+impl OptionalPlace {
+    #[inline(always)]
+    pub(crate) fn none() -> OptionalPlace
+        ensures { result ≡ None }
+    {
+        OptionalPlace { above: 0 }
+    }
+
+    #[inline(always)]
+    pub(crate) fn some(place: usize) -> OptionalPlace
+        requires { place + 1 < 2 ^ 64 }
+        ensures { result ≡ Some place }
+    {
+        OptionalPlace { above: place + 1 }
+    }
+
+    #[inline(always)]
+    pub(crate) fn get(self) -> Option<usize>
+        ensures { result ≡ self }
+    {
+        if self.above == 0 {
+            None
+        } else {
+            Some(self.above - 1)
+        }
+    }
+}

@@ -1,0 +1,88 @@
+//! Writes of single nodes. Each leaves the fields that it doesn't name as they were.
+ghost use Rattle.std.specs.Prelude.{◌≡◌, ◌<◌, length, IfSome, vec_capacity};
+ghost use Rattle.multimap_slots.specs.ListLayout.{SetsNext, SetsPrevious, Releases, CanClaim, Claims};
+
+use super::node::{Node, State};
+use super::optional_place::OptionalPlace;
+use std::alloc::Allocator;
+
+/// Writes the place behind `from`, where none is the list's own end.
+pub(super) fn set_next<L, A: Allocator>(
+    nodes: &mut Vec<Node<L>, A>,
+    front: &mut OptionalPlace,
+    from: OptionalPlace,
+    to: OptionalPlace,
+)
+    requires { IfSome from (λ p. p < length nodes.old.items) }
+    ensures written { SetsNext nodes.old.items nodes.new.items front.old front.new from to }
+    ensures capacity { vec_capacity nodes.new ≡ vec_capacity nodes.old }
+{
+    match from.get() {
+        Some(place) => {
+            let node = &mut nodes[place];
+            node.next = to;
+        }
+        None => *front = to,
+    }
+}
+
+/// Writes the place before `from`, where none is the list's own end.
+pub(super) fn set_previous<L, A: Allocator>(
+    nodes: &mut Vec<Node<L>, A>,
+    back: &mut OptionalPlace,
+    from: OptionalPlace,
+    to: OptionalPlace,
+)
+    requires { IfSome from (λ p. p < length nodes.old.items) }
+    ensures written { SetsPrevious nodes.old.items nodes.new.items back.old back.new from to }
+    ensures capacity { vec_capacity nodes.new ≡ vec_capacity nodes.old }
+{
+    match from.get() {
+        Some(place) => {
+            let node = &mut nodes[place];
+            node.previous = to;
+        }
+        None => *back = to,
+    }
+}
+
+/// Makes the place free, ahead of the free places from `free` on.
+pub(super) fn release<L, A: Allocator>(
+    nodes: &mut Vec<Node<L>, A>,
+    place: usize,
+    free: OptionalPlace,
+)
+    requires { place < length nodes.old.items }
+    ensures written { Releases nodes.old.items nodes.new.items place free }
+    ensures capacity { vec_capacity nodes.new ≡ vec_capacity nodes.old }
+{
+    let node = &mut nodes[place];
+    node.next = free;
+    node.state = State::Free;
+}
+
+/// Writes the node at a free place: the one that was freed last, else the one behind the nodes.
+pub(super) fn claim<L: Copy, A: Allocator>(
+    nodes: &mut Vec<Node<L>, A>,
+    free: &mut OptionalPlace,
+    node: Node<L>,
+) -> usize
+    requires { CanClaim nodes.old.items free.old (vec_capacity nodes.old) }
+    ensures claims { Claims nodes.old.items nodes.new.items free.old free.new node result }
+    ensures within { result < length nodes.new.items }
+    ensures capacity { vec_capacity nodes.new ≡ vec_capacity nodes.old }
+{
+    match free.get() {
+        Some(place) => {
+            let slot = &mut nodes[place];
+            *free = slot.next;
+            *slot = node;
+            place
+        }
+        None => {
+            let place = nodes.len();
+            nodes.push_reserved(node);
+            place
+        }
+    }
+}
