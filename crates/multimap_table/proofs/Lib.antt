@@ -1,0 +1,10 @@
+mod BitLemmas
+mod CycleLemmas
+mod EntryLemmas
+mod GapLemmas
+mod GroupLemmas
+mod LayoutLemmas
+mod MoveLemmas
+mod RowLemmas
+mod TableLemmas
+mod TakeLemmas

@@ -1,0 +1,3 @@
+pub mod Entries
+pub mod Layout
+pub mod Table

@@ -1,0 +1,75 @@
+//! Takes rows out of their lanes, and lets later rows move back into the gap.
+ghost use Rattle.std.specs.Prelude.{◌≡◌, ℕ, ◌+◌, ◌*◌, ◌/◌, ◌<◌, ◌≤◌, length, slice_index, slice_set, IfSome, IfNone};
+ghost use Rattle.std.specs.FinMap as map;
+ghost use Rattle.multimap_table.specs.Layout.{group_count, probe_start, distance, IsGroupCount, IsSized, IsLaidOut, HasRoom, Passes};
+ghost use Rattle.multimap_table.specs.Entries.{entries, rows_of, row_at};
+
+use crate::group::{LANES, Row};
+use crate::probe::{distance, lane_with_room, probe, probe_start};
+use std::alloc::Allocator;
+
+/// A lane of the group that holds a row whose probe passes the earlier group.
+fn row_that_passes(tags: &[u8], rows: &[Row], group: usize, earlier: usize) -> Option<usize>
+    requires sized { IsSized tags.now rows.now }
+    requires group { group < group_count tags.now }
+    requires earlier { earlier < group_count tags.now }
+    ensures found { IfSome result (λ lane. (lane / 16 ≡ group) × (0 < slice_index tags.now lane)
+        × Passes tags.now rows.now lane earlier) }
+    ensures absent { IfNone result ((lane : ℕ) → lane / 16 ≡ group → 0 < slice_index tags.now lane
+        → Passes tags.now rows.now lane earlier → ⊥) }
+{
+    let count = tags.len() / LANES;
+    for lane in LANES * group..LANES * group + LANES {
+        if tags[lane] != 0 {
+            let start = probe_start(rows[lane].hash, count);
+            if distance(start, earlier, count) < distance(start, group, count) {
+                return Some(lane);
+            }
+        }
+    }
+    None
+}
+
+/// Empties the lane, and moves later rows back so that no probe meets a gap before its row.
+///
+/// Only behind a full group does a row lie that was put past it. So the gap moves on from group to
+/// group, by each row that passes it, up to the first group that had an empty lane anyway.
+pub fn remove_row<A: Allocator>(tags: &mut Vec<u8, A>, rows: &mut Vec<Row, A>, lane: usize)
+    requires laid_out { IsLaidOut tags.old.items rows.old.items }
+    requires room { HasRoom tags.old.items }
+    requires in_range { lane < length tags.old.items }
+    requires full { 0 < slice_index tags.old.items lane }
+    ensures laid_out { IsLaidOut tags.new.items rows.new.items }
+    ensures rows { rows_of tags.new.items rows.new.items
+        ≡ map.remove (rows_of tags.old.items rows.old.items) (row_at rows.old.items lane).place }
+    ensures counted { length (entries tags.new.items rows.new.items) + 1
+        ≡ length (entries tags.old.items rows.old.items) }
+    ensures lanes { length tags.new.items ≡ length tags.old.items }
+{
+    let count = tags.len() / LANES;
+    let last = lane_with_room(tags, lane / LANES) / LANES;
+    tags[lane] = 0;
+    let mut gap = lane;
+    let mut group = lane / LANES;
+    while group != last {
+        group = probe(group, 1, count);
+        if let Some(later) = row_that_passes(tags, rows, group, gap / LANES) {
+            move_row(tags, rows, later, gap);
+            gap = later;
+        }
+    }
+}
+
+/// Moves the row of a lane into an empty one.
+fn move_row<A: Allocator>(tags: &mut Vec<u8, A>, rows: &mut Vec<Row, A>, from: usize, to: usize)
+    requires tags { (from < length tags.old.items) × (to < length tags.old.items) }
+    requires rows { length rows.old.items ≡ length tags.old.items }
+    ensures tags { tags.new.items
+        ≡ slice_set (slice_set tags.old.items from 0) to (slice_index tags.old.items from) }
+    ensures rows { rows.new.items ≡ slice_set rows.old.items to (row_at rows.old.items from) }
+{
+    let tag = tags[from];
+    tags[from] = 0;
+    tags[to] = tag;
+    rows[to] = rows[from];
+}

@@ -1,0 +1,212 @@
+//! The table itself: its lanes, and how many rows they hold.
+ghost use Rattle.std.specs.Prelude.{◌≡◌, ℕ, ◌+◌, ◌<◌, ◌≤◌, ◌↔◌, true, false, None, Some, IfSome, IfNone, IfOk, OnOk, OnErr, IsOk, IsTrue};
+ghost use Rattle.std.specs.FinMap as map;
+ghost use Rattle.multimap_table.specs.Table.{HasRow};
+
+use crate::group::{LANES, Row};
+use crate::grow::{GROUP_LOAD, MAX_GROUPS, groups_for, insert_all};
+use crate::insert::insert_row;
+use crate::probe::find_lane;
+use crate::remove::remove_row;
+use std::alloc::{AllocError, Allocator, Global};
+use std::fmt;
+use std::marker::Model;
+
+/// A set of rows (hash, place) with distinct places, in which a row is found by its hash.
+///
+/// Any number is a hash and any number is a place, and all hashes may be equal. A hash is kept with
+/// its place, so that growth hashes no key again.
+///
+/// The rows lie in lanes, sixteen a group, and each lane has one byte of its row's hash as a tag. A
+/// row stands in the first group with an empty lane, from the group that its hash names. A removal
+/// moves later rows back where it has to, so nothing is left behind that would slow later calls.
+#[derive(Drop)]
+pub struct KeyTable<A: Allocator = Global> {
+    tags: Vec<u8, A>,
+    rows: Vec<Row, A>,
+    len: usize,
+}
+
+impl<A: Allocator> Model for KeyTable<A> {
+    ghost use Rattle.multimap_table.specs.Table.{Table, table_code};
+
+    ghost Value = { Table };
+
+    ghost coded = { table_code };
+
+    ghost use Rattle.multimap_table.specs.Layout.{IsTable, table_of};
+
+    ghost view = { λ t. table_of t.tags.items t.rows.items };
+
+    ghost invariant = { λ t. IsTable t.tags.items t.rows.items t.len };
+}
+
+impl<A: Allocator> KeyTable<A> {
+    /// How many rows the table has.
+    pub fn len(&self) -> usize
+        ensures { result ≡ map.len self.now.rows }
+    {
+        let KeyTable { len, .. } = self;
+        *len
+    }
+
+    /// Whether the table has no row.
+    pub fn is_empty(&self) -> bool
+        ensures { IsTrue result ↔ (self.now.rows ≡ map.empty) }
+    {
+        self.len == 0
+    }
+
+    /// How many rows fit without growing.
+    pub fn capacity(&self) -> usize
+        ensures value { result ≡ self.now.capacity }
+        ensures load { map.len self.now.rows ≤ self.now.capacity }
+    {
+        GROUP_LOAD * (self.tags.len() / LANES)
+    }
+
+    /// A place of this hash that passes the test, which is called on places of this hash alone.
+    ///
+    /// Reads one group of tags or a little more, and one row for each that has the hash.
+    #[inline(always)]
+    pub fn find<F: Fn(usize) -> bool>(&self, hash: u64, test: F) -> Option<usize>
+        requires callable { (place : ℕ) → HasRow self.now place hash → F.pre test place }
+        ensures found { IfSome result (λ place. HasRow self.now place hash
+            × F.post test place true) }
+        ensures absent { IfNone result ((place : ℕ) → HasRow self.now place hash
+            → F.post test place false) }
+    {
+        if self.tags.is_empty() {
+            return None;
+        }
+        let rows = self.rows.as_slice();
+        match find_lane(self.tags.as_slice(), rows, hash, &test) {
+            Some(lane) => Some(rows[lane].place),
+            None => None,
+        }
+    }
+
+    /// Adds a row of a place that the table does not have yet. Takes no memory.
+    pub fn insert(&mut self, hash: u64, place: usize)
+        requires room { map.len self.old.rows < self.old.capacity }
+        requires absent { map.get self.old.rows place ≡ None }
+        ensures rows { self.new.rows ≡ map.insert self.old.rows place hash }
+        ensures capacity { self.new.capacity ≡ self.old.capacity }
+    {
+        insert_row(&mut self.tags, &mut self.rows, Row { hash, place });
+        self.len += 1;
+    }
+
+    /// Takes the row of a place out. Its room is there for another row.
+    pub fn remove(&mut self, hash: u64, place: usize)
+        requires { HasRow self.old place hash }
+        ensures rows { self.new.rows ≡ map.remove self.old.rows place }
+        ensures capacity { self.new.capacity ≡ self.old.capacity }
+    {
+        let is_place = |other| other == place;
+        let found = find_lane(self.tags.as_slice(), self.rows.as_slice(), hash, &is_place);
+        let Some(lane) = found else { unreachable!() };
+        remove_row(&mut self.tags, &mut self.rows, lane);
+        self.len -= 1;
+    }
+
+    /// Takes all rows out. The capacity stays.
+    pub fn clear(&mut self)
+        ensures rows { self.new.rows ≡ map.empty }
+        ensures capacity { self.new.capacity ≡ self.old.capacity }
+    {
+        self.tags.fill(0);
+        self.len = 0;
+    }
+}
+
+impl<A: Allocator + Copy> KeyTable<A> {
+    /// An empty table, which takes no memory.
+    pub fn new(alloc: A) -> KeyTable<A>
+        ensures rows { result.rows ≡ map.empty }
+        ensures capacity { result.capacity ≡ 0 }
+    {
+        let len = 0;
+        KeyTable {
+            tags: Vec::new(alloc),
+            rows: Vec::new(alloc),
+            len,
+        }
+    }
+
+    /// An empty table with room for `capacity` rows or more. `Err` where memory was refused.
+    pub fn with_capacity(alloc: A, capacity: usize) -> Result<KeyTable<A>, AllocError>
+        ensures rows { IfOk result (λ table. table.rows ≡ map.empty) }
+        ensures room { IfOk result (λ table. capacity ≤ table.capacity) }
+        ensures succeeds { capacity ≡ 0 → IsOk result }
+    {
+        if capacity == 0 {
+            return Ok(KeyTable::new(alloc));
+        }
+        KeyTable::with_groups_for(alloc, capacity)
+    }
+
+    /// Makes room for `additional` more rows. Where it is there already, nothing changes.
+    ///
+    /// `Err` where a growth was refused, or the rows would be too many for any memory. The rows and
+    /// the capacity are then as before.
+    pub fn reserve(&mut self, additional: usize) -> Result<(), AllocError>
+        ensures rows { self.new.rows ≡ self.old.rows }
+        ensures ok { OnOk result (map.len self.old.rows + additional ≤ self.new.capacity) }
+        ensures err { OnErr result (self.new.capacity ≡ self.old.capacity) }
+        ensures capacity { self.old.capacity ≤ self.new.capacity }
+        ensures succeeds { map.len self.old.rows + additional ≤ self.old.capacity → IsOk result }
+        ensures had_room { map.len self.old.rows + additional ≤ self.old.capacity
+            → self.new.capacity ≡ self.old.capacity }
+    {
+        let room = self.capacity() - self.len;
+        if additional <= room {
+            return Ok(());
+        }
+        let Some(wanted) = self.len.checked_add(additional) else {
+            return Err(AllocError);
+        };
+        let mut grown = KeyTable::with_groups_for(*self.tags.allocator(), wanted)?;
+        insert_all(
+            &mut grown.tags,
+            &mut grown.rows,
+            self.tags.as_slice(),
+            self.rows.as_slice(),
+        );
+        grown.len = self.len;
+        *self = grown;
+        Ok(())
+    }
+
+    /// An empty table whose groups hold `capacity` rows.
+    #[inline(never)]
+    fn with_groups_for(alloc: A, capacity: usize) -> Result<KeyTable<A>, AllocError>
+        requires { 0 < capacity }
+        ensures rows { IfOk result (λ table. table.rows ≡ map.empty) }
+        ensures room { IfOk result (λ table. capacity ≤ table.capacity) }
+    {
+        if GROUP_LOAD * MAX_GROUPS < capacity {
+            return Err(AllocError);
+        }
+        let lanes = LANES * groups_for(capacity);
+        let no_row = Row { hash: 0, place: 0 };
+        Ok(KeyTable {
+            tags: Vec::from_elem(alloc, 0, lanes)?,
+            rows: Vec::from_elem(alloc, no_row, lanes)?,
+            len: 0,
+        })
+    }
+}
+
+impl<A: Allocator> fmt::Debug for KeyTable<A> {
+    fn fmt<W: fmt::Write>(&self, f: &mut fmt::Formatter<W>) -> fmt::Result {
+        let mut rows = f.debug_list();
+        for lane in 0..self.tags.len() {
+            if self.tags[lane] != 0 {
+                let row = self.rows[lane];
+                rows.entry(&(row.hash, row.place));
+            }
+        }
+        rows.finish()
+    }
+}

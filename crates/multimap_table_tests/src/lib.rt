@@ -1,0 +1,8 @@
+//! Tests of the key table, from outside.
+//!
+//! They stand in a crate of their own, since they need an allocator that refuses: a crate has one
+//! list of dependencies for its code and its tests, and the key table itself stands on nothing.
+#![tactic(auto)]
+
+#[cfg(test)]
+mod tests;
