@@ -1,0 +1,4 @@
+pub mod ChainWalk
+pub mod Chained
+pub mod Left
+pub mod Walk

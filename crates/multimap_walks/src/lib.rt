@@ -1,0 +1,21 @@
+//! Walks over the keys and values of a multimap: its slot lists, and the links that chain each key's
+//! values.
+#![tactic(auto)]
+
+mod chain;
+pub mod links;
+mod pairs;
+mod slots;
+
+pub use chain::EntryValues;
+pub use links::{KeyLink, ValueLink};
+pub use pairs::Iter;
+
+/// An end of a list, and with it the direction of one step of a walk.
+#[derive(Debug, PartialEq, Eq, Clone, Copy)]
+pub enum End {
+    /// The first item of what remains.
+    Front,
+    /// The last item of what remains.
+    Back,
+}

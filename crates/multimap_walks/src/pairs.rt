@@ -1,0 +1,142 @@
+//! The walk over all pairs.
+ghost use Rattle.std.specs.Prelude.{◌≡◌, length, Some, IfSome, ⊤};
+ghost use Rattle.std.specs.Iterator.{at_most, UpTo};
+ghost use Rattle.std.specs.Iterator.SizeHint.{IsWithinCount};
+ghost use Rattle.std.specs.Map.Iter.{TakesFirst, TakesLast, deref_pair};
+ghost use Rattle.multimap_walks.specs.Chained.{IsChained, pairs_of};
+
+use crate::links::{KeyLink, ValueLink};
+use crate::slots::pair_of;
+use multimap_slots::{Reads, SlotList};
+use std::alloc::{AllocError, Allocator, Global};
+use std::fmt;
+use std::iter::FusedIterator;
+use std::marker::Model;
+
+/// All pairs of a map, oldest first.
+#[derive(Drop)]
+pub struct Iter<'map, K, V, A: Allocator = Global> {
+    keys: &'map SlotList<K, KeyLink, A>,
+    values: &'map SlotList<V, ValueLink, A>,
+    front: usize,
+    back: usize,
+    length: usize,
+    reads: Reads,
+}
+
+impl<'map, K, V, A: Allocator> Model for Iter<'map, K, V, A> {
+    ghost use Rattle.std.specs.Prelude.{List};
+    ghost use Rattle.std.specs.List.{filter_map};
+    ghost use Rattle.multimap_walks.specs.Chained.{pair_at};
+    ghost use Rattle.multimap_walks.specs.Left.{places_left, IsWalk};
+
+    ghost Value = { List (K × V) };
+
+    ghost view = { λ w. filter_map (pair_at w.keys.now w.values.now)
+        (places_left w.values.now.order w.front w.length) };
+
+    ghost invariant = { λ w. IsWalk w.keys.now w.values.now w.values.now.order w.front w.back w.length };
+}
+
+impl<'map, K, V, A: Allocator> Iter<'map, K, V, A> {
+    /// The walk over all pairs of two slot lists, whose links are chained.
+    pub fn new(keys: &'map SlotList<K, KeyLink, A>, values: &'map SlotList<V, ValueLink, A>) -> Self
+        requires { IsChained keys.now values.now }
+        ensures pairs { result ≡ pairs_of keys.now values.now }
+    {
+        // The lengths tell the proof that both lists are sound.
+        let _keys = keys.len();
+        Iter {
+            keys,
+            values,
+            front: values.front_place().unwrap_or(0),
+            back: values.back_place().unwrap_or(0),
+            length: values.len(),
+            reads: Reads::new(),
+        }
+    }
+}
+
+impl<'map, K, V, A: Allocator> Iterator for Iter<'map, K, V, A> {
+    type Item = (&'map K, &'map V);
+
+    ghost next_gives = { TakesFirst deref_pair };
+
+    ghost remaining = { λ s. at_most (length s) };
+
+    fn next(&mut self) -> Option<(&'map K, &'map V)> {
+        if self.length == 0 {
+            return None;
+        }
+        let place = self.front;
+        self.front = self.values.next_place(place).unwrap_or(place);
+        self.length -= 1;
+        Some(pair_of(self.keys, self.values, place, &mut self.reads))
+    }
+
+    fn size_hint(&self) -> (usize, Option<usize>)
+        ensures lower { IsWithinCount result.0 (at_most (length self.now)) }
+        ensures upper { IfSome result.1 (UpTo (at_most (length self.now))) }
+
+        // Both numbers are that of the items left.
+        ensures least { result.0 ≡ length self.now }
+        ensures greatest { result.1 ≡ Some (length self.now) }
+    {
+        (self.length, Some(self.length))
+    }
+}
+
+impl<'map, K, V, A: Allocator> DoubleEndedIterator for Iter<'map, K, V, A> {
+    ghost next_back_gives = { TakesLast deref_pair };
+
+    fn next_back(&mut self) -> Option<(&'map K, &'map V)> {
+        if self.length == 0 {
+            return None;
+        }
+        let place = self.back;
+        self.back = self.values.previous_place(place).unwrap_or(place);
+        self.length -= 1;
+        Some(pair_of(self.keys, self.values, place, &mut self.reads))
+    }
+}
+
+impl<'map, K, V, A: Allocator> ExactSizeIterator for Iter<'map, K, V, A> {
+    fn len(&self) -> usize {
+        self.length
+    }
+}
+
+impl<'map, K, V, A: Allocator> FusedIterator for Iter<'map, K, V, A> {}
+
+impl<'map, K, V, A: Allocator> Clone for Iter<'map, K, V, A> {
+    ghost is_clone = { λ s r. r ≡ s };
+
+    ghost is_infallible = { λ _. ⊤ };
+
+    fn clone(&self) -> Result<Iter<'map, K, V, A>, AllocError> {
+        Ok(Iter {
+            keys: self.keys,
+            values: self.values,
+            front: self.front,
+            back: self.back,
+            length: self.length,
+            reads: self.reads.clone()?,
+        })
+    }
+}
+
+impl<'map, K: fmt::Debug, V: fmt::Debug, A: Allocator> fmt::Debug for Iter<'map, K, V, A> {
+    fn fmt<W: fmt::Write>(&self, f: &mut fmt::Formatter<W>) -> fmt::Result {
+        f.write_str("Iter(")?;
+        let rest = match self.clone() {
+            Ok(rest) => rest,
+            Err(_) => return Err(fmt::Error),
+        };
+        let mut list = f.debug_list();
+        for pair in rest {
+            list.entry(&pair);
+        }
+        list.finish()?;
+        f.write_str(")")
+    }
+}

@@ -1,0 +1,43 @@
+//! Reads of listed slots.
+ghost use Rattle.std.specs.Prelude.{◌≡◌, ◌+◌, Some};
+ghost use Rattle.multimap_slots.specs.Lists.{IsIn};
+ghost use Rattle.multimap_slots.specs.Slots.{HasSlot};
+ghost use Rattle.multimap_walks.specs.Chained.{IsChained, pair_at};
+
+use crate::links::{KeyLink, ValueLink};
+use multimap_slots::{Reads, SlotList};
+use std::alloc::Allocator;
+
+/// The value at a listed place, with its link.
+pub(crate) fn value_at<'map, V, A: Allocator>(
+    values: &'map SlotList<V, ValueLink, A>,
+    place: usize,
+    reads: &mut Reads,
+) -> (&'map V, ValueLink)
+    requires { IsIn place values.now.order }
+    ensures slot { HasSlot values.now place result.0.now result.1 }
+    ensures counted { reads.new ≡ reads.old + 1 }
+{
+    match values.get(place, reads) {
+        Some(slot) => slot,
+        None => unreachable!(),
+    }
+}
+
+/// The key and the value at a listed place.
+pub(crate) fn pair_of<'map, K, V, A: Allocator>(
+    keys: &'map SlotList<K, KeyLink, A>,
+    values: &'map SlotList<V, ValueLink, A>,
+    place: usize,
+    reads: &mut Reads,
+) -> (&'map K, &'map V)
+    requires chained { IsChained keys.now values.now }
+    requires listed { IsIn place values.now.order }
+    ensures pair { pair_at keys.now values.now place ≡ Some (result.0.now, result.1.now) }
+{
+    let (value, link) = value_at(values, place, reads);
+    match keys.get(link.key, reads) {
+        Some((key, _)) => (key, value),
+        None => unreachable!(),
+    }
+}
