@@ -39,12 +39,13 @@ impl<'map, K, V, A: Allocator> Model for EntryValues<'map, K, V, A> {
       reads = w.reads;
     } };
 
-    ghost invariant = { λ w. IsWalk w.keys.now w.values.now (chain_of w.values.now w.key) w.front w.back w.length };
+    ghost invariant = { λ w. IsWalk w.keys.now w.values.now (chain_of w.values.now w.key)
+        w.front w.back w.length };
 }
 
 impl<'map, K, V, A: Allocator> EntryValues<'map, K, V, A> {
-    /// The walk over the values of a key, which is given by its place and its link in `keys`. None is
-    /// the empty walk.
+    /// The walk over the values of a key, which is given by its place and its link in `keys`. None
+    /// is the empty walk.
     pub fn new(
         keys: &'map SlotList<K, KeyLink, A>,
         values: &'map SlotList<V, ValueLink, A>,

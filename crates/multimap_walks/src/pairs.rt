@@ -35,7 +35,8 @@ impl<'map, K, V, A: Allocator> Model for Iter<'map, K, V, A> {
     ghost view = { λ w. filter_map (pair_at w.keys.now w.values.now)
         (places_left w.values.now.order w.front w.length) };
 
-    ghost invariant = { λ w. IsWalk w.keys.now w.values.now w.values.now.order w.front w.back w.length };
+    ghost invariant = { λ w. IsWalk w.keys.now w.values.now w.values.now.order
+        w.front w.back w.length };
 }
 
 impl<'map, K, V, A: Allocator> Iter<'map, K, V, A> {

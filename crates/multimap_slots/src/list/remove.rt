@@ -7,7 +7,8 @@ use super::SlotList;
 use std::alloc::Allocator;
 
 impl<T, L: Copy, A: Allocator> SlotList<T, L, A> {
-    /// Takes the item at `place` out of the list and frees the place. Where none is, nothing changes.
+    /// Takes the item at `place` out of the list and frees the place. Where none is, nothing
+    /// changes.
     pub fn remove(&mut self, place: usize) -> Option<T>
         ensures removed { IfSome result (Removes self.old self.new place) }
         ensures absent { IfNone result (¬ IsIn place self.old.order) }
