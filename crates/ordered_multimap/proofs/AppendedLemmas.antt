@@ -1,0 +1,241 @@
+-- After an append key list, table and values agree, and the two lists are the appended ones.
+use Rattle.std.proofs.Common.{◌≡◌, ◌≢◌, ℕ, ◌+◌, ◌<◌, ◌≤◌, Bool, true, false, cond, List, [], ◌∷◌, ◌++◌, length, Option, Some, None, refl, sym, ap, ◌∙◌, subst, inl, inr, is_some, arith, length-append}
+use Rattle.std.proofs.lemmas.Bool.{cases_eq, eq-eqb, ne_eqb}
+use Rattle.std.proofs.lemmas.List.Elements.{filter_map-append}
+use Rattle.std.proofs.lemmas.Map.Keys.{IsDistinct-push}
+use Rattle.std.specs.Cmp.{IsEquivalence, nat_cmp_total, unsigned_tied}
+use Rattle.std.specs.List.{filter_map, cons_option, IsDistinct}
+use Rattle.std.specs.Ordering.{nat_cmp}
+use Rattle.std.specs.FinMap.{FinMap, get, insert, len, get-insert, len-insert}
+use Rattle.multimap_slots.specs.Lists.{IsIn, first_of, last_of}
+use Rattle.multimap_slots.specs.Slots.{Slots, IsSound, HasRoomFor, KeepsItems, PushesBack, item_at, link_at, with_link}
+use Rattle.multimap_walks.specs.declared.links.KeyLink.{KeyLink}
+use Rattle.multimap_walks.specs.declared.links.ValueLink.{ValueLink}
+use Rattle.multimap_walks.specs.Chained.{is_value_of, chain_of, pairs_of}
+use Rattle.ordered_multimap.specs.Lists.{lists}
+use Rattle.ordered_multimap.specs.Keys.{is_listed, stored_key}
+use Rattle.ordered_multimap.specs.Changes.{appended}
+use Rattle.ordered_multimap.specs.Agrees.{Agrees, HasKey, items_of, lists_of}
+use Rattle.ordered_multimap.specs.Appends.{SetsKey, PushesValue}
+use Rattle.ordered_multimap.proofs.Members.{IsIn-kept, filter-none}
+use Rattle.ordered_multimap.proofs.PlaceLemmas.{held, IsIn-filter_map, filter_map-agree, filter_shorter, last_of-member}
+use Rattle.ordered_multimap.proofs.KeyLemmas.{is_listed-member, stored_key_only, stored_key_absent}
+use Rattle.ordered_multimap.proofs.AgreesLemmas.{is_value_of-is}
+use Rattle.ordered_multimap.proofs.ChainLemmas.{first_of-push}
+use Rattle.ordered_multimap.proofs.StepLemmas.{old_other, old_listed, new_listed, listed_cases, IsSound-push, IsSound-with_link, sets_link, sets_pushed}
+use Rattle.ordered_multimap.proofs.AppendLemmas.{chained-append, pairs_of-append}
+
+-- only the capacities differ
+module _ {K V : Type 0} (keys keys_after : Slots K KeyLink) (values values_after : Slots V ValueLink)
+    (same_keys : KeepsItems keys keys_after) (same_values : KeepsItems values values_after) where
+  pub lists_kept : lists_of keys_after values_after ≡ lists_of keys values
+  lists_kept = λ i. lists_of (same_keys i) (same_values i)
+
+  pub agrees_kept : {eq : K → K → Bool} {hash : K → ℕ} {rows rows_after : FinMap nat_cmp ℕ} → Agrees eq hash keys rows values → rows_after ≡ rows
+      → keys.capacity ≤ keys_after.capacity → values.capacity ≤ values_after.capacity → Agrees eq hash keys_after rows_after values_after
+  agrees_kept {eq} {hash} {rows} {rows_after} agrees same_rows key_room value_room =
+      let k : Slots K KeyLink = record keys { capacity = keys_after.capacity } in
+      let v : Slots V ValueLink = record values { capacity = values_after.capacity } in
+      let base : Agrees eq hash k rows v = record {
+        keys_sound = record {
+          distinct = agrees.keys_sound.distinct;
+          filled = agrees.keys_sound.filled;
+          linked = agrees.keys_sound.linked;
+          fits = omega (arith, agrees.keys_sound.fits, key_room);
+        };
+        values_sound = record {
+          distinct = agrees.values_sound.distinct;
+          filled = agrees.values_sound.filled;
+          linked = agrees.values_sound.linked;
+          fits = omega (arith, agrees.values_sound.fits, value_room);
+        };
+        chained = record {
+          owned = agrees.chained.owned;
+          head = agrees.chained.head;
+          tail = agrees.chained.tail;
+          length = agrees.chained.length;
+          previous = agrees.chained.previous;
+          next = agrees.chained.next;
+        };
+        distinct = agrees.distinct;
+        hashed = agrees.hashed;
+        in_table = agrees.in_table;
+        listed = agrees.listed;
+        counted = agrees.counted;
+      } in
+      subst (λ s. Agrees eq hash s rows_after values_after) (sym same_keys)
+      (subst (λ s. Agrees eq hash k rows_after s) (sym same_values) (subst (λ r. Agrees eq hash k r v) (sym same_rows) base))
+
+-- what an append ends with
+pub record Appends {K V : Type 0} (eq : K → K → Bool) (hash : K → ℕ) (keys : Slots K KeyLink) (values : Slots V ValueLink) (key : K) (v : V)
+    (keys_after : Slots K KeyLink) (rows_after : FinMap nat_cmp ℕ) (values_after : Slots V ValueLink) : Type 0 where
+  pub agrees : Agrees eq hash keys_after rows_after values_after
+  pub lists : lists_of keys_after values_after ≡ appended eq (lists_of keys values) key v
+
+module _ {K V : Type 0} {eq : K → K → Bool} (laws : IsEquivalence eq) {hash : K → ℕ} {keys : Slots K KeyLink} {rows : FinMap nat_cmp ℕ} {values : Slots V ValueLink}
+    (agrees : Agrees eq hash keys rows values) (key : K) (v : V) (place last n : ℕ) (values_after : Slots V ValueLink) (sound : IsSound values_after) where
+  -- one more value of a present key
+  pub append_present : (l : KeyLink) (keys_after : Slots K KeyLink) → HasKey eq keys key place → link_at keys place ≡ Some l
+      → PushesValue values values_after last v place (Some l.tail) → n ≡ l.length + 1
+      → keys_after ≡ with_link keys place (record l { tail = last; length = n })
+      → Appends eq hash keys values key v keys_after rows values_after
+  append_present l keys_after has link_is pushes more sets_is =
+      let link : KeyLink = record l { tail = last; length = n } in
+      let after : Slots K KeyLink = with_link keys place link in
+      let chain : List ℕ = chain_of values place in
+      let ks : List K = items_of keys in
+      let ps : List (K × V) = pairs_of keys values in
+      let tail_is : Some l.tail ≡ last_of chain = sym (agrees.chained.tail place l has.listed link_is) in
+      let behind : PushesValue values values_after last v place (last_of chain) = subst (PushesValue values values_after last v place) tail_is pushes in
+      let sets : SetsKey keys after place has.stored link = sets_link keys place has.stored link has.listed has.item_is (agrees.keys_sound.linked place has.listed) in
+      let there : is_listed eq ks key ≡ true = is_listed-member laws key has.stored ks (IsIn-filter_map (item_at keys) place has.stored keys.order has.listed has.item_is) has.equal in
+      let own : stored_key eq ks key ≡ has.stored = stored_key_only laws key has.stored ks agrees.distinct (IsIn-filter_map (item_at keys) place has.stored keys.order has.listed has.item_is) has.equal in
+      let all : Appends eq hash keys values key v after rows values_after = record {
+        agrees = record {
+          keys_sound = IsSound-with_link keys place link has.listed agrees.keys_sound;
+          values_sound = sound;
+          chained = chained-append agrees.keys_sound agrees.values_sound agrees.chained sets behind
+              (first_of-push chain last l.head (agrees.chained.head place l has.listed link_is)) refl
+              (more ∙ ap (λ m. m + 1) (sym (agrees.chained.length place l has.listed link_is)));
+          distinct = agrees.distinct;
+          hashed = λ p k m listed item is. elim (cases_eq p place) [
+            | inl same ↦
+                let both : Some link ≡ Some m = sym sets.link_is ∙ ap (link_at after) (sym same) ∙ is in
+                let is_link : link ≡ m = cc in
+                ap (λ (x : KeyLink). x.hash) (sym is_link) ∙ agrees.hashed place k l has.listed (ap (item_at keys) (sym same) ∙ item) link_is
+            | inr differs ↦ agrees.hashed p k m listed item (sym (sets.links p differs) ∙ is)
+          ];
+          in_table = λ p m listed is. elim (cases_eq p place) [
+            | inl same ↦
+                let both : Some link ≡ Some m = sym sets.link_is ∙ ap (link_at after) (sym same) ∙ is in
+                let is_link : link ≡ m = cc in
+                ap (get rows) same ∙ agrees.in_table place l has.listed link_is ∙ ap (λ (x : KeyLink). Some x.hash) is_link
+            | inr differs ↦ agrees.in_table p m listed (sym (sets.links p differs) ∙ is)
+          ];
+          listed = agrees.listed;
+          counted = agrees.counted;
+        };
+        lists =
+            ap (λ pairs. lists ks pairs) (pairs_of-append agrees.keys_sound agrees.values_sound agrees.chained sets behind)
+            ∙ sym (ap (λ b. lists (cond b ks (ks ++ key ∷ [])) (ps ++ (stored_key eq ks key, v) ∷ [])) there ∙ ap (λ s. lists ks (ps ++ (s, v) ∷ [])) own);
+      } in
+      subst (λ s. Appends eq hash keys values key v s rows values_after) (sym sets_is) all
+
+  -- the table has no row of a place that was not listed
+  pub row_absent : {keys_pushed : Slots K KeyLink} {unset : KeyLink} → PushesBack keys keys_pushed place key unset → get rows place ≡ None
+  row_absent pushed =
+      let P : Option ℕ → Type 0 = λ o. get rows place ≡ o → o ≡ None in
+      elim (get rows place) as P [ None ↦ λ _. refl | Some h ↦ λ is. absurd (pushed.was_absent (agrees.listed place h is)) ] refl
+
+  -- a first value of a key that was absent
+  pub append_absent : (h : ℕ) (unset : KeyLink) (keys_pushed keys_after : Slots K KeyLink) (rows_after : FinMap nat_cmp ℕ)
+      → is_listed eq (items_of keys) key ≡ false → h ≡ hash key → HasRoomFor keys 1
+      → PushesBack keys keys_pushed place key unset → keys_pushed.capacity ≡ keys.capacity
+      → rows_after ≡ insert rows place h → PushesValue values values_after last v place None → n ≡ 0 + 1
+      → keys_after ≡ with_link keys_pushed place (record { hash = h; head = last; tail = last; length = n })
+      → Appends eq hash keys values key v keys_after rows_after values_after
+  append_absent h unset keys_pushed keys_after rows_after unlisted hash_is room pushed same_room rows_is pushes one sets_is =
+      let link : KeyLink = record { hash = h; head = last; tail = last; length = n } in
+      let after : Slots K KeyLink = with_link keys_pushed place link in
+      let chain : List ℕ = chain_of values place in
+      let ks : List K = items_of keys in
+      let ps : List (K × V) = pairs_of keys values in
+      let none : chain ≡ [] = filter-none (is_value_of values place) values.order (λ q listed.
+      let l = held (link_at values q) (agrees.values_sound.linked q listed) in
+      is_value_of-is keys values place q l.value l.is ∙ ne_eqb l.value.key place (old_other pushed l.value.key (agrees.chained.owned q l.value listed l.is))) in
+      let first : PushesValue values values_after last v place (last_of chain) = subst (PushesValue values values_after last v place) (sym (ap last_of none)) pushes in
+      let sets : SetsKey keys after place key link = sets_pushed keys keys_pushed place key unset link pushed in
+      let items : items_of after ≡ ks ++ key ∷ [] =
+      ap (filter_map (item_at keys_pushed)) pushed.order
+      ∙ filter_map-append (item_at keys_pushed) keys.order (place ∷ [])
+      ∙ ap (λ js. js ++ filter_map (item_at keys_pushed) (place ∷ [])) (filter_map-agree (item_at keys_pushed) (item_at keys) keys.order (λ q i. pushed.others.items q (old_other pushed q i)))
+      ∙ ap (λ o. ks ++ cons_option o []) pushed.item_is in
+      let inserted = λ (p : ℕ). get-insert nat_cmp_total rows place h p ∙ ap (λ b. cond b (Some h) (get rows p)) (unsigned_tied p place) in
+      let at_place = λ (p : ℕ) (same : p ≡ place). inserted p ∙ ap (λ b. cond b (Some h) (get rows p)) (eq-eqb p place same) in
+      let elsewhere = λ (p : ℕ) (differs : p ≢ place). inserted p ∙ ap (λ b. cond b (Some h) (get rows p)) (ne_eqb p place differs) in
+      let own : stored_key eq ks key ≡ key = stored_key_absent laws key ks unlisted in
+      let all : Appends eq hash keys values key v after (insert rows place h) values_after = record {
+        agrees = record {
+          keys_sound = IsSound-with_link keys_pushed place link (new_listed pushed) (IsSound-push pushed agrees.keys_sound room same_room);
+          values_sound = sound;
+          chained = chained-append agrees.keys_sound agrees.values_sound agrees.chained sets first
+              (ap (λ qs. first_of (qs ++ last ∷ [])) none) refl (one ∙ ap (λ qs. length qs + 1) (sym none));
+          distinct = subst (IsDistinct eq) (sym items) (IsDistinct-push laws ks key agrees.distinct unlisted);
+          hashed = λ p k m listed item is. elim (listed_cases pushed p listed) [
+            | inl before ↦ agrees.hashed p k m before (sym (pushed.others.items p (old_other pushed p before)) ∙ item) (sym (sets.links p (old_other pushed p before)) ∙ is)
+            | inr here ↦
+                let both : Some link ≡ Some m = sym sets.link_is ∙ ap (link_at after) (sym here) ∙ is in
+                let is_link : link ≡ m = cc in
+                let both_keys : Some key ≡ Some k = sym pushed.item_is ∙ ap (item_at keys_pushed) (sym here) ∙ item in
+                let is_key : key ≡ k = cc in
+                ap (λ (x : KeyLink). x.hash) (sym is_link) ∙ hash_is ∙ ap hash is_key
+          ];
+          in_table = λ p m listed is. elim (listed_cases pushed p listed) [
+            | inl before ↦ elsewhere p (old_other pushed p before) ∙ agrees.in_table p m before (sym (sets.links p (old_other pushed p before)) ∙ is)
+            | inr here ↦
+                let both : Some link ≡ Some m = sym sets.link_is ∙ ap (link_at after) (sym here) ∙ is in
+                let is_link : link ≡ m = cc in
+                at_place p here ∙ ap (λ (x : KeyLink). Some x.hash) is_link
+          ];
+          listed = λ p x is. elim (cases_eq p place) [
+            | inl same ↦ subst (λ q. IsIn q keys_pushed.order) (sym same) (new_listed pushed)
+            | inr differs ↦ old_listed pushed p (agrees.listed p x (sym (elsewhere p differs) ∙ is))
+          ];
+          counted =
+              len-insert nat_cmp_total rows place h
+              ∙ ap (λ b. cond b (len rows) (len rows + 1)) (no_row (get rows place) (row_absent pushed))
+              ∙ ap (λ m. m + 1) agrees.counted
+              ∙ sym (ap length pushed.order ∙ length-append keys.order (place ∷ []));
+        };
+        lists =
+            (λ i. lists (items i) (pairs_of-append agrees.keys_sound agrees.values_sound agrees.chained sets first i))
+            ∙ sym (ap (λ b. lists (cond b ks (ks ++ key ∷ [])) (ps ++ (stored_key eq ks key, v) ∷ [])) unlisted ∙ ap (λ s. lists (ks ++ key ∷ []) (ps ++ (s, v) ∷ [])) own);
+      } in
+      subst (λ s. Appends eq hash keys values key v s rows_after values_after) (sym sets_is)
+      (subst (λ r. Appends eq hash keys values key v after r values_after) (sym rows_is) all)
+    where
+      no_row : (o : Option ℕ) → o ≡ None → is_some o ≡ false
+      no_row o e = ap is_some e
+
+-- an append, from the slots before room was made
+module _ {K V : Type 0} {eq : K → K → Bool} (laws : IsEquivalence eq) {hash : K → ℕ} {keys : Slots K KeyLink} {rows : FinMap nat_cmp ℕ} {values : Slots V ValueLink}
+    (agrees : Agrees eq hash keys rows values) (reserved : Slots V ValueLink) (same_values : KeepsItems values reserved) where
+  -- the tail of a chain is listed there
+  pub reserved_tail : (place : ℕ) (l : KeyLink) → IsIn place keys.order → link_at keys place ≡ Some l → (q : ℕ) → Some l.tail ≡ Some q → IsIn q reserved.order
+  reserved_tail place l listed link_is q is =
+      let last = agrees.chained.tail place l listed link_is ∙ is in
+      subst (IsIn q) (sym (ap (λ (s : Slots V ValueLink). s.order) same_values))
+      (IsIn-kept (is_value_of values place) q values.order (last_of-member (chain_of values place) q last)).0
+
+  -- and a chain is shorter than the list with another value
+  pub chain_shorter : (place : ℕ) (l : KeyLink) → IsIn place keys.order → link_at keys place ≡ Some l → (more : List ℕ) (last : ℕ) → more ≡ reserved.order ++ last ∷ [] → l.length < length more
+  chain_shorter place l listed link_is more last is =
+      let count = agrees.chained.length place l listed link_is in
+      let short = filter_shorter (is_value_of values place) values.order in
+      let same : length reserved.order ≡ length values.order = ap (λ (s : Slots V ValueLink). length s.order) same_values in
+      omega (arith, count, short, same, ap length is, length-append reserved.order (last ∷ []))
+
+  pub present_step : values.capacity ≤ reserved.capacity → (key : K) (v : V) (place last n : ℕ) (values_after : Slots V ValueLink) (sound : IsSound values_after)
+      (l : KeyLink) (keys_after : Slots K KeyLink) → HasKey eq keys key place → link_at keys place ≡ Some l
+      → PushesValue reserved values_after last v place (Some l.tail) → n ≡ l.length + 1
+      → keys_after ≡ with_link keys place (record l { tail = last; length = n })
+      → Appends eq hash keys values key v keys_after rows values_after
+  present_step room key v place last n values_after sound l keys_after has link_is pushes more sets_is =
+      let a : Agrees eq hash keys rows reserved = agrees_kept keys keys values reserved refl same_values agrees refl (omega arith) room in
+      let done = append_present laws a key v place last n values_after sound l keys_after has link_is pushes more sets_is in
+      record { agrees = done.agrees; lists = done.lists ∙ ap (λ m. appended eq m key v) (lists_kept keys keys values reserved refl same_values) }
+
+  pub absent_step : (keys_reserved : Slots K KeyLink) (rows_reserved : FinMap nat_cmp ℕ) (same_keys : KeepsItems keys keys_reserved) → rows_reserved ≡ rows
+      → keys.capacity ≤ keys_reserved.capacity → values.capacity ≤ reserved.capacity → (key : K) (v : V) (place last n : ℕ) (values_after : Slots V ValueLink) (sound : IsSound values_after)
+      (h : ℕ) (unset : KeyLink) (keys_pushed keys_after : Slots K KeyLink) (rows_after : FinMap nat_cmp ℕ)
+      → is_listed eq (items_of keys) key ≡ false → h ≡ hash key → HasRoomFor keys_reserved 1
+      → PushesBack keys_reserved keys_pushed place key unset → keys_pushed.capacity ≡ keys_reserved.capacity
+      → rows_after ≡ insert rows_reserved place h → PushesValue reserved values_after last v place None → n ≡ 0 + 1
+      → keys_after ≡ with_link keys_pushed place (record { hash = h; head = last; tail = last; length = n })
+      → Appends eq hash keys values key v keys_after rows_after values_after
+  absent_step keys_reserved rows_reserved same_keys same_rows key_room value_room key v place last n values_after sound h unset keys_pushed keys_after rows_after unlisted hash_is room pushed same_room rows_is pushes one sets_is =
+      let a : Agrees eq hash keys_reserved rows_reserved reserved = agrees_kept keys keys_reserved values reserved same_keys same_values agrees same_rows key_room value_room in
+      let same_items : items_of keys_reserved ≡ items_of keys = λ i. items_of (same_keys i) in
+      let done = append_absent laws a key v place last n values_after sound h unset keys_pushed keys_after rows_after
+      (ap (λ ks. is_listed eq ks key) same_items ∙ unlisted) hash_is room pushed same_room rows_is pushes one sets_is in
+      record { agrees = done.agrees; lists = done.lists ∙ ap (λ m. appended eq m key v) (lists_kept keys keys_reserved values reserved same_keys same_values) }

@@ -1,0 +1,13 @@
+pub mod AgreesLemmas
+pub mod AppendLemmas
+pub mod AppendedLemmas
+pub mod ChainLemmas
+pub mod KeyLemmas
+pub mod KeyOrderLemmas
+pub mod LawLemmas
+pub mod LookupLemmas
+pub mod Members
+pub mod PlaceLemmas
+pub mod StepLemmas
+pub mod WellFormedLemmas
+pub mod WorkedExamples

@@ -1,0 +1,154 @@
+-- Look-ups by key, and the ends of the pairs.
+use Rattle.std.proofs.Common.{◌≡◌, ◌≢◌, ◌⊎◌, ◌==◌, ℕ, Bool, true, false, cond, List, [], ◌∷◌, ◌++◌, length, filter, map, slice_get, Option, Some, None, refl, sym, ap, ◌∙◌, subst, inl, inr, true≢false}
+use Rattle.std.proofs.lemmas.Bool.{cases_eq, eq-eqb, ne_eqb}
+use Rattle.std.proofs.lemmas.List.Elements.{filter_map-append}
+use Rattle.std.specs.List.{filter_map, cons_option, IsDistinct, AllByRecursion}
+use Rattle.std.specs.Cmp.{IsEquivalence}
+use Rattle.std.specs.Ordering.{nat_cmp}
+use Rattle.std.specs.FinMap.{FinMap}
+use Rattle.multimap_slots.specs.Lists.{IsIn, first_of, last_of}
+use Rattle.multimap_slots.specs.Slots.{Slots, item_at, link_at}
+use Rattle.multimap_walks.specs.declared.links.KeyLink.{KeyLink}
+use Rattle.multimap_walks.specs.declared.links.ValueLink.{ValueLink}
+use Rattle.multimap_walks.specs.declared.End.TheVariants.{Front, Back}
+use Rattle.multimap_walks.specs.Walk.{item_at as end_of}
+use Rattle.multimap_walks.specs.Chained.{is_value_of, chain_of, values_at, pair_at, pairs_of}
+use Rattle.ordered_multimap.specs.Pairs.{has_items, values_of, is_present}
+use Rattle.ordered_multimap.specs.Keys.{is_listed, stored_key}
+use Rattle.ordered_multimap.specs.Agrees.{Agrees, HasKey, IsFoundBy, items_of, lists_of}
+use Rattle.ordered_multimap.proofs.Members.{IsIn-kept}
+use Rattle.ordered_multimap.proofs.PlaceLemmas.{held, length-filter_map, IsIn-filter_map, origin, begins, ends}
+use Rattle.ordered_multimap.proofs.KeyLemmas.{is_listed-member, stored_key_member}
+use Rattle.ordered_multimap.proofs.LawLemmas.{item_at-push}
+use Rattle.ordered_multimap.proofs.WellFormedLemmas.{is_present-keys}
+use Rattle.ordered_multimap.proofs.AgreesLemmas.{PairAt, pair_in, is_value_of-is, well_formed}
+
+module _ {K : Type 0} {eq : K → K → Bool} (laws : IsEquivalence eq) where
+  -- no listed key is equal, so none is in the list
+  pub unlisted : (keys : Slots K KeyLink) (k : K) → ((place : ℕ) (j : K) → IsIn place keys.order → item_at keys place ≡ Some j → eq k j ≡ false)
+      → is_listed eq (items_of keys) k ≡ false
+  unlisted keys k apart =
+      let P : Bool → Type 0 = λ b. is_listed eq (items_of keys) k ≡ b → b ≡ false in
+      elim (is_listed eq (items_of keys) k) as P [
+        | true ↦ λ e.
+            let s = stored_key_member laws k (items_of keys) e in
+            let o = origin (item_at keys) (stored_key eq (items_of keys) k) keys.order s.0 in
+            absurd (true≢false (sym s.1 ∙ apart o.from _ o.member o.gives))
+        | false ↦ λ _. refl
+      ] refl
+
+  apart_item : (j k : K) (keys : List K) → AllByRecursion (λ y. eq j y ≡ false) keys → IsIn k keys → eq j k ≡ false
+  apart_item j k [] apart member = absurd member
+  apart_item j k (i ∷ keys) apart (inl here) = ap (eq j) here ∙ apart.0
+  apart_item j k (i ∷ keys) apart (inr later) = apart_item j k keys apart.1 later
+
+  -- equal keys of distinct ones stand at one place
+  pub same_place : (keys : Slots K KeyLink) (ps : List ℕ) → IsDistinct eq (filter_map (item_at keys) ps) → (p q : ℕ) (j k : K) → IsIn p ps → IsIn q ps
+      → item_at keys p ≡ Some j → item_at keys q ≡ Some k → eq j k ≡ true → p ≡ q
+  unfolding IsDistinct
+  same_place keys [] distinct p q j k p_in q_in p_is q_is equal = absurd p_in
+  same_place keys (r ∷ ps) distinct p q j k (inl p_here) (inl q_here) p_is q_is equal = p_here ∙ sym q_here
+  same_place keys (r ∷ ps) distinct p q j k (inl p_here) (inr q_in) p_is q_is equal =
+      let split : IsDistinct eq (j ∷ filter_map (item_at keys) ps) = subst (λ o. IsDistinct eq (cons_option o (filter_map (item_at keys) ps))) (sym (ap (item_at keys) p_here) ∙ p_is) distinct in
+      absurd (true≢false (sym equal ∙ apart_item j k (filter_map (item_at keys) ps) split.0 (IsIn-filter_map (item_at keys) q k ps q_in q_is)))
+  same_place keys (r ∷ ps) distinct p q j k (inr p_in) (inl q_here) p_is q_is equal =
+      let split : IsDistinct eq (k ∷ filter_map (item_at keys) ps) = subst (λ o. IsDistinct eq (cons_option o (filter_map (item_at keys) ps))) (sym (ap (item_at keys) q_here) ∙ q_is) distinct in
+      absurd (true≢false (sym equal ∙ laws.symm j k ∙ apart_item k j (filter_map (item_at keys) ps) split.0 (IsIn-filter_map (item_at keys) p j ps p_in p_is)))
+  same_place keys (r ∷ ps) distinct p q j k (inr p_in) (inr q_in) p_is q_is equal =
+      let P : Option K → Type 0 = λ o. IsDistinct eq (cons_option o (filter_map (item_at keys) ps)) → IsDistinct eq (filter_map (item_at keys) ps) in
+      let rest : IsDistinct eq (filter_map (item_at keys) ps) = elim (item_at keys r) as P [ None ↦ λ d. d | Some i ↦ λ d. d.1 ] distinct in
+      same_place keys ps rest p q j k p_in q_in p_is q_is equal
+
+module _ {K V : Type 0} {eq : K → K → Bool} (laws : IsEquivalence eq) {hash : K → ℕ} {keys : Slots K KeyLink} {rows : FinMap nat_cmp ℕ} {values : Slots V ValueLink} (agrees : Agrees eq hash keys rows values) where
+  pub found_by : ((x y : K) → eq x y ≡ true → hash x ≡ hash y) → (k : K) → IsFoundBy eq keys rows k (hash k)
+  found_by alike k = record {
+    places = agrees.listed;
+    hashed = λ place j listed item equal.
+        let l = held (link_at keys place) (agrees.keys_sound.linked place listed) in
+        agrees.in_table place l.value listed l.is ∙ ap Some (agrees.hashed place j l.value listed item l.is ∙ sym (alike k j equal));
+  }
+
+  -- whether the key is present
+  pub present_if_found : (k : K) (place : ℕ) → HasKey eq keys k place → is_present eq (pairs_of keys values) k ≡ true
+  present_if_found k place has =
+      is_present-keys laws (lists_of keys values) k (well_formed agrees)
+      ∙ is_listed-member laws k has.stored (items_of keys) (IsIn-filter_map (item_at keys) place has.stored keys.order has.listed has.item_is) has.equal
+
+  pub absent_if_unlisted : (k : K) → is_listed eq (items_of keys) k ≡ false → is_present eq (pairs_of keys values) k ≡ false
+  absent_if_unlisted k none = is_present-keys laws (lists_of keys values) k (well_formed agrees) ∙ none
+
+  pub no_value : (k : K) → is_listed eq (items_of keys) k ≡ false → values_of eq (pairs_of keys values) k ≡ []
+  no_value k none = empty (values_of eq (pairs_of keys values) k) (absent_if_unlisted k none)
+    where
+      empty : (xs : List V) → has_items xs ≡ false → xs ≡ []
+      empty [] e = refl
+      empty (x ∷ xs) e = absurd (true≢false e)
+
+  -- a value is the key's exactly where its own key is equal
+  owns : (k : K) (place : ℕ) (has : HasKey eq keys k place) (q : ℕ) (p : PairAt keys values q) → is_value_of values place q ≡ eq k p.key
+  owns k place has q p = is_value_of-is keys values place q p.link p.link_is ∙ cases (cases_eq p.link.key place)
+    where
+      cases : (p.link.key ≡ place) ⊎ (p.link.key ≢ place) → (p.link.key == place) ≡ eq k p.key
+      cases (inl same) =
+          let one : Some has.stored ≡ Some p.key = sym has.item_is ∙ ap (item_at keys) (sym same) ∙ p.key_is in
+          let own : has.stored ≡ p.key = cc in
+          eq-eqb p.link.key place same ∙ sym (ap (eq k) (sym own) ∙ has.equal)
+      cases (inr differs) =
+          let P : Bool → Type 0 = λ b. eq k p.key ≡ b → false ≡ b in
+          ne_eqb p.link.key place differs ∙ elim (eq k p.key) as P [
+            | true ↦ λ e. absurd (differs (sym (same_place laws keys keys.order agrees.distinct place p.link.key has.stored p.key has.listed p.key_listed has.item_is p.key_is
+                (sym (laws.congr k has.stored p.key has.equal) ∙ e))))
+            | false ↦ λ _. refl
+          ] refl
+
+  values_along : (k : K) (place : ℕ) → HasKey eq keys k place → (qs : List ℕ) → ((q : ℕ) → IsIn q qs → IsIn q values.order)
+      → values_of eq (filter_map (pair_at keys values) qs) k ≡ values_at values (filter (is_value_of values place) qs)
+  values_along k place has [] listed = refl
+  values_along k place has (q ∷ qs) listed =
+      let p = pair_in agrees q (listed q (inl refl)) in
+      let rest : List (K × V) = filter_map (pair_at keys values) qs in
+      let kept : List ℕ = filter (is_value_of values place) qs in
+      let later = values_along k place has qs (λ r i. listed r (inr i)) in
+      let P : Bool → Type 0 = λ b. map (λ e. e.1) (cond b ((p.key, p.value) ∷ filter (λ e. eq k e.0) rest) (filter (λ e. eq k e.0) rest)) ≡ filter_map (item_at values) (cond b (q ∷ kept) kept) in
+      ap (λ o. values_of eq (cons_option o rest) k) p.pair_is
+      ∙ elim (eq k p.key) as P [
+        | true ↦ ap (λ vs. p.value ∷ vs) later ∙ sym (ap (λ o. cons_option o (filter_map (item_at values) kept)) p.value_is)
+        | false ↦ later
+      ]
+      ∙ sym (ap (λ b. filter_map (item_at values) (cond b (q ∷ kept) kept)) (owns k place has q p))
+
+  -- the key's values are those of its chain
+  pub values_of-chain : (k : K) (place : ℕ) → HasKey eq keys k place → values_of eq (pairs_of keys values) k ≡ values_at values (chain_of values place)
+  values_of-chain k place has = values_along k place has values.order (λ q i. i)
+
+  pub head_listed : (place : ℕ) (l : KeyLink) → IsIn place keys.order → link_at keys place ≡ Some l → IsIn l.head values.order
+  head_listed place l listed link_is =
+      let b = begins (chain_of values place) l.head (agrees.chained.head place l listed link_is) in
+      (IsIn-kept (is_value_of values place) l.head values.order (subst (IsIn l.head) (sym b.is) (inl refl))).0
+
+  pub first_value : (k : K) (place : ℕ) (l : KeyLink) (v : V) → HasKey eq keys k place → link_at keys place ≡ Some l → item_at values l.head ≡ Some v
+      → slice_get (values_of eq (pairs_of keys values) k) 0 ≡ Some v
+  first_value k place l v has link_is item_is =
+      let b = begins (chain_of values place) l.head (agrees.chained.head place l has.listed link_is) in
+      ap (λ vs. slice_get vs 0) (values_of-chain k place has ∙ ap (values_at values) b.is)
+      ∙ ap (λ o. slice_get (cons_option o (values_at values b.rest)) 0) item_is
+
+  pub count_of_values : (k : K) (place : ℕ) (l : KeyLink) → HasKey eq keys k place → link_at keys place ≡ Some l → length (values_of eq (pairs_of keys values) k) ≡ l.length
+  count_of_values k place l has link_is =
+      ap length (values_of-chain k place has)
+      ∙ length-filter_map (item_at values) (chain_of values place) (λ q i. agrees.values_sound.filled q (IsIn-kept (is_value_of values place) q values.order i).0)
+      ∙ agrees.chained.length place l has.listed link_is
+
+-- the ends of what stands at places
+module _ {X : Type 0} (f : ℕ → Option X) (ps : List ℕ) where
+  pub end_of-first : (q : ℕ) (x : X) → first_of ps ≡ Some q → f q ≡ Some x → end_of Front (filter_map f ps) ≡ Some x
+  end_of-first q x first is =
+      let b = begins ps q first in
+      ap (λ qs. slice_get (filter_map f qs) 0) b.is ∙ ap (λ o. slice_get (cons_option o (filter_map f b.rest)) 0) is
+
+  pub end_of-last : (q : ℕ) (x : X) → last_of ps ≡ Some q → f q ≡ Some x → end_of Back (filter_map f ps) ≡ Some x
+  end_of-last q x last is =
+      let e = ends ps q last in
+      ap (λ qs. end_of Back (filter_map f qs)) e.is
+      ∙ ap (end_of Back) (filter_map-append f e.front (q ∷ []) ∙ ap (λ o. filter_map f e.front ++ cons_option o []) is)
+      ∙ item_at-push (filter_map f e.front) x

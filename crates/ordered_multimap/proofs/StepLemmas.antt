@@ -1,0 +1,130 @@
+-- What the steps of an append make of the slots.
+use Rattle.std.proofs.Common.{◌≡◌, ◌≢◌, ◌⊎◌, ℕ, true, false, [], ◌∷◌, length, Option, Some, None, IsSome, refl, sym, ap, ◌∙◌, subst, inl, inr, true≢false, Result, Ok, Err, is_err, OnOk, IsOk, arith, length-append}
+use Rattle.std.proofs.lemmas.Bool.{cases_eq}
+use Rattle.multimap_slots.specs.Lists.{IsIn, AreDistinct}
+use Rattle.multimap_slots.specs.Slots.{Slots, IsSound, HasRoomFor, PushesBack, item_at, link_at, with_link}
+use Rattle.multimap_slots.proofs.ListsLemmas.{IsIn-append, IsIn-left, IsIn-right, AreDistinct-push}
+use Rattle.multimap_slots.proofs.SlotsLemmas.{link_at-with_link, KeepsOthers-with_link}
+use Rattle.multimap_walks.specs.declared.links.KeyLink.{KeyLink}
+use Rattle.multimap_walks.specs.declared.links.ValueLink.{ValueLink}
+use Rattle.ordered_multimap.specs.Appends.{SetsKey, PushesValue, SetsNext}
+
+module _ {T L : Type 0} {old new : Slots T L} {place : ℕ} {item : T} {link : L} (pushed : PushesBack old new place item link) where
+  -- an old place is another one
+  pub old_other : (q : ℕ) → IsIn q old.order → q ≢ place
+  old_other q listed same = pushed.was_absent (subst (λ p. IsIn p old.order) same listed)
+
+  pub old_listed : (q : ℕ) → IsIn q old.order → IsIn q new.order
+  old_listed q listed = subst (IsIn q) (sym pushed.order) (IsIn-left q old.order (place ∷ []) listed)
+
+  pub new_listed : IsIn place new.order
+  new_listed = subst (IsIn place) (sym pushed.order) (IsIn-right place old.order (place ∷ []) (inl refl))
+
+  pub listed_cases : (q : ℕ) → IsIn q new.order → IsIn q old.order ⊎ (q ≡ place)
+  listed_cases q listed = elim (IsIn-append q old.order (place ∷ []) (subst (IsIn q) pushed.order listed)) [
+    | inl before ↦ inl before
+    | inr last ↦ elim last [ inl same ↦ inr same | inr none ↦ absurd none ]
+  ]
+
+  -- a list with room stays sound
+  pub IsSound-push : IsSound old → HasRoomFor old 1 → new.capacity ≡ old.capacity → IsSound new
+  IsSound-push sound room same = record {
+    distinct = subst AreDistinct (sym pushed.order) (AreDistinct-push old.order place pushed.was_absent sound.distinct);
+    filled = λ q listed. elim (listed_cases q listed) [
+      | inl before ↦ subst IsSome (sym (pushed.others.items q (old_other q before))) (sound.filled q before)
+      | inr here ↦ subst IsSome (sym (ap (item_at new) here ∙ pushed.item_is)) refl
+    ];
+    linked = λ q listed. elim (listed_cases q listed) [
+      | inl before ↦ subst IsSome (sym (pushed.others.links q (old_other q before))) (sound.linked q before)
+      | inr here ↦ subst IsSome (sym (ap (link_at new) here ∙ pushed.link_is)) refl
+    ];
+    fits = omega (arith, room, same, ap length pushed.order, length-append old.order (place ∷ []));
+  }
+
+-- another link keeps a list sound
+pub IsSound-with_link : {T L : Type 0} (s : Slots T L) (place : ℕ) (link : L) → IsIn place s.order → IsSound s → IsSound (with_link s place link)
+IsSound-with_link s place link at_place sound = record {
+  distinct = sound.distinct;
+  filled = sound.filled;
+  linked = λ q listed. elim (cases_eq q place) [
+    | inl here ↦ subst IsSome (sym (ap (link_at (with_link s place link)) here ∙ link_at-with_link s place link (sound.linked place at_place))) refl
+    | inr other ↦ subst IsSome (sym ((KeepsOthers-with_link s place link).links q other)) (sound.linked q listed)
+  ];
+  fits = sound.fits;
+}
+
+module _ {V : Type 0} {old mid : Slots V ValueLink} {place : ℕ} {v : V} {key : ℕ} {tail : Option ℕ}
+    (pushed : PushesBack old mid place v (record { key = key; previous = tail; next = None })) where
+  -- a value without one before it in its chain
+  pub pushes_first : tail ≡ None → PushesValue old mid place v key tail
+  pushes_first none = record {
+    was_absent = pushed.was_absent;
+    order = pushed.order;
+    item_is = pushed.item_is;
+    link_is = pushed.link_is;
+    items = pushed.others.items;
+    behind = λ q l is. let bad : None ≡ Some q = sym none ∙ is in absurd (cc);
+    links = λ q differs not_tail. pushed.others.links q differs;
+  }
+
+  -- a value behind the tail, whose link names it
+  pub pushes_behind : {new : Slots V ValueLink} (t : ℕ) → tail ≡ Some t → IsIn t old.order → SetsNext mid new t place → PushesValue old new place v key tail
+  pushes_behind t is_tail listed sets =
+      let l : ValueLink = sets.link in
+      let longer : ValueLink = record l { next = Some place } in
+      let other : place ≢ t = λ e. old_other pushed t listed (sym e) in
+      let keeps = KeepsOthers-with_link mid t longer in
+      record {
+        was_absent = pushed.was_absent;
+        order = ap (λ (s : Slots V ValueLink). s.order) sets.is ∙ pushed.order;
+        item_is = ap (λ (s : Slots V ValueLink). item_at s place) sets.is ∙ pushed.item_is;
+        link_is = ap (λ (s : Slots V ValueLink). link_at s place) sets.is ∙ keeps.links place other ∙ pushed.link_is;
+        items = λ q differs. ap (λ (s : Slots V ValueLink). item_at s q) sets.is ∙ pushed.others.items q differs;
+        behind = λ q m is link_is.
+            let same : q ≡ t = (let e : Some q ≡ Some t = sym is ∙ is_tail in cc) in
+            let own : l ≡ m = (let e : Some l ≡ Some m = sym sets.was ∙ pushed.others.links t (old_other pushed t listed) ∙ ap (link_at old) (sym same) ∙ link_is in cc) in
+            ap (λ (s : Slots V ValueLink). link_at s q) sets.is
+            ∙ ap (link_at (with_link mid t longer)) same
+            ∙ link_at-with_link mid t longer (subst IsSome (sym sets.was) refl)
+            ∙ ap (λ (n : ValueLink). Some (record n { next = Some place })) own;
+        links = λ q differs not_tail.
+            ap (λ (s : Slots V ValueLink). link_at s q) sets.is
+            ∙ keeps.links q (λ e. not_tail (is_tail ∙ ap Some (sym e)))
+            ∙ pushed.others.links q differs;
+      }
+
+-- another link of a listed key
+pub sets_link : {K : Type 0} (keys : Slots K KeyLink) (place : ℕ) (k : K) (link : KeyLink) → IsIn place keys.order → item_at keys place ≡ Some k → IsSome (link_at keys place)
+    → SetsKey keys (with_link keys place link) place k link
+sets_link keys place k link listed item_is linked = record {
+  listed = listed;
+  item_is = item_is;
+  link_is = link_at-with_link keys place link linked;
+  kept = λ q i. i;
+  came = λ q differs i. i;
+  items = λ q i. refl;
+  links = λ q differs. (KeepsOthers-with_link keys place link).links q differs;
+}
+
+-- a key that came, and then another link of it
+pub sets_pushed : {K : Type 0} (old mid : Slots K KeyLink) (place : ℕ) (k : K) (first link : KeyLink) → PushesBack old mid place k first
+    → SetsKey old (with_link mid place link) place k link
+sets_pushed old mid place k first link pushed = record {
+  listed = new_listed pushed;
+  item_is = pushed.item_is;
+  link_is = link_at-with_link mid place link (subst IsSome (sym pushed.link_is) refl);
+  kept = λ q i. old_listed pushed q i;
+  came = λ q differs i. elim (listed_cases pushed q i) [ inl before ↦ before | inr here ↦ absurd (differs here) ];
+  items = λ q i. pushed.others.items q (old_other pushed q i);
+  links = λ q differs. (KeepsOthers-with_link mid place link).links q differs ∙ pushed.others.links q differs;
+}
+
+-- whether a call was refused
+module _ {X Y : Type 0} where
+  pub ok_if : {P : Type 0} (r : Result X Y) → is_err r ≡ false → OnOk r P → P
+  ok_if (Ok x) e p = p
+  ok_if (Err y) e p = absurd (true≢false e)
+
+  pub not_refused : (r : Result X Y) → is_err r ≡ true → IsOk r → ⊥
+  not_refused (Ok x) e ok = true≢false (sym e)
+  not_refused (Err y) e ok = true≢false (sym ok)

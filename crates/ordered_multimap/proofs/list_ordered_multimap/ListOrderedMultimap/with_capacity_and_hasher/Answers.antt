@@ -1,0 +1,6 @@
+use Rattle.ordered_multimap.proofs.AgreesLemmas.{agrees_empty}
+use Rattle.ordered_multimap.proofs.list_ordered_multimap.ListOrderedMultimap.with_capacity_and_hasher.Goals as goal
+
+pub invariant_of-result : goal.invariant_of-result
+invariant_of-result g c =
+    agrees_empty _ _ c.in_ok-keys.ensures.empty c.in_ok-values.ensures.empty _ _ _ c.in_ok-table.ensures.rows

@@ -1,0 +1,56 @@
+-- How key list, table and values agree. No public clause cites this module.
+use Rattle.std.specs.Prelude.{◌≡◌, ℕ, Bool, true, false, List, Some, length}
+use Rattle.std.specs.List.{fold, filter_map, IsDistinct}
+use Rattle.std.specs.Hash.{HashWrites}
+use Rattle.std.specs.Ordering.{nat_cmp}
+use Rattle.std.specs.FinMap.{FinMap, get, len}
+use Rattle.std.specs.declared.hash.Hasher as hasher
+use Rattle.std.specs.declared.hash.BuildHasher as builder
+use Rattle.multimap_slots.specs.Lists.{IsIn}
+use Rattle.multimap_slots.specs.Slots.{Slots, IsSound, item_at, link_at}
+use Rattle.multimap_walks.specs.declared.links.KeyLink.{KeyLink}
+use Rattle.multimap_walks.specs.declared.links.ValueLink.{ValueLink}
+use Rattle.multimap_walks.specs.Chained.{IsChained, pairs_of}
+use Rattle.ordered_multimap.specs.Lists.{Lists, lists}
+
+-- what a builder makes of the writes of a key
+abbrev pub hash_of : {S H : Type 0} → builder.Ghosts S H → hasher.Ghosts H → S → HashWrites → ℕ
+hash_of b h state writes = h.finish (fold h.write (b.build_hasher state) writes)
+
+-- the listed items, in order
+abbrev pub items_of : {T L : Type 0} → Slots T L → List T
+items_of s = filter_map (item_at s) s.order
+
+-- a key that is equal to k is listed at the place
+pub record HasKey {K : Type 0} (eq : K → K → Bool) (keys : Slots K KeyLink) (k : K) (place : ℕ) : Type 0 where
+  pub listed : IsIn place keys.order
+  pub stored : K
+  pub item_is : item_at keys place ≡ Some stored
+  pub equal : eq k stored ≡ true
+
+module _ {K : Type 0} (eq : K → K → Bool) (keys : Slots K KeyLink) (k : K) (place : ℕ) where
+  -- an equal key stands at the place, or where the answer is no, no equal key stands there
+  abbrev pub SaysWhetherEqual : Bool → Type 0
+  SaysWhetherEqual true = HasKey eq keys k place
+  SaysWhetherEqual false = (j : K) → item_at keys place ≡ Some j → eq k j ≡ false
+
+-- the table has only listed places, and with this hash the place of each key that is equal to k
+pub record IsFoundBy {K : Type 0} (eq : K → K → Bool) (keys : Slots K KeyLink) (rows : FinMap nat_cmp ℕ) (k : K) (hash : ℕ) : Type 0 where
+  pub places : (place h : ℕ) → get rows place ≡ Some h → IsIn place keys.order
+  pub hashed : (place : ℕ) (j : K) → IsIn place keys.order → item_at keys place ≡ Some j → eq k j ≡ true → get rows place ≡ Some hash
+
+module _ {K V : Type 0} where
+  -- the two lists that the slots mean
+  abbrev pub lists_of : Slots K KeyLink → Slots V ValueLink → Lists K V
+  lists_of keys values = lists (items_of keys) (pairs_of keys values)
+
+  -- the links are chained, no two keys are equal, and the table has the place of each key with the hash of its link, which is that of the key
+  pub record Agrees (eq : K → K → Bool) (hash : K → ℕ) (keys : Slots K KeyLink) (rows : FinMap nat_cmp ℕ) (values : Slots V ValueLink) : Type 0 where
+    pub keys_sound : IsSound keys
+    pub values_sound : IsSound values
+    pub chained : IsChained keys values
+    pub distinct : IsDistinct eq (items_of keys)
+    pub hashed : (place : ℕ) (k : K) (l : KeyLink) → IsIn place keys.order → item_at keys place ≡ Some k → link_at keys place ≡ Some l → l.hash ≡ hash k
+    pub in_table : (place : ℕ) (l : KeyLink) → IsIn place keys.order → link_at keys place ≡ Some l → get rows place ≡ Some l.hash
+    pub listed : (place h : ℕ) → get rows place ≡ Some h → IsIn place keys.order
+    pub counted : len rows ≡ length keys.order

@@ -1,0 +1,32 @@
+-- What an append does to the slots. No public clause cites this module.
+use Rattle.std.specs.Prelude.{◌≡◌, ◌≢◌, ℕ, [], ◌∷◌, ◌++◌, Option, Some, None}
+use Rattle.multimap_slots.specs.Lists.{IsIn}
+use Rattle.multimap_slots.specs.Slots.{Slots, item_at, link_at, with_link}
+use Rattle.multimap_walks.specs.declared.links.KeyLink.{KeyLink}
+use Rattle.multimap_walks.specs.declared.links.ValueLink.{ValueLink}
+
+-- the key is listed at the place with this link, and each other key as before
+pub record SetsKey {K : Type 0} (old new : Slots K KeyLink) (place : ℕ) (k : K) (link : KeyLink) : Type 0 where
+  pub listed : IsIn place new.order
+  pub item_is : item_at new place ≡ Some k
+  pub link_is : link_at new place ≡ Some link
+  pub kept : (q : ℕ) → IsIn q old.order → IsIn q new.order
+  pub came : (q : ℕ) → q ≢ place → IsIn q new.order → IsIn q old.order
+  pub items : (q : ℕ) → IsIn q old.order → item_at new q ≡ item_at old q
+  pub links : (q : ℕ) → q ≢ place → link_at new q ≡ link_at old q
+
+-- the value stands last in the list, behind the value at the tail in the chain of its key
+pub record PushesValue {V : Type 0} (old new : Slots V ValueLink) (place : ℕ) (value : V) (key : ℕ) (tail : Option ℕ) : Type 0 where
+  pub was_absent : ¬ IsIn place old.order
+  pub order : new.order ≡ old.order ++ place ∷ []
+  pub item_is : item_at new place ≡ Some value
+  pub link_is : link_at new place ≡ Some (record { key = key; previous = tail; next = None })
+  pub items : (q : ℕ) → q ≢ place → item_at new q ≡ item_at old q
+  pub behind : (q : ℕ) (l : ValueLink) → tail ≡ Some q → link_at old q ≡ Some l → link_at new q ≡ Some (record l { next = Some place })
+  pub links : (q : ℕ) → q ≢ place → tail ≢ Some q → link_at new q ≡ link_at old q
+
+-- the link of the place names another next place, and all else is as before
+pub record SetsNext {V : Type 0} (old new : Slots V ValueLink) (place next : ℕ) : Type 0 where
+  pub link : ValueLink
+  pub was : link_at old place ≡ Some link
+  pub is : new ≡ with_link old place (record link { next = Some next })

@@ -1,0 +1,36 @@
+-- What an addition or a removal makes of the two lists.
+use Rattle.std.specs.Prelude.{Bool, not, List, [], ◌∷◌, ◌++◌, filter}
+use Rattle.ordered_multimap.specs.Lists.{Lists, lists, empty_lists}
+use Rattle.ordered_multimap.specs.Pairs.{pairs_without}
+use Rattle.ordered_multimap.specs.Keys.{stored_key, keys_with, keys_named_by}
+
+module _ {K : Type 0} (eq : K → K → Bool) {V : Type 0} where
+  -- the pair goes last, under the stored key, and a new key goes last
+  abbrev pub appended : Lists K V → K → V → Lists K V
+  appended m k v = lists (keys_with eq m.keys k) (m.pairs ++ (stored_key eq m.keys k, v) ∷ [])
+
+  -- the old pairs of the key go, and the pair goes last
+  abbrev pub inserted : Lists K V → K → V → Lists K V
+  inserted m k v = lists (keys_with eq m.keys k) (pairs_without eq m.pairs k ++ (stored_key eq m.keys k, v) ∷ [])
+
+  -- only these pairs stay, and the keys that they name
+  abbrev pub kept : Lists K V → List (K × V) → Lists K V
+  kept m pairs = lists (keys_named_by eq m.keys pairs) pairs
+
+  -- the pairs of the key go
+  abbrev pub removed : Lists K V → K → Lists K V
+  removed m k = kept m (pairs_without eq m.pairs k)
+
+  -- each pair is appended in turn
+  abbrev pub all_appended : Lists K V → List (K × V) → Lists K V
+  all_appended m [] = m
+  all_appended m (p ∷ pairs) = all_appended (appended m p.0 p.1) pairs
+
+  -- what appending the pairs makes of the empty lists
+  abbrev pub built_from : List (K × V) → Lists K V
+  built_from pairs = all_appended empty_lists pairs
+
+  -- the keys of the pairs, each only where no earlier pair has an equal one
+  abbrev pub first_occurrences : List (K × V) → List K
+  first_occurrences [] = []
+  first_occurrences (p ∷ pairs) = p.0 ∷ filter (λ k. not (eq p.0 k)) (first_occurrences pairs)

@@ -1,0 +1,10 @@
+pub mod Agrees
+pub mod Appends
+pub mod Changes
+pub mod Keys
+pub mod Laws
+pub mod Lists
+pub mod Multimap
+pub mod Pairs
+pub mod Pop
+pub mod Retain

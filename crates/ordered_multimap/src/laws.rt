@@ -1,0 +1,14 @@
+//! Laws of the definitions, for all lists. The functions do nothing: what they ensure is the law.
+ghost use Rattle.ordered_multimap.specs.Lists.{Lists, IsWellFormed};
+ghost use Rattle.ordered_multimap.specs.Laws.{PopUndoesAppend, IsRebuilt};
+
+/// An append and then a pop at the back give the lists again, and the pair that was appended.
+pub fn append_then_pop_back<K: Eq, V>()
+    ensures { (m : Lists K V) (k : K) (v : V) → IsWellFormed K.eq m → PopUndoesAppend K.eq m k v }
+{}
+
+/// Lists that are built of a map's own pairs have the same pairs, and its keys in the order in
+/// which they first occur in the pairs.
+pub fn json_first_occurrence<K: Eq, V>()
+    ensures { (m : Lists K V) → IsWellFormed K.eq m → IsRebuilt K.eq m }
+{}

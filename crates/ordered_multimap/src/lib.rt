@@ -1,0 +1,8 @@
+//! `ListOrderedMultimap`, a multimap that remembers the order of its pairs and of its keys.
+#![tactic(auto)]
+
+pub mod laws;
+pub mod list_ordered_multimap;
+
+pub use list_ordered_multimap::ListOrderedMultimap;
+pub use multimap_walks::End;

@@ -1,0 +1,181 @@
+//! The map: its fields, what contracts see of it, constructors and sizes.
+ghost use Rattle.std.specs.Prelude.{◌≡◌, ◌≤◌, ◌↔◌, [], length, IsTrue, IfOk, IsOk};
+ghost use Rattle.ordered_multimap.specs.Lists.{IsWellFormed, empty_lists};
+
+mod append;
+mod lookup;
+mod steps;
+mod walks;
+
+use multimap_slots::SlotList;
+use multimap_table::KeyTable;
+pub use multimap_walks::{EntryValues, Iter, KeyLink, ValueLink};
+use std::alloc::{AllocError, Allocator, Global};
+pub use std::hash::RandomState;
+use std::hash::{BuildHasher, BuildHasherDefault, FoldHasher, Hash};
+use std::marker::Model;
+
+/// The hash builder that std's HashMap takes by default, with a fixed seed.
+pub type DefaultState = BuildHasherDefault<FoldHasher>;
+
+/// Want of memory, with the pair that was to be stored.
+#[derive(Debug, PartialEq, Eq, Drop)]
+pub struct Refused<K, V> {
+    /// The key that was handed in.
+    pub key: K,
+    /// The value that was handed in.
+    pub value: V,
+}
+
+/// A multimap that remembers the order of its pairs and of its keys.
+///
+/// Each key has one or more values. The pairs stand in the order in which they came, and the keys
+/// in the order in which they last became present. Of equal keys the map keeps the one that came
+/// first.
+#[derive(Drop)]
+pub struct ListOrderedMultimap<
+    K: Eq + Hash,
+    V,
+    S: BuildHasher = DefaultState,
+    A: Allocator = Global,
+> {
+    state: S,
+    keys: SlotList<K, KeyLink, A>,
+    table: KeyTable<A>,
+    values: SlotList<V, ValueLink, A>,
+}
+
+impl<K: Eq + Hash, V, S: BuildHasher, A: Allocator> Model for ListOrderedMultimap<K, V, S, A> {
+    ghost use Rattle.std.specs.Prelude.{min};
+    ghost use Rattle.ordered_multimap.specs.Multimap.{Multimap, multimap, multimap_code};
+    ghost use Rattle.ordered_multimap.specs.Agrees.{Agrees, lists_of, hash_of};
+
+    ghost Value = { Multimap K V S };
+
+    ghost coded = { multimap_code K.code V.code S.code };
+
+    ghost view = { λ m. multimap (lists_of m.keys m.values) (min m.keys.capacity m.table.capacity)
+        m.values.capacity m.state };
+
+    ghost invariant = { λ m. Agrees K.eq
+        (λ k. hash_of S.BuildHasher S.Hasher.Hasher m.state (K.hash_input k))
+        m.keys m.table.rows m.values };
+}
+
+impl<K: Eq + Hash, V, A: Allocator + Copy> ListOrderedMultimap<K, V, DefaultState, A> {
+    /// An empty map with the default hash builder, which takes no memory.
+    pub fn new(alloc: A) -> Self
+        ensures empty { result.lists ≡ empty_lists }
+    {
+        ListOrderedMultimap::with_hasher(alloc, BuildHasherDefault::new())
+    }
+
+    /// An empty map with the default hash builder and room for at least `key_capacity` keys and
+    /// `value_capacity` values. Room for none takes no memory.
+    pub fn with_capacity(
+        alloc: A,
+        key_capacity: usize,
+        value_capacity: usize,
+    ) -> Result<Self, AllocError>
+    where
+        K: Drop,
+        V: Drop,
+        ensures empty { IfOk result (λ m. m.lists ≡ empty_lists) }
+        ensures key_room { IfOk result (λ m. key_capacity ≤ m.key_room) }
+        ensures value_room { IfOk result (λ m. value_capacity ≤ m.value_room) }
+        ensures succeeds { key_capacity ≡ 0 → value_capacity ≡ 0 → IsOk result }
+    {
+        let state = BuildHasherDefault::new();
+        ListOrderedMultimap::with_capacity_and_hasher(alloc, key_capacity, value_capacity, state)
+    }
+}
+
+impl<K: Eq + Hash, V, S: BuildHasher, A: Allocator + Copy> ListOrderedMultimap<K, V, S, A> {
+    /// An empty map with this hash builder, which takes no memory.
+    pub fn with_hasher(alloc: A, state: S) -> Self
+        ensures empty { result.lists ≡ empty_lists }
+        ensures hasher { result.hasher ≡ state }
+    {
+        ListOrderedMultimap {
+            state,
+            keys: SlotList::new(alloc),
+            table: KeyTable::new(alloc),
+            values: SlotList::new(alloc),
+        }
+    }
+
+    /// An empty map with this hash builder and room for at least `key_capacity` keys and
+    /// `value_capacity` values. Room for none takes no memory.
+    pub fn with_capacity_and_hasher(
+        alloc: A,
+        key_capacity: usize,
+        value_capacity: usize,
+        state: S,
+    ) -> Result<Self, AllocError>
+    where
+        K: Drop,
+        V: Drop,
+        S: Drop,
+        ensures empty { IfOk result (λ m. m.lists ≡ empty_lists) }
+        ensures hasher { IfOk result (λ m. m.hasher ≡ state) }
+        ensures key_room { IfOk result (λ m. key_capacity ≤ m.key_room) }
+        ensures value_room { IfOk result (λ m. value_capacity ≤ m.value_room) }
+        ensures succeeds { key_capacity ≡ 0 → value_capacity ≡ 0 → IsOk result }
+    {
+        let keys = SlotList::with_capacity(alloc, key_capacity)?;
+        let table = KeyTable::with_capacity(alloc, key_capacity)?;
+        let values = SlotList::with_capacity(alloc, value_capacity)?;
+        Ok(ListOrderedMultimap {
+            state,
+            keys,
+            table,
+            values,
+        })
+    }
+}
+
+impl<K: Eq + Hash, V, S: BuildHasher, A: Allocator> ListOrderedMultimap<K, V, S, A> {
+    /// The hash builder.
+    pub fn hasher(&self) -> &S
+        ensures { result.now ≡ self.now.hasher }
+    {
+        &self.state
+    }
+
+    /// How many keys the map has.
+    pub fn keys_len(&self) -> usize
+        ensures len { result ≡ length self.now.lists.keys }
+        ensures well_formed { IsWellFormed K.eq self.now.lists }
+    {
+        self.keys.len()
+    }
+
+    /// How many pairs the map has.
+    pub fn values_len(&self) -> usize
+        ensures { result ≡ length self.now.lists.pairs }
+    {
+        self.values.len()
+    }
+
+    /// Whether the map has no pair.
+    pub fn is_empty(&self) -> bool
+        ensures empty { IsTrue result ↔ (self.now.lists.pairs ≡ []) }
+        ensures well_formed { IsWellFormed K.eq self.now.lists }
+    {
+        self.values.is_empty()
+    }
+
+    /// How many keys fit before the map must grow: no more than the table has room for.
+    pub fn keys_capacity(&self) -> usize
+        ensures { result ≡ self.now.key_room }
+    {
+        self.keys.capacity().min(self.table.capacity())
+    }
+
+    /// How many values fit before the map must grow.
+    pub fn values_capacity(&self) -> usize
+        ensures { result ≡ self.now.value_room }
+    {
+        self.values.capacity()
+    }
+}

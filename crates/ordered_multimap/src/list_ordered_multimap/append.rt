@@ -1,0 +1,76 @@
+//! Pairs that come last.
+ghost use Rattle.std.specs.Prelude.{◌≡◌, ◌≤◌, ◌<◌, length, IfOk, IfErr, OnOk, OnErr, IsOk, IsTrue};
+ghost use Rattle.ordered_multimap.specs.Pairs.{is_present};
+ghost use Rattle.ordered_multimap.specs.Changes.{appended};
+
+use super::lookup::{place_of, slot_at};
+use super::steps::{make_room, new_link, one_more, push_key, push_value, set_link};
+use super::{ListOrderedMultimap, Refused};
+use multimap_walks::KeyLink;
+use std::alloc::Allocator;
+use std::hash::{BuildHasher, Hash};
+
+impl<K: Eq + Hash, V, S: BuildHasher, A: Allocator + Copy> ListOrderedMultimap<K, V, S, A> {
+    /// Puts the pair last, and answers whether the key was present. A present key stays as it was
+    /// stored, and the one handed in is dropped.
+    ///
+    /// Where memory is refused, it hands back the pair, and both lists are as before. The time is
+    /// constant but where the map grows.
+    pub fn append(&mut self, key: K, value: V) -> Result<bool, Refused<K, V>>
+    where
+        K: Drop,
+        ensures present { IfOk result (λ present.
+            present ≡ is_present K.eq self.old.lists.pairs key) }
+        ensures ok { OnOk result (self.new.lists ≡ appended K.eq self.old.lists key value) }
+        ensures err { OnErr result (self.new.lists ≡ self.old.lists) }
+        ensures key_returned { IfErr result (λ refused. refused.key ≡ key) }
+        ensures value_returned { IfErr result (λ refused. refused.value ≡ value) }
+
+        // Where there is room, nothing is refused. A present key wants room for the value alone.
+        ensures succeeds { length self.old.lists.keys < self.old.key_room
+            → length self.old.lists.pairs < self.old.value_room → IsOk result }
+        ensures succeeds_present { IsTrue (is_present K.eq self.old.lists.pairs key)
+            → length self.old.lists.pairs < self.old.value_room → IsOk result }
+
+        // No capacity falls, and where there is room, none rises.
+        ensures key_room { self.old.key_room ≤ self.new.key_room }
+        ensures value_room { self.old.value_room ≤ self.new.value_room }
+        ensures had_key_room { length self.old.lists.keys < self.old.key_room
+            → self.new.key_room ≡ self.old.key_room }
+        ensures had_value_room { length self.old.lists.pairs < self.old.value_room
+            → self.new.value_room ≡ self.old.value_room }
+        ensures present_keeps_key_room { IsTrue (is_present K.eq self.old.lists.pairs key)
+            → self.new.key_room ≡ self.old.key_room }
+        ensures hasher { self.new.hasher ≡ self.old.hasher }
+    {
+        let hash = self.state.hash_one(&key);
+        match place_of(&self.keys, &self.table, hash, &key) {
+            Some(place) => {
+                if self.values.reserve(1).is_err() {
+                    return Err(Refused { key, value });
+                }
+                let (_, link) = slot_at(&self.keys, place);
+                let tail = push_value(&mut self.values, value, place, Some(link.tail));
+                let length = one_more(&self.values, link.length);
+                let longer = KeyLink {
+                    tail,
+                    length,
+                    ..link
+                };
+                set_link(&mut self.keys, place, longer);
+                Ok(true)
+            }
+            None => {
+                if make_room(&mut self.keys, &mut self.table, &mut self.values).is_err() {
+                    return Err(Refused { key, value });
+                }
+                let place = push_key(&mut self.keys, key, new_link(hash, 0, 0));
+                self.table.insert(hash, place);
+                let head = push_value(&mut self.values, value, place, None);
+                let length = one_more(&self.values, 0);
+                set_link(&mut self.keys, place, new_link(hash, head, length));
+                Ok(false)
+            }
+        }
+    }
+}

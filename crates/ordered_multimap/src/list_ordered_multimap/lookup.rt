@@ -1,0 +1,133 @@
+//! Look-ups by key, and the first and the last pair.
+ghost use Rattle.std.specs.Prelude.{◌≡◌, false, length, slice_get, IfSome, IfNone, Some, option_copied, option_map};
+ghost use Rattle.multimap_slots.specs.Lists.{IsIn};
+ghost use Rattle.multimap_slots.specs.Slots.{HasSlot};
+ghost use Rattle.multimap_walks.specs.Chained.{IsChained, pair_at};
+ghost use Rattle.multimap_walks.specs.Walk.{item_at};
+ghost use Rattle.multimap_walks.specs.declared.End.TheVariants.{Front, Back};
+ghost use Rattle.ordered_multimap.specs.Pairs.{values_of, is_present};
+ghost use Rattle.ordered_multimap.specs.Keys.{is_listed};
+ghost use Rattle.ordered_multimap.specs.Agrees.{HasKey, SaysWhetherEqual, IsFoundBy, items_of};
+
+use super::ListOrderedMultimap;
+use multimap_slots::{Reads, SlotList};
+use multimap_table::KeyTable;
+use multimap_walks::{KeyLink, ValueLink};
+use std::alloc::Allocator;
+use std::hash::{BuildHasher, Hash};
+
+/// The item at the place, with its link.
+pub(super) fn slot_at<T, L: Copy, A: Allocator>(slots: &SlotList<T, L, A>, place: usize) -> (&T, L)
+    requires { IsIn place slots.now.order }
+    ensures { HasSlot slots.now place result.0.now result.1 }
+{
+    let mut reads = Reads::new();
+    match slots.get(place, &mut reads) {
+        Some(slot) => slot,
+        None => unreachable!(),
+    }
+}
+
+/// Whether the key at the place is equal to `key`.
+fn is_at<K: Eq, A: Allocator>(keys: &SlotList<K, KeyLink, A>, place: usize, key: &K) -> bool
+    requires { IsIn place keys.now.order }
+    ensures { SaysWhetherEqual K.eq keys.now key.now place result }
+{
+    let (stored, _) = slot_at(keys, place);
+    key == stored
+}
+
+/// The place of the key that is equal to `key`, whose hash is `hash`.
+pub(super) fn place_of<K: Eq, A: Allocator>(
+    keys: &SlotList<K, KeyLink, A>,
+    table: &KeyTable<A>,
+    hash: u64,
+    key: &K,
+) -> Option<usize>
+    requires { IsFoundBy K.eq keys.now table.now.rows key.now hash }
+    ensures found { IfSome result (HasKey K.eq keys.now key.now) }
+    ensures absent { IfNone result (is_listed K.eq (items_of keys.now) key.now ≡ false) }
+{
+    let is_equal = |place|
+        requires { IsIn place keys.now.order }
+        ensures { SaysWhetherEqual K.eq keys.entry.now key.entry.now place result }
+    { is_at(keys, place, key) };
+    table.find(hash, is_equal)
+}
+
+/// The pair whose value stands at the place.
+fn pair_behind<'map, K, V, A: Allocator>(
+    keys: &'map SlotList<K, KeyLink, A>,
+    values: &'map SlotList<V, ValueLink, A>,
+    place: usize,
+) -> (&'map K, &'map V)
+    requires chained { IsChained keys.now values.now }
+    requires listed { IsIn place values.now.order }
+    ensures { pair_at keys.now values.now place ≡ Some (result.0.now, result.1.now) }
+{
+    let (value, link) = slot_at(values, place);
+    let (key, _) = slot_at(keys, link.key);
+    (key, value)
+}
+
+impl<K: Eq + Hash, V, S: BuildHasher, A: Allocator> ListOrderedMultimap<K, V, S, A> {
+    /// The key's first value.
+    pub fn get(&self, key: &K) -> Option<&V>
+        ensures { option_copied result ≡ slice_get (values_of K.eq self.now.lists.pairs key.now) 0 }
+    {
+        let hash = self.state.hash_one(key);
+        match place_of(&self.keys, &self.table, hash, key) {
+            Some(place) => {
+                let (_, link) = slot_at(&self.keys, place);
+                let (value, _) = slot_at(&self.values, link.head);
+                Some(value)
+            }
+            None => None,
+        }
+    }
+
+    /// Whether the key has a value.
+    pub fn contains_key(&self, key: &K) -> bool
+        ensures { result ≡ is_present K.eq self.now.lists.pairs key.now }
+    {
+        let hash = self.state.hash_one(key);
+        match place_of(&self.keys, &self.table, hash, key) {
+            Some(_) => true,
+            None => false,
+        }
+    }
+
+    /// How many values the key has.
+    pub fn entry_len(&self, key: &K) -> usize
+        ensures { result ≡ length (values_of K.eq self.now.lists.pairs key.now) }
+    {
+        let hash = self.state.hash_one(key);
+        match place_of(&self.keys, &self.table, hash, key) {
+            Some(place) => {
+                let (_, link) = slot_at(&self.keys, place);
+                link.length
+            }
+            None => 0,
+        }
+    }
+
+    /// The first pair.
+    pub fn front(&self) -> Option<(&K, &V)>
+        ensures { option_map (λ r. (r.0.now, r.1.now)) result ≡ item_at Front self.now.lists.pairs }
+    {
+        match self.values.front_place() {
+            Some(place) => Some(pair_behind(&self.keys, &self.values, place)),
+            None => None,
+        }
+    }
+
+    /// The last pair.
+    pub fn back(&self) -> Option<(&K, &V)>
+        ensures { option_map (λ r. (r.0.now, r.1.now)) result ≡ item_at Back self.now.lists.pairs }
+    {
+        match self.values.back_place() {
+            Some(place) => Some(pair_behind(&self.keys, &self.values, place)),
+            None => None,
+        }
+    }
+}

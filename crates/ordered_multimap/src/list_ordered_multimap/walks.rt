@@ -1,0 +1,34 @@
+//! Walks over all pairs, and over the values of a key.
+ghost use Rattle.std.specs.Prelude.{◌≡◌};
+ghost use Rattle.ordered_multimap.specs.Pairs.{values_of};
+
+use super::ListOrderedMultimap;
+use super::lookup::{place_of, slot_at};
+use multimap_walks::{EntryValues, Iter};
+use std::alloc::Allocator;
+use std::hash::{BuildHasher, Hash};
+
+impl<K: Eq + Hash, V, S: BuildHasher, A: Allocator> ListOrderedMultimap<K, V, S, A> {
+    /// A walk over all pairs, in order.
+    pub fn iter(&self) -> Iter<'_, K, V, A>
+        ensures { result ≡ self.now.lists.pairs }
+    {
+        Iter::new(&self.keys, &self.values)
+    }
+
+    /// A walk over the key's values, in order, which reads the slots of these values alone. An
+    /// absent key's is empty.
+    pub fn get_all(&self, key: &K) -> EntryValues<'_, K, V, A>
+        ensures values { result.left ≡ values_of K.eq self.now.lists.pairs key.now }
+        ensures reads { result.reads ≡ 0 }
+    {
+        let hash = self.state.hash_one(key);
+        match place_of(&self.keys, &self.table, hash, key) {
+            Some(place) => {
+                let (_, link) = slot_at(&self.keys, place);
+                EntryValues::new(&self.keys, &self.values, Some((place, link)))
+            }
+            None => EntryValues::new(&self.keys, &self.values, None),
+        }
+    }
+}
