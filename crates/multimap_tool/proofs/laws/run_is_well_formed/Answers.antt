@@ -1,0 +1,5 @@
+use Rattle.multimap_tool.proofs.RunLemmas.{run_well_formed}
+use Rattle.multimap_tool.proofs.laws.run_is_well_formed.Goals as goal
+
+pub returns : goal.returns
+returns g c = run_well_formed g.met.K.Eq.laws

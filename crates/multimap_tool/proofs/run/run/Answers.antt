@@ -1,0 +1,16 @@
+use Rattle.std.proofs.Common.{[], ◌∷◌, ◌++◌, take, sym, ◌∙◌, ap, arith}
+use Rattle.std.proofs.lemmas.List.{take_more}
+use Rattle.multimap_tool.proofs.RunLemmas.{IsRun-push}
+use Rattle.multimap_tool.proofs.run.run.Goals as goal
+
+pub loop-command-preserved : goal.loop-command-preserved
+loop-command-preserved g c =
+    let l = c.loop-command in
+    let done = take l.command-index c.args.commands.now in
+    let command = c.command-item.result in
+    let more = take_more c.args.commands.now l.command-index command c.loop-command-test.true ∙ ap (λ x. done ++ x ∷ []) (sym c.command-item.is) in
+    record {
+      ran = rw (more, c.push_reserved.ensures.items) (IsRun-push g.K.PartialEq.eq done c.args.map.now.lists l.replies.items l.map.lists command c.step.result c.step.new.map.lists l.invariant.ran c.step.ensures);
+      count = omega (arith, l.invariant.count, c.push_reserved.ensures.len);
+      room = omega (arith, l.invariant.room, c.push_reserved.ensures.capacity);
+    }

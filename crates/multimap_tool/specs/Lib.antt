@@ -1,0 +1,9 @@
+pub mod Step
+pub mod Parts
+pub mod Runs
+pub mod Spelling
+pub mod Texts
+pub mod Answers
+pub mod Execute
+pub mod Faults
+pub mod Laws

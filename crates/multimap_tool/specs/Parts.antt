@@ -1,0 +1,63 @@
+-- Words of the parser's own functions. No public clause cites this module.
+use Rattle.std.specs.Prelude.{◌≡◌, ◌≢◌, ◌⊎◌, ℕ, ◌<◌, ◌≤◌, ◌^◌, ℤ, length, slice_index, false, List, [], ◌∷◌, ◌++◌, map, codes, nat_eq, FitsSigned, IsTrue, Option, MatchOption}
+use Rattle.std.specs.List.{list_any}
+use Rattle.std.specs.Int.{w64}
+use Rattle.std.specs.Fmt.{decimal, signed_decimal}
+use Rattle.multimap_walks.specs.declared.End.{End}
+use Rattle.ordered_multimap.specs.Lists.{IsIn}
+use Rattle.ordered_multimap.specs.Pairs.{has_items}
+use Rattle.multimap_tool.specs.declared.commands.Command.{Command}
+use Rattle.multimap_tool.specs.Spelling.{letter_of, Spells, IsBadLine}
+
+-- the byte stands nowhere in the text
+abbrev pub IsWithout : ℕ → List ℕ → Type 0
+IsWithout byte text = list_any (nat_eq byte) text ≡ false
+
+-- the command that the line spells, or none if it is bad
+abbrev pub IsReadingOf : {A : Type 0} → List ℕ → Option (Command ℕ ℤ A) → Type 0
+IsReadingOf {A} line found = MatchOption found (IsBadLine A line) (λ command. Spells command line)
+
+-- the words that stand alone, and those that a key follows
+abbrev pub lone_words : List (List ℕ)
+lone_words = codes "front" ∷ codes "back" ∷ codes "pairs" ∷ codes "lengths" ∷ []
+
+abbrev pub key_words : List (List ℕ)
+key_words = codes "get" ∷ codes "all" ∷ codes "has" ∷ codes "len" ∷ []
+
+-- the command of a word and a key, or none if no key follows that word
+abbrev pub IsOfKey : {A : Type 0} → List ℕ → ℕ → Option (Command ℕ ℤ A) → Type 0
+IsOfKey name key found = MatchOption found (¬ (IsIn name key_words)) (λ command. Spells command (name ++ 32 ∷ decimal key))
+
+-- a digit comes first, and a zero only alone
+pub record StartsANumber (text : List ℕ) : Type 0 where
+  pub some : 0 < length text
+  pub least : 48 ≤ slice_index text 0
+  pub greatest : slice_index text 0 ≤ 57
+  pub alone : slice_index text 0 ≡ 48 → length text ≡ 1
+
+-- a minus sign comes first, and then a digit that is no zero
+pub record StartsBelowZero (text : List ℕ) : Type 0 where
+  pub some : 1 < length text
+  pub sign : slice_index text 0 ≡ 45
+  pub least : 49 ≤ slice_index text 1
+  pub greatest : slice_index text 1 ≤ 57
+
+abbrev pub StartsAValue : List ℕ → Type 0
+StartsAValue text = StartsANumber text ⊎ StartsBelowZero text
+
+-- the key that the text spells, or none if there is none
+abbrev pub IsKeyOf : List ℕ → Option ℕ → Type 0
+IsKeyOf text found = MatchOption found ((k : ℕ) → k < 2 ^ 32 → decimal k ≢ text) (λ k. decimal k ≡ text)
+
+-- the value that the text spells, or none if there is none
+abbrev pub IsValueOf : List ℕ → Option ℤ → Type 0
+IsValueOf text found = MatchOption found ((v : ℤ) → FitsSigned w64 v → signed_decimal v ≢ text) (λ v. signed_decimal v ≡ text)
+
+-- letters that spell the text
+pub record AreLettersOf (text : List ℕ) (word : List End) : Type 0 where
+  pub spelled : map letter_of word ≡ text
+  pub some : IsTrue (has_items word)
+
+-- no letters spell the text
+abbrev pub IsNoWord : List ℕ → Type 0
+IsNoWord text = (word : List End) → ¬ (AreLettersOf text word)

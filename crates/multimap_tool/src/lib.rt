@@ -1,0 +1,18 @@
+//! Commands on an insertion-ordered multimap: read from text, run in order, and answered as text.
+//!
+//! [`execute::execute`] goes from bytes to bytes; [`parse::parse_commands`], [`run::run`] and
+//! [`format::format_replies`] are its three parts.
+#![tactic(auto)]
+
+pub mod commands;
+pub mod execute;
+pub mod faults;
+pub mod format;
+pub mod laws;
+mod operands;
+pub mod parse;
+pub mod replies;
+pub mod run;
+mod walk;
+
+pub use multimap_walks::End;

@@ -1,0 +1,170 @@
+//! Commands read from the lines of a text.
+ghost use Rattle.std.specs.Prelude.{◌≡◌, ◌<◌, ◌++◌, ◌∷◌, length, IfOk, IfErr, MatchOption};
+ghost use Rattle.multimap_tool.specs.Spelling.{lines_of, SpellEach};
+ghost use Rattle.multimap_tool.specs.Execute.{IsTextFaultOf};
+ghost use Rattle.multimap_tool.specs.Parts.{IsWithout, IsOfKey, IsReadingOf};
+
+use crate::commands::{Command, Ends};
+use crate::faults::TextFault;
+use crate::operands::{key_of, value_of, word_of};
+use std::alloc::{AllocError, Allocator};
+
+/// The commands that the lines of a text spell, in order, or the first line that spells none.
+///
+/// A line is a command's word and its operands, each after one space, in the one spelling that
+/// each command has; `text` may hold any bytes. What stands behind the last line feed is a line
+/// unless it is empty. A refusal gives no command. The cost is linear in the length of the text.
+pub fn parse_commands<A: Allocator + Copy>(
+    alloc: A,
+    text: &[u8],
+) -> Result<Vec<Command<u32, i64, A>, A>, TextFault>
+    ensures ok { IfOk result (λ commands. SpellEach commands.items (lines_of text.now)) }
+    ensures fault { IfErr result (IsTextFaultOf A text.now) }
+{
+    let mut commands = Vec::new(alloc);
+    let mut rest = text;
+    while !rest.is_empty() {
+        let (line, others) = first_line(rest);
+        match command_of(alloc, line)? {
+            Some(command) => commands.push(command)?,
+            None => return Err(TextFault::BadLine(commands.len() as u64 + 1)),
+        }
+        rest = others;
+    }
+    Ok(commands)
+}
+
+/// The first line of a text that isn't empty, and the text of the other lines.
+fn first_line(text: &[u8]) -> (&[u8], &[u8])
+    requires { 0 < length text.now }
+    ensures lines { lines_of text.now ≡ result.0.now ∷ lines_of result.1.now }
+    ensures shorter { length result.1.now < length text.now }
+{
+    let (line, behind) = cut(text, b'\n');
+    match behind {
+        Some(others) => (line, others),
+        None => (line, &[]),
+    }
+}
+
+/// What stands before the first separator, and what stands behind it if there is one.
+fn cut(text: &[u8], separator: u8) -> (&[u8], Option<&[u8]>)
+    ensures parts { MatchOption result.1 (text.now ≡ result.0.now)
+        (λ behind. text.now ≡ result.0.now ++ separator ∷ behind.now) }
+    ensures first { IsWithout separator result.0.now }
+{
+    for (at, byte) in text.iter().enumerate() {
+        if separator == *byte {
+            return (&text[..at], Some(&text[at + 1..]));
+        }
+    }
+    (text, None)
+}
+
+/// The command that a line spells, or none if the line is bad.
+fn command_of<A: Allocator + Copy>(
+    alloc: A,
+    line: &[u8],
+) -> Result<Option<Command<u32, i64, A>>, AllocError>
+    ensures { IfOk result (IsReadingOf line.now) }
+{
+    let (name, operands) = cut(line, b' ');
+    let Some(operands) = operands else {
+        return Ok(without_operand(name));
+    };
+    let (first, second) = cut(operands, b' ');
+    match second {
+        None => with_one_operand(alloc, name, first),
+        Some(second) => with_two_operands(alloc, name, first, second),
+    }
+}
+
+/// The command of a word alone.
+fn without_operand<A: Allocator>(name: &[u8]) -> Option<Command<u32, i64, A>>
+    requires { IsWithout 32 name.now }
+    ensures { IsReadingOf name.now result }
+{
+    if name == b"front".as_slice() {
+        return Some(Command::Front);
+    }
+    if name == b"back".as_slice() {
+        return Some(Command::Back);
+    }
+    if name == b"pairs".as_slice() {
+        return Some(Command::Pairs(Ends::Forward));
+    }
+    if name == b"lengths".as_slice() {
+        return Some(Command::Lengths);
+    }
+    None
+}
+
+/// The command of a word and one operand.
+fn with_one_operand<A: Allocator>(
+    alloc: A,
+    name: &[u8],
+    operand: &[u8],
+) -> Result<Option<Command<u32, i64, A>>, AllocError>
+    requires name { IsWithout 32 name.now }
+    requires operand { IsWithout 32 operand.now }
+    ensures { IfOk result (IsReadingOf (name.now ++ 32 ∷ operand.now)) }
+{
+    if name == b"walkpairs".as_slice() {
+        let Some(word) = word_of(alloc, operand)? else {
+            return Ok(None);
+        };
+        return Ok(Some(Command::Pairs(Ends::Word(word))));
+    }
+    let Some(key) = key_of(operand) else {
+        return Ok(None);
+    };
+    Ok(with_key(name, key))
+}
+
+/// The command of a word and a key, or none if no key follows that word.
+fn with_key<A: Allocator>(name: &[u8], key: u32) -> Option<Command<u32, i64, A>>
+    ensures { IsOfKey name.now key result }
+{
+    if name == b"get".as_slice() {
+        return Some(Command::Get(key));
+    }
+    if name == b"all".as_slice() {
+        return Some(Command::All(key, Ends::Forward));
+    }
+    if name == b"has".as_slice() {
+        return Some(Command::Has(key));
+    }
+    if name == b"len".as_slice() {
+        return Some(Command::Len(key));
+    }
+    None
+}
+
+/// The command of a word and two operands; in the second, spaces may remain.
+fn with_two_operands<A: Allocator>(
+    alloc: A,
+    name: &[u8],
+    first: &[u8],
+    second: &[u8],
+) -> Result<Option<Command<u32, i64, A>>, AllocError>
+    requires name { IsWithout 32 name.now }
+    requires first { IsWithout 32 first.now }
+    ensures { IfOk result (IsReadingOf (name.now ++ 32 ∷ (first.now ++ 32 ∷ second.now))) }
+{
+    let Some(key) = key_of(first) else {
+        return Ok(None);
+    };
+    if name == b"append".as_slice() {
+        let Some(value) = value_of(second) else {
+            return Ok(None);
+        };
+        return Ok(Some(Command::Append(key, value)));
+    }
+    if name == b"walk".as_slice() {
+        let Some(word) = word_of(alloc, second)? else {
+            return Ok(None);
+        };
+        return Ok(Some(Command::All(key, Ends::Word(word))));
+    }
+    Ok(None)
+}

@@ -1,0 +1,16 @@
+//! Tests of the tool: runs from bytes to bytes, bad input, failing readers and writers, and memory
+//! that is refused.
+//!
+//! They stand in a crate of their own so that the tool needs no test allocator.
+#![tactic(auto)]
+
+#[cfg(test)]
+mod calls;
+#[cfg(test)]
+mod lines;
+#[cfg(test)]
+mod memory;
+#[cfg(test)]
+mod plain;
+#[cfg(test)]
+mod streams;
