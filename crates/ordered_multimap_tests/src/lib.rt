@@ -1,0 +1,14 @@
+//! Tests of the map, from outside.
+//!
+//! They stand in a crate of their own, since they need an allocator that refuses: a crate has one
+//! list of dependencies for its code and its tests.
+#![tactic(auto)]
+
+#[cfg(test)]
+mod ample;
+#[cfg(test)]
+mod refused;
+#[cfg(test)]
+mod samples;
+#[cfg(test)]
+mod walks;
