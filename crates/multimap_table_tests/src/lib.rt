@@ -4,5 +4,6 @@
 //! list of dependencies for its code and its tests, and the key table itself stands on nothing.
 #![tactic(auto)]
 
+pub mod compared;
 #[cfg(test)]
 mod tests;

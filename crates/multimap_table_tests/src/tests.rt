@@ -1,118 +1,23 @@
-ghost use Rattle.std.specs.Prelude.{◌≡◌, ℕ, None, slice_index_or};
-ghost use Rattle.std.specs.FinMap as map;
-
+use crate::compared::{Compared, next_random};
 use multimap_table::KeyTable;
 use refusing_allocator::RefusingAllocator;
-use std::alloc::{AllocError, Allocator};
-use std::marker::Model;
-
-/// A table beside a plain list, which has the hash of each place that has a row.
-#[derive(Drop)]
-struct Compared<A: Allocator> {
-    table: KeyTable<A>,
-    hashes: Vec<Option<u64>, A>,
-}
-
-impl<A: Allocator> Model for Compared<A> {
-    ghost use Rattle.std.specs.Prelude.{◌≡◌, ℕ, None, slice_index_or};
-    ghost use Rattle.std.specs.FinMap as map;
-    ghost use Rattle.multimap_table.specs.Table.{Table, table_code};
-
-    ghost Value = { Table };
-
-    ghost coded = { table_code };
-
-    ghost view = { λ t. t.table };
-
-    ghost invariant = { λ t. (place : ℕ)
-        → map.get t.table.rows place ≡ slice_index_or t.hashes.items place None };
-}
-
-impl<A: Allocator + Copy> Compared<A> {
-    fn with_places(alloc: A, places: usize) -> Result<Compared<A>, AllocError> {
-        let mut hashes = Vec::new(alloc);
-        hashes.resize(places, None)?;
-        let table = KeyTable::new(alloc);
-        Ok(Compared { table, hashes })
-    }
-
-    /// Adds a row where the table has room and no row of the place. Answers whether it did.
-    fn insert(&mut self, hash: u64, place: usize) -> bool {
-        if self.table.len() == self.table.capacity() || place >= self.hashes.len() {
-            return false;
-        }
-        if self.hashes[place].is_some() {
-            return false;
-        }
-        self.table.insert(hash, place);
-        self.hashes[place] = Some(hash);
-        true
-    }
-
-    /// Takes the row of the place out, where it has one. Answers whether it had.
-    fn remove(&mut self, place: usize) -> bool {
-        if place >= self.hashes.len() {
-            return false;
-        }
-        let Some(hash) = self.hashes[place] else {
-            return false;
-        };
-        self.table.remove(hash, place);
-        self.hashes[place] = None;
-        true
-    }
-
-    fn reserve(&mut self, additional: usize) -> Result<(), AllocError> {
-        self.table.reserve(additional)
-    }
-
-    /// How many places the table and the list disagree on.
-    fn differences(&self) -> usize {
-        let mut differences = 0usize;
-        let mut rows = 0usize;
-        for place in 0..self.hashes.len() {
-            let agrees = match self.hashes[place] {
-                Some(hash) => {
-                    rows = rows.wrapping_add(1);
-                    self.table.find(hash, |other| other == place) == Some(place)
-                }
-                None => true,
-            };
-            if !agrees {
-                differences = differences.wrapping_add(1);
-            }
-        }
-        if self.table.len() != rows {
-            differences = differences.wrapping_add(1);
-        }
-        differences
-    }
-}
-
-/// A random number after this one, by shifts.
-fn next_random(state: u64) -> u64 {
-    let mut x = state;
-    x ^= x << 13;
-    x ^= x >> 7;
-    x ^= x << 17;
-    x
-}
+use std::alloc::AllocError;
 
 #[test]
 fn finds_a_row_by_hash_and_test(rt: HostRuntime) -> Result<(), AllocError> {
     let mut rows = Compared::with_places(rt.alloc(), 5)?;
-    assert!(rt; rows.table.is_empty());
+    assert!(rt; rows.table().is_empty());
     rows.reserve(3)?;
     for (hash, place) in [(7, 0), (7, 3), (9, 4)] {
         assert!(rt; rows.insert(hash, place));
     }
-    assert!(rt; !rows.table.is_empty());
-    assert_eq!(rt; rows.table.find(7, |place| place == 3), Some(3));
-    assert_eq!(rt; rows.table.find(7, |place| place == 4), None);
-    assert_eq!(rt; rows.table.find(8, |_| true), None);
+    assert!(rt; !rows.table().is_empty());
+    assert_eq!(rt; rows.table().find(7, |place| place == 3), Some(3));
+    assert_eq!(rt; rows.table().find(7, |place| place == 4), None);
+    assert_eq!(rt; rows.table().find(8, |_| true), None);
     assert!(rt; rows.remove(0));
-    assert_eq!(rt; rows.table.len(), 2);
-    assert_eq!(rt; rows.table.find(7, |_| true), Some(3));
+    assert_eq!(rt; rows.table().len(), 2);
+    assert_eq!(rt; rows.table().find(7, |_| true), Some(3));
     Ok(())
 }
 
@@ -145,7 +50,7 @@ fn a_thousand_rows_of_one_hash(rt: HostRuntime) -> Result<(), AllocError> {
     for hash in [0u64, 7, u64::MAX] {
         let mut rows = Compared::with_places(rt.alloc(), 1000)?;
         rows.reserve(1000)?;
-        let capacity = rows.table.capacity();
+        let capacity = rows.table().capacity();
         for place in 0..1000usize {
             assert!(rt; rows.insert(hash, place));
         }
@@ -157,9 +62,9 @@ fn a_thousand_rows_of_one_hash(rt: HostRuntime) -> Result<(), AllocError> {
                 assert_eq!(rt; rows.differences(), 0, "{step}");
             }
         }
-        assert!(rt; rows.table.is_empty());
-        assert_eq!(rt; rows.table.find(hash, |_| true), None);
-        assert_eq!(rt; rows.table.capacity(), capacity);
+        assert!(rt; rows.table().is_empty());
+        assert_eq!(rt; rows.table().find(hash, |_| true), None);
+        assert_eq!(rt; rows.table().capacity(), capacity);
     }
     Ok(())
 }
@@ -183,12 +88,13 @@ fn agrees_with_a_plain_list(rt: HostRuntime) -> Result<(), AllocError> {
             }
         }
         assert_eq!(rt; rows.differences(), 0, "{mask}");
-        let capacity = rows.table.capacity();
-        rows.table.clear();
-        assert_eq!(rt; rows.table.capacity(), capacity);
-        assert!(rt; rows.table.is_empty());
+        let mut table = rows.into_table();
+        let capacity = table.capacity();
+        table.clear();
+        assert_eq!(rt; table.capacity(), capacity);
+        assert!(rt; table.is_empty());
         for hash in 0..16 {
-            assert_eq!(rt; rows.table.find(hash, |_| true), None);
+            assert_eq!(rt; table.find(hash, |_| true), None);
         }
     }
     Ok(())
@@ -198,7 +104,7 @@ fn agrees_with_a_plain_list(rt: HostRuntime) -> Result<(), AllocError> {
 fn a_nearly_full_table_serves_any_number_of_removals(rt: HostRuntime) -> Result<(), AllocError> {
     let mut rows = Compared::with_places(rt.alloc(), 300_000)?;
     rows.reserve(100_000)?;
-    let capacity = rows.table.capacity();
+    let capacity = rows.table().capacity();
     assert!(rt; capacity < 300_000);
     let full = capacity / 10 * 9;
     let mut random = 88_172_645_463_325_252;
@@ -222,8 +128,8 @@ fn a_nearly_full_table_serves_any_number_of_removals(rt: HostRuntime) -> Result<
         assert!(rt; rows.remove(places[to]), "{round}");
         assert!(rt; rows.insert(random, places[from]), "{round}");
     }
-    assert_eq!(rt; rows.table.len(), full);
-    assert_eq!(rt; rows.table.capacity(), capacity);
+    assert_eq!(rt; rows.table().len(), full);
+    assert_eq!(rt; rows.table().capacity(), capacity);
     assert_eq!(rt; rows.differences(), 0);
     Ok(())
 }
@@ -248,14 +154,14 @@ fn a_refused_growth_changes_nothing(rt: HostRuntime) -> Result<(), AllocError> {
     let allocator = RefusingAllocator::unlimited(rt.alloc());
     let mut rows = Compared::with_places(&allocator, 200)?;
     rows.reserve(100)?;
-    let capacity = rows.table.capacity();
+    let capacity = rows.table().capacity();
     for place in 0..100usize {
         assert!(rt; rows.insert(place as u64 % 7, place));
     }
     for granted in 0..2u64 {
         allocator.grant(granted);
         assert!(rt; rows.reserve(capacity).is_err());
-        assert_eq!(rt; rows.table.capacity(), capacity);
+        assert_eq!(rt; rows.table().capacity(), capacity);
         assert_eq!(rt; rows.differences(), 0);
     }
     assert!(rt; rows.reserve(usize::MAX).is_err());
@@ -266,7 +172,7 @@ fn a_refused_growth_changes_nothing(rt: HostRuntime) -> Result<(), AllocError> {
     allocator.refuse_all();
     assert!(rt; KeyTable::with_capacity(&allocator, 0).is_ok());
     assert!(rt; rows.reserve(capacity.saturating_sub(100)).is_ok());
-    assert_eq!(rt; rows.table.capacity(), capacity);
+    assert_eq!(rt; rows.table().capacity(), capacity);
     assert!(rt; rows.remove(50));
     assert!(rt; rows.insert(3, 50));
     for place in 100..capacity {
@@ -276,7 +182,7 @@ fn a_refused_growth_changes_nothing(rt: HostRuntime) -> Result<(), AllocError> {
     assert_eq!(rt; rows.differences(), 0);
     allocator.grant(2);
     assert!(rt; rows.reserve(1).is_ok());
-    assert!(rt; capacity < rows.table.capacity());
+    assert!(rt; capacity < rows.table().capacity());
     assert_eq!(rt; rows.differences(), 0);
     Ok(())
 }

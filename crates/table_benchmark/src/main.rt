@@ -3,7 +3,6 @@
 #![tactic(auto)]
 
 mod measure;
-mod rows;
 
 use measure::measure;
 use std::{env, io};

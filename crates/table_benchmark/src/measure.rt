@@ -1,5 +1,5 @@
 //! One size: a table is filled, looked into, and churned.
-use crate::rows::Rows;
+use multimap_table_tests::compared::{Compared, next_random};
 use std::alloc::{AllocError, Allocator};
 use std::time::{Duration, Instant};
 use std::{fmt, io};
@@ -46,15 +46,6 @@ fn key_of(number: usize) -> u64 {
     (number as u64).wrapping_mul(0x9E37_79B9_7F4A_7C15)
 }
 
-/// A random number after this one, by shifts.
-fn next_random(state: u64) -> u64 {
-    let mut x = state;
-    x ^= x << 13;
-    x ^= x >> 7;
-    x ^= x << 17;
-    x
-}
-
 /// A number below `limit`, from a random one.
 fn below(random: u64, limit: usize) -> usize {
     ((random >> 32).wrapping_mul(limit as u64) >> 32) as usize
@@ -70,7 +61,7 @@ fn a_call(time: Duration, calls: usize) -> u64 {
 #[derive(Drop)]
 struct Measured<A: Allocator> {
     keys: Vec<u64, A>,
-    table: Rows<A>,
+    compared: Compared<A>,
     rows: usize,
     places: usize,
     answers: usize,
@@ -83,11 +74,11 @@ impl<A: Allocator + Copy> Measured<A> {
         for number in 0..places {
             keys.push(key_of(number))?;
         }
-        let mut table = Rows::with_places(alloc, places)?;
-        table.reserve(rows)?;
+        let mut compared = Compared::with_places(alloc, places)?;
+        compared.reserve(rows)?;
         Ok(Measured {
             keys,
-            table,
+            compared,
             rows,
             places,
             answers: 0,
@@ -96,17 +87,19 @@ impl<A: Allocator + Copy> Measured<A> {
 
     fn insert_all(&mut self) {
         for place in 0..self.rows {
-            self.answers ^= self.table.insert(hash_of(key_of(place)), place) as usize;
+            self.answers ^= self.compared.insert(hash_of(key_of(place)), place) as usize;
         }
     }
 
     /// Looks for random keys among `rows` of them, the first of which has the number `first`.
     fn find(&mut self, first: usize, calls: usize) {
+        let keys = self.keys.as_slice();
         let mut random = 88_172_645_463_325_252;
         for _ in 0..calls {
             random = next_random(random);
             let key = key_of(below(random, self.rows).wrapping_add(first));
-            let found = self.table.find(self.keys.as_slice(), key, hash_of(key));
+            let table = self.compared.table();
+            let found = table.find(hash_of(key), |place| keys.get(place) == Some(&key));
             self.answers ^= found.unwrap_or(0);
         }
     }
@@ -116,8 +109,8 @@ impl<A: Allocator + Copy> Measured<A> {
         let mut first = 0usize;
         let mut last = self.rows;
         for _ in 0..calls {
-            self.answers ^= self.table.remove(first) as usize;
-            self.answers ^= self.table.insert(hash_of(key_of(last)), last) as usize;
+            self.answers ^= self.compared.remove(first) as usize;
+            self.answers ^= self.compared.insert(hash_of(key_of(last)), last) as usize;
             first = self.after(first);
             last = self.after(last);
         }
@@ -126,7 +119,7 @@ impl<A: Allocator + Copy> Measured<A> {
     /// Takes all rows out, one by one.
     fn remove_all(&mut self) {
         for place in 0..self.places {
-            self.answers ^= self.table.remove(place) as usize;
+            self.answers ^= self.compared.remove(place) as usize;
         }
     }
 
@@ -162,7 +155,7 @@ pub fn measure(rt: &HostRuntime, rows: usize, calls: usize) -> io::Result<Times>
     measured.remove_all();
     let remove = a_call(start.elapsed(rt)?, rows);
 
-    let capacity = measured.table.capacity();
+    let capacity = measured.compared.table().capacity();
     Ok(Times {
         rows,
         capacity,

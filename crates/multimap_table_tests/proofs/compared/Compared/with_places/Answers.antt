@@ -2,7 +2,7 @@ use Rattle.std.proofs.Common.{ℕ, sym, ap, ◌∙◌}
 use Rattle.std.specs.Ordering.{nat_cmp}
 use Rattle.std.specs.FinMap as map
 use Rattle.multimap_table_tests.proofs.Agreement.{all_none}
-use Rattle.multimap_table_tests.proofs.tests.Compared.with_places.Goals as goal
+use Rattle.multimap_table_tests.proofs.compared.Compared.with_places.Goals as goal
 
 pub invariant_of-result : goal.invariant_of-result
 invariant_of-result g c = λ q.

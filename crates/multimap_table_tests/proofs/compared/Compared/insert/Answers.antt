@@ -2,7 +2,7 @@ use Rattle.std.proofs.Common.{ℕ, ap, ◌∙◌, arith}
 use Rattle.std.specs.Ordering.{nat_cmp}
 use Rattle.std.specs.FinMap as map
 use Rattle.multimap_table_tests.proofs.Agreement.{agree_after_insert}
-use Rattle.multimap_table_tests.proofs.tests.Compared.insert.Goals as goal
+use Rattle.multimap_table_tests.proofs.compared.Compared.insert.Goals as goal
 
 pub invariant_of-self : goal.invariant_of-self
 invariant_of-self g c = λ q.
