@@ -1,5 +1,6 @@
 //! Tests with ample memory: each call of the slot list once, at each type of item.
 use crate::samples::{Sample, Token, assert_slots, push, slot_at, take};
+use crate::{push_two, read_all, relink};
 use multimap_slots::{Reads, SlotList};
 use std::alloc::Global;
 use std::mem::size_of;
@@ -136,4 +137,17 @@ fn a_list_is_shown_by_its_places(rt: HostRuntime) -> Result<(), Fail> {
     let wanted = format!(in rt.alloc(); "{{{a}: 10, {b}: 20}}")?;
     assert_eq!(rt; shown.as_str(), wanted.as_str());
     Ok(())
+}
+
+#[test]
+fn callers_by_contract_answer(rt: HostRuntime) {
+    let mut list: SlotList<u64, u8> = SlotList::new(rt.alloc());
+    let (a, b) = push_two(&mut list, 10, 20).expect(&rt, "memory");
+    assert_eq!(rt; list.next_place(a), Some(b));
+    assert!(rt; relink(&mut list, b, 7));
+    assert!(rt; !relink(&mut list, NOWHERE, 7));
+    let mut reads = Reads::new();
+    assert_eq!(rt; list.get(a, &mut reads), Some((&10, 0)));
+    assert_eq!(rt; list.get(b, &mut reads), Some((&20, 7)));
+    read_all(&list, &mut reads);
 }
