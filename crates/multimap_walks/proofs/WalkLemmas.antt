@@ -1,8 +1,7 @@
 -- What a walk shows of the places that it has left.
-use Rattle.std.proofs.Common.{◌≡◌, ◌==◌, ℕ, ◌+◌, ◌-◌, ◌<◌, Bool, true, false, cond, List, [], ◌∷◌, ◌++◌, length, filter, take, Option, Some, None, unwrap_or, refl, sym, ap, ◌∙◌, subst, inl, inr, arith}
+use Rattle.std.proofs.Common.{◌≡◌, ◌==◌, ℕ, ◌+◌, Bool, true, false, cond, List, [], ◌∷◌, ◌++◌, length, filter, Option, Some, None, unwrap_or, refl, sym, ap, ◌∙◌, subst, inl, inr, arith}
 use Rattle.std.specs.Prelude.{IsSome, option_and_then, option_map}
 use Rattle.std.specs.List.{filter_map, cons_option}
-use Rattle.std.proofs.lemmas.List.{append-nil}
 use Rattle.std.proofs.lemmas.Bool.Decides.{Decides-eqb}
 use Rattle.multimap_slots.specs.Lists.{IsIn, AreDistinct, first_of, last_of, next_of, previous_of}
 use Rattle.multimap_slots.specs.Slots.{Slots, item_at, link_at, IsSound}
@@ -10,7 +9,7 @@ use Rattle.multimap_slots.proofs.ListsLemmas.{IsIn-left, IsIn-right}
 use Rattle.multimap_walks.specs.declared.links.KeyLink.{KeyLink}
 use Rattle.multimap_walks.specs.declared.links.ValueLink.{ValueLink}
 use Rattle.multimap_walks.specs.Chained.{is_value_of, chain_of, values_at, key_of, pair_at, pairs_of, IsChained, HasKeyLink}
-use Rattle.multimap_walks.specs.Left.{places_from, places_left, IsLeft, IsWalk}
+use Rattle.multimap_walks.specs.Left.{places_left, IsLeft, IsWalk}
 use Rattle.multimap_walks.proofs.LeftLemmas.{left_is, left_all, left_none, left_whole, all_is, whole_is, front_in, back_in, FrontStep, BackStep, step_front, step_back}
 
 -- where each place shows something, as much is shown as there are places

@@ -1,5 +1,5 @@
 -- What a contract sees of a walk over one key's values.
-use Rattle.std.specs.Prelude.{◌≡◌, ℕ, ◌+◌, Bool, List, Option, is_some, cond}
+use Rattle.std.specs.Prelude.{◌≡◌, ℕ, ◌+◌, List, Option, is_some, cond}
 use Rattle.std.specs.Borrow.{Bor}
 use Rattle.std.specs.Map.Iter.{TakesFirst, TakesLast, deref}
 

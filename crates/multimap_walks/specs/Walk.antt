@@ -1,5 +1,5 @@
 -- Walks over a list: a word of ends, and one answer for each of its letters.
-use Rattle.std.specs.Prelude.{ℕ, ◌-◌, List, [], ◌∷◌, length, take, drop, replicate, slice_get, Option}
+use Rattle.std.specs.Prelude.{◌-◌, List, [], ◌∷◌, length, take, drop, replicate, slice_get, Option}
 use Rattle.multimap_walks.specs.declared.End.{End}
 use Rattle.multimap_walks.specs.declared.End.TheVariants.{Front, Back}
 

@@ -1,5 +1,5 @@
 -- Members of lists: a value is in a list if it itself stands there.
-use Rattle.std.proofs.Common.{◌≡◌, ◌⊎◌, Bool, true, false, cond, List, [], ◌∷◌, ◌++◌, filter, refl, sym, ap, ◌∙◌, subst, inl, inr}
+use Rattle.std.proofs.Common.{◌≡◌, Bool, true, false, cond, List, [], ◌∷◌, ◌++◌, filter, refl, sym, ap, ◌∙◌, subst, inl, inr}
 use Rattle.std.specs.Map.{keys_of}
 use Rattle.multimap_slots.specs.Lists.{IsIn}
 

@@ -1,4 +1,4 @@
-use Rattle.std.proofs.Common.{◌∙◌, sym, ap, inl, inr}
+use Rattle.std.proofs.Common.{◌∙◌, ap, inl, inr}
 use Rattle.std.specs.Str.{bytes_eq}
 use Rattle.multimap_tool.proofs.ReadingLemmas.{other_text}
 use Rattle.multimap_tool.proofs.parse.with_key.Goals as goal

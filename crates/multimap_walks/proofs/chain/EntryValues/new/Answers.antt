@@ -1,5 +1,4 @@
-use Rattle.std.proofs.Common.{◌≡◌, ◌∙◌, ap, sym}
-use Rattle.multimap_walks.proofs.WalkLemmas.{values_none, values_whole, values_shown}
+use Rattle.multimap_walks.proofs.WalkLemmas.{values_none, values_whole}
 use Rattle.multimap_walks.proofs.chain.EntryValues.new.Goals as goal
 
 pub invariant_of-result : goal.invariant_of-result

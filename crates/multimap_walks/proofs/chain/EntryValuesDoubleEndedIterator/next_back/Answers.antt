@@ -1,4 +1,4 @@
-use Rattle.std.proofs.Common.{◌≡◌, ◌+◌, ◌-◌, ◌∙◌, [], ◌∷◌, ◌++◌, length, Some, sym, ap, arith, rules, unwrap_or, length-append}
+use Rattle.std.proofs.Common.{◌+◌, ◌-◌, ◌∙◌, [], ◌∷◌, length, sym, ap, arith, rules, length-append}
 use Rattle.multimap_walks.proofs.WalkLemmas.{chain_back, values_next_back, values_on_back}
 use Rattle.multimap_walks.proofs.chain.EntryValuesDoubleEndedIterator.next_back.Goals as goal
 

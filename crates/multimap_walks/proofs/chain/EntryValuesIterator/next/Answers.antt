@@ -1,4 +1,4 @@
-use Rattle.std.proofs.Common.{◌≡◌, ◌+◌, ◌-◌, ◌∙◌, [], ◌∷◌, ◌++◌, length, Some, sym, ap, arith, rules, unwrap_or, length-append}
+use Rattle.std.proofs.Common.{◌+◌, ◌-◌, ◌∙◌, length, sym, ap, arith, rules}
 use Rattle.multimap_walks.proofs.WalkLemmas.{chain_front, values_next, values_on}
 use Rattle.multimap_walks.proofs.chain.EntryValuesIterator.next.Goals as goal
 

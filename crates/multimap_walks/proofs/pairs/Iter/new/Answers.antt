@@ -1,7 +1,3 @@
-use Rattle.std.proofs.Common.{◌≡◌, ◌∙◌, ap, sym, unwrap_or}
-use Rattle.std.specs.List.{filter_map}
-use Rattle.multimap_walks.specs.Chained.{pair_at}
-use Rattle.multimap_walks.specs.Left.{places_left, IsWalk}
 use Rattle.multimap_walks.proofs.WalkLemmas.{pairs_whole, shown_whole}
 use Rattle.multimap_walks.proofs.pairs.Iter.new.Goals as goal
 

@@ -1,4 +1,4 @@
-use Rattle.std.proofs.Common.{◌≡◌, ◌+◌, ◌-◌, ◌∙◌, [], ◌∷◌, ◌++◌, length, Some, sym, ap, arith, rules, unwrap_or, length-append}
+use Rattle.std.proofs.Common.{◌-◌, ◌∙◌, [], ◌∷◌, length, sym, ap, arith, rules, unwrap_or, length-append}
 use Rattle.multimap_walks.proofs.WalkLemmas.{pairs_back, pairs_next_back, pairs_on_back}
 use Rattle.multimap_walks.proofs.pairs.IterDoubleEndedIterator.next_back.Goals as goal
 

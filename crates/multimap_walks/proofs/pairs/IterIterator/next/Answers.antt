@@ -1,4 +1,4 @@
-use Rattle.std.proofs.Common.{◌≡◌, ◌+◌, ◌-◌, ◌∙◌, [], ◌∷◌, ◌++◌, length, Some, sym, ap, arith, rules, unwrap_or, length-append}
+use Rattle.std.proofs.Common.{◌-◌, ◌∙◌, length, sym, ap, arith, rules, unwrap_or}
 use Rattle.multimap_walks.proofs.WalkLemmas.{pairs_front, pairs_next, pairs_on}
 use Rattle.multimap_walks.proofs.pairs.IterIterator.next.Goals as goal
 
