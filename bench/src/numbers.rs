@@ -1,0 +1,44 @@
+//! The numbers of a workload: keys, values and random choices, each a function of a seed.
+
+const GOLDEN: u64 = 0x9E37_79B9_7F4A_7C15;
+const SECOND: u64 = 0x632B_E59B_D9B4_E019;
+
+/// What a checksum begins as.
+pub const START: u64 = 0xCBF2_9CE4_8422_2325;
+
+/// The checksum with one more number.
+#[inline(always)]
+pub fn mix(checksum: u64, number: u64) -> u64 {
+    checksum.wrapping_mul(0x100_0000_01B3).wrapping_add(number)
+}
+
+#[inline(always)]
+fn spread(number: u64) -> u64 {
+    let mut z = number;
+    z = (z ^ (z >> 30)).wrapping_mul(0xBF58_476D_1CE4_E5B9);
+    z = (z ^ (z >> 27)).wrapping_mul(0x94D0_49BB_1331_11EB);
+    z ^ (z >> 31)
+}
+
+#[inline(always)]
+fn random(seed: u64, index: u64) -> u64 {
+    spread(seed.wrapping_add(index.wrapping_add(1).wrapping_mul(GOLDEN)))
+}
+
+/// Key number `index`.
+#[inline(always)]
+pub fn key(seed: u64, index: u64) -> u64 {
+    random(seed, index)
+}
+
+/// Value number `index`.
+#[inline(always)]
+pub fn value(seed: u64, index: u64) -> u64 {
+    seed.wrapping_add(index.wrapping_mul(GOLDEN))
+}
+
+/// Choice number `index` of a number below `limit`.
+#[inline(always)]
+pub fn choice(seed: u64, index: u64, limit: u64) -> u64 {
+    (random(seed.wrapping_add(SECOND), index) >> 32).wrapping_mul(limit) >> 32
+}

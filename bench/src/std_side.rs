@@ -1,0 +1,157 @@
+//! The workloads on the standard library's map, with a vector of values for each key.
+use crate::numbers::{START, choice, key, mix, value};
+use std::collections::HashMap;
+use std::hash::BuildHasher;
+
+/// A multimap as one would write it with the standard library.
+struct Multimap<S> {
+    keys: HashMap<u64, Vec<u64>, S>,
+    values_len: u64,
+}
+
+impl<S: BuildHasher + Default> Multimap<S> {
+    fn new() -> Self {
+        Multimap {
+            keys: HashMap::default(),
+            values_len: 0,
+        }
+    }
+
+    #[inline(always)]
+    fn append(&mut self, key: u64, value: u64) -> bool {
+        let values = self.keys.entry(key).or_default();
+        let was_present = !values.is_empty();
+        values.push(value);
+        self.values_len += 1;
+        was_present
+    }
+
+    #[inline(always)]
+    fn get(&self, key: u64) -> Option<u64> {
+        self.keys.get(&key)?.first().copied()
+    }
+
+    #[inline(always)]
+    fn get_all(&self, key: u64) -> &[u64] {
+        self.keys.get(&key).map_or(&[], Vec::as_slice)
+    }
+
+    fn ends(&self, checksum: u64) -> u64 {
+        mix(mix(checksum, self.keys.len() as u64), self.values_len)
+    }
+}
+
+/// A map that was filled, with the checksum of that.
+struct Filled<S> {
+    map: Multimap<S>,
+    checksum: u64,
+}
+
+fn filled<S, I>(pairs: I) -> Filled<S>
+where
+    S: BuildHasher + Default,
+    I: Iterator<Item = (u64, u64)>,
+{
+    let mut map = Multimap::new();
+    let mut checksum = START;
+    // Calls `for_each`, since a loop over nested ranges is slower than the nested loops.
+    pairs.for_each(|(key, value)| {
+        checksum = mix(checksum, u64::from(map.append(key, value)));
+    });
+    checksum = map.ends(checksum);
+    Filled { map, checksum }
+}
+
+fn distinct<S: BuildHasher + Default>(n: u64, seed: u64) -> Filled<S> {
+    filled((0..n).map(|i| (key(seed, i), value(seed, i))))
+}
+
+fn grouped<S: BuildHasher + Default>(n: u64, seed: u64) -> Filled<S> {
+    let rounds = |g| (0..8).map(move |r| (key(seed, g), value(seed, 8 * g + r)));
+    filled((0..n / 8).flat_map(rounds))
+}
+
+fn scattered<S: BuildHasher + Default>(n: u64, seed: u64) -> Filled<S> {
+    filled(scattered_pairs(n, seed))
+}
+
+fn scattered_pairs(n: u64, seed: u64) -> impl Iterator<Item = (u64, u64)> {
+    let groups = n / 8;
+    let round = move |r| (0..groups).map(move |g| (key(seed, g), value(seed, r * groups + g)));
+    (0..8).flat_map(round)
+}
+
+pub fn append_distinct<S: BuildHasher + Default>(n: u64, seed: u64) -> u64 {
+    distinct::<S>(n, seed).checksum
+}
+
+pub fn append_few<S: BuildHasher + Default>(n: u64, seed: u64) -> u64 {
+    let pairs = (0..n).map(|i| (key(seed, choice(seed, i, 1000)), value(seed, i)));
+    filled::<S, _>(pairs).checksum
+}
+
+pub fn append_grouped<S: BuildHasher + Default>(n: u64, seed: u64) -> u64 {
+    grouped::<S>(n, seed).checksum
+}
+
+pub fn append_scattered<S: BuildHasher + Default>(n: u64, seed: u64) -> u64 {
+    scattered::<S>(n, seed).checksum
+}
+
+pub fn get_hit<S: BuildHasher + Default>(n: u64, seed: u64) -> u64 {
+    let Filled { map, mut checksum } = distinct::<S>(n, seed);
+    for j in 0..4 * n {
+        let found = map.get(key(seed, choice(seed, j, n)));
+        checksum = mix(checksum, found.unwrap_or(0));
+    }
+    checksum
+}
+
+pub fn get_miss<S: BuildHasher + Default>(n: u64, seed: u64) -> u64 {
+    let Filled { map, mut checksum } = distinct::<S>(n, seed);
+    for j in 0..4 * n {
+        checksum = mix(checksum, map.get(key(seed, n + j)).unwrap_or(1));
+    }
+    checksum
+}
+
+fn walks<S: BuildHasher + Default>(start: Filled<S>, n: u64, seed: u64) -> u64 {
+    let Filled { map, mut checksum } = start;
+    for j in 0..n / 2 {
+        for value in map.get_all(key(seed, choice(seed, j, n / 8))) {
+            checksum = mix(checksum, *value);
+        }
+    }
+    checksum
+}
+
+pub fn get_all_walk<S: BuildHasher + Default>(n: u64, seed: u64) -> u64 {
+    walks::<S>(grouped(n, seed), n, seed)
+}
+
+pub fn get_all_walk_scattered<S: BuildHasher + Default>(n: u64, seed: u64) -> u64 {
+    walks::<S>(scattered(n, seed), n, seed)
+}
+
+pub fn iter_all<S: BuildHasher + Default>(n: u64, seed: u64) -> u64 {
+    let Filled { map, mut checksum } = scattered::<S>(n, seed);
+    for _ in 0..16 {
+        for (key, values) in &map.keys {
+            for value in values {
+                checksum = mix(checksum, key ^ value);
+            }
+        }
+    }
+    checksum
+}
+
+/// The checksum that `iter_all` has on a map that keeps the order of its pairs.
+pub fn iter_all_in_order(n: u64, seed: u64) -> u64 {
+    let mut checksum = scattered::<crate::hashers::FastState>(n, seed).checksum;
+    for _ in 0..16 {
+        for (key, value) in scattered_pairs(n, seed) {
+            checksum = mix(checksum, key ^ value);
+        }
+    }
+    checksum
+}

@@ -1,0 +1,138 @@
+//! The workloads of both sides by name.
+use crate::hashers::{DefaultState, FastState};
+use crate::std_side;
+
+/// A workload at so many pairs and a seed. It answers a checksum.
+pub type Run = fn(u64, u64) -> u64;
+
+/// How many columns are timed: the map and the standard library's, with either hasher.
+pub const COLUMNS: usize = 4;
+
+pub struct Workload {
+    pub name: &'static str,
+    /// The workload that this one starts with, by its place in the list.
+    pub start: Option<usize>,
+    /// How many operations are timed: so many for each `per` pairs.
+    pub operations: u64,
+    /// The map and the standard library's with the map's default hasher, then with the fast one.
+    pub columns: [Run; COLUMNS],
+    /// Where the standard library's side keeps no order: the checksum in order.
+    pub in_order: Option<Run>,
+}
+
+mod exported {
+    // The static library's functions are safe for all numbers.
+    unsafe extern "C" {
+        pub safe fn bench_append_distinct(n: u64, seed: u64) -> u64;
+        pub safe fn bench_append_few(n: u64, seed: u64) -> u64;
+        pub safe fn bench_append_grouped(n: u64, seed: u64) -> u64;
+        pub safe fn bench_append_scattered(n: u64, seed: u64) -> u64;
+        pub safe fn bench_get_hit(n: u64, seed: u64) -> u64;
+        pub safe fn bench_get_miss(n: u64, seed: u64) -> u64;
+        pub safe fn bench_get_all_walk(n: u64, seed: u64) -> u64;
+        pub safe fn bench_get_all_walk_scattered(n: u64, seed: u64) -> u64;
+        pub safe fn bench_iter_all(n: u64, seed: u64) -> u64;
+        pub safe fn benchfx_append_distinct(n: u64, seed: u64) -> u64;
+        pub safe fn benchfx_append_few(n: u64, seed: u64) -> u64;
+        pub safe fn benchfx_append_grouped(n: u64, seed: u64) -> u64;
+        pub safe fn benchfx_append_scattered(n: u64, seed: u64) -> u64;
+        pub safe fn benchfx_get_hit(n: u64, seed: u64) -> u64;
+        pub safe fn benchfx_get_miss(n: u64, seed: u64) -> u64;
+        pub safe fn benchfx_get_all_walk(n: u64, seed: u64) -> u64;
+        pub safe fn benchfx_get_all_walk_scattered(n: u64, seed: u64) -> u64;
+        pub safe fn benchfx_iter_all(n: u64, seed: u64) -> u64;
+    }
+}
+
+// The four functions of a name. Those of the static library are called through closures, since
+// their calling convention is C's.
+macro_rules! workload {
+    ($name:ident, $default:ident, $fast:ident, $start:expr, $operations:expr, $in_order:expr) => {
+        Workload {
+            name: stringify!($name),
+            start: $start,
+            operations: $operations,
+            columns: [
+                |n, seed| exported::$default(n, seed),
+                std_side::$name::<DefaultState>,
+                |n, seed| exported::$fast(n, seed),
+                std_side::$name::<FastState>,
+            ],
+            in_order: $in_order,
+        }
+    };
+}
+
+const DISTINCT: Option<usize> = Some(0);
+const GROUPED: Option<usize> = Some(2);
+const SCATTERED: Option<usize> = Some(3);
+const IN_ORDER: Option<Run> = Some(std_side::iter_all_in_order);
+
+/// Every workload. One that starts with another stands behind it.
+pub const WORKLOADS: [Workload; 9] = [
+    workload!(
+        append_distinct,
+        bench_append_distinct,
+        benchfx_append_distinct,
+        None,
+        1,
+        None
+    ),
+    workload!(
+        append_few,
+        bench_append_few,
+        benchfx_append_few,
+        None,
+        1,
+        None
+    ),
+    workload!(
+        append_grouped,
+        bench_append_grouped,
+        benchfx_append_grouped,
+        None,
+        1,
+        None
+    ),
+    workload!(
+        append_scattered,
+        bench_append_scattered,
+        benchfx_append_scattered,
+        None,
+        1,
+        None
+    ),
+    workload!(get_hit, bench_get_hit, benchfx_get_hit, DISTINCT, 4, None),
+    workload!(
+        get_miss,
+        bench_get_miss,
+        benchfx_get_miss,
+        DISTINCT,
+        4,
+        None
+    ),
+    workload!(
+        get_all_walk,
+        bench_get_all_walk,
+        benchfx_get_all_walk,
+        GROUPED,
+        4,
+        None
+    ),
+    workload!(
+        get_all_walk_scattered,
+        bench_get_all_walk_scattered,
+        benchfx_get_all_walk_scattered,
+        SCATTERED,
+        4,
+        None
+    ),
+    workload!(
+        iter_all,
+        bench_iter_all,
+        benchfx_iter_all,
+        SCATTERED,
+        16,
+        IN_ORDER
+    ),
+];

@@ -1,0 +1,78 @@
+//! Appends to a map, in the orders of the workloads. Each answers none where memory was refused.
+use crate::numbers::{choice, key, mix, value};
+use ordered_multimap::ListOrderedMultimap;
+use std::hash::BuildHasher;
+
+/// The map that is measured.
+pub type Map<S> = ListOrderedMultimap<u64, u64, S>;
+
+/// Appends a pair, and mixes in whether its key was present.
+#[inline(always)]
+fn append<S: BuildHasher>(map: &mut Map<S>, key: u64, value: u64, checksum: u64) -> Option<u64> {
+    match map.append(key, value) {
+        Ok(present) => Some(mix(checksum, present as u64)),
+        Err(_) => None,
+    }
+}
+
+/// The checksum with the numbers of keys and of values.
+fn ends<S: BuildHasher>(map: &Map<S>, checksum: u64) -> u64 {
+    mix(
+        mix(checksum, map.keys_len() as u64),
+        map.values_len() as u64,
+    )
+}
+
+/// A new key for each pair.
+pub fn distinct<S: BuildHasher>(
+    map: &mut Map<S>,
+    pairs: u64,
+    seed: u64,
+    start: u64,
+) -> Option<u64> {
+    let mut checksum = start;
+    for i in 0..pairs {
+        checksum = append(map, key(seed, i), value(seed, i), checksum)?;
+    }
+    Some(ends(map, checksum))
+}
+
+/// A random one of a thousand keys for each pair.
+pub fn few<S: BuildHasher>(map: &mut Map<S>, pairs: u64, seed: u64, start: u64) -> Option<u64> {
+    let mut checksum = start;
+    for i in 0..pairs {
+        let chosen = key(seed, choice(seed, i, 1000));
+        checksum = append(map, chosen, value(seed, i), checksum)?;
+    }
+    Some(ends(map, checksum))
+}
+
+/// Eight pairs a key, one after another.
+pub fn grouped<S: BuildHasher>(map: &mut Map<S>, pairs: u64, seed: u64, start: u64) -> Option<u64> {
+    let mut checksum = start;
+    for group in 0..pairs / 8 {
+        for round in 0..8u64 {
+            let number = group.wrapping_mul(8).wrapping_add(round);
+            checksum = append(map, key(seed, group), value(seed, number), checksum)?;
+        }
+    }
+    Some(ends(map, checksum))
+}
+
+/// Eight pairs a key, one in each of eight rounds over all keys.
+pub fn scattered<S: BuildHasher>(
+    map: &mut Map<S>,
+    pairs: u64,
+    seed: u64,
+    start: u64,
+) -> Option<u64> {
+    let mut checksum = start;
+    let groups = pairs / 8;
+    for round in 0..8u64 {
+        for group in 0..groups {
+            let number = round.wrapping_mul(groups).wrapping_add(group);
+            checksum = append(map, key(seed, group), value(seed, number), checksum)?;
+        }
+    }
+    Some(ends(map, checksum))
+}

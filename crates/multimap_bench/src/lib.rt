@@ -1,0 +1,132 @@
+//! Workloads of the map, as functions that a program in another language can call and time.
+//!
+//! Each is named for its workload: `bench_NAME` with the map's default hash builder, `benchfx_NAME`
+//! with the fast hasher of `fast.rt`. It is given a number of pairs, a multiple of 8, and a seed,
+//! makes a map, and lets it go. The answer is a checksum of what the calls answered, which depends
+//! on no hasher, or 0 where memory was refused. Proved is that each is safe and returns. That it
+//! does the work that it is named for is tested: the checksums at 64 pairs stand in `tests.rt`.
+#![tactic(auto)]
+
+mod appends;
+mod fast;
+mod lookups;
+mod numbers;
+#[cfg(test)]
+mod tests;
+mod workloads;
+
+use fast::FastHasher;
+use ordered_multimap::list_ordered_multimap::DefaultState;
+use std::alloc::Global;
+use std::hash::BuildHasherDefault;
+
+/// The builder of the fast hasher.
+type FastState = BuildHasherDefault<FastHasher>;
+
+/// Appends a new key for each pair.
+#[unsafe(no_mangle)]
+pub extern "C" fn bench_append_distinct(alloc: Global, n: u64, seed: u64) -> u64 {
+    workloads::append_distinct(alloc, DefaultState::new(), n, seed)
+}
+
+/// Appends to a thousand keys, in random order.
+#[unsafe(no_mangle)]
+pub extern "C" fn bench_append_few(alloc: Global, n: u64, seed: u64) -> u64 {
+    workloads::append_few(alloc, DefaultState::new(), n, seed)
+}
+
+/// Appends eight pairs a key, one after another.
+#[unsafe(no_mangle)]
+pub extern "C" fn bench_append_grouped(alloc: Global, n: u64, seed: u64) -> u64 {
+    workloads::append_grouped(alloc, DefaultState::new(), n, seed)
+}
+
+/// Appends eight pairs a key, in eight rounds over the keys.
+#[unsafe(no_mangle)]
+pub extern "C" fn bench_append_scattered(alloc: Global, n: u64, seed: u64) -> u64 {
+    workloads::append_scattered(alloc, DefaultState::new(), n, seed)
+}
+
+/// Gets random keys that are there, after `append_distinct`.
+#[unsafe(no_mangle)]
+pub extern "C" fn bench_get_hit(alloc: Global, n: u64, seed: u64) -> u64 {
+    workloads::get_hit(alloc, DefaultState::new(), n, seed)
+}
+
+/// Gets keys that are not there, after `append_distinct`.
+#[unsafe(no_mangle)]
+pub extern "C" fn bench_get_miss(alloc: Global, n: u64, seed: u64) -> u64 {
+    workloads::get_miss(alloc, DefaultState::new(), n, seed)
+}
+
+/// Goes over the values of random keys, after `append_grouped`.
+#[unsafe(no_mangle)]
+pub extern "C" fn bench_get_all_walk(alloc: Global, n: u64, seed: u64) -> u64 {
+    workloads::get_all_walk(alloc, DefaultState::new(), n, seed)
+}
+
+/// Goes over the values of random keys, after `append_scattered`.
+#[unsafe(no_mangle)]
+pub extern "C" fn bench_get_all_walk_scattered(alloc: Global, n: u64, seed: u64) -> u64 {
+    workloads::get_all_walk_scattered(alloc, DefaultState::new(), n, seed)
+}
+
+/// Goes over all pairs, after `append_scattered`.
+#[unsafe(no_mangle)]
+pub extern "C" fn bench_iter_all(alloc: Global, n: u64, seed: u64) -> u64 {
+    workloads::iter_all(alloc, DefaultState::new(), n, seed)
+}
+
+/// Appends a new key for each pair. With the fast hasher.
+#[unsafe(no_mangle)]
+pub extern "C" fn benchfx_append_distinct(alloc: Global, n: u64, seed: u64) -> u64 {
+    workloads::append_distinct(alloc, FastState::new(), n, seed)
+}
+
+/// Appends to a thousand keys, in random order. With the fast hasher.
+#[unsafe(no_mangle)]
+pub extern "C" fn benchfx_append_few(alloc: Global, n: u64, seed: u64) -> u64 {
+    workloads::append_few(alloc, FastState::new(), n, seed)
+}
+
+/// Appends eight pairs a key, one after another. With the fast hasher.
+#[unsafe(no_mangle)]
+pub extern "C" fn benchfx_append_grouped(alloc: Global, n: u64, seed: u64) -> u64 {
+    workloads::append_grouped(alloc, FastState::new(), n, seed)
+}
+
+/// Appends eight pairs a key, in eight rounds over the keys. With the fast hasher.
+#[unsafe(no_mangle)]
+pub extern "C" fn benchfx_append_scattered(alloc: Global, n: u64, seed: u64) -> u64 {
+    workloads::append_scattered(alloc, FastState::new(), n, seed)
+}
+
+/// Gets random keys that are there, after `append_distinct`. With the fast hasher.
+#[unsafe(no_mangle)]
+pub extern "C" fn benchfx_get_hit(alloc: Global, n: u64, seed: u64) -> u64 {
+    workloads::get_hit(alloc, FastState::new(), n, seed)
+}
+
+/// Gets keys that are not there, after `append_distinct`. With the fast hasher.
+#[unsafe(no_mangle)]
+pub extern "C" fn benchfx_get_miss(alloc: Global, n: u64, seed: u64) -> u64 {
+    workloads::get_miss(alloc, FastState::new(), n, seed)
+}
+
+/// Goes over the values of random keys, after `append_grouped`. With the fast hasher.
+#[unsafe(no_mangle)]
+pub extern "C" fn benchfx_get_all_walk(alloc: Global, n: u64, seed: u64) -> u64 {
+    workloads::get_all_walk(alloc, FastState::new(), n, seed)
+}
+
+/// Goes over the values of random keys, after `append_scattered`. With the fast hasher.
+#[unsafe(no_mangle)]
+pub extern "C" fn benchfx_get_all_walk_scattered(alloc: Global, n: u64, seed: u64) -> u64 {
+    workloads::get_all_walk_scattered(alloc, FastState::new(), n, seed)
+}
+
+/// Goes over all pairs, after `append_scattered`. With the fast hasher.
+#[unsafe(no_mangle)]
+pub extern "C" fn benchfx_iter_all(alloc: Global, n: u64, seed: u64) -> u64 {
+    workloads::iter_all(alloc, FastState::new(), n, seed)
+}

@@ -1,0 +1,62 @@
+//! The checksums at 64 pairs and seed 1, which other implementations computed.
+use crate::{
+    bench_append_distinct, bench_append_few, bench_append_grouped, bench_append_scattered,
+    bench_get_all_walk, bench_get_all_walk_scattered, bench_get_hit, bench_get_miss,
+    bench_iter_all, benchfx_append_distinct, benchfx_append_few, benchfx_append_grouped,
+    benchfx_append_scattered, benchfx_get_all_walk, benchfx_get_all_walk_scattered,
+    benchfx_get_hit, benchfx_get_miss, benchfx_iter_all,
+};
+use std::process::Abort;
+
+const CHECKSUMS: [(&str, u64); 9] = [
+    ("append_distinct", 0x33bf_5941_cd09_89ed),
+    ("append_few", 0xb64e_7cf3_dab2_25f3),
+    ("append_grouped", 0x2d19_baf3_6766_982d),
+    ("append_scattered", 0xa412_889e_ea5f_a335),
+    ("get_hit", 0x446d_f8e0_1ae5_a983),
+    ("get_miss", 0x3579_6338_3565_8fed),
+    ("get_all_walk", 0x219a_2caa_a219_34ad),
+    ("get_all_walk_scattered", 0xd2e7_bd88_2f3e_e835),
+    ("iter_all", 0x7f15_ac8e_ece3_e735),
+];
+
+fn assert_checksums(rt: &impl Abort, answers: [u64; 9]) {
+    for i in 0..9usize {
+        let (workload, checksum) = CHECKSUMS[i];
+        assert_eq!(rt; answers[i], checksum, "{workload}");
+    }
+}
+
+#[test]
+fn checksums_are_right_with_the_default_hasher(rt: HostRuntime) {
+    let alloc = rt.alloc();
+    let answers = [
+        bench_append_distinct(alloc, 64, 1),
+        bench_append_few(alloc, 64, 1),
+        bench_append_grouped(alloc, 64, 1),
+        bench_append_scattered(alloc, 64, 1),
+        bench_get_hit(alloc, 64, 1),
+        bench_get_miss(alloc, 64, 1),
+        bench_get_all_walk(alloc, 64, 1),
+        bench_get_all_walk_scattered(alloc, 64, 1),
+        bench_iter_all(alloc, 64, 1),
+    ];
+    assert_checksums(&rt, answers);
+}
+
+#[test]
+fn checksums_are_right_with_the_fast_hasher(rt: HostRuntime) {
+    let alloc = rt.alloc();
+    let answers = [
+        benchfx_append_distinct(alloc, 64, 1),
+        benchfx_append_few(alloc, 64, 1),
+        benchfx_append_grouped(alloc, 64, 1),
+        benchfx_append_scattered(alloc, 64, 1),
+        benchfx_get_hit(alloc, 64, 1),
+        benchfx_get_miss(alloc, 64, 1),
+        benchfx_get_all_walk(alloc, 64, 1),
+        benchfx_get_all_walk_scattered(alloc, 64, 1),
+        benchfx_iter_all(alloc, 64, 1),
+    ];
+    assert_checksums(&rt, answers);
+}
