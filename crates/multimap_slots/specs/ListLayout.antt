@@ -33,9 +33,10 @@ module _ {L : Type 0} where
     pub states : o.states ≡ []
     pub links : o.links ≡ []
 
-  -- no place is listed twice, each has a link, and there is room for all
+  -- no place is listed twice, each that isn't free is listed and has a link, and there is room for all
   pub record AreSound (o : Places L) : Type 0 where
     pub distinct : AreDistinct o.order
+    pub all_in : (p : ℕ) → get_or o.states p Free ≡ Listed → IsIn p o.order
     pub linked : (p : ℕ) → IsIn p o.order → IsSome (slice_get o.links p)
     pub among : length o.order ≤ length o.states
     pub fits : length o.order ≤ o.capacity

@@ -30,13 +30,15 @@ impl<T, L: Copy, A: Allocator> SlotList<T, L, A> {
         ensures absent { IfNone result (¬ IsIn place self.now.order) }
         ensures counted { reads.new ≡ reads.old + (if is_some result then 1 else 0) }
     {
-        if !self.order.is_listed(place) {
-            return None;
-        }
-        reads.count_one();
-        match &self.items[place] {
-            Some(item) => Some((item, self.order.link(place))),
-            None => unreachable!(),
+        // Each place with an item is listed, as the length tells the proof. So the item is tested,
+        // and no node is read by a caller that needs no link.
+        let _listed = self.order.len();
+        match self.items.get(place) {
+            Some(Some(item)) => {
+                reads.count_one();
+                Some((item, self.order.link(place)))
+            }
+            _ => None,
         }
     }
 
