@@ -13,7 +13,7 @@ use std::fmt;
 use std::iter::FusedIterator;
 use std::marker::Model;
 
-/// All pairs of a map, oldest first.
+/// All pairs of a map, oldest first. Each item reads the slots of its value and of its key.
 #[derive(Drop)]
 pub struct Iter<'map, K, V, A: Allocator = Global> {
     keys: &'map SlotList<K, KeyLink, A>,

@@ -32,6 +32,10 @@ pub struct Refused<K, V> {
 /// Each key has one or more values. The pairs stand in the order in which they came, and the keys
 /// in the order in which they last became present. Of equal keys the map keeps the one that came
 /// first.
+///
+/// A look-up hashes the key once, and compares it with the keys of that very hash. Where hashes are
+/// spread it probes one group of sixteen tags, seldom more; where all are equal it goes over all
+/// keys. A call that says nothing else of its cost takes constant time.
 #[derive(Drop)]
 pub struct ListOrderedMultimap<
     K: Eq + Hash,

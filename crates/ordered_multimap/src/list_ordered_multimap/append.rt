@@ -14,8 +14,9 @@ impl<K: Eq + Hash, V, S: BuildHasher, A: Allocator + Copy> ListOrderedMultimap<K
     /// Puts the pair last, and answers whether the key was present. A present key stays as it was
     /// stored, and the one handed in is dropped.
     ///
-    /// Where memory is refused, it hands back the pair, and both lists are as before. The time is
-    /// constant but where the map grows.
+    /// Where memory is refused, it hands back the pair, and both lists are as before. One look-up;
+    /// it writes the slots of the key, of the new value and of the value before it under the same
+    /// key. A growth costs the slots or rows that are moved.
     pub fn append(&mut self, key: K, value: V) -> Result<bool, Refused<K, V>>
     where
         K: Drop,

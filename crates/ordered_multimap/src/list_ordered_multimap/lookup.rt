@@ -71,7 +71,7 @@ fn pair_behind<'map, K, V, A: Allocator>(
 }
 
 impl<K: Eq + Hash, V, S: BuildHasher, A: Allocator> ListOrderedMultimap<K, V, S, A> {
-    /// The key's first value.
+    /// The key's first value. One look-up, and the slots of the key and of that value.
     pub fn get(&self, key: &K) -> Option<&V>
         ensures { option_copied result ≡ slice_get (values_of K.eq self.now.lists.pairs key.now) 0 }
     {
@@ -86,7 +86,7 @@ impl<K: Eq + Hash, V, S: BuildHasher, A: Allocator> ListOrderedMultimap<K, V, S,
         }
     }
 
-    /// Whether the key has a value.
+    /// Whether the key has a value. One look-up.
     pub fn contains_key(&self, key: &K) -> bool
         ensures { result ≡ is_present K.eq self.now.lists.pairs key.now }
     {
@@ -97,7 +97,7 @@ impl<K: Eq + Hash, V, S: BuildHasher, A: Allocator> ListOrderedMultimap<K, V, S,
         }
     }
 
-    /// How many values the key has.
+    /// How many values the key has. One look-up, and the slot of the key.
     pub fn entry_len(&self, key: &K) -> usize
         ensures { result ≡ length (values_of K.eq self.now.lists.pairs key.now) }
     {
@@ -111,7 +111,7 @@ impl<K: Eq + Hash, V, S: BuildHasher, A: Allocator> ListOrderedMultimap<K, V, S,
         }
     }
 
-    /// The first pair.
+    /// The first pair. Reads the slots of its value and of its key.
     pub fn front(&self) -> Option<(&K, &V)>
         ensures { option_map (λ r. (r.0.now, r.1.now)) result ≡ item_at Front self.now.lists.pairs }
     {
@@ -121,7 +121,7 @@ impl<K: Eq + Hash, V, S: BuildHasher, A: Allocator> ListOrderedMultimap<K, V, S,
         }
     }
 
-    /// The last pair.
+    /// The last pair. Reads the slots of its value and of its key.
     pub fn back(&self) -> Option<(&K, &V)>
         ensures { option_map (λ r. (r.0.now, r.1.now)) result ≡ item_at Back self.now.lists.pairs }
     {

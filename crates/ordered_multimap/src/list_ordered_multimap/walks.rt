@@ -9,15 +9,15 @@ use std::alloc::Allocator;
 use std::hash::{BuildHasher, Hash};
 
 impl<K: Eq + Hash, V, S: BuildHasher, A: Allocator> ListOrderedMultimap<K, V, S, A> {
-    /// A walk over all pairs, in order.
+    /// A walk over all pairs, in order. Each step reads the slots of its value and of its key.
     pub fn iter(&self) -> Iter<'_, K, V, A>
         ensures { result ≡ self.now.lists.pairs }
     {
         Iter::new(&self.keys, &self.values)
     }
 
-    /// A walk over the key's values, in order, which reads the slots of these values alone. An
-    /// absent key's is empty.
+    /// A walk over the key's values, in order, which is empty for an absent key. One look-up and
+    /// the slot of the key; then each step reads the slot of its value, and no other.
     pub fn get_all(&self, key: &K) -> EntryValues<'_, K, V, A>
         ensures values { result.left ≡ values_of K.eq self.now.lists.pairs key.now }
         ensures reads { result.reads ≡ 0 }
