@@ -1,25 +1,21 @@
 -- Look-ups by key, and the ends of the pairs.
-use Rattle.std.proofs.Common.{◌≡◌, ◌≢◌, ◌⊎◌, ◌==◌, ℕ, Bool, true, false, cond, List, [], ◌∷◌, ◌++◌, length, filter, map, slice_get, Option, Some, None, refl, sym, ap, ◌∙◌, subst, inl, inr, true≢false}
+use Rattle.std.proofs.Common.{◌≡◌, ◌≢◌, ◌⊎◌, ◌==◌, ℕ, Bool, true, false, cond, List, [], ◌∷◌, length, filter, map, slice_get, Option, Some, None, refl, sym, ap, ◌∙◌, subst, inl, inr, true≢false}
 use Rattle.std.proofs.lemmas.Bool.{cases_eq, eq-eqb, ne_eqb}
-use Rattle.std.proofs.lemmas.List.Elements.{filter_map-append}
 use Rattle.std.specs.List.{filter_map, cons_option, IsDistinct, AllByRecursion}
 use Rattle.std.specs.Cmp.{IsEquivalence}
 use Rattle.std.specs.Ordering.{nat_cmp}
 use Rattle.std.specs.FinMap.{FinMap}
-use Rattle.multimap_slots.specs.Lists.{IsIn, first_of, last_of}
+use Rattle.multimap_slots.specs.Lists.{IsIn}
 use Rattle.multimap_slots.specs.Slots.{Slots, item_at, link_at}
 use Rattle.multimap_walks.specs.declared.links.KeyLink.{KeyLink}
 use Rattle.multimap_walks.specs.declared.links.ValueLink.{ValueLink}
-use Rattle.multimap_walks.specs.declared.End.TheVariants.{Front, Back}
-use Rattle.multimap_walks.specs.Walk.{item_at as end_of}
 use Rattle.multimap_walks.specs.Chained.{is_value_of, chain_of, values_at, pair_at, pairs_of}
 use Rattle.ordered_multimap.specs.Pairs.{has_items, values_of, is_present}
 use Rattle.ordered_multimap.specs.Keys.{is_listed, stored_key}
 use Rattle.ordered_multimap.specs.Agrees.{Agrees, HasKey, IsFoundBy, items_of, lists_of}
 use Rattle.ordered_multimap.proofs.Members.{IsIn-kept}
-use Rattle.ordered_multimap.proofs.PlaceLemmas.{held, length-filter_map, IsIn-filter_map, origin, begins, ends}
+use Rattle.ordered_multimap.proofs.PlaceLemmas.{held, length-filter_map, IsIn-filter_map, origin, begins}
 use Rattle.ordered_multimap.proofs.KeyLemmas.{is_listed-member, stored_key_member}
-use Rattle.ordered_multimap.proofs.LawLemmas.{item_at-push}
 use Rattle.ordered_multimap.proofs.WellFormedLemmas.{is_present-keys}
 use Rattle.ordered_multimap.proofs.AgreesLemmas.{PairAt, pair_in, is_value_of-is, well_formed}
 
@@ -138,17 +134,3 @@ module _ {K V : Type 0} {eq : K → K → Bool} (laws : IsEquivalence eq) {hash 
       ap length (values_of-chain k place has)
       ∙ length-filter_map (item_at values) (chain_of values place) (λ q i. agrees.values_sound.filled q (IsIn-kept (is_value_of values place) q values.order i).0)
       ∙ agrees.chained.length place l has.listed link_is
-
--- the ends of what stands at places
-module _ {X : Type 0} (f : ℕ → Option X) (ps : List ℕ) where
-  pub end_of-first : (q : ℕ) (x : X) → first_of ps ≡ Some q → f q ≡ Some x → end_of Front (filter_map f ps) ≡ Some x
-  end_of-first q x first is =
-      let b = begins ps q first in
-      ap (λ qs. slice_get (filter_map f qs) 0) b.is ∙ ap (λ o. slice_get (cons_option o (filter_map f b.rest)) 0) is
-
-  pub end_of-last : (q : ℕ) (x : X) → last_of ps ≡ Some q → f q ≡ Some x → end_of Back (filter_map f ps) ≡ Some x
-  end_of-last q x last is =
-      let e = ends ps q last in
-      ap (λ qs. end_of Back (filter_map f qs)) e.is
-      ∙ ap (end_of Back) (filter_map-append f e.front (q ∷ []) ∙ ap (λ o. filter_map f e.front ++ cons_option o []) is)
-      ∙ item_at-push (filter_map f e.front) x

@@ -109,19 +109,7 @@ module _ {K V : Type 0} where
   pair_named k v (p ∷ pairs) (inl here) = inl (ap (λ q. q.0) here)
   pair_named k v (p ∷ pairs) (inr later) = inr (pair_named k v pairs later)
 
--- an end of a list is a member, and only the empty list has none
+-- the last of a list is a member
 module _ {X : Type 0} (xs : List X) where
-  pub first_of-member : (x : X) → first_of xs ≡ Some x → IsIn x xs
-  first_of-member x e = subst (IsIn x) (sym (begins xs x e).is) (inl refl)
-
   pub last_of-member : (x : X) → last_of xs ≡ Some x → IsIn x xs
   last_of-member x e = let found = ends xs x e in subst (IsIn x) (sym found.is) (IsIn-right x found.front (x ∷ []) (inl refl))
-
-pub first_of-none : {X : Type 0} (xs : List X) → first_of xs ≡ None → xs ≡ []
-first_of-none [] e = refl
-first_of-none (x ∷ xs) e = absurd (cc)
-
-pub last_of-none : {X : Type 0} (xs : List X) → last_of xs ≡ None → xs ≡ []
-last_of-none [] e = refl
-last_of-none (x ∷ []) e = absurd (cc)
-last_of-none (x ∷ y ∷ ys) e = let rest : (y ∷ ys) ≡ [] = last_of-none (y ∷ ys) e in absurd (cc)

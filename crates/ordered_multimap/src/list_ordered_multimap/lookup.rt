@@ -2,7 +2,6 @@
 ghost use Rattle.std.specs.Prelude.{◌≡◌, false, length, slice_get, IfSome, IfNone, Some, option_copied, option_map};
 ghost use Rattle.multimap_slots.specs.Lists.{IsIn};
 ghost use Rattle.multimap_slots.specs.Slots.{HasSlot};
-ghost use Rattle.multimap_walks.specs.Chained.{IsChained, pair_at};
 ghost use Rattle.multimap_walks.specs.Walk.{item_at};
 ghost use Rattle.multimap_walks.specs.declared.End.TheVariants.{Front, Back};
 ghost use Rattle.ordered_multimap.specs.Pairs.{values_of, is_present};
@@ -12,7 +11,7 @@ ghost use Rattle.ordered_multimap.specs.Agrees.{HasKey, SaysWhetherEqual, IsFoun
 use super::ListOrderedMultimap;
 use multimap_slots::{Reads, SlotList};
 use multimap_table::KeyTable;
-use multimap_walks::{KeyLink, ValueLink};
+use multimap_walks::KeyLink;
 use std::alloc::Allocator;
 use std::hash::{BuildHasher, Hash};
 
@@ -53,21 +52,6 @@ pub(super) fn place_of<K: Eq, A: Allocator>(
         ensures { SaysWhetherEqual K.eq keys.entry.now key.entry.now place result }
     { is_at(keys, place, key) };
     table.find(hash, is_equal)
-}
-
-/// The pair whose value stands at the place.
-fn pair_behind<'map, K, V, A: Allocator>(
-    keys: &'map SlotList<K, KeyLink, A>,
-    values: &'map SlotList<V, ValueLink, A>,
-    place: usize,
-) -> (&'map K, &'map V)
-    requires chained { IsChained keys.now values.now }
-    requires listed { IsIn place values.now.order }
-    ensures { pair_at keys.now values.now place ≡ Some (result.0.now, result.1.now) }
-{
-    let (value, link) = slot_at(values, place);
-    let (key, _) = slot_at(keys, link.key);
-    (key, value)
 }
 
 impl<K: Eq + Hash, V, S: BuildHasher, A: Allocator> ListOrderedMultimap<K, V, S, A> {
@@ -115,19 +99,13 @@ impl<K: Eq + Hash, V, S: BuildHasher, A: Allocator> ListOrderedMultimap<K, V, S,
     pub fn front(&self) -> Option<(&K, &V)>
         ensures { option_map (λ r. (r.0.now, r.1.now)) result ≡ item_at Front self.now.lists.pairs }
     {
-        match self.values.front_place() {
-            Some(place) => Some(pair_behind(&self.keys, &self.values, place)),
-            None => None,
-        }
+        self.iter().next()
     }
 
     /// The last pair. Reads the slots of its value and of its key.
     pub fn back(&self) -> Option<(&K, &V)>
         ensures { option_map (λ r. (r.0.now, r.1.now)) result ≡ item_at Back self.now.lists.pairs }
     {
-        match self.values.back_place() {
-            Some(place) => Some(pair_behind(&self.keys, &self.values, place)),
-            None => None,
-        }
+        self.iter().next_back()
     }
 }
