@@ -56,6 +56,7 @@ pub(super) fn place_of<K: Eq, A: Allocator>(
 
 impl<K: Eq + Hash, V, S: BuildHasher, A: Allocator> ListOrderedMultimap<K, V, S, A> {
     /// The key's first value. One look-up, and the slots of the key and of that value.
+    #[inline]
     pub fn get(&self, key: &K) -> Option<&V>
         ensures { option_copied result ≡ slice_get (values_of K.eq self.now.lists.pairs key.now) 0 }
     {
@@ -71,6 +72,7 @@ impl<K: Eq + Hash, V, S: BuildHasher, A: Allocator> ListOrderedMultimap<K, V, S,
     }
 
     /// Whether the key has a value. One look-up.
+    #[inline]
     pub fn contains_key(&self, key: &K) -> bool
         ensures { result ≡ is_present K.eq self.now.lists.pairs key.now }
     {
@@ -82,6 +84,7 @@ impl<K: Eq + Hash, V, S: BuildHasher, A: Allocator> ListOrderedMultimap<K, V, S,
     }
 
     /// How many values the key has. One look-up, and the slot of the key.
+    #[inline]
     pub fn entry_len(&self, key: &K) -> usize
         ensures { result ≡ length (values_of K.eq self.now.lists.pairs key.now) }
     {

@@ -18,6 +18,7 @@ impl<K: Eq + Hash, V, S: BuildHasher, A: Allocator> ListOrderedMultimap<K, V, S,
 
     /// A walk over the key's values, in order, which is empty for an absent key. One look-up and
     /// the slot of the key; then each step reads the slot of its value, and no other.
+    #[inline]
     pub fn get_all(&self, key: &K) -> EntryValues<'_, K, V, A>
         ensures values { result.left ≡ values_of K.eq self.now.lists.pairs key.now }
         ensures reads { result.reads ≡ 0 }
