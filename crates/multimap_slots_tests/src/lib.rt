@@ -9,7 +9,7 @@ mod ample;
 #[cfg(test)]
 mod refused;
 #[cfg(test)]
-mod samples;
+mod slots;
 mod uses;
 
 pub use uses::{push_two, read_all, relink};

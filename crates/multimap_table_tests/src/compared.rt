@@ -3,12 +3,12 @@ ghost use Rattle.std.specs.Prelude.{◌≡◌, ℕ, None, slice_index_or};
 ghost use Rattle.std.specs.FinMap as map;
 
 use multimap_table::KeyTable;
-use std::alloc::{AllocError, Allocator};
+use std::alloc::{AllocError, Allocator, Global};
 use std::marker::Model;
 
 /// A table beside a plain list, which has the hash of each place that has a row.
 #[derive(Drop)]
-pub struct Compared<A: Allocator> {
+pub struct Compared<A: Allocator = Global> {
     table: KeyTable<A>,
     hashes: Vec<Option<u64>, A>,
 }

@@ -1,188 +1,345 @@
+//! Tests of the key table: against a plain list of rows, and with refused memory.
 use crate::compared::{Compared, next_random};
 use multimap_table::KeyTable;
 use refusing_allocator::RefusingAllocator;
-use std::alloc::AllocError;
+use std::alloc::{AllocError, Allocator};
+use test_helpers::{Failed, Test, expect_text, requests_until_enough};
 
-#[test]
-fn finds_a_row_by_hash_and_test(rt: HostRuntime) -> Result<(), AllocError> {
-    let mut rows = Compared::with_places(rt.alloc(), 5)?;
-    assert!(rt; rows.table().is_empty());
-    rows.reserve(3)?;
+fn agrees<A: Allocator + Copy>(test: &Test, rows: &Compared<A>) {
+    test.expect("a table like the list", rows.differences() == 0);
+}
+
+/// An empty table beside a list of so many places, with room for so many rows.
+fn with_room<A: Allocator + Copy>(
+    alloc: A,
+    places: usize,
+    room: usize,
+) -> Result<Compared<A>, AllocError> {
+    let mut rows = Compared::with_places(alloc, places)?;
+    rows.reserve(room)?;
+    Ok(rows)
+}
+
+fn rows_are_found_by_hash_and_test(test: &Test, rows: &mut Compared) {
+    test.expect("is_empty", rows.table().is_empty());
     for (hash, place) in [(7, 0), (7, 3), (9, 4)] {
-        assert!(rt; rows.insert(hash, place));
+        test.expect("insert", rows.insert(hash, place));
     }
-    assert!(rt; !rows.table().is_empty());
-    assert_eq!(rt; rows.table().find(7, |place| place == 3), Some(3));
-    assert_eq!(rt; rows.table().find(7, |place| place == 4), None);
-    assert_eq!(rt; rows.table().find(8, |_| true), None);
-    assert!(rt; rows.remove(0));
-    assert_eq!(rt; rows.table().len(), 2);
-    assert_eq!(rt; rows.table().find(7, |_| true), Some(3));
-    Ok(())
+    test.expect("not is_empty", !rows.table().is_empty());
+    let third = rows.table().find(7, |place| place == 3);
+    test.expect("the row of the place", third == Some(3));
+    let other = rows.table().find(7, |place| place == 4);
+    test.expect("a row of another hash", other.is_none());
+    test.expect("an absent hash", rows.table().find(8, |_| true).is_none());
+}
+
+fn the_other_row_stays(test: &Test, rows: &mut Compared) {
+    test.expect("remove", rows.remove(0));
+    test.expect("len", rows.table().len() == 2);
+    test.expect("the other row", rows.table().find(7, |_| true) == Some(3));
 }
 
 #[test]
-fn takes_any_hash_and_any_place(rt: HostRuntime) -> Result<(), AllocError> {
-    for (hash, place, other) in [
-        (0u64, usize::MAX, 1u64),
-        (u64::MAX, 0usize, 0),
-        (1 << 56, 1, 0),
-        (u64::MAX >> 8, usize::MAX, u64::MAX),
-    ] {
-        let mut table = KeyTable::with_capacity(rt.alloc(), 1)?;
-        table.insert(hash, place);
-        assert_eq!(rt; table.find(hash, |_| true), Some(place));
-        assert_eq!(rt; table.find(hash, |_| false), None);
-        assert_eq!(rt; table.find(other, |_| true), None);
-        assert_eq!(rt;
-            format!(in rt.alloc(); "{table:?}")?,
-            format!(in rt.alloc(); "[({hash}, {place})]")?
-        );
-        table.remove(hash, place);
-        assert_eq!(rt; table.find(hash, |_| true), None);
-        assert_eq!(rt; format!(in rt.alloc(); "{table:?}")?.as_str(), "[]");
+fn finds_a_row_by_hash_and_test(rt: HostRuntime) -> Result<(), Failed> {
+    let test = Test::new(rt.alloc());
+    match with_room(test.alloc(), 5, 3) {
+        Ok(mut rows) => {
+            rows_are_found_by_hash_and_test(&test, &mut rows);
+            the_other_row_stays(&test, &mut rows);
+        }
+        Err(_) => test.expect("memory", false),
     }
-    Ok(())
+    test.end()
+}
+
+/// Hashes, each with a place and with another hash.
+const EXTREMES: &[(u64, usize, u64)] = &[
+    (0, usize::MAX, 1),
+    (u64::MAX, 0, 0),
+    (1 << 56, 1, 0),
+    (u64::MAX >> 8, usize::MAX, u64::MAX),
+];
+
+fn expect_row(test: &Test, table: &KeyTable, row: usize, hash: u64, found: Option<usize>) {
+    test.expect_at("find", row, table.find(hash, |_| true) == found);
+    test.expect_at("none passes", row, table.find(hash, |_| false).is_none());
+}
+
+fn is_shown(test: &Test, table: &KeyTable, hash: u64, place: usize) {
+    match format!(in test.alloc(); "[({hash}, {place})]") {
+        Ok(wanted) => {
+            let shown = format!(in test.alloc(); "{table:?}");
+            expect_text(test, "shown", shown, wanted.as_str());
+        }
+        Err(_) => test.expect("memory for a text", false),
+    }
+}
+
+fn takes_a_row(test: &Test, row: usize, hash: u64, place: usize, other: u64) {
+    let Ok(mut table) = KeyTable::with_capacity(test.alloc(), 1) else {
+        test.expect("memory", false);
+        return;
+    };
+    table.insert(hash, place);
+    expect_row(test, &table, row, hash, Some(place));
+    expect_row(test, &table, row, other, None);
+    is_shown(test, &table, hash, place);
+    table.remove(hash, place);
+    expect_row(test, &table, row, hash, None);
+    expect_text(
+        test,
+        "shown empty",
+        format!(in test.alloc(); "{table:?}"),
+        "[]",
+    );
 }
 
 #[test]
-fn a_thousand_rows_of_one_hash(rt: HostRuntime) -> Result<(), AllocError> {
+fn takes_any_hash_and_any_place(rt: HostRuntime) -> Result<(), Failed> {
+    let test = Test::new(rt.alloc());
+    for (row, (hash, place, other)) in EXTREMES.iter().enumerate() {
+        takes_a_row(&test, row, *hash, *place, *other);
+    }
+    test.end()
+}
+
+fn a_thousand_are_inserted(test: &Test, rows: &mut Compared, hash: u64) {
+    for place in 0..1000usize {
+        test.expect_at("insert", place, rows.insert(hash, place));
+    }
+    agrees(test, rows);
+}
+
+fn a_thousand_are_removed(test: &Test, rows: &mut Compared) {
+    // 7 and 1000 have no common divisor, so this meets each place once.
+    for step in 0..1000usize {
+        test.expect_at("remove", step, rows.remove(step * 7 % 1000));
+        if step % 100 == 0 {
+            agrees(test, rows);
+        }
+    }
+}
+
+fn a_thousand_of_one_hash(test: &Test, rows: &mut Compared, hash: u64) {
+    let capacity = rows.table().capacity();
+    a_thousand_are_inserted(test, rows, hash);
+    a_thousand_are_removed(test, rows);
+    test.expect("is_empty", rows.table().is_empty());
+    test.expect("find", rows.table().find(hash, |_| true).is_none());
+    test.expect("capacity", rows.table().capacity() == capacity);
+}
+
+#[test]
+fn a_thousand_rows_of_one_hash(rt: HostRuntime) -> Result<(), Failed> {
+    let test = Test::new(rt.alloc());
     for hash in [0u64, 7, u64::MAX] {
-        let mut rows = Compared::with_places(rt.alloc(), 1000)?;
-        rows.reserve(1000)?;
-        let capacity = rows.table().capacity();
-        for place in 0..1000usize {
-            assert!(rt; rows.insert(hash, place));
-        }
-        assert_eq!(rt; rows.differences(), 0);
-        // 7 and 1000 have no common divisor, so this meets each place once.
-        for step in 0..1000usize {
-            assert!(rt; rows.remove(step * 7 % 1000));
-            if step % 100 == 0 {
-                assert_eq!(rt; rows.differences(), 0, "{step}");
-            }
-        }
-        assert!(rt; rows.table().is_empty());
-        assert_eq!(rt; rows.table().find(hash, |_| true), None);
-        assert_eq!(rt; rows.table().capacity(), capacity);
-    }
-    Ok(())
-}
-
-// The masks leave few different hashes, few tags, few groups to start from, or all hashes apart.
-#[test]
-fn agrees_with_a_plain_list(rt: HostRuntime) -> Result<(), AllocError> {
-    for mask in [0xF, 0xFF00_0000_0000_0007, 0x0F00_0000_0000_FFFF, u64::MAX] {
-        let mut rows = Compared::with_places(rt.alloc(), 2000)?;
-        let mut random = 88_172_645_463_325_252;
-        for round in 0..20_000usize {
-            random = next_random(random);
-            let place = (random >> 20) as usize % 2000;
-            if !rows.remove(place) {
-                rows.reserve(1)?;
-                random = next_random(random);
-                assert!(rt; rows.insert(random & mask, place));
-            }
-            if round % 4000 == 0 {
-                assert_eq!(rt; rows.differences(), 0, "{mask} {round}");
-            }
-        }
-        assert_eq!(rt; rows.differences(), 0, "{mask}");
-        let mut table = rows.into_table();
-        let capacity = table.capacity();
-        table.clear();
-        assert_eq!(rt; table.capacity(), capacity);
-        assert!(rt; table.is_empty());
-        for hash in 0..16 {
-            assert_eq!(rt; table.find(hash, |_| true), None);
+        match with_room(test.alloc(), 1000, 1000) {
+            Ok(mut rows) => a_thousand_of_one_hash(&test, &mut rows, hash),
+            Err(_) => test.expect("memory", false),
         }
     }
-    Ok(())
+    test.end()
 }
 
-#[test]
-fn a_nearly_full_table_serves_any_number_of_removals(rt: HostRuntime) -> Result<(), AllocError> {
-    let mut rows = Compared::with_places(rt.alloc(), 300_000)?;
-    rows.reserve(100_000)?;
-    let capacity = rows.table().capacity();
-    assert!(rt; capacity < 300_000);
-    let full = capacity / 10 * 9;
+// These leave few different hashes, few tags, few groups to start from, or all hashes apart.
+const MASKS: &[u64] = &[0xF, 0xFF00_0000_0000_0007, 0x0F00_0000_0000_FFFF, u64::MAX];
+
+// Takes a row out, or puts one in where the place has none.
+fn change_one(test: &Test, rows: &mut Compared, mask: u64, random: u64) {
+    let place = (random >> 20) as usize % 2000;
+    if !rows.remove(place) {
+        test.expect("reserve", rows.reserve(1).is_ok());
+        test.expect("insert", rows.insert(next_random(random) & mask, place));
+    }
+}
+
+fn change_many(test: &Test, rows: &mut Compared, mask: u64) {
     let mut random = 88_172_645_463_325_252;
-    let mut places = Vec::with_capacity(rt.alloc(), 300_000)?;
-    for place in 0..300_000usize {
-        places.push(place)?;
-        if place < full {
-            random = next_random(random);
-            assert!(rt; rows.insert(random, place));
+    for round in 0..20_000usize {
+        random = next_random(next_random(random));
+        change_one(test, rows, mask, random);
+        if round % 4000 == 0 {
+            agrees(test, rows);
         }
     }
-    assert_eq!(rt; rows.differences(), 0);
-    // The first `full` of `places` have rows. Each round gives one up for one of the others.
-    assert!(rt; 0 < full);
-    assert!(rt; full < places.len());
-    for round in 0..200_000usize {
-        random = next_random(random);
-        let from = (random >> 20) as usize % full;
-        let to = full + (random >> 40) as usize % (places.len() - full);
-        places.swap(from, to);
-        assert!(rt; rows.remove(places[to]), "{round}");
-        assert!(rt; rows.insert(random, places[from]), "{round}");
+    agrees(test, rows);
+}
+
+fn a_cleared_table_is_empty(test: &Test, table: &mut KeyTable) {
+    let capacity = table.capacity();
+    table.clear();
+    test.expect("capacity", table.capacity() == capacity);
+    test.expect("is_empty", table.is_empty());
+    for hash in 0..16 {
+        test.expect("find", table.find(hash, |_| true).is_none());
     }
-    assert_eq!(rt; rows.table().len(), full);
-    assert_eq!(rt; rows.table().capacity(), capacity);
-    assert_eq!(rt; rows.differences(), 0);
-    Ok(())
 }
 
 #[test]
-fn a_refused_growth_changes_nothing(rt: HostRuntime) -> Result<(), AllocError> {
-    let mut enough = None;
-    for granted in 0..9u64 {
-        let allocator = RefusingAllocator::new(rt.alloc(), granted);
-        let made = KeyTable::with_capacity(&allocator, 100);
-        assert_eq!(rt; made.is_err(), allocator.refused());
-        if let Ok(table) = made {
-            assert!(rt; 100 <= table.capacity());
-            assert!(rt; table.is_empty());
-            enough = Some(granted);
-            break;
+fn agrees_with_a_plain_list(rt: HostRuntime) -> Result<(), Failed> {
+    let test = Test::new(rt.alloc());
+    for mask in MASKS {
+        match Compared::with_places(test.alloc(), 2000) {
+            Ok(mut rows) => {
+                change_many(&test, &mut rows, *mask);
+                a_cleared_table_is_empty(&test, &mut rows.into_table());
+            }
+            Err(_) => test.expect("memory", false),
         }
     }
-    // One block for the tags, and one for the rows.
-    assert_eq!(rt; enough, Some(2));
+    test.end()
+}
 
-    let allocator = RefusingAllocator::unlimited(rt.alloc());
-    let mut rows = Compared::with_places(&allocator, 200)?;
-    rows.reserve(100)?;
+// Rows for the first `full` of the places.
+fn fill(test: &Test, rows: &mut Compared, full: usize) {
+    let mut random = 88_172_645_463_325_252;
+    for place in 0..full {
+        random = next_random(random);
+        test.expect_at("insert", place, rows.insert(random, place));
+    }
+    agrees(test, rows);
+}
+
+// Gives up the row of one place that has one for one that has none.
+fn exchange(test: &Test, rows: &mut Compared, places: &mut [usize], full: usize, random: u64) {
+    let count = places.len();
+    if full == 0 || full >= count {
+        test.expect("places with rows and without", false);
+        return;
+    }
+    let from = (random >> 20) as usize % full;
+    let to = full + (random >> 40) as usize % (count - full);
+    places.swap(from, to);
+    test.expect("remove", rows.remove(places[to]));
+    test.expect("insert", rows.insert(random, places[from]));
+}
+
+// The first `full` of the places have rows.
+fn exchange_many(test: &Test, rows: &mut Compared, places: &mut [usize], full: usize) {
+    let mut random = 5_364_463_325_252;
+    for _ in 0..200_000usize {
+        random = next_random(random);
+        exchange(test, rows, places, full, random);
+    }
+    agrees(test, rows);
+}
+
+fn a_nearly_full_table_serves(test: &Test, rows: &mut Compared, places: &mut [usize]) {
     let capacity = rows.table().capacity();
-    for place in 0..100usize {
-        assert!(rt; rows.insert(place as u64 % 7, place));
-    }
-    for granted in 0..2u64 {
-        allocator.grant(granted);
-        assert!(rt; rows.reserve(capacity).is_err());
-        assert_eq!(rt; rows.table().capacity(), capacity);
-        assert_eq!(rt; rows.differences(), 0);
-    }
-    assert!(rt; rows.reserve(usize::MAX).is_err());
-    assert!(rt; rows.reserve(usize::MAX - 100).is_err());
-    assert_eq!(rt; rows.differences(), 0);
+    test.expect("room for fewer than the places", capacity < places.len());
+    let full = capacity / 10 * 9;
+    fill(test, rows, full);
+    exchange_many(test, rows, places, full);
+    test.expect("len", rows.table().len() == full);
+    test.expect("capacity", rows.table().capacity() == capacity);
+}
 
-    // With all memory refused, what has room goes on.
-    allocator.refuse_all();
-    assert!(rt; KeyTable::with_capacity(&allocator, 0).is_ok());
-    assert!(rt; rows.reserve(capacity.saturating_sub(100)).is_ok());
-    assert_eq!(rt; rows.table().capacity(), capacity);
-    assert!(rt; rows.remove(50));
-    assert!(rt; rows.insert(3, 50));
-    for place in 100..capacity {
-        assert!(rt; rows.insert(3, place));
+fn all_places(test: &Test, count: usize) -> Vec<usize> {
+    let mut places = Vec::new(test.alloc());
+    for place in 0..count {
+        test.expect("memory for a place", places.push(place).is_ok());
     }
-    assert!(rt; !rows.insert(3, capacity));
-    assert_eq!(rt; rows.differences(), 0);
+    places
+}
+
+#[test]
+fn a_nearly_full_table_serves_any_number_of_removals(rt: HostRuntime) -> Result<(), Failed> {
+    let test = Test::new(rt.alloc());
+    let mut places = all_places(&test, 300_000);
+    match with_room(test.alloc(), 300_000, 100_000) {
+        Ok(mut rows) => a_nearly_full_table_serves(&test, &mut rows, &mut places),
+        Err(_) => test.expect("memory", false),
+    }
+    test.end()
+}
+
+// One table made with so many requests granted. It answers whether that was enough.
+fn make_with(test: &Test, granted: u64) -> bool {
+    let allocator = RefusingAllocator::new(test.alloc(), granted);
+    let made = KeyTable::with_capacity(&allocator, 100);
+    test.expect(
+        "refused for want of memory",
+        made.is_err() == allocator.refused(),
+    );
+    match made {
+        Ok(table) => {
+            test.expect("capacity", 100 <= table.capacity());
+            test.expect("is_empty", table.is_empty());
+            true
+        }
+        Err(_) => false,
+    }
+}
+
+#[test]
+fn a_new_table_takes_two_blocks(rt: HostRuntime) -> Result<(), Failed> {
+    let test = Test::new(rt.alloc());
+    let enough = requests_until_enough(|granted| make_with(&test, granted));
+    // One block for the tags, and one for the rows.
+    test.expect("two requests", enough == Some(2));
+    test.end()
+}
+
+type Refusing<'a> = Compared<&'a RefusingAllocator>;
+
+// One growth past the capacity with so many requests granted.
+fn grow_with(test: &Test, allocator: &RefusingAllocator, rows: &mut Refusing<'_>, granted: u64) {
+    let capacity = rows.table().capacity();
+    allocator.grant(granted);
+    test.expect("reserve", rows.reserve(capacity).is_err());
+    test.expect("capacity", rows.table().capacity() == capacity);
+    agrees(test, rows);
+}
+
+// With all memory refused, what has room goes on.
+fn room_is_used(test: &Test, allocator: &RefusingAllocator, rows: &mut Refusing<'_>) {
+    let capacity = rows.table().capacity();
+    allocator.refuse_all();
+    test.expect("no room", KeyTable::with_capacity(allocator, 0).is_ok());
+    test.expect(
+        "the room",
+        rows.reserve(capacity.saturating_sub(100)).is_ok(),
+    );
+    test.expect("capacity", rows.table().capacity() == capacity);
+    test.expect("remove", rows.remove(50));
+    test.expect("insert again", rows.insert(3, 50));
+    for place in 100..capacity {
+        test.expect_at("insert", place, rows.insert(3, place));
+    }
+    test.expect("insert into a full table", !rows.insert(3, capacity));
+    agrees(test, rows);
+}
+
+fn the_table_grows(test: &Test, allocator: &RefusingAllocator, rows: &mut Refusing<'_>) {
+    let capacity = rows.table().capacity();
     allocator.grant(2);
-    assert!(rt; rows.reserve(1).is_ok());
-    assert!(rt; capacity < rows.table().capacity());
-    assert_eq!(rt; rows.differences(), 0);
-    Ok(())
+    test.expect("reserve one", rows.reserve(1).is_ok());
+    test.expect("more room", capacity < rows.table().capacity());
+    agrees(test, rows);
+}
+
+fn growths_are_refused(test: &Test, allocator: &RefusingAllocator, rows: &mut Refusing<'_>) {
+    for place in 0..100usize {
+        test.expect("insert", rows.insert(place as u64 % 7, place));
+    }
+    grow_with(test, allocator, rows, 0);
+    grow_with(test, allocator, rows, 1);
+    test.expect("all", rows.reserve(usize::MAX).is_err());
+    test.expect("all but 100", rows.reserve(usize::MAX - 100).is_err());
+    agrees(test, rows);
+}
+
+#[test]
+fn a_refused_growth_changes_nothing(rt: HostRuntime) -> Result<(), Failed> {
+    let test = Test::new(rt.alloc());
+    let allocator = RefusingAllocator::unlimited(test.alloc());
+    match with_room(&allocator, 200, 100) {
+        Ok(mut rows) => {
+            growths_are_refused(&test, &allocator, &mut rows);
+            room_is_used(&test, &allocator, &mut rows);
+            the_table_grows(&test, &allocator, &mut rows);
+        }
+        Err(_) => test.expect("memory", false),
+    }
+    test.end()
 }

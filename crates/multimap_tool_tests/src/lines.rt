@@ -1,186 +1,201 @@
 //! Lines in, lines out.
 use multimap_tool::execute::execute;
 use multimap_tool::faults::ToolFault;
-use std::alloc::Global;
-use std::test::Fail;
+use std::alloc::AllocError;
+use test_helpers::{Failed, Test};
 
-/// What is written for an input, and how it ended.
-fn answered(alloc: Global, input: &[u8]) -> (Vec<u8>, Result<(), ToolFault>) {
-    let mut output = Vec::new(alloc);
+/// Runs an input, and expects what is written for it and how that ended.
+fn expect_answer(test: &Test, row: usize, input: &[u8], written: &[u8], ended: Option<ToolFault>) {
+    let mut output = Vec::new(test.alloc());
     let mut rest = input;
-    let ended = execute(alloc, &mut rest, &mut output);
-    (output, ended)
+    let fault = execute(test.alloc(), &mut rest, &mut output).err();
+    test.expect_at("the end", row, fault == ended);
+    test.expect_at("what is written", row, output.as_slice() == written);
 }
 
+/// Texts with what is written for them.
+const GOOD: &[(&str, &str)] = &[
+    // The stored run.
+    (
+        "append 1 1\nappend 2 2\nappend 2 3\nappend 1 4\npairs\nall 1\nget 2\nget 3\n",
+        "new\nnew\nmore\nmore\n1:1 2:2 2:3 1:4\n1 4\n2\nnone\n",
+    ),
+    // A walk of four values from both ends, and one step past its end.
+    (
+        "append 1 1\nappend 1 2\nappend 1 3\nappend 1 4\nwalk 1 fbfbf\n",
+        "new\nmore\nmore\nmore\n1 4 2 3 -\n",
+    ),
+    // Walks of pairs, and of an absent key.
+    (
+        "append 1 5\nappend 1 6\nwalkpairs bfb\nall 2\nwalk 2 fb\n",
+        "new\nmore\n1:6 1:5 -\nempty\n- -\n",
+    ),
+    // A last line without a line feed, and no line at all.
+    ("get 1", "none\n"),
+    ("", ""),
+    ("pairs\nwalkpairs f", "empty\n-\n"),
+    // The greatest and the least numbers.
+    (
+        "append 4294967295 -9223372036854775808\nappend 4294967295 9223372036854775807\nall 4294967295\n",
+        "new\nmore\n-9223372036854775808 9223372036854775807\n",
+    ),
+    ("append 0 0\npairs\n", "new\n0:0\n"),
+    // Look-ups of a key, the ends, and the lengths.
+    (
+        "append 1 1\nappend 2 2\nappend 1 3\nfront\nback\nlen 1\nhas 3\nlengths\n",
+        "new\nnew\nmore\n1:1\n1:3\n2\nno\n2 3\n",
+    ),
+    (
+        "front\nback\nhas 1\nlen 1\nlengths\nappend 1 -7\nhas 1\nfront\nback\n",
+        "none\nnone\nno\n0\n0 0\nnew\nyes\n1:-7\n1:-7\n",
+    ),
+];
+
 #[test]
-fn commands_are_answered_line_by_line(rt: HostRuntime) {
-    let runs = [
-        // The stored run.
-        (
-            "append 1 1\nappend 2 2\nappend 2 3\nappend 1 4\npairs\nall 1\nget 2\nget 3\n",
-            "new\nnew\nmore\nmore\n1:1 2:2 2:3 1:4\n1 4\n2\nnone\n",
-        ),
-        // A walk of four values from both ends, and one step past its end.
-        (
-            "append 1 1\nappend 1 2\nappend 1 3\nappend 1 4\nwalk 1 fbfbf\n",
-            "new\nmore\nmore\nmore\n1 4 2 3 -\n",
-        ),
-        // Walks of pairs, and of an absent key.
-        (
-            "append 1 5\nappend 1 6\nwalkpairs bfb\nall 2\nwalk 2 fb\n",
-            "new\nmore\n1:6 1:5 -\nempty\n- -\n",
-        ),
-        // A last line without a line feed, and no line at all.
-        ("get 1", "none\n"),
-        ("", ""),
-        ("pairs\nwalkpairs f", "empty\n-\n"),
-        // The greatest and the least numbers.
-        (
-            "append 4294967295 -9223372036854775808\nappend 4294967295 9223372036854775807\nall 4294967295\n",
-            "new\nmore\n-9223372036854775808 9223372036854775807\n",
-        ),
-        ("append 0 0\npairs\n", "new\n0:0\n"),
-        // Look-ups of a key, the ends, and the lengths.
-        (
-            "append 1 1\nappend 2 2\nappend 1 3\nfront\nback\nlen 1\nhas 3\nlengths\n",
-            "new\nnew\nmore\n1:1\n1:3\n2\nno\n2 3\n",
-        ),
-        (
-            "front\nback\nhas 1\nlen 1\nlengths\nappend 1 -7\nhas 1\nfront\nback\n",
-            "none\nnone\nno\n0\n0 0\nnew\nyes\n1:-7\n1:-7\n",
-        ),
-    ];
-    for (input, expected) in runs {
-        let (output, ended) = answered(rt.alloc(), input.as_bytes());
-        assert_eq!(rt; output.as_slice(), expected.as_bytes(), "after {input:?}");
-        assert_eq!(rt; ended, Ok(()), "after {input:?}");
+fn commands_are_answered_line_by_line(rt: HostRuntime) -> Result<(), Failed> {
+    let test = Test::new(rt.alloc());
+    for (row, (input, written)) in GOOD.iter().enumerate() {
+        expect_answer(&test, row, input.as_bytes(), written.as_bytes(), None);
     }
+    test.end()
 }
 
+/// Texts with the number of their first bad line. Nothing is written for them.
+const BAD: &[(&str, u64)] = &[
+    // A run that ends in a line with a missing operand.
+    ("append 1 1\nappend 1", 2),
+    // Numbers one past each limit, and in another spelling.
+    ("append 4294967296 1\n", 1),
+    ("append 1 9223372036854775808\n", 1),
+    ("append 1 -9223372036854775809\n", 1),
+    ("get 4294967296\n", 1),
+    ("get 18446744073709551617\n", 1),
+    ("append 1 -0\n", 1),
+    ("append 1 +1\n", 1),
+    ("append +1 1\n", 1),
+    ("append -1 1\n", 1),
+    ("append 1 01\n", 1),
+    ("append 1 -01\n", 1),
+    ("append 01 1\n", 1),
+    ("get 00\n", 1),
+    ("append 1 -\n", 1),
+    ("append 1 1.0\n", 1),
+    ("append 1 --1\n", 1),
+    ("get 0x1\n", 1),
+    ("get 1_0\n", 1),
+    // Spaces.
+    ("get  1\n", 1),
+    (" get 1\n", 1),
+    ("get 1 \n", 1),
+    ("pairs \n", 1),
+    ("append 1  1\n", 1),
+    ("append  1 1\n", 1),
+    ("append 1 1 \n", 1),
+    ("walk 1 f b\n", 1),
+    ("get\t1\n", 1),
+    ("get 1\r\n", 1),
+    ("pairs\r\n", 1),
+    (" \n", 1),
+    // Lines with nothing in them.
+    ("\n", 1),
+    ("pairs\n\npairs\n", 2),
+    ("pairs\n\n", 2),
+    // Words.
+    ("Get 1\n", 1),
+    ("GET 1\n", 1),
+    ("pair\n", 1),
+    ("pairss\n", 1),
+    ("unknown\n", 1),
+    ("pairs\nget 1\nunknown 1\nunknown 2\n", 3),
+    // Missing and extra operands.
+    ("append\n", 1),
+    ("append 1\n", 1),
+    ("append \n", 1),
+    ("append 1 2 3\n", 1),
+    ("get\n", 1),
+    ("get \n", 1),
+    ("get 1 2\n", 1),
+    ("all\n", 1),
+    ("all 1 f\n", 1),
+    ("walk 1\n", 1),
+    ("walk f\n", 1),
+    ("pairs 1\n", 1),
+    ("walkpairs\n", 1),
+    ("walkpairs f f\n", 1),
+    ("front 1\n", 1),
+    ("back \n", 1),
+    ("lengths 1\n", 1),
+    ("length\n", 1),
+    ("has\n", 1),
+    ("has -1\n", 1),
+    ("has 1 2\n", 1),
+    ("len\n", 1),
+    ("len 1 \n", 1),
+    // Walks by no letter, and by another one.
+    ("walk 1 \n", 1),
+    ("walkpairs \n", 1),
+    ("walk 1 fx\n", 1),
+    ("walk 1 F\n", 1),
+    ("walkpairs fbB\n", 1),
+    // Commands that the program doesn't have.
+    ("clear\n", 1),
+    ("json\n", 1),
+    // A NUL.
+    ("get 1\0\n", 1),
+    ("\0\n", 1),
+    ("pairs\0", 1),
+    // Text beyond ASCII.
+    ("get \u{0661}\n", 1),
+    ("p\u{e4}irs\n", 1),
+];
+
 #[test]
-fn the_first_bad_line_is_told_and_nothing_is_written(rt: HostRuntime) {
-    let inputs = [
-        // A run that ends in a line with a missing operand.
-        ("append 1 1\nappend 1", 2),
-        // Numbers one past each limit, and in another spelling.
-        ("append 4294967296 1\n", 1),
-        ("append 1 9223372036854775808\n", 1),
-        ("append 1 -9223372036854775809\n", 1),
-        ("get 4294967296\n", 1),
-        ("get 18446744073709551617\n", 1),
-        ("append 1 -0\n", 1),
-        ("append 1 +1\n", 1),
-        ("append +1 1\n", 1),
-        ("append -1 1\n", 1),
-        ("append 1 01\n", 1),
-        ("append 1 -01\n", 1),
-        ("append 01 1\n", 1),
-        ("get 00\n", 1),
-        ("append 1 -\n", 1),
-        ("append 1 1.0\n", 1),
-        ("append 1 --1\n", 1),
-        ("get 0x1\n", 1),
-        ("get 1_0\n", 1),
-        // Spaces.
-        ("get  1\n", 1),
-        (" get 1\n", 1),
-        ("get 1 \n", 1),
-        ("pairs \n", 1),
-        ("append 1  1\n", 1),
-        ("append  1 1\n", 1),
-        ("append 1 1 \n", 1),
-        ("walk 1 f b\n", 1),
-        ("get\t1\n", 1),
-        ("get 1\r\n", 1),
-        ("pairs\r\n", 1),
-        (" \n", 1),
-        // Lines with nothing in them.
-        ("\n", 1),
-        ("pairs\n\npairs\n", 2),
-        ("pairs\n\n", 2),
-        // Words.
-        ("Get 1\n", 1),
-        ("GET 1\n", 1),
-        ("pair\n", 1),
-        ("pairss\n", 1),
-        ("unknown\n", 1),
-        ("pairs\nget 1\nunknown 1\nunknown 2\n", 3),
-        // Missing and extra operands.
-        ("append\n", 1),
-        ("append 1\n", 1),
-        ("append \n", 1),
-        ("append 1 2 3\n", 1),
-        ("get\n", 1),
-        ("get \n", 1),
-        ("get 1 2\n", 1),
-        ("all\n", 1),
-        ("all 1 f\n", 1),
-        ("walk 1\n", 1),
-        ("walk f\n", 1),
-        ("pairs 1\n", 1),
-        ("walkpairs\n", 1),
-        ("walkpairs f f\n", 1),
-        ("front 1\n", 1),
-        ("back \n", 1),
-        ("lengths 1\n", 1),
-        ("length\n", 1),
-        ("has\n", 1),
-        ("has -1\n", 1),
-        ("has 1 2\n", 1),
-        ("len\n", 1),
-        ("len 1 \n", 1),
-        // Walks by no letter, and by another one.
-        ("walk 1 \n", 1),
-        ("walkpairs \n", 1),
-        ("walk 1 fx\n", 1),
-        ("walk 1 F\n", 1),
-        ("walkpairs fbB\n", 1),
-        // Commands that the program doesn't have.
-        ("clear\n", 1),
-        ("json\n", 1),
-        // A NUL.
-        ("get 1\0\n", 1),
-        ("\0\n", 1),
-        ("pairs\0", 1),
-        // Text beyond ASCII.
-        ("get \u{0661}\n", 1),
-        ("p\u{e4}irs\n", 1),
-    ];
-    for (input, line) in inputs {
-        let (output, ended) = answered(rt.alloc(), input.as_bytes());
-        assert_eq!(rt; ended, Err(ToolFault::BadLine(line)), "after {input:?}");
-        assert!(rt; output.is_empty(), "after {input:?}");
+fn the_first_bad_line_is_told_and_nothing_is_written(rt: HostRuntime) -> Result<(), Failed> {
+    let test = Test::new(rt.alloc());
+    for (row, (input, line)) in BAD.iter().enumerate() {
+        let fault = Some(ToolFault::BadLine(*line));
+        expect_answer(&test, row, input.as_bytes(), &[], fault);
     }
+    test.end()
 }
 
+/// Bytes that are no text.
+const BYTES: &[&[u8]] = &[
+    b"\xff\n",
+    b"get \xff\n",
+    b"append 1 \x80\n",
+    b"walk 1 f\xc3\n",
+    b"get 1\xe2\x82\n",
+];
+
 #[test]
-fn bytes_that_are_no_text_are_a_bad_line(rt: HostRuntime) {
-    let inputs: [&[u8]; 5] = [
-        b"\xff\n",
-        b"get \xff\n",
-        b"append 1 \x80\n",
-        b"walk 1 f\xc3\n",
-        b"get 1\xe2\x82\n",
-    ];
-    for input in inputs {
-        let (output, ended) = answered(rt.alloc(), input);
-        assert_eq!(rt; ended, Err(ToolFault::BadLine(1)), "after {input:?}");
-        assert!(rt; output.is_empty(), "after {input:?}");
+fn bytes_that_are_no_text_are_a_bad_line(rt: HostRuntime) -> Result<(), Failed> {
+    let test = Test::new(rt.alloc());
+    for (row, input) in BYTES.iter().enumerate() {
+        expect_answer(&test, row, input, &[], Some(ToolFault::BadLine(1)));
     }
+    test.end()
 }
 
-#[test]
-fn a_long_line_is_read_whole(rt: HostRuntime) -> Result<(), Fail> {
-    let mut input = String::from_str(rt.alloc(), "append 1 7\nwalk 1 ")?;
-    let mut expected = String::from_str(rt.alloc(), "new\n7")?;
+/// A walk of a hundred thousand steps from the back and one from the front, over one value.
+fn add_long_line(input: &mut String, written: &mut String) -> Result<(), AllocError> {
+    input.push_str("append 1 7\nwalk 1 ")?;
+    written.push_str("new\n7")?;
     for _ in 0..100000u32 {
         input.push('b')?;
-        expected.push_str(" -")?;
+        written.push_str(" -")?;
     }
     input.push_str("f\n")?;
-    expected.push('\n')?;
-    let (output, ended) = answered(rt.alloc(), input.as_bytes());
-    assert_eq!(rt; ended, Ok(()));
-    assert!(rt; output.as_slice() == expected.as_bytes());
+    written.push('\n')?;
     Ok(())
+}
+
+#[test]
+fn a_long_line_is_read_whole(rt: HostRuntime) -> Result<(), Failed> {
+    let test = Test::new(rt.alloc());
+    let mut input = String::new(test.alloc());
+    let mut written = String::new(test.alloc());
+    test.expect("memory", add_long_line(&mut input, &mut written).is_ok());
+    expect_answer(&test, 0, input.as_bytes(), written.as_bytes(), None);
+    test.end()
 }

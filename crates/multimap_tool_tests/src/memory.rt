@@ -1,4 +1,5 @@
 //! Requests for memory that are refused, one after the other.
+use crate::plain::PlainMap;
 use multimap_tool::commands::{Command, Ends};
 use multimap_tool::execute::execute;
 use multimap_tool::faults::{TextFault, ToolFault};
@@ -10,214 +11,254 @@ use ordered_multimap::ListOrderedMultimap;
 use ordered_multimap::list_ordered_multimap::DefaultState;
 use refusing_allocator::RefusingAllocator;
 use std::alloc::{AllocError, Allocator, Global};
-use std::test::Fail;
+use test_helpers::{Failed, Test, requests_until_enough};
 
+/// Commands of which the additions and the lists may find no memory.
 const INPUT: &str = "append 1 1\nappend 2 2\nappend 2 3\nappend 1 4\npairs\nall 1\nget 2\nget 3\n";
 
-/// The pairs that the first commands of the input append.
-const PAIRS: [(u32, i64); 4] = [(1, 1), (2, 2), (2, 3), (1, 4)];
+/// Whether the reply, but for its line feed, stands in the line.
+fn is_text_of(alloc: Global, reply: Reply<u32, i64>, line: &str) -> bool {
+    let replies = [reply];
+    match format_replies(alloc, &replies) {
+        Ok(text) => text.as_slice().strip_suffix(b"\n") == Some(line.as_bytes()),
+        Err(_) => false,
+    }
+}
 
-/// More requests than any call here makes.
-const MANY: u64 = 99;
+/// Whether the command may be answered by want of memory: an addition, or a list of some item.
+fn may_lack(alloc: Global, plain: &mut PlainMap, command: &Command<u32, i64>) -> bool {
+    match command {
+        Command::Append(_, _) => true,
+        Command::All(_, _) | Command::Pairs(_) => match plain.answer(alloc, command) {
+            Ok(reply) => !is_text_of(alloc, reply, "empty"),
+            Err(_) => false,
+        },
+        _ => false,
+    }
+}
 
-/// What each line says if the additions that found no memory are left out.
-fn expected_lines(
+/// Whether a line answers the command as a plain map does, or lacks memory where it may.
+fn line_answers(
     alloc: Global,
-    appended: &Vec<(u32, i64)>,
-    replies: &Vec<&str>,
-) -> Result<Vec<String>, AllocError> {
-    let mut present = Vec::new(alloc);
-    let mut lines = Vec::new(alloc);
-    let mut pairs = String::new(alloc);
-    let mut values = String::new(alloc);
-    let mut second = String::from_str(alloc, "none")?;
-    for (key, value) in PAIRS {
-        if !appended.contains(&(key, value)) {
-            lines.push(String::from_str(alloc, "no memory")?)?;
-            continue;
-        }
-        let reply = if present.contains(&key) {
-            "more"
-        } else {
-            "new"
-        };
-        lines.push(String::from_str(alloc, reply)?)?;
-        if !pairs.is_empty() {
-            pairs.push(' ')?;
-        }
-        write!(pairs, "{key}:{value}")?;
-        if key == 1 {
-            if !values.is_empty() {
-                values.push(' ')?;
-            }
-            write!(values, "{value}")?;
-        } else if !present.contains(&key) {
-            second = value.to_string(alloc)?;
-        }
-        present.push(key)?;
+    plain: &mut PlainMap,
+    command: &Command<u32, i64>,
+    line: &str,
+) -> bool {
+    if line == "no memory" {
+        return may_lack(alloc, plain, command);
     }
-    for (list, reply) in [(pairs, replies.get(4)), (values, replies.get(5))] {
-        let refused = !list.is_empty() && reply == Some(&"no memory");
-        if refused {
-            lines.push(String::from_str(alloc, "no memory")?)?;
-        } else if list.is_empty() {
-            lines.push(String::from_str(alloc, "empty")?)?;
-        } else {
-            lines.push(list)?;
+    match plain.answer(alloc, command) {
+        Ok(reply) => is_text_of(alloc, reply, line),
+        Err(_) => false,
+    }
+}
+
+fn lines_answer(test: &Test, plain: &mut PlainMap, commands: &[Command<u32, i64>], text: &str) {
+    let mut lines = 0;
+    for (row, (command, line)) in commands.iter().zip(text.lines()).enumerate() {
+        test.expect_at(
+            "line",
+            row,
+            line_answers(test.alloc(), plain, command, line),
+        );
+        lines = row;
+    }
+    test.expect("eight lines", lines == 7);
+}
+
+fn output_answers(test: &Test, output: &[u8]) {
+    let mut plain = PlainMap::new(test.alloc());
+    match (
+        parse_commands(test.alloc(), INPUT.as_bytes()),
+        str::from_utf8(output),
+    ) {
+        (Ok(commands), Ok(text)) => lines_answer(test, &mut plain, &commands, text),
+        _ => test.expect("commands and text", false),
+    }
+}
+
+fn ends_well(test: &Test, output: &[u8], ended: Result<(), ToolFault>) {
+    match ended {
+        Ok(()) => output_answers(test, output),
+        Err(fault) => {
+            test.expect("out of memory", fault == ToolFault::OutOfMemory);
+            test.expect("nothing is written", output.is_empty());
         }
     }
-    lines.push(second)?;
-    lines.push(String::from_str(alloc, "none")?)?;
-    Ok(lines)
+}
+
+fn execute_with(test: &Test, granted: u64) -> bool {
+    let allocator = RefusingAllocator::new(test.alloc(), granted);
+    let mut output = Vec::new(test.alloc());
+    let mut input = INPUT.as_bytes();
+    let ended = execute(&allocator, &mut input, &mut output);
+    ends_well(test, &output, ended);
+    !allocator.refused()
 }
 
 #[test]
-fn a_run_without_memory_writes_nothing_or_says_where(rt: HostRuntime) -> Result<(), Fail> {
-    let mut enough = None;
-    for granted in 0..MANY {
-        let allocator = RefusingAllocator::new(rt.alloc(), granted);
-        let mut output = Vec::new(rt.alloc());
-        let mut input = INPUT.as_bytes();
-        match execute(&allocator, &mut input, &mut output) {
-            Ok(()) => {
-                let text = str::from_utf8(output.as_slice())?;
-                let mut replies = Vec::new(rt.alloc());
-                for line in text.lines() {
-                    replies.push(line)?;
-                }
-                let mut appended = Vec::new(rt.alloc());
-                for (pair, reply) in PAIRS.iter().zip(replies.iter()) {
-                    if *reply != "no memory" {
-                        appended.push(*pair)?;
-                    }
-                }
-                let expected = expected_lines(rt.alloc(), &appended, &replies)?;
-                assert_eq!(rt; replies.len(), 8, "{granted} requests");
-                for (reply, line) in replies.iter().zip(expected.iter()) {
-                    assert_eq!(rt; *reply, line.as_str(), "{granted} requests");
-                }
-            }
-            Err(fault) => {
-                assert_eq!(rt; fault, ToolFault::OutOfMemory, "{granted} requests");
-                assert!(rt; output.is_empty(), "{granted} requests");
-            }
-        }
-        if !allocator.refused() {
-            enough = Some(granted);
-            break;
-        }
-    }
-    assert!(rt; enough.is_some());
-    Ok(())
+fn a_run_without_memory_writes_nothing_or_says_where(rt: HostRuntime) -> Result<(), Failed> {
+    let test = Test::new(rt.alloc());
+    let enough = requests_until_enough(|granted| execute_with(&test, granted));
+    test.expect("some requests are wanted", enough.unwrap_or(0) > 0);
+    test.end()
 }
 
-/// The commands of a run whose replies list items, and of one whose replies don't.
-fn commands<A: Allocator + Copy>(alloc: A) -> Result<Vec<Command<u32, i64, A>, A>, AllocError> {
-    let mut commands = Vec::new(alloc);
+type Commands<A> = Vec<Command<u32, i64, A>, A>;
+
+fn add_lists<A: Allocator + Copy>(alloc: A, commands: &mut Commands<A>) -> Result<(), AllocError> {
     commands.push(Command::Append(1, 1))?;
     commands.push(Command::All(1, Ends::Forward))?;
+    commands.push(Command::Pairs(Ends::Forward))?;
     commands.push(Command::All(2, Ends::Forward))?;
     commands.push(Command::All(1, Ends::Word(Vec::new(alloc))))?;
     commands.push(Command::Pairs(Ends::Word(Vec::new(alloc))))?;
+    Ok(())
+}
+
+fn add_look_ups<A: Allocator + Copy>(commands: &mut Commands<A>) -> Result<(), AllocError> {
     commands.push(Command::Get(1))?;
-    commands.push(Command::Pairs(Ends::Forward))?;
     commands.push(Command::Has(1))?;
     commands.push(Command::Len(1))?;
     commands.push(Command::Front)?;
     commands.push(Command::Back)?;
     commands.push(Command::Lengths)?;
-    Ok(commands)
-}
-
-#[test]
-fn only_additions_and_listed_items_find_no_memory(rt: HostRuntime) -> Result<(), Fail> {
-    let mut enough = None;
-    for granted in 0..MANY {
-        let allocator = RefusingAllocator::unlimited(rt.alloc());
-        let commands = commands(&allocator)?;
-        let mut map: ListOrderedMultimap<u32, i64, DefaultState, _> = ListOrderedMultimap::new(
-            &allocator,
-        );
-        allocator.grant(granted);
-        match run(&allocator, &mut map, &commands, |_, _, _| true) {
-            Ok(replies) => {
-                assert_eq!(rt; replies.len(), commands.len());
-                let appended = replies.get(0) == Some(&Reply::Appended(false));
-                assert!(rt; appended || replies.get(0) == Some(&Reply::NoMemory));
-                let count = usize::from(appended);
-                assert_eq!(rt; map.values_len(), count);
-                let value = if appended { Some(1) } else { None };
-                assert_eq!(rt; replies.get(5), Some(&Reply::Value(value)));
-                let pair = if appended { Some((1, 1)) } else { None };
-                assert_eq!(rt; replies.get(7), Some(&Reply::Truth(appended)));
-                assert_eq!(rt; replies.get(8), Some(&Reply::Count(count)));
-                assert_eq!(rt; replies.get(9), Some(&Reply::Pair(pair)));
-                assert_eq!(rt; replies.get(10), Some(&Reply::Pair(pair)));
-                assert_eq!(rt; replies.get(11), Some(&Reply::Counts(count, count)));
-                for (place, reply) in replies.iter().enumerate() {
-                    let lists = appended && (place == 1 || place == 6);
-                    let may_refuse = lists || place == 0;
-                    assert!(rt;
-                        may_refuse || *reply != Reply::NoMemory,
-                        "{granted} {place}"
-                    );
-                }
-            }
-            Err(_) => {
-                assert!(rt; map.is_empty());
-                assert_eq!(rt; map.get(&1), None);
-            }
-        }
-        if !allocator.refused() {
-            enough = Some(granted);
-            break;
-        }
-    }
-    assert!(rt; enough.is_some());
     Ok(())
 }
 
-#[test]
-fn commands_without_memory_are_no_bad_line(rt: HostRuntime) {
-    // The last line is bad, so it is told once there is memory.
-    for (input, ample) in [
-        ("pairs\nwalk 1 fbf\nwalkpairs b\n", None),
-        ("walk 1 f\nget\n", Some(2)),
-    ] {
-        let mut enough = None;
-        for granted in 0..MANY {
-            let allocator = RefusingAllocator::new(rt.alloc(), granted);
-            let result = parse_commands(&allocator, input.as_bytes());
-            let fault = result.err();
-            if !allocator.refused() {
-                assert_eq!(rt; fault, ample.map(|line| TextFault::BadLine(line)));
-                enough = Some(granted);
-                break;
-            }
-            assert_eq!(rt; fault, Some(TextFault::OutOfMemory), "{granted} requests");
+type Refused<'a> = Reply<u32, i64, &'a RefusingAllocator>;
+
+/// Which of the commands above find no memory: the first three alone.
+fn only_additions_and_lists_lack(test: &Test, replies: &[Refused<'_>]) {
+    test.expect("a reply a command", replies.len() == 12);
+    for (row, reply) in replies.iter().enumerate() {
+        test.expect_at("memory", row, row < 3 || *reply != Reply::NoMemory);
+    }
+}
+
+/// Whether the reply in this row is that of its look-up, whether or not the pair was appended.
+fn look_up_answers(row: usize, reply: &Refused<'_>, appended: bool) -> bool {
+    let count = usize::from(appended);
+    match (row, reply) {
+        (6, Reply::Value(value)) => *value == if appended { Some(1) } else { None },
+        (7, Reply::Truth(present)) => *present == appended,
+        (8, Reply::Count(values)) => *values == count,
+        (9 | 10, Reply::Pair(pair)) => *pair == if appended { Some((1, 1)) } else { None },
+        (11, Reply::Counts(keys, values)) => *keys == count && *values == count,
+        _ => false,
+    }
+}
+
+fn look_ups_answer(test: &Test, replies: &[Refused<'_>], appended: bool) {
+    for (row, reply) in replies.iter().enumerate() {
+        let answers = row < 6 || look_up_answers(row, reply, appended);
+        test.expect_at("look-up", row, answers);
+    }
+}
+
+fn is_appended(replies: &[Refused<'_>]) -> bool {
+    match replies.first() {
+        Some(Reply::Appended(present)) => !*present,
+        _ => false,
+    }
+}
+
+type Refusing<'a> = ListOrderedMultimap<u32, i64, DefaultState, &'a RefusingAllocator>;
+
+fn run_in<'a>(
+    test: &Test,
+    allocator: &'a RefusingAllocator,
+    map: &mut Refusing<'a>,
+    commands: &Commands<&'a RefusingAllocator>,
+) {
+    match run(allocator, map, commands, |_, _, _| true) {
+        Ok(replies) => {
+            let appended = is_appended(&replies);
+            test.expect("values_len", map.values_len() == usize::from(appended));
+            only_additions_and_lists_lack(test, &replies);
+            look_ups_answer(test, &replies, appended);
         }
-        assert!(rt; enough.is_some());
+        Err(_) => test.expect("nothing was done", map.is_empty()),
+    }
+}
+
+fn run_with(test: &Test, granted: u64) -> bool {
+    let allocator = RefusingAllocator::unlimited(test.alloc());
+    let mut commands = Vec::new(&allocator);
+    let mut map = ListOrderedMultimap::new(&allocator);
+    let added = add_lists(&allocator, &mut commands).is_ok() && add_look_ups(&mut commands).is_ok();
+    test.expect("memory for commands", added);
+    allocator.grant(granted);
+    run_in(test, &allocator, &mut map, &commands);
+    !allocator.refused()
+}
+
+#[test]
+fn only_additions_and_listed_items_find_no_memory(rt: HostRuntime) -> Result<(), Failed> {
+    let test = Test::new(rt.alloc());
+    let enough = requests_until_enough(|granted| run_with(&test, granted));
+    test.expect("some requests are wanted", enough.unwrap_or(0) > 0);
+    test.end()
+}
+
+/// Parses with so many requests granted: the fault is want of memory until there is enough.
+fn parse_with(test: &Test, input: &str, ample: Option<TextFault>, granted: u64) -> bool {
+    let allocator = RefusingAllocator::new(test.alloc(), granted);
+    let fault = parse_commands(&allocator, input.as_bytes()).err();
+    let is_enough = !allocator.refused();
+    let wanted = if is_enough {
+        ample
+    } else {
+        Some(TextFault::OutOfMemory)
+    };
+    test.expect("fault", fault == wanted);
+    is_enough
+}
+
+#[test]
+fn commands_without_memory_are_no_bad_line(rt: HostRuntime) -> Result<(), Failed> {
+    let test = Test::new(rt.alloc());
+    let good = "pairs\nwalk 1 fbf\nwalkpairs b\n";
+    let enough = requests_until_enough(|granted| parse_with(&test, good, None, granted));
+    test.expect("some requests are wanted", enough.unwrap_or(0) > 0);
+    test.end()
+}
+
+#[test]
+fn a_bad_line_is_told_once_there_is_memory(rt: HostRuntime) -> Result<(), Failed> {
+    let test = Test::new(rt.alloc());
+    let bad = "walk 1 f\nget\n";
+    let second = Some(TextFault::BadLine(2));
+    let enough = requests_until_enough(|granted| parse_with(&test, bad, second, granted));
+    test.expect("some requests are wanted", enough.unwrap_or(0) > 0);
+    test.end()
+}
+
+fn format_with(test: &Test, granted: u64) -> bool {
+    let allocator = RefusingAllocator::new(test.alloc(), granted);
+    let replies: [Refused<'_>; 4] = [
+        Reply::Value(Some(1000)),
+        Reply::Counts(2000000000, 3000000000),
+        Reply::Value(Some(4000000000000)),
+        Reply::Pair(Some((5, 6000000000000))),
+    ];
+    match format_replies(&allocator, &replies) {
+        Ok(text) => {
+            let wanted = "1000\n2000000000 3000000000\n4000000000000\n5:6000000000000\n";
+            test.expect("text", text.as_slice() == wanted.as_bytes());
+            true
+        }
+        Err(_) => {
+            test.expect("refused for want of memory", allocator.refused());
+            false
+        }
     }
 }
 
 #[test]
-fn a_text_without_memory_is_refused(rt: HostRuntime) -> Result<(), Fail> {
-    let allocator = RefusingAllocator::unlimited(rt.alloc());
-    let mut replies = Vec::new(&allocator);
-    for value in [0i64, 1000, 2000, 3000, 4000, 5000, 6000, 7000, 8000] {
-        replies.push(Reply::Value(Some(value)))?;
-    }
-    let mut enough = None;
-    for granted in 0..MANY {
-        allocator.grant(granted);
-        if let Ok(text) = format_replies(&allocator, &replies) {
-            let expected = "0\n1000\n2000\n3000\n4000\n5000\n6000\n7000\n8000\n";
-            assert_eq!(rt; text.as_slice(), expected.as_bytes());
-            enough = Some(granted);
-            break;
-        }
-        assert_eq!(rt; allocator.granted(), 0);
-    }
-    assert!(rt; enough.is_some());
-    Ok(())
+fn a_text_without_memory_is_refused(rt: HostRuntime) -> Result<(), Failed> {
+    let test = Test::new(rt.alloc());
+    let enough = requests_until_enough(|granted| format_with(&test, granted));
+    test.expect("some requests are wanted", enough.unwrap_or(0) > 0);
+    test.end()
 }

@@ -3,6 +3,7 @@ use multimap_tool::execute::execute;
 use multimap_tool::faults::ToolFault;
 use std::io;
 use std::io::{Error, ErrorKind, Read, Write};
+use test_helpers::{Failed, Test, requests_until_enough};
 
 const INPUT: &[u8] =
     b"append 1 1\nappend 2 2\nappend 2 3\nappend 1 4\npairs\nall 1\nget 2\nget 3\n";
@@ -13,7 +14,7 @@ const OUTPUT: &[u8] = b"new\nnew\nmore\nmore\n1:1 2:2 2:3 1:4\n1 4\n2\nnone\n";
 #[derive(Drop)]
 struct FailingReader<'a> {
     rest: &'a [u8],
-    reads_before: u32,
+    reads_before: u64,
     kind: ErrorKind,
     failed: bool,
 }
@@ -44,7 +45,7 @@ enum Trouble {
 #[derive(Drop)]
 struct FailingWriter {
     taken: Vec<u8>,
-    writes_before: u32,
+    writes_before: u64,
     trouble: Trouble,
     met: bool,
 }
@@ -71,86 +72,106 @@ impl Write for FailingWriter {
     }
 }
 
-#[test]
-fn a_failed_read_is_told_and_nothing_is_written(rt: HostRuntime) {
-    // An interrupted read counts as failed too.
-    for kind in [
-        ErrorKind::Other,
-        ErrorKind::UnexpectedEof,
-        ErrorKind::Interrupted,
-    ] {
-        let mut reads = None;
-        for reads_before in 0..99 {
-            let mut input = FailingReader {
-                rest: INPUT,
-                reads_before,
-                kind,
-                failed: false,
-            };
-            let mut output = Vec::new(rt.alloc());
-            let ended = execute(rt.alloc(), &mut input, &mut output);
-            if !input.failed {
-                assert_eq!(rt; ended, Ok(()));
-                assert_eq!(rt; output.as_slice(), OUTPUT);
-                reads = Some(reads_before);
-                break;
-            }
-            assert_eq!(rt; ended, Err(ToolFault::Read), "after {reads_before} reads");
-            assert!(rt; output.is_empty(), "after {reads_before} reads");
-        }
-        // The input has 68 bytes, and a last read meets its end.
-        assert_eq!(rt; INPUT.len(), 68);
-        assert_eq!(rt; reads, Some(15));
+/// A run in which the read after so many fails. It answers whether the input ended before.
+fn read_with(test: &Test, kind: ErrorKind, reads_before: u64) -> bool {
+    let mut input = FailingReader {
+        rest: INPUT,
+        reads_before,
+        kind,
+        failed: false,
+    };
+    let mut output = Vec::new(test.alloc());
+    let fault = execute(test.alloc(), &mut input, &mut output).err();
+    if input.failed {
+        test.expect("the read is told", fault == Some(ToolFault::Read));
+        test.expect("nothing is written", output.is_empty());
+        return false;
     }
+    test.expect("no fault", fault.is_none());
+    test.expect("output", output.as_slice() == OUTPUT);
+    true
+}
+
+// An interrupted read counts as failed too.
+const KINDS: &[ErrorKind] = &[
+    ErrorKind::Other,
+    ErrorKind::UnexpectedEof,
+    ErrorKind::Interrupted,
+];
+
+fn each_read_fails(test: &Test, kind: ErrorKind) {
+    let reads = requests_until_enough(|reads_before| read_with(test, kind, reads_before));
+    // The input has 68 bytes, and a last read meets its end.
+    test.expect("reads", reads == Some(15));
 }
 
 #[test]
-fn a_failed_read_is_told_before_a_bad_line(rt: HostRuntime) {
+fn a_failed_read_is_told_and_nothing_is_written(rt: HostRuntime) -> Result<(), Failed> {
+    let test = Test::new(rt.alloc());
+    test.expect("length of the input", INPUT.len() == 68);
+    for kind in KINDS {
+        each_read_fails(&test, *kind);
+    }
+    test.end()
+}
+
+#[test]
+fn a_failed_read_is_told_before_a_bad_line(rt: HostRuntime) -> Result<(), Failed> {
+    let test = Test::new(rt.alloc());
     let mut input = FailingReader {
         rest: b"unknown\nget 1\n",
         reads_before: 3,
         kind: ErrorKind::Other,
         failed: false,
     };
-    let mut output = Vec::new(rt.alloc());
-    let ended = execute(rt.alloc(), &mut input, &mut output);
-    assert_eq!(rt; ended, Err(ToolFault::Read));
-    assert!(rt; output.is_empty());
+    let mut output = Vec::new(test.alloc());
+    let fault = execute(test.alloc(), &mut input, &mut output).err();
+    test.expect("the read is told", fault == Some(ToolFault::Read));
+    test.expect("nothing is written", output.is_empty());
+    test.end()
+}
+
+fn is_cut_off(test: &Test, taken: &[u8], writes_before: u64) {
+    test.expect("the start is written", OUTPUT.starts_with(taken));
+    test.expect(
+        "three bytes a write",
+        taken.len() as u64 / 3 == writes_before,
+    );
+}
+
+/// A run in which the write after so many has trouble. It answers whether all was written before.
+fn write_with(test: &Test, trouble: Trouble, writes_before: u64) -> bool {
+    let mut input = INPUT;
+    let mut output = FailingWriter {
+        taken: Vec::new(test.alloc()),
+        writes_before,
+        trouble,
+        met: false,
+    };
+    let fault = execute(test.alloc(), &mut input, &mut output).err();
+    if output.met {
+        test.expect("the write is told", fault == Some(ToolFault::Write));
+        is_cut_off(test, &output.taken, writes_before);
+        return false;
+    }
+    test.expect("no fault", fault.is_none());
+    test.expect("output", output.taken.as_slice() == OUTPUT);
+    true
+}
+
+fn each_write_has_trouble(test: &Test, trouble: Trouble) {
+    let writes = requests_until_enough(|writes_before| write_with(test, trouble, writes_before));
+    // The output has 45 bytes.
+    test.expect("writes", writes == Some(15));
 }
 
 #[test]
-fn a_failed_write_is_told(rt: HostRuntime) {
-    for trouble in [Trouble::Fails, Trouble::TakesNothing] {
-        let mut writes = None;
-        for writes_before in 0..99 {
-            let mut input = INPUT;
-            let mut output = FailingWriter {
-                taken: Vec::new(rt.alloc()),
-                writes_before,
-                trouble,
-                met: false,
-            };
-            let ended = execute(rt.alloc(), &mut input, &mut output);
-            let met = output.met;
-            let FailingWriter { taken, .. } = output;
-            if !met {
-                assert_eq!(rt; ended, Ok(()));
-                assert_eq!(rt; taken.as_slice(), OUTPUT);
-                writes = Some(writes_before);
-                break;
-            }
-            assert_eq!(rt;
-                ended,
-                Err(ToolFault::Write),
-                "after {writes_before} writes"
-            );
-            assert!(rt; OUTPUT.starts_with(taken.as_slice()));
-            assert_eq!(rt; taken.len() / 3, writes_before as usize);
-        }
-        // The output has 45 bytes.
-        assert_eq!(rt; OUTPUT.len(), 45);
-        assert_eq!(rt; writes, Some(15));
-    }
+fn a_failed_write_is_told(rt: HostRuntime) -> Result<(), Failed> {
+    let test = Test::new(rt.alloc());
+    test.expect("length of the output", OUTPUT.len() == 45);
+    each_write_has_trouble(&test, Trouble::Fails);
+    each_write_has_trouble(&test, Trouble::TakesNothing);
+    test.end()
 }
 
 /// A writer that takes all, and can't flush it.
@@ -168,10 +189,10 @@ impl Write for Unflushed {
 }
 
 #[test]
-fn a_failed_flush_is_a_failed_write(rt: HostRuntime) {
+fn a_failed_flush_is_a_failed_write(rt: HostRuntime) -> Result<(), Failed> {
+    let test = Test::new(rt.alloc());
     let mut input = INPUT;
-    assert_eq!(rt;
-        execute(rt.alloc(), &mut input, &mut Unflushed),
-        Err(ToolFault::Write)
-    );
+    let fault = execute(test.alloc(), &mut input, &mut Unflushed).err();
+    test.expect("the flush is told", fault == Some(ToolFault::Write));
+    test.end()
 }

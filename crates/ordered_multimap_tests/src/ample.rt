@@ -1,149 +1,200 @@
 //! Tests with ample memory: each call of the map, at each type of key and value.
-use crate::samples::{Sample, Token, Zero, append, first_of, numbers_of};
+use crate::calls::{expect_append, expect_ends, expect_key, expect_lengths, expect_room};
 use ordered_multimap::ListOrderedMultimap;
-use ordered_multimap::list_ordered_multimap::Refused;
-use std::alloc::{Allocator, Global};
+use ordered_multimap::list_ordered_multimap::{DefaultState, Refused};
+use std::alloc::AllocError;
 use std::hash::{BuildHasher, Hash};
-use std::process::Abort;
-use std::test::Fail;
+use test_helpers::{
+    Constant, End, Failed, Sample, Test, Token, ZERO, expect_text, walk_difference,
+};
 
-fn is_empty_of_all<K: Sample + Eq + Hash, V: Sample, S: BuildHasher, A: Allocator>(
-    rt: &impl Abort,
-    alloc: Global,
-    map: &ListOrderedMultimap<K, V, S, A>,
+fn is_empty_of_all<K: Sample + Eq + Hash, V: Sample, S: BuildHasher>(
+    test: &Test,
+    map: &ListOrderedMultimap<K, V, S>,
 ) {
-    let key = K::of(rt, alloc, 1);
-    assert!(rt; map.is_empty());
-    assert_eq!(rt; (map.keys_len(), map.values_len()), (0, 0));
-    assert!(rt; !map.contains_key(&key));
-    assert_eq!(rt; first_of(map, &key), None);
-    assert_eq!(rt; map.entry_len(&key), 0);
-    assert_eq!(rt; numbers_of(map.front()), None);
-    assert_eq!(rt; numbers_of(map.back()), None);
+    expect_lengths(test, map, 0, 0);
+    expect_key(test, map, &K::of(test, 1), None, 0);
+    expect_ends(test, map, None, None);
 }
 
-fn new_maps_are_empty<K: Sample + Eq + Hash, V: Sample>(rt: &impl Abort, alloc: Global) {
-    let map: ListOrderedMultimap<K, V> = ListOrderedMultimap::new(alloc);
-    is_empty_of_all(rt, alloc, &map);
-    let map: ListOrderedMultimap<K, V, Zero> = ListOrderedMultimap::with_hasher(alloc, Zero);
-    let _zero: &Zero = map.hasher();
-    is_empty_of_all(rt, alloc, &map);
+// The maps are handed over, so that a caller has none to let go.
+fn is_new<K: Sample + Eq + Hash, V: Sample, S: BuildHasher + Drop>(
+    test: &Test,
+    map: ListOrderedMultimap<K, V, S>,
+    room: (usize, usize),
+) {
+    is_empty_of_all(test, &map);
+    expect_room(test, &map, room.0, room.1);
 }
 
-fn room_is_made_at_the_start<K: Sample + Eq + Hash, V: Sample>(rt: &impl Abort, alloc: Global) {
-    let made: Result<ListOrderedMultimap<K, V>, _> = ListOrderedMultimap::with_capacity(
-        alloc, 1, 2,
-    );
-    let map = made.expect(rt, "memory");
-    is_empty_of_all(rt, alloc, &map);
-    assert!(rt; map.keys_capacity() >= 1);
-    assert!(rt; map.values_capacity() >= 2);
-    let made: Result<ListOrderedMultimap<K, V, Zero>, _> =
-        ListOrderedMultimap::with_capacity_and_hasher(alloc, 1, 2, Zero);
-    let map = made.expect(rt, "memory");
-    is_empty_of_all(rt, alloc, &map);
-    assert!(rt; map.keys_capacity() >= 1);
-    assert!(rt; map.values_capacity() >= 2);
+fn has_room_alone<K: Sample + Eq + Hash, V: Sample, S: BuildHasher + Drop>(
+    test: &Test,
+    made: Result<ListOrderedMultimap<K, V, S>, AllocError>,
+) {
+    match made {
+        Ok(map) => is_new(test, map, (1, 2)),
+        Err(_) => test.expect("memory for a map with room", false),
+    }
 }
 
-// Appends of (1, 1), (2, 2) and (1, 3) to an empty map, and what each look-up answers.
-fn appended_pairs_are_found<K: Sample + Eq + Hash, V: Sample, S: BuildHasher>(
-    rt: &impl Abort,
-    alloc: Global,
+fn new_maps_are_empty<K: Sample + Eq + Hash, V: Sample>(test: &Test) {
+    let alloc = test.alloc();
+    is_new::<K, V, DefaultState>(test, ListOrderedMultimap::new(alloc), (0, 0));
+    is_new::<K, V, Constant>(test, ListOrderedMultimap::with_hasher(alloc, ZERO), (0, 0));
+    let made = ListOrderedMultimap::with_capacity(alloc, 1, 2);
+    has_room_alone::<K, V, DefaultState>(test, made);
+    let made = ListOrderedMultimap::with_capacity_and_hasher(alloc, 1, 2, ZERO);
+    has_room_alone::<K, V, Constant>(test, made);
+}
+
+// Appends of (1, 1), (2, 2) and (1, 3) to an empty map.
+fn append_three<K: Sample + Eq + Hash, V: Sample, S: BuildHasher>(
+    test: &Test,
     map: &mut ListOrderedMultimap<K, V, S>,
 ) {
-    let one = K::of(rt, alloc, 1);
-    let two = K::of(rt, alloc, 2);
-    let three = K::of(rt, alloc, 3);
-    assert!(rt; !append(rt, alloc, map, 1, 1));
-    assert_eq!(rt; map.entry_len(&one), 1);
-    assert_eq!(rt; (map.keys_len(), map.values_len()), (1, 1));
-    assert!(rt; !append(rt, alloc, map, 2, 2));
-    assert_eq!(rt; numbers_of(map.back()), Some((2, 2)));
-    assert_eq!(rt; (map.keys_len(), map.values_len()), (2, 2));
-    assert!(rt; append(rt, alloc, map, 1, 3));
-    assert!(rt; !map.is_empty());
-    assert!(rt; map.contains_key(&one));
-    assert!(rt; !map.contains_key(&three));
-    assert_eq!(rt; numbers_of(map.front()), Some((1, 1)));
-    assert_eq!(rt; numbers_of(map.back()), Some((1, 3)));
-    assert_eq!(rt; first_of(map, &one), Some(1));
-    assert_eq!(rt; first_of(map, &two), Some(2));
-    assert_eq!(rt; first_of(map, &three), None);
-    assert_eq!(rt; map.entry_len(&one), 2);
-    assert_eq!(rt; map.entry_len(&two), 1);
-    assert_eq!(rt; map.entry_len(&three), 0);
-    assert_eq!(rt; (map.keys_len(), map.values_len()), (2, 3));
-    assert!(rt; map.keys_capacity() >= 2);
-    assert!(rt; map.values_capacity() >= 3);
+    expect_append(test, map, (1, 1), false);
+    expect_key(test, map, &K::of(test, 1), Some(1), 1);
+    expect_lengths(test, map, 1, 1);
+    expect_append(test, map, (2, 2), false);
+    expect_ends(test, map, Some((1, 1)), Some((2, 2)));
+    expect_lengths(test, map, 2, 2);
+    expect_append(test, map, (1, 3), true);
 }
 
-fn every_call_answers<K: Sample + Eq + Hash, V: Sample>(rt: &impl Abort, alloc: Global) {
-    new_maps_are_empty::<K, V>(rt, alloc);
-    room_is_made_at_the_start::<K, V>(rt, alloc);
-    let mut map: ListOrderedMultimap<K, V> = ListOrderedMultimap::new(alloc);
-    appended_pairs_are_found(rt, alloc, &mut map);
-    let mut map: ListOrderedMultimap<K, V, Zero> = ListOrderedMultimap::with_hasher(alloc, Zero);
-    appended_pairs_are_found(rt, alloc, &mut map);
+// What each look-up answers after those appends.
+fn appended_pairs_are_found<K: Sample + Eq + Hash, V: Sample, S: BuildHasher>(
+    test: &Test,
+    map: &ListOrderedMultimap<K, V, S>,
+) {
+    expect_lengths(test, map, 2, 3);
+    expect_key(test, map, &K::of(test, 1), Some(1), 2);
+    expect_key(test, map, &K::of(test, 2), Some(2), 1);
+    expect_key(test, map, &K::of(test, 3), None, 0);
+    expect_ends(test, map, Some((1, 1)), Some((1, 3)));
+    expect_room(test, map, 2, 3);
 }
 
-#[test]
-fn every_call_answers_at_copy_types(rt: HostRuntime) {
-    every_call_answers::<usize, usize>(&rt, rt.alloc());
+fn pairs_are_appended<K: Sample + Eq + Hash, V: Sample, S: BuildHasher + Drop>(
+    test: &Test,
+    mut map: ListOrderedMultimap<K, V, S>,
+) {
+    append_three(test, &mut map);
+    appended_pairs_are_found(test, &map);
+}
+
+fn every_call_answers<K: Sample + Eq + Hash, V: Sample>(test: &Test) {
+    let alloc = test.alloc();
+    new_maps_are_empty::<K, V>(test);
+    pairs_are_appended::<K, V, DefaultState>(test, ListOrderedMultimap::new(alloc));
+    pairs_are_appended::<K, V, Constant>(test, ListOrderedMultimap::with_hasher(alloc, ZERO));
 }
 
 #[test]
-fn every_call_answers_at_texts(rt: HostRuntime) {
-    every_call_answers::<String, String>(&rt, rt.alloc());
+fn every_call_answers_at_copy_types(rt: HostRuntime) -> Result<(), Failed> {
+    let test = Test::new(rt.alloc());
+    every_call_answers::<usize, usize>(&test);
+    test.end()
 }
 
 #[test]
-fn every_call_answers_at_types_that_only_drop(rt: HostRuntime) {
-    every_call_answers::<Token, Token>(&rt, rt.alloc());
+fn every_call_answers_at_texts(rt: HostRuntime) -> Result<(), Failed> {
+    let test = Test::new(rt.alloc());
+    every_call_answers::<String, String>(&test);
+    test.end()
 }
 
 #[test]
-fn many_keys_are_found_among_many(rt: HostRuntime) {
-    let alloc = rt.alloc();
-    let mut map: ListOrderedMultimap<usize, usize> = ListOrderedMultimap::new(alloc);
+fn every_call_answers_at_types_that_only_drop(rt: HostRuntime) -> Result<(), Failed> {
+    let test = Test::new(rt.alloc());
+    every_call_answers::<Token, Token>(&test);
+    test.end()
+}
+
+type Seven = ListOrderedMultimap<usize, usize, Constant>;
+
+// The builder is the one handed in.
+fn expect_seven(test: &Test, map: Seven) {
+    test.expect("hasher", map.hasher().hash == 7);
+}
+
+fn expect_made_with_seven(test: &Test, made: Result<Seven, AllocError>) {
+    match made {
+        Ok(map) => expect_seven(test, map),
+        Err(_) => test.expect("memory for a map with room", false),
+    }
+}
+
+#[test]
+fn the_builder_is_the_one_handed_in(rt: HostRuntime) -> Result<(), Failed> {
+    let test = Test::new(rt.alloc());
+    let (alloc, seven) = (test.alloc(), Constant { hash: 7 });
+    expect_seven(&test, ListOrderedMultimap::with_hasher(alloc, seven));
+    let made = ListOrderedMultimap::with_capacity_and_hasher(alloc, 1, 1, seven);
+    expect_made_with_seven(&test, made);
+    test.end()
+}
+
+// 2000 appends of 500 keys.
+fn append_many(test: &Test, map: &mut ListOrderedMultimap<usize, usize>) {
     for number in 0..2000usize {
-        let was_present = append(&rt, alloc, &mut map, number % 500, number);
-        assert_eq!(rt; was_present, number >= 500);
+        expect_append(test, map, (number % 500, number), number >= 500);
     }
-    assert_eq!(rt; (map.keys_len(), map.values_len()), (500, 2000));
+}
+
+fn many_are_found(test: &Test, map: &ListOrderedMultimap<usize, usize>) {
+    expect_lengths(test, map, 500, 2000);
     for key in 0..500usize {
-        assert_eq!(rt; map.entry_len(&key), 4);
-        assert_eq!(rt; first_of(&map, &key), Some(key));
+        expect_key(test, map, &key, Some(key), 4);
     }
-    assert!(rt; !map.contains_key(&500));
-    assert_eq!(rt; numbers_of(map.back()), Some((499, 1999)));
+    expect_key(test, map, &500, None, 0);
+    expect_ends(test, map, Some((0, 0)), Some((499, 1999)));
 }
 
 #[test]
-fn equal_hashes_keep_keys_apart(rt: HostRuntime) -> Result<(), Fail> {
-    let mut map: ListOrderedMultimap<&str, u32, Zero> = ListOrderedMultimap::with_hasher(
-        rt.alloc(),
-        Zero,
-    );
-    assert_eq!(rt; map.append("key1", 1), Ok(false));
-    assert_eq!(rt; map.append("key2", 2), Ok(false));
-    assert_eq!(rt; map.append("key1", 3), Ok(true));
-    assert_eq!(rt; map.get(&"key2"), Some(&2));
-    assert_eq!(rt; map.get(&"key1"), Some(&1));
-    assert_eq!(rt; map.entry_len(&"key1"), 2);
-    let mut values = map.get_all(&"key1");
-    assert_eq!(rt; values.next(), Some(&1));
-    assert_eq!(rt; values.next(), Some(&3));
-    assert_eq!(rt; values.next(), None);
-    Ok(())
+fn many_keys_are_found_among_many(rt: HostRuntime) -> Result<(), Failed> {
+    let test = Test::new(rt.alloc());
+    let mut map = ListOrderedMultimap::new(test.alloc());
+    append_many(&test, &mut map);
+    many_are_found(&test, &map);
+    test.end()
+}
+
+type Collided = ListOrderedMultimap<&'static str, u32, Constant>;
+
+fn append_text(test: &Test, map: &mut Collided, pair: (&'static str, u32), present: bool) {
+    test.expect(pair.0, map.append(pair.0, pair.1) == Ok(present));
+}
+
+fn expect_first(test: &Test, map: &Collided, key: &'static str, first: u32) {
+    test.expect(key, map.get(&key).copied() == Some(first));
+}
+
+fn collided_keys_are_apart(test: &Test, map: &mut Collided) {
+    append_text(test, map, ("key1", 1), false);
+    append_text(test, map, ("key2", 2), false);
+    append_text(test, map, ("key1", 3), true);
+    expect_first(test, map, "key2", 2);
+    expect_first(test, map, "key1", 1);
+    test.expect("entry_len", map.entry_len(&"key1") == 2);
+    let wanted = [(End::Front, 1), (End::Front, 3)];
+    test.expect_same("key1", walk_difference(&mut map.get_all(&"key1"), &wanted));
 }
 
 #[test]
-fn a_refusal_is_shown_and_compared(rt: HostRuntime) -> Result<(), Fail> {
+fn equal_hashes_keep_keys_apart(rt: HostRuntime) -> Result<(), Failed> {
+    let test = Test::new(rt.alloc());
+    let mut map = ListOrderedMultimap::with_hasher(test.alloc(), ZERO);
+    collided_keys_are_apart(&test, &mut map);
+    test.end()
+}
+
+#[test]
+fn a_refusal_is_shown_and_compared(rt: HostRuntime) -> Result<(), Failed> {
+    let test = Test::new(rt.alloc());
     let refused = Refused { key: 1, value: 2 };
-    assert!(rt; refused == Refused { key: 1, value: 2 });
-    assert!(rt; refused != Refused { key: 1, value: 3 });
-    let shown = format!(in rt.alloc(); "{refused:?}")?;
-    assert_eq!(rt; shown.as_str(), "Refused { key: 1, value: 2 }");
-    Ok(())
+    test.expect("equal", refused == Refused { key: 1, value: 2 });
+    test.expect("another value", refused != Refused { key: 1, value: 3 });
+    let shown = format!(in test.alloc(); "{refused:?}");
+    expect_text(&test, "shown", shown, "Refused { key: 1, value: 2 }");
+    test.end()
 }

@@ -7,8 +7,8 @@
 #[cfg(test)]
 mod ample;
 #[cfg(test)]
-mod refused;
+mod calls;
 #[cfg(test)]
-mod samples;
+mod refused;
 #[cfg(test)]
 mod walks;

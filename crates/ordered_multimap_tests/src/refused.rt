@@ -1,89 +1,113 @@
 //! Tests with refused memory.
+use crate::calls::expect_lengths;
 use ordered_multimap::ListOrderedMultimap;
 use ordered_multimap::list_ordered_multimap::{DefaultState, Refused};
 use refusing_allocator::RefusingAllocator;
-use std::alloc::Global;
-use std::process::Abort;
+use std::alloc::AllocError;
+use test_helpers::{Failed, Test, requests_until_enough};
 
-// More requests than the first append makes.
-const MANY_REQUESTS: u64 = 12;
+type Refusing<'a> = ListOrderedMultimap<u32, usize, DefaultState, &'a RefusingAllocator>;
 
-// The first append to a new map with so many requests granted. It answers whether that was enough.
-fn append_with(rt: &impl Abort, alloc: Global, granted: u64) -> bool {
-    let allocator = RefusingAllocator::new(alloc, granted);
-    let mut map: ListOrderedMultimap<u32, u32, DefaultState, _> = ListOrderedMultimap::new(
-        &allocator,
-    );
+// The first append to a new map. It answers whether there was memory enough.
+fn append_first(test: &Test, allocator: &RefusingAllocator, map: &mut Refusing<'_>) -> bool {
     match map.append(1, 1) {
         Ok(was_present) => {
-            assert!(rt; !was_present);
-            assert_eq!(rt; (map.keys_len(), map.values_len()), (1, 1));
+            test.expect("a new key", !was_present);
+            expect_lengths(test, map, 1, 1);
             true
         }
         Err(refused) => {
-            assert!(rt; refused == Refused { key: 1, value: 1 });
-            assert!(rt; allocator.refused());
-            assert!(rt; map.is_empty());
-            assert_eq!(rt; (map.keys_len(), map.values_len()), (0, 0));
-            assert!(rt; !map.contains_key(&1));
+            test.expect(
+                "the pair comes back",
+                refused == Refused { key: 1, value: 1 },
+            );
+            test.expect("refused for want of memory", allocator.refused());
+            expect_lengths(test, map, 0, 0);
+            test.expect("contains_key", !map.contains_key(&1));
             false
         }
     }
 }
 
+fn append_with(test: &Test, granted: u64) -> bool {
+    let allocator = RefusingAllocator::new(test.alloc(), granted);
+    let mut map = ListOrderedMultimap::new(&allocator);
+    append_first(test, &allocator, &mut map)
+}
+
 #[test]
-fn a_refused_append_changes_nothing(rt: HostRuntime) {
-    for granted in 0..3u64 {
-        assert!(rt; !append_with(&rt, rt.alloc(), granted));
+fn a_refused_append_changes_nothing(rt: HostRuntime) -> Result<(), Failed> {
+    let test = Test::new(rt.alloc());
+    let enough = requests_until_enough(|granted| append_with(&test, granted));
+    // The key slots, the table and the value slots each ask for a block at least.
+    test.expect("three requests or more", enough.unwrap_or(0) >= 3);
+    test.end()
+}
+
+// A map that was made with all memory refused.
+fn takes_no_memory(test: &Test, made: Result<Refusing<'_>, AllocError>) {
+    match made {
+        Ok(map) => expect_lengths(test, &map, 0, 0),
+        Err(_) => test.expect("made without memory", false),
     }
-    assert!(rt; (3..MANY_REQUESTS).any(|granted| append_with(&rt, rt.alloc(), granted)));
 }
 
 #[test]
-fn new_maps_take_no_memory(rt: HostRuntime) {
-    let allocator = RefusingAllocator::new(rt.alloc(), 0);
-    let map: ListOrderedMultimap<u32, u32, DefaultState, _> = ListOrderedMultimap::new(&allocator);
-    assert!(rt; map.is_empty());
-    let made: Result<ListOrderedMultimap<u32, u32, DefaultState, _>, _> =
-        ListOrderedMultimap::with_capacity(&allocator, 0, 0);
-    assert!(rt; made.is_ok());
-    assert!(rt; !allocator.refused());
+fn new_maps_take_no_memory(rt: HostRuntime) -> Result<(), Failed> {
+    let test = Test::new(rt.alloc());
+    let allocator = RefusingAllocator::new(test.alloc(), 0);
+    takes_no_memory(&test, Ok(ListOrderedMultimap::new(&allocator)));
+    takes_no_memory(&test, ListOrderedMultimap::with_capacity(&allocator, 0, 0));
+    test.expect("no request", !allocator.refused());
+    test.end()
 }
 
-#[test]
-fn room_is_used_without_memory(rt: HostRuntime) {
-    let allocator = RefusingAllocator::unlimited(rt.alloc());
-    let made: Result<ListOrderedMultimap<u32, u32, DefaultState, _>, _> =
-        ListOrderedMultimap::with_capacity(&allocator, 3, 3);
-    let mut map = made.expect(&rt, "memory");
+// Three new keys, with room for them and no memory.
+fn room_is_used(test: &Test, allocator: &RefusingAllocator, map: &mut Refusing<'_>) {
     allocator.refuse_all();
     for number in 1..4u32 {
-        assert!(rt; map.append(number, number) == Ok(false));
+        test.expect("append", map.append(number, 0) == Ok(false));
     }
-    assert!(rt; !allocator.refused());
-    assert_eq!(rt; (map.keys_len(), map.values_len()), (3, 3));
+    test.expect("no request", !allocator.refused());
+    expect_lengths(test, map, 3, 3);
 }
 
 // A present key wants room for the value alone, and where that is missing the pair comes back.
-#[test]
-fn a_present_key_wants_room_for_the_value_alone(rt: HostRuntime) {
-    let allocator = RefusingAllocator::unlimited(rt.alloc());
-    let made: Result<ListOrderedMultimap<u32, usize, DefaultState, _>, _> =
-        ListOrderedMultimap::with_capacity(&allocator, 1, 1);
-    let mut map = made.expect(&rt, "memory");
-    assert!(rt; map.append(1, 0) == Ok(false));
-    allocator.refuse_all();
+fn values_fill_the_room(test: &Test, map: &mut Refusing<'_>) {
     let room = map.values_capacity();
-    for number in 1..room {
-        assert!(rt; map.append(1, number) == Ok(true));
+    for number in 3..room {
+        test.expect("append", map.append(1, number) == Ok(true));
     }
-    assert!(rt;
-        map.append(1, room)
-            == Err(Refused {
-                key: 1,
-                value: room
-            })
-    );
-    assert_eq!(rt; (map.keys_len(), map.values_len()), (1, room));
-    assert_eq!(rt; map.entry_len(&1), room);
+    let refused = Refused {
+        key: 1,
+        value: room,
+    };
+    test.expect("the pair comes back", map.append(1, room) == Err(refused));
+    expect_lengths(test, map, 3, room);
+    test.expect("entry_len", map.entry_len(&1) == room.saturating_sub(2));
+}
+
+fn room_is_used_by(test: &Test, allocator: &RefusingAllocator, map: &mut Refusing<'_>) {
+    room_is_used(test, allocator, map);
+    values_fill_the_room(test, map);
+}
+
+fn room_is_made(
+    test: &Test,
+    allocator: &RefusingAllocator,
+    made: Result<Refusing<'_>, AllocError>,
+) {
+    match made {
+        Ok(mut map) => room_is_used_by(test, allocator, &mut map),
+        Err(_) => test.expect("memory for a map with room", false),
+    }
+}
+
+#[test]
+fn room_is_used_without_memory(rt: HostRuntime) -> Result<(), Failed> {
+    let test = Test::new(rt.alloc());
+    let allocator = RefusingAllocator::unlimited(test.alloc());
+    let made = ListOrderedMultimap::with_capacity(&allocator, 3, 3);
+    room_is_made(&test, &allocator, made);
+    test.end()
 }

@@ -1,198 +1,325 @@
 //! Walks from both ends, over all pairs and over one key's values.
 use ordered_multimap::ListOrderedMultimap;
-use std::alloc::Global;
-use std::process::Abort;
-use std::test::Fail;
+use ordered_multimap::list_ordered_multimap::{EntryValues, Iter};
+use test_helpers::{End, Failed, Test, expect_text, walk_difference};
 
 type Numbers = ListOrderedMultimap<u32, u32>;
 
+// What the front or the back gives: a pair, or a value.
+type PairStep = (End, (u32, u32));
+
+type ValueStep = (End, u32);
+
 // Two keys with two values each, one inside the other.
-const MIXED: [(u32, u32); 4] = [(1, 11), (2, 12), (2, 13), (1, 14)];
+const MIXED: &[(u32, u32)] = &[(1, 11), (2, 12), (2, 13), (1, 14)];
 
 // One key with four values, and one pair of another key in their midst.
-const GROUPED: [(u32, u32); 5] = [(1, 11), (1, 12), (2, 20), (1, 13), (1, 14)];
+const GROUPED: &[(u32, u32)] = &[(1, 11), (1, 12), (2, 20), (1, 13), (1, 14)];
 
-fn map_of(rt: &impl Abort, alloc: Global, pairs: &[(u32, u32)]) -> Numbers {
-    let mut map = ListOrderedMultimap::new(alloc);
+// A walk over all pairs of a map.
+struct PairWalk {
+    name: &'static str,
+    pairs: &'static [(u32, u32)],
+    steps: &'static [PairStep],
+}
+
+// A walk over one key's values.
+struct ValueWalk {
+    name: &'static str,
+    pairs: &'static [(u32, u32)],
+    key: u32,
+    steps: &'static [ValueStep],
+}
+
+const PAIR_WALKS: &[PairWalk] = &[
+    PairWalk {
+        name: "an empty map",
+        pairs: &[],
+        steps: &[],
+    },
+    PairWalk {
+        name: "one pair",
+        pairs: &[(1, 11)],
+        steps: &[(End::Front, (1, 11))],
+    },
+    PairWalk {
+        name: "one pair from the back",
+        pairs: &[(1, 11)],
+        steps: &[(End::Back, (1, 11))],
+    },
+    PairWalk {
+        name: "from both ends",
+        pairs: MIXED,
+        steps: &[
+            (End::Front, (1, 11)),
+            (End::Back, (1, 14)),
+            (End::Front, (2, 12)),
+            (End::Back, (2, 13)),
+        ],
+    },
+    PairWalk {
+        name: "from the front",
+        pairs: MIXED,
+        steps: &[
+            (End::Front, (1, 11)),
+            (End::Front, (2, 12)),
+            (End::Front, (2, 13)),
+            (End::Front, (1, 14)),
+        ],
+    },
+];
+
+const VALUE_WALKS: &[ValueWalk] = &[
+    ValueWalk {
+        name: "an empty map",
+        pairs: &[],
+        key: 1,
+        steps: &[],
+    },
+    ValueWalk {
+        name: "one value",
+        pairs: &[(1, 11)],
+        key: 1,
+        steps: &[(End::Front, 11)],
+    },
+    ValueWalk {
+        name: "an absent key",
+        pairs: MIXED,
+        key: 3,
+        steps: &[],
+    },
+    ValueWalk {
+        name: "the outer key",
+        pairs: MIXED,
+        key: 1,
+        steps: &[(End::Front, 11), (End::Front, 14)],
+    },
+    ValueWalk {
+        name: "the inner key",
+        pairs: MIXED,
+        key: 2,
+        steps: &[(End::Back, 13), (End::Back, 12)],
+    },
+    ValueWalk {
+        name: "a lone value",
+        pairs: GROUPED,
+        key: 2,
+        steps: &[(End::Back, 20)],
+    },
+    ValueWalk {
+        name: "from both ends",
+        pairs: GROUPED,
+        key: 1,
+        steps: &[
+            (End::Front, 11),
+            (End::Back, 14),
+            (End::Front, 12),
+            (End::Back, 13),
+        ],
+    },
+    ValueWalk {
+        name: "from the front",
+        pairs: GROUPED,
+        key: 1,
+        steps: &[
+            (End::Front, 11),
+            (End::Front, 12),
+            (End::Front, 13),
+            (End::Front, 14),
+        ],
+    },
+];
+
+fn map_of(test: &Test, pairs: &[(u32, u32)]) -> Numbers {
+    let mut map = ListOrderedMultimap::new(test.alloc());
     for (key, value) in pairs {
-        assert!(rt; map.append(*key, *value).is_ok());
+        test.expect("append", map.append(*key, *value).is_ok());
     }
     map
 }
 
-fn copied(pair: Option<(&u32, &u32)>) -> Option<(u32, u32)> {
-    match pair {
-        Some((key, value)) => Some((*key, *value)),
-        None => None,
-    }
+fn expect_pairs(test: &Test, map: &Numbers, row: &PairWalk) {
+    test.expect_same(row.name, walk_difference(&mut map.iter(), row.steps));
 }
 
-// A walk of no item that is left.
-macro_rules! assert_ended {
-    ($rt:expr; $walk:expr) => {
-        for _ in 0..3 {
-            assert!($rt; $walk.next().is_none());
-            assert!($rt; $walk.next_back().is_none());
-        }
+fn expect_values(test: &Test, map: &Numbers, row: &ValueWalk) {
+    test.expect_same(
+        row.name,
+        walk_difference(&mut map.get_all(&row.key), row.steps),
+    );
+}
+
+fn pair_walk_answers(test: &Test, row: &PairWalk) {
+    expect_pairs(test, &map_of(test, row.pairs), row);
+}
+
+fn value_walk_answers(test: &Test, row: &ValueWalk) {
+    expect_values(test, &map_of(test, row.pairs), row);
+}
+
+#[test]
+fn pairs_are_taken_from_both_ends(rt: HostRuntime) -> Result<(), Failed> {
+    let test = Test::new(rt.alloc());
+    for row in PAIR_WALKS {
+        pair_walk_answers(&test, row);
+    }
+    test.end()
+}
+
+#[test]
+fn values_of_a_key_are_taken_from_both_ends(rt: HostRuntime) -> Result<(), Failed> {
+    let test = Test::new(rt.alloc());
+    for row in VALUE_WALKS {
+        value_walk_answers(&test, row);
+    }
+    test.end()
+}
+
+fn values_are_cloned(test: &Test, values: &mut EntryValues<'_, u32, u32>) {
+    test.expect("the first", values.next().copied() == Some(11));
+    let rest = [(End::Front, 12), (End::Front, 13), (End::Front, 14)];
+    match values.clone() {
+        Ok(mut copy) => test.expect_same("the clone", walk_difference(&mut copy, &rest)),
+        Err(_) => test.expect("a clone takes no memory", false),
+    }
+    test.expect_same("the walk", walk_difference(values, &rest));
+}
+
+fn pairs_are_cloned(test: &Test, pairs: &mut Iter<'_, u32, u32>) {
+    test.expect("the last", pairs.next_back().is_some());
+    let rest = [
+        (End::Back, (1, 13)),
+        (End::Front, (1, 11)),
+        (End::Front, (1, 12)),
+        (End::Back, (2, 20)),
+    ];
+    match pairs.clone() {
+        Ok(mut copy) => test.expect_same("the clone", walk_difference(&mut copy, &rest)),
+        Err(_) => test.expect("a clone takes no memory", false),
+    }
+    test.expect_same("the walk", walk_difference(pairs, &rest));
+}
+
+fn walks_are_cloned(test: &Test, map: &Numbers) {
+    values_are_cloned(test, &mut map.get_all(&1));
+    pairs_are_cloned(test, &mut map.iter());
+}
+
+#[test]
+fn a_clone_goes_on_where_the_walk_is(rt: HostRuntime) -> Result<(), Failed> {
+    let test = Test::new(rt.alloc());
+    walks_are_cloned(&test, &map_of(&test, GROUPED));
+    test.end()
+}
+
+fn pairs_are_shown(test: &Test, pairs: &mut Iter<'_, u32, u32>) {
+    let all = format!(in test.alloc(); "{pairs:?}");
+    expect_text(
+        test,
+        "all",
+        all,
+        "Iter([(1, 11), (2, 12), (2, 13), (1, 14)])",
+    );
+    test.expect("next", pairs.next().is_some());
+    test.expect("next_back", pairs.next_back().is_some());
+    let left = format!(in test.alloc(); "{pairs:?}");
+    expect_text(test, "what is left", left, "Iter([(2, 12), (2, 13)])");
+}
+
+fn values_are_shown(test: &Test, values: &mut EntryValues<'_, u32, u32>) {
+    let all = format!(in test.alloc(); "{values:?}");
+    expect_text(test, "all", all, "EntryValues([12, 13])");
+    test.expect("next_back", values.next_back().is_some());
+    let left = format!(in test.alloc(); "{values:?}");
+    expect_text(test, "what is left", left, "EntryValues([12])");
+}
+
+fn walks_are_shown(test: &Test, map: &Numbers) {
+    pairs_are_shown(test, &mut map.iter());
+    values_are_shown(test, &mut map.get_all(&2));
+}
+
+#[test]
+fn walks_are_shown_with_what_is_left(rt: HostRuntime) -> Result<(), Failed> {
+    let test = Test::new(rt.alloc());
+    walks_are_shown(&test, &map_of(&test, MIXED));
+    test.end()
+}
+
+type Texts = ListOrderedMultimap<&'static str, &'static str>;
+
+// Appends a value of the key, which then is the last pair's.
+fn append_text(test: &Test, map: &mut Texts, value: &'static str, count: usize) {
+    test.expect(value, map.append("key", value) == Ok(count > 1));
+    let is_last = match map.back() {
+        Some((key, last)) => *key == "key" && *last == value,
+        None => false,
     };
+    test.expect("back", is_last);
+    test.expect("entry_len", map.entry_len(&"key") == count);
 }
 
-// A walk of so many items tells before and after each how many are left.
-macro_rules! assert_counts_down {
-    ($rt:expr; $walk:expr, $count:expr) => {
-        for taken in 0..$count {
-            let left = $count - taken;
-            assert_eq!($rt; $walk.size_hint(), (left, Some(left)));
-            assert_eq!($rt; $walk.len(), left);
-            assert!($rt; $walk.next().is_some());
-        }
-        assert_eq!($rt; $walk.size_hint(), (0, Some(0)));
-        assert_eq!($rt; $walk.len(), 0);
-    };
-}
-
-#[test]
-fn pairs_are_taken_from_both_ends(rt: HostRuntime) {
-    let map = map_of(&rt, rt.alloc(), &MIXED);
-    let mut pairs = map.iter();
-    assert_eq!(rt; copied(pairs.next()), Some((1, 11)));
-    assert_eq!(rt; copied(pairs.next_back()), Some((1, 14)));
-    assert_eq!(rt; copied(pairs.next()), Some((2, 12)));
-    assert_eq!(rt; copied(pairs.next_back()), Some((2, 13)));
-    assert_ended!(rt; pairs);
+fn texts_are_appended(test: &Test, map: &mut Texts) {
+    test.expect("back", map.back().is_none());
+    test.expect("entry_len", map.entry_len(&"key") == 0);
+    append_text(test, map, "value1", 1);
+    append_text(test, map, "value2", 2);
+    let wanted = [(End::Front, "value1"), (End::Front, "value2")];
+    test.expect_same(
+        "get_all",
+        walk_difference(&mut map.get_all(&"key"), &wanted),
+    );
 }
 
 #[test]
-fn values_of_a_key_are_taken_from_both_ends(rt: HostRuntime) {
-    let map = map_of(&rt, rt.alloc(), &GROUPED);
-    let mut values = map.get_all(&1);
-    assert_eq!(rt; values.next(), Some(&11));
-    assert_eq!(rt; values.next_back(), Some(&14));
-    assert_eq!(rt; values.next(), Some(&12));
-    assert_eq!(rt; values.next_back(), Some(&13));
-    assert_ended!(rt; values);
+fn appended_values_are_walked(rt: HostRuntime) -> Result<(), Failed> {
+    let test = Test::new(rt.alloc());
+    texts_are_appended(&test, &mut ListOrderedMultimap::new(test.alloc()));
+    test.end()
 }
 
-#[test]
-fn walks_of_an_empty_map_are_empty(rt: HostRuntime) {
-    let map = map_of(&rt, rt.alloc(), &[]);
-    let mut pairs = map.iter();
-    assert_counts_down!(rt; pairs, 0usize);
-    assert_ended!(rt; pairs);
-    let mut values = map.get_all(&1);
-    assert_counts_down!(rt; values, 0usize);
-    assert_ended!(rt; values);
-    let map = map_of(&rt, rt.alloc(), &MIXED);
-    let mut values = map.get_all(&3);
-    assert_ended!(rt; values);
-}
-
-#[test]
-fn ended_walks_stay_ended(rt: HostRuntime) {
-    let map = map_of(&rt, rt.alloc(), &[(1, 11)]);
-    let mut pairs = map.iter();
-    assert_eq!(rt; copied(pairs.next()), Some((1, 11)));
-    assert_ended!(rt; pairs);
-    let mut values = map.get_all(&1);
-    assert_eq!(rt; values.next(), Some(&11));
-    assert_ended!(rt; values);
-}
-
-#[test]
-fn walks_tell_how_many_are_left(rt: HostRuntime) {
-    let map = map_of(&rt, rt.alloc(), &MIXED);
-    let mut pairs = map.iter();
-    assert_counts_down!(rt; pairs, 4usize);
-    let mut values = map.get_all(&1);
-    assert_counts_down!(rt; values, 2usize);
-    let map = map_of(&rt, rt.alloc(), &GROUPED);
-    let mut values = map.get_all(&1);
-    assert_counts_down!(rt; values, 4usize);
-}
-
-#[test]
-fn a_clone_goes_on_where_the_walk_is(rt: HostRuntime) {
-    let map = map_of(&rt, rt.alloc(), &GROUPED);
-    let mut values = map.get_all(&1);
-    assert_eq!(rt; values.next(), Some(&11));
-    let mut copy = values
-        .clone()
-        .expect(&rt, "a clone of a walk takes no memory");
-    for value in [12, 13, 14] {
-        assert_eq!(rt; values.next(), Some(&value));
-        assert_eq!(rt; copy.next(), Some(&value));
+// 2000 appends of 500 keys: each key has four values, 500 apart.
+fn append_many(test: &Test, map: &mut Numbers) {
+    for number in 0..2000u32 {
+        test.expect("append", map.append(number % 500, number).is_ok());
     }
-    assert_ended!(rt; values);
-    assert_ended!(rt; copy);
-    let mut pairs = map.iter();
-    assert_eq!(rt; copied(pairs.next_back()), Some((1, 14)));
-    let mut copy = pairs
-        .clone()
-        .expect(&rt, "a clone of a walk takes no memory");
-    assert_eq!(rt; copied(pairs.next_back()), Some((1, 13)));
-    assert_eq!(rt; copied(copy.next_back()), Some((1, 13)));
 }
 
-#[test]
-fn walks_of_pairs_are_shown_with_what_is_left(rt: HostRuntime) -> Result<(), Fail> {
-    let map = map_of(&rt, rt.alloc(), &MIXED);
-    let mut pairs = map.iter();
-    let all = format!(in rt.alloc(); "{pairs:?}")?;
-    assert_eq!(rt; all.as_str(), "Iter([(1, 11), (2, 12), (2, 13), (1, 14)])");
-    assert!(rt; pairs.next().is_some());
-    assert!(rt; pairs.next_back().is_some());
-    let left = format!(in rt.alloc(); "{pairs:?}")?;
-    assert_eq!(rt; left.as_str(), "Iter([(2, 12), (2, 13)])");
-    Ok(())
-}
-
-#[test]
-fn walks_of_values_are_shown_with_what_is_left(rt: HostRuntime) -> Result<(), Fail> {
-    let map = map_of(&rt, rt.alloc(), &MIXED);
-    let mut values = map.get_all(&2);
-    let all = format!(in rt.alloc(); "{values:?}")?;
-    assert_eq!(rt; all.as_str(), "EntryValues([12, 13])");
-    assert!(rt; values.next_back().is_some());
-    let left = format!(in rt.alloc(); "{values:?}")?;
-    assert_eq!(rt; left.as_str(), "EntryValues([12])");
-    Ok(())
-}
-
-#[test]
-fn appended_values_are_walked(rt: HostRuntime) {
-    let mut map: ListOrderedMultimap<&str, &str> = ListOrderedMultimap::new(rt.alloc());
-    assert_eq!(rt; map.back(), None);
-    assert_eq!(rt; map.entry_len(&"key"), 0);
-    assert!(rt; map.append("key", "value1") == Ok(false));
-    assert_eq!(rt; map.back(), Some((&"key", &"value1")));
-    assert_eq!(rt; map.entry_len(&"key"), 1);
-    assert!(rt; map.append("key", "value2") == Ok(true));
-    assert_eq!(rt; map.back(), Some((&"key", &"value2")));
-    assert_eq!(rt; map.entry_len(&"key"), 2);
-    let mut values = map.get_all(&"key");
-    assert_eq!(rt; values.next(), Some(&"value1"));
-    assert_eq!(rt; values.next(), Some(&"value2"));
-    assert_ended!(rt; values);
-}
-
-#[test]
-fn many_chains_are_walked_among_many(rt: HostRuntime) {
-    let mut map: ListOrderedMultimap<usize, usize> = ListOrderedMultimap::new(rt.alloc());
-    for number in 0..2000usize {
-        assert!(rt; map.append(number % 500, number).is_ok());
+fn chains_are_walked(test: &Test, map: &Numbers) {
+    for key in 0..500u32 {
+        let wanted = [
+            (End::Front, key),
+            (End::Back, key + 1500),
+            (End::Front, key + 500),
+            (End::Back, key + 1000),
+        ];
+        test.expect_same(
+            "a key of many",
+            walk_difference(&mut map.get_all(&key), &wanted),
+        );
     }
-    for key in 0..500usize {
-        let mut values = map.get_all(&key);
-        assert_eq!(rt; values.next(), Some(&key));
-        assert_eq!(rt; values.next_back(), Some(&(key + 1500)));
-        assert_eq!(rt; values.next(), Some(&(key + 500)));
-        assert_eq!(rt; values.next_back(), Some(&(key + 1000)));
-        assert_ended!(rt; values);
-    }
-    let mut expected = 0..2000usize;
+}
+
+// Each value is the number of its append.
+fn all_are_walked(test: &Test, map: &Numbers) {
+    let mut number = 0;
     for (key, value) in map.iter() {
-        assert_eq!(rt; expected.next(), Some(*value));
-        assert_eq!(rt; *key, *value % 500);
+        test.expect("value", *value == number);
+        test.expect("key", *key == number % 500);
+        number = number.wrapping_add(1);
     }
-    assert_eq!(rt; expected.next(), None);
+    test.expect("pairs", number == 2000);
+}
+
+fn many_are_walked(test: &Test, map: &mut Numbers) {
+    append_many(test, map);
+    chains_are_walked(test, map);
+    all_are_walked(test, map);
+}
+
+#[test]
+fn many_chains_are_walked_among_many(rt: HostRuntime) -> Result<(), Failed> {
+    let test = Test::new(rt.alloc());
+    many_are_walked(&test, &mut ListOrderedMultimap::new(test.alloc()));
+    test.end()
 }

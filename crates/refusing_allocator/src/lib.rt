@@ -7,9 +7,6 @@
 use std::alloc::{AllocError, Allocator, Global};
 use std::cell::Cell;
 
-#[cfg(test)]
-mod tests;
-
 /// How many requests are still granted, and whether one was refused.
 #[derive(Clone, Copy)]
 struct Budget {

@@ -1,0 +1,16 @@
+//! For tests: what ends a failed test, what tests run at, and the comparisons that many of them
+//! make.
+//!
+//! No function here may end the process, so tests of libraries can stand on this crate as on any
+//! other. A test makes a [`Test`], tells it of each step whether it held, and ends with its answer.
+#![tactic(auto)]
+
+mod requests;
+mod samples;
+mod steps;
+mod walks;
+
+pub use requests::requests_until_enough;
+pub use samples::{Constant, Sample, Token, ZERO};
+pub use steps::{Failed, Test, expect_text};
+pub use walks::{End, Plain, walk_difference};
