@@ -8,6 +8,7 @@ ghost use Rattle.multimap_walks.specs.Chained.{IsChained, chain_of, values_at, H
 ghost use Rattle.multimap_walks.specs.ChainWalk.{GivesFirst, GivesLast};
 
 use crate::links::{KeyLink, ValueLink};
+use crate::show::show_left;
 use crate::slots::value_at;
 use multimap_slots::{Reads, SlotList};
 use std::alloc::{AllocError, Allocator, Global};
@@ -154,16 +155,6 @@ impl<'map, K, V, A: Allocator> Clone for EntryValues<'map, K, V, A> {
 
 impl<'map, K, V: fmt::Debug, A: Allocator> fmt::Debug for EntryValues<'map, K, V, A> {
     fn fmt<W: fmt::Write>(&self, f: &mut fmt::Formatter<W>) -> fmt::Result {
-        f.write_str("EntryValues(")?;
-        let rest = match self.clone() {
-            Ok(rest) => rest,
-            Err(_) => return Err(fmt::Error),
-        };
-        let mut list = f.debug_list();
-        for value in rest {
-            list.entry(value);
-        }
-        list.finish()?;
-        f.write_str(")")
+        show_left(f, "EntryValues", self)
     }
 }

@@ -5,6 +5,7 @@
 mod chain;
 pub mod links;
 mod pairs;
+mod show;
 mod slots;
 
 pub use chain::EntryValues;

@@ -6,6 +6,7 @@ ghost use Rattle.std.specs.Map.Iter.{TakesFirst, TakesLast, deref_pair};
 ghost use Rattle.multimap_walks.specs.Chained.{IsChained, pairs_of};
 
 use crate::links::{KeyLink, ValueLink};
+use crate::show::show_left;
 use crate::slots::pair_of;
 use multimap_slots::{Reads, SlotList};
 use std::alloc::{AllocError, Allocator, Global};
@@ -128,16 +129,6 @@ impl<'map, K, V, A: Allocator> Clone for Iter<'map, K, V, A> {
 
 impl<'map, K: fmt::Debug, V: fmt::Debug, A: Allocator> fmt::Debug for Iter<'map, K, V, A> {
     fn fmt<W: fmt::Write>(&self, f: &mut fmt::Formatter<W>) -> fmt::Result {
-        f.write_str("Iter(")?;
-        let rest = match self.clone() {
-            Ok(rest) => rest,
-            Err(_) => return Err(fmt::Error),
-        };
-        let mut list = f.debug_list();
-        for pair in rest {
-            list.entry(&pair);
-        }
-        list.finish()?;
-        f.write_str(")")
+        show_left(f, "Iter", self)
     }
 }
