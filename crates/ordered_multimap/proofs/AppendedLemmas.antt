@@ -11,12 +11,12 @@ use Rattle.multimap_slots.specs.Lists.{IsIn, first_of, last_of}
 use Rattle.multimap_slots.specs.Slots.{Slots, IsSound, HasRoomFor, KeepsItems, PushesBack, item_at, link_at, with_link}
 use Rattle.multimap_walks.specs.declared.links.KeyLink.{KeyLink}
 use Rattle.multimap_walks.specs.declared.links.ValueLink.{ValueLink}
-use Rattle.multimap_walks.specs.Chained.{is_value_of, chain_of, pairs_of}
+use Rattle.multimap_walks.specs.Chained.{IsChained, is_value_of, chain_of, pairs_of}
 use Rattle.ordered_multimap.specs.Lists.{lists}
 use Rattle.ordered_multimap.specs.Keys.{is_listed, stored_key}
 use Rattle.ordered_multimap.specs.Changes.{appended}
 use Rattle.ordered_multimap.specs.Agrees.{Agrees, HasKey, items_of, lists_of}
-use Rattle.ordered_multimap.specs.Appends.{SetsKey, PushesValue}
+use Rattle.ordered_multimap.specs.Appends.{SetsKey, PushesValue, PushesBehind, HasListedRows, PushesRow, PushesOnly}
 use Rattle.ordered_multimap.proofs.Members.{IsIn-kept, filter-none}
 use Rattle.ordered_multimap.proofs.PlaceLemmas.{held, IsIn-filter_map, filter_map-agree, filter_shorter, last_of-member}
 use Rattle.ordered_multimap.proofs.KeyLemmas.{is_listed-member, stored_key_only, stored_key_absent}
@@ -197,45 +197,49 @@ module _ {K V : Type 0} {eq : K → K → Bool} (laws : IsEquivalence eq) {hash 
       no_row : (o : Option ℕ) → o ≡ None → is_some o ≡ false
       no_row o e = ap is_some e
 
--- an append, from the slots before room was made
-module _ {K V : Type 0} {eq : K → K → Bool} (laws : IsEquivalence eq) {hash : K → ℕ} {keys : Slots K KeyLink} {rows : FinMap nat_cmp ℕ} {values : Slots V ValueLink}
-    (agrees : Agrees eq hash keys rows values) (reserved : Slots V ValueLink) (same_values : KeepsItems values reserved) where
-  -- the tail of a chain is listed there
-  pub reserved_tail : (place : ℕ) (l : KeyLink) → IsIn place keys.order → link_at keys place ≡ Some l → (q : ℕ) → Some l.tail ≡ Some q → IsIn q reserved.order
-  reserved_tail place l listed link_is q is =
-      let last = agrees.chained.tail place l listed link_is ∙ is in
-      subst (IsIn q) (sym (ap (λ (s : Slots V ValueLink). s.order) same_values))
+-- a chain is a part of the list
+module _ {K V : Type 0} {keys : Slots K KeyLink} {values : Slots V ValueLink} (chained : IsChained keys values) (place : ℕ) (l : KeyLink)
+    (listed : IsIn place keys.order) (link_is : link_at keys place ≡ Some l) where
+  -- its tail is listed
+  pub tail_listed : (q : ℕ) → Some l.tail ≡ Some q → IsIn q values.order
+  tail_listed q is =
+      let last = chained.tail place l listed link_is ∙ is in
       (IsIn-kept (is_value_of values place) q values.order (last_of-member (chain_of values place) q last)).0
 
-  -- and a chain is shorter than the list with another value
-  pub chain_shorter : (place : ℕ) (l : KeyLink) → IsIn place keys.order → link_at keys place ≡ Some l → (more : List ℕ) (last : ℕ) → more ≡ reserved.order ++ last ∷ [] → l.length < length more
-  chain_shorter place l listed link_is more last is =
-      let count = agrees.chained.length place l listed link_is in
+  -- and it is shorter than the list with another value
+  pub chain_shorter : (more : List ℕ) (last : ℕ) → more ≡ values.order ++ last ∷ [] → l.length < length more
+  chain_shorter more last is =
+      let count = chained.length place l listed link_is in
       let short = filter_shorter (is_value_of values place) values.order in
-      let same : length reserved.order ≡ length values.order = ap (λ (s : Slots V ValueLink). length s.order) same_values in
-      omega (arith, count, short, same, ap length is, length-append reserved.order (last ∷ []))
+      omega (arith, count, short, ap length is, length-append values.order (last ∷ []))
 
-  pub present_step : values.capacity ≤ reserved.capacity → (key : K) (v : V) (place last n : ℕ) (values_after : Slots V ValueLink) (sound : IsSound values_after)
-      (l : KeyLink) (keys_after : Slots K KeyLink) → HasKey eq keys key place → link_at keys place ≡ Some l
-      → PushesValue reserved values_after last v place (Some l.tail) → n ≡ l.length + 1
-      → keys_after ≡ with_link keys place (record l { tail = last; length = n })
-      → Appends eq hash keys values key v keys_after rows values_after
-  present_step room key v place last n values_after sound l keys_after has link_is pushes more sets_is =
-      let a : Agrees eq hash keys rows reserved = agrees_kept keys keys values reserved refl same_values agrees refl (omega arith) room in
-      let done = append_present laws a key v place last n values_after sound l keys_after has link_is pushes more sets_is in
+-- an append, from the slots before room was made
+module _ {K V : Type 0} {eq : K → K → Bool} (laws : IsEquivalence eq) {hash : K → ℕ} {keys : Slots K KeyLink} {rows : FinMap nat_cmp ℕ} {values : Slots V ValueLink}
+    (agrees : Agrees eq hash keys rows values) (reserved : Slots V ValueLink) (same_values : KeepsItems values reserved) (room : values.capacity ≤ reserved.capacity) where
+  -- with room for a value
+  pub agrees_reserved : Agrees eq hash keys rows reserved
+  agrees_reserved = agrees_kept keys keys values reserved refl same_values agrees refl (omega arith) room
+
+  pub present_step : (key : K) (v : V) (place : ℕ) {values_after : Slots V ValueLink} {keys_after : Slots K KeyLink} → HasKey eq keys key place
+      → PushesBehind keys keys_after reserved values_after place v → Appends eq hash keys values key v keys_after rows values_after
+  present_step key v place {values_after} {keys_after} has p =
+      let done = append_present laws agrees_reserved key v place p.last (p.link.length + 1) values_after p.sound p.link keys_after has p.link_is p.pushed refl p.keys_are in
       record { agrees = done.agrees; lists = done.lists ∙ ap (λ m. appended eq m key v) (lists_kept keys keys values reserved refl same_values) }
 
-  pub absent_step : (keys_reserved : Slots K KeyLink) (rows_reserved : FinMap nat_cmp ℕ) (same_keys : KeepsItems keys keys_reserved) → rows_reserved ≡ rows
-      → keys.capacity ≤ keys_reserved.capacity → values.capacity ≤ reserved.capacity → (key : K) (v : V) (place last n : ℕ) (values_after : Slots V ValueLink) (sound : IsSound values_after)
-      (h : ℕ) (unset : KeyLink) (keys_pushed keys_after : Slots K KeyLink) (rows_after : FinMap nat_cmp ℕ)
+  pub absent_step : (keys_reserved keys_pushed : Slots K KeyLink) (rows_reserved : FinMap nat_cmp ℕ) (same_keys : KeepsItems keys keys_reserved) → rows_reserved ≡ rows
+      → keys.capacity ≤ keys_reserved.capacity → (key : K) (v : V) (place h : ℕ) {values_after : Slots V ValueLink} {keys_after : Slots K KeyLink} {rows_after : FinMap nat_cmp ℕ}
       → is_listed eq (items_of keys) key ≡ false → h ≡ hash key → HasRoomFor keys_reserved 1
-      → PushesBack keys_reserved keys_pushed place key unset → keys_pushed.capacity ≡ keys_reserved.capacity
-      → rows_after ≡ insert rows_reserved place h → PushesValue reserved values_after last v place None → n ≡ 0 + 1
-      → keys_after ≡ with_link keys_pushed place (record { hash = h; head = last; tail = last; length = n })
+      → PushesRow keys_reserved keys_pushed rows_reserved rows_after place key h → keys_pushed.capacity ≡ keys_reserved.capacity
+      → PushesOnly keys_pushed keys_after reserved values_after place h v
       → Appends eq hash keys values key v keys_after rows_after values_after
-  absent_step keys_reserved rows_reserved same_keys same_rows key_room value_room key v place last n values_after sound h unset keys_pushed keys_after rows_after unlisted hash_is room pushed same_room rows_is pushes one sets_is =
-      let a : Agrees eq hash keys_reserved rows_reserved reserved = agrees_kept keys keys_reserved values reserved same_keys same_values agrees same_rows key_room value_room in
+  absent_step keys_reserved keys_pushed rows_reserved same_keys same_rows key_room key v place h {values_after} {keys_after} {rows_after} unlisted hash_is fits row same_room only =
+      let a : Agrees eq hash keys_reserved rows_reserved reserved = agrees_kept keys keys_reserved values reserved same_keys same_values agrees same_rows key_room room in
       let same_items : items_of keys_reserved ≡ items_of keys = λ i. items_of (same_keys i) in
-      let done = append_absent laws a key v place last n values_after sound h unset keys_pushed keys_after rows_after
-      (ap (λ ks. is_listed eq ks key) same_items ∙ unlisted) hash_is room pushed same_room rows_is pushes one sets_is in
+      let done = append_absent laws a key v place only.last (0 + 1) values_after only.sound h row.link keys_pushed keys_after rows_after
+      (ap (λ ks. is_listed eq ks key) same_items ∙ unlisted) hash_is fits row.key_pushed same_room row.rows_are only.value_pushed refl only.keys_are in
       record { agrees = done.agrees; lists = done.lists ∙ ap (λ m. appended eq m key v) (lists_kept keys keys_reserved values reserved same_keys same_values) }
+
+  -- the table of reserved rows has listed places alone
+  pub rows_listed : {keys_reserved : Slots K KeyLink} {rows_reserved : FinMap nat_cmp ℕ} → KeepsItems keys keys_reserved → rows_reserved ≡ rows → HasListedRows keys_reserved rows_reserved
+  rows_listed {keys_reserved} same_keys same_rows p h is =
+      subst (λ (s : Slots K KeyLink). IsIn p s.order) (sym same_keys) (agrees.listed p h (ap (λ r. get r p) (sym same_rows) ∙ is))

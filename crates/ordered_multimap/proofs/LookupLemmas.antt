@@ -1,20 +1,25 @@
 -- Look-ups by key, and the ends of the pairs.
-use Rattle.std.proofs.Common.{◌≡◌, ◌≢◌, ◌⊎◌, ◌==◌, ℕ, Bool, true, false, cond, List, [], ◌∷◌, length, filter, map, slice_get, Option, Some, None, refl, sym, ap, ◌∙◌, subst, inl, inr, true≢false}
+use Rattle.std.proofs.Common.{option_map, ◌≡◌, ◌≢◌, ◌⊎◌, ◌==◌, ℕ, Bool, true, false, cond, List, [], ◌∷◌, length, filter, map, slice_get, Option, Some, None, refl, sym, ap, ◌∙◌, subst, inl, inr, true≢false}
 use Rattle.std.proofs.lemmas.Bool.{cases_eq, eq-eqb, ne_eqb}
 use Rattle.std.specs.List.{filter_map, cons_option, IsDistinct, AllByRecursion}
 use Rattle.std.specs.Cmp.{IsEquivalence}
 use Rattle.std.specs.Ordering.{nat_cmp}
 use Rattle.std.specs.FinMap.{FinMap}
+use Rattle.std.specs.Borrow.{Bor}
+use Rattle.std.specs.Map.Iter.{TakesFirst, TakesLast, deref_pair}
 use Rattle.multimap_slots.specs.Lists.{IsIn}
 use Rattle.multimap_slots.specs.Slots.{Slots, item_at, link_at}
 use Rattle.multimap_walks.specs.declared.links.KeyLink.{KeyLink}
 use Rattle.multimap_walks.specs.declared.links.ValueLink.{ValueLink}
+use Rattle.multimap_walks.specs.Walk.{item_at as end_of}
+use Rattle.multimap_walks.specs.declared.End.TheVariants.{Front, Back}
 use Rattle.multimap_walks.specs.Chained.{is_value_of, chain_of, values_at, pair_at, pairs_of}
 use Rattle.ordered_multimap.specs.Pairs.{has_items, values_of, is_present}
 use Rattle.ordered_multimap.specs.Keys.{is_listed, stored_key}
 use Rattle.ordered_multimap.specs.Agrees.{Agrees, HasKey, IsFoundBy, items_of, lists_of}
 use Rattle.ordered_multimap.proofs.Members.{IsIn-kept}
 use Rattle.ordered_multimap.proofs.PlaceLemmas.{held, length-filter_map, IsIn-filter_map, origin, begins}
+use Rattle.ordered_multimap.proofs.LawLemmas.{item_at-push}
 use Rattle.ordered_multimap.proofs.KeyLemmas.{is_listed-member, stored_key_member}
 use Rattle.ordered_multimap.proofs.WellFormedLemmas.{is_present-keys}
 use Rattle.ordered_multimap.proofs.AgreesLemmas.{PairAt, pair_in, is_value_of-is, well_formed}
@@ -134,3 +139,13 @@ module _ {K V : Type 0} {eq : K → K → Bool} (laws : IsEquivalence eq) {hash 
       ap length (values_of-chain k place has)
       ∙ length-filter_map (item_at values) (chain_of values place) (λ q i. agrees.values_sound.filled q (IsIn-kept (is_value_of values place) q values.order i).0)
       ∙ agrees.chained.length place l has.listed link_is
+
+-- what a step of a walk over pairs takes is the item at that end of what was left
+module _ {K V : Type 0} (s t : List (K × V)) where
+  pub first_of_walk : (r : Option (Bor K × Bor V)) → TakesFirst deref_pair s r t → option_map deref_pair r ≡ end_of Front s
+  first_of_walk None taken = sym (ap (end_of Front) taken.0)
+  first_of_walk (Some x) taken = sym (ap (end_of Front) taken)
+
+  pub last_of_walk : (r : Option (Bor K × Bor V)) → TakesLast deref_pair s r t → option_map deref_pair r ≡ end_of Back s
+  last_of_walk None taken = sym (ap (end_of Back) taken.0)
+  last_of_walk (Some x) taken = sym (ap (end_of Back) taken ∙ item_at-push t (deref_pair x))

@@ -1,7 +1,9 @@
 -- What an append does to the slots. No public clause cites this module.
-use Rattle.std.specs.Prelude.{◌≡◌, ◌≢◌, ℕ, [], ◌∷◌, ◌++◌, Option, Some, None}
+use Rattle.std.specs.Prelude.{◌≡◌, ◌≢◌, ◌+◌, ℕ, [], ◌∷◌, ◌++◌, Option, Some, None}
+use Rattle.std.specs.Ordering.{nat_cmp}
+use Rattle.std.specs.FinMap.{FinMap, get, insert}
 use Rattle.multimap_slots.specs.Lists.{IsIn}
-use Rattle.multimap_slots.specs.Slots.{Slots, item_at, link_at, with_link}
+use Rattle.multimap_slots.specs.Slots.{Slots, IsSound, PushesBack, item_at, link_at, with_link}
 use Rattle.multimap_walks.specs.declared.links.KeyLink.{KeyLink}
 use Rattle.multimap_walks.specs.declared.links.ValueLink.{ValueLink}
 
@@ -30,3 +32,29 @@ pub record SetsNext {V : Type 0} (old new : Slots V ValueLink) (place next : ℕ
   pub link : ValueLink
   pub was : link_at old place ≡ Some link
   pub is : new ≡ with_link old place (record link { next = Some next })
+
+-- the value stands last, behind the others of the key at the place
+pub record PushesBehind {K V : Type 0} (keys keys_after : Slots K KeyLink) (values values_after : Slots V ValueLink) (place : ℕ) (value : V) : Type 0 where
+  pub link : KeyLink
+  pub last : ℕ
+  pub link_is : link_at keys place ≡ Some link
+  pub pushed : PushesValue values values_after last value place (Some link.tail)
+  pub sound : IsSound values_after
+  pub keys_are : keys_after ≡ with_link keys place (record link { tail = last; length = link.length + 1 })
+
+-- each row is that of a listed place
+abbrev pub HasListedRows : {K : Type 0} → Slots K KeyLink → FinMap nat_cmp ℕ → Type 0
+HasListedRows keys rows = (place hash : ℕ) → get rows place ≡ Some hash → IsIn place keys.order
+
+-- the key stands last, with a row of its hash
+pub record PushesRow {K : Type 0} (keys keys_after : Slots K KeyLink) (rows rows_after : FinMap nat_cmp ℕ) (place : ℕ) (key : K) (hash : ℕ) : Type 0 where
+  pub link : KeyLink
+  pub key_pushed : PushesBack keys keys_after place key link
+  pub rows_are : rows_after ≡ insert rows place hash
+
+-- the value stands last, as the only one of the key at the place
+pub record PushesOnly {K V : Type 0} (keys keys_after : Slots K KeyLink) (values values_after : Slots V ValueLink) (place hash : ℕ) (value : V) : Type 0 where
+  pub last : ℕ
+  pub value_pushed : PushesValue values values_after last value place None
+  pub sound : IsSound values_after
+  pub keys_are : keys_after ≡ with_link keys place (record { hash = hash; head = last; tail = last; length = 0 + 1 })

@@ -3,10 +3,9 @@ ghost use Rattle.std.specs.Prelude.{◌≡◌, ◌≤◌, ◌<◌, length, IfOk,
 ghost use Rattle.ordered_multimap.specs.Pairs.{is_present};
 ghost use Rattle.ordered_multimap.specs.Changes.{appended};
 
-use super::lookup::{place_of, slot_at};
-use super::steps::{make_room, new_link, one_more, push_key, push_value, set_link};
+use super::lookup::place_of;
+use super::steps::{make_room, push_behind, push_only, push_row};
 use super::{ListOrderedMultimap, Refused};
-use multimap_walks::KeyLink;
 use std::alloc::Allocator;
 use std::hash::{BuildHasher, Hash};
 
@@ -50,26 +49,15 @@ impl<K: Eq + Hash, V, S: BuildHasher, A: Allocator + Copy> ListOrderedMultimap<K
                 if self.values.reserve(1).is_err() {
                     return Err(Refused { key, value });
                 }
-                let (_, link) = slot_at(&self.keys, place);
-                let tail = push_value(&mut self.values, value, place, Some(link.tail));
-                let length = one_more(&self.values, link.length);
-                let longer = KeyLink {
-                    tail,
-                    length,
-                    ..link
-                };
-                set_link(&mut self.keys, place, longer);
+                push_behind(&mut self.keys, &mut self.values, place, value);
                 Ok(true)
             }
             None => {
                 if make_room(&mut self.keys, &mut self.table, &mut self.values).is_err() {
                     return Err(Refused { key, value });
                 }
-                let place = push_key(&mut self.keys, key, new_link(hash, 0, 0));
-                self.table.insert(hash, place);
-                let head = push_value(&mut self.values, value, place, None);
-                let length = one_more(&self.values, 0);
-                set_link(&mut self.keys, place, new_link(hash, head, length));
+                let place = push_row(&mut self.keys, &mut self.table, hash, key);
+                push_only(&mut self.keys, &mut self.values, place, hash, value);
                 Ok(false)
             }
         }

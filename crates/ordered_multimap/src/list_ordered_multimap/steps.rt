@@ -3,8 +3,10 @@ ghost use Rattle.std.specs.Prelude.{◌≡◌, ◌≤◌, ◌<◌, ◌+◌, ℕ,
 ghost use Rattle.std.specs.FinMap.{len};
 ghost use Rattle.multimap_slots.specs.Lists.{IsIn};
 ghost use Rattle.multimap_slots.specs.Slots.{IsSound, HasRoomFor, KeepsItems, PushesBack, with_link};
-ghost use Rattle.ordered_multimap.specs.Appends.{PushesValue, SetsNext};
+ghost use Rattle.multimap_walks.specs.Chained.{IsChained};
+ghost use Rattle.ordered_multimap.specs.Appends.{PushesValue, SetsNext, PushesBehind, HasListedRows, PushesRow, PushesOnly};
 
+use super::lookup::slot_at;
 use multimap_slots::SlotList;
 use multimap_table::KeyTable;
 use multimap_walks::{KeyLink, ValueLink};
@@ -41,11 +43,7 @@ pub(super) fn make_room<K, V, A: Allocator + Copy>(
 }
 
 /// Puts the key last, and answers its place.
-pub(super) fn push_key<K, A: Allocator>(
-    keys: &mut SlotList<K, KeyLink, A>,
-    key: K,
-    link: KeyLink,
-) -> usize
+fn push_key<K, A: Allocator>(keys: &mut SlotList<K, KeyLink, A>, key: K, link: KeyLink) -> usize
     requires { HasRoomFor keys.old 1 }
     ensures pushed { PushesBack keys.old keys.new result key link }
     ensures capacity { keys.new.capacity ≡ keys.old.capacity }
@@ -57,7 +55,7 @@ pub(super) fn push_key<K, A: Allocator>(
 }
 
 /// The link of a key whose chain has so many values, all at one place.
-pub(super) fn new_link(hash: u64, place: usize, length: usize) -> KeyLink
+fn new_link(hash: u64, place: usize, length: usize) -> KeyLink
     ensures { result ≡ record { hash = hash; head = place; tail = place; length = length } }
 {
     KeyLink {
@@ -69,11 +67,7 @@ pub(super) fn new_link(hash: u64, place: usize, length: usize) -> KeyLink
 }
 
 /// Gives the key at the place another link.
-pub(super) fn set_link<K, A: Allocator>(
-    keys: &mut SlotList<K, KeyLink, A>,
-    place: usize,
-    link: KeyLink,
-)
+fn set_link<K, A: Allocator>(keys: &mut SlotList<K, KeyLink, A>, place: usize, link: KeyLink)
     requires { IsIn place keys.old.order }
     ensures { keys.new ≡ with_link keys.old place link }
 {
@@ -96,7 +90,7 @@ fn set_next<V, A: Allocator>(values: &mut SlotList<V, ValueLink, A>, place: usiz
 
 /// Puts the value last, behind the value at the tail in the chain of its key, and answers its
 /// place.
-pub(super) fn push_value<V, A: Allocator>(
+fn push_value<V, A: Allocator>(
     values: &mut SlotList<V, ValueLink, A>,
     value: V,
     key: usize,
@@ -123,11 +117,72 @@ pub(super) fn push_value<V, A: Allocator>(
 }
 
 /// One more than the length of a chain. The list has more values than that, so it is a `usize`.
-pub(super) fn one_more<V, A: Allocator>(values: &SlotList<V, ValueLink, A>, count: usize) -> usize
+fn one_more<V, A: Allocator>(values: &SlotList<V, ValueLink, A>, count: usize) -> usize
     requires { count < length values.now.order }
     ensures more { result ≡ count + 1 }
     ensures sound { IsSound values.now }
 {
     let _ = values.len();
     count + 1
+}
+
+/// Puts the value last, behind the others of the key at the place.
+pub(super) fn push_behind<K, V, A: Allocator>(
+    keys: &mut SlotList<K, KeyLink, A>,
+    values: &mut SlotList<V, ValueLink, A>,
+    place: usize,
+    value: V,
+)
+    requires listed { IsIn place keys.old.order }
+    requires chained { IsChained keys.old values.old }
+    requires room { HasRoomFor values.old 1 }
+    ensures pushed { PushesBehind keys.old keys.new values.old values.new place value }
+    ensures capacity { values.new.capacity ≡ values.old.capacity }
+{
+    let (_, link) = slot_at(keys, place);
+    let tail = push_value(values, value, place, Some(link.tail));
+    let length = one_more(values, link.length);
+    let longer = KeyLink {
+        tail,
+        length,
+        ..link
+    };
+    set_link(keys, place, longer);
+}
+
+/// Puts the key last, with a row of its hash and without a value yet, and answers its place.
+pub(super) fn push_row<K, A: Allocator + Copy>(
+    keys: &mut SlotList<K, KeyLink, A>,
+    table: &mut KeyTable<A>,
+    hash: u64,
+    key: K,
+) -> usize
+    requires listed { HasListedRows keys.old table.old.rows }
+    requires key_room { HasRoomFor keys.old 1 }
+    requires row_room { len table.old.rows + 1 ≤ table.old.capacity }
+    ensures pushed { PushesRow keys.old keys.new table.old.rows table.new.rows result key hash }
+    ensures keys_capacity { keys.new.capacity ≡ keys.old.capacity }
+    ensures rows_capacity { table.new.capacity ≡ table.old.capacity }
+{
+    let place = push_key(keys, key, new_link(hash, 0, 0));
+    table.insert(hash, place);
+    place
+}
+
+/// Puts the value last, as the only one of the key at the place.
+pub(super) fn push_only<K, V, A: Allocator>(
+    keys: &mut SlotList<K, KeyLink, A>,
+    values: &mut SlotList<V, ValueLink, A>,
+    place: usize,
+    hash: u64,
+    value: V,
+)
+    requires listed { IsIn place keys.old.order }
+    requires room { HasRoomFor values.old 1 }
+    ensures pushed { PushesOnly keys.old keys.new values.old values.new place hash value }
+    ensures capacity { values.new.capacity ≡ values.old.capacity }
+{
+    let head = push_value(values, value, place, None);
+    let length = one_more(values, 0);
+    set_link(keys, place, new_link(hash, head, length));
 }

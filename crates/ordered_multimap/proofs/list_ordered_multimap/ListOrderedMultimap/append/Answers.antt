@@ -1,12 +1,11 @@
-use Rattle.std.proofs.Common.{◌≡◌, ◌<◌, length, min, refl, sym, ap, ◌∙◌, subst, true≢false, arith}
-use Rattle.multimap_slots.specs.Slots.{with_link}
+use Rattle.std.proofs.Common.{◌≡◌, ◌<◌, length, min, sym, ap, ◌∙◌, subst, true≢false}
 use Rattle.ordered_multimap.specs.Pairs.{is_present}
 use Rattle.ordered_multimap.specs.Changes.{appended}
 use Rattle.ordered_multimap.specs.Agrees.{IsFoundBy, hash_of}
 use Rattle.ordered_multimap.proofs.AgreesLemmas.{value_room, key_room, row_room}
 use Rattle.ordered_multimap.proofs.LookupLemmas.{found_by, present_if_found, absent_if_unlisted}
 use Rattle.ordered_multimap.proofs.StepLemmas.{ok_if, not_refused, new_listed}
-use Rattle.ordered_multimap.proofs.AppendedLemmas.{agrees_kept, reserved_tail, chain_shorter, present_step, absent_step}
+use Rattle.ordered_multimap.proofs.AppendedLemmas.{agrees_kept, agrees_reserved, present_step, absent_step}
 use Rattle.ordered_multimap.proofs.list_ordered_multimap.ListOrderedMultimap.append.Goals as goal
 
 pub place_of-requires : goal.place_of-requires
@@ -18,8 +17,7 @@ place_of-requires g c =
 
 pub invariant_of-self : goal.invariant_of-self
 invariant_of-self g c =
-    agrees_kept c.self.inside.keys c.self.inside.keys c.self.inside.values c.reserve.new.self refl c.reserve.ensures.unchanged
-    c.self.invariant refl (omega arith) c.reserve.ensures.capacity
+    agrees_reserved g.met.K.Eq.laws c.self.invariant c.reserve.new.self c.reserve.ensures.unchanged c.reserve.ensures.capacity
 
 pub returns-then-is_err-clause-succeeds : goal.returns-then-is_err-clause-succeeds
 returns-then-is_err-clause-succeeds g c =
@@ -35,21 +33,14 @@ returns-then-is_err-clause-had_value_room g c =
 
 -- a present key, appended
 
-pub push_value-tail-requires-clause-tail : goal.push_value-tail-requires-clause-tail
-push_value-tail-requires-clause-tail g c =
-    reserved_tail g.met.K.Eq.laws c.self.invariant c.reserve.new.self c.reserve.ensures.unchanged c.in-Some.place c.slot_at.result.1 c.in-Some.ensures.found.listed c.slot_at.ensures.link_is
-
-pub one_more-length-requires : goal.one_more-length-requires
-one_more-length-requires g c =
-    chain_shorter g.met.K.Eq.laws c.self.invariant c.reserve.new.self c.reserve.ensures.unchanged c.in-Some.place c.slot_at.result.1 c.in-Some.ensures.found.listed c.slot_at.ensures.link_is
-    c.push_value-tail.new.values.order c.push_value-tail.result c.push_value-tail.ensures.pushed.order
+pub push_behind-requires-clause-chained : goal.push_behind-requires-clause-chained
+push_behind-requires-clause-chained g c =
+    (agrees_reserved g.met.K.Eq.laws c.self.invariant c.reserve.new.self c.reserve.ensures.unchanged c.reserve.ensures.capacity).chained
 
 pub invariant_of-self-in-Some-1 : goal.invariant_of-self-in-Some-1
 invariant_of-self-in-Some-1 g c =
     (present_step g.met.K.Eq.laws c.self.invariant c.reserve.new.self c.reserve.ensures.unchanged c.reserve.ensures.capacity c.args.key c.args.value
-    c.in-Some.place c.push_value-tail.result c.one_more-length.result c.push_value-tail.new.values c.one_more-length.ensures.sound
-    c.slot_at.result.1 c.set_link.new.keys c.in-Some.ensures.found c.slot_at.ensures.link_is c.push_value-tail.ensures.pushed
-    c.one_more-length.ensures.more c.set_link.ensures).agrees
+    c.in-Some.place c.in-Some.ensures.found c.push_behind.ensures.pushed).agrees
 
 pub returns-else-is_err-clause-present : goal.returns-else-is_err-clause-present
 returns-else-is_err-clause-present g c =
@@ -59,14 +50,12 @@ returns-else-is_err-clause-present g c =
 pub returns-else-is_err-clause-ok : goal.returns-else-is_err-clause-ok
 returns-else-is_err-clause-ok g c =
     (present_step g.met.K.Eq.laws c.self.invariant c.reserve.new.self c.reserve.ensures.unchanged c.reserve.ensures.capacity c.args.key c.args.value
-    c.in-Some.place c.push_value-tail.result c.one_more-length.result c.push_value-tail.new.values c.one_more-length.ensures.sound
-    c.slot_at.result.1 c.set_link.new.keys c.in-Some.ensures.found c.slot_at.ensures.link_is c.push_value-tail.ensures.pushed
-    c.one_more-length.ensures.more c.set_link.ensures).lists
+    c.in-Some.place c.in-Some.ensures.found c.push_behind.ensures.pushed).lists
     ∙ ap (λ m. appended g.K.PartialEq.eq m.lists c.args.key c.args.value) c.self.view_is
 
 pub returns-else-is_err-clause-had_value_room : goal.returns-else-is_err-clause-had_value_room
 returns-else-is_err-clause-had_value_room g c =
-    λ short. c.push_value-tail.ensures.capacity ∙ c.reserve.ensures.had_room (value_room c.self.invariant (subst (λ m. length m.lists.pairs < m.value_room) (sym c.self.view_is) short)) ∙ ap (λ m. m.value_room) c.self.view_is
+    λ short. c.push_behind.ensures.capacity ∙ c.reserve.ensures.had_room (value_room c.self.invariant (subst (λ m. length m.lists.pairs < m.value_room) (sym c.self.view_is) short)) ∙ ap (λ m. m.value_room) c.self.view_is
 
 -- an absent key, refused
 
@@ -102,19 +91,16 @@ returns-then-is_err-2-clause-present_keeps_key_room g c =
 
 -- an absent key, appended
 
-pub set_link-requires-in-None : goal.set_link-requires-in-None
-set_link-requires-in-None g c =
-    new_listed c.push_key-place.ensures.pushed
+pub push_only-requires-clause-listed : goal.push_only-requires-clause-listed
+push_only-requires-clause-listed g c = new_listed c.push_row-place.ensures.pushed.key_pushed
 
 pub invariant_of-self-in-None : goal.invariant_of-self-in-None
 invariant_of-self-in-None g c =
-    (absent_step g.met.K.Eq.laws c.self.invariant c.make_room.new.values c.make_room.ensures.values c.make_room.new.keys c.make_room.new.table.rows
-    c.make_room.ensures.keys c.make_room.ensures.rows c.make_room.ensures.keys_capacity c.make_room.ensures.values_capacity c.args.key c.args.value
-    c.push_key-place.result c.push_value-head.result c.one_more-length-in-None.result c.push_value-head.new.values c.one_more-length-in-None.ensures.sound
-    c.hash_one-hash.result _ c.push_key-place.new.keys c.set_link-in-None.new.keys c.insert.new.self.rows c.in-None.ensures.absent c.hash_one-hash.ensures
+    (absent_step g.met.K.Eq.laws c.self.invariant c.make_room.new.values c.make_room.ensures.values c.make_room.ensures.values_capacity
+    c.make_room.new.keys c.push_row-place.new.keys c.make_room.new.table.rows c.make_room.ensures.keys c.make_room.ensures.rows c.make_room.ensures.keys_capacity
+    c.args.key c.args.value c.push_row-place.result c.hash_one-hash.result c.in-None.ensures.absent c.hash_one-hash.ensures
     (ok_if c.make_room.result (sym c.is_err-in-None.ensures.value ∙ c.if-is_err-2.false) c.make_room.ensures.key_room)
-    c.push_key-place.ensures.pushed c.push_key-place.ensures.capacity c.insert.ensures.rows c.push_value-head.ensures.pushed
-    c.one_more-length-in-None.ensures.more (c.set_link-in-None.ensures ∙ ap (with_link c.push_key-place.new.keys c.push_key-place.result) c.new_link-in-None.ensures)).agrees
+    c.push_row-place.ensures.pushed c.push_row-place.ensures.keys_capacity c.push_only.ensures.pushed).agrees
 
 pub returns-else-is_err-2-clause-present : goal.returns-else-is_err-2-clause-present
 returns-else-is_err-2-clause-present g c =
@@ -123,25 +109,23 @@ returns-else-is_err-2-clause-present g c =
 
 pub returns-else-is_err-2-clause-ok : goal.returns-else-is_err-2-clause-ok
 returns-else-is_err-2-clause-ok g c =
-    (absent_step g.met.K.Eq.laws c.self.invariant c.make_room.new.values c.make_room.ensures.values c.make_room.new.keys c.make_room.new.table.rows
-    c.make_room.ensures.keys c.make_room.ensures.rows c.make_room.ensures.keys_capacity c.make_room.ensures.values_capacity c.args.key c.args.value
-    c.push_key-place.result c.push_value-head.result c.one_more-length-in-None.result c.push_value-head.new.values c.one_more-length-in-None.ensures.sound
-    c.hash_one-hash.result _ c.push_key-place.new.keys c.set_link-in-None.new.keys c.insert.new.self.rows c.in-None.ensures.absent c.hash_one-hash.ensures
+    (absent_step g.met.K.Eq.laws c.self.invariant c.make_room.new.values c.make_room.ensures.values c.make_room.ensures.values_capacity
+    c.make_room.new.keys c.push_row-place.new.keys c.make_room.new.table.rows c.make_room.ensures.keys c.make_room.ensures.rows c.make_room.ensures.keys_capacity
+    c.args.key c.args.value c.push_row-place.result c.hash_one-hash.result c.in-None.ensures.absent c.hash_one-hash.ensures
     (ok_if c.make_room.result (sym c.is_err-in-None.ensures.value ∙ c.if-is_err-2.false) c.make_room.ensures.key_room)
-    c.push_key-place.ensures.pushed c.push_key-place.ensures.capacity c.insert.ensures.rows c.push_value-head.ensures.pushed
-    c.one_more-length-in-None.ensures.more (c.set_link-in-None.ensures ∙ ap (with_link c.push_key-place.new.keys c.push_key-place.result) c.new_link-in-None.ensures)).lists
+    c.push_row-place.ensures.pushed c.push_row-place.ensures.keys_capacity c.push_only.ensures.pushed).lists
     ∙ ap (λ m. appended g.K.PartialEq.eq m.lists c.args.key c.args.value) c.self.view_is
 
 pub returns-else-is_err-2-clause-had_key_room : goal.returns-else-is_err-2-clause-had_key_room
 returns-else-is_err-2-clause-had_key_room g c =
     λ few.
-    let keys_same : c.set_link-in-None.new.keys.capacity ≡ c.self.inside.keys.capacity = ap (λ s. s.capacity) c.set_link-in-None.ensures ∙ c.push_key-place.ensures.capacity ∙ c.make_room.ensures.keys_had_room (key_room c.self.invariant c.self.inside.table.capacity (subst (λ m. length m.lists.keys < m.key_room) (sym c.self.view_is) few)) in
-    let rows_same : c.insert.new.self.capacity ≡ c.self.inside.table.capacity = c.insert.ensures.capacity ∙ c.make_room.ensures.rows_had_room (row_room c.self.invariant c.self.inside.table.capacity (subst (λ m. length m.lists.keys < m.key_room) (sym c.self.view_is) few)) in
+    let keys_same : c.push_only.new.keys.capacity ≡ c.self.inside.keys.capacity = ap (λ s. s.capacity) c.push_only.ensures.pushed.keys_are ∙ c.push_row-place.ensures.keys_capacity ∙ c.make_room.ensures.keys_had_room (key_room c.self.invariant c.self.inside.table.capacity (subst (λ m. length m.lists.keys < m.key_room) (sym c.self.view_is) few)) in
+    let rows_same : c.push_row-place.new.table.capacity ≡ c.self.inside.table.capacity = c.push_row-place.ensures.rows_capacity ∙ c.make_room.ensures.rows_had_room (row_room c.self.invariant c.self.inside.table.capacity (subst (λ m. length m.lists.keys < m.key_room) (sym c.self.view_is) few)) in
     (λ i. min (keys_same i) (rows_same i)) ∙ ap (λ m. m.key_room) c.self.view_is
 
 pub returns-else-is_err-2-clause-had_value_room : goal.returns-else-is_err-2-clause-had_value_room
 returns-else-is_err-2-clause-had_value_room g c =
-    λ short. c.push_value-head.ensures.capacity ∙ c.make_room.ensures.values_had_room (value_room c.self.invariant (subst (λ m. length m.lists.pairs < m.value_room) (sym c.self.view_is) short)) ∙ ap (λ m. m.value_room) c.self.view_is
+    λ short. c.push_only.ensures.capacity ∙ c.make_room.ensures.values_had_room (value_room c.self.invariant (subst (λ m. length m.lists.pairs < m.value_room) (sym c.self.view_is) short)) ∙ ap (λ m. m.value_room) c.self.view_is
 
 pub returns-else-is_err-2-clause-present_keeps_key_room : goal.returns-else-is_err-2-clause-present_keeps_key_room
 returns-else-is_err-2-clause-present_keeps_key_room g c =

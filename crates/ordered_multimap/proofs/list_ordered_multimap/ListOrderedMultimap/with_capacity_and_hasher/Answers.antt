@@ -4,3 +4,6 @@ use Rattle.ordered_multimap.proofs.list_ordered_multimap.ListOrderedMultimap.wit
 pub invariant_of-result : goal.invariant_of-result
 invariant_of-result g c =
     agrees_empty _ _ c.in_ok-keys.ensures.empty c.in_ok-values.ensures.empty _ _ _ c.in_ok-table.ensures.rows
+
+pub returns-clause-value_room : goal.returns-clause-value_room
+returns-clause-value_room g c = c.in_ok-values.ensures.capacity
