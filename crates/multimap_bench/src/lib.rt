@@ -19,6 +19,7 @@ use fast::FastHasher;
 use ordered_multimap::list_ordered_multimap::DefaultState;
 use std::alloc::Global;
 use std::hash::BuildHasherDefault;
+use workloads::{Workload, run};
 
 /// The builder of the fast hasher.
 type FastState = BuildHasherDefault<FastHasher>;
@@ -26,107 +27,131 @@ type FastState = BuildHasherDefault<FastHasher>;
 /// Appends a new key for each pair.
 #[unsafe(no_mangle)]
 pub extern "C" fn bench_append_distinct(alloc: Global, n: u64, seed: u64) -> u64 {
-    workloads::append_distinct(alloc, DefaultState::new(), n, seed)
+    run(
+        alloc,
+        DefaultState::new(),
+        Workload::AppendDistinct,
+        n,
+        seed,
+    )
 }
 
 /// Appends to a thousand keys, in random order.
 #[unsafe(no_mangle)]
 pub extern "C" fn bench_append_few(alloc: Global, n: u64, seed: u64) -> u64 {
-    workloads::append_few(alloc, DefaultState::new(), n, seed)
+    run(alloc, DefaultState::new(), Workload::AppendFew, n, seed)
 }
 
 /// Appends eight pairs a key, one after another.
 #[unsafe(no_mangle)]
 pub extern "C" fn bench_append_grouped(alloc: Global, n: u64, seed: u64) -> u64 {
-    workloads::append_grouped(alloc, DefaultState::new(), n, seed)
+    run(alloc, DefaultState::new(), Workload::AppendGrouped, n, seed)
 }
 
 /// Appends eight pairs a key, in eight rounds over the keys.
 #[unsafe(no_mangle)]
 pub extern "C" fn bench_append_scattered(alloc: Global, n: u64, seed: u64) -> u64 {
-    workloads::append_scattered(alloc, DefaultState::new(), n, seed)
+    run(
+        alloc,
+        DefaultState::new(),
+        Workload::AppendScattered,
+        n,
+        seed,
+    )
 }
 
 /// Gets random keys that are there, after `append_distinct`.
 #[unsafe(no_mangle)]
 pub extern "C" fn bench_get_hit(alloc: Global, n: u64, seed: u64) -> u64 {
-    workloads::get_hit(alloc, DefaultState::new(), n, seed)
+    run(alloc, DefaultState::new(), Workload::GetHit, n, seed)
 }
 
 /// Gets keys that are not there, after `append_distinct`.
 #[unsafe(no_mangle)]
 pub extern "C" fn bench_get_miss(alloc: Global, n: u64, seed: u64) -> u64 {
-    workloads::get_miss(alloc, DefaultState::new(), n, seed)
+    run(alloc, DefaultState::new(), Workload::GetMiss, n, seed)
 }
 
 /// Goes over the values of random keys, after `append_grouped`.
 #[unsafe(no_mangle)]
 pub extern "C" fn bench_get_all_walk(alloc: Global, n: u64, seed: u64) -> u64 {
-    workloads::get_all_walk(alloc, DefaultState::new(), n, seed)
+    run(alloc, DefaultState::new(), Workload::GetAllWalk, n, seed)
 }
 
 /// Goes over the values of random keys, after `append_scattered`.
 #[unsafe(no_mangle)]
 pub extern "C" fn bench_get_all_walk_scattered(alloc: Global, n: u64, seed: u64) -> u64 {
-    workloads::get_all_walk_scattered(alloc, DefaultState::new(), n, seed)
+    run(
+        alloc,
+        DefaultState::new(),
+        Workload::GetAllWalkScattered,
+        n,
+        seed,
+    )
 }
 
 /// Goes over all pairs, after `append_scattered`.
 #[unsafe(no_mangle)]
 pub extern "C" fn bench_iter_all(alloc: Global, n: u64, seed: u64) -> u64 {
-    workloads::iter_all(alloc, DefaultState::new(), n, seed)
+    run(alloc, DefaultState::new(), Workload::IterAll, n, seed)
 }
 
 /// Appends a new key for each pair. With the fast hasher.
 #[unsafe(no_mangle)]
 pub extern "C" fn benchfx_append_distinct(alloc: Global, n: u64, seed: u64) -> u64 {
-    workloads::append_distinct(alloc, FastState::new(), n, seed)
+    run(alloc, FastState::new(), Workload::AppendDistinct, n, seed)
 }
 
 /// Appends to a thousand keys, in random order. With the fast hasher.
 #[unsafe(no_mangle)]
 pub extern "C" fn benchfx_append_few(alloc: Global, n: u64, seed: u64) -> u64 {
-    workloads::append_few(alloc, FastState::new(), n, seed)
+    run(alloc, FastState::new(), Workload::AppendFew, n, seed)
 }
 
 /// Appends eight pairs a key, one after another. With the fast hasher.
 #[unsafe(no_mangle)]
 pub extern "C" fn benchfx_append_grouped(alloc: Global, n: u64, seed: u64) -> u64 {
-    workloads::append_grouped(alloc, FastState::new(), n, seed)
+    run(alloc, FastState::new(), Workload::AppendGrouped, n, seed)
 }
 
 /// Appends eight pairs a key, in eight rounds over the keys. With the fast hasher.
 #[unsafe(no_mangle)]
 pub extern "C" fn benchfx_append_scattered(alloc: Global, n: u64, seed: u64) -> u64 {
-    workloads::append_scattered(alloc, FastState::new(), n, seed)
+    run(alloc, FastState::new(), Workload::AppendScattered, n, seed)
 }
 
 /// Gets random keys that are there, after `append_distinct`. With the fast hasher.
 #[unsafe(no_mangle)]
 pub extern "C" fn benchfx_get_hit(alloc: Global, n: u64, seed: u64) -> u64 {
-    workloads::get_hit(alloc, FastState::new(), n, seed)
+    run(alloc, FastState::new(), Workload::GetHit, n, seed)
 }
 
 /// Gets keys that are not there, after `append_distinct`. With the fast hasher.
 #[unsafe(no_mangle)]
 pub extern "C" fn benchfx_get_miss(alloc: Global, n: u64, seed: u64) -> u64 {
-    workloads::get_miss(alloc, FastState::new(), n, seed)
+    run(alloc, FastState::new(), Workload::GetMiss, n, seed)
 }
 
 /// Goes over the values of random keys, after `append_grouped`. With the fast hasher.
 #[unsafe(no_mangle)]
 pub extern "C" fn benchfx_get_all_walk(alloc: Global, n: u64, seed: u64) -> u64 {
-    workloads::get_all_walk(alloc, FastState::new(), n, seed)
+    run(alloc, FastState::new(), Workload::GetAllWalk, n, seed)
 }
 
 /// Goes over the values of random keys, after `append_scattered`. With the fast hasher.
 #[unsafe(no_mangle)]
 pub extern "C" fn benchfx_get_all_walk_scattered(alloc: Global, n: u64, seed: u64) -> u64 {
-    workloads::get_all_walk_scattered(alloc, FastState::new(), n, seed)
+    run(
+        alloc,
+        FastState::new(),
+        Workload::GetAllWalkScattered,
+        n,
+        seed,
+    )
 }
 
 /// Goes over all pairs, after `append_scattered`. With the fast hasher.
 #[unsafe(no_mangle)]
 pub extern "C" fn benchfx_iter_all(alloc: Global, n: u64, seed: u64) -> u64 {
-    workloads::iter_all(alloc, FastState::new(), n, seed)
+    run(alloc, FastState::new(), Workload::IterAll, n, seed)
 }

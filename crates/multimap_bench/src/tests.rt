@@ -6,9 +6,10 @@ use crate::{
     benchfx_append_scattered, benchfx_get_all_walk, benchfx_get_all_walk_scattered,
     benchfx_get_hit, benchfx_get_miss, benchfx_iter_all,
 };
-use std::process::Abort;
+use std::alloc::Global;
+use test_helpers::{Failed, Test};
 
-const CHECKSUMS: [(&str, u64); 9] = [
+const CHECKSUMS: &[(&str, u64)] = &[
     ("append_distinct", 0x33bf_5941_cd09_89ed),
     ("append_few", 0xb64e_7cf3_dab2_25f3),
     ("append_grouped", 0x2d19_baf3_6766_982d),
@@ -20,43 +21,56 @@ const CHECKSUMS: [(&str, u64); 9] = [
     ("iter_all", 0x7f15_ac8e_ece3_e735),
 ];
 
-fn assert_checksums(rt: &impl Abort, answers: [u64; 9]) {
-    for i in 0..9usize {
-        let (workload, checksum) = CHECKSUMS[i];
-        assert_eq!(rt; answers[i], checksum, "{workload}");
+/// Expects the checksum of the workload in the row.
+fn expect_checksum(test: &Test, row: usize, seen: u64) {
+    match CHECKSUMS.get(row) {
+        Some((workload, checksum)) => test.expect(workload, seen == *checksum),
+        None => test.expect("a workload", false),
     }
 }
 
-#[test]
-fn checksums_are_right_with_the_default_hasher(rt: HostRuntime) {
-    let alloc = rt.alloc();
-    let answers = [
-        bench_append_distinct(alloc, 64, 1),
-        bench_append_few(alloc, 64, 1),
-        bench_append_grouped(alloc, 64, 1),
-        bench_append_scattered(alloc, 64, 1),
-        bench_get_hit(alloc, 64, 1),
-        bench_get_miss(alloc, 64, 1),
-        bench_get_all_walk(alloc, 64, 1),
-        bench_get_all_walk_scattered(alloc, 64, 1),
-        bench_iter_all(alloc, 64, 1),
-    ];
-    assert_checksums(&rt, answers);
+fn appends_of_the_default_hasher(test: &Test, alloc: Global) {
+    expect_checksum(test, 0, bench_append_distinct(alloc, 64, 1));
+    expect_checksum(test, 1, bench_append_few(alloc, 64, 1));
+    expect_checksum(test, 2, bench_append_grouped(alloc, 64, 1));
+    expect_checksum(test, 3, bench_append_scattered(alloc, 64, 1));
+}
+
+fn look_ups_of_the_default_hasher(test: &Test, alloc: Global) {
+    expect_checksum(test, 4, bench_get_hit(alloc, 64, 1));
+    expect_checksum(test, 5, bench_get_miss(alloc, 64, 1));
+    expect_checksum(test, 6, bench_get_all_walk(alloc, 64, 1));
+    expect_checksum(test, 7, bench_get_all_walk_scattered(alloc, 64, 1));
+    expect_checksum(test, 8, bench_iter_all(alloc, 64, 1));
 }
 
 #[test]
-fn checksums_are_right_with_the_fast_hasher(rt: HostRuntime) {
-    let alloc = rt.alloc();
-    let answers = [
-        benchfx_append_distinct(alloc, 64, 1),
-        benchfx_append_few(alloc, 64, 1),
-        benchfx_append_grouped(alloc, 64, 1),
-        benchfx_append_scattered(alloc, 64, 1),
-        benchfx_get_hit(alloc, 64, 1),
-        benchfx_get_miss(alloc, 64, 1),
-        benchfx_get_all_walk(alloc, 64, 1),
-        benchfx_get_all_walk_scattered(alloc, 64, 1),
-        benchfx_iter_all(alloc, 64, 1),
-    ];
-    assert_checksums(&rt, answers);
+fn checksums_are_right_with_the_default_hasher(rt: HostRuntime) -> Result<(), Failed> {
+    let test = Test::new(rt.alloc());
+    appends_of_the_default_hasher(&test, test.alloc());
+    look_ups_of_the_default_hasher(&test, test.alloc());
+    test.end()
+}
+
+fn appends_of_the_fast_hasher(test: &Test, alloc: Global) {
+    expect_checksum(test, 0, benchfx_append_distinct(alloc, 64, 1));
+    expect_checksum(test, 1, benchfx_append_few(alloc, 64, 1));
+    expect_checksum(test, 2, benchfx_append_grouped(alloc, 64, 1));
+    expect_checksum(test, 3, benchfx_append_scattered(alloc, 64, 1));
+}
+
+fn look_ups_of_the_fast_hasher(test: &Test, alloc: Global) {
+    expect_checksum(test, 4, benchfx_get_hit(alloc, 64, 1));
+    expect_checksum(test, 5, benchfx_get_miss(alloc, 64, 1));
+    expect_checksum(test, 6, benchfx_get_all_walk(alloc, 64, 1));
+    expect_checksum(test, 7, benchfx_get_all_walk_scattered(alloc, 64, 1));
+    expect_checksum(test, 8, benchfx_iter_all(alloc, 64, 1));
+}
+
+#[test]
+fn checksums_are_right_with_the_fast_hasher(rt: HostRuntime) -> Result<(), Failed> {
+    let test = Test::new(rt.alloc());
+    appends_of_the_fast_hasher(&test, test.alloc());
+    look_ups_of_the_fast_hasher(&test, test.alloc());
+    test.end()
 }

@@ -1,4 +1,4 @@
-//! The workloads, each with a map of its own under any hash builder.
+//! The workloads, each on a map of its own under any hash builder.
 use crate::appends::{Map, distinct, few, grouped, scattered};
 use crate::lookups::{all_pairs, hits, misses, walks};
 use crate::numbers::START;
@@ -9,71 +9,75 @@ use std::hash::BuildHasher;
 /// What a workload answers where memory was refused.
 const REFUSED: u64 = 0;
 
-fn new_map<S: BuildHasher>(alloc: Global, state: S) -> Map<S> {
-    ListOrderedMultimap::with_hasher(alloc, state)
+/// What is done to an empty map.
+#[derive(Clone, Copy)]
+pub enum Workload {
+    /// Appends a new key for each pair.
+    AppendDistinct,
+    /// Appends to a thousand keys, in random order.
+    AppendFew,
+    /// Appends eight pairs a key, one after another.
+    AppendGrouped,
+    /// Appends eight pairs a key, in eight rounds over the keys.
+    AppendScattered,
+    /// Gets random keys that are there, after `AppendDistinct`.
+    GetHit,
+    /// Gets keys that are not there, after `AppendDistinct`.
+    GetMiss,
+    /// Goes over the values of random keys, after `AppendGrouped`.
+    GetAllWalk,
+    /// Goes over the values of random keys, after `AppendScattered`.
+    GetAllWalkScattered,
+    /// Goes over all pairs, after `AppendScattered`.
+    IterAll,
 }
 
-pub fn append_distinct<S: BuildHasher + Drop>(alloc: Global, state: S, n: u64, seed: u64) -> u64 {
-    let mut map = new_map(alloc, state);
-    distinct(&mut map, n, seed, START).unwrap_or(REFUSED)
-}
-
-pub fn append_few<S: BuildHasher + Drop>(alloc: Global, state: S, n: u64, seed: u64) -> u64 {
-    let mut map = new_map(alloc, state);
-    few(&mut map, n, seed, START).unwrap_or(REFUSED)
-}
-
-pub fn append_grouped<S: BuildHasher + Drop>(alloc: Global, state: S, n: u64, seed: u64) -> u64 {
-    let mut map = new_map(alloc, state);
-    grouped(&mut map, n, seed, START).unwrap_or(REFUSED)
-}
-
-pub fn append_scattered<S: BuildHasher + Drop>(alloc: Global, state: S, n: u64, seed: u64) -> u64 {
-    let mut map = new_map(alloc, state);
-    scattered(&mut map, n, seed, START).unwrap_or(REFUSED)
-}
-
-pub fn get_hit<S: BuildHasher + Drop>(alloc: Global, state: S, n: u64, seed: u64) -> u64 {
-    let mut map = new_map(alloc, state);
-    match distinct(&mut map, n, seed, START) {
-        Some(checksum) => hits(&map, n, seed, checksum),
-        None => REFUSED,
-    }
-}
-
-pub fn get_miss<S: BuildHasher + Drop>(alloc: Global, state: S, n: u64, seed: u64) -> u64 {
-    let mut map = new_map(alloc, state);
-    match distinct(&mut map, n, seed, START) {
-        Some(checksum) => misses(&map, n, seed, checksum),
-        None => REFUSED,
-    }
-}
-
-pub fn get_all_walk<S: BuildHasher + Drop>(alloc: Global, state: S, n: u64, seed: u64) -> u64 {
-    let mut map = new_map(alloc, state);
-    match grouped(&mut map, n, seed, START) {
-        Some(checksum) => walks(&map, n, seed, checksum),
-        None => REFUSED,
-    }
-}
-
-pub fn get_all_walk_scattered<S: BuildHasher + Drop>(
+/// Makes a map, runs a workload of `n` pairs on it, and lets the map go. Answers the checksum.
+pub fn run<S: BuildHasher + Drop>(
     alloc: Global,
     state: S,
+    workload: Workload,
     n: u64,
     seed: u64,
 ) -> u64 {
-    let mut map = new_map(alloc, state);
-    match scattered(&mut map, n, seed, START) {
-        Some(checksum) => walks(&map, n, seed, checksum),
+    let mut map = ListOrderedMultimap::with_hasher(alloc, state);
+    run_on(&mut map, workload, n, seed)
+}
+
+fn run_on<S: BuildHasher>(map: &mut Map<S>, workload: Workload, n: u64, seed: u64) -> u64 {
+    match fill(map, workload, n, seed) {
+        Some(checksum) => look_up(map, workload, n, seed, checksum),
         None => REFUSED,
     }
 }
 
-pub fn iter_all<S: BuildHasher + Drop>(alloc: Global, state: S, n: u64, seed: u64) -> u64 {
-    let mut map = new_map(alloc, state);
-    match scattered(&mut map, n, seed, START) {
-        Some(checksum) => all_pairs(&map, checksum),
-        None => REFUSED,
+/// The appends of a workload.
+fn fill<S: BuildHasher>(map: &mut Map<S>, workload: Workload, n: u64, seed: u64) -> Option<u64> {
+    match workload {
+        Workload::AppendDistinct | Workload::GetHit | Workload::GetMiss => {
+            distinct(map, n, seed, START)
+        }
+        Workload::AppendFew => few(map, n, seed, START),
+        Workload::AppendGrouped | Workload::GetAllWalk => grouped(map, n, seed, START),
+        Workload::AppendScattered | Workload::GetAllWalkScattered | Workload::IterAll => {
+            scattered(map, n, seed, START)
+        }
+    }
+}
+
+/// The look-ups and walks of a workload, after its appends.
+fn look_up<S: BuildHasher>(
+    map: &Map<S>,
+    workload: Workload,
+    n: u64,
+    seed: u64,
+    checksum: u64,
+) -> u64 {
+    match workload {
+        Workload::GetHit => hits(map, n, seed, checksum),
+        Workload::GetMiss => misses(map, n, seed, checksum),
+        Workload::GetAllWalk | Workload::GetAllWalkScattered => walks(map, n, seed, checksum),
+        Workload::IterAll => all_pairs(map, checksum),
+        _ => checksum,
     }
 }

@@ -1,6 +1,6 @@
 //! One size: a table is filled, looked into, and churned.
 use multimap_table_tests::compared::{Compared, next_random};
-use std::alloc::{AllocError, Allocator};
+use std::alloc::{AllocError, Allocator, Global};
 use std::time::{Duration, Instant};
 use std::{fmt, io};
 
@@ -135,6 +135,11 @@ impl<A: Allocator + Copy> Measured<A> {
 /// Measures a table of so many rows by about so many calls.
 pub fn measure(rt: &HostRuntime, rows: usize, calls: usize) -> io::Result<Times> {
     let mut measured = Measured::with_rows(rt.alloc(), rows)?;
+    times_of(rt, &mut measured, calls)
+}
+
+fn times_of(rt: &HostRuntime, measured: &mut Measured<Global>, calls: usize) -> io::Result<Times> {
+    let rows = measured.rows;
     let start = Instant::now(rt)?;
     measured.insert_all();
     let insert = a_call(start.elapsed(rt)?, rows);
