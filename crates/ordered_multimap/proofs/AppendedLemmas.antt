@@ -1,5 +1,5 @@
 -- After an append key list, table and values agree, and the two lists are the appended ones.
-use Rattle.std.proofs.Common.{◌≡◌, ◌≢◌, ℕ, ◌+◌, ◌<◌, ◌≤◌, Bool, true, false, cond, List, [], ◌∷◌, ◌++◌, length, Option, Some, None, refl, sym, ap, ◌∙◌, subst, inl, inr, is_some, arith, length-append}
+use Rattle.std.proofs.Common.{◌≡◌, ◌≢◌, ℕ, ◌+◌, ◌<◌, ◌≤◌, Bool, true, false, cond, List, [], ◌∷◌, ◌++◌, length, Option, Some, None, refl, sym, ap, ◌∙◌, subst, inl, inr, is_some, arith, length-append, Result, Ok, Err, OnOk, OnErr, IfOk}
 use Rattle.std.proofs.lemmas.Bool.{cases_eq, eq-eqb, ne_eqb}
 use Rattle.std.proofs.lemmas.List.Elements.{filter_map-append}
 use Rattle.std.proofs.lemmas.Map.Keys.{IsDistinct-push}
@@ -16,7 +16,7 @@ use Rattle.ordered_multimap.specs.Lists.{lists}
 use Rattle.ordered_multimap.specs.Keys.{is_listed, stored_key}
 use Rattle.ordered_multimap.specs.Changes.{appended}
 use Rattle.ordered_multimap.specs.Agrees.{Agrees, HasKey, items_of, lists_of}
-use Rattle.ordered_multimap.specs.Appends.{SetsKey, PushesValue, PushesBehind, HasListedRows, PushesRow, PushesOnly}
+use Rattle.ordered_multimap.specs.Appends.{SetsKey, PushesValue, PushesBehind, HasListedRows, PushesRow, PushesOnly, AppendsBehind, AppendsFirst}
 use Rattle.ordered_multimap.proofs.Members.{IsIn-kept, filter-none}
 use Rattle.ordered_multimap.proofs.PlaceLemmas.{held, IsIn-filter_map, filter_map-agree, filter_shorter, last_of-member}
 use Rattle.ordered_multimap.proofs.KeyLemmas.{is_listed-member, stored_key_only, stored_key_absent}
@@ -65,6 +65,21 @@ module _ {K V : Type 0} (keys keys_after : Slots K KeyLink) (values values_after
       } in
       subst (λ s. Agrees eq hash s rows_after values_after) (sym same_keys)
       (subst (λ s. Agrees eq hash k rows_after s) (sym same_values) (subst (λ r. Agrees eq hash k r v) (sym same_rows) base))
+
+-- another room keeps the chains
+pub chained_kept : {K V : Type 0} {keys : Slots K KeyLink} {values : Slots V ValueLink} → IsChained keys values → (reserved : Slots V ValueLink) → KeepsItems values reserved
+    → IsChained keys reserved
+chained_kept {keys = keys} {values = values} chained reserved same_values =
+    let v : Slots _ ValueLink = record values { capacity = reserved.capacity } in
+    let base : IsChained keys v = record {
+      owned = chained.owned;
+      head = chained.head;
+      tail = chained.tail;
+      length = chained.length;
+      previous = chained.previous;
+      next = chained.next;
+    } in
+    subst (IsChained keys) (sym same_values) base
 
 -- what an append ends with
 pub record Appends {K V : Type 0} (eq : K → K → Bool) (hash : K → ℕ) (keys : Slots K KeyLink) (values : Slots V ValueLink) (key : K) (v : V)
@@ -243,3 +258,46 @@ module _ {K V : Type 0} {eq : K → K → Bool} (laws : IsEquivalence eq) {hash 
   pub rows_listed : {keys_reserved : Slots K KeyLink} {rows_reserved : FinMap nat_cmp ℕ} → KeepsItems keys keys_reserved → rows_reserved ≡ rows → HasListedRows keys_reserved rows_reserved
   rows_listed {keys_reserved} same_keys same_rows p h is =
       subst (λ (s : Slots K KeyLink). IsIn p s.order) (sym same_keys) (agrees.listed p h (ap (λ r. get r p) (sym same_rows) ∙ is))
+
+-- what either outcome of an append leaves
+module _ {K V : Type 0} {eq : K → K → Bool} (laws : IsEquivalence eq) {hash : K → ℕ} {keys : Slots K KeyLink} {rows : FinMap nat_cmp ℕ} {values : Slots V ValueLink}
+    (agrees : Agrees eq hash keys rows values) (key : K) (v : V) (keys_after : Slots K KeyLink) (values_after : Slots V ValueLink) where
+  -- of a present key
+  module _ (place : ℕ) (has : HasKey eq keys key place) where
+    behind : AppendsBehind keys keys_after values values_after place v → Appends eq hash keys values key v keys_after rows values_after
+    behind done = present_step laws agrees done.reserved done.same_values done.room key v place has done.pushed
+
+    pub behind_agrees : {X E : Type 0} (r : Result X E) → OnOk r (AppendsBehind keys keys_after values values_after place v) → OnErr r (keys_after ≡ keys)
+        → OnErr r (KeepsItems values values_after) → values.capacity ≤ values_after.capacity → Agrees eq hash keys_after rows values_after
+    behind_agrees (Ok x) done same_keys same_values room = (behind done).agrees
+    behind_agrees (Err e) done same_keys same_values room =
+        subst (λ k. Agrees eq hash k rows values_after) (sym same_keys) (agrees_kept keys keys values values_after refl same_values agrees refl (omega arith) room)
+
+    pub behind_lists : {X E : Type 0} (r : Result X E) → OnOk r (AppendsBehind keys keys_after values values_after place v)
+        → OnOk r (lists_of keys_after values_after ≡ appended eq (lists_of keys values) key v)
+    behind_lists (Ok x) done = (behind done).lists
+    behind_lists (Err e) done = done
+
+  -- of an absent key
+  module _ (rows_after : FinMap nat_cmp ℕ) (h : ℕ) (unlisted : is_listed eq (items_of keys) key ≡ false) (hash_is : h ≡ hash key) where
+    first : AppendsFirst keys keys_after rows rows_after values values_after h key v → Appends eq hash keys values key v keys_after rows_after values_after
+    first done =
+        absent_step laws agrees done.reserved done.same_values done.value_room done.keys_reserved done.keys_pushed done.rows_reserved done.same_keys done.same_rows
+        done.key_room key v done.place h unlisted hash_is done.fits done.row done.same_room done.only
+
+    pub first_agrees : {X E : Type 0} (r : Result X E) → OnOk r (AppendsFirst keys keys_after rows rows_after values values_after h key v)
+        → OnErr r (KeepsItems keys keys_after) → OnErr r (rows_after ≡ rows) → OnErr r (KeepsItems values values_after)
+        → keys.capacity ≤ keys_after.capacity → values.capacity ≤ values_after.capacity → Agrees eq hash keys_after rows_after values_after
+    first_agrees (Ok x) done same_keys same_rows same_values key_room value_room = (first done).agrees
+    first_agrees (Err e) done same_keys same_rows same_values key_room value_room =
+        agrees_kept keys keys_after values values_after same_keys same_values agrees same_rows key_room value_room
+
+    pub first_lists : {X E : Type 0} (r : Result X E) → OnOk r (AppendsFirst keys keys_after rows rows_after values values_after h key v)
+        → OnOk r (lists_of keys_after values_after ≡ appended eq (lists_of keys values) key v)
+    first_lists (Ok x) done = (first done).lists
+    first_lists (Err e) done = done
+
+-- a reply that is known is the one that is wanted
+pub reply_is : {E : Type 0} {known wanted : Bool} → known ≡ wanted → (r : Result Bool E) → IfOk r (λ b. b ≡ known) → IfOk r (λ b. b ≡ wanted)
+reply_is same (Ok b) is = is ∙ same
+reply_is same (Err e) is = is

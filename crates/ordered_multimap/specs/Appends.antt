@@ -1,9 +1,9 @@
 -- What an append does to the slots. No public clause cites this module.
-use Rattle.std.specs.Prelude.{◌≡◌, ◌≢◌, ◌+◌, ℕ, [], ◌∷◌, ◌++◌, Option, Some, None}
+use Rattle.std.specs.Prelude.{◌≡◌, ◌≢◌, ◌≤◌, ◌+◌, ℕ, [], ◌∷◌, ◌++◌, Option, Some, None}
 use Rattle.std.specs.Ordering.{nat_cmp}
 use Rattle.std.specs.FinMap.{FinMap, get, insert}
 use Rattle.multimap_slots.specs.Lists.{IsIn}
-use Rattle.multimap_slots.specs.Slots.{Slots, IsSound, PushesBack, item_at, link_at, with_link}
+use Rattle.multimap_slots.specs.Slots.{Slots, IsSound, HasRoomFor, KeepsItems, PushesBack, item_at, link_at, with_link}
 use Rattle.multimap_walks.specs.declared.links.KeyLink.{KeyLink}
 use Rattle.multimap_walks.specs.declared.links.ValueLink.{ValueLink}
 
@@ -58,3 +58,28 @@ pub record PushesOnly {K V : Type 0} (keys keys_after : Slots K KeyLink) (values
   pub value_pushed : PushesValue values values_after last value place None
   pub sound : IsSound values_after
   pub keys_are : keys_after ≡ with_link keys place (record { hash = hash; head = last; tail = last; length = 0 + 1 })
+
+-- room was made for a value, and then it was put behind the others of the key at the place
+pub record AppendsBehind {K V : Type 0} (keys keys_after : Slots K KeyLink) (values values_after : Slots V ValueLink) (place : ℕ) (value : V) : Type 0 where
+  pub reserved : Slots V ValueLink
+  pub same_values : KeepsItems values reserved
+  pub room : values.capacity ≤ reserved.capacity
+  pub pushed : PushesBehind keys keys_after reserved values_after place value
+
+-- room was made for a key and a value, and then both were put last
+pub record AppendsFirst {K V : Type 0} (keys keys_after : Slots K KeyLink) (rows rows_after : FinMap nat_cmp ℕ) (values values_after : Slots V ValueLink)
+    (hash : ℕ) (key : K) (value : V) : Type 0 where
+  pub keys_reserved : Slots K KeyLink
+  pub rows_reserved : FinMap nat_cmp ℕ
+  pub reserved : Slots V ValueLink
+  pub same_keys : KeepsItems keys keys_reserved
+  pub same_rows : rows_reserved ≡ rows
+  pub same_values : KeepsItems values reserved
+  pub key_room : keys.capacity ≤ keys_reserved.capacity
+  pub value_room : values.capacity ≤ reserved.capacity
+  pub fits : HasRoomFor keys_reserved 1
+  pub place : ℕ
+  pub keys_pushed : Slots K KeyLink
+  pub row : PushesRow keys_reserved keys_pushed rows_reserved rows_after place key hash
+  pub same_room : keys_pushed.capacity ≡ keys_reserved.capacity
+  pub only : PushesOnly keys_pushed keys_after reserved values_after place hash value

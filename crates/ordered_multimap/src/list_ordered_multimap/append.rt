@@ -1,11 +1,19 @@
 //! Pairs that come last.
-ghost use Rattle.std.specs.Prelude.{◌≡◌, ◌≤◌, ◌<◌, length, IfOk, IfErr, OnOk, OnErr, IsOk, IsTrue};
+ghost use Rattle.std.specs.Prelude.{◌≡◌, ◌≤◌, ◌<◌, ◌+◌, true, false, length, IfOk, IfErr, OnOk, OnErr, IsOk, IsTrue};
+ghost use Rattle.std.specs.FinMap.{len};
+ghost use Rattle.multimap_slots.specs.Lists.{IsIn};
+ghost use Rattle.multimap_slots.specs.Slots.{HasRoomFor, KeepsItems};
+ghost use Rattle.multimap_walks.specs.Chained.{IsChained};
+ghost use Rattle.ordered_multimap.specs.Appends.{AppendsBehind, AppendsFirst, HasListedRows};
 ghost use Rattle.ordered_multimap.specs.Pairs.{is_present};
 ghost use Rattle.ordered_multimap.specs.Changes.{appended};
 
 use super::lookup::place_of;
 use super::steps::{make_room, push_behind, push_only, push_row};
 use super::{ListOrderedMultimap, Refused};
+use multimap_slots::SlotList;
+use multimap_table::KeyTable;
+use multimap_walks::{KeyLink, ValueLink};
 use std::alloc::Allocator;
 use std::hash::{BuildHasher, Hash};
 
@@ -45,21 +53,84 @@ impl<K: Eq + Hash, V, S: BuildHasher, A: Allocator + Copy> ListOrderedMultimap<K
     {
         let hash = self.state.hash_one(&key);
         match place_of(&self.keys, &self.table, hash, &key) {
-            Some(place) => {
-                if self.values.reserve(1).is_err() {
-                    return Err(Refused { key, value });
-                }
-                push_behind(&mut self.keys, &mut self.values, place, value);
-                Ok(true)
-            }
-            None => {
-                if make_room(&mut self.keys, &mut self.table, &mut self.values).is_err() {
-                    return Err(Refused { key, value });
-                }
-                let place = push_row(&mut self.keys, &mut self.table, hash, key);
-                push_only(&mut self.keys, &mut self.values, place, hash, value);
-                Ok(false)
-            }
+            Some(place) => append_behind(&mut self.keys, &mut self.values, place, key, value),
+            None => append_first(
+                &mut self.keys,
+                &mut self.table,
+                &mut self.values,
+                hash,
+                key,
+                value,
+            ),
         }
     }
+}
+
+/// Appends to the key at the place, and lets the equal key go that was handed in.
+fn append_behind<K: Drop, V, A: Allocator>(
+    keys: &mut SlotList<K, KeyLink, A>,
+    values: &mut SlotList<V, ValueLink, A>,
+    place: usize,
+    key: K,
+    value: V,
+) -> Result<bool, Refused<K, V>>
+    requires listed { IsIn place keys.old.order }
+    requires chained { IsChained keys.old values.old }
+    ensures present { IfOk result (λ present. present ≡ true) }
+    ensures ok { OnOk result (AppendsBehind keys.old keys.new values.old values.new place value) }
+    ensures keys_kept { OnErr result (keys.new ≡ keys.old) }
+    ensures values_kept { OnErr result (KeepsItems values.old values.new) }
+    ensures key_returned { IfErr result (λ refused. refused.key ≡ key) }
+    ensures value_returned { IfErr result (λ refused. refused.value ≡ value) }
+
+    // Where there is room, nothing grows and nothing is refused.
+    ensures succeeds { HasRoomFor values.old 1 → IsOk result }
+    ensures had_room { HasRoomFor values.old 1 → values.new.capacity ≡ values.old.capacity }
+    ensures values_capacity { values.old.capacity ≤ values.new.capacity }
+    ensures keys_capacity { keys.new.capacity ≡ keys.old.capacity }
+{
+    if values.reserve(1).is_err() {
+        return Err(Refused { key, value });
+    }
+    push_behind(keys, values, place, value);
+    Ok(true)
+}
+
+/// Appends a key that isn't listed, whose hash is `hash`, with its first value.
+fn append_first<K, V, A: Allocator + Copy>(
+    keys: &mut SlotList<K, KeyLink, A>,
+    table: &mut KeyTable<A>,
+    values: &mut SlotList<V, ValueLink, A>,
+    hash: u64,
+    key: K,
+    value: V,
+) -> Result<bool, Refused<K, V>>
+    requires { HasListedRows keys.old table.old.rows }
+    ensures present { IfOk result (λ present. present ≡ false) }
+    ensures ok { OnOk result (AppendsFirst keys.old keys.new table.old.rows table.new.rows
+        values.old values.new hash key value) }
+    ensures keys_kept { OnErr result (KeepsItems keys.old keys.new) }
+    ensures rows_kept { OnErr result (table.new.rows ≡ table.old.rows) }
+    ensures values_kept { OnErr result (KeepsItems values.old values.new) }
+    ensures key_returned { IfErr result (λ refused. refused.key ≡ key) }
+    ensures value_returned { IfErr result (λ refused. refused.value ≡ value) }
+
+    // Where there is room, nothing grows and nothing is refused.
+    ensures succeeds { HasRoomFor keys.old 1 → len table.old.rows + 1 ≤ table.old.capacity
+        → HasRoomFor values.old 1 → IsOk result }
+    ensures keys_had_room { HasRoomFor keys.old 1 → keys.new.capacity ≡ keys.old.capacity }
+    ensures rows_had_room { len table.old.rows + 1 ≤ table.old.capacity
+        → table.new.capacity ≡ table.old.capacity }
+    ensures values_had_room { HasRoomFor values.old 1
+        → values.new.capacity ≡ values.old.capacity }
+    ensures keys_capacity { keys.old.capacity ≤ keys.new.capacity }
+    ensures rows_capacity { table.old.capacity ≤ table.new.capacity }
+    ensures values_capacity { values.old.capacity ≤ values.new.capacity }
+{
+    if make_room(keys, table, values).is_err() {
+        return Err(Refused { key, value });
+    }
+    let place = push_row(keys, table, hash, key);
+    push_only(keys, values, place, hash, value);
+    Ok(false)
 }

@@ -1,0 +1,24 @@
+use Rattle.std.proofs.Common.{sym, ◌∙◌}
+use Rattle.ordered_multimap.proofs.StepLemmas.{ok_if, new_listed}
+use Rattle.ordered_multimap.proofs.list_ordered_multimap.append.append_first.Goals as goal
+
+pub push_only-requires-clause-listed : goal.push_only-requires-clause-listed
+push_only-requires-clause-listed g c = new_listed c.push_row-place.ensures.pushed.key_pushed
+
+pub returns-clause-ok : goal.returns-clause-ok
+returns-clause-ok g c = record {
+  keys_reserved = c.make_room.new.keys;
+  rows_reserved = c.make_room.new.table.rows;
+  reserved = c.make_room.new.values;
+  same_keys = c.make_room.ensures.keys;
+  same_rows = c.make_room.ensures.rows;
+  same_values = c.make_room.ensures.values;
+  key_room = c.make_room.ensures.keys_capacity;
+  value_room = c.make_room.ensures.values_capacity;
+  fits = ok_if c.make_room.result (sym c.is_err.ensures.value ∙ c.if-is_err.false) c.make_room.ensures.key_room;
+  place = c.push_row-place.result;
+  keys_pushed = c.push_row-place.new.keys;
+  row = c.push_row-place.ensures.pushed;
+  same_room = c.push_row-place.ensures.keys_capacity;
+  only = c.push_only.ensures.pushed;
+}
