@@ -1,11 +1,14 @@
 -- The fields of a line, and the commands that they can spell.
-use Rattle.std.proofs.Common.{◌≡◌, ◌≢◌, ◌⊎◌, ℕ, zero, suc, ◌<◌, ◌≤◌, List, [], ◌∷◌, ◌++◌, length, get_or, map, refl, sym, ap, ◌∙◌, subst, inl, inr, arith}
-use Rattle.std.proofs.lemmas.List.{append-nil}
+use Rattle.std.proofs.Common.{◌≡◌, ◌≢◌, ◌⊎◌, true, nat_eq, true≢false, ℕ, zero, suc, ◌<◌, ◌≤◌, List, [], ◌∷◌, ◌++◌, ◌+◌, length, take, get_or, map, refl, sym, ap, ◌∙◌, subst, inl, inr, arith}
+use Rattle.std.specs.Bool.{IsTrue}
+use Rattle.std.proofs.lemmas.Bool.{false≢true, ne_eqb}
+use Rattle.std.proofs.lemmas.List.{append-nil, map-append, take_more, take_all}
 use Rattle.std.specs.List.{flat_map, AllByRecursion}
 use Rattle.multimap_walks.specs.declared.End.{End}
 use Rattle.multimap_walks.specs.declared.End.TheVariants.{Front, Back}
 use Rattle.multimap_tool.specs.Spelling.{letter_of}
-use Rattle.multimap_tool.specs.Parts.{IsWithout, IsNoWord}
+use Rattle.ordered_multimap.specs.Pairs.{has_items}
+use Rattle.multimap_tool.specs.Parts.{IsWithout, AreLettersOf, IsNoWord}
 use Rattle.multimap_tool.proofs.CutLemmas.{without-cut, same_cut}
 
 -- a letter is f or b
@@ -21,6 +24,27 @@ no_word text i inside not_front not_back word letters =
     let among : (get_or text i 0 ≡ 102) ⊎ (get_or text i 0 ≡ 98) =
     subst (λ t. i < length t → (get_or t i 0 ≡ 102) ⊎ (get_or t i 0 ≡ 98)) letters.spelled (letter_cases word i) inside in
     elim among [ inl front ↦ not_front front | inr back ↦ not_back back ]
+
+-- a text of no letters is no word
+pub no_letters : (text : List ℕ) → true ≡ nat_eq (length text) 0 → IsNoWord text
+no_letters [] none [] letters = false≢true letters.some
+no_letters [] none (end ∷ word) letters = omega (arith, ap length letters.spelled)
+no_letters (byte ∷ text) none word letters = true≢false (none ∙ ne_eqb (length (byte ∷ text)) 0 (λ same. omega (arith, same)))
+
+-- one letter more
+pub letters_on : (text : List ℕ) (i : ℕ) (word : List End) (end : End) → i < length text → letter_of end ≡ get_or text i 0
+    → map letter_of word ≡ take i text → map letter_of (word ++ end ∷ []) ≡ take (i + 1) text
+letters_on text i word end inside here so_far = rw (map-append, take_more text i 0 inside, so_far, here) refl
+
+-- all letters, and there is one
+has_letters : (word : List End) → 0 < length (map letter_of word) → IsTrue (has_items word)
+has_letters [] some = absurd (omega (arith, some))
+has_letters (end ∷ word) some = refl
+
+pub letters_done : (text : List ℕ) (i : ℕ) (word : List End) → 0 < length text → length text ≤ i → map letter_of word ≡ take i text → AreLettersOf text word
+letters_done text i word some ended so_far =
+    let spelled : map letter_of word ≡ text = so_far ∙ take_all i text ended in
+    record { spelled = spelled; some = has_letters word (rw spelled some) }
 
 -- fields as a line joins them
 abbrev joined : List (List ℕ) → List ℕ

@@ -1,8 +1,10 @@
--- Items of a list, one after another.
-use Rattle.std.proofs.Common.{◌≡◌, List, [], ◌∷◌, ◌++◌, Option, ℕ, map, refl, sym, ap}
-use Rattle.std.proofs.lemmas.List.{append-nil, append_assoc}
+-- Texts that go on by one reply, or by one item of a list.
+use Rattle.std.proofs.Common.{◌≡◌, List, [], ◌∷◌, ◌++◌, Option, ℕ, ◌+◌, ◌<◌, ◌≤◌, length, drop, get_or, map, refl, sym, ap, ◌∙◌}
+use Rattle.std.specs.Prelude.{ℤ}
+use Rattle.std.proofs.lemmas.List.{append-nil, append_assoc, drop_more, drop_all}
 use Rattle.std.specs.List.{flat_map, join_with_byte}
-use Rattle.multimap_tool.specs.Texts.{text_of_item, list_text}
+use Rattle.multimap_tool.specs.declared.replies.Reply.{Reply}
+use Rattle.multimap_tool.specs.Texts.{text_of_item, list_text, reply_text, text_of}
 
 module _ {X : Type 0} (text : X → List ℕ) where
   -- the first item, and each other one after a space
@@ -17,3 +19,35 @@ module _ {X : Type 0} (text : X → List ℕ) where
       → so_far ++ flat_map (λ i. 32 ∷ text_of_item text i) others ≡ front ++ list_text text items
   list_after front items item others so_far parts pushed =
       rw (parts, pushed, append_assoc, join_items) refl
+
+  -- one item more, after a space
+  pub items_on : (others : List (Option X)) (i : ℕ) (item : Option X) (front all : List ℕ) → i < length others → item ≡ get_or others i item
+      → front ++ flat_map (λ i. 32 ∷ text_of_item text i) (drop i others) ≡ all
+      → ((front ++ 32 ∷ []) ++ text_of_item text item) ++ flat_map (λ i. 32 ∷ text_of_item text i) (drop (i + 1) others) ≡ all
+  items_on others i item front all inside is so_far =
+      let next = drop_more others i item inside ∙ ap (λ x. x ∷ drop (i + 1) others) (sym is) in
+      append_assoc (front ++ 32 ∷ []) _ _ ∙ append_assoc front (32 ∷ []) _
+      ∙ ap (λ rest. front ++ flat_map (λ i. 32 ∷ text_of_item text i) rest) (sym next) ∙ so_far
+
+  -- no item is left
+  pub items_done : (others : List (Option X)) (i : ℕ) (front all : List ℕ) → length others ≤ i
+      → front ++ flat_map (λ i. 32 ∷ text_of_item text i) (drop i others) ≡ all → front ≡ all
+  items_done others i front all ended so_far =
+      sym (append-nil front) ∙ ap (λ rest. front ++ flat_map (λ i. 32 ∷ text_of_item text i) rest) (sym (drop_all i others ended)) ∙ so_far
+
+module _ {A : Type 0} where
+  -- one reply more, and a line feed
+  pub replies_on : (replies : List (Reply ℕ ℤ A)) (i : ℕ) (reply : Reply ℕ ℤ A) (front all : List ℕ) → i < length replies → reply ≡ get_or replies i reply
+      → front ++ text_of (drop i replies) ≡ all → ((front ++ reply_text reply) ++ 10 ∷ []) ++ text_of (drop (i + 1) replies) ≡ all
+  replies_on replies i reply front all inside is so_far =
+      let rest = text_of (drop (i + 1) replies) in
+      let next = drop_more replies i reply inside ∙ ap (λ r. r ∷ drop (i + 1) replies) (sym is) in
+      append_assoc (front ++ reply_text reply) (10 ∷ []) rest ∙ append_assoc front (reply_text reply) (10 ∷ rest)
+      ∙ ap (λ t. front ++ t) (sym (append_assoc (reply_text reply) (10 ∷ []) rest))
+      ∙ ap (λ rs. front ++ text_of rs) (sym next) ∙ so_far
+
+  -- no reply is left
+  pub replies_done : (replies : List (Reply ℕ ℤ A)) (i : ℕ) (front all : List ℕ) → length replies ≤ i
+      → front ++ text_of (drop i replies) ≡ all → front ≡ all
+  replies_done replies i front all ended so_far =
+      sym (append-nil front) ∙ ap (λ rs. front ++ text_of rs) (sym (drop_all i replies ended)) ∙ so_far

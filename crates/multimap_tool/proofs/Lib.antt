@@ -6,3 +6,4 @@ mod NumberLemmas
 mod FieldLemmas
 mod ReadingLemmas
 mod LineLemmas
+mod ReadLemmas

@@ -1,9 +1,11 @@
--- When a walk lists an item.
-use Rattle.std.proofs.Common.{◌≡◌, true, false, List, [], ◌∷◌, length, refl}
+-- Walks that go on by one item, and when a walk lists an item.
+use Rattle.std.proofs.Common.{◌≡◌, ℕ, ◌+◌, ◌<◌, ◌≤◌, true, false, Option, List, [], ◌∷◌, ◌++◌, length, drop, get_or, refl, sym, ap, ◌∙◌, arith}
+use Rattle.std.specs.Prelude.{slice_get}
+use Rattle.std.proofs.lemmas.List.{append_assoc, append-nil, drop_more, drop_all}
 use Rattle.std.specs.Bool.{IsTrue}
 use Rattle.multimap_walks.specs.declared.End.{End}
 use Rattle.ordered_multimap.specs.Pairs.{has_items}
-use Rattle.multimap_walks.specs.Walk.{answers_of_walk, forward}
+use Rattle.multimap_walks.specs.Walk.{item_at, rest_at, answers_of_walk, forward}
 use Rattle.multimap_tool.specs.Step.{ListsItem}
 
 module _ {X : Type 0} where
@@ -21,3 +23,33 @@ module _ {X : Type 0} where
   pub ListsItem-forward : (items : List X) → IsTrue (has_items items) → ListsItem (answers_of_walk items (forward items))
   ListsItem-forward [] some = some
   ListsItem-forward (x ∷ items) some = refl
+
+  -- one letter more
+  pub word_on : (items : List X) (word : List End) (taken all : List (Option X)) (i : ℕ) (end : End) → i < length word
+      → taken ++ answers_of_walk items (drop i word) ≡ all
+      → (taken ++ item_at (get_or word i end) items ∷ []) ++ answers_of_walk (rest_at (get_or word i end) items) (drop (i + 1) word) ≡ all
+  word_on items word taken all i end inside so_far =
+      append_assoc taken _ _ ∙ ap (λ rest. taken ++ answers_of_walk items rest) (sym (drop_more word i end inside)) ∙ so_far
+
+  -- no letter is left
+  pub word_done : (items : List X) (word : List End) (taken all : List (Option X)) (i : ℕ) → length word ≤ i
+      → taken ++ answers_of_walk items (drop i word) ≡ all → taken ≡ all
+  word_done items word taken all i ended so_far =
+      sym (append-nil taken) ∙ ap (λ rest. taken ++ answers_of_walk items rest) (sym (drop_all i word ended)) ∙ so_far
+
+  -- one item more
+  pub forward_on : (items : List X) (taken all : List (Option X)) → 0 < length items
+      → taken ++ answers_of_walk items (forward items) ≡ all
+      → (taken ++ slice_get items 0 ∷ []) ++ answers_of_walk (drop 1 items) (forward (drop 1 items)) ≡ all
+  forward_on [] taken all some so_far = absurd (omega (arith, some))
+  forward_on (x ∷ items) taken all some so_far = append_assoc taken _ _ ∙ so_far
+
+  pub one_less : (items : List X) (n count : ℕ) → 0 < length items → n + length items ≡ count → n + 1 + length (drop 1 items) ≡ count
+  one_less [] n count some left = absurd (omega (arith, some))
+  one_less (x ∷ items) n count some left = omega (arith, left)
+
+  -- no item is left
+  pub forward_done : (items : List X) (taken all : List (Option X)) → length items ≡ 0
+      → taken ++ answers_of_walk items (forward items) ≡ all → taken ≡ all
+  forward_done [] taken all ended so_far = sym (append-nil taken) ∙ so_far
+  forward_done (x ∷ items) taken all ended so_far = absurd (omega (arith, ended))

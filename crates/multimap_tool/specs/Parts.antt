@@ -53,6 +53,10 @@ IsKeyOf text found = MatchOption found ((k : ℕ) → k < 2 ^ 32 → decimal k �
 abbrev pub IsValueOf : List ℕ → Option ℤ → Type 0
 IsValueOf text found = MatchOption found ((v : ℤ) → FitsSigned w64 v → signed_decimal v ≢ text) (λ v. signed_decimal v ≡ text)
 
+-- the end that the letter spells, or none if there is none
+abbrev pub IsEndOf : ℕ → Option End → Type 0
+IsEndOf letter found = MatchOption found ((letter ≢ 102) × (letter ≢ 98)) (λ end. letter_of end ≡ letter)
+
 -- letters that spell the text
 pub record AreLettersOf (text : List ℕ) (word : List End) : Type 0 where
   pub spelled : map letter_of word ≡ text

@@ -1,14 +1,20 @@
 //! From the bytes of a reader to the bytes of a writer.
-ghost use Rattle.std.specs.Prelude.{◌≡◌, ◌≢◌, IfOk, OnOk, IfErr};
+ghost use Rattle.std.specs.Prelude.{◌≡◌, ◌≢◌, ℕ, ℤ, List, nat_eq, IfOk, OnOk, IfErr};
+ghost use Rattle.std.specs.Io.KnownBytes.{Appends};
+ghost use Rattle.ordered_multimap.specs.Lists.{Lists, empty_lists};
+ghost use Rattle.multimap_tool.specs.Runs.{IsRun};
+ghost use Rattle.multimap_tool.specs.Texts.{text_of};
 ghost use Rattle.multimap_tool.specs.Answers.{IsAnsweredBy};
 ghost use Rattle.multimap_tool.specs.Execute.{ReadsAll, IsAnswered, IsFaultOf, FaultTells};
 
+use crate::commands::Command;
 use crate::faults::ToolFault;
 use crate::format::format_replies;
 use crate::parse::parse_commands;
+use crate::replies::Reply;
 use crate::run::run;
 use ordered_multimap::ListOrderedMultimap;
-use std::alloc::Allocator;
+use std::alloc::{AllocError, Allocator};
 use std::io::{Read, Write};
 
 /// How many bytes one read asks for.
@@ -32,14 +38,9 @@ pub fn execute<A: Allocator + Copy, R: Read, W: Write>(
     ensures unwritten { IfErr result (λ fault. fault ≢ ToolFault.Write → output.new ≡ output.old) }
 {
     let bytes = read_all(alloc, input)?;
-    let text = answer(alloc, &bytes)?;
-    match output.write_all(&text) {
-        Ok(()) => {}
-        Err(_) => return Err(ToolFault::Write),
-    }
-    match output.flush() {
-        Ok(()) => Ok(()),
-        Err(_) => Err(ToolFault::Write),
+    match answer(alloc, &bytes) {
+        Ok(text) => write_text(output, &text),
+        Err(fault) => Err(fault),
     }
 }
 
@@ -68,13 +69,49 @@ fn answer<A: Allocator + Copy>(alloc: A, bytes: &[u8]) -> Result<Vec<u8, A>, Too
     ensures fault { IfErr result (IsFaultOf A bytes.now) }
 {
     let commands = parse_commands(alloc, bytes)?;
+    Ok(answer_commands(alloc, &commands)?)
+}
+
+/// The text of the replies to the commands, run on an empty map.
+fn answer_commands<A: Allocator + Copy>(
+    alloc: A,
+    commands: &[Command<u32, i64, A>],
+) -> Result<Vec<u8, A>, AllocError>
+    ensures { IfOk result (λ text. (replies : List (Reply ℕ ℤ A)) × (last : Lists ℕ ℤ)
+        × IsRun nat_eq commands.now empty_lists replies last × (text.items ≡ text_of replies)) }
+{
+    let replies = run_on_empty(alloc, commands)?;
+    format_replies(alloc, &replies)
+}
+
+/// The replies to the commands, run on an empty map.
+fn run_on_empty<A: Allocator + Copy>(
+    alloc: A,
+    commands: &[Command<u32, i64, A>],
+) -> Result<Vec<Reply<u32, i64, A>, A>, AllocError>
+    ensures { IfOk result (λ replies. (last : Lists ℕ ℤ)
+        × IsRun nat_eq commands.now empty_lists replies.items last) }
+{
     let mut map = ListOrderedMultimap::new(alloc);
-    let replies = run(
+    run(
         alloc,
         &mut map,
-        &commands,
+        commands,
         |least, _key, value| *value >= least,
-    )?;
-    let text = format_replies(alloc, &replies)?;
-    Ok(text)
+    )
+}
+
+/// Writes the text, and hands on what the writer holds back.
+fn write_text<W: Write>(output: &mut W, text: &[u8]) -> Result<(), ToolFault>
+    ensures ok { OnOk result (Appends (W.contents output.old) (W.contents output.new) text.now) }
+    ensures fault { IfErr result (λ fault. fault ≡ ToolFault.Write) }
+{
+    match output.write_all(text) {
+        Ok(()) => {}
+        Err(_) => return Err(ToolFault::Write),
+    }
+    match output.flush() {
+        Ok(()) => Ok(()),
+        Err(_) => Err(ToolFault::Write),
+    }
 }

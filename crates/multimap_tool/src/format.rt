@@ -107,10 +107,21 @@ fn push_list<T: Listed, A: Allocator>(
     };
     push_item(text, first)?;
     for item in others {
-        text.push(' ')?;
-        push_item(text, item)?;
+        push_next_item(text, item)?;
     }
     Ok(())
+}
+
+/// Puts a space and an item at the end.
+fn push_next_item<T: Listed, A: Allocator>(
+    text: &mut String<A>,
+    item: &Option<T>,
+) -> Result<(), AllocError>
+    ensures ok { OnOk result (string_bytes text.new
+        ≡ (string_bytes text.old ++ 32 ∷ []) ++ text_of_item T.item_text item.now) }
+{
+    text.push(' ')?;
+    push_item(text, item)
 }
 
 /// Puts an item at the end, or a dash for none.

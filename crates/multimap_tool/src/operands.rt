@@ -1,6 +1,6 @@
 //! Operands read from their texts.
-ghost use Rattle.std.specs.Prelude.{◌↔◌, IsTrue, IfOk, MatchOption};
-ghost use Rattle.multimap_tool.specs.Parts.{StartsANumber, StartsBelowZero, StartsAValue, IsKeyOf, IsValueOf, IsNoWord, AreLettersOf};
+ghost use Rattle.std.specs.Prelude.{◌↔◌, ◌<◌, length, IsTrue, IfOk, MatchOption};
+ghost use Rattle.multimap_tool.specs.Parts.{StartsANumber, StartsBelowZero, StartsAValue, IsKeyOf, IsValueOf, IsEndOf, IsNoWord, AreLettersOf};
 
 use multimap_walks::End;
 use std::alloc::{AllocError, Allocator};
@@ -70,13 +70,32 @@ pub(crate) fn word_of<A: Allocator>(
     if text.is_empty() {
         return Ok(None);
     }
+    letters_of(alloc, text)
+}
+
+/// The ends that the letters of a text spell, or none if one of them spells none.
+fn letters_of<A: Allocator>(alloc: A, text: &[u8]) -> Result<Option<Vec<End, A>>, AllocError>
+    requires { 0 < length text.now }
+    ensures { IfOk result (λ found.
+        MatchOption found (IsNoWord text.now) (λ word. AreLettersOf text.now word.items)) }
+{
     let mut word = Vec::with_capacity(alloc, text.len())?;
-    for byte in text {
-        match byte {
-            b'f' => word.push_reserved(End::Front),
-            b'b' => word.push_reserved(End::Back),
-            _ => return Ok(None),
+    for letter in text {
+        match end_of(*letter) {
+            Some(end) => word.push_reserved(end),
+            None => return Ok(None),
         }
     }
     Ok(Some(word))
+}
+
+/// The end that a letter spells.
+fn end_of(letter: u8) -> Option<End>
+    ensures { IsEndOf letter result }
+{
+    match letter {
+        b'f' => Some(End::Front),
+        b'b' => Some(End::Back),
+        _ => None,
+    }
 }

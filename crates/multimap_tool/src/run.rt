@@ -1,9 +1,9 @@
 //! Commands run in order, with one reply for each.
-ghost use Rattle.std.specs.Prelude.{◌≡◌, IfOk, OnErr};
+ghost use Rattle.std.specs.Prelude.{◌≡◌, ◌≢◌, IfOk, OnErr};
 ghost use Rattle.multimap_tool.specs.Step.{IsStep};
 ghost use Rattle.multimap_tool.specs.Runs.{IsRun};
 
-use crate::commands::Command;
+use crate::commands::{Command, Ends};
 use crate::replies::Reply;
 use crate::walk::{copied_pair, walk};
 use ordered_multimap::ListOrderedMultimap;
@@ -32,7 +32,7 @@ pub fn run<
         IsRun K.eq commands.now map.old.lists replies.items map.new.lists) }
     ensures err { OnErr result (map.new ≡ map.old) }
 {
-    let _ = keep;
+    drop(keep);
     let mut replies = Vec::with_capacity(alloc, commands.len())?;
     for command in commands {
         replies.push_reserved(step(alloc, map, command));
@@ -49,23 +49,82 @@ fn step<K: Eq + Hash + Copy, V: Copy, S: BuildHasher, A: Allocator + Copy>(
     ensures { IsStep K.eq command.now map.old.lists result map.new.lists }
 {
     match command {
-        Command::Append(key, value) => match map.append(*key, *value) {
-            Ok(present) => Reply::Appended(present),
-            Err(_) => Reply::NoMemory,
-        },
-        Command::Get(key) => Reply::Value(map.get(key).copied()),
-        Command::All(key, ends) => match walk(alloc, map.get_all(key), ends) {
-            Ok(values) => Reply::Values(values),
-            Err(_) => Reply::NoMemory,
-        },
+        Command::Append(key, value) => append(map, *key, *value),
+        _ => look_up(alloc, map, command),
+    }
+}
+
+/// Appends the pair.
+fn append<K: Eq + Hash + Copy, V: Copy, S: BuildHasher, A: Allocator + Copy>(
+    map: &mut ListOrderedMultimap<K, V, S, A>,
+    key: K,
+    value: V,
+) -> Reply<K, V, A>
+    ensures { IsStep K.eq (Command.Append key value) map.old.lists result map.new.lists }
+{
+    match map.append(key, value) {
+        Ok(present) => Reply::Appended(present),
+        Err(_) => Reply::NoMemory,
+    }
+}
+
+/// Answers a command that changes nothing.
+fn look_up<K: Eq + Hash + Copy, V: Copy, S: BuildHasher, A: Allocator + Copy>(
+    alloc: A,
+    map: &ListOrderedMultimap<K, V, S, A>,
+    command: &Command<K, V, A>,
+) -> Reply<K, V, A>
+    requires { (key : K) → (value : V) → command.now ≢ Command.Append key value }
+    ensures { IsStep K.eq command.now map.now.lists result map.now.lists }
+{
+    match command {
+        Command::Append(..) => unreachable!(),
+        Command::Get(key) => first_value(map, key),
+        Command::All(key, ends) => walk_values(alloc, map, key, ends),
         Command::Has(key) => Reply::Truth(map.contains_key(key)),
         Command::Len(key) => Reply::Count(map.entry_len(key)),
         Command::Front => Reply::Pair(copied_pair(map.front())),
         Command::Back => Reply::Pair(copied_pair(map.back())),
-        Command::Pairs(ends) => match walk(alloc, map.iter(), ends) {
-            Ok(pairs) => Reply::Pairs(pairs),
-            Err(_) => Reply::NoMemory,
-        },
+        Command::Pairs(ends) => walk_pairs(alloc, map, ends),
         Command::Lengths => Reply::Counts(map.keys_len(), map.values_len()),
+    }
+}
+
+/// The key's first value.
+fn first_value<K: Eq + Hash + Copy, V: Copy, S: BuildHasher, A: Allocator + Copy>(
+    map: &ListOrderedMultimap<K, V, S, A>,
+    key: &K,
+) -> Reply<K, V, A>
+    ensures { IsStep K.eq (Command.Get key.now) map.now.lists result map.now.lists }
+{
+    Reply::Value(map.get(key).copied())
+}
+
+/// The key's values, as a walk takes them.
+fn walk_values<K: Eq + Hash + Copy, V: Copy, S: BuildHasher, A: Allocator + Copy>(
+    alloc: A,
+    map: &ListOrderedMultimap<K, V, S, A>,
+    key: &K,
+    ends: &Ends<A>,
+) -> Reply<K, V, A>
+    ensures { IsStep K.eq (Command.All key.now ends.now) map.now.lists result map.now.lists }
+{
+    match walk(alloc, map.get_all(key), ends) {
+        Ok(values) => Reply::Values(values),
+        Err(_) => Reply::NoMemory,
+    }
+}
+
+/// All pairs, as a walk takes them.
+fn walk_pairs<K: Eq + Hash + Copy, V: Copy, S: BuildHasher, A: Allocator + Copy>(
+    alloc: A,
+    map: &ListOrderedMultimap<K, V, S, A>,
+    ends: &Ends<A>,
+) -> Reply<K, V, A>
+    ensures { IsStep K.eq (Command.Pairs ends.now) map.now.lists result map.now.lists }
+{
+    match walk(alloc, map.iter(), ends) {
+        Ok(pairs) => Reply::Pairs(pairs),
+        Err(_) => Reply::NoMemory,
     }
 }

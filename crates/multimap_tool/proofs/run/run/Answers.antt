@@ -1,5 +1,6 @@
-use Rattle.std.proofs.Common.{[], ◌∷◌, ◌++◌, take, sym, ◌∙◌, ap, arith}
-use Rattle.std.proofs.lemmas.List.{take_more}
+use Rattle.std.proofs.Common.{[], ◌∷◌, ◌++◌, take, sym, ◌∙◌, ap, subst, arith}
+use Rattle.std.proofs.lemmas.List.{take_more, take_all}
+use Rattle.multimap_tool.specs.Runs.{IsRun}
 use Rattle.multimap_tool.proofs.RunLemmas.{IsRun-push}
 use Rattle.multimap_tool.proofs.run.run.Goals as goal
 
@@ -14,3 +15,9 @@ loop-command-preserved g c =
       count = omega (arith, l.invariant.count, c.push_reserved.ensures.len);
       room = omega (arith, l.invariant.room, c.push_reserved.ensures.capacity);
     }
+
+pub returns-clause-ok : goal.returns-clause-ok
+returns-clause-ok g c =
+    let l = c.loop-command in
+    subst (λ done. IsRun g.K.PartialEq.eq done c.args.map.now.lists l.replies.items l.map.lists)
+    (take_all l.command-index c.args.commands.now c.loop-command-test.false) l.invariant.ran
