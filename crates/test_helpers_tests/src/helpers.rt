@@ -5,7 +5,7 @@ use test_helpers::{
     Constant, End, Sample, Test, Token, expect_text, requests_until_enough, walk_difference,
 };
 
-// How a test ends whose steps are a good one, a bad one in row 3, and another bad one.
+// How a test ends whose steps are a good one, a bad one with a place in a table, and a bad one.
 fn is_told(alloc: Global) -> bool {
     let test = Test::new(alloc);
     test.expect("first", true);
