@@ -101,6 +101,33 @@ module _ {T L : Type 0} where
     pub others : KeepsOthers old new place
     pub slots : listed_slots new ≡ filter (λ e. not (e.place == place)) (listed_slots old)
 
+  -- the place has left the list, and an item is kept there
+  pub record IsDetached (s : Slots T L) (place : ℕ) : Type 0 where
+    pub not_listed : ¬ IsIn place s.order
+    pub has_item : IsSome (item_at s place)
+
+  -- the place isn't listed, and this item is kept there with this link
+  pub record HasDetached (s : Slots T L) (place : ℕ) (item : T) (link : L) : Type 0 where
+    pub not_listed : ¬ IsIn place s.order
+    pub item_is : item_at s place ≡ Some item
+    pub link_is : link_at s place ≡ Some link
+
+  -- the place has left the list, and its item is kept there with its link
+  pub record Detaches (old new : Slots T L) (place : ℕ) : Type 0 where
+    pub order : new.order ≡ without old.order place
+    pub shorter : length new.order + 1 ≡ length old.order
+    pub items : new.items ≡ old.items
+    pub links : new.links ≡ old.links
+    pub slots : listed_slots new ≡ filter (λ e. not (e.place == place)) (listed_slots old)
+
+  -- the item that was kept at the place has gone, and the list is as it was
+  pub record TakesDetached (old new : Slots T L) (place : ℕ) (item : T) : Type 0 where
+    pub had : item_at old place ≡ Some item
+    pub order : new.order ≡ old.order
+    pub freed : item_at new place ≡ None
+    pub others : KeepsOthers old new place
+    pub slots : listed_slots new ≡ listed_slots old
+
   -- another item stands at the place
   abbrev pub with_item : Slots T L → ℕ → T → Slots T L
   with_item s place item = record s { items = slice_set s.items place (Some item) }
