@@ -10,7 +10,7 @@ ghost use Rattle.multimap_walks.specs.ChainWalk.{GivesFirst, GivesLast};
 use crate::links::{KeyLink, ValueLink};
 use crate::show::show_left;
 use crate::slots::value_at;
-use multimap_slots::{Reads, SlotList};
+use multimap_slots::{Reads, SlotList, Tape};
 use std::alloc::{AllocError, Allocator, Global};
 use std::fmt;
 use std::iter::FusedIterator;
@@ -20,7 +20,7 @@ use std::marker::Model;
 #[derive(Drop)]
 pub struct EntryValues<'map, K, V, A: Allocator = Global> {
     keys: &'map SlotList<K, KeyLink, A>,
-    values: &'map SlotList<V, ValueLink, A>,
+    values: &'map Tape<V, ValueLink, A>,
     key: usize,
     front: usize,
     back: usize,
@@ -36,11 +36,11 @@ impl<'map, K, V, A: Allocator> Model for EntryValues<'map, K, V, A> {
     ghost Value = { ChainWalk V };
 
     ghost view = { λ w. record {
-      left = values_at w.values.now (places_left (chain_of w.values.now w.key) w.front w.length);
+      left = values_at w.values.now.list (places_left (chain_of w.values.now.list w.key) w.front w.length);
       reads = w.reads;
     } };
 
-    ghost invariant = { λ w. IsWalk w.keys.now w.values.now (chain_of w.values.now w.key)
+    ghost invariant = { λ w. IsWalk w.keys.now w.values.now.list (chain_of w.values.now.list w.key)
         w.front w.back w.length };
 }
 
@@ -49,13 +49,13 @@ impl<'map, K, V, A: Allocator> EntryValues<'map, K, V, A> {
     /// is the empty walk.
     pub fn new(
         keys: &'map SlotList<K, KeyLink, A>,
-        values: &'map SlotList<V, ValueLink, A>,
+        values: &'map Tape<V, ValueLink, A>,
         key: Option<(usize, KeyLink)>,
     ) -> Self
-        requires chained { IsChained keys.now values.now }
+        requires chained { IsChained keys.now values.now.list }
         requires listed { MatchOption key ⊤ (λ k. HasKeyLink keys.now k.0 k.1) }
         ensures values { MatchOption key (result.left ≡ [])
-            (λ k. result.left ≡ values_at values.now (chain_of values.now k.0)) }
+            (λ k. result.left ≡ values_at values.now.list (chain_of values.now.list k.0)) }
         ensures reads { result.reads ≡ 0 }
     {
         // The lengths tell the proof that both lists are sound.

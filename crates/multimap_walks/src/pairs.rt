@@ -8,7 +8,7 @@ ghost use Rattle.multimap_walks.specs.Chained.{IsChained, pairs_of};
 use crate::links::{KeyLink, ValueLink};
 use crate::show::show_left;
 use crate::slots::pair_of;
-use multimap_slots::{Reads, SlotList};
+use multimap_slots::{Reads, SlotList, Tape};
 use std::alloc::{AllocError, Allocator, Global};
 use std::fmt;
 use std::iter::FusedIterator;
@@ -18,7 +18,7 @@ use std::marker::Model;
 #[derive(Drop)]
 pub struct Iter<'map, K, V, A: Allocator = Global> {
     keys: &'map SlotList<K, KeyLink, A>,
-    values: &'map SlotList<V, ValueLink, A>,
+    values: &'map Tape<V, ValueLink, A>,
     front: usize,
     back: usize,
     length: usize,
@@ -33,18 +33,18 @@ impl<'map, K, V, A: Allocator> Model for Iter<'map, K, V, A> {
 
     ghost Value = { List (K × V) };
 
-    ghost view = { λ w. filter_map (pair_at w.keys.now w.values.now)
-        (places_left w.values.now.order w.front w.length) };
+    ghost view = { λ w. filter_map (pair_at w.keys.now w.values.now.list)
+        (places_left w.values.now.list.order w.front w.length) };
 
-    ghost invariant = { λ w. IsWalk w.keys.now w.values.now w.values.now.order
+    ghost invariant = { λ w. IsWalk w.keys.now w.values.now.list w.values.now.list.order
         w.front w.back w.length };
 }
 
 impl<'map, K, V, A: Allocator> Iter<'map, K, V, A> {
     /// The walk over all pairs of two slot lists, whose links are chained.
-    pub fn new(keys: &'map SlotList<K, KeyLink, A>, values: &'map SlotList<V, ValueLink, A>) -> Self
-        requires { IsChained keys.now values.now }
-        ensures pairs { result ≡ pairs_of keys.now values.now }
+    pub fn new(keys: &'map SlotList<K, KeyLink, A>, values: &'map Tape<V, ValueLink, A>) -> Self
+        requires { IsChained keys.now values.now.list }
+        ensures pairs { result ≡ pairs_of keys.now values.now.list }
     {
         // The lengths tell the proof that both lists are sound.
         let _keys = keys.len();
@@ -71,7 +71,7 @@ impl<'map, K, V, A: Allocator> Iterator for Iter<'map, K, V, A> {
             return None;
         }
         let place = self.front;
-        self.front = self.values.next_place(place).unwrap_or(place);
+        self.front = self.values.next_place_after(place).unwrap_or(place);
         self.length -= 1;
         Some(pair_of(self.keys, self.values, place, &mut self.reads))
     }
@@ -96,7 +96,7 @@ impl<'map, K, V, A: Allocator> DoubleEndedIterator for Iter<'map, K, V, A> {
             return None;
         }
         let place = self.back;
-        self.back = self.values.previous_place(place).unwrap_or(place);
+        self.back = self.values.previous_place_before(place).unwrap_or(place);
         self.length -= 1;
         Some(pair_of(self.keys, self.values, place, &mut self.reads))
     }

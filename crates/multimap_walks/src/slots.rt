@@ -5,17 +5,17 @@ ghost use Rattle.multimap_slots.specs.Slots.{HasSlot};
 ghost use Rattle.multimap_walks.specs.Chained.{IsChained, pair_at};
 
 use crate::links::{KeyLink, ValueLink};
-use multimap_slots::{Reads, SlotList};
+use multimap_slots::{Reads, SlotList, Tape};
 use std::alloc::Allocator;
 
 /// The value at a listed place, with its link.
 pub(crate) fn value_at<'map, V, A: Allocator>(
-    values: &'map SlotList<V, ValueLink, A>,
+    values: &'map Tape<V, ValueLink, A>,
     place: usize,
     reads: &mut Reads,
 ) -> (&'map V, ValueLink)
-    requires { IsIn place values.now.order }
-    ensures slot { HasSlot values.now place result.0.now result.1 }
+    requires { IsIn place values.now.list.order }
+    ensures slot { HasSlot values.now.list place result.0.now result.1 }
     ensures counted { reads.new ≡ reads.old + 1 }
 {
     match values.get(place, reads) {
@@ -27,13 +27,13 @@ pub(crate) fn value_at<'map, V, A: Allocator>(
 /// The key and the value at a listed place.
 pub(crate) fn pair_of<'map, K, V, A: Allocator>(
     keys: &'map SlotList<K, KeyLink, A>,
-    values: &'map SlotList<V, ValueLink, A>,
+    values: &'map Tape<V, ValueLink, A>,
     place: usize,
     reads: &mut Reads,
 ) -> (&'map K, &'map V)
-    requires chained { IsChained keys.now values.now }
-    requires listed { IsIn place values.now.order }
-    ensures pair { pair_at keys.now values.now place ≡ Some (result.0.now, result.1.now) }
+    requires chained { IsChained keys.now values.now.list }
+    requires listed { IsIn place values.now.list.order }
+    ensures pair { pair_at keys.now values.now.list place ≡ Some (result.0.now, result.1.now) }
 {
     let (value, link) = value_at(values, place, reads);
     match keys.get(link.key, reads) {

@@ -5,4 +5,4 @@ use Rattle.multimap_walks.proofs.chain.EntryValuesExactSizeIterator.len.Goals as
 pub returns-clause-value : goal.returns-clause-value
 returns-clause-value g c =
     let i = c.self.inside in
-    sym (length-values_left i.keys.now i.values.now i.key i.front i.back i.length c.self.invariant) ∙ ap (λ w. length w.left) c.self.view_is
+    sym (length-values_left i.keys.now i.values.now.list i.key i.front i.back i.length c.self.invariant) ∙ ap (λ w. length w.left) c.self.view_is
