@@ -11,6 +11,7 @@ enum Past {
     Start,
     Same(Snapshot<Snapshot<Past>>),
     Next(Snapshot<Snapshot<Past>>),
+    More(usize, Snapshot<Snapshot<Past>>),
 }
 
 /// How many items a walk has read: a number to contracts, and no bytes at run time.
@@ -46,6 +47,13 @@ impl Reads {
         ensures { self.new ≡ self.old + 1 }
     {
         self.past = Snapshot::of(&Past::Next(Snapshot::of(&self.past)));
+    }
+
+    /// Counts as many at once.
+    pub(crate) fn count_more(&mut self, count: usize)
+        ensures { self.new ≡ self.old + count }
+    {
+        self.past = Snapshot::of(&Past::More(count, Snapshot::of(&self.past)));
     }
 }
 

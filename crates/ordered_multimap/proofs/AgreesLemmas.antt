@@ -7,11 +7,12 @@ use Rattle.std.specs.Ordering.{nat_cmp}
 use Rattle.std.specs.FinMap.{FinMap, get, len, empty, get-empty, len-empty}
 use Rattle.multimap_slots.specs.Lists.{IsIn, AreDistinct}
 use Rattle.multimap_slots.specs.Slots.{Slots, IsEmpty, IsSound, HasRoomFor, item_at, link_at}
+use Rattle.multimap_slots.specs.Tapes.{Taped}
 use Rattle.multimap_walks.specs.declared.links.KeyLink.{KeyLink}
 use Rattle.multimap_walks.specs.declared.links.ValueLink.{ValueLink}
 use Rattle.multimap_walks.specs.Chained.{IsChained, is_value_of, chain_of, pair_at, pairs_of}
 use Rattle.ordered_multimap.specs.Lists.{lists, empty_lists, IsWellFormed}
-use Rattle.ordered_multimap.specs.Agrees.{Agrees, items_of, lists_of}
+use Rattle.ordered_multimap.specs.Agrees.{Agrees, IsMap, items_of, lists_of}
 use Rattle.ordered_multimap.proofs.WellFormedLemmas.{empty_well_formed}
 use Rattle.ordered_multimap.proofs.Members.{IsIn-kept}
 use Rattle.ordered_multimap.proofs.PlaceLemmas.{held, length-filter_map, IsIn-filter_map, origin, begins, named_pair, pair_named}
@@ -71,8 +72,8 @@ module _ {K V : Type 0} {eq : K → K → Bool} {hash : K → ℕ} {keys : Slots
   length-pairs = length-filter_map (pair_at keys values) values.order some_pair
 
   -- room for another value, and for another key and its row
-  pub value_room : length (pairs_of keys values) < values.capacity → HasRoomFor values 1
-  value_room few = omega (arith, few, length-pairs)
+  pub value_room : (room : ℕ) → length (pairs_of keys values) < room → length values.order + 1 ≤ room
+  value_room room few = omega (arith, few, length-pairs)
 
   pub key_room : (row_capacity : ℕ) → length (items_of keys) < min keys.capacity row_capacity → HasRoomFor keys 1
   key_room row_capacity few = omega (arith, few, length-keys)
@@ -161,3 +162,12 @@ module _ {K V : Type 0} (keys : Slots K KeyLink) (values : Slots V ValueLink) (n
         listed = λ p h e. let bad : None ≡ Some h = sym (ap (λ m. get m p) no_row ∙ get-empty nat_cmp p) ∙ e in absurd (cc);
         counted = ap len no_row ∙ len-empty nat_cmp ℕ ∙ sym (ap length no_key.order);
       }
+
+-- and an empty tape that has moved nothing
+pub empty_map : {K V : Type 0} (eq : K → K → Bool) (hash : K → ℕ) (keys : Slots K KeyLink) (rows : FinMap nat_cmp ℕ) (values : Taped V ValueLink)
+    → IsEmpty keys → IsEmpty values.list → rows ≡ empty → values.moved ≡ 0 → values.holes ≡ 0 → IsMap eq hash keys rows values
+empty_map eq hash keys rows values no_key no_value no_row moved holes = record {
+  agrees = agrees_empty keys values.list no_key no_value eq hash rows no_row;
+  fits = omega (arith, ap length no_value.order);
+  paid = omega (arith, moved, holes);
+}

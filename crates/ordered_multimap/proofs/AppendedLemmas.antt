@@ -8,7 +8,7 @@ use Rattle.std.specs.List.{filter_map, cons_option, IsDistinct}
 use Rattle.std.specs.Ordering.{nat_cmp}
 use Rattle.std.specs.FinMap.{FinMap, get, insert, len, get-insert, len-insert}
 use Rattle.multimap_slots.specs.Lists.{IsIn, first_of, last_of}
-use Rattle.multimap_slots.specs.Slots.{Slots, IsSound, HasRoomFor, KeepsItems, PushesBack, item_at, link_at, with_link}
+use Rattle.multimap_slots.specs.Slots.{Slots, IsSound, HasRoomFor, PushesBack, item_at, link_at, with_link}
 use Rattle.multimap_walks.specs.declared.links.KeyLink.{KeyLink}
 use Rattle.multimap_walks.specs.declared.links.ValueLink.{ValueLink}
 use Rattle.multimap_walks.specs.Chained.{IsChained, is_value_of, chain_of, pairs_of}
@@ -23,63 +23,10 @@ use Rattle.ordered_multimap.proofs.KeyLemmas.{is_listed-member, stored_key_only,
 use Rattle.ordered_multimap.proofs.AgreesLemmas.{is_value_of-is}
 use Rattle.ordered_multimap.proofs.ChainLemmas.{first_of-push}
 use Rattle.ordered_multimap.proofs.StepLemmas.{old_other, old_listed, new_listed, listed_cases, IsSound-push, IsSound-with_link, sets_link, sets_pushed}
+use Rattle.ordered_multimap.specs.Renames.{AreRenamed}
+use Rattle.ordered_multimap.specs.TapeNumbers.{TapeNumbers, TakesOut, ArePaid}
 use Rattle.ordered_multimap.proofs.AppendLemmas.{chained-append, pairs_of-append}
-
--- only the capacities differ
-module _ {K V : Type 0} (keys keys_after : Slots K KeyLink) (values values_after : Slots V ValueLink)
-    (same_keys : KeepsItems keys keys_after) (same_values : KeepsItems values values_after) where
-  pub lists_kept : lists_of keys_after values_after ≡ lists_of keys values
-  lists_kept = λ i. lists_of (same_keys i) (same_values i)
-
-  pub agrees_kept : {eq : K → K → Bool} {hash : K → ℕ} {rows rows_after : FinMap nat_cmp ℕ} → Agrees eq hash keys rows values → rows_after ≡ rows
-      → keys.capacity ≤ keys_after.capacity → values.capacity ≤ values_after.capacity → Agrees eq hash keys_after rows_after values_after
-  agrees_kept {eq} {hash} {rows} {rows_after} agrees same_rows key_room value_room =
-      let k : Slots K KeyLink = record keys { capacity = keys_after.capacity } in
-      let v : Slots V ValueLink = record values { capacity = values_after.capacity } in
-      let base : Agrees eq hash k rows v = record {
-        keys_sound = record {
-          distinct = agrees.keys_sound.distinct;
-          filled = agrees.keys_sound.filled;
-          linked = agrees.keys_sound.linked;
-          fits = omega (arith, agrees.keys_sound.fits, key_room);
-        };
-        values_sound = record {
-          distinct = agrees.values_sound.distinct;
-          filled = agrees.values_sound.filled;
-          linked = agrees.values_sound.linked;
-          fits = omega (arith, agrees.values_sound.fits, value_room);
-        };
-        chained = record {
-          owned = agrees.chained.owned;
-          head = agrees.chained.head;
-          tail = agrees.chained.tail;
-          length = agrees.chained.length;
-          previous = agrees.chained.previous;
-          next = agrees.chained.next;
-        };
-        distinct = agrees.distinct;
-        hashed = agrees.hashed;
-        in_table = agrees.in_table;
-        listed = agrees.listed;
-        counted = agrees.counted;
-      } in
-      subst (λ s. Agrees eq hash s rows_after values_after) (sym same_keys)
-      (subst (λ s. Agrees eq hash k rows_after s) (sym same_values) (subst (λ r. Agrees eq hash k r v) (sym same_rows) base))
-
--- another room keeps the chains
-pub chained_kept : {K V : Type 0} {keys : Slots K KeyLink} {values : Slots V ValueLink} → IsChained keys values → (reserved : Slots V ValueLink) → KeepsItems values reserved
-    → IsChained keys reserved
-chained_kept {keys = keys} {values = values} chained reserved same_values =
-    let v : Slots _ ValueLink = record values { capacity = reserved.capacity } in
-    let base : IsChained keys v = record {
-      owned = chained.owned;
-      head = chained.head;
-      tail = chained.tail;
-      length = chained.length;
-      previous = chained.previous;
-      next = chained.next;
-    } in
-    subst (IsChained keys) (sym same_values) base
+use Rattle.ordered_multimap.proofs.RenameLemmas.{agrees-renamed, lists_of-renamed}
 
 -- what an append ends with
 pub record Appends {K V : Type 0} (eq : K → K → Bool) (hash : K → ℕ) (keys : Slots K KeyLink) (values : Slots V ValueLink) (key : K) (v : V)
@@ -230,48 +177,59 @@ module _ {K V : Type 0} {keys : Slots K KeyLink} {values : Slots V ValueLink} (c
 
 -- an append, from the slots before room was made
 module _ {K V : Type 0} {eq : K → K → Bool} (laws : IsEquivalence eq) {hash : K → ℕ} {keys : Slots K KeyLink} {rows : FinMap nat_cmp ℕ} {values : Slots V ValueLink}
-    (agrees : Agrees eq hash keys rows values) (reserved : Slots V ValueLink) (same_values : KeepsItems values reserved) (room : values.capacity ≤ reserved.capacity) where
-  -- with room for a value
-  pub agrees_reserved : Agrees eq hash keys rows reserved
-  agrees_reserved = agrees_kept keys keys values reserved refl same_values agrees refl (omega arith) room
+    (agrees : Agrees eq hash keys rows values) {keys_reserved : Slots K KeyLink} {reserved : Slots V ValueLink} (r : AreRenamed keys keys_reserved values reserved) where
+  -- with room
+  pub agrees_reserved : Agrees eq hash keys_reserved rows reserved
+  agrees_reserved = agrees-renamed r.name agrees r.renames
 
-  pub present_step : (key : K) (v : V) (place : ℕ) {values_after : Slots V ValueLink} {keys_after : Slots K KeyLink} → HasKey eq keys key place
-      → PushesBehind keys keys_after reserved values_after place v → Appends eq hash keys values key v keys_after rows values_after
+  pub lists_reserved : lists_of keys_reserved reserved ≡ lists_of keys values
+  lists_reserved = lists_of-renamed r.name agrees r.renames
+
+  present_step : (key : K) (v : V) (place : ℕ) {values_after : Slots V ValueLink} {keys_after : Slots K KeyLink} → HasKey eq keys key place
+      → PushesBehind keys_reserved keys_after reserved values_after place v → Appends eq hash keys values key v keys_after rows values_after
   present_step key v place {values_after} {keys_after} has p =
-      let done = append_present laws agrees_reserved key v place p.last (p.link.length + 1) values_after p.sound p.link keys_after has p.link_is p.pushed refl p.keys_are in
-      record { agrees = done.agrees; lists = done.lists ∙ ap (λ m. appended eq m key v) (lists_kept keys keys values reserved refl same_values) }
+      let there : HasKey eq keys_reserved key place = record {
+        listed = subst (IsIn place) (sym r.renames.key_order) has.listed;
+        stored = has.stored;
+        item_is = r.renames.key_items place ∙ has.item_is;
+        equal = has.equal;
+      } in
+      let done = append_present laws agrees_reserved key v place p.last (p.link.length + 1) values_after p.sound p.link keys_after there p.link_is p.pushed refl p.keys_are in
+      record { agrees = done.agrees; lists = done.lists ∙ ap (λ m. appended eq m key v) lists_reserved }
 
-  pub absent_step : (keys_reserved keys_pushed : Slots K KeyLink) (rows_reserved : FinMap nat_cmp ℕ) (same_keys : KeepsItems keys keys_reserved) → rows_reserved ≡ rows
-      → keys.capacity ≤ keys_reserved.capacity → (key : K) (v : V) (place h : ℕ) {values_after : Slots V ValueLink} {keys_after : Slots K KeyLink} {rows_after : FinMap nat_cmp ℕ}
+  absent_step : (keys_pushed : Slots K KeyLink) (rows_reserved : FinMap nat_cmp ℕ) → rows_reserved ≡ rows
+      → (key : K) (v : V) (place h : ℕ) {values_after : Slots V ValueLink} {keys_after : Slots K KeyLink} {rows_after : FinMap nat_cmp ℕ}
       → is_listed eq (items_of keys) key ≡ false → h ≡ hash key → HasRoomFor keys_reserved 1
       → PushesRow keys_reserved keys_pushed rows_reserved rows_after place key h → keys_pushed.capacity ≡ keys_reserved.capacity
       → PushesOnly keys_pushed keys_after reserved values_after place h v
       → Appends eq hash keys values key v keys_after rows_after values_after
-  absent_step keys_reserved keys_pushed rows_reserved same_keys same_rows key_room key v place h {values_after} {keys_after} {rows_after} unlisted hash_is fits row same_room only =
-      let a : Agrees eq hash keys_reserved rows_reserved reserved = agrees_kept keys keys_reserved values reserved same_keys same_values agrees same_rows key_room room in
-      let same_items : items_of keys_reserved ≡ items_of keys = λ i. items_of (same_keys i) in
+  absent_step keys_pushed rows_reserved same_rows key v place h {values_after} {keys_after} {rows_after} unlisted hash_is fits row same_room only =
+      let a : Agrees eq hash keys_reserved rows_reserved reserved = subst (λ m. Agrees eq hash keys_reserved m reserved) (sym same_rows) agrees_reserved in
       let done = append_absent laws a key v place only.last (0 + 1) values_after only.sound h row.link keys_pushed keys_after rows_after
-      (ap (λ ks. is_listed eq ks key) same_items ∙ unlisted) hash_is fits row.key_pushed same_room row.rows_are only.value_pushed refl only.keys_are in
-      record { agrees = done.agrees; lists = done.lists ∙ ap (λ m. appended eq m key v) (lists_kept keys keys_reserved values reserved same_keys same_values) }
+      (ap (λ m. is_listed eq m.keys key) lists_reserved ∙ unlisted) hash_is fits row.key_pushed same_room row.rows_are only.value_pushed refl only.keys_are in
+      record { agrees = done.agrees; lists = done.lists ∙ ap (λ m. appended eq m key v) lists_reserved }
 
-  -- the table of reserved rows has listed places alone
-  pub rows_listed : {keys_reserved : Slots K KeyLink} {rows_reserved : FinMap nat_cmp ℕ} → KeepsItems keys keys_reserved → rows_reserved ≡ rows → HasListedRows keys_reserved rows_reserved
-  rows_listed {keys_reserved} same_keys same_rows p h is =
-      subst (λ (s : Slots K KeyLink). IsIn p s.order) (sym same_keys) (agrees.listed p h (ap (λ r. get r p) (sym same_rows) ∙ is))
+-- the table of reserved rows has listed places alone
+pub rows_listed : {K V : Type 0} {keys keys_reserved : Slots K KeyLink} {values reserved : Slots V ValueLink} {rows rows_reserved : FinMap nat_cmp ℕ}
+    → AreRenamed keys keys_reserved values reserved → rows_reserved ≡ rows → HasListedRows keys rows → HasListedRows keys_reserved rows_reserved
+rows_listed r same_rows listed p h is = subst (IsIn p) (sym r.renames.key_order) (listed p h (ap (λ m. get m p) (sym same_rows) ∙ is))
 
 -- what either outcome of an append leaves
 module _ {K V : Type 0} {eq : K → K → Bool} (laws : IsEquivalence eq) {hash : K → ℕ} {keys : Slots K KeyLink} {rows : FinMap nat_cmp ℕ} {values : Slots V ValueLink}
     (agrees : Agrees eq hash keys rows values) (key : K) (v : V) (keys_after : Slots K KeyLink) (values_after : Slots V ValueLink) where
+  pub refused_lists : {X E : Type 0} (r : Result X E) → OnErr r (AreRenamed keys keys_after values values_after) → OnErr r (lists_of keys_after values_after ≡ lists_of keys values)
+  refused_lists (Ok x) renamed = renamed
+  refused_lists (Err e) renamed = lists_reserved laws agrees renamed
+
   -- of a present key
   module _ (place : ℕ) (has : HasKey eq keys key place) where
     behind : AppendsBehind keys keys_after values values_after place v → Appends eq hash keys values key v keys_after rows values_after
-    behind done = present_step laws agrees done.reserved done.same_values done.room key v place has done.pushed
+    behind done = present_step laws agrees done.renamed key v place has done.pushed
 
-    pub behind_agrees : {X E : Type 0} (r : Result X E) → OnOk r (AppendsBehind keys keys_after values values_after place v) → OnErr r (keys_after ≡ keys)
-        → OnErr r (KeepsItems values values_after) → values.capacity ≤ values_after.capacity → Agrees eq hash keys_after rows values_after
-    behind_agrees (Ok x) done same_keys same_values room = (behind done).agrees
-    behind_agrees (Err e) done same_keys same_values room =
-        subst (λ k. Agrees eq hash k rows values_after) (sym same_keys) (agrees_kept keys keys values values_after refl same_values agrees refl (omega arith) room)
+    pub behind_agrees : {X E : Type 0} (r : Result X E) → OnOk r (AppendsBehind keys keys_after values values_after place v)
+        → OnErr r (AreRenamed keys keys_after values values_after) → Agrees eq hash keys_after rows values_after
+    behind_agrees (Ok x) done renamed = (behind done).agrees
+    behind_agrees (Err e) done renamed = agrees_reserved laws agrees renamed
 
     pub behind_lists : {X E : Type 0} (r : Result X E) → OnOk r (AppendsBehind keys keys_after values values_after place v)
         → OnOk r (lists_of keys_after values_after ≡ appended eq (lists_of keys values) key v)
@@ -282,15 +240,13 @@ module _ {K V : Type 0} {eq : K → K → Bool} (laws : IsEquivalence eq) {hash 
   module _ (rows_after : FinMap nat_cmp ℕ) (h : ℕ) (unlisted : is_listed eq (items_of keys) key ≡ false) (hash_is : h ≡ hash key) where
     first : AppendsFirst keys keys_after rows rows_after values values_after h key v → Appends eq hash keys values key v keys_after rows_after values_after
     first done =
-        absent_step laws agrees done.reserved done.same_values done.value_room done.keys_reserved done.keys_pushed done.rows_reserved done.same_keys done.same_rows
-        done.key_room key v done.place h unlisted hash_is done.fits done.row done.same_room done.only
+        absent_step laws agrees done.renamed done.keys_pushed done.rows_reserved done.same_rows
+        key v done.place h unlisted hash_is done.fits done.row done.same_room done.only
 
     pub first_agrees : {X E : Type 0} (r : Result X E) → OnOk r (AppendsFirst keys keys_after rows rows_after values values_after h key v)
-        → OnErr r (KeepsItems keys keys_after) → OnErr r (rows_after ≡ rows) → OnErr r (KeepsItems values values_after)
-        → keys.capacity ≤ keys_after.capacity → values.capacity ≤ values_after.capacity → Agrees eq hash keys_after rows_after values_after
-    first_agrees (Ok x) done same_keys same_rows same_values key_room value_room = (first done).agrees
-    first_agrees (Err e) done same_keys same_rows same_values key_room value_room =
-        agrees_kept keys keys_after values values_after same_keys same_values agrees same_rows key_room value_room
+        → OnErr r (AreRenamed keys keys_after values values_after) → OnErr r (rows_after ≡ rows) → Agrees eq hash keys_after rows_after values_after
+    first_agrees (Ok x) done renamed same_rows = (first done).agrees
+    first_agrees (Err e) done renamed same_rows = subst (λ m. Agrees eq hash keys_after m values_after) (sym same_rows) (agrees_reserved laws agrees renamed)
 
     pub first_lists : {X E : Type 0} (r : Result X E) → OnOk r (AppendsFirst keys keys_after rows rows_after values values_after h key v)
         → OnOk r (lists_of keys_after values_after ≡ appended eq (lists_of keys values) key v)
@@ -301,3 +257,7 @@ module _ {K V : Type 0} {eq : K → K → Bool} (laws : IsEquivalence eq) {hash 
 pub reply_is : {E : Type 0} {known wanted : Bool} → known ≡ wanted → (r : Result Bool E) → IfOk r (λ b. b ≡ known) → IfOk r (λ b. b ≡ wanted)
 reply_is same (Ok b) is = is ∙ same
 reply_is same (Err e) is = is
+
+-- what takes no pair out leaves the moves paid
+pub stays_paid : {old new : TapeNumbers} → TakesOut 0 old new → ArePaid old → ArePaid new
+stays_paid taken paid = omega (arith, taken.freed, taken.paid, paid)

@@ -1,13 +1,15 @@
 -- What the steps of an append make of the slots.
-use Rattle.std.proofs.Common.{◌≡◌, ◌≢◌, ◌⊎◌, ℕ, true, false, [], ◌∷◌, length, Option, Some, None, IsSome, refl, sym, ap, ◌∙◌, subst, inl, inr, true≢false, Result, Ok, Err, is_err, OnOk, IsOk, arith, length-append}
+use Rattle.std.proofs.Common.{◌≡◌, ◌≢◌, ◌⊎◌, ℕ, true, false, [], ◌∷◌, length, Option, Some, None, IsSome, IfSome, refl, sym, ap, ◌∙◌, subst, inl, inr, true≢false, Result, Ok, Err, is_err, OnOk, IsOk, arith, length-append}
 use Rattle.std.proofs.lemmas.Bool.{cases_eq}
 use Rattle.multimap_slots.specs.Lists.{IsIn, AreDistinct}
 use Rattle.multimap_slots.specs.Slots.{Slots, IsSound, HasRoomFor, PushesBack, item_at, link_at, with_link}
+use Rattle.multimap_slots.specs.Tapes.{Taped}
 use Rattle.multimap_slots.proofs.ListsLemmas.{IsIn-append, IsIn-left, IsIn-right, AreDistinct-push}
 use Rattle.multimap_slots.proofs.SlotsLemmas.{link_at-with_link, KeepsOthers-with_link}
 use Rattle.multimap_walks.specs.declared.links.KeyLink.{KeyLink}
 use Rattle.multimap_walks.specs.declared.links.ValueLink.{ValueLink}
-use Rattle.ordered_multimap.specs.Appends.{SetsKey, PushesValue, SetsNext}
+use Rattle.ordered_multimap.specs.Appends.{SetsKey, PushesValue}
+use Rattle.ordered_multimap.specs.Renames.{MendsLink}
 
 module _ {T L : Type 0} {old new : Slots T L} {place : ℕ} {item : T} {link : L} (pushed : PushesBack old new place item link) where
   -- an old place is another one
@@ -53,45 +55,24 @@ IsSound-with_link s place link at_place sound = record {
   fits = sound.fits;
 }
 
-module _ {V : Type 0} {old mid : Slots V ValueLink} {place : ℕ} {v : V} {key : ℕ} {tail : Option ℕ}
-    (pushed : PushesBack old mid place v (record { key = key; previous = tail; next = None })) where
-  -- a value without one before it in its chain
-  pub pushes_first : tail ≡ None → PushesValue old mid place v key tail
-  pushes_first none = record {
-    was_absent = pushed.was_absent;
-    order = pushed.order;
-    item_is = pushed.item_is;
-    link_is = pushed.link_is;
-    items = pushed.others.items;
-    behind = λ q l is. let bad : None ≡ Some q = sym none ∙ is in absurd (cc);
-    links = λ q differs not_tail. pushed.others.links q differs;
-  }
+-- what holds for each place holds for one that may be there
+pub if_each : {P : ℕ → Type 0} (o : Option ℕ) → ((q : ℕ) → o ≡ Some q → P q) → IfSome o P
+if_each None each = tt
+if_each (Some p) each = each p refl
 
-  -- a value behind the tail, whose link names it
-  pub pushes_behind : {new : Slots V ValueLink} (t : ℕ) → tail ≡ Some t → IsIn t old.order → SetsNext mid new t place → PushesValue old new place v key tail
-  pushes_behind t is_tail listed sets =
-      let l : ValueLink = sets.link in
-      let longer : ValueLink = record l { next = Some place } in
-      let other : place ≢ t = λ e. old_other pushed t listed (sym e) in
-      let keeps = KeepsOthers-with_link mid t longer in
-      record {
-        was_absent = pushed.was_absent;
-        order = ap (λ (s : Slots V ValueLink). s.order) sets.is ∙ pushed.order;
-        item_is = ap (λ (s : Slots V ValueLink). item_at s place) sets.is ∙ pushed.item_is;
-        link_is = ap (λ (s : Slots V ValueLink). link_at s place) sets.is ∙ keeps.links place other ∙ pushed.link_is;
-        items = λ q differs. ap (λ (s : Slots V ValueLink). item_at s q) sets.is ∙ pushed.others.items q differs;
-        behind = λ q m is link_is.
-            let same : q ≡ t = (let e : Some q ≡ Some t = sym is ∙ is_tail in cc) in
-            let own : l ≡ m = (let e : Some l ≡ Some m = sym sets.was ∙ pushed.others.links t (old_other pushed t listed) ∙ ap (link_at old) (sym same) ∙ link_is in cc) in
-            ap (λ (s : Slots V ValueLink). link_at s q) sets.is
-            ∙ ap (link_at (with_link mid t longer)) same
-            ∙ link_at-with_link mid t longer (subst IsSome (sym sets.was) refl)
-            ∙ ap (λ (n : ValueLink). Some (record n { next = Some place })) own;
-        links = λ q differs not_tail.
-            ap (λ (s : Slots V ValueLink). link_at s q) sets.is
-            ∙ keeps.links q (λ e. not_tail (is_tail ∙ ap Some (sym e)))
-            ∙ pushed.others.links q differs;
-      }
+-- a value that came, and then the link of the one before it in its chain
+module _ {V : Type 0} {old : Slots V ValueLink} {mid : Taped V ValueLink} {place : ℕ} {v : V} {key : ℕ} {tail : Option ℕ}
+    (pushed : PushesBack old mid.list place v (record { key = key; previous = tail; next = None })) (listed : (q : ℕ) → tail ≡ Some q → IsIn q old.order) where
+  pub pushes_value : {new : Taped V ValueLink} → MendsLink mid new tail (λ l. record l { next = Some place }) → PushesValue old new.list place v key tail
+  pushes_value mends = record {
+    was_absent = pushed.was_absent;
+    order = ap (λ t. t.list.order) mends.rest ∙ pushed.order;
+    item_is = ap (λ t. item_at t.list place) mends.rest ∙ pushed.item_is;
+    link_is = mends.others place (λ e. old_other pushed place (listed place e) refl) ∙ pushed.link_is;
+    items = λ q differs. ap (λ t. item_at t.list q) mends.rest ∙ pushed.others.items q differs;
+    behind = λ q l is link_is. mends.here q l is (pushed.others.links q (old_other pushed q (listed q is)) ∙ link_is);
+    links = λ q differs not_tail. mends.others q not_tail ∙ pushed.others.links q differs;
+  }
 
 -- another link of a listed key
 pub sets_link : {K : Type 0} (keys : Slots K KeyLink) (place : ℕ) (k : K) (link : KeyLink) → IsIn place keys.order → item_at keys place ≡ Some k → IsSome (link_at keys place)

@@ -8,10 +8,12 @@ use Rattle.std.specs.declared.hash.Hasher as hasher
 use Rattle.std.specs.declared.hash.BuildHasher as builder
 use Rattle.multimap_slots.specs.Lists.{IsIn}
 use Rattle.multimap_slots.specs.Slots.{Slots, IsSound, item_at, link_at}
+use Rattle.multimap_slots.specs.Tapes.{Taped, HasTapeRoomFor}
 use Rattle.multimap_walks.specs.declared.links.KeyLink.{KeyLink}
 use Rattle.multimap_walks.specs.declared.links.ValueLink.{ValueLink}
 use Rattle.multimap_walks.specs.Chained.{IsChained, pairs_of}
 use Rattle.ordered_multimap.specs.Lists.{Lists, lists}
+use Rattle.ordered_multimap.specs.TapeNumbers.{numbers_of, ArePaid}
 
 -- what a builder makes of the writes of a key
 abbrev pub hash_of : {S H : Type 0} → builder.Ghosts S H → hasher.Ghosts H → S → HashWrites → ℕ
@@ -54,3 +56,10 @@ module _ {K V : Type 0} where
     pub in_table : (place : ℕ) (l : KeyLink) → IsIn place keys.order → link_at keys place ≡ Some l → get rows place ≡ Some l.hash
     pub listed : (place h : ℕ) → get rows place ≡ Some h → IsIn place keys.order
     pub counted : len rows ≡ length keys.order
+
+-- key list, table and tape agree, the values fill no more than half of the slots, and moves are paid for
+pub record IsMap {K V : Type 0} (eq : K → K → Bool) (hash : K → ℕ) (keys : Slots K KeyLink)
+    (rows : FinMap nat_cmp ℕ) (values : Taped V ValueLink) : Type 0 where
+  pub agrees : Agrees eq hash keys rows values.list
+  pub fits : HasTapeRoomFor values 0
+  pub paid : ArePaid (numbers_of values)

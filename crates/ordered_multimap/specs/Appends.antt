@@ -3,9 +3,10 @@ use Rattle.std.specs.Prelude.{◌≡◌, ◌≢◌, ◌≤◌, ◌+◌, ℕ, [],
 use Rattle.std.specs.Ordering.{nat_cmp}
 use Rattle.std.specs.FinMap.{FinMap, get, insert}
 use Rattle.multimap_slots.specs.Lists.{IsIn}
-use Rattle.multimap_slots.specs.Slots.{Slots, IsSound, HasRoomFor, KeepsItems, PushesBack, item_at, link_at, with_link}
+use Rattle.multimap_slots.specs.Slots.{Slots, IsSound, HasRoomFor, PushesBack, item_at, link_at, with_link}
 use Rattle.multimap_walks.specs.declared.links.KeyLink.{KeyLink}
 use Rattle.multimap_walks.specs.declared.links.ValueLink.{ValueLink}
+use Rattle.ordered_multimap.specs.Renames.{AreRenamed}
 
 -- the key is listed at the place with this link, and each other key as before
 pub record SetsKey {K : Type 0} (old new : Slots K KeyLink) (place : ℕ) (k : K) (link : KeyLink) : Type 0 where
@@ -26,12 +27,6 @@ pub record PushesValue {V : Type 0} (old new : Slots V ValueLink) (place : ℕ) 
   pub items : (q : ℕ) → q ≢ place → item_at new q ≡ item_at old q
   pub behind : (q : ℕ) (l : ValueLink) → tail ≡ Some q → link_at old q ≡ Some l → link_at new q ≡ Some (record l { next = Some place })
   pub links : (q : ℕ) → q ≢ place → tail ≢ Some q → link_at new q ≡ link_at old q
-
--- the link of the place names another next place, and all else is as before
-pub record SetsNext {V : Type 0} (old new : Slots V ValueLink) (place next : ℕ) : Type 0 where
-  pub link : ValueLink
-  pub was : link_at old place ≡ Some link
-  pub is : new ≡ with_link old place (record link { next = Some next })
 
 -- the value stands last, behind the others of the key at the place
 pub record PushesBehind {K V : Type 0} (keys keys_after : Slots K KeyLink) (values values_after : Slots V ValueLink) (place : ℕ) (value : V) : Type 0 where
@@ -60,23 +55,22 @@ pub record PushesOnly {K V : Type 0} (keys keys_after : Slots K KeyLink) (values
   pub keys_are : keys_after ≡ with_link keys place (record { hash = hash; head = last; tail = last; length = 0 + 1 })
 
 -- room was made for a value, and then it was put behind the others of the key at the place
-pub record AppendsBehind {K V : Type 0} (keys keys_after : Slots K KeyLink) (values values_after : Slots V ValueLink) (place : ℕ) (value : V) : Type 0 where
+pub record AppendsBehind {K V : Type 0} (keys keys_after : Slots K KeyLink)
+    (values values_after : Slots V ValueLink) (place : ℕ) (value : V) : Type 0 where
+  pub keys_reserved : Slots K KeyLink
   pub reserved : Slots V ValueLink
-  pub same_values : KeepsItems values reserved
-  pub room : values.capacity ≤ reserved.capacity
-  pub pushed : PushesBehind keys keys_after reserved values_after place value
+  pub renamed : AreRenamed keys keys_reserved values reserved
+  pub pushed : PushesBehind keys_reserved keys_after reserved values_after place value
 
 -- room was made for a key and a value, and then both were put last
-pub record AppendsFirst {K V : Type 0} (keys keys_after : Slots K KeyLink) (rows rows_after : FinMap nat_cmp ℕ) (values values_after : Slots V ValueLink)
+pub record AppendsFirst {K V : Type 0} (keys keys_after : Slots K KeyLink)
+    (rows rows_after : FinMap nat_cmp ℕ) (values values_after : Slots V ValueLink)
     (hash : ℕ) (key : K) (value : V) : Type 0 where
   pub keys_reserved : Slots K KeyLink
   pub rows_reserved : FinMap nat_cmp ℕ
   pub reserved : Slots V ValueLink
-  pub same_keys : KeepsItems keys keys_reserved
+  pub renamed : AreRenamed keys keys_reserved values reserved
   pub same_rows : rows_reserved ≡ rows
-  pub same_values : KeepsItems values reserved
-  pub key_room : keys.capacity ≤ keys_reserved.capacity
-  pub value_room : values.capacity ≤ reserved.capacity
   pub fits : HasRoomFor keys_reserved 1
   pub place : ℕ
   pub keys_pushed : Slots K KeyLink

@@ -7,4 +7,6 @@ pub mod Lists
 pub mod Multimap
 pub mod Pairs
 pub mod Pop
+pub mod Renames
 pub mod Retain
+pub mod TapeNumbers

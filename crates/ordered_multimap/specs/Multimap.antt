@@ -2,27 +2,32 @@
 use Rattle.std.specs.Prelude.{ℕ, List, refl}
 use Rattle.std.specs.Coded.{Coded, code_by, coded×, coded_list, coded_ℕ}
 use Rattle.ordered_multimap.specs.Lists.{Lists, lists}
+use Rattle.ordered_multimap.specs.TapeNumbers.{TapeNumbers, numbers_code}
 
--- its two lists, how many keys and how many values fit without growing, and its hash builder
+-- its two lists, how many keys and how many values fit without growing, its hash builder, and the
+-- numbers of the tape on which its values stand
 pub record Multimap (K V S : Type 0) : Type 0 where
   pub lists : Lists K V
   pub key_room : ℕ
   pub value_room : ℕ
   pub hasher : S
+  pub tape : TapeNumbers
 
 module _ {K V S : Type 0} where
-  abbrev pub multimap : Lists K V → ℕ → ℕ → S → Multimap K V S
-  multimap two_lists key_room value_room hasher = record {
+  abbrev pub multimap : Lists K V → ℕ → ℕ → S → TapeNumbers → Multimap K V S
+  multimap two_lists key_room value_room hasher tape = record {
     lists = two_lists;
     key_room = key_room;
     value_room = value_room;
     hasher = hasher;
+    tape = tape;
   }
 
-  -- a map is stored as its lists, its rooms and its builder
+  -- a map is stored as its lists, its rooms, its builder and its tape's numbers
   abbrev pub multimap_code : Coded K → Coded V → Coded S → Coded (Multimap K V S)
   multimap_code k v s =
-      code_by ((List K × List (K × V)) × ((ℕ × ℕ) × S))
-      (coded× (coded× (coded_list k) (coded_list (coded× k v))) (coded× (coded× coded_ℕ coded_ℕ) s))
-      (λ m. ((m.lists.keys, m.lists.pairs), ((m.key_room, m.value_room), m.hasher)))
-      (λ p. multimap (lists p.0.0 p.0.1) p.1.0.0 p.1.0.1 p.1.1) (λ _. refl)
+      code_by ((List K × List (K × V)) × ((ℕ × ℕ) × (S × TapeNumbers)))
+      (coded× (coded× (coded_list k) (coded_list (coded× k v)))
+      (coded× (coded× coded_ℕ coded_ℕ) (coded× s numbers_code)))
+      (λ m. ((m.lists.keys, m.lists.pairs), ((m.key_room, m.value_room), (m.hasher, m.tape))))
+      (λ p. multimap (lists p.0.0 p.0.1) p.1.0.0 p.1.0.1 p.1.1.0 p.1.1.1) (λ _. refl)

@@ -3,11 +3,14 @@ ghost use Rattle.std.specs.Prelude.{◌≡◌, ◌≤◌, ◌↔◌, [], length,
 ghost use Rattle.ordered_multimap.specs.Lists.{IsWellFormed, empty_lists};
 
 mod append;
+mod compact;
+mod links;
 mod lookup;
+mod room;
 mod steps;
 mod walks;
 
-use multimap_slots::SlotList;
+use multimap_slots::{SlotList, Tape};
 use multimap_table::KeyTable;
 pub use multimap_walks::{EntryValues, Iter, KeyLink, ValueLink};
 use std::alloc::{AllocError, Allocator, Global};
@@ -46,22 +49,24 @@ pub struct ListOrderedMultimap<
     state: S,
     keys: SlotList<K, KeyLink, A>,
     table: KeyTable<A>,
-    values: SlotList<V, ValueLink, A>,
+    values: Tape<V, ValueLink, A>,
 }
 
 impl<K: Eq + Hash, V, S: BuildHasher, A: Allocator> Model for ListOrderedMultimap<K, V, S, A> {
-    ghost use Rattle.std.specs.Prelude.{min};
+    ghost use Rattle.std.specs.Prelude.{min, ◌/◌};
     ghost use Rattle.ordered_multimap.specs.Multimap.{Multimap, multimap, multimap_code};
-    ghost use Rattle.ordered_multimap.specs.Agrees.{Agrees, lists_of, hash_of};
+    ghost use Rattle.ordered_multimap.specs.Agrees.{IsMap, lists_of, hash_of};
+    ghost use Rattle.ordered_multimap.specs.TapeNumbers.{numbers_of};
 
     ghost Value = { Multimap K V S };
 
     ghost coded = { multimap_code K.code V.code S.code };
 
-    ghost view = { λ m. multimap (lists_of m.keys m.values) (min m.keys.capacity m.table.capacity)
-        m.values.capacity m.state };
+    ghost view = { λ m. multimap (lists_of m.keys m.values.list)
+        (min m.keys.capacity m.table.capacity) (m.values.list.capacity / 2) m.state
+        (numbers_of m.values) };
 
-    ghost invariant = { λ m. Agrees K.eq
+    ghost invariant = { λ m. IsMap K.eq
         (λ k. hash_of S.BuildHasher S.Hasher.Hasher m.state (K.hash_input k))
         m.keys m.table.rows m.values };
 }
@@ -104,7 +109,7 @@ impl<K: Eq + Hash, V, S: BuildHasher, A: Allocator + Copy> ListOrderedMultimap<K
             state,
             keys: SlotList::new(alloc),
             table: KeyTable::new(alloc),
-            values: SlotList::new(alloc),
+            values: Tape::new(alloc),
         }
     }
 
@@ -128,7 +133,7 @@ impl<K: Eq + Hash, V, S: BuildHasher, A: Allocator + Copy> ListOrderedMultimap<K
     {
         let keys = SlotList::with_capacity(alloc, key_capacity)?;
         let table = KeyTable::with_capacity(alloc, key_capacity)?;
-        let values = SlotList::with_capacity(alloc, value_capacity)?;
+        let values = Tape::with_capacity(alloc, value_capacity)?;
         Ok(ListOrderedMultimap {
             state,
             keys,
@@ -176,7 +181,7 @@ impl<K: Eq + Hash, V, S: BuildHasher, A: Allocator> ListOrderedMultimap<K, V, S,
         self.keys.capacity().min(self.table.capacity())
     }
 
-    /// How many values fit before the map must grow.
+    /// How many values fit before the map must grow: as many as half of the slots.
     pub fn values_capacity(&self) -> usize
         ensures { result ≡ self.now.value_room }
     {

@@ -2,16 +2,20 @@
 ghost use Rattle.std.specs.Prelude.{◌≡◌, ◌≤◌, ◌<◌, ◌+◌, true, false, length, IfOk, IfErr, OnOk, OnErr, IsOk, IsTrue};
 ghost use Rattle.std.specs.FinMap.{len};
 ghost use Rattle.multimap_slots.specs.Lists.{IsIn};
-ghost use Rattle.multimap_slots.specs.Slots.{HasRoomFor, KeepsItems};
+ghost use Rattle.multimap_slots.specs.Slots.{IsSound, HasRoomFor};
+ghost use Rattle.multimap_slots.specs.Tapes.{HasTapeRoomFor};
 ghost use Rattle.multimap_walks.specs.Chained.{IsChained};
 ghost use Rattle.ordered_multimap.specs.Appends.{AppendsBehind, AppendsFirst, HasListedRows};
+ghost use Rattle.ordered_multimap.specs.Renames.{AreRenamed};
+ghost use Rattle.ordered_multimap.specs.TapeNumbers.{TakesOut, numbers_of};
 ghost use Rattle.ordered_multimap.specs.Pairs.{is_present};
 ghost use Rattle.ordered_multimap.specs.Changes.{appended};
 
 use super::lookup::place_of;
-use super::steps::{make_room, push_behind, push_only, push_row};
+use super::room::{make_room, make_value_room};
+use super::steps::{push_behind, push_only, push_row};
 use super::{ListOrderedMultimap, Refused};
-use multimap_slots::SlotList;
+use multimap_slots::{SlotList, Tape};
 use multimap_table::KeyTable;
 use multimap_walks::{KeyLink, ValueLink};
 use std::alloc::Allocator;
@@ -23,10 +27,13 @@ impl<K: Eq + Hash, V, S: BuildHasher, A: Allocator + Copy> ListOrderedMultimap<K
     ///
     /// Where memory is refused, it hands back the pair, and both lists are as before. One look-up;
     /// it writes the slots of the key, of the new value and of the value before it under the same
-    /// key. A growth costs the slots or rows that are moved.
+    /// key. A growth costs the slots or rows that are moved. Where the last slot is in use and half
+    /// of the slots or more are free, the values are moved over the holes that removals left, and no
+    /// memory is taken: over all calls that is no more than one move for each removal.
     pub fn append(&mut self, key: K, value: V) -> Result<bool, Refused<K, V>>
     where
         K: Drop,
+        V: Drop,
         ensures present { IfOk result (λ present.
             present ≡ is_present K.eq self.old.lists.pairs key) }
         ensures ok { OnOk result (self.new.lists ≡ appended K.eq self.old.lists key value) }
@@ -49,6 +56,9 @@ impl<K: Eq + Hash, V, S: BuildHasher, A: Allocator + Copy> ListOrderedMultimap<K
             → self.new.value_room ≡ self.old.value_room }
         ensures present_keeps_key_room { IsTrue (is_present K.eq self.old.lists.pairs key)
             → self.new.key_room ≡ self.old.key_room }
+        ensures had_slots { length self.old.lists.pairs < self.old.value_room
+            → self.new.tape.slots ≡ self.old.tape.slots }
+        ensures taken { TakesOut 0 self.old.tape self.new.tape }
         ensures hasher { self.new.hasher ≡ self.old.hasher }
     {
         let hash = self.state.hash_one(&key);
@@ -67,29 +77,34 @@ impl<K: Eq + Hash, V, S: BuildHasher, A: Allocator + Copy> ListOrderedMultimap<K
 }
 
 /// Appends to the key at the place, and lets the equal key go that was handed in.
-fn append_behind<K: Drop, V, A: Allocator>(
+fn append_behind<K: Drop, V: Drop, A: Allocator>(
     keys: &mut SlotList<K, KeyLink, A>,
-    values: &mut SlotList<V, ValueLink, A>,
+    values: &mut Tape<V, ValueLink, A>,
     place: usize,
     key: K,
     value: V,
 ) -> Result<bool, Refused<K, V>>
     requires listed { IsIn place keys.old.order }
-    requires chained { IsChained keys.old values.old }
+    requires keys_sound { IsSound keys.old }
+    requires chained { IsChained keys.old values.old.list }
+    requires fits { HasTapeRoomFor values.old 0 }
     ensures present { IfOk result (λ present. present ≡ true) }
-    ensures ok { OnOk result (AppendsBehind keys.old keys.new values.old values.new place value) }
-    ensures keys_kept { OnErr result (keys.new ≡ keys.old) }
-    ensures values_kept { OnErr result (KeepsItems values.old values.new) }
+    ensures ok { OnOk result (AppendsBehind keys.old keys.new
+        values.old.list values.new.list place value) }
+    ensures err { OnErr result (AreRenamed keys.old keys.new values.old.list values.new.list) }
     ensures key_returned { IfErr result (λ refused. refused.key ≡ key) }
     ensures value_returned { IfErr result (λ refused. refused.value ≡ value) }
+    ensures fits { HasTapeRoomFor values.new 0 }
+    ensures taken { TakesOut 0 (numbers_of values.old) (numbers_of values.new) }
 
     // Where there is room, nothing grows and nothing is refused.
-    ensures succeeds { HasRoomFor values.old 1 → IsOk result }
-    ensures had_room { HasRoomFor values.old 1 → values.new.capacity ≡ values.old.capacity }
-    ensures values_capacity { values.old.capacity ≤ values.new.capacity }
+    ensures succeeds { HasTapeRoomFor values.old 1 → IsOk result }
+    ensures had_room { HasTapeRoomFor values.old 1
+        → values.new.list.capacity ≡ values.old.list.capacity }
+    ensures values_capacity { values.old.list.capacity ≤ values.new.list.capacity }
     ensures keys_capacity { keys.new.capacity ≡ keys.old.capacity }
 {
-    if values.reserve(1).is_err() {
+    if make_value_room(keys, values).is_err() {
         return Err(Refused { key, value });
     }
     push_behind(keys, values, place, value);
@@ -97,35 +112,39 @@ fn append_behind<K: Drop, V, A: Allocator>(
 }
 
 /// Appends a key that isn't listed, whose hash is `hash`, with its first value.
-fn append_first<K, V, A: Allocator + Copy>(
+fn append_first<K, V: Drop, A: Allocator + Copy>(
     keys: &mut SlotList<K, KeyLink, A>,
     table: &mut KeyTable<A>,
-    values: &mut SlotList<V, ValueLink, A>,
+    values: &mut Tape<V, ValueLink, A>,
     hash: u64,
     key: K,
     value: V,
 ) -> Result<bool, Refused<K, V>>
-    requires { HasListedRows keys.old table.old.rows }
+    requires rows { HasListedRows keys.old table.old.rows }
+    requires keys_sound { IsSound keys.old }
+    requires chained { IsChained keys.old values.old.list }
+    requires fits { HasTapeRoomFor values.old 0 }
     ensures present { IfOk result (λ present. present ≡ false) }
     ensures ok { OnOk result (AppendsFirst keys.old keys.new table.old.rows table.new.rows
-        values.old values.new hash key value) }
-    ensures keys_kept { OnErr result (KeepsItems keys.old keys.new) }
+        values.old.list values.new.list hash key value) }
+    ensures err { OnErr result (AreRenamed keys.old keys.new values.old.list values.new.list) }
     ensures rows_kept { OnErr result (table.new.rows ≡ table.old.rows) }
-    ensures values_kept { OnErr result (KeepsItems values.old values.new) }
     ensures key_returned { IfErr result (λ refused. refused.key ≡ key) }
     ensures value_returned { IfErr result (λ refused. refused.value ≡ value) }
+    ensures fits { HasTapeRoomFor values.new 0 }
+    ensures taken { TakesOut 0 (numbers_of values.old) (numbers_of values.new) }
 
     // Where there is room, nothing grows and nothing is refused.
     ensures succeeds { HasRoomFor keys.old 1 → len table.old.rows + 1 ≤ table.old.capacity
-        → HasRoomFor values.old 1 → IsOk result }
+        → HasTapeRoomFor values.old 1 → IsOk result }
     ensures keys_had_room { HasRoomFor keys.old 1 → keys.new.capacity ≡ keys.old.capacity }
     ensures rows_had_room { len table.old.rows + 1 ≤ table.old.capacity
         → table.new.capacity ≡ table.old.capacity }
-    ensures values_had_room { HasRoomFor values.old 1
-        → values.new.capacity ≡ values.old.capacity }
+    ensures values_had_room { HasTapeRoomFor values.old 1
+        → values.new.list.capacity ≡ values.old.list.capacity }
     ensures keys_capacity { keys.old.capacity ≤ keys.new.capacity }
     ensures rows_capacity { table.old.capacity ≤ table.new.capacity }
-    ensures values_capacity { values.old.capacity ≤ values.new.capacity }
+    ensures values_capacity { values.old.list.capacity ≤ values.new.list.capacity }
 {
     if make_room(keys, table, values).is_err() {
         return Err(Refused { key, value });

@@ -9,9 +9,9 @@ ghost use Rattle.ordered_multimap.specs.Keys.{is_listed};
 ghost use Rattle.ordered_multimap.specs.Agrees.{HasKey, SaysWhetherEqual, IsFoundBy, items_of};
 
 use super::ListOrderedMultimap;
-use multimap_slots::{Reads, SlotList};
+use multimap_slots::{Reads, SlotList, Tape};
 use multimap_table::KeyTable;
-use multimap_walks::KeyLink;
+use multimap_walks::{KeyLink, ValueLink};
 use std::alloc::Allocator;
 use std::hash::{BuildHasher, Hash};
 
@@ -22,6 +22,21 @@ pub(super) fn slot_at<T, L: Copy, A: Allocator>(slots: &SlotList<T, L, A>, place
 {
     let mut reads = Reads::new();
     match slots.get(place, &mut reads) {
+        Some(slot) => slot,
+        None => unreachable!(),
+    }
+}
+
+/// The value at the place, with its link.
+pub(super) fn value_at<V, A: Allocator>(
+    values: &Tape<V, ValueLink, A>,
+    place: usize,
+) -> (&V, ValueLink)
+    requires { IsIn place values.now.list.order }
+    ensures { HasSlot values.now.list place result.0.now result.1 }
+{
+    let mut reads = Reads::new();
+    match values.get(place, &mut reads) {
         Some(slot) => slot,
         None => unreachable!(),
     }
@@ -64,7 +79,7 @@ impl<K: Eq + Hash, V, S: BuildHasher, A: Allocator> ListOrderedMultimap<K, V, S,
         match place_of(&self.keys, &self.table, hash, key) {
             Some(place) => {
                 let (_, link) = slot_at(&self.keys, place);
-                let (value, _) = slot_at(&self.values, link.head);
+                let (value, _) = value_at(&self.values, link.head);
                 Some(value)
             }
             None => None,

@@ -7,14 +7,14 @@ use Rattle.ordered_multimap.proofs.list_ordered_multimap.ListOrderedMultimap.ent
 pub place_of-requires : goal.place_of-requires
 place_of-requires g c =
     subst (IsFoundBy g.K.PartialEq.eq c.self.inside.keys c.self.inside.table.rows c.args.key.now) (sym c.hash_one-hash.ensures)
-    (found_by g.met.K.Eq.laws c.self.invariant (λ x y equal. ap (hash_of g.S.BuildHasher g.S.Hasher.Hasher c.self.inside.state) (g.met.K.Hash.respects_eq x y equal)) c.args.key.now)
+    (found_by g.met.K.Eq.laws c.self.invariant.agrees (λ x y equal. ap (hash_of g.S.BuildHasher g.S.Hasher.Hasher c.self.inside.state) (g.met.K.Hash.respects_eq x y equal)) c.args.key.now)
 
 pub returns-in-Some : goal.returns-in-Some
 returns-in-Some g c =
-    sym (count_of_values g.met.K.Eq.laws c.self.invariant c.args.key.now c.in-Some.place c.slot_at.result.1 c.in-Some.ensures.found c.slot_at.ensures.link_is)
+    sym (count_of_values g.met.K.Eq.laws c.self.invariant.agrees c.args.key.now c.in-Some.place c.slot_at.result.1 c.in-Some.ensures.found c.slot_at.ensures.link_is)
     ∙ ap (λ m. length (values_of g.K.PartialEq.eq m.lists.pairs c.args.key.now)) c.self.view_is
 
 pub returns-in-None : goal.returns-in-None
 returns-in-None g c =
-    sym (ap length (no_value g.met.K.Eq.laws c.self.invariant c.args.key.now c.in-None.ensures.absent))
+    sym (ap length (no_value g.met.K.Eq.laws c.self.invariant.agrees c.args.key.now c.in-None.ensures.absent))
     ∙ ap (λ m. length (values_of g.K.PartialEq.eq m.lists.pairs c.args.key.now)) c.self.view_is

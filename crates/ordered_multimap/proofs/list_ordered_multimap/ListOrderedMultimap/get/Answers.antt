@@ -7,19 +7,19 @@ use Rattle.ordered_multimap.proofs.list_ordered_multimap.ListOrderedMultimap.get
 pub place_of-requires : goal.place_of-requires
 place_of-requires g c =
     subst (IsFoundBy g.K.PartialEq.eq c.self.inside.keys c.self.inside.table.rows c.args.key.now) (sym c.hash_one-hash.ensures)
-    (found_by g.met.K.Eq.laws c.self.invariant (λ x y equal. ap (hash_of g.S.BuildHasher g.S.Hasher.Hasher c.self.inside.state) (g.met.K.Hash.respects_eq x y equal)) c.args.key.now)
+    (found_by g.met.K.Eq.laws c.self.invariant.agrees (λ x y equal. ap (hash_of g.S.BuildHasher g.S.Hasher.Hasher c.self.inside.state) (g.met.K.Hash.respects_eq x y equal)) c.args.key.now)
 
-pub slot_at-requires-in-Some : goal.slot_at-requires-in-Some
-slot_at-requires-in-Some g c =
-    head_listed g.met.K.Eq.laws c.self.invariant c.in-Some.place c.slot_at.result.1 c.in-Some.ensures.found.listed c.slot_at.ensures.link_is
+pub value_at-requires : goal.value_at-requires
+value_at-requires g c =
+    head_listed g.met.K.Eq.laws c.self.invariant.agrees c.in-Some.place c.slot_at.result.1 c.in-Some.ensures.found.listed c.slot_at.ensures.link_is
 
 pub returns-in-Some : goal.returns-in-Some
 returns-in-Some g c =
-    sym (first_value g.met.K.Eq.laws c.self.invariant c.args.key.now c.in-Some.place c.slot_at.result.1 c.slot_at-in-Some.result.0.now
-    c.in-Some.ensures.found c.slot_at.ensures.link_is c.slot_at-in-Some.ensures.item_is)
+    sym (first_value g.met.K.Eq.laws c.self.invariant.agrees c.args.key.now c.in-Some.place c.slot_at.result.1 c.value_at.result.0.now
+    c.in-Some.ensures.found c.slot_at.ensures.link_is c.value_at.ensures.item_is)
     ∙ ap (λ m. slice_get (values_of g.K.PartialEq.eq m.lists.pairs c.args.key.now) 0) c.self.view_is
 
 pub returns-in-None : goal.returns-in-None
 returns-in-None g c =
-    sym (ap (λ vs. slice_get vs 0) (no_value g.met.K.Eq.laws c.self.invariant c.args.key.now c.in-None.ensures.absent))
+    sym (ap (λ vs. slice_get vs 0) (no_value g.met.K.Eq.laws c.self.invariant.agrees c.args.key.now c.in-None.ensures.absent))
     ∙ ap (λ m. slice_get (values_of g.K.PartialEq.eq m.lists.pairs c.args.key.now) 0) c.self.view_is

@@ -1,5 +1,7 @@
-use Rattle.ordered_multimap.proofs.AppendedLemmas.{chained_kept}
+use Rattle.std.proofs.Common.{sym, subst}
+use Rattle.multimap_slots.specs.Lists.{IsIn}
 use Rattle.ordered_multimap.proofs.list_ordered_multimap.append.append_behind.Goals as goal
 
-pub push_behind-requires-clause-chained : goal.push_behind-requires-clause-chained
-push_behind-requires-clause-chained g c = chained_kept c.requires.chained c.reserve.new.self c.reserve.ensures.unchanged
+pub push_behind-requires-clause-listed : goal.push_behind-requires-clause-listed
+push_behind-requires-clause-listed g c =
+    subst (IsIn c.args.place) (sym c.make_value_room.ensures.renamed.renames.key_order) c.requires.listed

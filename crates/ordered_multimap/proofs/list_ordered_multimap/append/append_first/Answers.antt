@@ -1,20 +1,21 @@
 use Rattle.std.proofs.Common.{sym, ◌∙◌}
 use Rattle.ordered_multimap.proofs.StepLemmas.{ok_if, new_listed}
+use Rattle.ordered_multimap.proofs.AppendedLemmas.{rows_listed}
 use Rattle.ordered_multimap.proofs.list_ordered_multimap.append.append_first.Goals as goal
 
 pub push_only-requires-clause-listed : goal.push_only-requires-clause-listed
 push_only-requires-clause-listed g c = new_listed c.push_row-place.ensures.pushed.key_pushed
 
+pub push_row-place-requires-clause-listed : goal.push_row-place-requires-clause-listed
+push_row-place-requires-clause-listed g c = rows_listed c.make_room.ensures.renamed c.make_room.ensures.rows c.requires.rows
+
 pub returns-clause-ok : goal.returns-clause-ok
 returns-clause-ok g c = record {
   keys_reserved = c.make_room.new.keys;
   rows_reserved = c.make_room.new.table.rows;
-  reserved = c.make_room.new.values;
-  same_keys = c.make_room.ensures.keys;
+  reserved = c.make_room.new.values.list;
+  renamed = c.make_room.ensures.renamed;
   same_rows = c.make_room.ensures.rows;
-  same_values = c.make_room.ensures.values;
-  key_room = c.make_room.ensures.keys_capacity;
-  value_room = c.make_room.ensures.values_capacity;
   fits = ok_if c.make_room.result (sym c.is_err.ensures.value ∙ c.if-is_err.false) c.make_room.ensures.key_room;
   place = c.push_row-place.result;
   keys_pushed = c.push_row-place.new.keys;

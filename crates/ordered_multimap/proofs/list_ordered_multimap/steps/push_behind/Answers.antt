@@ -8,4 +8,4 @@ push_value-tail-requires-clause-tail g c =
 pub one_more-length-requires : goal.one_more-length-requires
 one_more-length-requires g c =
     chain_shorter c.requires.chained c.args.place c.slot_at.result.1 c.requires.listed c.slot_at.ensures.link_is
-    c.push_value-tail.new.values.order c.push_value-tail.result c.push_value-tail.ensures.pushed.order
+    c.push_value-tail.new.values.list.order c.push_value-tail.result c.push_value-tail.ensures.pushed.order

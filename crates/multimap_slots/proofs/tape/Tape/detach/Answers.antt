@@ -1,0 +1,10 @@
+use Rattle.std.proofs.Common.{refl}
+use Rattle.multimap_slots.proofs.TapeLemmas.{IsTape-detach, Detaches-kept}
+use Rattle.multimap_slots.proofs.tape.Tape.detach.Goals as goal
+
+pub invariant_of-self : goal.invariant_of-self
+invariant_of-self g c = IsTape-detach c.self.invariant c.remove.new.self c.args.place c.remove.ensures.order c.remove.ensures.used
+
+pub returns-clause-detached : goal.returns-clause-detached
+returns-clause-detached g c =
+    rw (← c.self.view_is) (Detaches-kept _ _ c.args.place c.remove.ensures.order c.remove.ensures.shorter refl refl)

@@ -1,0 +1,93 @@
+use Rattle.std.proofs.Common.{◌≡◌, map, length, refl, sym, ap, ◌∙◌, subst, arith, add-one, unwrap_or}
+use Rattle.multimap_slots.specs.Lists.{IsIn, next_of}
+use Rattle.ordered_multimap.specs.Renames.{renamed}
+use Rattle.ordered_multimap.proofs.RenameLemmas.{keys_sound-renamed, chained-renamed}
+use Rattle.ordered_multimap.proofs.CompactLemmas.{settled-start, settled-next, next-listed, next-holes, settled-stay, settled-move, settled-end, renamed-room, renames-then, renames-cut}
+use Rattle.std.proofs.lemmas.List.{length-map}
+use Rattle.ordered_multimap.proofs.list_ordered_multimap.compact.compact.Goals as goal
+use Rattle.ordered_multimap.proofs.list_ordered_multimap.compact.compact.Goals.{then-to-from, else-to-from}
+
+pub loop-to-init : goal.loop-to-init
+loop-to-init g c = record {
+  renamed = renamed-room _ _ _ _ c.requires.keys_sound c.len-count.ensures.sound refl refl (omega arith) (omega arith);
+  settled = settled-start _ _ c.front_place-following.ensures;
+  same_length = sym c.len-count.ensures.len;
+  moved = omega arith;
+  freed = refl;
+  holes = refl;
+  capacity = refl;
+  keys_capacity = refl;
+}
+
+pub move_value-requires-clause-keys_sound : goal.move_value-requires-clause-keys_sound
+move_value-requires-clause-keys_sound g c =
+    let r = c.loop-to.invariant.renamed in
+    keys_sound-renamed r.name c.requires.keys_sound c.len-count.ensures.sound c.requires.chained r.renames
+
+pub move_value-requires-clause-chained : goal.move_value-requires-clause-chained
+move_value-requires-clause-chained g c =
+    let r = c.loop-to.invariant.renamed in
+    chained-renamed r.name c.requires.keys_sound c.len-count.ensures.sound c.requires.chained r.renames
+
+pub move_value-requires-clause-listed : goal.move_value-requires-clause-listed
+move_value-requires-clause-listed g c =
+    let w = c.loop-to.invariant in
+    let x = settled-next c.loop-to.values.list.order c.loop-to.to c.loop-to.following w.settled (omega (arith, w.same_length, c.loop-to-test.true)) c.len-len.ensures.rises in
+    let from_is : c.unwrap_or-from.result ≡ x.from = c.unwrap_or-from.ensures ∙ ap (λ o. unwrap_or o c.loop-to.to) x.is in
+    subst (λ p. IsIn p c.loop-to.values.list.order) (sym from_is) (next-listed c.loop-to.values.list.order c.loop-to.to c.loop-to.following x)
+
+pub move_value-requires-clause-holes : goal.move_value-requires-clause-holes
+move_value-requires-clause-holes g c =
+    let w = c.loop-to.invariant in
+    let x = settled-next c.loop-to.values.list.order c.loop-to.to c.loop-to.following w.settled (omega (arith, w.same_length, c.loop-to-test.true)) c.len-len.ensures.rises in
+    let from_is : c.unwrap_or-from.result ≡ x.from = c.unwrap_or-from.ensures ∙ ap (λ o. unwrap_or o c.loop-to.to) x.is in
+    λ q above below. next-holes c.loop-to.values.list.order c.loop-to.to c.loop-to.following x q above (omega (arith, below, from_is))
+
+pub loop-to-preserved : goal.loop-to-preserved
+loop-to-preserved g c =
+    let w = c.loop-to.invariant in
+    let order = c.loop-to.values.list.order in
+    let x = settled-next order c.loop-to.to c.loop-to.following w.settled (omega (arith, w.same_length, c.loop-to-test.true)) c.len-len.ensures.rises in
+    let from_is : c.unwrap_or-from.result ≡ x.from = c.unwrap_or-from.ensures ∙ ap (λ o. unwrap_or o c.loop-to.to) x.is in
+    elim c.if-to-from.branch [
+      | then-to-from b ↦
+          let m = b.move_value.ensures in
+          let next = c.next_place_after-following.ensures ∙ ap (λ t. next_of t.list.order c.loop-to.to) b.values-is in
+          rw (add-one, b.keys-is, b.values-is) (record {
+            renamed = record {
+              name = λ p. renamed c.unwrap_or-from.result c.loop-to.to (w.renamed.name p);
+              renames = renames-then w.renamed.name (renamed c.unwrap_or-from.result c.loop-to.to) w.renamed.renames m.renames;
+            };
+            settled = settled-move order c.loop-to.to c.loop-to.following x _ (m.renames.order ∙ ap (λ p. map (renamed p c.loop-to.to) order) from_is) _ next;
+            same_length = ap length m.renames.order ∙ length-map order (renamed c.unwrap_or-from.result c.loop-to.to) ∙ w.same_length;
+            moved = omega (arith, m.counts.moved, w.moved);
+            freed = m.counts.freed ∙ w.freed;
+            holes = m.counts.holes ∙ w.holes;
+            capacity = m.capacity ∙ w.capacity;
+            keys_capacity = m.keys_capacity ∙ w.keys_capacity;
+          })
+      | else-to-from b ↦
+          let next = c.next_place_after-following.ensures ∙ ap (λ t. next_of t.list.order c.loop-to.to) b.values-is in
+          rw (add-one, b.keys-is, b.values-is) (record {
+            renamed = w.renamed;
+            settled = settled-stay order c.loop-to.to c.loop-to.following x (omega (arith, b.if-to-from.false, from_is)) _ next;
+            same_length = w.same_length;
+            moved = omega (arith, w.moved);
+            freed = w.freed;
+            holes = w.holes;
+            capacity = w.capacity;
+            keys_capacity = w.keys_capacity;
+          })
+    ]
+
+pub returns-clause-renamed : goal.returns-clause-renamed
+returns-clause-renamed g c =
+    let w = c.loop-to.invariant in
+    record { name = w.renamed.name; renames = renames-cut w.renamed.name c.loop-to.values _ w.renamed.renames c.cut_end.ensures }
+
+pub returns-clause-no_hole : goal.returns-clause-no_hole
+returns-clause-no_hole g c =
+    let w = c.loop-to.invariant in
+    let cut = c.cut_end.ensures in
+    let all = settled-end c.loop-to.values.list.order c.loop-to.to c.loop-to.following w.settled (omega (arith, w.same_length, c.loop-to.auto.to-end, c.loop-to-test.false)) in
+    omega (arith, cut.used, ap length cut.order, w.same_length, all, c.loop-to.auto.to-end, c.loop-to-test.false)

@@ -1,0 +1,15 @@
+use Rattle.std.proofs.Common.{◌≡◌, ◌≤◌, ◌+◌, length}
+use Rattle.ordered_multimap.specs.Renames.{AreRenamed, AreSettled}
+use Rattle.ordered_multimap.proofs.list_ordered_multimap.compact.compact.Given as goal
+
+abbrev pub invariant-loop-to : goal.invariant-loop-to
+invariant-loop-to g l = record {
+  renamed : AreRenamed l.fn.keys l.keys l.fn.values.list l.values.list;
+  settled : AreSettled l.values.list.order l.to l.following;
+  same_length : length l.values.list.order ≡ l.count;
+  moved : l.values.moved ≤ l.fn.values.moved + l.to;
+  freed : l.values.freed ≡ l.fn.values.freed;
+  holes : l.values.holes ≡ l.fn.values.holes;
+  capacity : l.values.list.capacity ≡ l.fn.values.list.capacity;
+  keys_capacity : l.keys.capacity ≡ l.fn.keys.capacity;
+}

@@ -1,0 +1,115 @@
+//! Compaction: values go down to the holes before them, and the links that name them are mended.
+ghost use Rattle.std.specs.Prelude.{◌≡◌, ◌≤◌, ◌<◌, ◌+◌, ℕ, Some, IsSome, length};
+ghost use Rattle.multimap_slots.specs.Lists.{IsIn};
+ghost use Rattle.multimap_slots.specs.Slots.{IsSound, link_at, with_link};
+ghost use Rattle.multimap_slots.specs.Tapes.{CountsMove};
+ghost use Rattle.multimap_walks.specs.Chained.{IsChained};
+ghost use Rattle.ordered_multimap.specs.Renames.{AreRenamed, Renames, renamed, renamed_key};
+
+use super::links::{link_of, set_link, set_next, set_previous};
+use super::lookup::slot_at;
+use multimap_slots::{SlotList, Tape};
+use multimap_walks::{KeyLink, ValueLink};
+use std::alloc::Allocator;
+
+/// The other place, if the place is the one that has gone.
+fn new_place(place: usize, from: usize, to: usize) -> usize
+    ensures { result ≡ renamed from to place }
+{
+    if place == from { to } else { place }
+}
+
+/// Makes the key's link name `to` where it named `from`.
+fn mend_key<K, A: Allocator>(
+    keys: &mut SlotList<K, KeyLink, A>,
+    place: usize,
+    from: usize,
+    to: usize,
+)
+    requires { IsIn place keys.old.order }
+    ensures mended { (l : KeyLink) → link_at keys.old place ≡ Some l
+        → keys.new ≡ with_link keys.old place (renamed_key (renamed from to) l) }
+    ensures capacity { keys.new.capacity ≡ keys.old.capacity }
+{
+    let (_, link) = slot_at(keys, place);
+    let mended = KeyLink {
+        head: new_place(link.head, from, to),
+        tail: new_place(link.tail, from, to),
+        ..link
+    };
+    set_link(keys, place, mended);
+}
+
+/// The same for the key that the value's link names. Where the value has neighbours on both sides,
+/// the key's link doesn't name it, and isn't read.
+fn mend_ends<K, A: Allocator>(
+    keys: &mut SlotList<K, KeyLink, A>,
+    link: ValueLink,
+    from: usize,
+    to: usize,
+)
+    requires listed { IsIn link.key keys.old.order }
+    requires between { IsSome link.previous → IsSome link.next
+        → (l : KeyLink) → link_at keys.old link.key ≡ Some l → renamed_key (renamed from to) l ≡ l }
+    ensures mended { (l : KeyLink) → link_at keys.old link.key ≡ Some l
+        → keys.new ≡ with_link keys.old link.key (renamed_key (renamed from to) l) }
+    ensures capacity { keys.new.capacity ≡ keys.old.capacity }
+{
+    if link.previous.is_some() && link.next.is_some() {
+        return;
+    }
+    mend_key(keys, link.key, from, to);
+}
+
+/// Takes the value at `from` down to the hole at `to`, and mends the links that name its place.
+fn move_value<K, V: Drop, A: Allocator>(
+    keys: &mut SlotList<K, KeyLink, A>,
+    values: &mut Tape<V, ValueLink, A>,
+    from: usize,
+    to: usize,
+)
+    requires keys_sound { IsSound keys.old }
+    requires chained { IsChained keys.old values.old.list }
+    requires listed { IsIn from values.old.list.order }
+    requires down { to < from }
+    requires holes { (q : ℕ) → to ≤ q → q < from → ¬ IsIn q values.old.list.order }
+    ensures renames { Renames (renamed from to) keys.old keys.new values.old.list values.new.list }
+    ensures counts { CountsMove values.old values.new }
+    ensures capacity { values.new.list.capacity ≡ values.old.list.capacity }
+    ensures keys_capacity { keys.new.capacity ≡ keys.old.capacity }
+{
+    let link = link_of(values, from);
+    values.move_down(from, to);
+    set_next(values, link.previous, Some(to));
+    set_previous(values, link.next, Some(to));
+    mend_ends(keys, link, from, to);
+}
+
+/// Takes each value down to the lowest hole before it, and gives up the holes.
+#[inline(never)]
+pub(super) fn compact<K, V: Drop, A: Allocator>(
+    keys: &mut SlotList<K, KeyLink, A>,
+    values: &mut Tape<V, ValueLink, A>,
+)
+    requires keys_sound { IsSound keys.old }
+    requires chained { IsChained keys.old values.old.list }
+    ensures renamed { AreRenamed keys.old keys.new values.old.list values.new.list }
+    ensures no_hole { values.new.holes ≡ 0 }
+    ensures moved { values.new.moved ≤ values.old.moved + length values.old.list.order }
+    ensures freed { values.new.freed ≡ values.old.freed }
+    ensures capacity { values.new.list.capacity ≡ values.old.list.capacity }
+    ensures keys_capacity { keys.new.capacity ≡ keys.old.capacity }
+{
+    let count = values.len();
+    let mut following = values.front_place();
+    for to in 0..count {
+        // The length tells the proof that the list is sound, and that its places rise.
+        let _len = values.len();
+        let from = following.unwrap_or(to);
+        if to < from {
+            move_value(keys, values, from, to);
+        }
+        following = values.next_place_after(to);
+    }
+    values.cut_end();
+}

@@ -1,0 +1,71 @@
+//! Reads and writes of the links that join keys and values.
+ghost use Rattle.std.specs.Prelude.{◌≡◌, Some, IfSome};
+ghost use Rattle.multimap_slots.specs.Lists.{IsIn};
+ghost use Rattle.multimap_slots.specs.Slots.{IsSound, link_at, with_link};
+ghost use Rattle.ordered_multimap.specs.Renames.{MendsLink};
+
+use super::lookup::value_at;
+use multimap_slots::{SlotList, Tape};
+use multimap_walks::{KeyLink, ValueLink};
+use std::alloc::Allocator;
+
+/// Gives the key at the place another link.
+pub(super) fn set_link<K, A: Allocator>(
+    keys: &mut SlotList<K, KeyLink, A>,
+    place: usize,
+    link: KeyLink,
+)
+    requires { IsIn place keys.old.order }
+    ensures { keys.new ≡ with_link keys.old place link }
+{
+    match keys.link_mut(place) {
+        Some(old) => *old = link,
+        None => unreachable!(),
+    }
+}
+
+/// The link of the value at a listed place.
+pub(super) fn link_of<V, A: Allocator>(values: &Tape<V, ValueLink, A>, place: usize) -> ValueLink
+    requires { IsIn place values.now.list.order }
+    ensures link { link_at values.now.list place ≡ Some result }
+    ensures sound { IsSound values.now.list }
+{
+    // The length tells the proof that the list is sound.
+    let _len = values.len();
+    let (_, link) = value_at(values, place);
+    link
+}
+
+/// Writes the next place into the link of the value at the place, if there is one.
+pub(super) fn set_next<V, A: Allocator>(
+    values: &mut Tape<V, ValueLink, A>,
+    place: Option<usize>,
+    next: Option<usize>,
+)
+    requires { IfSome place (λ p. IsIn p values.old.list.order) }
+    ensures { MendsLink values.old values.new place (λ l. record l { next = next }) }
+{
+    if let Some(place) = place {
+        match values.link_mut(place) {
+            Some(link) => link.next = next,
+            None => unreachable!(),
+        }
+    }
+}
+
+/// Writes the previous place into the link of the value at the place, if there is one.
+pub(super) fn set_previous<V, A: Allocator>(
+    values: &mut Tape<V, ValueLink, A>,
+    place: Option<usize>,
+    previous: Option<usize>,
+)
+    requires { IfSome place (λ p. IsIn p values.old.list.order) }
+    ensures { MendsLink values.old values.new place (λ l. record l { previous = previous }) }
+{
+    if let Some(place) = place {
+        match values.link_mut(place) {
+            Some(link) => link.previous = previous,
+            None => unreachable!(),
+        }
+    }
+}
