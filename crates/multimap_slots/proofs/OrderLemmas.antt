@@ -1,18 +1,19 @@
 -- What linked nodes tell of their order, and how a push and a removal keep it.
-use Rattle.std.proofs.Common.{◌≡◌, ℕ, ◌<◌, List, [], ◌∷◌, ◌++◌, length, get_or, set, IfSome, Option, None, refl, sym, ap, subst, ◌∙◌, inl, inr}
+use Rattle.std.proofs.Common.{◌≡◌, ◌≢◌, ℕ, ◌<◌, List, [], ◌∷◌, ◌++◌, length, get_or, set, IfSome, Option, None, refl, sym, ap, subst, ◌∙◌, inl, inr}
 use Rattle.std.proofs.lemmas.Bool.{cases_lt}
 use Rattle.std.proofs.lemmas.List.{length-map, get_or_past}
 use Rattle.multimap_slots.specs.declared.order.node.Node.{Node}
-use Rattle.multimap_slots.specs.declared.order.node.State.TheVariants.{Listed, Free}
+use Rattle.multimap_slots.specs.declared.order.node.State.TheVariants.{Listed, Free, Detached}
 use Rattle.multimap_slots.specs.Lists.{IsIn, AreDistinct, first_of, last_of, next_of, previous_of}
 use Rattle.multimap_slots.specs.Paths.{after, IsPath, walk}
 use Rattle.multimap_slots.specs.ListLayout.{nexts, previouses, states, IsOrdered}
 use Rattle.multimap_slots.proofs.ListsLemmas.{Split, IsIn-left, IsIn-right, IsIn-split, AreDistinct-gone, next_of-split, previous_of-split}
 use Rattle.multimap_slots.proofs.PathsLemmas.{last_or_in, walk-path, path-first, path-last, path-neighbours}
+use Rattle.multimap_slots.proofs.DetachedLemmas.{apart-detached}
 use Rattle.multimap_slots.proofs.NodeLemmas.{field_read, length-states, nexts-relink, previouses-relink, states-relink}
 
 module _ {L : Type 0} where
-  pub IsOrdered-empty : IsOrdered {L = L} [] None None None 0
+  pub IsOrdered-empty : IsOrdered {L = L} [] None None None 0 0
   IsOrdered-empty = record {
     order = [];
     path = (refl, refl);
@@ -23,14 +24,15 @@ module _ {L : Type 0} where
     vacant = 0;
     total = refl;
     frees = refl;
+    apart = refl;
   }
 
   -- the nodes are linked in just this order
-  pub record HasOrder (nodes : List (Node L)) (front back free : Option ℕ) (len : ℕ) (order : List ℕ) : Type 0 where
-    pub ordered : IsOrdered nodes front back free len
+  pub record HasOrder (nodes : List (Node L)) (front back free : Option ℕ) (len detached : ℕ) (order : List ℕ) : Type 0 where
+    pub ordered : IsOrdered nodes front back free len detached
     pub order_is : ordered.order ≡ order
 
-  module _ {nodes : List (Node L)} {front back free : Option ℕ} {len : ℕ} (o : IsOrdered nodes front back free len) where
+  module _ {nodes : List (Node L)} {front back free : Option ℕ} {len detached : ℕ} (o : IsOrdered nodes front back free len detached) where
     pub walk-order : walk (after front (nexts nodes)) None len ≡ o.order
     walk-order = rw o.counted (walk-path (after front (nexts nodes)) (after back (previouses nodes)) None o.order o.path)
 
@@ -43,11 +45,20 @@ module _ {L : Type 0} where
     pub back-is : back ≡ last_of o.order
     back-is = path-last (after front (nexts nodes)) (after back (previouses nodes)) None o.order o.path
 
-    pub IsIn-within : (p : ℕ) → IsIn p o.order → p < length nodes
-    IsIn-within p i = elim (cases_lt p (length nodes)) [
+    -- a place that isn't free is within
+    pub taken-within : (p : ℕ) → get_or (states nodes) p Free ≢ Free → p < length nodes
+    taken-within p taken = elim (cases_lt p (length nodes)) [
       | inl below ↦ below
-      | inr past ↦ absurd (let bad = sym (get_or_past (states nodes) p Free (rw length-map past)) ∙ o.listed p i in cc)
+      | inr past ↦ absurd (taken (get_or_past (states nodes) p Free (rw length-map past)))
     ]
+
+    pub IsIn-within : (p : ℕ) → IsIn p o.order → p < length nodes
+    IsIn-within p i = taken-within p (λ e. let bad = sym (o.listed p i) ∙ e in cc)
+
+    -- a place that is neither free nor listed
+    pub apart-is : (p : ℕ) → (IsIn p (walk (after front (nexts nodes)) None len) → ⊥) → get_or (states nodes) p Free ≢ Free → get_or (states nodes) p Free ≡ Detached
+    apart-is p absent taken =
+        apart-detached (get_or (states nodes) p Free) (λ e. absent (rw walk-order (o.all_in p e))) taken
 
     -- where a place stands in the order
     pub split_at : (p : ℕ) → IsIn p (walk (after front (nexts nodes)) None len) → Split p o.order
@@ -101,10 +112,10 @@ module _ {L : Type 0} where
       λ e. rw walk-order (o.all_in p (sym (field_read (λ n. n.state) nodes p read Free within reading) ∙ e)),
     )
 
-module _ {L : Type 0} {nodes : List (Node L)} {front back free : Option ℕ} {len : ℕ} where
+module _ {L : Type 0} {nodes : List (Node L)} {front back free : Option ℕ} {len detached : ℕ} where
   -- nodes that differ in their links alone are linked alike
   IsOrdered-same : {new : List (Node L)} → nexts new ≡ nexts nodes → previouses new ≡ previouses nodes → states new ≡ states nodes
-      → IsOrdered nodes front back free len → IsOrdered new front back free len
+      → IsOrdered nodes front back free len detached → IsOrdered new front back free len detached
   IsOrdered-same {new} same_nexts same_previouses same_states o = record {
     order = o.order;
     path = rw (same_nexts, same_previouses) o.path;
@@ -115,10 +126,11 @@ module _ {L : Type 0} {nodes : List (Node L)} {front back free : Option ℕ} {le
     vacant = o.vacant;
     total = o.total ∙ sym (length-states new nodes same_states);
     frees = rw (same_nexts, same_states) o.frees;
+    apart = rw same_states o.apart;
   }
 
   -- another link in a node that was read
   pub IsOrdered-relink : (p : ℕ) (read : Node L) (link : L) → read ≡ get_or nodes p read
-      → IsOrdered nodes front back free len → IsOrdered (set nodes p (record read { link = link })) front back free len
+      → IsOrdered nodes front back free len detached → IsOrdered (set nodes p (record read { link = link })) front back free len detached
   IsOrdered-relink p read link reading o =
       IsOrdered-same (nexts-relink nodes p read link reading) (previouses-relink nodes p read link reading) (states-relink nodes p read link reading) o

@@ -1,17 +1,30 @@
 -- How the nodes of a slot list lie. No public clause cites this module.
-use Rattle.std.specs.Prelude.{◌≡◌, ℕ, zero, suc, ◌+◌, ◌<◌, ◌≤◌, List, [], ◌∷◌, ◌++◌, Option, Some, None, IsSome, map, get_or, slice_get, slice_set, length}
+use Rattle.std.specs.Prelude.{◌≡◌, ◌≢◌, ℕ, zero, suc, ◌+◌, ◌<◌, ◌≤◌, List, [], ◌∷◌, ◌++◌, Option, Some, None, IsSome, map, get_or, slice_get, slice_set, length}
+use Rattle.std.specs.List.{sum_by}
 use Rattle.multimap_slots.specs.declared.order.node.Node.{Node}
 use Rattle.multimap_slots.specs.declared.order.node.State.{State}
-use Rattle.multimap_slots.specs.declared.order.node.State.TheVariants.{Listed, Free}
+use Rattle.multimap_slots.specs.declared.order.node.State.TheVariants.{Listed, Free, Detached}
 use Rattle.multimap_slots.specs.Lists.{IsIn, AreDistinct}
 use Rattle.multimap_slots.specs.Paths.{after, IsMoved, IsPath}
 
--- the listed places in order, the state and the link of each place, and how many places fit
+-- the listed places in order, the state and the link of each place, how many places fit, and how
+-- many of them are detached
 pub record Places (L : Type 0) : Type 0 where
   pub order : List ℕ
   pub states : List State
   pub links : List L
   pub capacity : ℕ
+  pub detached : ℕ
+
+-- one for a detached place
+abbrev pub one_if_detached : State → ℕ
+one_if_detached Listed = 0
+one_if_detached Free = 0
+one_if_detached Detached = 1
+
+-- how many places are detached
+abbrev pub count_detached : List State → ℕ
+count_detached states = sum_by one_if_detached states
 
 -- so many free places are linked from here
 abbrev pub IsFreeList : List (Option ℕ) → List State → ℕ → Option ℕ → Type 0
@@ -27,19 +40,28 @@ put (y ∷ ys) zero x = x ∷ ys
 put (y ∷ ys) (suc i) x = y ∷ put ys i x
 
 module _ {L : Type 0} where
-  -- there is no place, listed or free
+  -- there is no place, whatever its state
   pub record HasNoPlaces (o : Places L) : Type 0 where
     pub order : o.order ≡ []
     pub states : o.states ≡ []
     pub links : o.links ≡ []
+    pub detached : o.detached ≡ 0
 
-  -- no place is listed twice, each that isn't free is listed and has a link, and there is room for all
+  -- no place is listed twice, just those that are marked so are listed, each has a link, none is
+  -- detached where their number is 0, and there is room for all
   pub record AreSound (o : Places L) : Type 0 where
     pub distinct : AreDistinct o.order
+    pub listed : (p : ℕ) → IsIn p o.order → get_or o.states p Free ≡ Listed
     pub all_in : (p : ℕ) → get_or o.states p Free ≡ Listed → IsIn p o.order
     pub linked : (p : ℕ) → IsIn p o.order → IsSome (slice_get o.links p)
-    pub among : length o.order ≤ length o.states
-    pub fits : length o.order ≤ o.capacity
+    pub none_detached : o.detached ≡ 0 → (p : ℕ) → get_or o.states p Free ≢ Detached
+    pub among : length o.order + o.detached ≤ length o.states
+    pub fits : length o.states ≤ o.capacity
+
+  -- the place is neither listed nor free
+  pub record IsApart (o : Places L) (place : ℕ) : Type 0 where
+    pub not_listed : ¬ IsIn place o.order
+    pub not_free : get_or o.states place Free ≢ Free
 
   -- only the capacity may differ
   abbrev pub KeepsPlaces : Places L → Places L → Type 0
@@ -82,8 +104,16 @@ module _ {L : Type 0} where
     pub states : states new ≡ slice_set (states old) place Free
     pub links : links new ≡ links old
 
-  -- the nodes are linked in one order, and each other place is on the list of free ones
-  pub record IsOrdered (nodes : List (Node L)) (front back free : Option ℕ) (len : ℕ) : Type 0 where
+  -- the place is detached, and nothing else changes
+  pub record SetsDetached (old new : List (Node L)) (place : ℕ) : Type 0 where
+    pub nexts : nexts new ≡ nexts old
+    pub previouses : previouses new ≡ previouses old
+    pub states : states new ≡ slice_set (states old) place Detached
+    pub links : links new ≡ links old
+
+  -- the nodes are linked in one order, and each other place is detached or on the list of free ones
+  pub record IsOrdered (nodes : List (Node L)) (front back free : Option ℕ) (len detached : ℕ)
+      : Type 0 where
     pub order : List ℕ
     pub path : IsPath (after front (nexts nodes)) (after back (previouses nodes)) None order
     pub distinct : AreDistinct order
@@ -91,18 +121,21 @@ module _ {L : Type 0} where
     pub all_in : (p : ℕ) → get_or (states nodes) p Free ≡ Listed → IsIn p order
     pub counted : len ≡ length order
     pub vacant : ℕ
-    pub total : len + vacant ≡ length nodes
+    pub total : len + vacant + detached ≡ length nodes
     pub frees : IsFreeList (nexts nodes) (states nodes) vacant free
+    pub apart : detached ≡ count_detached (states nodes)
 
   -- a free place is listed last, with this link
   pub record AddsLast (old new : Places L) (place : ℕ) (link : L) : Type 0 where
     pub was_free : get_or old.states place Free ≡ Free
     pub within : place ≤ length old.states
     pub within_links : place ≤ length old.links
-    pub fills : place ≡ length old.states → length old.order ≡ length old.states
+    pub fills : place ≡ length old.states
+        → length old.order + old.detached ≡ length old.states
     pub order : new.order ≡ old.order ++ place ∷ []
     pub states : new.states ≡ put old.states place Listed
     pub links : new.links ≡ put old.links place link
+    pub detached : new.detached ≡ old.detached
 
   -- a free place can be found, on the list of them or behind the nodes
   pub record CanClaim (nodes : List (Node L)) (free : Option ℕ) (capacity : ℕ) : Type 0 where
@@ -126,4 +159,5 @@ pub record IsFilled {T : Type 0} (items : List (Option T)) (order : List ℕ) (s
     : Type 0 where
   pub same_length : length items ≡ length states
   pub filled : (p : ℕ) → IsIn p order → IsSome (get_or items p None)
+  pub kept : (p : ℕ) → get_or states p Free ≡ Detached → IsSome (get_or items p None)
   pub empty : (p : ℕ) → get_or states p Free ≡ Free → get_or items p None ≡ None

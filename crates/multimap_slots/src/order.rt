@@ -2,6 +2,7 @@
 ghost use Rattle.std.specs.Prelude.{◌≡◌, ◌+◌, ◌<◌, ◌≤◌, ◌↔◌, [], length, Some, IsTrue, IfOk, OnOk, OnErr, IsOk, slice_get, slice_set};
 ghost use Rattle.multimap_slots.specs.Lists.{IsIn, first_of, last_of, next_of, previous_of, without};
 
+mod detached;
 mod node;
 mod optional_place;
 mod write;
@@ -21,6 +22,8 @@ pub(crate) struct Order<L, A: Allocator> {
     // The place that was freed last, from which the other free ones are linked.
     free: OptionalPlace,
     len: usize,
+    // How many places are neither listed nor free.
+    detached: usize,
 }
 
 impl<L, A: Allocator> Model for Order<L, A> {
@@ -35,9 +38,10 @@ impl<L, A: Allocator> Model for Order<L, A> {
       states = states o.nodes.items;
       links = links o.nodes.items;
       capacity = vec_capacity o.nodes;
+      detached = o.detached;
     } };
 
-    ghost invariant = { λ o. IsOrdered o.nodes.items o.front o.back o.free o.len };
+    ghost invariant = { λ o. IsOrdered o.nodes.items o.front o.back o.free o.len o.detached };
 }
 
 impl<L: Copy, A: Allocator> Order<L, A> {
@@ -56,6 +60,7 @@ impl<L: Copy, A: Allocator> Order<L, A> {
             back: OptionalPlace::none(),
             free: OptionalPlace::none(),
             len: 0,
+            detached: 0,
         }
     }
 
@@ -70,6 +75,7 @@ impl<L: Copy, A: Allocator> Order<L, A> {
             back: OptionalPlace::none(),
             free: OptionalPlace::none(),
             len: 0,
+            detached: 0,
         })
     }
 
@@ -82,10 +88,10 @@ impl<L: Copy, A: Allocator> Order<L, A> {
 
     /// How many places are free among the nodes.
     pub(crate) fn vacant(&self) -> usize
-        ensures vacant { length self.now.order + result ≡ length self.now.states }
+        ensures vacant { length self.now.order + result + self.now.detached ≡ length self.now.states }
         ensures fits { length self.now.states ≤ self.now.capacity }
     {
-        self.nodes.len() - self.len
+        self.nodes.len() - self.len - self.detached
     }
 
     pub(crate) fn capacity(&self) -> usize
@@ -105,7 +111,7 @@ impl<L: Copy, A: Allocator> Order<L, A> {
 
     /// Lists a free place last, and answers it.
     pub(crate) fn push_back(&mut self, link: L) -> usize
-        requires { length self.old.order < self.old.capacity }
+        requires { length self.old.order + self.old.detached < self.old.capacity }
         ensures adds { AddsLast self.old self.new result link }
         ensures capacity { self.new.capacity ≡ self.old.capacity }
     {
@@ -130,7 +136,9 @@ impl<L: Copy, A: Allocator> Order<L, A> {
         ensures shorter { length self.new.order + 1 ≡ length self.old.order }
         ensures states { self.new.states ≡ slice_set self.old.states place Free }
         ensures links { self.new.links ≡ self.old.links }
+
         ensures capacity { self.new.capacity ≡ self.old.capacity }
+        ensures detached { self.new.detached ≡ self.old.detached }
     {
         let previous = self.nodes[place].previous;
         let next = self.nodes[place].next;
@@ -151,6 +159,7 @@ impl<L: Copy, A: Allocator> Order<L, A> {
         self.back = OptionalPlace::none();
         self.free = OptionalPlace::none();
         self.len = 0;
+        self.detached = 0;
     }
 
     pub(crate) fn is_listed(&self, place: usize) -> bool
@@ -161,7 +170,7 @@ impl<L: Copy, A: Allocator> Order<L, A> {
         }
         match self.nodes[place].state {
             State::Listed => true,
-            State::Free => false,
+            State::Detached | State::Free => false,
         }
     }
 

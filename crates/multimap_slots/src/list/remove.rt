@@ -1,5 +1,5 @@
 //! Items that leave the list.
-ghost use Rattle.std.specs.Prelude.{◌≡◌, IfSome, IfNone};
+ghost use Rattle.std.specs.Prelude.{◌≡◌, ◌≤◌, IfSome, IfNone};
 ghost use Rattle.multimap_slots.specs.Lists.{IsIn};
 ghost use Rattle.multimap_slots.specs.Slots.{IsEmpty, Removes};
 
@@ -22,13 +22,14 @@ impl<T, L: Copy, A: Allocator> SlotList<T, L, A> {
         self.items[place].take()
     }
 
-    /// Drops every item and frees every place. It goes over the slots that were used since the last
-    /// `clear`, and not over the whole capacity.
+    /// Drops every item and frees every place, detached ones too, which count in the capacity
+    /// again. It goes over the slots that were used since the last `clear`, and not over the whole
+    /// capacity.
     pub fn clear(&mut self)
     where
         T: Drop,
         ensures empty { IsEmpty self.new }
-        ensures capacity { self.new.capacity ≡ self.old.capacity }
+        ensures capacity { self.old.capacity ≤ self.new.capacity }
     {
         self.items.clear();
         self.order.clear();

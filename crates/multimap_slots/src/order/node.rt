@@ -5,6 +5,7 @@ use super::optional_place::OptionalPlace;
 #[derive(Clone, Copy)]
 pub(crate) enum State {
     Listed,
+    Detached,
     Free,
 }
 

@@ -1,6 +1,6 @@
 //! Writes of single nodes. Each leaves the fields that it doesn't name as they were.
 ghost use Rattle.std.specs.Prelude.{◌≡◌, ◌<◌, length, IfSome, vec_capacity};
-ghost use Rattle.multimap_slots.specs.ListLayout.{SetsNext, SetsPrevious, Releases, CanClaim, Claims};
+ghost use Rattle.multimap_slots.specs.ListLayout.{SetsNext, SetsPrevious, SetsDetached, Releases, CanClaim, Claims};
 
 use super::node::{Node, State};
 use super::optional_place::OptionalPlace;
@@ -44,6 +44,16 @@ pub(super) fn set_previous<L, A: Allocator>(
         }
         None => *back = to,
     }
+}
+
+/// Marks the place as detached.
+pub(super) fn set_detached<L, A: Allocator>(nodes: &mut Vec<Node<L>, A>, place: usize)
+    requires { place < length nodes.old.items }
+    ensures written { SetsDetached nodes.old.items nodes.new.items place }
+    ensures capacity { vec_capacity nodes.new ≡ vec_capacity nodes.old }
+{
+    let node = &mut nodes[place];
+    node.state = State::Detached;
 }
 
 /// Makes the place free, ahead of the free places from `free` on.

@@ -2,4 +2,4 @@ use Rattle.std.proofs.Common.{arith}
 use Rattle.multimap_slots.proofs.list.SlotList.with_capacity.Goals as goal
 
 pub returns-clause-capacity : goal.returns-clause-capacity
-returns-clause-capacity g c = omega (arith, c.in_ok-items.ensures.capacity, c.in_ok-order.ensures.capacity)
+returns-clause-capacity g c = omega (arith, c.in_ok-items.ensures.capacity, c.in_ok-order.ensures.capacity, c.in_ok-order.ensures.empty.detached)

@@ -1,4 +1,4 @@
-use Rattle.std.proofs.Common.{arith, refl, sym, ◌∙◌}
+use Rattle.std.proofs.Common.{arith, inl, inr, refl, sym, ◌∙◌}
 use Rattle.multimap_slots.proofs.OrderLemmas.{split_at, split_within, state_tells}
 use Rattle.multimap_slots.proofs.order.Order.is_listed.Goals as goal
 
@@ -14,8 +14,10 @@ returns-in-Listed g c = (
   λ _. refl,
 )
 
-pub returns-in-Free : goal.returns-in-Free
-returns-in-Free g c = (
+pub returns-in-Detached : goal.returns-in-Detached
+returns-in-Detached g c = (
   λ e. absurd (cc),
-  λ i. absurd (let e = sym c.in-Free.is ∙ (state_tells c.self.invariant c.args.place c.index.result.now (omega (arith, c.self.inside.nodes.ok)) c.index.ensures).0 (rw (← c.self.view_is) at i) in cc),
+  λ i. absurd (
+      let listed = (state_tells c.self.invariant c.args.place c.index.result.now (omega (arith, c.self.inside.nodes.ok)) c.index.ensures).0 (rw (← c.self.view_is) at i) in
+      elim c.in-Detached.is [ inl e ↦ let bad = sym e ∙ listed in cc | inr e ↦ let bad = sym e ∙ listed in cc ]),
 )

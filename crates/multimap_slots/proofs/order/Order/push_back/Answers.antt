@@ -4,7 +4,7 @@ use Rattle.multimap_slots.specs.ListLayout.{states, links}
 use Rattle.multimap_slots.proofs.PutLemmas.{map-put, length-put}
 use Rattle.multimap_slots.proofs.NodeLemmas.{within_more}
 use Rattle.multimap_slots.proofs.OrderLemmas.{back-is, last-within, walk-length, walk-order}
-use Rattle.multimap_slots.proofs.OrderChanges.{IsOrdered-push}
+use Rattle.multimap_slots.proofs.PushLemmas.{IsOrdered-push}
 use Rattle.multimap_slots.proofs.order.Order.push_back.Goals as goal
 
 pub claim-place-requires : goal.claim-place-requires
@@ -41,4 +41,5 @@ returns-clause-adds g c =
       order = walk-order pushed.ordered ∙ pushed.order_is ∙ ap (λ ps. ps ++ c.claim-place.result ∷ []) (sym (walk-order c.self.invariant));
       states = tied.states ∙ ap states claims.written ∙ map-put _ _ _ _;
       links = tied.links ∙ ap links claims.written ∙ map-put _ _ _ _;
+      detached = refl;
     })

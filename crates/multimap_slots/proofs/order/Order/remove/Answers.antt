@@ -1,7 +1,7 @@
 use Rattle.std.proofs.Common.{None, ◌∙◌, arith, length}
 use Rattle.multimap_slots.proofs.NodeLemmas.{field_read, length-states, within_more}
 use Rattle.multimap_slots.proofs.OrderLemmas.{split_at, split_within, neighbours, first-within, last-within}
-use Rattle.multimap_slots.proofs.OrderChanges.{IsOrdered-remove, walk-removed, length-walk_removed, was_before, was_behind}
+use Rattle.multimap_slots.proofs.LeaveLemmas.{IsOrdered-remove, walk-removed, length-walk_removed, was_before, was_behind}
 use Rattle.multimap_slots.proofs.order.Order.remove.Goals as goal
 
 pub index-requires : goal.index-requires
@@ -42,16 +42,16 @@ invariant_of-self g c =
     let s = split_at c.self.invariant c.args.place (rw (← c.self.view_is) at c.requires) in
     let within = split_within c.self.invariant s in
     rw c.some-self-inside.ensures
-    (IsOrdered-remove c.self.invariant s c.set_next.ensures.written c.set_previous.ensures.written c.release.ensures.written
-    (field_read (λ n. n.previous) _ _ _ None within c.index.ensures) (field_read (λ n. n.next) _ _ _ None within c.index-2.ensures)).ordered
+    (IsOrdered-remove c.self.invariant s c.set_next.ensures.written c.set_previous.ensures.written
+    (field_read (λ n. n.previous) _ _ _ None within c.index.ensures) (field_read (λ n. n.next) _ _ _ None within c.index-2.ensures) c.release.ensures.written).ordered
 
 pub returns-clause-order : goal.returns-clause-order
 returns-clause-order g c =
     let s = split_at c.self.invariant c.args.place (rw (← c.self.view_is) at c.requires) in
     let within = split_within c.self.invariant s in
     let removed =
-    IsOrdered-remove c.self.invariant s c.set_next.ensures.written c.set_previous.ensures.written c.release.ensures.written
-    (field_read (λ n. n.previous) _ _ _ None within c.index.ensures) (field_read (λ n. n.next) _ _ _ None within c.index-2.ensures) in
+    IsOrdered-remove c.self.invariant s c.set_next.ensures.written c.set_previous.ensures.written
+    (field_read (λ n. n.previous) _ _ _ None within c.index.ensures) (field_read (λ n. n.next) _ _ _ None within c.index-2.ensures) c.release.ensures.written in
     rw (← c.self.view_is) (walk-removed c.self.invariant s removed)
 
 pub returns-clause-shorter : goal.returns-clause-shorter
@@ -59,6 +59,6 @@ returns-clause-shorter g c =
     let s = split_at c.self.invariant c.args.place (rw (← c.self.view_is) at c.requires) in
     let within = split_within c.self.invariant s in
     let removed =
-    IsOrdered-remove c.self.invariant s c.set_next.ensures.written c.set_previous.ensures.written c.release.ensures.written
-    (field_read (λ n. n.previous) _ _ _ None within c.index.ensures) (field_read (λ n. n.next) _ _ _ None within c.index-2.ensures) in
+    IsOrdered-remove c.self.invariant s c.set_next.ensures.written c.set_previous.ensures.written
+    (field_read (λ n. n.previous) _ _ _ None within c.index.ensures) (field_read (λ n. n.next) _ _ _ None within c.index-2.ensures) c.release.ensures.written in
     rw (← c.self.view_is) (length-walk_removed c.self.invariant s removed)

@@ -1,0 +1,12 @@
+use Rattle.std.proofs.Common.{refl}
+use Rattle.multimap_slots.proofs.ChangesLemmas.{Detaches-kept}
+use Rattle.multimap_slots.proofs.FilledLemmas.{IsFilled-detach}
+use Rattle.multimap_slots.proofs.list.SlotList.detach.Goals as goal
+
+pub invariant_of-self : goal.invariant_of-self
+invariant_of-self g c =
+    rw (c.detach.ensures.states, c.detach.ensures.order) (IsFilled-detach c.self.invariant c.args.place (rw (← c.self.view_is) at c.requires))
+
+pub returns-clause-detached : goal.returns-clause-detached
+returns-clause-detached g c =
+    rw (← c.self.view_is) (Detaches-kept _ _ _ c.detach.ensures.order c.detach.ensures.shorter refl c.detach.ensures.links)

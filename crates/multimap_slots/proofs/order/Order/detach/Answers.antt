@@ -1,0 +1,58 @@
+use Rattle.std.proofs.Common.{None, ◌∙◌, arith, length}
+use Rattle.multimap_slots.proofs.NodeLemmas.{field_read, length-states, within_more}
+use Rattle.multimap_slots.proofs.OrderLemmas.{split_at, split_within, neighbours, first-within, last-within}
+use Rattle.multimap_slots.proofs.LeaveLemmas.{IsOrdered-detach, walk-removed, length-walk_removed, was_before, was_behind}
+use Rattle.multimap_slots.proofs.order.Order.detach.Goals as goal
+
+pub index-requires : goal.index-requires
+index-requires g c =
+    let s = split_at c.self.invariant c.args.place (rw (← c.self.view_is) at c.requires) in
+    omega (arith, c.self.inside.nodes.ok, split_within c.self.invariant s)
+
+pub index-requires-2 : goal.index-requires-2
+index-requires-2 g c =
+    let s = split_at c.self.invariant c.args.place (rw (← c.self.view_is) at c.requires) in
+    omega (arith, c.self.inside.nodes.ok, split_within c.self.invariant s)
+
+pub set_next-requires : goal.set_next-requires
+set_next-requires g c =
+    let s = split_at c.self.invariant c.args.place (rw (← c.self.view_is) at c.requires) in
+    let read = field_read (λ n. n.previous) _ _ _ None (split_within c.self.invariant s) c.index.ensures in
+    last-within c.self.invariant _ s.front (read ∙ (neighbours c.self.invariant s).0) (was_before s)
+
+pub set_previous-requires : goal.set_previous-requires
+set_previous-requires g c =
+    let s = split_at c.self.invariant c.args.place (rw (← c.self.view_is) at c.requires) in
+    let read = field_read (λ n. n.next) _ _ _ None (split_within c.self.invariant s) c.index-2.ensures in
+    within_more _ (length c.self.inside.nodes.items) _ (omega (arith, length-states _ _ c.set_next.ensures.written.states))
+    (first-within c.self.invariant _ s.back (read ∙ (neighbours c.self.invariant s).1) (was_behind s))
+
+pub set_detached-requires : goal.set_detached-requires
+set_detached-requires g c =
+    let s = split_at c.self.invariant c.args.place (rw (← c.self.view_is) at c.requires) in
+    omega (arith, split_within c.self.invariant s, length-states _ _ c.set_next.ensures.written.states, length-states _ _ c.set_previous.ensures.written.states)
+
+pub invariant_of-self : goal.invariant_of-self
+invariant_of-self g c =
+    let s = split_at c.self.invariant c.args.place (rw (← c.self.view_is) at c.requires) in
+    let within = split_within c.self.invariant s in
+    (IsOrdered-detach c.self.invariant s c.set_next.ensures.written c.set_previous.ensures.written
+    (field_read (λ n. n.previous) _ _ _ None within c.index.ensures) (field_read (λ n. n.next) _ _ _ None within c.index-2.ensures) c.set_detached.ensures.written).ordered
+
+pub returns-clause-order : goal.returns-clause-order
+returns-clause-order g c =
+    let s = split_at c.self.invariant c.args.place (rw (← c.self.view_is) at c.requires) in
+    let within = split_within c.self.invariant s in
+    let removed =
+    IsOrdered-detach c.self.invariant s c.set_next.ensures.written c.set_previous.ensures.written
+    (field_read (λ n. n.previous) _ _ _ None within c.index.ensures) (field_read (λ n. n.next) _ _ _ None within c.index-2.ensures) c.set_detached.ensures.written in
+    rw (← c.self.view_is) (walk-removed c.self.invariant s removed)
+
+pub returns-clause-shorter : goal.returns-clause-shorter
+returns-clause-shorter g c =
+    let s = split_at c.self.invariant c.args.place (rw (← c.self.view_is) at c.requires) in
+    let within = split_within c.self.invariant s in
+    let removed =
+    IsOrdered-detach c.self.invariant s c.set_next.ensures.written c.set_previous.ensures.written
+    (field_read (λ n. n.previous) _ _ _ None within c.index.ensures) (field_read (λ n. n.next) _ _ _ None within c.index-2.ensures) c.set_detached.ensures.written in
+    rw (← c.self.view_is) (length-walk_removed c.self.invariant s removed)

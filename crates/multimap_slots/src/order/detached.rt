@@ -1,0 +1,82 @@
+//! Places that have left the order and aren't free.
+ghost use Rattle.std.specs.Prelude.{◌≡◌, ◌+◌, ◌≤◌, ◌↔◌, length, Some, IsTrue, get_or, slice_get, slice_set};
+ghost use Rattle.multimap_slots.specs.Lists.{IsIn, without};
+
+use super::Order;
+use super::node::State;
+use super::optional_place::OptionalPlace;
+use super::write::{release, set_detached, set_next, set_previous};
+use std::alloc::Allocator;
+
+impl<L: Copy, A: Allocator> Order<L, A> {
+    ghost use Rattle.multimap_slots.specs.ListLayout.{IsApart};
+    ghost use Rattle.multimap_slots.specs.declared.order.node.State.TheVariants.{Detached, Free};
+
+    /// How many places are detached.
+    pub(crate) fn detached(&self) -> usize
+        ensures detached { result ≡ self.now.detached }
+        ensures among { result ≤ length self.now.states }
+        ensures fits { length self.now.states ≤ self.now.capacity }
+    {
+        self.detached
+    }
+
+    /// Where no place is detached, no node is read.
+    pub(crate) fn is_detached(&self, place: usize) -> bool
+        ensures { IsTrue result ↔ (get_or self.now.states place Free ≡ Detached) }
+    {
+        if self.detached == 0 || place >= self.nodes.len() {
+            return false;
+        }
+        match self.nodes[place].state {
+            State::Detached => true,
+            State::Listed | State::Free => false,
+        }
+    }
+
+    pub(crate) fn detached_link(&self, place: usize) -> L
+        requires { IsApart self.now place }
+        ensures { slice_get self.now.links place ≡ Some result }
+    {
+        self.nodes[place].link
+    }
+
+    /// Takes the place out of the order, and keeps it from being given.
+    pub(crate) fn detach(&mut self, place: usize)
+        requires { IsIn place self.old.order }
+        ensures order { self.new.order ≡ without self.old.order place }
+        ensures shorter { length self.new.order + 1 ≡ length self.old.order }
+        ensures states { self.new.states ≡ slice_set self.old.states place Detached }
+        ensures links { self.new.links ≡ self.old.links }
+
+        ensures capacity { self.new.capacity ≡ self.old.capacity }
+        ensures detached { self.new.detached ≡ self.old.detached + 1 }
+        ensures among { self.new.detached ≤ length self.old.states }
+        ensures fits { length self.old.states ≤ self.old.capacity }
+    {
+        let previous = self.nodes[place].previous;
+        let next = self.nodes[place].next;
+        set_next(&mut self.nodes, &mut self.front, previous, next);
+        set_previous(&mut self.nodes, &mut self.back, next, previous);
+        set_detached(&mut self.nodes, place);
+        self.len -= 1;
+        self.detached += 1;
+    }
+
+    /// Makes the detached place free, and the next to be given.
+    pub(crate) fn free_detached(&mut self, place: usize)
+        requires { IsApart self.old place }
+        ensures order { self.new.order ≡ self.old.order }
+        ensures states { self.new.states ≡ slice_set self.old.states place Free }
+        ensures links { self.new.links ≡ self.old.links }
+
+        ensures capacity { self.new.capacity ≡ self.old.capacity }
+        ensures detached { self.new.detached + 1 ≡ self.old.detached }
+        ensures among { self.old.detached ≤ length self.old.states }
+        ensures fits { length self.old.states ≤ self.old.capacity }
+    {
+        release(&mut self.nodes, place, self.free);
+        self.free = OptionalPlace::some(place);
+        self.detached -= 1;
+    }
+}
