@@ -232,3 +232,8 @@ module _ {L : Type 0} where
     pub length-walk_removed : length (walk (after front' (nexts new)) None len') + 1 ≡ length (walk (after front (nexts nodes)) None len)
     length-walk_removed =
         omega (arith, ap length (walk-order r.ordered ∙ r.order_is), length-append s.front s.back, ap length (walk-order o ∙ s.is), length-append s.front (place ∷ s.back))
+
+  -- the same order is walked alike
+  pub walk-kept : {nodes new : List (Node L)} {front back free front' back' free' : Option ℕ} {len len' detached detached' : ℕ} (o : IsOrdered nodes front back free len detached) (r : HasOrder new front' back' free' len' detached' o.order)
+      → walk (after front' (nexts new)) None len' ≡ walk (after front (nexts nodes)) None len
+  walk-kept o r = walk-order r.ordered ∙ r.order_is ∙ sym (walk-order o)

@@ -58,6 +58,10 @@ module _ {L : Type 0} where
     pub among : length o.order + o.detached ≤ length o.states
     pub fits : length o.states ≤ o.capacity
 
+  -- so many places are neither listed nor detached
+  abbrev pub HasFree : Places L → ℕ → Type 0
+  HasFree o vacant = length o.order + vacant + o.detached ≡ length o.states
+
   -- the place is neither listed nor free
   pub record IsApart (o : Places L) (place : ℕ) : Type 0 where
     pub not_listed : ¬ IsIn place o.order

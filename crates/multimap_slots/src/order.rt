@@ -46,7 +46,7 @@ impl<L, A: Allocator> Model for Order<L, A> {
 
 impl<L: Copy, A: Allocator> Order<L, A> {
     ghost use Rattle.std.specs.Borrow.{sem};
-    ghost use Rattle.multimap_slots.specs.ListLayout.{HasNoPlaces, AreSound, AddsLast, KeepsPlaces};
+    ghost use Rattle.multimap_slots.specs.ListLayout.{HasNoPlaces, HasFree, AreSound, AddsLast, KeepsPlaces};
     ghost use Rattle.multimap_slots.specs.OrderLends.{lends_place_link};
     ghost use Rattle.multimap_slots.specs.declared.order.node.State.TheVariants.{Free};
 
@@ -88,7 +88,7 @@ impl<L: Copy, A: Allocator> Order<L, A> {
 
     /// How many places are free among the nodes.
     pub(crate) fn vacant(&self) -> usize
-        ensures vacant { length self.now.order + result + self.now.detached ≡ length self.now.states }
+        ensures vacant { HasFree self.now result }
         ensures fits { length self.now.states ≤ self.now.capacity }
     {
         self.nodes.len() - self.len - self.detached

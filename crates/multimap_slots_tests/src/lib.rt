@@ -7,9 +7,11 @@
 #[cfg(test)]
 mod ample;
 #[cfg(test)]
+mod detached;
+#[cfg(test)]
 mod refused;
 #[cfg(test)]
 mod slots;
 mod uses;
 
-pub use uses::{push_two, read_all, relink};
+pub use uses::{detach_listed, push_beside, push_two, read_all, relink, remove_none};

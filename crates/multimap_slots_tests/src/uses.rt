@@ -1,7 +1,7 @@
 //! Callers of the slot list, proved from its public contracts alone.
-ghost use Rattle.std.specs.Prelude.{◌≡◌, ◌+◌, Some, IfSome, IfNone, IsTrue, length};
+ghost use Rattle.std.specs.Prelude.{◌≡◌, ◌≢◌, ◌+◌, Some, IfSome, IfNone, IsTrue, length};
 ghost use Rattle.multimap_slots.specs.Lists.{next_of};
-ghost use Rattle.multimap_slots.specs.Slots.{link_at};
+ghost use Rattle.multimap_slots.specs.Slots.{link_at, IsDetached};
 
 use multimap_slots::{Reads, SlotList};
 
@@ -45,5 +45,38 @@ pub fn read_all(list: &SlotList<u64, u8>, reads: &mut Reads)
             }
             None => {}
         }
+    }
+}
+
+/// Detaches the item at a place, and answers whether an item of the list is there.
+pub fn detach_listed<T>(list: &mut SlotList<T, u8>, place: usize) -> bool
+    ensures { IsTrue result → IsDetached list.new place }
+{
+    let _sound = list.len();
+    let Some(_) = list.get(place, &mut Reads::new()) else {
+        return false;
+    };
+    list.detach(place);
+    true
+}
+
+/// Removes no item where one is detached, and answers whether that is so.
+pub fn remove_none(list: &mut SlotList<usize, u8>, place: usize) -> bool
+    requires { IsDetached list.old place }
+    ensures none { IsTrue result }
+    ensures unchanged { list.new ≡ list.old }
+{
+    list.remove(place).is_none()
+}
+
+/// Pushes an item beside a detached one, which stays: the item comes to another place.
+pub fn push_beside(list: &mut SlotList<usize, u8>, item: usize, detached: usize) -> Option<usize>
+    requires { IsDetached list.old detached }
+    ensures another { IfSome result (λ place. place ≢ detached) }
+    ensures kept { IsDetached list.new detached }
+{
+    match list.push_back(item, 4) {
+        Ok(place) => Some(place),
+        Err(_) => None,
     }
 }

@@ -1,8 +1,16 @@
-use Rattle.std.proofs.Common.{None, ap, set, sym, ◌∙◌}
+use Rattle.std.proofs.Common.{None, ap, set, subst, sym, ◌∙◌}
 use Rattle.std.proofs.lemmas.List.{get_or_default}
+use Rattle.multimap_slots.specs.Lists.{IsIn}
 use Rattle.multimap_slots.proofs.ChangesLemmas.{TakesDetached-set}
-use Rattle.multimap_slots.proofs.FilledLemmas.{some_within}
+use Rattle.multimap_slots.proofs.FilledLemmas.{some_within, IsFilled-free}
 use Rattle.multimap_slots.proofs.list.SlotList.take_detached.Goals as goal
+
+pub invariant_of-self : goal.invariant_of-self
+invariant_of-self g c =
+    let apart = rw (← c.self.view_is) at c.requires in
+    let within = some_within c.self.invariant c.args.place apart.has_item in
+    rw (c.free_detached.ensures.states, c.free_detached.ensures.order, c.take.ensures.after)
+    (IsFilled-free c.self.invariant c.args.place c.self.inside.order.order within (λ p i. (i, λ same. apart.not_listed (subst (λ q. IsIn q c.self.inside.order.order) same i))))
 
 pub returns-clause-taken : goal.returns-clause-taken
 returns-clause-taken g c =

@@ -1,8 +1,8 @@
-use Rattle.std.proofs.Common.{arith, sym, ◌∙◌}
+use Rattle.std.proofs.Common.{arith}
 use Rattle.multimap_slots.specs.ListLayout.{states}
-use Rattle.multimap_slots.proofs.OrderLemmas.{taken-within, apart-is, walk-order}
+use Rattle.multimap_slots.proofs.OrderLemmas.{taken-within, apart-is}
 use Rattle.multimap_slots.proofs.DetachedLemmas.{count_detached-some}
-use Rattle.multimap_slots.proofs.LeaveLemmas.{IsOrdered-free}
+use Rattle.multimap_slots.proofs.LeaveLemmas.{IsOrdered-free, walk-kept}
 use Rattle.multimap_slots.proofs.order.Order.free_detached.Goals as goal
 
 pub overflow_sub-self : goal.overflow_sub-self
@@ -20,7 +20,7 @@ pub returns-clause-order : goal.returns-clause-order
 returns-clause-order g c =
     let apart = rw (← c.self.view_is) at c.requires in
     let freed = IsOrdered-free c.self.invariant (apart-is c.self.invariant _ apart.not_listed apart.not_free) (taken-within c.self.invariant _ apart.not_free) c.release.ensures.written in
-    rw (← c.self.view_is) (walk-order freed.ordered ∙ freed.order_is ∙ sym (walk-order c.self.invariant))
+    rw (← c.self.view_is) (walk-kept c.self.invariant freed)
 
 pub returns-clause-detached : goal.returns-clause-detached
 returns-clause-detached g c =
