@@ -11,8 +11,8 @@ impl<T, L: Copy, A: Allocator> Tape<T, L, A> {
     /// Takes the item at `place` out of the list, which leaves a hole, and keeps it there with its
     /// link until [`Tape::take_detached`] takes it. The time is constant.
     ///
-    /// An item that is never taken is dropped with the tape, by `clear`, by `move_down` when another
-    /// item comes to its slot or leaves it, or by `cut_end`.
+    /// An item that is never taken is dropped with the tape, by `clear`, when `move_down` takes
+    /// another item to its slot, or by `cut_end`.
     pub fn detach(&mut self, place: usize)
         requires { IsIn place self.old.list.order }
         ensures detached { Detaches self.old.list self.new.list place }
