@@ -1,1 +1,2 @@
+pub mod TapedLemmas
 pub mod WalkedLemmas
