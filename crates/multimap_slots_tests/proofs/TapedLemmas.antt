@@ -1,5 +1,5 @@
 -- What callers of the tape conclude from its contracts.
-use Rattle.std.proofs.Common.{◌≡◌, ◌≢◌, ℕ, suc, ◌+◌, ◌<◌, ◌≤◌, List, [], ◌∷◌, ◌++◌, length, Option, Some, None, IsSome, refl, sym, ap, subst, ◌∙◌, inl, inr, arith}
+use Rattle.std.proofs.Common.{◌≡◌, ◌≢◌, ℕ, ◌<◌, ◌≤◌, List, [], ◌∷◌, ◌++◌, Option, Some, None, IsSome, refl, sym, ap, subst, ◌∙◌, inl, inr, arith}
 use Rattle.std.specs.List.{last_or}
 use Rattle.multimap_slots.specs.Lists.{IsIn, Rises, last_of, previous_of}
 use Rattle.multimap_slots.specs.Slots.{Slots, item_at, IsDetached, Detaches, PushesBack}
