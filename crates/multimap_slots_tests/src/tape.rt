@@ -8,7 +8,7 @@ mod random;
 mod refused;
 mod slots;
 
-use crate::{
+use crate::tape_uses::{
     cut_to_no_hole, detach_listed, move_if_free, push_beside, push_counted, remove_both,
     removes_nothing,
 };

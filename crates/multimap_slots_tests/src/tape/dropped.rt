@@ -1,5 +1,5 @@
 //! What a tape holds is dropped with it, and by `clear`.
-use crate::detach_listed;
+use crate::tape_uses::detach_listed;
 use multimap_slots::Tape;
 use std::rc::Rc;
 use test_helpers::{Failed, Test};

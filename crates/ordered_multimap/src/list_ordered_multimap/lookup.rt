@@ -52,6 +52,7 @@ fn is_at<K: Eq, A: Allocator>(keys: &SlotList<K, KeyLink, A>, place: usize, key:
 }
 
 /// The place of the key that is equal to `key`, whose hash is `hash`.
+#[inline(always)]
 pub(super) fn place_of<K: Eq, A: Allocator>(
     keys: &SlotList<K, KeyLink, A>,
     table: &KeyTable<A>,
