@@ -72,7 +72,7 @@ pub(super) fn place_of<K: Eq, A: Allocator>(
 
 impl<K: Eq + Hash, V, S: BuildHasher, A: Allocator> ListOrderedMultimap<K, V, S, A> {
     /// The key's first value. One look-up, and the slots of the key and of that value.
-    #[inline]
+    #[inline(always)]
     pub fn get(&self, key: &K) -> Option<&V>
         ensures { option_copied result ≡ slice_get (values_of K.eq self.now.lists.pairs key.now) 0 }
     {
