@@ -1,9 +1,13 @@
 -- The number of detached places.
-use Rattle.std.proofs.Common.{◌≡◌, ◌≢◌, ℕ, zero, suc, ◌+◌, ◌≤◌, List, [], ◌∷◌, get_or, refl, ap, arith}
+use Rattle.std.proofs.Common.{◌≡◌, ◌≢◌, ℕ, zero, suc, ◌+◌, ◌<◌, ◌≤◌, List, [], ◌∷◌, length, set, get_or, refl, sym, ap, subst, ◌∙◌, inl, inr, arith}
+use Rattle.std.proofs.lemmas.Bool.{cases_lt}
+use Rattle.std.proofs.lemmas.List.{get_or-set_same, get_or_past}
 use Rattle.std.proofs.lemmas.List.Sums.{sum_by-cons}
 use Rattle.multimap_slots.specs.declared.order.node.State.{State}
 use Rattle.multimap_slots.specs.declared.order.node.State.TheVariants.{Listed, Free, Detached}
-use Rattle.multimap_slots.specs.ListLayout.{one_if_detached, count_detached, put}
+use Rattle.multimap_slots.specs.Lists.{IsIn, without}
+use Rattle.multimap_slots.specs.ListLayout.{Places, AreSound, IsApart, one_if_detached, count_detached, put}
+use Rattle.multimap_slots.proofs.ListsLemmas.{IsIn-without}
 
 -- a place that is written
 pub count_detached-put : (ss : List State) (i : ℕ) (s : State) → count_detached (put ss i s) + one_if_detached (get_or ss i Free) ≡ count_detached ss + one_if_detached s
@@ -27,3 +31,17 @@ pub apart-detached : (s : State) → s ≢ Listed → s ≢ Free → s ≡ Detac
 apart-detached Listed unlisted taken = absurd (unlisted refl)
 apart-detached Free unlisted taken = absurd (taken refl)
 apart-detached Detached unlisted taken = refl
+
+-- a place that has just been detached is neither listed nor free
+pub detached-apart : {L : Type 0} {old new : Places L} → AreSound old → (place : ℕ) → IsIn place old.order → new.order ≡ without old.order place
+    → new.states ≡ set old.states place Detached → IsApart new place
+detached-apart {old = old} {new} sound place listed order states = record {
+  not_listed = λ i. (IsIn-without place old.order place (subst (IsIn place) order i)).1 refl;
+  not_free = λ e. let bad = sym (ap (λ ss. get_or ss place Free) states ∙ get_or-set_same old.states place Detached Free within) ∙ e in cc;
+}
+  where
+    within : place < length old.states
+    within = elim (cases_lt place (length old.states)) [
+      | inl below ↦ below
+      | inr past ↦ absurd (let bad = sym (sound.listed place listed) ∙ get_or_past old.states place Free past in cc)
+    ]

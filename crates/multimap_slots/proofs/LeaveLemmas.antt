@@ -156,25 +156,6 @@ module _ {L : Type 0} where
   module _ {old tied both new : List (Node L)} {front back free front' back' previous next : Option ℕ} {len detached place : ℕ} (o : IsOrdered old front back free len detached) (s : Split place o.order)
       (forth : SetsNext old tied front front' previous next) (backward : SetsPrevious tied both back back' next previous)
       (before : previous ≡ get_or (previouses old) place None) (behind : next ≡ get_or (nexts old) place None) where
-    -- the place that has left is the first free one
-    pub IsOrdered-remove : Releases both new place free → HasOrder new front' back' (Some place) (len - 1) detached (s.front ++ s.back)
-    IsOrdered-remove freed =
-        subst (λ d. HasOrder new front' back' (Some place) (len - 1) d (s.front ++ s.back)) (omega arith)
-        (IsOrdered-leave o s forth backward m before behind (λ e. cc) (Some place) (suc o.vacant) (omega arith) (
-          place,
-          refl,
-          rw length-map (omega (arith, marks-length m, within)),
-          marks-same m within,
-          subst (IsFreeList (nexts new) (states new) o.vacant) (sym (ap (λ ns. get_or ns place None) freed.nexts ∙ get_or-set_same (nexts both) place free None (rw length-map within)))
-              (left_frees o s forth backward m before behind),
-        ))
-      where
-        m : Marks both new place Free
-        m = Marks-free both new place free freed
-
-        within : place < length both
-        within = within_both o s forth backward m before behind
-
     -- the place that has left is neither listed nor free
     pub IsOrdered-detach : SetsDetached both new place → HasOrder new front' back' free (len - 1) (detached + 1) (s.front ++ s.back)
     IsOrdered-detach written =

@@ -140,13 +140,10 @@ impl<L: Copy, A: Allocator> Order<L, A> {
         ensures capacity { self.new.capacity ≡ self.old.capacity }
         ensures detached { self.new.detached ≡ self.old.detached }
     {
-        let previous = self.nodes[place].previous;
-        let next = self.nodes[place].next;
-        set_next(&mut self.nodes, &mut self.front, previous, next);
-        set_previous(&mut self.nodes, &mut self.back, next, previous);
-        release(&mut self.nodes, place, self.free);
-        self.free = OptionalPlace::some(place);
-        self.len -= 1;
+        // The length tells the proof that each listed place is marked so.
+        let _len = self.len();
+        self.detach(place);
+        self.free_detached(place);
     }
 
     /// Gives up every place, and keeps the capacity.

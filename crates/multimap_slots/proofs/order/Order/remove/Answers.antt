@@ -1,64 +1,11 @@
-use Rattle.std.proofs.Common.{None, ◌∙◌, arith, length}
-use Rattle.multimap_slots.proofs.NodeLemmas.{field_read, length-states, within_more}
-use Rattle.multimap_slots.proofs.OrderLemmas.{split_at, split_within, neighbours, first-within, last-within}
-use Rattle.multimap_slots.proofs.LeaveLemmas.{IsOrdered-remove, walk-removed, length-walk_removed, was_before, was_behind}
+use Rattle.std.proofs.Common.{set, sym, ap, subst, ◌∙◌}
+use Rattle.std.proofs.lemmas.List.{set-set}
+use Rattle.multimap_slots.specs.declared.order.node.State.TheVariants.{Free}
+use Rattle.multimap_slots.proofs.DetachedLemmas.{detached-apart}
 use Rattle.multimap_slots.proofs.order.Order.remove.Goals as goal
 
-pub index-requires : goal.index-requires
-index-requires g c =
-    let s = split_at c.self.invariant c.args.place (rw (← c.self.view_is) at c.requires) in
-    omega (arith, c.self.inside.nodes.ok, split_within c.self.invariant s)
+pub free_detached-requires : goal.free_detached-requires
+free_detached-requires g c = detached-apart c.len-len.ensures.sound c.args.place c.requires c.detach.ensures.order c.detach.ensures.states
 
-pub index-requires-2 : goal.index-requires-2
-index-requires-2 g c =
-    let s = split_at c.self.invariant c.args.place (rw (← c.self.view_is) at c.requires) in
-    omega (arith, c.self.inside.nodes.ok, split_within c.self.invariant s)
-
-pub set_next-requires : goal.set_next-requires
-set_next-requires g c =
-    let s = split_at c.self.invariant c.args.place (rw (← c.self.view_is) at c.requires) in
-    let read = field_read (λ n. n.previous) _ _ _ None (split_within c.self.invariant s) c.index.ensures in
-    last-within c.self.invariant _ s.front (read ∙ (neighbours c.self.invariant s).0) (was_before s)
-
-pub set_previous-requires : goal.set_previous-requires
-set_previous-requires g c =
-    let s = split_at c.self.invariant c.args.place (rw (← c.self.view_is) at c.requires) in
-    let read = field_read (λ n. n.next) _ _ _ None (split_within c.self.invariant s) c.index-2.ensures in
-    within_more _ (length c.self.inside.nodes.items) _ (omega (arith, length-states _ _ c.set_next.ensures.written.states))
-    (first-within c.self.invariant _ s.back (read ∙ (neighbours c.self.invariant s).1) (was_behind s))
-
-pub release-requires : goal.release-requires
-release-requires g c =
-    let s = split_at c.self.invariant c.args.place (rw (← c.self.view_is) at c.requires) in
-    omega (arith, split_within c.self.invariant s, length-states _ _ c.set_next.ensures.written.states, length-states _ _ c.set_previous.ensures.written.states)
-
-pub some-self-inside-requires : goal.some-self-inside-requires
-some-self-inside-requires g c =
-    let s = split_at c.self.invariant c.args.place (rw (← c.self.view_is) at c.requires) in
-    omega (arith, split_within c.self.invariant s, c.self.inside.nodes.ok)
-
-pub invariant_of-self : goal.invariant_of-self
-invariant_of-self g c =
-    let s = split_at c.self.invariant c.args.place (rw (← c.self.view_is) at c.requires) in
-    let within = split_within c.self.invariant s in
-    rw c.some-self-inside.ensures
-    (IsOrdered-remove c.self.invariant s c.set_next.ensures.written c.set_previous.ensures.written
-    (field_read (λ n. n.previous) _ _ _ None within c.index.ensures) (field_read (λ n. n.next) _ _ _ None within c.index-2.ensures) c.release.ensures.written).ordered
-
-pub returns-clause-order : goal.returns-clause-order
-returns-clause-order g c =
-    let s = split_at c.self.invariant c.args.place (rw (← c.self.view_is) at c.requires) in
-    let within = split_within c.self.invariant s in
-    let removed =
-    IsOrdered-remove c.self.invariant s c.set_next.ensures.written c.set_previous.ensures.written
-    (field_read (λ n. n.previous) _ _ _ None within c.index.ensures) (field_read (λ n. n.next) _ _ _ None within c.index-2.ensures) c.release.ensures.written in
-    rw (← c.self.view_is) (walk-removed c.self.invariant s removed)
-
-pub returns-clause-shorter : goal.returns-clause-shorter
-returns-clause-shorter g c =
-    let s = split_at c.self.invariant c.args.place (rw (← c.self.view_is) at c.requires) in
-    let within = split_within c.self.invariant s in
-    let removed =
-    IsOrdered-remove c.self.invariant s c.set_next.ensures.written c.set_previous.ensures.written
-    (field_read (λ n. n.previous) _ _ _ None within c.index.ensures) (field_read (λ n. n.next) _ _ _ None within c.index-2.ensures) c.release.ensures.written in
-    rw (← c.self.view_is) (length-walk_removed c.self.invariant s removed)
+pub returns-clause-states : goal.returns-clause-states
+returns-clause-states g c = c.free_detached.ensures.states ∙ ap (λ ss. set ss c.args.place Free) c.detach.ensures.states ∙ set-set _ c.args.place _ Free
