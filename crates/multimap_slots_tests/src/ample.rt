@@ -1,32 +1,34 @@
-//! Tests with ample memory: each call of the slot list once, at each type of item.
+//! Tests with ample memory: each call of the slot list and of the tape once, at each type of item.
+use crate::places::Places;
 use crate::slots::{expect_slots, push, slot_at, take};
 use crate::{push_two, read_all, relink};
-use multimap_slots::{Reads, SlotList};
+use multimap_slots::{Reads, SlotList, Tape};
+use std::alloc::{AllocError, Global};
+use std::fmt;
 use std::mem::size_of;
 use test_helpers::{Failed, Sample, Test, Token, expect_text};
 
 // A place that no list of these tests has.
 const NOWHERE: usize = 1000;
 
-fn a_new_list_is_empty<T: Sample>(test: &Test) {
-    let list: SlotList<T, u8> = SlotList::new(test.alloc());
+fn is_new<L: Places>(test: &Test, list: &L) {
     test.expect("is_empty of a new list", list.is_empty());
     test.expect("capacity of a new list", list.capacity() == 0);
-    test.expect("slot of a new list", slot_at(&list, 0).is_none());
-    expect_slots(test, &list, &[]);
+    test.expect("room of a new list", !list.has_room());
+    test.expect("slot of a new list", slot_at(list, 0).is_none());
+    expect_slots(test, list, &[]);
 }
 
-fn room_is_made_at_the_start<T: Sample>(test: &Test) {
-    let made: Result<SlotList<T, u8>, _> = SlotList::with_capacity(test.alloc(), 5);
-    let room = match made {
-        Ok(list) => list.is_empty() && list.capacity() >= 5,
+fn has_room_for_five<L: Places>(test: &Test, made: Result<L, AllocError>) {
+    let has_room = match made {
+        Ok(list) => list.is_empty() && list.capacity() >= 5 && list.has_room(),
         Err(_) => false,
     };
-    test.expect("with_capacity", room);
+    test.expect("with_capacity", has_room);
 }
 
 // Items 10, 20, 30 at a, b, c: one goes, one comes, and the first goes.
-fn items_keep_their_places<T: Sample>(test: &Test, list: &mut SlotList<T, u8>) {
+fn items_keep_their_places<L: Places>(test: &Test, list: &mut L) {
     let a = push(test, list, 10, 1);
     let b = push(test, list, 20, 2);
     let c = push(test, list, 30, 3);
@@ -37,12 +39,7 @@ fn items_keep_their_places<T: Sample>(test: &Test, list: &mut SlotList<T, u8>) {
     one_comes_and_the_first_goes(test, list, a, c);
 }
 
-fn one_comes_and_the_first_goes<T: Sample>(
-    test: &Test,
-    list: &mut SlotList<T, u8>,
-    a: usize,
-    c: usize,
-) {
+fn one_comes_and_the_first_goes<L: Places>(test: &Test, list: &mut L, a: usize, c: usize) {
     let d = push(test, list, 40, 4);
     test.expect("another place", d != a && d != c);
     expect_slots(test, list, &[(a, 10, 1), (c, 30, 3), (d, 40, 4)]);
@@ -50,26 +47,29 @@ fn one_comes_and_the_first_goes<T: Sample>(
     expect_slots(test, list, &[(c, 30, 3), (d, 40, 4)]);
 }
 
-fn neighbours_are_told<T: Sample>(test: &Test, list: &mut SlotList<T, u8>) {
+fn neighbours_are_told<L: Places>(test: &Test, list: &mut L) {
     let a = push(test, list, 1, 0);
     let b = push(test, list, 2, 0);
     test.expect("is_empty", !list.is_empty());
-    test.expect("capacity", list.capacity() >= 2);
+    test.expect("capacity", list.slots() >= 2);
     expect_slots(test, list, &[(a, 1, 0), (b, 2, 0)]);
-    test.expect("next of nowhere", list.next_place(NOWHERE).is_none());
-    test.expect(
-        "previous of nowhere",
-        list.previous_place(NOWHERE).is_none(),
-    );
+    nothing_is_nowhere(test, list);
+}
+
+fn nothing_is_nowhere<L: Places>(test: &Test, list: &L) {
+    let next = list.next_place(NOWHERE);
+    test.expect("next of nowhere", next.is_none());
+    let previous = list.previous_place(NOWHERE);
+    test.expect("previous of nowhere", previous.is_none());
     test.expect("slot of nowhere", slot_at(list, NOWHERE).is_none());
 }
 
 // Writes an item, and answers the number that stood there.
-fn write_item<T: Sample>(test: &Test, list: &mut SlotList<T, u8>, place: usize) -> Option<usize> {
+fn write_item<L: Places>(test: &Test, list: &mut L, place: usize) -> Option<usize> {
     match list.get_mut(place) {
         Some(item) => {
             let number = item.number();
-            *item = T::of(test, 3);
+            *item = L::Item::of(test, 3);
             Some(number)
         }
         None => None,
@@ -77,7 +77,7 @@ fn write_item<T: Sample>(test: &Test, list: &mut SlotList<T, u8>, place: usize) 
 }
 
 // Writes a link, and answers the one that stood there.
-fn write_link<T: Sample>(list: &mut SlotList<T, u8>, place: usize) -> Option<u8> {
+fn write_link<L: Places>(list: &mut L, place: usize) -> Option<u8> {
     match list.link_mut(place) {
         Some(link) => {
             let old = *link;
@@ -88,67 +88,62 @@ fn write_link<T: Sample>(list: &mut SlotList<T, u8>, place: usize) -> Option<u8>
     }
 }
 
-fn items_and_links_are_written<T: Sample>(test: &Test, list: &mut SlotList<T, u8>) {
+fn items_and_links_are_written<L: Places>(test: &Test, list: &mut L) {
     let a = push(test, list, 1, 10);
     let b = push(test, list, 2, 20);
     test.expect("get_mut", write_item(test, list, a) == Some(1));
     test.expect("link_mut", write_link(list, b) == Some(20));
-    test.expect(
-        "get_mut of nowhere",
-        write_item(test, list, NOWHERE).is_none(),
-    );
+    let nowhere = write_item(test, list, NOWHERE);
+    test.expect("get_mut of nowhere", nowhere.is_none());
     test.expect("link_mut of nowhere", write_link(list, NOWHERE).is_none());
     expect_slots(test, list, &[(a, 3, 10), (b, 2, 25)]);
 }
 
-fn room_is_kept<T: Sample>(test: &Test, list: &mut SlotList<T, u8>) {
+fn room_is_kept<L: Places>(test: &Test, list: &mut L) {
     let a = push(test, list, 1, 0);
     let b = push(test, list, 2, 0);
     test.expect("reserve", list.reserve(7).is_ok());
     let capacity = list.capacity();
-    test.expect("reserved room", capacity >= 9);
+    test.expect("reserved room", capacity >= 9 && list.has_room());
     expect_slots(test, list, &[(a, 1, 0), (b, 2, 0)]);
     list.clear();
     is_cleared(test, list, a, b);
-    let c = push(test, list, 3, 1);
-    expect_slots(test, list, &[(c, 3, 1)]);
     test.expect("the room stays", list.capacity() == capacity);
 }
 
-fn is_cleared<T: Sample>(test: &Test, list: &mut SlotList<T, u8>, a: usize, b: usize) {
+fn is_cleared<L: Places>(test: &Test, list: &mut L, a: usize, b: usize) {
     test.expect("is_empty once cleared", list.is_empty());
     test.expect("slot once cleared", slot_at(list, a).is_none());
     test.expect("remove once cleared", take(list, b).is_none());
     expect_slots(test, list, &[]);
+    let c = push(test, list, 3, 1);
+    expect_slots(test, list, &[(c, 3, 1)]);
 }
 
-fn every_call_answers<T: Sample>(test: &Test) {
-    a_new_list_is_empty::<T>(test);
-    room_is_made_at_the_start::<T>(test);
-    items_keep_their_places::<T>(test, &mut SlotList::new(test.alloc()));
-    neighbours_are_told::<T>(test, &mut SlotList::new(test.alloc()));
-    items_and_links_are_written::<T>(test, &mut SlotList::new(test.alloc()));
-    room_is_kept::<T>(test, &mut SlotList::new(test.alloc()));
+fn every_call_answers<L: Places<Alloc = Global>>(test: &Test) {
+    is_new(test, &L::new(test.alloc()));
+    has_room_for_five(test, L::with_capacity(test.alloc(), 5));
+    items_keep_their_places(test, &mut L::new(test.alloc()));
+    neighbours_are_told(test, &mut L::new(test.alloc()));
+    items_and_links_are_written(test, &mut L::new(test.alloc()));
+    room_is_kept(test, &mut L::new(test.alloc()));
 }
 
 #[test]
-fn every_call_answers_at_a_copy_type(rt: HostRuntime) -> Result<(), Failed> {
+fn every_call_of_a_slot_list_answers(rt: HostRuntime) -> Result<(), Failed> {
     let test = Test::new(rt.alloc());
-    every_call_answers::<usize>(&test);
+    every_call_answers::<SlotList<usize, u8>>(&test);
+    every_call_answers::<SlotList<String, u8>>(&test);
+    every_call_answers::<SlotList<Token, u8>>(&test);
     test.end()
 }
 
 #[test]
-fn every_call_answers_at_a_text(rt: HostRuntime) -> Result<(), Failed> {
+fn every_call_of_a_tape_answers(rt: HostRuntime) -> Result<(), Failed> {
     let test = Test::new(rt.alloc());
-    every_call_answers::<String>(&test);
-    test.end()
-}
-
-#[test]
-fn every_call_answers_at_a_type_that_only_drops(rt: HostRuntime) -> Result<(), Failed> {
-    let test = Test::new(rt.alloc());
-    every_call_answers::<Token>(&test);
+    every_call_answers::<Tape<usize, u8>>(&test);
+    every_call_answers::<Tape<String, u8>>(&test);
+    every_call_answers::<Tape<Token, u8>>(&test);
     test.end()
 }
 
@@ -161,7 +156,7 @@ fn a_counter_takes_no_bytes(rt: HostRuntime) -> Result<(), Failed> {
     test.end()
 }
 
-fn is_shown_by_its_places(test: &Test, list: &mut SlotList<usize, u8>) {
+fn is_shown_by_its_places<L: Places + fmt::Debug>(test: &Test, list: &mut L) {
     let a = push(test, list, 10, 0);
     let b = push(test, list, 20, 0);
     match format!(in test.alloc(); "{{{a}: 10, {b}: 20}}") {
@@ -174,9 +169,12 @@ fn is_shown_by_its_places(test: &Test, list: &mut SlotList<usize, u8>) {
 }
 
 #[test]
-fn a_list_is_shown_by_its_places(rt: HostRuntime) -> Result<(), Failed> {
+fn lists_are_shown_by_their_places(rt: HostRuntime) -> Result<(), Failed> {
     let test = Test::new(rt.alloc());
-    is_shown_by_its_places(&test, &mut SlotList::new(test.alloc()));
+    let list: &mut SlotList<usize, u8> = &mut SlotList::new(test.alloc());
+    is_shown_by_its_places(&test, list);
+    let tape: &mut Tape<usize, u8> = &mut Tape::new(test.alloc());
+    is_shown_by_its_places(&test, tape);
     test.end()
 }
 

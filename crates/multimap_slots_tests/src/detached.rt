@@ -1,51 +1,68 @@
 //! Tests of items that leave the order and stay at their places.
-ghost use Rattle.multimap_slots.specs.Slots.{IsDetached};
+ghost use Rattle.std.specs.Prelude.{◌≡◌};
 
+use crate::detach_listed;
+use crate::detaching::Detaching;
 use crate::slots::{expect_slots, push, slot_at};
-use crate::{detach_listed, push_beside, remove_none};
-use multimap_slots::SlotList;
+use multimap_slots::{SlotList, Tape};
 use std::rc::Rc;
-use test_helpers::{Failed, Test};
+use test_helpers::{Failed, Sample, Test, Token};
 
 // Lists whose items tell how many of them there are.
 type Shared = SlotList<Rc<usize>, u8>;
 
-fn the_detached_item_is_taken(
-    test: &Test,
-    list: &mut SlotList<usize, u8>,
-    a: usize,
-    b: usize,
-    c: usize,
-)
-    requires { IsDetached list.old b }
+// The number and the link that are kept at a place.
+fn detached_at<L: Detaching>(list: &L, place: usize) -> (usize, u8)
+    requires { L.is_detached list.now place }
 {
-    let d = push_beside(list, 40, b).unwrap_or(b);
+    let (item, link) = list.get_detached(place);
+    (item.number(), link)
+}
+
+fn it_has_left_the_list<L: Detaching>(test: &Test, list: &mut L, place: usize)
+    requires { L.is_detached list.old place }
+    ensures { list.new ≡ list.old }
+{
+    test.expect("get of a detached item", slot_at(list, place).is_none());
+    test.expect("remove of a detached item", list.remove_none(place));
+    test.expect("what is kept", detached_at(list, place) == (20, 2));
+}
+
+fn it_is_taken<L: Detaching>(test: &Test, list: &mut L, a: usize, b: usize, c: usize)
+    requires { L.is_detached list.old b }
+{
+    let d = list.push_beside(L::Item::of(test, 40), b).unwrap_or(b);
     test.expect("another place", d != a && d != b && d != c);
-    let (item, link) = list.get_detached(b);
-    test.expect("get_detached", *item == 20 && link == 2);
-    test.expect("take_detached", list.take_detached(b) == 20);
+    test.expect("get_detached", detached_at(list, b) == (20, 2));
+    test.expect("take_detached", list.take_detached(b).number() == 20);
     expect_slots(test, list, &[(a, 10, 1), (c, 30, 3), (d, 40, 4)]);
 }
 
 // Items 10, 20, 30 at a, b, c: the second is detached, one comes, and the second is taken.
-fn a_detached_item_stays(test: &Test, list: &mut SlotList<usize, u8>) {
+fn a_detached_item_stays<L: Detaching>(test: &Test, list: &mut L) {
     let a = push(test, list, 10, 1);
     let b = push(test, list, 20, 2);
     let c = push(test, list, 30, 3);
-    if !detach_listed(list, b) {
+    if !list.detach_listed(b) {
         test.expect("detach", false);
         return;
     }
+    it_has_left_the_list(test, list, b);
     expect_slots(test, list, &[(a, 10, 1), (c, 30, 3)]);
-    test.expect("get of a detached item", slot_at(list, b).is_none());
-    test.expect("remove of a detached item", remove_none(list, b));
-    the_detached_item_is_taken(test, list, a, b, c);
+    it_is_taken(test, list, a, b, c);
 }
 
 #[test]
-fn a_detached_item_stays_at_its_place(rt: HostRuntime) -> Result<(), Failed> {
+fn a_detached_item_of_a_slot_list_stays_at_its_place(rt: HostRuntime) -> Result<(), Failed> {
     let test = Test::new(rt.alloc());
-    a_detached_item_stays(&test, &mut SlotList::new(test.alloc()));
+    a_detached_item_stays::<SlotList<usize, u8>>(&test, &mut SlotList::new(test.alloc()));
+    test.end()
+}
+
+#[test]
+fn a_detached_item_of_a_tape_stays_at_its_place(rt: HostRuntime) -> Result<(), Failed> {
+    let test = Test::new(rt.alloc());
+    a_detached_item_stays::<Tape<Token, u8>>(&test, &mut Tape::new(test.alloc()));
     test.end()
 }
 

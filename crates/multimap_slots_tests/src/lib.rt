@@ -9,6 +9,12 @@ mod ample;
 #[cfg(test)]
 mod detached;
 #[cfg(test)]
+mod detaching;
+#[cfg(test)]
+mod made;
+#[cfg(test)]
+mod places;
+#[cfg(test)]
 mod refused;
 #[cfg(test)]
 mod slots;

@@ -72,7 +72,7 @@ pub fn push_beside<T: Drop>(tape: &mut Tape<T, u8>, place: usize, item: T) -> Op
     ensures kept { IsDetached tape.new.list place }
     ensures apart { IfSome result (λ at. place ≢ at) }
 {
-    let Ok(at) = tape.push_back(item, 0) else {
+    let Ok(at) = tape.push_back(item, 4) else {
         return None;
     };
     Some(at)

@@ -61,7 +61,7 @@ pub fn detach_listed<T>(list: &mut SlotList<T, u8>, place: usize) -> bool
 }
 
 /// Removes no item where one is detached, and answers whether that is so.
-pub fn remove_none(list: &mut SlotList<usize, u8>, place: usize) -> bool
+pub fn remove_none<T: Drop>(list: &mut SlotList<T, u8>, place: usize) -> bool
     requires { IsDetached list.old place }
     ensures none { IsTrue result }
     ensures unchanged { list.new ≡ list.old }
@@ -70,13 +70,13 @@ pub fn remove_none(list: &mut SlotList<usize, u8>, place: usize) -> bool
 }
 
 /// Pushes an item beside a detached one, which stays: the item comes to another place.
-pub fn push_beside(list: &mut SlotList<usize, u8>, item: usize, detached: usize) -> Option<usize>
+pub fn push_beside<T: Drop>(list: &mut SlotList<T, u8>, item: T, detached: usize) -> Option<usize>
     requires { IsDetached list.old detached }
     ensures another { IfSome result (λ place. place ≢ detached) }
     ensures kept { IsDetached list.new detached }
 {
-    match list.push_back(item, 4) {
-        Ok(place) => Some(place),
-        Err(_) => None,
-    }
+    let Ok(place) = list.push_back(item, 4) else {
+        return None;
+    };
+    Some(place)
 }

@@ -47,6 +47,14 @@ impl<A: Allocator> RefusingAllocator<A> {
         self.budget.set(Budget { granted, ..budget });
     }
 
+    /// Refuses no request from now on, and forgets that one was refused.
+    pub fn refuse_none(&self) {
+        self.budget.set(Budget {
+            granted: u64::MAX,
+            refused: false,
+        });
+    }
+
     /// Refuses each request from now on.
     pub fn refuse_all(&self) {
         self.grant(0);
@@ -57,7 +65,7 @@ impl<A: Allocator> RefusingAllocator<A> {
         self.budget.get().granted
     }
 
-    /// Whether any request was refused so far.
+    /// Whether any request was refused so far, or since `refuse_none`.
     pub fn refused(&self) -> bool {
         self.budget.get().refused
     }

@@ -1,5 +1,5 @@
 //! Random calls of the tape, compared with a plain vector of places.
-use super::slots::{push, slot_at, take};
+use crate::slots::{push, slot_at, take};
 use crate::tape_uses::{detach_and_take, move_if_free};
 use multimap_slots::Tape;
 use test_helpers::{Failed, Test};
