@@ -1,10 +1,10 @@
 -- The runs of a tape where an item's place becomes a hole, where an item comes behind all or goes down into a hole, and where the end is cut.
-use Rattle.std.proofs.Common.{◌≡◌, ◌≢◌, ◌⊎◌, ℕ, zero, suc, ◌+◌, ◌-◌, ◌<◌, ◌≤◌, List, [], ◌∷◌, ◌++◌, length, get_or, set, take, refl, sym, ap, ◌∙◌, inl, inr, arith, length-append, length-take-le}
+use Rattle.std.proofs.Common.{◌≡◌, ◌≢◌, ◌⊎◌, ℕ, zero, suc, ◌+◌, ◌<◌, ◌≤◌, List, [], ◌∷◌, ◌++◌, length, get_or, set, take, refl, sym, ◌∙◌, inl, inr, arith, length-append, length-take-le}
 use Rattle.std.proofs.lemmas.Bool.{cases_eq, cases_lt}
-use Rattle.std.proofs.lemmas.List.{get_or-set_same, get_or-set_other, get_or_past, get_or_default, length-set, get_or-take}
+use Rattle.std.proofs.lemmas.List.{get_or-set_same, get_or-set_other, get_or_past, length-set, get_or-take}
 use Rattle.multimap_slots.proofs.PlacesLemmas.{places-hole, places-push}
 use Rattle.multimap_slots.specs.Runs.{before, IsRun, HasLength, AreRuns, WritesRun, AreLaid}
-use Rattle.multimap_slots.proofs.RunsLemmas.{zero_or, run_back, before_fits, AreRuns-within, hole-set, get_or-set_again, whole, HasLength-none, IsAround, hole_within, run_within}
+use Rattle.multimap_slots.proofs.RunsLemmas.{AreRuns-within, hole-set, get_or-set_again, whole, HasLength-none, IsAround}
 
 -- an item's place becomes a hole
 module _ (old : List ℕ) (start place end : ℕ) (a : IsAround old start place end) where

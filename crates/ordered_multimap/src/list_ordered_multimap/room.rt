@@ -15,13 +15,7 @@ use std::alloc::{AllocError, Allocator};
 
 /// Makes room for one more value behind the others. Where half of the slots or more are free, it
 /// closes the holes and takes no memory.
-#[tactic(
-    auto,
-    using(
-        crate::proofs::CompactLemmas::grown_places,
-        crate::proofs::CompactLemmas::same_places
-    )
-)]
+#[tactic(auto, using(crate::proofs::CompactLemmas::grown_places, crate::proofs::CompactLemmas::same_places))]
 pub(super) fn make_value_room<K, V: Drop, A: Allocator>(
     keys: &mut SlotList<K, KeyLink, A>,
     values: &mut Tape<V, ValueLink, A>,

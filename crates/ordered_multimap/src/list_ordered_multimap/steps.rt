@@ -39,7 +39,11 @@ fn new_link(hash: u64, place: usize, length: usize) -> KeyLink
 }
 
 /// Puts the value in the slot behind those in use, and answers its place.
-fn push_slot<V, A: Allocator>(values: &mut Tape<V, ValueLink, A>, value: V, link: ValueLink) -> usize
+fn push_slot<V, A: Allocator>(
+    values: &mut Tape<V, ValueLink, A>,
+    value: V,
+    link: ValueLink,
+) -> usize
     requires { HasEndRoom values.old }
     ensures pushed { PushesBack values.old.list values.new.list result value link }
     ensures counts { KeepsCounts values.old values.new }

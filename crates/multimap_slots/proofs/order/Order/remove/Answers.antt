@@ -1,4 +1,4 @@
-use Rattle.std.proofs.Common.{set, sym, ap, subst, ◌∙◌}
+use Rattle.std.proofs.Common.{set, ap, ◌∙◌}
 use Rattle.std.proofs.lemmas.List.{set-set}
 use Rattle.multimap_slots.specs.declared.order.node.State.TheVariants.{Free}
 use Rattle.multimap_slots.proofs.DetachedLemmas.{detached-apart}

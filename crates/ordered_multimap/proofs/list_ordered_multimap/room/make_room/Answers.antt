@@ -1,5 +1,5 @@
-use Rattle.std.proofs.Common.{arith, refl, ap}
-use Rattle.ordered_multimap.proofs.CompactLemmas.{renamed-room, renamed-then}
+use Rattle.std.proofs.Common.{arith, refl}
+use Rattle.ordered_multimap.proofs.CompactLemmas.{renamed-room}
 use Rattle.ordered_multimap.proofs.list_ordered_multimap.room.make_room.Goals as goal
 
 pub returns-in_err-reserve-clause-renamed : goal.returns-in_err-reserve-clause-renamed
