@@ -1,4 +1,5 @@
-//! Tests of the slot list and of the tape, from outside.
+//! Tests of the slot list, and of the tape in what both have, from outside; and what tests of
+//! either see of it.
 //!
 //! They stand in a crate of their own, since they need an allocator that refuses: a crate has one
 //! list of dependencies for its code and its tests, and the slot list itself stands on nothing.
@@ -12,17 +13,15 @@ mod detached;
 mod detaching;
 #[cfg(test)]
 mod made;
-#[cfg(test)]
 mod places;
 #[cfg(test)]
 mod refused;
-#[cfg(test)]
 mod slots;
-#[cfg(test)]
-mod tape;
 mod tape_uses;
 mod uses;
 
+pub use places::Places;
+pub use slots::{Slot, expect_slots, push, slot_at, slots_of, take};
 pub use tape_uses::{
     can_move_down, cut_to_no_hole, detach_and_take, detach_listed as detach_on_tape, is_listed,
     move_if_free, push_beside as push_beside_on_tape, push_counted, remove_both, removes_nothing,

@@ -83,6 +83,7 @@ fn push_with<L: Places>(
     is_enough
 }
 
+// `alloc` is the allocator as the list takes it: no bound that names its lifetime is proved.
 fn push_to<L: Places>(
     test: &Test,
     allocator: &RefusingAllocator,

@@ -1,17 +1,11 @@
-//! Tests of what a tape alone has: holes that are closed, and what they keep.
-//!
-//! They stand at one type each, since a test at several costs more to prove: the row and the
-//! random calls at a `Copy` type, and what is dropped at an `Rc`.
+//! A row of holes that are closed.
 ghost use Rattle.std.specs.Prelude.{◌≡◌, ◌+◌, IfSome, IsTrue};
 ghost use Rattle.multimap_slots.specs.Tapes.{KeepsCounts};
 
-mod dropped;
-mod random;
-mod refused;
-
-use crate::slots::{expect_slots, push};
-use crate::tape_uses::{cut_to_no_hole, move_if_free, push_counted, remove_both};
 use multimap_slots::Tape;
+use multimap_slots_tests::{
+    cut_to_no_hole, expect_slots, move_if_free, push, push_counted, remove_both,
+};
 use test_helpers::{Failed, Test};
 
 // The places of 10, 20, 30 and 40.

@@ -1,11 +1,10 @@
 //! Tests of what a tape alone has with refused memory: two slots for each item.
-use crate::refused::Taped;
-use crate::slots::push;
 use multimap_slots::Tape;
+use multimap_slots_tests::push;
 use refusing_allocator::RefusingAllocator;
 use test_helpers::{Failed, Test, Token};
 
-type Tokens<'a> = Taped<'a, Token>;
+type Tokens<'a> = Tape<Token, u8, &'a RefusingAllocator>;
 
 // Room for three is six slots, which are filled without a request.
 fn six_slots_stand_for_three(test: &Test, allocator: &RefusingAllocator, tape: &mut Tokens<'_>) {

@@ -1,6 +1,6 @@
 //! What a tape holds is dropped with it, and by `clear`.
-use crate::tape_uses::detach_listed;
 use multimap_slots::Tape;
+use multimap_slots_tests::detach_on_tape;
 use std::rc::Rc;
 use test_helpers::{Failed, Test};
 
@@ -25,7 +25,7 @@ fn take_three(test: &Test, tape: &mut Shares, shared: &Rc<u8>) {
     let _first = push_share(test, tape, shared);
     let second = push_share(test, tape, shared);
     let _third = push_share(test, tape, shared);
-    test.expect("detach", detach_listed(tape, second));
+    test.expect("detach", detach_on_tape(tape, second));
     test.expect("all are held", Rc::strong_count(shared) == 4);
 }
 
@@ -40,7 +40,7 @@ fn clear_drops_all(test: &Test, tape: &mut Shares, shared: &Rc<u8>) {
 fn cut_drops_the_detached(test: &Test, tape: &mut Shares, shared: &Rc<u8>) {
     let _first = push_share(test, tape, shared);
     let second = push_share(test, tape, shared);
-    test.expect("detach", detach_listed(tape, second));
+    test.expect("detach", detach_on_tape(tape, second));
     tape.cut_end();
     test.expect("cut", Rc::strong_count(shared) == 2);
 }

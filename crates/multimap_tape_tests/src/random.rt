@@ -1,7 +1,6 @@
 //! Random calls of the tape, compared with a plain vector of places.
-use crate::slots::{push, slot_at, take};
-use crate::tape_uses::{detach_and_take, move_if_free};
 use multimap_slots::Tape;
+use multimap_slots_tests::{detach_and_take, move_if_free, push, slot_at, take};
 use test_helpers::{Failed, Test};
 
 const ROUNDS: usize = 800;
