@@ -1,6 +1,7 @@
 //! The map: its fields, what contracts see of it, constructors and sizes.
-ghost use Rattle.std.specs.Prelude.{◌≡◌, ◌≤◌, ◌↔◌, [], length, IsTrue, IfOk, IsOk};
+ghost use Rattle.std.specs.Prelude.{◌≡◌, ◌≤◌, ◌/◌, ◌↔◌, [], length, IsTrue, IfOk, IsOk};
 ghost use Rattle.ordered_multimap.specs.Lists.{IsWellFormed, empty_lists};
+ghost use Rattle.ordered_multimap.specs.TapeNumbers.{ArePaid};
 
 mod append;
 mod compact;
@@ -183,7 +184,10 @@ impl<K: Eq + Hash, V, S: BuildHasher, A: Allocator> ListOrderedMultimap<K, V, S,
 
     /// How many values fit before the map must grow: as many as half of the slots.
     pub fn values_capacity(&self) -> usize
-        ensures { result ≡ self.now.value_room }
+        ensures capacity { result ≡ self.now.value_room }
+        ensures fits { length self.now.lists.pairs ≤ self.now.value_room }
+        ensures half { self.now.value_room ≡ self.now.tape.slots / 2 }
+        ensures paid { ArePaid self.now.tape }
     {
         self.values.capacity()
     }
