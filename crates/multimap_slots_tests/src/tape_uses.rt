@@ -1,5 +1,5 @@
 //! Callers of the tape, proved from its public contracts alone.
-ghost use Rattle.std.specs.Prelude.{◌≡◌, ◌≢◌, ◌+◌, ◌≤◌, ◌<◌, ℕ, Some, IfSome, IsTrue};
+ghost use Rattle.std.specs.Prelude.{◌≡◌, ◌≢◌, ◌+◌, ◌≤◌, ◌<◌, ℕ, false, Some, IfSome, IfNone, IsTrue};
 ghost use Rattle.multimap_slots.specs.Lists.{IsIn};
 ghost use Rattle.multimap_slots.specs.Slots.{IsDetached, item_at};
 ghost use Rattle.multimap_slots.specs.Tapes.{Frees, KeepsCounts};
@@ -35,6 +35,7 @@ pub fn detach_listed<T>(tape: &mut Tape<T, u8>, place: usize) -> bool
     ensures detached { IsTrue result → IsDetached tape.new.list place }
     ensures item { IsTrue result → item_at tape.new.list place ≡ item_at tape.old.list place }
     ensures freed { IsTrue result → Frees tape.old tape.new }
+    ensures kept { result ≡ false → tape.new ≡ tape.old }
 {
     // The length tells the proof that each listed place has an item.
     let _len = tape.len();
@@ -49,6 +50,7 @@ pub fn detach_listed<T>(tape: &mut Tape<T, u8>, place: usize) -> bool
 pub fn detach_and_take<T>(tape: &mut Tape<T, u8>, place: usize) -> Option<T>
     ensures item { IfSome result (λ item. item_at tape.old.list place ≡ Some item) }
     ensures freed { IfSome result (λ _. Frees tape.old tape.new) }
+    ensures kept { IfNone result (tape.new ≡ tape.old) }
 {
     if detach_listed(tape, place) {
         Some(tape.take_detached(place))
@@ -92,6 +94,7 @@ pub fn remove_both(tape: &mut Tape<usize, u8>, first: usize, second: usize) -> b
 pub fn move_if_free(tape: &mut Tape<usize, u8>, from: usize, to: usize) -> bool
     ensures moved { IsTrue result → tape.new.moved ≡ tape.old.moved + 1 }
     ensures freed { tape.new.freed ≡ tape.old.freed }
+    ensures kept { result ≡ false → tape.new ≡ tape.old }
 {
     let is_free = can_move_down(tape, from, to);
     if is_free {

@@ -1,6 +1,8 @@
 //! Random calls of the tape, compared with a plain vector of places.
+ghost use Rattle.std.specs.Prelude.{◌≡◌, ◌+◌};
+
 use multimap_slots::Tape;
-use multimap_slots_tests::{detach_and_take, move_if_free, push, slot_at, take};
+use multimap_slots_tests::{detach_and_take, move_if_free, push_counted, slot_at};
 use test_helpers::{Failed, Test};
 
 const ROUNDS: usize = 800;
@@ -8,10 +10,18 @@ const ROUNDS: usize = 800;
 // The number at each place in use, and none at a hole.
 type Plain = Vec<Option<usize>>;
 
-fn push_both(test: &Test, tape: &mut Tape<usize, u8>, plain: &mut Plain, number: usize) {
-    let place = push(test, tape, number, 7);
-    test.expect("the place behind", place == plain.len());
+// How many slots a call moved, and how many items left the list. The contracts have the tape's
+// numbers, which take no bytes; the plain vector has what was to be counted.
+type Counts = (usize, usize);
+
+fn push_both(test: &Test, tape: &mut Tape<usize, u8>, plain: &mut Plain, number: usize) -> Counts
+    ensures moved { tape.new.moved ≡ tape.old.moved + result.0 }
+    ensures freed { tape.new.freed ≡ tape.old.freed + result.1 }
+{
+    let place = push_counted(tape, number, 7);
+    test.expect("the place behind", place == Some(plain.len()));
     test.expect("memory for a place", plain.push(Some(number)).is_ok());
+    (0, 0)
 }
 
 fn take_plain(plain: &mut Plain, place: usize) -> Option<usize> {
@@ -37,19 +47,77 @@ fn plain_can_move(plain: &Plain, from: usize, to: usize) -> bool {
     to < from && from < plain.len() && !is_hole(plain, from)
 }
 
-fn move_both(test: &Test, tape: &mut Tape<usize, u8>, plain: &mut Plain, from: usize, to: usize) {
-    let is_free = plain_can_move(plain, from, to);
-    test.expect("move_down", move_if_free(tape, from, to) == is_free);
-    if is_free {
-        let number = take_plain(plain, from);
-        if let Some(slot) = plain.get_mut(to) {
-            *slot = number;
+fn remove_from_both(
+    test: &Test,
+    tape: &mut Tape<usize, u8>,
+    plain: &mut Plain,
+    place: usize,
+) -> Counts
+    ensures moved { tape.new.moved ≡ tape.old.moved + result.0 }
+    ensures freed { tape.new.freed ≡ tape.old.freed + result.1 }
+{
+    let wanted = take_plain(plain, place);
+    match tape.remove(place) {
+        Some(number) => {
+            test.expect("remove", wanted == Some(number));
+            (0, 1)
+        }
+        None => {
+            test.expect("nothing to remove", wanted.is_none());
+            (0, 0)
         }
     }
 }
 
-fn cut_both(tape: &mut Tape<usize, u8>, plain: &mut Plain) {
-    tape.cut_end();
+fn detach_from_both(
+    test: &Test,
+    tape: &mut Tape<usize, u8>,
+    plain: &mut Plain,
+    place: usize,
+) -> Counts
+    ensures moved { tape.new.moved ≡ tape.old.moved + result.0 }
+    ensures freed { tape.new.freed ≡ tape.old.freed + result.1 }
+{
+    let wanted = take_plain(plain, place);
+    match detach_and_take(tape, place) {
+        Some(number) => {
+            test.expect("take_detached", wanted == Some(number));
+            (0, 1)
+        }
+        None => {
+            test.expect("nothing to detach", wanted.is_none());
+            (0, 0)
+        }
+    }
+}
+
+fn move_plain(plain: &mut Plain, from: usize, to: usize) {
+    let number = take_plain(plain, from);
+    if let Some(slot) = plain.get_mut(to) {
+        *slot = number;
+    }
+}
+
+fn move_both(
+    test: &Test,
+    tape: &mut Tape<usize, u8>,
+    plain: &mut Plain,
+    from: usize,
+    to: usize,
+) -> Counts
+    ensures moved { tape.new.moved ≡ tape.old.moved + result.0 }
+    ensures freed { tape.new.freed ≡ tape.old.freed + result.1 }
+{
+    let is_free = plain_can_move(plain, from, to);
+    if is_free {
+        move_plain(plain, from, to);
+    }
+    let is_moved = move_if_free(tape, from, to);
+    test.expect("move_down", is_moved == is_free);
+    if is_moved { (1, 0) } else { (0, 0) }
+}
+
+fn cut_plain(plain: &mut Plain) {
     let mut used = 0usize;
     for (place, slot) in plain.iter().enumerate() {
         if slot.is_some() {
@@ -59,31 +127,44 @@ fn cut_both(tape: &mut Tape<usize, u8>, plain: &mut Plain) {
     plain.truncate(used);
 }
 
-fn clear_both(tape: &mut Tape<usize, u8>, plain: &mut Plain) {
-    tape.clear();
-    plain.clear();
+fn cut_both(tape: &mut Tape<usize, u8>, plain: &mut Plain) -> Counts
+    ensures moved { tape.new.moved ≡ tape.old.moved + result.0 }
+    ensures freed { tape.new.freed ≡ tape.old.freed + result.1 }
+{
+    cut_plain(plain);
+    tape.cut_end();
+    (0, 0)
 }
 
-fn change_one(test: &Test, tape: &mut Tape<usize, u8>, plain: &mut Plain, random: u64) {
+fn clear_both(tape: &mut Tape<usize, u8>, plain: &mut Plain) -> Counts
+    ensures moved { tape.new.moved ≡ tape.old.moved + result.0 }
+    ensures freed { tape.new.freed ≡ tape.old.freed + result.1 }
+{
+    plain.clear();
+    let len = tape.len();
+    tape.clear();
+    (0, len)
+}
+
+fn change_one(test: &Test, tape: &mut Tape<usize, u8>, plain: &mut Plain, random: u64) -> Counts
+    ensures moved { tape.new.moved ≡ tape.old.moved + result.0 }
+    ensures freed { tape.new.freed ≡ tape.old.freed + result.1 }
+{
     let place = (random >> 40) as usize % 64;
     match (random >> 32) % 16 {
         0..=6 => push_both(test, tape, plain, place),
-        7..=8 => {
-            let removed = take(tape, place);
-            test.expect("remove", removed == take_plain(plain, place));
-        }
-        9..=10 => {
-            let taken = detach_and_take(tape, place);
-            test.expect("take_detached", taken == take_plain(plain, place));
-        }
+        7..=8 => remove_from_both(test, tape, plain, place),
+        9..=10 => detach_from_both(test, tape, plain, place),
         11..=13 => {
             let down = (random >> 50) as usize % 4;
-            move_both(test, tape, plain, place, place.saturating_sub(down));
+            move_both(test, tape, plain, place, place.saturating_sub(down))
         }
         14 => cut_both(tape, plain),
         _ => {
             if random >> 61 == 0 {
-                clear_both(tape, plain);
+                clear_both(tape, plain)
+            } else {
+                (0, 0)
             }
         }
     }
@@ -155,7 +236,7 @@ fn agrees_in_each_round(test: &Test, tape: &mut Tape<usize, u8>, plain: &mut Pla
         random = random
             .wrapping_mul(6_364_136_223_846_793_005)
             .wrapping_add(1_442_695_040_888_963_407);
-        change_one(test, tape, plain, random);
+        let _counts = change_one(test, tape, plain, random);
         agrees_forth(test, tape, plain);
         agrees_back(test, tape, plain);
     }
