@@ -9,7 +9,7 @@ use Rattle.multimap_slots.specs.declared.order.node.State.TheVariants.{Listed, F
 use Rattle.multimap_slots.specs.Lists.{IsIn, first_of, last_of, without}
 use Rattle.multimap_slots.specs.Paths.{after, IsPath, walk}
 use Rattle.multimap_slots.specs.ListLayout.{one_if_detached, count_detached, nexts, previouses, states, IsFreeList, IsOrdered, SetsNext, SetsPrevious, SetsDetached, Releases}
-use Rattle.multimap_slots.proofs.ListsLemmas.{Split, IsIn-left, IsIn-right, IsIn-was, IsIn-kept, AreDistinct-remove, without-split}
+use Rattle.multimap_slots.proofs.ListsLemmas.{Split, IsIn-left, IsIn-right, IsIn-was, IsIn-besides, AreDistinct-remove, without-split}
 use Rattle.multimap_slots.proofs.PathsLemmas.{last_or_in, path-agree, path-remove}
 use Rattle.multimap_slots.proofs.NodeLemmas.{length-states}
 use Rattle.multimap_slots.proofs.FreePlaces.{free-agree, free_here}
@@ -130,7 +130,7 @@ module _ {L : Type 0} where
         listed = λ p j. state_other p (differs_in p j) ∙ o.listed p (rw s.is (IsIn-was p s.front place s.back j));
         all_in = λ p e. elim (cases_eq p place) [
           | inl same ↦ absurd (unlisted (sym (marks-same m within_both) ∙ ap (λ x. get_or (states new) x Free) (sym same) ∙ e))
-          | inr differs ↦ IsIn-kept p s.front place s.back differs (rw s.is at (o.all_in p (sym (state_other p differs) ∙ e)))
+          | inr differs ↦ IsIn-besides p s.front place s.back differs (rw s.is at (o.all_in p (sym (state_other p differs) ∙ e)))
         ];
         counted = omega (arith, o.counted, longer, length-append s.front s.back);
         vacant = vacant';

@@ -59,8 +59,8 @@ module _ {X : Type 0} where
   IsIn-was x xs y ys i = elim (IsIn-append x xs ys i) [ inl a ↦ IsIn-left x xs (y ∷ ys) a | inr b ↦ IsIn-right x xs (y ∷ ys) (inr b) ]
 
   -- and every other item stays
-  pub IsIn-kept : (x : X) (xs : List X) (y : X) (ys : List X) → x ≢ y → IsIn x (xs ++ y ∷ ys) → IsIn x (xs ++ ys)
-  IsIn-kept x xs y ys differs i = elim (IsIn-append x xs (y ∷ ys) i) [
+  pub IsIn-besides : (x : X) (xs : List X) (y : X) (ys : List X) → x ≢ y → IsIn x (xs ++ y ∷ ys) → IsIn x (xs ++ ys)
+  IsIn-besides x xs y ys differs i = elim (IsIn-append x xs (y ∷ ys) i) [
     | inl a ↦ IsIn-left x xs ys a
     | inr b ↦ elim b [ inl e ↦ absurd (differs e) | inr c ↦ IsIn-right x xs ys c ]
   ]

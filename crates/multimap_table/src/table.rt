@@ -46,8 +46,7 @@ impl<A: Allocator> KeyTable<A> {
     pub fn len(&self) -> usize
         ensures { result ≡ map.len self.now.rows }
     {
-        let KeyTable { len, .. } = self;
-        *len
+        self.len
     }
 
     /// Whether the table has no row.
@@ -59,8 +58,8 @@ impl<A: Allocator> KeyTable<A> {
 
     /// How many rows fit without growing.
     pub fn capacity(&self) -> usize
-        ensures value { result ≡ self.now.capacity }
-        ensures load { map.len self.now.rows ≤ self.now.capacity }
+        ensures capacity { result ≡ self.now.capacity }
+        ensures fits { map.len self.now.rows ≤ self.now.capacity }
     {
         GROUP_LOAD * (self.tags.len() / LANES)
     }
@@ -112,7 +111,7 @@ impl<A: Allocator> KeyTable<A> {
 
     /// Takes all rows out. The capacity stays.
     pub fn clear(&mut self)
-        ensures rows { self.new.rows ≡ map.empty }
+        ensures empty { self.new.rows ≡ map.empty }
         ensures capacity { self.new.capacity ≡ self.old.capacity }
     {
         self.tags.fill(0);
@@ -123,20 +122,19 @@ impl<A: Allocator> KeyTable<A> {
 impl<A: Allocator + Copy> KeyTable<A> {
     /// An empty table, which takes no memory.
     pub fn new(alloc: A) -> KeyTable<A>
-        ensures rows { result.rows ≡ map.empty }
+        ensures empty { result.rows ≡ map.empty }
         ensures capacity { result.capacity ≡ 0 }
     {
-        let len = 0;
         KeyTable {
             tags: Vec::new(alloc),
             rows: Vec::new(alloc),
-            len,
+            len: 0,
         }
     }
 
     /// An empty table with room for `capacity` rows or more. `Err` where memory was refused.
     pub fn with_capacity(alloc: A, capacity: usize) -> Result<KeyTable<A>, AllocError>
-        ensures rows { IfOk result (λ table. table.rows ≡ map.empty) }
+        ensures empty { IfOk result (λ table. table.rows ≡ map.empty) }
         ensures room { IfOk result (λ table. capacity ≤ table.capacity) }
         ensures succeeds { capacity ≡ 0 → IsOk result }
     {
@@ -151,9 +149,9 @@ impl<A: Allocator + Copy> KeyTable<A> {
     /// `Err` where a growth was refused, or the rows would be too many for any memory. The rows and
     /// the capacity are then as before.
     pub fn reserve(&mut self, additional: usize) -> Result<(), AllocError>
-        ensures rows { self.new.rows ≡ self.old.rows }
-        ensures ok { OnOk result (map.len self.old.rows + additional ≤ self.new.capacity) }
-        ensures err { OnErr result (self.new.capacity ≡ self.old.capacity) }
+        ensures unchanged { self.new.rows ≡ self.old.rows }
+        ensures room { OnOk result (map.len self.old.rows + additional ≤ self.new.capacity) }
+        ensures refused { OnErr result (self.new.capacity ≡ self.old.capacity) }
         ensures capacity { self.old.capacity ≤ self.new.capacity }
         ensures succeeds { map.len self.old.rows + additional ≤ self.old.capacity → IsOk result }
         ensures had_room { map.len self.old.rows + additional ≤ self.old.capacity
@@ -182,7 +180,7 @@ impl<A: Allocator + Copy> KeyTable<A> {
     #[inline(never)]
     fn with_groups_for(alloc: A, capacity: usize) -> Result<KeyTable<A>, AllocError>
         requires { 0 < capacity }
-        ensures rows { IfOk result (λ table. table.rows ≡ map.empty) }
+        ensures empty { IfOk result (λ table. table.rows ≡ map.empty) }
         ensures room { IfOk result (λ table. capacity ≤ table.capacity) }
     {
         if GROUP_LOAD * MAX_GROUPS < capacity {

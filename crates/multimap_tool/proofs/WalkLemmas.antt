@@ -5,7 +5,7 @@ use Rattle.std.proofs.lemmas.List.{append_assoc, append-nil, drop_more, drop_all
 use Rattle.std.specs.Bool.{IsTrue}
 use Rattle.multimap_walks.specs.declared.End.{End}
 use Rattle.ordered_multimap.specs.Pairs.{has_items}
-use Rattle.multimap_walks.specs.Walk.{item_at, rest_at, answers_of_walk, forward}
+use Rattle.multimap_walks.specs.Walk.{end_item, end_rest, answers_of_walk, forward}
 use Rattle.multimap_tool.specs.Step.{ListsItem}
 
 module _ {X : Type 0} where
@@ -27,7 +27,7 @@ module _ {X : Type 0} where
   -- one letter more
   pub word_on : (items : List X) (word : List End) (taken all : List (Option X)) (i : ℕ) (end : End) → i < length word
       → taken ++ answers_of_walk items (drop i word) ≡ all
-      → (taken ++ item_at (get_or word i end) items ∷ []) ++ answers_of_walk (rest_at (get_or word i end) items) (drop (i + 1) word) ≡ all
+      → (taken ++ end_item (get_or word i end) items ∷ []) ++ answers_of_walk (end_rest (get_or word i end) items) (drop (i + 1) word) ≡ all
   word_on items word taken all i end inside so_far =
       append_assoc taken _ _ ∙ ap (λ rest. taken ++ answers_of_walk items rest) (sym (drop_more word i end inside)) ∙ so_far
 

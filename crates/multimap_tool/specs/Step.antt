@@ -2,7 +2,7 @@
 use Rattle.std.specs.Prelude.{◌≡◌, ◌⊎◌, Bool, List, length, IsTrue, Option, slice_get}
 use Rattle.multimap_walks.specs.declared.End.{End}
 use Rattle.multimap_walks.specs.declared.End.TheVariants as ends
-use Rattle.multimap_walks.specs.Walk.{item_at, answers_of_walk, forward}
+use Rattle.multimap_walks.specs.Walk.{end_item, answers_of_walk, forward}
 use Rattle.ordered_multimap.specs.Lists.{Lists}
 use Rattle.ordered_multimap.specs.Pairs.{has_items, values_of, is_present}
 use Rattle.ordered_multimap.specs.Changes.{appended}
@@ -39,8 +39,8 @@ module _ {K : Type 0} (eq : K → K → Bool) {V A : Type 0} where
   Tells (All k ends) m (replies.Values values) = values.items ≡ walked (values_of eq m.pairs k) ends
   Tells (Has k) m (replies.Truth present) = present ≡ is_present eq m.pairs k
   Tells (Len k) m (replies.Count count) = count ≡ length (values_of eq m.pairs k)
-  Tells Front m (replies.Pair pair) = pair ≡ item_at ends.Front m.pairs
-  Tells Back m (replies.Pair pair) = pair ≡ item_at ends.Back m.pairs
+  Tells Front m (replies.Pair pair) = pair ≡ end_item ends.Front m.pairs
+  Tells Back m (replies.Pair pair) = pair ≡ end_item ends.Back m.pairs
   Tells (Pairs ends) m (replies.Pairs pairs) = pairs.items ≡ walked m.pairs ends
   Tells Lengths m (replies.Counts keys pairs) = (keys ≡ length m.keys) × (pairs ≡ length m.pairs)
   Tells _ m _ = ⊥

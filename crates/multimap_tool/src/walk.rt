@@ -11,7 +11,7 @@ use std::alloc::{AllocError, Allocator};
 /// A walk from both ends whose items are copied.
 pub(crate) trait Copied: Drop {
     ghost use Rattle.std.specs.Prelude.{◌≡◌, List, length};
-    ghost use Rattle.multimap_walks.specs.Walk.{item_at, rest_at};
+    ghost use Rattle.multimap_walks.specs.Walk.{end_item, end_rest};
 
     /// A copied item.
     type Item;
@@ -25,8 +25,8 @@ pub(crate) trait Copied: Drop {
 
     /// Takes the item at the end.
     fn take(&mut self, end: End) -> Option<Self::Item>
-        ensures item { result ≡ item_at end (left self.old) }
-        ensures rest { left self.new ≡ rest_at end (left self.old) };
+        ensures item { result ≡ end_item end (left self.old) }
+        ensures rest { left self.new ≡ end_rest end (left self.old) };
 }
 
 impl<'map, K, V: Copy, A: Allocator> Copied for EntryValues<'map, K, V, A> {

@@ -4,11 +4,11 @@ use Rattle.std.specs.Prelude.{IsSome, option_and_then, option_map}
 use Rattle.std.specs.List.{filter_map, cons_option}
 use Rattle.std.proofs.lemmas.Bool.Decides.{Decides-eqb}
 use Rattle.multimap_slots.specs.Lists.{IsIn, AreDistinct, first_of, last_of, next_of, previous_of}
-use Rattle.multimap_slots.specs.Slots.{Slots, item_at, link_at, IsSound}
+use Rattle.multimap_slots.specs.Slots.{HasLink, Slots, item_at, link_at, IsSound}
 use Rattle.multimap_slots.proofs.ListsLemmas.{IsIn-left, IsIn-right}
 use Rattle.multimap_walks.specs.declared.links.KeyLink.{KeyLink}
 use Rattle.multimap_walks.specs.declared.links.ValueLink.{ValueLink}
-use Rattle.multimap_walks.specs.Chained.{is_value_of, chain_of, values_at, key_of, pair_at, pairs_of, IsChained, HasKeyLink}
+use Rattle.multimap_walks.specs.Chained.{is_value_of, chain_of, values_at, key_of, pair_at, pairs_of, IsChained}
 use Rattle.multimap_walks.specs.Left.{places_left, IsLeft, IsWalk}
 use Rattle.multimap_walks.proofs.LeftLemmas.{left_is, left_all, left_none, left_whole, all_is, whole_is, front_in, back_in, FrontStep, BackStep, step_front, step_back}
 
@@ -189,7 +189,7 @@ module _ {K V : Type 0} (keys : Slots K KeyLink) (values : Slots V ValueLink) (k
       ∙ ap length (left_is (chain_of values key) front back n walk.left) ∙ walk.left.count
 
   -- a walk over the values of a listed key begins with all of them
-  pub values_whole : (l : KeyLink) → IsSound keys → IsSound values → IsChained keys values → HasKeyLink keys key l → IsWalk keys values (chain_of values key) l.head l.tail l.length
+  pub values_whole : (l : KeyLink) → IsSound keys → IsSound values → IsChained keys values → HasLink keys key l → IsWalk keys values (chain_of values key) l.head l.tail l.length
   values_whole l sound_keys sound_values chained has = record {
     sound_keys = sound_keys;
     sound_values = sound_values;
@@ -207,7 +207,7 @@ module _ {K V : Type 0} (keys : Slots K KeyLink) (values : Slots V ValueLink) (k
     left = left_none (chain_of values key) 0 0 (AreDistinct-filter (is_value_of values key) values.order sound_values.distinct);
   }
 
-  pub values_shown : (l : KeyLink) → IsSound values → IsChained keys values → HasKeyLink keys key l → values_at values (places_left (chain_of values key) l.head l.length) ≡ values_at values (chain_of values key)
+  pub values_shown : (l : KeyLink) → IsSound values → IsChained keys values → HasLink keys key l → values_at values (places_left (chain_of values key) l.head l.length) ≡ values_at values (chain_of values key)
   values_shown l sound chained has =
       ap (λ n. values_at values (places_left (chain_of values key) l.head n)) (sym (chained.length key l has.listed has.link_is))
       ∙ ap (values_at values) (all_is (chain_of values key) l.head l.tail (AreDistinct-filter (is_value_of values key) values.order sound.distinct)

@@ -40,8 +40,3 @@ module _ {K V : Type 0} (keys : Slots K KeyLink) (values : Slots V ValueLink) wh
     pub length : (key : ℕ) (l : KeyLink) → IsIn key keys.order → link_at keys key ≡ Some l → length (chain_of values key) ≡ l.length
     pub previous : (place : ℕ) (l : ValueLink) → IsIn place values.order → link_at values place ≡ Some l → previous_of (chain_of values l.key) place ≡ l.previous
     pub next : (place : ℕ) (l : ValueLink) → IsIn place values.order → link_at values place ≡ Some l → next_of (chain_of values l.key) place ≡ l.next
-
--- the key at a listed place has this link
-pub record HasKeyLink {K : Type 0} (keys : Slots K KeyLink) (place : ℕ) (link : KeyLink) : Type 0 where
-  pub listed : IsIn place keys.order
-  pub link_is : link_at keys place ≡ Some link

@@ -2,9 +2,9 @@
 ghost use Rattle.std.specs.Prelude.{◌≡◌, Some, None, [], length, IfSome, MatchOption, ⊤};
 ghost use Rattle.std.specs.Iterator.{at_most, UpTo};
 ghost use Rattle.std.specs.Iterator.SizeHint.{IsWithinCount};
-ghost use Rattle.multimap_slots.specs.Slots.{link_at};
+ghost use Rattle.multimap_slots.specs.Slots.{HasLink, link_at};
 ghost use Rattle.multimap_slots.specs.Lists.{IsIn};
-ghost use Rattle.multimap_walks.specs.Chained.{IsChained, chain_of, values_at, HasKeyLink};
+ghost use Rattle.multimap_walks.specs.Chained.{IsChained, chain_of, values_at};
 ghost use Rattle.multimap_walks.specs.ChainWalk.{GivesFirst, GivesLast};
 
 use crate::links::{KeyLink, ValueLink};
@@ -53,7 +53,7 @@ impl<'map, K, V, A: Allocator> EntryValues<'map, K, V, A> {
         key: Option<(usize, KeyLink)>,
     ) -> Self
         requires chained { IsChained keys.now values.now.list }
-        requires listed { MatchOption key ⊤ (λ k. HasKeyLink keys.now k.0 k.1) }
+        requires listed { MatchOption key ⊤ (λ k. HasLink keys.now k.0 k.1) }
         ensures values { MatchOption key (result.left ≡ [])
             (λ k. result.left ≡ values_at values.now.list (chain_of values.now.list k.0)) }
         ensures reads { result.reads ≡ 0 }

@@ -244,9 +244,9 @@ module _ {K V : Type 0} {eq : K → K → Bool} (laws : IsEquivalence eq) {hash 
         key v done.place h unlisted hash_is done.fits done.row done.same_room done.only
 
     pub first_agrees : {X E : Type 0} (r : Result X E) → OnOk r (AppendsFirst keys keys_after rows rows_after values values_after h key v)
-        → OnErr r (AreRenamed keys keys_after values values_after) → OnErr r (rows_after ≡ rows) → Agrees eq hash keys_after rows_after values_after
-    first_agrees (Ok x) done renamed same_rows = (first done).agrees
-    first_agrees (Err e) done renamed same_rows = subst (λ m. Agrees eq hash keys_after m values_after) (sym same_rows) (agrees_reserved laws agrees renamed)
+        → OnErr r (AreRenamed keys keys_after values values_after × (rows_after ≡ rows)) → Agrees eq hash keys_after rows_after values_after
+    first_agrees (Ok x) done kept = (first done).agrees
+    first_agrees (Err e) done kept = subst (λ m. Agrees eq hash keys_after m values_after) (sym kept.1) (agrees_reserved laws agrees kept.0)
 
     pub first_lists : {X E : Type 0} (r : Result X E) → OnOk r (AppendsFirst keys keys_after rows rows_after values values_after h key v)
         → OnOk r (lists_of keys_after values_after ≡ appended eq (lists_of keys values) key v)

@@ -5,7 +5,7 @@ use Rattle.std.proofs.lemmas.List.Elements.{filter-append}
 use Rattle.std.specs.Map.{keys_of}
 use Rattle.std.specs.Cmp.{IsEquivalence}
 use Rattle.multimap_walks.specs.declared.End.TheVariants.{Back}
-use Rattle.multimap_walks.specs.Walk.{item_at, rest_at}
+use Rattle.multimap_walks.specs.Walk.{end_item, end_rest}
 use Rattle.multimap_slots.specs.Lists.{IsIn}
 use Rattle.ordered_multimap.specs.Lists.{Lists, lists, IsWellFormed}
 use Rattle.ordered_multimap.specs.Pairs.{has_items, is_present}
@@ -30,11 +30,11 @@ module _ {X : Type 0} where
   length-push xs x = omega (arith, length-append xs (x ∷ []))
 
   -- the last item, and the list without it
-  pub item_at-push : (xs : List X) (x : X) → item_at Back (xs ++ x ∷ []) ≡ Some x
-  item_at-push xs x = ap (slice_get (xs ++ x ∷ [])) (length-push xs x) ∙ slice_get-push xs x
+  pub end_item-push : (xs : List X) (x : X) → end_item Back (xs ++ x ∷ []) ≡ Some x
+  end_item-push xs x = ap (slice_get (xs ++ x ∷ [])) (length-push xs x) ∙ slice_get-push xs x
 
-  rest_at-push : (xs : List X) (x : X) → rest_at Back (xs ++ x ∷ []) ≡ xs
-  rest_at-push xs x = ap (λ n. take n (xs ++ x ∷ [])) (length-push xs x) ∙ take_at xs (x ∷ []) (length xs) refl
+  end_rest-push : (xs : List X) (x : X) → end_rest Back (xs ++ x ∷ []) ≡ xs
+  end_rest-push xs x = ap (λ n. take n (xs ++ x ∷ [])) (length-push xs x) ∙ take_at xs (x ∷ []) (length xs) refl
 
 module _ {K V : Type 0} {eq : K → K → Bool} (laws : IsEquivalence eq) where
   -- the keys that the old pairs name, once a key came
@@ -63,8 +63,8 @@ module _ {K V : Type 0} {eq : K → K → Bool} (laws : IsEquivalence eq) where
   pop_undoes_append m k v formed =
       let last : K × V = (stored_key eq m.keys k, v) in
       record {
-        lists_again = rw (has_items-push m.pairs last, rest_at-push m.pairs last) (ap (λ keys. lists keys m.pairs) (keys_named_by-keys_with m k formed));
-        answer = rw (item_at-push m.pairs last, rest_at-push m.pairs last, is_listed-stored_key m k formed) refl;
+        lists_again = rw (has_items-push m.pairs last, end_rest-push m.pairs last) (ap (λ keys. lists keys m.pairs) (keys_named_by-keys_with m k formed));
+        answer = rw (end_item-push m.pairs last, end_rest-push m.pairs last, is_listed-stored_key m k formed) refl;
       }
 
 -- first occurrences as one more pair comes

@@ -1,5 +1,5 @@
 -- Look-ups by key, and the ends of the pairs.
-use Rattle.std.proofs.Common.{option_map, ◌≡◌, ◌≢◌, ◌⊎◌, ◌==◌, ℕ, Bool, true, false, cond, List, [], ◌∷◌, length, filter, map, slice_get, Option, Some, None, refl, sym, ap, ◌∙◌, subst, inl, inr, true≢false}
+use Rattle.std.proofs.Common.{option_map, is_some, IfSome, IfNone, ◌≡◌, ◌≢◌, ◌⊎◌, ◌==◌, ℕ, Bool, true, false, cond, List, [], ◌∷◌, length, filter, map, slice_get, Option, Some, None, refl, sym, ap, ◌∙◌, subst, inl, inr, true≢false}
 use Rattle.std.proofs.lemmas.Bool.{cases_eq, eq-eqb, ne_eqb}
 use Rattle.std.specs.List.{filter_map, cons_option, IsDistinct, AllByRecursion}
 use Rattle.std.specs.Cmp.{IsEquivalence}
@@ -11,15 +11,15 @@ use Rattle.multimap_slots.specs.Lists.{IsIn}
 use Rattle.multimap_slots.specs.Slots.{Slots, item_at, link_at}
 use Rattle.multimap_walks.specs.declared.links.KeyLink.{KeyLink}
 use Rattle.multimap_walks.specs.declared.links.ValueLink.{ValueLink}
-use Rattle.multimap_walks.specs.Walk.{item_at as end_of}
+use Rattle.multimap_walks.specs.Walk.{end_item}
 use Rattle.multimap_walks.specs.declared.End.TheVariants.{Front, Back}
 use Rattle.multimap_walks.specs.Chained.{is_value_of, chain_of, values_at, pair_at, pairs_of}
 use Rattle.ordered_multimap.specs.Pairs.{has_items, values_of, is_present}
 use Rattle.ordered_multimap.specs.Keys.{is_listed, stored_key}
-use Rattle.ordered_multimap.specs.Agrees.{Agrees, HasKey, IsFoundBy, items_of, lists_of}
+use Rattle.ordered_multimap.specs.Agrees.{Agrees, AreKeyed, HasKey, IsFoundBy, items_of, lists_of}
 use Rattle.ordered_multimap.proofs.Members.{IsIn-kept}
 use Rattle.ordered_multimap.proofs.PlaceLemmas.{held, length-filter_map, IsIn-filter_map, origin, begins}
-use Rattle.ordered_multimap.proofs.LawLemmas.{item_at-push}
+use Rattle.ordered_multimap.proofs.LawLemmas.{end_item-push}
 use Rattle.ordered_multimap.proofs.KeyLemmas.{is_listed-member, stored_key_member}
 use Rattle.ordered_multimap.proofs.WellFormedLemmas.{is_present-keys}
 use Rattle.ordered_multimap.proofs.AgreesLemmas.{PairAt, pair_in, is_value_of-is, well_formed}
@@ -60,14 +60,19 @@ module _ {K : Type 0} {eq : K → K → Bool} (laws : IsEquivalence eq) where
       let rest : IsDistinct eq (filter_map (item_at keys) ps) = elim (item_at keys r) as P [ None ↦ λ d. d | Some i ↦ λ d. d.1 ] distinct in
       same_place keys ps rest p q j k p_in q_in p_is q_is equal
 
+-- equal keys with equal hashes are found by their hash
+pub found_by : {K : Type 0} {eq : K → K → Bool} {hash : K → ℕ} {keys : Slots K KeyLink} {rows : FinMap nat_cmp ℕ} → AreKeyed eq hash keys rows
+    → ((x y : K) → eq x y ≡ true → hash x ≡ hash y) → (k : K) → IsFoundBy eq keys rows k (hash k)
+found_by {keys = keys} keyed alike k = record {
+  places = keyed.listed;
+  hashed = λ place j listed item equal.
+      let l = held (link_at keys place) (keyed.sound.linked place listed) in
+      keyed.in_table place l.value listed l.is ∙ ap Some (keyed.hashed place j l.value listed item l.is ∙ sym (alike k j equal));
+}
+
 module _ {K V : Type 0} {eq : K → K → Bool} (laws : IsEquivalence eq) {hash : K → ℕ} {keys : Slots K KeyLink} {rows : FinMap nat_cmp ℕ} {values : Slots V ValueLink} (agrees : Agrees eq hash keys rows values) where
-  pub found_by : ((x y : K) → eq x y ≡ true → hash x ≡ hash y) → (k : K) → IsFoundBy eq keys rows k (hash k)
-  found_by alike k = record {
-    places = agrees.listed;
-    hashed = λ place j listed item equal.
-        let l = held (link_at keys place) (agrees.keys_sound.linked place listed) in
-        agrees.in_table place l.value listed l.is ∙ ap Some (agrees.hashed place j l.value listed item l.is ∙ sym (alike k j equal));
-  }
+  pub keyed : AreKeyed eq hash keys rows
+  keyed = record { sound = agrees.keys_sound; hashed = agrees.hashed; in_table = agrees.in_table; listed = agrees.listed }
 
   -- whether the key is present
   pub present_if_found : (k : K) (place : ℕ) → HasKey eq keys k place → is_present eq (pairs_of keys values) k ≡ true
@@ -77,6 +82,10 @@ module _ {K V : Type 0} {eq : K → K → Bool} (laws : IsEquivalence eq) {hash 
 
   pub absent_if_unlisted : (k : K) → is_listed eq (items_of keys) k ≡ false → is_present eq (pairs_of keys values) k ≡ false
   absent_if_unlisted k none = is_present-keys laws (lists_of keys values) k (well_formed agrees) ∙ none
+
+  pub present_as_found : (k : K) (o : Option ℕ) → IfSome o (HasKey eq keys k) → IfNone o (is_listed eq (items_of keys) k ≡ false) → is_some o ≡ is_present eq (pairs_of keys values) k
+  present_as_found k None found unlisted = sym (absent_if_unlisted k unlisted)
+  present_as_found k (Some place) found unlisted = sym (present_if_found k place found)
 
   pub no_value : (k : K) → is_listed eq (items_of keys) k ≡ false → values_of eq (pairs_of keys values) k ≡ []
   no_value k none = empty (values_of eq (pairs_of keys values) k) (absent_if_unlisted k none)
@@ -142,10 +151,10 @@ module _ {K V : Type 0} {eq : K → K → Bool} (laws : IsEquivalence eq) {hash 
 
 -- what a step of a walk over pairs takes is the item at that end of what was left
 module _ {K V : Type 0} (s t : List (K × V)) where
-  pub first_of_walk : (r : Option (Bor K × Bor V)) → TakesFirst deref_pair s r t → option_map deref_pair r ≡ end_of Front s
-  first_of_walk None taken = sym (ap (end_of Front) taken.0)
-  first_of_walk (Some x) taken = sym (ap (end_of Front) taken)
+  pub first_of_walk : (r : Option (Bor K × Bor V)) → TakesFirst deref_pair s r t → option_map deref_pair r ≡ end_item Front s
+  first_of_walk None taken = sym (ap (end_item Front) taken.0)
+  first_of_walk (Some x) taken = sym (ap (end_item Front) taken)
 
-  pub last_of_walk : (r : Option (Bor K × Bor V)) → TakesLast deref_pair s r t → option_map deref_pair r ≡ end_of Back s
-  last_of_walk None taken = sym (ap (end_of Back) taken.0)
-  last_of_walk (Some x) taken = sym (ap (end_of Back) taken ∙ item_at-push t (deref_pair x))
+  pub last_of_walk : (r : Option (Bor K × Bor V)) → TakesLast deref_pair s r t → option_map deref_pair r ≡ end_item Back s
+  last_of_walk None taken = sym (ap (end_item Back) taken.0)
+  last_of_walk (Some x) taken = sym (ap (end_item Back) taken ∙ end_item-push t (deref_pair x))

@@ -1,12 +1,33 @@
 -- What an append does to the slots. No public clause cites this module.
-use Rattle.std.specs.Prelude.{◌≡◌, ◌≢◌, ◌+◌, ℕ, [], ◌∷◌, ◌++◌, Option, Some, None}
+use Rattle.std.specs.Prelude.{◌≡◌, ◌≢◌, ◌+◌, ◌≤◌, ℕ, [], ◌∷◌, ◌++◌, Option, Some, None}
 use Rattle.std.specs.Ordering.{nat_cmp}
-use Rattle.std.specs.FinMap.{FinMap, get, insert}
+use Rattle.std.specs.FinMap.{FinMap, get, insert, len}
 use Rattle.multimap_slots.specs.Lists.{IsIn}
 use Rattle.multimap_slots.specs.Slots.{Slots, IsSound, HasRoomFor, PushesBack, item_at, link_at, with_link}
 use Rattle.multimap_walks.specs.declared.links.KeyLink.{KeyLink}
 use Rattle.multimap_walks.specs.declared.links.ValueLink.{ValueLink}
+use Rattle.multimap_slots.specs.Tapes.{Taped, HasTapeRoomFor}
 use Rattle.ordered_multimap.specs.Renames.{AreRenamed}
+use Rattle.ordered_multimap.specs.TapeNumbers.{TakesOut, numbers_of}
+
+-- no less room than before, and the same where one more of so many fits
+pub record GrowsIfFull (count old new : ℕ) : Type 0 where
+  pub no_less : old ≤ new
+  pub had_room : count + 1 ≤ old → new ≡ old
+
+-- the tape has no fewer slots than before, and as many where one more value fits; no value left it
+pub record MakesRoom {V : Type 0} (old new : Taped V ValueLink) : Type 0 where
+  pub fits : HasTapeRoomFor old 0 → HasTapeRoomFor new 0
+  pub taken : TakesOut 0 (numbers_of old) (numbers_of new)
+  pub no_less : old.list.capacity ≤ new.list.capacity
+  pub had_room : HasTapeRoomFor old 1 → new.list.capacity ≡ old.list.capacity
+
+-- one more key, its row and its first value fit
+pub record FitsOneMore {K V : Type 0} (keys : Slots K KeyLink) (rows : FinMap nat_cmp ℕ)
+    (row_capacity : ℕ) (values : Taped V ValueLink) : Type 0 where
+  pub key : HasRoomFor keys 1
+  pub row : len rows + 1 ≤ row_capacity
+  pub value : HasTapeRoomFor values 1
 
 -- the key is listed at the place with this link, and each other key as before
 pub record SetsKey {K : Type 0} (old new : Slots K KeyLink) (place : ℕ) (k : K) (link : KeyLink) : Type 0 where

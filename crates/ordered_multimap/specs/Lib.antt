@@ -9,4 +9,5 @@ pub mod Pairs
 pub mod Pop
 pub mod Renames
 pub mod Retain
+pub mod Rooms
 pub mod TapeNumbers

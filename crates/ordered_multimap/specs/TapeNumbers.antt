@@ -20,6 +20,12 @@ numbers_of t = record {
   holes = t.holes;
 }
 
+-- nothing was moved and nothing taken out yet, and there is no hole
+pub record AreUnused (n : TapeNumbers) : Type 0 where
+  pub moved : n.moved ≡ 0
+  pub freed : n.freed ≡ 0
+  pub holes : n.holes ≡ 0
+
 -- so many pairs were taken out, and they pay for the holes that came and for the slots that were moved
 pub record TakesOut (pairs : ℕ) (old new : TapeNumbers) : Type 0 where
   pub freed : new.freed ≡ old.freed + pairs

@@ -1,7 +1,7 @@
 //! The map: its fields, what contracts see of it, constructors and sizes.
 ghost use Rattle.std.specs.Prelude.{◌≡◌, ◌≤◌, ◌/◌, ◌↔◌, [], length, IsTrue, IfOk, IsOk};
 ghost use Rattle.ordered_multimap.specs.Lists.{IsWellFormed, empty_lists};
-ghost use Rattle.ordered_multimap.specs.TapeNumbers.{ArePaid};
+ghost use Rattle.ordered_multimap.specs.TapeNumbers.{ArePaid, AreUnused};
 
 mod append;
 mod compact;
@@ -76,6 +76,7 @@ impl<K: Eq + Hash, V, A: Allocator + Copy> ListOrderedMultimap<K, V, DefaultStat
     /// An empty map with the default hash builder, which takes no memory.
     pub fn new(alloc: A) -> Self
         ensures empty { result.lists ≡ empty_lists }
+        ensures unused { AreUnused result.tape }
     {
         ListOrderedMultimap::with_hasher(alloc, BuildHasherDefault::new())
     }
@@ -93,6 +94,7 @@ impl<K: Eq + Hash, V, A: Allocator + Copy> ListOrderedMultimap<K, V, DefaultStat
         ensures empty { IfOk result (λ m. m.lists ≡ empty_lists) }
         ensures key_room { IfOk result (λ m. key_capacity ≤ m.key_room) }
         ensures value_room { IfOk result (λ m. value_capacity ≤ m.value_room) }
+        ensures unused { IfOk result (λ m. AreUnused m.tape) }
         ensures succeeds { key_capacity ≡ 0 → value_capacity ≡ 0 → IsOk result }
     {
         let state = BuildHasherDefault::new();
@@ -105,6 +107,7 @@ impl<K: Eq + Hash, V, S: BuildHasher, A: Allocator + Copy> ListOrderedMultimap<K
     pub fn with_hasher(alloc: A, state: S) -> Self
         ensures empty { result.lists ≡ empty_lists }
         ensures hasher { result.hasher ≡ state }
+        ensures unused { AreUnused result.tape }
     {
         ListOrderedMultimap {
             state,
@@ -130,6 +133,7 @@ impl<K: Eq + Hash, V, S: BuildHasher, A: Allocator + Copy> ListOrderedMultimap<K
         ensures hasher { IfOk result (λ m. m.hasher ≡ state) }
         ensures key_room { IfOk result (λ m. key_capacity ≤ m.key_room) }
         ensures value_room { IfOk result (λ m. value_capacity ≤ m.value_room) }
+        ensures unused { IfOk result (λ m. AreUnused m.tape) }
         ensures succeeds { key_capacity ≡ 0 → value_capacity ≡ 0 → IsOk result }
     {
         let keys = SlotList::with_capacity(alloc, key_capacity)?;
@@ -177,7 +181,8 @@ impl<K: Eq + Hash, V, S: BuildHasher, A: Allocator> ListOrderedMultimap<K, V, S,
 
     /// How many keys fit before the map must grow: no more than the table has room for.
     pub fn keys_capacity(&self) -> usize
-        ensures { result ≡ self.now.key_room }
+        ensures capacity { result ≡ self.now.key_room }
+        ensures fits { length self.now.lists.keys ≤ self.now.key_room }
     {
         self.keys.capacity().min(self.table.capacity())
     }

@@ -32,7 +32,7 @@ impl<T, L: Copy, A: Allocator> SlotList<T, L, A> {
     /// A refusal is want of memory, or a number of items past the greatest `usize`. Where the list
     /// grows, its items and links are moved to new memory, and keep their places.
     pub fn reserve(&mut self, additional: usize) -> Result<(), AllocError>
-        ensures ok { OnOk result (HasRoomFor self.new additional) }
+        ensures room { OnOk result (HasRoomFor self.new additional) }
         ensures unchanged { KeepsItems self.old self.new }
 
         // Where there is room already, nothing grows and nothing is refused.
@@ -50,7 +50,7 @@ impl<T, L: Copy, A: Allocator> SlotList<T, L, A> {
     #[inline(never)]
     fn grow(&mut self, additional: usize) -> Result<(), AllocError>
         requires { self.old.capacity < length self.old.order + additional }
-        ensures ok { OnOk result (HasRoomFor self.new additional) }
+        ensures room { OnOk result (HasRoomFor self.new additional) }
         ensures unchanged { KeepsItems self.old self.new }
         ensures capacity { self.old.capacity ≤ self.new.capacity }
     {
@@ -64,7 +64,7 @@ impl<T, L: Copy, A: Allocator> SlotList<T, L, A> {
     pub fn push_back(&mut self, item: T, link: L) -> Result<usize, T>
         ensures pushed { IfOk result (λ place. PushesBack self.old self.new place item link) }
         ensures unchanged { OnErr result (KeepsItems self.old self.new) }
-        ensures value_returned { IfErr result (λ returned. returned ≡ item) }
+        ensures refused { IfErr result (λ returned. returned ≡ item) }
 
         // Where there is room, nothing grows and nothing is refused.
         ensures succeeds { HasRoomFor self.old 1 → IsOk result }

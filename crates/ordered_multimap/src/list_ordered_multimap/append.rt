@@ -1,15 +1,16 @@
 //! Pairs that come last.
-ghost use Rattle.std.specs.Prelude.{◌≡◌, ◌≤◌, ◌<◌, ◌+◌, true, false, length, IfOk, IfErr, OnOk, OnErr, IsOk, IsTrue};
+ghost use Rattle.std.specs.Prelude.{◌≡◌, true, false, length, IfOk, IfErr, OnOk, OnErr, IsOk};
 ghost use Rattle.std.specs.FinMap.{len};
 ghost use Rattle.multimap_slots.specs.Lists.{IsIn};
-ghost use Rattle.multimap_slots.specs.Slots.{IsSound, HasRoomFor};
+ghost use Rattle.multimap_slots.specs.Slots.{IsSound};
 ghost use Rattle.multimap_slots.specs.Tapes.{HasTapeRoomFor};
 ghost use Rattle.multimap_walks.specs.Chained.{IsChained};
-ghost use Rattle.ordered_multimap.specs.Appends.{AppendsBehind, AppendsFirst, HasListedRows};
+ghost use Rattle.ordered_multimap.specs.Appends.{AppendsBehind, AppendsFirst, HasListedRows, GrowsIfFull, MakesRoom, FitsOneMore};
 ghost use Rattle.ordered_multimap.specs.Renames.{AreRenamed};
-ghost use Rattle.ordered_multimap.specs.TapeNumbers.{TakesOut, numbers_of};
+ghost use Rattle.ordered_multimap.specs.TapeNumbers.{TakesOut};
 ghost use Rattle.ordered_multimap.specs.Pairs.{is_present};
 ghost use Rattle.ordered_multimap.specs.Changes.{appended};
+ghost use Rattle.ordered_multimap.specs.Rooms.{HasPairRoom, KeepsRooms, RaisesNoRoom};
 
 use super::lookup::place_of;
 use super::room::{make_room, make_value_room};
@@ -37,29 +38,12 @@ impl<K: Eq + Hash, V, S: BuildHasher, A: Allocator + Copy> ListOrderedMultimap<K
         ensures present { IfOk result (λ present.
             present ≡ is_present K.eq self.old.lists.pairs key) }
         ensures ok { OnOk result (self.new.lists ≡ appended K.eq self.old.lists key value) }
-        ensures err { OnErr result (self.new.lists ≡ self.old.lists) }
-        ensures key_returned { IfErr result (λ refused. refused.key ≡ key) }
-        ensures value_returned { IfErr result (λ refused. refused.value ≡ value) }
-
-        // Where there is room, nothing is refused. A present key wants room for the value alone.
-        ensures succeeds { length self.old.lists.keys < self.old.key_room
-            → length self.old.lists.pairs < self.old.value_room → IsOk result }
-        ensures succeeds_present { IsTrue (is_present K.eq self.old.lists.pairs key)
-            → length self.old.lists.pairs < self.old.value_room → IsOk result }
-
-        // No capacity falls, and where there is room, none rises.
-        ensures key_room { self.old.key_room ≤ self.new.key_room }
-        ensures value_room { self.old.value_room ≤ self.new.value_room }
-        ensures had_key_room { length self.old.lists.keys < self.old.key_room
-            → self.new.key_room ≡ self.old.key_room }
-        ensures had_value_room { length self.old.lists.pairs < self.old.value_room
-            → self.new.value_room ≡ self.old.value_room }
-        ensures present_keeps_key_room { IsTrue (is_present K.eq self.old.lists.pairs key)
-            → self.new.key_room ≡ self.old.key_room }
-        ensures had_slots { length self.old.lists.pairs < self.old.value_room
-            → self.new.tape.slots ≡ self.old.tape.slots }
+        ensures unchanged { OnErr result (self.new.lists ≡ self.old.lists) }
+        ensures refused { IfErr result (λ pair. pair ≡ record { key = key; value = value }) }
+        ensures succeeds { HasPairRoom K.eq self.old key → IsOk result }
+        ensures rooms { KeepsRooms self.old self.new }
+        ensures had_room { RaisesNoRoom K.eq key self.old self.new }
         ensures taken { TakesOut 0 self.old.tape self.new.tape }
-        ensures hasher { self.new.hasher ≡ self.old.hasher }
     {
         let hash = self.state.hash_one(&key);
         match place_of(&self.keys, &self.table, hash, &key) {
@@ -87,22 +71,15 @@ fn append_behind<K: Drop, V: Drop, A: Allocator>(
     requires listed { IsIn place keys.old.order }
     requires keys_sound { IsSound keys.old }
     requires chained { IsChained keys.old values.old.list }
-    requires fits { HasTapeRoomFor values.old 0 }
     ensures present { IfOk result (λ present. present ≡ true) }
     ensures ok { OnOk result (AppendsBehind keys.old keys.new
         values.old.list values.new.list place value) }
-    ensures err { OnErr result (AreRenamed keys.old keys.new values.old.list values.new.list) }
-    ensures key_returned { IfErr result (λ refused. refused.key ≡ key) }
-    ensures value_returned { IfErr result (λ refused. refused.value ≡ value) }
-    ensures fits { HasTapeRoomFor values.new 0 }
-    ensures taken { TakesOut 0 (numbers_of values.old) (numbers_of values.new) }
-
-    // Where there is room, nothing grows and nothing is refused.
+    ensures unchanged { OnErr result (AreRenamed keys.old keys.new
+        values.old.list values.new.list) }
+    ensures refused { IfErr result (λ pair. pair ≡ record { key = key; value = value }) }
     ensures succeeds { HasTapeRoomFor values.old 1 → IsOk result }
-    ensures had_room { HasTapeRoomFor values.old 1
-        → values.new.list.capacity ≡ values.old.list.capacity }
-    ensures values_capacity { values.old.list.capacity ≤ values.new.list.capacity }
     ensures keys_capacity { keys.new.capacity ≡ keys.old.capacity }
+    ensures values { MakesRoom values.old values.new }
 {
     if make_value_room(keys, values).is_err() {
         return Err(Refused { key, value });
@@ -123,28 +100,17 @@ fn append_first<K, V: Drop, A: Allocator + Copy>(
     requires rows { HasListedRows keys.old table.old.rows }
     requires keys_sound { IsSound keys.old }
     requires chained { IsChained keys.old values.old.list }
-    requires fits { HasTapeRoomFor values.old 0 }
     ensures present { IfOk result (λ present. present ≡ false) }
     ensures ok { OnOk result (AppendsFirst keys.old keys.new table.old.rows table.new.rows
         values.old.list values.new.list hash key value) }
-    ensures err { OnErr result (AreRenamed keys.old keys.new values.old.list values.new.list) }
-    ensures rows_kept { OnErr result (table.new.rows ≡ table.old.rows) }
-    ensures key_returned { IfErr result (λ refused. refused.key ≡ key) }
-    ensures value_returned { IfErr result (λ refused. refused.value ≡ value) }
-    ensures fits { HasTapeRoomFor values.new 0 }
-    ensures taken { TakesOut 0 (numbers_of values.old) (numbers_of values.new) }
-
-    // Where there is room, nothing grows and nothing is refused.
-    ensures succeeds { HasRoomFor keys.old 1 → len table.old.rows + 1 ≤ table.old.capacity
-        → HasTapeRoomFor values.old 1 → IsOk result }
-    ensures keys_had_room { HasRoomFor keys.old 1 → keys.new.capacity ≡ keys.old.capacity }
-    ensures rows_had_room { len table.old.rows + 1 ≤ table.old.capacity
-        → table.new.capacity ≡ table.old.capacity }
-    ensures values_had_room { HasTapeRoomFor values.old 1
-        → values.new.list.capacity ≡ values.old.list.capacity }
-    ensures keys_capacity { keys.old.capacity ≤ keys.new.capacity }
-    ensures rows_capacity { table.old.capacity ≤ table.new.capacity }
-    ensures values_capacity { values.old.list.capacity ≤ values.new.list.capacity }
+    ensures unchanged { OnErr result (AreRenamed keys.old keys.new values.old.list values.new.list
+        × (table.new.rows ≡ table.old.rows)) }
+    ensures refused { IfErr result (λ pair. pair ≡ record { key = key; value = value }) }
+    ensures succeeds { FitsOneMore keys.old table.old.rows table.old.capacity values.old
+        → IsOk result }
+    ensures keys { GrowsIfFull (length keys.old.order) keys.old.capacity keys.new.capacity }
+    ensures rows { GrowsIfFull (len table.old.rows) table.old.capacity table.new.capacity }
+    ensures values { MakesRoom values.old values.new }
 {
     if make_room(keys, table, values).is_err() {
         return Err(Refused { key, value });

@@ -2,11 +2,11 @@
 ghost use Rattle.std.specs.Prelude.{◌≡◌, false, length, slice_get, IfSome, IfNone, Some, option_copied, option_map};
 ghost use Rattle.multimap_slots.specs.Lists.{IsIn};
 ghost use Rattle.multimap_slots.specs.Slots.{HasSlot};
-ghost use Rattle.multimap_walks.specs.Walk.{item_at};
+ghost use Rattle.multimap_walks.specs.Walk.{end_item};
 ghost use Rattle.multimap_walks.specs.declared.End.TheVariants.{Front, Back};
 ghost use Rattle.ordered_multimap.specs.Pairs.{values_of, is_present};
 ghost use Rattle.ordered_multimap.specs.Keys.{is_listed};
-ghost use Rattle.ordered_multimap.specs.Agrees.{HasKey, SaysWhetherEqual, IsFoundBy, items_of};
+ghost use Rattle.ordered_multimap.specs.Agrees.{HasKey, SaysWhetherEqual, IsFoundBy, AreKeyed, items_of, hash_of};
 
 use super::ListOrderedMultimap;
 use multimap_slots::{Reads, SlotList, Tape};
@@ -70,14 +70,29 @@ pub(super) fn place_of<K: Eq, A: Allocator>(
     table.find(hash, is_equal)
 }
 
+/// The place of the stored key that is equal to `key`, by the hash that the builder makes of it.
+#[inline(always)]
+pub(super) fn find<K: Eq + Hash, S: BuildHasher, A: Allocator>(
+    state: &S,
+    keys: &SlotList<K, KeyLink, A>,
+    table: &KeyTable<A>,
+    key: &K,
+) -> Option<usize>
+    requires { AreKeyed K.eq (λ k. hash_of S.BuildHasher S.Hasher.Hasher state.now (K.hash_input k))
+        keys.now table.now.rows }
+    ensures found { IfSome result (HasKey K.eq keys.now key.now) }
+    ensures absent { IfNone result (is_listed K.eq (items_of keys.now) key.now ≡ false) }
+{
+    place_of(keys, table, state.hash_one(key), key)
+}
+
 impl<K: Eq + Hash, V, S: BuildHasher, A: Allocator> ListOrderedMultimap<K, V, S, A> {
     /// The key's first value. One look-up, and the slots of the key and of that value.
     #[inline(always)]
     pub fn get(&self, key: &K) -> Option<&V>
         ensures { option_copied result ≡ slice_get (values_of K.eq self.now.lists.pairs key.now) 0 }
     {
-        let hash = self.state.hash_one(key);
-        match place_of(&self.keys, &self.table, hash, key) {
+        match find(&self.state, &self.keys, &self.table, key) {
             Some(place) => {
                 let (_, link) = slot_at(&self.keys, place);
                 let (value, _) = value_at(&self.values, link.head);
@@ -92,11 +107,7 @@ impl<K: Eq + Hash, V, S: BuildHasher, A: Allocator> ListOrderedMultimap<K, V, S,
     pub fn contains_key(&self, key: &K) -> bool
         ensures { result ≡ is_present K.eq self.now.lists.pairs key.now }
     {
-        let hash = self.state.hash_one(key);
-        match place_of(&self.keys, &self.table, hash, key) {
-            Some(_) => true,
-            None => false,
-        }
+        find(&self.state, &self.keys, &self.table, key).is_some()
     }
 
     /// How many values the key has. One look-up, and the slot of the key.
@@ -104,8 +115,7 @@ impl<K: Eq + Hash, V, S: BuildHasher, A: Allocator> ListOrderedMultimap<K, V, S,
     pub fn entry_len(&self, key: &K) -> usize
         ensures { result ≡ length (values_of K.eq self.now.lists.pairs key.now) }
     {
-        let hash = self.state.hash_one(key);
-        match place_of(&self.keys, &self.table, hash, key) {
+        match find(&self.state, &self.keys, &self.table, key) {
             Some(place) => {
                 let (_, link) = slot_at(&self.keys, place);
                 link.length
@@ -116,14 +126,14 @@ impl<K: Eq + Hash, V, S: BuildHasher, A: Allocator> ListOrderedMultimap<K, V, S,
 
     /// The first pair. Reads the slots of its value and of its key.
     pub fn front(&self) -> Option<(&K, &V)>
-        ensures { option_map (λ r. (r.0.now, r.1.now)) result ≡ item_at Front self.now.lists.pairs }
+        ensures { option_map (λ r. (r.0.now, r.1.now)) result ≡ end_item Front self.now.lists.pairs }
     {
         self.iter().next()
     }
 
     /// The last pair. Reads the slots of its value and of its key.
     pub fn back(&self) -> Option<(&K, &V)>
-        ensures { option_map (λ r. (r.0.now, r.1.now)) result ≡ item_at Back self.now.lists.pairs }
+        ensures { option_map (λ r. (r.0.now, r.1.now)) result ≡ end_item Back self.now.lists.pairs }
     {
         self.iter().next_back()
     }

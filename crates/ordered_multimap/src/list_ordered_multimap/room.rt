@@ -1,11 +1,11 @@
 //! Room for one more key and one more value.
-ghost use Rattle.std.specs.Prelude.{◌≡◌, ◌≤◌, ◌+◌, OnOk, IsOk};
+ghost use Rattle.std.specs.Prelude.{◌≡◌, OnOk, IsOk, length};
 ghost use Rattle.std.specs.FinMap.{len};
-ghost use Rattle.multimap_slots.specs.Slots.{IsSound, HasRoomFor};
+ghost use Rattle.multimap_slots.specs.Slots.{IsSound};
 ghost use Rattle.multimap_slots.specs.Tapes.{HasEndRoom, HasTapeRoomFor};
 ghost use Rattle.multimap_walks.specs.Chained.{IsChained};
+ghost use Rattle.ordered_multimap.specs.Appends.{GrowsIfFull, MakesRoom, FitsOneMore};
 ghost use Rattle.ordered_multimap.specs.Renames.{AreRenamed};
-ghost use Rattle.ordered_multimap.specs.TapeNumbers.{TakesOut, numbers_of};
 
 use super::compact::compact;
 use multimap_slots::{SlotList, Tape};
@@ -24,16 +24,10 @@ pub(super) fn make_value_room<K, V: Drop, A: Allocator>(
     requires chained { IsChained keys.old values.old.list }
     ensures renamed { AreRenamed keys.old keys.new values.old.list values.new.list }
     ensures sound { IsSound values.old.list }
-    ensures fits { HasTapeRoomFor values.old 0 → HasTapeRoomFor values.new 0 }
-    ensures taken { TakesOut 0 (numbers_of values.old) (numbers_of values.new) }
-    ensures end_room { OnOk result (HasEndRoom values.new) }
+    ensures values { MakesRoom values.old values.new }
     ensures room { OnOk result (HasTapeRoomFor values.new 1) }
-
-    // Where there is room already, nothing grows and nothing is refused.
+    ensures end_room { OnOk result (HasEndRoom values.new) }
     ensures succeeds { HasTapeRoomFor values.old 1 → IsOk result }
-    ensures had_room { HasTapeRoomFor values.old 1
-        → values.new.list.capacity ≡ values.old.list.capacity }
-    ensures values_capacity { values.old.list.capacity ≤ values.new.list.capacity }
     ensures keys_capacity { keys.new.capacity ≡ keys.old.capacity }
 {
     if values.len() >= values.capacity() {
@@ -54,25 +48,14 @@ pub(super) fn make_room<K, V: Drop, A: Allocator + Copy>(
     requires keys_sound { IsSound keys.old }
     requires chained { IsChained keys.old values.old.list }
     ensures renamed { AreRenamed keys.old keys.new values.old.list values.new.list }
-    ensures rows { table.new.rows ≡ table.old.rows }
-    ensures fits { HasTapeRoomFor values.old 0 → HasTapeRoomFor values.new 0 }
-    ensures taken { TakesOut 0 (numbers_of values.old) (numbers_of values.new) }
-    ensures key_room { OnOk result (HasRoomFor keys.new 1) }
-    ensures row_room { OnOk result (len table.new.rows + 1 ≤ table.new.capacity) }
+    ensures same_rows { table.new.rows ≡ table.old.rows }
+    ensures room { OnOk result (FitsOneMore keys.new table.new.rows table.new.capacity values.new) }
     ensures end_room { OnOk result (HasEndRoom values.new) }
-    ensures value_room { OnOk result (HasTapeRoomFor values.new 1) }
-
-    // Where there is room already, nothing grows and nothing is refused.
-    ensures succeeds { HasRoomFor keys.old 1 → len table.old.rows + 1 ≤ table.old.capacity
-        → HasTapeRoomFor values.old 1 → IsOk result }
-    ensures keys_had_room { HasRoomFor keys.old 1 → keys.new.capacity ≡ keys.old.capacity }
-    ensures rows_had_room { len table.old.rows + 1 ≤ table.old.capacity
-        → table.new.capacity ≡ table.old.capacity }
-    ensures values_had_room { HasTapeRoomFor values.old 1
-        → values.new.list.capacity ≡ values.old.list.capacity }
-    ensures keys_capacity { keys.old.capacity ≤ keys.new.capacity }
-    ensures rows_capacity { table.old.capacity ≤ table.new.capacity }
-    ensures values_capacity { values.old.list.capacity ≤ values.new.list.capacity }
+    ensures succeeds { FitsOneMore keys.old table.old.rows table.old.capacity values.old
+        → IsOk result }
+    ensures keys { GrowsIfFull (length keys.old.order) keys.old.capacity keys.new.capacity }
+    ensures rows { GrowsIfFull (len table.old.rows) table.old.capacity table.new.capacity }
+    ensures values { MakesRoom values.old values.new }
 {
     // The length tells the proof that the list of values is sound.
     let _values = values.len();

@@ -3,7 +3,7 @@ ghost use Rattle.std.specs.Prelude.{◌≡◌};
 ghost use Rattle.ordered_multimap.specs.Pairs.{values_of};
 
 use super::ListOrderedMultimap;
-use super::lookup::{place_of, slot_at};
+use super::lookup::{find, slot_at};
 use multimap_walks::{EntryValues, Iter};
 use std::alloc::Allocator;
 use std::hash::{BuildHasher, Hash};
@@ -23,8 +23,7 @@ impl<K: Eq + Hash, V, S: BuildHasher, A: Allocator> ListOrderedMultimap<K, V, S,
         ensures values { result.left ≡ values_of K.eq self.now.lists.pairs key.now }
         ensures reads { result.reads ≡ 0 }
     {
-        let hash = self.state.hash_one(key);
-        match place_of(&self.keys, &self.table, hash, key) {
+        match find(&self.state, &self.keys, &self.table, key) {
             Some(place) => {
                 let (_, link) = slot_at(&self.keys, place);
                 EntryValues::new(&self.keys, &self.values, Some((place, link)))

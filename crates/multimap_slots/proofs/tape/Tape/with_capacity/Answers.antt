@@ -1,6 +1,6 @@
 use Rattle.std.proofs.Common.{arith}
 use Rattle.multimap_slots.proofs.tape.Tape.with_capacity.Goals as goal
 
-pub returns-clause-capacity : goal.returns-clause-capacity
-returns-clause-capacity g c =
+pub returns-clause-room : goal.returns-clause-room
+returns-clause-room g c =
     omega (arith, c.in-Some.ensures, c.in_ok-links.ensures.capacity, c.in_ok-runs.ensures.capacity, c.in_ok-with_capacity.ensures.capacity)

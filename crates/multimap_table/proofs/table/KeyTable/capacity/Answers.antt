@@ -4,8 +4,8 @@ use Rattle.multimap_table.specs.Table.{Table}
 use Rattle.multimap_table.proofs.TableLemmas.{len_of}
 use Rattle.multimap_table.proofs.table.KeyTable.capacity.Goals as goal
 
-pub returns-clause-load : goal.returns-clause-load
-returns-clause-load g c =
+pub returns-clause-fits : goal.returns-clause-fits
+returns-clause-fits g c =
     let len = len_of _ _ _ c.self.invariant ∙ ap (λ (t : Table). map.len t.rows) c.self.view_is in
     let capacity = ap (λ (t : Table). t.capacity) c.self.view_is in
     omega (arith, len, capacity, c.self.invariant.load)

@@ -1,20 +1,13 @@
-use Rattle.std.proofs.Common.{sym, ap, ◌∙◌, subst}
+use Rattle.std.proofs.Common.{ap, ◌∙◌}
 use Rattle.ordered_multimap.specs.Pairs.{is_present}
-use Rattle.ordered_multimap.specs.Agrees.{IsFoundBy, hash_of}
-use Rattle.ordered_multimap.proofs.LookupLemmas.{found_by, present_if_found, absent_if_unlisted}
+use Rattle.ordered_multimap.proofs.LookupLemmas.{keyed, present_as_found}
 use Rattle.ordered_multimap.proofs.list_ordered_multimap.ListOrderedMultimap.contains_key.Goals as goal
 
-pub place_of-requires : goal.place_of-requires
-place_of-requires g c =
-    subst (IsFoundBy g.K.PartialEq.eq c.self.inside.keys c.self.inside.table.rows c.args.key.now) (sym c.hash_one-hash.ensures)
-    (found_by g.met.K.Eq.laws c.self.invariant.agrees (λ x y equal. ap (hash_of g.S.BuildHasher g.S.Hasher.Hasher c.self.inside.state) (g.met.K.Hash.respects_eq x y equal)) c.args.key.now)
+pub find-requires : goal.find-requires
+find-requires g c = keyed g.met.K.Eq.laws c.self.invariant.agrees
 
-pub returns-in-Some : goal.returns-in-Some
-returns-in-Some g c =
-    sym (present_if_found g.met.K.Eq.laws c.self.invariant.agrees c.args.key.now _ c.in-Some.ensures.found)
-    ∙ ap (λ m. is_present g.K.PartialEq.eq m.lists.pairs c.args.key.now) c.self.view_is
-
-pub returns-in-None : goal.returns-in-None
-returns-in-None g c =
-    sym (absent_if_unlisted g.met.K.Eq.laws c.self.invariant.agrees c.args.key.now c.in-None.ensures.absent)
+pub returns : goal.returns
+returns g c =
+    c.is_some.ensures
+    ∙ present_as_found g.met.K.Eq.laws c.self.invariant.agrees c.args.key.now c.find.result c.find.ensures.found c.find.ensures.absent
     ∙ ap (λ m. is_present g.K.PartialEq.eq m.lists.pairs c.args.key.now) c.self.view_is

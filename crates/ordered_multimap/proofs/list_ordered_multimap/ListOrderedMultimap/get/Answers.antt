@@ -1,13 +1,10 @@
-use Rattle.std.proofs.Common.{slice_get, sym, ap, ◌∙◌, subst}
+use Rattle.std.proofs.Common.{slice_get, sym, ap, ◌∙◌}
 use Rattle.ordered_multimap.specs.Pairs.{values_of}
-use Rattle.ordered_multimap.specs.Agrees.{IsFoundBy, hash_of}
-use Rattle.ordered_multimap.proofs.LookupLemmas.{found_by, head_listed, first_value, no_value}
+use Rattle.ordered_multimap.proofs.LookupLemmas.{keyed, head_listed, first_value, no_value}
 use Rattle.ordered_multimap.proofs.list_ordered_multimap.ListOrderedMultimap.get.Goals as goal
 
-pub place_of-requires : goal.place_of-requires
-place_of-requires g c =
-    subst (IsFoundBy g.K.PartialEq.eq c.self.inside.keys c.self.inside.table.rows c.args.key.now) (sym c.hash_one-hash.ensures)
-    (found_by g.met.K.Eq.laws c.self.invariant.agrees (λ x y equal. ap (hash_of g.S.BuildHasher g.S.Hasher.Hasher c.self.inside.state) (g.met.K.Hash.respects_eq x y equal)) c.args.key.now)
+pub find-requires : goal.find-requires
+find-requires g c = keyed g.met.K.Eq.laws c.self.invariant.agrees
 
 pub value_at-requires : goal.value_at-requires
 value_at-requires g c =

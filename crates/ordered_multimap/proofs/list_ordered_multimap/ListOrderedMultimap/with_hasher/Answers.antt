@@ -3,7 +3,7 @@ use Rattle.ordered_multimap.proofs.list_ordered_multimap.ListOrderedMultimap.wit
 
 pub invariant_of-result : goal.invariant_of-result
 invariant_of-result g c =
-    empty_map _ _ _ _ _ c.new.ensures.empty c.new-3.ensures.empty c.new-2.ensures.rows c.new-3.ensures.moved c.new-3.ensures.holes
+    empty_map _ _ _ _ _ c.new.ensures.empty c.new-3.ensures.empty c.new-2.ensures.empty c.new-3.ensures.moved c.new-3.ensures.holes
 
 pub returns-clause-empty : goal.returns-clause-empty
 returns-clause-empty g c = lists_of-empty _ _ c.new.ensures.empty c.new-3.ensures.empty

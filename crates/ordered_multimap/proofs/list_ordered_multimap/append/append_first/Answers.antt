@@ -7,7 +7,7 @@ pub push_only-requires-clause-listed : goal.push_only-requires-clause-listed
 push_only-requires-clause-listed g c = new_listed c.push_row-place.ensures.pushed.key_pushed
 
 pub push_row-place-requires-clause-listed : goal.push_row-place-requires-clause-listed
-push_row-place-requires-clause-listed g c = rows_listed c.make_room.ensures.renamed c.make_room.ensures.rows c.requires.rows
+push_row-place-requires-clause-listed g c = rows_listed c.make_room.ensures.renamed c.make_room.ensures.same_rows c.requires.rows
 
 pub returns-clause-ok : goal.returns-clause-ok
 returns-clause-ok g c = record {
@@ -15,8 +15,8 @@ returns-clause-ok g c = record {
   rows_reserved = c.make_room.new.table.rows;
   reserved = c.make_room.new.values.list;
   renamed = c.make_room.ensures.renamed;
-  same_rows = c.make_room.ensures.rows;
-  fits = ok_if c.make_room.result (sym c.is_err.ensures.value ∙ c.if-is_err.false) c.make_room.ensures.key_room;
+  same_rows = c.make_room.ensures.same_rows;
+  fits = (ok_if c.make_room.result (sym c.is_err.ensures.value ∙ c.if-is_err.false) c.make_room.ensures.room).key;
   place = c.push_row-place.result;
   keys_pushed = c.push_row-place.new.keys;
   row = c.push_row-place.ensures.pushed;

@@ -1,0 +1,77 @@
+-- What an append makes of the rooms of a map.
+use Rattle.std.proofs.Common.{◌≡◌, ℕ, ◌+◌, ◌≤◌, ◌<◌, ◌/◌, min, Bool, true, false, length, Result, OnErr, Ok, Err, refl, sym, ap, ◌∙◌, arith, true≢false}
+use Rattle.std.specs.Cmp.{IsEquivalence}
+use Rattle.std.specs.Ordering.{nat_cmp}
+use Rattle.std.specs.FinMap.{FinMap, len}
+use Rattle.multimap_slots.specs.Slots.{Slots}
+use Rattle.multimap_slots.specs.Tapes.{Taped, HasTapeRoomFor}
+use Rattle.multimap_walks.specs.declared.links.KeyLink.{KeyLink}
+use Rattle.multimap_walks.specs.declared.links.ValueLink.{ValueLink}
+use Rattle.multimap_walks.specs.Chained.{pairs_of}
+use Rattle.ordered_multimap.specs.Lists.{Lists}
+use Rattle.ordered_multimap.specs.Keys.{is_listed}
+use Rattle.ordered_multimap.specs.Multimap.{Multimap, multimap}
+use Rattle.ordered_multimap.specs.Agrees.{Agrees, items_of, lists_of}
+use Rattle.ordered_multimap.specs.Appends.{GrowsIfFull, MakesRoom, FitsOneMore}
+use Rattle.ordered_multimap.specs.TapeNumbers.{TapeNumbers, numbers_of}
+use Rattle.ordered_multimap.specs.Rooms.{HasPairRoom, KeepsRooms, RaisesNoRoom}
+use Rattle.ordered_multimap.proofs.AgreesLemmas.{value_room, key_room, row_room}
+use Rattle.ordered_multimap.proofs.LookupLemmas.{absent_if_unlisted}
+
+-- rooms of parts that are no smaller
+module _ {K V S : Type 0} (both both_after : Lists K V) (keys keys_after rows rows_after slots slots_after : ℕ) (state : S) (tape tape_after : TapeNumbers) where
+  pub keeps_rooms : keys ≤ keys_after → rows ≤ rows_after → slots ≤ slots_after
+      → KeepsRooms (multimap both (min keys rows) (slots / 2) state tape) (multimap both_after (min keys_after rows_after) (slots_after / 2) state tape_after)
+  keeps_rooms more_keys more_rows more_slots = record {
+    keys = omega (arith, more_keys, more_rows);
+    values = omega (arith, more_slots);
+    hasher = refl;
+  }
+
+-- the map of these parts
+abbrev pub map_of : {K V S : Type 0} → Slots K KeyLink → ℕ → Taped V ValueLink → S → Multimap K V S
+map_of keys row_capacity values state =
+    multimap (lists_of keys values.list) (min keys.capacity row_capacity) (values.list.capacity / 2) state (numbers_of values)
+
+module _ {K V S : Type 0} {eq : K → K → Bool} (laws : IsEquivalence eq) {hash : K → ℕ} (keys : Slots K KeyLink) (rows : FinMap nat_cmp ℕ) (values : Taped V ValueLink)
+    (agrees : Agrees eq hash keys rows values.list) (row_capacity : ℕ) (state : S) (key : K) where
+  pub fits_value : length (pairs_of keys values.list) < values.list.capacity / 2 → HasTapeRoomFor values 1
+  fits_value short = value_room agrees (values.list.capacity / 2) short
+
+  -- of an absent key
+  pub fits_pair : is_listed eq (items_of keys) key ≡ false → HasPairRoom eq (map_of keys row_capacity values state) key → FitsOneMore keys rows row_capacity values
+  fits_pair unlisted room =
+      let few = room.key (absent_if_unlisted laws agrees key unlisted) in
+      record {
+        key = key_room agrees row_capacity few;
+        row = row_room agrees row_capacity few;
+        value = fits_value room.value;
+      }
+
+  module _ (keys_after : Slots K KeyLink) (rows_after : ℕ) (values_after : Taped V ValueLink) (made : MakesRoom values values_after) where
+    pub raises_none_present : keys_after.capacity ≡ keys.capacity → rows_after ≡ row_capacity
+        → RaisesNoRoom eq key (map_of keys row_capacity values state) (map_of keys_after rows_after values_after state)
+    raises_none_present same_keys same_rows = record {
+      keys = λ few. (λ i. min (same_keys i) (same_rows i));
+      present = λ there. (λ i. min (same_keys i) (same_rows i));
+      values = λ short. ap (λ n. n / 2) (made.had_room (fits_value short));
+      slots = λ short. made.had_room (fits_value short);
+    }
+
+    pub raises_none_absent : is_listed eq (items_of keys) key ≡ false
+        → GrowsIfFull (length keys.order) keys.capacity keys_after.capacity → GrowsIfFull (len rows) row_capacity rows_after
+        → RaisesNoRoom eq key (map_of keys row_capacity values state) (map_of keys_after rows_after values_after state)
+    raises_none_absent unlisted keys_grow rows_grow = record {
+      keys = λ few.
+          let same_keys = keys_grow.had_room (key_room agrees row_capacity few) in
+          let same_rows = rows_grow.had_room (row_room agrees row_capacity few) in
+          (λ i. min (same_keys i) (same_rows i));
+      present = λ there. absurd (true≢false (sym there ∙ absent_if_unlisted laws agrees key unlisted));
+      values = λ short. ap (λ n. n / 2) (made.had_room (fits_value short));
+      slots = λ short. made.had_room (fits_value short);
+    }
+
+-- the first of two facts on a refusal
+pub first_on_err : {X E : Type 0} (P Q : Type 0) (r : Result X E) → OnErr r (P × Q) → OnErr r P
+first_on_err P Q (Ok x) both = both
+first_on_err P Q (Err e) both = both.0

@@ -1,0 +1,32 @@
+-- Room in a map, and what the changing calls keep of it.
+use Rattle.std.specs.Prelude.{◌≡◌, ◌≤◌, ◌<◌, Bool, true, false, length}
+use Rattle.ordered_multimap.specs.Pairs.{is_present}
+use Rattle.ordered_multimap.specs.Multimap.{Multimap}
+
+module _ {K V S : Type 0} where
+  -- one more key fits
+  abbrev pub HasKeyRoom : Multimap K V S → Type 0
+  HasKeyRoom m = length m.lists.keys < m.key_room
+
+  -- one more value fits
+  abbrev pub HasValueRoom : Multimap K V S → Type 0
+  HasValueRoom m = length m.lists.pairs < m.value_room
+
+  -- one more pair of the key fits: a present key wants room for the value alone
+  pub record HasPairRoom (eq : K → K → Bool) (m : Multimap K V S) (k : K) : Type 0 where
+    pub value : HasValueRoom m
+    pub key : is_present eq m.lists.pairs k ≡ false → HasKeyRoom m
+
+  -- no room is lower than before, and the hash builder is the same
+  pub record KeepsRooms (old new : Multimap K V S) : Type 0 where
+    pub keys : old.key_room ≤ new.key_room
+    pub values : old.value_room ≤ new.value_room
+    pub hasher : new.hasher ≡ old.hasher
+
+  -- where one more of them fits, the room is the same, and for values no slot was added; a present
+  -- key wants no room for keys
+  pub record RaisesNoRoom (eq : K → K → Bool) (k : K) (old new : Multimap K V S) : Type 0 where
+    pub keys : HasKeyRoom old → new.key_room ≡ old.key_room
+    pub present : is_present eq old.lists.pairs k ≡ true → new.key_room ≡ old.key_room
+    pub values : HasValueRoom old → new.value_room ≡ old.value_room
+    pub slots : HasValueRoom old → new.tape.slots ≡ old.tape.slots
