@@ -7,6 +7,7 @@ mod append;
 mod compact;
 mod links;
 mod lookup;
+mod refused;
 mod room;
 mod steps;
 mod walks;
@@ -14,6 +15,7 @@ mod walks;
 use multimap_slots::{SlotList, Tape};
 use multimap_table::KeyTable;
 pub use multimap_walks::{EntryValues, Iter, KeyLink, ValueLink};
+pub use refused::Refused;
 use std::alloc::{AllocError, Allocator, Global};
 pub use std::hash::RandomState;
 use std::hash::{BuildHasher, BuildHasherDefault, FoldHasher, Hash};
@@ -21,15 +23,6 @@ use std::marker::Model;
 
 /// The hash builder that std's HashMap takes by default, with a fixed seed.
 pub type DefaultState = BuildHasherDefault<FoldHasher>;
-
-/// Want of memory, with the pair that was to be stored.
-#[derive(Debug, PartialEq, Eq, Drop)]
-pub struct Refused<K, V> {
-    /// The key that was handed in.
-    pub key: K,
-    /// The value that was handed in.
-    pub value: V,
-}
 
 /// A multimap that remembers the order of its pairs and of its keys.
 ///
@@ -40,6 +33,15 @@ pub struct Refused<K, V> {
 /// A look-up hashes the key once, and compares it with the keys of that very hash. Where hashes are
 /// spread it probes one group of sixteen tags, seldom more; where all are equal it goes over all
 /// keys. A call that says nothing else of its cost takes constant time.
+///
+/// The examples of the calls are about a map with these pairs; `alloc` is an allocator, as
+/// `rt.alloc()` of a program's `HostRuntime` gives it:
+///
+/// ```
+/// map.append("line", 1)?;
+/// map.append("page", 8)?;
+/// map.append("line", 2)?;
+/// ```
 #[derive(Drop)]
 pub struct ListOrderedMultimap<
     K: Eq + Hash,
@@ -74,6 +76,10 @@ impl<K: Eq + Hash, V, S: BuildHasher, A: Allocator> Model for ListOrderedMultima
 
 impl<K: Eq + Hash, V, A: Allocator + Copy> ListOrderedMultimap<K, V, DefaultState, A> {
     /// An empty map with the default hash builder, which takes no memory.
+    ///
+    /// ```
+    /// ListOrderedMultimap::new(alloc)
+    /// ```
     pub fn new(alloc: A) -> Self
         ensures empty { result.lists ≡ empty_lists }
         ensures unused { AreUnused result.tape }
@@ -83,6 +89,10 @@ impl<K: Eq + Hash, V, A: Allocator + Copy> ListOrderedMultimap<K, V, DefaultStat
 
     /// An empty map with the default hash builder and room for at least `key_capacity` keys and
     /// `value_capacity` values. Room for none takes no memory.
+    ///
+    /// ```
+    /// ListOrderedMultimap::with_capacity(alloc, 2, 3)?
+    /// ```
     pub fn with_capacity(
         alloc: A,
         key_capacity: usize,
@@ -104,6 +114,10 @@ impl<K: Eq + Hash, V, A: Allocator + Copy> ListOrderedMultimap<K, V, DefaultStat
 
 impl<K: Eq + Hash, V, S: BuildHasher, A: Allocator + Copy> ListOrderedMultimap<K, V, S, A> {
     /// An empty map with this hash builder, which takes no memory.
+    ///
+    /// ```
+    /// ListOrderedMultimap::with_hasher(alloc, DefaultState::new())
+    /// ```
     pub fn with_hasher(alloc: A, state: S) -> Self
         ensures empty { result.lists ≡ empty_lists }
         ensures hasher { result.hasher ≡ state }
@@ -119,6 +133,10 @@ impl<K: Eq + Hash, V, S: BuildHasher, A: Allocator + Copy> ListOrderedMultimap<K
 
     /// An empty map with this hash builder and room for at least `key_capacity` keys and
     /// `value_capacity` values. Room for none takes no memory.
+    ///
+    /// ```
+    /// ListOrderedMultimap::with_capacity_and_hasher(alloc, 2, 3, DefaultState::new())?
+    /// ```
     pub fn with_capacity_and_hasher(
         alloc: A,
         key_capacity: usize,
@@ -150,6 +168,10 @@ impl<K: Eq + Hash, V, S: BuildHasher, A: Allocator + Copy> ListOrderedMultimap<K
 
 impl<K: Eq + Hash, V, S: BuildHasher, A: Allocator> ListOrderedMultimap<K, V, S, A> {
     /// The hash builder.
+    ///
+    /// ```
+    /// map.hasher().hash_one(&"line")
+    /// ```
     pub fn hasher(&self) -> &S
         ensures { result.now ≡ self.now.hasher }
     {
@@ -157,6 +179,10 @@ impl<K: Eq + Hash, V, S: BuildHasher, A: Allocator> ListOrderedMultimap<K, V, S,
     }
 
     /// How many keys the map has.
+    ///
+    /// ```
+    /// map.keys_len() == 2
+    /// ```
     pub fn keys_len(&self) -> usize
         ensures len { result ≡ length self.now.lists.keys }
         ensures well_formed { IsWellFormed K.eq self.now.lists }
@@ -165,6 +191,10 @@ impl<K: Eq + Hash, V, S: BuildHasher, A: Allocator> ListOrderedMultimap<K, V, S,
     }
 
     /// How many pairs the map has.
+    ///
+    /// ```
+    /// map.values_len() == 3
+    /// ```
     pub fn values_len(&self) -> usize
         ensures { result ≡ length self.now.lists.pairs }
     {
@@ -172,6 +202,10 @@ impl<K: Eq + Hash, V, S: BuildHasher, A: Allocator> ListOrderedMultimap<K, V, S,
     }
 
     /// Whether the map has no pair.
+    ///
+    /// ```
+    /// !map.is_empty()
+    /// ```
     pub fn is_empty(&self) -> bool
         ensures empty { IsTrue result ↔ (self.now.lists.pairs ≡ []) }
         ensures well_formed { IsWellFormed K.eq self.now.lists }
@@ -180,6 +214,10 @@ impl<K: Eq + Hash, V, S: BuildHasher, A: Allocator> ListOrderedMultimap<K, V, S,
     }
 
     /// How many keys fit before the map must grow: no more than the table has room for.
+    ///
+    /// ```
+    /// map.keys_capacity() >= map.keys_len()
+    /// ```
     pub fn keys_capacity(&self) -> usize
         ensures capacity { result ≡ self.now.key_room }
         ensures fits { length self.now.lists.keys ≤ self.now.key_room }
@@ -188,6 +226,10 @@ impl<K: Eq + Hash, V, S: BuildHasher, A: Allocator> ListOrderedMultimap<K, V, S,
     }
 
     /// How many values fit before the map must grow: as many as half of the slots.
+    ///
+    /// ```
+    /// map.values_capacity() >= map.values_len()
+    /// ```
     pub fn values_capacity(&self) -> usize
         ensures capacity { result ≡ self.now.value_room }
         ensures fits { length self.now.lists.pairs ≤ self.now.value_room }

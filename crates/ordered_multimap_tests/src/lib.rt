@@ -9,6 +9,8 @@ mod ample;
 #[cfg(test)]
 mod calls;
 #[cfg(test)]
+mod examples;
+#[cfg(test)]
 mod refused;
 #[cfg(test)]
 mod walks;

@@ -31,6 +31,10 @@ impl<K: Eq + Hash, V, S: BuildHasher, A: Allocator + Copy> ListOrderedMultimap<K
     /// key. A growth costs the slots or rows that are moved. Where the last slot is in use and half
     /// of the slots or more are free, the values are moved over the holes that removals left, and no
     /// memory is taken: over all calls that is no more than one move for each removal.
+    ///
+    /// ```
+    /// map.append("page", 8)?;
+    /// ```
     pub fn append(&mut self, key: K, value: V) -> Result<bool, Refused<K, V>>
     where
         K: Drop,
@@ -89,6 +93,7 @@ fn append_behind<K: Drop, V: Drop, A: Allocator>(
 }
 
 /// Appends a key that isn't listed, whose hash is `hash`, with its first value.
+#[tactic(auto, using(crate::proofs::AppendedLemmas::rows_listed))]
 fn append_first<K, V: Drop, A: Allocator + Copy>(
     keys: &mut SlotList<K, KeyLink, A>,
     table: &mut KeyTable<A>,

@@ -88,6 +88,10 @@ pub(super) fn find<K: Eq + Hash, S: BuildHasher, A: Allocator>(
 
 impl<K: Eq + Hash, V, S: BuildHasher, A: Allocator> ListOrderedMultimap<K, V, S, A> {
     /// The key's first value. One look-up, and the slots of the key and of that value.
+    ///
+    /// ```
+    /// map.get(&"line").copied() == Some(1)
+    /// ```
     #[inline(always)]
     pub fn get(&self, key: &K) -> Option<&V>
         ensures { option_copied result ≡ slice_get (values_of K.eq self.now.lists.pairs key.now) 0 }
@@ -103,6 +107,10 @@ impl<K: Eq + Hash, V, S: BuildHasher, A: Allocator> ListOrderedMultimap<K, V, S,
     }
 
     /// Whether the key has a value. One look-up.
+    ///
+    /// ```
+    /// map.contains_key(&"page")
+    /// ```
     #[inline]
     pub fn contains_key(&self, key: &K) -> bool
         ensures { result ≡ is_present K.eq self.now.lists.pairs key.now }
@@ -111,6 +119,10 @@ impl<K: Eq + Hash, V, S: BuildHasher, A: Allocator> ListOrderedMultimap<K, V, S,
     }
 
     /// How many values the key has. One look-up, and the slot of the key.
+    ///
+    /// ```
+    /// map.entry_len(&"line") == 2
+    /// ```
     #[inline]
     pub fn entry_len(&self, key: &K) -> usize
         ensures { result ≡ length (values_of K.eq self.now.lists.pairs key.now) }
@@ -125,6 +137,10 @@ impl<K: Eq + Hash, V, S: BuildHasher, A: Allocator> ListOrderedMultimap<K, V, S,
     }
 
     /// The first pair. Reads the slots of its value and of its key.
+    ///
+    /// ```
+    /// map.front() == Some((&"line", &1))
+    /// ```
     pub fn front(&self) -> Option<(&K, &V)>
         ensures { option_map (λ r. (r.0.now, r.1.now)) result ≡ end_item Front self.now.lists.pairs }
     {
@@ -132,6 +148,10 @@ impl<K: Eq + Hash, V, S: BuildHasher, A: Allocator> ListOrderedMultimap<K, V, S,
     }
 
     /// The last pair. Reads the slots of its value and of its key.
+    ///
+    /// ```
+    /// map.back() == Some((&"line", &2))
+    /// ```
     pub fn back(&self) -> Option<(&K, &V)>
         ensures { option_map (λ r. (r.0.now, r.1.now)) result ≡ end_item Back self.now.lists.pairs }
     {

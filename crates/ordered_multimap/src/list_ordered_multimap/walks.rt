@@ -10,6 +10,10 @@ use std::hash::{BuildHasher, Hash};
 
 impl<K: Eq + Hash, V, S: BuildHasher, A: Allocator> ListOrderedMultimap<K, V, S, A> {
     /// A walk over all pairs, in order. Each step reads the slots of its value and of its key.
+    ///
+    /// ```
+    /// map.iter().next() == Some((&"line", &1))
+    /// ```
     pub fn iter(&self) -> Iter<'_, K, V, A>
         ensures { result ≡ self.now.lists.pairs }
     {
@@ -18,6 +22,10 @@ impl<K: Eq + Hash, V, S: BuildHasher, A: Allocator> ListOrderedMultimap<K, V, S,
 
     /// A walk over the key's values, in order, which is empty for an absent key. One look-up and
     /// the slot of the key; then each step reads the slot of its value, and no other.
+    ///
+    /// ```
+    /// map.get_all(&"line").next_back() == Some(&2)
+    /// ```
     #[inline]
     pub fn get_all(&self, key: &K) -> EntryValues<'_, K, V, A>
         ensures values { result.left ≡ values_of K.eq self.now.lists.pairs key.now }

@@ -1,13 +1,9 @@
 use Rattle.std.proofs.Common.{sym, ◌∙◌}
 use Rattle.ordered_multimap.proofs.StepLemmas.{ok_if, new_listed}
-use Rattle.ordered_multimap.proofs.AppendedLemmas.{rows_listed}
 use Rattle.ordered_multimap.proofs.list_ordered_multimap.append.append_first.Goals as goal
 
 pub push_only-requires-clause-listed : goal.push_only-requires-clause-listed
 push_only-requires-clause-listed g c = new_listed c.push_row-place.ensures.pushed.key_pushed
-
-pub push_row-place-requires-clause-listed : goal.push_row-place-requires-clause-listed
-push_row-place-requires-clause-listed g c = rows_listed c.make_room.ensures.renamed c.make_room.ensures.same_rows c.requires.rows
 
 pub returns-clause-ok : goal.returns-clause-ok
 returns-clause-ok g c = record {

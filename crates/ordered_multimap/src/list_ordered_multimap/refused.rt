@@ -1,0 +1,33 @@
+//! The answer of a call that found no memory.
+use std::alloc::AllocError;
+use std::error::Error;
+use std::fmt;
+
+/// Want of memory, with the pair that was to be stored.
+///
+/// By `?` it becomes an [`AllocError`], which lets the pair go.
+#[derive(Debug, PartialEq, Eq, Drop)]
+pub struct Refused<K, V> {
+    /// The key that was handed in.
+    pub key: K,
+    /// The value that was handed in.
+    pub value: V,
+}
+
+impl<K, V> fmt::Display for Refused<K, V> {
+    ghost use Rattle.std.specs.Prelude.{Some, codes};
+
+    ghost output = { λ _. Some (codes "memory allocation failed") };
+
+    fn fmt<W: fmt::Write>(&self, f: &mut fmt::Formatter<W>) -> fmt::Result {
+        f.write_str("memory allocation failed")
+    }
+}
+
+impl<K: fmt::Debug + Drop, V: fmt::Debug + Drop> Error for Refused<K, V> {}
+
+impl<K: Drop, V: Drop> From<Refused<K, V>> for AllocError {
+    fn from(_refused: Refused<K, V>) -> AllocError {
+        AllocError
+    }
+}

@@ -1,0 +1,88 @@
+//! The examples of the map's doc comments and of README.md, as tests. `tools/examples` says whether
+//! each line of theirs stands here.
+use ordered_multimap::ListOrderedMultimap;
+use ordered_multimap::list_ordered_multimap::DefaultState;
+use std::alloc::AllocError;
+use std::hash::BuildHasher;
+use test_helpers::{Failed, Test};
+
+type Numbers = ListOrderedMultimap<&'static str, u32>;
+
+fn add_three(map: &mut ListOrderedMultimap<&'static str, u32>) -> Result<(), AllocError> {
+    map.append("line", 1)?;
+    map.append("page", 8)?;
+    map.append("line", 2)?;
+    Ok(())
+}
+
+fn look_ups_answer(test: &Test, map: &Numbers) {
+    test.expect("get", map.get(&"line").copied() == Some(1));
+    test.expect("contains_key", map.contains_key(&"page"));
+    test.expect("entry_len", map.entry_len(&"line") == 2);
+    test.expect("keys_len", map.keys_len() == 2);
+    test.expect("values_len", map.values_len() == 3);
+    test.expect("is_empty", !map.is_empty());
+}
+
+fn walks_answer(test: &Test, map: &Numbers) {
+    test.expect("front", map.front() == Some((&"line", &1)));
+    test.expect("back", map.back() == Some((&"line", &2)));
+    test.expect("get_all", map.get_all(&"line").next_back() == Some(&2));
+    test.expect("iter", map.iter().next() == Some((&"line", &1)));
+}
+
+fn has_room(test: &Test, map: &Numbers) {
+    test.expect("keys_capacity", map.keys_capacity() >= map.keys_len());
+    test.expect("values_capacity", map.values_capacity() >= map.values_len());
+    let hash = DefaultState::new().hash_one(&"line");
+    test.expect("hasher", map.hasher().hash_one(&"line") == hash);
+}
+
+#[test]
+fn examples_hold(rt: HostRuntime) -> Result<(), Failed> {
+    let test = Test::new(rt.alloc());
+    let mut map = ListOrderedMultimap::new(test.alloc());
+    test.expect("append", add_three(&mut map).is_ok());
+    look_ups_answer(&test, &map);
+    walks_answer(&test, &map);
+    has_room(&test, &map);
+    test.end()
+}
+
+fn is_empty(test: &Test, map: &Numbers) {
+    test.expect("no pair", map.is_empty());
+    has_room(test, map);
+}
+
+fn has_room_for_three(test: &Test, map: &Numbers) {
+    is_empty(test, map);
+    test.expect("room for keys", map.keys_capacity() >= 2);
+    test.expect("room for values", map.values_capacity() >= 3);
+}
+
+fn make_with_capacity(test: &Test) -> Result<(), AllocError> {
+    let alloc = test.alloc();
+    has_room_for_three(test, &ListOrderedMultimap::with_capacity(alloc, 2, 3)?);
+    Ok(())
+}
+
+fn make_with_both(test: &Test) -> Result<(), AllocError> {
+    let alloc = test.alloc();
+    let map = ListOrderedMultimap::with_capacity_and_hasher(alloc, 2, 3, DefaultState::new())?;
+    has_room_for_three(test, &map);
+    Ok(())
+}
+
+#[test]
+fn examples_of_constructors_hold(rt: HostRuntime) -> Result<(), Failed> {
+    let test = Test::new(rt.alloc());
+    let alloc = test.alloc();
+    is_empty(&test, &ListOrderedMultimap::new(alloc));
+    is_empty(
+        &test,
+        &ListOrderedMultimap::with_hasher(alloc, DefaultState::new()),
+    );
+    test.expect("with_capacity", make_with_capacity(&test).is_ok());
+    test.expect("with_capacity_and_hasher", make_with_both(&test).is_ok());
+    test.end()
+}
