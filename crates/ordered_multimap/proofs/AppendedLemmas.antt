@@ -258,6 +258,6 @@ pub reply_is : {E : Type 0} {known wanted : Bool} → known ≡ wanted → (r : 
 reply_is same (Ok b) is = is ∙ same
 reply_is same (Err e) is = is
 
--- what takes no pair out leaves the moves paid
-pub stays_paid : {old new : TapeNumbers} → TakesOut 0 old new → ArePaid old → ArePaid new
+-- the moves stay paid, however many pairs were taken out
+pub stays_paid : {n : ℕ} {old new : TapeNumbers} → TakesOut n old new → ArePaid old → ArePaid new
 stays_paid taken paid = omega (arith, taken.freed, taken.paid, paid)

@@ -69,7 +69,7 @@ module _ {K V : Type 0} {eq : K → K → Bool} (laws : IsEquivalence eq) where
 
 -- first occurrences as one more pair comes
 module _ {K : Type 0} {eq : K → K → Bool} (laws : IsEquivalence eq) where
-  is_listed-others : (j k : K) (keys : List K) → eq k j ≡ false → is_listed eq (filter (λ i. not (eq j i)) keys) k ≡ is_listed eq keys k
+  pub is_listed-others : (j k : K) (keys : List K) → eq k j ≡ false → is_listed eq (filter (λ i. not (eq j i)) keys) k ≡ is_listed eq keys k
   is_listed-others j k [] e = refl
   is_listed-others j k (i ∷ keys) e =
       let P : Bool → Type 0 = λ b. eq j i ≡ b

@@ -95,7 +95,7 @@ module _ {K V : Type 0} {eq : K → K → Bool} (laws : IsEquivalence eq) {hash 
       empty (x ∷ xs) e = absurd (true≢false e)
 
   -- a value is the key's exactly where its own key is equal
-  owns : (k : K) (place : ℕ) (has : HasKey eq keys k place) (q : ℕ) (p : PairAt keys values q) → is_value_of values place q ≡ eq k p.key
+  pub owns : (k : K) (place : ℕ) (has : HasKey eq keys k place) (q : ℕ) (p : PairAt keys values q) → is_value_of values place q ≡ eq k p.key
   owns k place has q p = is_value_of-is keys values place q p.link p.link_is ∙ cases (cases_eq p.link.key place)
     where
       cases : (p.link.key ≡ place) ⊎ (p.link.key ≢ place) → (p.link.key == place) ≡ eq k p.key

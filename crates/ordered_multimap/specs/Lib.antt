@@ -10,4 +10,5 @@ pub mod Pop
 pub mod Renames
 pub mod Retain
 pub mod Rooms
+pub mod Takes
 pub mod TapeNumbers

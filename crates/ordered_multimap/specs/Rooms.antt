@@ -30,3 +30,10 @@ module _ {K V S : Type 0} where
     pub present : is_present eq old.lists.pairs k ≡ true → new.key_room ≡ old.key_room
     pub values : HasValueRoom old → new.value_room ≡ old.value_room
     pub slots : HasValueRoom old → new.tape.slots ≡ old.tape.slots
+
+  -- all rooms, the number of slots and the hash builder are the same
+  pub record SameRooms (old new : Multimap K V S) : Type 0 where
+    pub keys : new.key_room ≡ old.key_room
+    pub values : new.value_room ≡ old.value_room
+    pub slots : new.tape.slots ≡ old.tape.slots
+    pub hasher : new.hasher ≡ old.hasher

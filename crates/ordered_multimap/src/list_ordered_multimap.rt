@@ -8,8 +8,10 @@ mod compact;
 mod links;
 mod lookup;
 mod refused;
+mod remove;
 mod room;
 mod steps;
+mod takes;
 mod walks;
 
 use multimap_slots::{SlotList, Tape};

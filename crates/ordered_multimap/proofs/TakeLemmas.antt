@@ -1,0 +1,304 @@
+-- Where a key goes with all its values, key list, table and values agree, and the lists are without its pairs.
+use Rattle.std.proofs.Common.{◌≡◌, ◌≢◌, ◌⊎◌, ◌==◌, ◌≤◌, ◌+◌, ◌-◌, ◌/◌, ℕ, Bool, true, false, not, cond, List, [], ◌∷◌, length, filter, slice_get, option_map, Option, Some, None, IsSome, is_some, refl, sym, ap, ◌∙◌, subst, inl, inr, true≢false, arith}
+use Rattle.std.proofs.lemmas.Bool.{cases_eq, eq-eqb, ne_eqb}
+use Rattle.std.specs.Cmp.{IsEquivalence, nat_cmp_total, unsigned_tied}
+use Rattle.std.specs.List.{filter_map, cons_option, IsDistinct}
+use Rattle.std.specs.Map.{keys_of}
+use Rattle.std.specs.Ordering.{nat_cmp}
+use Rattle.std.specs.FinMap.{FinMap, get, remove, len, contains_key, get-remove, len-remove}
+use Rattle.multimap_slots.specs.Lists.{IsIn, first_of, last_of, next_of, previous_of, without}
+use Rattle.multimap_slots.specs.Slots.{Slots, IsSound, Removes, item_at, link_at}
+use Rattle.multimap_slots.specs.Tapes.{Taped, HasTapeRoomFor}
+use Rattle.multimap_walks.specs.declared.links.KeyLink.{KeyLink}
+use Rattle.multimap_walks.specs.declared.links.ValueLink.{ValueLink}
+use Rattle.multimap_walks.specs.Chained.{IsChained, is_value_of, chain_of, pair_at, pairs_of}
+use Rattle.ordered_multimap.specs.Lists.{Lists, lists, IsWellFormed}
+use Rattle.ordered_multimap.specs.Keys.{is_listed, stored_key}
+use Rattle.ordered_multimap.specs.Pairs.{pairs_without, values_of}
+use Rattle.ordered_multimap.specs.Changes.{removed, kept}
+use Rattle.ordered_multimap.specs.Agrees.{Agrees, HasKey, items_of, lists_of}
+use Rattle.ordered_multimap.specs.Takes.{TakesValues, TakesEntry}
+use Rattle.ordered_multimap.specs.TapeNumbers.{TapeNumbers, TakesOut}
+use Rattle.ordered_multimap.proofs.Members.{IsIn-kept, IsIn-filter, filter-all}
+use Rattle.ordered_multimap.proofs.PlaceLemmas.{held, pair_named, IsIn-filter_map, AreDistinct-filter, filter-agree, filter_shorter, filter_map-agree}
+use Rattle.ordered_multimap.proofs.KeyLemmas.{stored_key_only, is_listed-self, is_listed-member, IsDistinct-filter}
+use Rattle.ordered_multimap.proofs.AgreesLemmas.{well_formed, pair_in, pair_at-is, is_value_of-is, length-keys}
+use Rattle.ordered_multimap.proofs.LookupLemmas.{owns, same_place, first_value, count_of_values}
+use Rattle.ordered_multimap.proofs.LawLemmas.{is_listed-others}
+use Rattle.ordered_multimap.proofs.WellFormedLemmas.{same_keys}
+
+not_true : (b : Bool) → not b ≡ true → b ≡ false
+not_true true e = absurd (true≢false (sym e))
+not_true false e = refl
+
+-- a test that passes only kept items sees no other
+filter-among : {X : Type 0} (test keep : X → Bool) (xs : List X) → ((x : X) → IsIn x xs → test x ≡ true → keep x ≡ true) → filter test (filter keep xs) ≡ filter test xs
+filter-among test keep [] among = refl
+filter-among test keep (x ∷ xs) among =
+    let rest = filter-among test keep xs (λ y i. among y (inr i)) in
+    let P : Bool → Type 0 = λ b. test x ≡ b → filter test (cond (keep x) (x ∷ filter keep xs) (filter keep xs)) ≡ cond b (x ∷ filter test xs) (filter test xs) in
+    elim (test x) as P [
+      | true ↦ λ e. rw (among x (inl refl) e, e) (ap (λ ys. x ∷ ys) rest)
+      | false ↦ λ e.
+          let Q : Bool → Type 0 = λ b. filter test (cond b (x ∷ filter keep xs) (filter keep xs)) ≡ filter test xs in
+          elim (keep x) as Q [ true ↦ rw e rest | false ↦ rest ]
+    ] refl
+
+-- what is made of the kept items is what passes of all that is made
+filter_map-filter : {X Y : Type 0} (f : X → Option Y) (keep : X → Bool) (test : Y → Bool) (xs : List X)
+    → ((x : X) → IsIn x xs → (y : Y) → f x ≡ Some y → keep x ≡ test y) → filter_map f (filter keep xs) ≡ filter test (filter_map f xs)
+filter_map-filter f keep test [] same = refl
+filter_map-filter {X} {Y} f keep test (x ∷ xs) same =
+    let rest = filter_map-filter f keep test xs (λ z i. same z (inr i)) in
+    let P : Option Y → Type 0 = λ o. f x ≡ o → filter_map f (cond (keep x) (x ∷ filter keep xs) (filter keep xs)) ≡ filter test (cons_option o (filter_map f xs)) in
+    elim (f x) as P [
+      | None ↦ λ e.
+          let Q : Bool → Type 0 = λ b. filter_map f (cond b (x ∷ filter keep xs) (filter keep xs)) ≡ filter test (filter_map f xs) in
+          elim (keep x) as Q [ true ↦ ap (λ o. cons_option o (filter_map f (filter keep xs))) e ∙ rest | false ↦ rest ]
+      | Some y ↦ λ e.
+          let Q : Bool → Type 0 = λ b. keep x ≡ b → filter_map f (cond b (x ∷ filter keep xs) (filter keep xs)) ≡ cond b (y ∷ filter test (filter_map f xs)) (filter test (filter_map f xs)) in
+          elim (keep x) as Q [
+            | true ↦ λ _. ap (λ o. cons_option o (filter_map f (filter keep xs))) e ∙ ap (λ ys. y ∷ ys) rest
+            | false ↦ λ _. rest
+          ] refl
+          ∙ ap (λ b. cond b (y ∷ filter test (filter_map f xs)) (filter test (filter_map f xs))) (same x (inl refl) y e)
+    ] refl
+
+-- the keys of the pairs of other keys
+keys_of-without : {K V : Type 0} (eq : K → K → Bool) (k : K) (pairs : List (K × V)) → keys_of (pairs_without eq pairs k) ≡ filter (λ j. not (eq k j)) (keys_of pairs)
+keys_of-without eq k [] = refl
+keys_of-without {K} eq k (p ∷ pairs) =
+    let P : Bool → Type 0 = λ b. keys_of (cond b (p ∷ pairs_without eq pairs k) (pairs_without eq pairs k)) ≡ cond b (p.0 ∷ filter (λ j. not (eq k j)) (keys_of pairs)) (filter (λ j. not (eq k j)) (keys_of pairs)) in
+    elim (not (eq k p.0)) as P [ true ↦ ap (λ js. p.0 ∷ js) (keys_of-without eq k pairs) | false ↦ keys_of-without eq k pairs ]
+
+-- no key that is equal to k is among those that aren't
+module _ {K : Type 0} {eq : K → K → Bool} (laws : IsEquivalence eq) where
+  is_listed-equal : (k j : K) (keys : List K) → eq k j ≡ true → is_listed eq (filter (λ i. not (eq k i)) keys) j ≡ false
+  is_listed-equal k j [] e = refl
+  is_listed-equal k j (i ∷ keys) e =
+      let rest : List K = filter (λ i. not (eq k i)) keys in
+      let P : Bool → Type 0 = λ b. eq k i ≡ b → is_listed eq (cond (not b) (i ∷ rest) rest) j ≡ false in
+      elim (eq k i) as P [
+        | true ↦ λ _. is_listed-equal k j keys e
+        | false ↦ λ n. rw (sym (laws.congr k j i e) ∙ n) (is_listed-equal k j keys e)
+      ] refl
+
+-- values leave
+module _ {V : Type 0} {gone : ℕ → Bool} {values values_after : Slots V ValueLink} (takes : TakesValues gone values values_after) where
+  pub still_listed : (q : ℕ) → IsIn q values_after.order → IsIn q values.order × (gone q ≡ false)
+  still_listed q listed =
+      let found = IsIn-kept (λ p. not (gone p)) q values.order (subst (IsIn q) takes.order listed) in
+      (found.0, not_true (gone q) found.1)
+
+  pub values_sound-taken : IsSound values → values_after.capacity ≡ values.capacity → IsSound values_after
+  values_sound-taken sound room = record {
+    distinct = rw takes.order (AreDistinct-filter (λ p. not (gone p)) values.order sound.distinct);
+    filled = λ q i. let old = still_listed q i in subst IsSome (sym (takes.items q old.1)) (sound.filled q old.0);
+    linked = λ q i. let old = still_listed q i in subst IsSome (sym (takes.links q old.1)) (sound.linked q old.0);
+    fits = omega (arith, sound.fits, room, ap length takes.order, filter_shorter (λ p. not (gone p)) values.order);
+  }
+
+  same_owner : (key q : ℕ) → IsIn q values_after.order → is_value_of values_after key q ≡ is_value_of values key q
+  same_owner key q listed = let old = still_listed q listed in rw (takes.links q old.1) refl
+
+  -- a chain loses just those that leave
+  pub chain_of-taken : (key : ℕ) → chain_of values_after key ≡ filter (is_value_of values key) (filter (λ p. not (gone p)) values.order)
+  chain_of-taken key =
+      filter-agree (is_value_of values_after key) (is_value_of values key) values_after.order (same_owner key)
+      ∙ ap (filter (is_value_of values key)) takes.order
+
+-- a key leaves
+module _ {K : Type 0} {keys keys_after : Slots K KeyLink} {place : ℕ} {stored : K} (removes : Removes keys keys_after place stored) where
+  pub key_still_listed : (q : ℕ) → IsIn q keys_after.order → IsIn q keys.order × (q ≢ place)
+  key_still_listed q listed =
+      let found = IsIn-kept (λ p. not (p == place)) q keys.order (subst (IsIn q) removes.order listed) in
+      (found.0, λ same. true≢false (sym (eq-eqb q place same) ∙ not_true (q == place) found.1))
+
+  pub key_stays : (q : ℕ) → IsIn q keys.order → q ≢ place → IsIn q keys_after.order
+  key_stays q listed differs = subst (IsIn q) (sym removes.order) (IsIn-filter (λ p. not (p == place)) q keys.order (ap not (ne_eqb q place differs)) listed)
+
+  pub keys_sound-removed : IsSound keys → keys_after.capacity ≡ keys.capacity → IsSound keys_after
+  keys_sound-removed sound room = record {
+    distinct = rw removes.order (AreDistinct-filter (λ p. not (p == place)) keys.order sound.distinct);
+    filled = λ q i. let old = key_still_listed q i in subst IsSome (sym (removes.others.items q old.1)) (sound.filled q old.0);
+    linked = λ q i. let old = key_still_listed q i in subst IsSome (sym (removes.others.links q old.1)) (sound.linked q old.0);
+    fits = omega (arith, sound.fits, room, removes.shorter);
+  }
+
+-- a key leaves with all its values
+module _ {K V : Type 0} {eq : K → K → Bool} (laws : IsEquivalence eq) {hash : K → ℕ} {keys keys_after : Slots K KeyLink} {rows : FinMap nat_cmp ℕ} {values values_after : Slots V ValueLink}
+    (agrees : Agrees eq hash keys rows values) (k : K) (place : ℕ) (has : HasKey eq keys k place) {stored : K}
+    (takes : TakesValues (is_value_of values place) values values_after) (removes : Removes keys keys_after place stored) where
+  -- the keys of the values that stay are others
+  other_key : (q : ℕ) (l : ValueLink) → IsIn q values_after.order → link_at values q ≡ Some l → l.key ≢ place
+  other_key q l listed is same =
+      let old = still_listed takes q listed in
+      true≢false (sym (is_value_of-is keys values place q l is ∙ eq-eqb l.key place same) ∙ old.1)
+
+  same_chain : (key : ℕ) → key ≢ place → chain_of values_after key ≡ chain_of values key
+  same_chain key differs =
+      chain_of-taken takes key
+      ∙ filter-among (is_value_of values key) (λ p. not (is_value_of values place p)) values.order (λ q listed own.
+      let l = held (link_at values q) (agrees.values_sound.linked q listed) in
+      let is_key : l.value.key ≡ key = owner q l.value l.is own in
+      ap not (is_value_of-is keys values place q l.value l.is ∙ ne_eqb l.value.key place (λ same. differs (sym is_key ∙ same))))
+    where
+      owner : (q : ℕ) (l : ValueLink) → link_at values q ≡ Some l → is_value_of values key q ≡ true → l.key ≡ key
+      owner q l is own = elim (cases_eq l.key key) [
+        | inl same ↦ same
+        | inr other ↦ absurd (true≢false (sym own ∙ is_value_of-is keys values key q l is ∙ ne_eqb l.key key other))
+      ]
+
+  pub chained-taken : IsChained keys_after values_after
+  chained-taken = record {
+    owned = λ q l listed is.
+        let old = still_listed takes q listed in
+        let was = sym (takes.links q old.1) ∙ is in
+        key_stays removes l.key (agrees.chained.owned q l old.0 was) (other_key q l listed was);
+    head = λ key l listed is. let old = key_still_listed removes key listed in
+        ap first_of (same_chain key old.1) ∙ agrees.chained.head key l old.0 (sym (removes.others.links key old.1) ∙ is);
+    tail = λ key l listed is. let old = key_still_listed removes key listed in
+        ap last_of (same_chain key old.1) ∙ agrees.chained.tail key l old.0 (sym (removes.others.links key old.1) ∙ is);
+    length = λ key l listed is. let old = key_still_listed removes key listed in
+        ap length (same_chain key old.1) ∙ agrees.chained.length key l old.0 (sym (removes.others.links key old.1) ∙ is);
+    previous = λ q l listed is.
+        let old = still_listed takes q listed in
+        let was = sym (takes.links q old.1) ∙ is in
+        ap (λ c. previous_of c q) (same_chain l.key (other_key q l listed was)) ∙ agrees.chained.previous q l old.0 was;
+    next = λ q l listed is.
+        let old = still_listed takes q listed in
+        let was = sym (takes.links q old.1) ∙ is in
+        ap (λ c. next_of c q) (same_chain l.key (other_key q l listed was)) ∙ agrees.chained.next q l old.0 was;
+  }
+
+  -- the keys that stay are those that aren't equal
+  pub items_of-removed : items_of keys_after ≡ filter (λ j. not (eq k j)) (items_of keys)
+  items_of-removed =
+      ap (filter_map (item_at keys_after)) removes.order
+      ∙ filter_map-agree (item_at keys_after) (item_at keys) (without keys.order place)
+      (λ q i. removes.others.items q (key_still_listed removes q (subst (IsIn q) (sym removes.order) i)).1)
+      ∙ filter_map-filter (item_at keys) (λ q. not (q == place)) (λ j. not (eq k j)) keys.order (λ q listed j is. ap not (own q listed j is (cases_eq q place)))
+    where
+      own : (q : ℕ) → IsIn q keys.order → (j : K) → item_at keys q ≡ Some j → (q ≡ place) ⊎ (q ≢ place) → (q == place) ≡ eq k j
+      own q listed j is (inl same) =
+          let one : Some has.stored ≡ Some j = sym has.item_is ∙ ap (item_at keys) (sym same) ∙ is in
+          let is_stored : has.stored ≡ j = cc in
+          eq-eqb q place same ∙ sym (ap (eq k) (sym is_stored) ∙ has.equal)
+      own q listed j is (inr differs) =
+          let P : Bool → Type 0 = λ b. eq k j ≡ b → false ≡ b in
+          ne_eqb q place differs ∙ elim (eq k j) as P [
+            | true ↦ λ e. absurd (differs (sym (same_place laws keys keys.order agrees.distinct place q has.stored j has.listed listed has.item_is is
+                (sym (laws.congr k has.stored j has.equal) ∙ e))))
+            | false ↦ λ _. refl
+          ] refl
+
+  -- the pairs that stay are those of the other keys
+  pub pairs_of-taken : pairs_of keys_after values_after ≡ pairs_without eq (pairs_of keys values) k
+  pairs_of-taken =
+      filter_map-agree (pair_at keys_after values_after) (pair_at keys values) values_after.order same
+      ∙ ap (filter_map (pair_at keys values)) takes.order
+      ∙ filter_map-filter (pair_at keys values) (λ q. not (is_value_of values place q)) (λ p. not (eq k p.0)) values.order (λ q listed p is.
+      let pair = pair_in agrees q listed in
+      let one : Some (pair.key, pair.value) ≡ Some p = sym pair.pair_is ∙ is in
+      let is_pair : (pair.key, pair.value) ≡ p = cc in
+      ap not (owns laws agrees k place has q pair ∙ ap (λ (e : K × V). eq k e.0) is_pair))
+    where
+      same : (q : ℕ) → IsIn q values_after.order → pair_at keys_after values_after q ≡ pair_at keys values q
+      same q listed =
+          let old = still_listed takes q listed in
+          let p = pair_in agrees q old.0 in
+          let differs = other_key q p.link listed p.link_is in
+          pair_at-is keys_after values_after q p.link p.key p.value (takes.links q old.1 ∙ p.link_is) (removes.others.items p.link.key differs ∙ p.key_is) (takes.items q old.1 ∙ p.value_is)
+          ∙ sym p.pair_is
+
+  module _ (rows_after : FinMap nat_cmp ℕ) (rows_are : rows_after ≡ remove rows place)
+      (keys_room : keys_after.capacity ≡ keys.capacity) (values_room : values_after.capacity ≡ values.capacity) where
+    row_of : (q : ℕ) → get rows_after q ≡ cond (q == place) None (get rows q)
+    row_of q = ap (λ m. get m q) rows_are ∙ get-remove nat_cmp_total rows place q ∙ ap (λ b. cond b None (get rows q)) (unsigned_tied q place)
+
+    row_elsewhere : (q : ℕ) → q ≢ place → get rows_after q ≡ get rows q
+    row_elsewhere q differs = row_of q ∙ ap (λ b. cond b None (get rows q)) (ne_eqb q place differs)
+
+    had_row : contains_key rows place ≡ true
+    had_row =
+        let l = held (link_at keys place) (agrees.keys_sound.linked place has.listed) in
+        ap is_some (agrees.in_table place l.value has.listed l.is)
+
+    pub agrees-taken : Agrees eq hash keys_after rows_after values_after
+    agrees-taken = record {
+      keys_sound = keys_sound-removed removes agrees.keys_sound keys_room;
+      values_sound = values_sound-taken takes agrees.values_sound values_room;
+      chained = chained-taken;
+      distinct = subst (IsDistinct eq) (sym items_of-removed) (IsDistinct-filter laws (λ j. not (eq k j)) (items_of keys) agrees.distinct);
+      hashed = λ q j l listed item is. let old = key_still_listed removes q listed in
+          agrees.hashed q j l old.0 (sym (removes.others.items q old.1) ∙ item) (sym (removes.others.links q old.1) ∙ is);
+      in_table = λ q l listed is. let old = key_still_listed removes q listed in
+          row_elsewhere q old.1 ∙ agrees.in_table q l old.0 (sym (removes.others.links q old.1) ∙ is);
+      listed = λ q h is. elim (cases_eq q place) [
+        | inl same ↦ absurd (let gone : None ≡ Some h = sym (row_of q ∙ ap (λ b. cond b None (get rows q)) (eq-eqb q place same)) ∙ is in cc)
+        | inr differs ↦ key_stays removes q (agrees.listed q h (sym (row_elsewhere q differs) ∙ is)) differs
+      ];
+      counted =
+          ap len rows_are ∙ len-remove nat_cmp_total rows place ∙ ap (λ b. cond b (len rows - 1) (len rows)) had_row
+          ∙ (let c = agrees.counted in let s = removes.shorter in omega (arith, c, s));
+    }
+
+    -- the lists are without the key and its pairs
+    pub lists_of-taken : lists_of keys_after values_after ≡ removed eq (lists_of keys values) k
+    lists_of-taken =
+        (λ i. lists (items_of-removed i) (pairs_of-taken i))
+        ∙ ap (λ js. lists js (pairs_without eq (pairs_of keys values) k)) (filter-agree (λ j. not (eq k j)) (is_listed eq (keys_of (pairs_without eq (pairs_of keys values) k))) (items_of keys) named)
+      where
+        named : (j : K) → IsIn j (items_of keys) → not (eq k j) ≡ is_listed eq (keys_of (pairs_without eq (pairs_of keys values) k)) j
+        named j listed =
+            let there : is_listed eq (keys_of (pairs_of keys values)) j ≡ true =
+            same_keys laws (lists_of keys values) j (well_formed agrees) ∙ is_listed-self laws j (items_of keys) listed in
+            let P : Bool → Type 0 = λ b. eq k j ≡ b → not b ≡ is_listed eq (keys_of (pairs_without eq (pairs_of keys values) k)) j in
+            elim (eq k j) as P [
+              | true ↦ λ e. sym (ap (λ js. is_listed eq js j) (keys_of-without eq k (pairs_of keys values)) ∙ is_listed-equal laws k j (keys_of (pairs_of keys values)) e)
+              | false ↦ λ n. sym (ap (λ js. is_listed eq js j) (keys_of-without eq k (pairs_of keys values))
+                  ∙ is_listed-others laws k j (keys_of (pairs_of keys values)) (laws.symm j k ∙ n) ∙ there)
+            ] refl
+
+-- what a whole entry was
+module _ {K V : Type 0} {eq : K → K → Bool} (laws : IsEquivalence eq) {hash : K → ℕ} {keys keys_after : Slots K KeyLink} {rows rows_after : FinMap nat_cmp ℕ} {values values_after : Slots V ValueLink}
+    (agrees : Agrees eq hash keys rows values) (k : K) (place : ℕ) (has : HasKey eq keys k place) {stored : K} {v : V}
+    (takes : TakesEntry keys keys_after rows rows_after values values_after place stored v) where
+  pub entry_is : option_map {U = K × V} (λ x. (stored_key eq (items_of keys) k, x)) (slice_get (values_of eq (pairs_of keys values) k) 0) ≡ Some (stored, v)
+  entry_is =
+      let l = held (link_at keys place) (agrees.keys_sound.linked place has.listed) in
+      let one : Some has.stored ≡ Some stored = sym has.item_is ∙ takes.removed.had in
+      let same : has.stored ≡ stored = cc in
+      let own : stored_key eq (items_of keys) k ≡ stored = stored_key_only laws k has.stored (items_of keys) agrees.distinct (IsIn-filter_map (item_at keys) place has.stored keys.order has.listed has.item_is) has.equal ∙ same in
+      ap (option_map {U = K × V} (λ x. (stored_key eq (items_of keys) k, x))) (first_value laws agrees k place l.value v has l.is (takes.first l.value l.is))
+      ∙ ap (λ j. Some (j, v)) own
+
+  pub entry_count : length (values_of eq (pairs_of keys values) k) ≡ length (chain_of values place)
+  entry_count =
+      let l = held (link_at keys place) (agrees.keys_sound.linked place has.listed) in
+      count_of_values laws agrees k place l.value has l.is ∙ sym (agrees.chained.length place l.value has.listed l.is)
+
+-- fewer values fit as well
+pub fits-taken : {V : Type 0} {gone : ℕ → Bool} (values values_after : Taped V ValueLink) → TakesValues gone values.list values_after.list
+    → values_after.list.capacity ≡ values.list.capacity → HasTapeRoomFor values 0 → HasTapeRoomFor values_after 0
+fits-taken {gone = gone} values values_after takes room fits =
+    omega (arith, fits, ap (λ n. n / 2) room, ap length takes.order, filter_shorter (λ p. not (gone p)) values.list.order)
+
+-- an absent key has nothing to be removed
+module _ {K V : Type 0} {eq : K → K → Bool} (laws : IsEquivalence eq) (m : Lists K V) (k : K) (formed : IsWellFormed eq m) (unlisted : is_listed eq m.keys k ≡ false) where
+  apart : (p : K × V) → IsIn p m.pairs → eq k p.0 ≡ false
+  apart p i =
+      let P : Bool → Type 0 = λ b. eq k p.0 ≡ b → b ≡ false in
+      elim (eq k p.0) as P [
+        | true ↦ λ e. sym (is_listed-member laws k p.0 m.keys (formed.listed p.0 (pair_named p.0 p.1 m.pairs i)) e) ∙ unlisted
+        | false ↦ λ _. refl
+      ] refl
+
+  pub removed-absent : removed eq m k ≡ m
+  removed-absent =
+      ap (λ ps. kept eq m ps) (filter-all (λ p. not (eq k p.0)) m.pairs (λ p i. ap not (apart p i)))
+      ∙ ap (λ ks. lists ks m.pairs) (filter-all (is_listed eq (keys_of m.pairs)) m.keys (λ j i. same_keys laws m j formed ∙ is_listed-self laws j m.keys i))
+
+-- nothing taken out
+pub takes_none : {n : ℕ} → n ≡ 0 → (t : TapeNumbers) → TakesOut n t t
+takes_none none t = record { freed = omega (arith, none); paid = omega (arith, none) }

@@ -1,0 +1,168 @@
+-- The values of a chain leave one after another.
+use Rattle.std.proofs.Common.{◌≡◌, ◌≢◌, ◌==◌, ◌+◌, ◌<◌, ◌≤◌, ◌||◌, ℕ, suc, Bool, true, false, not, cond, List, [], ◌∷◌, ◌++◌, length, filter, Option, Some, None, refl, sym, ap, ◌∙◌, subst, inl, inr, true≢false, arith, append_assoc, length-append}
+use Rattle.std.proofs.lemmas.Bool.{cases_eq, eq-eqb, ne_eqb}
+use Rattle.std.proofs.lemmas.List.{append-nil}
+use Rattle.multimap_slots.specs.Lists.{IsIn, AreDistinct, first_of, next_of, without}
+use Rattle.multimap_slots.specs.Slots.{Slots, IsSound, Removes, item_at, link_at}
+use Rattle.multimap_slots.proofs.ListsLemmas.{IsIn-left, IsIn-right, IsIn-append, AreDistinct-gone, next_of-split}
+use Rattle.multimap_walks.specs.declared.links.KeyLink.{KeyLink}
+use Rattle.multimap_walks.specs.declared.links.ValueLink.{ValueLink}
+use Rattle.multimap_walks.specs.Chained.{IsChained, is_value_of, chain_of}
+use Rattle.ordered_multimap.specs.Takes.{TakesValues, IsTaking, among}
+use Rattle.ordered_multimap.proofs.Members.{IsIn-kept, IsIn-filter, filter-all}
+use Rattle.ordered_multimap.proofs.PlaceLemmas.{held, AreDistinct-filter, filter-agree}
+use Rattle.ordered_multimap.proofs.AgreesLemmas.{is_value_of-is}
+
+-- whether a place is among others
+among-none : (places : List ℕ) (q : ℕ) → ¬ IsIn q places → among places q ≡ false
+among-none [] q absent = refl
+among-none (p ∷ places) q absent = rw (ne_eqb p q (λ e. absent (inl (sym e)))) (among-none places q (λ i. absent (inr i)))
+
+among-in : (places : List ℕ) (q : ℕ) → IsIn q places → among places q ≡ true
+among-in [] q i = absurd i
+among-in (p ∷ places) q i = elim (cases_eq p q) [
+  | inl same ↦ rw (eq-eqb p q same) refl
+  | inr differs ↦ elim i [
+    | inl here ↦ absurd (differs (sym here))
+    | inr later ↦ rw (ne_eqb p q differs) (among-in places q later)
+  ]
+]
+
+not_among : (places : List ℕ) (q : ℕ) → among places q ≡ false → ¬ IsIn q places
+not_among places q e i = true≢false (sym (among-in places q i) ∙ e)
+
+among-push : (places : List ℕ) (p q : ℕ) → among (places ++ p ∷ []) q ≡ (among places q || (p == q))
+among-push [] p q = elim (p == q) as (λ b. (b || false) ≡ b) [ true ↦ refl | false ↦ refl ]
+among-push (r ∷ places) p q = elim (r == q) as (λ b. (b || among (places ++ p ∷ []) q) ≡ ((b || among places q) || (p == q))) [ true ↦ refl | false ↦ among-push places p q ]
+
+neither : (a b : Bool) → (a || b) ≡ false → (a ≡ false) × (b ≡ false)
+neither true b e = absurd (true≢false e)
+neither false b e = (refl, e)
+
+-- one more that is left out
+filter-without : (gone : ℕ → Bool) (p : ℕ) (qs : List ℕ) → without (filter (λ q. not (gone q)) qs) p ≡ filter (λ q. not (gone q || (p == q))) qs
+filter-without gone p [] = refl
+filter-without gone p (q ∷ qs) =
+    let rest = filter-without gone p qs in
+    let P : Bool → Type 0 = λ b. without (cond (not b) (q ∷ filter (λ q. not (gone q)) qs) (filter (λ q. not (gone q)) qs)) p ≡ cond (not (b || (p == q))) (q ∷ filter (λ q. not (gone q || (p == q))) qs) (filter (λ q. not (gone q || (p == q))) qs) in
+    elim (gone q) as P [
+      | true ↦ rest
+      | false ↦ elim (cases_eq q p) [
+        | inl same ↦ rw (eq-eqb q p same, eq-eqb p q (sym same)) rest
+        | inr differs ↦ rw (ne_eqb q p differs, ne_eqb p q (λ e. differs (sym e))) (ap (λ rs. q ∷ rs) rest)
+      ]
+    ]
+
+-- nothing has left yet
+taking-start : {V : Type 0} (chain : List ℕ) (values : Slots V ValueLink) → IsTaking chain 0 (first_of chain) values values
+taking-start chain values = record {
+  gone = [];
+  rest = chain;
+  parts = refl;
+  count = refl;
+  following_is = refl;
+  taken = record { order = sym (filter-all (λ q. not (among [] q)) values.order (λ q i. refl)); items = λ q e. refl; links = λ q e. refl };
+}
+
+module _ {K V : Type 0} {keys : Slots K KeyLink} {values : Slots V ValueLink} (sound : IsSound values) (chained : IsChained keys values) (key : ℕ) where
+  distinct : AreDistinct (chain_of values key)
+  distinct = AreDistinct-filter (is_value_of values key) values.order sound.distinct
+
+  in_list : (p : ℕ) → IsIn p (chain_of values key) → IsIn p values.order × (is_value_of values key p ≡ true)
+  in_list p i = IsIn-kept (is_value_of values key) p values.order i
+
+  -- its link names the next place of the chain
+  onward : (p : ℕ) (l : ValueLink) → IsIn p (chain_of values key) → link_at values p ≡ Some l → next_of (chain_of values key) p ≡ l.next
+  onward p l i is = elim (cases_eq l.key key) [
+    | inl same ↦ subst (λ k. next_of (chain_of values k) p ≡ l.next) same (chained.next p l (in_list p i).0 is)
+    | inr other ↦ absurd (true≢false (sym (in_list p i).1 ∙ is_value_of-is keys values key p l is ∙ ne_eqb l.key key other))
+  ]
+
+  -- the first one that leaves is the head
+  pub taking-head : (l : KeyLink) → IsIn key keys.order → link_at keys key ≡ Some l → IsTaking (chain_of values key) 0 (Some l.head) values values
+  taking-head l listed is = subst (λ o. IsTaking (chain_of values key) 0 o values values) (chained.head key l listed is) (taking-start (chain_of values key) values)
+
+  -- no more have left than the chain has
+  pub taking-most : (n : ℕ) (following : Option ℕ) (mid : Slots V ValueLink) → IsTaking (chain_of values key) n following values mid → n ≤ length (chain_of values key)
+  taking-most n following mid taking = omega (arith, taking.count, ap length taking.parts, length-append taking.gone taking.rest)
+
+  module _ (n : ℕ) (p : ℕ) (mid : Slots V ValueLink) (taking : IsTaking (chain_of values key) n (Some p) values mid) where
+    -- the next one, and those behind it
+    record Onward : Type 0 where
+      behind : List ℕ
+      is : chain_of values key ≡ taking.gone ++ p ∷ behind
+
+    next_one : Onward
+    next_one = split taking.rest taking.parts taking.following_is
+      where
+        split : (rest : List ℕ) → chain_of values key ≡ taking.gone ++ rest → Some p ≡ first_of rest → Onward
+        split [] parts e = absurd (cc)
+        split (q ∷ behind) parts e = let same : q ≡ p = cc in record { behind = behind; is = parts ∙ ap (λ r. taking.gone ++ r ∷ behind) same }
+
+    in_chain : IsIn p (chain_of values key)
+    in_chain = subst (IsIn p) (sym next_one.is) (IsIn-right p taking.gone (p ∷ next_one.behind) (inl refl))
+
+    not_gone : ¬ IsIn p taking.gone
+    not_gone i = AreDistinct-gone taking.gone p next_one.behind (subst AreDistinct next_one.is distinct) (IsIn-left p taking.gone next_one.behind i)
+
+    pub taking-listed : IsIn p mid.order
+    taking-listed =
+        subst (IsIn p) (sym taking.taken.order)
+        (IsIn-filter (λ q. not (among taking.gone q)) p values.order (ap not (among-none taking.gone p not_gone)) (in_list p in_chain).0)
+
+    pub taking-step : (new : Slots V ValueLink) (v : V) (l : ValueLink) → link_at mid p ≡ Some l → Removes mid new p v → IsTaking (chain_of values key) (suc n) l.next values new
+    taking-step new v l is removes =
+        let was = sym (taking.taken.links p (among-none taking.gone p not_gone)) ∙ is in
+        let none : (q : ℕ) → among (taking.gone ++ p ∷ []) q ≡ false → (among taking.gone q ≡ false) × (q ≢ p) =
+        λ q e. let two = neither (among taking.gone q) (p == q) (sym (among-push taking.gone p q) ∙ e) in
+        (two.0, λ same. true≢false (sym (eq-eqb p q (sym same)) ∙ two.1)) in
+        record {
+          gone = taking.gone ++ p ∷ [];
+          rest = next_one.behind;
+          parts = next_one.is ∙ sym (append_assoc taking.gone (p ∷ []) next_one.behind);
+          count = omega (arith, length-append taking.gone (p ∷ []), taking.count);
+          following_is =
+              sym (onward p l in_chain was) ∙ ap (λ qs. next_of qs p) next_one.is
+              ∙ next_of-split taking.gone p next_one.behind not_gone;
+          taken = record {
+            order = removes.order ∙ ap (λ qs. without qs p) taking.taken.order ∙ filter-without (among taking.gone) p values.order
+                ∙ filter-agree (λ q. not (among taking.gone q || (p == q))) (λ q. not (among (taking.gone ++ p ∷ []) q)) values.order (λ q i. ap not (sym (among-push taking.gone p q)));
+            items = λ q e. removes.others.items q (none q e).1 ∙ taking.taken.items q (none q e).0;
+            links = λ q e. removes.others.links q (none q e).1 ∙ taking.taken.links q (none q e).0;
+          };
+        }
+
+    pub taking-item : item_at mid p ≡ item_at values p
+    taking-item = taking.taken.items p (among-none taking.gone p not_gone)
+
+  -- one more is left while fewer have gone than the chain has
+  pub taking-more : (n : ℕ) (following : Option ℕ) (mid : Slots V ValueLink) → IsTaking (chain_of values key) n following values mid
+      → n < length (chain_of values key) → following ≢ None
+  taking-more n following mid taking fewer none = absurd (omega (arith, fewer, taking.count, ap length taking.parts, length-append taking.gone taking.rest, ap length (ended taking.rest (sym taking.following_is ∙ none))))
+    where
+      ended : (rest : List ℕ) → first_of rest ≡ None → rest ≡ []
+      ended [] e = refl
+      ended (q ∷ rest) e = absurd (cc)
+
+  -- all have left
+  pub taking-end : (n : ℕ) (following : Option ℕ) (new : Slots V ValueLink) → IsTaking (chain_of values key) n following values new
+      → n ≡ length (chain_of values key) → TakesValues (is_value_of values key) values new
+  taking-end n following new taking all =
+      let whole : taking.gone ≡ chain_of values key = sym (taking.parts ∙ ap (λ qs. taking.gone ++ qs) (nothing taking.rest (omega (arith, all, taking.count, ap length taking.parts, length-append taking.gone taking.rest))) ∙ append-nil taking.gone) in
+      let same : (q : ℕ) → IsIn q values.order → among taking.gone q ≡ is_value_of values key q = λ q i. ap (λ qs. among qs q) whole ∙ owned q i (is_value_of values key q) refl in
+      record {
+        order = taking.taken.order ∙ filter-agree (λ q. not (among taking.gone q)) (λ q. not (is_value_of values key q)) values.order (λ q i. ap not (same q i));
+        items = λ q e. taking.taken.items q (apart whole q e);
+        links = λ q e. taking.taken.links q (apart whole q e);
+      }
+    where
+      nothing : (rest : List ℕ) → length rest ≡ 0 → rest ≡ []
+      nothing [] e = refl
+      nothing (q ∷ rest) e = absurd (omega (arith, e))
+
+      owned : (q : ℕ) → IsIn q values.order → (b : Bool) → is_value_of values key q ≡ b → among (chain_of values key) q ≡ b
+      owned q i true e = among-in (chain_of values key) q (IsIn-filter (is_value_of values key) q values.order e i)
+      owned q i false e = among-none (chain_of values key) q (λ j. true≢false (sym (in_list q j).1 ∙ e))
+
+      apart : taking.gone ≡ chain_of values key → (q : ℕ) → is_value_of values key q ≡ false → among taking.gone q ≡ false
+      apart whole q e = ap (λ qs. among qs q) whole ∙ among-none (chain_of values key) q (λ j. true≢false (sym (in_list q j).1 ∙ e))

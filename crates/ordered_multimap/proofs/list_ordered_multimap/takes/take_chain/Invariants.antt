@@ -1,0 +1,13 @@
+use Rattle.std.proofs.Common.{◌≡◌, ◌+◌}
+use Rattle.multimap_walks.specs.Chained.{chain_of}
+use Rattle.ordered_multimap.specs.Takes.{IsTaking}
+use Rattle.ordered_multimap.proofs.list_ordered_multimap.takes.take_chain.Given as goal
+
+abbrev pub invariant-loop : goal.invariant-loop
+invariant-loop g l = record {
+  taking : IsTaking (chain_of l.fn.values.list l.fn.place) l.counter l.following l.fn.values.list l.values.list;
+  moved : l.values.moved ≡ l.fn.values.moved;
+  freed : l.values.freed ≡ l.fn.values.freed + l.counter;
+  holes : l.values.holes ≡ l.fn.values.holes + l.counter;
+  capacity : l.values.list.capacity ≡ l.fn.values.list.capacity;
+}

@@ -1,0 +1,76 @@
+//! Keys that leave with all their values, and all pairs at once.
+ghost use Rattle.std.specs.Prelude.{◌≡◌, length, slice_get, option_map};
+ghost use Rattle.ordered_multimap.specs.Lists.{empty_lists};
+ghost use Rattle.ordered_multimap.specs.Pairs.{values_of};
+ghost use Rattle.ordered_multimap.specs.Keys.{stored_key};
+ghost use Rattle.ordered_multimap.specs.Changes.{removed};
+ghost use Rattle.ordered_multimap.specs.Rooms.{KeepsRooms, SameRooms};
+ghost use Rattle.ordered_multimap.specs.TapeNumbers.{TakesOut};
+
+use super::ListOrderedMultimap;
+use super::lookup::find;
+use super::takes::take_entry;
+use std::alloc::Allocator;
+use std::hash::{BuildHasher, Hash};
+
+impl<K: Eq + Hash, V, S: BuildHasher, A: Allocator> ListOrderedMultimap<K, V, S, A> {
+    /// Takes the key out with all its values, and answers the first of them; the others are dropped,
+    /// and so is the stored key. None for an absent key. The other keys and pairs keep their order.
+    ///
+    /// One look-up, then the slot of the key and those of its values. No memory is taken and none
+    /// is given back: the slots are left for others.
+    pub fn remove(&mut self, key: &K) -> Option<V>
+    where
+        K: Drop,
+        V: Drop,
+        ensures value { result ≡ slice_get (values_of K.eq self.old.lists.pairs key.now) 0 }
+        ensures lists { self.new.lists ≡ removed K.eq self.old.lists key.now }
+        ensures rooms { SameRooms self.old self.new }
+        ensures taken { TakesOut (length (values_of K.eq self.old.lists.pairs key.now))
+            self.old.tape self.new.tape }
+    {
+        match self.remove_entry(key) {
+            Some((_key, value)) => Some(value),
+            None => None,
+        }
+    }
+
+    /// The same, and the stored key is answered before its first value.
+    pub fn remove_entry(&mut self, key: &K) -> Option<(K, V)>
+    where
+        V: Drop,
+        ensures entry { result ≡ option_map (λ v. (stored_key K.eq self.old.lists.keys key.now, v))
+            (slice_get (values_of K.eq self.old.lists.pairs key.now) 0) }
+        ensures lists { self.new.lists ≡ removed K.eq self.old.lists key.now }
+        ensures rooms { SameRooms self.old self.new }
+        ensures taken { TakesOut (length (values_of K.eq self.old.lists.pairs key.now))
+            self.old.tape self.new.tape }
+    {
+        match find(&self.state, &self.keys, &self.table, key) {
+            Some(place) => Some(take_entry(
+                &mut self.keys,
+                &mut self.table,
+                &mut self.values,
+                place,
+            )),
+            None => None,
+        }
+    }
+
+    /// Takes all pairs out, and drops them. The memory stays.
+    ///
+    /// It goes over the slots in use and the lanes of the table.
+    pub fn clear(&mut self)
+    where
+        K: Drop,
+        V: Drop,
+        ensures lists { self.new.lists ≡ empty_lists }
+        ensures rooms { KeepsRooms self.old self.new }
+        ensures slots { self.new.tape.slots ≡ self.old.tape.slots }
+        ensures taken { TakesOut (length self.old.lists.pairs) self.old.tape self.new.tape }
+    {
+        self.keys.clear();
+        self.table.clear();
+        self.values.clear();
+    }
+}
