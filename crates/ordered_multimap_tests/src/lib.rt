@@ -13,4 +13,6 @@ mod examples;
 #[cfg(test)]
 mod refused;
 #[cfg(test)]
+mod removed;
+#[cfg(test)]
 mod walks;
