@@ -1,2 +1,3 @@
-pub mod LeftLemmas
-pub mod WalkLemmas
+pub mod ChainLemmas
+pub mod PairLemmas
+pub mod PathLemmas

@@ -1,4 +1,5 @@
 pub mod ChainWalk
 pub mod Chained
-pub mod Left
+pub mod PairWalk
+pub mod Path
 pub mod Walk

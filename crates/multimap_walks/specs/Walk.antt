@@ -17,7 +17,8 @@ module _ {X : Type 0} where
   -- one answer for each letter: the item at that end of what remains, which is then taken away
   abbrev pub answers_of_walk : List X → List End → List (Option X)
   answers_of_walk items [] = []
-  answers_of_walk items (end ∷ word) = end_item end items ∷ answers_of_walk (end_rest end items) word
+  answers_of_walk items (end ∷ word) =
+      end_item end items ∷ answers_of_walk (end_rest end items) word
 
   -- the word that takes each item once, from the front
   abbrev pub forward : List X → List End

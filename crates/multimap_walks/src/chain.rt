@@ -2,46 +2,47 @@
 ghost use Rattle.std.specs.Prelude.{◌≡◌, Some, None, [], length, IfSome, MatchOption, ⊤};
 ghost use Rattle.std.specs.Iterator.{at_most, UpTo};
 ghost use Rattle.std.specs.Iterator.SizeHint.{IsWithinCount};
-ghost use Rattle.multimap_slots.specs.Slots.{HasLink, link_at};
-ghost use Rattle.multimap_slots.specs.Lists.{IsIn};
-ghost use Rattle.multimap_walks.specs.Chained.{IsChained, chain_of, values_at};
-ghost use Rattle.multimap_walks.specs.ChainWalk.{GivesFirst, GivesLast};
+ghost use Rattle.multimap_slots.specs.Slots.{HasLink};
+ghost use Rattle.multimap_walks.specs.Chained.{IsChain, IsChained, IsDetachedChain, chain_of, places_along, positions_at, values_at};
+ghost use Rattle.multimap_walks.specs.ChainWalk.{GivesFirst, GivesLast, chain_walk};
 
-use crate::links::{KeyLink, ValueLink};
+use crate::links::{ChainEnds, KeyLink, ValueLink};
 use crate::show::show_left;
-use crate::slots::value_at;
+use crate::slots::chained_at;
 use multimap_slots::{Reads, SlotList, Tape};
 use std::alloc::{AllocError, Allocator, Global};
 use std::fmt;
 use std::iter::FusedIterator;
-use std::marker::Model;
+use std::marker::{Model, PhantomData};
+
+// The ends of no values.
+const NO_CHAIN: ChainEnds = ChainEnds {
+    first: 0,
+    last: 0,
+    length: 0,
+};
 
 /// The values of one key, in order. Each item reads one value slot.
 #[derive(Drop)]
 pub struct EntryValues<'map, K, V, A: Allocator = Global> {
-    keys: &'map SlotList<K, KeyLink, A>,
+    keys: PhantomData<&'map K>,
     values: &'map Tape<V, ValueLink, A>,
-    key: usize,
     front: usize,
     back: usize,
     length: usize,
+    detached: bool,
     reads: Reads,
 }
 
 impl<'map, K, V, A: Allocator> Model for EntryValues<'map, K, V, A> {
-    ghost use Rattle.multimap_walks.specs.Chained.{chain_of, values_at};
-    ghost use Rattle.multimap_walks.specs.ChainWalk.{ChainWalk};
-    ghost use Rattle.multimap_walks.specs.Left.{places_left, IsWalk};
+    ghost use Rattle.multimap_walks.specs.Chained.{IsChain};
+    ghost use Rattle.multimap_walks.specs.ChainWalk.{ChainWalk, chain_walk};
 
     ghost Value = { ChainWalk V };
 
-    ghost view = { λ w. record {
-      left = values_at w.values.now.list (places_left (chain_of w.values.now.list w.key) w.front w.length);
-      reads = w.reads;
-    } };
+    ghost view = { λ w. chain_walk w.values.now.list w.detached w.front w.length w.reads };
 
-    ghost invariant = { λ w. IsWalk w.keys.now w.values.now.list (chain_of w.values.now.list w.key)
-        w.front w.back w.length };
+    ghost invariant = { λ w. IsChain w.values.now.list w.detached w.front w.back w.length };
 }
 
 impl<'map, K, V, A: Allocator> EntryValues<'map, K, V, A> {
@@ -56,29 +57,48 @@ impl<'map, K, V, A: Allocator> EntryValues<'map, K, V, A> {
         requires listed { MatchOption key ⊤ (λ k. HasLink keys.now k.0 k.1) }
         ensures values { MatchOption key (result.left ≡ [])
             (λ k. result.left ≡ values_at values.now.list (chain_of values.now.list k.0)) }
+        ensures positions { MatchOption key (result.positions ≡ [])
+            (λ k. result.positions ≡ positions_at values.now.list (chain_of values.now.list k.0)) }
         ensures reads { result.reads ≡ 0 }
     {
-        // The lengths tell the proof that both lists are sound.
-        let _keys = keys.len();
+        // The length tells the proof that the list is sound.
         let _values = values.len();
-        let Some((key, link)) = key else {
-            return EntryValues {
-                keys,
-                values,
-                key: 0,
-                front: 0,
-                back: 0,
-                length: 0,
-                reads: Reads::new(),
-            };
+        let Some((_, link)) = key else {
+            return EntryValues::along(values, NO_CHAIN, false);
         };
-        EntryValues {
-            keys,
-            values,
-            key,
-            front: link.head,
-            back: link.tail,
+        let ends = ChainEnds {
+            first: link.head,
+            last: link.tail,
             length: link.length,
+        };
+        EntryValues::along(values, ends, false)
+    }
+
+    /// The walk over detached values, which are given by the places of the first and the last and
+    /// by their number. None is the empty walk. Its steps count no read.
+    pub fn new_detached(values: &'map Tape<V, ValueLink, A>, ends: Option<ChainEnds>) -> Self
+        requires { MatchOption ends ⊤
+            (λ e. IsDetachedChain values.now.list e.first e.last e.length) }
+        ensures values { MatchOption ends (result.left ≡ [])
+            (λ e. result.left
+            ≡ values_at values.now.list (places_along values.now.list e.first e.length)) }
+        ensures positions { result.positions ≡ [] }
+        ensures reads { result.reads ≡ 0 }
+    {
+        EntryValues::along(values, ends.unwrap_or(NO_CHAIN), true)
+    }
+
+    fn along(values: &'map Tape<V, ValueLink, A>, ends: ChainEnds, detached: bool) -> Self
+        requires { IsChain values.now.list detached ends.first ends.last ends.length }
+        ensures { result ≡ chain_walk values.now.list detached ends.first ends.length 0 }
+    {
+        EntryValues {
+            keys: PhantomData,
+            values,
+            front: ends.first,
+            back: ends.last,
+            length: ends.length,
+            detached,
             reads: Reads::new(),
         }
     }
@@ -95,7 +115,7 @@ impl<'map, K, V, A: Allocator> Iterator for EntryValues<'map, K, V, A> {
         if self.length == 0 {
             return None;
         }
-        let (value, link) = value_at(self.values, self.front, &mut self.reads);
+        let (value, link) = chained_at(self.values, self.front, self.detached, &mut self.reads);
         self.front = link.next.unwrap_or(self.front);
         self.length -= 1;
         Some(value)
@@ -120,7 +140,7 @@ impl<'map, K, V, A: Allocator> DoubleEndedIterator for EntryValues<'map, K, V, A
         if self.length == 0 {
             return None;
         }
-        let (value, link) = value_at(self.values, self.back, &mut self.reads);
+        let (value, link) = chained_at(self.values, self.back, self.detached, &mut self.reads);
         self.back = link.previous.unwrap_or(self.back);
         self.length -= 1;
         Some(value)
@@ -142,12 +162,12 @@ impl<'map, K, V, A: Allocator> Clone for EntryValues<'map, K, V, A> {
 
     fn clone(&self) -> Result<EntryValues<'map, K, V, A>, AllocError> {
         Ok(EntryValues {
-            keys: self.keys,
+            keys: PhantomData,
             values: self.values,
-            key: self.key,
             front: self.front,
             back: self.back,
             length: self.length,
+            detached: self.detached,
             reads: self.reads.clone()?,
         })
     }

@@ -9,7 +9,7 @@ mod show;
 mod slots;
 
 pub use chain::EntryValues;
-pub use links::{KeyLink, ValueLink};
+pub use links::{ChainEnds, KeyLink, ValueLink};
 pub use pairs::Iter;
 
 /// An end of a list, and with it the direction of one step of a walk.

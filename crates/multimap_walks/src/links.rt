@@ -23,3 +23,14 @@ pub struct ValueLink {
     /// The place of the value behind it under the same key, if it isn't the last.
     pub next: Option<usize>,
 }
+
+/// Where values of one key stand that name each other in order.
+#[derive(Clone, Copy)]
+pub struct ChainEnds {
+    /// The place of the first value.
+    pub first: usize,
+    /// The place of the last value.
+    pub last: usize,
+    /// How many values there are.
+    pub length: usize,
+}

@@ -27,17 +27,13 @@ pub struct Iter<'map, K, V, A: Allocator = Global> {
 
 impl<'map, K, V, A: Allocator> Model for Iter<'map, K, V, A> {
     ghost use Rattle.std.specs.Prelude.{List};
-    ghost use Rattle.std.specs.List.{filter_map};
-    ghost use Rattle.multimap_walks.specs.Chained.{pair_at};
-    ghost use Rattle.multimap_walks.specs.Left.{places_left, IsWalk};
+    ghost use Rattle.multimap_walks.specs.PairWalk.{pairs_along, IsWalk};
 
     ghost Value = { List (K × V) };
 
-    ghost view = { λ w. filter_map (pair_at w.keys.now w.values.now.list)
-        (places_left w.values.now.list.order w.front w.length) };
+    ghost view = { λ w. pairs_along w.keys.now w.values.now.list w.front w.length };
 
-    ghost invariant = { λ w. IsWalk w.keys.now w.values.now.list w.values.now.list.order
-        w.front w.back w.length };
+    ghost invariant = { λ w. IsWalk w.keys.now w.values.now.list w.front w.back w.length };
 }
 
 impl<'map, K, V, A: Allocator> Iter<'map, K, V, A> {

@@ -1,8 +1,8 @@
-//! Reads of listed slots.
-ghost use Rattle.std.specs.Prelude.{◌≡◌, ◌+◌, Some};
+//! Reads of slots.
+ghost use Rattle.std.specs.Prelude.{◌≡◌, ◌+◌, Some, if◌then◌else◌};
 ghost use Rattle.multimap_slots.specs.Lists.{IsIn};
-ghost use Rattle.multimap_slots.specs.Slots.{HasSlot};
-ghost use Rattle.multimap_walks.specs.Chained.{IsChained, pair_at};
+ghost use Rattle.multimap_slots.specs.Slots.{HasSlot, item_at, link_at};
+ghost use Rattle.multimap_walks.specs.Chained.{IsChained, Stands, pair_at};
 
 use crate::links::{KeyLink, ValueLink};
 use multimap_slots::{Reads, SlotList, Tape};
@@ -21,6 +21,26 @@ pub(crate) fn value_at<'map, V, A: Allocator>(
     match values.get(place, reads) {
         Some(slot) => slot,
         None => unreachable!(),
+    }
+}
+
+/// The value at a place of a chain, with its link. One of the list is a read, and a detached one is
+/// none.
+pub(crate) fn chained_at<'map, V, A: Allocator>(
+    values: &'map Tape<V, ValueLink, A>,
+    place: usize,
+    detached: bool,
+    reads: &mut Reads,
+) -> (&'map V, ValueLink)
+    requires { Stands values.now.list detached place }
+    ensures item { item_at values.now.list place ≡ Some result.0.now }
+    ensures link { link_at values.now.list place ≡ Some result.1 }
+    ensures counted { reads.new ≡ reads.old + (if detached then 0 else 1) }
+{
+    if detached {
+        values.get_detached(place)
+    } else {
+        value_at(values, place, reads)
     }
 }
 

@@ -1,20 +1,20 @@
 -- Look-ups by key, and the ends of the pairs.
-use Rattle.std.proofs.Common.{option_map, is_some, IfSome, IfNone, ◌≡◌, ◌≢◌, ◌⊎◌, ◌==◌, ℕ, Bool, true, false, cond, List, [], ◌∷◌, length, filter, map, slice_get, Option, Some, None, refl, sym, ap, ◌∙◌, subst, inl, inr, true≢false}
+use Rattle.std.proofs.Common.{option_map, is_some, IfSome, IfNone, ◌≡◌, ◌≢◌, ◌⊎◌, ◌==◌, ℕ, suc, ◌+◌, Bool, true, false, cond, List, [], ◌∷◌, length, filter, map, slice_get, Option, Some, None, refl, sym, ap, ◌∙◌, subst, inl, inr, true≢false, arith}
 use Rattle.std.proofs.lemmas.Bool.{cases_eq, eq-eqb, ne_eqb}
-use Rattle.std.specs.List.{filter_map, cons_option, IsDistinct, AllByRecursion}
+use Rattle.std.specs.List.{filter_map, cons_option, enumerate_from, IsDistinct, AllByRecursion}
 use Rattle.std.specs.Cmp.{IsEquivalence}
 use Rattle.std.specs.Ordering.{nat_cmp}
 use Rattle.std.specs.FinMap.{FinMap}
 use Rattle.std.specs.Borrow.{Bor}
 use Rattle.std.specs.Map.Iter.{TakesFirst, TakesLast, deref_pair}
-use Rattle.multimap_slots.specs.Lists.{IsIn}
+use Rattle.multimap_slots.specs.Lists.{IsIn, AreDistinct}
 use Rattle.multimap_slots.specs.Slots.{Slots, item_at, link_at}
 use Rattle.multimap_walks.specs.declared.links.KeyLink.{KeyLink}
 use Rattle.multimap_walks.specs.declared.links.ValueLink.{ValueLink}
 use Rattle.multimap_walks.specs.Walk.{end_item}
 use Rattle.multimap_walks.specs.declared.End.TheVariants.{Front, Back}
-use Rattle.multimap_walks.specs.Chained.{is_value_of, chain_of, values_at, pair_at, pairs_of}
-use Rattle.ordered_multimap.specs.Pairs.{has_items, values_of, is_present}
+use Rattle.multimap_walks.specs.Chained.{position_in, is_value_of, chain_of, positions_at, values_at, pair_at, pairs_of}
+use Rattle.ordered_multimap.specs.Pairs.{has_items, values_of, positions_of, is_present}
 use Rattle.ordered_multimap.specs.Keys.{is_listed, stored_key}
 use Rattle.ordered_multimap.specs.Agrees.{Agrees, AreKeyed, HasKey, IsFoundBy, items_of, lists_of}
 use Rattle.ordered_multimap.proofs.Members.{IsIn-kept}
@@ -70,6 +70,23 @@ found_by {keys = keys} keyed alike k = record {
       keyed.in_table place l.value listed l.is ∙ ap Some (keyed.hashed place j l.value listed item l.is ∙ sym (alike k j equal));
 }
 
+-- functions that agree on a list
+map-agree : {X : Type 0} (f g : ℕ → X) (xs : List ℕ) → ((x : ℕ) → IsIn x xs → f x ≡ g x) → map f xs ≡ map g xs
+map-agree f g [] same = refl
+map-agree f g (x ∷ xs) same = ap (λ y. y ∷ map f xs) (same x (inl refl)) ∙ ap (λ ys. g x ∷ ys) (map-agree f g xs (λ y later. same y (inr later)))
+
+-- a key has as many positions as values
+pub length-positions_of : {K V : Type 0} (eq : K → K → Bool) (k : K) (at : ℕ) (pairs : List (K × V))
+    → length (map (λ e. e.0) (filter (λ e. eq k e.1.0) (enumerate_from at pairs))) ≡ length (values_of eq pairs k)
+length-positions_of eq k at [] = refl
+length-positions_of {K} {V} eq k at (p ∷ pairs) =
+    let later = length-positions_of eq k (at + 1) pairs in
+    let rest : List (ℕ × (K × V)) = filter (λ e. eq k e.1.0) (enumerate_from (at + 1) pairs) in
+    elim (eq k p.0) as (λ b. length (map (λ e. e.0) (cond b ((at, p) ∷ rest) rest)) ≡ length (map (λ q. q.1) (cond b (p ∷ filter (λ q. eq k q.0) pairs) (filter (λ q. eq k q.0) pairs)))) [
+      | true ↦ ap suc later
+      | false ↦ later
+    ]
+
 module _ {K V : Type 0} {eq : K → K → Bool} (laws : IsEquivalence eq) {hash : K → ℕ} {keys : Slots K KeyLink} {rows : FinMap nat_cmp ℕ} {values : Slots V ValueLink} (agrees : Agrees eq hash keys rows values) where
   pub keyed : AreKeyed eq hash keys rows
   keyed = record { sound = agrees.keys_sound; hashed = agrees.hashed; in_table = agrees.in_table; listed = agrees.listed }
@@ -93,6 +110,15 @@ module _ {K V : Type 0} {eq : K → K → Bool} (laws : IsEquivalence eq) {hash 
       empty : (xs : List V) → has_items xs ≡ false → xs ≡ []
       empty [] e = refl
       empty (x ∷ xs) e = absurd (true≢false e)
+
+  pub no_position : (k : K) → is_listed eq (items_of keys) k ≡ false → positions_of eq (pairs_of keys values) k ≡ []
+  no_position k none =
+      let shorter = length-positions_of eq k 0 (pairs_of keys values) ∙ ap length (no_value k none) in
+      empty (positions_of eq (pairs_of keys values) k) shorter
+    where
+      empty : (xs : List ℕ) → length xs ≡ 0 → xs ≡ []
+      empty [] e = refl
+      empty (x ∷ xs) e = absurd (omega (arith, e))
 
   -- a value is the key's exactly where its own key is equal
   pub owns : (k : K) (place : ℕ) (has : HasKey eq keys k place) (q : ℕ) (p : PairAt keys values q) → is_value_of values place q ≡ eq k p.key
@@ -130,6 +156,33 @@ module _ {K V : Type 0} {eq : K → K → Bool} (laws : IsEquivalence eq) {hash 
   -- the key's values are those of its chain
   pub values_of-chain : (k : K) (place : ℕ) → HasKey eq keys k place → values_of eq (pairs_of keys values) k ≡ values_at values (chain_of values place)
   values_of-chain k place has = values_along k place has values.order (λ q i. i)
+
+  positions_along : (k : K) (place : ℕ) → HasKey eq keys k place → (at : ℕ) (qs : List ℕ) → AreDistinct qs → ((q : ℕ) → IsIn q qs → IsIn q values.order)
+      → map (λ e. e.0) (filter (λ e. eq k e.1.0) (enumerate_from at (filter_map (pair_at keys values) qs))) ≡ map (λ q. at + position_in qs q) (filter (is_value_of values place) qs)
+  positions_along k place has at [] distinct listed = refl
+  positions_along k place has at (q ∷ qs) distinct listed =
+      let p = pair_in agrees q (listed q (inl refl)) in
+      let rest : List (ℕ × (K × V)) = enumerate_from (at + 1) (filter_map (pair_at keys values) qs) in
+      let kept : List ℕ = filter (is_value_of values place) qs in
+      let further : ℕ → ℕ = λ r. at + position_in (q ∷ qs) r in
+      let behind : (r : ℕ) → IsIn r kept → at + 1 + position_in qs r ≡ further r = λ r member.
+          let differs : q ≢ r = λ same. distinct.0 (subst (λ x. IsIn x qs) (sym same) (IsIn-kept (is_value_of values place) r qs member).0) in
+          omega (arith, ap (λ b. cond b 0 (suc (position_in qs r))) (ne_eqb q r differs)) in
+      let later = positions_along k place has (at + 1) qs distinct.1 (λ r i. listed r (inr i)) ∙ map-agree (λ r. at + 1 + position_in qs r) further kept behind in
+      let here : at ≡ further q = omega (arith, ap (λ b. cond b 0 (suc (position_in qs q))) (eq-eqb q q refl)) in
+      let P : Bool → Type 0 = λ b. map (λ e. e.0) (cond b ((at, (p.key, p.value)) ∷ filter (λ e. eq k e.1.0) rest) (filter (λ e. eq k e.1.0) rest)) ≡ map further (cond b (q ∷ kept) kept) in
+      ap (λ o. map (λ e. e.0) (filter (λ e. eq k e.1.0) (enumerate_from at (cons_option o (filter_map (pair_at keys values) qs))))) p.pair_is
+      ∙ elim (eq k p.key) as P [
+        | true ↦ ap (λ n. n ∷ map (λ e. e.0) (filter (λ e. eq k e.1.0) rest)) here ∙ ap (λ ns. further q ∷ ns) later
+        | false ↦ later
+      ]
+      ∙ sym (ap (λ b. map further (cond b (q ∷ kept) kept)) (owns k place has q p))
+
+  -- and their positions are those of its places
+  pub positions_of-chain : (k : K) (place : ℕ) → HasKey eq keys k place → positions_of eq (pairs_of keys values) k ≡ positions_at values (chain_of values place)
+  positions_of-chain k place has =
+      positions_along k place has 0 values.order agrees.values_sound.distinct (λ q i. i)
+      ∙ map-agree (λ q. 0 + position_in values.order q) (position_in values.order) (chain_of values place) (λ q member. omega arith)
 
   pub head_listed : (place : ℕ) (l : KeyLink) → IsIn place keys.order → link_at keys place ≡ Some l → IsIn l.head values.order
   head_listed place l listed link_is =

@@ -1,6 +1,6 @@
 //! Walks over all pairs, and over the values of a key.
 ghost use Rattle.std.specs.Prelude.{◌≡◌};
-ghost use Rattle.ordered_multimap.specs.Pairs.{values_of};
+ghost use Rattle.ordered_multimap.specs.Pairs.{positions_of, values_of};
 
 use super::ListOrderedMultimap;
 use super::lookup::{find, slot_at};
@@ -29,6 +29,7 @@ impl<K: Eq + Hash, V, S: BuildHasher, A: Allocator> ListOrderedMultimap<K, V, S,
     #[inline]
     pub fn get_all(&self, key: &K) -> EntryValues<'_, K, V, A>
         ensures values { result.left ≡ values_of K.eq self.now.lists.pairs key.now }
+        ensures positions { result.positions ≡ positions_of K.eq self.now.lists.pairs key.now }
         ensures reads { result.reads ≡ 0 }
     {
         match find(&self.state, &self.keys, &self.table, key) {

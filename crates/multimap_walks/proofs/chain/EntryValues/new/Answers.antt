@@ -1,10 +1,21 @@
-use Rattle.multimap_walks.proofs.WalkLemmas.{values_none, values_whole}
+use Rattle.std.proofs.Common.{ap, ◌∙◌}
+use Rattle.multimap_walks.specs.Chained.{positions_at, values_at}
+use Rattle.multimap_walks.proofs.ChainLemmas.{chain_whole, along_whole}
 use Rattle.multimap_walks.proofs.chain.EntryValues.new.Goals as goal
 
-pub invariant_of-result : goal.invariant_of-result
-invariant_of-result g c = values_none c.args.keys.now c.args.values.now.list 0 c.len-keys.ensures.sound c.len-values.ensures.sound c.requires.chained
-
-pub invariant_of-result-2 : goal.invariant_of-result-2
-invariant_of-result-2 g c =
+pub along-requires-2 : goal.along-requires-2
+along-requires-2 g c =
     let has = rw c.in-Some.is at c.requires.listed in
-    values_whole c.args.keys.now c.args.values.now.list c.in-Some.key c.in-Some.link c.len-keys.ensures.sound c.len-values.ensures.sound c.requires.chained has
+    chain_whole c.args.keys.now c.args.values.now.list c.in-Some.field-0-0 c.in-Some.link c.len-values.ensures.sound c.requires.chained has
+
+pub returns-clause-values : goal.returns-clause-values
+returns-clause-values g c =
+    let has = rw c.in-Some.is at c.requires.listed in
+    let whole = along_whole c.args.keys.now c.args.values.now.list c.in-Some.field-0-0 c.in-Some.link c.len-values.ensures.sound c.requires.chained has in
+    rw c.in-Some.is (ap (λ w. w.left) c.along-2.ensures ∙ ap (values_at c.args.values.now.list) whole)
+
+pub returns-clause-positions : goal.returns-clause-positions
+returns-clause-positions g c =
+    let has = rw c.in-Some.is at c.requires.listed in
+    let whole = along_whole c.args.keys.now c.args.values.now.list c.in-Some.field-0-0 c.in-Some.link c.len-values.ensures.sound c.requires.chained has in
+    rw c.in-Some.is (ap (λ w. w.positions) c.along-2.ensures ∙ ap (positions_at c.args.values.now.list) whole)

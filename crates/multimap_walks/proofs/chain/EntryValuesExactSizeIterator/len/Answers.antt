@@ -1,8 +1,8 @@
 use Rattle.std.proofs.Common.{◌∙◌, length, sym, ap}
-use Rattle.multimap_walks.proofs.WalkLemmas.{length-values_left}
+use Rattle.multimap_walks.proofs.ChainLemmas.{length-left}
 use Rattle.multimap_walks.proofs.chain.EntryValuesExactSizeIterator.len.Goals as goal
 
 pub returns-clause-value : goal.returns-clause-value
 returns-clause-value g c =
     let i = c.self.inside in
-    sym (length-values_left i.keys.now i.values.now.list i.key i.front i.back i.length c.self.invariant) ∙ ap (λ w. length w.left) c.self.view_is
+    sym (length-left i.values.now.list i.detached i.front i.back i.length c.self.invariant) ∙ ap (λ w. length w.left) c.self.view_is

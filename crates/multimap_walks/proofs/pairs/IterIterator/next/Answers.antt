@@ -1,23 +1,22 @@
 use Rattle.std.proofs.Common.{◌-◌, ◌∙◌, length, sym, ap, arith, rules, unwrap_or}
-use Rattle.multimap_walks.proofs.WalkLemmas.{pairs_front, pairs_next, pairs_on}
+use Rattle.multimap_walks.proofs.PairLemmas.{front_listed, walk_behind, first_pair}
 use Rattle.multimap_walks.proofs.pairs.IterIterator.next.Goals as goal
 
 pub pair_of-requires-clause-listed : goal.pair_of-requires-clause-listed
 pair_of-requires-clause-listed g c =
     let i = c.self.inside in
-    (pairs_front i.keys.now i.values.now.list i.front i.back c.unwrap_or-self-inside.result i.length (i.length - 1) (omega arith) c.self.invariant
-    (c.unwrap_or-self-inside.ensures ∙ ap (λ o. unwrap_or o i.front) c.next_place_after.ensures)).member
+    front_listed i.keys.now i.values.now.list i.front i.back i.length (i.length - 1) (omega arith) c.self.invariant
 
 pub invariant_of-self : goal.invariant_of-self
 invariant_of-self g c =
     let i = c.self.inside in
-    pairs_on i.keys.now i.values.now.list i.front i.back c.unwrap_or-self-inside.result i.length (i.length - 1) (omega arith) c.self.invariant
+    walk_behind i.keys.now i.values.now.list i.front i.back i.length (i.length - 1) (omega arith) c.self.invariant c.unwrap_or-self-inside.result
     (c.unwrap_or-self-inside.ensures ∙ ap (λ o. unwrap_or o i.front) c.next_place_after.ensures)
 
 pub returns-clause-steps : goal.returns-clause-steps
 returns-clause-steps g c =
     let i = c.self.inside in
-    sym c.self.view_is ∙ pairs_next i.keys.now i.values.now.list i.front i.back c.unwrap_or-self-inside.result i.length (i.length - 1) _ (omega arith) c.self.invariant
+    sym c.self.view_is ∙ first_pair i.keys.now i.values.now.list i.front i.back i.length (i.length - 1) (omega arith) c.self.invariant c.unwrap_or-self-inside.result _
     (c.unwrap_or-self-inside.ensures ∙ ap (λ o. unwrap_or o i.front) c.next_place_after.ensures) c.pair_of.ensures.pair
 
 pub returns-clause-goes : goal.returns-clause-goes

@@ -1,0 +1,187 @@
+-- What a walk over a chain has left, and what a step at either end gives.
+use Rattle.std.proofs.Common.{◌≡◌, ◌==◌, ℕ, ◌+◌, ◌-◌, Bool, true, false, cond, List, [], ◌∷◌, ◌++◌, length, filter, map, reverse, Option, Some, None, unwrap_or, refl, sym, ap, ◌∙◌, subst, inl, inr, arith}
+use Rattle.std.specs.Prelude.{IsSome, MatchOption, ⊤, option_and_then, option_map, if◌then◌else◌}
+use Rattle.std.specs.Borrow.{Bor}
+use Rattle.std.proofs.lemmas.Bool.Decides.{Decides-eqb}
+use Rattle.std.proofs.lemmas.List.{map-append, length-append, take_at}
+use Rattle.multimap_slots.specs.Lists.{IsIn, AreDistinct, first_of, last_of, next_of, previous_of}
+use Rattle.multimap_slots.specs.Slots.{HasLink, Slots, IsSound, item_at, link_at}
+use Rattle.multimap_slots.proofs.ListsLemmas.{IsIn-reverse}
+use Rattle.multimap_walks.specs.declared.End.{End}
+use Rattle.multimap_walks.specs.declared.End.TheVariants.{Front, Back}
+use Rattle.multimap_walks.specs.declared.links.ChainEnds.{ChainEnds}
+use Rattle.multimap_walks.specs.declared.links.KeyLink.{KeyLink}
+use Rattle.multimap_walks.specs.declared.links.ValueLink.{ValueLink}
+use Rattle.multimap_walks.specs.Walk.{end_rest}
+use Rattle.multimap_walks.specs.Chained.{position_in, is_value_of, chain_of, values_at, positions_at, positions_left, next_place, previous_place, places_along, Stands, IsChain, IsDetachedChain, IsChained}
+use Rattle.multimap_walks.specs.ChainWalk.{GivesFirst, GivesLast, chain_walk}
+use Rattle.multimap_walks.proofs.PathLemmas.{Leads-agree, Leads-next_of, Leads-previous_of, is_one, path-is, path_none, front_stands, back_stands, front_rest, back_rest, front_taken, back_taken, length-path, shown_first, shown_last}
+
+-- a list with one item more at an end
+abbrev with_end : {X : Type 0} → End → X → List X → List X
+with_end Front x xs = x ∷ xs
+with_end Back x xs = xs ++ x ∷ []
+
+module _ {X : Type 0} where
+  end_rest-none : (end : End) → end_rest end (let none : List X = [] in none) ≡ []
+  end_rest-none Front = refl
+  end_rest-none Back = refl
+
+  end_rest-with : (end : End) (x : X) (xs : List X) → end_rest end (with_end end x xs) ≡ xs
+  end_rest-with Front x xs = refl
+  end_rest-with Back x xs = take_at xs (x ∷ []) (length (xs ++ x ∷ []) - 1) (omega (arith, length-append xs (x ∷ [])))
+
+  length-with : (end : End) (x : X) (xs : List X) → length (with_end end x xs) ≡ length xs + 1
+  length-with Front x xs = omega arith
+  length-with Back x xs = length-append xs (x ∷ [])
+
+  map-with : {Y : Type 0} (f : X → Y) (end : End) (x : X) (xs : List X) → map f (with_end end x xs) ≡ with_end end (f x) (map f xs)
+  map-with f Front x xs = refl
+  map-with f Back x xs = map-append f xs (x ∷ [])
+
+module _ {V : Type 0} (values : Slots V ValueLink) where
+  -- the position of a listed value goes and its read is counted, and neither of a detached one
+  counts : (end : End) (detached : Bool) (p : ℕ) (old new : List ℕ) (before after : ℕ) → old ≡ with_end end p new → after ≡ before + (if detached then 0 else 1)
+      → (positions_left values detached new ≡ end_rest end (positions_left values detached old))
+      × (after + length (positions_left values detached new) ≡ before + length (positions_left values detached old))
+  counts end true p old new before after taken counted = (sym (end_rest-none end), ap (λ n. n + 0) counted ∙ omega arith)
+  counts end false p old new before after taken counted =
+      let at = position_in values.order in
+      let positions : positions_at values old ≡ with_end end (at p) (positions_at values new) = ap (positions_at values) taken ∙ map-with at end p new in (
+        sym (ap (end_rest end) positions ∙ end_rest-with end (at p) (positions_at values new)),
+        omega (arith, counted, ap length positions, length-with end (at p) (positions_at values new)),
+      )
+
+  stands_item : (detached : Bool) (p : ℕ) → Stands values detached p → IsSome (item_at values p)
+  stands_item true p stands = stands.has_item
+  stands_item false p stands = stands.1
+
+  -- the place that a link names
+  next_is : (p : ℕ) (l : ValueLink) → link_at values p ≡ Some l → next_place values p ≡ l.next
+  next_is p l is = ap (option_and_then (λ m. m.next)) is
+
+  previous_is : (p : ℕ) (l : ValueLink) → link_at values p ≡ Some l → previous_place values p ≡ l.previous
+  previous_is p l is = ap (option_and_then (λ m. m.previous)) is
+
+  module _ (detached : Bool) (front back m n : ℕ) (more : m ≡ n + 1) (chain : IsChain values detached front back m) where
+    module _ (next : ℕ) (l : ValueLink) (link_is : link_at values front ≡ Some l) (told : next ≡ unwrap_or l.next front) where
+      named_next : next ≡ unwrap_or (next_place values front) front
+      named_next = told ∙ ap (λ o. unwrap_or o front) (sym (next_is front l link_is))
+
+      -- the chain that a step at the front leaves
+      pub chain_behind : IsChain values detached next back n
+      chain_behind = front_rest (Stands values detached) (next_place values) (previous_place values) front back m n more chain next named_next
+
+      -- a step at the front gives the first value
+      pub gives_first : (given : Bor V) (before after : ℕ) → item_at values front ≡ Some given.now → after ≡ before + (if detached then 0 else 1)
+          → GivesFirst (chain_walk values detached front m before) (Some given) (chain_walk values detached next n after)
+      gives_first given before after item_is counted =
+          let taken = front_taken (Stands values detached) (next_place values) (previous_place values) front back m n more chain next named_next in (
+            shown_first (item_at values) (places_along values front m) front (places_along values next n) given.now taken item_is,
+            counts Front detached front (places_along values front m) (places_along values next n) before after taken counted,
+          )
+
+    module _ (previous : ℕ) (l : ValueLink) (link_is : link_at values back ≡ Some l) (told : previous ≡ unwrap_or l.previous back) where
+      named_previous : previous ≡ unwrap_or (previous_place values back) back
+      named_previous = told ∙ ap (λ o. unwrap_or o back) (sym (previous_is back l link_is))
+
+      -- the chain that a step at the back leaves
+      pub chain_before : IsChain values detached front previous n
+      chain_before = back_rest (Stands values detached) (next_place values) (previous_place values) front back m n more chain previous named_previous
+
+      -- a step at the back gives the last value
+      pub gives_last : (given : Bor V) (before after : ℕ) → item_at values back ≡ Some given.now → after ≡ before + (if detached then 0 else 1)
+          → GivesLast (chain_walk values detached front m before) (Some given) (chain_walk values detached front n after)
+      gives_last given before after item_is counted =
+          let taken = back_taken (Stands values detached) (next_place values) (previous_place values) front back m n more chain previous named_previous in (
+            shown_last (item_at values) (places_along values front m) back (places_along values front n) given.now taken item_is,
+            counts Back detached back (places_along values front m) (places_along values front n) before after taken counted,
+          )
+
+  -- an item stands at either end of what is left
+  pub first_stands : (detached : Bool) (front back m n : ℕ) → m ≡ n + 1 → IsChain values detached front back m → Stands values detached front
+  first_stands detached = front_stands (Stands values detached) (next_place values) (previous_place values)
+
+  pub last_stands : (detached : Bool) (front back m n : ℕ) → m ≡ n + 1 → IsChain values detached front back m → Stands values detached back
+  last_stands detached = back_stands (Stands values detached) (next_place values) (previous_place values)
+
+  -- as many values are left as places
+  pub length-left : (detached : Bool) (front back n : ℕ) → IsChain values detached front back n → length (values_at values (places_along values front n)) ≡ n
+  length-left detached front back n chain =
+      length-path (item_at values) (Stands values detached) (next_place values) (previous_place values) front back n chain (stands_item detached)
+
+  -- detached values that are told by their ends, or none
+  pub chain_told : (ends : Option ChainEnds) (none told : ChainEnds) → none.length ≡ 0 → told ≡ unwrap_or ends none
+      → MatchOption ends ⊤ (λ e. IsDetachedChain values e.first e.last e.length) → IsChain values true told.first told.last told.length
+  chain_told None none told empty is given =
+      subst (IsChain values true told.first told.last) (sym (ap (λ e. e.length) is ∙ empty)) (path_none (Stands values true) (next_place values) (previous_place values) told.first told.last)
+  chain_told (Some e) none told empty is given = subst (λ e'. IsChain values true e'.first e'.last e'.length) (sym is) given
+
+-- filtered places
+IsIn-filtered : (test : ℕ → Bool) (p : ℕ) (ps : List ℕ) → IsIn p (filter test ps) → IsIn p ps × (test p ≡ true)
+IsIn-filtered test p [] member = absurd member
+IsIn-filtered test p (q ∷ ps) member =
+    let P : Bool → Type 0 = λ b. test q ≡ b → IsIn p (cond b (q ∷ filter test ps) (filter test ps)) → IsIn p (q ∷ ps) × (test p ≡ true) in
+    elim (test q) as P [
+      | true ↦ λ e among. elim among [ inl here ↦ (inl here, ap test here ∙ e) | inr later ↦ let found = IsIn-filtered test p ps later in (inr found.0, found.1) ]
+      | false ↦ λ e among. let found = IsIn-filtered test p ps among in (inr found.0, found.1)
+    ] refl member
+
+AreDistinct-filter : (test : ℕ → Bool) (ps : List ℕ) → AreDistinct ps → AreDistinct (filter test ps)
+AreDistinct-filter test [] distinct = tt
+AreDistinct-filter test (q ∷ ps) distinct =
+    elim (test q) as (λ b. AreDistinct (cond b (q ∷ filter test ps) (filter test ps))) [
+      | true ↦ (λ member. distinct.0 (IsIn-filtered test q ps member).0, AreDistinct-filter test ps distinct.1)
+      | false ↦ AreDistinct-filter test ps distinct.1
+    ]
+
+-- an option that has a value
+record Held {X : Type 0} (o : Option X) : Type 0 where
+  value : X
+  is : o ≡ Some value
+
+held : {X : Type 0} (o : Option X) → IsSome o → Held o
+held None some = absurd (let e = some in cc)
+held (Some x) some = record { value = x; is = refl }
+
+module _ {K V : Type 0} (keys : Slots K KeyLink) (values : Slots V ValueLink) (key : ℕ) (l : KeyLink) (sound : IsSound values) (chained : IsChained keys values) (has : HasLink keys key l) where
+  listed : (p : ℕ) → IsIn p (chain_of values key) → IsIn p values.order
+  listed p member = (IsIn-filtered (is_value_of values key) p values.order member).0
+
+  distinct : AreDistinct (chain_of values key)
+  distinct = AreDistinct-filter (is_value_of values key) values.order sound.distinct
+
+  -- the link of a place of the chain names the key
+  owner : (p : ℕ) (m : ValueLink) → IsIn p (chain_of values key) → link_at values p ≡ Some m → m.key ≡ key
+  owner p m member is =
+      let test : is_value_of values key p ≡ true = (IsIn-filtered (is_value_of values key) p values.order member).1 in
+      (Decides-eqb m.key key).0 (sym (ap (λ o. unwrap_or (option_map (λ (k : ValueLink). k.key == key) o) false) is) ∙ test)
+
+  -- so it names the neighbours in the chain
+  names_next : (p : ℕ) → IsIn p (chain_of values key) → next_of (chain_of values key) p ≡ next_place values p
+  names_next p member =
+      let h = held (link_at values p) (sound.linked p (listed p member)) in
+      ap (λ k. next_of (chain_of values k) p) (sym (owner p h.value member h.is)) ∙ chained.next p h.value (listed p member) h.is ∙ sym (next_is values p h.value h.is)
+
+  names_previous : (p : ℕ) → IsIn p (chain_of values key) → previous_of (chain_of values key) p ≡ previous_place values p
+  names_previous p member =
+      let h = held (link_at values p) (sound.linked p (listed p member)) in
+      ap (λ k. previous_of (chain_of values k) p) (sym (owner p h.value member h.is)) ∙ chained.previous p h.value (listed p member) h.is ∙ sym (previous_is values p h.value h.is)
+
+  -- the values of a listed key are a chain
+  pub chain_whole : IsChain values false l.head l.tail l.length
+  chain_whole = record {
+    places = chain_of values key;
+    onward = Leads-agree (next_of (chain_of values key)) (next_place values) (chain_of values key) names_next (Leads-next_of (chain_of values key) distinct);
+    backward = Leads-agree (previous_of (chain_of values key)) (previous_place values) (reverse (chain_of values key)) (λ p member. names_previous p (IsIn-reverse p (chain_of values key) member))
+        (Leads-previous_of (chain_of values key) distinct);
+    first = is_one (first_of (chain_of values key)) l.head (chained.head key l has.listed has.link_is);
+    last = is_one (last_of (chain_of values key)) l.tail (chained.tail key l has.listed has.link_is);
+    count = chained.length key l has.listed has.link_is;
+    there = λ p member. (listed p member, sound.filled p (listed p member));
+  }
+
+  -- whose places are those of the key
+  pub along_whole : places_along values l.head l.length ≡ chain_of values key
+  unfolding chain_whole
+  along_whole = path-is (Stands values false) (next_place values) (previous_place values) l.head l.tail l.length chain_whole
