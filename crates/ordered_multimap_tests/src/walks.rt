@@ -246,10 +246,11 @@ fn walks_are_shown_with_what_is_left(rt: HostRuntime) -> Result<(), Failed> {
     test.end()
 }
 
-type Texts = ListOrderedMultimap<&'static str, &'static str>;
+// Keys and values that live as long as the map's owner says.
+type Texts<'text> = ListOrderedMultimap<&'text str, &'text str>;
 
 // Appends a value of the key, which then is the last pair's.
-fn append_text(test: &Test, map: &mut Texts, value: &'static str, count: usize) {
+fn append_text(test: &Test, map: &mut Texts<'_>, value: &'static str, count: usize) {
     test.expect(value, map.append("key", value) == Ok(count > 1));
     let is_last = match map.back() {
         Some((key, last)) => *key == "key" && *last == value,
@@ -259,7 +260,7 @@ fn append_text(test: &Test, map: &mut Texts, value: &'static str, count: usize) 
     test.expect("entry_len", map.entry_len(&"key") == count);
 }
 
-fn texts_are_appended(test: &Test, map: &mut Texts) {
+fn texts_are_appended(test: &Test, map: &mut Texts<'_>) {
     test.expect("back", map.back().is_none());
     test.expect("entry_len", map.entry_len(&"key") == 0);
     append_text(test, map, "value1", 1);

@@ -1,0 +1,125 @@
+//! Values that are detached, and chains of them.
+ghost use Rattle.std.specs.Prelude.{◌≡◌, ℕ, Some, IfSome, IsTrue};
+ghost use Rattle.multimap_slots.specs.Lists.{IsIn};
+ghost use Rattle.multimap_slots.specs.Slots.{IsDetached};
+ghost use Rattle.multimap_walks.specs.Chained.{IsDetachedChain, next_place, previous_place};
+
+use multimap_slots::{Reads, Tape};
+use multimap_walks::{ChainEnds, ValueLink};
+
+/// Values with their links.
+pub(crate) type Values<V> = Tape<V, ValueLink>;
+
+/// The places of four values of one key.
+pub(crate) type Four = (usize, usize, usize, usize);
+
+/// Puts a value last, and answers its place.
+pub(crate) fn push<V: Drop>(
+    values: &mut Values<V>,
+    value: V,
+    previous: Option<usize>,
+    next: Option<usize>,
+) -> Option<usize> {
+    let link = ValueLink {
+        key: 7,
+        previous,
+        next,
+    };
+    match values.push_back(value, link) {
+        Ok(place) => Some(place),
+        Err(_) => None,
+    }
+}
+
+/// Whether a value of the list stands at a place.
+fn is_listed<V>(values: &Values<V>, place: usize) -> bool
+    ensures { IsTrue result → IsIn place values.now.list.order }
+{
+    values.get(place, &mut Reads::new()).is_some()
+}
+
+/// Detaches the value at a place, if one of the list is there, and answers whether there was.
+fn detach<V>(values: &mut Values<V>, place: usize) -> bool
+    ensures detached { IsTrue result → IsDetached values.new.list place }
+    ensures kept { (p : ℕ) → IsDetached values.old.list p → IsDetached values.new.list p }
+{
+    // The length tells the proof that each listed place has a value.
+    let _len = values.len();
+    let is_there = is_listed(values, place);
+    if is_there {
+        values.detach(place);
+    }
+    is_there
+}
+
+/// Whether two detached values name each other as neighbours.
+fn are_neighbours<V>(values: &Values<V>, place: usize, behind: usize) -> bool
+    requires place { IsDetached values.now.list place }
+    requires behind { IsDetached values.now.list behind }
+    ensures next { IsTrue result → next_place values.now.list place ≡ Some behind }
+    ensures previous { IsTrue result → previous_place values.now.list behind ≡ Some place }
+{
+    let (_, link) = values.get_detached(place);
+    let (_, link_behind) = values.get_detached(behind);
+    link.next == Some(behind) && link_behind.previous == Some(place)
+}
+
+fn one(place: usize) -> ChainEnds
+    ensures { result ≡ record { first = place; last = place; length = 1 } }
+{
+    ChainEnds {
+        first: place,
+        last: place,
+        length: 1,
+    }
+}
+
+/// The ends of a chain of four, if their links name each other in this order.
+fn four<V>(values: &Values<V>, places: Four) -> Option<ChainEnds>
+    requires first { IsDetached values.now.list places.0 }
+    requires second { IsDetached values.now.list places.1 }
+    requires third { IsDetached values.now.list places.2 }
+    requires fourth { IsDetached values.now.list places.3 }
+    ensures { IfSome result (λ e. IsDetachedChain values.now.list e.first e.last e.length) }
+{
+    if !are_neighbours(values, places.0, places.1) {
+        return None;
+    }
+    if !are_neighbours(values, places.1, places.2) {
+        return None;
+    }
+    if !are_neighbours(values, places.2, places.3) {
+        return None;
+    }
+    Some(ChainEnds {
+        first: places.0,
+        last: places.3,
+        length: 4,
+    })
+}
+
+/// Detaches four values of the list, and answers their ends if they are a chain in this order.
+pub(crate) fn detach_four<V>(values: &mut Values<V>, places: Four) -> Option<ChainEnds>
+    ensures { IfSome result (λ e. IsDetachedChain values.new.list e.first e.last e.length) }
+{
+    let are_there = detach(values, places.0)
+        && detach(values, places.1)
+        && detach(values, places.2)
+        && detach(values, places.3);
+    if are_there {
+        four(values, places)
+    } else {
+        None
+    }
+}
+
+/// Detaches one value of the list, and answers the ends of the chain that it is by itself.
+pub(crate) fn detach_one<V>(values: &mut Values<V>, place: usize) -> Option<ChainEnds>
+    ensures { IfSome result (λ e. IsDetachedChain values.new.list e.first e.last e.length) }
+{
+    if detach(values, place) {
+        Some(one(place))
+    } else {
+        None
+    }
+}
