@@ -30,7 +30,8 @@ pub fn run<
 ) -> Result<Vec<Reply<K, V, A>, A>, AllocError>
     ensures ok { IfOk result (λ replies.
         IsRun K.eq commands.now map.old.lists replies.items map.new.lists) }
-    ensures err { OnErr result (map.new ≡ map.old) }
+    ensures hasher { map.new.hasher ≡ map.old.hasher }
+    ensures unchanged { OnErr result (map.new ≡ map.old) }
 {
     drop(keep);
     let mut replies = Vec::with_capacity(alloc, commands.len())?;
@@ -46,7 +47,8 @@ fn step<K: Eq + Hash + Copy, V: Copy, S: BuildHasher, A: Allocator + Copy>(
     map: &mut ListOrderedMultimap<K, V, S, A>,
     command: &Command<K, V, A>,
 ) -> Reply<K, V, A>
-    ensures { IsStep K.eq command.now map.old.lists result map.new.lists }
+    ensures step { IsStep K.eq command.now map.old.lists result map.new.lists }
+    ensures hasher { map.new.hasher ≡ map.old.hasher }
 {
     match command {
         Command::Append(key, value) => append(map, *key, *value),
@@ -60,7 +62,8 @@ fn append<K: Eq + Hash + Copy, V: Copy, S: BuildHasher, A: Allocator + Copy>(
     key: K,
     value: V,
 ) -> Reply<K, V, A>
-    ensures { IsStep K.eq (Command.Append key value) map.old.lists result map.new.lists }
+    ensures step { IsStep K.eq (Command.Append key value) map.old.lists result map.new.lists }
+    ensures hasher { map.new.hasher ≡ map.old.hasher }
 {
     match map.append(key, value) {
         Ok(present) => Reply::Appended(present),

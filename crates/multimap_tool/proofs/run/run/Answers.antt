@@ -11,7 +11,8 @@ loop-command-preserved g c =
     let command = c.command-item.result in
     let more = take_more c.args.commands.now l.command-index command c.loop-command-test.true ∙ ap (λ x. done ++ x ∷ []) (sym c.command-item.is) in
     record {
-      ran = rw (more, c.push_reserved.ensures.items) (IsRun-push g.K.PartialEq.eq done c.args.map.now.lists l.replies.items l.map.lists command c.step.result c.step.new.map.lists l.invariant.ran c.step.ensures);
+      ran = rw (more, c.push_reserved.ensures.items) (IsRun-push g.K.PartialEq.eq done c.args.map.now.lists l.replies.items l.map.lists command c.step.result c.step.new.map.lists l.invariant.ran c.step.ensures.step);
+      hasher = c.step.ensures.hasher ∙ l.invariant.hasher;
       count = omega (arith, l.invariant.count, c.push_reserved.ensures.len);
       room = omega (arith, l.invariant.room, c.push_reserved.ensures.capacity);
     }
