@@ -4,8 +4,8 @@ use Rattle.std.specs.Bool.{IsTrue}
 use Rattle.std.proofs.lemmas.Bool.{false≢true, ne_eqb}
 use Rattle.std.proofs.lemmas.List.{append-nil, map-append, take_more, take_all}
 use Rattle.std.specs.List.{flat_map, AllByRecursion}
-use Rattle.multimap_walks.specs.declared.End.{End}
-use Rattle.multimap_walks.specs.declared.End.TheVariants.{Front, Back}
+use Rattle.ordered_multimap.specs.End.{End}
+use Rattle.ordered_multimap.specs.End.TheVariants.{Front, Back}
 use Rattle.multimap_tool.specs.Spelling.{letter_of}
 use Rattle.ordered_multimap.specs.Pairs.{has_items}
 use Rattle.multimap_tool.specs.Parts.{IsWithout, AreLettersOf, IsNoWord}

@@ -3,9 +3,9 @@ use Rattle.std.proofs.Common.{◌≡◌, ℕ, ◌+◌, ◌<◌, ◌≤◌, true,
 use Rattle.std.specs.Prelude.{slice_get}
 use Rattle.std.proofs.lemmas.List.{append_assoc, append-nil, drop_more, drop_all}
 use Rattle.std.specs.Bool.{IsTrue}
-use Rattle.multimap_walks.specs.declared.End.{End}
+use Rattle.ordered_multimap.specs.End.{End}
 use Rattle.ordered_multimap.specs.Pairs.{has_items}
-use Rattle.multimap_walks.specs.Walk.{end_item, end_rest, answers_of_walk, forward}
+use Rattle.ordered_multimap.specs.Walk.{end_item, end_rest, answers_of_walk, forward}
 use Rattle.multimap_tool.specs.Step.{ListsItem}
 
 module _ {X : Type 0} where

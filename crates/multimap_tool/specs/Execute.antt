@@ -1,10 +1,12 @@
--- What a run of the program says of its reader and its writer: the bytes that they tell, where they tell them.
+-- What a run of the program says of its reader and its writer: the bytes that they tell, where
+-- they tell them.
 use Rattle.std.specs.Prelude.{ℕ, List, Option}
 use Rattle.std.specs.Io.KnownBytes.{Appends, Consumes, IsAtEnd}
 use Rattle.multimap_tool.specs.declared.faults.TextFault.{TextFault}
 use Rattle.multimap_tool.specs.declared.faults.TextFault.TheVariants as text_faults
 use Rattle.multimap_tool.specs.declared.faults.ToolFault.{ToolFault}
-use Rattle.multimap_tool.specs.declared.faults.ToolFault.TheVariants.{BadLine, Read, Write, OutOfMemory}
+use Rattle.multimap_tool.specs.declared.faults.ToolFault.TheVariants.{BadLine, Read, Write}
+use Rattle.multimap_tool.specs.declared.faults.ToolFault.TheVariants.{OutOfMemory}
 use Rattle.multimap_tool.specs.Spelling.{lines_of, IsFirstBadLine}
 use Rattle.multimap_tool.specs.Answers.{IsAnsweredBy}
 
@@ -14,7 +16,8 @@ pub record ReadsAll (old new : Option (List ℕ)) (bytes : List ℕ) : Type 0 wh
   pub ended : IsAtEnd new
 
 -- all of the input was read, and its answer and nothing else was written
-pub record IsAnswered (A : Type 0) (old_input new_input old_output new_output : Option (List ℕ)) : Type 0 where
+pub record IsAnswered (A : Type 0) (old_input new_input old_output new_output : Option (List ℕ))
+    : Type 0 where
   pub bytes : List ℕ
   pub text : List ℕ
   pub read : ReadsAll old_input new_input bytes
@@ -26,7 +29,8 @@ abbrev pub IsTextFaultOf : (A : Type 0) → List ℕ → TextFault → Type 0
 IsTextFaultOf A text (text_faults.BadLine line) = IsFirstBadLine A (lines_of text) line
 IsTextFaultOf A text text_faults.OutOfMemory = Unit {0}
 
--- what a fault of the answer tells of the bytes that were read: reading and writing have no part in it
+-- what a fault of the answer tells of the bytes that were read: reading and writing have no part
+-- in it
 abbrev pub IsFaultOf : (A : Type 0) → List ℕ → ToolFault → Type 0
 IsFaultOf A bytes (BadLine line) = IsFirstBadLine A (lines_of bytes) line
 IsFaultOf A bytes OutOfMemory = Unit {0}
@@ -35,7 +39,9 @@ IsFaultOf A bytes Write = ⊥
 
 -- what a fault tells of the input
 abbrev pub FaultTells : (A : Type 0) → Option (List ℕ) → Option (List ℕ) → ToolFault → Type 0
-FaultTells A old new (BadLine line) = (bytes : List ℕ) × ReadsAll old new bytes × IsFirstBadLine A (lines_of bytes) line
+FaultTells A old new (BadLine line) =
+    (bytes : List ℕ) × ReadsAll old new bytes × IsFirstBadLine A (lines_of bytes) line
 FaultTells A old new Read = (bytes : List ℕ) × Consumes old new bytes
-FaultTells A old new Write = (bytes : List ℕ) × (text : List ℕ) × ReadsAll old new bytes × IsAnsweredBy A bytes text
+FaultTells A old new Write =
+    (bytes : List ℕ) × (text : List ℕ) × ReadsAll old new bytes × IsAnsweredBy A bytes text
 FaultTells A old new OutOfMemory = Unit {0}

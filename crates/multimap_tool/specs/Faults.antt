@@ -4,7 +4,8 @@ use Rattle.std.specs.Fmt.{decimal}
 use Rattle.multimap_tool.specs.declared.faults.TextFault.{TextFault}
 use Rattle.multimap_tool.specs.declared.faults.TextFault.TheVariants as text_faults
 use Rattle.multimap_tool.specs.declared.faults.ToolFault.{ToolFault}
-use Rattle.multimap_tool.specs.declared.faults.ToolFault.TheVariants.{BadLine, Read, Write, OutOfMemory}
+use Rattle.multimap_tool.specs.declared.faults.ToolFault.TheVariants.{BadLine, Read, Write}
+use Rattle.multimap_tool.specs.declared.faults.ToolFault.TheVariants.{OutOfMemory}
 
 -- the text of a fault
 abbrev pub fault_text : ToolFault → List ℕ

@@ -1,9 +1,11 @@
 -- Words of the parser's own functions. No public clause cites this module.
-use Rattle.std.specs.Prelude.{◌≡◌, ◌≢◌, ◌⊎◌, ℕ, ◌<◌, ◌≤◌, ◌^◌, ℤ, length, slice_index, false, List, [], ◌∷◌, ◌++◌, map, codes, nat_eq, FitsSigned, IsTrue, Option, MatchOption}
+use Rattle.std.specs.Prelude.{◌≡◌, ◌≢◌, ◌⊎◌, ℕ, ◌<◌, ◌≤◌, ◌^◌, ℤ, nat_eq, FitsSigned, false, IsTrue}
+use Rattle.std.specs.Prelude.{List, [], ◌∷◌, ◌++◌, length, slice_index, map, codes}
+use Rattle.std.specs.Prelude.{Option, MatchOption}
 use Rattle.std.specs.List.{list_any}
 use Rattle.std.specs.Int.{w64}
 use Rattle.std.specs.Fmt.{decimal, signed_decimal}
-use Rattle.multimap_walks.specs.declared.End.{End}
+use Rattle.ordered_multimap.specs.End.{End}
 use Rattle.ordered_multimap.specs.Lists.{IsIn}
 use Rattle.ordered_multimap.specs.Pairs.{has_items}
 use Rattle.multimap_tool.specs.declared.commands.Command.{Command}
@@ -26,7 +28,9 @@ key_words = codes "get" ∷ codes "all" ∷ codes "has" ∷ codes "len" ∷ []
 
 -- the command of a word and a key, or none if no key follows that word
 abbrev pub IsOfKey : {A : Type 0} → List ℕ → ℕ → Option (Command ℕ ℤ A) → Type 0
-IsOfKey name key found = MatchOption found (¬ (IsIn name key_words)) (λ command. Spells command (name ++ 32 ∷ decimal key))
+IsOfKey name key found =
+    MatchOption found (¬ (IsIn name key_words))
+    (λ command. Spells command (name ++ 32 ∷ decimal key))
 
 -- a digit comes first, and a zero only alone
 pub record StartsANumber (text : List ℕ) : Type 0 where
@@ -47,15 +51,18 @@ StartsAValue text = StartsANumber text ⊎ StartsBelowZero text
 
 -- the key that the text spells, or none if there is none
 abbrev pub IsKeyOf : List ℕ → Option ℕ → Type 0
-IsKeyOf text found = MatchOption found ((k : ℕ) → k < 2 ^ 32 → decimal k ≢ text) (λ k. decimal k ≡ text)
+IsKeyOf text found =
+    MatchOption found ((k : ℕ) → k < 2 ^ 32 → decimal k ≢ text) (λ k. decimal k ≡ text)
 
 -- the value that the text spells, or none if there is none
 abbrev pub IsValueOf : List ℕ → Option ℤ → Type 0
-IsValueOf text found = MatchOption found ((v : ℤ) → FitsSigned w64 v → signed_decimal v ≢ text) (λ v. signed_decimal v ≡ text)
+IsValueOf text found = MatchOption found
+    ((v : ℤ) → FitsSigned w64 v → signed_decimal v ≢ text) (λ v. signed_decimal v ≡ text)
 
 -- the end that the letter spells, or none if there is none
 abbrev pub IsEndOf : ℕ → Option End → Type 0
-IsEndOf letter found = MatchOption found ((letter ≢ 102) × (letter ≢ 98)) (λ end. letter_of end ≡ letter)
+IsEndOf letter found =
+    MatchOption found ((letter ≢ 102) × (letter ≢ 98)) (λ end. letter_of end ≡ letter)
 
 -- letters that spell the text
 pub record AreLettersOf (text : List ℕ) (word : List End) : Type 0 where

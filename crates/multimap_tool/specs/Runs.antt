@@ -9,6 +9,7 @@ module _ {K : Type 0} (eq : K → K → Bool) {V A : Type 0} where
   -- one reply for each command, and each with it a step from the lists so far to the next
   abbrev pub IsRun : List (Command K V A) → Lists K V → List (Reply K V A) → Lists K V → Type 0
   IsRun [] m [] n = n ≡ m
-  IsRun (command ∷ commands) m (reply ∷ replies) n = (next : Lists K V) × IsStep eq command m reply next × IsRun commands next replies n
+  IsRun (command ∷ commands) m (reply ∷ replies) n =
+      (next : Lists K V) × IsStep eq command m reply next × IsRun commands next replies n
   IsRun [] m (reply ∷ replies) n = ⊥
   IsRun (command ∷ commands) m [] n = ⊥

@@ -1,16 +1,18 @@
 -- How a command is spelled as a line, and how a text is cut into lines.
-use Rattle.std.specs.Prelude.{◌≡◌, ◌==◌, ℕ, ◌+◌, ◌<◌, ◌^◌, ℤ, cond, List, [], ◌∷◌, ◌++◌, length, map, codes, IsTrue, FitsSigned}
+use Rattle.std.specs.Prelude.{◌≡◌, ◌==◌, ℕ, ◌+◌, ◌<◌, ◌^◌, ℤ, FitsSigned, cond, IsTrue}
+use Rattle.std.specs.Prelude.{List, [], ◌∷◌, ◌++◌, length, map, codes}
 use Rattle.std.specs.Int.{w64}
 use Rattle.std.specs.Fmt.{decimal, signed_decimal}
 use Rattle.std.specs.List.{AllZip, flat_map}
-use Rattle.multimap_walks.specs.declared.End.{End}
-use Rattle.multimap_walks.specs.declared.End.TheVariants.{Front, Back}
+use Rattle.ordered_multimap.specs.End.{End}
+use Rattle.ordered_multimap.specs.End.TheVariants.{Front, Back}
 use Rattle.ordered_multimap.specs.Pairs.{has_items}
 use Rattle.multimap_tool.specs.declared.commands.Ends.{Ends}
 use Rattle.multimap_tool.specs.declared.commands.Ends.TheVariants.{Forward, Word}
 use Rattle.multimap_tool.specs.declared.commands.Command.{Command}
 use Rattle.multimap_tool.specs.declared.commands.Command.TheVariants as commands
-use Rattle.multimap_tool.specs.declared.commands.Command.TheVariants.{Append, Get, All, Has, Len, Pairs, Lengths}
+use Rattle.multimap_tool.specs.declared.commands.Command.TheVariants.{Append, Get, All, Has, Len}
+use Rattle.multimap_tool.specs.declared.commands.Command.TheVariants.{Pairs, Lengths}
 
 -- the letters f and b
 abbrev pub letter_of : End → ℕ
@@ -99,7 +101,9 @@ abbrev pub onto_first_line : ℕ → List (List ℕ) → List (List ℕ)
 onto_first_line byte [] = (byte ∷ []) ∷ []
 onto_first_line byte (line ∷ lines) = (byte ∷ line) ∷ lines
 
--- the pieces of a text that a line feed ends, and what stands behind the last one unless that is empty
+-- the pieces of a text that a line feed ends, and what stands behind the last one unless that is
+-- empty
 abbrev pub lines_of : List ℕ → List (List ℕ)
 lines_of [] = []
-lines_of (byte ∷ bytes) = cond (byte == 10) ([] ∷ lines_of bytes) (onto_first_line byte (lines_of bytes))
+lines_of (byte ∷ bytes) =
+    cond (byte == 10) ([] ∷ lines_of bytes) (onto_first_line byte (lines_of bytes))

@@ -1,15 +1,16 @@
 -- One command on the two lists: which reply it may be given, and which lists it leaves.
 use Rattle.std.specs.Prelude.{◌≡◌, ◌⊎◌, Bool, List, length, IsTrue, Option, slice_get}
-use Rattle.multimap_walks.specs.declared.End.{End}
-use Rattle.multimap_walks.specs.declared.End.TheVariants as ends
-use Rattle.multimap_walks.specs.Walk.{end_item, answers_of_walk, forward}
+use Rattle.ordered_multimap.specs.End.{End}
+use Rattle.ordered_multimap.specs.End.TheVariants as ends
+use Rattle.ordered_multimap.specs.Walk.{end_item, answers_of_walk, forward}
 use Rattle.ordered_multimap.specs.Lists.{Lists}
 use Rattle.ordered_multimap.specs.Pairs.{has_items, values_of, is_present}
 use Rattle.ordered_multimap.specs.Changes.{appended}
 use Rattle.multimap_tool.specs.declared.commands.Ends.{Ends}
 use Rattle.multimap_tool.specs.declared.commands.Ends.TheVariants.{Forward, Word}
 use Rattle.multimap_tool.specs.declared.commands.Command.{Command}
-use Rattle.multimap_tool.specs.declared.commands.Command.TheVariants.{Append, Get, All, Has, Len, Front, Back, Pairs, Lengths}
+use Rattle.multimap_tool.specs.declared.commands.Command.TheVariants.{Append, Get, All, Has, Len}
+use Rattle.multimap_tool.specs.declared.commands.Command.TheVariants.{Front, Back, Pairs, Lengths}
 use Rattle.multimap_tool.specs.declared.replies.Reply.{Reply}
 use Rattle.multimap_tool.specs.declared.replies.Reply.TheVariants as replies
 
@@ -55,4 +56,5 @@ module _ {K : Type 0} (eq : K → K → Bool) {V A : Type 0} where
   -- the command may be given this reply, from these lists to those: want of memory changes nothing
   abbrev pub IsStep : Command K V A → Lists K V → Reply K V A → Lists K V → Type 0
   IsStep command m reply n =
-      (Tells command m reply × Leaves command m n) ⊎ ((reply ≡ replies.NoMemory) × MayLackMemory command m × (n ≡ m))
+      (Tells command m reply × Leaves command m n)
+      ⊎ ((reply ≡ replies.NoMemory) × MayLackMemory command m × (n ≡ m))

@@ -1,9 +1,12 @@
 -- The text of replies.
-use Rattle.std.specs.Prelude.{ℕ, ℤ, true, false, List, [], ◌∷◌, ◌++◌, map, codes, Option, None, Some}
+use Rattle.std.specs.Prelude.{ℕ, ℤ, true, false, Option, None, Some}
+use Rattle.std.specs.Prelude.{List, [], ◌∷◌, ◌++◌, map, codes}
 use Rattle.std.specs.Fmt.{decimal, signed_decimal}
 use Rattle.std.specs.List.{flat_map, join_with_byte}
 use Rattle.multimap_tool.specs.declared.replies.Reply.{Reply}
-use Rattle.multimap_tool.specs.declared.replies.Reply.TheVariants.{NoMemory, Appended, Truth, Count, Counts, Value, Pair, Values, Pairs}
+use Rattle.multimap_tool.specs.declared.replies.Reply.TheVariants.{NoMemory, Appended, Truth, Count}
+use Rattle.multimap_tool.specs.declared.replies.Reply.TheVariants.{Counts, Value, Pair}
+use Rattle.multimap_tool.specs.declared.replies.Reply.TheVariants.{Values, Pairs}
 
 -- a pair: its key, a colon and its value
 abbrev pub pair_text : ℕ × ℤ → List ℕ

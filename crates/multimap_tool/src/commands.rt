@@ -1,5 +1,5 @@
 //! Commands: what a line of input asks for.
-use multimap_walks::End;
+use ordered_multimap::End;
 use std::alloc::{Allocator, Global};
 
 /// Which items a walk takes, and from which end.

@@ -15,4 +15,4 @@ pub mod replies;
 pub mod run;
 mod walk;
 
-pub use multimap_walks::End;
+pub use ordered_multimap::End;

@@ -2,7 +2,7 @@
 ghost use Rattle.std.specs.Prelude.{◌↔◌, ◌<◌, length, IsTrue, IfOk, MatchOption};
 ghost use Rattle.multimap_tool.specs.Parts.{StartsANumber, StartsBelowZero, StartsAValue, IsKeyOf, IsValueOf, IsEndOf, IsNoWord, AreLettersOf};
 
-use multimap_walks::End;
+use ordered_multimap::End;
 use std::alloc::{AllocError, Allocator};
 
 /// The key that a text spells: decimal digits, none of them a leading zero.

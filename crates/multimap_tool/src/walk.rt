@@ -1,17 +1,18 @@
 //! Walks for replies: items copied from both ends of what remains.
 ghost use Rattle.std.specs.Prelude.{◌≡◌, IfOk, OnErr, option_map};
 ghost use Rattle.std.specs.Map.Iter.{deref_pair};
-ghost use Rattle.multimap_walks.specs.Walk.{answers_of_walk, forward};
+ghost use Rattle.ordered_multimap.specs.Walk.{answers_of_walk, forward};
 ghost use Rattle.multimap_tool.specs.Step.{ListsItem, walked};
 
 use crate::commands::Ends;
-use multimap_walks::{End, EntryValues, Iter};
+use ordered_multimap::End;
+use ordered_multimap::list_ordered_multimap::{EntryValues, Iter};
 use std::alloc::{AllocError, Allocator};
 
 /// A walk from both ends whose items are copied.
 pub(crate) trait Copied: Drop {
     ghost use Rattle.std.specs.Prelude.{◌≡◌, List, length};
-    ghost use Rattle.multimap_walks.specs.Walk.{end_item, end_rest};
+    ghost use Rattle.ordered_multimap.specs.Walk.{end_item, end_rest};
 
     /// A copied item.
     type Item;
@@ -82,7 +83,7 @@ pub(crate) fn walk<W: Copied, A: Allocator>(
     ends: &Ends<A>,
 ) -> Result<Vec<Option<W::Item>, A>, AllocError>
     ensures ok { IfOk result (λ taken. taken.items ≡ walked (W.left walk) ends.now) }
-    ensures refused { OnErr result (ListsItem (walked (W.left walk) ends.now)) }
+    ensures lists_item { OnErr result (ListsItem (walked (W.left walk) ends.now)) }
 {
     match ends {
         Ends::Forward => walk_forward(alloc, walk),
@@ -97,7 +98,7 @@ fn walk_forward<W: Copied, A: Allocator>(
 ) -> Result<Vec<Option<W::Item>, A>, AllocError>
     ensures ok { IfOk result (λ taken.
         taken.items ≡ answers_of_walk (W.left walk) (forward (W.left walk))) }
-    ensures refused { OnErr result
+    ensures lists_item { OnErr result
         (ListsItem (answers_of_walk (W.left walk) (forward (W.left walk)))) }
 {
     let mut rest = walk;
@@ -116,7 +117,7 @@ fn walk_by_word<W: Copied, A: Allocator>(
     word: &[End],
 ) -> Result<Vec<Option<W::Item>, A>, AllocError>
     ensures ok { IfOk result (λ taken. taken.items ≡ answers_of_walk (W.left walk) word.now) }
-    ensures refused { OnErr result (ListsItem (answers_of_walk (W.left walk) word.now)) }
+    ensures lists_item { OnErr result (ListsItem (answers_of_walk (W.left walk) word.now)) }
 {
     let mut rest = walk;
     let mut taken = Vec::with_capacity(alloc, word.len())?;

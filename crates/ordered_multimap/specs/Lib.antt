@@ -12,3 +12,6 @@ pub mod Retain
 pub mod Rooms
 pub mod Takes
 pub mod TapeNumbers
+-- the words of walks and the ends, for those who stand on the map alone
+pub use Rattle.multimap_walks.specs.Walk
+pub use Rattle.multimap_walks.specs.declared.End

@@ -1,6 +1,6 @@
 use Rattle.std.proofs.Common.{arith}
 use Rattle.std.proofs.lemmas.Result.{err_from_is_err_and}
-use Rattle.multimap_walks.specs.Walk.{answers_of_walk}
+use Rattle.ordered_multimap.specs.Walk.{answers_of_walk}
 use Rattle.multimap_tool.proofs.WalkLemmas.{has_items-length, ListsItem-word, word_on, word_done}
 use Rattle.multimap_tool.proofs.walk.walk_by_word.Goals as goal
 
@@ -19,7 +19,7 @@ returns-clause-ok g c =
     let l = c.loop-end in
     word_done (g.W.Copied.left l.rest) c.args.word.now l.taken.items (answers_of_walk (g.W.Copied.left c.args.walk) c.args.word.now) l.end-index c.loop-end-test.false l.invariant.taken
 
-pub returns-in_err-taken-clause-refused : goal.returns-in_err-taken-clause-refused
-returns-in_err-taken-clause-refused g c =
+pub returns-in_err-taken-clause-lists_item : goal.returns-in_err-taken-clause-lists_item
+returns-in_err-taken-clause-lists_item g c =
     let p = err_from_is_err_and c.from_residual.result c.from_residual.ensures.1 in
     rw p.1 (ListsItem-word _ c.args.word.now (has_items-length _ c.in_err-taken.ensures.succeeds))

@@ -1,5 +1,5 @@
 use Rattle.std.proofs.Common.{◌≡◌, ◌++◌, ◌≤◌, drop, length, vec_len, vec_capacity}
-use Rattle.multimap_walks.specs.Walk.{answers_of_walk}
+use Rattle.ordered_multimap.specs.Walk.{answers_of_walk}
 use Rattle.multimap_tool.proofs.walk.walk_by_word.Given as goal
 
 abbrev pub invariant-loop-end : goal.invariant-loop-end

@@ -1,5 +1,5 @@
 use Rattle.std.proofs.Common.{◌<◌, length, arith}
-use Rattle.multimap_walks.specs.Walk.{answers_of_walk, forward}
+use Rattle.ordered_multimap.specs.Walk.{answers_of_walk, forward}
 use Rattle.multimap_tool.proofs.WalkLemmas.{forward_on, one_less, forward_done}
 use Rattle.multimap_tool.proofs.walk.walk_forward.Goals as goal
 

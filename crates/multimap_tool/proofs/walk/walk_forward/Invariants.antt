@@ -1,5 +1,5 @@
 use Rattle.std.proofs.Common.{◌≡◌, ◌+◌, ◌++◌, ◌≤◌, length, vec_len, vec_capacity}
-use Rattle.multimap_walks.specs.Walk.{answers_of_walk, forward}
+use Rattle.ordered_multimap.specs.Walk.{answers_of_walk, forward}
 use Rattle.multimap_tool.proofs.walk.walk_forward.Given as goal
 
 abbrev pub invariant-loop : goal.invariant-loop
