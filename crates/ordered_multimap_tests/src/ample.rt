@@ -1,12 +1,10 @@
 //! Tests with ample memory: each call of the map, at each type of key and value.
 use crate::calls::{expect_append, expect_ends, expect_key, expect_lengths, expect_room};
 use ordered_multimap::ListOrderedMultimap;
-use ordered_multimap::list_ordered_multimap::{DefaultState, Refused};
+use ordered_multimap::list_ordered_multimap::{DefaultState, RandomState};
 use std::alloc::AllocError;
 use std::hash::{BuildHasher, Hash};
-use test_helpers::{
-    Constant, End, Failed, Sample, Test, Token, ZERO, expect_text, walk_difference,
-};
+use test_helpers::{Constant, End, Failed, Sample, Test, Token, ZERO, walk_difference};
 
 fn is_empty_of_all<K: Sample + Eq + Hash, V: Sample, S: BuildHasher>(
     test: &Test,
@@ -110,52 +108,16 @@ fn every_call_answers_at_types_that_only_drop(rt: HostRuntime) -> Result<(), Fai
     test.end()
 }
 
-type Seven = ListOrderedMultimap<usize, usize, Constant>;
-
-// The builder is the one handed in.
-fn expect_seven(test: &Test, map: Seven) {
-    test.expect("hasher", map.hasher().hash == 7);
-}
-
-fn expect_made_with_seven(test: &Test, made: Result<Seven, AllocError>) {
-    match made {
-        Ok(map) => expect_seven(test, map),
-        Err(_) => test.expect("memory for a map with room", false),
-    }
-}
-
 #[test]
-fn the_builder_is_the_one_handed_in(rt: HostRuntime) -> Result<(), Failed> {
+fn a_random_builder_serves(rt: HostRuntime) -> Result<(), Failed> {
     let test = Test::new(rt.alloc());
-    let (alloc, seven) = (test.alloc(), Constant { hash: 7 });
-    expect_seven(&test, ListOrderedMultimap::with_hasher(alloc, seven));
-    let made = ListOrderedMultimap::with_capacity_and_hasher(alloc, 1, 1, seven);
-    expect_made_with_seven(&test, made);
-    test.end()
-}
-
-// 2000 appends of 500 keys.
-fn append_many(test: &Test, map: &mut ListOrderedMultimap<usize, usize>) {
-    for number in 0..2000usize {
-        expect_append(test, map, (number % 500, number), number >= 500);
+    match RandomState::new(&rt) {
+        Ok(state) => {
+            let map = ListOrderedMultimap::with_hasher(test.alloc(), state);
+            pairs_are_appended::<usize, usize, RandomState>(&test, map);
+        }
+        Err(_) => test.expect("random bytes", false),
     }
-}
-
-fn many_are_found(test: &Test, map: &ListOrderedMultimap<usize, usize>) {
-    expect_lengths(test, map, 500, 2000);
-    for key in 0..500usize {
-        expect_key(test, map, &key, Some(key), 4);
-    }
-    expect_key(test, map, &500, None, 0);
-    expect_ends(test, map, Some((0, 0)), Some((499, 1999)));
-}
-
-#[test]
-fn many_keys_are_found_among_many(rt: HostRuntime) -> Result<(), Failed> {
-    let test = Test::new(rt.alloc());
-    let mut map = ListOrderedMultimap::new(test.alloc());
-    append_many(&test, &mut map);
-    many_are_found(&test, &map);
     test.end()
 }
 
@@ -185,16 +147,5 @@ fn equal_hashes_keep_keys_apart(rt: HostRuntime) -> Result<(), Failed> {
     let test = Test::new(rt.alloc());
     let mut map = ListOrderedMultimap::with_hasher(test.alloc(), ZERO);
     collided_keys_are_apart(&test, &mut map);
-    test.end()
-}
-
-#[test]
-fn a_refusal_is_shown_and_compared(rt: HostRuntime) -> Result<(), Failed> {
-    let test = Test::new(rt.alloc());
-    let refused = Refused { key: 1, value: 2 };
-    test.expect("equal", refused == Refused { key: 1, value: 2 });
-    test.expect("another value", refused != Refused { key: 1, value: 3 });
-    let shown = format!(in test.alloc(); "{refused:?}");
-    expect_text(&test, "shown", shown, "Refused { key: 1, value: 2 }");
     test.end()
 }

@@ -9,10 +9,16 @@ mod ample;
 #[cfg(test)]
 mod calls;
 #[cfg(test)]
+mod constructors;
+#[cfg(test)]
 mod examples;
+#[cfg(test)]
+mod many;
 #[cfg(test)]
 mod refused;
 #[cfg(test)]
 mod removed;
+#[cfg(test)]
+mod shown;
 #[cfg(test)]
 mod walks;

@@ -1,17 +1,18 @@
 //! Walks from both ends, over all pairs and over one key's values.
 use ordered_multimap::ListOrderedMultimap;
 use ordered_multimap::list_ordered_multimap::{EntryValues, Iter};
-use test_helpers::{End, Failed, Test, expect_text, walk_difference};
+use test_helpers::{End, Failed, Test, walk_difference};
 
-type Numbers = ListOrderedMultimap<u32, u32>;
+/// A map of numbers.
+pub type Numbers = ListOrderedMultimap<u32, u32>;
 
 // What the front or the back gives: a pair, or a value.
 type PairStep = (End, (u32, u32));
 
 type ValueStep = (End, u32);
 
-// Two keys with two values each, one inside the other.
-const MIXED: &[(u32, u32)] = &[(1, 11), (2, 12), (2, 13), (1, 14)];
+/// Two keys with two values each, one inside the other.
+pub const MIXED: &[(u32, u32)] = &[(1, 11), (2, 12), (2, 13), (1, 14)];
 
 // One key with four values, and one pair of another key in their midst.
 const GROUPED: &[(u32, u32)] = &[(1, 11), (1, 12), (2, 20), (1, 13), (1, 14)];
@@ -130,7 +131,8 @@ const VALUE_WALKS: &[ValueWalk] = &[
     },
 ];
 
-fn map_of(test: &Test, pairs: &[(u32, u32)]) -> Numbers {
+/// A map of these pairs.
+pub fn map_of(test: &Test, pairs: &[(u32, u32)]) -> Numbers {
     let mut map = ListOrderedMultimap::new(test.alloc());
     for (key, value) in pairs {
         test.expect("append", map.append(*key, *value).is_ok());
@@ -212,40 +214,6 @@ fn a_clone_goes_on_where_the_walk_is(rt: HostRuntime) -> Result<(), Failed> {
     test.end()
 }
 
-fn pairs_are_shown(test: &Test, pairs: &mut Iter<'_, u32, u32>) {
-    let all = format!(in test.alloc(); "{pairs:?}");
-    expect_text(
-        test,
-        "all",
-        all,
-        "Iter([(1, 11), (2, 12), (2, 13), (1, 14)])",
-    );
-    test.expect("next", pairs.next().is_some());
-    test.expect("next_back", pairs.next_back().is_some());
-    let left = format!(in test.alloc(); "{pairs:?}");
-    expect_text(test, "what is left", left, "Iter([(2, 12), (2, 13)])");
-}
-
-fn values_are_shown(test: &Test, values: &mut EntryValues<'_, u32, u32>) {
-    let all = format!(in test.alloc(); "{values:?}");
-    expect_text(test, "all", all, "EntryValues([12, 13])");
-    test.expect("next_back", values.next_back().is_some());
-    let left = format!(in test.alloc(); "{values:?}");
-    expect_text(test, "what is left", left, "EntryValues([12])");
-}
-
-fn walks_are_shown(test: &Test, map: &Numbers) {
-    pairs_are_shown(test, &mut map.iter());
-    values_are_shown(test, &mut map.get_all(&2));
-}
-
-#[test]
-fn walks_are_shown_with_what_is_left(rt: HostRuntime) -> Result<(), Failed> {
-    let test = Test::new(rt.alloc());
-    walks_are_shown(&test, &map_of(&test, MIXED));
-    test.end()
-}
-
 // Keys and values that live as long as the map's owner says.
 type Texts<'text> = ListOrderedMultimap<&'text str, &'text str>;
 
@@ -276,51 +244,5 @@ fn texts_are_appended(test: &Test, map: &mut Texts<'_>) {
 fn appended_values_are_walked(rt: HostRuntime) -> Result<(), Failed> {
     let test = Test::new(rt.alloc());
     texts_are_appended(&test, &mut ListOrderedMultimap::new(test.alloc()));
-    test.end()
-}
-
-// 2000 appends of 500 keys: each key has four values, 500 apart.
-fn append_many(test: &Test, map: &mut Numbers) {
-    for number in 0..2000u32 {
-        test.expect("append", map.append(number % 500, number).is_ok());
-    }
-}
-
-fn chains_are_walked(test: &Test, map: &Numbers) {
-    for key in 0..500u32 {
-        let wanted = [
-            (End::Front, key),
-            (End::Back, key + 1500),
-            (End::Front, key + 500),
-            (End::Back, key + 1000),
-        ];
-        test.expect_same(
-            "a key of many",
-            walk_difference(&mut map.get_all(&key), &wanted),
-        );
-    }
-}
-
-// Each value is the number of its append.
-fn all_are_walked(test: &Test, map: &Numbers) {
-    let mut number = 0;
-    for (key, value) in map.iter() {
-        test.expect("value", *value == number);
-        test.expect("key", *key == number % 500);
-        number = number.wrapping_add(1);
-    }
-    test.expect("pairs", number == 2000);
-}
-
-fn many_are_walked(test: &Test, map: &mut Numbers) {
-    append_many(test, map);
-    chains_are_walked(test, map);
-    all_are_walked(test, map);
-}
-
-#[test]
-fn many_chains_are_walked_among_many(rt: HostRuntime) -> Result<(), Failed> {
-    let test = Test::new(rt.alloc());
-    many_are_walked(&test, &mut ListOrderedMultimap::new(test.alloc()));
     test.end()
 }

@@ -8,9 +8,11 @@
 mod requests;
 mod samples;
 mod steps;
+mod values;
 mod walks;
 
 pub use requests::requests_until_enough;
 pub use samples::{Constant, Sample, Token, ZERO};
 pub use steps::{Failed, Test, expect_text};
+pub use values::{is_compared, is_copied, is_shown};
 pub use walks::{End, Plain, walk_difference};
