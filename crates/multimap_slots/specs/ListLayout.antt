@@ -1,5 +1,6 @@
 -- How the nodes of a slot list lie. No public clause cites this module.
-use Rattle.std.specs.Prelude.{◌≡◌, ◌≢◌, ℕ, zero, suc, ◌+◌, ◌<◌, ◌≤◌, List, [], ◌∷◌, ◌++◌, Option, Some, None, IsSome, map, get_or, slice_get, slice_set, length}
+use Rattle.std.specs.Prelude.{◌≡◌, ◌≢◌, ℕ, zero, suc, ◌+◌, ◌<◌, ◌≤◌, Option, Some, None, IsSome}
+use Rattle.std.specs.Prelude.{List, [], ◌∷◌, ◌++◌, map, get_or, slice_get, slice_set, length}
 use Rattle.std.specs.List.{sum_by}
 use Rattle.multimap_slots.specs.declared.order.node.Node.{Node}
 use Rattle.multimap_slots.specs.declared.order.node.State.{State}

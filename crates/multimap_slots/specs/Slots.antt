@@ -1,5 +1,7 @@
 -- What a contract sees of a slot list, and what each change of it leaves.
-use Rattle.std.specs.Prelude.{◌≡◌, ◌≢◌, ◌==◌, ℕ, ◌+◌, ◌≤◌, not, List, [], ◌∷◌, ◌++◌, Option, Some, None, IsSome, filter, slice_get, slice_set, get_or, length, if◌then◌else◌}
+use Rattle.std.specs.Prelude.{◌≡◌, ◌≢◌, ◌==◌, ℕ, ◌+◌, ◌≤◌, not, if◌then◌else◌}
+use Rattle.std.specs.Prelude.{Option, Some, None, IsSome}
+use Rattle.std.specs.Prelude.{List, [], ◌∷◌, ◌++◌, filter, slice_get, slice_set, get_or, length}
 use Rattle.std.specs.List.{filter_map}
 use Rattle.multimap_slots.specs.Lists.{IsIn, AreDistinct, without}
 

@@ -1,5 +1,6 @@
 -- How the lanes of a key table lie. No public clause cites this module.
-use Rattle.std.specs.Prelude.{◌≡◌, ℕ, ◌+◌, ◌-◌, ◌*◌, ◌/◌, ◌%◌, ◌^◌, ◌<◌, ◌≤◌, ◌⊎◌, max, List, length, if◌then◌else◌, nat_le, slice_index, bit_and}
+use Rattle.std.specs.Prelude.{◌≡◌, ◌⊎◌, ℕ, ◌+◌, ◌-◌, ◌*◌, ◌/◌, ◌%◌, ◌^◌, ◌<◌, ◌≤◌, max, nat_le}
+use Rattle.std.specs.Prelude.{bit_and, if◌then◌else◌, List, length, slice_index}
 use Rattle.multimap_table.specs.declared.group.Row.{Row}
 use Rattle.multimap_table.specs.Entries.{entries, IsUnique, rows_of, row_at}
 use Rattle.multimap_table.specs.Table.{Table}
