@@ -5,12 +5,16 @@
 #![tactic(auto)]
 
 #[cfg(test)]
-mod calls;
-#[cfg(test)]
 mod lines;
 #[cfg(test)]
 mod memory;
 #[cfg(test)]
 mod plain;
 #[cfg(test)]
+mod runs;
+#[cfg(test)]
+mod shown;
+#[cfg(test)]
 mod streams;
+#[cfg(test)]
+mod texts;

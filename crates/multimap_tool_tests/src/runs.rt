@@ -1,0 +1,173 @@
+//! Runs of commands, and the laws, at concrete types.
+use multimap_tool::End;
+use multimap_tool::commands::{Command, Ends};
+use multimap_tool::laws::{run_is_well_formed, step_is_orderly};
+use multimap_tool::replies::Reply;
+use multimap_tool::run::run;
+use ordered_multimap::ListOrderedMultimap;
+use ordered_multimap::laws::{append_then_pop_back, json_first_occurrence};
+use std::alloc::{AllocError, Global};
+use test_helpers::{End as Side, Failed, Test, walk_difference};
+
+type Marks = ListOrderedMultimap<char, bool>;
+
+/// Commands, and the replies that are expected.
+#[derive(Drop)]
+struct Rows {
+    commands: Vec<Command<char, bool>>,
+    replies: Vec<Reply<char, bool>>,
+}
+
+fn add(
+    rows: &mut Rows,
+    command: Command<char, bool>,
+    reply: Reply<char, bool>,
+) -> Result<(), AllocError> {
+    rows.commands.push(command)?;
+    rows.replies.push(reply)?;
+    Ok(())
+}
+
+fn add_appends(rows: &mut Rows) -> Result<(), AllocError> {
+    add(rows, Command::Append('x', true), Reply::Appended(false))?;
+    add(rows, Command::Append('y', false), Reply::Appended(false))?;
+    add(rows, Command::Append('x', false), Reply::Appended(true))
+}
+
+fn add_look_ups(rows: &mut Rows) -> Result<(), AllocError> {
+    add(rows, Command::Get('x'), Reply::Value(Some(true)))?;
+    add(rows, Command::Get('z'), Reply::Value(None))?;
+    add(rows, Command::Has('y'), Reply::Truth(true))?;
+    add(rows, Command::Has('z'), Reply::Truth(false))?;
+    add(rows, Command::Len('x'), Reply::Count(2))?;
+    add(rows, Command::Len('z'), Reply::Count(0))
+}
+
+fn add_ends(rows: &mut Rows) -> Result<(), AllocError> {
+    add(rows, Command::Front, Reply::Pair(Some(('x', true))))?;
+    add(rows, Command::Back, Reply::Pair(Some(('x', false))))?;
+    add(rows, Command::Lengths, Reply::Counts(2, 3))
+}
+
+fn add_all(rows: &mut Rows, alloc: Global) -> Result<(), AllocError> {
+    let values = vec![in alloc; Some(true), Some(false)]?;
+    let command = Command::All('x', Ends::Forward);
+    add(rows, command, Reply::Values(values))
+}
+
+fn add_walk(rows: &mut Rows, alloc: Global) -> Result<(), AllocError> {
+    let word = vec![in alloc; End::Back, End::Front, End::Front]?;
+    let values = vec![in alloc; Some(false), Some(true), None]?;
+    let command = Command::All('x', Ends::Word(word));
+    add(rows, command, Reply::Values(values))
+}
+
+fn add_pairs(rows: &mut Rows, alloc: Global) -> Result<(), AllocError> {
+    let word = vec![in alloc; End::Back]?;
+    let pairs = vec![in alloc; Some(('x', false))]?;
+    add(rows, Command::Pairs(Ends::Word(word)), Reply::Pairs(pairs))
+}
+
+fn add_no_pairs(rows: &mut Rows, alloc: Global) -> Result<(), AllocError> {
+    let word = Ends::Word(Vec::new(alloc));
+    add(rows, Command::Pairs(word), Reply::Pairs(Vec::new(alloc)))
+}
+
+fn add_rows(rows: &mut Rows, alloc: Global) -> Result<(), AllocError> {
+    add_appends(rows)?;
+    add_look_ups(rows)?;
+    add_all(rows, alloc)?;
+    add_walk(rows, alloc)?;
+    add_pairs(rows, alloc)?;
+    add_no_pairs(rows, alloc)?;
+    add_ends(rows)
+}
+
+fn rows_are_answered(test: &Test, rows: &Rows, map: &mut Marks) {
+    match run(test.alloc(), map, &rows.commands, |_, _, _| true) {
+        Ok(replies) => test.expect("replies", replies.as_slice() == rows.replies.as_slice()),
+        Err(_) => test.expect("memory for replies", false),
+    }
+    test.expect("keys_len", map.keys_len() == 2);
+    test.expect("values_len", map.values_len() == 3);
+}
+
+#[test]
+fn commands_run_in_order(rt: HostRuntime) -> Result<(), Failed> {
+    let test = Test::new(rt.alloc());
+    let mut rows = Rows {
+        commands: Vec::new(test.alloc()),
+        replies: Vec::new(test.alloc()),
+    };
+    test.expect("memory for rows", add_rows(&mut rows, test.alloc()).is_ok());
+    rows_are_answered(&test, &rows, &mut ListOrderedMultimap::new(test.alloc()));
+    test.end()
+}
+
+/// A letter, which is equal to itself in the other case.
+#[derive(Clone, Copy, Debug)]
+#[derive_where(PartialEq, Eq, Hash)]
+struct Letter {
+    folded: char,
+    #[derive_where(skip(EqHashOrd))]
+    is_upper: bool,
+}
+
+const UPPER: Letter = Letter {
+    folded: 'k',
+    is_upper: true,
+};
+
+const LOWER: Letter = Letter {
+    folded: 'k',
+    is_upper: false,
+};
+
+type Letters = ListOrderedMultimap<Letter, i64>;
+
+fn letters_are_answered(test: &Test, map: &mut Letters) {
+    let commands = [
+        Command::Append(UPPER, 1),
+        Command::Append(LOWER, 2),
+        Command::Get(LOWER),
+    ];
+    let wanted = [
+        Reply::Appended(false),
+        Reply::Appended(true),
+        Reply::Value(Some(1)),
+    ];
+    match run(test.alloc(), map, &commands, |_, _, _| true) {
+        Ok(replies) => test.expect("replies", replies.as_slice() == wanted.as_slice()),
+        Err(_) => test.expect("memory for replies", false),
+    }
+}
+
+fn the_stored_key_is_upper(test: &Test, map: &Letters) {
+    test.expect("keys_len", map.keys_len() == 1);
+    test.expect("values_len", map.values_len() == 2);
+    for (key, _) in map.iter() {
+        test.expect("the key stored first", key.is_upper);
+    }
+    let wanted = [(Side::Front, 1), (Side::Front, 2)];
+    test.expect_same("values", walk_difference(&mut map.get_all(&LOWER), &wanted));
+}
+
+fn the_first_letter_stays(test: &Test, map: &mut Letters) {
+    letters_are_answered(test, map);
+    the_stored_key_is_upper(test, map);
+}
+
+#[test]
+fn the_key_stored_first_stays(rt: HostRuntime) -> Result<(), Failed> {
+    let test = Test::new(rt.alloc());
+    the_first_letter_stays(&test, &mut ListOrderedMultimap::new(test.alloc()));
+    test.end()
+}
+
+#[test]
+fn laws_can_be_called() {
+    append_then_pop_back::<u32, i64>();
+    json_first_occurrence::<u32, i64>();
+    step_is_orderly::<u32, i64, Global>();
+    run_is_well_formed::<u32, i64, Global>();
+}
