@@ -6,4 +6,6 @@
 
 pub mod compared;
 #[cfg(test)]
-mod tests;
+mod refused;
+#[cfg(test)]
+mod rows;

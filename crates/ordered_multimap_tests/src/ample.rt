@@ -108,16 +108,19 @@ fn every_call_answers_at_types_that_only_drop(rt: HostRuntime) -> Result<(), Fai
     test.end()
 }
 
+fn a_builder_serves(test: &Test, state: Option<RandomState>) {
+    let Some(state) = state else {
+        test.expect("random bytes", false);
+        return;
+    };
+    let map = ListOrderedMultimap::with_hasher(test.alloc(), state);
+    pairs_are_appended::<usize, usize, RandomState>(test, map);
+}
+
 #[test]
 fn a_random_builder_serves(rt: HostRuntime) -> Result<(), Failed> {
     let test = Test::new(rt.alloc());
-    match RandomState::new(&rt) {
-        Ok(state) => {
-            let map = ListOrderedMultimap::with_hasher(test.alloc(), state);
-            pairs_are_appended::<usize, usize, RandomState>(&test, map);
-        }
-        Err(_) => test.expect("random bytes", false),
-    }
+    a_builder_serves(&test, RandomState::new(&rt).ok());
     test.end()
 }
 

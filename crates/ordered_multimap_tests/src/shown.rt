@@ -45,16 +45,24 @@ const TABBED: &str = "\t\\'";
 
 type Texts = ListOrderedMultimap<&'static str, &'static str>;
 
+fn pairs_of_texts_are_shown(test: &Test, map: &Texts) {
+    let pairs = r#"Iter([("a\"b\n", "\t\\'"), ("a\"b\n", "")])"#;
+    test.expect("pairs", is_shown(test.alloc(), &map.iter(), pairs));
+}
+
+fn values_of_a_text_are_shown(test: &Test, map: &Texts) {
+    let values = r#"EntryValues(["\t\\'", ""])"#;
+    let all = is_shown(test.alloc(), &map.get_all(&QUOTED), values);
+    test.expect("values", all);
+    let none = is_shown(test.alloc(), &map.get_all(&""), "EntryValues([])");
+    test.expect("no value", none);
+}
+
 fn texts_are_shown(test: &Test, map: &mut Texts) {
     test.expect("append", map.append(QUOTED, TABBED) == Ok(false));
     test.expect("append again", map.append(QUOTED, "") == Ok(true));
-    let alloc = test.alloc();
-    let pairs = r#"Iter([("a\"b\n", "\t\\'"), ("a\"b\n", "")])"#;
-    test.expect("pairs", is_shown(alloc, &map.iter(), pairs));
-    let values = r#"EntryValues(["\t\\'", ""])"#;
-    test.expect("values", is_shown(alloc, &map.get_all(&QUOTED), values));
-    let none = is_shown(alloc, &map.get_all(&""), "EntryValues([])");
-    test.expect("no value", none);
+    pairs_of_texts_are_shown(test, map);
+    values_of_a_text_are_shown(test, map);
 }
 
 #[test]

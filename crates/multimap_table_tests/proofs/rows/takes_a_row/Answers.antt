@@ -3,7 +3,7 @@ use Rattle.std.proofs.lemmas.Bool.{eq-eqb}
 use Rattle.std.specs.Cmp.{nat_cmp_total, unsigned_tied}
 use Rattle.std.specs.Ordering.{nat_cmp}
 use Rattle.std.specs.FinMap as map
-use Rattle.multimap_table_tests.proofs.tests.takes_a_row.Goals as goal
+use Rattle.multimap_table_tests.proofs.rows.takes_a_row.Goals as goal
 
 absent : (rows : map.FinMap nat_cmp ℕ) (place : ℕ) → rows ≡ map.empty → map.get rows place ≡ None
 absent rows place none = ap (λ (m : map.FinMap nat_cmp ℕ). map.get m place) none ∙ map.get-empty nat_cmp place
