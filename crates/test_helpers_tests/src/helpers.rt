@@ -2,7 +2,8 @@
 use std::alloc::Global;
 use std::hash::BuildHasher;
 use test_helpers::{
-    Constant, End, Sample, Test, Token, expect_text, requests_until_enough, walk_difference,
+    Constant, End, Sample, Test, Token, expect_text, is_compared, is_copied, is_shown,
+    requests_until_enough, walk_difference,
 };
 
 // How a test ends whose steps are a good one, a bad one with a place in a table, and a bad one.
@@ -100,4 +101,19 @@ fn samples_tell_their_numbers(rt: HostRuntime) {
     test.expect("other tokens", Token::of(&test, 4) != Token::of(&test, 5));
     test.expect("a hash", Constant { hash: 7 }.hash_one(&4) == 7);
     assert!(rt; test.end().is_ok());
+}
+
+fn another_text_is_noticed(alloc: Global) -> bool {
+    is_shown(alloc, &5u32, "5") && !is_shown(alloc, &5u32, "6")
+}
+
+fn another_value_is_noticed() -> bool {
+    is_compared(&5u32, &5, &6) && !is_compared(&5u32, &6, &7) && !is_compared(&5u32, &5, &5)
+}
+
+#[test]
+fn values_are_shown_and_compared(rt: HostRuntime) {
+    assert!(rt; another_text_is_noticed(rt.alloc()));
+    assert!(rt; another_value_is_noticed());
+    assert!(rt; is_copied(&5u32));
 }
