@@ -4,9 +4,8 @@ use crate::slots::{expect_slots, push, slot_at, take};
 use crate::{push_two, read_all, relink};
 use multimap_slots::{Reads, SlotList, Tape};
 use std::alloc::{AllocError, Global};
-use std::fmt;
 use std::mem::size_of;
-use test_helpers::{Failed, Sample, Test, Token, expect_text};
+use test_helpers::{Failed, Sample, Test, Token};
 
 // A place that no list of these tests has.
 const NOWHERE: usize = 1000;
@@ -153,28 +152,6 @@ fn a_counter_takes_no_bytes(rt: HostRuntime) -> Result<(), Failed> {
     let reads = Reads::new();
     test.expect("clone", reads.clone().is_ok());
     test.expect("size", size_of::<Reads>() == 0);
-    test.end()
-}
-
-fn is_shown_by_its_places<L: Places + fmt::Debug>(test: &Test, list: &mut L) {
-    let a = push(test, list, 10, 0);
-    let b = push(test, list, 20, 0);
-    match format!(in test.alloc(); "{{{a}: 10, {b}: 20}}") {
-        Ok(wanted) => {
-            let shown = format!(in test.alloc(); "{list:?}");
-            expect_text(test, "shown", shown, wanted.as_str());
-        }
-        Err(_) => test.expect("memory for a text", false),
-    }
-}
-
-#[test]
-fn lists_are_shown_by_their_places(rt: HostRuntime) -> Result<(), Failed> {
-    let test = Test::new(rt.alloc());
-    let list: &mut SlotList<usize, u8> = &mut SlotList::new(test.alloc());
-    is_shown_by_its_places(&test, list);
-    let tape: &mut Tape<usize, u8> = &mut Tape::new(test.alloc());
-    is_shown_by_its_places(&test, tape);
     test.end()
 }
 

@@ -16,6 +16,8 @@ mod made;
 mod places;
 #[cfg(test)]
 mod refused;
+#[cfg(test)]
+mod shown;
 mod slots;
 mod tape_uses;
 mod uses;
