@@ -86,6 +86,8 @@ impl<A: Allocator> KeyTable<A> {
     }
 
     /// Adds a row of a place that the table does not have yet. Takes no memory.
+    ///
+    /// Reads the tags of groups up to the first that has an empty lane: one, seldom more.
     pub fn insert(&mut self, hash: u64, place: usize)
         requires room { map.len self.old.rows < self.old.capacity }
         requires absent { map.get self.old.rows place ≡ None }
@@ -97,6 +99,9 @@ impl<A: Allocator> KeyTable<A> {
     }
 
     /// Takes the row of a place out. Its room is there for another row.
+    ///
+    /// Finds the row as `find` does. Where its group was full, rows of later groups may move back,
+    /// each with the tags and rows between read once.
     pub fn remove(&mut self, hash: u64, place: usize)
         requires { HasRow self.old place hash }
         ensures rows { self.new.rows ≡ map.remove self.old.rows place }
@@ -109,7 +114,7 @@ impl<A: Allocator> KeyTable<A> {
         self.len -= 1;
     }
 
-    /// Takes all rows out. The capacity stays.
+    /// Takes all rows out. The capacity stays. Writes the tag of each lane.
     pub fn clear(&mut self)
         ensures empty { self.new.rows ≡ map.empty }
         ensures capacity { self.new.capacity ≡ self.old.capacity }
@@ -132,7 +137,8 @@ impl<A: Allocator + Copy> KeyTable<A> {
         }
     }
 
-    /// An empty table with room for `capacity` rows or more. `Err` where memory was refused.
+    /// An empty table with room for `capacity` rows or more. `Err` where memory was refused, or the
+    /// rows would be too many for any memory. Writes each lane.
     pub fn with_capacity(alloc: A, capacity: usize) -> Result<KeyTable<A>, AllocError>
         ensures empty { IfOk result (λ table. table.rows ≡ map.empty) }
         ensures room { IfOk result (λ table. capacity ≤ table.capacity) }
@@ -147,7 +153,8 @@ impl<A: Allocator + Copy> KeyTable<A> {
     /// Makes room for `additional` more rows. Where it is there already, nothing changes.
     ///
     /// `Err` where a growth was refused, or the rows would be too many for any memory. The rows and
-    /// the capacity are then as before.
+    /// the capacity are then as before. A growth writes each lane of the new groups and puts each
+    /// row in, by the hash that is kept with it.
     pub fn reserve(&mut self, additional: usize) -> Result<(), AllocError>
         ensures unchanged { self.new.rows ≡ self.old.rows }
         ensures room { OnOk result (map.len self.old.rows + additional ≤ self.new.capacity) }

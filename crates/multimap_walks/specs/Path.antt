@@ -1,5 +1,6 @@
 -- Places in a row, each of which names its neighbours.
-use Rattle.std.specs.Prelude.{◌≡◌, ℕ, zero, suc, List, [], ◌∷◌, length, reverse, Option, Some, IfSome, unwrap_or}
+use Rattle.std.specs.Prelude.{◌≡◌, ℕ, zero, suc, List, [], ◌∷◌, length, reverse, Option, Some}
+use Rattle.std.specs.Prelude.{IfSome, unwrap_or}
 use Rattle.multimap_slots.specs.Lists.{IsIn, first_of, last_of}
 
 -- n places from p on, each the one that the place before it names

@@ -166,8 +166,8 @@ module _ {K V : Type 0} {eq : K → K → Bool} (laws : IsEquivalence eq) {hash 
       let kept : List ℕ = filter (is_value_of values place) qs in
       let further : ℕ → ℕ = λ r. at + position_in (q ∷ qs) r in
       let behind : (r : ℕ) → IsIn r kept → at + 1 + position_in qs r ≡ further r = λ r member.
-          let differs : q ≢ r = λ same. distinct.0 (subst (λ x. IsIn x qs) (sym same) (IsIn-kept (is_value_of values place) r qs member).0) in
-          omega (arith, ap (λ b. cond b 0 (suc (position_in qs r))) (ne_eqb q r differs)) in
+      let differs : q ≢ r = λ same. distinct.0 (subst (λ x. IsIn x qs) (sym same) (IsIn-kept (is_value_of values place) r qs member).0) in
+      omega (arith, ap (λ b. cond b 0 (suc (position_in qs r))) (ne_eqb q r differs)) in
       let later = positions_along k place has (at + 1) qs distinct.1 (λ r i. listed r (inr i)) ∙ map-agree (λ r. at + 1 + position_in qs r) further kept behind in
       let here : at ≡ further q = omega (arith, ap (λ b. cond b 0 (suc (position_in qs q))) (eq-eqb q q refl)) in
       let P : Bool → Type 0 = λ b. map (λ e. e.0) (cond b ((at, (p.key, p.value)) ∷ filter (λ e. eq k e.1.0) rest) (filter (λ e. eq k e.1.0) rest)) ≡ map further (cond b (q ∷ kept) kept) in

@@ -20,6 +20,7 @@ use Rattle.ordered_multimap.specs.Agrees.{Agrees, HasKey, items_of, lists_of}
 use Rattle.ordered_multimap.specs.Takes.{TakesValues, TakesEntry}
 use Rattle.ordered_multimap.specs.TapeNumbers.{TapeNumbers, TakesOut}
 use Rattle.ordered_multimap.proofs.Members.{IsIn-kept, IsIn-filter, filter-all}
+use Rattle.ordered_multimap.proofs.KeptLemmas.{filter-among, filter_map-filter, keys_of-without, is_listed-equal}
 use Rattle.ordered_multimap.proofs.PlaceLemmas.{held, pair_named, IsIn-filter_map, AreDistinct-filter, filter-agree, filter_shorter, filter_map-agree}
 use Rattle.ordered_multimap.proofs.KeyLemmas.{stored_key_only, is_listed-self, is_listed-member, IsDistinct-filter}
 use Rattle.ordered_multimap.proofs.AgreesLemmas.{well_formed, pair_in, pair_at-is, is_value_of-is, length-keys}
@@ -30,58 +31,6 @@ use Rattle.ordered_multimap.proofs.WellFormedLemmas.{same_keys}
 not_true : (b : Bool) → not b ≡ true → b ≡ false
 not_true true e = absurd (true≢false (sym e))
 not_true false e = refl
-
--- a test that passes only kept items sees no other
-filter-among : {X : Type 0} (test keep : X → Bool) (xs : List X) → ((x : X) → IsIn x xs → test x ≡ true → keep x ≡ true) → filter test (filter keep xs) ≡ filter test xs
-filter-among test keep [] among = refl
-filter-among test keep (x ∷ xs) among =
-    let rest = filter-among test keep xs (λ y i. among y (inr i)) in
-    let P : Bool → Type 0 = λ b. test x ≡ b → filter test (cond (keep x) (x ∷ filter keep xs) (filter keep xs)) ≡ cond b (x ∷ filter test xs) (filter test xs) in
-    elim (test x) as P [
-      | true ↦ λ e. rw (among x (inl refl) e, e) (ap (λ ys. x ∷ ys) rest)
-      | false ↦ λ e.
-          let Q : Bool → Type 0 = λ b. filter test (cond b (x ∷ filter keep xs) (filter keep xs)) ≡ filter test xs in
-          elim (keep x) as Q [ true ↦ rw e rest | false ↦ rest ]
-    ] refl
-
--- what is made of the kept items is what passes of all that is made
-filter_map-filter : {X Y : Type 0} (f : X → Option Y) (keep : X → Bool) (test : Y → Bool) (xs : List X)
-    → ((x : X) → IsIn x xs → (y : Y) → f x ≡ Some y → keep x ≡ test y) → filter_map f (filter keep xs) ≡ filter test (filter_map f xs)
-filter_map-filter f keep test [] same = refl
-filter_map-filter {X} {Y} f keep test (x ∷ xs) same =
-    let rest = filter_map-filter f keep test xs (λ z i. same z (inr i)) in
-    let P : Option Y → Type 0 = λ o. f x ≡ o → filter_map f (cond (keep x) (x ∷ filter keep xs) (filter keep xs)) ≡ filter test (cons_option o (filter_map f xs)) in
-    elim (f x) as P [
-      | None ↦ λ e.
-          let Q : Bool → Type 0 = λ b. filter_map f (cond b (x ∷ filter keep xs) (filter keep xs)) ≡ filter test (filter_map f xs) in
-          elim (keep x) as Q [ true ↦ ap (λ o. cons_option o (filter_map f (filter keep xs))) e ∙ rest | false ↦ rest ]
-      | Some y ↦ λ e.
-          let Q : Bool → Type 0 = λ b. keep x ≡ b → filter_map f (cond b (x ∷ filter keep xs) (filter keep xs)) ≡ cond b (y ∷ filter test (filter_map f xs)) (filter test (filter_map f xs)) in
-          elim (keep x) as Q [
-            | true ↦ λ _. ap (λ o. cons_option o (filter_map f (filter keep xs))) e ∙ ap (λ ys. y ∷ ys) rest
-            | false ↦ λ _. rest
-          ] refl
-          ∙ ap (λ b. cond b (y ∷ filter test (filter_map f xs)) (filter test (filter_map f xs))) (same x (inl refl) y e)
-    ] refl
-
--- the keys of the pairs of other keys
-keys_of-without : {K V : Type 0} (eq : K → K → Bool) (k : K) (pairs : List (K × V)) → keys_of (pairs_without eq pairs k) ≡ filter (λ j. not (eq k j)) (keys_of pairs)
-keys_of-without eq k [] = refl
-keys_of-without {K} eq k (p ∷ pairs) =
-    let P : Bool → Type 0 = λ b. keys_of (cond b (p ∷ pairs_without eq pairs k) (pairs_without eq pairs k)) ≡ cond b (p.0 ∷ filter (λ j. not (eq k j)) (keys_of pairs)) (filter (λ j. not (eq k j)) (keys_of pairs)) in
-    elim (not (eq k p.0)) as P [ true ↦ ap (λ js. p.0 ∷ js) (keys_of-without eq k pairs) | false ↦ keys_of-without eq k pairs ]
-
--- no key that is equal to k is among those that aren't
-module _ {K : Type 0} {eq : K → K → Bool} (laws : IsEquivalence eq) where
-  is_listed-equal : (k j : K) (keys : List K) → eq k j ≡ true → is_listed eq (filter (λ i. not (eq k i)) keys) j ≡ false
-  is_listed-equal k j [] e = refl
-  is_listed-equal k j (i ∷ keys) e =
-      let rest : List K = filter (λ i. not (eq k i)) keys in
-      let P : Bool → Type 0 = λ b. eq k i ≡ b → is_listed eq (cond (not b) (i ∷ rest) rest) j ≡ false in
-      elim (eq k i) as P [
-        | true ↦ λ _. is_listed-equal k j keys e
-        | false ↦ λ n. rw (sym (laws.congr k j i e) ∙ n) (is_listed-equal k j keys e)
-      ] refl
 
 -- values leave
 module _ {V : Type 0} {gone : ℕ → Bool} {values values_after : Slots V ValueLink} (takes : TakesValues gone values values_after) where

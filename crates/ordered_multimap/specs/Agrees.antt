@@ -24,7 +24,8 @@ abbrev pub items_of : {T L : Type 0} → Slots T L → List T
 items_of s = filter_map (item_at s) s.order
 
 -- a key that is equal to k is listed at the place
-pub record HasKey {K : Type 0} (eq : K → K → Bool) (keys : Slots K KeyLink) (k : K) (place : ℕ) : Type 0 where
+pub record HasKey {K : Type 0} (eq : K → K → Bool) (keys : Slots K KeyLink) (k : K)
+    (place : ℕ) : Type 0 where
   pub listed : IsIn place keys.order
   pub stored : K
   pub item_is : item_at keys place ≡ Some stored
@@ -37,15 +38,20 @@ module _ {K : Type 0} (eq : K → K → Bool) (keys : Slots K KeyLink) (k : K) (
   SaysWhetherEqual false = (j : K) → item_at keys place ≡ Some j → eq k j ≡ false
 
 -- the table has only listed places, and with this hash the place of each key that is equal to k
-pub record IsFoundBy {K : Type 0} (eq : K → K → Bool) (keys : Slots K KeyLink) (rows : FinMap nat_cmp ℕ) (k : K) (hash : ℕ) : Type 0 where
+pub record IsFoundBy {K : Type 0} (eq : K → K → Bool) (keys : Slots K KeyLink)
+    (rows : FinMap nat_cmp ℕ) (k : K) (hash : ℕ) : Type 0 where
   pub places : (place h : ℕ) → get rows place ≡ Some h → IsIn place keys.order
-  pub hashed : (place : ℕ) (j : K) → IsIn place keys.order → item_at keys place ≡ Some j → eq k j ≡ true → get rows place ≡ Some hash
+  pub hashed : (place : ℕ) (j : K) → IsIn place keys.order → item_at keys place ≡ Some j
+      → eq k j ≡ true → get rows place ≡ Some hash
 
 -- the table finds each key by the hash of its link, which is that of the key
-pub record AreKeyed {K : Type 0} (eq : K → K → Bool) (hash : K → ℕ) (keys : Slots K KeyLink) (rows : FinMap nat_cmp ℕ) : Type 0 where
+pub record AreKeyed {K : Type 0} (eq : K → K → Bool) (hash : K → ℕ) (keys : Slots K KeyLink)
+    (rows : FinMap nat_cmp ℕ) : Type 0 where
   pub sound : IsSound keys
-  pub hashed : (place : ℕ) (k : K) (l : KeyLink) → IsIn place keys.order → item_at keys place ≡ Some k → link_at keys place ≡ Some l → l.hash ≡ hash k
-  pub in_table : (place : ℕ) (l : KeyLink) → IsIn place keys.order → link_at keys place ≡ Some l → get rows place ≡ Some l.hash
+  pub hashed : (place : ℕ) (k : K) (l : KeyLink) → IsIn place keys.order
+      → item_at keys place ≡ Some k → link_at keys place ≡ Some l → l.hash ≡ hash k
+  pub in_table : (place : ℕ) (l : KeyLink) → IsIn place keys.order → link_at keys place ≡ Some l
+      → get rows place ≡ Some l.hash
   pub listed : (place h : ℕ) → get rows place ≡ Some h → IsIn place keys.order
 
 module _ {K V : Type 0} where
@@ -53,18 +59,23 @@ module _ {K V : Type 0} where
   abbrev pub lists_of : Slots K KeyLink → Slots V ValueLink → Lists K V
   lists_of keys values = lists (items_of keys) (pairs_of keys values)
 
-  -- the links are chained, no two keys are equal, and the table has the place of each key with the hash of its link, which is that of the key
-  pub record Agrees (eq : K → K → Bool) (hash : K → ℕ) (keys : Slots K KeyLink) (rows : FinMap nat_cmp ℕ) (values : Slots V ValueLink) : Type 0 where
+  -- the links are chained, no two keys are equal, and the table has the place of each key with the
+  -- hash of its link, which is that of the key
+  pub record Agrees (eq : K → K → Bool) (hash : K → ℕ) (keys : Slots K KeyLink)
+      (rows : FinMap nat_cmp ℕ) (values : Slots V ValueLink) : Type 0 where
     pub keys_sound : IsSound keys
     pub values_sound : IsSound values
     pub chained : IsChained keys values
     pub distinct : IsDistinct eq (items_of keys)
-    pub hashed : (place : ℕ) (k : K) (l : KeyLink) → IsIn place keys.order → item_at keys place ≡ Some k → link_at keys place ≡ Some l → l.hash ≡ hash k
-    pub in_table : (place : ℕ) (l : KeyLink) → IsIn place keys.order → link_at keys place ≡ Some l → get rows place ≡ Some l.hash
+    pub hashed : (place : ℕ) (k : K) (l : KeyLink) → IsIn place keys.order
+        → item_at keys place ≡ Some k → link_at keys place ≡ Some l → l.hash ≡ hash k
+    pub in_table : (place : ℕ) (l : KeyLink) → IsIn place keys.order → link_at keys place ≡ Some l
+        → get rows place ≡ Some l.hash
     pub listed : (place h : ℕ) → get rows place ≡ Some h → IsIn place keys.order
     pub counted : len rows ≡ length keys.order
 
--- key list, table and tape agree, the values fill no more than half of the slots, and moves are paid for
+-- key list, table and tape agree, the values fill no more than half of the slots, and moves are
+-- paid for
 pub record IsMap {K V : Type 0} (eq : K → K → Bool) (hash : K → ℕ) (keys : Slots K KeyLink)
     (rows : FinMap nat_cmp ℕ) (values : Taped V ValueLink) : Type 0 where
   pub agrees : Agrees eq hash keys rows values.list

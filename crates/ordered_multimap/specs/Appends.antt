@@ -3,7 +3,8 @@ use Rattle.std.specs.Prelude.{◌≡◌, ◌≢◌, ◌+◌, ◌≤◌, ℕ, [],
 use Rattle.std.specs.Ordering.{nat_cmp}
 use Rattle.std.specs.FinMap.{FinMap, get, insert, len}
 use Rattle.multimap_slots.specs.Lists.{IsIn}
-use Rattle.multimap_slots.specs.Slots.{Slots, IsSound, HasRoomFor, PushesBack, item_at, link_at, with_link}
+use Rattle.multimap_slots.specs.Slots.{Slots, IsSound, HasRoomFor, PushesBack, item_at, link_at}
+use Rattle.multimap_slots.specs.Slots.{with_link}
 use Rattle.multimap_walks.specs.declared.links.KeyLink.{KeyLink}
 use Rattle.multimap_walks.specs.declared.links.ValueLink.{ValueLink}
 use Rattle.multimap_slots.specs.Tapes.{Taped, HasTapeRoomFor}
@@ -30,7 +31,8 @@ pub record FitsOneMore {K V : Type 0} (keys : Slots K KeyLink) (rows : FinMap na
   pub value : HasTapeRoomFor values 1
 
 -- the key is listed at the place with this link, and each other key as before
-pub record SetsKey {K : Type 0} (old new : Slots K KeyLink) (place : ℕ) (k : K) (link : KeyLink) : Type 0 where
+pub record SetsKey {K : Type 0} (old new : Slots K KeyLink) (place : ℕ) (k : K)
+    (link : KeyLink) : Type 0 where
   pub listed : IsIn place new.order
   pub item_is : item_at new place ≡ Some k
   pub link_is : link_at new place ≡ Some link
@@ -40,40 +42,47 @@ pub record SetsKey {K : Type 0} (old new : Slots K KeyLink) (place : ℕ) (k : K
   pub links : (q : ℕ) → q ≢ place → link_at new q ≡ link_at old q
 
 -- the value stands last in the list, behind the value at the tail in the chain of its key
-pub record PushesValue {V : Type 0} (old new : Slots V ValueLink) (place : ℕ) (value : V) (key : ℕ) (tail : Option ℕ) : Type 0 where
+pub record PushesValue {V : Type 0} (old new : Slots V ValueLink) (place : ℕ) (value : V) (key : ℕ)
+    (tail : Option ℕ) : Type 0 where
   pub was_absent : ¬ IsIn place old.order
   pub order : new.order ≡ old.order ++ place ∷ []
   pub item_is : item_at new place ≡ Some value
   pub link_is : link_at new place ≡ Some (record { key = key; previous = tail; next = None })
   pub items : (q : ℕ) → q ≢ place → item_at new q ≡ item_at old q
-  pub behind : (q : ℕ) (l : ValueLink) → tail ≡ Some q → link_at old q ≡ Some l → link_at new q ≡ Some (record l { next = Some place })
+  pub behind : (q : ℕ) (l : ValueLink) → tail ≡ Some q → link_at old q ≡ Some l
+      → link_at new q ≡ Some (record l { next = Some place })
   pub links : (q : ℕ) → q ≢ place → tail ≢ Some q → link_at new q ≡ link_at old q
 
 -- the value stands last, behind the others of the key at the place
-pub record PushesBehind {K V : Type 0} (keys keys_after : Slots K KeyLink) (values values_after : Slots V ValueLink) (place : ℕ) (value : V) : Type 0 where
+pub record PushesBehind {K V : Type 0} (keys keys_after : Slots K KeyLink)
+    (values values_after : Slots V ValueLink) (place : ℕ) (value : V) : Type 0 where
   pub link : KeyLink
   pub last : ℕ
   pub link_is : link_at keys place ≡ Some link
   pub pushed : PushesValue values values_after last value place (Some link.tail)
   pub sound : IsSound values_after
-  pub keys_are : keys_after ≡ with_link keys place (record link { tail = last; length = link.length + 1 })
+  pub keys_are : keys_after
+      ≡ with_link keys place (record link { tail = last; length = link.length + 1 })
 
 -- each row is that of a listed place
 abbrev pub HasListedRows : {K : Type 0} → Slots K KeyLink → FinMap nat_cmp ℕ → Type 0
 HasListedRows keys rows = (place hash : ℕ) → get rows place ≡ Some hash → IsIn place keys.order
 
 -- the key stands last, with a row of its hash
-pub record PushesRow {K : Type 0} (keys keys_after : Slots K KeyLink) (rows rows_after : FinMap nat_cmp ℕ) (place : ℕ) (key : K) (hash : ℕ) : Type 0 where
+pub record PushesRow {K : Type 0} (keys keys_after : Slots K KeyLink)
+    (rows rows_after : FinMap nat_cmp ℕ) (place : ℕ) (key : K) (hash : ℕ) : Type 0 where
   pub link : KeyLink
   pub key_pushed : PushesBack keys keys_after place key link
   pub rows_are : rows_after ≡ insert rows place hash
 
 -- the value stands last, as the only one of the key at the place
-pub record PushesOnly {K V : Type 0} (keys keys_after : Slots K KeyLink) (values values_after : Slots V ValueLink) (place hash : ℕ) (value : V) : Type 0 where
+pub record PushesOnly {K V : Type 0} (keys keys_after : Slots K KeyLink)
+    (values values_after : Slots V ValueLink) (place hash : ℕ) (value : V) : Type 0 where
   pub last : ℕ
   pub value_pushed : PushesValue values values_after last value place None
   pub sound : IsSound values_after
-  pub keys_are : keys_after ≡ with_link keys place (record { hash = hash; head = last; tail = last; length = 0 + 1 })
+  pub keys_are : keys_after
+      ≡ with_link keys place (record { hash = hash; head = last; tail = last; length = 0 + 1 })
 
 -- room was made for a value, and then it was put behind the others of the key at the place
 pub record AppendsBehind {K V : Type 0} (keys keys_after : Slots K KeyLink)

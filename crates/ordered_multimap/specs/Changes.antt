@@ -11,7 +11,8 @@ module _ {K : Type 0} (eq : K → K → Bool) {V : Type 0} where
 
   -- the old pairs of the key go, and the pair goes last
   abbrev pub inserted : Lists K V → K → V → Lists K V
-  inserted m k v = lists (keys_with eq m.keys k) (pairs_without eq m.pairs k ++ (stored_key eq m.keys k, v) ∷ [])
+  inserted m k v = lists (keys_with eq m.keys k)
+      (pairs_without eq m.pairs k ++ (stored_key eq m.keys k, v) ∷ [])
 
   -- only these pairs stay, and the keys that they name
   abbrev pub kept : Lists K V → List (K × V) → Lists K V

@@ -20,6 +20,8 @@ module _ {K : Type 0} (eq : K → K → Bool) where
   abbrev pub keys_named_by : {V : Type 0} → List K → List (K × V) → List K
   keys_named_by keys pairs = filter (is_listed (keys_of pairs)) keys
 
-  -- keys of both lists stand in the order of the old one, and a key of the new one alone stands behind them
+  -- keys of both lists stand in the order of the old one, and a key of the new one alone stands
+  -- behind them
   abbrev pub KeepsKeyOrder : List K → List K → Type 0
-  KeepsKeyOrder old new = new ≡ filter (is_listed new) old ++ filter (λ k. not (is_listed old k)) new
+  KeepsKeyOrder old new = new
+      ≡ filter (is_listed new) old ++ filter (λ k. not (is_listed old k)) new

@@ -8,12 +8,18 @@ use Rattle.ordered_multimap.specs.Changes.{appended, first_occurrences, built_fr
 use Rattle.ordered_multimap.specs.Pop.{popped_pair, popped}
 
 module _ {K : Type 0} (eq : K → K → Bool) {V : Type 0} where
-  -- a pop at the back takes away the pair that was appended, with an owned key where the key was absent
+  -- a pop at the back takes away the pair that was appended, with an owned key where the key was
+  -- absent
   pub record PopUndoesAppend (m : Lists K V) (k : K) (v : V) : Type 0 where
     pub lists_again : popped eq Back (appended eq m k v) ≡ m
     pub answer : popped_pair eq Back (appended eq m k v).pairs
-        ≡ Some (record { owned = not (is_present eq m.pairs k); key = stored_key eq m.keys k; value = v })
+        ≡ Some (record {
+          owned = not (is_present eq m.pairs k);
+          key = stored_key eq m.keys k;
+          value = v;
+        })
 
-  -- built anew of their own pairs, the lists have the same pairs, and the keys in the order of first occurrence
+  -- built anew of their own pairs, the lists have the same pairs, and the keys in the order of
+  -- first occurrence
   abbrev pub IsRebuilt : Lists K V → Type 0
   IsRebuilt m = built_from eq m.pairs ≡ lists (first_occurrences eq m.pairs) m.pairs

@@ -1,5 +1,7 @@
--- Values that leave the map, and the key that goes with its last one. No public clause cites this module.
-use Rattle.std.specs.Prelude.{◌≡◌, ◌==◌, ℕ, Bool, true, false, not, List, ◌++◌, length, filter, Option, Some}
+-- Values that leave the map, and the key that goes with its last one. No public clause cites this
+-- module.
+use Rattle.std.specs.Prelude.{◌≡◌, ◌==◌, ℕ, Bool, true, false, not, List, ◌++◌, length, filter}
+use Rattle.std.specs.Prelude.{Option, Some}
 use Rattle.std.specs.List.{list_any}
 use Rattle.multimap_slots.specs.Lists.{first_of}
 use Rattle.std.specs.Ordering.{nat_cmp}
@@ -20,7 +22,8 @@ abbrev pub among : List ℕ → ℕ → Bool
 among places q = list_any (λ p. p == q) places
 
 -- of the places of a chain the first n have left the list, and this is the next one
-pub record IsTaking {V : Type 0} (chain : List ℕ) (n : ℕ) (following : Option ℕ) (old new : Slots V ValueLink) : Type 0 where
+pub record IsTaking {V : Type 0} (chain : List ℕ) (n : ℕ) (following : Option ℕ)
+    (old new : Slots V ValueLink) : Type 0 where
   pub gone : List ℕ
   pub rest : List ℕ
   pub parts : chain ≡ gone ++ rest
@@ -29,7 +32,8 @@ pub record IsTaking {V : Type 0} (chain : List ℕ) (n : ℕ) (following : Optio
   pub taken : TakesValues (among gone) old new
 
 -- the key at the place has left, with its row and all its values, of which this is the first
-pub record TakesEntry {K V : Type 0} (keys keys_after : Slots K KeyLink) (rows rows_after : FinMap nat_cmp ℕ)
+pub record TakesEntry {K V : Type 0} (keys keys_after : Slots K KeyLink)
+    (rows rows_after : FinMap nat_cmp ℕ)
     (values values_after : Slots V ValueLink) (place : ℕ) (key : K) (value : V) : Type 0 where
   pub taken : TakesValues (is_value_of values place) values values_after
   pub first : (l : KeyLink) → link_at keys place ≡ Some l → item_at values l.head ≡ Some value

@@ -26,7 +26,8 @@ pub record AreUnused (n : TapeNumbers) : Type 0 where
   pub freed : n.freed ≡ 0
   pub holes : n.holes ≡ 0
 
--- so many pairs were taken out, and they pay for the holes that came and for the slots that were moved
+-- so many pairs were taken out, and they pay for the holes that came and for the slots that were
+-- moved
 pub record TakesOut (pairs : ℕ) (old new : TapeNumbers) : Type 0 where
   pub freed : new.freed ≡ old.freed + pairs
   pub paid : new.moved + new.holes ≤ old.moved + old.holes + pairs

@@ -92,6 +92,8 @@ impl<K: Eq + Hash, V, A: Allocator + Copy> ListOrderedMultimap<K, V, DefaultStat
     /// An empty map with the default hash builder and room for at least `key_capacity` keys and
     /// `value_capacity` values. Room for none takes no memory.
     ///
+    /// It writes each lane of the table, of which there are at least four for three keys.
+    ///
     /// ```
     /// ListOrderedMultimap::with_capacity(alloc, 2, 3)?
     /// ```
@@ -135,6 +137,8 @@ impl<K: Eq + Hash, V, S: BuildHasher, A: Allocator + Copy> ListOrderedMultimap<K
 
     /// An empty map with this hash builder and room for at least `key_capacity` keys and
     /// `value_capacity` values. Room for none takes no memory.
+    ///
+    /// It writes each lane of the table, of which there are at least four for three keys.
     ///
     /// ```
     /// ListOrderedMultimap::with_capacity_and_hasher(alloc, 2, 3, DefaultState::new())?

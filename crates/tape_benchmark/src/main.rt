@@ -6,33 +6,34 @@ mod walks;
 
 use multimap_slots::Tape;
 use std::{env, io};
-use walks::{Numbers, fill, time_of, walk};
+use walks::{Numbers, Stay, fill, time_of, walk};
 
 fn main(rt: HostRuntime) -> io::Result<()> {
     let words = env::args(&rt)?.count();
     if words < 2 {
-        measure(&rt, (100, 100, true), 0, 1)?;
-        measure(&rt, (1000, 100, true), 0, 1)?;
-        return measure(&rt, (1000, 100, false), 0, 1);
+        measure(&rt, (100, 100, Stay::Spread), 0, 1)?;
+        measure(&rt, (1000, 100, Stay::Spread), 0, 1)?;
+        measure(&rt, (1000, 100, Stay::Last), 0, 1)?;
+        return measure(&rt, (1000, 100, Stay::Random), 0, 1);
     }
     measure_walks(&rt)?;
     measure_shares(&rt)
 }
 
-/// Of each tape the last of every hundredth part is left.
+/// Of each tape a hundred items are left: the last of every hundredth part, or those at the end.
 fn measure_walks(rt: &HostRuntime) -> io::Result<()> {
     println!(rt; "pushed left forth back answers, nanoseconds a walk")?;
     for pushed in [100, 10_000, 1_000_000] {
-        measure(rt, (pushed, 100, true), 20_000, 20_000)?;
+        measure(rt, (pushed, 100, Stay::Spread), 20_000, 20_000)?;
     }
-    Ok(())
+    measure(rt, (1_000_000, 100, Stay::Last), 20_000, 20_000)
 }
 
 /// Of each tape a share of the items is left, at random.
 fn measure_shares(rt: &HostRuntime) -> io::Result<()> {
     println!(rt; "pushed left forth back answers, tenths of a nanosecond an item")?;
     for pushed in [100_000, 200_000, 1_000_000, 10_000_000] {
-        measure(rt, (pushed, 100_000, false), 20, 200_000)?;
+        measure(rt, (pushed, 100_000, Stay::Random), 20, 200_000)?;
     }
     Ok(())
 }
@@ -40,7 +41,7 @@ fn measure_shares(rt: &HostRuntime) -> io::Result<()> {
 /// A line of one tape, by so many walks each way: the times are those of one of so many parts.
 fn measure(
     rt: &HostRuntime,
-    shape: (usize, usize, bool),
+    shape: (usize, usize, Stay),
     walks: usize,
     parts: u64,
 ) -> io::Result<()> {

@@ -18,11 +18,21 @@ fn push_numbers(tape: &mut Numbers, count: usize) -> Result<(), AllocError> {
     Ok(())
 }
 
-/// Pushes items onto an empty tape, and takes all but `left` of them out: the last one of each
-/// equal part stays, or random ones stay.
+/// Which of the items that were pushed stay on the tape.
+#[derive(Clone, Copy)]
+pub enum Stay {
+    /// The last one of each equal part.
+    Spread,
+    /// As many at the end.
+    Last,
+    /// Random ones.
+    Random,
+}
+
+/// Pushes items onto an empty tape, and takes all but `left` of them out.
 pub fn fill(
     tape: &mut Numbers,
-    (pushed, left, is_even): (usize, usize, bool),
+    (pushed, left, stay): (usize, usize, Stay),
 ) -> Result<(), AllocError> {
     push_numbers(tape, pushed)?;
     let step = (pushed / left.max(1)).max(1);
@@ -31,8 +41,11 @@ pub fn fill(
     for place in 0..pushed {
         random = next_random(random);
         let drawn = (random >> 32).wrapping_mul((pushed - place) as u64) >> 32;
-        let is_last = place % step == step - 1;
-        let stays = if is_even { is_last } else { drawn < wanted };
+        let stays = match stay {
+            Stay::Spread => place % step == step - 1,
+            Stay::Last => pushed - place <= left,
+            Stay::Random => drawn < wanted,
+        };
         if stays {
             wanted = wanted.saturating_sub(1);
         } else {

@@ -19,6 +19,10 @@ impl<K: Eq + Hash, V, S: BuildHasher, A: Allocator> ListOrderedMultimap<K, V, S,
     ///
     /// One look-up, then the slot of the key and those of its values. No memory is taken and none
     /// is given back: the slots are left for others.
+    ///
+    /// ```
+    /// map.remove(&"line") == Some(1)
+    /// ```
     pub fn remove(&mut self, key: &K) -> Option<V>
     where
         K: Drop,
@@ -36,6 +40,10 @@ impl<K: Eq + Hash, V, S: BuildHasher, A: Allocator> ListOrderedMultimap<K, V, S,
     }
 
     /// The same, and the stored key is answered before its first value.
+    ///
+    /// ```
+    /// map.remove_entry(&"page") == Some(("page", 8))
+    /// ```
     pub fn remove_entry(&mut self, key: &K) -> Option<(K, V)>
     where
         V: Drop,
@@ -60,6 +68,10 @@ impl<K: Eq + Hash, V, S: BuildHasher, A: Allocator> ListOrderedMultimap<K, V, S,
     /// Takes all pairs out, and drops them. The memory stays.
     ///
     /// It goes over the slots in use and the lanes of the table.
+    ///
+    /// ```
+    /// map.clear();
+    /// ```
     pub fn clear(&mut self)
     where
         K: Drop,

@@ -114,7 +114,8 @@ pub(super) fn push_behind<K, V, A: Allocator>(
     set_link(keys, place, longer);
 }
 
-/// Puts the key last, with a row of its hash and without a value yet, and answers its place.
+/// Puts the key last, with a row of its hash, and answers its place. Its link names no value yet:
+/// the places in it are 0 until the first value is pushed.
 pub(super) fn push_row<K, A: Allocator + Copy>(
     keys: &mut SlotList<K, KeyLink, A>,
     table: &mut KeyTable<A>,

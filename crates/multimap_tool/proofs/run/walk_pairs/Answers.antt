@@ -6,4 +6,4 @@ pub returns-in-Ok : goal.returns-in-Ok
 returns-in-Ok g c = inl (c.in-Ok.ensures.ok ∙ ap (λ pairs. walked pairs c.args.ends.now) c.iter.ensures, refl)
 
 pub returns-in-Err : goal.returns-in-Err
-returns-in-Err g c = inr (refl, subst (λ pairs. ListsItem (walked pairs c.args.ends.now)) c.iter.ensures c.in-Err.ensures.refused, refl)
+returns-in-Err g c = inr (refl, subst (λ pairs. ListsItem (walked pairs c.args.ends.now)) c.iter.ensures c.in-Err.ensures.lists_item, refl)
