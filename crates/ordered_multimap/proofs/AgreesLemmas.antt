@@ -41,6 +41,13 @@ module _ {K V : Type 0} (keys : Slots K KeyLink) (values : Slots V ValueLink) wh
   pub is_value_of-is : (key place : ℕ) (l : ValueLink) → link_at values place ≡ Some l → is_value_of values key place ≡ (l.key == key)
   is_value_of-is key place l link_is = ap (λ o. unwrap_or (option_map (λ m. m.key == key) o) false) link_is
 
+  -- the key of a value that is told as the key's
+  pub value_owner : (key place : ℕ) (l : ValueLink) → link_at values place ≡ Some l → is_value_of values key place ≡ true → l.key ≡ key
+  value_owner key place l is own = elim (cases_eq l.key key) [
+    | inl same ↦ same
+    | inr other ↦ absurd (true≢false (sym own ∙ is_value_of-is key place l is ∙ ne_eqb l.key key other))
+  ]
+
   pub pair_of : IsSound keys → IsSound values → IsChained keys values → (place : ℕ) → IsIn place values.order → PairAt keys values place
   pair_of keys_sound values_sound chained place listed =
       let l = held (link_at values place) (values_sound.linked place listed) in

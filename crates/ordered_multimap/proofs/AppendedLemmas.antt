@@ -185,7 +185,7 @@ module _ {K V : Type 0} {eq : K → K → Bool} (laws : IsEquivalence eq) {hash 
   pub lists_reserved : lists_of keys_reserved reserved ≡ lists_of keys values
   lists_reserved = lists_of-renamed r.name agrees r.renames
 
-  present_step : (key : K) (v : V) (place : ℕ) {values_after : Slots V ValueLink} {keys_after : Slots K KeyLink} → HasKey eq keys key place
+  pub present_step : (key : K) (v : V) (place : ℕ) {values_after : Slots V ValueLink} {keys_after : Slots K KeyLink} → HasKey eq keys key place
       → PushesBehind keys_reserved keys_after reserved values_after place v → Appends eq hash keys values key v keys_after rows values_after
   present_step key v place {values_after} {keys_after} has p =
       let there : HasKey eq keys_reserved key place = record {
@@ -238,7 +238,7 @@ module _ {K V : Type 0} {eq : K → K → Bool} (laws : IsEquivalence eq) {hash 
 
   -- of an absent key
   module _ (rows_after : FinMap nat_cmp ℕ) (h : ℕ) (unlisted : is_listed eq (items_of keys) key ≡ false) (hash_is : h ≡ hash key) where
-    first : AppendsFirst keys keys_after rows rows_after values values_after h key v → Appends eq hash keys values key v keys_after rows_after values_after
+    pub first : AppendsFirst keys keys_after rows rows_after values values_after h key v → Appends eq hash keys values key v keys_after rows_after values_after
     first done =
         absent_step laws agrees done.renamed done.keys_pushed done.rows_reserved done.same_rows
         key v done.place h unlisted hash_is done.fits done.row done.same_room done.only

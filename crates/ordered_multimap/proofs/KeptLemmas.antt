@@ -1,5 +1,5 @@
 -- What of a list is kept, and what is made of it.
-use Rattle.std.proofs.Common.{◌≡◌, Bool, true, false, not, cond, List, [], ◌∷◌, filter, Option, Some, None, refl, sym, ap, ◌∙◌, inl, inr}
+use Rattle.std.proofs.Common.{◌≡◌, ◌++◌, length, length-append, arith, Bool, true, false, not, cond, List, [], ◌∷◌, filter, Option, Some, None, refl, sym, ap, ◌∙◌, inl, inr}
 use Rattle.std.specs.Cmp.{IsEquivalence}
 use Rattle.std.specs.List.{filter_map, cons_option}
 use Rattle.std.specs.Map.{keys_of}
@@ -58,3 +58,14 @@ module _ {K : Type 0} {eq : K → K → Bool} (laws : IsEquivalence eq) where
         | true ↦ λ _. is_listed-equal k j keys e
         | false ↦ λ n. rw (sym (laws.congr k j i e) ∙ n) (is_listed-equal k j keys e)
       ] refl
+
+-- lists that end alike are alike
+pub push_inj : {X : Type 0} (xs ys : List X) (x y : X) → xs ++ x ∷ [] ≡ ys ++ y ∷ [] → (xs ≡ ys) × (x ≡ y)
+push_inj [] [] x y e = (refl, let same : x ≡ y = cc in same)
+push_inj [] (z ∷ ys) x y e = absurd (omega (arith, ap length e, length-append ys (y ∷ [])))
+push_inj (w ∷ xs) [] x y e = absurd (omega (arith, ap length e, length-append xs (x ∷ [])))
+push_inj (w ∷ xs) (z ∷ ys) x y e =
+    let head : w ≡ z = cc in
+    let tails : xs ++ x ∷ [] ≡ ys ++ y ∷ [] = cc in
+    let rest = push_inj xs ys x y tails in
+    ((λ i. head i ∷ rest.0 i), rest.1)

@@ -14,7 +14,7 @@ use Rattle.ordered_multimap.specs.Multimap.{Multimap, multimap}
 use Rattle.ordered_multimap.specs.Agrees.{Agrees, items_of, lists_of}
 use Rattle.ordered_multimap.specs.Appends.{GrowsIfFull, MakesRoom, FitsOneMore}
 use Rattle.ordered_multimap.specs.TapeNumbers.{TapeNumbers, numbers_of}
-use Rattle.ordered_multimap.specs.Rooms.{HasPairRoom, KeepsRooms, RaisesNoRoom}
+use Rattle.ordered_multimap.specs.Rooms.{HasPairRoom, HasInsertRoom, KeepsRooms, RaisesNoRoom, InsertRaisesNoRoom}
 use Rattle.ordered_multimap.proofs.AgreesLemmas.{value_room, key_room, row_room}
 use Rattle.ordered_multimap.proofs.LookupLemmas.{absent_if_unlisted}
 
@@ -48,6 +48,11 @@ module _ {K V S : Type 0} {eq : K → K → Bool} (laws : IsEquivalence eq) {has
         value = fits_value room.value;
       }
 
+  pub fits_absent : is_listed eq (items_of keys) key ≡ false → HasInsertRoom eq (map_of keys row_capacity values state) key → FitsOneMore keys rows row_capacity values
+  fits_absent unlisted room =
+      let absent = absent_if_unlisted laws agrees key unlisted in
+      fits_pair unlisted (record { value = room.value absent; key = room.key })
+
   module _ (keys_after : Slots K KeyLink) (rows_after : ℕ) (values_after : Taped V ValueLink) (made : MakesRoom values values_after) where
     pub raises_none_present : keys_after.capacity ≡ keys.capacity → rows_after ≡ row_capacity
         → RaisesNoRoom eq key (map_of keys row_capacity values state) (map_of keys_after rows_after values_after state)
@@ -70,6 +75,19 @@ module _ {K V S : Type 0} {eq : K → K → Bool} (laws : IsEquivalence eq) {has
       values = λ short. ap (λ n. n / 2) (made.had_room (fits_value short));
       slots = λ short. made.had_room (fits_value short);
     }
+
+    pub insert_raises_none : is_listed eq (items_of keys) key ≡ false
+        → GrowsIfFull (length keys.order) keys.capacity keys_after.capacity → GrowsIfFull (len rows) row_capacity rows_after
+        → InsertRaisesNoRoom eq key (map_of keys row_capacity values state) (map_of keys_after rows_after values_after state)
+    insert_raises_none unlisted keys_grow rows_grow = record {
+      had_room = raises_none_absent unlisted keys_grow rows_grow;
+      present = λ there. absurd (true≢false (sym there ∙ absent_if_unlisted laws agrees key unlisted));
+    }
+
+-- a fact holds on a refusal
+pub on_err : {X E P : Type 0} (r : Result X E) → P → OnErr r P
+on_err (Ok x) p = tt
+on_err (Err e) p = p
 
 -- the first of two facts on a refusal
 pub first_on_err : {X E : Type 0} (P Q : Type 0) (r : Result X E) → OnErr r (P × Q) → OnErr r P

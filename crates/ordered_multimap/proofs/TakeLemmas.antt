@@ -23,12 +23,12 @@ use Rattle.ordered_multimap.proofs.Members.{IsIn-kept, IsIn-filter, filter-all}
 use Rattle.ordered_multimap.proofs.KeptLemmas.{filter-among, filter_map-filter, keys_of-without, is_listed-equal}
 use Rattle.ordered_multimap.proofs.PlaceLemmas.{held, pair_named, IsIn-filter_map, AreDistinct-filter, filter-agree, filter_shorter, filter_map-agree}
 use Rattle.ordered_multimap.proofs.KeyLemmas.{stored_key_only, is_listed-self, is_listed-member, IsDistinct-filter}
-use Rattle.ordered_multimap.proofs.AgreesLemmas.{well_formed, pair_in, pair_at-is, is_value_of-is, length-keys}
+use Rattle.ordered_multimap.proofs.AgreesLemmas.{value_owner, well_formed, pair_in, pair_at-is, is_value_of-is, length-keys}
 use Rattle.ordered_multimap.proofs.LookupLemmas.{owns, same_place, first_value, count_of_values}
 use Rattle.ordered_multimap.proofs.LawLemmas.{is_listed-others}
 use Rattle.ordered_multimap.proofs.WellFormedLemmas.{same_keys}
 
-not_true : (b : Bool) → not b ≡ true → b ≡ false
+pub not_true : (b : Bool) → not b ≡ true → b ≡ false
 not_true true e = absurd (true≢false (sym e))
 not_true false e = refl
 
@@ -89,14 +89,8 @@ module _ {K V : Type 0} {eq : K → K → Bool} (laws : IsEquivalence eq) {hash 
       chain_of-taken takes key
       ∙ filter-among (is_value_of values key) (λ p. not (is_value_of values place p)) values.order (λ q listed own.
       let l = held (link_at values q) (agrees.values_sound.linked q listed) in
-      let is_key : l.value.key ≡ key = owner q l.value l.is own in
+      let is_key : l.value.key ≡ key = value_owner keys values key q l.value l.is own in
       ap not (is_value_of-is keys values place q l.value l.is ∙ ne_eqb l.value.key place (λ same. differs (sym is_key ∙ same))))
-    where
-      owner : (q : ℕ) (l : ValueLink) → link_at values q ≡ Some l → is_value_of values key q ≡ true → l.key ≡ key
-      owner q l is own = elim (cases_eq l.key key) [
-        | inl same ↦ same
-        | inr other ↦ absurd (true≢false (sym own ∙ is_value_of-is keys values key q l is ∙ ne_eqb l.key key other))
-      ]
 
   pub chained-taken : IsChained keys_after values_after
   chained-taken = record {
@@ -235,7 +229,7 @@ fits-taken {gone = gone} values values_after takes room fits =
 
 -- an absent key has nothing to be removed
 module _ {K V : Type 0} {eq : K → K → Bool} (laws : IsEquivalence eq) (m : Lists K V) (k : K) (formed : IsWellFormed eq m) (unlisted : is_listed eq m.keys k ≡ false) where
-  apart : (p : K × V) → IsIn p m.pairs → eq k p.0 ≡ false
+  pub apart : (p : K × V) → IsIn p m.pairs → eq k p.0 ≡ false
   apart p i =
       let P : Bool → Type 0 = λ b. eq k p.0 ≡ b → b ≡ false in
       elim (eq k p.0) as P [

@@ -2,7 +2,7 @@
 use Rattle.std.proofs.Common.{◌≡◌, ◌≢◌, ◌==◌, ◌+◌, ◌<◌, ◌≤◌, ◌||◌, ℕ, suc, Bool, true, false, not, cond, List, [], ◌∷◌, ◌++◌, length, filter, Option, Some, None, refl, sym, ap, ◌∙◌, subst, inl, inr, true≢false, arith, append_assoc, length-append}
 use Rattle.std.proofs.lemmas.Bool.{cases_eq, eq-eqb, ne_eqb}
 use Rattle.std.proofs.lemmas.List.{append-nil}
-use Rattle.multimap_slots.specs.Lists.{IsIn, AreDistinct, first_of, next_of, without}
+use Rattle.multimap_slots.specs.Lists.{IsIn, AreDistinct, first_of, last_of, next_of, without}
 use Rattle.multimap_slots.specs.Slots.{Slots, IsSound, Removes, item_at, link_at}
 use Rattle.multimap_slots.proofs.ListsLemmas.{IsIn-left, IsIn-right, IsIn-append, AreDistinct-gone, next_of-split}
 use Rattle.multimap_walks.specs.declared.links.KeyLink.{KeyLink}
@@ -10,11 +10,16 @@ use Rattle.multimap_walks.specs.declared.links.ValueLink.{ValueLink}
 use Rattle.multimap_walks.specs.Chained.{IsChained, is_value_of, chain_of}
 use Rattle.ordered_multimap.specs.Takes.{TakesValues, IsTaking, among}
 use Rattle.ordered_multimap.proofs.Members.{IsIn-kept, IsIn-filter, filter-all}
-use Rattle.ordered_multimap.proofs.PlaceLemmas.{held, AreDistinct-filter, filter-agree}
+use Rattle.ordered_multimap.proofs.PlaceLemmas.{begins, AreDistinct-filter, filter-agree}
 use Rattle.ordered_multimap.proofs.AgreesLemmas.{is_value_of-is}
+use Rattle.ordered_multimap.proofs.ChainLemmas.{last_or-push}
+
+nothing : (rest : List ℕ) → length rest ≡ 0 → rest ≡ []
+nothing [] e = refl
+nothing (q ∷ rest) e = absurd (omega (arith, e))
 
 -- whether a place is among others
-among-none : (places : List ℕ) (q : ℕ) → ¬ IsIn q places → among places q ≡ false
+pub among-none : (places : List ℕ) (q : ℕ) → ¬ IsIn q places → among places q ≡ false
 among-none [] q absent = refl
 among-none (p ∷ places) q absent = rw (ne_eqb p q (λ e. absent (inl (sym e)))) (among-none places q (λ i. absent (inr i)))
 
@@ -28,12 +33,19 @@ among-in (p ∷ places) q i = elim (cases_eq p q) [
   ]
 ]
 
-not_among : (places : List ℕ) (q : ℕ) → among places q ≡ false → ¬ IsIn q places
+pub not_among : (places : List ℕ) (q : ℕ) → among places q ≡ false → ¬ IsIn q places
 not_among places q e i = true≢false (sym (among-in places q i) ∙ e)
 
 among-push : (places : List ℕ) (p q : ℕ) → among (places ++ p ∷ []) q ≡ (among places q || (p == q))
 among-push [] p q = elim (p == q) as (λ b. (b || false) ≡ b) [ true ↦ refl | false ↦ refl ]
 among-push (r ∷ places) p q = elim (r == q) as (λ b. (b || among (places ++ p ∷ []) q) ≡ ((b || among places q) || (p == q))) [ true ↦ refl | false ↦ among-push places p q ]
+
+pub among-filter : (test : ℕ → Bool) (xs : List ℕ) (q : ℕ) → IsIn q xs → among (filter test xs) q ≡ test q
+among-filter test xs q i = cases (test q) refl
+  where
+    cases : (b : Bool) → test q ≡ b → among (filter test xs) q ≡ b
+    cases true e = among-in (filter test xs) q (IsIn-filter test q xs e i)
+    cases false e = among-none (filter test xs) q (λ j. true≢false (sym (IsIn-kept test q xs j).1 ∙ e))
 
 neither : (a b : Bool) → (a || b) ≡ false → (a ≡ false) × (b ≡ false)
 neither true b e = absurd (true≢false e)
@@ -81,6 +93,12 @@ module _ {K V : Type 0} {keys : Slots K KeyLink} {values : Slots V ValueLink} (s
   -- the first one that leaves is the head
   pub taking-head : (l : KeyLink) → IsIn key keys.order → link_at keys key ≡ Some l → IsTaking (chain_of values key) 0 (Some l.head) values values
   taking-head l listed is = subst (λ o. IsTaking (chain_of values key) 0 o values values) (chained.head key l listed is) (taking-start (chain_of values key) values)
+
+  -- a key has a value
+  pub taking-some : (l : KeyLink) → IsIn key keys.order → link_at keys key ≡ Some l → 0 < l.length
+  taking-some l listed is =
+      let b = begins (chain_of values key) l.head (chained.head key l listed is) in
+      omega (arith, chained.length key l listed is, ap length b.is)
 
   -- no more have left than the chain has
   pub taking-most : (n : ℕ) (following : Option ℕ) (mid : Slots V ValueLink) → IsTaking (chain_of values key) n following values mid → n ≤ length (chain_of values key)
@@ -132,6 +150,11 @@ module _ {K V : Type 0} {keys : Slots K KeyLink} {values : Slots V ValueLink} (s
           };
         }
 
+    -- it is the last one where all before it have left
+    pub taking-whole : n + 1 ≡ length (chain_of values key) → chain_of values key ≡ taking.gone ++ p ∷ []
+    taking-whole all = next_one.is ∙ ap (λ qs. taking.gone ++ p ∷ qs) (nothing next_one.behind
+        (omega (arith, all, taking.count, ap length next_one.is, length-append taking.gone (p ∷ next_one.behind))))
+
     pub taking-item : item_at mid p ≡ item_at values p
     taking-item = taking.taken.items p (among-none taking.gone p not_gone)
 
@@ -144,25 +167,28 @@ module _ {K V : Type 0} {keys : Slots K KeyLink} {values : Slots V ValueLink} (s
       ended [] e = refl
       ended (q ∷ rest) e = absurd (cc)
 
+  -- the last one is left where all before it have left
+  pub taking-last : (n : ℕ) (following : Option ℕ) (mid : Slots V ValueLink) → IsTaking (chain_of values key) n following values mid
+      → (l : KeyLink) → IsIn key keys.order → link_at keys key ≡ Some l → n + 1 ≡ l.length → following ≡ Some l.tail
+  taking-last n following mid taking l listed is more =
+      taking.following_is ∙ one taking.rest taking.parts (omega (arith, chained.length key l listed is, more, taking.count, ap length taking.parts, length-append taking.gone taking.rest))
+    where
+      one : (rest : List ℕ) → chain_of values key ≡ taking.gone ++ rest → length rest ≡ 1 → first_of rest ≡ Some l.tail
+      one [] parts e = absurd (omega (arith, e))
+      one (q ∷ r ∷ rest) parts e = absurd (omega (arith, e))
+      one (q ∷ []) parts e = sym (last_or-push None taking.gone q) ∙ ap last_of (sym parts) ∙ chained.tail key l listed is
+
   -- all have left
   pub taking-end : (n : ℕ) (following : Option ℕ) (new : Slots V ValueLink) → IsTaking (chain_of values key) n following values new
       → n ≡ length (chain_of values key) → TakesValues (is_value_of values key) values new
   taking-end n following new taking all =
       let whole : taking.gone ≡ chain_of values key = sym (taking.parts ∙ ap (λ qs. taking.gone ++ qs) (nothing taking.rest (omega (arith, all, taking.count, ap length taking.parts, length-append taking.gone taking.rest))) ∙ append-nil taking.gone) in
-      let same : (q : ℕ) → IsIn q values.order → among taking.gone q ≡ is_value_of values key q = λ q i. ap (λ qs. among qs q) whole ∙ owned q i (is_value_of values key q) refl in
+      let same : (q : ℕ) → IsIn q values.order → among taking.gone q ≡ is_value_of values key q = λ q i. ap (λ qs. among qs q) whole ∙ among-filter (is_value_of values key) values.order q i in
       record {
         order = taking.taken.order ∙ filter-agree (λ q. not (among taking.gone q)) (λ q. not (is_value_of values key q)) values.order (λ q i. ap not (same q i));
         items = λ q e. taking.taken.items q (apart whole q e);
         links = λ q e. taking.taken.links q (apart whole q e);
       }
     where
-      nothing : (rest : List ℕ) → length rest ≡ 0 → rest ≡ []
-      nothing [] e = refl
-      nothing (q ∷ rest) e = absurd (omega (arith, e))
-
-      owned : (q : ℕ) → IsIn q values.order → (b : Bool) → is_value_of values key q ≡ b → among (chain_of values key) q ≡ b
-      owned q i true e = among-in (chain_of values key) q (IsIn-filter (is_value_of values key) q values.order e i)
-      owned q i false e = among-none (chain_of values key) q (λ j. true≢false (sym (in_list q j).1 ∙ e))
-
       apart : taking.gone ≡ chain_of values key → (q : ℕ) → is_value_of values key q ≡ false → among taking.gone q ≡ false
       apart whole q e = ap (λ qs. among qs q) whole ∙ among-none (chain_of values key) q (λ j. true≢false (sym (in_list q j).1 ∙ e))

@@ -37,3 +37,14 @@ module _ {K V S : Type 0} where
     pub values : new.value_room ≡ old.value_room
     pub slots : new.tape.slots ≡ old.tape.slots
     pub hasher : new.hasher ≡ old.hasher
+
+  -- an insertion wants room for a key and a value where the key is absent, and else none
+  pub record HasInsertRoom (eq : K → K → Bool) (m : Multimap K V S) (k : K) : Type 0 where
+    pub key : is_present eq m.lists.pairs k ≡ false → HasKeyRoom m
+    pub value : is_present eq m.lists.pairs k ≡ false → HasValueRoom m
+
+  -- where one more of them fits, the room is the same, and where the key was present, all rooms are
+  pub record InsertRaisesNoRoom (eq : K → K → Bool) (k : K)
+      (old new : Multimap K V S) : Type 0 where
+    pub had_room : RaisesNoRoom eq k old new
+    pub present : is_present eq old.lists.pairs k ≡ true → SameRooms old new

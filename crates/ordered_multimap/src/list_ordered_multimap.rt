@@ -5,6 +5,7 @@ ghost use Rattle.ordered_multimap.specs.TapeNumbers.{ArePaid, AreUnused};
 
 mod append;
 mod compact;
+mod insert;
 mod links;
 mod lookup;
 mod refused;

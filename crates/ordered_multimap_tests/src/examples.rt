@@ -38,13 +38,14 @@ fn has_room(test: &Test, map: &Numbers) {
     test.expect("hasher", map.hasher().hash_one(&"line") == hash);
 }
 
-fn removals_answer(test: &Test, map: &mut Numbers) {
+fn changes_answer(test: &Test, map: &mut Numbers) {
     test.expect("remove", map.remove(&"line") == Some(1));
     test.expect(
         "remove_entry",
         map.remove_entry(&"page") == Some(("page", 8)),
     );
     test.expect("append", add_three(map).is_ok());
+    test.expect("insert", map.insert("page", 9) == Ok(Some(8)));
     map.clear();
     test.expect("clear", map.is_empty());
 }
@@ -57,7 +58,7 @@ fn examples_hold(rt: HostRuntime) -> Result<(), Failed> {
     look_ups_answer(&test, &map);
     walks_answer(&test, &map);
     has_room(&test, &map);
-    removals_answer(&test, &mut map);
+    changes_answer(&test, &mut map);
     test.end()
 }
 

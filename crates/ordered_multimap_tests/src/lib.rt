@@ -13,6 +13,8 @@ mod constructors;
 #[cfg(test)]
 mod examples;
 #[cfg(test)]
+mod inserted;
+#[cfg(test)]
 mod many;
 #[cfg(test)]
 mod refused;

@@ -94,7 +94,7 @@ fn append_behind<K: Drop, V: Drop, A: Allocator>(
 
 /// Appends a key that isn't listed, whose hash is `hash`, with its first value.
 #[tactic(auto, using(crate::proofs::AppendedLemmas::rows_listed))]
-fn append_first<K, V: Drop, A: Allocator + Copy>(
+pub(super) fn append_first<K, V: Drop, A: Allocator + Copy>(
     keys: &mut SlotList<K, KeyLink, A>,
     table: &mut KeyTable<A>,
     values: &mut Tape<V, ValueLink, A>,

@@ -1,17 +1,44 @@
 //! Room for one more key and one more value.
-ghost use Rattle.std.specs.Prelude.{◌≡◌, OnOk, IsOk, length};
+ghost use Rattle.std.specs.Prelude.{◌≡◌, ◌<◌, OnOk, IsOk, length};
 ghost use Rattle.std.specs.FinMap.{len};
 ghost use Rattle.multimap_slots.specs.Slots.{IsSound};
 ghost use Rattle.multimap_slots.specs.Tapes.{HasEndRoom, HasTapeRoomFor};
 ghost use Rattle.multimap_walks.specs.Chained.{IsChained};
 ghost use Rattle.ordered_multimap.specs.Appends.{GrowsIfFull, MakesRoom, FitsOneMore};
 ghost use Rattle.ordered_multimap.specs.Renames.{AreRenamed};
+ghost use Rattle.ordered_multimap.specs.TapeNumbers.{TakesOut, numbers_of};
 
 use super::compact::compact;
 use multimap_slots::{SlotList, Tape};
 use multimap_table::KeyTable;
 use multimap_walks::{KeyLink, ValueLink};
 use std::alloc::{AllocError, Allocator};
+
+/// Makes room for one more value behind the others, where half of the slots or more are free. It
+/// closes the holes if the last slot is in use, and takes no memory.
+#[tactic(auto, using(crate::proofs::CompactLemmas::same_places))]
+pub(super) fn make_end_room<K, V: Drop, A: Allocator>(
+    keys: &mut SlotList<K, KeyLink, A>,
+    values: &mut Tape<V, ValueLink, A>,
+)
+    requires keys_sound { IsSound keys.old }
+    requires chained { IsChained keys.old values.old.list }
+    requires fits { HasTapeRoomFor values.old 0 }
+    requires slots { 0 < values.old.list.capacity }
+    ensures renamed { AreRenamed keys.old keys.new values.old.list values.new.list }
+    ensures sound { IsSound values.old.list }
+    ensures same_length { length values.new.list.order ≡ length values.old.list.order }
+    ensures taken { TakesOut 0 (numbers_of values.old) (numbers_of values.new) }
+    ensures end_room { HasEndRoom values.new }
+    ensures capacity { values.new.list.capacity ≡ values.old.list.capacity }
+    ensures keys_capacity { keys.new.capacity ≡ keys.old.capacity }
+{
+    // The length tells the proof that the list is sound, and how many slots are in use.
+    let _len = values.len();
+    if !values.has_end_room() {
+        compact(keys, values);
+    }
+}
 
 /// Makes room for one more value behind the others. Where half of the slots or more are free, it
 /// closes the holes and takes no memory.
@@ -33,9 +60,7 @@ pub(super) fn make_value_room<K, V: Drop, A: Allocator>(
     if values.len() >= values.capacity() {
         return values.reserve(1);
     }
-    if !values.has_end_room() {
-        compact(keys, values);
-    }
+    make_end_room(keys, values);
     Ok(())
 }
 

@@ -27,7 +27,7 @@ fn push_key<K, A: Allocator>(keys: &mut SlotList<K, KeyLink, A>, key: K, link: K
 }
 
 /// The link of a key whose chain has so many values, all at one place.
-fn new_link(hash: u64, place: usize, length: usize) -> KeyLink
+pub(super) fn new_link(hash: u64, place: usize, length: usize) -> KeyLink
     ensures { result ≡ record { hash = hash; head = place; tail = place; length = length } }
 {
     KeyLink {

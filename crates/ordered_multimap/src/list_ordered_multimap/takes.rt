@@ -1,15 +1,16 @@
 //! Steps of a removal: what takes values, and the key with its last one, out of the map.
-ghost use Rattle.std.specs.Prelude.{◌≡◌, Some, length};
+ghost use Rattle.std.specs.Prelude.{◌≡◌, ◌<◌, ◌≤◌, ◌+◌, ◌-◌, Some, length};
 ghost use Rattle.std.specs.FinMap.{get, remove};
 ghost use Rattle.multimap_slots.specs.Lists.{IsIn};
 ghost use Rattle.multimap_slots.specs.Slots.{Removes, item_at, link_at};
 ghost use Rattle.multimap_slots.specs.Tapes.{Frees};
-ghost use Rattle.multimap_walks.specs.Chained.{IsChained, is_value_of, chain_of};
-ghost use Rattle.ordered_multimap.specs.Takes.{TakesValues, TakesEntry};
+ghost use Rattle.multimap_walks.specs.Chained.{IsChained, chain_of};
+ghost use Rattle.ordered_multimap.specs.Takes.{IsTaking, TakesEntry, TakesOlder};
 ghost use Rattle.ordered_multimap.specs.TapeNumbers.{TakesOut, numbers_of};
 
-use super::links::link_of;
+use super::links::{link_of, set_link, set_previous};
 use super::lookup::slot_at;
+use super::steps::new_link;
 use multimap_slots::{SlotList, Tape};
 use multimap_table::KeyTable;
 use multimap_walks::{KeyLink, ValueLink};
@@ -30,21 +31,24 @@ fn take_value<V, A: Allocator>(values: &mut Tape<V, ValueLink, A>, place: usize)
     }
 }
 
-/// Takes all values of the key at the place out, and answers the first. Their links aren't mended,
-/// since they name each other alone.
-fn take_chain<K, V: Drop, A: Allocator>(
+/// Takes the first `count` values of the key at the place out, and answers the first of them, with
+/// the place of the value behind them. No link is mended.
+fn take_values<K, V: Drop, A: Allocator>(
     keys: &SlotList<K, KeyLink, A>,
     values: &mut Tape<V, ValueLink, A>,
     place: usize,
-) -> V
+    count: usize,
+) -> (V, Option<usize>)
     requires listed { IsIn place keys.now.order }
     requires chained { IsChained keys.now values.old.list }
-    ensures taken { TakesValues (is_value_of values.old.list place)
+    requires some { 0 < count }
+    requires among { (l : KeyLink) → link_at keys.now place ≡ Some l → count ≤ l.length }
+    ensures taking { IsTaking (chain_of values.old.list place) count result.1
         values.old.list values.new.list }
     ensures first { (l : KeyLink) → link_at keys.now place ≡ Some l
-        → item_at values.old.list l.head ≡ Some result }
-    ensures counts { TakesOut (length (chain_of values.old.list place))
-        (numbers_of values.old) (numbers_of values.new) }
+        → item_at values.old.list l.head ≡ Some result.0 }
+    ensures counts { TakesOut count (numbers_of values.old) (numbers_of values.new) }
+    ensures shorter { length values.new.list.order + count ≡ length values.old.list.order }
     ensures capacity { values.new.list.capacity ≡ values.old.list.capacity }
 {
     // The length tells the proof that the list is sound.
@@ -52,7 +56,7 @@ fn take_chain<K, V: Drop, A: Allocator>(
     let (_, link) = slot_at(keys, place);
     let (first, head) = take_value(values, link.head);
     let mut following = head.next;
-    for _ in 1..link.length {
+    for _ in 1..count {
         match following {
             Some(next) => {
                 let (_value, taken) = take_value(values, next);
@@ -61,7 +65,7 @@ fn take_chain<K, V: Drop, A: Allocator>(
             None => unreachable!(),
         }
     }
-    first
+    (first, following)
 }
 
 /// Takes the key at the place out of list and table.
@@ -105,6 +109,35 @@ pub(super) fn take_entry<K, V: Drop, A: Allocator>(
     ensures rows_capacity { table.new.capacity ≡ table.old.capacity }
     ensures values_capacity { values.new.list.capacity ≡ values.old.list.capacity }
 {
-    let first = take_chain(keys, values, place);
+    // The length tells the proof that the list is sound. No link is mended, since those of a chain
+    // name each other alone.
+    let _len = values.len();
+    let (_, link) = slot_at(keys, place);
+    let (first, _) = take_values(keys, values, place, link.length);
     (take_key(keys, table, place), first)
+}
+
+/// Takes all values of the key at the place out but the last one, and answers the first.
+pub(super) fn take_older<K, V: Drop, A: Allocator>(
+    keys: &mut SlotList<K, KeyLink, A>,
+    values: &mut Tape<V, ValueLink, A>,
+    place: usize,
+) -> V
+    requires listed { IsIn place keys.old.order }
+    requires chained { IsChained keys.old values.old.list }
+    requires more { (l : KeyLink) → link_at keys.old place ≡ Some l → 1 < l.length }
+    ensures taken { TakesOlder keys.old keys.new values.old.list values.new.list place result }
+    ensures counts { (l : KeyLink) → link_at keys.old place ≡ Some l
+        → TakesOut (l.length - 1) (numbers_of values.old) (numbers_of values.new) }
+    ensures shorter { length values.new.list.order < length values.old.list.order }
+    ensures keys_capacity { keys.new.capacity ≡ keys.old.capacity }
+    ensures values_capacity { values.new.list.capacity ≡ values.old.list.capacity }
+{
+    // The length tells the proof that the list is sound.
+    let _len = values.len();
+    let (_, link) = slot_at(keys, place);
+    let (first, _) = take_values(keys, values, place, link.length - 1);
+    set_previous(values, Some(link.tail), None);
+    set_link(keys, place, new_link(link.hash, link.tail, 1));
+    first
 }

@@ -14,10 +14,10 @@ inserted rows place hash =
     ∙ ap (λ b. cond b (Some hash) (map.get rows place)) (unsigned_tied place place ∙ eq-eqb place place refl)
 
 pub insert-requires-clause-room : goal.insert-requires-clause-room
-insert-requires-clause-room c = let h = c.in-Ok.ensures {u = tt} in let e = ap (λ (m : map.FinMap nat_cmp ℕ). map.len m) h.rows ∙ map.len-empty nat_cmp ℕ in omega (arith, e, h.room)
+insert-requires-clause-room c = let h = c.in-Ok.ensures {u = tt} in let e = ap (λ (m : map.FinMap nat_cmp ℕ). map.len m) h.empty ∙ map.len-empty nat_cmp ℕ in omega (arith, e, h.room)
 
 pub insert-requires-clause-absent : goal.insert-requires-clause-absent
-insert-requires-clause-absent c = absent _ _ (c.in-Ok.ensures {u = tt}).rows
+insert-requires-clause-absent c = absent _ _ (c.in-Ok.ensures {u = tt}).empty
 
 pub remove-requires : goal.remove-requires
 remove-requires c =

@@ -1,8 +1,8 @@
-use Rattle.std.proofs.Common.{Some, ◌∙◌, subst, arith, add-one}
+use Rattle.std.proofs.Common.{◌≡◌, Some, ◌∙◌, subst, arith, add-one}
 use Rattle.multimap_walks.specs.Chained.{chain_of}
 use Rattle.ordered_multimap.specs.Takes.{IsTaking}
-use Rattle.ordered_multimap.proofs.TakingLemmas.{taking-head, taking-most, taking-listed, taking-step, taking-more, taking-end}
-use Rattle.ordered_multimap.proofs.list_ordered_multimap.takes.take_chain.Goals as goal
+use Rattle.ordered_multimap.proofs.TakingLemmas.{taking-head, taking-listed, taking-step, taking-more}
+use Rattle.ordered_multimap.proofs.list_ordered_multimap.takes.take_values.Goals as goal
 
 pub take_value-first-requires : goal.take_value-first-requires
 take_value-first-requires g c =
@@ -20,6 +20,7 @@ loop-init g c =
       moved = f.frees.moved;
       freed = f.frees.freed;
       holes = f.frees.holes;
+      shorter = f.removed.shorter;
       capacity = f.capacity;
     }
 
@@ -31,8 +32,9 @@ take_value-value-requires g c =
 pub unreachable-requires : goal.unreachable-requires
 unreachable-requires g c =
     let count = c.requires.chained.length c.args.place c.slot_at.result.1 c.requires.listed c.slot_at.ensures.link_is in
+    let most = c.requires.among c.slot_at.result.1 c.slot_at.ensures.link_is in
     absurd (taking-more c.len-len.ensures.sound c.requires.chained c.args.place c.loop.counter c.loop.following c.loop.values.list c.loop.invariant.taking
-    (omega (arith, count, c.loop-test.true)) c.in-None.is)
+    (omega (arith, count, most, c.loop-test.true)) c.in-None.is)
 
 pub loop-preserved : goal.loop-preserved
 loop-preserved g c =
@@ -46,24 +48,27 @@ loop-preserved g c =
       moved = t.frees.moved ∙ w.moved;
       freed = omega (arith, t.frees.freed, w.freed);
       holes = omega (arith, t.frees.holes, w.holes);
+      shorter = omega (arith, t.removed.shorter, w.shorter);
       capacity = t.capacity ∙ w.capacity;
     })
 
-pub returns-clause-taken : goal.returns-clause-taken
-returns-clause-taken g c =
-    let count = c.requires.chained.length c.args.place c.slot_at.result.1 c.requires.listed c.slot_at.ensures.link_is in
-    taking-end c.len-len.ensures.sound c.requires.chained c.args.place c.loop.counter c.loop.following c.loop.values.list c.loop.invariant.taking
-    (omega (arith, count, c.loop-test.false, taking-most c.len-len.ensures.sound c.requires.chained c.args.place c.loop.counter c.loop.following c.loop.values.list c.loop.invariant.taking))
+pub returns-clause-taking : goal.returns-clause-taking
+returns-clause-taking g c =
+    let w = c.loop.invariant in
+    subst (λ n. IsTaking (chain_of c.args.values.now.list c.args.place) n c.loop.following c.args.values.now.list c.loop.values.list)
+    (omega (arith, c.loop-test.false, c.loop.auto.counter-end, c.requires.some)) w.taking
 
 pub returns-clause-counts : goal.returns-clause-counts
 returns-clause-counts g c =
     let w = c.loop.invariant in
-    let count = c.requires.chained.length c.args.place c.slot_at.result.1 c.requires.listed c.slot_at.ensures.link_is in
-    let most = taking-most c.len-len.ensures.sound c.requires.chained c.args.place c.loop.counter c.loop.following c.loop.values.list w.taking in
+    let all : c.loop.counter ≡ c.args.count = omega (arith, c.loop-test.false, c.loop.auto.counter-end, c.requires.some) in
     record {
-      freed = omega (arith, w.freed, count, most, c.loop-test.false);
-      paid = omega (arith, w.moved, w.holes, count, most, c.loop-test.false);
+      freed = omega (arith, w.freed, all);
+      paid = omega (arith, w.moved, w.holes, all);
     }
 
 pub returns-clause-capacity : goal.returns-clause-capacity
 returns-clause-capacity g c = c.loop.invariant.capacity
+
+pub returns-clause-shorter : goal.returns-clause-shorter
+returns-clause-shorter g c = omega (arith, c.loop.invariant.shorter, c.loop-test.false, c.loop.auto.counter-end, c.requires.some)

@@ -1,7 +1,7 @@
-use Rattle.std.proofs.Common.{◌≡◌, ◌+◌}
+use Rattle.std.proofs.Common.{◌≡◌, ◌+◌, length}
 use Rattle.multimap_walks.specs.Chained.{chain_of}
 use Rattle.ordered_multimap.specs.Takes.{IsTaking}
-use Rattle.ordered_multimap.proofs.list_ordered_multimap.takes.take_chain.Given as goal
+use Rattle.ordered_multimap.proofs.list_ordered_multimap.takes.take_values.Given as goal
 
 abbrev pub invariant-loop : goal.invariant-loop
 invariant-loop g l = record {
@@ -9,5 +9,6 @@ invariant-loop g l = record {
   moved : l.values.moved ≡ l.fn.values.moved;
   freed : l.values.freed ≡ l.fn.values.freed + l.counter;
   holes : l.values.holes ≡ l.fn.values.holes + l.counter;
+  shorter : length l.values.list.order + l.counter ≡ length l.fn.values.list.order;
   capacity : l.values.list.capacity ≡ l.fn.values.list.capacity;
 }

@@ -1,0 +1,143 @@
+-- A value that comes last in place of all others of its key.
+use Rattle.std.proofs.Common.{◌≡◌, ◌+◌, ◌-◌, ◌<◌, ◌/◌, ℕ, Bool, true, false, not, List, [], ◌∷◌, ◌++◌, map, length, filter, slice_get, Some, IsSome, Result, Ok, Err, OnOk, OnErr, refl, sym, ap, ◌∙◌, subst, arith, true≢false, min}
+use Rattle.std.proofs.lemmas.List.{length-map, map-append}
+use Rattle.std.proofs.lemmas.List.Elements.{filter-append}
+use Rattle.std.specs.Cmp.{IsEquivalence}
+use Rattle.std.specs.Ordering.{nat_cmp}
+use Rattle.std.specs.FinMap.{FinMap}
+use Rattle.multimap_slots.specs.Lists.{IsIn, first_of, last_of}
+use Rattle.multimap_slots.specs.Slots.{Slots, IsSound, item_at, link_at, with_link}
+use Rattle.multimap_walks.specs.declared.links.KeyLink.{KeyLink}
+use Rattle.multimap_walks.specs.declared.links.ValueLink.{ValueLink}
+use Rattle.multimap_walks.specs.Chained.{IsChained, is_value_of, chain_of, pairs_of}
+use Rattle.ordered_multimap.specs.Lists.{Lists, lists, IsWellFormed}
+use Rattle.ordered_multimap.specs.Keys.{is_listed, stored_key, keys_with}
+use Rattle.ordered_multimap.specs.Pairs.{has_items, pairs_without, values_of}
+use Rattle.ordered_multimap.specs.Changes.{appended, inserted}
+use Rattle.ordered_multimap.specs.Agrees.{Agrees, HasKey, items_of, lists_of}
+use Rattle.ordered_multimap.specs.Appends.{PushesValue, PushesBehind, SetsKey}
+use Rattle.ordered_multimap.specs.Renames.{AreRenamed}
+use Rattle.ordered_multimap.specs.Takes.{InsertsBehind}
+use Rattle.ordered_multimap.proofs.Members.{filter-all}
+use Rattle.ordered_multimap.proofs.PlaceLemmas.{held, begins, filter_shorter}
+use Rattle.ordered_multimap.proofs.ChainLemmas.{first_of-push}
+use Rattle.ordered_multimap.proofs.StepLemmas.{sets_link}
+use Rattle.ordered_multimap.proofs.RenameLemmas.{chain_of-renamed}
+use Rattle.ordered_multimap.proofs.AppendLemmas.{chained-append}
+use Rattle.ordered_multimap.proofs.AppendedLemmas.{Appends, present_step, agrees_reserved}
+use Rattle.ordered_multimap.proofs.LookupLemmas.{first_value, count_of_values, present_if_found}
+use Rattle.ordered_multimap.proofs.OlderLemmas.{agrees-older, lists_of-older}
+use Rattle.ordered_multimap.proofs.TakeLemmas.{apart}
+
+module _ {K V : Type 0} {keys : Slots K KeyLink} {values : Slots V ValueLink} (keys_sound : IsSound keys) (chained : IsChained keys values) (place : ℕ) (listed : IsIn place keys.order) where
+  -- where there is a key there is a value
+  pub has_value : 0 < length values.order
+  has_value =
+      let l = held (link_at keys place) (keys_sound.linked place listed) in
+      let b = begins (chain_of values place) l.value.head (chained.head place l.value listed l.is) in
+      omega (arith, ap length b.is, filter_shorter (is_value_of values place) values.order)
+
+  pub chain_some : 0 < length (chain_of values place)
+  chain_some =
+      let l = held (link_at keys place) (keys_sound.linked place listed) in
+      let b = begins (chain_of values place) l.value.head (chained.head place l.value listed l.is) in
+      omega (arith, ap length b.is)
+
+  module _ (values_sound : IsSound values) {keys_after : Slots K KeyLink} {values_after : Slots V ValueLink} {v : V} (p : PushesBehind keys keys_after values values_after place v) where
+    link_now : KeyLink
+    link_now = record p.link { tail = p.last; length = p.link.length + 1 }
+
+    sets : SetsKey keys (with_link keys place link_now) place (held (item_at keys place) (keys_sound.filled place listed)).value link_now
+    sets = let k = held (item_at keys place) (keys_sound.filled place listed) in sets_link keys place k.value link_now listed k.is (keys_sound.linked place listed)
+
+    -- the links stay chained
+    pub chained-behind : IsChained keys_after values_after
+    unfolding link_now
+    chained-behind =
+        let behind : PushesValue values values_after p.last v place (last_of (chain_of values place)) =
+        subst (PushesValue values values_after p.last v place) (sym (chained.tail place p.link listed p.link_is)) p.pushed in
+        subst (λ s. IsChained s values_after) (sym p.keys_are)
+        (chained-append keys_sound values_sound chained sets behind
+        (first_of-push (chain_of values place) p.last p.link.head (chained.head place p.link listed p.link_is)) refl
+        (ap (λ m. m + 1) (sym (chained.length place p.link listed p.link_is))))
+
+    -- the key's link counts one value more
+    pub longer : (l : KeyLink) → link_at keys_after place ≡ Some l → l.length ≡ length (chain_of values place) + 1
+    unfolding link_now
+    longer l is =
+        let now : Some l ≡ Some link_now = sym is ∙ ap (λ (s : Slots K KeyLink). link_at s place) p.keys_are ∙ sets.link_is in
+        let e : l ≡ link_now = cc in
+        ap (λ (m : KeyLink). m.length) e ∙ ap (λ m. m + 1) (sym (chained.length place p.link listed p.link_is))
+
+    pub tail_is : (l : KeyLink) → link_at keys_after place ≡ Some l → l.tail ≡ p.last
+    unfolding link_now
+    tail_is l is =
+        let now : Some l ≡ Some link_now = sym is ∙ ap (λ (s : Slots K KeyLink). link_at s place) p.keys_are ∙ sets.link_is in
+        let e : l ≡ link_now = cc in
+        ap (λ (m : KeyLink). m.tail) e
+
+  -- under other names a chain is as long
+  pub same_count : IsSound values → {keys_after : Slots K KeyLink} {values_after : Slots V ValueLink} → AreRenamed keys keys_after values values_after
+      → length (chain_of values_after place) ≡ length (chain_of values place)
+  same_count values_sound r = ap length (chain_of-renamed r.name keys_sound values_sound chained r.renames place) ∙ length-map (chain_of values place) r.name
+
+-- the first of a key's values, where more came behind
+first_before : {X : Type 0} (xs ys : List X) (x : X) → has_items xs ≡ true → slice_get (xs ++ ys) 0 ≡ Some x → slice_get xs 0 ≡ Some x
+first_before [] ys x some e = absurd (true≢false (sym some))
+first_before (z ∷ xs) ys x some e = e
+
+values_of-append : {K V : Type 0} (eq : K → K → Bool) (k : K) (pairs more : List (K × V)) → values_of eq (pairs ++ more) k ≡ values_of eq pairs k ++ values_of eq more k
+values_of-append eq k pairs more = ap (map (λ p. p.1)) (filter-append (λ p. eq k p.0) pairs more) ∙ map-append (λ p. p.1) (filter (λ p. eq k p.0) pairs) (filter (λ p. eq k p.0) more)
+
+-- an insertion on a present key
+module _ {K V : Type 0} {eq : K → K → Bool} (laws : IsEquivalence eq) {hash : K → ℕ} {keys keys_after : Slots K KeyLink} {rows : FinMap nat_cmp ℕ} {values values_after : Slots V ValueLink}
+    (agrees : Agrees eq hash keys rows values) (k : K) (v : V) (place : ℕ) (has : HasKey eq keys k place) {first : V} (done : InsertsBehind keys keys_after values values_after place v first) where
+  pushed : Appends eq hash keys values k v done.keys_pushed rows done.pushed_values
+  pushed = present_step laws agrees done.renamed k v place has done.pushed
+
+  reserved_listed : IsIn place done.keys_reserved.order
+  reserved_listed = subst (IsIn place) (sym done.renamed.renames.key_order) has.listed
+
+  has_pushed : HasKey eq done.keys_pushed k place
+  has_pushed = record {
+    listed = subst (λ (s : Slots K KeyLink). IsIn place s.order) (sym done.pushed.keys_are) reserved_listed;
+    stored = has.stored;
+    item_is = ap (λ (s : Slots K KeyLink). item_at s place) done.pushed.keys_are ∙ done.renamed.renames.key_items place ∙ has.item_is;
+    equal = has.equal;
+  }
+
+  order_is : done.pushed_values.order ≡ done.reserved.order ++ done.older.link.tail ∷ []
+  order_is =
+      let reserved = agrees_reserved laws agrees done.renamed in
+      done.pushed.pushed.order ∙ ap (λ p. done.reserved.order ++ p ∷ [])
+      (sym (tail_is reserved.keys_sound reserved.chained place reserved_listed reserved.values_sound done.pushed done.older.link done.older.link_is))
+
+  pairs_pushed : pairs_of done.keys_pushed done.pushed_values ≡ pairs_of keys values ++ (stored_key eq (items_of keys) k, v) ∷ []
+  pairs_pushed = ap (λ (m : Lists K V). m.pairs) pushed.lists
+
+  pub agrees-inserted : Agrees eq hash keys_after rows values_after
+  agrees-inserted = agrees-older laws pushed.agrees k place has_pushed done.older done.reserved.order order_is done.same_room
+
+  pub lists_of-inserted : lists_of keys_after values_after ≡ inserted eq (lists_of keys values) k v
+  lists_of-inserted =
+      lists_of-older laws pushed.agrees k place has_pushed done.older done.reserved.order order_is (pairs_of keys values) (stored_key eq (items_of keys) k, v) pairs_pushed
+      ∙ ap (λ ks. lists ks (pairs_without eq (pairs_of keys values) k ++ (stored_key eq (items_of keys) k, v) ∷ [])) (ap (λ (m : Lists K V). m.keys) pushed.lists)
+
+  pub first_of-inserted : slice_get (values_of eq (pairs_of keys values) k) 0 ≡ Some first
+  first_of-inserted =
+      first_before (values_of eq (pairs_of keys values) k) (values_of eq ((stored_key eq (items_of keys) k, v) ∷ []) k) first
+      (present_if_found laws agrees k place has)
+      (ap (λ vs. slice_get vs 0) (sym (ap (λ ps. values_of eq ps k) pairs_pushed ∙ values_of-append eq k (pairs_of keys values) ((stored_key eq (items_of keys) k, v) ∷ [])))
+      ∙ first_value laws pushed.agrees k place done.older.link first has_pushed done.older.link_is done.older.first_is)
+
+  pub count_of-inserted : length (values_of eq (pairs_of keys values) k) ≡ length (chain_of values place)
+  count_of-inserted =
+      let l = held (link_at keys place) (agrees.keys_sound.linked place has.listed) in
+      count_of_values laws agrees k place l.value has l.is ∙ sym (agrees.chained.length place l.value has.listed l.is)
+
+-- an absent key has no pairs to take out
+pub inserted-absent : {K V : Type 0} {eq : K → K → Bool} (laws : IsEquivalence eq) (m : Lists K V) (k : K) (v : V) → IsWellFormed eq m → is_listed eq m.keys k ≡ false
+    → appended eq m k v ≡ inserted eq m k v
+inserted-absent {eq = eq} laws m k v formed unlisted =
+    ap (λ ps. lists (keys_with eq m.keys k) (ps ++ (stored_key eq m.keys k, v) ∷ []))
+    (sym (filter-all (λ p. not (eq k p.0)) m.pairs (λ p i. ap not (apart laws m k formed unlisted p i))))

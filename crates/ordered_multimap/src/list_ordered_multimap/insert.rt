@@ -1,0 +1,93 @@
+//! Pairs that come last and take the place of all others of their key.
+ghost use Rattle.std.specs.Prelude.{◌≡◌, length, slice_get, IfOk, IfErr, OnOk, OnErr, IsOk};
+ghost use Rattle.multimap_slots.specs.Lists.{IsIn};
+ghost use Rattle.multimap_slots.specs.Slots.{IsSound};
+ghost use Rattle.multimap_slots.specs.Tapes.{HasTapeRoomFor};
+ghost use Rattle.multimap_walks.specs.Chained.{IsChained, chain_of};
+ghost use Rattle.ordered_multimap.specs.Takes.{InsertsBehind};
+ghost use Rattle.ordered_multimap.specs.TapeNumbers.{TakesOut, numbers_of};
+ghost use Rattle.ordered_multimap.specs.Pairs.{values_of};
+ghost use Rattle.ordered_multimap.specs.Changes.{inserted};
+ghost use Rattle.ordered_multimap.specs.Rooms.{HasInsertRoom, KeepsRooms, InsertRaisesNoRoom};
+
+use super::append::append_first;
+use super::lookup::place_of;
+use super::room::make_end_room;
+use super::steps::push_behind;
+use super::takes::take_older;
+use super::{ListOrderedMultimap, Refused};
+use multimap_slots::{SlotList, Tape};
+use multimap_walks::{KeyLink, ValueLink};
+use std::alloc::Allocator;
+use std::hash::{BuildHasher, Hash};
+
+impl<K: Eq + Hash, V, S: BuildHasher, A: Allocator + Copy> ListOrderedMultimap<K, V, S, A> {
+    /// Takes all pairs of the key out, puts the pair last, and answers the first of the old values,
+    /// or none where the key was absent. A present key stays as it was stored, and keeps its place
+    /// among the keys; the one handed in is dropped.
+    ///
+    /// On a present key it takes no memory and can't be refused. For an absent one it is as
+    /// `append`: where memory is refused, it hands back the pair, and both lists are as before. One
+    /// look-up; then the slots of the key, of its values and of the new one, and now and then a
+    /// compaction, as for `append`.
+    ///
+    /// ```
+    /// map.insert("page", 9) == Ok(Some(8))
+    /// ```
+    pub fn insert(&mut self, key: K, value: V) -> Result<Option<V>, Refused<K, V>>
+    where
+        K: Drop,
+        V: Drop,
+        ensures value { IfOk result (λ old.
+            old ≡ slice_get (values_of K.eq self.old.lists.pairs key) 0) }
+        ensures ok { OnOk result (self.new.lists ≡ inserted K.eq self.old.lists key value) }
+        ensures unchanged { OnErr result (self.new.lists ≡ self.old.lists) }
+        ensures refused { IfErr result (λ pair. pair ≡ record { key = key; value = value }) }
+        ensures succeeds { HasInsertRoom K.eq self.old key → IsOk result }
+        ensures rooms { KeepsRooms self.old self.new }
+        ensures had_room { InsertRaisesNoRoom K.eq key self.old self.new }
+        ensures taken { TakesOut (length (values_of K.eq self.old.lists.pairs key))
+            self.old.tape self.new.tape }
+    {
+        let hash = self.state.hash_one(&key);
+        match place_of(&self.keys, &self.table, hash, &key) {
+            Some(place) => Ok(Some(insert_behind(&mut self.keys, &mut self.values, place, value))),
+            None => {
+                append_first(
+                    &mut self.keys,
+                    &mut self.table,
+                    &mut self.values,
+                    hash,
+                    key,
+                    value,
+                )?;
+                Ok(None)
+            }
+        }
+    }
+}
+
+/// Puts the value last, behind the others of the key at the place, takes these out, and answers the
+/// first of them. There is a slot for it, since a tape has two for each value of the map.
+fn insert_behind<K, V: Drop, A: Allocator>(
+    keys: &mut SlotList<K, KeyLink, A>,
+    values: &mut Tape<V, ValueLink, A>,
+    place: usize,
+    value: V,
+) -> V
+    requires listed { IsIn place keys.old.order }
+    requires keys_sound { IsSound keys.old }
+    requires chained { IsChained keys.old values.old.list }
+    requires fits { HasTapeRoomFor values.old 0 }
+    ensures inserted { InsertsBehind keys.old keys.new values.old.list values.new.list
+        place value result }
+    ensures fits { HasTapeRoomFor values.new 0 }
+    ensures counts { TakesOut (length (chain_of values.old.list place))
+        (numbers_of values.old) (numbers_of values.new) }
+    ensures keys_capacity { keys.new.capacity ≡ keys.old.capacity }
+    ensures values_capacity { values.new.list.capacity ≡ values.old.list.capacity }
+{
+    make_end_room(keys, values);
+    push_behind(keys, values, place, value);
+    take_older(keys, values, place)
+}
