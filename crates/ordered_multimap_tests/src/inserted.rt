@@ -7,18 +7,24 @@ use std::alloc::{AllocError, Allocator};
 use std::hash::{BuildHasher, Hash};
 use test_helpers::{Constant, Failed, Sample, Test, Token, ZERO, requests_until_enough};
 
+fn number_of<V: Sample>(value: Option<V>) -> Option<usize> {
+    match value {
+        Some(value) => Some(value.number()),
+        None => None,
+    }
+}
+
 fn expect_inserted<K: Sample + Eq + Hash, V: Sample, S: BuildHasher, A: Allocator + Copy>(
     test: &Test,
     map: &mut ListOrderedMultimap<K, V, S, A>,
     pair: (usize, usize),
     first: Option<usize>,
 ) {
-    let answer = match map.insert(K::of(test, pair.0), V::of(test, pair.1)) {
-        Ok(Some(old)) => Some(Some(old.number())),
-        Ok(None) => Some(None),
-        Err(_) => None,
-    };
-    test.expect("insert", answer == Some(first));
+    let inserted = map.insert(K::of(test, pair.0), V::of(test, pair.1));
+    match inserted {
+        Ok(old) => test.expect("insert", number_of(old) == first),
+        Err(_) => test.expect("memory for a pair", false),
+    }
 }
 
 // A present key keeps its place among the keys, and its pair stands last.
