@@ -10,6 +10,7 @@ use Rattle.multimap_walks.specs.declared.links.ValueLink.{ValueLink}
 use Rattle.multimap_walks.specs.Chained.{pairs_of}
 use Rattle.ordered_multimap.specs.Lists.{Lists}
 use Rattle.ordered_multimap.specs.Keys.{is_listed}
+use Rattle.ordered_multimap.specs.MapSlots.{MapSlots}
 use Rattle.ordered_multimap.specs.Multimap.{Multimap, multimap}
 use Rattle.ordered_multimap.specs.Agrees.{Agrees, items_of, lists_of}
 use Rattle.ordered_multimap.specs.Appends.{GrowsIfFull, MakesRoom, FitsOneMore}
@@ -19,9 +20,9 @@ use Rattle.ordered_multimap.proofs.AgreesLemmas.{value_room, key_room, row_room}
 use Rattle.ordered_multimap.proofs.LookupLemmas.{absent_if_unlisted}
 
 -- rooms of parts that are no smaller
-module _ {K V S : Type 0} (both both_after : Lists K V) (keys keys_after rows rows_after slots slots_after : ℕ) (state : S) (tape tape_after : TapeNumbers) where
+module _ {K V S : Type 0} (both both_after : Lists K V) (keys keys_after rows rows_after slots slots_after : ℕ) (state : S) (tape tape_after : TapeNumbers) (places places_after : MapSlots K V) where
   pub keeps_rooms : keys ≤ keys_after → rows ≤ rows_after → slots ≤ slots_after
-      → KeepsRooms (multimap both (min keys rows) (slots / 2) state tape) (multimap both_after (min keys_after rows_after) (slots_after / 2) state tape_after)
+      → KeepsRooms (multimap both (min keys rows) (slots / 2) state tape places) (multimap both_after (min keys_after rows_after) (slots_after / 2) state tape_after places_after)
   keeps_rooms more_keys more_rows more_slots = record {
     keys = omega (arith, more_keys, more_rows);
     values = omega (arith, more_slots);
@@ -32,6 +33,7 @@ module _ {K V S : Type 0} (both both_after : Lists K V) (keys keys_after rows ro
 abbrev pub map_of : {K V S : Type 0} → Slots K KeyLink → ℕ → Taped V ValueLink → S → Multimap K V S
 map_of keys row_capacity values state =
     multimap (lists_of keys values.list) (min keys.capacity row_capacity) (values.list.capacity / 2) state (numbers_of values)
+    (record { keys = keys; values = values.list })
 
 module _ {K V S : Type 0} {eq : K → K → Bool} (laws : IsEquivalence eq) {hash : K → ℕ} (keys : Slots K KeyLink) (rows : FinMap nat_cmp ℕ) (values : Taped V ValueLink)
     (agrees : Agrees eq hash keys rows values.list) (row_capacity : ℕ) (state : S) (key : K) where

@@ -4,6 +4,7 @@ pub mod Changes
 pub mod Keys
 pub mod Laws
 pub mod Lists
+pub mod MapSlots
 pub mod Multimap
 pub mod Pairs
 pub mod Pop

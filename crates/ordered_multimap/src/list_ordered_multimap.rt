@@ -70,7 +70,7 @@ impl<K: Eq + Hash, V, S: BuildHasher, A: Allocator> Model for ListOrderedMultima
 
     ghost view = { λ m. multimap (lists_of m.keys m.values.list)
         (min m.keys.capacity m.table.capacity) (m.values.list.capacity / 2) m.state
-        (numbers_of m.values) };
+        (numbers_of m.values) (record { keys = m.keys; values = m.values.list }) };
 
     ghost invariant = { λ m. IsMap K.eq
         (λ k. hash_of S.BuildHasher S.Hasher.Hasher m.state (K.hash_input k))

@@ -56,7 +56,7 @@ pub returns-in-Some-clause-rooms : goal.returns-in-Some-clause-rooms
 returns-in-Some-clause-rooms g c =
     subst (λ m. KeepsRooms m (map_of c.append_behind.new.keys c.self.inside.table.capacity c.append_behind.new.values c.self.inside.state))
     c.self.view_is
-    (keeps_rooms _ _ _ _ _ _ _ _ _ _ _ (omega (arith, c.append_behind.ensures.keys_capacity)) (omega arith) c.append_behind.ensures.values.no_less)
+    (keeps_rooms _ _ _ _ _ _ _ _ _ _ _ _ _ (omega (arith, c.append_behind.ensures.keys_capacity)) (omega arith) c.append_behind.ensures.values.no_less)
 
 pub returns-in-Some-clause-had_room : goal.returns-in-Some-clause-had_room
 returns-in-Some-clause-had_room g c =
@@ -106,7 +106,7 @@ pub returns-in-None-clause-rooms : goal.returns-in-None-clause-rooms
 returns-in-None-clause-rooms g c =
     subst (λ m. KeepsRooms m (map_of c.append_first.new.keys c.append_first.new.table.capacity c.append_first.new.values c.self.inside.state))
     c.self.view_is
-    (keeps_rooms _ _ _ _ _ _ _ _ _ _ _ c.append_first.ensures.keys.no_less c.append_first.ensures.rows.no_less c.append_first.ensures.values.no_less)
+    (keeps_rooms _ _ _ _ _ _ _ _ _ _ _ _ _ c.append_first.ensures.keys.no_less c.append_first.ensures.rows.no_less c.append_first.ensures.values.no_less)
 
 pub returns-in-None-clause-had_room : goal.returns-in-None-clause-had_room
 returns-in-None-clause-had_room g c =

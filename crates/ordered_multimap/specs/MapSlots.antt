@@ -1,0 +1,43 @@
+-- The slots of a map, for what keeps places of it: drains, and the keys that pops lend. Clauses on
+-- contents speak of its lists alone.
+use Rattle.std.specs.Prelude.{ℕ, List, Option, refl}
+use Rattle.std.specs.Coded.{Coded, code_by, coded×, coded_list, coded_option, coded_ℕ}
+use Rattle.multimap_slots.specs.Slots.{Slots}
+use Rattle.multimap_walks.specs.declared.links.KeyLink.{KeyLink}
+use Rattle.multimap_walks.specs.declared.links.ValueLink.{ValueLink}
+
+-- the slots of the keys, and those of the values
+pub record MapSlots (K V : Type 0) : Type 0 where
+  pub keys : Slots K KeyLink
+  pub values : Slots V ValueLink
+
+-- slots are stored as the order, the items, the links and the capacity
+abbrev pub slots_code : {T L : Type 0} → Coded T → Coded L → Coded (Slots T L)
+slots_code {T} {L} t l =
+    code_by ((List ℕ × List (Option T)) × (List L × ℕ))
+    (coded× (coded× (coded_list coded_ℕ) (coded_list (coded_option t)))
+    (coded× (coded_list l) coded_ℕ))
+    (λ s. ((s.order, s.items), (s.links, s.capacity)))
+    (λ p. record { order = p.0.0; items = p.0.1; links = p.1.0; capacity = p.1.1 }) (λ _. refl)
+
+-- a key's link is stored as two pairs
+abbrev pub key_link_code : Coded KeyLink
+key_link_code =
+    code_by ((ℕ × ℕ) × (ℕ × ℕ)) (coded× (coded× coded_ℕ coded_ℕ) (coded× coded_ℕ coded_ℕ))
+    (λ l. ((l.hash, l.head), (l.tail, l.length)))
+    (λ p. record { hash = p.0.0; head = p.0.1; tail = p.1.0; length = p.1.1 }) (λ _. refl)
+
+-- a value's link is stored as the key's place and its neighbours
+abbrev pub value_link_code : Coded ValueLink
+value_link_code =
+    code_by (ℕ × (Option ℕ × Option ℕ))
+    (coded× coded_ℕ (coded× (coded_option coded_ℕ) (coded_option coded_ℕ)))
+    (λ l. (l.key, (l.previous, l.next)))
+    (λ p. record { key = p.0; previous = p.1.0; next = p.1.1 }) (λ _. refl)
+
+-- both are stored, one after the other
+abbrev pub map_slots_code : {K V : Type 0} → Coded K → Coded V → Coded (MapSlots K V)
+map_slots_code {K} {V} k v =
+    code_by (Slots K KeyLink × Slots V ValueLink)
+    (coded× (slots_code k key_link_code) (slots_code v value_link_code))
+    (λ m. (m.keys, m.values)) (λ p. record { keys = p.0; values = p.1 }) (λ _. refl)
