@@ -1,3 +1,4 @@
+pub mod AlongLemmas
 pub mod ChainLemmas
 pub mod PairLemmas
 pub mod PathLemmas

@@ -1,3 +1,4 @@
+pub mod Along
 pub mod ChainWalk
 pub mod Chained
 pub mod PairWalk

@@ -3,12 +3,14 @@
 #![tactic(auto)]
 
 mod chain;
+mod keys;
 pub mod links;
 mod pairs;
 mod show;
 mod slots;
 
 pub use chain::EntryValues;
+pub use keys::Keys;
 pub use links::{ChainEnds, KeyLink, ValueLink};
 pub use pairs::Iter;
 

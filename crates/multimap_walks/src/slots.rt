@@ -44,6 +44,21 @@ pub(crate) fn chained_at<'map, V, A: Allocator>(
     }
 }
 
+/// The key at a listed place.
+pub(crate) fn key_at<'map, K, A: Allocator>(
+    keys: &'map SlotList<K, KeyLink, A>,
+    place: usize,
+    reads: &mut Reads,
+) -> &'map K
+    requires { IsIn place keys.now.order }
+    ensures item { item_at keys.now place ≡ Some result.now }
+{
+    match keys.get(place, reads) {
+        Some((key, _)) => key,
+        None => unreachable!(),
+    }
+}
+
 /// The key and the value at a listed place.
 pub(crate) fn pair_of<'map, K, V, A: Allocator>(
     keys: &'map SlotList<K, KeyLink, A>,
@@ -56,8 +71,5 @@ pub(crate) fn pair_of<'map, K, V, A: Allocator>(
     ensures pair { pair_at keys.now values.now.list place ≡ Some (result.0.now, result.1.now) }
 {
     let (value, link) = value_at(values, place, reads);
-    match keys.get(link.key, reads) {
-        Some((key, _)) => (key, value),
-        None => unreachable!(),
-    }
+    (key_at(keys, link.key, reads), value)
 }

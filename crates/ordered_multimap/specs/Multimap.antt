@@ -32,6 +32,8 @@ module _ {K V S : Type 0} where
       code_by ((List K × List (K × V)) × ((ℕ × ℕ) × (S × (TapeNumbers × MapSlots K V))))
       (coded× (coded× (coded_list k) (coded_list (coded× k v)))
       (coded× (coded× coded_ℕ coded_ℕ) (coded× s (coded× numbers_code (map_slots_code k v)))))
-      (λ m. ((m.lists.keys, m.lists.pairs),
-      ((m.key_room, m.value_room), (m.hasher, (m.tape, m.slots)))))
+      (λ m. (
+        (m.lists.keys, m.lists.pairs),
+        ((m.key_room, m.value_room), (m.hasher, (m.tape, m.slots))),
+      ))
       (λ p. multimap (lists p.0.0 p.0.1) p.1.0.0 p.1.0.1 p.1.1.0 p.1.1.1.0 p.1.1.1.1) (λ _. refl)

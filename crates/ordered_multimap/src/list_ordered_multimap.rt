@@ -17,7 +17,7 @@ mod walks;
 
 use multimap_slots::{SlotList, Tape};
 use multimap_table::KeyTable;
-pub use multimap_walks::{EntryValues, Iter, KeyLink, ValueLink};
+pub use multimap_walks::{EntryValues, Iter, KeyLink, Keys, ValueLink};
 pub use refused::Refused;
 use std::alloc::{AllocError, Allocator, Global};
 pub use std::hash::RandomState;

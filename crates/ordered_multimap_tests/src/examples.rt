@@ -29,6 +29,7 @@ fn walks_answer(test: &Test, map: &Numbers) {
     test.expect("back", map.back() == Some((&"line", &2)));
     test.expect("get_all", map.get_all(&"line").next_back() == Some(&2));
     test.expect("iter", map.iter().next() == Some((&"line", &1)));
+    test.expect("keys", map.keys().next_back() == Some(&"page"));
 }
 
 fn has_room(test: &Test, map: &Numbers) {

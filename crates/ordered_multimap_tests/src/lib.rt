@@ -9,11 +9,15 @@ mod ample;
 #[cfg(test)]
 mod calls;
 #[cfg(test)]
+mod caseless;
+#[cfg(test)]
 mod constructors;
 #[cfg(test)]
 mod examples;
 #[cfg(test)]
 mod inserted;
+#[cfg(test)]
+mod keys;
 #[cfg(test)]
 mod many;
 #[cfg(test)]

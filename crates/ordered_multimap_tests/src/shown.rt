@@ -94,6 +94,8 @@ fn a_refusal_is_shown_and_compared(rt: HostRuntime) -> Result<(), Failed> {
     let numbers = Refused { key: 1, value: 2 };
     let wanted = "Refused { key: 1, value: 2 }";
     test.expect("numbers", is_shown(test.alloc(), &numbers, wanted));
+    let told = format!(in test.alloc(); "{numbers}");
+    expect_text(&test, "told", told, "memory allocation failed");
     test.end()
 }
 

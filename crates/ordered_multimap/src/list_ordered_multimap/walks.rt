@@ -1,10 +1,10 @@
-//! Walks over all pairs, and over the values of a key.
+//! Walks over all pairs, over the keys, and over the values of a key.
 ghost use Rattle.std.specs.Prelude.{◌≡◌};
 ghost use Rattle.ordered_multimap.specs.Pairs.{positions_of, values_of};
 
 use super::ListOrderedMultimap;
 use super::lookup::{find, slot_at};
-use multimap_walks::{EntryValues, Iter};
+use multimap_walks::{EntryValues, Iter, Keys};
 use std::alloc::Allocator;
 use std::hash::{BuildHasher, Hash};
 
@@ -18,6 +18,18 @@ impl<K: Eq + Hash, V, S: BuildHasher, A: Allocator> ListOrderedMultimap<K, V, S,
         ensures { result ≡ self.now.lists.pairs }
     {
         Iter::new(&self.keys, &self.values)
+    }
+
+    /// A walk over the keys, in the order in which they last became present. Each step reads the slot
+    /// of its key.
+    ///
+    /// ```
+    /// map.keys().next_back() == Some(&"page")
+    /// ```
+    pub fn keys(&self) -> Keys<'_, K, A>
+        ensures { result ≡ self.now.lists.keys }
+    {
+        Keys::new(&self.keys)
     }
 
     /// A walk over the key's values, in order, which is empty for an absent key. One look-up and

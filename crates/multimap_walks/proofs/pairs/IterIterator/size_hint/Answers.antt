@@ -1,21 +1,16 @@
-use Rattle.std.proofs.Common.{◌≡◌, ◌∙◌, length, sym, ap, arith, Some}
-use Rattle.multimap_walks.proofs.PairLemmas.{length-pairs_along}
+use Rattle.std.proofs.Common.{◌∙◌, length, sym, ap, arith, Some}
+use Rattle.multimap_walks.specs.Chained.{pair_at}
+use Rattle.multimap_walks.proofs.AlongLemmas.{length-along}
 use Rattle.multimap_walks.proofs.pairs.IterIterator.size_hint.Goals as goal
 
+pub returns-clause-least : goal.returns-clause-least
+returns-clause-least g c = let i = c.self.inside in sym (length-along i.values.now.list.order (pair_at i.keys.now i.values.now.list) i.front i.back i.length c.self.invariant.along) ∙ ap length c.self.view_is
+
 pub returns-clause-lower : goal.returns-clause-lower
-returns-clause-lower g c =
-    let i = c.self.inside in
-    let count : i.length ≡ length c.args.self.now = sym (length-pairs_along i.keys.now i.values.now.list i.front i.back i.length c.self.invariant) ∙ ap length c.self.view_is in
-    λ _. omega (arith, count)
+returns-clause-lower g c = λ _. omega (arith, returns-clause-least g c)
 
 pub returns-clause-upper : goal.returns-clause-upper
-returns-clause-upper g c =
-    let i = c.self.inside in
-    let count : i.length ≡ length c.args.self.now = sym (length-pairs_along i.keys.now i.values.now.list i.front i.back i.length c.self.invariant) ∙ ap length c.self.view_is in
-    (tt, omega (arith, count))
-
-pub returns-clause-least : goal.returns-clause-least
-returns-clause-least g c = let i = c.self.inside in sym (length-pairs_along i.keys.now i.values.now.list i.front i.back i.length c.self.invariant) ∙ ap length c.self.view_is
+returns-clause-upper g c = (tt, omega (arith, returns-clause-least g c))
 
 pub returns-clause-greatest : goal.returns-clause-greatest
-returns-clause-greatest g c = let i = c.self.inside in ap (λ n. Some n) (sym (length-pairs_along i.keys.now i.values.now.list i.front i.back i.length c.self.invariant) ∙ ap length c.self.view_is)
+returns-clause-greatest g c = ap (λ n. Some n) (returns-clause-least g c)
