@@ -6,17 +6,17 @@ ghost use Rattle.multimap_table.specs.Layout.{hash_tag, IsBitSet};
 use std::simd::prelude::*;
 
 /// How many lanes a group has.
-pub const LANES: usize = 16;
+pub(crate) const LANES: usize = 16;
 
 /// A row of the table: a hash, and the place that has it.
 #[derive(Clone, Copy)]
-pub struct Row {
-    pub hash: u64,
-    pub place: usize,
+pub(crate) struct Row {
+    pub(crate) hash: u64,
+    pub(crate) place: usize,
 }
 
 /// The tag of a lane that holds a row of this hash. An empty lane has the tag 0.
-pub fn tag_of(hash: u64) -> u8
+pub(crate) fn tag_of(hash: u64) -> u8
     ensures value { result ≡ hash_tag hash }
     ensures full { 0 < result }
 {
@@ -25,7 +25,7 @@ pub fn tag_of(hash: u64) -> u8
 
 /// A bit for each lane of the group that has the tag.
 #[inline(always)]
-pub fn match_tag(tags: &[u8], group: usize, tag: u8) -> u64
+pub(crate) fn match_tag(tags: &[u8], group: usize, tag: u8) -> u64
     requires { 16 * group + 16 ≤ length tags.now }
     ensures only { (k : ℕ) → IsBitSet result k
         → (k < 16) × (slice_index tags.now (16 * group + k) ≡ tag) }
@@ -37,7 +37,7 @@ pub fn match_tag(tags: &[u8], group: usize, tag: u8) -> u64
 }
 
 /// The place of the lowest bit that is set.
-pub fn lowest_set_bit(bits: u64) -> usize
+pub(crate) fn lowest_set_bit(bits: u64) -> usize
     requires { 0 < bits }
     ensures value { result ≡ trailing_zeros w64 bits }
     ensures set { IsBitSet bits result }
@@ -46,7 +46,7 @@ pub fn lowest_set_bit(bits: u64) -> usize
 }
 
 /// The mask without its lowest bit.
-pub fn remove_lowest_bit(bits: u64) -> u64
+pub(crate) fn remove_lowest_bit(bits: u64) -> u64
     requires { 0 < bits }
     ensures less { result < bits }
     ensures only { (k : ℕ) → IsBitSet result k → IsBitSet bits k }

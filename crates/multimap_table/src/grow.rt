@@ -8,13 +8,13 @@ use crate::insert::insert_row;
 use std::alloc::{AllocError, Allocator};
 
 /// How many rows a group holds on average at most, so that most groups have an empty lane.
-pub const GROUP_LOAD: usize = 12;
+pub(crate) const GROUP_LOAD: usize = 12;
 
 /// More groups than memory has addresses for.
-pub const MAX_GROUPS: usize = 1 << 56;
+pub(crate) const MAX_GROUPS: usize = 1 << 56;
 
 /// The least power of two of groups that hold so many rows.
-pub fn groups_for(capacity: usize) -> usize
+pub(crate) fn groups_for(capacity: usize) -> usize
     requires { capacity ≤ 12 * 2 ^ 56 }
     ensures count { IsGroupCount result }
     ensures enough { capacity ≤ 12 * result }
@@ -28,7 +28,7 @@ pub fn groups_for(capacity: usize) -> usize
 }
 
 /// Puts each row of the old lanes into the new ones, by its kept hash.
-pub fn insert_all<A: Allocator>(
+pub(crate) fn insert_all<A: Allocator>(
     tags: &mut Vec<u8, A>,
     rows: &mut Vec<Row, A>,
     old_tags: &[u8],

@@ -9,7 +9,7 @@ use crate::probe::{lane_with_room, probe_start};
 use std::alloc::Allocator;
 
 /// Puts the row into the first empty lane that a probe for its hash finds.
-pub fn insert_row<A: Allocator>(tags: &mut Vec<u8, A>, rows: &mut Vec<Row, A>, row: Row)
+pub(crate) fn insert_row<A: Allocator>(tags: &mut Vec<u8, A>, rows: &mut Vec<Row, A>, row: Row)
     requires laid_out { IsLaidOut tags.old.items rows.old.items }
     requires room { HasRoom tags.old.items }
     requires absent { map.get (rows_of tags.old.items rows.old.items) row.place ≡ None }

@@ -6,7 +6,7 @@ ghost use Rattle.multimap_table.specs.Entries.{row_at};
 use crate::group::{LANES, Row, lowest_set_bit, match_tag, remove_lowest_bit, tag_of};
 
 /// The group where a probe for the hash starts.
-pub fn probe_start(hash: u64, count: usize) -> usize
+pub(crate) fn probe_start(hash: u64, count: usize) -> usize
     requires { 0 < count }
     ensures value { result ≡ probe_start count hash }
     ensures in_range { result < count }
@@ -15,7 +15,7 @@ pub fn probe_start(hash: u64, count: usize) -> usize
 }
 
 /// The group that lies so many groups further on, round the table.
-pub fn probe(start: usize, step: usize, count: usize) -> usize
+pub(crate) fn probe(start: usize, step: usize, count: usize) -> usize
     requires count { IsGroupCount count }
     requires fits { 16 * count < 2 ^ 64 }
     requires start { start < count }
@@ -27,7 +27,7 @@ pub fn probe(start: usize, step: usize, count: usize) -> usize
 }
 
 /// How many groups a probe goes on from one group to the other.
-pub fn distance(from: usize, to: usize, count: usize) -> usize
+pub(crate) fn distance(from: usize, to: usize, count: usize) -> usize
     requires from { from < count }
     requires to { to < count }
     requires fits { 16 * count < 2 ^ 64 }
@@ -75,7 +75,7 @@ fn find_in_group<F: Fn(usize) -> bool>(
 ///
 /// Goes through the groups from the hash's first, up to the first that has an empty lane.
 #[inline(always)]
-pub fn find_lane<F: Fn(usize) -> bool>(
+pub(crate) fn find_lane<F: Fn(usize) -> bool>(
     tags: &[u8],
     rows: &[Row],
     hash: u64,
@@ -105,7 +105,7 @@ pub fn find_lane<F: Fn(usize) -> bool>(
 }
 
 /// The first empty lane of the first group from the start on that has one.
-pub fn lane_with_room(tags: &[u8], start: usize) -> usize
+pub(crate) fn lane_with_room(tags: &[u8], start: usize) -> usize
     requires count { IsGroupCount (group_count tags.now) }
     requires groups { length tags.now ≡ 16 * group_count tags.now }
     requires start { start < group_count tags.now }

@@ -34,7 +34,7 @@ fn row_that_passes(tags: &[u8], rows: &[Row], group: usize, earlier: usize) -> O
 ///
 /// Only behind a full group does a row lie that was put past it. So the gap moves on from group to
 /// group, by each row that passes it, up to the first group that had an empty lane anyway.
-pub fn remove_row<A: Allocator>(tags: &mut Vec<u8, A>, rows: &mut Vec<Row, A>, lane: usize)
+pub(crate) fn remove_row<A: Allocator>(tags: &mut Vec<u8, A>, rows: &mut Vec<Row, A>, lane: usize)
     requires laid_out { IsLaidOut tags.old.items rows.old.items }
     requires room { HasRoom tags.old.items }
     requires in_range { lane < length tags.old.items }
