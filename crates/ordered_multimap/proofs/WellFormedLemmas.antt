@@ -1,20 +1,36 @@
 -- Each change leaves well-formed lists.
-use Rattle.std.proofs.Common.{◌≡◌, ◌⊎◌, Bool, true, false, not, List, [], ◌∷◌, ◌++◌, refl, sym, ◌∙◌, subst, inl, inr, true≢false}
+use Rattle.std.proofs.Common.{◌≡◌, ◌⊎◌, ℕ, zero, suc, ◌-◌, Bool, true, false, not, cond, length, take, ap, List, [], ◌∷◌, ◌++◌, refl, sym, ◌∙◌, subst, inl, inr, true≢false}
 use Rattle.std.specs.List.{IsDistinct}
 use Rattle.std.specs.Map.{keys_of}
 use Rattle.std.specs.Cmp.{IsEquivalence}
 use Rattle.multimap_slots.specs.Lists.{IsIn}
 use Rattle.ordered_multimap.specs.Lists.{Lists, lists, empty_lists, IsWellFormed}
-use Rattle.ordered_multimap.specs.Pairs.{is_present, pairs_without}
+use Rattle.ordered_multimap.specs.Pairs.{has_items, is_present, pairs_without}
 use Rattle.ordered_multimap.specs.Keys.{is_listed, stored_key, keys_with}
-use Rattle.ordered_multimap.specs.Changes.{appended, kept, removed}
+use Rattle.ordered_multimap.specs.Changes.{appended, inserted, kept, removed}
+use Rattle.ordered_multimap.specs.Pop.{popped}
+use Rattle.multimap_walks.specs.declared.End.{End}
+use Rattle.multimap_walks.specs.declared.End.TheVariants.{Front, Back}
+use Rattle.multimap_walks.specs.Walk.{end_rest}
 use Rattle.multimap_slots.proofs.ListsLemmas.{IsIn-left, IsIn-right, IsIn-append}
 use Rattle.ordered_multimap.proofs.Members.{IsIn-filter, IsIn-kept, keys_of-append, keys_of-filter}
+use Rattle.ordered_multimap.proofs.KeptLemmas.{keys_of-without}
 use Rattle.ordered_multimap.proofs.KeyLemmas.{is_listed-member, is_listed-self, is_present-is_listed, stored_key_member, stored_key_only, IsDistinct-filter, keys_with-stored_key, keys_with-old, keys_with-cases, keys_with-distinct}
 
 pub empty_well_formed : {K V : Type 0} (eq : K → K → Bool) → IsWellFormed {V = V} eq empty_lists
 unfolding IsDistinct
 empty_well_formed eq = record { distinct = tt; listed = λ k member. member; used = λ k member. member }
+
+-- the keys of the first pairs, and of those behind the first one
+keys_of-take : {K V : Type 0} (n : ℕ) (pairs : List (K × V)) (j : K) → IsIn j (keys_of (take n pairs)) → IsIn j (keys_of pairs)
+keys_of-take zero pairs j member = absurd member
+keys_of-take (suc n) [] j member = absurd member
+keys_of-take (suc n) (p ∷ pairs) j member = elim member [ inl here ↦ inl here | inr later ↦ inr (keys_of-take n pairs j later) ]
+
+rest_keys : {K V : Type 0} (end : End) (pairs : List (K × V)) (j : K) → IsIn j (keys_of (end_rest end pairs)) → IsIn j (keys_of pairs)
+rest_keys Front [] j member = absurd member
+rest_keys Front (p ∷ pairs) j member = inr member
+rest_keys Back pairs j member = keys_of-take (length pairs - 1) pairs j member
 
 module _ {K V : Type 0} {eq : K → K → Bool} (laws : IsEquivalence eq) where
   -- the pairs name a key exactly if it is listed
@@ -73,3 +89,23 @@ module _ {K V : Type 0} {eq : K → K → Bool} (laws : IsEquivalence eq) where
 
   pub removed_well_formed : (m : Lists K V) (k : K) → IsWellFormed eq m → IsWellFormed eq (removed eq m k)
   removed_well_formed m k formed = kept_well_formed m (pairs_without eq m.pairs k) formed (λ j member. keys_of-filter (λ p. not (eq k p.0)) j m.pairs member)
+
+  -- the old pairs of a key go, and a pair of it comes
+  pub inserted_well_formed : (m : Lists K V) (k : K) (v : V) → IsWellFormed eq m → IsWellFormed eq (inserted eq m k v)
+  inserted_well_formed m k v formed =
+      put_last m (pairs_without eq m.pairs k) k v formed (λ j member. keys_of-filter (λ p. not (eq k p.0)) j m.pairs member) named
+    where
+      named : (j : K) → IsIn j m.keys → IsIn j (keys_of (pairs_without eq m.pairs k)) ⊎ (stored_key eq m.keys k ≡ j)
+      named j member =
+          let Named : Type 0 = IsIn j (keys_of (pairs_without eq m.pairs k)) ⊎ (stored_key eq m.keys k ≡ j) in
+          elim (eq k j) as (λ b. eq k j ≡ b → Named) [
+            | true ↦ λ e. inr (stored_key_only laws k j m.keys formed.distinct member e)
+            | false ↦ λ e. inl (subst (IsIn j) (sym (keys_of-without eq k m.pairs)) (IsIn-filter (λ i. not (eq k i)) j (keys_of m.pairs) (ap not e) (formed.used j member)))
+          ] refl
+
+  -- a pair goes at an end
+  pub popped_well_formed : (end : End) (m : Lists K V) → IsWellFormed eq m → IsWellFormed eq (popped eq end m)
+  popped_well_formed end m formed = elim (has_items m.pairs) as (λ b. IsWellFormed eq (cond b (kept eq m (end_rest end m.pairs)) m)) [
+    | true ↦ kept_well_formed m (end_rest end m.pairs) formed (rest_keys end m.pairs)
+    | false ↦ formed
+  ]

@@ -27,4 +27,6 @@ mod removed;
 #[cfg(test)]
 mod shown;
 #[cfg(test)]
+mod texts;
+#[cfg(test)]
 mod walks;
