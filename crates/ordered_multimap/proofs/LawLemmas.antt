@@ -18,7 +18,7 @@ use Rattle.ordered_multimap.proofs.KeyLemmas.{is_listed-self, stored_key_member,
 use Rattle.ordered_multimap.proofs.WellFormedLemmas.{same_keys, is_present-keys}
 
 module _ {X : Type 0} where
-  has_items-push : (xs : List X) (x : X) → has_items (xs ++ x ∷ []) ≡ true
+  pub has_items-push : (xs : List X) (x : X) → has_items (xs ++ x ∷ []) ≡ true
   has_items-push [] x = refl
   has_items-push (y ∷ xs) x = refl
 
@@ -33,7 +33,7 @@ module _ {X : Type 0} where
   pub end_item-push : (xs : List X) (x : X) → end_item Back (xs ++ x ∷ []) ≡ Some x
   end_item-push xs x = ap (slice_get (xs ++ x ∷ [])) (length-push xs x) ∙ slice_get-push xs x
 
-  end_rest-push : (xs : List X) (x : X) → end_rest Back (xs ++ x ∷ []) ≡ xs
+  pub end_rest-push : (xs : List X) (x : X) → end_rest Back (xs ++ x ∷ []) ≡ xs
   end_rest-push xs x = ap (λ n. take n (xs ++ x ∷ [])) (length-push xs x) ∙ take_at xs (x ∷ []) (length xs) refl
 
 module _ {K V : Type 0} {eq : K → K → Bool} (laws : IsEquivalence eq) where

@@ -135,24 +135,25 @@ module _ {K V : Type 0} {eq : K → K → Bool} (laws : IsEquivalence eq) {hash 
             | false ↦ λ _. refl
           ] refl
 
+  -- a pair that stays is the same
+  pub pair_at-taken : (q : ℕ) → IsIn q values_after.order → pair_at keys_after values_after q ≡ pair_at keys values q
+  pair_at-taken q listed =
+      let old = still_listed takes q listed in
+      let p = pair_in agrees q old.0 in
+      let differs = other_key q p.link listed p.link_is in
+      pair_at-is keys_after values_after q p.link p.key p.value (takes.links q old.1 ∙ p.link_is) (removes.others.items p.link.key differs ∙ p.key_is) (takes.items q old.1 ∙ p.value_is)
+      ∙ sym p.pair_is
+
   -- the pairs that stay are those of the other keys
   pub pairs_of-taken : pairs_of keys_after values_after ≡ pairs_without eq (pairs_of keys values) k
   pairs_of-taken =
-      filter_map-agree (pair_at keys_after values_after) (pair_at keys values) values_after.order same
+      filter_map-agree (pair_at keys_after values_after) (pair_at keys values) values_after.order pair_at-taken
       ∙ ap (filter_map (pair_at keys values)) takes.order
       ∙ filter_map-filter (pair_at keys values) (λ q. not (is_value_of values place q)) (λ p. not (eq k p.0)) values.order (λ q listed p is.
       let pair = pair_in agrees q listed in
       let one : Some (pair.key, pair.value) ≡ Some p = sym pair.pair_is ∙ is in
       let is_pair : (pair.key, pair.value) ≡ p = cc in
       ap not (owns laws agrees k place has q pair ∙ ap (λ (e : K × V). eq k e.0) is_pair))
-    where
-      same : (q : ℕ) → IsIn q values_after.order → pair_at keys_after values_after q ≡ pair_at keys values q
-      same q listed =
-          let old = still_listed takes q listed in
-          let p = pair_in agrees q old.0 in
-          let differs = other_key q p.link listed p.link_is in
-          pair_at-is keys_after values_after q p.link p.key p.value (takes.links q old.1 ∙ p.link_is) (removes.others.items p.link.key differs ∙ p.key_is) (takes.items q old.1 ∙ p.value_is)
-          ∙ sym p.pair_is
 
   module _ (rows_after : FinMap nat_cmp ℕ) (rows_are : rows_after ≡ remove rows place)
       (keys_room : keys_after.capacity ≡ keys.capacity) (values_room : values_after.capacity ≡ values.capacity) where

@@ -1,6 +1,7 @@
 pub mod Agrees
 pub mod Appends
 pub mod Changes
+pub mod KeyWrappers
 pub mod Keys
 pub mod Laws
 pub mod Lists
@@ -8,10 +9,12 @@ pub mod MapSlots
 pub mod Multimap
 pub mod Pairs
 pub mod Pop
+pub mod Pops
 pub mod Renames
 pub mod Retain
 pub mod Rooms
 pub mod Takes
+pub mod TakesOne
 pub mod TapeNumbers
 -- the words of walks and the ends, for those who stand on the map alone
 pub use Rattle.multimap_walks.specs.Walk

@@ -17,7 +17,10 @@ use multimap_walks::{KeyLink, ValueLink};
 use std::alloc::Allocator;
 
 /// Takes the value at a listed place out, and answers it with its link.
-fn take_value<V, A: Allocator>(values: &mut Tape<V, ValueLink, A>, place: usize) -> (V, ValueLink)
+pub(super) fn take_value<V, A: Allocator>(
+    values: &mut Tape<V, ValueLink, A>,
+    place: usize,
+) -> (V, ValueLink)
     requires { IsIn place values.old.list.order }
     ensures removed { Removes values.old.list values.new.list place result.0 }
     ensures link { link_at values.old.list place ≡ Some result.1 }
@@ -69,7 +72,7 @@ fn take_values<K, V: Drop, A: Allocator>(
 }
 
 /// Takes the key at the place out of list and table.
-fn take_key<K, A: Allocator>(
+pub(super) fn take_key<K, A: Allocator>(
     keys: &mut SlotList<K, KeyLink, A>,
     table: &mut KeyTable<A>,
     place: usize,

@@ -1,0 +1,169 @@
+//! Pairs that leave at an end of the map.
+ghost use Rattle.std.specs.Prelude.{◌≡◌, option_map};
+ghost use Rattle.std.specs.Borrow.{sem};
+ghost use Rattle.multimap_walks.specs.declared.End.TheVariants.{Front, Back};
+ghost use Rattle.ordered_multimap.specs.Pop.{popped_pair};
+ghost use Rattle.ordered_multimap.specs.Pops.{IsPopped, IsTaken, IsTakenKey, popped_of, ends_same, ends_popped};
+ghost use Rattle.ordered_multimap.specs.TakesOne.{end_of_list};
+
+use super::lookup::slot_at;
+use super::take_one::{Taken, TakenKey, take_pair};
+use super::{KeyWrapper, ListOrderedMultimap};
+use multimap_slots::Tape;
+use multimap_walks::{End, ValueLink};
+use std::alloc::Allocator;
+use std::hash::{BuildHasher, Hash};
+
+/// The place of the value at an end.
+fn end_place<V, A: Allocator>(values: &Tape<V, ValueLink, A>, end: End) -> Option<usize>
+    ensures { result ≡ end_of_list end values.now.list.order }
+{
+    match end {
+        End::Front => values.front_place(),
+        End::Back => values.back_place(),
+    }
+}
+
+impl<K: Eq + Hash, V, S: BuildHasher, A: Allocator> ListOrderedMultimap<K, V, S, A> {
+    /// Takes the pair at an end out.
+    fn take_end(&mut self, end: End) -> Option<Taken<K, V>>
+        ensures popped { IsPopped K.eq end self.old self.new }
+        ensures taken { IsTaken self.new.slots.keys (popped_pair K.eq end self.old.lists.pairs)
+            result }
+    {
+        match end_place(&self.values, end) {
+            Some(place) => Some(take_pair(
+                &mut self.keys,
+                &mut self.table,
+                &mut self.values,
+                place,
+            )),
+            None => None,
+        }
+    }
+
+    /// The same, and the map goes back.
+    fn take_end_on(&mut self, end: End) -> (Option<Taken<K, V>>, &mut Self)
+        ensures same { result.1.ghost_name ≡ self.entry.ghost_name }
+        ensures popped { IsPopped K.eq end self.old result.1.now }
+        ensures taken { IsTaken result.1.now.slots.keys
+            (popped_pair K.eq end self.old.lists.pairs) result.0 }
+    {
+        let taken = self.take_end(end);
+        (taken, self)
+    }
+
+    /// The map to read, for good.
+    fn settle(&mut self) -> &Self
+        ensures* rests { sem 𝓛 (ends_same K.row V.row S.row A.row S.Hasher.row K.Hash
+            S.BuildHasher S.Hasher.Hasher A.Allocator self.entry) }
+        ensures same { result.now ≡ self.old }
+    {
+        self
+    }
+
+    /// What was taken, with its key.
+    fn wrapped(&self, taken: Option<Taken<K, V>>) -> Option<(KeyWrapper<'_, K>, V)>
+        requires { (p : _) × IsTaken self.now.slots.keys p taken }
+        ensures { (p : _) → IsTaken self.now.slots.keys p taken → option_map popped_of result ≡ p }
+    {
+        match taken {
+            Some(taken) => Some(self.wrapped_one(taken)),
+            None => None,
+        }
+    }
+
+    fn wrapped_one(&self, taken: Taken<K, V>) -> (KeyWrapper<'_, K>, V)
+        requires { (p : _) × (taken.value ≡ p.value) × IsTakenKey self.now.slots.keys p taken.key }
+        ensures { (p : _) → (taken.value ≡ p.value) → IsTakenKey self.now.slots.keys p taken.key
+            → popped_of result ≡ p }
+    {
+        let Taken { key, value } = taken;
+        match key {
+            TakenKey::Kept(place) => {
+                let (key, _) = slot_at(&self.keys, place);
+                (KeyWrapper::Borrowed(key), value)
+            }
+            TakenKey::Gone(key) => (KeyWrapper::Owned(key), value),
+        }
+    }
+
+    /// Takes the pair at an end out, and answers it with its key.
+    fn pop_end(&mut self, end: End) -> Option<(KeyWrapper<'_, K>, V)>
+        ensures* map { sem 𝓛 (ends_popped K.row V.row S.row A.row S.Hasher.row K.Hash
+            S.BuildHasher S.Hasher.Hasher A.Allocator end self.entry) }
+        ensures popped { option_map popped_of result ≡ popped_pair K.eq end self.old.lists.pairs }
+    {
+        let (taken, map) = self.take_end_on(end);
+        map.settle().wrapped(taken)
+    }
+
+    /// Takes the first pair out, and answers its key and its value. The key is owned if that was
+    /// its last value, and has then left the map; else it is lent, and keeps its place among the
+    /// keys. None where there is no pair.
+    ///
+    /// It takes no memory and gives none back. The slots of the pair, of its key and of the next
+    /// value of that key, and where the key goes too the lanes that its hash leads to.
+    ///
+    /// A proof learns of the map afterwards from the clause only by a walk; a caller that is to be
+    /// proved takes [`pop_front_with`](Self::pop_front_with).
+    ///
+    /// ```
+    /// map.pop_front() == Some((KeyWrapper::Borrowed(&"line"), 1))
+    /// ```
+    pub fn pop_front(&mut self) -> Option<(KeyWrapper<'_, K>, V)>
+        ensures* map { sem 𝓛 (ends_popped K.row V.row S.row A.row S.Hasher.row K.Hash
+            S.BuildHasher S.Hasher.Hasher A.Allocator Front self.entry) }
+        ensures popped { option_map popped_of result ≡ popped_pair K.eq Front self.old.lists.pairs }
+    {
+        self.pop_end(End::Front)
+    }
+
+    /// The same with the last pair.
+    ///
+    /// ```
+    /// map.pop_back() == Some((KeyWrapper::Owned("line"), 2))
+    /// ```
+    pub fn pop_back(&mut self) -> Option<(KeyWrapper<'_, K>, V)>
+        ensures* map { sem 𝓛 (ends_popped K.row V.row S.row A.row S.Hasher.row K.Hash
+            S.BuildHasher S.Hasher.Hasher A.Allocator Back self.entry) }
+        ensures popped { option_map popped_of result ≡ popped_pair K.eq Back self.old.lists.pairs }
+    {
+        self.pop_end(End::Back)
+    }
+
+    /// Calls the function on what [`pop_front`](Self::pop_front) answers, and answers what it
+    /// answers. It is for callers that are proved: they know both lists afterwards.
+    ///
+    /// ```
+    /// map.pop_front_with(|popped| popped.is_some())
+    /// ```
+    pub fn pop_front_with<R, F: FnOnce(Option<(KeyWrapper<'_, K>, V)>) -> R>(&mut self, f: F) -> R
+        requires { (x : _) → option_map popped_of x ≡ popped_pair K.eq Front self.old.lists.pairs
+            → F.pre f x }
+        ensures popped { IsPopped K.eq Front self.old self.new }
+        ensures result { (x : _)
+            × (option_map popped_of x ≡ popped_pair K.eq Front self.old.lists.pairs)
+            × F.post f x result }
+    {
+        let taken = self.take_end(End::Front);
+        f(self.wrapped(taken))
+    }
+
+    /// The same with [`pop_back`](Self::pop_back).
+    ///
+    /// ```
+    /// map.pop_back_with(|popped| popped.is_none())
+    /// ```
+    pub fn pop_back_with<R, F: FnOnce(Option<(KeyWrapper<'_, K>, V)>) -> R>(&mut self, f: F) -> R
+        requires { (x : _) → option_map popped_of x ≡ popped_pair K.eq Back self.old.lists.pairs
+            → F.pre f x }
+        ensures popped { IsPopped K.eq Back self.old self.new }
+        ensures result { (x : _)
+            × (option_map popped_of x ≡ popped_pair K.eq Back self.old.lists.pairs)
+            × F.post f x result }
+    {
+        let taken = self.take_end(End::Back);
+        f(self.wrapped(taken))
+    }
+}
