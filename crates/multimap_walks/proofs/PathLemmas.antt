@@ -10,7 +10,7 @@ use Rattle.multimap_walks.specs.Path.{path, Leads, IsPath}
 
 module _ (names : ℕ → Option ℕ) where
   -- the first part of a row
-  Leads-left : (xs ys : List ℕ) → Leads names (xs ++ ys) → Leads names xs
+  pub Leads-left : (xs ys : List ℕ) → Leads names (xs ++ ys) → Leads names xs
   Leads-left [] ys leads = tt
   Leads-left (x ∷ []) ys leads = (tt, tt)
   Leads-left (x ∷ z ∷ xs) ys leads = (leads.0, Leads-left (z ∷ xs) ys leads.1)

@@ -86,7 +86,7 @@ first_before : {X : Type 0} (xs ys : List X) (x : X) → has_items xs ≡ true �
 first_before [] ys x some e = absurd (true≢false (sym some))
 first_before (z ∷ xs) ys x some e = e
 
-values_of-append : {K V : Type 0} (eq : K → K → Bool) (k : K) (pairs more : List (K × V)) → values_of eq (pairs ++ more) k ≡ values_of eq pairs k ++ values_of eq more k
+pub values_of-append : {K V : Type 0} (eq : K → K → Bool) (k : K) (pairs more : List (K × V)) → values_of eq (pairs ++ more) k ≡ values_of eq pairs k ++ values_of eq more k
 values_of-append eq k pairs more = ap (map (λ p. p.1)) (filter-append (λ p. eq k p.0) pairs more) ∙ map-append (λ p. p.1) (filter (λ p. eq k p.0) pairs) (filter (λ p. eq k p.0) more)
 
 -- an insertion on a present key
@@ -114,6 +114,18 @@ module _ {K V : Type 0} {eq : K → K → Bool} (laws : IsEquivalence eq) {hash 
 
   pairs_pushed : pairs_of done.keys_pushed done.pushed_values ≡ pairs_of keys values ++ (stored_key eq (items_of keys) k, v) ∷ []
   pairs_pushed = ap (λ (m : Lists K V). m.pairs) pushed.lists
+
+  pub pushed_agrees : Agrees eq hash done.keys_pushed rows done.pushed_values
+  pushed_agrees = pushed.agrees
+
+  pub pushed_has : HasKey eq done.keys_pushed k place
+  pushed_has = has_pushed
+
+  pub pushed_order : done.pushed_values.order ≡ done.reserved.order ++ done.older.link.tail ∷ []
+  pushed_order = order_is
+
+  pub pushed_pairs : pairs_of done.keys_pushed done.pushed_values ≡ pairs_of keys values ++ (stored_key eq (items_of keys) k, v) ∷ []
+  pushed_pairs = pairs_pushed
 
   pub agrees-inserted : Agrees eq hash keys_after rows values_after
   agrees-inserted = agrees-older laws pushed.agrees k place has_pushed done.older done.reserved.order order_is done.same_room

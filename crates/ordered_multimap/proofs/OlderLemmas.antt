@@ -32,11 +32,11 @@ module _ {K V : Type 0} {eq : K → K → Bool} (laws : IsEquivalence eq) {hash 
   own = is_value_of values place
 
   -- what has left is the chain without its last place
-  parts : chain_of values place ≡ takes.taking.gone ++ takes.link.tail ∷ []
+  pub parts : chain_of values place ≡ takes.taking.gone ++ takes.link.tail ∷ []
   parts = taking-whole agrees.values_sound agrees.chained place takes.count takes.link.tail takes.left takes.taking
       (omega (arith, takes.older, agrees.chained.length place takes.link has.listed takes.link_is))
 
-  tail_own : (IsIn takes.link.tail values.order) × (own takes.link.tail ≡ true)
+  pub tail_own : (IsIn takes.link.tail values.order) × (own takes.link.tail ≡ true)
   tail_own = IsIn-kept own takes.link.tail values.order (subst (IsIn takes.link.tail) (sym parts) (IsIn-right takes.link.tail takes.taking.gone (takes.link.tail ∷ []) (inl refl)))
 
   gone_is : takes.taking.gone ≡ filter own front

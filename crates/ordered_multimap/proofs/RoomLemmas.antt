@@ -5,6 +5,7 @@ use Rattle.std.specs.Ordering.{nat_cmp}
 use Rattle.std.specs.FinMap.{FinMap, len}
 use Rattle.multimap_slots.specs.Slots.{Slots}
 use Rattle.multimap_slots.specs.Tapes.{Taped, HasTapeRoomFor}
+use Rattle.multimap_walks.specs.declared.links.ChainEnds.{ChainEnds}
 use Rattle.multimap_walks.specs.declared.links.KeyLink.{KeyLink}
 use Rattle.multimap_walks.specs.declared.links.ValueLink.{ValueLink}
 use Rattle.multimap_walks.specs.Chained.{pairs_of}
@@ -30,18 +31,18 @@ module _ {K V S : Type 0} (both both_after : Lists K V) (keys keys_after rows ro
   }
 
 -- the map of these parts
-abbrev pub map_of : {K V S : Type 0} → Slots K KeyLink → ℕ → Taped V ValueLink → S → Multimap K V S
-map_of keys row_capacity values state =
+abbrev pub map_of : {K V S : Type 0} → Slots K KeyLink → ℕ → Taped V ValueLink → S → ChainEnds → Multimap K V S
+map_of keys row_capacity values state left =
     multimap (lists_of keys values.list) (min keys.capacity row_capacity) (values.list.capacity / 2) state (numbers_of values)
-    (record { keys = keys; values = values.list })
+    (record { keys = keys; values = values.list; left = left })
 
 module _ {K V S : Type 0} {eq : K → K → Bool} (laws : IsEquivalence eq) {hash : K → ℕ} (keys : Slots K KeyLink) (rows : FinMap nat_cmp ℕ) (values : Taped V ValueLink)
-    (agrees : Agrees eq hash keys rows values.list) (row_capacity : ℕ) (state : S) (key : K) where
+    (agrees : Agrees eq hash keys rows values.list) (row_capacity : ℕ) (state : S) (left : ChainEnds) (key : K) where
   pub fits_value : length (pairs_of keys values.list) < values.list.capacity / 2 → HasTapeRoomFor values 1
   fits_value short = value_room agrees (values.list.capacity / 2) short
 
   -- of an absent key
-  pub fits_pair : is_listed eq (items_of keys) key ≡ false → HasPairRoom eq (map_of keys row_capacity values state) key → FitsOneMore keys rows row_capacity values
+  pub fits_pair : is_listed eq (items_of keys) key ≡ false → HasPairRoom eq (map_of keys row_capacity values state left) key → FitsOneMore keys rows row_capacity values
   fits_pair unlisted room =
       let few = room.key (absent_if_unlisted laws agrees key unlisted) in
       record {
@@ -50,24 +51,30 @@ module _ {K V S : Type 0} {eq : K → K → Bool} (laws : IsEquivalence eq) {has
         value = fits_value room.value;
       }
 
-  pub fits_absent : is_listed eq (items_of keys) key ≡ false → HasInsertRoom eq (map_of keys row_capacity values state) key → FitsOneMore keys rows row_capacity values
+  pub fits_absent : is_listed eq (items_of keys) key ≡ false → HasInsertRoom eq (map_of keys row_capacity values state left) key → FitsOneMore keys rows row_capacity values
   fits_absent unlisted room =
       let absent = absent_if_unlisted laws agrees key unlisted in
       fits_pair unlisted (record { value = room.value absent; key = room.key })
 
+  -- where the key was present and the slots are as many as before if there was room
+  pub raises_none_there : (keys_after : Slots K KeyLink) (rows_after : ℕ) (values_after : Taped V ValueLink) (left_after : ChainEnds)
+      → (HasTapeRoomFor values 1 → values_after.list.capacity ≡ values.list.capacity) → keys_after.capacity ≡ keys.capacity → rows_after ≡ row_capacity
+      → RaisesNoRoom eq key (map_of keys row_capacity values state left) (map_of keys_after rows_after values_after state left_after)
+  raises_none_there keys_after rows_after values_after left_after had_room same_keys same_rows = record {
+    keys = λ few. (λ i. min (same_keys i) (same_rows i));
+    present = λ there. (λ i. min (same_keys i) (same_rows i));
+    values = λ short. ap (λ n. n / 2) (had_room (fits_value short));
+    slots = λ short. had_room (fits_value short);
+  }
+
   module _ (keys_after : Slots K KeyLink) (rows_after : ℕ) (values_after : Taped V ValueLink) (made : MakesRoom values values_after) where
     pub raises_none_present : keys_after.capacity ≡ keys.capacity → rows_after ≡ row_capacity
-        → RaisesNoRoom eq key (map_of keys row_capacity values state) (map_of keys_after rows_after values_after state)
-    raises_none_present same_keys same_rows = record {
-      keys = λ few. (λ i. min (same_keys i) (same_rows i));
-      present = λ there. (λ i. min (same_keys i) (same_rows i));
-      values = λ short. ap (λ n. n / 2) (made.had_room (fits_value short));
-      slots = λ short. made.had_room (fits_value short);
-    }
+        → RaisesNoRoom eq key (map_of keys row_capacity values state left) (map_of keys_after rows_after values_after state left)
+    raises_none_present = raises_none_there keys_after rows_after values_after left made.had_room
 
     pub raises_none_absent : is_listed eq (items_of keys) key ≡ false
         → GrowsIfFull (length keys.order) keys.capacity keys_after.capacity → GrowsIfFull (len rows) row_capacity rows_after
-        → RaisesNoRoom eq key (map_of keys row_capacity values state) (map_of keys_after rows_after values_after state)
+        → RaisesNoRoom eq key (map_of keys row_capacity values state left) (map_of keys_after rows_after values_after state left)
     raises_none_absent unlisted keys_grow rows_grow = record {
       keys = λ few.
           let same_keys = keys_grow.had_room (key_room agrees row_capacity few) in
@@ -80,13 +87,18 @@ module _ {K V S : Type 0} {eq : K → K → Bool} (laws : IsEquivalence eq) {has
 
     pub insert_raises_none : is_listed eq (items_of keys) key ≡ false
         → GrowsIfFull (length keys.order) keys.capacity keys_after.capacity → GrowsIfFull (len rows) row_capacity rows_after
-        → InsertRaisesNoRoom eq key (map_of keys row_capacity values state) (map_of keys_after rows_after values_after state)
+        → InsertRaisesNoRoom eq key (map_of keys row_capacity values state left) (map_of keys_after rows_after values_after state left)
     insert_raises_none unlisted keys_grow rows_grow = record {
       had_room = raises_none_absent unlisted keys_grow rows_grow;
       present = λ there. absurd (true≢false (sym there ∙ absent_if_unlisted laws agrees key unlisted));
     }
 
 -- a fact holds on a refusal
+-- what is left of a drain is no room
+pub other_left : {K V S : Type 0} {eq : K → K → Bool} {key : K} {old : Multimap K V S} (keys : Slots K KeyLink) (rows : ℕ) (values : Taped V ValueLink) (state : S) (left left_after : ChainEnds)
+    → RaisesNoRoom eq key old (map_of keys rows values state left) → RaisesNoRoom eq key old (map_of keys rows values state left_after)
+other_left keys rows values state left left_after raises = record { keys = raises.keys; present = raises.present; values = raises.values; slots = raises.slots }
+
 pub on_err : {X E P : Type 0} (r : Result X E) → P → OnErr r P
 on_err (Ok x) p = tt
 on_err (Err e) p = p

@@ -204,6 +204,14 @@ module _ {K V : Type 0} {eq : K → K → Bool} (laws : IsEquivalence eq) {hash 
                   ∙ is_listed-others laws k j (keys_of (pairs_of keys values)) (laws.symm j k ∙ n) ∙ there)
             ] refl
 
+-- the key that left was the stored one
+pub removed_key : {K V : Type 0} {eq : K → K → Bool} (laws : IsEquivalence eq) {hash : K → ℕ} {keys keys_after : Slots K KeyLink} {rows : FinMap nat_cmp ℕ} {values : Slots V ValueLink}
+    (agrees : Agrees eq hash keys rows values) (k : K) (place : ℕ) (has : HasKey eq keys k place) {stored : K} → Removes keys keys_after place stored → stored_key eq (items_of keys) k ≡ stored
+removed_key laws {keys = keys} agrees k place has {stored} removes =
+    let one : Some has.stored ≡ Some stored = sym has.item_is ∙ removes.had in
+    let same : has.stored ≡ stored = cc in
+    stored_key_only laws k has.stored (items_of keys) agrees.distinct (IsIn-filter_map (item_at keys) place has.stored keys.order has.listed has.item_is) has.equal ∙ same
+
 -- what a whole entry was
 module _ {K V : Type 0} {eq : K → K → Bool} (laws : IsEquivalence eq) {hash : K → ℕ} {keys keys_after : Slots K KeyLink} {rows rows_after : FinMap nat_cmp ℕ} {values values_after : Slots V ValueLink}
     (agrees : Agrees eq hash keys rows values) (k : K) (place : ℕ) (has : HasKey eq keys k place) {stored : K} {v : V}
@@ -211,9 +219,7 @@ module _ {K V : Type 0} {eq : K → K → Bool} (laws : IsEquivalence eq) {hash 
   pub entry_is : option_map {U = K × V} (λ x. (stored_key eq (items_of keys) k, x)) (slice_get (values_of eq (pairs_of keys values) k) 0) ≡ Some (stored, v)
   entry_is =
       let l = held (link_at keys place) (agrees.keys_sound.linked place has.listed) in
-      let one : Some has.stored ≡ Some stored = sym has.item_is ∙ takes.removed.had in
-      let same : has.stored ≡ stored = cc in
-      let own : stored_key eq (items_of keys) k ≡ stored = stored_key_only laws k has.stored (items_of keys) agrees.distinct (IsIn-filter_map (item_at keys) place has.stored keys.order has.listed has.item_is) has.equal ∙ same in
+      let own : stored_key eq (items_of keys) k ≡ stored = removed_key laws agrees k place has takes.removed in
       ap (option_map {U = K × V} (λ x. (stored_key eq (items_of keys) k, x))) (first_value laws agrees k place l.value v has l.is (takes.first l.value l.is))
       ∙ ap (λ j. Some (j, v)) own
 

@@ -3,7 +3,7 @@ use Rattle.std.proofs.Common.{◌≡◌, ◌≢◌, ◌==◌, ◌+◌, ◌<◌, 
 use Rattle.std.proofs.lemmas.Bool.{cases_eq, eq-eqb, ne_eqb}
 use Rattle.std.proofs.lemmas.List.{append-nil}
 use Rattle.multimap_slots.specs.Lists.{IsIn, AreDistinct, first_of, last_of, next_of, without}
-use Rattle.multimap_slots.specs.Slots.{Slots, IsSound, Removes, item_at, link_at}
+use Rattle.multimap_slots.specs.Slots.{Slots, IsSound, KeepsOthers, item_at, link_at}
 use Rattle.multimap_slots.proofs.ListsLemmas.{IsIn-left, IsIn-right, IsIn-append, AreDistinct-gone, next_of-split}
 use Rattle.multimap_walks.specs.declared.links.KeyLink.{KeyLink}
 use Rattle.multimap_walks.specs.declared.links.ValueLink.{ValueLink}
@@ -23,7 +23,7 @@ pub among-none : (places : List ℕ) (q : ℕ) → ¬ IsIn q places → among pl
 among-none [] q absent = refl
 among-none (p ∷ places) q absent = rw (ne_eqb p q (λ e. absent (inl (sym e)))) (among-none places q (λ i. absent (inr i)))
 
-among-in : (places : List ℕ) (q : ℕ) → IsIn q places → among places q ≡ true
+pub among-in : (places : List ℕ) (q : ℕ) → IsIn q places → among places q ≡ true
 among-in [] q i = absurd i
 among-in (p ∷ places) q i = elim (cases_eq p q) [
   | inl same ↦ rw (eq-eqb p q same) refl
@@ -128,8 +128,8 @@ module _ {K V : Type 0} {keys : Slots K KeyLink} {values : Slots V ValueLink} (s
         subst (IsIn p) (sym taking.taken.order)
         (IsIn-filter (λ q. not (among taking.gone q)) p values.order (ap not (among-none taking.gone p not_gone)) (in_list p in_chain).0)
 
-    pub taking-step : (new : Slots V ValueLink) (v : V) (l : ValueLink) → link_at mid p ≡ Some l → Removes mid new p v → IsTaking (chain_of values key) (suc n) l.next values new
-    taking-step new v l is removes =
+    pub taking-step : (new : Slots V ValueLink) (l : ValueLink) → link_at mid p ≡ Some l → new.order ≡ without mid.order p → KeepsOthers mid new p → IsTaking (chain_of values key) (suc n) l.next values new
+    taking-step new l is order others =
         let was = sym (taking.taken.links p (among-none taking.gone p not_gone)) ∙ is in
         let none : (q : ℕ) → among (taking.gone ++ p ∷ []) q ≡ false → (among taking.gone q ≡ false) × (q ≢ p) =
         λ q e. let two = neither (among taking.gone q) (p == q) (sym (among-push taking.gone p q) ∙ e) in
@@ -143,12 +143,17 @@ module _ {K V : Type 0} {keys : Slots K KeyLink} {values : Slots V ValueLink} (s
               sym (onward p l in_chain was) ∙ ap (λ qs. next_of qs p) next_one.is
               ∙ next_of-split taking.gone p next_one.behind not_gone;
           taken = record {
-            order = removes.order ∙ ap (λ qs. without qs p) taking.taken.order ∙ filter-without (among taking.gone) p values.order
+            order = order ∙ ap (λ qs. without qs p) taking.taken.order ∙ filter-without (among taking.gone) p values.order
                 ∙ filter-agree (λ q. not (among taking.gone q || (p == q))) (λ q. not (among (taking.gone ++ p ∷ []) q)) values.order (λ q i. ap not (sym (among-push taking.gone p q)));
-            items = λ q e. removes.others.items q (none q e).1 ∙ taking.taken.items q (none q e).0;
-            links = λ q e. removes.others.links q (none q e).1 ∙ taking.taken.links q (none q e).0;
+            items = λ q e. others.items q (none q e).1 ∙ taking.taken.items q (none q e).0;
+            links = λ q e. others.links q (none q e).1 ∙ taking.taken.links q (none q e).0;
           };
         }
+
+    pub gone-step : (new : Slots V ValueLink) (l : ValueLink) (is : link_at mid p ≡ Some l) (order : new.order ≡ without mid.order p) (others : KeepsOthers mid new p)
+        → (taking-step new l is order others).gone ≡ taking.gone ++ p ∷ []
+    unfolding taking-step
+    gone-step new l is order others = refl
 
     -- it is the last one where all before it have left
     pub taking-whole : n + 1 ≡ length (chain_of values key) → chain_of values key ≡ taking.gone ++ p ∷ []
@@ -179,10 +184,14 @@ module _ {K V : Type 0} {keys : Slots K KeyLink} {values : Slots V ValueLink} (s
       one (q ∷ []) parts e = sym (last_or-push None taking.gone q) ∙ ap last_of (sym parts) ∙ chained.tail key l listed is
 
   -- all have left
+  pub gone_whole : (n : ℕ) (following : Option ℕ) (new : Slots V ValueLink) (taking : IsTaking (chain_of values key) n following values new) → n ≡ length (chain_of values key)
+      → taking.gone ≡ chain_of values key
+  gone_whole n following new taking all = sym (taking.parts ∙ ap (λ qs. taking.gone ++ qs) (nothing taking.rest (omega (arith, all, taking.count, ap length taking.parts, length-append taking.gone taking.rest))) ∙ append-nil taking.gone)
+
   pub taking-end : (n : ℕ) (following : Option ℕ) (new : Slots V ValueLink) → IsTaking (chain_of values key) n following values new
       → n ≡ length (chain_of values key) → TakesValues (is_value_of values key) values new
   taking-end n following new taking all =
-      let whole : taking.gone ≡ chain_of values key = sym (taking.parts ∙ ap (λ qs. taking.gone ++ qs) (nothing taking.rest (omega (arith, all, taking.count, ap length taking.parts, length-append taking.gone taking.rest))) ∙ append-nil taking.gone) in
+      let whole : taking.gone ≡ chain_of values key = gone_whole n following new taking all in
       let same : (q : ℕ) → IsIn q values.order → among taking.gone q ≡ is_value_of values key q = λ q i. ap (λ qs. among qs q) whole ∙ among-filter (is_value_of values key) values.order q i in
       record {
         order = taking.taken.order ∙ filter-agree (λ q. not (among taking.gone q)) (λ q. not (is_value_of values key q)) values.order (λ q i. ap not (same q i));

@@ -1,6 +1,8 @@
 pub mod Agrees
 pub mod Appends
 pub mod Changes
+pub mod Detaches
+pub mod Drains
 pub mod KeyWrappers
 pub mod Keys
 pub mod Laws

@@ -3,13 +3,16 @@
 use Rattle.std.specs.Prelude.{ℕ, List, Option, refl}
 use Rattle.std.specs.Coded.{Coded, code_by, coded×, coded_list, coded_option, coded_ℕ}
 use Rattle.multimap_slots.specs.Slots.{Slots}
+use Rattle.multimap_walks.specs.declared.links.ChainEnds.{ChainEnds}
 use Rattle.multimap_walks.specs.declared.links.KeyLink.{KeyLink}
 use Rattle.multimap_walks.specs.declared.links.ValueLink.{ValueLink}
 
--- the slots of the keys, and those of the values
+-- the slots of the keys, those of the values, and where the values of the last drain stood that it
+-- hadn't given
 pub record MapSlots (K V : Type 0) : Type 0 where
   pub keys : Slots K KeyLink
   pub values : Slots V ValueLink
+  pub left : ChainEnds
 
 -- slots are stored as the order, the items, the links and the capacity
 abbrev pub slots_code : {T L : Type 0} → Coded T → Coded L → Coded (Slots T L)
@@ -35,9 +38,17 @@ value_link_code =
     (λ l. (l.key, (l.previous, l.next)))
     (λ p. record { key = p.0; previous = p.1.0; next = p.1.1 }) (λ _. refl)
 
--- both are stored, one after the other
+-- ends are stored as their three numbers
+abbrev pub ends_code : Coded ChainEnds
+ends_code =
+    code_by (ℕ × (ℕ × ℕ)) (coded× coded_ℕ (coded× coded_ℕ coded_ℕ))
+    (λ e. (e.first, (e.last, e.length)))
+    (λ p. record { first = p.0; last = p.1.0; length = p.1.1 }) (λ _. refl)
+
+-- all are stored, one after another
 abbrev pub map_slots_code : {K V : Type 0} → Coded K → Coded V → Coded (MapSlots K V)
 map_slots_code {K} {V} k v =
-    code_by (Slots K KeyLink × Slots V ValueLink)
-    (coded× (slots_code k key_link_code) (slots_code v value_link_code))
-    (λ m. (m.keys, m.values)) (λ p. record { keys = p.0; values = p.1 }) (λ _. refl)
+    code_by (Slots K KeyLink × (Slots V ValueLink × ChainEnds))
+    (coded× (slots_code k key_link_code) (coded× (slots_code v value_link_code) ends_code))
+    (λ m. (m.keys, (m.values, m.left)))
+    (λ p. record { keys = p.0; values = p.1.0; left = p.1.1 }) (λ _. refl)

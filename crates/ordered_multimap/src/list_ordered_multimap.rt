@@ -5,6 +5,9 @@ ghost use Rattle.ordered_multimap.specs.TapeNumbers.{ArePaid, AreUnused};
 
 mod append;
 mod compact;
+mod detaches;
+mod drain;
+mod drain_steps;
 mod insert;
 mod key_wrapper;
 mod links;
@@ -18,15 +21,24 @@ mod take_one;
 mod takes;
 mod walks;
 
+pub use drain::EntryValuesDrain;
 pub use key_wrapper::KeyWrapper;
 use multimap_slots::{SlotList, Tape};
 use multimap_table::KeyTable;
+use multimap_walks::ChainEnds;
 pub use multimap_walks::{EntryValues, Iter, KeyLink, Keys, ValueLink};
 pub use refused::Refused;
 use std::alloc::{AllocError, Allocator, Global};
 pub use std::hash::RandomState;
 use std::hash::{BuildHasher, BuildHasherDefault, FoldHasher, Hash};
 use std::marker::Model;
+
+// The ends of no values.
+const NO_CHAIN: ChainEnds = ChainEnds {
+    first: 0,
+    last: 0,
+    length: 0,
+};
 
 /// The hash builder that std's HashMap takes by default, with a fixed seed.
 pub type DefaultState = BuildHasherDefault<FoldHasher>;
@@ -60,6 +72,8 @@ pub struct ListOrderedMultimap<
     keys: SlotList<K, KeyLink, A>,
     table: KeyTable<A>,
     values: Tape<V, ValueLink, A>,
+    // Where the values stand that the last drain has not given: what a drain that is alive holds.
+    left: ChainEnds,
 }
 
 impl<K: Eq + Hash, V, S: BuildHasher, A: Allocator> Model for ListOrderedMultimap<K, V, S, A> {
@@ -74,7 +88,7 @@ impl<K: Eq + Hash, V, S: BuildHasher, A: Allocator> Model for ListOrderedMultima
 
     ghost view = { λ m. multimap (lists_of m.keys m.values.list)
         (min m.keys.capacity m.table.capacity) (m.values.list.capacity / 2) m.state
-        (numbers_of m.values) (record { keys = m.keys; values = m.values.list }) };
+        (numbers_of m.values) (record { keys = m.keys; values = m.values.list; left = m.left }) };
 
     ghost invariant = { λ m. IsMap K.eq
         (λ k. hash_of S.BuildHasher S.Hasher.Hasher m.state (K.hash_input k))
@@ -137,6 +151,7 @@ impl<K: Eq + Hash, V, S: BuildHasher, A: Allocator + Copy> ListOrderedMultimap<K
             keys: SlotList::new(alloc),
             table: KeyTable::new(alloc),
             values: Tape::new(alloc),
+            left: NO_CHAIN,
         }
     }
 
@@ -173,6 +188,7 @@ impl<K: Eq + Hash, V, S: BuildHasher, A: Allocator + Copy> ListOrderedMultimap<K
             keys,
             table,
             values,
+            left: NO_CHAIN,
         })
     }
 }

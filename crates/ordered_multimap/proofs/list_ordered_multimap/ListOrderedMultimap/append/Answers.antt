@@ -50,19 +50,19 @@ returns-in-Some-clause-ok g c =
 pub returns-in-Some-clause-succeeds : goal.returns-in-Some-clause-succeeds
 returns-in-Some-clause-succeeds g c =
     subst (λ m. HasPairRoom g.K.PartialEq.eq m c.args.key → IsOk c.append_behind.result) c.self.view_is
-    (λ room. c.append_behind.ensures.succeeds (fits_value g.met.K.Eq.laws c.self.inside.keys c.self.inside.table.rows c.self.inside.values c.self.invariant.agrees c.self.inside.table.capacity c.self.inside.state c.args.key room.value))
+    (λ room. c.append_behind.ensures.succeeds (fits_value g.met.K.Eq.laws c.self.inside.keys c.self.inside.table.rows c.self.inside.values c.self.invariant.agrees c.self.inside.table.capacity c.self.inside.state c.self.inside.left c.args.key room.value))
 
 pub returns-in-Some-clause-rooms : goal.returns-in-Some-clause-rooms
 returns-in-Some-clause-rooms g c =
-    subst (λ m. KeepsRooms m (map_of c.append_behind.new.keys c.self.inside.table.capacity c.append_behind.new.values c.self.inside.state))
+    subst (λ m. KeepsRooms m (map_of c.append_behind.new.keys c.self.inside.table.capacity c.append_behind.new.values c.self.inside.state c.self.inside.left))
     c.self.view_is
     (keeps_rooms _ _ _ _ _ _ _ _ _ _ _ _ _ (omega (arith, c.append_behind.ensures.keys_capacity)) (omega arith) c.append_behind.ensures.values.no_less)
 
 pub returns-in-Some-clause-had_room : goal.returns-in-Some-clause-had_room
 returns-in-Some-clause-had_room g c =
-    subst (λ m. RaisesNoRoom g.K.PartialEq.eq c.args.key m (map_of c.append_behind.new.keys c.self.inside.table.capacity c.append_behind.new.values c.self.inside.state))
+    subst (λ m. RaisesNoRoom g.K.PartialEq.eq c.args.key m (map_of c.append_behind.new.keys c.self.inside.table.capacity c.append_behind.new.values c.self.inside.state c.self.inside.left))
     c.self.view_is
-    (raises_none_present g.met.K.Eq.laws c.self.inside.keys c.self.inside.table.rows c.self.inside.values c.self.invariant.agrees c.self.inside.table.capacity c.self.inside.state c.args.key
+    (raises_none_present g.met.K.Eq.laws c.self.inside.keys c.self.inside.table.rows c.self.inside.values c.self.invariant.agrees c.self.inside.table.capacity c.self.inside.state c.self.inside.left c.args.key
     c.append_behind.new.keys c.self.inside.table.capacity c.append_behind.new.values c.append_behind.ensures.values c.append_behind.ensures.keys_capacity refl)
 
 -- an absent key
@@ -100,17 +100,17 @@ returns-in-None-clause-ok g c =
 pub returns-in-None-clause-succeeds : goal.returns-in-None-clause-succeeds
 returns-in-None-clause-succeeds g c =
     subst (λ m. HasPairRoom g.K.PartialEq.eq m c.args.key → IsOk c.append_first.result) c.self.view_is
-    (λ room. c.append_first.ensures.succeeds (fits_pair g.met.K.Eq.laws c.self.inside.keys c.self.inside.table.rows c.self.inside.values c.self.invariant.agrees c.self.inside.table.capacity c.self.inside.state c.args.key c.in-None.ensures.absent room))
+    (λ room. c.append_first.ensures.succeeds (fits_pair g.met.K.Eq.laws c.self.inside.keys c.self.inside.table.rows c.self.inside.values c.self.invariant.agrees c.self.inside.table.capacity c.self.inside.state c.self.inside.left c.args.key c.in-None.ensures.absent room))
 
 pub returns-in-None-clause-rooms : goal.returns-in-None-clause-rooms
 returns-in-None-clause-rooms g c =
-    subst (λ m. KeepsRooms m (map_of c.append_first.new.keys c.append_first.new.table.capacity c.append_first.new.values c.self.inside.state))
+    subst (λ m. KeepsRooms m (map_of c.append_first.new.keys c.append_first.new.table.capacity c.append_first.new.values c.self.inside.state c.self.inside.left))
     c.self.view_is
     (keeps_rooms _ _ _ _ _ _ _ _ _ _ _ _ _ c.append_first.ensures.keys.no_less c.append_first.ensures.rows.no_less c.append_first.ensures.values.no_less)
 
 pub returns-in-None-clause-had_room : goal.returns-in-None-clause-had_room
 returns-in-None-clause-had_room g c =
-    subst (λ m. RaisesNoRoom g.K.PartialEq.eq c.args.key m (map_of c.append_first.new.keys c.append_first.new.table.capacity c.append_first.new.values c.self.inside.state))
+    subst (λ m. RaisesNoRoom g.K.PartialEq.eq c.args.key m (map_of c.append_first.new.keys c.append_first.new.table.capacity c.append_first.new.values c.self.inside.state c.self.inside.left))
     c.self.view_is
-    (raises_none_absent g.met.K.Eq.laws c.self.inside.keys c.self.inside.table.rows c.self.inside.values c.self.invariant.agrees c.self.inside.table.capacity c.self.inside.state c.args.key
+    (raises_none_absent g.met.K.Eq.laws c.self.inside.keys c.self.inside.table.rows c.self.inside.values c.self.invariant.agrees c.self.inside.table.capacity c.self.inside.state c.self.inside.left c.args.key
     c.append_first.new.keys c.append_first.new.table.capacity c.append_first.new.values c.append_first.ensures.values c.in-None.ensures.absent c.append_first.ensures.keys c.append_first.ensures.rows)

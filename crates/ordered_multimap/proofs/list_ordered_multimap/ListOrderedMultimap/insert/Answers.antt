@@ -61,14 +61,14 @@ returns-in_err-append_first-in-None-clause-unchanged g c =
 
 pub returns-in_err-append_first-in-None-clause-succeeds : goal.returns-in_err-append_first-in-None-clause-succeeds
 returns-in_err-append_first-in-None-clause-succeeds g c = λ room. absurd (true≢false (sym ((c.in_err-append_first-in-None.ensures {u = tt}).succeeds
-    (fits_absent g.met.K.Eq.laws c.self.inside.keys c.self.inside.table.rows c.self.inside.values c.self.invariant.agrees c.self.inside.table.capacity c.self.inside.state c.args.key c.in-None.ensures.absent
+    (fits_absent g.met.K.Eq.laws c.self.inside.keys c.self.inside.table.rows c.self.inside.values c.self.invariant.agrees c.self.inside.table.capacity c.self.inside.state c.self.inside.left c.args.key c.in-None.ensures.absent
     (subst (λ m. HasInsertRoom g.K.PartialEq.eq m c.args.key) (sym c.self.view_is) room)))))
 
 pub returns-in_err-append_first-in-None-clause-had_room : goal.returns-in_err-append_first-in-None-clause-had_room
 returns-in_err-append_first-in-None-clause-had_room g c =
     let e = c.append_first.ensures in
-    subst (λ m. InsertRaisesNoRoom g.K.PartialEq.eq c.args.key m (map_of c.append_first.new.keys c.append_first.new.table.capacity c.append_first.new.values c.self.inside.state)) c.self.view_is
-    (insert_raises_none g.met.K.Eq.laws c.self.inside.keys c.self.inside.table.rows c.self.inside.values c.self.invariant.agrees c.self.inside.table.capacity c.self.inside.state c.args.key
+    subst (λ m. InsertRaisesNoRoom g.K.PartialEq.eq c.args.key m (map_of c.append_first.new.keys c.append_first.new.table.capacity c.append_first.new.values c.self.inside.state c.self.inside.left)) c.self.view_is
+    (insert_raises_none g.met.K.Eq.laws c.self.inside.keys c.self.inside.table.rows c.self.inside.values c.self.invariant.agrees c.self.inside.table.capacity c.self.inside.state c.self.inside.left c.args.key
     c.append_first.new.keys c.append_first.new.table.capacity c.append_first.new.values e.values c.in-None.ensures.absent e.keys e.rows)
 
 pub returns-in_err-append_first-in-None-clause-taken : goal.returns-in_err-append_first-in-None-clause-taken
@@ -103,8 +103,8 @@ returns-in_ok-append_first-in-None-clause-ok g c =
 pub returns-in_ok-append_first-in-None-clause-had_room : goal.returns-in_ok-append_first-in-None-clause-had_room
 returns-in_ok-append_first-in-None-clause-had_room g c =
     let e = c.append_first.ensures in
-    subst (λ m. InsertRaisesNoRoom g.K.PartialEq.eq c.args.key m (map_of c.append_first.new.keys c.append_first.new.table.capacity c.append_first.new.values c.self.inside.state)) c.self.view_is
-    (insert_raises_none g.met.K.Eq.laws c.self.inside.keys c.self.inside.table.rows c.self.inside.values c.self.invariant.agrees c.self.inside.table.capacity c.self.inside.state c.args.key
+    subst (λ m. InsertRaisesNoRoom g.K.PartialEq.eq c.args.key m (map_of c.append_first.new.keys c.append_first.new.table.capacity c.append_first.new.values c.self.inside.state c.self.inside.left)) c.self.view_is
+    (insert_raises_none g.met.K.Eq.laws c.self.inside.keys c.self.inside.table.rows c.self.inside.values c.self.invariant.agrees c.self.inside.table.capacity c.self.inside.state c.self.inside.left c.args.key
     c.append_first.new.keys c.append_first.new.table.capacity c.append_first.new.values e.values c.in-None.ensures.absent e.keys e.rows)
 
 pub returns-in_ok-append_first-in-None-clause-taken : goal.returns-in_ok-append_first-in-None-clause-taken

@@ -16,7 +16,7 @@ loop-init g c =
       taking =
           taking-step c.len-len.ensures.sound c.requires.chained c.args.place 0 c.slot_at.result.1.head c.args.values.now.list
           (taking-head c.len-len.ensures.sound c.requires.chained c.args.place c.slot_at.result.1 c.requires.listed c.slot_at.ensures.link_is)
-          c.take_value-first.new.values.list c.take_value-first.result.0 c.take_value-first.result.1 f.link f.removed;
+          c.take_value-first.new.values.list c.take_value-first.result.1 f.link f.removed.order f.removed.others;
       moved = f.frees.moved;
       freed = f.frees.freed;
       holes = f.frees.holes;
@@ -44,7 +44,7 @@ loop-preserved g c =
       taking =
           taking-step c.len-len.ensures.sound c.requires.chained c.args.place c.loop.counter c.in-Some.next c.loop.values.list
           (subst (λ o. IsTaking (chain_of c.args.values.now.list c.args.place) c.loop.counter o c.args.values.now.list c.loop.values.list) c.in-Some.is w.taking)
-          c.take_value-value.new.values.list c.take_value-value.result.0 c.take_value-value.result.1 t.link t.removed;
+          c.take_value-value.new.values.list c.take_value-value.result.1 t.link t.removed.order t.removed.others;
       moved = t.frees.moved ∙ w.moved;
       freed = omega (arith, t.frees.freed, w.freed);
       holes = omega (arith, t.frees.holes, w.holes);

@@ -1,0 +1,58 @@
+-- What a call that makes a drain answers: the stored key, and the values that are left.
+use Rattle.std.proofs.Common.{◌≡◌, ◌+◌, ℕ, Bool, true, false, cond, List, [], ◌∷◌, ◌++◌, length, filter, map, slice_get, option_map, Option, Some, None, refl, sym, ap, ◌∙◌, subst, arith}
+use Rattle.std.proofs.lemmas.List.Elements.{filter_map-append}
+use Rattle.std.specs.Cmp.{IsEquivalence}
+use Rattle.std.specs.List.{cons_option, filter_map}
+use Rattle.std.specs.Ordering.{nat_cmp}
+use Rattle.std.specs.FinMap.{FinMap}
+use Rattle.multimap_slots.specs.Slots.{Removes, Slots, item_at, link_at}
+use Rattle.multimap_walks.specs.declared.links.KeyLink.{KeyLink}
+use Rattle.multimap_walks.specs.declared.links.ValueLink.{ValueLink}
+use Rattle.multimap_walks.specs.declared.links.ChainEnds.{ChainEnds}
+use Rattle.multimap_walks.specs.Chained.{chain_of, pairs_of, values_at}
+use Rattle.ordered_multimap.specs.Keys.{is_listed, stored_key}
+use Rattle.ordered_multimap.specs.Pairs.{values_of}
+use Rattle.ordered_multimap.specs.Agrees.{Agrees, HasKey, items_of}
+use Rattle.ordered_multimap.specs.Detaches.{InsertsDetaching, drained}
+use Rattle.ordered_multimap.proofs.KeyLemmas.{is_listed-member, stored_key_member}
+use Rattle.ordered_multimap.proofs.KeptLemmas.{push_inj}
+use Rattle.ordered_multimap.proofs.PlaceLemmas.{IsIn-filter_map, begins, held}
+use Rattle.ordered_multimap.proofs.LookupLemmas.{head_listed, first_value, no_value, values_of-chain}
+use Rattle.ordered_multimap.proofs.TakeLemmas.{removed_key}
+use Rattle.ordered_multimap.proofs.InsertLemmas.{pushed_agrees, pushed_has, pushed_order, pushed_pairs, values_of-append}
+use Rattle.ordered_multimap.proofs.OlderLemmas.{parts, tail_own}
+
+module _ {K V : Type 0} {eq : K → K → Bool} (laws : IsEquivalence eq) {hash : K → ℕ} {keys : Slots K KeyLink} {rows : FinMap nat_cmp ℕ} {values : Slots V ValueLink}
+    (agrees : Agrees eq hash keys rows values) (k : K) where
+  pub key_found : (place : ℕ) (has : HasKey eq keys k place) {keys_after : Slots K KeyLink} {stored : K} → Removes keys keys_after place stored
+      → option_map (λ _. stored_key eq (items_of keys) k) (slice_get (values_of eq (pairs_of keys values) k) 0) ≡ Some stored
+  key_found place has {keys_after} {stored} removes =
+      let l = held (link_at keys place) (agrees.keys_sound.linked place has.listed) in
+      let v = held (item_at values l.value.head) (agrees.values_sound.filled l.value.head (head_listed laws agrees place l.value has.listed l.is)) in
+      ap (option_map (λ _. stored_key eq (items_of keys) k)) (first_value laws agrees k place l.value v.value has l.is v.is)
+      ∙ ap Some (removed_key laws agrees k place has removes)
+
+  pub key_absent : is_listed eq (items_of keys) k ≡ false → option_map (λ _. stored_key eq (items_of keys) k) (slice_get (values_of eq (pairs_of keys values) k) 0) ≡ None
+  key_absent none = ap (λ vs. option_map (λ _. stored_key eq (items_of keys) k) (slice_get vs 0)) (no_value laws agrees k none)
+
+  -- an insertion leaves the old values to the drain
+  pub left-inserted : (v : V) (place : ℕ) (has : HasKey eq keys k place) {keys_after : Slots K KeyLink} {values_after : Slots V ValueLink} {ends : ChainEnds}
+      → InsertsDetaching keys keys_after values values_after place v ends → drained values_after ends ≡ values_of eq (pairs_of keys values) k
+  left-inserted v place has done =
+      let d = done.done in
+      let after = pushed_agrees laws agrees k v place has d in
+      let there = pushed_has laws agrees k v place has d in
+      let tail = d.older.link.tail in
+      let item = held (item_at d.pushed_values tail) (after.values_sound.filled tail (tail_own laws after k place there d.older d.reserved.order (pushed_order laws agrees k v place has d)).0) in
+      let listed = is_listed-member laws k has.stored (items_of keys) (IsIn-filter_map (item_at keys) place has.stored keys.order has.listed has.item_is) has.equal in
+      let own = (stored_key_member laws k (items_of keys) listed).1 in
+      let alone : values_of eq ((stored_key eq (items_of keys) k, v) ∷ []) k ≡ v ∷ [] = rw own refl in
+      done.left
+      ∙ sym (push_inj (values_of eq (pairs_of keys values) k) (values_at d.pushed_values d.older.taking.gone) v item.value
+      (ap (λ vs. values_of eq (pairs_of keys values) k ++ vs) (sym alone)
+      ∙ sym (values_of-append eq k (pairs_of keys values) ((stored_key eq (items_of keys) k, v) ∷ []))
+      ∙ ap (λ ps. values_of eq ps k) (sym (pushed_pairs laws agrees k v place has d))
+      ∙ values_of-chain laws after k place there
+      ∙ ap (values_at d.pushed_values) (parts laws after k place there d.older d.reserved.order (pushed_order laws agrees k v place has d))
+      ∙ filter_map-append (item_at d.pushed_values) d.older.taking.gone (tail ∷ [])
+      ∙ ap (λ o. values_at d.pushed_values d.older.taking.gone ++ cons_option o []) item.is)).0

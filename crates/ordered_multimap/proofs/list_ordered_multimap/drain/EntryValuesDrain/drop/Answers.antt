@@ -1,0 +1,5 @@
+use Rattle.ordered_multimap.proofs.DrainLemmas.{drains}
+use Rattle.ordered_multimap.proofs.list_ordered_multimap.drain.EntryValuesDrain.drop.Goals as goal
+
+pub drop_left-requires : goal.drop_left-requires
+drop_left-requires g c = let m = c.args.self.map.now in drains m.slots.values m.slots.left c.args.self.chain

@@ -1,0 +1,225 @@
+//! The drain of one key's values, and the calls that make one.
+ghost use Rattle.std.specs.Prelude.{◌≡◌, Some, length, IfSome};
+ghost use Rattle.std.specs.Iterator.{at_most, UpTo};
+ghost use Rattle.std.specs.Iterator.SizeHint.{IsWithinCount};
+ghost use Rattle.ordered_multimap.specs.Detaches.{HoldsDrain};
+
+use super::{DefaultState, EntryValues, ListOrderedMultimap, Refused};
+use std::alloc::{Allocator, Global};
+use std::fmt;
+use std::hash::{BuildHasher, Hash};
+use std::iter::FusedIterator;
+
+/// The values of one key, which have left the map, from both ends. It borrows the map. What it has
+/// not given is dropped with it.
+pub struct EntryValuesDrain<
+    'map,
+    K: Eq + Hash,
+    V,
+    S: BuildHasher = DefaultState,
+    A: Allocator = Global,
+> {
+    map: &'map mut ListOrderedMultimap<K, V, S, A>,
+    ghost chain: { ∥ HoldsDrain map.now ∥₁ },
+}
+
+impl<K: Eq + Hash, V: Drop, S: BuildHasher, A: Allocator> ListOrderedMultimap<K, V, S, A> {
+    ghost use Rattle.std.specs.Prelude.{option_map, slice_get};
+    ghost use Rattle.ordered_multimap.specs.Changes.{removed};
+    ghost use Rattle.ordered_multimap.specs.Drains.{DrainsEntry, drain_left};
+    ghost use Rattle.ordered_multimap.specs.Keys.{stored_key};
+    ghost use Rattle.ordered_multimap.specs.Pairs.{values_of};
+    ghost use Rattle.ordered_multimap.specs.Rooms.{SameRooms};
+    ghost use Rattle.ordered_multimap.specs.TapeNumbers.{TakesOut};
+
+    /// Takes the key out with all its values, and hands these out one by one. The pairs leave at
+    /// the call, whatever becomes of the drain, and the stored key is dropped. The drain of an
+    /// absent key is empty. The other keys and pairs keep their order.
+    ///
+    /// One look-up, then the slots of the key and those of its values; and each step of the drain
+    /// reads the slot of the value that it gives. No memory is taken and none is given back.
+    ///
+    /// ```
+    /// map.remove_all(&"line").next_back() == Some(2)
+    /// ```
+    pub fn remove_all(&mut self, key: &K) -> EntryValuesDrain<'_, K, V, S, A>
+    where
+        K: Drop,
+        ensures left { drain_left result ≡ values_of K.eq self.old.lists.pairs key.now }
+        ensures lists { result.map.now.lists ≡ removed K.eq self.old.lists key.now }
+        ensures rooms { SameRooms self.old result.map.now }
+        ensures taken { TakesOut (length (values_of K.eq self.old.lists.pairs key.now))
+            self.old.tape result.map.now.tape }
+        ensures same_map { result.map.ghost_name ≡ self.entry.ghost_name }
+    {
+        drop(self.detach_all(key));
+        EntryValuesDrain { map: self }
+    }
+
+    /// The same, and the stored key is answered before the drain. None for an absent key, beside
+    /// an empty drain.
+    ///
+    /// A caller that is proved learns from it what the map is once the drain has ended, as from
+    /// `remove_all`, which it doesn't from `remove_entry_all`.
+    ///
+    /// ```
+    /// map.remove_entry_with_all(&"page").0 == Some("page")
+    /// ```
+    pub fn remove_entry_with_all(
+        &mut self,
+        key: &K,
+    ) -> (Option<K>, EntryValuesDrain<'_, K, V, S, A>)
+    where
+        K: Drop,
+        ensures key { result.0 ≡ option_map (λ _. stored_key K.eq self.old.lists.keys key.now)
+            (slice_get (values_of K.eq self.old.lists.pairs key.now) 0) }
+        ensures left { drain_left result.1 ≡ values_of K.eq self.old.lists.pairs key.now }
+        ensures lists { result.1.map.now.lists ≡ removed K.eq self.old.lists key.now }
+        ensures rooms { SameRooms self.old result.1.map.now }
+        ensures taken { TakesOut (length (values_of K.eq self.old.lists.pairs key.now))
+            self.old.tape result.1.map.now.tape }
+        ensures same_map { result.1.map.ghost_name ≡ self.entry.ghost_name }
+    {
+        let stored = self.detach_all(key);
+        (stored, EntryValuesDrain { map: self })
+    }
+
+    /// The same as `remove_all`, and the stored key is answered before the drain. None for an
+    /// absent key.
+    ///
+    /// ```
+    /// map.remove_entry_all(&"none").is_none()
+    /// ```
+    pub fn remove_entry_all(&mut self, key: &K) -> Option<(K, EntryValuesDrain<'_, K, V, S, A>)>
+    where
+        K: Drop,
+        ensures key { option_map (λ r. r.0) result
+            ≡ option_map (λ _. stored_key K.eq self.old.lists.keys key.now)
+            (slice_get (values_of K.eq self.old.lists.pairs key.now) 0) }
+        ensures drain { IfSome result (λ r. DrainsEntry K.eq self.old key.now r.1) }
+        ensures same_map { IfSome result (λ r. r.1.map.ghost_name ≡ self.entry.ghost_name) }
+    {
+        match self.detach_all(key) {
+            Some(stored) => Some((stored, EntryValuesDrain { map: self })),
+            None => None,
+        }
+    }
+}
+
+impl<K: Eq + Hash, V: Drop, S: BuildHasher, A: Allocator + Copy> ListOrderedMultimap<K, V, S, A> {
+    ghost use Rattle.std.specs.Prelude.{IfErr, IfOk, IsOk};
+    ghost use Rattle.ordered_multimap.specs.Drains.{DrainsInserted};
+    ghost use Rattle.ordered_multimap.specs.Rooms.{HasPairRoom};
+
+    /// Takes all pairs of the key out, puts the pair last, and hands the old values out one by
+    /// one; none where the key was absent. A present key stays as it was stored, and keeps its
+    /// place among the keys; the one handed in is dropped.
+    ///
+    /// The pair is put last before the old ones leave, so that a present key wants room for a value
+    /// too. Where memory is refused, it hands back the pair, and both lists are as before. One
+    /// look-up; then the slots of the key, of its values and of the new one, and now and then a
+    /// compaction or a growth, as for `append`.
+    ///
+    /// ```
+    /// map.insert_all("line", 3)?.next_back() == Some(2)
+    /// ```
+    pub fn insert_all(
+        &mut self,
+        key: K,
+        value: V,
+    ) -> Result<EntryValuesDrain<'_, K, V, S, A>, Refused<K, V>>
+    where
+        K: Drop,
+        ensures drain { IfOk result (DrainsInserted K.eq self.old key value) }
+        ensures same_map { IfOk result (λ d. d.map.ghost_name ≡ self.entry.ghost_name) }
+        ensures refused { IfErr result (λ pair. pair ≡ record { key = key; value = value }) }
+        ensures succeeds { HasPairRoom K.eq self.old key → IsOk result }
+    {
+        self.insert_detaching(key, value)?;
+        Ok(EntryValuesDrain { map: self })
+    }
+}
+
+impl<'map, K: Eq + Hash, V: Drop, S: BuildHasher, A: Allocator> EntryValuesDrain<'map, K, V, S, A> {
+    ghost use Rattle.ordered_multimap.specs.Drains.{drain_left};
+
+    /// A walk over the values that are left.
+    pub fn iter(&self) -> EntryValues<'_, K, V, A>
+        ensures { result.left ≡ drain_left self.now }
+    {
+        self.map.values_left()
+    }
+}
+
+impl<'map, K: Eq + Hash, V: Drop, S: BuildHasher, A: Allocator> Iterator
+    for EntryValuesDrain<'map, K, V, S, A> {
+    ghost use Rattle.ordered_multimap.specs.Drains.{DrainsFirst, drain_left};
+
+    type Item = V;
+
+    ghost next_gives = { DrainsFirst };
+
+    ghost remaining = { λ s. at_most (length (drain_left s)) };
+
+    fn next(&mut self) -> Option<V> {
+        self.map.take_first_left()
+    }
+
+    fn size_hint(&self) -> (usize, Option<usize>)
+        ensures lower { IsWithinCount result.0 (at_most (length (drain_left self.now))) }
+        ensures upper { IfSome result.1 (UpTo (at_most (length (drain_left self.now)))) }
+
+        // Both numbers are that of the values left.
+        ensures least { result.0 ≡ length (drain_left self.now) }
+        ensures greatest { result.1 ≡ Some (length (drain_left self.now)) }
+    {
+        let left = self.map.count_left();
+        (left, Some(left))
+    }
+}
+
+impl<'map, K: Eq + Hash, V: Drop, S: BuildHasher, A: Allocator> DoubleEndedIterator
+    for EntryValuesDrain<'map, K, V, S, A> {
+    ghost use Rattle.ordered_multimap.specs.Drains.{DrainsLast};
+
+    ghost next_back_gives = { DrainsLast };
+
+    fn next_back(&mut self) -> Option<V> {
+        self.map.take_last_left()
+    }
+}
+
+impl<'map, K: Eq + Hash, V: Drop, S: BuildHasher, A: Allocator> ExactSizeIterator
+    for EntryValuesDrain<'map, K, V, S, A> {
+    fn len(&self) -> usize {
+        self.map.count_left()
+    }
+}
+
+impl<'map, K: Eq + Hash, V: Drop, S: BuildHasher, A: Allocator> FusedIterator
+    for EntryValuesDrain<'map, K, V, S, A> {}
+
+impl<'map, K: Eq + Hash, V: Drop, S: BuildHasher, A: Allocator> Drop
+    for EntryValuesDrain<'map, K, V, S, A> {
+    ghost use Rattle.ordered_multimap.specs.Detaches.{KeepsListed};
+
+    fn drop(self)
+        ensures { KeepsListed self.entry.map.now self.exit.0.now }
+    {
+        let EntryValuesDrain { map } = self;
+        map.drop_left();
+    }
+}
+
+impl<'map, K: Eq + Hash, V: fmt::Debug + Drop, S: BuildHasher, A: Allocator> fmt::Debug
+    for EntryValuesDrain<'map, K, V, S, A> {
+    fn fmt<W: fmt::Write>(&self, f: &mut fmt::Formatter<W>) -> fmt::Result {
+        f.write_str("EntryValuesDrain(")?;
+        let mut list = f.debug_list();
+        for value in self.iter() {
+            list.entry(&value);
+        }
+        list.finish()?;
+        f.write_str(")")
+    }
+}

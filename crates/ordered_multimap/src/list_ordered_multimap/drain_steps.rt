@@ -1,0 +1,173 @@
+//! What a drain does with the map that it borrows: it reads, takes and drops detached values.
+ghost use Rattle.std.specs.Prelude.{◌≡◌, [], length, option_map, slice_get};
+ghost use Rattle.std.specs.Prelude.{IfErr, OnErr, OnOk, IsOk};
+ghost use Rattle.std.specs.Map.Iter.{TakesFirst, TakesLast};
+ghost use Rattle.multimap_slots.specs.Tapes.{KeepsCounts};
+ghost use Rattle.ordered_multimap.specs.Changes.{inserted, removed};
+ghost use Rattle.ordered_multimap.specs.Keys.{stored_key};
+ghost use Rattle.ordered_multimap.specs.Pairs.{values_of};
+ghost use Rattle.ordered_multimap.specs.Rooms.{HasPairRoom, KeepsRooms, RaisesNoRoom, SameRooms};
+ghost use Rattle.ordered_multimap.specs.TapeNumbers.{TakesOut};
+ghost use Rattle.ordered_multimap.specs.Detaches.{HoldsDrain, IsDrained, KeepsListed, KeepsSlots, left_of};
+
+use super::append::append_first;
+use super::detaches::{detach_entry, insert_behind_all};
+use super::lookup::{find, place_of};
+use super::{EntryValues, ListOrderedMultimap, NO_CHAIN, Refused};
+use multimap_slots::Tape;
+use multimap_walks::{ChainEnds, ValueLink};
+use std::alloc::Allocator;
+use std::hash::{BuildHasher, Hash};
+
+impl<K: Eq + Hash, V, S: BuildHasher, A: Allocator> ListOrderedMultimap<K, V, S, A> {
+    /// Takes the key out, detaches all its values for a drain, and answers the stored key.
+    pub(super) fn detach_all(&mut self, key: &K) -> Option<K>
+        ensures holds { HoldsDrain self.new }
+        ensures left { left_of self.new ≡ values_of K.eq self.old.lists.pairs key.now }
+        ensures key { result ≡ option_map (λ _. stored_key K.eq self.old.lists.keys key.now)
+            (slice_get (values_of K.eq self.old.lists.pairs key.now) 0) }
+        ensures lists { self.new.lists ≡ removed K.eq self.old.lists key.now }
+        ensures rooms { SameRooms self.old self.new }
+        ensures taken { TakesOut (length (values_of K.eq self.old.lists.pairs key.now))
+            self.old.tape self.new.tape }
+    {
+        match find(&self.state, &self.keys, &self.table, key) {
+            Some(place) => {
+                let (key, left) = detach_entry(
+                    &mut self.keys,
+                    &mut self.table,
+                    &mut self.values,
+                    place,
+                );
+                self.left = left;
+                Some(key)
+            }
+            None => {
+                self.left = NO_CHAIN;
+                None
+            }
+        }
+    }
+
+    /// How many values are left of the drain.
+    pub(super) fn count_left(&self) -> usize
+        requires { HoldsDrain self.now }
+        ensures { result ≡ length (left_of self.now) }
+    {
+        self.left.length
+    }
+
+    /// A walk over the values that are left of the drain.
+    pub(super) fn values_left(&self) -> EntryValues<'_, K, V, A>
+        requires { HoldsDrain self.now }
+        ensures { result.left ≡ left_of self.now }
+    {
+        EntryValues::new_detached(&self.values, Some(self.left))
+    }
+
+    /// Takes the first value that is left of the drain.
+    pub(super) fn take_first_left(&mut self) -> Option<V>
+        requires { HoldsDrain self.old }
+        ensures holds { HoldsDrain self.new }
+        ensures first { TakesFirst (λ v. v) (left_of self.old) result (left_of self.new) }
+        ensures kept { KeepsListed self.old self.new }
+    {
+        if self.left.length == 0 {
+            return None;
+        }
+        let place = self.left.first;
+        let (_, link) = self.values.get_detached(place);
+        self.left.first = link.next.unwrap_or(place);
+        self.left.length -= 1;
+        Some(self.values.take_detached(place))
+    }
+
+    /// Takes the last value that is left of the drain.
+    pub(super) fn take_last_left(&mut self) -> Option<V>
+        requires { HoldsDrain self.old }
+        ensures holds { HoldsDrain self.new }
+        ensures last { TakesLast (λ v. v) (left_of self.old) result (left_of self.new) }
+        ensures kept { KeepsListed self.old self.new }
+    {
+        if self.left.length == 0 {
+            return None;
+        }
+        let place = self.left.last;
+        let (_, link) = self.values.get_detached(place);
+        self.left.last = link.previous.unwrap_or(place);
+        self.left.length -= 1;
+        Some(self.values.take_detached(place))
+    }
+
+    /// Drops the values that are left of the drain.
+    pub(super) fn drop_left(&mut self)
+    where
+        V: Drop,
+        requires { HoldsDrain self.old }
+        ensures holds { HoldsDrain self.new }
+        ensures none { left_of self.new ≡ [] }
+        ensures kept { KeepsListed self.old self.new }
+    {
+        let left = self.left;
+        self.left.length = 0;
+        drop_chain(&mut self.values, left);
+    }
+}
+
+impl<K: Eq + Hash, V, S: BuildHasher, A: Allocator + Copy> ListOrderedMultimap<K, V, S, A> {
+    /// Puts the pair last, and detaches the older values of its key for a drain.
+    pub(super) fn insert_detaching(&mut self, key: K, value: V) -> Result<(), Refused<K, V>>
+    where
+        K: Drop,
+        V: Drop,
+        ensures holds { OnOk result (HoldsDrain self.new) }
+        ensures left { OnOk result (left_of self.new ≡ values_of K.eq self.old.lists.pairs key) }
+        ensures ok { OnOk result (self.new.lists ≡ inserted K.eq self.old.lists key value) }
+        ensures taken { OnOk result (TakesOut (length (values_of K.eq self.old.lists.pairs key))
+            self.old.tape self.new.tape) }
+        ensures unchanged { OnErr result (self.new.lists ≡ self.old.lists) }
+        ensures none_taken { OnErr result (TakesOut 0 self.old.tape self.new.tape) }
+        ensures refused { IfErr result (λ pair. pair ≡ record { key = key; value = value }) }
+        ensures succeeds { HasPairRoom K.eq self.old key → IsOk result }
+        ensures rooms { KeepsRooms self.old self.new }
+        ensures had_room { RaisesNoRoom K.eq key self.old self.new }
+    {
+        let hash = self.state.hash_one(&key);
+        match place_of(&self.keys, &self.table, hash, &key) {
+            Some(place) => {
+                let left = insert_behind_all(&mut self.keys, &mut self.values, place, key, value)?;
+                self.left = left;
+                Ok(())
+            }
+            None => {
+                append_first(
+                    &mut self.keys,
+                    &mut self.table,
+                    &mut self.values,
+                    hash,
+                    key,
+                    value,
+                )?;
+                self.left = NO_CHAIN;
+                Ok(())
+            }
+        }
+    }
+}
+
+/// Takes detached values, and drops them.
+fn drop_chain<V: Drop, A: Allocator>(values: &mut Tape<V, ValueLink, A>, ends: ChainEnds)
+    requires { IsDrained values.old.list ends }
+    ensures kept { KeepsSlots values.old.list values.new.list }
+    ensures counts { KeepsCounts values.old values.new }
+    ensures capacity { values.new.list.capacity ≡ values.old.list.capacity }
+{
+    let mut place = ends.first;
+    for _ in 0..ends.length {
+        // The length tells the proof that the list is sound.
+        let _len = values.len();
+        let (_, link) = values.get_detached(place);
+        drop(values.take_detached(place));
+        place = link.next.unwrap_or(place);
+    }
+}
