@@ -36,7 +36,7 @@ pub returns-in-Some-clause-popped : goal.returns-in-Some-clause-popped
 returns-in-Some-clause-popped g c =
     let t = c.take_pair.ensures in
     let left = leaves g.met.K.Eq.laws c.self.invariant.agrees c.args.end c.in-Some.place (sym c.end_place.ensures ∙ c.in-Some.is) t.keys_capacity t.values_capacity c.take_pair.result t.taken in
-    subst (λ m. IsPopped g.K.PartialEq.eq c.args.end m (map_of c.take_pair.new.keys c.take_pair.new.table.capacity c.take_pair.new.values c.self.inside.state)) c.self.view_is
+    subst (λ m. IsPopped g.K.PartialEq.eq c.args.end m (map_of c.take_pair.new.keys c.take_pair.new.table.capacity c.take_pair.new.values c.self.inside.state c.self.inside.left)) c.self.view_is
     (record {
       lists = left.lists_are;
       rooms = record {
