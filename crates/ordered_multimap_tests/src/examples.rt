@@ -1,7 +1,7 @@
 //! The examples of the map's doc comments and of README.md, as tests. `tools/examples` says whether
 //! each line of theirs stands here.
 use ordered_multimap::ListOrderedMultimap;
-use ordered_multimap::list_ordered_multimap::DefaultState;
+use ordered_multimap::list_ordered_multimap::{DefaultState, KeyWrapper};
 use std::alloc::AllocError;
 use std::hash::BuildHasher;
 use test_helpers::{Failed, Test};
@@ -49,6 +49,26 @@ fn changes_answer(test: &Test, map: &mut Numbers) {
     test.expect("insert", map.insert("page", 9) == Ok(Some(8)));
     map.clear();
     test.expect("clear", map.is_empty());
+    test.expect("append", add_three(map).is_ok());
+}
+
+fn pops_answer(test: &Test, map: &mut Numbers) {
+    test.expect(
+        "pop_front",
+        map.pop_front() == Some((KeyWrapper::Borrowed(&"line"), 1)),
+    );
+    test.expect(
+        "pop_back",
+        map.pop_back() == Some((KeyWrapper::Owned("line"), 2)),
+    );
+    test.expect(
+        "pop_front_with",
+        map.pop_front_with(|popped| popped.is_some()),
+    );
+    test.expect(
+        "pop_back_with",
+        map.pop_back_with(|popped| popped.is_none()),
+    );
 }
 
 #[test]
@@ -60,6 +80,7 @@ fn examples_hold(rt: HostRuntime) -> Result<(), Failed> {
     walks_answer(&test, &map);
     has_room(&test, &map);
     changes_answer(&test, &mut map);
+    pops_answer(&test, &mut map);
     test.end()
 }
 

@@ -21,11 +21,14 @@ mod keys;
 #[cfg(test)]
 mod many;
 #[cfg(test)]
+mod popped;
+#[cfg(test)]
 mod refused;
 #[cfg(test)]
 mod removed;
 #[cfg(test)]
 mod shown;
+pub mod undone;
 #[cfg(test)]
 mod texts;
 #[cfg(test)]
