@@ -42,7 +42,7 @@ impl<K: Eq + Hash, V, S: BuildHasher, A: Allocator> ListOrderedMultimap<K, V, S,
         }
     }
 
-    /// The same, and the map goes back.
+    /// The same, and the map is handed back.
     fn take_end_on(&mut self, end: End) -> (Option<Taken<K, V>>, &mut Self)
         ensures same { result.1.ghost_name ≡ self.entry.ghost_name }
         ensures popped { IsPopped K.eq end self.old result.1.now }
@@ -53,7 +53,7 @@ impl<K: Eq + Hash, V, S: BuildHasher, A: Allocator> ListOrderedMultimap<K, V, S,
         (taken, self)
     }
 
-    /// The map to read, for good.
+    /// The map, which is only read from now on until the loan ends.
     fn settle(&mut self) -> &Self
         ensures* rests { sem 𝓛 (ends_same K.row V.row S.row A.row S.Hasher.row K.Hash
             S.BuildHasher S.Hasher.Hasher A.Allocator self.entry) }
@@ -62,7 +62,7 @@ impl<K: Eq + Hash, V, S: BuildHasher, A: Allocator> ListOrderedMultimap<K, V, S,
         self
     }
 
-    /// What was taken, with its key.
+    /// The pair that was taken, if there is one, with its key.
     fn wrapped(&self, taken: Option<Taken<K, V>>) -> Option<(KeyWrapper<'_, K>, V)>
         requires { (p : _) × IsTaken self.now.slots.keys p taken }
         ensures { (p : _) → IsTaken self.now.slots.keys p taken → option_map popped_of result ≡ p }
@@ -73,6 +73,7 @@ impl<K: Eq + Hash, V, S: BuildHasher, A: Allocator> ListOrderedMultimap<K, V, S,
         }
     }
 
+    /// One pair that was taken, with its key.
     fn wrapped_one(&self, taken: Taken<K, V>) -> (KeyWrapper<'_, K>, V)
         requires { (p : _) × (taken.value ≡ p.value) × IsTakenKey self.now.slots.keys p taken.key }
         ensures { (p : _) → (taken.value ≡ p.value) → IsTakenKey self.now.slots.keys p taken.key
@@ -98,15 +99,14 @@ impl<K: Eq + Hash, V, S: BuildHasher, A: Allocator> ListOrderedMultimap<K, V, S,
         map.settle().wrapped(taken)
     }
 
-    /// Takes the first pair out, and answers its key and its value. The key is owned if that was
-    /// its last value, and has then left the map; else it is lent, and keeps its place among the
-    /// keys. None where there is no pair.
+    /// Takes the first pair out, and answers its key and its value. The key is handed out if that
+    /// was its last value; else the map lends it, and it keeps its place among the keys. None where
+    /// there is no pair.
     ///
-    /// It takes no memory and gives none back. The slots of the pair, of its key and of the next
-    /// value of that key, and where the key goes too the lanes that its hash leads to.
-    ///
-    /// A proof learns of the map afterwards from the clause only by a walk; a caller that is to be
-    /// proved takes [`pop_front_with`](Self::pop_front_with).
+    /// It takes no memory and gives none back. It reads and writes the slots of the value, of its
+    /// key and of the next value of that key; where the key goes too, it takes out the key's row.
+    /// A caller whose proof has to know the map afterwards takes
+    /// [`pop_front_with`](Self::pop_front_with).
     ///
     /// ```
     /// map.pop_front() == Some((KeyWrapper::Borrowed(&"line"), 1))
@@ -119,7 +119,7 @@ impl<K: Eq + Hash, V, S: BuildHasher, A: Allocator> ListOrderedMultimap<K, V, S,
         self.pop_end(End::Front)
     }
 
-    /// The same with the last pair.
+    /// The same with the last pair, and with the value before it among those of its key.
     ///
     /// ```
     /// map.pop_back() == Some((KeyWrapper::Owned("line"), 2))
@@ -132,8 +132,9 @@ impl<K: Eq + Hash, V, S: BuildHasher, A: Allocator> ListOrderedMultimap<K, V, S,
         self.pop_end(End::Back)
     }
 
-    /// Calls the function on what [`pop_front`](Self::pop_front) answers, and answers what it
-    /// answers. It is for callers that are proved: they know both lists afterwards.
+    /// Takes the first pair out, hands the answer of [`pop_front`](Self::pop_front) to the
+    /// function, and answers what it answers. It is for callers that are proved: they know both
+    /// lists afterwards.
     ///
     /// ```
     /// map.pop_front_with(|popped| popped.is_some())
@@ -150,7 +151,7 @@ impl<K: Eq + Hash, V, S: BuildHasher, A: Allocator> ListOrderedMultimap<K, V, S,
         f(self.wrapped(taken))
     }
 
-    /// The same with [`pop_back`](Self::pop_back).
+    /// The same with the last pair, as [`pop_back`](Self::pop_back) takes it.
     ///
     /// ```
     /// map.pop_back_with(|popped| popped.is_none())
