@@ -59,6 +59,12 @@ module _ {K V : Type 0} {eq : K → K → Bool} (laws : IsEquivalence eq) {hash 
       let has = has_item-one agrees place listed takes k is in
       is_listed-self laws k (keys_of (pairs_of keys_after values_after)) (formed.used k (IsIn-filter_map (item_at keys_after) takes.link.key k keys_after.order has.listed has.item_is))
 
+-- the pairs without that of one place, where the others are the same
+pub pairs_of-without : {K V : Type 0} (keys keys_after : Slots K KeyLink) (values values_after : Slots V ValueLink) (place : ℕ) → values_after.order ≡ without values.order place
+    → ((q : ℕ) → IsIn q values_after.order → pair_at keys_after values_after q ≡ pair_at keys values q) → pairs_of keys_after values_after ≡ filter_map (pair_at keys values) (without values.order place)
+pairs_of-without keys keys_after values values_after place order same =
+    filter_map-agree (pair_at keys_after values_after) (pair_at keys values) values_after.order same ∙ ap (filter_map (pair_at keys values)) order
+
 -- the place at an end is listed
 pub end_listed : (end : End) (order : List ℕ) (place : ℕ) → end_of_list end order ≡ Some place → IsIn place order
 end_listed Front order place e = first_of-member order place e
@@ -129,7 +135,7 @@ module _ {K V : Type 0} {eq : K → K → Bool} {hash : K → ℕ} {keys : Slots
     left_at_end : AtEnd end (pairs_of keys values) (pairs_of keys_after values_after) (pair.key, pair.value)
     left_at_end =
         subst (λ rest. AtEnd end (pairs_of keys values) rest (pair.key, pair.value))
-        (sym (filter_map-agree (pair_at keys_after values_after) (pair_at keys values) values_after.order same ∙ ap (filter_map (pair_at keys values)) order))
+        (sym (pairs_of-without keys keys_after values values_after place order same))
         (at_end (pair_at keys values) end values.order place (pair.key, pair.value) agrees.values_sound.distinct at pair.pair_is)
 
     popped_is : kept eq (lists_of keys values) (pairs_of keys_after values_after) ≡ popped eq end (lists_of keys values)
