@@ -71,6 +71,15 @@ fn pops_answer(test: &Test, map: &mut Numbers) {
     );
 }
 
+fn wrappers_answer(test: &Test) {
+    test.expect("is_owned", KeyWrapper::Owned("line").is_owned());
+    test.expect("is_borrowed", KeyWrapper::Borrowed(&"line").is_borrowed());
+    test.expect(
+        "into_owned",
+        KeyWrapper::Borrowed(&"line").into_owned() == Ok("line"),
+    );
+}
+
 #[test]
 fn examples_hold(rt: HostRuntime) -> Result<(), Failed> {
     let test = Test::new(rt.alloc());
@@ -81,6 +90,7 @@ fn examples_hold(rt: HostRuntime) -> Result<(), Failed> {
     has_room(&test, &map);
     changes_answer(&test, &mut map);
     pops_answer(&test, &mut map);
+    wrappers_answer(&test);
     test.end()
 }
 

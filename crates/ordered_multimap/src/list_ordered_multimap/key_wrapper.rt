@@ -18,6 +18,10 @@ pub enum KeyWrapper<'map, K> {
 
 impl<K> KeyWrapper<'_, K> {
     /// Whether the key was handed out.
+    ///
+    /// ```
+    /// KeyWrapper::Owned("line").is_owned()
+    /// ```
     pub fn is_owned(&self) -> bool
         ensures { result ≡ is_owned self.now }
     {
@@ -28,6 +32,10 @@ impl<K> KeyWrapper<'_, K> {
     }
 
     /// Whether the key was lent, and the map has more values of it.
+    ///
+    /// ```
+    /// KeyWrapper::Borrowed(&"line").is_borrowed()
+    /// ```
     pub fn is_borrowed(&self) -> bool
         ensures { result ≡ not (is_owned self.now) }
     {
@@ -37,6 +45,10 @@ impl<K> KeyWrapper<'_, K> {
 
 impl<K: Clone> KeyWrapper<'_, K> {
     /// The key itself, which is cloned where it was lent. An owned key is never refused.
+    ///
+    /// ```
+    /// KeyWrapper::Borrowed(&"line").into_owned() == Ok("line")
+    /// ```
     pub fn into_owned(self) -> Result<K, AllocError>
         ensures ok { IfOk result (IsOwnKey K.is_clone self.entry) }
         ensures succeeds { IsNeverRefused K.is_infallible self.entry → IsOk result }
