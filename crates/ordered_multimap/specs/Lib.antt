@@ -2,6 +2,7 @@ pub mod Agrees
 pub mod Appends
 pub mod Changes
 pub mod Detaches
+pub mod DrainLends
 pub mod Drains
 pub mod KeyWrappers
 pub mod Keys

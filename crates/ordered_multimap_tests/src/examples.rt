@@ -80,6 +80,19 @@ fn wrappers_answer(test: &Test) {
     );
 }
 
+fn drains_answer(test: &Test, map: &mut Numbers) -> Result<(), AllocError> {
+    test.expect("append", add_three(map).is_ok());
+    let last = map.insert_all("line", 3)?.next_back() == Some(2);
+    test.expect("insert_all", last);
+    test.expect("append", map.append("line", 2).is_ok());
+    test.expect("remove_all", map.remove_all(&"line").next_back() == Some(2));
+    let mut stored = None;
+    let first = map.remove_entry_with_all(&"page", &mut stored).next() == Some(8);
+    test.expect("remove_entry_with_all", first && stored == Some("page"));
+    test.expect("remove_entry_all", map.remove_entry_all(&"none").is_none());
+    Ok(())
+}
+
 #[test]
 fn examples_hold(rt: HostRuntime) -> Result<(), Failed> {
     let test = Test::new(rt.alloc());
@@ -91,6 +104,7 @@ fn examples_hold(rt: HostRuntime) -> Result<(), Failed> {
     changes_answer(&test, &mut map);
     pops_answer(&test, &mut map);
     wrappers_answer(&test);
+    test.expect("drains", drains_answer(&test, &mut map).is_ok());
     test.end()
 }
 

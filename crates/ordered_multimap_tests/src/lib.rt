@@ -13,6 +13,9 @@ mod caseless;
 #[cfg(test)]
 mod constructors;
 #[cfg(test)]
+mod drained;
+pub mod drains;
+#[cfg(test)]
 mod examples;
 #[cfg(test)]
 mod inserted;

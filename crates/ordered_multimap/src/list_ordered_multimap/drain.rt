@@ -56,32 +56,32 @@ impl<K: Eq + Hash, V: Drop, S: BuildHasher, A: Allocator> ListOrderedMultimap<K,
         EntryValuesDrain { map: self }
     }
 
-    /// The same, and the stored key is answered before the drain. None for an absent key, beside
-    /// an empty drain.
+    /// The same, and the stored key is put into `stored`, or none for an absent key.
     ///
     /// A caller that is proved learns from it what the map is once the drain has ended, as from
     /// `remove_all`, which it doesn't from `remove_entry_all`.
     ///
     /// ```
-    /// map.remove_entry_with_all(&"page").0 == Some("page")
+    /// map.remove_entry_with_all(&"page", &mut stored).next() == Some(8)
     /// ```
-    pub fn remove_entry_with_all(
-        &mut self,
+    pub fn remove_entry_with_all<'map>(
+        &'map mut self,
         key: &K,
-    ) -> (Option<K>, EntryValuesDrain<'_, K, V, S, A>)
+        stored: &mut Option<K>,
+    ) -> EntryValuesDrain<'map, K, V, S, A>
     where
         K: Drop,
-        ensures key { result.0 ≡ option_map (λ _. stored_key K.eq self.old.lists.keys key.now)
+        ensures key { stored.new ≡ option_map (λ _. stored_key K.eq self.old.lists.keys key.now)
             (slice_get (values_of K.eq self.old.lists.pairs key.now) 0) }
-        ensures left { drain_left result.1 ≡ values_of K.eq self.old.lists.pairs key.now }
-        ensures lists { result.1.map.now.lists ≡ removed K.eq self.old.lists key.now }
-        ensures rooms { SameRooms self.old result.1.map.now }
+        ensures left { drain_left result ≡ values_of K.eq self.old.lists.pairs key.now }
+        ensures lists { result.map.now.lists ≡ removed K.eq self.old.lists key.now }
+        ensures rooms { SameRooms self.old result.map.now }
         ensures taken { TakesOut (length (values_of K.eq self.old.lists.pairs key.now))
-            self.old.tape result.1.map.now.tape }
-        ensures same_map { result.1.map.ghost_name ≡ self.entry.ghost_name }
+            self.old.tape result.map.now.tape }
+        ensures same_map { result.map.ghost_name ≡ self.entry.ghost_name }
     {
-        let stored = self.detach_all(key);
-        (stored, EntryValuesDrain { map: self })
+        *stored = self.detach_all(key);
+        EntryValuesDrain { map: self }
     }
 
     /// The same as `remove_all`, and the stored key is answered before the drain. None for an
@@ -107,7 +107,9 @@ impl<K: Eq + Hash, V: Drop, S: BuildHasher, A: Allocator> ListOrderedMultimap<K,
 }
 
 impl<K: Eq + Hash, V: Drop, S: BuildHasher, A: Allocator + Copy> ListOrderedMultimap<K, V, S, A> {
+    ghost use Rattle.std.specs.Borrow.{sem};
     ghost use Rattle.std.specs.Prelude.{IfErr, IfOk, IsOk};
+    ghost use Rattle.ordered_multimap.specs.DrainLends.{ends_inserted};
     ghost use Rattle.ordered_multimap.specs.Drains.{DrainsInserted};
     ghost use Rattle.ordered_multimap.specs.Rooms.{HasPairRoom};
 
@@ -130,6 +132,8 @@ impl<K: Eq + Hash, V: Drop, S: BuildHasher, A: Allocator + Copy> ListOrderedMult
     ) -> Result<EntryValuesDrain<'_, K, V, S, A>, Refused<K, V>>
     where
         K: Drop,
+        ensures* rest { sem 𝓛 (ends_inserted K.row V.row S.row A.row S.Hasher.row K.PartialEq
+            K.Hash.own S.BuildHasher S.Hasher.Hasher A.Allocator self.entry key result) }
         ensures drain { IfOk result (DrainsInserted K.eq self.old key value) }
         ensures same_map { IfOk result (λ d. d.map.ghost_name ≡ self.entry.ghost_name) }
         ensures refused { IfErr result (λ pair. pair ≡ record { key = key; value = value }) }

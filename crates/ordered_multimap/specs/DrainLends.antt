@@ -1,0 +1,32 @@
+-- What a map is where a call that lends it to a drain hands none out.
+use Rattle.std.specs.Prelude.{◌≡◌, Bool, Result}
+use Rattle.std.specs.Borrow.{Fml, MutBor, RattleType, RestsIfErr}
+use Rattle.std.specs.declared.alloc.Allocator as allocator
+use Rattle.std.specs.declared.cmp.PartialEq as equality
+use Rattle.std.specs.declared.hash.Hash as hash
+use Rattle.std.specs.declared.hash.Hasher as hasher
+use Rattle.std.specs.declared.hash.BuildHasher as builder
+use Rattle.ordered_multimap.specs.contracts.list_ordered_multimap.ListOrderedMultimap.{the_row}
+use Rattle.ordered_multimap.specs.declared.list_ordered_multimap.drain.EntryValuesDrain.{EntryValuesDrain}
+use Rattle.ordered_multimap.specs.Multimap.{Multimap}
+use Rattle.ordered_multimap.specs.Rooms.{KeepsRooms, RaisesNoRoom}
+use Rattle.ordered_multimap.specs.TapeNumbers.{TakesOut}
+
+-- the lists are as they were, and no value was taken out
+pub record RefusesPair {K V S : Type 0} (eq : K → K → Bool) (key : K)
+    (old new : Multimap K V S) : Type 0 where
+  pub lists : new.lists ≡ old.lists
+  pub rooms : KeepsRooms old new
+  pub had_room : RaisesNoRoom eq key old new
+  pub taken : TakesOut 0 old.tape new.tape
+
+module _ (K V S A H : RattleType) (e : equality.Ghosts K.Denot) (k : hash.Ghosts K.Denot)
+    (b : builder.Ghosts S.Denot H.Denot) (h : hasher.Ghosts H.Denot)
+    (alloc : allocator.Ghosts A.Denot)
+    (m : MutBor (Multimap K.Denot V.Denot S.Denot)) where
+  -- at `Err` the pair was refused, and otherwise the map ends as what the drain leaves
+  abbrev pub ends_inserted : {E : Type 0} → K.Denot
+      → Result (EntryValuesDrain K.Denot V.Denot S.Denot A.Denot H.Denot e k b h) E → Fml
+  ends_inserted key r =
+      RestsIfErr (the_row K V S A H e k b h alloc) m (λ d. d.map.ghost_name) r
+      (RefusesPair e.eq key m.now)
