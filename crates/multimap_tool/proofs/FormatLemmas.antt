@@ -1,39 +1,38 @@
 -- Texts that go on by one reply, or by one item of a list.
-use Rattle.std.proofs.Common.{◌≡◌, List, [], ◌∷◌, ◌++◌, Option, ℕ, ◌+◌, ◌<◌, ◌≤◌, length, drop, get_or, map, refl, sym, ap, ◌∙◌}
+use Rattle.std.proofs.Common.{◌≡◌, List, [], ◌∷◌, ◌++◌, ℕ, ◌+◌, ◌<◌, ◌≤◌, length, drop, get_or, map, refl, sym, ap, ◌∙◌}
 use Rattle.std.specs.Prelude.{ℤ}
 use Rattle.std.proofs.lemmas.List.{append-nil, append_assoc, drop_more, drop_all}
 use Rattle.std.specs.List.{flat_map, join_with_byte}
 use Rattle.multimap_tool.specs.declared.replies.Reply.{Reply}
-use Rattle.multimap_tool.specs.Texts.{text_of_item, list_text, reply_text, text_of}
+use Rattle.multimap_tool.specs.Texts.{reply_text, text_of}
 
-module _ {X : Type 0} (text : X → List ℕ) where
-  -- the first item, and each other one after a space
-  join_items : (item : Option X) (items : List (Option X))
-      → join_with_byte 32 (map (text_of_item text) (item ∷ items)) ≡ text_of_item text item ++ flat_map (λ i. 32 ∷ text_of_item text i) items
-  join_items item [] = sym (append-nil (text_of_item text item))
-  join_items item (next ∷ items) = ap (λ rest. text_of_item text item ++ (32 ∷ rest)) (join_items next items)
+module _ {X : Type 0} (text : X → List ℕ) (c : ℕ) where
+  -- the first item, and each other one after the separator
+  join_items : (item : X) (items : List X) → join_with_byte c (map text (item ∷ items)) ≡ text item ++ flat_map (λ i. c ∷ text i) items
+  join_items item [] = sym (append-nil (text item))
+  join_items item (next ∷ items) = ap (λ rest. text item ++ (c ∷ rest)) (join_items next items)
 
   -- what stands before a list, its first item, and its others
-  pub list_after : (front : List ℕ) (items : List (Option X)) (item : Option X) (others : List (Option X)) (so_far : List ℕ)
-      → items ≡ item ∷ others → so_far ≡ front ++ text_of_item text item
-      → so_far ++ flat_map (λ i. 32 ∷ text_of_item text i) others ≡ front ++ list_text text items
+  pub list_after : (front : List ℕ) (items : List X) (item : X) (others : List X) (so_far : List ℕ)
+      → items ≡ item ∷ others → so_far ≡ front ++ text item
+      → so_far ++ flat_map (λ i. c ∷ text i) others ≡ front ++ join_with_byte c (map text items)
   list_after front items item others so_far parts pushed =
       rw (parts, pushed, append_assoc, join_items) refl
 
-  -- one item more, after a space
-  pub items_on : (others : List (Option X)) (i : ℕ) (item : Option X) (front all : List ℕ) → i < length others → item ≡ get_or others i item
-      → front ++ flat_map (λ i. 32 ∷ text_of_item text i) (drop i others) ≡ all
-      → ((front ++ 32 ∷ []) ++ text_of_item text item) ++ flat_map (λ i. 32 ∷ text_of_item text i) (drop (i + 1) others) ≡ all
+  -- one item more, after a separator
+  pub items_on : (others : List X) (i : ℕ) (item : X) (front all : List ℕ) → i < length others → item ≡ get_or others i item
+      → front ++ flat_map (λ i. c ∷ text i) (drop i others) ≡ all
+      → ((front ++ c ∷ []) ++ text item) ++ flat_map (λ i. c ∷ text i) (drop (i + 1) others) ≡ all
   items_on others i item front all inside is so_far =
       let next = drop_more others i item inside ∙ ap (λ x. x ∷ drop (i + 1) others) (sym is) in
-      append_assoc (front ++ 32 ∷ []) _ _ ∙ append_assoc front (32 ∷ []) _
-      ∙ ap (λ rest. front ++ flat_map (λ i. 32 ∷ text_of_item text i) rest) (sym next) ∙ so_far
+      append_assoc (front ++ c ∷ []) _ _ ∙ append_assoc front (c ∷ []) _
+      ∙ ap (λ rest. front ++ flat_map (λ i. c ∷ text i) rest) (sym next) ∙ so_far
 
   -- no item is left
-  pub items_done : (others : List (Option X)) (i : ℕ) (front all : List ℕ) → length others ≤ i
-      → front ++ flat_map (λ i. 32 ∷ text_of_item text i) (drop i others) ≡ all → front ≡ all
+  pub items_done : (others : List X) (i : ℕ) (front all : List ℕ) → length others ≤ i
+      → front ++ flat_map (λ i. c ∷ text i) (drop i others) ≡ all → front ≡ all
   items_done others i front all ended so_far =
-      sym (append-nil front) ∙ ap (λ rest. front ++ flat_map (λ i. 32 ∷ text_of_item text i) rest) (sym (drop_all i others ended)) ∙ so_far
+      sym (append-nil front) ∙ ap (λ rest. front ++ flat_map (λ i. c ∷ text i) rest) (sym (drop_all i others ended)) ∙ so_far
 
 module _ {A : Type 0} where
   -- one reply more, and a line feed

@@ -1,20 +1,22 @@
 -- The commands that a line with given fields can spell.
-use Rattle.std.proofs.Common.{◌≡◌, inl, inr, Option, Some, None, subst, ℕ, ◌<◌, ◌^◌, Bool, true, false, List, [], ◌∷◌, ◌++◌, map, codes, refl, sym, ◌∙◌, arith, true≢false}
-use Rattle.std.specs.Prelude.{ℤ, FitsSigned}
+use Rattle.std.proofs.Common.{◌≡◌, ◌⊎◌, inl, inr, Option, Some, None, subst, ℕ, ◌+◌, ◌<◌, ◌≤◌, ◌^◌, Bool, true, false, List, [], ◌∷◌, ◌++◌, map, length, codes, refl, sym, ap, ◌∙◌, arith, true≢false}
+use Rattle.std.specs.Prelude.{ℤ, FitsSigned, IsTrue, slice_index}
 use Rattle.std.specs.Int.{w64}
 use Rattle.std.specs.Fmt.{decimal, signed_decimal}
+use Rattle.std.specs.List.{AllByRecursion, flat_map}
 use Rattle.std.specs.Str.{bytes_eq}
 use Rattle.std.proofs.lemmas.Slice.Eq.{bytes_eq-Decides}
 use Rattle.ordered_multimap.specs.End.{End}
 use Rattle.ordered_multimap.specs.End.TheVariants.{Front, Back}
+use Rattle.ordered_multimap.specs.Lists.{IsIn}
+use Rattle.ordered_multimap.specs.Pairs.{has_items}
 use Rattle.multimap_tool.specs.declared.commands.Ends.TheVariants.{Forward, Word}
 use Rattle.multimap_tool.specs.declared.commands.Command.{Command}
 use Rattle.multimap_tool.specs.declared.commands.Command.TheVariants as commands
-use Rattle.multimap_tool.specs.declared.commands.Command.TheVariants.{Append, Get, All, Has, Len, Pairs, Lengths}
-use Rattle.multimap_tool.specs.Spelling.{letter_of, name_of, operands_of, IsSpellable, Spells, IsBadLine}
-use Rattle.multimap_tool.specs.Parts.{IsWithout, AreLettersOf, lone_words, key_words, IsOfKey, IsReadingOf}
-use Rattle.ordered_multimap.specs.Lists.{IsIn}
-use Rattle.multimap_tool.proofs.NumberLemmas.{decimal_without_space, signed_without_space}
+use Rattle.multimap_tool.specs.declared.commands.Command.TheVariants.{Append, Insert, InsertAll, Get, All, Has, Len, Remove, RemoveAll, RemoveEntry, RemoveEntryAll, PopFront, PopBack, Clear, Pairs, Keys, Lengths}
+use Rattle.multimap_tool.specs.Spelling.{Operand, operand_text, FitsOperand, letter_of, name_of, operands_of, spelling_of, Spells, IsBadLine}
+use Rattle.multimap_tool.specs.Parts.{IsWithout, AreLettersOf, StartsAValue, lone_words, key_words, walk_words, pair_words, key_walk_words, words_before, IsCommandOf, IsFoundFor, IsReadingOf}
+use Rattle.multimap_tool.proofs.NumberLemmas.{decimal_without_space, signed_without_space, no_key, no_value}
 use Rattle.multimap_tool.proofs.FieldLemmas.{ArePlain, no_operand, one_operand, two_operands}
 
 -- a test of two texts
@@ -23,10 +25,6 @@ same_text xs ys r holds told = (bytes_eq-Decides xs ys).0 (sym told ∙ holds)
 
 pub other_text : (xs ys : List ℕ) (r : Bool) → r ≡ false → r ≡ bytes_eq xs ys → xs ≡ ys → ⊥
 other_text xs ys r fails told same = true≢false (sym ((bytes_eq-Decides xs ys).1 same) ∙ sym told ∙ fails)
-
--- a text isn't two different ones
-pub differ : (word left right : List ℕ) → bytes_eq left right ≡ false → word ≡ left → word ≡ right → ⊥
-differ word left right apart is_left is_right = other_text left right false refl (sym apart) (sym is_left ∙ is_right)
 
 -- the text of a key, of a value, of letters
 abbrev pub IsKeyText : List ℕ → Type 0
@@ -38,111 +36,168 @@ IsValueText text = (v : ℤ) × FitsSigned w64 v × (signed_decimal v ≡ text)
 abbrev pub IsWordText : List ℕ → Type 0
 IsWordText text = (word : List End) × AreLettersOf text word
 
+-- letters are no number
+no_number : (text : List ℕ) (word : List End) → map letter_of word ≡ text → IsTrue (has_items word) → StartsAValue text → ⊥
+no_number text [] same some starts = absurd (cc)
+no_number text (Front ∷ word) same some starts = elim starts [
+  | inl number ↦ omega (arith, number.greatest, ap (λ t. slice_index t 0) same)
+  | inr below ↦ omega (arith, below.sign, ap (λ t. slice_index t 0) same)
+]
+no_number text (Back ∷ word) same some starts = elim starts [
+  | inl number ↦ omega (arith, number.greatest, ap (λ t. slice_index t 0) same)
+  | inr below ↦ omega (arith, below.sign, ap (λ t. slice_index t 0) same)
+]
+
+pub word_is_no_key : (text : List ℕ) → IsWordText text → IsKeyText text → ⊥
+word_is_no_key text word key = no_key text (λ starts. no_number text word.0 word.1.spelled word.1.some (inl starts)) key.0 key.1 key.2
+
+pub word_is_no_value : (text : List ℕ) → IsWordText text → IsValueText text → ⊥
+word_is_no_value text word value = no_value text (λ starts. no_number text word.0 word.1.spelled word.1.some starts) value.0 value.1 value.2
+
 letters_without_space : (word : List End) → IsWithout 32 (map letter_of word)
 letters_without_space [] = refl
 letters_without_space (Front ∷ word) = letters_without_space word
 letters_without_space (Back ∷ word) = letters_without_space word
 
--- a word and a key
-plain_key : (word : List ℕ) (k : ℕ) → IsWithout 32 word → k < 2 ^ 32 → ArePlain word (decimal k ∷ [])
-plain_key word k without fits = record { word = without; texts = (decimal_without_space k (omega (arith, fits)), tt); few = omega arith }
+text_without_space : (o : Operand) → FitsOperand o → IsWithout 32 (operand_text o)
+text_without_space (inl k) fits = decimal_without_space k (omega (arith, fits))
+text_without_space (inr (inl v)) fits = signed_without_space v fits
+text_without_space (inr (inr word)) fits = letters_without_space word
+
+texts_without_space : (os : List Operand) → AllByRecursion FitsOperand os → AllByRecursion (IsWithout 32) (map operand_text os)
+texts_without_space [] fits = tt
+texts_without_space (o ∷ os) fits = (text_without_space o fits.0, texts_without_space os fits.1)
+
+-- no word has a space
+word_without_space : (words : List (List ℕ)) (name : List ℕ) → AllByRecursion (IsWithout 32) words → IsIn name words → IsWithout 32 name
+word_without_space [] name each listed = absurd listed
+word_without_space (word ∷ words) name each listed = elim listed [
+  | inl same ↦ subst (IsWithout 32) (sym same) each.0
+  | inr later ↦ word_without_space words name each.1 later
+]
+
+-- spaces stand between fields alone
+plain_fields : (name : List ℕ) (os : List Operand) → IsIn name (words_before os) → AllByRecursion FitsOperand os → ArePlain name (map operand_text os)
+plain_fields name [] listed fits = record {
+  word = word_without_space lone_words name (refl, (refl, (refl, (refl, (refl, (refl, (refl, (refl, tt)))))))) listed;
+  texts = tt;
+  few = omega arith;
+}
+plain_fields name (inl k ∷ []) listed fits = record {
+  word = word_without_space key_words name (refl, (refl, (refl, (refl, (refl, (refl, (refl, (refl, tt)))))))) listed;
+  texts = texts_without_space (inl k ∷ []) fits;
+  few = omega arith;
+}
+plain_fields name (inr (inl v) ∷ []) listed fits = absurd listed
+plain_fields name (inr (inr word) ∷ []) listed fits = record {
+  word = word_without_space walk_words name (refl, (refl, tt)) listed;
+  texts = texts_without_space (inr (inr word) ∷ []) fits;
+  few = omega arith;
+}
+plain_fields name (inl k ∷ inl j ∷ []) listed fits = absurd listed
+plain_fields name (inl k ∷ inr (inl v) ∷ []) listed fits = record {
+  word = word_without_space pair_words name (refl, (refl, (refl, tt))) listed;
+  texts = texts_without_space (inl k ∷ inr (inl v) ∷ []) fits;
+  few = omega arith;
+}
+plain_fields name (inl k ∷ inr (inr word) ∷ []) listed fits = record {
+  word = word_without_space key_walk_words name (refl, tt) listed;
+  texts = texts_without_space (inl k ∷ inr (inr word) ∷ []) fits;
+  few = omega arith;
+}
+plain_fields name (inl k ∷ inl j ∷ p ∷ os) listed fits = absurd listed
+plain_fields name (inl k ∷ inr (inl v) ∷ p ∷ os) listed fits = absurd listed
+plain_fields name (inl k ∷ inr (inr word) ∷ p ∷ os) listed fits = absurd listed
+plain_fields name (inr (inl v) ∷ o ∷ os) listed fits = absurd listed
+plain_fields name (inr (inr word) ∷ o ∷ os) listed fits = absurd listed
+
+-- what stands alone, what one operand follows, and what two follow
+alone : (name : List ℕ) (os : List Operand) → IsIn name (words_before os) → map operand_text os ≡ [] → IsIn name lone_words
+alone name [] listed same = listed
+alone name (o ∷ os) listed same = absurd (cc)
+
+of_one : (name text : List ℕ) (os : List Operand) → IsIn name (words_before os) → AllByRecursion FitsOperand os → map operand_text os ≡ text ∷ []
+    → (IsIn name key_words × IsKeyText text) ⊎ (IsIn name walk_words × IsWordText text)
+of_one name text [] listed fits same = absurd (cc)
+of_one name text (inl k ∷ []) listed fits same = inl (listed, (k, fits.0, cc))
+of_one name text (inr (inl v) ∷ []) listed fits same = absurd listed
+of_one name text (inr (inr word) ∷ []) listed fits same = inr (listed, (word, record { spelled = cc; some = fits.0 }))
+of_one name text (o ∷ p ∷ os) listed fits same = absurd (cc)
+
+of_two : (name first second : List ℕ) (os : List Operand) → IsIn name (words_before os) → AllByRecursion FitsOperand os → map operand_text os ≡ first ∷ second ∷ []
+    → (IsIn name pair_words × IsKeyText first × IsValueText second) ⊎ (IsIn name key_walk_words × IsKeyText first × IsWordText second)
+of_two name first second [] listed fits same = absurd (cc)
+of_two name first second (o ∷ []) listed fits same = absurd (cc)
+of_two name first second (inl k ∷ inl j ∷ []) listed fits same = absurd listed
+of_two name first second (inl k ∷ inr (inl v) ∷ []) listed fits same = inl (listed, (k, fits.0, cc), (v, fits.1.0, cc))
+of_two name first second (inl k ∷ inr (inr word) ∷ []) listed fits same = inr (listed, (k, fits.0, cc), (word, record { spelled = cc; some = fits.1.0 }))
+of_two name first second (inr (inl v) ∷ p ∷ []) listed fits same = absurd listed
+of_two name first second (inr (inr word) ∷ p ∷ []) listed fits same = absurd listed
+of_two name first second (o ∷ p ∷ q ∷ os) listed fits same = absurd (cc)
 
 module _ {A : Type 0} where
-  -- spaces stand between fields alone
-  plain_fields : (command : Command ℕ ℤ A) → IsSpellable command → ArePlain (name_of command) (operands_of command)
-  plain_fields (Append k v) fits = record {
-    word = refl;
-    texts = (decimal_without_space k (omega (arith, fits.0)), (signed_without_space v fits.1, tt));
-    few = omega arith;
-  }
-  plain_fields (Get k) fits = plain_key (codes "get") k refl fits
-  plain_fields (Has k) fits = plain_key (codes "has") k refl fits
-  plain_fields (Len k) fits = plain_key (codes "len") k refl fits
-  plain_fields commands.Front fits = record { word = refl; texts = tt; few = omega arith }
-  plain_fields commands.Back fits = record { word = refl; texts = tt; few = omega arith }
-  plain_fields Lengths fits = record { word = refl; texts = tt; few = omega arith }
-  plain_fields (All k Forward) fits = plain_key (codes "all") k refl fits.0
-  plain_fields (All k (Word word)) fits = record {
-    word = refl;
-    texts = (decimal_without_space k (omega (arith, fits.0)), (letters_without_space word.items, tt));
-    few = omega arith;
-  }
-  plain_fields (Pairs Forward) fits = record { word = refl; texts = tt; few = omega arith }
-  plain_fields (Pairs (Word word)) fits = record { word = refl; texts = (letters_without_space word.items, tt); few = omega arith }
+  -- each command's word is one of those that stand before its operands
+  listed_word : (command : Command ℕ ℤ A) → IsIn (name_of command) (words_before (operands_of command))
+  listed_word (Append k v) = inl refl
+  listed_word (Insert k v) = inr (inl refl)
+  listed_word (InsertAll k v) = inr (inr (inl refl))
+  listed_word (Get k) = inl refl
+  listed_word (All k Forward) = inr (inl refl)
+  listed_word (All k (Word word)) = inl refl
+  listed_word (Has k) = inr (inr (inl refl))
+  listed_word (Len k) = inr (inr (inr (inl refl)))
+  listed_word commands.Front = inl refl
+  listed_word commands.Back = inr (inl refl)
+  listed_word (Remove k) = inr (inr (inr (inr (inl refl))))
+  listed_word (RemoveAll k) = inr (inr (inr (inr (inr (inl refl)))))
+  listed_word (RemoveEntry k) = inr (inr (inr (inr (inr (inr (inl refl))))))
+  listed_word (RemoveEntryAll k) = inr (inr (inr (inr (inr (inr (inr (inl refl)))))))
+  listed_word PopFront = inr (inr (inl refl))
+  listed_word PopBack = inr (inr (inr (inl refl)))
+  listed_word Clear = inr (inr (inr (inr (inl refl))))
+  listed_word (Pairs Forward) = inr (inr (inr (inr (inr (inl refl)))))
+  listed_word (Pairs (Word word)) = inl refl
+  listed_word (Keys Forward) = inr (inr (inr (inr (inr (inr (inl refl))))))
+  listed_word (Keys (Word word)) = inr (inl refl)
+  listed_word Lengths = inr (inr (inr (inr (inr (inr (inr (inl refl)))))))
+
+  plain : (command : Command ℕ ℤ A) → AllByRecursion FitsOperand (operands_of command) → ArePlain (name_of command) (map operand_text (operands_of command))
+  plain command fits = plain_fields (name_of command) (operands_of command) (listed_word command) fits
 
   -- a line without a space is a word alone
-  pub bad_without : (line : List ℕ) → IsWithout 32 line → (IsIn line lone_words → ⊥) → IsBadLine A line
-  bad_without line without none command spells =
-      let fields = no_operand line (name_of command) (operands_of command) without spells.spelling in
-      let P : Command ℕ ℤ A → Type 0 = λ c. (line ≡ name_of c) × (operands_of c ≡ []) → ⊥ in
-      elim command as P [
-        | Append k v ↦ λ f. let never = f.1 in cc
-        | Get k ↦ λ f. let never = f.1 in cc
-        | All k ends ↦ λ f. let never = f.1 in cc
-        | Has k ↦ λ f. let never = f.1 in cc
-        | Len k ↦ λ f. let never = f.1 in cc
-        | commands.Front ↦ λ f. none (inl f.0)
-        | commands.Back ↦ λ f. none (inr (inl f.0))
-        | Pairs ends ↦ elim ends as (λ e. P (Pairs e)) [
-          | Forward ↦ λ f. none (inr (inr (inl f.0)))
-          | Word word ↦ λ f. let never = f.1 in cc
-        ]
-        | Lengths ↦ λ f. none (inr (inr (inr (inl f.0))))
-      ] fields
+  pub bad_alone : (line : List ℕ) → IsWithout 32 line → (IsIn line lone_words → ⊥) → IsBadLine A line
+  bad_alone line without none command spells =
+      let fields = no_operand line (name_of command) (map operand_text (operands_of command)) without spells.spelling in
+      none (subst (λ name. IsIn name lone_words) (sym fields.0) (alone (name_of command) (operands_of command) (listed_word command) fields.1))
 
   -- with one space, a word and an operand
   pub bad_with_one : (word operand : List ℕ) → IsWithout 32 word → IsWithout 32 operand
-      → (IsIn word key_words → IsKeyText operand → ⊥) → (word ≡ codes "walkpairs" → IsWordText operand → ⊥)
+      → (IsIn word key_words → IsKeyText operand → ⊥) → (IsIn word walk_words → IsWordText operand → ⊥)
       → IsBadLine A (word ++ 32 ∷ operand)
-  bad_with_one word operand without_word without_operand not_key not_walkpairs command spells =
-      let fields = one_operand word operand (name_of command) (operands_of command) without_word without_operand (plain_fields command spells.spellable) spells.spelling in
-      let P : Command ℕ ℤ A → Type 0 = λ c. IsSpellable c → (word ≡ name_of c) × (operands_of c ≡ operand ∷ []) → ⊥ in
-      elim command as P [
-        | Append k v ↦ λ fits f. let never = f.1 in cc
-        | Get k ↦ λ fits f. not_key (inl f.0) (k, fits, (let same = f.1 in cc))
-        | All k ends ↦ elim ends as (λ e. P (All k e)) [
-          | Forward ↦ λ fits f. not_key (inr (inl f.0)) (k, fits.0, (let same = f.1 in cc))
-          | Word w ↦ λ fits f. let never = f.1 in cc
-        ]
-        | Has k ↦ λ fits f. not_key (inr (inr (inl f.0))) (k, fits, (let same = f.1 in cc))
-        | Len k ↦ λ fits f. not_key (inr (inr (inr (inl f.0)))) (k, fits, (let same = f.1 in cc))
-        | commands.Front ↦ λ fits f. let never = f.1 in cc
-        | commands.Back ↦ λ fits f. let never = f.1 in cc
-        | Pairs ends ↦ elim ends as (λ e. P (Pairs e)) [
-          | Forward ↦ λ fits f. let never = f.1 in cc
-          | Word w ↦ λ fits f. not_walkpairs f.0 (w.items, record { spelled = (let same = f.1 in cc); some = fits })
-        ]
-        | Lengths ↦ λ fits f. let never = f.1 in cc
-      ] spells.spellable fields
-
-  -- a word and a key, whose command is told by the word
-  pub reading_of_key : (word operand : List ℕ) (k : ℕ) (found : Option (Command ℕ ℤ A)) → IsWithout 32 word → IsWithout 32 operand → (word ≡ codes "walkpairs" → ⊥)
-      → decimal k ≡ operand → IsOfKey word k found → IsReadingOf (word ++ 32 ∷ operand) found
-  reading_of_key word operand k None without_word without_operand not_walkpairs is found =
-      bad_with_one word operand without_word without_operand (λ key_word _. found key_word) (λ same _. not_walkpairs same)
-  reading_of_key word operand k (Some command) without_word without_operand not_walkpairs is found = subst (λ o. Spells command (word ++ 32 ∷ o)) is found
+  bad_with_one word operand without_word without_operand not_key not_walk command spells =
+      let fields = one_operand word operand (name_of command) (map operand_text (operands_of command)) without_word without_operand (plain command spells.spellable) spells.spelling in
+      elim (of_one (name_of command) operand (operands_of command) (listed_word command) spells.spellable fields.1) [
+        | inl key ↦ not_key (subst (λ name. IsIn name key_words) (sym fields.0) key.0) key.1
+        | inr walk ↦ not_walk (subst (λ name. IsIn name walk_words) (sym fields.0) walk.0) walk.1
+      ]
 
   -- with two spaces or more, a word and two operands
   pub bad_with_two : (word first second : List ℕ) → IsWithout 32 word → IsWithout 32 first
-      → (word ≡ codes "append" → IsKeyText first → IsValueText second → ⊥) → (word ≡ codes "walk" → IsKeyText first → IsWordText second → ⊥)
+      → (IsIn word pair_words → IsKeyText first → IsValueText second → ⊥) → (IsIn word key_walk_words → IsKeyText first → IsWordText second → ⊥)
       → IsBadLine A (word ++ 32 ∷ (first ++ 32 ∷ second))
-  bad_with_two word first second without_word without_first not_append not_walk command spells =
-      let fields = two_operands word first second (name_of command) (operands_of command) without_word without_first (plain_fields command spells.spellable) spells.spelling in
-      let P : Command ℕ ℤ A → Type 0 = λ c. IsSpellable c → (word ≡ name_of c) × (operands_of c ≡ first ∷ second ∷ []) → ⊥ in
-      elim command as P [
-        | Append k v ↦ λ fits f. not_append f.0 (k, fits.0, (let same = f.1 in cc)) (v, fits.1, (let same = f.1 in cc))
-        | Get k ↦ λ fits f. let never = f.1 in cc
-        | All k ends ↦ elim ends as (λ e. P (All k e)) [
-          | Forward ↦ λ fits f. let never = f.1 in cc
-          | Word w ↦ λ fits f. not_walk f.0 (k, fits.0, (let same = f.1 in cc)) (w.items, record { spelled = (let same = f.1 in cc); some = fits.1 })
-        ]
-        | Has k ↦ λ fits f. let never = f.1 in cc
-        | Len k ↦ λ fits f. let never = f.1 in cc
-        | commands.Front ↦ λ fits f. let never = f.1 in cc
-        | commands.Back ↦ λ fits f. let never = f.1 in cc
-        | Pairs ends ↦ elim ends as (λ e. P (Pairs e)) [
-          | Forward ↦ λ fits f. let never = f.1 in cc
-          | Word w ↦ λ fits f. let never = f.1 in cc
-        ]
-        | Lengths ↦ λ fits f. let never = f.1 in cc
-      ] spells.spellable fields
+  bad_with_two word first second without_word without_first not_pair not_walk command spells =
+      let fields = two_operands word first second (name_of command) (map operand_text (operands_of command)) without_word without_first (plain command spells.spellable) spells.spelling in
+      elim (of_two (name_of command) first second (operands_of command) (listed_word command) spells.spellable fields.1) [
+        | inl pair ↦ not_pair (subst (λ name. IsIn name pair_words) (sym fields.0) pair.0) pair.1 pair.2
+        | inr walk ↦ not_walk (subst (λ name. IsIn name key_walk_words) (sym fields.0) walk.0) walk.1 walk.2
+      ]
+
+  -- the line of a word and these operands, where the word's command was looked for
+  pub reading : (name line : List ℕ) (os : List Operand) (found : Option (Command ℕ ℤ A)) → AllByRecursion FitsOperand os
+      → line ≡ name ++ flat_map (λ text. 32 ∷ text) (map operand_text os) → ((IsIn name (words_before os) → ⊥) → IsBadLine A line)
+      → IsFoundFor name os found → IsReadingOf line found
+  reading name line os None fits is bad found = bad found
+  reading name line os (Some command) fits is bad found = record {
+    spellable = subst (AllByRecursion FitsOperand) (sym found.operands_are) fits;
+    spelling = is ∙ (λ i. sym found.name_is i ++ flat_map (λ text. 32 ∷ text) (map operand_text (sym found.operands_are i)));
+  }

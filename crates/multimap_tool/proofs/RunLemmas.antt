@@ -1,13 +1,19 @@
 -- Runs that go on by one step, and what steps and runs leave.
-use Rattle.std.proofs.Common.{◌≡◌, Bool, List, [], ◌∷◌, ◌++◌, refl, sym, subst, inl, inr}
+use Rattle.std.proofs.Common.{◌≡◌, ◌≢◌, Bool, List, [], ◌∷◌, ◌++◌, refl, sym, subst, inl, inr, Result, Ok, Err}
+use Rattle.std.specs.Prelude.{IfOk}
 use Rattle.std.specs.Cmp.{IsEquivalence}
 use Rattle.ordered_multimap.specs.Lists.{Lists, IsWellFormed}
-use Rattle.ordered_multimap.proofs.WellFormedLemmas.{appended_well_formed}
-use Rattle.ordered_multimap.proofs.KeyOrderLemmas.{KeepsKeyOrder-same, KeepsKeyOrder-keys_with}
+use Rattle.ordered_multimap.specs.End.{End}
+use Rattle.ordered_multimap.specs.End.TheVariants as ends
+use Rattle.ordered_multimap.specs.Pairs.{pairs_without}
+use Rattle.ordered_multimap.specs.Changes.{inserted, removed}
+use Rattle.ordered_multimap.specs.Pop.{popped}
+use Rattle.ordered_multimap.proofs.WellFormedLemmas.{empty_well_formed, appended_well_formed, inserted_well_formed, removed_well_formed, popped_well_formed}
+use Rattle.ordered_multimap.proofs.KeyOrderLemmas.{KeepsKeyOrder-same, KeepsKeyOrder-keys_with, KeepsKeyOrder-named_by, KeepsKeyOrder-popped, KeepsKeyOrder-none}
 use Rattle.multimap_tool.specs.declared.commands.Command.{Command}
-use Rattle.multimap_tool.specs.declared.commands.Command.TheVariants.{Append, Get, All, Has, Len, Front, Back, Pairs, Lengths}
+use Rattle.multimap_tool.specs.declared.commands.Command.TheVariants.{Append, Insert, InsertAll, Get, All, Has, Len, Front, Back, Remove, RemoveAll, RemoveEntry, RemoveEntryAll, PopFront, PopBack, Clear, Pairs, Keys, Lengths}
 use Rattle.multimap_tool.specs.declared.replies.Reply.{Reply}
-use Rattle.multimap_tool.specs.Step.{Leaves, IsStep}
+use Rattle.multimap_tool.specs.Step.{Leaves, IsLookUp, IsStep}
 use Rattle.multimap_tool.specs.Runs.{IsRun}
 use Rattle.multimap_tool.specs.Laws.{IsOrderly}
 
@@ -24,19 +30,50 @@ module _ {K V : Type 0} {eq : K → K → Bool} (laws : IsEquivalence eq) where
   unchanged : (m n : Lists K V) → IsWellFormed eq m → n ≡ m → IsOrderly eq m n
   unchanged m n formed same = subst (IsOrderly eq m) (sym same) (record { well_formed = formed; key_order = KeepsKeyOrder-same laws m.keys })
 
+  gone_orderly : (m n : Lists K V) (k : K) → IsWellFormed eq m → n ≡ removed eq m k → IsOrderly eq m n
+  gone_orderly m n k formed left = subst (IsOrderly eq m) (sym left) (record {
+    well_formed = removed_well_formed laws m k formed;
+    key_order = KeepsKeyOrder-named_by laws m.keys (pairs_without eq m.pairs k);
+  })
+
+  replaced_orderly : (m n : Lists K V) (k : K) (v : V) → IsWellFormed eq m → n ≡ inserted eq m k v → IsOrderly eq m n
+  replaced_orderly m n k v formed left = subst (IsOrderly eq m) (sym left) (record {
+    well_formed = inserted_well_formed laws m k v formed;
+    key_order = KeepsKeyOrder-keys_with laws m.keys k;
+  })
+
+  popped_orderly : (end : End) (m n : Lists K V) → IsWellFormed eq m → n ≡ popped eq end m → IsOrderly eq m n
+  popped_orderly end m n formed left = subst (IsOrderly eq m) (sym left) (record {
+    well_formed = popped_well_formed laws end m formed;
+    key_order = KeepsKeyOrder-popped laws end m;
+  })
+
 module _ {K V A : Type 0} {eq : K → K → Bool} (laws : IsEquivalence eq) where
   leaves_orderly : (command : Command K V A) (m n : Lists K V) → IsWellFormed eq m → Leaves eq command m n → IsOrderly eq m n
   leaves_orderly (Append k v) m n formed left = subst (IsOrderly eq m) (sym left) (record {
     well_formed = appended_well_formed laws m k v formed;
     key_order = KeepsKeyOrder-keys_with laws m.keys k;
   })
+  leaves_orderly (Insert k v) m n formed left = replaced_orderly laws m n k v formed left
+  leaves_orderly (InsertAll k v) m n formed left = replaced_orderly laws m n k v formed left
   leaves_orderly (Get k) m n formed left = unchanged laws m n formed left
   leaves_orderly (All k ends) m n formed left = unchanged laws m n formed left
   leaves_orderly (Has k) m n formed left = unchanged laws m n formed left
   leaves_orderly (Len k) m n formed left = unchanged laws m n formed left
   leaves_orderly Front m n formed left = unchanged laws m n formed left
   leaves_orderly Back m n formed left = unchanged laws m n formed left
+  leaves_orderly (Remove k) m n formed left = gone_orderly laws m n k formed left
+  leaves_orderly (RemoveAll k) m n formed left = gone_orderly laws m n k formed left
+  leaves_orderly (RemoveEntry k) m n formed left = gone_orderly laws m n k formed left
+  leaves_orderly (RemoveEntryAll k) m n formed left = gone_orderly laws m n k formed left
+  leaves_orderly PopFront m n formed left = popped_orderly laws ends.Front m n formed left
+  leaves_orderly PopBack m n formed left = popped_orderly laws ends.Back m n formed left
+  leaves_orderly Clear m n formed left = subst (IsOrderly eq m) (sym left) (record {
+    well_formed = empty_well_formed eq;
+    key_order = KeepsKeyOrder-none laws m.keys;
+  })
   leaves_orderly (Pairs ends) m n formed left = unchanged laws m n formed left
+  leaves_orderly (Keys ends) m n formed left = unchanged laws m n formed left
   leaves_orderly Lengths m n formed left = unchanged laws m n formed left
 
   pub step_orderly : (command : Command K V A) (m : Lists K V) (reply : Reply K V A) (n : Lists K V) → IsWellFormed eq m → IsStep eq command m reply n → IsOrderly eq m n
@@ -47,3 +84,33 @@ module _ {K V A : Type 0} {eq : K → K → Bool} (laws : IsEquivalence eq) wher
   run_well_formed (command ∷ commands) m (reply ∷ replies) n formed run = run_well_formed commands run.0 replies n (step_orderly command m reply run.0 formed run.1).well_formed run.2
   run_well_formed [] m (reply ∷ replies) n formed run = absurd run
   run_well_formed (command ∷ commands) m [] n formed run = absurd run
+
+module _ {K V A : Type 0} where
+  -- a command that is none of those that change the lists
+  pub IsLookUp-else : (command : Command K V A) → ((k : K) (v : V) → command ≢ Append k v) → ((k : K) (v : V) → command ≢ Insert k v) → ((k : K) (v : V) → command ≢ InsertAll k v)
+      → ((k : K) → command ≢ Remove k) → ((k : K) → command ≢ RemoveAll k) → ((k : K) → command ≢ RemoveEntry k) → ((k : K) → command ≢ RemoveEntryAll k)
+      → command ≢ PopFront → command ≢ PopBack → command ≢ Clear → IsLookUp command
+  IsLookUp-else (Append k v) a b c d e f g h i j = a k v refl
+  IsLookUp-else (Insert k v) a b c d e f g h i j = b k v refl
+  IsLookUp-else (InsertAll k v) a b c d e f g h i j = c k v refl
+  IsLookUp-else (Get k) a b c d e f g h i j = tt
+  IsLookUp-else (All k ends) a b c d e f g h i j = tt
+  IsLookUp-else (Has k) a b c d e f g h i j = tt
+  IsLookUp-else (Len k) a b c d e f g h i j = tt
+  IsLookUp-else Front a b c d e f g h i j = tt
+  IsLookUp-else Back a b c d e f g h i j = tt
+  IsLookUp-else (Remove k) a b c d e f g h i j = d k refl
+  IsLookUp-else (RemoveAll k) a b c d e f g h i j = e k refl
+  IsLookUp-else (RemoveEntry k) a b c d e f g h i j = f k refl
+  IsLookUp-else (RemoveEntryAll k) a b c d e f g h i j = g k refl
+  IsLookUp-else PopFront a b c d e f g h i j = h refl
+  IsLookUp-else PopBack a b c d e f g h i j = i refl
+  IsLookUp-else Clear a b c d e f g h i j = j refl
+  IsLookUp-else (Pairs ends) a b c d e f g h i j = tt
+  IsLookUp-else (Keys ends) a b c d e f g h i j = tt
+  IsLookUp-else Lengths a b c d e f g h i j = tt
+
+-- what holds of a value where there is one implies what follows from it
+pub if_ok : {T E : Type 0} {P Q : T → Type 0} (r : Result T E) → ((x : T) → P x → Q x) → IfOk r P → IfOk r Q
+if_ok (Ok x) follows holds = follows x holds
+if_ok (Err e) follows holds = holds

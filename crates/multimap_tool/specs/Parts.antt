@@ -9,7 +9,8 @@ use Rattle.ordered_multimap.specs.End.{End}
 use Rattle.ordered_multimap.specs.Lists.{IsIn}
 use Rattle.ordered_multimap.specs.Pairs.{has_items}
 use Rattle.multimap_tool.specs.declared.commands.Command.{Command}
-use Rattle.multimap_tool.specs.Spelling.{letter_of, Spells, IsBadLine}
+use mathlib.Core.Logic.{inl, inr}
+use Rattle.multimap_tool.specs.Spelling.{Operand, letter_of, name_of, operands_of, Spells, IsBadLine}
 
 -- the byte stands nowhere in the text
 abbrev pub IsWithout : ℕ → List ℕ → Type 0
@@ -19,18 +20,49 @@ IsWithout byte text = list_any (nat_eq byte) text ≡ false
 abbrev pub IsReadingOf : {A : Type 0} → List ℕ → Option (Command ℕ ℤ A) → Type 0
 IsReadingOf {A} line found = MatchOption found (IsBadLine A line) (λ command. Spells command line)
 
--- the words that stand alone, and those that a key follows
+-- the words that stand alone
 abbrev pub lone_words : List (List ℕ)
-lone_words = codes "front" ∷ codes "back" ∷ codes "pairs" ∷ codes "lengths" ∷ []
+lone_words =
+    codes "front" ∷ codes "back" ∷ codes "popfront" ∷ codes "popback" ∷ codes "clear"
+    ∷ codes "pairs" ∷ codes "keys" ∷ codes "lengths" ∷ []
 
+-- those that a key follows
 abbrev pub key_words : List (List ℕ)
-key_words = codes "get" ∷ codes "all" ∷ codes "has" ∷ codes "len" ∷ []
+key_words =
+    codes "get" ∷ codes "all" ∷ codes "has" ∷ codes "len" ∷ codes "remove" ∷ codes "removeall"
+    ∷ codes "removeentry" ∷ codes "removeentryall" ∷ []
 
--- the command of a word and a key, or none if no key follows that word
-abbrev pub IsOfKey : {A : Type 0} → List ℕ → ℕ → Option (Command ℕ ℤ A) → Type 0
-IsOfKey name key found =
-    MatchOption found (¬ (IsIn name key_words))
-    (λ command. Spells command (name ++ 32 ∷ decimal key))
+-- those that the letters of a walk follow
+abbrev pub walk_words : List (List ℕ)
+walk_words = codes "walkpairs" ∷ codes "walkkeys" ∷ []
+
+-- those that a key and a value follow
+abbrev pub pair_words : List (List ℕ)
+pair_words = codes "append" ∷ codes "insert" ∷ codes "insertall" ∷ []
+
+-- the one that a key and the letters of a walk follow
+abbrev pub key_walk_words : List (List ℕ)
+key_walk_words = codes "walk" ∷ []
+
+-- the words that are followed by operands of these kinds
+abbrev pub words_before : List Operand → List (List ℕ)
+words_before [] = lone_words
+words_before (inl k ∷ []) = key_words
+words_before (inr (inr word) ∷ []) = walk_words
+words_before (inl k ∷ inr (inl v) ∷ []) = pair_words
+words_before (inl k ∷ inr (inr word) ∷ []) = key_walk_words
+words_before _ = []
+
+-- the command has this word and these operands
+pub record IsCommandOf {A : Type 0} (name : List ℕ) (operands : List Operand)
+    (command : Command ℕ ℤ A) : Type 0 where
+  pub name_is : name_of command ≡ name
+  pub operands_are : operands_of command ≡ operands
+
+-- the command of a word and these operands, or none if no such word is followed by such
+abbrev pub IsFoundFor : {A : Type 0} → List ℕ → List Operand → Option (Command ℕ ℤ A) → Type 0
+IsFoundFor name operands found =
+    MatchOption found (¬ (IsIn name (words_before operands))) (IsCommandOf name operands)
 
 -- a digit comes first, and a zero only alone
 pub record StartsANumber (text : List ℕ) : Type 0 where

@@ -1,9 +1,10 @@
 -- How a command is spelled as a line, and how a text is cut into lines.
-use Rattle.std.specs.Prelude.{◌≡◌, ◌==◌, ℕ, ◌+◌, ◌<◌, ◌^◌, ℤ, FitsSigned, cond, IsTrue}
+use Rattle.std.specs.Prelude.{◌≡◌, ◌⊎◌, ◌==◌, ℕ, ◌+◌, ◌<◌, ◌^◌, ℤ, FitsSigned, cond, IsTrue}
 use Rattle.std.specs.Prelude.{List, [], ◌∷◌, ◌++◌, length, map, codes}
+use mathlib.Core.Logic.{inl, inr}
 use Rattle.std.specs.Int.{w64}
 use Rattle.std.specs.Fmt.{decimal, signed_decimal}
-use Rattle.std.specs.List.{AllZip, flat_map}
+use Rattle.std.specs.List.{AllByRecursion, AllZip, flat_map}
 use Rattle.ordered_multimap.specs.End.{End}
 use Rattle.ordered_multimap.specs.End.TheVariants.{Front, Back}
 use Rattle.ordered_multimap.specs.Pairs.{has_items}
@@ -11,18 +12,49 @@ use Rattle.multimap_tool.specs.declared.commands.Ends.{Ends}
 use Rattle.multimap_tool.specs.declared.commands.Ends.TheVariants.{Forward, Word}
 use Rattle.multimap_tool.specs.declared.commands.Command.{Command}
 use Rattle.multimap_tool.specs.declared.commands.Command.TheVariants as commands
-use Rattle.multimap_tool.specs.declared.commands.Command.TheVariants.{Append, Get, All, Has, Len}
-use Rattle.multimap_tool.specs.declared.commands.Command.TheVariants.{Pairs, Lengths}
+use Rattle.multimap_tool.specs.declared.commands.Command.TheVariants.{Append, Insert, InsertAll}
+use Rattle.multimap_tool.specs.declared.commands.Command.TheVariants.{Get, All, Has, Len}
+use Rattle.multimap_tool.specs.declared.commands.Command.TheVariants.{Remove, RemoveAll}
+use Rattle.multimap_tool.specs.declared.commands.Command.TheVariants.{RemoveEntry, RemoveEntryAll}
+use Rattle.multimap_tool.specs.declared.commands.Command.TheVariants.{PopFront, PopBack, Clear}
+use Rattle.multimap_tool.specs.declared.commands.Command.TheVariants.{Pairs, Keys, Lengths}
 
 -- the letters f and b
 abbrev pub letter_of : End → ℕ
 letter_of Front = 102
 letter_of Back = 98
 
+-- an operand: a key, a value, or the letters of a walk
+abbrev pub Operand : Type 0
+Operand = ℕ ⊎ (ℤ ⊎ List End)
+
+abbrev pub key_operand : ℕ → Operand
+key_operand k = inl k
+
+abbrev pub value_operand : ℤ → Operand
+value_operand v = inr (inl v)
+
+abbrev pub word_operand : List End → Operand
+word_operand word = inr (inr word)
+
+-- its text, numbers in decimal
+abbrev pub operand_text : Operand → List ℕ
+operand_text (inl k) = decimal k
+operand_text (inr (inl v)) = signed_decimal v
+operand_text (inr (inr word)) = map letter_of word
+
+-- a key has 32 bits, a value 64 with its sign, and a walk one letter or more
+abbrev pub FitsOperand : Operand → Type 0
+FitsOperand (inl k) = k < 2 ^ 32
+FitsOperand (inr (inl v)) = FitsSigned w64 v
+FitsOperand (inr (inr word)) = IsTrue (has_items word)
+
 module _ {A : Type 0} where
   -- the word that a line begins with
   abbrev pub name_of : Command ℕ ℤ A → List ℕ
   name_of (Append k v) = codes "append"
+  name_of (Insert k v) = codes "insert"
+  name_of (InsertAll k v) = codes "insertall"
   name_of (Get k) = codes "get"
   name_of (All k Forward) = codes "all"
   name_of (All k (Word word)) = codes "walk"
@@ -30,51 +62,54 @@ module _ {A : Type 0} where
   name_of (Len k) = codes "len"
   name_of commands.Front = codes "front"
   name_of commands.Back = codes "back"
+  name_of (Remove k) = codes "remove"
+  name_of (RemoveAll k) = codes "removeall"
+  name_of (RemoveEntry k) = codes "removeentry"
+  name_of (RemoveEntryAll k) = codes "removeentryall"
+  name_of PopFront = codes "popfront"
+  name_of PopBack = codes "popback"
+  name_of Clear = codes "clear"
   name_of (Pairs Forward) = codes "pairs"
   name_of (Pairs (Word word)) = codes "walkpairs"
+  name_of (Keys Forward) = codes "keys"
+  name_of (Keys (Word word)) = codes "walkkeys"
   name_of Lengths = codes "lengths"
 
-  -- the texts of the operands of a walk
-  abbrev pub letters_of : Ends A → List (List ℕ)
-  letters_of Forward = []
-  letters_of (Word word) = map letter_of word.items ∷ []
+  -- the operand of a walk
+  abbrev pub word_of : Ends A → List Operand
+  word_of Forward = []
+  word_of (Word word) = word_operand word.items ∷ []
 
-  -- the operands, numbers in decimal
-  abbrev pub operands_of : Command ℕ ℤ A → List (List ℕ)
-  operands_of (Append k v) = decimal k ∷ signed_decimal v ∷ []
-  operands_of (Get k) = decimal k ∷ []
-  operands_of (All k ends) = decimal k ∷ letters_of ends
-  operands_of (Has k) = decimal k ∷ []
-  operands_of (Len k) = decimal k ∷ []
+  -- what follows the word
+  abbrev pub operands_of : Command ℕ ℤ A → List Operand
+  operands_of (Append k v) = key_operand k ∷ value_operand v ∷ []
+  operands_of (Insert k v) = key_operand k ∷ value_operand v ∷ []
+  operands_of (InsertAll k v) = key_operand k ∷ value_operand v ∷ []
+  operands_of (Get k) = key_operand k ∷ []
+  operands_of (All k ends) = key_operand k ∷ word_of ends
+  operands_of (Has k) = key_operand k ∷ []
+  operands_of (Len k) = key_operand k ∷ []
   operands_of commands.Front = []
   operands_of commands.Back = []
-  operands_of (Pairs ends) = letters_of ends
+  operands_of (Remove k) = key_operand k ∷ []
+  operands_of (RemoveAll k) = key_operand k ∷ []
+  operands_of (RemoveEntry k) = key_operand k ∷ []
+  operands_of (RemoveEntryAll k) = key_operand k ∷ []
+  operands_of PopFront = []
+  operands_of PopBack = []
+  operands_of Clear = []
+  operands_of (Pairs ends) = word_of ends
+  operands_of (Keys ends) = word_of ends
   operands_of Lengths = []
 
   -- the line of a command: its word, and each operand after one space
   abbrev pub spelling_of : Command ℕ ℤ A → List ℕ
-  spelling_of command = name_of command ++ flat_map (λ operand. 32 ∷ operand) (operands_of command)
-
-  -- a walk by a word has one letter or more
-  abbrev pub HasLetters : Ends A → Type 0
-  HasLetters Forward = Unit {0}
-  HasLetters (Word word) = IsTrue (has_items word.items)
-
-  -- a key has 32 bits, a value 64 with its sign
-  abbrev pub IsSpellable : Command ℕ ℤ A → Type 0
-  IsSpellable (Append k v) = (k < 2 ^ 32) × FitsSigned w64 v
-  IsSpellable (Get k) = k < 2 ^ 32
-  IsSpellable (All k ends) = (k < 2 ^ 32) × HasLetters ends
-  IsSpellable (Has k) = k < 2 ^ 32
-  IsSpellable (Len k) = k < 2 ^ 32
-  IsSpellable commands.Front = Unit {0}
-  IsSpellable commands.Back = Unit {0}
-  IsSpellable (Pairs ends) = HasLetters ends
-  IsSpellable Lengths = Unit {0}
+  spelling_of command =
+      name_of command ++ flat_map (λ text. 32 ∷ text) (map operand_text (operands_of command))
 
   -- the line spells the command
   pub record Spells (command : Command ℕ ℤ A) (line : List ℕ) : Type 0 where
-    pub spellable : IsSpellable command
+    pub spellable : AllByRecursion FitsOperand (operands_of command)
     pub spelling : line ≡ spelling_of command
 
   -- the commands are what the lines spell, in order

@@ -1,16 +1,26 @@
 -- One command on the two lists: which reply it may be given, and which lists it leaves.
-use Rattle.std.specs.Prelude.{◌≡◌, ◌⊎◌, Bool, List, length, IsTrue, Option, slice_get}
+use Rattle.std.specs.Prelude.{◌≡◌, ◌⊎◌, Bool, false, cond, List, length, map, IsTrue}
+use Rattle.std.specs.Prelude.{Option, Some, None, option_map, slice_get}
 use Rattle.ordered_multimap.specs.End.{End}
 use Rattle.ordered_multimap.specs.End.TheVariants as ends
 use Rattle.ordered_multimap.specs.Walk.{end_item, answers_of_walk, forward}
-use Rattle.ordered_multimap.specs.Lists.{Lists}
+use Rattle.ordered_multimap.specs.Lists.{Lists, empty_lists}
 use Rattle.ordered_multimap.specs.Pairs.{has_items, values_of, is_present}
-use Rattle.ordered_multimap.specs.Changes.{appended}
+use Rattle.ordered_multimap.specs.Keys.{stored_key}
+use Rattle.ordered_multimap.specs.Changes.{appended, inserted, removed}
+use Rattle.ordered_multimap.specs.Pop.{popped, popped_pair}
+use Rattle.ordered_multimap.specs.Pop as pops
 use Rattle.multimap_tool.specs.declared.commands.Ends.{Ends}
 use Rattle.multimap_tool.specs.declared.commands.Ends.TheVariants.{Forward, Word}
 use Rattle.multimap_tool.specs.declared.commands.Command.{Command}
-use Rattle.multimap_tool.specs.declared.commands.Command.TheVariants.{Append, Get, All, Has, Len}
-use Rattle.multimap_tool.specs.declared.commands.Command.TheVariants.{Front, Back, Pairs, Lengths}
+use Rattle.multimap_tool.specs.declared.commands.Command.TheVariants.{Append, Insert, InsertAll}
+use Rattle.multimap_tool.specs.declared.commands.Command.TheVariants.{Get, All, Has, Len}
+use Rattle.multimap_tool.specs.declared.commands.Command.TheVariants.{Front, Back}
+use Rattle.multimap_tool.specs.declared.commands.Command.TheVariants.{Remove, RemoveAll}
+use Rattle.multimap_tool.specs.declared.commands.Command.TheVariants.{RemoveEntry, RemoveEntryAll}
+use Rattle.multimap_tool.specs.declared.commands.Command.TheVariants.{PopFront, PopBack, Clear}
+use Rattle.multimap_tool.specs.declared.commands.Command.TheVariants.{Pairs, Keys, Lengths}
+use Rattle.multimap_tool.specs.declared.replies.Popped.{Popped}
 use Rattle.multimap_tool.specs.declared.replies.Reply.{Reply}
 use Rattle.multimap_tool.specs.declared.replies.Reply.TheVariants as replies
 
@@ -27,30 +37,89 @@ walked items ends = answers_of_walk items (word_of items ends)
 abbrev pub ListsItem : {X : Type 0} → List X → Type 0
 ListsItem items = IsTrue (has_items items)
 
+-- what a pop answers, read off the reply
+abbrev pub told_pop : {K V : Type 0} → Popped K V → pops.Popped K V
+told_pop p = record { owned = p.owned; key = p.key; value = p.value }
+
+module _ {K : Type 0} (eq : K → K → Bool) {V : Type 0} where
+  -- the stored key with all its values, if it is present
+  abbrev pub entry_of : Lists K V → K → Option (K × List V)
+  entry_of m k =
+      cond (is_present eq m.pairs k) (Some (stored_key eq m.keys k, values_of eq m.pairs k)) None
+
+  -- the stored key and its first value, if it is present
+  abbrev pub first_entry : Lists K V → K → Option (K × V)
+  first_entry m k =
+      option_map (λ v. (stored_key eq m.keys k, v)) (slice_get (values_of eq m.pairs k) 0)
+
+-- the command changes nothing
+abbrev pub IsLookUp : {K V A : Type 0} → Command K V A → Type 0
+IsLookUp (Append k v) = ⊥
+IsLookUp (Insert k v) = ⊥
+IsLookUp (InsertAll k v) = ⊥
+IsLookUp (Remove k) = ⊥
+IsLookUp (RemoveAll k) = ⊥
+IsLookUp (RemoveEntry k) = ⊥
+IsLookUp (RemoveEntryAll k) = ⊥
+IsLookUp PopFront = ⊥
+IsLookUp PopBack = ⊥
+IsLookUp Clear = ⊥
+IsLookUp _ = Unit {0}
+
 module _ {K : Type 0} (eq : K → K → Bool) {V A : Type 0} where
-  -- the lists that a command leaves: only an addition changes them
+  -- the lists that a command leaves: look-ups leave them as they are
   abbrev pub Leaves : Command K V A → Lists K V → Lists K V → Type 0
   Leaves (Append k v) m n = n ≡ appended eq m k v
+  Leaves (Insert k v) m n = n ≡ inserted eq m k v
+  Leaves (InsertAll k v) m n = n ≡ inserted eq m k v
+  Leaves (Remove k) m n = n ≡ removed eq m k
+  Leaves (RemoveAll k) m n = n ≡ removed eq m k
+  Leaves (RemoveEntry k) m n = n ≡ removed eq m k
+  Leaves (RemoveEntryAll k) m n = n ≡ removed eq m k
+  Leaves PopFront m n = n ≡ popped eq ends.Front m
+  Leaves PopBack m n = n ≡ popped eq ends.Back m
+  Leaves Clear m n = n ≡ empty_lists
   Leaves _ m n = n ≡ m
 
   -- the reply that tells what the command asks for; no other does
   abbrev pub Tells : Command K V A → Lists K V → Reply K V A → Type 0
   Tells (Append k v) m (replies.Appended present) = present ≡ is_present eq m.pairs k
+  Tells (Insert k v) m (replies.Old old) = old ≡ slice_get (values_of eq m.pairs k) 0
+  Tells (InsertAll k v) m (replies.Values values) =
+      values.items ≡ map Some (values_of eq m.pairs k)
   Tells (Get k) m (replies.Value value) = value ≡ slice_get (values_of eq m.pairs k) 0
   Tells (All k ends) m (replies.Values values) = values.items ≡ walked (values_of eq m.pairs k) ends
   Tells (Has k) m (replies.Truth present) = present ≡ is_present eq m.pairs k
   Tells (Len k) m (replies.Count count) = count ≡ length (values_of eq m.pairs k)
   Tells Front m (replies.Pair pair) = pair ≡ end_item ends.Front m.pairs
   Tells Back m (replies.Pair pair) = pair ≡ end_item ends.Back m.pairs
+  Tells (Remove k) m (replies.Value value) = value ≡ slice_get (values_of eq m.pairs k) 0
+  Tells (RemoveAll k) m (replies.Values values) =
+      values.items ≡ map Some (values_of eq m.pairs k)
+  Tells (RemoveEntry k) m (replies.Pair pair) = pair ≡ first_entry eq m k
+  Tells (RemoveEntryAll k) m (replies.List list) =
+      option_map (λ p. (p.0, p.1.items)) list ≡ entry_of eq m k
+  Tells PopFront m (replies.Popped pair) =
+      option_map told_pop pair ≡ popped_pair eq ends.Front m.pairs
+  Tells PopBack m (replies.Popped pair) =
+      option_map told_pop pair ≡ popped_pair eq ends.Back m.pairs
+  Tells Clear m replies.Done = Unit {0}
   Tells (Pairs ends) m (replies.Pairs pairs) = pairs.items ≡ walked m.pairs ends
+  Tells (Keys ends) m (replies.Keys keys) = keys.items ≡ walked m.keys ends
   Tells Lengths m (replies.Counts keys pairs) = (keys ≡ length m.keys) × (pairs ≡ length m.pairs)
   Tells _ m _ = ⊥
 
-  -- an addition may find no memory, and so may a reply that would list an item
+  -- an addition may find no memory, but for one to a present key that replaces, and so may a reply
+  -- that would list an item
   abbrev pub MayLackMemory : Command K V A → Lists K V → Type 0
   MayLackMemory (Append k v) m = Unit {0}
+  MayLackMemory (Insert k v) m = is_present eq m.pairs k ≡ false
+  MayLackMemory (InsertAll k v) m = Unit {0}
   MayLackMemory (All k ends) m = ListsItem (walked (values_of eq m.pairs k) ends)
+  MayLackMemory (RemoveAll k) m = ListsItem (values_of eq m.pairs k)
+  MayLackMemory (RemoveEntryAll k) m = ListsItem (values_of eq m.pairs k)
   MayLackMemory (Pairs ends) m = ListsItem (walked m.pairs ends)
+  MayLackMemory (Keys ends) m = ListsItem (walked m.keys ends)
   MayLackMemory _ m = ⊥
 
   -- the command may be given this reply, from these lists to those: want of memory changes nothing

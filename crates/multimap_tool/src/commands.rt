@@ -18,6 +18,10 @@ pub enum Ends<A: Allocator = Global> {
 pub enum Command<K, V, A: Allocator = Global> {
     /// Appends the pair.
     Append(K, V),
+    /// Puts the pair in the place of all others of its key.
+    Insert(K, V),
+    /// The same, and all values that it replaces.
+    InsertAll(K, V),
     /// The key's first value.
     Get(K),
     /// The key's values.
@@ -30,8 +34,24 @@ pub enum Command<K, V, A: Allocator = Global> {
     Front,
     /// The last pair.
     Back,
+    /// Takes the key out with all its values, of which the first is told.
+    Remove(K),
+    /// The same, and all values are told.
+    RemoveAll(K),
+    /// The same, and the stored key is told with its first value.
+    RemoveEntry(K),
+    /// The same, and the stored key is told with all its values.
+    RemoveEntryAll(K),
+    /// Takes the first pair out.
+    PopFront,
+    /// Takes the last pair out.
+    PopBack,
+    /// Takes all pairs out.
+    Clear,
     /// All pairs.
     Pairs(Ends<A>),
+    /// All keys.
+    Keys(Ends<A>),
     /// How many keys and how many pairs there are.
     Lengths,
 }

@@ -5,6 +5,7 @@
 #![tactic(auto)]
 
 pub mod commands;
+mod drained;
 pub mod execute;
 pub mod faults;
 pub mod format;

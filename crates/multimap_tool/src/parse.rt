@@ -1,12 +1,13 @@
 //! Commands read from the lines of a text.
-ghost use Rattle.std.specs.Prelude.{◌≡◌, ◌<◌, ◌++◌, ◌∷◌, length, IfOk, IfErr, MatchOption};
-ghost use Rattle.multimap_tool.specs.Spelling.{lines_of, SpellEach};
+ghost use Rattle.std.specs.Prelude.{◌≡◌, ◌<◌, [], ◌++◌, ◌∷◌, length, IfOk, IfErr, MatchOption};
+ghost use Rattle.multimap_tool.specs.Spelling.{key_operand, value_operand, word_operand, lines_of, SpellEach};
 ghost use Rattle.multimap_tool.specs.Execute.{IsTextFaultOf};
-ghost use Rattle.multimap_tool.specs.Parts.{IsWithout, IsOfKey, IsReadingOf};
+ghost use Rattle.multimap_tool.specs.Parts.{IsWithout, IsFoundFor, IsReadingOf};
 
 use crate::commands::{Command, Ends};
 use crate::faults::TextFault;
 use crate::operands::{key_of, value_of, word_of};
+use ordered_multimap::End;
 use std::alloc::{AllocError, Allocator};
 
 /// The commands that the lines of a text spell, in order, or the first line that spells none.
@@ -70,7 +71,7 @@ fn command_of<A: Allocator + Copy>(
 {
     let (name, operands) = cut(line, b' ');
     let Some(operands) = operands else {
-        return Ok(without_operand(name));
+        return Ok(lone_command(name));
     };
     let (first, second) = cut(operands, b' ');
     match second {
@@ -80,9 +81,8 @@ fn command_of<A: Allocator + Copy>(
 }
 
 /// The command of a word alone.
-fn without_operand<A: Allocator>(name: &[u8]) -> Option<Command<u32, i64, A>>
-    requires { IsWithout 32 name.now }
-    ensures { IsReadingOf name.now result }
+fn lone_command<A: Allocator>(name: &[u8]) -> Option<Command<u32, i64, A>>
+    ensures { IsFoundFor name.now [] result }
 {
     if name == b"front".as_slice() {
         return Some(Command::Front);
@@ -90,8 +90,20 @@ fn without_operand<A: Allocator>(name: &[u8]) -> Option<Command<u32, i64, A>>
     if name == b"back".as_slice() {
         return Some(Command::Back);
     }
+    if name == b"popfront".as_slice() {
+        return Some(Command::PopFront);
+    }
+    if name == b"popback".as_slice() {
+        return Some(Command::PopBack);
+    }
+    if name == b"clear".as_slice() {
+        return Some(Command::Clear);
+    }
     if name == b"pairs".as_slice() {
         return Some(Command::Pairs(Ends::Forward));
+    }
+    if name == b"keys".as_slice() {
+        return Some(Command::Keys(Ends::Forward));
     }
     if name == b"lengths".as_slice() {
         return Some(Command::Lengths);
@@ -109,21 +121,18 @@ fn with_one_operand<A: Allocator>(
     requires operand { IsWithout 32 operand.now }
     ensures { IfOk result (IsReadingOf (name.now ++ 32 ∷ operand.now)) }
 {
-    if name == b"walkpairs".as_slice() {
-        let Some(word) = word_of(alloc, operand)? else {
-            return Ok(None);
-        };
-        return Ok(Some(Command::Pairs(Ends::Word(word))));
+    if let Some(key) = key_of(operand) {
+        return Ok(key_command(name, key));
     }
-    let Some(key) = key_of(operand) else {
+    let Some(word) = word_of(alloc, operand)? else {
         return Ok(None);
     };
-    Ok(with_key(name, key))
+    Ok(walk_command(name, word))
 }
 
-/// The command of a word and a key, or none if no key follows that word.
-fn with_key<A: Allocator>(name: &[u8], key: u32) -> Option<Command<u32, i64, A>>
-    ensures { IsOfKey name.now key result }
+/// The command of a word and a key.
+fn key_command<A: Allocator>(name: &[u8], key: u32) -> Option<Command<u32, i64, A>>
+    ensures { IsFoundFor name.now (key_operand key ∷ []) result }
 {
     if name == b"get".as_slice() {
         return Some(Command::Get(key));
@@ -136,6 +145,31 @@ fn with_key<A: Allocator>(name: &[u8], key: u32) -> Option<Command<u32, i64, A>>
     }
     if name == b"len".as_slice() {
         return Some(Command::Len(key));
+    }
+    if name == b"remove".as_slice() {
+        return Some(Command::Remove(key));
+    }
+    if name == b"removeall".as_slice() {
+        return Some(Command::RemoveAll(key));
+    }
+    if name == b"removeentry".as_slice() {
+        return Some(Command::RemoveEntry(key));
+    }
+    if name == b"removeentryall".as_slice() {
+        return Some(Command::RemoveEntryAll(key));
+    }
+    None
+}
+
+/// The command of a word and the letters of a walk.
+fn walk_command<A: Allocator>(name: &[u8], word: Vec<End, A>) -> Option<Command<u32, i64, A>>
+    ensures { IsFoundFor name.now (word_operand word.items ∷ []) result }
+{
+    if name == b"walkpairs".as_slice() {
+        return Some(Command::Pairs(Ends::Word(word)));
+    }
+    if name == b"walkkeys".as_slice() {
+        return Some(Command::Keys(Ends::Word(word)));
     }
     None
 }
@@ -154,17 +188,41 @@ fn with_two_operands<A: Allocator>(
     let Some(key) = key_of(first) else {
         return Ok(None);
     };
+    if let Some(value) = value_of(second) {
+        return Ok(pair_command(name, key, value));
+    }
+    let Some(word) = word_of(alloc, second)? else {
+        return Ok(None);
+    };
+    Ok(key_walk_command(name, key, word))
+}
+
+/// The command of a word, a key and a value.
+fn pair_command<A: Allocator>(name: &[u8], key: u32, value: i64) -> Option<Command<u32, i64, A>>
+    ensures { IsFoundFor name.now (key_operand key ∷ value_operand value ∷ []) result }
+{
     if name == b"append".as_slice() {
-        let Some(value) = value_of(second) else {
-            return Ok(None);
-        };
-        return Ok(Some(Command::Append(key, value)));
+        return Some(Command::Append(key, value));
     }
+    if name == b"insert".as_slice() {
+        return Some(Command::Insert(key, value));
+    }
+    if name == b"insertall".as_slice() {
+        return Some(Command::InsertAll(key, value));
+    }
+    None
+}
+
+/// The command of a word, a key and the letters of a walk.
+fn key_walk_command<A: Allocator>(
+    name: &[u8],
+    key: u32,
+    word: Vec<End, A>,
+) -> Option<Command<u32, i64, A>>
+    ensures { IsFoundFor name.now (key_operand key ∷ word_operand word.items ∷ []) result }
+{
     if name == b"walk".as_slice() {
-        let Some(word) = word_of(alloc, second)? else {
-            return Ok(None);
-        };
-        return Ok(Some(Command::All(key, Ends::Word(word))));
+        return Some(Command::All(key, Ends::Word(word)));
     }
-    Ok(None)
+    None
 }

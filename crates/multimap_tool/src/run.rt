@@ -1,12 +1,16 @@
 //! Commands run in order, with one reply for each.
-ghost use Rattle.std.specs.Prelude.{◌≡◌, ◌≢◌, IfOk, OnErr};
-ghost use Rattle.multimap_tool.specs.Step.{IsStep};
+ghost use Rattle.std.specs.Prelude.{◌≡◌, IfOk, OnErr, option_map};
+ghost use Rattle.ordered_multimap.specs.Pop.{popped, popped_pair};
+ghost use Rattle.ordered_multimap.specs.Pops.{popped_of};
+ghost use Rattle.multimap_tool.specs.Step.{IsStep, IsLookUp, told_pop};
 ghost use Rattle.multimap_tool.specs.Runs.{IsRun};
 
 use crate::commands::{Command, Ends};
-use crate::replies::Reply;
+use crate::drained::{insert_all, remove_all, remove_entry_all};
+use crate::replies::{Popped, Reply};
 use crate::walk::{copied_pair, walk};
-use ordered_multimap::ListOrderedMultimap;
+use ordered_multimap::list_ordered_multimap::KeyWrapper;
+use ordered_multimap::{End, ListOrderedMultimap};
 use std::alloc::{AllocError, Allocator};
 use std::hash::{BuildHasher, Hash};
 
@@ -52,6 +56,15 @@ fn step<K: Eq + Hash + Copy, V: Copy, S: BuildHasher, A: Allocator + Copy>(
 {
     match command {
         Command::Append(key, value) => append(map, *key, *value),
+        Command::Insert(key, value) => insert(map, *key, *value),
+        Command::InsertAll(key, value) => insert_all(alloc, map, *key, *value),
+        Command::Remove(key) => Reply::Value(map.remove(key)),
+        Command::RemoveAll(key) => remove_all(alloc, map, key),
+        Command::RemoveEntry(key) => Reply::Pair(map.remove_entry(key)),
+        Command::RemoveEntryAll(key) => remove_entry_all(alloc, map, key),
+        Command::PopFront => Reply::Popped(pop(map, End::Front)),
+        Command::PopBack => Reply::Popped(pop(map, End::Back)),
+        Command::Clear => clear(map),
         _ => look_up(alloc, map, command),
     }
 }
@@ -71,17 +84,76 @@ fn append<K: Eq + Hash + Copy, V: Copy, S: BuildHasher, A: Allocator + Copy>(
     }
 }
 
+/// Puts the pair in the place of all others of its key.
+fn insert<K: Eq + Hash + Copy, V: Copy, S: BuildHasher, A: Allocator + Copy>(
+    map: &mut ListOrderedMultimap<K, V, S, A>,
+    key: K,
+    value: V,
+) -> Reply<K, V, A>
+    ensures step { IsStep K.eq (Command.Insert key value) map.old.lists result map.new.lists }
+    ensures hasher { map.new.hasher ≡ map.old.hasher }
+{
+    match map.insert(key, value) {
+        Ok(old) => Reply::Old(old),
+        Err(_) => Reply::NoMemory,
+    }
+}
+
+/// Takes the pair at an end out.
+fn pop<K: Eq + Hash + Copy, V: Copy, S: BuildHasher, A: Allocator + Copy>(
+    map: &mut ListOrderedMultimap<K, V, S, A>,
+    end: End,
+) -> Option<Popped<K, V>>
+    ensures lists { map.new.lists ≡ popped K.eq end map.old.lists }
+    ensures told { option_map told_pop result ≡ popped_pair K.eq end map.old.lists.pairs }
+    ensures hasher { map.new.hasher ≡ map.old.hasher }
+{
+    match end {
+        End::Front => map.pop_front_with(|pair| told(pair)),
+        End::Back => map.pop_back_with(|pair| told(pair)),
+    }
+}
+
+/// What a pop answers, with a copy of the key.
+fn told<K: Copy, V>(pair: Option<(KeyWrapper<'_, K>, V)>) -> Option<Popped<K, V>>
+    ensures { option_map told_pop result ≡ option_map popped_of pair.entry }
+{
+    match pair {
+        Some((KeyWrapper::Borrowed(key), value)) => Some(Popped {
+            owned: false,
+            key: *key,
+            value,
+        }),
+        Some((KeyWrapper::Owned(key), value)) => Some(Popped {
+            owned: true,
+            key,
+            value,
+        }),
+        None => None,
+    }
+}
+
+/// Takes all pairs out.
+fn clear<K: Eq + Hash + Copy, V: Copy, S: BuildHasher, A: Allocator + Copy>(
+    map: &mut ListOrderedMultimap<K, V, S, A>,
+) -> Reply<K, V, A>
+    ensures step { IsStep K.eq Command.Clear map.old.lists result map.new.lists }
+    ensures hasher { map.new.hasher ≡ map.old.hasher }
+{
+    map.clear();
+    Reply::Done
+}
+
 /// Answers a command that changes nothing.
 fn look_up<K: Eq + Hash + Copy, V: Copy, S: BuildHasher, A: Allocator + Copy>(
     alloc: A,
     map: &ListOrderedMultimap<K, V, S, A>,
     command: &Command<K, V, A>,
 ) -> Reply<K, V, A>
-    requires { (key : K) → (value : V) → command.now ≢ Command.Append key value }
+    requires { IsLookUp command.now }
     ensures { IsStep K.eq command.now map.now.lists result map.now.lists }
 {
     match command {
-        Command::Append(..) => unreachable!(),
         Command::Get(key) => first_value(map, key),
         Command::All(key, ends) => walk_values(alloc, map, key, ends),
         Command::Has(key) => Reply::Truth(map.contains_key(key)),
@@ -89,7 +161,9 @@ fn look_up<K: Eq + Hash + Copy, V: Copy, S: BuildHasher, A: Allocator + Copy>(
         Command::Front => Reply::Pair(copied_pair(map.front())),
         Command::Back => Reply::Pair(copied_pair(map.back())),
         Command::Pairs(ends) => walk_pairs(alloc, map, ends),
+        Command::Keys(ends) => walk_keys(alloc, map, ends),
         Command::Lengths => Reply::Counts(map.keys_len(), map.values_len()),
+        _ => unreachable!(),
     }
 }
 
@@ -128,6 +202,20 @@ fn walk_pairs<K: Eq + Hash + Copy, V: Copy, S: BuildHasher, A: Allocator + Copy>
 {
     match walk(alloc, map.iter(), ends) {
         Ok(pairs) => Reply::Pairs(pairs),
+        Err(_) => Reply::NoMemory,
+    }
+}
+
+/// All keys, as a walk takes them.
+fn walk_keys<K: Eq + Hash + Copy, V: Copy, S: BuildHasher, A: Allocator + Copy>(
+    alloc: A,
+    map: &ListOrderedMultimap<K, V, S, A>,
+    ends: &Ends<A>,
+) -> Reply<K, V, A>
+    ensures { IsStep K.eq (Command.Keys ends.now) map.now.lists result map.now.lists }
+{
+    match walk(alloc, map.keys(), ends) {
+        Ok(keys) => Reply::Keys(keys),
         Err(_) => Reply::NoMemory,
     }
 }

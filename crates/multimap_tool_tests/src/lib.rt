@@ -5,6 +5,8 @@
 #![tactic(auto)]
 
 #[cfg(test)]
+mod compared;
+#[cfg(test)]
 mod lines;
 #[cfg(test)]
 mod memory;
@@ -13,8 +15,4 @@ mod plain;
 #[cfg(test)]
 mod runs;
 #[cfg(test)]
-mod shown;
-#[cfg(test)]
 mod streams;
-#[cfg(test)]
-mod texts;

@@ -49,6 +49,51 @@ const GOOD: &[(&str, &str)] = &[
         "front\nback\nhas 1\nlen 1\nlengths\nappend 1 -7\nhas 1\nfront\nback\n",
         "none\nnone\nno\n0\n0 0\nnew\nyes\n1:-7\n1:-7\n",
     ),
+    // An empty map.
+    (
+        "pairs\nkeys\npopfront\npopback\nget 1\n",
+        "empty\nempty\nnone\nnone\nnone\n",
+    ),
+    // Two keys with two values each, and all pairs popped from either end.
+    (
+        "insert 1 1\ninsert 2 2\nappend 2 3\nappend 1 4\npairs\n",
+        "none\nnone\nmore\nmore\n1:1 2:2 2:3 1:4\n",
+    ),
+    (
+        "insert 1 1\ninsert 2 2\nappend 2 3\nappend 1 4\npopback\npopback\npopback\npopback\npopback\n",
+        "none\nnone\nmore\nmore\nborrowed 1 4\nborrowed 2 3\nowned 2 2\nowned 1 1\nnone\n",
+    ),
+    (
+        "insert 1 1\ninsert 2 2\nappend 2 3\nappend 1 4\npopfront\npopfront\npopfront\npopfront\npopfront\n",
+        "none\nnone\nmore\nmore\nborrowed 1 1\nborrowed 2 2\nowned 2 3\nowned 1 4\nnone\n",
+    ),
+    // A pair that is replaced goes last, and its key stays where it is.
+    (
+        "insert 1 10\ninsert 2 20\ninsert 1 30\npairs\nkeys\n",
+        "none\nnone\nold 10\n2:20 1:30\n1 2\n",
+    ),
+    // A key that comes again goes last.
+    (
+        "append 1 1\nappend 2 2\nremoveall 1\nappend 1 3\nkeys\npairs\n",
+        "new\nnew\n1\nnew\n2 1\n2:2 1:3\n",
+    ),
+    (
+        "insertall 1 1\nappend 1 2\ninsertall 1 3\npairs\nlengths\n",
+        "empty\nmore\n1 2\n1:3\n1 1\n",
+    ),
+    (
+        "insert 1 1\ninsert 2 2\nappend 2 3\nappend 1 4\nwalkpairs fbb\nwalkkeys bff\nremoveentryall 2\nremoveentry 2\npairs\nclear\nlengths\n",
+        "none\nnone\nmore\nmore\n1:1 1:4 2:3\n2 1 -\n2=2,3\nnone\n1:1 1:4\ndone\n0 0\n",
+    ),
+    // Removals of a key that is there, and of one that isn't.
+    (
+        "append 1 5\nappend 1 6\nremoveentry 1\nremove 1\nremoveall 1\nremoveentryall 1\nkeys\n",
+        "new\nmore\n1:5\nnone\nempty\nnone\nempty\n",
+    ),
+    (
+        "append 1 -5\nappend 2 6\nremove 1\nremoveentryall 2\nlengths\n",
+        "new\nnew\n-5\n2=6\n0 0\n",
+    ),
 ];
 
 #[test]
@@ -137,8 +182,27 @@ const BAD: &[(&str, u64)] = &[
     ("walk 1 fx\n", 1),
     ("walk 1 F\n", 1),
     ("walkpairs fbB\n", 1),
+    // A word with the operands of another.
+    ("clear 1\n", 1),
+    ("insert 1\n", 1),
+    ("insert 1 f\n", 1),
+    ("insertall f 1\n", 1),
+    ("remove\n", 1),
+    ("remove 1 2\n", 1),
+    ("removeall f\n", 1),
+    ("removeentry 1 f\n", 1),
+    ("removeentryal 1\n", 1),
+    ("popfront 1\n", 1),
+    ("popback f\n", 1),
+    ("keys 1\n", 1),
+    ("walkkeys\n", 1),
+    ("walkkeys 1\n", 1),
+    ("walkkeys \n", 1),
+    ("walk 1 2\n", 1),
+    ("get f\n", 1),
     // Commands that the program doesn't have.
-    ("clear\n", 1),
+    ("retain 1\n", 1),
+    ("swap\n", 1),
     ("json\n", 1),
     // A NUL.
     ("get 1\0\n", 1),

@@ -14,7 +14,8 @@ use std::alloc::{AllocError, Allocator, Global};
 use test_helpers::{Failed, Test, requests_until_enough};
 
 /// Commands of which the additions and the lists may find no memory.
-const INPUT: &str = "append 1 1\nappend 2 2\nappend 2 3\nappend 1 4\npairs\nall 1\nget 2\nget 3\n";
+const INPUT: &str = "append 1 1\nappend 2 2\nappend 2 3\nappend 1 4\npairs\nall 1\nget 2\nget 3\n\
+    insert 2 5\ninsert 3 6\ninsertall 1 7\nkeys\nremoveall 2\nremoveentryall 1\npopfront\nclear\n";
 
 /// Whether the reply, but for its line feed, stands in the line.
 fn is_text_of(alloc: Global, reply: Reply<u32, i64>, line: &str) -> bool {
@@ -25,14 +26,24 @@ fn is_text_of(alloc: Global, reply: Reply<u32, i64>, line: &str) -> bool {
     }
 }
 
-/// Whether the command may be answered by want of memory: an addition, or a list of some item.
+/// Whether the plain map has the key.
+fn has(alloc: Global, plain: &mut PlainMap, key: u32) -> bool {
+    plain.answer(alloc, &Command::Has(key)) == Ok(Reply::Truth(true))
+}
+
+/// Whether the command may be answered by want of memory: an addition, but for an insertion of a
+/// present key, or a list of some item.
 fn may_lack(alloc: Global, plain: &mut PlainMap, command: &Command<u32, i64>) -> bool {
     match command {
-        Command::Append(_, _) => true,
-        Command::All(_, _) | Command::Pairs(_) => match plain.answer(alloc, command) {
-            Ok(reply) => !is_text_of(alloc, reply, "empty"),
-            Err(_) => false,
-        },
+        Command::Append(_, _) | Command::InsertAll(_, _) => true,
+        Command::Insert(key, _) => !has(alloc, plain, *key),
+        Command::RemoveAll(key) | Command::RemoveEntryAll(key) => has(alloc, plain, *key),
+        Command::All(_, _) | Command::Pairs(_) | Command::Keys(_) => {
+            match plain.answer(alloc, command) {
+                Ok(reply) => !is_text_of(alloc, reply, "empty"),
+                Err(_) => false,
+            }
+        }
         _ => false,
     }
 }
@@ -210,6 +221,72 @@ fn only_additions_and_listed_items_find_no_memory(rt: HostRuntime) -> Result<(),
     let test = Test::new(rt.alloc());
     let enough = requests_until_enough(|granted| run_with(&test, granted));
     test.expect("some requests are wanted", enough.unwrap_or(0) > 0);
+    test.end()
+}
+
+type Granted<'a> = Command<u32, i64, &'a RefusingAllocator>;
+
+// Commands whose reply lists the two values of the key 1.
+fn listing_command<'a>(which: usize) -> Granted<'a> {
+    match which {
+        0 => Command::RemoveAll(1),
+        1 => Command::RemoveEntryAll(1),
+        _ => Command::InsertAll(1, 9),
+    }
+}
+
+// How many values the key has once the command is done.
+fn left_by(which: usize) -> usize {
+    if which < 2 { 0 } else { 1 }
+}
+
+fn add_three(test: &Test, map: &mut Refusing<'_>) {
+    test.expect("append", map.append(1, 1) == Ok(false));
+    test.expect("append", map.append(2, 3) == Ok(false));
+    test.expect("append", map.append(1, 2) == Ok(true));
+}
+
+fn is_as_before(test: &Test, map: &Refusing<'_>) {
+    test.expect("entry_len", map.entry_len(&1) == 2);
+    test.expect("values_len", map.values_len() == 3);
+    test.expect("the first value", map.get(&1).copied() == Some(1));
+}
+
+// Without memory for the reply the map is as before.
+fn listing_runs<'a>(
+    test: &Test,
+    allocator: &'a RefusingAllocator,
+    map: &mut Refusing<'a>,
+    which: usize,
+) {
+    match run(allocator, map, &[listing_command(which)], |_, _, _| true) {
+        Ok(replies) => {
+            if replies.first() == Some(&Reply::NoMemory) {
+                is_as_before(test, map);
+            } else {
+                test.expect_at("values left", which, map.entry_len(&1) == left_by(which));
+            }
+        }
+        Err(_) => is_as_before(test, map),
+    }
+}
+
+fn listing_with(test: &Test, which: usize, granted: u64) -> bool {
+    let allocator = RefusingAllocator::unlimited(test.alloc());
+    let mut map = ListOrderedMultimap::new(&allocator);
+    add_three(test, &mut map);
+    allocator.grant(granted);
+    listing_runs(test, &allocator, &mut map, which);
+    !allocator.refused()
+}
+
+#[test]
+fn a_reply_without_memory_changes_nothing(rt: HostRuntime) -> Result<(), Failed> {
+    let test = Test::new(rt.alloc());
+    for which in 0..3usize {
+        let enough = requests_until_enough(|granted| listing_with(&test, which, granted));
+        test.expect_at("two requests are wanted", which, enough.unwrap_or(0) > 1);
+    }
     test.end()
 }
 

@@ -1,11 +1,10 @@
-//! Runs against a plain map of two vectors.
+//! A plain map of two vectors, which answers commands by their definitions.
 use multimap_tool::End;
 use multimap_tool::commands::{Command, Ends};
-use multimap_tool::replies::Reply;
-use multimap_tool::run::run;
-use ordered_multimap::ListOrderedMultimap;
+use multimap_tool::replies::{Popped, Reply};
 use std::alloc::{AllocError, Global};
-use test_helpers::{Failed, Test};
+
+type Answer = Result<Reply<u32, i64>, AllocError>;
 
 /// The keys in order, and all pairs in order.
 #[derive(Drop)]
@@ -23,7 +22,7 @@ impl PlainMap {
         }
     }
 
-    fn append(&mut self, key: u32, value: i64) -> Result<Reply<u32, i64>, AllocError> {
+    fn append(&mut self, key: u32, value: i64) -> Answer {
         let present = self.keys.contains(&key);
         if !present {
             self.keys.push(key)?;
@@ -42,36 +41,121 @@ impl PlainMap {
         Ok(values)
     }
 
-    fn of_key(&self, alloc: Global, key: u32) -> Result<Reply<u32, i64>, AllocError> {
-        Ok(Reply::Value(self.values_of(alloc, key)?.first().copied()))
+    fn first_of_key(&self, alloc: Global, key: u32) -> Result<Option<i64>, AllocError> {
+        Ok(self.values_of(alloc, key)?.first().copied())
     }
 
-    fn all_of_key(
-        &self,
-        alloc: Global,
-        key: u32,
-        ends: &Ends,
-    ) -> Result<Reply<u32, i64>, AllocError> {
+    fn all_of_key(&self, alloc: Global, key: u32, ends: &Ends) -> Answer {
         let values = self.values_of(alloc, key)?;
         Ok(Reply::Values(walked(alloc, &values, ends)?))
     }
 
+    fn put_last(&mut self, key: u32, value: i64) -> Result<(), AllocError> {
+        self.pairs.retain(|pair| pair.0 != key);
+        self.append(key, value)?;
+        Ok(())
+    }
+
+    fn insert(&mut self, alloc: Global, key: u32, value: i64) -> Answer {
+        let old = self.first_of_key(alloc, key)?;
+        self.put_last(key, value)?;
+        Ok(Reply::Old(old))
+    }
+
+    fn insert_all(&mut self, alloc: Global, key: u32, value: i64) -> Answer {
+        let reply = self.all_of_key(alloc, key, &Ends::Forward)?;
+        self.put_last(key, value)?;
+        Ok(reply)
+    }
+
+    fn take_out(&mut self, key: u32) {
+        self.keys.retain(|other| *other != key);
+        self.pairs.retain(|pair| pair.0 != key);
+    }
+
+    fn remove(&mut self, alloc: Global, key: u32) -> Answer {
+        let first = self.first_of_key(alloc, key)?;
+        self.take_out(key);
+        Ok(Reply::Value(first))
+    }
+
+    fn remove_all(&mut self, alloc: Global, key: u32) -> Answer {
+        let reply = self.all_of_key(alloc, key, &Ends::Forward)?;
+        self.take_out(key);
+        Ok(reply)
+    }
+
+    fn remove_entry(&mut self, alloc: Global, key: u32) -> Answer {
+        let first = self.first_of_key(alloc, key)?;
+        self.take_out(key);
+        Ok(Reply::Pair(first.map(|value| (key, value))))
+    }
+
+    fn remove_entry_all(&mut self, alloc: Global, key: u32) -> Answer {
+        let values = self.values_of(alloc, key)?;
+        self.take_out(key);
+        if values.is_empty() {
+            Ok(Reply::List(None))
+        } else {
+            Ok(Reply::List(Some((key, values))))
+        }
+    }
+
+    fn pop(&mut self, end: End) -> Answer {
+        let pair = match end {
+            End::Front => {
+                let first = self.pairs.first().copied();
+                if first.is_some() {
+                    self.pairs.remove(0);
+                }
+                first
+            }
+            End::Back => self.pairs.pop(),
+        };
+        let Some((key, value)) = pair else {
+            return Ok(Reply::Popped(None));
+        };
+        let owned = !self.pairs.iter().any(|other| other.0 == key);
+        if owned {
+            self.keys.retain(|other| *other != key);
+        }
+        Ok(Reply::Popped(Some(Popped { owned, key, value })))
+    }
+
+    fn clear(&mut self) -> Answer {
+        self.keys.clear();
+        self.pairs.clear();
+        Ok(Reply::Done)
+    }
+
     /// Runs a command.
-    pub fn answer(
-        &mut self,
-        alloc: Global,
-        command: &Command<u32, i64>,
-    ) -> Result<Reply<u32, i64>, AllocError> {
+    pub fn answer(&mut self, alloc: Global, command: &Command<u32, i64>) -> Answer {
         match command {
             Command::Append(key, value) => self.append(*key, *value),
-            Command::Get(key) => self.of_key(alloc, *key),
+            Command::Insert(key, value) => self.insert(alloc, *key, *value),
+            Command::InsertAll(key, value) => self.insert_all(alloc, *key, *value),
+            Command::Remove(key) => self.remove(alloc, *key),
+            Command::RemoveAll(key) => self.remove_all(alloc, *key),
+            Command::RemoveEntry(key) => self.remove_entry(alloc, *key),
+            Command::RemoveEntryAll(key) => self.remove_entry_all(alloc, *key),
+            Command::PopFront => self.pop(End::Front),
+            Command::PopBack => self.pop(End::Back),
+            Command::Clear => self.clear(),
+            _ => self.look_up(alloc, command),
+        }
+    }
+
+    fn look_up(&self, alloc: Global, command: &Command<u32, i64>) -> Answer {
+        match command {
+            Command::Get(key) => Ok(Reply::Value(self.first_of_key(alloc, *key)?)),
             Command::All(key, ends) => self.all_of_key(alloc, *key, ends),
             Command::Has(key) => Ok(Reply::Truth(self.keys.contains(key))),
             Command::Len(key) => Ok(Reply::Count(self.values_of(alloc, *key)?.len())),
             Command::Front => Ok(Reply::Pair(self.pairs.first().copied())),
             Command::Back => Ok(Reply::Pair(self.pairs.last().copied())),
             Command::Pairs(ends) => Ok(Reply::Pairs(walked(alloc, &self.pairs, ends)?)),
-            Command::Lengths => Ok(Reply::Counts(self.keys.len(), self.pairs.len())),
+            Command::Keys(ends) => Ok(Reply::Keys(walked(alloc, &self.keys, ends)?)),
+            _ => Ok(Reply::Counts(self.keys.len(), self.pairs.len())),
         }
     }
 }
@@ -108,100 +192,4 @@ fn by_word<T: Copy>(
         rest = step.map_or(rest, |(_, others)| others);
     }
     Ok(taken)
-}
-
-/// The next number of a linear congruential sequence, of which the answer is a number below
-/// `below`.
-fn draw(state: &mut u64, below: u32) -> u32 {
-    *state = state
-        .wrapping_mul(6364136223846793005)
-        .wrapping_add(1442695040888963407);
-    ((*state >> 33) % (below.max(1) as u64)) as u32
-}
-
-/// A word of up to five letters.
-fn some_word(alloc: Global, state: &mut u64) -> Result<Ends, AllocError> {
-    let mut word = Vec::new(alloc);
-    for _ in 0..draw(state, 6) {
-        word.push(if draw(state, 2) == 0 {
-            End::Front
-        } else {
-            End::Back
-        })?;
-    }
-    Ok(Ends::Word(word))
-}
-
-fn some_command(alloc: Global, state: &mut u64) -> Result<Command<u32, i64>, AllocError> {
-    let key = draw(state, 12);
-    match draw(state, 16) {
-        0 => Ok(Command::Get(key)),
-        1 => Ok(Command::All(key, Ends::Forward)),
-        2 => Ok(Command::All(key, some_word(alloc, state)?)),
-        3 => Ok(Command::Has(key)),
-        4 => Ok(Command::Len(key)),
-        5 => Ok(Command::Front),
-        6 => Ok(Command::Back),
-        7 => Ok(Command::Pairs(Ends::Forward)),
-        8 => Ok(Command::Pairs(some_word(alloc, state)?)),
-        9 => Ok(Command::Lengths),
-        _ => Ok(Command::Append(key, draw(state, 1000) as i64 - 500)),
-    }
-}
-
-fn some_commands(alloc: Global, commands: &mut Vec<Command<u32, i64>>) -> Result<(), AllocError> {
-    let mut state = 1;
-    for _ in 0..800 {
-        commands.push(some_command(alloc, &mut state)?)?;
-    }
-    Ok(())
-}
-
-/// Whether the plain map answers the command so.
-fn answers_so(
-    alloc: Global,
-    plain: &mut PlainMap,
-    command: &Command<u32, i64>,
-    reply: &Reply<u32, i64>,
-) -> bool {
-    match plain.answer(alloc, command) {
-        Ok(answer) => answer == *reply,
-        Err(_) => false,
-    }
-}
-
-fn replies_are_those_of_a_plain_map(
-    test: &Test,
-    plain: &mut PlainMap,
-    commands: &[Command<u32, i64>],
-    replies: &[Reply<u32, i64>],
-) {
-    test.expect("a reply a command", replies.len() == commands.len());
-    for (row, (command, reply)) in commands.iter().zip(replies.iter()).enumerate() {
-        test.expect_at(
-            "reply",
-            row,
-            answers_so(test.alloc(), plain, command, reply),
-        );
-    }
-    test.expect("keys", plain.keys.len() == 12);
-}
-
-fn commands_are_answered(test: &Test, commands: &[Command<u32, i64>]) {
-    let mut map = ListOrderedMultimap::new(test.alloc());
-    let mut plain = PlainMap::new(test.alloc());
-    match run(test.alloc(), &mut map, commands, |_, _, _| true) {
-        Ok(replies) => replies_are_those_of_a_plain_map(test, &mut plain, commands, &replies),
-        Err(_) => test.expect("memory for replies", false),
-    }
-}
-
-#[test]
-fn a_run_answers_as_a_plain_map_does(rt: HostRuntime) -> Result<(), Failed> {
-    let test = Test::new(rt.alloc());
-    let mut commands = Vec::new(test.alloc());
-    let made = some_commands(test.alloc(), &mut commands);
-    test.expect("memory for commands", made.is_ok());
-    commands_are_answered(&test, &commands);
-    test.end()
 }

@@ -2,7 +2,7 @@
 use multimap_tool::End;
 use multimap_tool::commands::{Command, Ends};
 use multimap_tool::laws::{run_is_well_formed, step_is_orderly};
-use multimap_tool::replies::Reply;
+use multimap_tool::replies::{Popped, Reply};
 use multimap_tool::run::run;
 use ordered_multimap::ListOrderedMultimap;
 use ordered_multimap::laws::{append_then_pop_back, json_first_occurrence};
@@ -73,6 +73,57 @@ fn add_no_pairs(rows: &mut Rows, alloc: Global) -> Result<(), AllocError> {
     add(rows, Command::Pairs(word), Reply::Pairs(Vec::new(alloc)))
 }
 
+fn add_keys(rows: &mut Rows, alloc: Global) -> Result<(), AllocError> {
+    let word = vec![in alloc; End::Back, End::Back, End::Back]?;
+    let keys = vec![in alloc; Some('y'), Some('x'), None]?;
+    add(rows, Command::Keys(Ends::Word(word)), Reply::Keys(keys))
+}
+
+fn add_insertions(rows: &mut Rows, alloc: Global) -> Result<(), AllocError> {
+    let old = vec![in alloc; Some(true), Some(false)]?;
+    add(rows, Command::InsertAll('x', false), Reply::Values(old))?;
+    add(rows, Command::Insert('x', true), Reply::Old(Some(false)))?;
+    add(rows, Command::Insert('w', true), Reply::Old(None))?;
+    let none = Reply::Values(Vec::new(alloc));
+    add(rows, Command::InsertAll('v', false), none)
+}
+
+fn popped(owned: bool, key: char, value: bool) -> Reply<char, bool> {
+    Reply::Popped(Some(Popped { owned, key, value }))
+}
+
+fn add_removals(rows: &mut Rows, alloc: Global) -> Result<(), AllocError> {
+    add(rows, Command::PopFront, popped(true, 'y', false))?;
+    let gone = vec![in alloc; false]?;
+    add(
+        rows,
+        Command::RemoveEntryAll('v'),
+        Reply::List(Some(('v', gone))),
+    )?;
+    add(rows, Command::RemoveEntryAll('v'), Reply::List(None))?;
+    add(
+        rows,
+        Command::RemoveEntry('w'),
+        Reply::Pair(Some(('w', true))),
+    )?;
+    add(rows, Command::RemoveEntry('w'), Reply::Pair(None))?;
+    add(rows, Command::Append('x', false), Reply::Appended(true))?;
+    add(rows, Command::PopBack, popped(false, 'x', false))?;
+    let gone = vec![in alloc; Some(true)]?;
+    add(rows, Command::RemoveAll('x'), Reply::Values(gone))?;
+    add(rows, Command::Remove('x'), Reply::Value(None))?;
+    add(rows, Command::PopBack, Reply::Popped(None))
+}
+
+fn add_last(rows: &mut Rows) -> Result<(), AllocError> {
+    add(rows, Command::Append('u', true), Reply::Appended(false))?;
+    add(rows, Command::Remove('u'), Reply::Value(Some(true)))?;
+    add(rows, Command::Append('t', true), Reply::Appended(false))?;
+    add(rows, Command::Clear, Reply::Done)?;
+    add(rows, Command::Lengths, Reply::Counts(0, 0))?;
+    add_appends(rows)
+}
+
 fn add_rows(rows: &mut Rows, alloc: Global) -> Result<(), AllocError> {
     add_appends(rows)?;
     add_look_ups(rows)?;
@@ -80,7 +131,11 @@ fn add_rows(rows: &mut Rows, alloc: Global) -> Result<(), AllocError> {
     add_walk(rows, alloc)?;
     add_pairs(rows, alloc)?;
     add_no_pairs(rows, alloc)?;
-    add_ends(rows)
+    add_ends(rows)?;
+    add_keys(rows, alloc)?;
+    add_insertions(rows, alloc)?;
+    add_removals(rows, alloc)?;
+    add_last(rows)
 }
 
 fn rows_are_answered(test: &Test, rows: &Rows, map: &mut Marks) {

@@ -2,7 +2,7 @@
 use multimap_tool::End;
 use multimap_tool::commands::{Command, Ends};
 use multimap_tool::faults::{TextFault, ToolFault};
-use multimap_tool::replies::Reply;
+use multimap_tool::replies::{Popped, Reply};
 use std::alloc::{AllocError, Global};
 use test_helpers::{Failed, Test, is_compared, is_copied, is_shown};
 
@@ -40,6 +40,24 @@ fn plain_commands_are_shown(test: &Test) {
     expect_command(test, Command::Lengths, "Lengths");
 }
 
+fn changes_are_shown(test: &Test) {
+    expect_command(test, Command::Insert(QUOTED, ""), r#"Insert("a\"b\n", "")"#);
+    expect_command(
+        test,
+        Command::InsertAll(TABBED, ""),
+        r#"InsertAll("\t\\'", "")"#,
+    );
+    expect_command(test, Command::Remove(""), r#"Remove("")"#);
+    expect_command(test, Command::RemoveAll("a"), r#"RemoveAll("a")"#);
+    expect_command(test, Command::RemoveEntry("b"), r#"RemoveEntry("b")"#);
+    let all = Command::RemoveEntryAll("c");
+    expect_command(test, all, r#"RemoveEntryAll("c")"#);
+    expect_command(test, Command::PopFront, "PopFront");
+    expect_command(test, Command::PopBack, "PopBack");
+    expect_command(test, Command::Clear, "Clear");
+    expect_command(test, Command::Keys(Ends::Forward), "Keys(Forward)");
+}
+
 fn words_are_shown(test: &Test) -> Result<(), AllocError> {
     let word = vec![in test.alloc(); End::Front, End::Back]?;
     let all = Command::All(QUOTED, Ends::Word(word));
@@ -52,6 +70,7 @@ fn commands_are_shown_and_compared(rt: HostRuntime) -> Result<(), Failed> {
     let test = Test::new(rt.alloc());
     commands_are_shown(&test);
     plain_commands_are_shown(&test);
+    changes_are_shown(&test);
     test.expect("memory for a word", words_are_shown(&test).is_ok());
     test.end()
 }
@@ -119,6 +138,21 @@ fn items_are_shown(test: &Test) {
     expect_reply(test, Reply::Pairs(Vec::new(test.alloc())), "Pairs([])");
 }
 
+fn removals_are_shown(test: &Test) {
+    expect_reply(test, Reply::Done, "Done");
+    expect_reply(test, Reply::Old(Some(QUOTED)), r#"Old(Some("a\"b\n"))"#);
+    expect_reply(test, Reply::Keys(Vec::new(test.alloc())), "Keys([])");
+    expect_reply(test, Reply::List(None), "List(None)");
+    expect_reply(test, Reply::Popped(None), "Popped(None)");
+    let popped = Popped {
+        owned: true,
+        key: QUOTED,
+        value: "",
+    };
+    let wanted = r#"Popped(Some(Popped { owned: true, key: "a\"b\n", value: "" }))"#;
+    expect_reply(test, Reply::Popped(Some(popped)), wanted);
+}
+
 fn values_are_shown(test: &Test) -> Result<(), AllocError> {
     let values = vec![in test.alloc(); Some(QUOTED), None]?;
     expect_reply(
@@ -141,6 +175,7 @@ fn replies_are_shown_and_compared(rt: HostRuntime) -> Result<(), Failed> {
     let test = Test::new(rt.alloc());
     answers_are_shown(&test);
     items_are_shown(&test);
+    removals_are_shown(&test);
     test.expect("memory for values", values_are_shown(&test).is_ok());
     test.expect("memory for pairs", pairs_are_shown(&test).is_ok());
     test.end()

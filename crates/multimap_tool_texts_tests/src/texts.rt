@@ -4,7 +4,7 @@ use multimap_tool::commands::{Command, Ends};
 use multimap_tool::faults::{TextFault, ToolFault};
 use multimap_tool::format::format_replies;
 use multimap_tool::parse::parse_commands;
-use multimap_tool::replies::Reply;
+use multimap_tool::replies::{Popped, Reply};
 use std::alloc::{AllocError, Global};
 use test_helpers::{Failed, Test, expect_text};
 
@@ -28,22 +28,40 @@ fn add_plain_commands(commands: &mut Commands) -> Result<(), AllocError> {
     Ok(())
 }
 
+fn add_changes(commands: &mut Commands) -> Result<(), AllocError> {
+    commands.push(Command::Insert(1, 2))?;
+    commands.push(Command::InsertAll(3, -4))?;
+    commands.push(Command::Remove(5))?;
+    commands.push(Command::RemoveAll(6))?;
+    commands.push(Command::RemoveEntry(7))?;
+    commands.push(Command::RemoveEntryAll(8))?;
+    commands.push(Command::PopFront)?;
+    commands.push(Command::PopBack)?;
+    commands.push(Command::Clear)?;
+    commands.push(Command::Keys(Ends::Forward))?;
+    Ok(())
+}
+
 fn add_words(commands: &mut Commands, alloc: Global) -> Result<(), AllocError> {
     let word = vec![in alloc; End::Front, End::Back]?;
     commands.push(Command::All(5, Ends::Word(word)))?;
     let word = vec![in alloc; End::Back]?;
     commands.push(Command::Pairs(Ends::Word(word)))?;
+    let word = vec![in alloc; End::Back, End::Front, End::Front]?;
+    commands.push(Command::Keys(Ends::Word(word)))?;
     Ok(())
 }
 
 fn add_commands(commands: &mut Commands, alloc: Global) -> Result<(), AllocError> {
     add_key_commands(commands)?;
     add_plain_commands(commands)?;
+    add_changes(commands)?;
     add_words(commands, alloc)
 }
 
-const LINES: &str =
-    "append 1 -2\nget 3\nall 4\nhas 6\nlen 7\npairs\nfront\nback\nlengths\nwalk 5 fb\nwalkpairs b";
+const LINES: &str = "append 1 -2\nget 3\nall 4\nhas 6\nlen 7\npairs\nfront\nback\nlengths\n\
+    insert 1 2\ninsertall 3 -4\nremove 5\nremoveall 6\nremoveentry 7\nremoveentryall 8\n\
+    popfront\npopback\nclear\nkeys\nwalk 5 fb\nwalkpairs b\nwalkkeys bff";
 
 fn lines_spell(test: &Test, wanted: &Commands) {
     match parse_commands(test.alloc(), LINES.as_bytes()) {
@@ -80,6 +98,7 @@ fn says(test: &Test, replies: &[Reply<u32, i64>], wanted: &'static str) {
 fn answers_are_said(test: &Test) {
     says(test, &[], "");
     says(test, &[Reply::NoMemory], "no memory\n");
+    says(test, &[Reply::Done], "done\n");
     says(test, &[Reply::Appended(true)], "more\n");
     says(test, &[Reply::Appended(false)], "new\n");
     says(test, &[Reply::Truth(true)], "yes\n");
@@ -89,15 +108,47 @@ fn answers_are_said(test: &Test) {
 fn numbers_are_said(test: &Test) {
     says(test, &[Reply::Value(None)], "none\n");
     says(test, &[Reply::Value(Some(-5))], "-5\n");
+    says(test, &[Reply::Old(None)], "none\n");
+    says(test, &[Reply::Old(Some(-6))], "old -6\n");
     says(test, &[Reply::Count(usize::MAX)], "18446744073709551615\n");
     says(test, &[Reply::Counts(0, 10)], "0 10\n");
     says(test, &[Reply::Pair(None)], "none\n");
     says(test, &[Reply::Pair(Some((3, -4)))], "3:-4\n");
 }
 
+fn popped(owned: bool) -> Reply<u32, i64> {
+    Reply::Popped(Some(Popped {
+        owned,
+        key: 8,
+        value: -9,
+    }))
+}
+
+fn pops_are_said(test: &Test) {
+    says(test, &[Reply::Popped(None)], "none\n");
+    says(test, &[popped(true)], "owned 8 -9\n");
+    says(test, &[popped(false)], "borrowed 8 -9\n");
+}
+
+fn entries_are_said(test: &Test) -> Result<(), AllocError> {
+    says(test, &[Reply::List(None)], "none\n");
+    let values = vec![in test.alloc(); -1]?;
+    says(test, &[Reply::List(Some((7, values)))], "7=-1\n");
+    let values = vec![in test.alloc(); 1, 20, -3]?;
+    says(test, &[Reply::List(Some((0, values)))], "0=1,20,-3\n");
+    Ok(())
+}
+
+fn keys_are_said(test: &Test) -> Result<(), AllocError> {
+    let keys = vec![in test.alloc(); Some(2), None, Some(u32::MAX)]?;
+    says(test, &[Reply::Keys(keys)], "2 - 4294967295\n");
+    Ok(())
+}
+
 fn no_items_are_said(test: &Test) {
     says(test, &[Reply::Values(Vec::new(test.alloc()))], "empty\n");
     says(test, &[Reply::Pairs(Vec::new(test.alloc()))], "empty\n");
+    says(test, &[Reply::Keys(Vec::new(test.alloc()))], "empty\n");
 }
 
 fn values_are_said(test: &Test) -> Result<(), AllocError> {
@@ -121,6 +172,9 @@ fn replies_have_their_texts(rt: HostRuntime) -> Result<(), Failed> {
     no_items_are_said(&test);
     test.expect("memory for values", values_are_said(&test).is_ok());
     test.expect("memory for pairs", pairs_are_said(&test).is_ok());
+    test.expect("memory for keys", keys_are_said(&test).is_ok());
+    pops_are_said(&test);
+    test.expect("memory for entries", entries_are_said(&test).is_ok());
     says(
         &test,
         &[Reply::Truth(true), Reply::Value(Some(7))],

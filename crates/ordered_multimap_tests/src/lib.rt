@@ -31,8 +31,8 @@ mod refused;
 mod removed;
 #[cfg(test)]
 mod shown;
-pub mod undone;
 #[cfg(test)]
 mod texts;
+pub mod undone;
 #[cfg(test)]
 mod walks;

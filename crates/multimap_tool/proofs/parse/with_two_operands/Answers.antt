@@ -1,36 +1,47 @@
-use Rattle.std.proofs.Common.{◌∙◌, ap, codes, refl}
-use Rattle.std.specs.Str.{bytes_eq}
-use Rattle.multimap_tool.proofs.ReadingLemmas.{same_text, other_text, differ, bad_with_two}
+use Rattle.std.proofs.Common.{◌++◌, ◌∷◌, [], sym, ap, ◌∙◌, subst, arith, rules}
+use Rattle.std.specs.Prelude.{FitsSigned}
+use Rattle.std.specs.Int.{w64}
+use Rattle.std.proofs.lemmas.Int.{to_z-of_z}
+use Rattle.multimap_tool.specs.Parts.{IsFoundFor}
+use Rattle.std.proofs.lemmas.List.{append-nil}
+use Rattle.std.specs.Fmt.{decimal, signed_decimal}
+use Rattle.multimap_tool.specs.Spelling.{key_operand, value_operand, word_operand}
+use Rattle.multimap_tool.proofs.ReadingLemmas.{bad_with_two, reading, word_is_no_value}
 use Rattle.multimap_tool.proofs.parse.with_two_operands.Goals as goal
 
 pub returns-in_default : goal.returns-in_default
 returns-in_default g c =
-    let no_key = c.in_default.ensures in
     bad_with_two c.args.name.now c.args.first.now c.args.second.now c.requires.name c.requires.first
-    (λ _ key _. no_key key.0 key.1 key.2)
-    (λ _ key _. no_key key.0 key.1 key.2)
+    (λ _ key _. c.in_default.ensures key.0 key.1 key.2) (λ _ key _. c.in_default.ensures key.0 key.1 key.2)
 
-pub returns-in_default-value_of : goal.returns-in_default-value_of
-returns-in_default-value_of g c =
+pub returns-in-Some-value_of : goal.returns-in-Some-value_of
+returns-in-Some-value_of g c =
     let name = c.args.name.now in
-    let append = same_text name (codes "append") c.eq.result c.if-eq.true (c.eq.ensures ∙ ap (bytes_eq name) c.as_slice.ensures) in
-    let no_value = c.in_default-value_of.ensures in
-    bad_with_two name c.args.first.now c.args.second.now c.requires.name c.requires.first
-    (λ _ _ value. no_value value.0 value.1 value.2)
-    (λ walk _ _. differ name (codes "append") (codes "walk") refl append walk)
+    let first = c.args.first.now in
+    let second = c.args.second.now in
+    let key = c.in-Some.key in
+    let value = c.in-Some-value_of.value in
+    let fits : FitsSigned w64 value = search (rules) in
+    reading name (name ++ 32 ∷ (first ++ 32 ∷ second)) (key_operand key ∷ value_operand value ∷ []) c.pair_command.result (omega arith, (fits, tt))
+    (λ i. name ++ 32 ∷ (sym c.in-Some.ensures i ++ 32 ∷ (sym c.in-Some-value_of.ensures ∙ sym (append-nil (signed_decimal value))) i))
+    (λ none. bad_with_two name first second c.requires.name c.requires.first (λ listed _ _. none listed)
+    (λ _ _ word. word_is_no_value second word (value, fits, c.in-Some-value_of.ensures)))
+    (subst (λ v. IsFoundFor name (key_operand key ∷ value_operand v ∷ []) c.pair_command.result) (to_z-of_z w64 value fits) c.pair_command.ensures)
 
 pub returns-in_default-2 : goal.returns-in_default-2
 returns-in_default-2 g c =
-    let name = c.args.name.now in
-    let walk = same_text name (codes "walk") c.eq-2.result c.if-eq-2.true (c.eq-2.ensures ∙ ap (bytes_eq name) c.as_slice-2.ensures) in
-    let no_word = rw c.in_default-2.is at c.in_ok-word.ensures in
-    bad_with_two name c.args.first.now c.args.second.now c.requires.name c.requires.first
-    (λ append _ _. differ name (codes "append") (codes "walk") refl append walk)
-    (λ _ _ word. no_word word.0 word.1)
+    bad_with_two c.args.name.now c.args.first.now c.args.second.now c.requires.name c.requires.first
+    (λ _ _ value. c.in_default-value_of.ensures value.0 value.1 value.2) (λ _ _ word. (rw c.in_default-2.is at c.in_ok-word.ensures) word.0 word.1)
 
 pub returns : goal.returns
 returns g c =
     let name = c.args.name.now in
-    bad_with_two name c.args.first.now c.args.second.now c.requires.name c.requires.first
-    (λ same _ _. other_text name _ c.eq.result c.if-eq.false (c.eq.ensures ∙ ap (bytes_eq name) c.as_slice.ensures) same)
-    (λ same _ _. other_text name _ c.eq-2.result c.if-eq-2.false (c.eq-2.ensures ∙ ap (bytes_eq name) c.as_slice-2.ensures) same)
+    let first = c.args.first.now in
+    let second = c.args.second.now in
+    let key = c.in-Some.key in
+    let word = c.in-Some-2.word in
+    let letters = rw c.in-Some-2.is at c.in_ok-word.ensures in
+    reading name (name ++ 32 ∷ (first ++ 32 ∷ second)) (key_operand key ∷ word_operand word.items ∷ []) c.key_walk_command.result (omega arith, (letters.some, tt))
+    (λ i. name ++ 32 ∷ (sym c.in-Some.ensures i ++ 32 ∷ (sym letters.spelled ∙ sym (append-nil _)) i))
+    (λ none. bad_with_two name first second c.requires.name c.requires.first (λ _ _ value. c.in_default-value_of.ensures value.0 value.1 value.2) (λ listed _ _. none listed))
+    c.key_walk_command.ensures
