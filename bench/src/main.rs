@@ -200,7 +200,7 @@ fn own_time(workload: &Workload, least: &Least, column: usize, pairs: u64) -> Ow
     if time.is_zero() {
         return Own::Lost;
     }
-    let each = time.as_nanos() as f64 / (workload.operations * pairs) as f64;
+    let each = time.as_nanos() as f64 / (workload.operations * pairs / 2) as f64;
     if time * 4 < start {
         Own::Rough(each)
     } else {

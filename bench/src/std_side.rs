@@ -1,6 +1,6 @@
 //! The workloads on the standard library's map, with a vector of values for each key.
 use crate::numbers::{START, choice, key, mix, value};
-use std::collections::HashMap;
+use std::collections::{HashMap, VecDeque};
 use std::hash::BuildHasher;
 
 /// A multimap as one would write it with the standard library.
@@ -24,6 +24,23 @@ impl<S: BuildHasher + Default> Multimap<S> {
         values.push(value);
         self.values_len += 1;
         was_present
+    }
+
+    #[inline(always)]
+    fn insert(&mut self, key: u64, value: u64) -> Option<u64> {
+        let values = self.keys.entry(key).or_default();
+        let old = values.first().copied();
+        self.values_len = self.values_len + 1 - values.len() as u64;
+        values.clear();
+        values.push(value);
+        old
+    }
+
+    #[inline(always)]
+    fn remove_all(&mut self, key: u64) -> Vec<u64> {
+        let values = self.keys.remove(&key).unwrap_or_default();
+        self.values_len -= values.len() as u64;
+        values
     }
 
     #[inline(always)]
@@ -154,4 +171,112 @@ pub fn iter_all_in_order(n: u64, seed: u64) -> u64 {
         }
     }
     checksum
+}
+
+pub fn insert_replace<S: BuildHasher + Default>(n: u64, seed: u64) -> u64 {
+    let Filled {
+        mut map,
+        mut checksum,
+    } = distinct::<S>(n, seed);
+    for j in 0..4 * n {
+        let old = map.insert(key(seed, choice(seed, j, n)), value(seed, n + j));
+        checksum = mix(checksum, old.unwrap_or(0));
+    }
+    map.ends(checksum)
+}
+
+pub fn remove_all_half<S: BuildHasher + Default>(n: u64, seed: u64) -> u64 {
+    let Filled {
+        mut map,
+        mut checksum,
+    } = scattered::<S>(n, seed);
+    for g in (0..n / 8).step_by(2) {
+        for value in map.remove_all(key(seed, g)) {
+            checksum = mix(checksum, value);
+        }
+    }
+    map.ends(checksum)
+}
+
+/// A queue of pairs, of which the standard library's map has the values of each key.
+struct Queue<S> {
+    keys: HashMap<u64, VecDeque<u64>, S>,
+    order: VecDeque<u64>,
+}
+
+impl<S: BuildHasher + Default> Queue<S> {
+    fn new() -> Self {
+        Queue {
+            keys: HashMap::default(),
+            order: VecDeque::new(),
+        }
+    }
+
+    #[inline(always)]
+    fn append(&mut self, key: u64, value: u64) -> bool {
+        self.order.push_back(key);
+        let values = self.keys.entry(key).or_default();
+        values.push_back(value);
+        values.len() > 1
+    }
+
+    /// The value of the first pair, and whether its key has gone.
+    #[inline(always)]
+    fn pop_front(&mut self) -> Option<(u64, bool)> {
+        let key = self.order.pop_front()?;
+        let values = self.keys.get_mut(&key)?;
+        let old = values.pop_front()?;
+        let is_last = values.is_empty();
+        if is_last {
+            self.keys.remove(&key);
+        }
+        Some((old, is_last))
+    }
+
+    #[inline(always)]
+    fn churn(&mut self, key: u64, value: u64, checksum: u64) -> u64 {
+        let present = u64::from(self.append(key, value));
+        let number = match self.pop_front() {
+            Some((old, owned)) => old ^ present ^ (u64::from(owned) * 2),
+            None => 5,
+        };
+        mix(checksum, number)
+    }
+
+    fn ends(&self, checksum: u64) -> u64 {
+        mix(
+            mix(checksum, self.keys.len() as u64),
+            self.order.len() as u64,
+        )
+    }
+}
+
+fn churns<S: BuildHasher + Default>(
+    filled: u64,
+    n: u64,
+    seed: u64,
+    key_of: impl Fn(u64) -> u64,
+) -> u64 {
+    let mut queue = Queue::<S>::new();
+    let mut checksum = START;
+    for i in 0..filled {
+        checksum = mix(checksum, u64::from(queue.append(key_of(i), value(seed, i))));
+    }
+    checksum = queue.ends(checksum);
+    for j in filled..filled + 4 * n {
+        checksum = queue.churn(key_of(j), value(seed, j), checksum);
+    }
+    queue.ends(checksum)
+}
+
+pub fn fifo_churn<S: BuildHasher + Default>(n: u64, seed: u64) -> u64 {
+    churns::<S>(n, n, seed, |i| key(seed, i))
+}
+
+pub fn fifo_churn_few<S: BuildHasher + Default>(n: u64, seed: u64) -> u64 {
+    churns::<S>(n, n, seed, |i| key(seed, choice(seed, i, 1000)))
+}
+
+pub fn fifo_small<S: BuildHasher + Default>(n: u64, seed: u64) -> u64 {
+    churns::<S>(64, n, seed, |i| key(seed, i))
 }

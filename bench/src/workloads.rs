@@ -12,7 +12,7 @@ pub struct Workload {
     pub name: &'static str,
     /// The workload that this one starts with, by its place in the list.
     pub start: Option<usize>,
-    /// How many operations are timed: so many for each `per` pairs.
+    /// How many operations are timed: so many for each two pairs.
     pub operations: u64,
     /// The map and the standard library's with the map's default hasher, then with the fast one.
     pub columns: [Run; COLUMNS],
@@ -32,6 +32,11 @@ mod exported {
         pub safe fn bench_get_all_walk(n: u64, seed: u64) -> u64;
         pub safe fn bench_get_all_walk_scattered(n: u64, seed: u64) -> u64;
         pub safe fn bench_iter_all(n: u64, seed: u64) -> u64;
+        pub safe fn bench_fifo_churn(n: u64, seed: u64) -> u64;
+        pub safe fn bench_fifo_churn_few(n: u64, seed: u64) -> u64;
+        pub safe fn bench_fifo_small(n: u64, seed: u64) -> u64;
+        pub safe fn bench_insert_replace(n: u64, seed: u64) -> u64;
+        pub safe fn bench_remove_all_half(n: u64, seed: u64) -> u64;
         pub safe fn benchfx_append_distinct(n: u64, seed: u64) -> u64;
         pub safe fn benchfx_append_few(n: u64, seed: u64) -> u64;
         pub safe fn benchfx_append_grouped(n: u64, seed: u64) -> u64;
@@ -41,6 +46,11 @@ mod exported {
         pub safe fn benchfx_get_all_walk(n: u64, seed: u64) -> u64;
         pub safe fn benchfx_get_all_walk_scattered(n: u64, seed: u64) -> u64;
         pub safe fn benchfx_iter_all(n: u64, seed: u64) -> u64;
+        pub safe fn benchfx_fifo_churn(n: u64, seed: u64) -> u64;
+        pub safe fn benchfx_fifo_churn_few(n: u64, seed: u64) -> u64;
+        pub safe fn benchfx_fifo_small(n: u64, seed: u64) -> u64;
+        pub safe fn benchfx_insert_replace(n: u64, seed: u64) -> u64;
+        pub safe fn benchfx_remove_all_half(n: u64, seed: u64) -> u64;
     }
 }
 
@@ -64,18 +74,19 @@ macro_rules! workload {
 }
 
 const DISTINCT: Option<usize> = Some(0);
+const FEW: Option<usize> = Some(1);
 const GROUPED: Option<usize> = Some(2);
 const SCATTERED: Option<usize> = Some(3);
 const IN_ORDER: Option<Run> = Some(std_side::iter_all_in_order);
 
 /// Every workload. One that starts with another stands behind it.
-pub const WORKLOADS: [Workload; 9] = [
+pub const WORKLOADS: [Workload; 14] = [
     workload!(
         append_distinct,
         bench_append_distinct,
         benchfx_append_distinct,
         None,
-        1,
+        2,
         None
     ),
     workload!(
@@ -83,7 +94,7 @@ pub const WORKLOADS: [Workload; 9] = [
         bench_append_few,
         benchfx_append_few,
         None,
-        1,
+        2,
         None
     ),
     workload!(
@@ -91,7 +102,7 @@ pub const WORKLOADS: [Workload; 9] = [
         bench_append_grouped,
         benchfx_append_grouped,
         None,
-        1,
+        2,
         None
     ),
     workload!(
@@ -99,16 +110,16 @@ pub const WORKLOADS: [Workload; 9] = [
         bench_append_scattered,
         benchfx_append_scattered,
         None,
-        1,
+        2,
         None
     ),
-    workload!(get_hit, bench_get_hit, benchfx_get_hit, DISTINCT, 4, None),
+    workload!(get_hit, bench_get_hit, benchfx_get_hit, DISTINCT, 8, None),
     workload!(
         get_miss,
         bench_get_miss,
         benchfx_get_miss,
         DISTINCT,
-        4,
+        8,
         None
     ),
     workload!(
@@ -116,7 +127,7 @@ pub const WORKLOADS: [Workload; 9] = [
         bench_get_all_walk,
         benchfx_get_all_walk,
         GROUPED,
-        4,
+        8,
         None
     ),
     workload!(
@@ -124,7 +135,7 @@ pub const WORKLOADS: [Workload; 9] = [
         bench_get_all_walk_scattered,
         benchfx_get_all_walk_scattered,
         SCATTERED,
-        4,
+        8,
         None
     ),
     workload!(
@@ -132,7 +143,47 @@ pub const WORKLOADS: [Workload; 9] = [
         bench_iter_all,
         benchfx_iter_all,
         SCATTERED,
-        16,
+        32,
         IN_ORDER
+    ),
+    workload!(
+        fifo_churn,
+        bench_fifo_churn,
+        benchfx_fifo_churn,
+        DISTINCT,
+        8,
+        None
+    ),
+    workload!(
+        fifo_churn_few,
+        bench_fifo_churn_few,
+        benchfx_fifo_churn_few,
+        FEW,
+        8,
+        None
+    ),
+    workload!(
+        fifo_small,
+        bench_fifo_small,
+        benchfx_fifo_small,
+        None,
+        8,
+        None
+    ),
+    workload!(
+        insert_replace,
+        bench_insert_replace,
+        benchfx_insert_replace,
+        DISTINCT,
+        8,
+        None
+    ),
+    workload!(
+        remove_all_half,
+        bench_remove_all_half,
+        benchfx_remove_all_half,
+        SCATTERED,
+        1,
+        None
     ),
 ];

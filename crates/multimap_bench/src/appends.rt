@@ -4,7 +4,7 @@ use ordered_multimap::ListOrderedMultimap;
 use std::hash::BuildHasher;
 
 /// The map that is measured.
-pub type Map<S> = ListOrderedMultimap<u64, u64, S>;
+pub(crate) type Map<S> = ListOrderedMultimap<u64, u64, S>;
 
 /// Appends a pair, and mixes in whether its key was present.
 #[inline(always)]
@@ -16,7 +16,7 @@ fn append<S: BuildHasher>(map: &mut Map<S>, key: u64, value: u64, checksum: u64)
 }
 
 /// The checksum with the numbers of keys and of values.
-fn ends<S: BuildHasher>(map: &Map<S>, checksum: u64) -> u64 {
+pub(crate) fn ends<S: BuildHasher>(map: &Map<S>, checksum: u64) -> u64 {
     mix(
         mix(checksum, map.keys_len() as u64),
         map.values_len() as u64,
@@ -24,7 +24,7 @@ fn ends<S: BuildHasher>(map: &Map<S>, checksum: u64) -> u64 {
 }
 
 /// A new key for each pair.
-pub fn distinct<S: BuildHasher>(
+pub(crate) fn distinct<S: BuildHasher>(
     map: &mut Map<S>,
     pairs: u64,
     seed: u64,
@@ -38,7 +38,12 @@ pub fn distinct<S: BuildHasher>(
 }
 
 /// A random one of a thousand keys for each pair.
-pub fn few<S: BuildHasher>(map: &mut Map<S>, pairs: u64, seed: u64, start: u64) -> Option<u64> {
+pub(crate) fn few<S: BuildHasher>(
+    map: &mut Map<S>,
+    pairs: u64,
+    seed: u64,
+    start: u64,
+) -> Option<u64> {
     let mut checksum = start;
     for i in 0..pairs {
         let chosen = key(seed, choice(seed, i, 1000));
@@ -48,7 +53,12 @@ pub fn few<S: BuildHasher>(map: &mut Map<S>, pairs: u64, seed: u64, start: u64) 
 }
 
 /// Eight pairs a key, one after another.
-pub fn grouped<S: BuildHasher>(map: &mut Map<S>, pairs: u64, seed: u64, start: u64) -> Option<u64> {
+pub(crate) fn grouped<S: BuildHasher>(
+    map: &mut Map<S>,
+    pairs: u64,
+    seed: u64,
+    start: u64,
+) -> Option<u64> {
     let mut checksum = start;
     for group in 0..pairs / 8 {
         for round in 0..8u64 {
@@ -60,7 +70,7 @@ pub fn grouped<S: BuildHasher>(map: &mut Map<S>, pairs: u64, seed: u64, start: u
 }
 
 /// Eight pairs a key, one in each of eight rounds over all keys.
-pub fn scattered<S: BuildHasher>(
+pub(crate) fn scattered<S: BuildHasher>(
     map: &mut Map<S>,
     pairs: u64,
     seed: u64,

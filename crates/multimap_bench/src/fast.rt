@@ -7,7 +7,7 @@ use std::hash::Hasher;
 
 /// Multiplies each word to two words, and joins these.
 #[derive(Clone, Copy)]
-pub struct FastHasher {
+pub(crate) struct FastHasher {
     state: u64,
 }
 

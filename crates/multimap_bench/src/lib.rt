@@ -8,6 +8,7 @@
 #![tactic(auto)]
 
 mod appends;
+mod changes;
 mod fast;
 mod lookups;
 mod numbers;
@@ -96,6 +97,36 @@ pub extern "C" fn bench_iter_all(alloc: Global, n: u64, seed: u64) -> u64 {
     run(alloc, DefaultState::new(), Workload::IterAll, n, seed)
 }
 
+/// Appends new keys and pops the oldest pairs, after `append_distinct`.
+#[unsafe(no_mangle)]
+pub extern "C" fn bench_fifo_churn(alloc: Global, n: u64, seed: u64) -> u64 {
+    run(alloc, DefaultState::new(), Workload::FifoChurn, n, seed)
+}
+
+/// Appends to a thousand keys and pops the oldest pairs, after `append_few`.
+#[unsafe(no_mangle)]
+pub extern "C" fn bench_fifo_churn_few(alloc: Global, n: u64, seed: u64) -> u64 {
+    run(alloc, DefaultState::new(), Workload::FifoChurnFew, n, seed)
+}
+
+/// Appends new keys and pops the oldest pairs, on a map of 64 pairs.
+#[unsafe(no_mangle)]
+pub extern "C" fn bench_fifo_small(alloc: Global, n: u64, seed: u64) -> u64 {
+    run(alloc, DefaultState::new(), Workload::FifoSmall, n, seed)
+}
+
+/// Inserts pairs of random keys that are there, after `append_distinct`.
+#[unsafe(no_mangle)]
+pub extern "C" fn bench_insert_replace(alloc: Global, n: u64, seed: u64) -> u64 {
+    run(alloc, DefaultState::new(), Workload::InsertReplace, n, seed)
+}
+
+/// Removes half of the keys with their values, after `append_scattered`.
+#[unsafe(no_mangle)]
+pub extern "C" fn bench_remove_all_half(alloc: Global, n: u64, seed: u64) -> u64 {
+    run(alloc, DefaultState::new(), Workload::RemoveAllHalf, n, seed)
+}
+
 /// Appends a new key for each pair. With the fast hasher.
 #[unsafe(no_mangle)]
 pub extern "C" fn benchfx_append_distinct(alloc: Global, n: u64, seed: u64) -> u64 {
@@ -154,4 +185,34 @@ pub extern "C" fn benchfx_get_all_walk_scattered(alloc: Global, n: u64, seed: u6
 #[unsafe(no_mangle)]
 pub extern "C" fn benchfx_iter_all(alloc: Global, n: u64, seed: u64) -> u64 {
     run(alloc, FastState::new(), Workload::IterAll, n, seed)
+}
+
+/// Appends new keys and pops the oldest pairs, after `append_distinct`. With the fast hasher.
+#[unsafe(no_mangle)]
+pub extern "C" fn benchfx_fifo_churn(alloc: Global, n: u64, seed: u64) -> u64 {
+    run(alloc, FastState::new(), Workload::FifoChurn, n, seed)
+}
+
+/// Appends to a thousand keys and pops the oldest pairs, after `append_few`. With the fast hasher.
+#[unsafe(no_mangle)]
+pub extern "C" fn benchfx_fifo_churn_few(alloc: Global, n: u64, seed: u64) -> u64 {
+    run(alloc, FastState::new(), Workload::FifoChurnFew, n, seed)
+}
+
+/// Appends new keys and pops the oldest pairs, on a map of 64 pairs. With the fast hasher.
+#[unsafe(no_mangle)]
+pub extern "C" fn benchfx_fifo_small(alloc: Global, n: u64, seed: u64) -> u64 {
+    run(alloc, FastState::new(), Workload::FifoSmall, n, seed)
+}
+
+/// Inserts pairs of random keys that are there, after `append_distinct`. With the fast hasher.
+#[unsafe(no_mangle)]
+pub extern "C" fn benchfx_insert_replace(alloc: Global, n: u64, seed: u64) -> u64 {
+    run(alloc, FastState::new(), Workload::InsertReplace, n, seed)
+}
+
+/// Removes half of the keys with their values, after `append_scattered`. With the fast hasher.
+#[unsafe(no_mangle)]
+pub extern "C" fn benchfx_remove_all_half(alloc: Global, n: u64, seed: u64) -> u64 {
+    run(alloc, FastState::new(), Workload::RemoveAllHalf, n, seed)
 }

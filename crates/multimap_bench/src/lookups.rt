@@ -4,7 +4,7 @@ use crate::numbers::{choice, key, mix};
 use std::hash::BuildHasher;
 
 /// The first value of a random key among those of the pairs, four times a pair.
-pub fn hits<S: BuildHasher>(map: &Map<S>, pairs: u64, seed: u64, start: u64) -> u64 {
+pub(crate) fn hits<S: BuildHasher>(map: &Map<S>, pairs: u64, seed: u64, start: u64) -> u64 {
     let mut checksum = start;
     for j in 0..pairs.wrapping_mul(4) {
         let found = map.get(&key(seed, choice(seed, j, pairs)));
@@ -14,7 +14,7 @@ pub fn hits<S: BuildHasher>(map: &Map<S>, pairs: u64, seed: u64, start: u64) -> 
 }
 
 /// Looks for keys that are absent, four times a pair.
-pub fn misses<S: BuildHasher>(map: &Map<S>, pairs: u64, seed: u64, start: u64) -> u64 {
+pub(crate) fn misses<S: BuildHasher>(map: &Map<S>, pairs: u64, seed: u64, start: u64) -> u64 {
     let mut checksum = start;
     for j in 0..pairs.wrapping_mul(4) {
         let found = map.get(&key(seed, pairs.wrapping_add(j)));
@@ -24,7 +24,7 @@ pub fn misses<S: BuildHasher>(map: &Map<S>, pairs: u64, seed: u64, start: u64) -
 }
 
 /// Goes over the eight values of a random key, once for every two pairs.
-pub fn walks<S: BuildHasher>(map: &Map<S>, pairs: u64, seed: u64, start: u64) -> u64 {
+pub(crate) fn walks<S: BuildHasher>(map: &Map<S>, pairs: u64, seed: u64, start: u64) -> u64 {
     let mut checksum = start;
     for j in 0..pairs / 2 {
         for value in map.get_all(&key(seed, choice(seed, j, pairs / 8))) {
@@ -35,7 +35,7 @@ pub fn walks<S: BuildHasher>(map: &Map<S>, pairs: u64, seed: u64, start: u64) ->
 }
 
 /// Goes over all pairs, sixteen times.
-pub fn all_pairs<S: BuildHasher>(map: &Map<S>, start: u64) -> u64 {
+pub(crate) fn all_pairs<S: BuildHasher>(map: &Map<S>, start: u64) -> u64 {
     let mut checksum = start;
     for _ in 0..16 {
         for (key, value) in map.iter() {

@@ -5,11 +5,11 @@ const GOLDEN: u64 = 0x9E37_79B9_7F4A_7C15;
 const SECOND: u64 = 0x632B_E59B_D9B4_E019;
 
 /// What a checksum begins as.
-pub const START: u64 = 0xCBF2_9CE4_8422_2325;
+pub(crate) const START: u64 = 0xCBF2_9CE4_8422_2325;
 
 /// The checksum with one more number.
 #[inline(always)]
-pub fn mix(checksum: u64, number: u64) -> u64 {
+pub(crate) fn mix(checksum: u64, number: u64) -> u64 {
     checksum.wrapping_mul(0x100_0000_01B3).wrapping_add(number)
 }
 
@@ -30,18 +30,18 @@ fn random(seed: u64, index: u64) -> u64 {
 
 /// Key number `index`. All keys of a seed are distinct.
 #[inline(always)]
-pub fn key(seed: u64, index: u64) -> u64 {
+pub(crate) fn key(seed: u64, index: u64) -> u64 {
     random(seed, index)
 }
 
 /// Value number `index`.
 #[inline(always)]
-pub fn value(seed: u64, index: u64) -> u64 {
+pub(crate) fn value(seed: u64, index: u64) -> u64 {
     seed.wrapping_add(index.wrapping_mul(GOLDEN))
 }
 
 /// Choice number `index` of a number below `limit`, which is below 2^32.
 #[inline(always)]
-pub fn choice(seed: u64, index: u64, limit: u64) -> u64 {
+pub(crate) fn choice(seed: u64, index: u64, limit: u64) -> u64 {
     (random(seed.wrapping_add(SECOND), index) >> 32).wrapping_mul(limit) >> 32
 }

@@ -1,10 +1,12 @@
 //! The checksums at 64 pairs and seed 1, which other implementations computed.
 use crate::{
     bench_append_distinct, bench_append_few, bench_append_grouped, bench_append_scattered,
-    bench_get_all_walk, bench_get_all_walk_scattered, bench_get_hit, bench_get_miss,
-    bench_iter_all, benchfx_append_distinct, benchfx_append_few, benchfx_append_grouped,
-    benchfx_append_scattered, benchfx_get_all_walk, benchfx_get_all_walk_scattered,
-    benchfx_get_hit, benchfx_get_miss, benchfx_iter_all,
+    bench_fifo_churn, bench_fifo_churn_few, bench_fifo_small, bench_get_all_walk,
+    bench_get_all_walk_scattered, bench_get_hit, bench_get_miss, bench_insert_replace,
+    bench_iter_all, bench_remove_all_half, benchfx_append_distinct, benchfx_append_few,
+    benchfx_append_grouped, benchfx_append_scattered, benchfx_fifo_churn, benchfx_fifo_churn_few,
+    benchfx_fifo_small, benchfx_get_all_walk, benchfx_get_all_walk_scattered, benchfx_get_hit,
+    benchfx_get_miss, benchfx_insert_replace, benchfx_iter_all, benchfx_remove_all_half,
 };
 use std::alloc::Global;
 use test_helpers::{Failed, Test};
@@ -19,6 +21,11 @@ const CHECKSUMS: &[(&str, u64)] = &[
     ("get_all_walk", 0x219a_2caa_a219_34ad),
     ("get_all_walk_scattered", 0xd2e7_bd88_2f3e_e835),
     ("iter_all", 0x7f15_ac8e_ece3_e735),
+    ("fifo_churn", 0x569f_2b84_358a_6375),
+    ("fifo_churn_few", 0x1644_25af_5197_b0b3),
+    ("fifo_small", 0x569f_2b84_358a_6375),
+    ("insert_replace", 0x0820_2a3d_9777_c91d),
+    ("remove_all_half", 0x6c9b_7b79_576a_f669),
 ];
 
 /// Expects the checksum of the workload in the row.
@@ -44,11 +51,20 @@ fn look_ups_of_the_default_hasher(test: &Test, alloc: Global) {
     expect_checksum(test, 8, bench_iter_all(alloc, 64, 1));
 }
 
+fn changes_of_the_default_hasher(test: &Test, alloc: Global) {
+    expect_checksum(test, 9, bench_fifo_churn(alloc, 64, 1));
+    expect_checksum(test, 10, bench_fifo_churn_few(alloc, 64, 1));
+    expect_checksum(test, 11, bench_fifo_small(alloc, 64, 1));
+    expect_checksum(test, 12, bench_insert_replace(alloc, 64, 1));
+    expect_checksum(test, 13, bench_remove_all_half(alloc, 64, 1));
+}
+
 #[test]
 fn checksums_are_right_with_the_default_hasher(rt: HostRuntime) -> Result<(), Failed> {
     let test = Test::new(rt.alloc());
     appends_of_the_default_hasher(&test, test.alloc());
     look_ups_of_the_default_hasher(&test, test.alloc());
+    changes_of_the_default_hasher(&test, test.alloc());
     test.end()
 }
 
@@ -67,10 +83,19 @@ fn look_ups_of_the_fast_hasher(test: &Test, alloc: Global) {
     expect_checksum(test, 8, benchfx_iter_all(alloc, 64, 1));
 }
 
+fn changes_of_the_fast_hasher(test: &Test, alloc: Global) {
+    expect_checksum(test, 9, benchfx_fifo_churn(alloc, 64, 1));
+    expect_checksum(test, 10, benchfx_fifo_churn_few(alloc, 64, 1));
+    expect_checksum(test, 11, benchfx_fifo_small(alloc, 64, 1));
+    expect_checksum(test, 12, benchfx_insert_replace(alloc, 64, 1));
+    expect_checksum(test, 13, benchfx_remove_all_half(alloc, 64, 1));
+}
+
 #[test]
 fn checksums_are_right_with_the_fast_hasher(rt: HostRuntime) -> Result<(), Failed> {
     let test = Test::new(rt.alloc());
     appends_of_the_fast_hasher(&test, test.alloc());
     look_ups_of_the_fast_hasher(&test, test.alloc());
+    changes_of_the_fast_hasher(&test, test.alloc());
     test.end()
 }

@@ -1,5 +1,6 @@
 //! The workloads, each on a map of its own under any hash builder.
 use crate::appends::{Map, distinct, few, grouped, scattered};
+use crate::changes::{fifo, fifo_few, fifo_small, removes, replaces};
 use crate::lookups::{all_pairs, hits, misses, walks};
 use crate::numbers::START;
 use ordered_multimap::ListOrderedMultimap;
@@ -11,7 +12,7 @@ const REFUSED: u64 = 0;
 
 /// What is done to an empty map.
 #[derive(Clone, Copy)]
-pub enum Workload {
+pub(crate) enum Workload {
     /// Appends a new key for each pair.
     AppendDistinct,
     /// Appends to a thousand keys, in random order.
@@ -30,10 +31,20 @@ pub enum Workload {
     GetAllWalkScattered,
     /// Goes over all pairs, after `AppendScattered`.
     IterAll,
+    /// New keys come and the oldest go, after `AppendDistinct`.
+    FifoChurn,
+    /// Pairs of a thousand keys come and the oldest go, after `AppendFew`.
+    FifoChurnFew,
+    /// New keys come and the oldest go, on a map of 64 pairs.
+    FifoSmall,
+    /// Puts new pairs in the place of old ones, after `AppendDistinct`.
+    InsertReplace,
+    /// Takes out half of the keys with their values, after `AppendScattered`.
+    RemoveAllHalf,
 }
 
 /// Makes a map, runs a workload of `n` pairs on it, and lets the map go. Answers the checksum.
-pub fn run<S: BuildHasher + Drop>(
+pub(crate) fn run<S: BuildHasher + Drop>(
     alloc: Global,
     state: S,
     workload: Workload,
@@ -45,7 +56,10 @@ pub fn run<S: BuildHasher + Drop>(
 }
 
 fn run_on<S: BuildHasher>(map: &mut Map<S>, workload: Workload, n: u64, seed: u64) -> u64 {
-    match fill(map, workload, n, seed) {
+    let Some(filled) = fill(map, workload, n, seed) else {
+        return REFUSED;
+    };
+    match change(map, workload, n, seed, filled) {
         Some(checksum) => look_up(map, workload, n, seed, checksum),
         None => REFUSED,
     }
@@ -54,18 +68,40 @@ fn run_on<S: BuildHasher>(map: &mut Map<S>, workload: Workload, n: u64, seed: u6
 /// The appends of a workload.
 fn fill<S: BuildHasher>(map: &mut Map<S>, workload: Workload, n: u64, seed: u64) -> Option<u64> {
     match workload {
-        Workload::AppendDistinct | Workload::GetHit | Workload::GetMiss => {
-            distinct(map, n, seed, START)
-        }
-        Workload::AppendFew => few(map, n, seed, START),
+        Workload::AppendDistinct
+        | Workload::GetHit
+        | Workload::GetMiss
+        | Workload::FifoChurn
+        | Workload::InsertReplace => distinct(map, n, seed, START),
+        Workload::AppendFew | Workload::FifoChurnFew => few(map, n, seed, START),
         Workload::AppendGrouped | Workload::GetAllWalk => grouped(map, n, seed, START),
-        Workload::AppendScattered | Workload::GetAllWalkScattered | Workload::IterAll => {
-            scattered(map, n, seed, START)
-        }
+        Workload::AppendScattered
+        | Workload::GetAllWalkScattered
+        | Workload::IterAll
+        | Workload::RemoveAllHalf => scattered(map, n, seed, START),
+        Workload::FifoSmall => Some(START),
     }
 }
 
-/// The look-ups and walks of a workload, after its appends.
+/// The changes of a workload, after its appends.
+fn change<S: BuildHasher>(
+    map: &mut Map<S>,
+    workload: Workload,
+    n: u64,
+    seed: u64,
+    checksum: u64,
+) -> Option<u64> {
+    match workload {
+        Workload::FifoChurn => fifo(map, n, n, seed, checksum),
+        Workload::FifoChurnFew => fifo_few(map, n, seed, checksum),
+        Workload::FifoSmall => fifo_small(map, n, seed, checksum),
+        Workload::InsertReplace => replaces(map, n, seed, checksum),
+        Workload::RemoveAllHalf => Some(removes(map, n, seed, checksum)),
+        _ => Some(checksum),
+    }
+}
+
+/// The look-ups and walks of a workload, after its appends and changes.
 fn look_up<S: BuildHasher>(
     map: &Map<S>,
     workload: Workload,

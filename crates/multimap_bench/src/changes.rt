@@ -1,0 +1,94 @@
+//! Pairs that come and go, that are replaced, and that leave with their key, on a map that was filled
+//! by appends. Each answers none where memory was refused.
+use crate::appends::{Map, distinct, ends};
+use crate::numbers::{choice, key, mix, value};
+use std::hash::BuildHasher;
+
+/// Appends a pair and pops the first one. Mixes in the value that left, whether the key that came
+/// was present, and whether the one that left is gone.
+#[inline(always)]
+fn churn<S: BuildHasher>(map: &mut Map<S>, key: u64, value: u64, checksum: u64) -> Option<u64> {
+    let present = match map.append(key, value) {
+        Ok(present) => present as u64,
+        Err(_) => return None,
+    };
+    let number = match map.pop_front() {
+        Some((popped, old)) => old ^ present ^ (popped.is_owned() as u64).wrapping_mul(2),
+        None => 5,
+    };
+    Some(mix(checksum, number))
+}
+
+/// New keys come and the oldest go, four times a pair.
+pub(crate) fn fifo<S: BuildHasher>(
+    map: &mut Map<S>,
+    filled: u64,
+    pairs: u64,
+    seed: u64,
+    start: u64,
+) -> Option<u64> {
+    let mut checksum = start;
+    for j in 0..pairs.wrapping_mul(4) {
+        let number = filled.wrapping_add(j);
+        checksum = churn(map, key(seed, number), value(seed, number), checksum)?;
+    }
+    Some(ends(map, checksum))
+}
+
+/// Pairs of a thousand keys come and go, four times a pair.
+pub(crate) fn fifo_few<S: BuildHasher>(
+    map: &mut Map<S>,
+    pairs: u64,
+    seed: u64,
+    start: u64,
+) -> Option<u64> {
+    let mut checksum = start;
+    for j in 0..pairs.wrapping_mul(4) {
+        let number = pairs.wrapping_add(j);
+        let chosen = key(seed, choice(seed, number, 1000));
+        checksum = churn(map, chosen, value(seed, number), checksum)?;
+    }
+    Some(ends(map, checksum))
+}
+
+/// The same as `fifo` on a map of 64 pairs, however many come and go.
+pub(crate) fn fifo_small<S: BuildHasher>(
+    map: &mut Map<S>,
+    pairs: u64,
+    seed: u64,
+    start: u64,
+) -> Option<u64> {
+    let checksum = distinct(map, 64, seed, start)?;
+    fifo(map, 64, pairs, seed, checksum)
+}
+
+/// Puts a new pair in the place of those of a random key, four times a pair.
+pub(crate) fn replaces<S: BuildHasher>(
+    map: &mut Map<S>,
+    pairs: u64,
+    seed: u64,
+    start: u64,
+) -> Option<u64> {
+    let mut checksum = start;
+    for j in 0..pairs.wrapping_mul(4) {
+        let chosen = key(seed, choice(seed, j, pairs));
+        let old = match map.insert(chosen, value(seed, pairs.wrapping_add(j))) {
+            Ok(old) => old,
+            Err(_) => return None,
+        };
+        checksum = mix(checksum, old.unwrap_or(0));
+    }
+    Some(ends(map, checksum))
+}
+
+/// Takes out every other key with its eight values.
+pub(crate) fn removes<S: BuildHasher>(map: &mut Map<S>, pairs: u64, seed: u64, start: u64) -> u64 {
+    let mut checksum = start;
+    let groups = pairs / 8;
+    for half in 0..groups.wrapping_add(1) / 2 {
+        for old in map.remove_all(&key(seed, half.wrapping_mul(2))) {
+            checksum = mix(checksum, old);
+        }
+    }
+    ends(map, checksum)
+}
