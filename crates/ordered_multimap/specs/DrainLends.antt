@@ -7,7 +7,7 @@ use Rattle.std.specs.declared.hash.Hash as hash
 use Rattle.std.specs.declared.hash.Hasher as hasher
 use Rattle.std.specs.declared.hash.BuildHasher as builder
 use Rattle.ordered_multimap.specs.contracts.list_ordered_multimap.ListOrderedMultimap.{the_row}
-use Rattle.ordered_multimap.specs.declared.list_ordered_multimap.drain.EntryValuesDrain.{EntryValuesDrain}
+use Rattle.ordered_multimap.specs.declared.list_ordered_multimap.drain.EntryValuesDrain as drains
 use Rattle.ordered_multimap.specs.Multimap.{Multimap}
 use Rattle.ordered_multimap.specs.Rooms.{KeepsRooms, RaisesNoRoom}
 use Rattle.ordered_multimap.specs.TapeNumbers.{TakesOut}
@@ -26,7 +26,7 @@ module _ (K V S A H : RattleType) (e : equality.Ghosts K.Denot) (k : hash.Ghosts
     (m : MutBor (Multimap K.Denot V.Denot S.Denot)) where
   -- at `Err` the pair was refused, and otherwise the map ends as what the drain leaves
   abbrev pub ends_inserted : {E : Type 0} → K.Denot
-      → Result (EntryValuesDrain K.Denot V.Denot S.Denot A.Denot H.Denot e k b h) E → Fml
+      → Result (drains.EntryValuesDrain K.Denot V.Denot S.Denot A.Denot H.Denot e k b h) E → Fml
   ends_inserted key r =
       RestsIfErr (the_row K V S A H e k b h alloc) m (λ d. d.map.ghost_name) r
       (RefusesPair e.eq key m.now)

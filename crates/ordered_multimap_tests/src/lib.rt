@@ -14,6 +14,8 @@ mod caseless;
 mod constructors;
 #[cfg(test)]
 mod drained;
+#[cfg(test)]
+mod drained_memory;
 pub mod drains;
 #[cfg(test)]
 mod examples;

@@ -56,13 +56,14 @@ impl<K: Eq + Hash, V: Drop, S: BuildHasher, A: Allocator> ListOrderedMultimap<K,
         EntryValuesDrain { map: self }
     }
 
-    /// The same, and the stored key is put into `stored`, or none for an absent key.
+    /// The same, and the stored key is put into `stored`, or none for an absent key. In the example
+    /// `page` is a reference to that key.
     ///
     /// A caller that is proved learns from it what the map is once the drain has ended, as from
     /// `remove_all`, which it doesn't from `remove_entry_all`.
     ///
     /// ```
-    /// map.remove_entry_with_all(&"page", &mut stored).next() == Some(8)
+    /// map.remove_entry_with_all(page, &mut stored).next() == Some(8)
     /// ```
     pub fn remove_entry_with_all<'map>(
         &'map mut self,
