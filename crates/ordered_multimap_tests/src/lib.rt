@@ -13,6 +13,8 @@ mod caseless;
 #[cfg(test)]
 mod constructors;
 #[cfg(test)]
+mod drain_steps;
+#[cfg(test)]
 mod drained;
 #[cfg(test)]
 mod drained_memory;

@@ -1,0 +1,124 @@
+//! Steps of a drain: what it gives from both ends, and what it shows of the rest.
+use crate::calls::{expect_append, expect_lengths};
+use ordered_multimap::ListOrderedMultimap;
+use ordered_multimap::list_ordered_multimap::{DefaultState, EntryValuesDrain};
+use std::alloc::Allocator;
+use std::hash::{BuildHasher, Hash};
+use test_helpers::{Constant, Failed, Sample, Test, Token, ZERO, expect_text};
+
+/// Expects that so many values are left, told without a step.
+pub fn expect_hint<K: Eq + Hash, V: Drop, S: BuildHasher, A: Allocator>(
+    test: &Test,
+    drain: &EntryValuesDrain<'_, K, V, S, A>,
+    left: usize,
+) {
+    test.expect("size_hint", drain.size_hint() == (left, Some(left)));
+    test.expect("len", drain.len() == left);
+}
+
+/// The number of a sample, if there is one.
+pub fn number_of<V: Sample>(value: Option<V>) -> Option<usize> {
+    match value {
+        Some(value) => Some(value.number()),
+        None => None,
+    }
+}
+
+fn expect_next<K: Eq + Hash, V: Sample, S: BuildHasher, A: Allocator>(
+    test: &Test,
+    drain: &mut EntryValuesDrain<'_, K, V, S, A>,
+    number: Option<usize>,
+) {
+    test.expect("next", number_of(drain.next()) == number);
+}
+
+fn expect_next_back<K: Eq + Hash, V: Sample, S: BuildHasher, A: Allocator>(
+    test: &Test,
+    drain: &mut EntryValuesDrain<'_, K, V, S, A>,
+    number: Option<usize>,
+) {
+    test.expect("next_back", number_of(drain.next_back()) == number);
+}
+
+fn add_to_one<K: Sample + Eq + Hash, V: Sample, S: BuildHasher>(
+    test: &Test,
+    map: &mut ListOrderedMultimap<K, V, S>,
+) {
+    expect_append(test, map, (1, 1), false);
+    expect_append(test, map, (1, 2), true);
+    expect_append(test, map, (1, 3), true);
+    expect_append(test, map, (1, 4), true);
+}
+
+fn ends_meet<K: Sample + Eq + Hash, V: Sample, S: BuildHasher>(
+    test: &Test,
+    drain: &mut EntryValuesDrain<'_, K, V, S>,
+) {
+    expect_next(test, drain, Some(1));
+    expect_next_back(test, drain, Some(4));
+    expect_hint(test, drain, 2);
+    expect_next(test, drain, Some(2));
+    expect_next_back(test, drain, Some(3));
+    expect_next(test, drain, None);
+    expect_next_back(test, drain, None);
+}
+
+fn front_is_read<K: Sample + Eq + Hash, V: Sample, S: BuildHasher>(
+    test: &Test,
+    drain: &mut EntryValuesDrain<'_, K, V, S>,
+) {
+    for left in 0..4usize {
+        expect_hint(test, drain, 4usize.saturating_sub(left));
+        expect_next(test, drain, Some(left.saturating_add(1)));
+    }
+    expect_hint(test, drain, 0);
+    expect_next(test, drain, None);
+}
+
+fn values_are_given<K: Sample + Eq + Hash, V: Sample, S: BuildHasher>(
+    test: &Test,
+    map: &mut ListOrderedMultimap<K, V, S>,
+) {
+    add_to_one(test, map);
+    ends_meet(test, &mut map.remove_all(&K::of(test, 1)));
+    expect_lengths(test, map, 0, 0);
+    add_to_one(test, map);
+    front_is_read(test, &mut map.remove_all(&K::of(test, 1)));
+    expect_lengths(test, map, 0, 0);
+}
+
+#[test]
+fn a_drain_gives_its_values_from_both_ends(rt: HostRuntime) -> Result<(), Failed> {
+    let test = Test::new(rt.alloc());
+    let alloc = test.alloc();
+    values_are_given::<usize, usize, DefaultState>(&test, &mut ListOrderedMultimap::new(alloc));
+    values_are_given::<String, String, Constant>(
+        &test,
+        &mut ListOrderedMultimap::with_hasher(alloc, ZERO),
+    );
+    values_are_given::<Token, Token, DefaultState>(&test, &mut ListOrderedMultimap::new(alloc));
+    test.end()
+}
+
+// A walk shows what is left, and so does Debug.
+fn the_rest_is_shown(test: &Test, drain: &mut EntryValuesDrain<'_, usize, usize, DefaultState>) {
+    let all = format!(in test.alloc(); "{drain:?}");
+    expect_text(test, "all", all, "EntryValuesDrain([1, 2, 3, 4])");
+    expect_next(test, drain, Some(1));
+    expect_next_back(test, drain, Some(4));
+    test.expect("iter", drain.iter().eq([2usize, 3].iter()));
+    let left = format!(in test.alloc(); "{drain:?}");
+    expect_text(test, "what is left", left, "EntryValuesDrain([2, 3])");
+}
+
+fn a_drain_is_shown(test: &Test, map: &mut ListOrderedMultimap<usize, usize>) {
+    add_to_one(test, map);
+    the_rest_is_shown(test, &mut map.remove_all(&1));
+}
+
+#[test]
+fn a_drain_shows_what_is_left(rt: HostRuntime) -> Result<(), Failed> {
+    let test = Test::new(rt.alloc());
+    a_drain_is_shown(&test, &mut ListOrderedMultimap::new(test.alloc()));
+    test.end()
+}
