@@ -1,9 +1,9 @@
 -- The values of a chain are detached one after another, and are then those of a drain.
-use Rattle.std.proofs.Common.{◌≡◌, ◌≢◌, ℕ, suc, ◌+◌, ◌<◌, Bool, true, false, not, List, [], ◌∷◌, ◌++◌, length, reverse, get_or, slice_get, Option, Some, None, IsSome, option_and_then, refl, sym, ap, ◌∙◌, subst, inl, inr, true≢false, arith}
+use Rattle.std.proofs.Common.{◌≡◌, ◌≢◌, ℕ, suc, false, not, List, [], ◌∷◌, ◌++◌, length, reverse, get_or, slice_get, Option, Some, None, IsSome, option_and_then, sym, ap, ◌∙◌, subst, true≢false}
 use Rattle.std.specs.Prelude.{IfSome}
 use Rattle.std.proofs.lemmas.List.{reverse-append}
 use Rattle.multimap_slots.specs.Lists.{IsIn, AreDistinct, first_of, last_of}
-use Rattle.multimap_slots.specs.Slots.{Detaches, IsDetached, IsSound, KeepsOthers, Slots, item_at, link_at}
+use Rattle.multimap_slots.specs.Slots.{Detaches, IsSound, KeepsOthers, Slots, item_at, link_at}
 use Rattle.multimap_slots.proofs.ListsLemmas.{IsIn-left}
 use Rattle.multimap_walks.specs.declared.links.ChainEnds.{ChainEnds}
 use Rattle.multimap_walks.specs.declared.links.KeyLink.{KeyLink}

@@ -1,22 +1,22 @@
 -- What a call that makes a drain answers: the stored key, and the values that are left.
-use Rattle.std.proofs.Common.{◌≡◌, ◌+◌, ℕ, Bool, true, false, cond, List, [], ◌∷◌, ◌++◌, length, filter, map, slice_get, option_map, Option, Some, None, refl, sym, ap, ◌∙◌, subst, arith}
+use Rattle.std.proofs.Common.{◌≡◌, ℕ, Bool, false, [], ◌∷◌, ◌++◌, slice_get, option_map, Some, None, refl, sym, ap, ◌∙◌}
 use Rattle.std.proofs.lemmas.List.Elements.{filter_map-append}
 use Rattle.std.specs.Cmp.{IsEquivalence}
-use Rattle.std.specs.List.{cons_option, filter_map}
+use Rattle.std.specs.List.{cons_option}
 use Rattle.std.specs.Ordering.{nat_cmp}
 use Rattle.std.specs.FinMap.{FinMap}
 use Rattle.multimap_slots.specs.Slots.{Removes, Slots, item_at, link_at}
 use Rattle.multimap_walks.specs.declared.links.KeyLink.{KeyLink}
 use Rattle.multimap_walks.specs.declared.links.ValueLink.{ValueLink}
 use Rattle.multimap_walks.specs.declared.links.ChainEnds.{ChainEnds}
-use Rattle.multimap_walks.specs.Chained.{chain_of, pairs_of, values_at}
+use Rattle.multimap_walks.specs.Chained.{pairs_of, values_at}
 use Rattle.ordered_multimap.specs.Keys.{is_listed, stored_key}
 use Rattle.ordered_multimap.specs.Pairs.{values_of}
 use Rattle.ordered_multimap.specs.Agrees.{Agrees, HasKey, items_of}
 use Rattle.ordered_multimap.specs.Detaches.{InsertsDetaching, drained}
 use Rattle.ordered_multimap.proofs.KeyLemmas.{is_listed-member, stored_key_member}
 use Rattle.ordered_multimap.proofs.KeptLemmas.{push_inj}
-use Rattle.ordered_multimap.proofs.PlaceLemmas.{IsIn-filter_map, begins, held}
+use Rattle.ordered_multimap.proofs.PlaceLemmas.{IsIn-filter_map, held}
 use Rattle.ordered_multimap.proofs.LookupLemmas.{head_listed, first_value, no_value, values_of-chain}
 use Rattle.ordered_multimap.proofs.TakeLemmas.{removed_key}
 use Rattle.ordered_multimap.proofs.InsertLemmas.{pushed_agrees, pushed_has, pushed_order, pushed_pairs, values_of-append}

@@ -1,10 +1,9 @@
 -- What a drain has left, and what its steps leave of the slots.
 use Rattle.std.proofs.lemmas.List.{append-nil}
-use Rattle.std.proofs.Common.{◌≡◌, ◌≢◌, ℕ, zero, suc, ◌+◌, ◌-◌, ◌≤◌, Bool, true, false, not, List, [], ◌∷◌, ◌++◌, length, map, reverse, Option, Some, None, IsSome, option_map, unwrap_or, refl, sym, ap, ◌∙◌, subst, inl, inr, arith}
+use Rattle.std.proofs.Common.{◌≡◌, ◌≢◌, ℕ, zero, suc, ◌+◌, Bool, true, List, [], ◌∷◌, ◌++◌, length, map, reverse, Option, Some, None, IsSome, option_map, unwrap_or, refl, sym, ap, ◌∙◌, subst, arith}
 use Rattle.std.specs.Prelude.{IfSome}
 use Rattle.std.specs.Coded.{×_prop, Unit-prop}
 use Rattle.std.proofs.Math.Logic.{∥∥₁_elim}
-use Rattle.std.specs.List.{filter_map}
 use Rattle.std.specs.Ordering.{nat_cmp}
 use Rattle.std.specs.FinMap.{FinMap}
 use Rattle.std.proofs.Props.{props}
@@ -14,14 +13,14 @@ use Rattle.multimap_slots.proofs.ListsLemmas.{AreDistinct-gone, AreDistinct-remo
 use Rattle.multimap_walks.specs.declared.links.ChainEnds.{ChainEnds}
 use Rattle.multimap_walks.specs.declared.links.KeyLink.{KeyLink}
 use Rattle.multimap_walks.specs.declared.links.ValueLink.{ValueLink}
-use Rattle.multimap_walks.specs.Path.{path, Leads, IsPath}
-use Rattle.multimap_walks.specs.Chained.{IsDetachedChain, Stands, next_place, places_along, previous_place, values_at}
+use Rattle.multimap_walks.specs.Path.{path, Leads}
+use Rattle.multimap_walks.specs.Chained.{IsDetachedChain, next_place, places_along, previous_place, values_at}
 use Rattle.multimap_walks.proofs.PathLemmas.{Leads-agree, path-is, front_taken, back_taken, shown_first, shown_last}
 use Rattle.multimap_walks.proofs.ChainLemmas.{chain_behind, chain_before, first_stands, last_stands, length-left}
 use Rattle.ordered_multimap.specs.Agrees.{Agrees, lists_of}
 use Rattle.ordered_multimap.specs.Detaches.{IsDrained, KeepsSlots, drained, drained_places}
-use Rattle.ordered_multimap.specs.Renames.{Renames, renamed_value}
-use Rattle.ordered_multimap.proofs.PlaceLemmas.{filter_map-agree, held}
+use Rattle.ordered_multimap.specs.Renames.{Renames}
+use Rattle.ordered_multimap.proofs.PlaceLemmas.{filter_map-agree}
 use Rattle.ordered_multimap.proofs.RenameLemmas.{agrees-renamed, lists_of-renamed}
 
 -- that a drain's places are detached has one proof at most

@@ -1,11 +1,11 @@
 -- A value that comes last in place of all others of its key.
-use Rattle.std.proofs.Common.{◌≡◌, ◌+◌, ◌-◌, ◌<◌, ◌/◌, ℕ, Bool, true, false, not, List, [], ◌∷◌, ◌++◌, map, length, filter, slice_get, Some, IsSome, Result, Ok, Err, OnOk, OnErr, refl, sym, ap, ◌∙◌, subst, arith, true≢false, min}
+use Rattle.std.proofs.Common.{◌≡◌, ◌+◌, ◌<◌, ℕ, Bool, true, false, not, List, [], ◌∷◌, ◌++◌, map, length, filter, slice_get, Some, refl, sym, ap, ◌∙◌, subst, arith, true≢false}
 use Rattle.std.proofs.lemmas.List.{length-map, map-append}
 use Rattle.std.proofs.lemmas.List.Elements.{filter-append}
 use Rattle.std.specs.Cmp.{IsEquivalence}
 use Rattle.std.specs.Ordering.{nat_cmp}
 use Rattle.std.specs.FinMap.{FinMap}
-use Rattle.multimap_slots.specs.Lists.{IsIn, first_of, last_of}
+use Rattle.multimap_slots.specs.Lists.{IsIn, last_of}
 use Rattle.multimap_slots.specs.Slots.{Slots, IsSound, item_at, link_at, with_link}
 use Rattle.multimap_walks.specs.declared.links.KeyLink.{KeyLink}
 use Rattle.multimap_walks.specs.declared.links.ValueLink.{ValueLink}

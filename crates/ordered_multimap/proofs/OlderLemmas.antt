@@ -1,6 +1,6 @@
 -- Where only the last value of a key stays, key list, table and values agree, and the lists are without the older pairs.
-use Rattle.std.proofs.Common.{◌≡◌, ◌≢◌, ◌⊎◌, ◌==◌, ◌+◌, ◌≤◌, ℕ, Bool, true, false, not, cond, List, [], ◌∷◌, ◌++◌, length, filter, Option, Some, None, IsSome, refl, sym, ap, ◌∙◌, subst, inl, inr, true≢false, arith, length-append}
-use Rattle.std.proofs.lemmas.Bool.{cases_eq, eq-eqb, ne_eqb}
+use Rattle.std.proofs.Common.{◌≡◌, ◌≢◌, ◌⊎◌, ◌==◌, ◌≤◌, ℕ, Bool, true, false, not, cond, List, [], ◌∷◌, ◌++◌, length, filter, Some, None, IsSome, refl, sym, ap, ◌∙◌, subst, inl, inr, true≢false, arith}
+use Rattle.std.proofs.lemmas.Bool.{cases_eq, eq-eqb}
 use Rattle.std.proofs.lemmas.List.Elements.{filter-append, filter_map-append}
 use Rattle.std.specs.Cmp.{IsEquivalence}
 use Rattle.std.specs.List.{filter_map, cons_option, IsDistinct}
@@ -15,10 +15,10 @@ use Rattle.multimap_walks.specs.Chained.{IsChained, is_value_of, chain_of, pair_
 use Rattle.ordered_multimap.specs.Lists.{lists}
 use Rattle.ordered_multimap.specs.Pairs.{pairs_without}
 use Rattle.ordered_multimap.specs.Agrees.{Agrees, HasKey, items_of, lists_of}
-use Rattle.ordered_multimap.specs.Takes.{TakesValues, TakesOlder, among}
-use Rattle.ordered_multimap.proofs.Members.{IsIn-kept, IsIn-filter, filter-none}
+use Rattle.ordered_multimap.specs.Takes.{TakesOlder, among}
+use Rattle.ordered_multimap.proofs.Members.{IsIn-kept, filter-none}
 use Rattle.ordered_multimap.proofs.KeptLemmas.{push_inj, filter-among, filter_map-filter}
-use Rattle.ordered_multimap.proofs.PlaceLemmas.{held, AreDistinct-filter, filter-agree, filter_map-agree}
+use Rattle.ordered_multimap.proofs.PlaceLemmas.{held, filter-agree, filter_map-agree}
 use Rattle.ordered_multimap.proofs.StepLemmas.{IsSound-with_link, sets_link}
 use Rattle.ordered_multimap.proofs.AgreesLemmas.{PairAt, value_owner, pair_in, pair_at-is, is_value_of-is}
 use Rattle.ordered_multimap.proofs.LookupLemmas.{owns}

@@ -1,8 +1,8 @@
 -- Where a key goes with all its values, key list, table and values agree, and the lists are without its pairs.
-use Rattle.std.proofs.Common.{◌≡◌, ◌≢◌, ◌⊎◌, ◌==◌, ◌≤◌, ◌+◌, ◌-◌, ◌/◌, ℕ, Bool, true, false, not, cond, List, [], ◌∷◌, length, filter, slice_get, option_map, Option, Some, None, IsSome, is_some, refl, sym, ap, ◌∙◌, subst, inl, inr, true≢false, arith}
+use Rattle.std.proofs.Common.{◌≡◌, ◌≢◌, ◌⊎◌, ◌==◌, ◌-◌, ◌/◌, ℕ, Bool, true, false, not, cond, length, filter, slice_get, option_map, Some, None, IsSome, is_some, refl, sym, ap, ◌∙◌, subst, inl, inr, true≢false, arith}
 use Rattle.std.proofs.lemmas.Bool.{cases_eq, eq-eqb, ne_eqb}
 use Rattle.std.specs.Cmp.{IsEquivalence, nat_cmp_total, unsigned_tied}
-use Rattle.std.specs.List.{filter_map, cons_option, IsDistinct}
+use Rattle.std.specs.List.{filter_map, IsDistinct}
 use Rattle.std.specs.Map.{keys_of}
 use Rattle.std.specs.Ordering.{nat_cmp}
 use Rattle.std.specs.FinMap.{FinMap, get, remove, len, contains_key, get-remove, len-remove}
@@ -23,7 +23,7 @@ use Rattle.ordered_multimap.proofs.Members.{IsIn-kept, IsIn-filter, filter-all}
 use Rattle.ordered_multimap.proofs.KeptLemmas.{filter-among, filter_map-filter, keys_of-without, is_listed-equal}
 use Rattle.ordered_multimap.proofs.PlaceLemmas.{held, pair_named, IsIn-filter_map, AreDistinct-filter, filter-agree, filter_shorter, filter_map-agree}
 use Rattle.ordered_multimap.proofs.KeyLemmas.{stored_key_only, is_listed-self, is_listed-member, IsDistinct-filter}
-use Rattle.ordered_multimap.proofs.AgreesLemmas.{value_owner, well_formed, pair_in, pair_at-is, is_value_of-is, length-keys}
+use Rattle.ordered_multimap.proofs.AgreesLemmas.{value_owner, well_formed, pair_in, pair_at-is, is_value_of-is}
 use Rattle.ordered_multimap.proofs.LookupLemmas.{owns, same_place, first_value, count_of_values}
 use Rattle.ordered_multimap.proofs.LawLemmas.{is_listed-others}
 use Rattle.ordered_multimap.proofs.WellFormedLemmas.{same_keys}

@@ -4,7 +4,7 @@ use Rattle.std.proofs.lemmas.Bool.{cases_eq, eq-eqb, ne_eqb}
 use Rattle.std.proofs.lemmas.List.{append-nil}
 use Rattle.multimap_slots.specs.Lists.{IsIn, AreDistinct, first_of, last_of, next_of, without}
 use Rattle.multimap_slots.specs.Slots.{Slots, IsSound, KeepsOthers, item_at, link_at}
-use Rattle.multimap_slots.proofs.ListsLemmas.{IsIn-left, IsIn-right, IsIn-append, AreDistinct-gone, next_of-split}
+use Rattle.multimap_slots.proofs.ListsLemmas.{IsIn-left, IsIn-right, AreDistinct-gone, next_of-split}
 use Rattle.multimap_walks.specs.declared.links.KeyLink.{KeyLink}
 use Rattle.multimap_walks.specs.declared.links.ValueLink.{ValueLink}
 use Rattle.multimap_walks.specs.Chained.{IsChained, is_value_of, chain_of}

@@ -1,6 +1,6 @@
 -- Values that leave the map, and the key that goes with its last one. No public clause cites this
 -- module.
-use Rattle.std.specs.Prelude.{◌≡◌, ◌==◌, ℕ, Bool, true, false, not, List, ◌++◌, length, filter}
+use Rattle.std.specs.Prelude.{◌≡◌, ◌==◌, ℕ, Bool, false, not, List, ◌++◌, length, filter}
 use Rattle.std.specs.Prelude.{◌≢◌, ◌+◌, Option, Some, None}
 use Rattle.std.specs.List.{list_any}
 use Rattle.multimap_slots.specs.Lists.{first_of}

@@ -1,16 +1,15 @@
-use Rattle.std.proofs.Common.{◌≡◌, Some, length, slice_get, option_map, refl, sym, ap, ◌∙◌, subst}
+use Rattle.std.proofs.Common.{length, slice_get, option_map, sym, ap, ◌∙◌, subst}
 use Rattle.ordered_multimap.specs.Pairs.{values_of}
 use Rattle.ordered_multimap.specs.Keys.{stored_key}
 use Rattle.ordered_multimap.specs.Changes.{removed}
 use Rattle.ordered_multimap.specs.TapeNumbers.{TakesOut, numbers_of}
-use Rattle.ordered_multimap.specs.Agrees.{items_of, lists_of}
+use Rattle.ordered_multimap.specs.Agrees.{lists_of}
 use Rattle.ordered_multimap.proofs.PlaceLemmas.{held}
 use Rattle.multimap_slots.specs.Slots.{link_at}
 use Rattle.ordered_multimap.proofs.AgreesLemmas.{well_formed}
-use Rattle.ordered_multimap.proofs.LookupLemmas.{count_of_values, keyed, no_value, values_of-chain}
+use Rattle.ordered_multimap.proofs.LookupLemmas.{count_of_values, no_value, values_of-chain}
 use Rattle.ordered_multimap.proofs.AppendedLemmas.{stays_paid}
-use Rattle.ordered_multimap.proofs.TakeLemmas.{agrees-taken, lists_of-taken, fits-taken, removed-absent, removed_key, takes_none}
-use Rattle.ordered_multimap.proofs.DrainLemmas.{nothing_drained}
+use Rattle.ordered_multimap.proofs.TakeLemmas.{agrees-taken, lists_of-taken, fits-taken, removed-absent, takes_none}
 use Rattle.ordered_multimap.proofs.DetachedLemmas.{key_found, key_absent}
 use Rattle.ordered_multimap.proofs.list_ordered_multimap.ListOrderedMultimap.detach_all.Goals as goal
 

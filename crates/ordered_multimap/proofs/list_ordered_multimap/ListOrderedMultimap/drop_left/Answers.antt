@@ -1,7 +1,7 @@
-use Rattle.std.proofs.Common.{sym, subst, refl}
+use Rattle.std.proofs.Common.{subst}
 use Rattle.multimap_walks.specs.declared.links.ChainEnds.{ChainEnds}
-use Rattle.ordered_multimap.specs.Detaches.{HoldsDrain, KeepsListed}
-use Rattle.ordered_multimap.proofs.DrainLemmas.{agrees-listed, drained-none}
+use Rattle.ordered_multimap.specs.Detaches.{KeepsListed}
+use Rattle.ordered_multimap.proofs.DrainLemmas.{agrees-listed}
 use Rattle.ordered_multimap.proofs.DrainedLemmas.{fits-listed, paid-listed, keeps_listed}
 use Rattle.ordered_multimap.proofs.RoomLemmas.{map_of}
 use Rattle.ordered_multimap.proofs.list_ordered_multimap.ListOrderedMultimap.drop_left.Goals as goal

@@ -1,11 +1,11 @@
-use Rattle.std.proofs.Common.{◌≡◌, length, slice_get, sym, ap, ◌∙◌, subst, true≢false}
+use Rattle.std.proofs.Common.{length, slice_get, sym, ap, ◌∙◌, subst, true≢false}
 use Rattle.ordered_multimap.specs.Pairs.{values_of}
 use Rattle.ordered_multimap.specs.Changes.{inserted}
 use Rattle.ordered_multimap.specs.TapeNumbers.{TakesOut, numbers_of}
 use Rattle.ordered_multimap.specs.Rooms.{HasInsertRoom, InsertRaisesNoRoom}
 use Rattle.ordered_multimap.specs.Agrees.{IsFoundBy, hash_of, lists_of}
 use Rattle.ordered_multimap.proofs.AgreesLemmas.{well_formed}
-use Rattle.ordered_multimap.proofs.LookupLemmas.{keyed, found_by, no_value, absent_if_unlisted}
+use Rattle.ordered_multimap.proofs.LookupLemmas.{keyed, found_by, no_value}
 use Rattle.ordered_multimap.proofs.AppendedLemmas.{first, agrees_reserved, lists_reserved, stays_paid}
 use Rattle.ordered_multimap.proofs.RoomLemmas.{map_of, fits_absent, insert_raises_none, on_err}
 use Rattle.ordered_multimap.proofs.InsertLemmas.{agrees-inserted, lists_of-inserted, first_of-inserted, count_of-inserted, inserted-absent}

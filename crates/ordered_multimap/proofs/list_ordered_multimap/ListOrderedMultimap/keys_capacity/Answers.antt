@@ -1,4 +1,4 @@
-use Rattle.std.proofs.Common.{◌≡◌, ◌≤◌, length, subst, arith}
+use Rattle.std.proofs.Common.{◌≤◌, length, subst, arith}
 use Rattle.ordered_multimap.proofs.AgreesLemmas.{length-keys}
 use Rattle.ordered_multimap.proofs.list_ordered_multimap.ListOrderedMultimap.keys_capacity.Goals as goal
 

@@ -1,7 +1,7 @@
-use Rattle.std.proofs.Common.{◌≡◌, ◌-◌, ◌∷◌, ◌++◌, [], sym, subst, arith, refl, ap, ◌∙◌}
+use Rattle.std.proofs.Common.{◌-◌, sym, subst, arith, ap, ◌∙◌}
 use Rattle.multimap_walks.specs.declared.links.ChainEnds.{ChainEnds}
 use Rattle.ordered_multimap.specs.Detaches.{HoldsDrain, KeepsListed, left_of}
-use Rattle.ordered_multimap.proofs.DrainLemmas.{first_detached, first_rest, first_given, drains, nothing_drained, keeps_slots, agrees-listed}
+use Rattle.ordered_multimap.proofs.DrainLemmas.{first_detached, first_rest, first_given, keeps_slots, agrees-listed}
 use Rattle.ordered_multimap.proofs.DrainedLemmas.{fits-listed, paid-listed, keeps_listed}
 use Rattle.ordered_multimap.proofs.RoomLemmas.{map_of}
 use Rattle.ordered_multimap.proofs.list_ordered_multimap.ListOrderedMultimap.take_first_left.Goals as goal

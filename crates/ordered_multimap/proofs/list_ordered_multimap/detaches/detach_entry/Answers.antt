@@ -1,4 +1,4 @@
-use Rattle.std.proofs.Common.{sym, subst, ◌∙◌, arith}
+use Rattle.std.proofs.Common.{sym, subst}
 use Rattle.ordered_multimap.specs.TapeNumbers.{TakesOut, numbers_of}
 use Rattle.ordered_multimap.proofs.TakingLemmas.{taking-end, taking-some}
 use Rattle.ordered_multimap.proofs.DetachLemmas.{detached_chain, detached_whole}

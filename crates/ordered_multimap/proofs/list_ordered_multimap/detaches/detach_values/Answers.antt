@@ -1,4 +1,4 @@
-use Rattle.std.proofs.Common.{◌≡◌, Some, ◌∙◌, refl, subst, arith, add-one}
+use Rattle.std.proofs.Common.{◌≡◌, ◌∙◌, refl, subst, arith, add-one}
 use Rattle.multimap_walks.specs.Chained.{chain_of}
 use Rattle.ordered_multimap.specs.Detaches.{IsDetaching}
 use Rattle.ordered_multimap.specs.Takes.{IsTaking}

@@ -1,4 +1,4 @@
-use Rattle.std.proofs.Common.{◌-◌, ◌+◌, refl, sym, ◌∙◌, arith}
+use Rattle.std.proofs.Common.{◌-◌, ◌+◌, refl, ◌∙◌, arith}
 use Rattle.ordered_multimap.proofs.DrainLemmas.{drained-length, first_detached, first_rest, keeps_slots, keeps_all, keeps_more}
 use Rattle.ordered_multimap.proofs.list_ordered_multimap.drain_steps.drop_chain.Goals as goal
 

@@ -1,5 +1,4 @@
-use Rattle.std.proofs.Common.{sym, subst, arith}
-use Rattle.multimap_walks.specs.Chained.{chain_of}
+use Rattle.std.proofs.Common.{sym, subst}
 use Rattle.ordered_multimap.specs.TapeNumbers.{TakesOut, numbers_of}
 use Rattle.ordered_multimap.proofs.TakingLemmas.{taking-end, taking-some}
 use Rattle.ordered_multimap.proofs.list_ordered_multimap.takes.take_entry.Goals as goal

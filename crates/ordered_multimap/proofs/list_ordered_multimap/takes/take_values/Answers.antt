@@ -1,4 +1,4 @@
-use Rattle.std.proofs.Common.{◌≡◌, Some, ◌∙◌, subst, arith, add-one}
+use Rattle.std.proofs.Common.{◌≡◌, ◌∙◌, subst, arith, add-one}
 use Rattle.multimap_walks.specs.Chained.{chain_of}
 use Rattle.ordered_multimap.specs.Takes.{IsTaking}
 use Rattle.ordered_multimap.proofs.TakingLemmas.{taking-head, taking-listed, taking-step, taking-more}
