@@ -1,4 +1,5 @@
-//! Tests of the map, from outside.
+//! Tests of the map, from outside: constructors, appends, look-ups and walks; and the calls that tests
+//! of its removals share.
 //!
 //! They stand in a crate of their own, since they need an allocator that refuses: a crate has one
 //! list of dependencies for its code and its tests.
@@ -6,8 +7,7 @@
 
 #[cfg(test)]
 mod ample;
-#[cfg(test)]
-mod calls;
+pub mod calls;
 #[cfg(test)]
 mod caseless;
 #[cfg(test)]
@@ -15,28 +15,16 @@ mod constructors;
 #[cfg(test)]
 mod drain_steps;
 #[cfg(test)]
-mod drained;
-#[cfg(test)]
-mod drained_memory;
-pub mod drains;
-#[cfg(test)]
 mod examples;
-#[cfg(test)]
-mod inserted;
 #[cfg(test)]
 mod keys;
 #[cfg(test)]
 mod many;
 #[cfg(test)]
-mod popped;
-#[cfg(test)]
 mod refused;
-#[cfg(test)]
-mod removed;
 #[cfg(test)]
 mod shown;
 #[cfg(test)]
 mod texts;
-pub mod undone;
 #[cfg(test)]
 mod walks;

@@ -1,5 +1,5 @@
 //! Pairs that take the place of all others of their key.
-use crate::calls::{expect_append, expect_ends, expect_key, expect_lengths};
+use ordered_multimap_tests::calls::{expect_append, expect_ends, expect_key, expect_lengths};
 use ordered_multimap::ListOrderedMultimap;
 use ordered_multimap::list_ordered_multimap::{DefaultState, Refused};
 use refusing_allocator::RefusingAllocator;

@@ -1,5 +1,5 @@
 //! Keys that leave: what goes with them, what stays, and the room that they leave to others.
-use crate::calls::{expect_append, expect_ends, expect_key, expect_lengths};
+use ordered_multimap_tests::calls::{expect_append, expect_ends, expect_key, expect_lengths};
 use ordered_multimap::ListOrderedMultimap;
 use ordered_multimap::list_ordered_multimap::DefaultState;
 use refusing_allocator::RefusingAllocator;

@@ -1,5 +1,5 @@
 //! Keys that leave with a drain of their values: what stays, whatever becomes of the drain.
-use crate::calls::{expect_append, expect_ends, expect_key, expect_lengths};
+use ordered_multimap_tests::calls::{expect_append, expect_ends, expect_key, expect_lengths};
 use crate::drain_steps::{expect_hint, number_of};
 use ordered_multimap::ListOrderedMultimap;
 use ordered_multimap::list_ordered_multimap::{DefaultState, EntryValuesDrain};
