@@ -1,8 +1,10 @@
 //! Keys that leave with a drain of their values: what stays, whatever becomes of the drain.
-use ordered_multimap_tests::calls::{expect_append, expect_ends, expect_key, expect_lengths};
 use crate::drain_steps::{expect_hint, number_of};
 use ordered_multimap::ListOrderedMultimap;
 use ordered_multimap::list_ordered_multimap::{DefaultState, EntryValuesDrain};
+use ordered_multimap_tests::calls::{
+    add_four, expect_append, expect_ends, expect_key, expect_lengths,
+};
 use std::alloc::Allocator;
 use std::hash::{BuildHasher, Hash};
 use std::mem;
@@ -35,16 +37,6 @@ fn take<K: Eq + Hash, V: Drop, S: BuildHasher, A: Allocator>(
             }
         }
     }
-}
-
-fn add_four<K: Sample + Eq + Hash, V: Sample, S: BuildHasher>(
-    test: &Test,
-    map: &mut ListOrderedMultimap<K, V, S>,
-) {
-    expect_append(test, map, (1, 1), false);
-    expect_append(test, map, (2, 7), false);
-    expect_append(test, map, (1, 2), true);
-    expect_append(test, map, (1, 3), true);
 }
 
 // The other pair alone is left, and another key comes behind it.

@@ -1,8 +1,8 @@
 //! Memory and drains: drains take none, a refused insertion gives the pair back, and what a drain
 //! has left is dropped with it.
-use ordered_multimap_tests::calls::{expect_append, expect_ends, expect_lengths};
 use ordered_multimap::ListOrderedMultimap;
 use ordered_multimap::list_ordered_multimap::{DefaultState, Refused};
+use ordered_multimap_tests::calls::{expect_append, expect_ends, expect_lengths};
 use refusing_allocator::RefusingAllocator;
 use std::alloc::AllocError;
 use std::mem;

@@ -2,6 +2,8 @@
 #![tactic(auto)]
 
 #[cfg(test)]
+mod drain_steps;
+#[cfg(test)]
 mod drained;
 #[cfg(test)]
 mod drained_memory;

@@ -1,7 +1,7 @@
 //! Pairs that take the place of all others of their key.
-use ordered_multimap_tests::calls::{expect_append, expect_ends, expect_key, expect_lengths};
 use ordered_multimap::ListOrderedMultimap;
 use ordered_multimap::list_ordered_multimap::{DefaultState, Refused};
+use ordered_multimap_tests::calls::{expect_append, expect_ends, expect_key, expect_lengths};
 use refusing_allocator::RefusingAllocator;
 use std::alloc::{AllocError, Allocator};
 use std::hash::{BuildHasher, Hash};

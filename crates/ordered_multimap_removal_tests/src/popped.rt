@@ -1,14 +1,12 @@
 //! Pairs that leave at an end: what is answered, whether the key went, and what stays.
-use ordered_multimap_tests::calls::{expect_append, expect_ends, expect_lengths};
 use crate::undone::append_and_pop;
 use ordered_multimap::ListOrderedMultimap;
 use ordered_multimap::list_ordered_multimap::{DefaultState, KeyWrapper};
+use ordered_multimap_tests::calls::{add_four, expect_append, expect_ends, expect_lengths};
 use refusing_allocator::RefusingAllocator;
 use std::alloc::{AllocError, Allocator};
 use std::hash::{BuildHasher, Hash};
-use test_helpers::{
-    Constant, End, Failed, Sample, Test, Token, ZERO, is_compared, is_copied, is_shown,
-};
+use test_helpers::{Constant, End, Failed, Sample, Test, Token, ZERO};
 
 // A pop: the end, and the answer as whether the key went, the key and the value.
 type Pop = (End, Option<(bool, usize, usize)>);
@@ -47,16 +45,6 @@ fn expect_pops<K: Sample + Eq + Hash, V: Sample, S: BuildHasher, A: Allocator>(
     for (row, (end, answer)) in pops.iter().enumerate() {
         test.expect_at("pop", row, pop(map, *end) == *answer);
     }
-}
-
-fn add_four<K: Sample + Eq + Hash, V: Sample, S: BuildHasher>(
-    test: &Test,
-    map: &mut ListOrderedMultimap<K, V, S>,
-) {
-    expect_append(test, map, (1, 1), false);
-    expect_append(test, map, (2, 7), false);
-    expect_append(test, map, (1, 2), true);
-    expect_append(test, map, (1, 3), true);
 }
 
 const FROM_THE_FRONT: &[Pop] = &[

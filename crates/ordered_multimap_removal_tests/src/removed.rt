@@ -1,7 +1,9 @@
 //! Keys that leave: what goes with them, what stays, and the room that they leave to others.
-use ordered_multimap_tests::calls::{expect_append, expect_ends, expect_key, expect_lengths};
 use ordered_multimap::ListOrderedMultimap;
 use ordered_multimap::list_ordered_multimap::DefaultState;
+use ordered_multimap_tests::calls::{
+    add_four, expect_append, expect_ends, expect_key, expect_lengths,
+};
 use refusing_allocator::RefusingAllocator;
 use std::alloc::{AllocError, Allocator};
 use std::hash::{BuildHasher, Hash};
@@ -31,16 +33,6 @@ fn expect_removed_entry<K: Sample + Eq + Hash, V: Sample, S: BuildHasher, A: All
         None => None,
     };
     test.expect("remove_entry", removed == entry);
-}
-
-fn add_four<K: Sample + Eq + Hash, V: Sample, S: BuildHasher>(
-    test: &Test,
-    map: &mut ListOrderedMultimap<K, V, S>,
-) {
-    expect_append(test, map, (1, 1), false);
-    expect_append(test, map, (2, 7), false);
-    expect_append(test, map, (1, 2), true);
-    expect_append(test, map, (1, 3), true);
 }
 
 // The key goes with all its values, and comes back behind the other.

@@ -1,8 +1,7 @@
 //! The keys of pops: lent or handed out.
 use ordered_multimap::list_ordered_multimap::{DefaultState, KeyWrapper};
 use refusing_allocator::RefusingAllocator;
-use std::alloc::AllocError;
-use std::hash::{BuildHasher, Hash};
+use std::hash::BuildHasher;
 use test_helpers::{Failed, Test, is_compared, is_copied, is_shown};
 
 fn wrappers_tell(test: &Test, lent: KeyWrapper<'_, usize>, owned: KeyWrapper<'_, usize>) {

@@ -21,6 +21,17 @@ pub fn expect_append<K: Sample + Eq + Hash, V: Sample, S: BuildHasher, A: Alloca
     test.expect("append", answer == Some(present));
 }
 
+/// Appends three pairs of the key 1, and one of the key 2 behind the first.
+pub fn add_four<K: Sample + Eq + Hash, V: Sample, S: BuildHasher>(
+    test: &Test,
+    map: &mut ListOrderedMultimap<K, V, S>,
+) {
+    expect_append(test, map, (1, 1), false);
+    expect_append(test, map, (2, 7), false);
+    expect_append(test, map, (1, 2), true);
+    expect_append(test, map, (1, 3), true);
+}
+
 /// Expects how many keys and values there are.
 pub fn expect_lengths<K: Eq + Hash, V, S: BuildHasher, A: Allocator>(
     test: &Test,

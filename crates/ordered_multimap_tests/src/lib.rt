@@ -13,8 +13,6 @@ mod caseless;
 #[cfg(test)]
 mod constructors;
 #[cfg(test)]
-mod drain_steps;
-#[cfg(test)]
 mod examples;
 #[cfg(test)]
 mod keys;

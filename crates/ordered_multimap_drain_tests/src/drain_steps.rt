@@ -1,7 +1,7 @@
 //! Steps of a drain: what it gives from both ends, and what it shows of the rest.
-use crate::calls::{expect_append, expect_lengths};
 use ordered_multimap::ListOrderedMultimap;
 use ordered_multimap::list_ordered_multimap::{DefaultState, EntryValuesDrain};
+use ordered_multimap_tests::calls::{expect_append, expect_lengths};
 use std::alloc::Allocator;
 use std::hash::{BuildHasher, Hash};
 use test_helpers::{Constant, Failed, Sample, Test, Token, ZERO, expect_text};
