@@ -10,7 +10,8 @@ use Rattle.ordered_multimap.specs.Lists.{IsIn}
 use Rattle.ordered_multimap.specs.Pairs.{has_items}
 use Rattle.multimap_tool.specs.declared.commands.Command.{Command}
 use mathlib.Core.Logic.{inl, inr}
-use Rattle.multimap_tool.specs.Spelling.{Operand, letter_of, name_of, operands_of, Spells, IsBadLine}
+use Rattle.multimap_tool.specs.Spelling.{Operand, letter_of, name_of, operands_of}
+use Rattle.multimap_tool.specs.Spelling.{Spells, IsBadLine}
 
 -- the byte stands nowhere in the text
 abbrev pub IsWithout : ℕ → List ℕ → Type 0

@@ -9,6 +9,8 @@ mod compared;
 #[cfg(test)]
 mod lines;
 #[cfg(test)]
+mod listed;
+#[cfg(test)]
 mod memory;
 #[cfg(test)]
 mod plain;

@@ -1,7 +1,8 @@
 -- The key of a pair that was popped, lent or handed out.
 use Rattle.std.specs.Prelude.{◌≡◌, Bool, true, false, ⊤}
 use Rattle.ordered_multimap.specs.declared.list_ordered_multimap.key_wrapper.KeyWrapper.{KeyWrapper}
-use Rattle.ordered_multimap.specs.declared.list_ordered_multimap.key_wrapper.KeyWrapper.TheVariants.{Borrowed, Owned}
+use Rattle.ordered_multimap.specs.declared.list_ordered_multimap.key_wrapper as wrappers
+use wrappers.KeyWrapper.TheVariants.{Borrowed, Owned}
 
 module _ {K : Type 0} where
   -- whether the key was handed out

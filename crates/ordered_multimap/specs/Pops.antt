@@ -15,10 +15,12 @@ use Rattle.ordered_multimap.specs.Pop.{Popped, popped}
 use Rattle.ordered_multimap.specs.Rooms.{SameRooms}
 use Rattle.ordered_multimap.specs.TapeNumbers.{TakesOut}
 use Rattle.ordered_multimap.specs.declared.list_ordered_multimap.key_wrapper.KeyWrapper.{KeyWrapper}
-use Rattle.ordered_multimap.specs.declared.list_ordered_multimap.key_wrapper.KeyWrapper.TheVariants.{Borrowed, Owned}
+use Rattle.ordered_multimap.specs.declared.list_ordered_multimap.key_wrapper as wrappers
+use wrappers.KeyWrapper.TheVariants.{Borrowed, Owned}
 use Rattle.ordered_multimap.specs.declared.list_ordered_multimap.take_one.Taken.{Taken}
 use Rattle.ordered_multimap.specs.declared.list_ordered_multimap.take_one.TakenKey.{TakenKey}
-use Rattle.ordered_multimap.specs.declared.list_ordered_multimap.take_one.TakenKey.TheVariants.{Kept, Gone}
+use Rattle.ordered_multimap.specs.declared.list_ordered_multimap.take_one as steps
+use steps.TakenKey.TheVariants.{Kept, Gone}
 use Rattle.ordered_multimap.specs.contracts.list_ordered_multimap.ListOrderedMultimap.{the_row}
 
 -- the map after a pop at an end: the pair has gone, if there was one, and no room has changed

@@ -12,7 +12,8 @@ use Rattle.multimap_walks.specs.declared.links.ValueLink.{ValueLink}
 use Rattle.ordered_multimap.specs.Takes.{TakesEntry}
 use Rattle.ordered_multimap.specs.declared.list_ordered_multimap.take_one.Taken.{Taken}
 use Rattle.ordered_multimap.specs.declared.list_ordered_multimap.take_one.TakenKey.{TakenKey}
-use Rattle.ordered_multimap.specs.declared.list_ordered_multimap.take_one.TakenKey.TheVariants.{Kept, Gone}
+use Rattle.ordered_multimap.specs.declared.list_ordered_multimap.take_one as steps
+use steps.TakenKey.TheVariants.{Kept, Gone}
 
 -- the item at an end, if there is one
 abbrev pub end_of_list : {X : Type 0} → End → List X → Option X
