@@ -1,6 +1,6 @@
 -- What a map is where a call that lends it to a drain hands none out.
-use Rattle.std.specs.Prelude.{◌≡◌, Bool, Result}
-use Rattle.std.specs.Borrow.{Fml, MutBor, RattleType, RestsIfErr}
+use Rattle.std.specs.Prelude.{◌≡◌, Bool, Option, Result}
+use Rattle.std.specs.Borrow.{Fml, MutBor, RattleType, RestsIfErr, RestsIfNone}
 use Rattle.std.specs.declared.alloc.Allocator as allocator
 use Rattle.std.specs.declared.cmp.PartialEq as equality
 use Rattle.std.specs.declared.hash.Hash as hash
@@ -8,6 +8,7 @@ use Rattle.std.specs.declared.hash.Hasher as hasher
 use Rattle.std.specs.declared.hash.BuildHasher as builder
 use Rattle.ordered_multimap.specs.contracts.list_ordered_multimap.ListOrderedMultimap.{the_row}
 use Rattle.ordered_multimap.specs.declared.list_ordered_multimap.drain.EntryValuesDrain as drains
+use Rattle.ordered_multimap.specs.Detaches.{KeepsListed}
 use Rattle.ordered_multimap.specs.Multimap.{Multimap}
 use Rattle.ordered_multimap.specs.Rooms.{KeepsRooms, RaisesNoRoom}
 use Rattle.ordered_multimap.specs.TapeNumbers.{TakesOut}
@@ -30,3 +31,12 @@ module _ (K V S A H : RattleType) (e : equality.Ghosts K.Denot) (k : hash.Ghosts
   ends_inserted key r =
       RestsIfErr (the_row K V S A H e k b h alloc) m (λ d. d.map.ghost_name) r
       (RefusesPair e.eq key m.now)
+
+  -- at `None` the map keeps all of its lists, rooms and numbers, and otherwise it ends as what the
+  -- drain leaves
+  abbrev pub ends_removed :
+      Option (K.Denot × drains.EntryValuesDrain K.Denot V.Denot S.Denot A.Denot H.Denot e k b h)
+      → Fml
+  ends_removed r =
+      RestsIfNone (the_row K V S A H e k b h alloc) m (λ p. p.1.map.ghost_name) r
+      (KeepsListed m.now)

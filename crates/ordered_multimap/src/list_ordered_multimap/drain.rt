@@ -24,8 +24,10 @@ pub struct EntryValuesDrain<
 }
 
 impl<K: Eq + Hash, V: Drop, S: BuildHasher, A: Allocator> ListOrderedMultimap<K, V, S, A> {
+    ghost use Rattle.std.specs.Borrow.{sem};
     ghost use Rattle.std.specs.Prelude.{option_map, slice_get};
     ghost use Rattle.ordered_multimap.specs.Changes.{removed};
+    ghost use Rattle.ordered_multimap.specs.DrainLends.{ends_removed};
     ghost use Rattle.ordered_multimap.specs.Drains.{DrainsEntry, drain_left};
     ghost use Rattle.ordered_multimap.specs.Keys.{stored_key};
     ghost use Rattle.ordered_multimap.specs.Pairs.{values_of};
@@ -60,7 +62,8 @@ impl<K: Eq + Hash, V: Drop, S: BuildHasher, A: Allocator> ListOrderedMultimap<K,
     /// `page` is a reference to that key.
     ///
     /// A caller that is proved learns from it what the map is once the drain has ended, as from
-    /// `remove_all`, which it doesn't from `remove_entry_all`.
+    /// `remove_all`; of `remove_entry_all` a starred clause says it, which such a caller doesn't
+    /// learn.
     ///
     /// ```
     /// map.remove_entry_with_all(page, &mut stored).next() == Some(8)
@@ -86,7 +89,8 @@ impl<K: Eq + Hash, V: Drop, S: BuildHasher, A: Allocator> ListOrderedMultimap<K,
     }
 
     /// The same as `remove_all`, and the stored key is answered before the drain. None for an
-    /// absent key.
+    /// absent key, and the map keeps all that it has. A caller whose proof has to know the map
+    /// afterwards takes [`remove_entry_with_all`](Self::remove_entry_with_all).
     ///
     /// ```
     /// map.remove_entry_all(&"none").is_none()
@@ -94,16 +98,28 @@ impl<K: Eq + Hash, V: Drop, S: BuildHasher, A: Allocator> ListOrderedMultimap<K,
     pub fn remove_entry_all(&mut self, key: &K) -> Option<(K, EntryValuesDrain<'_, K, V, S, A>)>
     where
         K: Drop,
+        ensures* rest { sem 𝓛 (ends_removed K.row V.row S.row A.row S.Hasher.row K.PartialEq
+            K.Hash.own S.BuildHasher S.Hasher.Hasher A.Allocator self.entry result) }
         ensures key { option_map (λ r. r.0) result
             ≡ option_map (λ _. stored_key K.eq self.old.lists.keys key.now)
             (slice_get (values_of K.eq self.old.lists.pairs key.now) 0) }
         ensures drain { IfSome result (λ r. DrainsEntry K.eq self.old key.now r.1) }
         ensures same_map { IfSome result (λ r. r.1.map.ghost_name ≡ self.entry.ghost_name) }
     {
-        match self.detach_all(key) {
-            Some(stored) => Some((stored, EntryValuesDrain { map: self })),
+        let (stored, map) = self.detach_all_on(key);
+        match stored {
+            Some(stored) => Some((stored, map.drain())),
             None => None,
         }
+    }
+
+    /// The drain of the values that were detached.
+    fn drain(&mut self) -> EntryValuesDrain<'_, K, V, S, A>
+        requires { HoldsDrain self.old }
+        ensures same_map { result.map.ghost_name ≡ self.entry.ghost_name }
+        ensures same { result.map.now ≡ self.old }
+    {
+        EntryValuesDrain { map: self }
     }
 }
 

@@ -1,6 +1,6 @@
 //! What a drain does with the map that it borrows: it reads, takes and drops detached values.
 ghost use Rattle.std.specs.Prelude.{◌≡◌, [], length, option_map, slice_get};
-ghost use Rattle.std.specs.Prelude.{IfErr, OnErr, OnOk, IsOk};
+ghost use Rattle.std.specs.Prelude.{IfErr, IfNone, OnErr, OnOk, IsOk};
 ghost use Rattle.std.specs.Map.Iter.{TakesFirst, TakesLast};
 ghost use Rattle.multimap_slots.specs.Tapes.{KeepsCounts};
 ghost use Rattle.ordered_multimap.specs.Changes.{inserted, removed};
@@ -30,6 +30,7 @@ impl<K: Eq + Hash, V, S: BuildHasher, A: Allocator> ListOrderedMultimap<K, V, S,
         ensures rooms { SameRooms self.old self.new }
         ensures taken { TakesOut (length (values_of K.eq self.old.lists.pairs key.now))
             self.old.tape self.new.tape }
+        ensures absent { IfNone result (KeepsListed self.old self.new) }
     {
         match find(&self.state, &self.keys, &self.table, key) {
             Some(place) => {
@@ -47,6 +48,23 @@ impl<K: Eq + Hash, V, S: BuildHasher, A: Allocator> ListOrderedMultimap<K, V, S,
                 None
             }
         }
+    }
+
+    /// The same, and the map is handed back.
+    pub(super) fn detach_all_on(&mut self, key: &K) -> (Option<K>, &mut Self)
+        ensures same_map { result.1.ghost_name ≡ self.entry.ghost_name }
+        ensures holds { HoldsDrain result.1.now }
+        ensures left { left_of result.1.now ≡ values_of K.eq self.old.lists.pairs key.now }
+        ensures key { result.0 ≡ option_map (λ _. stored_key K.eq self.old.lists.keys key.now)
+            (slice_get (values_of K.eq self.old.lists.pairs key.now) 0) }
+        ensures lists { result.1.now.lists ≡ removed K.eq self.old.lists key.now }
+        ensures rooms { SameRooms self.old result.1.now }
+        ensures taken { TakesOut (length (values_of K.eq self.old.lists.pairs key.now))
+            self.old.tape result.1.now.tape }
+        ensures absent { IfNone result.0 (KeepsListed self.old result.1.now) }
+    {
+        let stored = self.detach_all(key);
+        (stored, self)
     }
 
     /// How many values are left of the drain.
