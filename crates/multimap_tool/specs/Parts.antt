@@ -1,6 +1,6 @@
 -- Words of the parser's own functions. No public clause cites this module.
 use Rattle.std.specs.Prelude.{◌≡◌, ◌≢◌, ◌⊎◌, ℕ, ◌<◌, ◌≤◌, ◌^◌, ℤ, nat_eq, FitsSigned, false, IsTrue}
-use Rattle.std.specs.Prelude.{List, [], ◌∷◌, ◌++◌, length, slice_index, map, codes}
+use Rattle.std.specs.Prelude.{List, [], ◌∷◌, length, slice_index, map, codes}
 use Rattle.std.specs.Prelude.{Option, MatchOption}
 use Rattle.std.specs.List.{list_any}
 use Rattle.std.specs.Int.{w64}

@@ -1,4 +1,4 @@
-use Rattle.std.proofs.Common.{◌≡◌, ◌+◌, ◌++◌, ◌≤◌, Some, length, map, vec_capacity}
+use Rattle.std.proofs.Common.{◌≡◌, ◌+◌, ◌++◌, ◌≤◌, length, vec_capacity}
 use Rattle.ordered_multimap.specs.Drains.{drain_left, KeepsMap}
 use Rattle.multimap_tool.proofs.drained.take_values.Given as goal
 

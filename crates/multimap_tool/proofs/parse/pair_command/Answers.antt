@@ -1,4 +1,4 @@
-use Rattle.std.proofs.Common.{◌∙◌, ap, sym, refl, inl, inr, rules}
+use Rattle.std.proofs.Common.{◌∙◌, ap, sym, inl, inr, rules}
 use Rattle.std.specs.Str.{bytes_eq}
 use Rattle.multimap_tool.proofs.ReadingLemmas.{same_text, other_text}
 use Rattle.multimap_tool.proofs.parse.pair_command.Goals as goal

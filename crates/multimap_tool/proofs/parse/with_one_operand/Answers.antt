@@ -1,7 +1,7 @@
 use Rattle.std.proofs.Common.{◌++◌, ◌∷◌, [], sym, ap, ◌∙◌, arith}
 use Rattle.std.proofs.lemmas.List.{append-nil}
 use Rattle.std.specs.Fmt.{decimal}
-use Rattle.multimap_tool.specs.Spelling.{key_operand, word_operand, letter_of}
+use Rattle.multimap_tool.specs.Spelling.{key_operand, word_operand}
 use Rattle.multimap_tool.proofs.ReadingLemmas.{bad_with_one, reading, word_is_no_key}
 use Rattle.multimap_tool.proofs.parse.with_one_operand.Goals as goal
 

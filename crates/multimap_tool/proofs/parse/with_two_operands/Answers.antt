@@ -1,10 +1,10 @@
-use Rattle.std.proofs.Common.{◌++◌, ◌∷◌, [], sym, ap, ◌∙◌, subst, arith, rules}
+use Rattle.std.proofs.Common.{◌++◌, ◌∷◌, [], sym, ◌∙◌, subst, arith, rules}
 use Rattle.std.specs.Prelude.{FitsSigned}
 use Rattle.std.specs.Int.{w64}
 use Rattle.std.proofs.lemmas.Int.{to_z-of_z}
 use Rattle.multimap_tool.specs.Parts.{IsFoundFor}
 use Rattle.std.proofs.lemmas.List.{append-nil}
-use Rattle.std.specs.Fmt.{decimal, signed_decimal}
+use Rattle.std.specs.Fmt.{signed_decimal}
 use Rattle.multimap_tool.specs.Spelling.{key_operand, value_operand, word_operand}
 use Rattle.multimap_tool.proofs.ReadingLemmas.{bad_with_two, reading, word_is_no_value}
 use Rattle.multimap_tool.proofs.parse.with_two_operands.Goals as goal
