@@ -1,8 +1,10 @@
 //! Keys and values that are texts: what each call answers before, between and after changes.
 use ordered_multimap::ListOrderedMultimap;
-use test_helpers::{End, Failed, Test, walk_difference};
+use test_helpers::{Constant, End, Failed, Test, ZERO, walk_difference};
 
 type Texts = ListOrderedMultimap<&'static str, &'static str>;
+
+type Collided = ListOrderedMultimap<&'static str, &'static str, Constant>;
 
 fn insert(test: &Test, map: &mut Texts, pair: (&'static str, &'static str), old: Option<&str>) {
     test.expect("insert", map.insert(pair.0, pair.1) == Ok(old));
@@ -111,5 +113,78 @@ fn keys_of_texts_are_walked(test: &Test, map: &mut Texts) {
 fn keys_that_are_texts_are_walked(rt: HostRuntime) -> Result<(), Failed> {
     let test = Test::new(rt.alloc());
     keys_of_texts_are_walked(&test, &mut ListOrderedMultimap::new(test.alloc()));
+    test.end()
+}
+
+fn three_keys_are_walked(test: &Test, map: &mut Texts) {
+    insert(test, map, ("key1", "value1"), None);
+    insert(test, map, ("key2", "value2"), None);
+    insert(test, map, ("key1", "value3"), Some("value1"));
+    insert(test, map, ("key3", "value4"), None);
+    let keys = [
+        (End::Front, "key1"),
+        (End::Front, "key2"),
+        (End::Front, "key3"),
+    ];
+    test.expect_same("keys", walk_difference(&mut map.keys(), &keys));
+}
+
+fn four_pairs_are_walked(test: &Test, map: &mut Texts) {
+    insert(test, map, ("key1", "value1"), None);
+    insert(test, map, ("key2", "value1"), None);
+    append(test, map, ("key1", "value2"), true);
+    append(test, map, ("key2", "value2"), true);
+    let pairs = [
+        (End::Front, ("key1", "value1")),
+        (End::Front, ("key2", "value1")),
+        (End::Front, ("key1", "value2")),
+        (End::Front, ("key2", "value2")),
+    ];
+    test.expect_same("pairs", walk_difference(&mut map.iter(), &pairs));
+}
+
+fn expect_entry_len(test: &Test, map: &Texts, step: usize, length: usize) {
+    test.expect_at("entry_len", step, map.entry_len(&"key") == length);
+}
+
+fn lengths_of_a_key_are_told(test: &Test, map: &mut Texts) {
+    insert(test, map, ("key", "value1"), None);
+    expect_entry_len(test, map, 0, 1);
+    insert(test, map, ("key", "value2"), Some("value1"));
+    expect_entry_len(test, map, 1, 1);
+    append(test, map, ("key", "value3"), true);
+    expect_entry_len(test, map, 2, 2);
+    insert(test, map, ("key", "value4"), Some("value2"));
+    expect_entry_len(test, map, 3, 1);
+    test.expect("remove", map.remove(&"key") == Some("value4"));
+    expect_entry_len(test, map, 4, 0);
+}
+
+#[test]
+fn insertions_of_texts_are_walked(rt: HostRuntime) -> Result<(), Failed> {
+    let test = Test::new(rt.alloc());
+    three_keys_are_walked(&test, &mut ListOrderedMultimap::new(test.alloc()));
+    four_pairs_are_walked(&test, &mut ListOrderedMultimap::new(test.alloc()));
+    lengths_of_a_key_are_told(&test, &mut ListOrderedMultimap::new(test.alloc()));
+    test.end()
+}
+
+fn expect_value(test: &Test, map: &Collided, key: &'static str, value: &'static str) {
+    test.expect(value, map.get(&key).copied() == Some(value));
+}
+
+fn collided_texts_are_apart(test: &Test, map: &mut Collided) {
+    test.expect("insert", map.insert("key1", "value1") == Ok(None));
+    expect_value(test, map, "key1", "value1");
+    test.expect("insert", map.insert("key2", "value2") == Ok(None));
+    expect_value(test, map, "key2", "value2");
+    expect_value(test, map, "key1", "value1");
+}
+
+#[test]
+fn texts_of_one_hash_are_apart(rt: HostRuntime) -> Result<(), Failed> {
+    let test = Test::new(rt.alloc());
+    let mut map = ListOrderedMultimap::with_hasher(test.alloc(), ZERO);
+    collided_texts_are_apart(&test, &mut map);
     test.end()
 }
