@@ -1,5 +1,5 @@
 -- After an append key list, table and values agree, and the two lists are the appended ones.
-use Rattle.std.proofs.Common.{◌≡◌, ◌≢◌, ℕ, ◌+◌, ◌<◌, Bool, true, false, cond, List, [], ◌∷◌, ◌++◌, length, Option, Some, None, refl, sym, ap, ◌∙◌, subst, inl, inr, is_some, arith, length-append, Result, Ok, Err, OnOk, OnErr, IfOk}
+use Rattle.std.proofs.Common.{◌≡◌, ◌≢◌, ℕ, ◌+◌, ◌<◌, Bool, true, false, cond, List, [], ◌∷◌, ◌++◌, length, Option, Some, None, refl, sym, ap, ◌∙◌, subst, inl, inr, is_some, arith, length-append, Result, Ok, Err, OnOk, OnErr}
 use Rattle.std.proofs.lemmas.Bool.{cases_eq, eq-eqb, ne_eqb}
 use Rattle.std.proofs.lemmas.List.Elements.{filter_map-append}
 use Rattle.std.proofs.lemmas.Map.Keys.{IsDistinct-push}
@@ -231,11 +231,6 @@ module _ {K V : Type 0} {eq : K → K → Bool} (laws : IsEquivalence eq) {hash 
     behind_agrees (Ok x) done renamed = (behind done).agrees
     behind_agrees (Err e) done renamed = agrees_reserved laws agrees renamed
 
-    pub behind_lists : {X E : Type 0} (r : Result X E) → OnOk r (AppendsBehind keys keys_after values values_after place v)
-        → OnOk r (lists_of keys_after values_after ≡ appended eq (lists_of keys values) key v)
-    behind_lists (Ok x) done = (behind done).lists
-    behind_lists (Err e) done = done
-
   -- of an absent key
   module _ (rows_after : FinMap nat_cmp ℕ) (h : ℕ) (unlisted : is_listed eq (items_of keys) key ≡ false) (hash_is : h ≡ hash key) where
     pub first : AppendsFirst keys keys_after rows rows_after values values_after h key v → Appends eq hash keys values key v keys_after rows_after values_after
@@ -253,10 +248,12 @@ module _ {K V : Type 0} {eq : K → K → Bool} (laws : IsEquivalence eq) {hash 
     first_lists (Ok x) done = (first done).lists
     first_lists (Err e) done = done
 
--- a reply that is known is the one that is wanted
-pub reply_is : {E : Type 0} {known wanted : Bool} → known ≡ wanted → (r : Result Bool E) → IfOk r (λ b. b ≡ known) → IfOk r (λ b. b ≡ wanted)
-reply_is same (Ok b) is = is ∙ same
-reply_is same (Err e) is = is
+-- under each key that is equal to the one at the place
+pub behind_lists : {K V : Type 0} {eq : K → K → Bool} (laws : IsEquivalence eq) {hash : K → ℕ} {keys : Slots K KeyLink} {rows : FinMap nat_cmp ℕ} {values : Slots V ValueLink}
+    → Agrees eq hash keys rows values → (keys_after : Slots K KeyLink) (values_after : Slots V ValueLink) (v : V) (place : ℕ) {X E : Type 0} (r : Result X E) → OnOk r (AppendsBehind keys keys_after values values_after place v)
+    → OnOk r ((k : K) → HasKey eq keys k place → lists_of keys_after values_after ≡ appended eq (lists_of keys values) k v)
+behind_lists laws agrees keys_after values_after v place (Ok x) done = λ k has. (present_step laws agrees done.renamed k v place has done.pushed).lists
+behind_lists laws agrees keys_after values_after v place (Err e) done = done
 
 -- the moves stay paid, however many pairs were taken out
 pub stays_paid : {n : ℕ} {old new : TapeNumbers} → TakesOut n old new → ArePaid old → ArePaid new

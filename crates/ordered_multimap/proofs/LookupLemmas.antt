@@ -1,5 +1,5 @@
 -- Look-ups by key, and the ends of the pairs.
-use Rattle.std.proofs.Common.{option_map, is_some, IfSome, IfNone, ◌≡◌, ◌≢◌, ◌⊎◌, ◌==◌, ℕ, suc, ◌+◌, Bool, true, false, cond, List, [], ◌∷◌, length, filter, map, slice_get, Option, Some, None, refl, sym, ap, ◌∙◌, subst, inl, inr, true≢false, arith}
+use Rattle.std.proofs.Common.{option_map, is_some, IfSome, IfNone, ◌≡◌, ◌≢◌, ◌⊎◌, ◌==◌, ℕ, suc, ◌+◌, Bool, true, false, cond, List, [], ◌∷◌, length, filter, map, slice_get, Option, Some, None, Result, Ok, Err, IfOk, refl, sym, ap, ◌∙◌, subst, inl, inr, true≢false, arith}
 use Rattle.std.proofs.lemmas.Bool.{cases_eq, eq-eqb, ne_eqb}
 use Rattle.std.specs.List.{filter_map, cons_option, enumerate_from, IsDistinct, AllByRecursion}
 use Rattle.std.specs.Cmp.{IsEquivalence}
@@ -8,7 +8,7 @@ use Rattle.std.specs.FinMap.{FinMap}
 use Rattle.std.specs.Borrow.{Bor}
 use Rattle.std.specs.Map.Iter.{TakesFirst, TakesLast, deref_pair}
 use Rattle.multimap_slots.specs.Lists.{IsIn, AreDistinct}
-use Rattle.multimap_slots.specs.Slots.{Slots, item_at, link_at}
+use Rattle.multimap_slots.specs.Slots.{HasItem, Slots, item_at, link_at}
 use Rattle.multimap_walks.specs.declared.links.KeyLink.{KeyLink}
 use Rattle.multimap_walks.specs.declared.links.ValueLink.{ValueLink}
 use Rattle.multimap_walks.specs.Walk.{end_item}
@@ -16,11 +16,11 @@ use Rattle.multimap_walks.specs.declared.End.TheVariants.{Front, Back}
 use Rattle.multimap_walks.specs.Chained.{position_in, is_value_of, chain_of, positions_at, values_at, pair_at, pairs_of}
 use Rattle.ordered_multimap.specs.Pairs.{has_items, values_of, positions_of, is_present}
 use Rattle.ordered_multimap.specs.Keys.{is_listed, stored_key}
-use Rattle.ordered_multimap.specs.Agrees.{Agrees, AreKeyed, HasKey, IsFoundBy, items_of, lists_of}
+use Rattle.ordered_multimap.specs.Agrees.{Agrees, AreKeyed, HasKey, IsFoundBy, LacksKey, items_of, lists_of}
 use Rattle.ordered_multimap.proofs.Members.{IsIn-kept}
 use Rattle.ordered_multimap.proofs.PlaceLemmas.{held, length-filter_map, IsIn-filter_map, origin, begins}
 use Rattle.ordered_multimap.proofs.LawLemmas.{end_item-push}
-use Rattle.ordered_multimap.proofs.KeyLemmas.{is_listed-member, stored_key_member}
+use Rattle.ordered_multimap.proofs.KeyLemmas.{is_listed-member, stored_key_member, stored_key_only}
 use Rattle.ordered_multimap.proofs.WellFormedLemmas.{is_present-keys}
 use Rattle.ordered_multimap.proofs.AgreesLemmas.{PairAt, pair_in, is_value_of-is, well_formed}
 
@@ -111,15 +111,6 @@ module _ {K V : Type 0} {eq : K → K → Bool} (laws : IsEquivalence eq) {hash 
       empty [] e = refl
       empty (x ∷ xs) e = absurd (true≢false e)
 
-  pub no_position : (k : K) → is_listed eq (items_of keys) k ≡ false → positions_of eq (pairs_of keys values) k ≡ []
-  no_position k none =
-      let shorter = length-positions_of eq k 0 (pairs_of keys values) ∙ ap length (no_value k none) in
-      empty (positions_of eq (pairs_of keys values) k) shorter
-    where
-      empty : (xs : List ℕ) → length xs ≡ 0 → xs ≡ []
-      empty [] e = refl
-      empty (x ∷ xs) e = absurd (omega (arith, e))
-
   -- a value is the key's exactly where its own key is equal
   pub owns : (k : K) (place : ℕ) (has : HasKey eq keys k place) (q : ℕ) (p : PairAt keys values q) → is_value_of values place q ≡ eq k p.key
   owns k place has q p = is_value_of-is keys values place q p.link p.link_is ∙ cases (cases_eq p.link.key place)
@@ -184,6 +175,24 @@ module _ {K V : Type 0} {eq : K → K → Bool} (laws : IsEquivalence eq) {hash 
       positions_along k place has 0 values.order agrees.values_sound.distinct (λ q i. i)
       ∙ map-agree (λ q. 0 + position_in values.order q) (position_in values.order) (chain_of values place) (λ q member. omega arith)
 
+  -- where no key is equal
+  pub lacks_key : (k : K) (o : Option ℕ) → IfNone o (is_listed eq (items_of keys) k ≡ false) → IfNone o (LacksKey eq (lists_of keys values) k)
+  lacks_key k None none = record { well_formed = well_formed agrees; unlisted = none; no_value = no_value k none }
+  lacks_key k (Some place) none = none
+
+  -- the key at a place is equal to itself
+  pub own_key : (place : ℕ) → IsIn place keys.order → (k : K) × HasKey eq keys k place
+  own_key place listed =
+      let k = held (item_at keys place) (agrees.keys_sound.filled place listed) in
+      (k.value, record { listed = listed; stored = k.value; item_is = k.is; equal = laws.refl k.value })
+
+  -- and is the stored one of each that is equal to it
+  pub stored_at : (k : K) (place : ℕ) (j : K) → HasKey eq keys k place → item_at keys place ≡ Some j → j ≡ stored_key eq (items_of keys) k
+  stored_at k place j has item_is =
+      let same : Some has.stored ≡ Some j = sym has.item_is ∙ item_is in
+      let own : has.stored ≡ j = cc in
+      sym (stored_key_only laws k j (items_of keys) agrees.distinct (IsIn-filter_map (item_at keys) place j keys.order has.listed item_is) (ap (eq k) (sym own) ∙ has.equal))
+
   pub head_listed : (place : ℕ) (l : KeyLink) → IsIn place keys.order → link_at keys place ≡ Some l → IsIn l.head values.order
   head_listed place l listed link_is =
       let b = begins (chain_of values place) l.head (agrees.chained.head place l listed link_is) in
@@ -201,6 +210,11 @@ module _ {K V : Type 0} {eq : K → K → Bool} (laws : IsEquivalence eq) {hash 
       ap length (values_of-chain k place has)
       ∙ length-filter_map (item_at values) (chain_of values place) (λ q i. agrees.values_sound.filled q (IsIn-kept (is_value_of values place) q values.order i).0)
       ∙ agrees.chained.length place l has.listed link_is
+
+-- a key that has come is equal to itself
+pub new_key : {K : Type 0} {eq : K → K → Bool} (laws : IsEquivalence eq) (keys : Slots K KeyLink) (k : K) {E : Type 0} (r : Result ℕ E) → IfOk r (λ p. HasItem keys p k) → IfOk r (HasKey eq keys k)
+new_key laws keys k (Ok place) has = record { listed = has.listed; stored = k; item_is = has.item_is; equal = laws.refl k }
+new_key laws keys k (Err e) has = has
 
 -- what a step of a walk over pairs takes is the item at that end of what was left
 module _ {K V : Type 0} (s t : List (K × V)) where

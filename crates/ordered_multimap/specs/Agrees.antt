@@ -1,5 +1,5 @@
 -- How key list, table and values agree. No public clause cites this module.
-use Rattle.std.specs.Prelude.{◌≡◌, ℕ, Bool, true, false, List, Some, length}
+use Rattle.std.specs.Prelude.{◌≡◌, ℕ, Bool, true, false, List, [], Some, length}
 use Rattle.std.specs.List.{fold, filter_map, IsDistinct}
 use Rattle.std.specs.Hash.{HashWrites}
 use Rattle.std.specs.Ordering.{nat_cmp}
@@ -12,7 +12,9 @@ use Rattle.multimap_slots.specs.Tapes.{Taped, HasTapeRoomFor}
 use Rattle.multimap_walks.specs.declared.links.KeyLink.{KeyLink}
 use Rattle.multimap_walks.specs.declared.links.ValueLink.{ValueLink}
 use Rattle.multimap_walks.specs.Chained.{IsChained, pairs_of}
-use Rattle.ordered_multimap.specs.Lists.{Lists, lists}
+use Rattle.ordered_multimap.specs.Keys.{is_listed}
+use Rattle.ordered_multimap.specs.Lists.{IsWellFormed, Lists, lists}
+use Rattle.ordered_multimap.specs.Pairs.{values_of}
 use Rattle.ordered_multimap.specs.TapeNumbers.{numbers_of, ArePaid}
 
 -- what a builder makes of the writes of a key
@@ -30,6 +32,12 @@ pub record HasKey {K : Type 0} (eq : K → K → Bool) (keys : Slots K KeyLink) 
   pub stored : K
   pub item_is : item_at keys place ≡ Some stored
   pub equal : eq k stored ≡ true
+
+-- no key of well-formed lists is equal to k, and so k has no value
+pub record LacksKey {K V : Type 0} (eq : K → K → Bool) (m : Lists K V) (k : K) : Type 0 where
+  pub well_formed : IsWellFormed eq m
+  pub unlisted : is_listed eq m.keys k ≡ false
+  pub no_value : values_of eq m.pairs k ≡ []
 
 module _ {K : Type 0} (eq : K → K → Bool) (keys : Slots K KeyLink) (k : K) (place : ℕ) where
   -- an equal key stands at the place, or where the answer is no, no equal key stands there

@@ -27,7 +27,7 @@ use multimap_slots::{SlotList, Tape};
 use multimap_table::KeyTable;
 use multimap_walks::ChainEnds;
 pub use multimap_walks::{EntryValues, Iter, KeyLink, Keys, ValueLink};
-pub use refused::Refused;
+pub use refused::{Refused, RefusedValue};
 use std::alloc::{AllocError, Allocator, Global};
 pub use std::hash::RandomState;
 use std::hash::{BuildHasher, BuildHasherDefault, FoldHasher, Hash};

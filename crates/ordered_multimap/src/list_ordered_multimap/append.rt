@@ -1,21 +1,22 @@
 //! Pairs that come last.
-ghost use Rattle.std.specs.Prelude.{◌≡◌, true, false, length, IfOk, IfErr, OnOk, OnErr, IsOk};
+ghost use Rattle.std.specs.Prelude.{◌≡◌, false, length, IfOk, IfErr, OnOk, OnErr, IsOk};
 ghost use Rattle.std.specs.FinMap.{len};
 ghost use Rattle.multimap_slots.specs.Lists.{IsIn};
-ghost use Rattle.multimap_slots.specs.Slots.{IsSound};
+ghost use Rattle.multimap_slots.specs.Slots.{HasItem, IsSound};
 ghost use Rattle.multimap_slots.specs.Tapes.{HasTapeRoomFor};
 ghost use Rattle.multimap_walks.specs.Chained.{IsChained};
 ghost use Rattle.ordered_multimap.specs.Appends.{AppendsBehind, AppendsFirst, HasListedRows, GrowsIfFull, MakesRoom, FitsOneMore};
+ghost use Rattle.ordered_multimap.specs.Agrees.{HasKey, hash_of};
 ghost use Rattle.ordered_multimap.specs.Renames.{AreRenamed};
 ghost use Rattle.ordered_multimap.specs.TapeNumbers.{TakesOut};
+ghost use Rattle.ordered_multimap.specs.Keys.{is_listed};
 ghost use Rattle.ordered_multimap.specs.Pairs.{is_present};
 ghost use Rattle.ordered_multimap.specs.Changes.{appended};
-ghost use Rattle.ordered_multimap.specs.Rooms.{HasPairRoom, KeepsRooms, RaisesNoRoom};
+ghost use Rattle.ordered_multimap.specs.Rooms.{HasPairRoom, HasValueRoom, KeepsRooms, RaisesNoRoom};
 
-use super::lookup::place_of;
 use super::room::{make_room, make_value_room};
 use super::steps::{push_behind, push_only, push_row};
-use super::{ListOrderedMultimap, Refused};
+use super::{ListOrderedMultimap, Refused, RefusedValue};
 use multimap_slots::{SlotList, Tape};
 use multimap_table::KeyTable;
 use multimap_walks::{KeyLink, ValueLink};
@@ -49,63 +50,107 @@ impl<K: Eq + Hash, V, S: BuildHasher, A: Allocator + Copy> ListOrderedMultimap<K
         ensures had_room { RaisesNoRoom K.eq key self.old self.new }
         ensures taken { TakesOut 0 self.old.tape self.new.tape }
     {
-        let hash = self.state.hash_one(&key);
-        match place_of(&self.keys, &self.table, hash, &key) {
-            Some(place) => append_behind(&mut self.keys, &mut self.values, place, key, value),
-            None => append_first(
-                &mut self.keys,
-                &mut self.table,
-                &mut self.values,
-                hash,
-                key,
-                value,
-            ),
+        let (hash, place) = self.look_up(&key);
+        let Some(place) = place else {
+            self.append_new(hash, key, value)?;
+            return Ok(false);
+        };
+        match self.append_at(place, value) {
+            Ok(()) => Ok(true),
+            Err(RefusedValue { value }) => Err(Refused { key, value }),
         }
+    }
+
+    /// Puts a pair of an absent key, whose hash is `hash`, last, and answers the key's place.
+    pub(super) fn append_new(&mut self, hash: u64, key: K, value: V) -> Result<usize, Refused<K, V>>
+    where
+        V: Drop,
+        requires hash { hash ≡ hash_of S.BuildHasher S.Hasher.Hasher self.old.hasher
+            (K.hash_input key) }
+        requires absent { is_listed K.eq self.old.lists.keys key ≡ false }
+        ensures found { IfOk result (HasKey K.eq self.new.slots.keys key) }
+        ensures ok { OnOk result (self.new.lists ≡ appended K.eq self.old.lists key value) }
+        ensures unchanged { OnErr result (self.new.lists ≡ self.old.lists) }
+        ensures refused { IfErr result (λ pair. pair ≡ record { key = key; value = value }) }
+        ensures succeeds { HasPairRoom K.eq self.old key → IsOk result }
+        ensures rooms { KeepsRooms self.old self.new }
+        ensures had_room { RaisesNoRoom K.eq key self.old self.new }
+        ensures taken { TakesOut 0 self.old.tape self.new.tape }
+    {
+        append_first(
+            &mut self.keys,
+            &mut self.table,
+            &mut self.values,
+            hash,
+            key,
+            value,
+        )
     }
 }
 
-/// Appends to the key at the place, and lets the equal key go that was handed in.
-fn append_behind<K: Drop, V: Drop, A: Allocator>(
+impl<K: Eq + Hash, V, S: BuildHasher, A: Allocator> ListOrderedMultimap<K, V, S, A> {
+    /// Puts a value of the key at the place last.
+    pub(super) fn append_at(&mut self, place: usize, value: V) -> Result<(), RefusedValue<V>>
+    where
+        V: Drop,
+        requires { IsIn place self.old.slots.keys.order }
+        ensures stays { (k : K) → HasKey K.eq self.old.slots.keys k place
+            → HasKey K.eq self.new.slots.keys k place }
+        ensures ok { OnOk result ((k : K) → HasKey K.eq self.old.slots.keys k place
+            → self.new.lists ≡ appended K.eq self.old.lists k value) }
+        ensures unchanged { OnErr result (self.new.lists ≡ self.old.lists) }
+        ensures refused { IfErr result (λ r. r.value ≡ value) }
+        ensures succeeds { HasValueRoom self.old → IsOk result }
+        ensures rooms { KeepsRooms self.old self.new }
+        ensures had_room { (k : K) → HasKey K.eq self.old.slots.keys k place
+            → RaisesNoRoom K.eq k self.old self.new }
+        ensures taken { TakesOut 0 self.old.tape self.new.tape }
+    {
+        append_behind(&mut self.keys, &mut self.values, place, value)
+    }
+}
+
+/// Appends to the key at the place.
+fn append_behind<K, V: Drop, A: Allocator>(
     keys: &mut SlotList<K, KeyLink, A>,
     values: &mut Tape<V, ValueLink, A>,
     place: usize,
-    key: K,
     value: V,
-) -> Result<bool, Refused<K, V>>
+) -> Result<(), RefusedValue<V>>
     requires listed { IsIn place keys.old.order }
     requires keys_sound { IsSound keys.old }
     requires chained { IsChained keys.old values.old.list }
-    ensures present { IfOk result (λ present. present ≡ true) }
     ensures ok { OnOk result (AppendsBehind keys.old keys.new
         values.old.list values.new.list place value) }
     ensures unchanged { OnErr result (AreRenamed keys.old keys.new
         values.old.list values.new.list) }
-    ensures refused { IfErr result (λ pair. pair ≡ record { key = key; value = value }) }
+    ensures refused { IfErr result (λ r. r.value ≡ value) }
     ensures succeeds { HasTapeRoomFor values.old 1 → IsOk result }
     ensures keys_capacity { keys.new.capacity ≡ keys.old.capacity }
     ensures values { MakesRoom values.old values.new }
 {
     if make_value_room(keys, values).is_err() {
-        return Err(Refused { key, value });
+        return Err(RefusedValue { value });
     }
     push_behind(keys, values, place, value);
-    Ok(true)
+    Ok(())
 }
 
-/// Appends a key that isn't listed, whose hash is `hash`, with its first value.
+/// Appends a key that isn't listed, whose hash is `hash`, with its first value, and answers its
+/// place.
 #[tactic(auto, using(crate::proofs::AppendedLemmas::rows_listed))]
-pub(super) fn append_first<K, V: Drop, A: Allocator + Copy>(
+fn append_first<K, V: Drop, A: Allocator + Copy>(
     keys: &mut SlotList<K, KeyLink, A>,
     table: &mut KeyTable<A>,
     values: &mut Tape<V, ValueLink, A>,
     hash: u64,
     key: K,
     value: V,
-) -> Result<bool, Refused<K, V>>
+) -> Result<usize, Refused<K, V>>
     requires rows { HasListedRows keys.old table.old.rows }
     requires keys_sound { IsSound keys.old }
     requires chained { IsChained keys.old values.old.list }
-    ensures present { IfOk result (λ present. present ≡ false) }
+    ensures found { IfOk result (λ place. HasItem keys.new place key) }
     ensures ok { OnOk result (AppendsFirst keys.old keys.new table.old.rows table.new.rows
         values.old.list values.new.list hash key value) }
     ensures unchanged { OnErr result (AreRenamed keys.old keys.new values.old.list values.new.list
@@ -122,5 +167,5 @@ pub(super) fn append_first<K, V: Drop, A: Allocator + Copy>(
     }
     let place = push_row(keys, table, hash, key);
     push_only(keys, values, place, hash, value);
-    Ok(false)
+    Ok(place)
 }

@@ -11,7 +11,7 @@ ghost use Rattle.ordered_multimap.specs.Detaches.{DetachesEntry, DetachesOlder};
 ghost use Rattle.ordered_multimap.specs.Detaches.{InsertsDetaching, IsDetaching};
 ghost use Rattle.ordered_multimap.specs.TapeNumbers.{TakesOut, numbers_of};
 
-use super::Refused;
+use super::RefusedValue;
 use super::links::{link_of, set_link, set_previous};
 use super::lookup::slot_at;
 use super::room::make_value_room;
@@ -132,14 +132,13 @@ fn detach_older<K, V, A: Allocator>(
 }
 
 /// Puts the value last, behind the others of the key at the place, detaches these, and answers
-/// where they stand. Lets the equal key go that was handed in.
-pub(super) fn insert_behind_all<K: Drop, V: Drop, A: Allocator>(
+/// where they stand.
+pub(super) fn insert_behind_all<K, V: Drop, A: Allocator>(
     keys: &mut SlotList<K, KeyLink, A>,
     values: &mut Tape<V, ValueLink, A>,
     place: usize,
-    key: K,
     value: V,
-) -> Result<ChainEnds, Refused<K, V>>
+) -> Result<ChainEnds, RefusedValue<V>>
     requires listed { IsIn place keys.old.order }
     requires keys_sound { IsSound keys.old }
     requires chained { IsChained keys.old values.old.list }
@@ -148,7 +147,7 @@ pub(super) fn insert_behind_all<K: Drop, V: Drop, A: Allocator>(
         values.old.list values.new.list place value ends) }
     ensures unchanged { OnErr result (AreRenamed keys.old keys.new
         values.old.list values.new.list) }
-    ensures refused { IfErr result (λ pair. pair ≡ record { key = key; value = value }) }
+    ensures refused { IfErr result (λ r. r.value ≡ value) }
     ensures succeeds { HasTapeRoomFor values.old 1 → IsOk result }
     ensures keys_capacity { keys.new.capacity ≡ keys.old.capacity }
     ensures fits { HasTapeRoomFor values.new 0 }
@@ -160,7 +159,7 @@ pub(super) fn insert_behind_all<K: Drop, V: Drop, A: Allocator>(
         → values.new.list.capacity ≡ values.old.list.capacity }
 {
     if make_value_room(keys, values).is_err() {
-        return Err(Refused { key, value });
+        return Err(RefusedValue { value });
     }
     push_behind(keys, values, place, value);
     Ok(detach_older(keys, values, place))

@@ -2,18 +2,18 @@
 ghost use Rattle.std.specs.Prelude.{◌≡◌, [], length, option_map, slice_get};
 ghost use Rattle.std.specs.Prelude.{IfErr, IfNone, OnErr, OnOk, IsOk};
 ghost use Rattle.std.specs.Map.Iter.{TakesFirst, TakesLast};
+ghost use Rattle.multimap_slots.specs.Lists.{IsIn};
 ghost use Rattle.multimap_slots.specs.Tapes.{KeepsCounts};
+ghost use Rattle.ordered_multimap.specs.Agrees.{HasKey};
 ghost use Rattle.ordered_multimap.specs.Changes.{inserted, removed};
 ghost use Rattle.ordered_multimap.specs.Keys.{stored_key};
 ghost use Rattle.ordered_multimap.specs.Pairs.{values_of};
-ghost use Rattle.ordered_multimap.specs.Rooms.{HasPairRoom, KeepsRooms, RaisesNoRoom, SameRooms};
+ghost use Rattle.ordered_multimap.specs.Rooms.{HasPairRoom, HasValueRoom, KeepsRooms, RaisesNoRoom, SameRooms};
 ghost use Rattle.ordered_multimap.specs.TapeNumbers.{TakesOut};
 ghost use Rattle.ordered_multimap.specs.Detaches.{HoldsDrain, IsDrained, KeepsListed, KeepsSlots, left_of};
 
-use super::append::append_first;
 use super::detaches::{detach_entry, insert_behind_all};
-use super::lookup::{find, place_of};
-use super::{EntryValues, ListOrderedMultimap, NO_CHAIN, Refused};
+use super::{EntryValues, ListOrderedMultimap, NO_CHAIN, Refused, RefusedValue};
 use multimap_slots::Tape;
 use multimap_walks::{ChainEnds, ValueLink};
 use std::alloc::Allocator;
@@ -32,22 +32,42 @@ impl<K: Eq + Hash, V, S: BuildHasher, A: Allocator> ListOrderedMultimap<K, V, S,
             self.old.tape self.new.tape }
         ensures absent { IfNone result (KeepsListed self.old self.new) }
     {
-        match find(&self.state, &self.keys, &self.table, key) {
-            Some(place) => {
-                let (key, left) = detach_entry(
-                    &mut self.keys,
-                    &mut self.table,
-                    &mut self.values,
-                    place,
-                );
-                self.left = left;
-                Some(key)
-            }
+        match self.look_up(key).1 {
+            Some(place) => Some(self.detach_at(place)),
             None => {
-                self.left = NO_CHAIN;
+                self.detach_none();
                 None
             }
         }
+    }
+
+    /// Takes the key at the place out, detaches all its values for a drain, and answers the key.
+    pub(super) fn detach_at(&mut self, place: usize) -> K
+        requires { IsIn place self.old.slots.keys.order }
+        ensures holds { HoldsDrain self.new }
+        ensures left { (k : K) → HasKey K.eq self.old.slots.keys k place
+            → left_of self.new ≡ values_of K.eq self.old.lists.pairs k }
+        ensures key { (k : K) → HasKey K.eq self.old.slots.keys k place
+            → result ≡ stored_key K.eq self.old.lists.keys k }
+        ensures lists { (k : K) → HasKey K.eq self.old.slots.keys k place
+            → self.new.lists ≡ removed K.eq self.old.lists k }
+        ensures rooms { SameRooms self.old self.new }
+        ensures taken { (k : K) → HasKey K.eq self.old.slots.keys k place
+            → TakesOut (length (values_of K.eq self.old.lists.pairs k))
+            self.old.tape self.new.tape }
+    {
+        let (key, left) = detach_entry(&mut self.keys, &mut self.table, &mut self.values, place);
+        self.left = left;
+        key
+    }
+
+    /// Nothing is left for a drain.
+    fn detach_none(&mut self)
+        ensures holds { HoldsDrain self.new }
+        ensures left { left_of self.new ≡ [] }
+        ensures kept { KeepsListed self.old self.new }
+    {
+        self.left = NO_CHAIN;
     }
 
     /// The same, and the map is handed back.
@@ -150,26 +170,50 @@ impl<K: Eq + Hash, V, S: BuildHasher, A: Allocator + Copy> ListOrderedMultimap<K
         ensures rooms { KeepsRooms self.old self.new }
         ensures had_room { RaisesNoRoom K.eq key self.old self.new }
     {
-        let hash = self.state.hash_one(&key);
-        match place_of(&self.keys, &self.table, hash, &key) {
-            Some(place) => {
-                let left = insert_behind_all(&mut self.keys, &mut self.values, place, key, value)?;
-                self.left = left;
-                Ok(())
-            }
-            None => {
-                append_first(
-                    &mut self.keys,
-                    &mut self.table,
-                    &mut self.values,
-                    hash,
-                    key,
-                    value,
-                )?;
-                self.left = NO_CHAIN;
-                Ok(())
-            }
+        let (hash, place) = self.look_up(&key);
+        let Some(place) = place else {
+            self.append_new(hash, key, value)?;
+            self.detach_none();
+            return Ok(());
+        };
+        match self.insert_detaching_at(place, value) {
+            Ok(()) => Ok(()),
+            Err(RefusedValue { value }) => Err(Refused { key, value }),
         }
+    }
+}
+
+impl<K: Eq + Hash, V, S: BuildHasher, A: Allocator> ListOrderedMultimap<K, V, S, A> {
+    /// Puts a value of the key at the place last, and detaches its older values for a drain.
+    pub(super) fn insert_detaching_at(
+        &mut self,
+        place: usize,
+        value: V,
+    ) -> Result<(), RefusedValue<V>>
+    where
+        V: Drop,
+        requires { IsIn place self.old.slots.keys.order }
+        ensures stays { (k : K) → HasKey K.eq self.old.slots.keys k place
+            → HasKey K.eq self.new.slots.keys k place }
+        ensures holds { OnOk result (HoldsDrain self.new) }
+        ensures left { OnOk result ((k : K) → HasKey K.eq self.old.slots.keys k place
+            → left_of self.new ≡ values_of K.eq self.old.lists.pairs k) }
+        ensures ok { OnOk result ((k : K) → HasKey K.eq self.old.slots.keys k place
+            → self.new.lists ≡ inserted K.eq self.old.lists k value) }
+        ensures taken { OnOk result ((k : K) → HasKey K.eq self.old.slots.keys k place
+            → TakesOut (length (values_of K.eq self.old.lists.pairs k))
+            self.old.tape self.new.tape) }
+        ensures unchanged { OnErr result (self.new.lists ≡ self.old.lists) }
+        ensures none_taken { OnErr result (TakesOut 0 self.old.tape self.new.tape) }
+        ensures refused { IfErr result (λ r. r.value ≡ value) }
+        ensures succeeds { HasValueRoom self.old → IsOk result }
+        ensures rooms { KeepsRooms self.old self.new }
+        ensures had_room { (k : K) → HasKey K.eq self.old.slots.keys k place
+            → RaisesNoRoom K.eq k self.old self.new }
+    {
+        let left = insert_behind_all(&mut self.keys, &mut self.values, place, value)?;
+        self.left = left;
+        Ok(())
     }
 }
 

@@ -1,17 +1,16 @@
 //! Pairs that come last and take the place of all others of their key.
-ghost use Rattle.std.specs.Prelude.{◌≡◌, length, slice_get, IfOk, IfErr, OnOk, OnErr, IsOk};
+ghost use Rattle.std.specs.Prelude.{◌≡◌, Some, length, slice_get, IfOk, IfErr, OnOk, OnErr, IsOk};
 ghost use Rattle.multimap_slots.specs.Lists.{IsIn};
 ghost use Rattle.multimap_slots.specs.Slots.{IsSound};
 ghost use Rattle.multimap_slots.specs.Tapes.{HasTapeRoomFor};
 ghost use Rattle.multimap_walks.specs.Chained.{IsChained, chain_of};
+ghost use Rattle.ordered_multimap.specs.Agrees.{HasKey};
 ghost use Rattle.ordered_multimap.specs.Takes.{InsertsBehind};
 ghost use Rattle.ordered_multimap.specs.TapeNumbers.{TakesOut, numbers_of};
 ghost use Rattle.ordered_multimap.specs.Pairs.{values_of};
 ghost use Rattle.ordered_multimap.specs.Changes.{inserted};
-ghost use Rattle.ordered_multimap.specs.Rooms.{HasInsertRoom, KeepsRooms, InsertRaisesNoRoom};
+ghost use Rattle.ordered_multimap.specs.Rooms.{HasInsertRoom, KeepsRooms, InsertRaisesNoRoom, SameRooms};
 
-use super::append::append_first;
-use super::lookup::place_of;
 use super::room::make_end_room;
 use super::steps::push_behind;
 use super::takes::take_older;
@@ -49,21 +48,34 @@ impl<K: Eq + Hash, V, S: BuildHasher, A: Allocator + Copy> ListOrderedMultimap<K
         ensures taken { TakesOut (length (values_of K.eq self.old.lists.pairs key))
             self.old.tape self.new.tape }
     {
-        let hash = self.state.hash_one(&key);
-        match place_of(&self.keys, &self.table, hash, &key) {
-            Some(place) => Ok(Some(insert_behind(&mut self.keys, &mut self.values, place, value))),
-            None => {
-                append_first(
-                    &mut self.keys,
-                    &mut self.table,
-                    &mut self.values,
-                    hash,
-                    key,
-                    value,
-                )?;
-                Ok(None)
-            }
-        }
+        let (hash, place) = self.look_up(&key);
+        let Some(place) = place else {
+            self.append_new(hash, key, value)?;
+            return Ok(None);
+        };
+        Ok(Some(self.insert_at(place, value)))
+    }
+}
+
+impl<K: Eq + Hash, V, S: BuildHasher, A: Allocator> ListOrderedMultimap<K, V, S, A> {
+    /// Takes all pairs of the key at the place out, puts one with this value last, and answers the
+    /// first of the old values.
+    pub(super) fn insert_at(&mut self, place: usize, value: V) -> V
+    where
+        V: Drop,
+        requires { IsIn place self.old.slots.keys.order }
+        ensures stays { (k : K) → HasKey K.eq self.old.slots.keys k place
+            → HasKey K.eq self.new.slots.keys k place }
+        ensures value { (k : K) → HasKey K.eq self.old.slots.keys k place
+            → slice_get (values_of K.eq self.old.lists.pairs k) 0 ≡ Some result }
+        ensures lists { (k : K) → HasKey K.eq self.old.slots.keys k place
+            → self.new.lists ≡ inserted K.eq self.old.lists k value }
+        ensures rooms { SameRooms self.old self.new }
+        ensures taken { (k : K) → HasKey K.eq self.old.slots.keys k place
+            → TakesOut (length (values_of K.eq self.old.lists.pairs k))
+            self.old.tape self.new.tape }
+    {
+        insert_behind(&mut self.keys, &mut self.values, place, value)
     }
 }
 

@@ -1,12 +1,12 @@
 //! Look-ups by key, and the first and the last pair.
-ghost use Rattle.std.specs.Prelude.{◌≡◌, false, length, slice_get, IfSome, IfNone, Some, option_copied, option_map};
+ghost use Rattle.std.specs.Prelude.{◌≡◌, false, length, slice_get, IfSome, IfNone, Some, is_some, option_copied, option_map};
 ghost use Rattle.multimap_slots.specs.Lists.{IsIn};
 ghost use Rattle.multimap_slots.specs.Slots.{HasSlot};
 ghost use Rattle.multimap_walks.specs.Walk.{end_item};
 ghost use Rattle.multimap_walks.specs.declared.End.TheVariants.{Front, Back};
 ghost use Rattle.ordered_multimap.specs.Pairs.{values_of, is_present};
-ghost use Rattle.ordered_multimap.specs.Keys.{is_listed};
-ghost use Rattle.ordered_multimap.specs.Agrees.{HasKey, SaysWhetherEqual, IsFoundBy, AreKeyed, items_of, hash_of};
+ghost use Rattle.ordered_multimap.specs.Keys.{is_listed, stored_key};
+ghost use Rattle.ordered_multimap.specs.Agrees.{HasKey, LacksKey, SaysWhetherEqual, IsFoundBy, items_of, hash_of};
 
 use super::ListOrderedMultimap;
 use multimap_slots::{Reads, SlotList, Tape};
@@ -70,23 +70,54 @@ pub(super) fn place_of<K: Eq, A: Allocator>(
     table.find(hash, is_equal)
 }
 
-/// The place of the stored key that is equal to `key`, by the hash that the builder makes of it.
-#[inline(always)]
-pub(super) fn find<K: Eq + Hash, S: BuildHasher, A: Allocator>(
-    state: &S,
-    keys: &SlotList<K, KeyLink, A>,
-    table: &KeyTable<A>,
-    key: &K,
-) -> Option<usize>
-    requires { AreKeyed K.eq (λ k. hash_of S.BuildHasher S.Hasher.Hasher state.now (K.hash_input k))
-        keys.now table.now.rows }
-    ensures found { IfSome result (HasKey K.eq keys.now key.now) }
-    ensures absent { IfNone result (is_listed K.eq (items_of keys.now) key.now ≡ false) }
-{
-    place_of(keys, table, state.hash_one(key), key)
-}
-
 impl<K: Eq + Hash, V, S: BuildHasher, A: Allocator> ListOrderedMultimap<K, V, S, A> {
+    /// The hash that the builder makes of the key, and the place of the stored key that is equal to
+    /// it.
+    #[inline(always)]
+    pub(super) fn look_up(&self, key: &K) -> (u64, Option<usize>)
+        ensures hash { result.0 ≡ hash_of S.BuildHasher S.Hasher.Hasher self.now.hasher
+            (K.hash_input key.now) }
+        ensures found { IfSome result.1 (HasKey K.eq self.now.slots.keys key.now) }
+        ensures absent { IfNone result.1 (LacksKey K.eq self.now.lists key.now) }
+        ensures present { is_some result.1 ≡ is_present K.eq self.now.lists.pairs key.now }
+    {
+        let hash = self.state.hash_one(key);
+        (hash, place_of(&self.keys, &self.table, hash, key))
+    }
+
+    /// The key at the place.
+    pub(super) fn key_at(&self, place: usize) -> &K
+        requires { IsIn place self.now.slots.keys.order }
+        ensures { (k : K) → HasKey K.eq self.now.slots.keys k place
+            → result.now ≡ stored_key K.eq self.now.lists.keys k }
+    {
+        let (key, _) = slot_at(&self.keys, place);
+        key
+    }
+
+    /// The first value of the key at the place.
+    #[inline(always)]
+    pub(super) fn first_at(&self, place: usize) -> &V
+        requires { IsIn place self.now.slots.keys.order }
+        ensures { (k : K) → HasKey K.eq self.now.slots.keys k place
+            → slice_get (values_of K.eq self.now.lists.pairs k) 0 ≡ Some result.now }
+    {
+        let (_, link) = slot_at(&self.keys, place);
+        let (value, _) = value_at(&self.values, link.head);
+        value
+    }
+
+    /// How many values the key at the place has.
+    #[inline(always)]
+    pub(super) fn len_at(&self, place: usize) -> usize
+        requires { IsIn place self.now.slots.keys.order }
+        ensures { (k : K) → HasKey K.eq self.now.slots.keys k place
+            → result ≡ length (values_of K.eq self.now.lists.pairs k) }
+    {
+        let (_, link) = slot_at(&self.keys, place);
+        link.length
+    }
+
     /// The key's first value. One look-up, and the slots of the key and of that value.
     ///
     /// ```
@@ -96,12 +127,8 @@ impl<K: Eq + Hash, V, S: BuildHasher, A: Allocator> ListOrderedMultimap<K, V, S,
     pub fn get(&self, key: &K) -> Option<&V>
         ensures { option_copied result ≡ slice_get (values_of K.eq self.now.lists.pairs key.now) 0 }
     {
-        match find(&self.state, &self.keys, &self.table, key) {
-            Some(place) => {
-                let (_, link) = slot_at(&self.keys, place);
-                let (value, _) = value_at(&self.values, link.head);
-                Some(value)
-            }
+        match self.look_up(key).1 {
+            Some(place) => Some(self.first_at(place)),
             None => None,
         }
     }
@@ -115,7 +142,7 @@ impl<K: Eq + Hash, V, S: BuildHasher, A: Allocator> ListOrderedMultimap<K, V, S,
     pub fn contains_key(&self, key: &K) -> bool
         ensures { result ≡ is_present K.eq self.now.lists.pairs key.now }
     {
-        find(&self.state, &self.keys, &self.table, key).is_some()
+        self.look_up(key).1.is_some()
     }
 
     /// How many values the key has. One look-up, and the slot of the key.
@@ -127,11 +154,8 @@ impl<K: Eq + Hash, V, S: BuildHasher, A: Allocator> ListOrderedMultimap<K, V, S,
     pub fn entry_len(&self, key: &K) -> usize
         ensures { result ≡ length (values_of K.eq self.now.lists.pairs key.now) }
     {
-        match find(&self.state, &self.keys, &self.table, key) {
-            Some(place) => {
-                let (_, link) = slot_at(&self.keys, place);
-                link.length
-            }
+        match self.look_up(key).1 {
+            Some(place) => self.len_at(place),
             None => 0,
         }
     }

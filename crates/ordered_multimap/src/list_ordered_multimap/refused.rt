@@ -1,4 +1,4 @@
-//! The answer of a call that found no memory.
+//! The answers of calls that found no memory.
 use std::alloc::AllocError;
 use std::error::Error;
 use std::fmt;
@@ -28,6 +28,33 @@ impl<K: fmt::Debug + Drop, V: fmt::Debug + Drop> Error for Refused<K, V> {}
 
 impl<K: Drop, V: Drop> From<Refused<K, V>> for AllocError {
     fn from(_refused: Refused<K, V>) -> AllocError {
+        AllocError
+    }
+}
+
+/// Want of memory, with the value that was to be stored under a key that is there.
+///
+/// By `?` it becomes an [`AllocError`], which lets the value go.
+#[derive(Debug, PartialEq, Eq, Drop)]
+pub struct RefusedValue<V> {
+    /// The value that was handed in.
+    pub value: V,
+}
+
+impl<V> fmt::Display for RefusedValue<V> {
+    ghost use Rattle.std.specs.Prelude.{Some, codes};
+
+    ghost output = { λ _. Some (codes "memory allocation failed") };
+
+    fn fmt<W: fmt::Write>(&self, f: &mut fmt::Formatter<W>) -> fmt::Result {
+        f.write_str("memory allocation failed")
+    }
+}
+
+impl<V: fmt::Debug + Drop> Error for RefusedValue<V> {}
+
+impl<V: Drop> From<RefusedValue<V>> for AllocError {
+    fn from(_refused: RefusedValue<V>) -> AllocError {
         AllocError
     }
 }

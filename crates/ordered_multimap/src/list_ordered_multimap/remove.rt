@@ -1,5 +1,7 @@
 //! Keys that leave with all their values, and all pairs at once.
-ghost use Rattle.std.specs.Prelude.{◌≡◌, length, slice_get, option_map};
+ghost use Rattle.std.specs.Prelude.{◌≡◌, Some, length, slice_get, option_map};
+ghost use Rattle.multimap_slots.specs.Lists.{IsIn};
+ghost use Rattle.ordered_multimap.specs.Agrees.{HasKey};
 ghost use Rattle.ordered_multimap.specs.Lists.{empty_lists};
 ghost use Rattle.ordered_multimap.specs.Pairs.{values_of};
 ghost use Rattle.ordered_multimap.specs.Keys.{stored_key};
@@ -8,7 +10,6 @@ ghost use Rattle.ordered_multimap.specs.Rooms.{KeepsRooms, SameRooms};
 ghost use Rattle.ordered_multimap.specs.TapeNumbers.{TakesOut};
 
 use super::ListOrderedMultimap;
-use super::lookup::find;
 use super::takes::take_entry;
 use std::alloc::Allocator;
 use std::hash::{BuildHasher, Hash};
@@ -54,15 +55,28 @@ impl<K: Eq + Hash, V, S: BuildHasher, A: Allocator> ListOrderedMultimap<K, V, S,
         ensures taken { TakesOut (length (values_of K.eq self.old.lists.pairs key.now))
             self.old.tape self.new.tape }
     {
-        match find(&self.state, &self.keys, &self.table, key) {
-            Some(place) => Some(take_entry(
-                &mut self.keys,
-                &mut self.table,
-                &mut self.values,
-                place,
-            )),
+        match self.look_up(key).1 {
+            Some(place) => Some(self.take_entry_at(place)),
             None => None,
         }
+    }
+
+    /// Takes the key at the place out with all its values, and answers it with the first of them.
+    pub(super) fn take_entry_at(&mut self, place: usize) -> (K, V)
+    where
+        V: Drop,
+        requires { IsIn place self.old.slots.keys.order }
+        ensures entry { (k : K) → HasKey K.eq self.old.slots.keys k place
+            → Some result ≡ option_map (λ v. (stored_key K.eq self.old.lists.keys k, v))
+            (slice_get (values_of K.eq self.old.lists.pairs k) 0) }
+        ensures lists { (k : K) → HasKey K.eq self.old.slots.keys k place
+            → self.new.lists ≡ removed K.eq self.old.lists k }
+        ensures rooms { SameRooms self.old self.new }
+        ensures taken { (k : K) → HasKey K.eq self.old.slots.keys k place
+            → TakesOut (length (values_of K.eq self.old.lists.pairs k))
+            self.old.tape self.new.tape }
+    {
+        take_entry(&mut self.keys, &mut self.table, &mut self.values, place)
     }
 
     /// Takes all pairs out, and drops them. The memory stays.

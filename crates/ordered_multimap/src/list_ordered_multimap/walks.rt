@@ -1,9 +1,11 @@
 //! Walks over all pairs, over the keys, and over the values of a key.
 ghost use Rattle.std.specs.Prelude.{◌≡◌};
+ghost use Rattle.multimap_slots.specs.Lists.{IsIn};
+ghost use Rattle.ordered_multimap.specs.Agrees.{HasKey};
 ghost use Rattle.ordered_multimap.specs.Pairs.{positions_of, values_of};
 
 use super::ListOrderedMultimap;
-use super::lookup::{find, slot_at};
+use super::lookup::slot_at;
 use multimap_walks::{EntryValues, Iter, Keys};
 use std::alloc::Allocator;
 use std::hash::{BuildHasher, Hash};
@@ -44,12 +46,23 @@ impl<K: Eq + Hash, V, S: BuildHasher, A: Allocator> ListOrderedMultimap<K, V, S,
         ensures positions { result.positions ≡ positions_of K.eq self.now.lists.pairs key.now }
         ensures reads { result.reads ≡ 0 }
     {
-        match find(&self.state, &self.keys, &self.table, key) {
-            Some(place) => {
-                let (_, link) = slot_at(&self.keys, place);
-                EntryValues::new(&self.keys, &self.values, Some((place, link)))
-            }
+        match self.look_up(key).1 {
+            Some(place) => self.values_at(place),
             None => EntryValues::new(&self.keys, &self.values, None),
         }
+    }
+
+    /// A walk over the values of the key at the place.
+    #[inline(always)]
+    pub(super) fn values_at(&self, place: usize) -> EntryValues<'_, K, V, A>
+        requires { IsIn place self.now.slots.keys.order }
+        ensures values { (k : K) → HasKey K.eq self.now.slots.keys k place
+            → result.left ≡ values_of K.eq self.now.lists.pairs k }
+        ensures positions { (k : K) → HasKey K.eq self.now.slots.keys k place
+            → result.positions ≡ positions_of K.eq self.now.lists.pairs k }
+        ensures reads { result.reads ≡ 0 }
+    {
+        let (_, link) = slot_at(&self.keys, place);
+        EntryValues::new(&self.keys, &self.values, Some((place, link)))
     }
 }

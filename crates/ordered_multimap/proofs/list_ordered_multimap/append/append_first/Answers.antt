@@ -1,9 +1,15 @@
-use Rattle.std.proofs.Common.{sym, ◌∙◌}
+use Rattle.std.proofs.Common.{sym, ◌∙◌, subst}
+use Rattle.multimap_slots.specs.Slots.{HasItem}
 use Rattle.ordered_multimap.proofs.StepLemmas.{ok_if, new_listed}
 use Rattle.ordered_multimap.proofs.list_ordered_multimap.append.append_first.Goals as goal
 
 pub push_only-requires-clause-listed : goal.push_only-requires-clause-listed
 push_only-requires-clause-listed g c = new_listed c.push_row-place.ensures.pushed.key_pushed
+
+pub returns-clause-found : goal.returns-clause-found
+returns-clause-found g c =
+    let p = c.push_row-place.ensures.pushed.key_pushed in
+    subst (λ s. HasItem s c.push_row-place.result c.args.key) (sym c.push_only.ensures.pushed.keys_are) (record { listed = new_listed p; item_is = p.item_is })
 
 pub returns-clause-ok : goal.returns-clause-ok
 returns-clause-ok g c = record {

@@ -1,0 +1,10 @@
+use Rattle.std.proofs.Common.{◌≡◌, length, sym, subst}
+use Rattle.ordered_multimap.specs.Agrees.{HasKey}
+use Rattle.ordered_multimap.specs.Pairs.{values_of}
+use Rattle.ordered_multimap.proofs.LookupLemmas.{count_of_values}
+use Rattle.ordered_multimap.proofs.list_ordered_multimap.ListOrderedMultimap.len_at.Goals as goal
+
+pub returns : goal.returns
+returns g c =
+    subst (λ m. (k : g.row.K.Denot) → HasKey g.K.PartialEq.eq m.slots.keys k c.args.place → c.slot_at.result.1.length ≡ length (values_of g.K.PartialEq.eq m.lists.pairs k)) c.self.view_is
+    (λ k has. sym (count_of_values g.met.K.Eq.laws c.self.invariant.agrees k c.args.place c.slot_at.result.1 has c.slot_at.ensures.link_is))
