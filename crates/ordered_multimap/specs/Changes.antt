@@ -1,7 +1,8 @@
--- What an addition or a removal makes of the two lists.
+-- What an addition, a removal or a write makes of the two lists.
 use Rattle.std.specs.Prelude.{Bool, not, List, [], ◌∷◌, ◌++◌, filter}
+use Rattle.multimap_walks.specs.declared.End.{End}
 use Rattle.ordered_multimap.specs.Lists.{Lists, lists, empty_lists}
-use Rattle.ordered_multimap.specs.Pairs.{pairs_without}
+use Rattle.ordered_multimap.specs.Pairs.{pairs_without, with_value_at, end_position, with_first_value}
 use Rattle.ordered_multimap.specs.Keys.{stored_key, keys_with, keys_named_by}
 
 module _ {K : Type 0} (eq : K → K → Bool) {V : Type 0} where
@@ -22,6 +23,10 @@ module _ {K : Type 0} (eq : K → K → Bool) {V : Type 0} where
   abbrev pub removed : Lists K V → K → Lists K V
   removed m k = kept m (pairs_without eq m.pairs k)
 
+  -- the first value of the key is v, where it has one
+  abbrev pub first_written : Lists K V → K → V → Lists K V
+  first_written m k v = lists m.keys (with_first_value eq m.pairs k v)
+
   -- each pair is appended in turn
   abbrev pub all_appended : Lists K V → List (K × V) → Lists K V
   all_appended m [] = m
@@ -35,3 +40,7 @@ module _ {K : Type 0} (eq : K → K → Bool) {V : Type 0} where
   abbrev pub first_occurrences : List (K × V) → List K
   first_occurrences [] = []
   first_occurrences (p ∷ pairs) = p.0 ∷ filter (λ k. not (eq p.0 k)) (first_occurrences pairs)
+
+-- the value of the first or the last pair is v, where there is one
+abbrev pub end_written : {K V : Type 0} → End → Lists K V → V → Lists K V
+end_written end m v = lists m.keys (with_value_at m.pairs (end_position end m.pairs) v)

@@ -19,6 +19,8 @@ pub mod Rooms
 pub mod Takes
 pub mod TakesOne
 pub mod TapeNumbers
+pub mod WriteLends
+pub mod Writes
 -- the words of walks and the ends, for those who stand on the map alone
 pub use Rattle.multimap_walks.specs.Walk
 pub use Rattle.multimap_walks.specs.declared.End

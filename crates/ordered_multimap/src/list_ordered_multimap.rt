@@ -20,6 +20,7 @@ mod steps;
 mod take_one;
 mod takes;
 mod walks;
+mod write;
 
 pub use drain::EntryValuesDrain;
 pub use key_wrapper::KeyWrapper;

@@ -1,0 +1,122 @@
+-- Another value at a listed place: the map stays one, and its lists have that value there.
+use Rattle.std.proofs.Common.{◌≡◌, ◌≢◌, ◌==◌, ℕ, suc, Bool, List, [], ◌∷◌, slice_get, Option, option_map, unwrap_or, Some, None, IsSome, refl, sym, ap, ◌∙◌, subst, inl, inr, if◌then◌else◌}
+use Rattle.std.proofs.lemmas.Bool.{cases_eq, eq-eqb, ne_eqb}
+use Rattle.std.specs.List.{filter_map, cons_option}
+use Rattle.std.specs.Cmp.{IsEquivalence}
+use Rattle.std.specs.Ordering.{nat_cmp}
+use Rattle.std.specs.FinMap.{FinMap}
+use Rattle.multimap_slots.specs.Lists.{IsIn, AreDistinct}
+use Rattle.multimap_slots.specs.Slots.{Slots, item_at, link_at, with_item}
+use Rattle.multimap_slots.specs.Tapes.{Taped, with_list}
+use Rattle.multimap_slots.proofs.SlotsLemmas.{item_at-with_item, KeepsOthers-with_item}
+use Rattle.multimap_walks.specs.declared.links.KeyLink.{KeyLink}
+use Rattle.multimap_walks.specs.declared.links.ValueLink.{ValueLink}
+use Rattle.multimap_walks.specs.Chained.{position_in, chain_of, positions_at, pair_at, pairs_of}
+use Rattle.ordered_multimap.specs.Agrees.{Agrees, IsMap, HasKey}
+use Rattle.ordered_multimap.specs.Multimap.{Multimap}
+use Rattle.ordered_multimap.specs.Writes.{head_at, with_first}
+use Rattle.ordered_multimap.specs.Pairs.{positions_of, with_value_at, with_first_value}
+use Rattle.ordered_multimap.proofs.AgreesLemmas.{pair_in, pair_at-is}
+use Rattle.ordered_multimap.proofs.PlaceLemmas.{filter_map-agree, begins}
+use Rattle.ordered_multimap.proofs.LookupLemmas.{positions_of-chain}
+
+module _ {K V : Type 0} {eq : K → K → Bool} {hash : K → ℕ} {keys : Slots K KeyLink} {rows : FinMap nat_cmp ℕ} {values : Slots V ValueLink}
+    (agrees : Agrees eq hash keys rows values) (place : ℕ) (listed : IsIn place values.order) (w : V) where
+  abbrev written : Slots V ValueLink
+  written = with_item values place w
+
+  item_here : item_at written place ≡ Some w
+  item_here = item_at-with_item values place w (agrees.values_sound.filled place listed)
+
+  -- links and order are the same, so keys, table and values agree as before
+  pub Agrees-with_item : Agrees eq hash keys rows (with_item values place w)
+  Agrees-with_item = record {
+    keys_sound = agrees.keys_sound;
+    values_sound = record {
+      distinct = agrees.values_sound.distinct;
+      filled = λ q i. elim (cases_eq q place) [
+        | inl same ↦ subst (λ p. IsSome (item_at written p)) (sym same) (subst IsSome (sym item_here) refl)
+        | inr differs ↦ subst IsSome (sym ((KeepsOthers-with_item values place w).items q differs)) (agrees.values_sound.filled q i)
+      ];
+      linked = agrees.values_sound.linked;
+      fits = agrees.values_sound.fits;
+    };
+    chained = record {
+      owned = agrees.chained.owned;
+      head = agrees.chained.head;
+      tail = agrees.chained.tail;
+      length = agrees.chained.length;
+      previous = agrees.chained.previous;
+      next = agrees.chained.next;
+    };
+    distinct = agrees.distinct;
+    hashed = agrees.hashed;
+    in_table = agrees.in_table;
+    listed = agrees.listed;
+    counted = agrees.counted;
+  }
+
+  pair_other : (q : ℕ) → IsIn q values.order → q ≢ place → pair_at keys written q ≡ pair_at keys values q
+  pair_other q i differs =
+      let p = pair_in agrees q i in
+      pair_at-is keys written q p.link p.key p.value p.link_is p.key_is ((KeepsOthers-with_item values place w).items q differs ∙ p.value_is) ∙ sym p.pair_is
+
+  pairs_along : (qs : List ℕ) → AreDistinct qs → ((q : ℕ) → IsIn q qs → IsIn q values.order) → IsIn place qs
+      → filter_map (pair_at keys written) qs ≡ with_value_at (filter_map (pair_at keys values) qs) (position_in qs place) w
+  pairs_along [] distinct among member = absurd member
+  pairs_along (q ∷ qs) distinct among member =
+      let p = pair_in agrees q (among q (inl refl)) in
+      let old : List (K × V) = filter_map (pair_at keys values) qs in
+      let new : List (K × V) = filter_map (pair_at keys written) qs in
+      let at : ℕ → List (K × V) = λ n. with_value_at (cons_option (pair_at keys values q) old) n w in
+      let Here : Type 0 = cons_option (pair_at keys written q) new ≡ at (if q == place then 0 else suc (position_in qs place)) in
+      elim (cases_eq q place) as (λ _. Here) [
+        | inl same ↦
+            let rest : new ≡ old = filter_map-agree (pair_at keys written) (pair_at keys values) qs
+            (λ r i. pair_other r (among r (inr i)) (λ e. distinct.0 (subst (λ x. IsIn x qs) (e ∙ sym same) i))) in
+            let here : item_at written q ≡ Some w = ap (item_at written) same ∙ item_here in
+            ap (λ o. cons_option o new) (pair_at-is keys written q p.link p.key w p.link_is p.key_is here) ∙ ap (λ ps. (p.key, w) ∷ ps) rest
+            ∙ sym (ap (λ o. with_value_at (cons_option o old) 0 w) p.pair_is) ∙ sym (ap (λ b. at (if b then 0 else suc (position_in qs place))) (eq-eqb q place same))
+        | inr differs ↦
+            let behind : IsIn place qs = elim member as (λ _. IsIn place qs) [ inl here ↦ absurd (differs (sym here)) | inr later ↦ later ] in
+            let later = pairs_along qs distinct.1 (λ r i. among r (inr i)) behind in
+            ap (λ o. cons_option o new) (pair_other q (among q (inl refl)) differs ∙ p.pair_is) ∙ ap (λ ps. (p.key, p.value) ∷ ps) later
+            ∙ sym (ap (λ o. with_value_at (cons_option o old) (suc (position_in qs place)) w) p.pair_is) ∙ sym (ap (λ b. at (if b then 0 else suc (position_in qs place))) (ne_eqb q place differs))
+      ]
+
+  -- the pairs have the value at the position of its place
+  pub pairs_of-with_item : pairs_of keys (with_item values place w) ≡ with_value_at (pairs_of keys values) (position_in values.order place) w
+  pairs_of-with_item = pairs_along values.order agrees.values_sound.distinct (λ q i. i) listed
+
+pub head_at-is : {K : Type 0} (keys : Slots K KeyLink) (place : ℕ) (l : KeyLink) → link_at keys place ≡ Some l → head_at keys place ≡ l.head
+head_at-is keys place l link_is = ap (λ o. unwrap_or (option_map (λ k. k.head) o) 0) link_is
+
+-- a write leaves the keys' slots
+pub with_first-keys : {K V S : Type 0} (m : Multimap K V S) (place : ℕ) (v : V) → (let written : Multimap K V S = with_first m place v in written.slots.keys) ≡ m.slots.keys
+with_first-keys m place v = refl
+
+module _ {K V : Type 0} {eq : K → K → Bool} (laws : IsEquivalence eq) {hash : K → ℕ} {keys : Slots K KeyLink} {rows : FinMap nat_cmp ℕ} {values : Slots V ValueLink}
+    (agrees : Agrees eq hash keys rows values) where
+  -- the head of a key's chain stands at the first of its positions
+  first_position : (k : K) (place : ℕ) (l : KeyLink) → HasKey eq keys k place → link_at keys place ≡ Some l
+      → slice_get (positions_of eq (pairs_of keys values) k) 0 ≡ Some (position_in values.order l.head)
+  first_position k place l has link_is =
+      let b = begins (chain_of values place) l.head (agrees.chained.head place l has.listed link_is) in
+      ap (λ ps. slice_get ps 0) (positions_of-chain laws agrees k place has ∙ ap (positions_at values) b.is)
+
+  -- so another value there is another first value
+  pub with_first_value-head : (k : K) (place : ℕ) (l : KeyLink) → HasKey eq keys k place → link_at keys place ≡ Some l → (v : V)
+      → with_value_at (pairs_of keys values) (position_in values.order l.head) v ≡ with_first_value eq (pairs_of keys values) k v
+  with_first_value-head k place l has link_is v =
+      let pairs : List (K × V) = pairs_of keys values in
+      sym (ap (λ (o : Option ℕ). elim o as (λ _. List (K × V)) [ None ↦ pairs | Some i ↦ with_value_at pairs i v ]) (first_position k place l has link_is))
+
+  pub with_first_value-head_at : (k : K) (place : ℕ) (l : KeyLink) → HasKey eq keys k place → link_at keys place ≡ Some l → (v : V)
+      → with_value_at (pairs_of keys values) (position_in values.order (head_at keys place)) v ≡ with_first_value eq (pairs_of keys values) k v
+  with_first_value-head_at k place l has link_is v =
+      ap (λ head. with_value_at (pairs_of keys values) (position_in values.order head) v) (head_at-is keys place l link_is) ∙ with_first_value-head k place l has link_is v
+
+-- and it stays a map
+pub IsMap-with_item : {K V : Type 0} {eq : K → K → Bool} {hash : K → ℕ} {keys : Slots K KeyLink} {rows : FinMap nat_cmp ℕ} {values : Taped V ValueLink}
+    → IsMap eq hash keys rows values → (place : ℕ) → IsIn place values.list.order → (w : V) → IsMap eq hash keys rows (with_list values (with_item values.list place w))
+IsMap-with_item is_map place listed w = record { agrees = Agrees-with_item is_map.agrees place listed w; fits = is_map.fits; paid = is_map.paid }

@@ -1,0 +1,46 @@
+-- What a map ends as, where a `&mut` to one of its values is returned.
+use Rattle.std.specs.Prelude.{◌≡◌, ℕ, Option, OnSome, IfNone}
+use Rattle.std.specs.Borrow.{Fml, RattleType, Bor, MutBor, Lends, LendsSo, follows_so, name_if_some}
+use Rattle.std.specs.HashMap.Lent.{HashMembers}
+use Rattle.std.specs.declared.alloc.Allocator as alloc
+use Rattle.std.specs.declared.hash.Hasher as hasher
+use Rattle.std.specs.declared.hash.BuildHasher as builder
+use mathlib.Core.Option.{some}
+use Rattle.multimap_walks.specs.declared.End.{End}
+use Rattle.ordered_multimap.specs.Changes.{first_written, end_written}
+use Rattle.ordered_multimap.specs.Multimap.{Multimap}
+use Rattle.ordered_multimap.specs.Pops.{map_row}
+use Rattle.ordered_multimap.specs.Writes.{with_value, with_first, IsWritten}
+
+module _ (K V S A H : RattleType) (key : HashMembers K.Denot)
+    (build : builder.Ghosts S.Denot H.Denot) (hash : hasher.Ghosts H.Denot)
+    (heap : alloc.Ghosts A.Denot) (m : MutBor (Multimap K.Denot V.Denot S.Denot)) where
+  -- once the borrow r ends, the last value written through it is the value at the place
+  abbrev pub lends_value : ℕ → MutBor V.Denot → Fml
+  lends_value place r = Lends (map_row K V S A H key build hash heap) V m r (with_value m.now place)
+
+  -- it is the first value of the key at the place
+  abbrev pub lends_first_value : ℕ → MutBor V.Denot → Fml
+  lends_first_value place r =
+      Lends (map_row K V S A H key build hash heap) V m r (with_first m.now place)
+
+  -- it is the first value of k, and at `None` the map stays as it is
+  abbrev pub lends_first_of : K.Denot → Option (MutBor V.Denot) → Fml
+  lends_first_of k r =
+      LendsSo (map_row K V S A H key build hash heap) V m r
+      (λ n w. OnSome r (IsWritten m.now n (first_written key.eq m.now.lists k w)))
+      (λ n. n ≡ m.now)
+
+  -- it is the value of the pair at the end
+  abbrev pub lends_end : End → Bor K.Denot × MutBor V.Denot → Fml
+  lends_end end r =
+      follows_so (map_row K V S A H key build hash heap) V m.ghost_name (some r.1.ghost_name)
+      (λ w n. IsWritten m.now n (end_written end m.now.lists w)) (λ n. n ≡ m.now)
+
+  -- the same where there is a pair, and at `None` the map stays as it is
+  abbrev pub lends_end_if : End → Option (Bor K.Denot × MutBor V.Denot) → Fml
+  lends_end_if end r =
+      follows_so (map_row K V S A H key build hash heap) V m.ghost_name
+      (name_if_some (λ p. p.1.ghost_name) r)
+      (λ w n. OnSome r (IsWritten m.now n (end_written end m.now.lists w)))
+      (λ n. IfNone r (n ≡ m.now))
