@@ -4,6 +4,8 @@ pub mod Changes
 pub mod Detaches
 pub mod DrainLends
 pub mod Drains
+pub mod Entries
+pub mod EntryLends
 pub mod KeyWrappers
 pub mod Keys
 pub mod Laws

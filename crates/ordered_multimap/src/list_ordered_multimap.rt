@@ -8,6 +8,7 @@ mod compact;
 mod detaches;
 mod drain;
 mod drain_steps;
+mod entry;
 mod insert;
 mod key_wrapper;
 mod links;
@@ -23,6 +24,7 @@ mod walks;
 mod write;
 
 pub use drain::EntryValuesDrain;
+pub use entry::{Entry, OccupiedEntry, VacantEntry};
 pub use key_wrapper::KeyWrapper;
 use multimap_slots::{SlotList, Tape};
 use multimap_table::KeyTable;

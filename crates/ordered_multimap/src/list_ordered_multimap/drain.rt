@@ -114,7 +114,7 @@ impl<K: Eq + Hash, V: Drop, S: BuildHasher, A: Allocator> ListOrderedMultimap<K,
     }
 
     /// The drain of the values that were detached.
-    fn drain(&mut self) -> EntryValuesDrain<'_, K, V, S, A>
+    pub(super) fn drain(&mut self) -> EntryValuesDrain<'_, K, V, S, A>
         requires { HoldsDrain self.old }
         ensures same_map { result.map.ghost_name ≡ self.entry.ghost_name }
         ensures same { result.map.now ≡ self.old }

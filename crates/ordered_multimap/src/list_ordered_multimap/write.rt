@@ -11,7 +11,7 @@ ghost use Rattle.ordered_multimap.specs.WriteLends.{lends_value, lends_first_val
 ghost use Rattle.ordered_multimap.specs.Writes.{with_first, IsWritten};
 
 use super::ListOrderedMultimap;
-use super::lookup::{find, slot_at};
+use super::lookup::slot_at;
 use std::alloc::Allocator;
 use std::hash::{BuildHasher, Hash};
 
@@ -57,7 +57,7 @@ impl<K: Eq + Hash, V, S: BuildHasher, A: Allocator> ListOrderedMultimap<K, V, S,
         ensures value { option_copied_mut result
             ≡ slice_get (values_of K.eq self.old.lists.pairs key.now) 0 }
     {
-        match find(&self.state, &self.keys, &self.table, key) {
+        match self.look_up(key).1 {
             Some(place) => Some(self.first_mut_at(place)),
             None => None,
         }

@@ -1,0 +1,50 @@
+-- What a map ends as, where an entry lends a value of it or hands it on.
+use Rattle.std.specs.Prelude.{[], Result, IsOk, OnErr}
+use Rattle.std.specs.Borrow.{Fml, MutBor, RattleType, RestsIfErr, follows, follows_so, name_if_ok}
+use Rattle.std.specs.declared.alloc.Allocator as allocator
+use Rattle.std.specs.declared.cmp.PartialEq as equality
+use Rattle.std.specs.declared.hash.Hash as hash
+use Rattle.std.specs.declared.hash.Hasher as hasher
+use Rattle.std.specs.declared.hash.BuildHasher as builder
+use mir.Syntax.{named}
+use Rattle.ordered_multimap.specs.contracts.list_ordered_multimap.ListOrderedMultimap.{the_row}
+use Rattle.ordered_multimap.specs.contracts.list_ordered_multimap.entry.OccupiedEntry as occupied
+use Rattle.ordered_multimap.specs.declared.list_ordered_multimap.entry.Entry.{Entry}
+use Rattle.ordered_multimap.specs.declared.list_ordered_multimap.entry.OccupiedEntry.{OccupiedEntry}
+use Rattle.ordered_multimap.specs.DrainLends.{RefusesPair}
+use Rattle.ordered_multimap.specs.Entries.{IsEntered, entry_key, entry_map, entry_map_ref}
+use Rattle.ordered_multimap.specs.Entries.{with_first_written}
+use Rattle.ordered_multimap.specs.Writes.{with_first}
+
+module _ (K V S A H : RattleType) {e : equality.Ghosts K.Denot} {k : hash.Ghosts K.Denot}
+    {b : builder.Ghosts S.Denot H.Denot} {h : hasher.Ghosts H.Denot}
+    (alloc : allocator.Ghosts A.Denot) where
+  -- once the reference r has ended, what it last held is the first value of the entry's key; at
+  -- `Err` the pair was refused
+  abbrev pub lends_entered : {E : Type 0} → Entry K.Denot V.Denot S.Denot A.Denot H.Denot e k b h
+      → Result (MutBor V.Denot) E → Fml
+  lends_entered x r =
+      follows_so (the_row K V S A H e k b h alloc) V (entry_map_ref x).ghost_name
+      (name_if_ok (λ v. v.ghost_name) r) (λ v n. IsOk r → IsEntered x v n)
+      (λ n. OnErr r (RefusesPair e.eq (entry_key x) (entry_map x) n))
+
+  -- the same of an entry that is there
+  abbrev pub lends_first : OccupiedEntry K.Denot V.Denot S.Denot A.Denot H.Denot e k b h
+      → MutBor V.Denot → Fml
+  lends_first o r =
+      follows (the_row K V S A H e k b h alloc) V o.map.ghost_name r.ghost_name
+      (with_first o.map.now o.place)
+
+  -- once the reference r has ended, the entry has what it last held as the first value of its key
+  abbrev pub lends_to_entry : MutBor (OccupiedEntry K.Denot V.Denot S.Denot A.Denot H.Denot e k b h)
+      → MutBor V.Denot → Fml
+  lends_to_entry o r =
+      follows (occupied.the_row (record { mir = named 1; lft = [] }) K V S A H e k b h alloc) V
+      o.ghost_name r.ghost_name (with_first_written o.now)
+
+  -- at `Err` the pair was refused, and else the map ends as what the entry leaves
+  abbrev pub rests_with_entry : {E : Type 0} → Entry K.Denot V.Denot S.Denot A.Denot H.Denot e k b h
+      → Result (OccupiedEntry K.Denot V.Denot S.Denot A.Denot H.Denot e k b h) E → Fml
+  rests_with_entry x r =
+      RestsIfErr (the_row K V S A H e k b h alloc) (entry_map_ref x) (λ o. o.map.ghost_name) r
+      (RefusesPair e.eq (entry_key x) (entry_map x))
