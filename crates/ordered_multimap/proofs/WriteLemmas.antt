@@ -17,15 +17,16 @@ use Rattle.multimap_walks.specs.declared.links.KeyLink.{KeyLink}
 use Rattle.multimap_walks.specs.declared.links.ValueLink.{ValueLink}
 use Rattle.multimap_walks.specs.Chained.{position_in, chain_of, positions_at, pair_at, pairs_of}
 use Rattle.ordered_multimap.specs.Agrees.{Agrees, IsMap, HasKey, items_of, lists_of}
-use Rattle.ordered_multimap.specs.Lists.{lists}
+use Rattle.ordered_multimap.specs.Changes.{first_written}
+use Rattle.ordered_multimap.specs.Lists.{Lists, lists}
 use Rattle.ordered_multimap.specs.Multimap.{Multimap, multimap}
 use Rattle.ordered_multimap.specs.TapeNumbers.{TapeNumbers}
 use Rattle.ordered_multimap.specs.Writes.{head_at, with_value, with_first, with_end}
 use Rattle.ordered_multimap.specs.TakesOne.{end_of_list}
-use Rattle.ordered_multimap.specs.Pairs.{positions_of, with_value_at, with_first_value, end_position}
+use Rattle.ordered_multimap.specs.Pairs.{values_of, positions_of, with_value_at, with_first_value, end_position}
 use Rattle.ordered_multimap.proofs.AgreesLemmas.{pair_in, pair_at-is}
 use Rattle.ordered_multimap.proofs.PlaceLemmas.{filter_map-agree, begins, ends}
-use Rattle.ordered_multimap.proofs.LookupLemmas.{positions_of-chain}
+use Rattle.ordered_multimap.proofs.LookupLemmas.{positions_of-chain, length-positions_of}
 
 module _ {K V : Type 0} {eq : K → K → Bool} {hash : K → ℕ} {keys : Slots K KeyLink} {rows : FinMap nat_cmp ℕ} {values : Slots V ValueLink}
     (agrees : Agrees eq hash keys rows values) (place : ℕ) (listed : IsIn place values.order) (w : V) where
@@ -167,3 +168,14 @@ with_value-end {K} {V} {S} m end place distinct long at w =
 pub IsMap-with_item : {K V : Type 0} {eq : K → K → Bool} {hash : K → ℕ} {keys : Slots K KeyLink} {rows : FinMap nat_cmp ℕ} {values : Taped V ValueLink}
     → IsMap eq hash keys rows values → (place : ℕ) → IsIn place values.list.order → (w : V) → IsMap eq hash keys rows (with_list values (with_item values.list place w))
 IsMap-with_item is_map place listed w = record { agrees = Agrees-with_item is_map.agrees place listed w; fits = is_map.fits; paid = is_map.paid }
+
+-- a key without a value has no first one, and a write leaves the lists
+no_first : {X Y : Type 0} (xs : List X) (ys : List Y) → length ys ≡ length xs → slice_get xs 0 ≡ None → slice_get ys 0 ≡ None
+no_first xs [] same none = refl
+no_first [] (y ∷ ys) same none = absurd (omega (arith, same))
+no_first (x ∷ xs) (y ∷ ys) same none = absurd (let bad = none in cc)
+
+pub first_written-absent : {K V : Type 0} (eq : K → K → Bool) (m : Lists K V) (k : K) (v : V) → slice_get (values_of eq m.pairs k) 0 ≡ None → first_written eq m k v ≡ m
+first_written-absent {K} {V} eq m k v none =
+    ap (λ (o : Option ℕ). lists m.keys (elim o as (λ _. List (K × V)) [ None ↦ m.pairs | Some i ↦ with_value_at m.pairs i v ]))
+    (no_first (values_of eq m.pairs k) (positions_of eq m.pairs k) (length-positions_of eq k 0 m.pairs) none)

@@ -1,9 +1,10 @@
-//! Tests of writes in place and of entries, from outside, and proved callers of them.
+//! Tests of the map's references for writing and of its entries, from outside, and proved callers of
+//! both.
 #![tactic(auto)]
 
-pub mod entered;
 #[cfg(test)]
 mod entries;
+pub mod entered;
 #[cfg(test)]
 mod entry_drains;
 #[cfg(test)]
@@ -12,3 +13,6 @@ mod entry_memory;
 mod examples;
 #[cfg(test)]
 mod texts;
+#[cfg(test)]
+mod writes;
+pub mod written;
