@@ -15,6 +15,7 @@ use Rattle.multimap_walks.specs.declared.End.TheVariants.{Front, Back}
 use Rattle.multimap_walks.specs.declared.links.ChainEnds.{ChainEnds}
 use Rattle.multimap_walks.specs.declared.links.KeyLink.{KeyLink}
 use Rattle.multimap_walks.specs.declared.links.ValueLink.{ValueLink}
+use Rattle.multimap_walks.specs.Walk.{end_item}
 use Rattle.multimap_walks.specs.Chained.{position_in, chain_of, positions_at, pair_at, pairs_of}
 use Rattle.ordered_multimap.specs.Agrees.{Agrees, IsMap, HasKey, items_of, lists_of}
 use Rattle.ordered_multimap.specs.Changes.{first_written}
@@ -26,6 +27,7 @@ use Rattle.ordered_multimap.specs.TakesOne.{end_of_list}
 use Rattle.ordered_multimap.specs.Pairs.{values_of, positions_of, with_value_at, with_first_value, end_position}
 use Rattle.ordered_multimap.proofs.AgreesLemmas.{pair_in, pair_at-is}
 use Rattle.ordered_multimap.proofs.PlaceLemmas.{filter_map-agree, begins, ends}
+use Rattle.ordered_multimap.proofs.LawLemmas.{end_item-push}
 use Rattle.ordered_multimap.proofs.LookupLemmas.{positions_of-chain, length-positions_of}
 
 module _ {K V : Type 0} {eq : K → K → Bool} {hash : K → ℕ} {keys : Slots K KeyLink} {rows : FinMap nat_cmp ℕ} {values : Slots V ValueLink}
@@ -156,13 +158,17 @@ end_position-length : {X Y : Type 0} (end : End) (xs : List X) (ys : List Y) →
 end_position-length Front xs ys e = refl
 end_position-length Back xs ys e = ap (λ n. n - 1) e
 
+item_at_end : (end : End) (order : List ℕ) (place : ℕ) → end_of_list end order ≡ Some place → end_item end order ≡ Some place
+item_at_end Front order place at = let b = begins order place at in ap (end_item Front) b.is
+item_at_end Back order place at = let b = ends order place at in ap (end_item Back) b.is ∙ end_item-push b.front place
+
 -- a write at the place at an end is one of the pair there
 pub with_value-end : {K V S : Type 0} (m : Multimap K V S) (end : End) (place : ℕ) → AreDistinct m.slots.values.order → length m.lists.pairs ≡ length m.slots.values.order
     → end_of_list end m.slots.values.order ≡ Some place → (w : V) → with_value m place w ≡ with_end end m w
 with_value-end {K} {V} {S} m end place distinct long at w =
     let put : ℕ → ℕ → Multimap K V S = λ n p. record m { lists = lists m.lists.keys (with_value_at m.lists.pairs n w); slots = record m.slots { values = with_item m.slots.values p w } } in
     let position = position_in-end end m.slots.values.order place distinct at ∙ end_position-length end m.slots.values.order m.lists.pairs (sym long) in
-    ap (λ n. put n place) position ∙ ap (put (end_position end m.lists.pairs)) (sym (ap (λ o. unwrap_or o 0) at))
+    ap (λ n. put n place) position ∙ ap (put (end_position end m.lists.pairs)) (sym (ap (λ o. unwrap_or o 0) (item_at_end end m.slots.values.order place at)))
 
 -- and it stays a map
 pub IsMap-with_item : {K V : Type 0} {eq : K → K → Bool} {hash : K → ℕ} {keys : Slots K KeyLink} {rows : FinMap nat_cmp ℕ} {values : Taped V ValueLink}

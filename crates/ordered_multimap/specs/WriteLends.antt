@@ -35,8 +35,7 @@ module _ (K V S A H : RattleType) (key : HashMembers K.Denot)
     (heap : alloc.Ghosts A.Denot) (end : End) (m : MutBor (Multimap K.Denot V.Denot S.Denot)) where
   -- once the borrow ends, the last value written is that of the pair at the end
   abbrev pub lends_end : Bor K.Denot × MutBor V.Denot → Fml
-  lends_end r =
-      Lends (map_row K V S A H key build hash heap) V m r.1 (with_end end m.now)
+  lends_end r = Lends (map_row K V S A H key build hash heap) V m r.1 (with_end end m.now)
 
   -- the same where there is a pair, and at `None` the map stays as it is
   abbrev pub lends_end_if : Option (Bor K.Denot × MutBor V.Denot) → Fml

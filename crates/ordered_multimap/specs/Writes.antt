@@ -4,12 +4,12 @@ use Rattle.multimap_slots.specs.Slots.{Slots, link_at, with_item}
 use Rattle.multimap_walks.specs.declared.links.KeyLink.{KeyLink}
 use Rattle.multimap_walks.specs.Chained.{position_in}
 use Rattle.multimap_walks.specs.declared.End.{End}
+use Rattle.multimap_walks.specs.Walk.{end_item}
 use Rattle.ordered_multimap.specs.Changes.{end_written}
 use Rattle.ordered_multimap.specs.Lists.{Lists, lists}
 use Rattle.ordered_multimap.specs.Multimap.{Multimap}
 use Rattle.ordered_multimap.specs.Pairs.{with_value_at}
 use Rattle.ordered_multimap.specs.Rooms.{SameRooms}
-use Rattle.ordered_multimap.specs.TakesOne.{end_of_list}
 
 -- the place of the first value of the key at a place
 abbrev pub head_at : {K : Type 0} → Slots K KeyLink → ℕ → ℕ
@@ -32,7 +32,7 @@ module _ {K V S : Type 0} where
   -- the map with v as the value of the pair at an end
   abbrev pub with_end : End → Multimap K V S → V → Multimap K V S
   with_end end m v =
-      let place : ℕ = unwrap_or (end_of_list end m.slots.values.order) 0 in
+      let place : ℕ = unwrap_or (end_item end m.slots.values.order) 0 in
       record m {
         lists = end_written end m.lists v;
         slots = record m.slots { values = with_item m.slots.values place v };
