@@ -74,7 +74,7 @@ fn a_value_is_written(test: &Test, map: &mut Numbers) {
     }
     test.expect("get_mut", map.get(&1).copied() == Some(4));
     match occupied(map, 1) {
-        Some(entry) => *entry.into_mut() += 1,
+        Some(entry) => *entry.into_mut() = 5,
         None => test.expect("an occupied entry", false),
     }
     test.expect_same("pairs", walk_difference(&mut map.iter(), &WRITTEN));

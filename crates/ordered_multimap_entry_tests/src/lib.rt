@@ -2,9 +2,9 @@
 //! both.
 #![tactic(auto)]
 
+pub mod entered;
 #[cfg(test)]
 mod entries;
-pub mod entered;
 #[cfg(test)]
 mod entry_drains;
 #[cfg(test)]

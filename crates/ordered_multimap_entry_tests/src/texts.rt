@@ -10,7 +10,7 @@ type Counts = ListOrderedMultimap<&'static str, u32>;
 fn count(test: &Test, map: &mut Counts, wanted: u32) {
     match map
         .entry("key")
-        .and_modify(|value| *value += 1)
+        .and_modify(|value| *value = value.saturating_add(1))
         .or_insert(42)
     {
         Ok(value) => test.expect("or_insert", *value == wanted),

@@ -76,7 +76,7 @@ impl<'map, K: Eq + Hash, V, S: BuildHasher, A: Allocator> OccupiedEntry<'map, K,
     /// The key's first value, to write for as long as the map is lent.
     ///
     /// ```
-    /// *entry.into_mut() += 1;
+    /// *entry.into_mut() = 5;
     /// ```
     pub fn into_mut(self) -> &'map mut V
         ensures* writes_back { sem 𝓛 (lends_first K.row V.row S.row A.row S.Hasher.row
