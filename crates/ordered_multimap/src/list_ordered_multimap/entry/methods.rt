@@ -117,7 +117,7 @@ impl<'map, K: Eq + Hash, V: Drop, S: BuildHasher, A: Allocator + Copy> Entry<'ma
             → IsOk result }
     {
         match self {
-            Entry::Occupied(entry) => Ok(entry.into_mut()),
+            Entry::Occupied(occupied) => Ok(occupied.into_mut()),
             Entry::Vacant(entry) => entry.insert(f()),
         }
     }
