@@ -98,6 +98,21 @@ module _ {K V : Type 0} {eq : K → K → Bool} {hash : K → ℕ} {keys : Slots
   pub pairs_of-with_item : pairs_of keys (with_item values place w) ≡ with_value_at (pairs_of keys values) (position_in values.order place) w
   pairs_of-with_item = pairs_along values.order agrees.values_sound.distinct (λ q i. i) listed
 
+-- so the map stays one
+pub IsMap-with_item : {K V : Type 0} {eq : K → K → Bool} {hash : K → ℕ} {keys : Slots K KeyLink} {rows : FinMap nat_cmp ℕ} {values : Taped V ValueLink}
+    → IsMap eq hash keys rows values → (place : ℕ) → IsIn place values.list.order → (w : V) → IsMap eq hash keys rows (with_list values (with_item values.list place w))
+IsMap-with_item is_map place listed w = record { agrees = Agrees-with_item is_map.agrees place listed w; fits = is_map.fits; paid = is_map.paid }
+
+-- and what a contract sees of it is the map with the value at that place
+pub multimap-with_item : {K V S : Type 0} {eq : K → K → Bool} {hash : K → ℕ} {keys : Slots K KeyLink} {rows : FinMap nat_cmp ℕ} {values : Slots V ValueLink}
+    → Agrees eq hash keys rows values → (place : ℕ) → IsIn place values.order → (key_room value_room : ℕ) (state : S) (tape : TapeNumbers) (left : ChainEnds) (w : V)
+    → multimap (lists_of keys (with_item values place w)) key_room value_room state tape (record { keys = keys; values = with_item values place w; left = left })
+    ≡ with_value (multimap (lists_of keys values) key_room value_room state tape (record { keys = keys; values = values; left = left })) place w
+multimap-with_item {keys = keys} {values = values} agrees place listed key_room value_room state tape left w =
+    ap (λ pairs. multimap (lists (items_of keys) pairs) key_room value_room state tape (record { keys = keys; values = with_item values place w; left = left }))
+    (pairs_of-with_item agrees place listed w)
+
+-- the head that a key's link names
 pub head_at-is : {K : Type 0} (keys : Slots K KeyLink) (place : ℕ) (l : KeyLink) → link_at keys place ≡ Some l → head_at keys place ≡ l.head
 head_at-is keys place l link_is = ap (λ o. unwrap_or (option_map (λ k. k.head) o) 0) link_is
 
@@ -115,25 +130,12 @@ module _ {K V : Type 0} {eq : K → K → Bool} (laws : IsEquivalence eq) {hash 
       ap (λ ps. slice_get ps 0) (positions_of-chain laws agrees k place has ∙ ap (positions_at values) b.is)
 
   -- so another value there is another first value
-  pub with_first_value-head : (k : K) (place : ℕ) (l : KeyLink) → HasKey eq keys k place → link_at keys place ≡ Some l → (v : V)
-      → with_value_at (pairs_of keys values) (position_in values.order l.head) v ≡ with_first_value eq (pairs_of keys values) k v
-  with_first_value-head k place l has link_is v =
-      let pairs : List (K × V) = pairs_of keys values in
-      sym (ap (λ (o : Option ℕ). elim o as (λ _. List (K × V)) [ None ↦ pairs | Some i ↦ with_value_at pairs i v ]) (first_position k place l has link_is))
-
   pub with_first_value-head_at : (k : K) (place : ℕ) (l : KeyLink) → HasKey eq keys k place → link_at keys place ≡ Some l → (v : V)
       → with_value_at (pairs_of keys values) (position_in values.order (head_at keys place)) v ≡ with_first_value eq (pairs_of keys values) k v
   with_first_value-head_at k place l has link_is v =
-      ap (λ head. with_value_at (pairs_of keys values) (position_in values.order head) v) (head_at-is keys place l link_is) ∙ with_first_value-head k place l has link_is v
-
--- what a contract sees of the map is then the map with the value at that place
-pub multimap-with_item : {K V S : Type 0} {eq : K → K → Bool} {hash : K → ℕ} {keys : Slots K KeyLink} {rows : FinMap nat_cmp ℕ} {values : Slots V ValueLink}
-    → Agrees eq hash keys rows values → (place : ℕ) → IsIn place values.order → (key_room value_room : ℕ) (state : S) (tape : TapeNumbers) (left : ChainEnds) (w : V)
-    → multimap (lists_of keys (with_item values place w)) key_room value_room state tape (record { keys = keys; values = with_item values place w; left = left })
-    ≡ with_value (multimap (lists_of keys values) key_room value_room state tape (record { keys = keys; values = values; left = left })) place w
-multimap-with_item {keys = keys} {values = values} agrees place listed key_room value_room state tape left w =
-    ap (λ pairs. multimap (lists (items_of keys) pairs) key_room value_room state tape (record { keys = keys; values = with_item values place w; left = left }))
-    (pairs_of-with_item agrees place listed w)
+      let pairs : List (K × V) = pairs_of keys values in
+      let put : Option ℕ → List (K × V) = λ o. elim o as (λ _. List (K × V)) [ None ↦ pairs | Some i ↦ with_value_at pairs i v ] in
+      ap (λ head. with_value_at pairs (position_in values.order head) v) (head_at-is keys place l link_is) ∙ sym (ap put (first_position k place l has link_is))
 
 -- as many places stand before a place as items are listed before it
 position_in-split : (front : List ℕ) (place : ℕ) (back : List ℕ) → (IsIn place front → ⊥) → position_in (front ++ place ∷ back) place ≡ length front
@@ -158,6 +160,7 @@ end_position-length : {X Y : Type 0} (end : End) (xs : List X) (ys : List Y) →
 end_position-length Front xs ys e = refl
 end_position-length Back xs ys e = ap (λ n. n - 1) e
 
+-- the item at an end, by either word
 item_at_end : (end : End) (order : List ℕ) (place : ℕ) → end_of_list end order ≡ Some place → end_item end order ≡ Some place
 item_at_end Front order place at = let b = begins order place at in ap (end_item Front) b.is
 item_at_end Back order place at = let b = ends order place at in ap (end_item Back) b.is ∙ end_item-push b.front place
@@ -169,11 +172,6 @@ with_value-end {K} {V} {S} m end place distinct long at w =
     let put : ℕ → ℕ → Multimap K V S = λ n p. record m { lists = lists m.lists.keys (with_value_at m.lists.pairs n w); slots = record m.slots { values = with_item m.slots.values p w } } in
     let position = position_in-end end m.slots.values.order place distinct at ∙ end_position-length end m.slots.values.order m.lists.pairs (sym long) in
     ap (λ n. put n place) position ∙ ap (put (end_position end m.lists.pairs)) (sym (ap (λ o. unwrap_or o 0) (item_at_end end m.slots.values.order place at)))
-
--- and it stays a map
-pub IsMap-with_item : {K V : Type 0} {eq : K → K → Bool} {hash : K → ℕ} {keys : Slots K KeyLink} {rows : FinMap nat_cmp ℕ} {values : Taped V ValueLink}
-    → IsMap eq hash keys rows values → (place : ℕ) → IsIn place values.list.order → (w : V) → IsMap eq hash keys rows (with_list values (with_item values.list place w))
-IsMap-with_item is_map place listed w = record { agrees = Agrees-with_item is_map.agrees place listed w; fits = is_map.fits; paid = is_map.paid }
 
 -- a key without a value has no first one, and a write leaves the lists
 no_first : {X Y : Type 0} (xs : List X) (ys : List Y) → length ys ≡ length xs → slice_get xs 0 ≡ None → slice_get ys 0 ≡ None
