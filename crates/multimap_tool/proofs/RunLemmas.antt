@@ -11,7 +11,7 @@ use Rattle.ordered_multimap.specs.Pop.{popped}
 use Rattle.ordered_multimap.proofs.WellFormedLemmas.{empty_well_formed, appended_well_formed, inserted_well_formed, removed_well_formed, popped_well_formed}
 use Rattle.ordered_multimap.proofs.KeyOrderLemmas.{KeepsKeyOrder-same, KeepsKeyOrder-keys_with, KeepsKeyOrder-named_by, KeepsKeyOrder-popped, KeepsKeyOrder-none}
 use Rattle.multimap_tool.specs.declared.commands.Command.{Command}
-use Rattle.multimap_tool.specs.declared.commands.Command.TheVariants.{Append, Insert, InsertAll, Get, All, Has, Len, Front, Back, Remove, RemoveAll, RemoveEntry, RemoveEntryAll, PopFront, PopBack, Clear, Pairs, Keys, Lengths}
+use Rattle.multimap_tool.specs.declared.commands.Command.TheVariants.{Append, Insert, InsertAll, SetFirst, SetFront, SetBack, OrInsert, Get, All, Has, Len, Front, Back, Remove, RemoveAll, RemoveEntry, RemoveEntryAll, PopFront, PopBack, Clear, Pairs, Keys, Lengths}
 use Rattle.multimap_tool.specs.declared.replies.Reply.{Reply}
 use Rattle.multimap_tool.specs.Step.{Leaves, IsLookUp, IsStep}
 use Rattle.multimap_tool.specs.Runs.{IsRun}
@@ -88,27 +88,32 @@ module _ {K V A : Type 0} {eq : K → K → Bool} (laws : IsEquivalence eq) wher
 module _ {K V A : Type 0} where
   -- a command that is none of those that change the lists
   pub IsLookUp-else : (command : Command K V A) → ((k : K) (v : V) → command ≢ Append k v) → ((k : K) (v : V) → command ≢ Insert k v) → ((k : K) (v : V) → command ≢ InsertAll k v)
+      → ((k : K) (v : V) → command ≢ SetFirst k v) → ((v : V) → command ≢ SetFront v) → ((v : V) → command ≢ SetBack v) → ((k : K) (v : V) → command ≢ OrInsert k v)
       → ((k : K) → command ≢ Remove k) → ((k : K) → command ≢ RemoveAll k) → ((k : K) → command ≢ RemoveEntry k) → ((k : K) → command ≢ RemoveEntryAll k)
       → command ≢ PopFront → command ≢ PopBack → command ≢ Clear → IsLookUp command
-  IsLookUp-else (Append k v) a b c d e f g h i j = a k v refl
-  IsLookUp-else (Insert k v) a b c d e f g h i j = b k v refl
-  IsLookUp-else (InsertAll k v) a b c d e f g h i j = c k v refl
-  IsLookUp-else (Get k) a b c d e f g h i j = tt
-  IsLookUp-else (All k ends) a b c d e f g h i j = tt
-  IsLookUp-else (Has k) a b c d e f g h i j = tt
-  IsLookUp-else (Len k) a b c d e f g h i j = tt
-  IsLookUp-else Front a b c d e f g h i j = tt
-  IsLookUp-else Back a b c d e f g h i j = tt
-  IsLookUp-else (Remove k) a b c d e f g h i j = d k refl
-  IsLookUp-else (RemoveAll k) a b c d e f g h i j = e k refl
-  IsLookUp-else (RemoveEntry k) a b c d e f g h i j = f k refl
-  IsLookUp-else (RemoveEntryAll k) a b c d e f g h i j = g k refl
-  IsLookUp-else PopFront a b c d e f g h i j = h refl
-  IsLookUp-else PopBack a b c d e f g h i j = i refl
-  IsLookUp-else Clear a b c d e f g h i j = j refl
-  IsLookUp-else (Pairs ends) a b c d e f g h i j = tt
-  IsLookUp-else (Keys ends) a b c d e f g h i j = tt
-  IsLookUp-else Lengths a b c d e f g h i j = tt
+  IsLookUp-else (Append k v) a b c d e f g h i j l m n o = a k v refl
+  IsLookUp-else (Insert k v) a b c d e f g h i j l m n o = b k v refl
+  IsLookUp-else (InsertAll k v) a b c d e f g h i j l m n o = c k v refl
+  IsLookUp-else (SetFirst k v) a b c d e f g h i j l m n o = d k v refl
+  IsLookUp-else (SetFront v) a b c d e f g h i j l m n o = e v refl
+  IsLookUp-else (SetBack v) a b c d e f g h i j l m n o = f v refl
+  IsLookUp-else (OrInsert k v) a b c d e f g h i j l m n o = g k v refl
+  IsLookUp-else (Get k) a b c d e f g h i j l m n o = tt
+  IsLookUp-else (All k ends) a b c d e f g h i j l m n o = tt
+  IsLookUp-else (Has k) a b c d e f g h i j l m n o = tt
+  IsLookUp-else (Len k) a b c d e f g h i j l m n o = tt
+  IsLookUp-else Front a b c d e f g h i j l m n o = tt
+  IsLookUp-else Back a b c d e f g h i j l m n o = tt
+  IsLookUp-else (Remove k) a b c d e f g h i j l m n o = h k refl
+  IsLookUp-else (RemoveAll k) a b c d e f g h i j l m n o = i k refl
+  IsLookUp-else (RemoveEntry k) a b c d e f g h i j l m n o = j k refl
+  IsLookUp-else (RemoveEntryAll k) a b c d e f g h i j l m n o = l k refl
+  IsLookUp-else PopFront a b c d e f g h i j l m n o = m refl
+  IsLookUp-else PopBack a b c d e f g h i j l m n o = n refl
+  IsLookUp-else Clear a b c d e f g h i j l m n o = o refl
+  IsLookUp-else (Pairs ends) a b c d e f g h i j l m n o = tt
+  IsLookUp-else (Keys ends) a b c d e f g h i j l m n o = tt
+  IsLookUp-else Lengths a b c d e f g h i j l m n o = tt
 
 -- what holds of a value where there is one implies what follows from it
 pub if_ok : {T E : Type 0} {P Q : T → Type 0} (r : Result T E) → ((x : T) → P x → Q x) → IfOk r P → IfOk r Q
