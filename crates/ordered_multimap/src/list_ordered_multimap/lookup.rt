@@ -1,5 +1,5 @@
 //! Look-ups by key, and the first and the last pair.
-ghost use Rattle.std.specs.Prelude.{◌≡◌, false, length, slice_get, IfSome, IfNone, Some, is_some, option_copied, option_map};
+ghost use Rattle.std.specs.Prelude.{◌≡◌, ◌<◌, false, length, slice_get, IfSome, IfNone, Some, is_some, option_copied, option_map};
 ghost use Rattle.multimap_slots.specs.Lists.{IsIn};
 ghost use Rattle.multimap_slots.specs.Slots.{HasSlot};
 ghost use Rattle.multimap_walks.specs.Walk.{end_item};
@@ -111,8 +111,9 @@ impl<K: Eq + Hash, V, S: BuildHasher, A: Allocator> ListOrderedMultimap<K, V, S,
     #[inline(always)]
     pub(super) fn len_at(&self, place: usize) -> usize
         requires { IsIn place self.now.slots.keys.order }
-        ensures { (k : K) → HasKey K.eq self.now.slots.keys k place
+        ensures len { (k : K) → HasKey K.eq self.now.slots.keys k place
             → result ≡ length (values_of K.eq self.now.lists.pairs k) }
+        ensures some { 0 < result }
     {
         let (_, link) = slot_at(&self.keys, place);
         link.length

@@ -143,7 +143,10 @@ impl<'map, K: Eq + Hash, V: Drop, S: BuildHasher, A: Allocator + Copy> Entry<'ma
             → IsOk result }
     {
         match self {
-            Entry::Occupied(entry) => Ok(entry),
+            Entry::Occupied(entry) => {
+                let OccupiedEntry { map, place, key } = entry;
+                Ok(OccupiedEntry { map, place, key })
+            }
             Entry::Vacant(entry) => entry.insert_entry(value),
         }
     }
@@ -171,8 +174,14 @@ impl<'map, K: Eq + Hash, V: Drop, S: BuildHasher, A: Allocator + Copy> Entry<'ma
             → IsOk result }
     {
         match self {
-            Entry::Occupied(entry) => Ok(entry),
-            Entry::Vacant(entry) => entry.insert_entry(f()),
+            Entry::Occupied(entry) => {
+                let OccupiedEntry { map, place, key } = entry;
+                Ok(OccupiedEntry { map, place, key })
+            }
+            Entry::Vacant(entry) => {
+                let value = f();
+                entry.insert_entry(value)
+            }
         }
     }
 }

@@ -169,7 +169,11 @@ impl<'map, K: Eq + Hash, V, S: BuildHasher, A: Allocator> OccupiedEntry<'map, K,
         ensures taken { TakesOut (length (values_of K.eq self.entry.map.now.lists.pairs
             self.entry.key.value)) self.entry.map.now.tape self.exit.0.now.tape }
     {
-        let OccupiedEntry { map, place, key: _ } = self;
+        let OccupiedEntry {
+            map,
+            place,
+            key: _key,
+        } = self;
         map.take_entry_at(place)
     }
 
@@ -190,8 +194,12 @@ impl<'map, K: Eq + Hash, V, S: BuildHasher, A: Allocator> OccupiedEntry<'map, K,
         ensures taken { TakesOut (length (values_of K.eq self.entry.map.now.lists.pairs
             self.entry.key.value)) self.entry.map.now.tape self.exit.0.now.tape }
     {
-        let OccupiedEntry { map, place, key: _ } = self;
-        let (_key, value) = map.take_entry_at(place);
+        let OccupiedEntry {
+            map,
+            place,
+            key: _key,
+        } = self;
+        let (_stored, value) = map.take_entry_at(place);
         value
     }
 }
@@ -209,7 +217,11 @@ impl<'map, K: Eq + Hash, V: Drop, S: BuildHasher, A: Allocator> OccupiedEntry<'m
         ensures drain { DrainsEntry K.eq self.entry.map.now self.entry.key.value result }
         ensures same_map { result.map.ghost_name ≡ self.entry.map.ghost_name }
     {
-        let OccupiedEntry { map, place, key: _ } = self;
+        let OccupiedEntry {
+            map,
+            place,
+            key: _key,
+        } = self;
         drop(map.detach_at(place));
         map.drain()
     }
@@ -225,8 +237,12 @@ impl<'map, K: Eq + Hash, V: Drop, S: BuildHasher, A: Allocator> OccupiedEntry<'m
         ensures drain { DrainsEntry K.eq self.entry.map.now self.entry.key.value result.1 }
         ensures same_map { result.1.map.ghost_name ≡ self.entry.map.ghost_name }
     {
-        let OccupiedEntry { map, place, key: _ } = self;
-        let key = map.detach_at(place);
-        (key, map.drain())
+        let OccupiedEntry {
+            map,
+            place,
+            key: _key,
+        } = self;
+        let stored = map.detach_at(place);
+        (stored, map.drain())
     }
 }

@@ -1,4 +1,4 @@
-use Rattle.std.proofs.Common.{slice_get, sym, ap, ◌∙◌, refl}
+use Rattle.std.proofs.Common.{slice_get, sym, ap, refl}
 use mathlib.Core.Option.{some}
 use Rattle.ordered_multimap.proofs.list_ordered_multimap.ListOrderedMultimap.get_mut.Goals as goal
 

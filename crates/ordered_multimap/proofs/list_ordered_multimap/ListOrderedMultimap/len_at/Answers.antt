@@ -1,10 +1,17 @@
-use Rattle.std.proofs.Common.{◌≡◌, length, sym, subst}
+use Rattle.std.proofs.Common.{◌≡◌, arith, length, sym, subst}
 use Rattle.ordered_multimap.specs.Agrees.{HasKey}
 use Rattle.ordered_multimap.specs.Pairs.{values_of}
+use Rattle.ordered_multimap.proofs.InsertLemmas.{chain_some}
 use Rattle.ordered_multimap.proofs.LookupLemmas.{count_of_values}
 use Rattle.ordered_multimap.proofs.list_ordered_multimap.ListOrderedMultimap.len_at.Goals as goal
 
-pub returns : goal.returns
-returns g c =
+pub returns-clause-len : goal.returns-clause-len
+returns-clause-len g c =
     subst (λ m. (k : g.row.K.Denot) → HasKey g.K.PartialEq.eq m.slots.keys k c.args.place → c.slot_at.result.1.length ≡ length (values_of g.K.PartialEq.eq m.lists.pairs k)) c.self.view_is
     (λ k has. sym (count_of_values g.met.K.Eq.laws c.self.invariant.agrees k c.args.place c.slot_at.result.1 has c.slot_at.ensures.link_is))
+
+pub returns-clause-some : goal.returns-clause-some
+returns-clause-some g c =
+    let a = c.self.invariant.agrees in
+    let listed = c.slot_at.ensures.listed in
+    omega (arith, chain_some a.keys_sound a.chained c.args.place listed, a.chained.length c.args.place c.slot_at.result.1 listed c.slot_at.ensures.link_is)

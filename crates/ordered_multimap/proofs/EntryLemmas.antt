@@ -1,0 +1,120 @@
+-- What an entry keeps of its key, and what a pair is that an entry put last.
+use Rattle.std.proofs.Common.{◌≡◌, ℕ, suc, ◌+◌, Bool, true, false, cond, List, [], ◌∷◌, ◌++◌, filter, length, map, slice_get, Option, Some, None, IsSome, is_some, option_map, refl, sym, ap, ◌∙◌, subst, arith, inl, inr, true≢false}
+use Rattle.std.specs.Cmp.{IsEquivalence}
+use Rattle.std.specs.List.{enumerate_from}
+use Rattle.std.proofs.lemmas.Bool.{cases_eq, ne_eqb}
+use Rattle.std.proofs.Math.Logic.{∥∥₁_elim}
+use Rattle.std.proofs.Props.{props}
+use Rattle.multimap_slots.specs.Lists.{IsIn}
+use Rattle.multimap_slots.specs.Slots.{Slots, item_at}
+use Rattle.multimap_walks.specs.declared.links.KeyLink.{KeyLink}
+use Rattle.ordered_multimap.specs.Agrees.{HasKey}
+use Rattle.ordered_multimap.specs.Changes.{appended, first_written}
+use Rattle.ordered_multimap.specs.Keys.{is_listed, keys_with, stored_key}
+use Rattle.ordered_multimap.specs.Lists.{Lists, lists}
+use Rattle.ordered_multimap.specs.Multimap.{Multimap}
+use Rattle.ordered_multimap.specs.Pairs.{has_items, is_present, positions_of, values_of, with_first_value, with_value_at}
+use Rattle.ordered_multimap.specs.Rooms.{KeepsRooms, RaisesNoRoom}
+use Rattle.ordered_multimap.specs.TapeNumbers.{TakesOut}
+use Rattle.ordered_multimap.specs.Writes.{IsWritten}
+use Rattle.ordered_multimap.specs.Entries.{IsAppended}
+use Rattle.ordered_multimap.specs.Takes.{among}
+use Rattle.ordered_multimap.proofs.InsertLemmas.{values_of-append}
+use Rattle.ordered_multimap.proofs.KeyLemmas.{stored_key_absent}
+use Rattle.ordered_multimap.proofs.PlaceLemmas.{held}
+use Rattle.ordered_multimap.proofs.TakingLemmas.{among-in}
+
+among-is : (places : List ℕ) (q : ℕ) → among places q ≡ true → IsIn q places
+among-is [] q e = absurd (true≢false (sym e))
+among-is (p ∷ places) q e = elim (cases_eq p q) [
+  | inl same ↦ inl (sym same)
+  | inr differs ↦ inr (among-is places q (rw (ne_eqb p q differs) at e))
+]
+
+-- the key of an entry stands at its place
+pub kept_key : {K : Type 0} {eq : K → K → Bool} (keys : Slots K KeyLink) (k : K) (place : ℕ) → ∥ HasKey eq keys k place ∥₁ → HasKey eq keys k place
+kept_key {K} {eq} keys k place some =
+    let listed_prop : IsProp (among keys.order place ≡ true) = Prim.hlevel props in
+    let there_prop : IsProp (IsSome (item_at keys place)) = Prim.hlevel props in
+    let there = ∥∥₁_elim some there_prop (λ h. ap is_some h.item_is) in
+    let item = held (item_at keys place) there in
+    let equal_prop : IsProp (eq k item.value ≡ true) = Prim.hlevel props in
+    record {
+      listed = among-is keys.order place (∥∥₁_elim some listed_prop (λ h. among-in keys.order place h.listed));
+      stored = item.value;
+      item_is = item.is;
+      equal = ∥∥₁_elim some equal_prop (λ h. let same : Some h.stored ≡ Some item.value = sym h.item_is ∙ item.is in let own : h.stored ≡ item.value = cc in ap (eq k) (sym own) ∙ h.equal);
+    }
+
+-- a removed pair is the stored key with the first value
+pub entry_parts : {K V : Type 0} (key : K) (o : Option V) (r : K × V) → Some r ≡ option_map (λ v. (key, v)) o → (r.0 ≡ key) × (o ≡ Some r.1)
+entry_parts key None r e = absurd (true≢false (ap is_some e))
+entry_parts {K} {V} key (Some v) r e = let same : r ≡ (key, v) = cc in (ap (λ p. p.0) same, ap Some (sym (ap (λ p. p.1) same)))
+
+-- the last pair with another value
+put_last : {K V : Type 0} (pairs : List (K × V)) (j : K) (v w : V) → with_value_at (pairs ++ (j, v) ∷ []) (length pairs) w ≡ pairs ++ (j, w) ∷ []
+put_last [] j v w = refl
+put_last (p ∷ pairs) j v w = ap (λ ps. p ∷ ps) (put_last pairs j v w)
+
+module _ {K V : Type 0} (eq : K → K → Bool) (k j : K) (own : eq k j ≡ true) where
+  -- of a key without a value it is the only position
+  last_position : (at : ℕ) (pairs : List (K × V)) (v : V) → values_of eq pairs k ≡ []
+      → map (λ e. e.0) (filter (λ e. eq k e.1.0) (enumerate_from at (pairs ++ (j, v) ∷ []))) ≡ (at + length pairs) ∷ []
+  last_position at [] v none = rw own (ap (λ n. n ∷ []) (omega arith))
+  last_position at (p ∷ pairs) v none =
+      let rest : List (ℕ × (K × V)) = enumerate_from (at + 1) (pairs ++ (j, v) ∷ []) in
+      let later : List V = values_of eq pairs k in
+      let P : Bool → Type 0 = λ b. map (λ q. q.1) (cond b (p ∷ filter (λ q. eq k q.0) pairs) (filter (λ q. eq k q.0) pairs)) ≡ []
+      → map (λ e. e.0) (cond b ((at, p) ∷ filter (λ e. eq k e.1.0) rest) (filter (λ e. eq k e.1.0) rest)) ≡ (at + suc (length pairs)) ∷ [] in
+      elim (eq k p.0) as P [
+        | true ↦ λ e. absurd (true≢false (ap has_items e))
+        | false ↦ λ e. last_position (at + 1) pairs v e ∙ ap (λ n. n ∷ []) (omega arith)
+      ] none
+
+  last_first : (pairs : List (K × V)) (v w : V) → values_of eq pairs k ≡ [] → with_first_value eq (pairs ++ (j, v) ∷ []) k w ≡ pairs ++ (j, w) ∷ []
+  last_first pairs v w none =
+      let all : List (K × V) = pairs ++ (j, v) ∷ [] in
+      ap (λ ps. elim (slice_get ps 0) [ None ↦ all | Some i ↦ with_value_at all i w ]) (last_position 0 pairs v none ∙ ap (λ n. n ∷ []) (omega arith)) ∙ put_last pairs j v w
+
+none_present : {X : Type 0} (xs : List X) → has_items xs ≡ false → xs ≡ []
+none_present [] e = refl
+none_present (x ∷ xs) e = absurd (true≢false e)
+
+-- the first value of a key that has come is the one that came with it
+pub new_first : {K V : Type 0} {eq : K → K → Bool} (laws : IsEquivalence eq) (m new : Lists K V) (k : K) (v w : V)
+    → is_listed eq m.keys k ≡ false → is_present eq m.pairs k ≡ false → new ≡ appended eq m k v → slice_get (values_of eq new.pairs k) 0 ≡ Some w → w ≡ v
+new_first {K} {V} {eq} laws m new k v w unlisted absent came first =
+    let j = stored_key eq m.keys k in
+    let own : eq k j ≡ true = ap (eq k) (stored_key_absent laws k m.keys unlisted) ∙ laws.refl k in
+    let alone : values_of eq ((j, v) ∷ []) k ≡ v ∷ [] = rw own refl in
+    let there : Some w ≡ Some v =
+    sym first
+    ∙ ap (λ n. slice_get (values_of eq n.pairs k) 0) came
+    ∙ ap (λ vs. slice_get vs 0) (values_of-append eq k m.pairs ((j, v) ∷ []) ∙ ap (λ vs. vs ++ values_of eq ((j, v) ∷ []) k) (none_present (values_of eq m.pairs k) absent) ∙ alone) in
+    cc
+
+-- a pair that was put last, and then written
+pub written_last : {K V S : Type 0} {eq : K → K → Bool} (laws : IsEquivalence eq) (old new after : Multimap K V S) (k : K) (v w : V)
+    → is_listed eq old.lists.keys k ≡ false → is_present eq old.lists.pairs k ≡ false
+    → new.lists ≡ appended eq old.lists k v → KeepsRooms old new → RaisesNoRoom eq k old new → TakesOut 0 old.tape new.tape
+    → IsWritten new after (first_written eq new.lists k w) → IsAppended eq k w old after
+written_last {eq = eq} laws old new after k v w unlisted absent came rooms raises taken written =
+    let j = stored_key eq old.lists.keys k in
+    let own : eq k j ≡ true = ap (eq k) (stored_key_absent laws k old.lists.keys unlisted) ∙ laws.refl k in
+    record {
+      lists =
+          written.lists ∙ ap (λ m. first_written eq m k w) came
+          ∙ ap (λ ps. lists (keys_with eq old.lists.keys k) ps) (last_first eq k j own old.lists.pairs v w (none_present (values_of eq old.lists.pairs k) absent));
+      rooms = record {
+        keys = omega (arith, rooms.keys, written.rooms.keys);
+        values = omega (arith, rooms.values, written.rooms.values);
+        hasher = written.rooms.hasher ∙ rooms.hasher;
+      };
+      had_room = record {
+        keys = λ few. written.rooms.keys ∙ raises.keys few;
+        present = λ there. written.rooms.keys ∙ raises.present there;
+        values = λ few. written.rooms.values ∙ raises.values few;
+        slots = λ few. written.rooms.slots ∙ raises.slots few;
+      };
+      taken = subst (λ t. TakesOut 0 old.tape t) (sym written.tape) taken;
+    }
