@@ -280,3 +280,17 @@ pub fn fifo_churn_few<S: BuildHasher + Default>(n: u64, seed: u64) -> u64 {
 pub fn fifo_small<S: BuildHasher + Default>(n: u64, seed: u64) -> u64 {
     churns::<S>(64, n, seed, |i| key(seed, i))
 }
+
+/// Each key has one value, so this is a map of numbers and not of vectors.
+pub fn entry_count<S: BuildHasher + Default>(n: u64, seed: u64) -> u64 {
+    let mut counts: HashMap<u64, u64, S> = HashMap::default();
+    let mut checksum = START;
+    for j in 0..4 * n {
+        let count = counts
+            .entry(key(seed, choice(seed, j, n / 8)))
+            .and_modify(|count| *count += 1)
+            .or_insert(1);
+        checksum = mix(checksum, *count);
+    }
+    mix(mix(checksum, counts.len() as u64), counts.len() as u64)
+}

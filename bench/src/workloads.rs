@@ -37,6 +37,7 @@ mod exported {
         pub safe fn bench_fifo_small(n: u64, seed: u64) -> u64;
         pub safe fn bench_insert_replace(n: u64, seed: u64) -> u64;
         pub safe fn bench_remove_all_half(n: u64, seed: u64) -> u64;
+        pub safe fn bench_entry_count(n: u64, seed: u64) -> u64;
         pub safe fn benchfx_append_distinct(n: u64, seed: u64) -> u64;
         pub safe fn benchfx_append_few(n: u64, seed: u64) -> u64;
         pub safe fn benchfx_append_grouped(n: u64, seed: u64) -> u64;
@@ -51,6 +52,7 @@ mod exported {
         pub safe fn benchfx_fifo_small(n: u64, seed: u64) -> u64;
         pub safe fn benchfx_insert_replace(n: u64, seed: u64) -> u64;
         pub safe fn benchfx_remove_all_half(n: u64, seed: u64) -> u64;
+        pub safe fn benchfx_entry_count(n: u64, seed: u64) -> u64;
     }
 }
 
@@ -184,6 +186,14 @@ pub const WORKLOADS: [Workload; 14] = [
         benchfx_remove_all_half,
         SCATTERED,
         1,
+        None
+    ),
+    workload!(
+        entry_count,
+        bench_entry_count,
+        benchfx_entry_count,
+        None,
+        4,
         None
     ),
 ];

@@ -1,5 +1,5 @@
 //! Pairs that come and go, that are replaced, and that leave with their key, on a map that was filled
-//! by appends. Each answers none where memory was refused.
+//! by appends; and keys that are counted. Each answers none where memory was refused.
 use crate::appends::{Map, distinct, ends};
 use crate::numbers::{choice, key, mix, value};
 use std::hash::BuildHasher;
@@ -91,4 +91,26 @@ pub(crate) fn removes<S: BuildHasher>(map: &mut Map<S>, pairs: u64, seed: u64, s
         }
     }
     ends(map, checksum)
+}
+
+/// Counts how often each of an eighth as many keys is chosen, four times a pair.
+pub(crate) fn counts<S: BuildHasher>(
+    map: &mut Map<S>,
+    pairs: u64,
+    seed: u64,
+    start: u64,
+) -> Option<u64> {
+    let mut checksum = start;
+    for j in 0..pairs.wrapping_mul(4) {
+        let chosen = key(seed, choice(seed, j, pairs / 8));
+        let entry = map
+            .entry(chosen)
+            .and_modify(|count| *count = count.wrapping_add(1));
+        let count = match entry.or_insert(1) {
+            Ok(count) => *count,
+            Err(_) => return None,
+        };
+        checksum = mix(checksum, count);
+    }
+    Some(ends(map, checksum))
 }

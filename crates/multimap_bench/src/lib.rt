@@ -127,6 +127,12 @@ pub extern "C" fn bench_remove_all_half(alloc: Global, n: u64, seed: u64) -> u64
     run(alloc, DefaultState::new(), Workload::RemoveAllHalf, n, seed)
 }
 
+/// Counts keys by their entries.
+#[unsafe(no_mangle)]
+pub extern "C" fn bench_entry_count(alloc: Global, n: u64, seed: u64) -> u64 {
+    run(alloc, DefaultState::new(), Workload::EntryCount, n, seed)
+}
+
 /// Appends a new key for each pair. With the fast hasher.
 #[unsafe(no_mangle)]
 pub extern "C" fn benchfx_append_distinct(alloc: Global, n: u64, seed: u64) -> u64 {
@@ -215,4 +221,10 @@ pub extern "C" fn benchfx_insert_replace(alloc: Global, n: u64, seed: u64) -> u6
 #[unsafe(no_mangle)]
 pub extern "C" fn benchfx_remove_all_half(alloc: Global, n: u64, seed: u64) -> u64 {
     run(alloc, FastState::new(), Workload::RemoveAllHalf, n, seed)
+}
+
+/// Counts keys by their entries. With the fast hasher.
+#[unsafe(no_mangle)]
+pub extern "C" fn benchfx_entry_count(alloc: Global, n: u64, seed: u64) -> u64 {
+    run(alloc, FastState::new(), Workload::EntryCount, n, seed)
 }

@@ -1,6 +1,6 @@
 //! The workloads, each on a map of its own under any hash builder.
 use crate::appends::{Map, distinct, few, grouped, scattered};
-use crate::changes::{fifo, fifo_few, fifo_small, removes, replaces};
+use crate::changes::{counts, fifo, fifo_few, fifo_small, removes, replaces};
 use crate::lookups::{all_pairs, hits, misses, walks};
 use crate::numbers::START;
 use ordered_multimap::ListOrderedMultimap;
@@ -41,6 +41,8 @@ pub(crate) enum Workload {
     InsertReplace,
     /// Takes out half of the keys with their values, after `AppendScattered`.
     RemoveAllHalf,
+    /// Counts keys by their entries, on an empty map.
+    EntryCount,
 }
 
 /// Makes a map, runs a workload of `n` pairs on it, and lets the map go. Answers the checksum.
@@ -79,7 +81,7 @@ fn fill<S: BuildHasher>(map: &mut Map<S>, workload: Workload, n: u64, seed: u64)
         | Workload::GetAllWalkScattered
         | Workload::IterAll
         | Workload::RemoveAllHalf => scattered(map, n, seed, START),
-        Workload::FifoSmall => Some(START),
+        Workload::FifoSmall | Workload::EntryCount => Some(START),
     }
 }
 
@@ -97,6 +99,7 @@ fn change<S: BuildHasher>(
         Workload::FifoSmall => fifo_small(map, n, seed, checksum),
         Workload::InsertReplace => replaces(map, n, seed, checksum),
         Workload::RemoveAllHalf => Some(removes(map, n, seed, checksum)),
+        Workload::EntryCount => counts(map, n, seed, checksum),
         _ => Some(checksum),
     }
 }

@@ -13,7 +13,7 @@ use Rattle.ordered_multimap.specs.Changes.{appended, first_written}
 use Rattle.ordered_multimap.specs.Keys.{is_listed, keys_with, stored_key}
 use Rattle.ordered_multimap.specs.Lists.{Lists, lists}
 use Rattle.ordered_multimap.specs.Multimap.{Multimap}
-use Rattle.ordered_multimap.specs.Pairs.{has_items, is_present, positions_of, values_of, with_first_value, with_value_at}
+use Rattle.ordered_multimap.specs.Pairs.{has_items, is_present, values_of, with_first_value, with_value_at}
 use Rattle.ordered_multimap.specs.Rooms.{KeepsRooms, RaisesNoRoom}
 use Rattle.ordered_multimap.specs.TapeNumbers.{TakesOut}
 use Rattle.ordered_multimap.specs.Writes.{IsWritten}

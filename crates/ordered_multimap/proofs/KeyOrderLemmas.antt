@@ -9,7 +9,7 @@ use Rattle.multimap_walks.specs.declared.End.{End}
 use Rattle.multimap_walks.specs.Walk.{end_rest}
 use Rattle.ordered_multimap.specs.Lists.{Lists}
 use Rattle.ordered_multimap.specs.Pairs.{has_items}
-use Rattle.ordered_multimap.specs.Changes.{kept}
+use Rattle.ordered_multimap.specs.Changes.{kept, first_written, end_written}
 use Rattle.ordered_multimap.specs.Pop.{popped}
 use Rattle.ordered_multimap.specs.Keys.{is_listed, keys_with, keys_named_by, KeepsKeyOrder}
 use Rattle.multimap_slots.proofs.ListsLemmas.{IsIn-left}
@@ -77,3 +77,10 @@ module _ {K : Type 0} {eq : K → K → Bool} (laws : IsEquivalence eq) where
     | true ↦ KeepsKeyOrder-named_by m.keys (end_rest end m.pairs)
     | false ↦ KeepsKeyOrder-same m.keys
   ]
+
+  -- a write leaves the keys
+  pub KeepsKeyOrder-first_written : {V : Type 0} (m : Lists K V) (k : K) (v : V) → KeepsKeyOrder eq m.keys (let l : Lists K V = first_written eq m k v in l.keys)
+  KeepsKeyOrder-first_written m k v = KeepsKeyOrder-same m.keys
+
+  pub KeepsKeyOrder-end_written : {V : Type 0} (end : End) (m : Lists K V) (v : V) → KeepsKeyOrder eq m.keys (let l : Lists K V = end_written end m v in l.keys)
+  KeepsKeyOrder-end_written end m v = KeepsKeyOrder-same m.keys

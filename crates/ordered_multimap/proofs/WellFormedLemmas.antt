@@ -1,13 +1,13 @@
 -- Each change leaves well-formed lists.
-use Rattle.std.proofs.Common.{◌≡◌, ◌⊎◌, ℕ, zero, suc, ◌-◌, Bool, true, false, not, cond, length, take, ap, List, [], ◌∷◌, ◌++◌, refl, sym, ◌∙◌, subst, inl, inr, true≢false}
+use Rattle.std.proofs.Common.{◌≡◌, ◌⊎◌, ℕ, zero, suc, ◌-◌, Bool, true, false, not, cond, length, take, slice_get, Option, Some, None, ap, List, [], ◌∷◌, ◌++◌, refl, sym, ◌∙◌, subst, inl, inr, true≢false}
 use Rattle.std.specs.List.{IsDistinct}
 use Rattle.std.specs.Map.{keys_of}
 use Rattle.std.specs.Cmp.{IsEquivalence}
 use Rattle.multimap_slots.specs.Lists.{IsIn}
 use Rattle.ordered_multimap.specs.Lists.{Lists, lists, empty_lists, IsWellFormed}
-use Rattle.ordered_multimap.specs.Pairs.{has_items, is_present, pairs_without}
+use Rattle.ordered_multimap.specs.Pairs.{has_items, is_present, pairs_without, positions_of, with_value_at, with_first_value, end_position}
 use Rattle.ordered_multimap.specs.Keys.{is_listed, stored_key, keys_with}
-use Rattle.ordered_multimap.specs.Changes.{appended, inserted, kept, removed}
+use Rattle.ordered_multimap.specs.Changes.{appended, inserted, kept, removed, first_written, end_written}
 use Rattle.ordered_multimap.specs.Pop.{popped}
 use Rattle.multimap_walks.specs.declared.End.{End}
 use Rattle.multimap_walks.specs.declared.End.TheVariants.{Front, Back}
@@ -109,3 +109,30 @@ module _ {K V : Type 0} {eq : K → K → Bool} (laws : IsEquivalence eq) where
     | true ↦ kept_well_formed m (end_rest end m.pairs) formed (rest_keys end m.pairs)
     | false ↦ formed
   ]
+
+-- the keys of the pairs stay where a value is written
+keys_of-with_value_at : {K V : Type 0} (pairs : List (K × V)) (i : ℕ) (v : V) → keys_of (with_value_at pairs i v) ≡ keys_of pairs
+keys_of-with_value_at [] i v = refl
+keys_of-with_value_at (p ∷ pairs) zero v = refl
+keys_of-with_value_at (p ∷ pairs) (suc i) v = ap (λ keys. p.0 ∷ keys) (keys_of-with_value_at pairs i v)
+
+module _ {K V : Type 0} {eq : K → K → Bool} (m : Lists K V) (formed : IsWellFormed eq m) where
+  -- other pairs under the same keys
+  same_keys_well_formed : (pairs : List (K × V)) → keys_of pairs ≡ keys_of m.pairs → IsWellFormed eq (lists m.keys pairs)
+  same_keys_well_formed pairs same = record {
+    distinct = formed.distinct;
+    listed = λ j member. formed.listed j (subst (IsIn j) same member);
+    used = λ j member. subst (IsIn j) (sym same) (formed.used j member);
+  }
+
+  pub first_written_well_formed : (k : K) (v : V) → IsWellFormed eq (first_written eq m k v)
+  first_written_well_formed k v = same_keys_well_formed (with_first_value eq m.pairs k v) (
+      elim (slice_get (positions_of eq m.pairs k) 0) as (λ (o : Option ℕ). keys_of (elim o as (λ _. List (K × V)) [ None ↦ m.pairs | Some i ↦ with_value_at m.pairs i v ]) ≡ keys_of m.pairs) [
+        | None ↦ refl
+        | Some i ↦ keys_of-with_value_at m.pairs i v
+      ]
+      )
+
+  pub end_written_well_formed : (end : End) (v : V) → IsWellFormed eq (end_written end m v)
+  end_written_well_formed end v =
+      same_keys_well_formed (with_value_at m.pairs (end_position end m.pairs) v) (keys_of-with_value_at m.pairs (end_position end m.pairs) v)

@@ -7,7 +7,7 @@ use Rattle.multimap_walks.specs.Walk.{answers_of_walk, forward}
 use Rattle.ordered_multimap.specs.Lists.{Lists, lists, empty_lists}
 use Rattle.ordered_multimap.specs.Pairs.{values_of, positions_of, is_present, same_pairs, with_value_at}
 use Rattle.ordered_multimap.specs.Keys.{KeepsKeyOrder}
-use Rattle.ordered_multimap.specs.Changes.{appended, inserted, kept, removed, all_appended, built_from, first_occurrences}
+use Rattle.ordered_multimap.specs.Changes.{appended, inserted, kept, removed, all_appended, built_from, first_occurrences, first_written, end_written}
 use Rattle.ordered_multimap.specs.Pop.{Popped, popped_pair, popped}
 use Rattle.ordered_multimap.specs.Retain.{Retains}
 
@@ -184,3 +184,16 @@ absent_key = refl
 
 changed_in_place : with_value_at four_pairs.pairs 3 7 ≡ (1, 1) ∷ (2, 2) ∷ (2, 3) ∷ (1, 7) ∷ []
 changed_in_place = refl
+
+-- the first value of a key is written, and where the key is absent nothing
+abbrev key_twice : Numbers
+key_twice = append_each ((1, 1) ∷ (2, 2) ∷ (1, 3) ∷ [])
+
+first_values_written : first_written nat_eq key_twice 1 9 ∷ first_written nat_eq key_twice 2 9 ∷ first_written nat_eq key_twice 3 9 ∷ []
+    ≡ lists (1 ∷ 2 ∷ []) ((1, 9) ∷ (2, 2) ∷ (1, 3) ∷ []) ∷ lists (1 ∷ 2 ∷ []) ((1, 1) ∷ (2, 9) ∷ (1, 3) ∷ []) ∷ key_twice ∷ []
+first_values_written = refl
+
+-- the value of the first or the last pair, and of none where there is no pair
+end_values_written : end_written Front key_twice 7 ∷ end_written Back key_twice 7 ∷ end_written Front none 7 ∷ end_written Back none 7 ∷ []
+    ≡ lists (1 ∷ 2 ∷ []) ((1, 7) ∷ (2, 2) ∷ (1, 3) ∷ []) ∷ lists (1 ∷ 2 ∷ []) ((1, 1) ∷ (2, 2) ∷ (1, 7) ∷ []) ∷ none ∷ none ∷ []
+end_values_written = refl

@@ -2,7 +2,8 @@
 use Rattle.std.specs.Prelude.{Bool, not, List, [], ◌∷◌, ◌++◌, filter}
 use Rattle.multimap_walks.specs.declared.End.{End}
 use Rattle.ordered_multimap.specs.Lists.{Lists, lists, empty_lists}
-use Rattle.ordered_multimap.specs.Pairs.{pairs_without, with_value_at, end_position, with_first_value}
+use Rattle.ordered_multimap.specs.Pairs.{pairs_without, with_value_at, with_first_value}
+use Rattle.ordered_multimap.specs.Pairs.{end_position}
 use Rattle.ordered_multimap.specs.Keys.{stored_key, keys_with, keys_named_by}
 
 module _ {K : Type 0} (eq : K → K → Bool) {V : Type 0} where

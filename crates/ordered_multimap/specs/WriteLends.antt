@@ -5,12 +5,11 @@ use Rattle.std.specs.HashMap.Lent.{HashMembers}
 use Rattle.std.specs.declared.alloc.Allocator as alloc
 use Rattle.std.specs.declared.hash.Hasher as hasher
 use Rattle.std.specs.declared.hash.BuildHasher as builder
-use mathlib.Core.Option.{some}
 use Rattle.multimap_walks.specs.declared.End.{End}
 use Rattle.ordered_multimap.specs.Changes.{first_written, end_written}
 use Rattle.ordered_multimap.specs.Multimap.{Multimap}
 use Rattle.ordered_multimap.specs.Pops.{map_row}
-use Rattle.ordered_multimap.specs.Writes.{with_value, with_first, IsWritten}
+use Rattle.ordered_multimap.specs.Writes.{with_value, with_first, with_end, IsWritten}
 
 module _ (K V S A H : RattleType) (key : HashMembers K.Denot)
     (build : builder.Ghosts S.Denot H.Denot) (hash : hasher.Ghosts H.Denot)
@@ -31,15 +30,16 @@ module _ (K V S A H : RattleType) (key : HashMembers K.Denot)
       (λ n w. OnSome r (IsWritten m.now n (first_written key.eq m.now.lists k w)))
       (λ n. n ≡ m.now)
 
-  -- it is the value of the pair at the end
-  abbrev pub lends_end : End → Bor K.Denot × MutBor V.Denot → Fml
-  lends_end end r =
-      follows_so (map_row K V S A H key build hash heap) V m.ghost_name (some r.1.ghost_name)
-      (λ w n. IsWritten m.now n (end_written end m.now.lists w)) (λ n. n ≡ m.now)
+module _ (K V S A H : RattleType) (key : HashMembers K.Denot)
+    (build : builder.Ghosts S.Denot H.Denot) (hash : hasher.Ghosts H.Denot)
+    (heap : alloc.Ghosts A.Denot) (end : End) (m : MutBor (Multimap K.Denot V.Denot S.Denot)) where
+  -- once the borrow ends, the last value written is that of the pair at the end
+  abbrev pub lends_end : Bor K.Denot × MutBor V.Denot → Fml
+  lends_end r = Lends (map_row K V S A H key build hash heap) V m r.1 (with_end end m.now)
 
   -- the same where there is a pair, and at `None` the map stays as it is
-  abbrev pub lends_end_if : End → Option (Bor K.Denot × MutBor V.Denot) → Fml
-  lends_end_if end r =
+  abbrev pub lends_end_if : Option (Bor K.Denot × MutBor V.Denot) → Fml
+  lends_end_if r =
       follows_so (map_row K V S A H key build hash heap) V m.ghost_name
       (name_if_some (λ p. p.1.ghost_name) r)
       (λ w n. OnSome r (IsWritten m.now n (end_written end m.now.lists w)))

@@ -84,7 +84,7 @@ pub fn expect_ends<K: Sample + Eq + Hash, V: Sample, S: BuildHasher, A: Allocato
 }
 
 /// The numbers of a pair.
-fn numbers_of<K: Sample, V: Sample>(pair: Option<(&K, &V)>) -> Option<(usize, usize)> {
+pub fn numbers_of<K: Sample, V: Sample>(pair: Option<(&K, &V)>) -> Option<(usize, usize)> {
     match pair {
         Some((key, value)) => Some((key.number(), value.number())),
         None => None,

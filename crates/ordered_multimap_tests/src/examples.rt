@@ -52,6 +52,37 @@ fn changes_answer(test: &Test, map: &mut Numbers) {
     test.expect("append", add_three(map).is_ok());
 }
 
+fn writes_answer(test: &Test, map: &mut Numbers) {
+    if let Some(value) = map.get_mut(&"line") {
+        *value = 3;
+    }
+    test.expect("get_mut", map.get(&"line").copied() == Some(3));
+    if let Some((_key, value)) = map.front_mut() {
+        *value = 4;
+    }
+    test.expect("front_mut", map.front() == Some((&"line", &4)));
+    if let Some((_key, value)) = map.back_mut() {
+        *value = 9;
+    }
+    test.expect("back_mut", map.back() == Some((&"line", &9)));
+}
+
+// Where there is a pair, the first and the last can be written.
+fn ends_answer(test: &Test, map: &mut Numbers) {
+    if map.values_len() == 0 {
+        return;
+    }
+    let (_key, value) = map.first_mut();
+    *value = 4;
+    test.expect("first_mut", map.front() == Some((&"line", &4)));
+    if map.values_len() == 0 {
+        return;
+    }
+    let (_key, value) = map.last_mut();
+    *value = 9;
+    test.expect("last_mut", map.back() == Some((&"line", &9)));
+}
+
 fn pops_answer(test: &Test, map: &mut Numbers) {
     test.expect(
         "pop_front",
@@ -110,6 +141,19 @@ fn examples_hold(rt: HostRuntime) -> Result<(), Failed> {
     pops_answer(&test, &mut map);
     wrappers_answer(&test);
     test.expect("drains", drains_answer(&test, &mut map).is_ok());
+    test.end()
+}
+
+fn examples_of_writes(test: &Test, map: &mut Numbers) {
+    test.expect("append", add_three(map).is_ok());
+    writes_answer(test, map);
+    ends_answer(test, map);
+}
+
+#[test]
+fn examples_of_writes_hold(rt: HostRuntime) -> Result<(), Failed> {
+    let test = Test::new(rt.alloc());
+    examples_of_writes(&test, &mut ListOrderedMultimap::new(test.alloc()));
     test.end()
 }
 

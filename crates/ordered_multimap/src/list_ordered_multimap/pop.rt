@@ -15,7 +15,7 @@ use std::alloc::Allocator;
 use std::hash::{BuildHasher, Hash};
 
 /// The place of the value at an end.
-fn end_place<V, A: Allocator>(values: &Tape<V, ValueLink, A>, end: End) -> Option<usize>
+pub(super) fn end_place<V, A: Allocator>(values: &Tape<V, ValueLink, A>, end: End) -> Option<usize>
     ensures { result ≡ end_of_list end values.now.list.order }
 {
     match end {

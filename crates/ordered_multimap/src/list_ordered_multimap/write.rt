@@ -1,17 +1,23 @@
 //! References for writing one value.
-ghost use Rattle.std.specs.Prelude.{◌≡◌, slice_get, Some};
+ghost use Rattle.std.specs.Prelude.{◌≡◌, ◌<◌, length, nat_lt, slice_get, option_map, Some};
 ghost use Rattle.std.specs.Borrow.{sem};
 ghost use Rattle.std.specs.Option.{option_copied_mut};
 ghost use Rattle.multimap_slots.specs.Lists.{IsIn};
 ghost use Rattle.multimap_slots.specs.Slots.{item_at};
+ghost use Rattle.multimap_walks.specs.Chained.{pair_at};
+ghost use Rattle.multimap_walks.specs.Walk.{end_item};
+ghost use Rattle.multimap_walks.specs.declared.End.TheVariants.{Front, Back};
 ghost use Rattle.ordered_multimap.specs.Agrees.{HasKey};
 ghost use Rattle.ordered_multimap.specs.Changes.{first_written};
 ghost use Rattle.ordered_multimap.specs.Pairs.{values_of};
 ghost use Rattle.ordered_multimap.specs.WriteLends.{lends_value, lends_first_value, lends_first_of};
+ghost use Rattle.ordered_multimap.specs.WriteLends.{lends_end, lends_end_if};
 ghost use Rattle.ordered_multimap.specs.Writes.{with_first, IsWritten};
 
 use super::ListOrderedMultimap;
-use super::lookup::slot_at;
+use super::lookup::{slot_at, value_at};
+use super::pop::end_place;
+use multimap_walks::End;
 use std::alloc::Allocator;
 use std::hash::{BuildHasher, Hash};
 
@@ -44,13 +50,15 @@ impl<K: Eq + Hash, V, S: BuildHasher, A: Allocator> ListOrderedMultimap<K, V, S,
         self.value_mut_at(link.head)
     }
 
-    /// The key's first value, to write. None where the key is absent.
-    ///
-    /// One look-up, and the slots of the key and of that value.
+    /// The key's first value, to write. None where the key is absent. One look-up, and the slots of
+    /// the key and of that value.
     ///
     /// ```
-    /// map.get_mut(&"line").copied() == Some(1)
+    /// if let Some(value) = map.get_mut(&"line") {
+    ///     *value = 3;
+    /// }
     /// ```
+    #[inline]
     pub fn get_mut(&mut self, key: &K) -> Option<&mut V>
         ensures* writes_back { sem 𝓛 (lends_first_of K.row V.row S.row A.row S.Hasher.row K.Hash
             S.BuildHasher S.Hasher.Hasher A.Allocator self.entry key.now result) }
@@ -61,5 +69,125 @@ impl<K: Eq + Hash, V, S: BuildHasher, A: Allocator> ListOrderedMultimap<K, V, S,
             Some(place) => Some(self.first_mut_at(place)),
             None => None,
         }
+    }
+
+    /// The pair whose value stands at the place, that value to write.
+    fn pair_mut_at(&mut self, place: usize) -> (&K, &mut V)
+        requires { IsIn place self.old.slots.values.order }
+        ensures* writes_back { sem 𝓛 (lends_value K.row V.row S.row A.row S.Hasher.row K.Hash
+            S.BuildHasher S.Hasher.Hasher A.Allocator self.entry place result.1) }
+        ensures pair { pair_at self.old.slots.keys self.old.slots.values place
+            ≡ Some (result.0.now, result.1.now) }
+    {
+        let (_, link) = value_at(&self.values, place);
+        let (key, _) = slot_at(&self.keys, link.key);
+        match self.values.get_mut(place) {
+            Some(value) => (key, value),
+            None => unreachable!(),
+        }
+    }
+
+    /// The pair at an end, its value to write.
+    fn end_mut(&mut self, end: End) -> (&K, &mut V)
+        requires { 0 < length self.old.lists.pairs }
+        ensures* writes_back { sem 𝓛 (lends_end K.row V.row S.row A.row S.Hasher.row K.Hash
+            S.BuildHasher S.Hasher.Hasher A.Allocator end self.entry result) }
+        ensures pair { end_item end self.old.lists.pairs ≡ Some (result.0.now, result.1.now) }
+    {
+        match end_place(&self.values, end) {
+            Some(place) => self.pair_mut_at(place),
+            None => unreachable!(),
+        }
+    }
+
+    /// The first pair, its value to write, where there is one. Reads the slots of its value and of
+    /// its key.
+    ///
+    /// It is for callers that are to be proved: they know both lists afterwards. Others take
+    /// [`front_mut`](Self::front_mut), which answers None where there is no pair.
+    ///
+    /// ```
+    /// let (_key, value) = map.first_mut();
+    /// *value = 4;
+    /// ```
+    pub fn first_mut(&mut self) -> (&K, &mut V)
+        requires { 0 < length self.old.lists.pairs }
+        ensures* writes_back { sem 𝓛 (lends_end K.row V.row S.row A.row S.Hasher.row K.Hash
+            S.BuildHasher S.Hasher.Hasher A.Allocator Front self.entry result) }
+        ensures pair { end_item Front self.old.lists.pairs ≡ Some (result.0.now, result.1.now) }
+    {
+        self.end_mut(End::Front)
+    }
+
+    /// The same with the last pair. Others take [`back_mut`](Self::back_mut).
+    ///
+    /// ```
+    /// let (_key, value) = map.last_mut();
+    /// *value = 9;
+    /// ```
+    pub fn last_mut(&mut self) -> (&K, &mut V)
+        requires { 0 < length self.old.lists.pairs }
+        ensures* writes_back { sem 𝓛 (lends_end K.row V.row S.row A.row S.Hasher.row K.Hash
+            S.BuildHasher S.Hasher.Hasher A.Allocator Back self.entry result) }
+        ensures pair { end_item Back self.old.lists.pairs ≡ Some (result.0.now, result.1.now) }
+    {
+        self.end_mut(End::Back)
+    }
+
+    /// Whether there is a pair, and the map is handed back.
+    fn checked(&mut self) -> (bool, &mut Self)
+        ensures some { result.0 ≡ nat_lt 0 (length self.old.lists.pairs) }
+        ensures same { result.1.ghost_name ≡ self.entry.ghost_name }
+        ensures now { result.1.now ≡ self.old }
+    {
+        let some = 0 < self.values_len();
+        (some, self)
+    }
+
+    /// The pair at an end, its value to write, if there is one.
+    fn end_mut_if(&mut self, end: End) -> Option<(&K, &mut V)>
+        ensures* writes_back { sem 𝓛 (lends_end_if K.row V.row S.row A.row S.Hasher.row K.Hash
+            S.BuildHasher S.Hasher.Hasher A.Allocator end self.entry result) }
+        ensures pair { option_map (λ r. (r.0.now, r.1.now)) result
+            ≡ end_item end self.old.lists.pairs }
+    {
+        let (some, map) = self.checked();
+        if some { Some(map.end_mut(end)) } else { None }
+    }
+
+    /// The first pair, its value to write. None where there is no pair. Reads the slots of its
+    /// value and of its key.
+    ///
+    /// A caller whose proof has to know the map afterwards takes [`first_mut`](Self::first_mut).
+    ///
+    /// ```
+    /// if let Some((_key, value)) = map.front_mut() {
+    ///     *value = 4;
+    /// }
+    /// ```
+    pub fn front_mut(&mut self) -> Option<(&K, &mut V)>
+        ensures* writes_back { sem 𝓛 (lends_end_if K.row V.row S.row A.row S.Hasher.row K.Hash
+            S.BuildHasher S.Hasher.Hasher A.Allocator Front self.entry result) }
+        ensures pair { option_map (λ r. (r.0.now, r.1.now)) result
+            ≡ end_item Front self.old.lists.pairs }
+    {
+        self.end_mut_if(End::Front)
+    }
+
+    /// The same with the last pair. A caller whose proof has to know the map afterwards takes
+    /// [`last_mut`](Self::last_mut).
+    ///
+    /// ```
+    /// if let Some((_key, value)) = map.back_mut() {
+    ///     *value = 9;
+    /// }
+    /// ```
+    pub fn back_mut(&mut self) -> Option<(&K, &mut V)>
+        ensures* writes_back { sem 𝓛 (lends_end_if K.row V.row S.row A.row S.Hasher.row K.Hash
+            S.BuildHasher S.Hasher.Hasher A.Allocator Back self.entry result) }
+        ensures pair { option_map (λ r. (r.0.now, r.1.now)) result
+            ≡ end_item Back self.old.lists.pairs }
+    {
+        self.end_mut_if(End::Back)
     }
 }

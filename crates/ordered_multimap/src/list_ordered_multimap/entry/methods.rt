@@ -54,7 +54,7 @@ impl<'map, K: Eq + Hash, V, S: BuildHasher, A: Allocator> Entry<'map, K, V, S, A
     /// vacant. Answers the entry.
     ///
     /// ```
-    /// map.entry("line").and_modify(|value| *value += 1).or_insert(42)?;
+    /// map.entry("line").and_modify(|value| *value = 9)
     /// ```
     pub fn and_modify<F: FnOnce(&mut V)>(self, f: F) -> Self
         requires { (p : MutBor V) → is_occupied self ≡ true → first_value self ≡ Some p.now
@@ -81,7 +81,7 @@ impl<'map, K: Eq + Hash, V: Drop, S: BuildHasher, A: Allocator + Copy> Entry<'ma
     /// the pair, and both lists are as before.
     ///
     /// ```
-    /// *map.entry("page").or_insert(0)? += 1;
+    /// *map.entry("page").or_insert(0)? = 9;
     /// ```
     pub fn or_insert(self, value: V) -> Result<&'map mut V, Refused<K, V>>
         ensures* writes_back { sem 𝓛 (lends_entered K.row V.row S.row A.row S.Hasher.row
@@ -117,7 +117,7 @@ impl<'map, K: Eq + Hash, V: Drop, S: BuildHasher, A: Allocator + Copy> Entry<'ma
             → IsOk result }
     {
         match self {
-            Entry::Occupied(entry) => Ok(entry.into_mut()),
+            Entry::Occupied(occupied) => Ok(occupied.into_mut()),
             Entry::Vacant(entry) => entry.insert(f()),
         }
     }

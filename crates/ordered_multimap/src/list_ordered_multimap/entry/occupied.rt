@@ -3,6 +3,7 @@ ghost use Rattle.std.specs.Prelude.{◌≡◌, ◌<◌, Some, length, slice_get}
 ghost use Rattle.std.specs.Prelude.{OnOk, OnErr, IfOk, IfErr, IsOk};
 ghost use Rattle.std.specs.Borrow.{sem};
 ghost use Rattle.ordered_multimap.specs.Changes.{appended, first_written, inserted, removed};
+ghost use Rattle.ordered_multimap.specs.DrainLends.{ends_inserted};
 ghost use Rattle.ordered_multimap.specs.Drains.{DrainsEntry, DrainsInserted};
 ghost use Rattle.ordered_multimap.specs.Entries.{IsSameEntry};
 ghost use Rattle.ordered_multimap.specs.EntryLends.{lends_first, lends_to_entry};
@@ -75,7 +76,7 @@ impl<'map, K: Eq + Hash, V, S: BuildHasher, A: Allocator> OccupiedEntry<'map, K,
     /// The key's first value, to write for as long as the map is lent.
     ///
     /// ```
-    /// *entry.into_mut() += 1;
+    /// *entry.into_mut() = 5;
     /// ```
     pub fn into_mut(self) -> &'map mut V
         ensures* writes_back { sem 𝓛 (lends_first K.row V.row S.row A.row S.Hasher.row
@@ -169,12 +170,8 @@ impl<'map, K: Eq + Hash, V, S: BuildHasher, A: Allocator> OccupiedEntry<'map, K,
         ensures taken { TakesOut (length (values_of K.eq self.entry.map.now.lists.pairs
             self.entry.key.value)) self.entry.map.now.tape self.exit.0.now.tape }
     {
-        let OccupiedEntry {
-            map,
-            place,
-            key: _key,
-        } = self;
-        map.take_entry_at(place)
+        let place = self.place;
+        self.map.take_entry_at(place)
     }
 
     /// The same, and the stored key is dropped.
@@ -194,12 +191,8 @@ impl<'map, K: Eq + Hash, V, S: BuildHasher, A: Allocator> OccupiedEntry<'map, K,
         ensures taken { TakesOut (length (values_of K.eq self.entry.map.now.lists.pairs
             self.entry.key.value)) self.entry.map.now.tape self.exit.0.now.tape }
     {
-        let OccupiedEntry {
-            map,
-            place,
-            key: _key,
-        } = self;
-        let (_stored, value) = map.take_entry_at(place);
+        let place = self.place;
+        let (_stored, value) = self.map.take_entry_at(place);
         value
     }
 }
@@ -244,5 +237,34 @@ impl<'map, K: Eq + Hash, V: Drop, S: BuildHasher, A: Allocator> OccupiedEntry<'m
         } = self;
         let stored = map.detach_at(place);
         (stored, map.drain())
+    }
+
+    /// Takes all pairs of the key out, puts one with this value last, and hands the old values out
+    /// one by one. The key keeps its place among the keys. Where memory is refused, it hands back
+    /// the value, and both lists are as before. The entry is spent: the drain borrows the map as
+    /// long as the entry did.
+    ///
+    /// ```
+    /// entry.insert_all(3)?.next_back() == Some(2)
+    /// ```
+    pub fn insert_all(self, value: V) -> Result<EntryValuesDrain<'map, K, V, S, A>, RefusedValue<V>>
+        ensures* rest { sem 𝓛 (ends_inserted K.row V.row S.row A.row S.Hasher.row K.PartialEq
+            K.Hash.own S.BuildHasher S.Hasher.Hasher A.Allocator self.entry.map
+            self.entry.key.value result) }
+        ensures drain { IfOk result (DrainsInserted K.eq self.entry.map.now
+            self.entry.key.value value) }
+        ensures same_map { IfOk result (λ d. d.map.ghost_name ≡ self.entry.map.ghost_name) }
+        ensures refused { IfErr result (λ r. r.value ≡ value) }
+        ensures succeeds { HasValueRoom self.entry.map.now → IsOk result }
+    {
+        let OccupiedEntry {
+            map,
+            place,
+            key: _key,
+        } = self;
+        match map.insert_detaching_at(place, value) {
+            Ok(()) => Ok(map.drain()),
+            Err(refused) => Err(refused),
+        }
     }
 }

@@ -1,12 +1,9 @@
 use Rattle.std.proofs.Common.{sym, ap, ◌∙◌, subst, refl, min, ◌/◌}
 use Rattle.multimap_slots.specs.Lists.{IsIn}
-use Rattle.multimap_slots.specs.Slots.{item_at, with_item}
-use Rattle.ordered_multimap.specs.Agrees.{items_of}
-use Rattle.ordered_multimap.specs.Lists.{lists}
-use Rattle.ordered_multimap.specs.Multimap.{multimap}
+use Rattle.multimap_slots.specs.Slots.{item_at}
 use Rattle.ordered_multimap.specs.TapeNumbers.{numbers_of}
 use Rattle.ordered_multimap.specs.Writes.{with_value}
-use Rattle.ordered_multimap.proofs.WriteLemmas.{pairs_of-with_item, IsMap-with_item}
+use Rattle.ordered_multimap.proofs.WriteLemmas.{multimap-with_item, IsMap-with_item}
 use Rattle.ordered_multimap.proofs.list_ordered_multimap.ListOrderedMultimap.value_mut_at.Goals as goal
 
 pub invariant_of-self-lent : goal.invariant_of-self-lent
@@ -19,8 +16,8 @@ returns g c =
     let listed : IsIn at i.values.list.order = subst (λ m. IsIn at m.slots.values.order) (sym c.self.view_is) c.requires in (
       (
         refl {a = c.in-Some.value.ghost_name},
-        λ w. ap (λ ps. multimap (lists (items_of i.keys) ps) (min i.keys.capacity i.table.capacity) (i.values.list.capacity / 2) i.state (numbers_of i.values)
-            (record { keys = i.keys; values = with_item i.values.list at w; left = i.left })) (pairs_of-with_item c.self.invariant.agrees at listed w)
+        λ w.
+            multimap-with_item c.self.invariant.agrees at listed (min i.keys.capacity i.table.capacity) (i.values.list.capacity / 2) i.state (numbers_of i.values) i.left w
             ∙ ap (λ m. with_value m at w) c.self.view_is,
       ),
       record { writes_back = tt; value = ap (λ m. item_at m.slots.values at) (sym c.self.view_is) ∙ c.in-Some.ensures.found.item_is },

@@ -1,0 +1,24 @@
+-- The laws of a key with a value to write, where there are some.
+use mathlib.Core.Path.{refl}
+use mathlib.Core.List.{[], ◌∷◌}
+use denote.RattleType.{RattleType}
+use denote.Param.Laws.{Laws, is_one, of_field, row_shared}
+use denote.Param.Shared.{copy_shared, mut_ref_shared}
+use denote.Ref.{NamedLft, MutRef, ShrRef}
+use denote.Struct.Field.{shr_ref_field, mut_ref_field}
+use denote.Struct.Laws.{shr_ref_laws, shr_ref_copy, mut_ref_laws}
+use denote.Struct.Tuple.{Tuple, tuple_laws}
+use Rattle.std.specs.contracts.option.Option.{the_row as Opt}
+use Rattle.std.proofs.option.Option.TheLaws.{the_row_laws as Opt-laws}
+
+module _ (ℓ : NamedLft) (K V : RattleType) where
+  abbrev pub LentPair : RattleType
+  LentPair = Tuple (ShrRef ℓ.mir ℓ.lft K ∷ MutRef ℓ.mir ℓ.lft V ∷ [])
+
+  pub lent_pair_laws : Laws K → Laws V → Laws (Opt LentPair)
+  lent_pair_laws LK LV =
+      let key = is_one K LK in let value = is_one V LV in
+      Opt-laws LentPair (tuple_laws (ShrRef ℓ.mir ℓ.lft K ∷ MutRef ℓ.mir ℓ.lft V ∷ []) (
+        of_field (shr_ref_field ℓ K key) (shr_ref_laws ℓ K key) refl (copy_shared (shr_ref_field ℓ K key) (shr_ref_copy ℓ K key LK.shr_laws)),
+        (of_field (mut_ref_field ℓ V value) (mut_ref_laws ℓ V value) refl (mut_ref_shared ℓ V value (row_shared V LV)), tt),
+      ))

@@ -1,0 +1,26 @@
+//! Callers of entries that are proved for every key type: each knows what the map is afterwards.
+ghost use Rattle.std.specs.Prelude.{◌≡◌, true, false, OnErr, OnOk};
+ghost use Rattle.ordered_multimap.specs.Changes.{appended, first_written};
+ghost use Rattle.ordered_multimap.specs.Pairs.{is_present};
+
+use ordered_multimap::ListOrderedMultimap;
+use ordered_multimap::list_ordered_multimap::Refused;
+use std::alloc::Allocator;
+use std::hash::{BuildHasher, Hash};
+
+/// Writes the value in place of the first one of the key, or puts it last.
+pub fn set_or_append<K: Eq + Hash + Drop, V: Copy, S: BuildHasher, A: Allocator + Copy>(
+    map: &mut ListOrderedMultimap<K, V, S, A>,
+    key: K,
+    value: V,
+) -> Result<(), Refused<K, V>>
+    ensures present { OnOk result (is_present K.eq map.old.lists.pairs key ≡ true
+        → map.new.lists ≡ first_written K.eq map.old.lists key value) }
+    ensures absent { OnOk result (is_present K.eq map.old.lists.pairs key ≡ false
+        → map.new.lists ≡ appended K.eq map.old.lists key value) }
+    ensures unchanged { OnErr result (map.new.lists ≡ map.old.lists) }
+{
+    let first = map.entry(key).or_insert(value)?;
+    *first = value;
+    Ok(())
+}
