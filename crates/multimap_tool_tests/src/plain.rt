@@ -76,9 +76,15 @@ impl PlainMap {
         Some(old)
     }
 
-    fn set_first(&mut self, key: u32, value: i64) -> Answer {
+    /// The position of the key's first pair, or behind the last pair if it has none.
+    fn position_of(&self, key: u32) -> usize {
         let first = self.pairs.iter().position(|pair| pair.0 == key);
-        let old = self.set_at(first.unwrap_or(self.pairs.len()), value);
+        first.unwrap_or(self.pairs.len())
+    }
+
+    fn set_first(&mut self, key: u32, value: i64) -> Answer {
+        let first = self.position_of(key);
+        let old = self.set_at(first, value);
         Ok(Reply::Old(old.map(|pair| pair.1)))
     }
 
