@@ -1,5 +1,6 @@
 -- What the contracts of entries cite. The words serve its halves too, as `entry_key (Occupied o)`.
-pub use Rattle.ordered_multimap.specs.declared.list_ordered_multimap.entry.Entry.TheVariants.{Occupied, Vacant}
+use Rattle.ordered_multimap.specs.declared.list_ordered_multimap.entry as entries
+pub use entries.Entry.TheVariants.{Occupied, Vacant}
 use Rattle.std.specs.Prelude.{◌≡◌, Bool, true, false, slice_get, Some, Option}
 use Rattle.std.specs.Borrow.{MutBor}
 use Rattle.std.specs.Map.Calls.{MayWrite}

@@ -155,7 +155,7 @@ impl<'map, K: Eq + Hash, V, S: BuildHasher, A: Allocator> OccupiedEntry<'map, K,
     /// Takes the key out with all its values, and answers the stored key with the first of them.
     ///
     /// ```
-    /// entry.remove_entry() == ("line", 1)
+    /// entry.remove_entry().1 == 1
     /// ```
     pub fn remove_entry(self) -> (K, V)
     where
