@@ -1,6 +1,6 @@
 -- The commands that a line with given fields can spell.
 use Rattle.std.proofs.Common.{◌≡◌, ◌⊎◌, inl, inr, Option, Some, None, subst, ℕ, ◌<◌, ◌^◌, Bool, true, false, List, [], ◌∷◌, ◌++◌, map, refl, sym, ap, ◌∙◌, arith, true≢false}
-use Rattle.std.specs.Prelude.{ℤ, FitsSigned, IsTrue, slice_index}
+use Rattle.std.specs.Prelude.{ℤ, pos, FitsSigned, IsTrue, slice_index}
 use Rattle.std.specs.Int.{w64}
 use Rattle.std.specs.Fmt.{decimal, signed_decimal}
 use Rattle.std.specs.List.{AllByRecursion, flat_map}
@@ -13,10 +13,10 @@ use Rattle.ordered_multimap.specs.Pairs.{has_items}
 use Rattle.multimap_tool.specs.declared.commands.Ends.TheVariants.{Forward, Word}
 use Rattle.multimap_tool.specs.declared.commands.Command.{Command}
 use Rattle.multimap_tool.specs.declared.commands.Command.TheVariants as commands
-use Rattle.multimap_tool.specs.declared.commands.Command.TheVariants.{Append, Insert, InsertAll, Get, All, Has, Len, Remove, RemoveAll, RemoveEntry, RemoveEntryAll, PopFront, PopBack, Clear, Pairs, Keys, Lengths}
-use Rattle.multimap_tool.specs.Spelling.{Operand, operand_text, FitsOperand, letter_of, name_of, operands_of, IsBadLine}
-use Rattle.multimap_tool.specs.Parts.{IsWithout, AreLettersOf, StartsAValue, lone_words, key_words, walk_words, pair_words, key_walk_words, words_before, IsFoundFor, IsReadingOf}
-use Rattle.multimap_tool.proofs.NumberLemmas.{decimal_without_space, signed_without_space, no_key, no_value}
+use Rattle.multimap_tool.specs.declared.commands.Command.TheVariants.{Append, Insert, InsertAll, SetFirst, SetFront, SetBack, OrInsert, Get, All, Has, Len, Remove, RemoveAll, RemoveEntry, RemoveEntryAll, PopFront, PopBack, Clear, Pairs, Keys, Lengths}
+use Rattle.multimap_tool.specs.Spelling.{Operand, operand_text, FitsOperand, letter_of, name_of, operands_of, Spells, IsBadLine}
+use Rattle.multimap_tool.specs.Parts.{IsWithout, AreLettersOf, StartsAValue, lone_words, key_words, value_words, walk_words, pair_words, key_walk_words, words_before, IsCommandOf, IsFoundFor, IsReadingOf}
+use Rattle.multimap_tool.proofs.NumberLemmas.{decimal_without_space, signed_without_space, no_value}
 use Rattle.multimap_tool.proofs.FieldLemmas.{ArePlain, no_operand, one_operand, two_operands}
 
 -- a test of two texts
@@ -36,6 +36,10 @@ IsValueText text = (v : ℤ) × FitsSigned w64 v × (signed_decimal v ≡ text)
 abbrev pub IsWordText : List ℕ → Type 0
 IsWordText text = (word : List End) × AreLettersOf text word
 
+-- a key is a value too
+pub key_is_value : (text : List ℕ) → IsKeyText text → IsValueText text
+key_is_value text key = (pos key.0, record { sfits = omega (arith, key.1) }, key.2)
+
 -- letters are no number
 no_number : (text : List ℕ) (word : List End) → map letter_of word ≡ text → IsTrue (has_items word) → StartsAValue text → ⊥
 no_number text [] same some starts = absurd (cc)
@@ -47,9 +51,6 @@ no_number text (Back ∷ word) same some starts = elim starts [
   | inl number ↦ omega (arith, number.greatest, ap (λ t. slice_index t 0) same)
   | inr below ↦ omega (arith, below.sign, ap (λ t. slice_index t 0) same)
 ]
-
-pub word_is_no_key : (text : List ℕ) → IsWordText text → IsKeyText text → ⊥
-word_is_no_key text word key = no_key text (λ starts. no_number text word.0 word.1.spelled word.1.some (inl starts)) key.0 key.1 key.2
 
 pub word_is_no_value : (text : List ℕ) → IsWordText text → IsValueText text → ⊥
 word_is_no_value text word value = no_value text (λ starts. no_number text word.0 word.1.spelled word.1.some starts) value.0 value.1 value.2
@@ -88,7 +89,11 @@ plain_fields name (inl k ∷ []) listed fits = record {
   texts = texts_without_space (inl k ∷ []) fits;
   few = omega arith;
 }
-plain_fields name (inr (inl v) ∷ []) listed fits = absurd listed
+plain_fields name (inr (inl v) ∷ []) listed fits = record {
+  word = word_without_space value_words name (refl, (refl, tt)) listed;
+  texts = texts_without_space (inr (inl v) ∷ []) fits;
+  few = omega arith;
+}
 plain_fields name (inr (inr word) ∷ []) listed fits = record {
   word = word_without_space walk_words name (refl, (refl, tt)) listed;
   texts = texts_without_space (inr (inr word) ∷ []) fits;
@@ -96,7 +101,7 @@ plain_fields name (inr (inr word) ∷ []) listed fits = record {
 }
 plain_fields name (inl k ∷ inl j ∷ []) listed fits = absurd listed
 plain_fields name (inl k ∷ inr (inl v) ∷ []) listed fits = record {
-  word = word_without_space pair_words name (refl, (refl, (refl, tt))) listed;
+  word = word_without_space pair_words name (refl, (refl, (refl, (refl, (refl, tt))))) listed;
   texts = texts_without_space (inl k ∷ inr (inl v) ∷ []) fits;
   few = omega arith;
 }
@@ -117,11 +122,11 @@ alone name [] listed same = listed
 alone name (o ∷ os) listed same = absurd (cc)
 
 of_one : (name text : List ℕ) (os : List Operand) → IsIn name (words_before os) → AllByRecursion FitsOperand os → map operand_text os ≡ text ∷ []
-    → (IsIn name key_words × IsKeyText text) ⊎ (IsIn name walk_words × IsWordText text)
+    → (IsIn name key_words × IsKeyText text) ⊎ ((IsIn name value_words × IsValueText text) ⊎ (IsIn name walk_words × IsWordText text))
 of_one name text [] listed fits same = absurd (cc)
 of_one name text (inl k ∷ []) listed fits same = inl (listed, (k, fits.0, cc))
-of_one name text (inr (inl v) ∷ []) listed fits same = absurd listed
-of_one name text (inr (inr word) ∷ []) listed fits same = inr (listed, (word, record { spelled = cc; some = fits.0 }))
+of_one name text (inr (inl v) ∷ []) listed fits same = inr (inl (listed, (v, fits.0, cc)))
+of_one name text (inr (inr word) ∷ []) listed fits same = inr (inr (listed, (word, record { spelled = cc; some = fits.0 })))
 of_one name text (o ∷ p ∷ os) listed fits same = absurd (cc)
 
 of_two : (name first second : List ℕ) (os : List Operand) → IsIn name (words_before os) → AllByRecursion FitsOperand os → map operand_text os ≡ first ∷ second ∷ []
@@ -141,6 +146,10 @@ module _ {A : Type 0} where
   listed_word (Append k v) = inl refl
   listed_word (Insert k v) = inr (inl refl)
   listed_word (InsertAll k v) = inr (inr (inl refl))
+  listed_word (SetFirst k v) = inr (inr (inr (inl refl)))
+  listed_word (SetFront v) = inl refl
+  listed_word (SetBack v) = inr (inl refl)
+  listed_word (OrInsert k v) = inr (inr (inr (inr (inl refl))))
   listed_word (Get k) = inl refl
   listed_word (All k Forward) = inr (inl refl)
   listed_word (All k (Word word)) = inl refl
@@ -172,13 +181,14 @@ module _ {A : Type 0} where
 
   -- with one space, a word and an operand
   pub bad_with_one : (word operand : List ℕ) → IsWithout 32 word → IsWithout 32 operand
-      → (IsIn word key_words → IsKeyText operand → ⊥) → (IsIn word walk_words → IsWordText operand → ⊥)
+      → (IsIn word key_words → IsKeyText operand → ⊥) → (IsIn word value_words → IsValueText operand → ⊥) → (IsIn word walk_words → IsWordText operand → ⊥)
       → IsBadLine A (word ++ 32 ∷ operand)
-  bad_with_one word operand without_word without_operand not_key not_walk command spells =
+  bad_with_one word operand without_word without_operand not_key not_value not_walk command spells =
       let fields = one_operand word operand (name_of command) (map operand_text (operands_of command)) without_word without_operand (plain command spells.spellable) spells.spelling in
       elim (of_one (name_of command) operand (operands_of command) (listed_word command) spells.spellable fields.1) [
         | inl key ↦ not_key (subst (λ name. IsIn name key_words) (sym fields.0) key.0) key.1
-        | inr walk ↦ not_walk (subst (λ name. IsIn name walk_words) (sym fields.0) walk.0) walk.1
+        | inr (inl value) ↦ not_value (subst (λ name. IsIn name value_words) (sym fields.0) value.0) value.1
+        | inr (inr walk) ↦ not_walk (subst (λ name. IsIn name walk_words) (sym fields.0) walk.0) walk.1
       ]
 
   -- with two spaces or more, a word and two operands
@@ -192,12 +202,17 @@ module _ {A : Type 0} where
         | inr walk ↦ not_walk (subst (λ name. IsIn name key_walk_words) (sym fields.0) walk.0) walk.1 walk.2
       ]
 
-  -- the line of a word and these operands, where the word's command was looked for
+  -- the line of a word and these operands spells the command that has them
+  pub spelled : (name line : List ℕ) (os : List Operand) (command : Command ℕ ℤ A) → AllByRecursion FitsOperand os
+      → line ≡ name ++ flat_map (λ text. 32 ∷ text) (map operand_text os) → IsCommandOf name os command → Spells command line
+  spelled name line os command fits is found = record {
+    spellable = subst (AllByRecursion FitsOperand) (sym found.operands_are) fits;
+    spelling = is ∙ (λ i. sym found.name_is i ++ flat_map (λ text. 32 ∷ text) (map operand_text (sym found.operands_are i)));
+  }
+
+  -- the same where the word's command was looked for
   pub reading : (name line : List ℕ) (os : List Operand) (found : Option (Command ℕ ℤ A)) → AllByRecursion FitsOperand os
       → line ≡ name ++ flat_map (λ text. 32 ∷ text) (map operand_text os) → ((IsIn name (words_before os) → ⊥) → IsBadLine A line)
       → IsFoundFor name os found → IsReadingOf line found
   reading name line os None fits is bad found = bad found
-  reading name line os (Some command) fits is bad found = record {
-    spellable = subst (AllByRecursion FitsOperand) (sym found.operands_are) fits;
-    spelling = is ∙ (λ i. sym found.name_is i ++ flat_map (λ text. 32 ∷ text) (map operand_text (sym found.operands_are i)));
-  }
+  reading name line os (Some command) fits is bad found = spelled name line os command fits is found

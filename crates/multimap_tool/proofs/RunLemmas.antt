@@ -1,19 +1,19 @@
 -- Runs that go on by one step, and what steps and runs leave.
-use Rattle.std.proofs.Common.{◌≡◌, ◌≢◌, Bool, List, [], ◌∷◌, ◌++◌, refl, sym, subst, inl, inr, Result, Ok, Err}
+use Rattle.std.proofs.Common.{◌≡◌, ◌≢◌, Bool, true, false, cond, List, [], ◌∷◌, ◌++◌, refl, sym, subst, inl, inr, Result, Ok, Err}
 use Rattle.std.specs.Prelude.{IfOk}
 use Rattle.std.specs.Cmp.{IsEquivalence}
 use Rattle.ordered_multimap.specs.Lists.{Lists, IsWellFormed}
 use Rattle.ordered_multimap.specs.End.{End}
 use Rattle.ordered_multimap.specs.End.TheVariants as ends
-use Rattle.ordered_multimap.specs.Pairs.{pairs_without}
-use Rattle.ordered_multimap.specs.Changes.{inserted, removed}
+use Rattle.ordered_multimap.specs.Pairs.{is_present, pairs_without}
+use Rattle.ordered_multimap.specs.Changes.{appended, inserted, removed, first_written, end_written}
 use Rattle.ordered_multimap.specs.Pop.{popped}
-use Rattle.ordered_multimap.proofs.WellFormedLemmas.{empty_well_formed, appended_well_formed, inserted_well_formed, removed_well_formed, popped_well_formed}
-use Rattle.ordered_multimap.proofs.KeyOrderLemmas.{KeepsKeyOrder-same, KeepsKeyOrder-keys_with, KeepsKeyOrder-named_by, KeepsKeyOrder-popped, KeepsKeyOrder-none}
+use Rattle.ordered_multimap.proofs.WellFormedLemmas.{empty_well_formed, appended_well_formed, inserted_well_formed, removed_well_formed, popped_well_formed, first_written_well_formed, end_written_well_formed}
+use Rattle.ordered_multimap.proofs.KeyOrderLemmas.{KeepsKeyOrder-same, KeepsKeyOrder-keys_with, KeepsKeyOrder-named_by, KeepsKeyOrder-popped, KeepsKeyOrder-none, KeepsKeyOrder-first_written, KeepsKeyOrder-end_written}
 use Rattle.multimap_tool.specs.declared.commands.Command.{Command}
-use Rattle.multimap_tool.specs.declared.commands.Command.TheVariants.{Append, Insert, InsertAll, Get, All, Has, Len, Front, Back, Remove, RemoveAll, RemoveEntry, RemoveEntryAll, PopFront, PopBack, Clear, Pairs, Keys, Lengths}
+use Rattle.multimap_tool.specs.declared.commands.Command.TheVariants.{Append, Insert, InsertAll, SetFirst, SetFront, SetBack, OrInsert, Get, All, Has, Len, Front, Back, Remove, RemoveAll, RemoveEntry, RemoveEntryAll, PopFront, PopBack, Clear, Pairs, Keys, Lengths}
 use Rattle.multimap_tool.specs.declared.replies.Reply.{Reply}
-use Rattle.multimap_tool.specs.Step.{Leaves, IsLookUp, IsStep}
+use Rattle.multimap_tool.specs.Step.{Leaves, IsLookUp, IsStep, entered}
 use Rattle.multimap_tool.specs.Runs.{IsRun}
 use Rattle.multimap_tool.specs.Laws.{IsOrderly}
 
@@ -42,6 +42,31 @@ module _ {K V : Type 0} {eq : K → K → Bool} (laws : IsEquivalence eq) where
     key_order = KeepsKeyOrder-keys_with laws m.keys k;
   })
 
+  written_orderly : (m n : Lists K V) (k : K) (v : V) → IsWellFormed eq m → n ≡ first_written eq m k v → IsOrderly eq m n
+  written_orderly m n k v formed left = subst (IsOrderly eq m) (sym left) (record {
+    well_formed = first_written_well_formed m formed k v;
+    key_order = KeepsKeyOrder-first_written laws m k v;
+  })
+
+  end_written_orderly : (end : End) (m n : Lists K V) (v : V) → IsWellFormed eq m → n ≡ end_written end m v → IsOrderly eq m n
+  end_written_orderly end m n v formed left = subst (IsOrderly eq m) (sym left) (record {
+    well_formed = end_written_well_formed m formed end v;
+    key_order = KeepsKeyOrder-end_written laws end m v;
+  })
+
+  appended_orderly : (m n : Lists K V) (k : K) (v : V) → IsWellFormed eq m → n ≡ appended eq m k v → IsOrderly eq m n
+  appended_orderly m n k v formed left = subst (IsOrderly eq m) (sym left) (record {
+    well_formed = appended_well_formed laws m k v formed;
+    key_order = KeepsKeyOrder-keys_with laws m.keys k;
+  })
+
+  entered_orderly : (m n : Lists K V) (k : K) (v : V) → IsWellFormed eq m → n ≡ entered eq m k v → IsOrderly eq m n
+  entered_orderly m n k v formed left =
+      elim (is_present eq m.pairs k) as (λ b. n ≡ cond b m (appended eq m k v) → IsOrderly eq m n) [
+        | true ↦ λ same. unchanged m n formed same
+        | false ↦ λ more. appended_orderly m n k v formed more
+      ] left
+
   popped_orderly : (end : End) (m n : Lists K V) → IsWellFormed eq m → n ≡ popped eq end m → IsOrderly eq m n
   popped_orderly end m n formed left = subst (IsOrderly eq m) (sym left) (record {
     well_formed = popped_well_formed laws end m formed;
@@ -50,12 +75,13 @@ module _ {K V : Type 0} {eq : K → K → Bool} (laws : IsEquivalence eq) where
 
 module _ {K V A : Type 0} {eq : K → K → Bool} (laws : IsEquivalence eq) where
   leaves_orderly : (command : Command K V A) (m n : Lists K V) → IsWellFormed eq m → Leaves eq command m n → IsOrderly eq m n
-  leaves_orderly (Append k v) m n formed left = subst (IsOrderly eq m) (sym left) (record {
-    well_formed = appended_well_formed laws m k v formed;
-    key_order = KeepsKeyOrder-keys_with laws m.keys k;
-  })
+  leaves_orderly (Append k v) m n formed left = appended_orderly laws m n k v formed left
   leaves_orderly (Insert k v) m n formed left = replaced_orderly laws m n k v formed left
   leaves_orderly (InsertAll k v) m n formed left = replaced_orderly laws m n k v formed left
+  leaves_orderly (SetFirst k v) m n formed left = written_orderly laws m n k v formed left
+  leaves_orderly (SetFront v) m n formed left = end_written_orderly laws ends.Front m n v formed left
+  leaves_orderly (SetBack v) m n formed left = end_written_orderly laws ends.Back m n v formed left
+  leaves_orderly (OrInsert k v) m n formed left = entered_orderly laws m n k v formed left
   leaves_orderly (Get k) m n formed left = unchanged laws m n formed left
   leaves_orderly (All k ends) m n formed left = unchanged laws m n formed left
   leaves_orderly (Has k) m n formed left = unchanged laws m n formed left
@@ -88,27 +114,32 @@ module _ {K V A : Type 0} {eq : K → K → Bool} (laws : IsEquivalence eq) wher
 module _ {K V A : Type 0} where
   -- a command that is none of those that change the lists
   pub IsLookUp-else : (command : Command K V A) → ((k : K) (v : V) → command ≢ Append k v) → ((k : K) (v : V) → command ≢ Insert k v) → ((k : K) (v : V) → command ≢ InsertAll k v)
+      → ((k : K) (v : V) → command ≢ SetFirst k v) → ((v : V) → command ≢ SetFront v) → ((v : V) → command ≢ SetBack v) → ((k : K) (v : V) → command ≢ OrInsert k v)
       → ((k : K) → command ≢ Remove k) → ((k : K) → command ≢ RemoveAll k) → ((k : K) → command ≢ RemoveEntry k) → ((k : K) → command ≢ RemoveEntryAll k)
       → command ≢ PopFront → command ≢ PopBack → command ≢ Clear → IsLookUp command
-  IsLookUp-else (Append k v) a b c d e f g h i j = a k v refl
-  IsLookUp-else (Insert k v) a b c d e f g h i j = b k v refl
-  IsLookUp-else (InsertAll k v) a b c d e f g h i j = c k v refl
-  IsLookUp-else (Get k) a b c d e f g h i j = tt
-  IsLookUp-else (All k ends) a b c d e f g h i j = tt
-  IsLookUp-else (Has k) a b c d e f g h i j = tt
-  IsLookUp-else (Len k) a b c d e f g h i j = tt
-  IsLookUp-else Front a b c d e f g h i j = tt
-  IsLookUp-else Back a b c d e f g h i j = tt
-  IsLookUp-else (Remove k) a b c d e f g h i j = d k refl
-  IsLookUp-else (RemoveAll k) a b c d e f g h i j = e k refl
-  IsLookUp-else (RemoveEntry k) a b c d e f g h i j = f k refl
-  IsLookUp-else (RemoveEntryAll k) a b c d e f g h i j = g k refl
-  IsLookUp-else PopFront a b c d e f g h i j = h refl
-  IsLookUp-else PopBack a b c d e f g h i j = i refl
-  IsLookUp-else Clear a b c d e f g h i j = j refl
-  IsLookUp-else (Pairs ends) a b c d e f g h i j = tt
-  IsLookUp-else (Keys ends) a b c d e f g h i j = tt
-  IsLookUp-else Lengths a b c d e f g h i j = tt
+  IsLookUp-else (Append k v) a b c d e f g h i j l m n o = a k v refl
+  IsLookUp-else (Insert k v) a b c d e f g h i j l m n o = b k v refl
+  IsLookUp-else (InsertAll k v) a b c d e f g h i j l m n o = c k v refl
+  IsLookUp-else (SetFirst k v) a b c d e f g h i j l m n o = d k v refl
+  IsLookUp-else (SetFront v) a b c d e f g h i j l m n o = e v refl
+  IsLookUp-else (SetBack v) a b c d e f g h i j l m n o = f v refl
+  IsLookUp-else (OrInsert k v) a b c d e f g h i j l m n o = g k v refl
+  IsLookUp-else (Get k) a b c d e f g h i j l m n o = tt
+  IsLookUp-else (All k ends) a b c d e f g h i j l m n o = tt
+  IsLookUp-else (Has k) a b c d e f g h i j l m n o = tt
+  IsLookUp-else (Len k) a b c d e f g h i j l m n o = tt
+  IsLookUp-else Front a b c d e f g h i j l m n o = tt
+  IsLookUp-else Back a b c d e f g h i j l m n o = tt
+  IsLookUp-else (Remove k) a b c d e f g h i j l m n o = h k refl
+  IsLookUp-else (RemoveAll k) a b c d e f g h i j l m n o = i k refl
+  IsLookUp-else (RemoveEntry k) a b c d e f g h i j l m n o = j k refl
+  IsLookUp-else (RemoveEntryAll k) a b c d e f g h i j l m n o = l k refl
+  IsLookUp-else PopFront a b c d e f g h i j l m n o = m refl
+  IsLookUp-else PopBack a b c d e f g h i j l m n o = n refl
+  IsLookUp-else Clear a b c d e f g h i j l m n o = o refl
+  IsLookUp-else (Pairs ends) a b c d e f g h i j l m n o = tt
+  IsLookUp-else (Keys ends) a b c d e f g h i j l m n o = tt
+  IsLookUp-else Lengths a b c d e f g h i j l m n o = tt
 
 -- what holds of a value where there is one implies what follows from it
 pub if_ok : {T E : Type 0} {P Q : T → Type 0} (r : Result T E) → ((x : T) → P x → Q x) → IfOk r P → IfOk r Q

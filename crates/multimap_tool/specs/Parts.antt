@@ -33,13 +33,18 @@ key_words =
     codes "get" ∷ codes "all" ∷ codes "has" ∷ codes "len" ∷ codes "remove" ∷ codes "removeall"
     ∷ codes "removeentry" ∷ codes "removeentryall" ∷ []
 
+-- those that a value follows
+abbrev pub value_words : List (List ℕ)
+value_words = codes "setfront" ∷ codes "setback" ∷ []
+
 -- those that the letters of a walk follow
 abbrev pub walk_words : List (List ℕ)
 walk_words = codes "walkpairs" ∷ codes "walkkeys" ∷ []
 
 -- those that a key and a value follow
 abbrev pub pair_words : List (List ℕ)
-pair_words = codes "append" ∷ codes "insert" ∷ codes "insertall" ∷ []
+pair_words =
+    codes "append" ∷ codes "insert" ∷ codes "insertall" ∷ codes "setfirst" ∷ codes "orinsert" ∷ []
 
 -- the one that a key and the letters of a walk follow
 abbrev pub key_walk_words : List (List ℕ)
@@ -49,6 +54,7 @@ key_walk_words = codes "walk" ∷ []
 abbrev pub words_before : List Operand → List (List ℕ)
 words_before [] = lone_words
 words_before (inl k ∷ []) = key_words
+words_before (inr (inl v) ∷ []) = value_words
 words_before (inr (inr word) ∷ []) = walk_words
 words_before (inl k ∷ inr (inl v) ∷ []) = pair_words
 words_before (inl k ∷ inr (inr word) ∷ []) = key_walk_words

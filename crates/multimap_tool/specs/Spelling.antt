@@ -13,6 +13,8 @@ use Rattle.multimap_tool.specs.declared.commands.Ends.TheVariants.{Forward, Word
 use Rattle.multimap_tool.specs.declared.commands.Command.{Command}
 use Rattle.multimap_tool.specs.declared.commands.Command.TheVariants as commands
 use Rattle.multimap_tool.specs.declared.commands.Command.TheVariants.{Append, Insert, InsertAll}
+use Rattle.multimap_tool.specs.declared.commands.Command.TheVariants.{SetFirst, SetFront, SetBack}
+use Rattle.multimap_tool.specs.declared.commands.Command.TheVariants.{OrInsert}
 use Rattle.multimap_tool.specs.declared.commands.Command.TheVariants.{Get, All, Has, Len}
 use Rattle.multimap_tool.specs.declared.commands.Command.TheVariants.{Remove, RemoveAll}
 use Rattle.multimap_tool.specs.declared.commands.Command.TheVariants.{RemoveEntry, RemoveEntryAll}
@@ -55,6 +57,10 @@ module _ {A : Type 0} where
   name_of (Append k v) = codes "append"
   name_of (Insert k v) = codes "insert"
   name_of (InsertAll k v) = codes "insertall"
+  name_of (SetFirst k v) = codes "setfirst"
+  name_of (SetFront v) = codes "setfront"
+  name_of (SetBack v) = codes "setback"
+  name_of (OrInsert k v) = codes "orinsert"
   name_of (Get k) = codes "get"
   name_of (All k Forward) = codes "all"
   name_of (All k (Word word)) = codes "walk"
@@ -85,6 +91,10 @@ module _ {A : Type 0} where
   operands_of (Append k v) = key_operand k ∷ value_operand v ∷ []
   operands_of (Insert k v) = key_operand k ∷ value_operand v ∷ []
   operands_of (InsertAll k v) = key_operand k ∷ value_operand v ∷ []
+  operands_of (SetFirst k v) = key_operand k ∷ value_operand v ∷ []
+  operands_of (SetFront v) = value_operand v ∷ []
+  operands_of (SetBack v) = value_operand v ∷ []
+  operands_of (OrInsert k v) = key_operand k ∷ value_operand v ∷ []
   operands_of (Get k) = key_operand k ∷ []
   operands_of (All k ends) = key_operand k ∷ word_of ends
   operands_of (Has k) = key_operand k ∷ []

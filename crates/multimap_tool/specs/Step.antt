@@ -1,19 +1,21 @@
 -- One command on the two lists: which reply it may be given, and which lists it leaves.
 use Rattle.std.specs.Prelude.{◌≡◌, ◌⊎◌, Bool, false, cond, List, length, map, IsTrue}
-use Rattle.std.specs.Prelude.{Option, Some, None, option_map, slice_get}
+use Rattle.std.specs.Prelude.{Option, Some, None, option_map, unwrap_or, slice_get}
 use Rattle.ordered_multimap.specs.End.{End}
 use Rattle.ordered_multimap.specs.End.TheVariants as ends
 use Rattle.ordered_multimap.specs.Walk.{end_item, answers_of_walk, forward}
 use Rattle.ordered_multimap.specs.Lists.{Lists, empty_lists}
 use Rattle.ordered_multimap.specs.Pairs.{has_items, values_of, is_present}
 use Rattle.ordered_multimap.specs.Keys.{stored_key}
-use Rattle.ordered_multimap.specs.Changes.{appended, inserted, removed}
+use Rattle.ordered_multimap.specs.Changes.{appended, inserted, removed, first_written, end_written}
 use Rattle.ordered_multimap.specs.Pop.{popped, popped_pair}
 use Rattle.ordered_multimap.specs.Pop as pops
 use Rattle.multimap_tool.specs.declared.commands.Ends.{Ends}
 use Rattle.multimap_tool.specs.declared.commands.Ends.TheVariants.{Forward, Word}
 use Rattle.multimap_tool.specs.declared.commands.Command.{Command}
 use Rattle.multimap_tool.specs.declared.commands.Command.TheVariants.{Append, Insert, InsertAll}
+use Rattle.multimap_tool.specs.declared.commands.Command.TheVariants.{SetFirst, SetFront, SetBack}
+use Rattle.multimap_tool.specs.declared.commands.Command.TheVariants.{OrInsert}
 use Rattle.multimap_tool.specs.declared.commands.Command.TheVariants.{Get, All, Has, Len}
 use Rattle.multimap_tool.specs.declared.commands.Command.TheVariants.{Front, Back}
 use Rattle.multimap_tool.specs.declared.commands.Command.TheVariants.{Remove, RemoveAll}
@@ -52,11 +54,19 @@ module _ {K : Type 0} (eq : K → K → Bool) {V : Type 0} where
   first_entry m k =
       option_map (λ v. (stored_key eq m.keys k, v)) (slice_get (values_of eq m.pairs k) 0)
 
+  -- the pair goes last if the key is absent, and else the lists stay
+  abbrev pub entered : Lists K V → K → V → Lists K V
+  entered m k v = cond (is_present eq m.pairs k) m (appended eq m k v)
+
 -- the command changes nothing
 abbrev pub IsLookUp : {K V A : Type 0} → Command K V A → Type 0
 IsLookUp (Append k v) = ⊥
 IsLookUp (Insert k v) = ⊥
 IsLookUp (InsertAll k v) = ⊥
+IsLookUp (SetFirst k v) = ⊥
+IsLookUp (SetFront v) = ⊥
+IsLookUp (SetBack v) = ⊥
+IsLookUp (OrInsert k v) = ⊥
 IsLookUp (Remove k) = ⊥
 IsLookUp (RemoveAll k) = ⊥
 IsLookUp (RemoveEntry k) = ⊥
@@ -72,6 +82,10 @@ module _ {K : Type 0} (eq : K → K → Bool) {V A : Type 0} where
   Leaves (Append k v) m n = n ≡ appended eq m k v
   Leaves (Insert k v) m n = n ≡ inserted eq m k v
   Leaves (InsertAll k v) m n = n ≡ inserted eq m k v
+  Leaves (SetFirst k v) m n = n ≡ first_written eq m k v
+  Leaves (SetFront v) m n = n ≡ end_written ends.Front m v
+  Leaves (SetBack v) m n = n ≡ end_written ends.Back m v
+  Leaves (OrInsert k v) m n = n ≡ entered eq m k v
   Leaves (Remove k) m n = n ≡ removed eq m k
   Leaves (RemoveAll k) m n = n ≡ removed eq m k
   Leaves (RemoveEntry k) m n = n ≡ removed eq m k
@@ -87,6 +101,11 @@ module _ {K : Type 0} (eq : K → K → Bool) {V A : Type 0} where
   Tells (Insert k v) m (replies.Old old) = old ≡ slice_get (values_of eq m.pairs k) 0
   Tells (InsertAll k v) m (replies.Values values) =
       values.items ≡ map Some (values_of eq m.pairs k)
+  Tells (SetFirst k v) m (replies.Old old) = old ≡ slice_get (values_of eq m.pairs k) 0
+  Tells (SetFront v) m (replies.Pair pair) = pair ≡ end_item ends.Front m.pairs
+  Tells (SetBack v) m (replies.Pair pair) = pair ≡ end_item ends.Back m.pairs
+  Tells (OrInsert k v) m (replies.Value value) =
+      value ≡ Some (unwrap_or (slice_get (values_of eq m.pairs k) 0) v)
   Tells (Get k) m (replies.Value value) = value ≡ slice_get (values_of eq m.pairs k) 0
   Tells (All k ends) m (replies.Values values) = values.items ≡ walked (values_of eq m.pairs k) ends
   Tells (Has k) m (replies.Truth present) = present ≡ is_present eq m.pairs k
@@ -109,12 +128,13 @@ module _ {K : Type 0} (eq : K → K → Bool) {V A : Type 0} where
   Tells Lengths m (replies.Counts keys pairs) = (keys ≡ length m.keys) × (pairs ≡ length m.pairs)
   Tells _ m _ = ⊥
 
-  -- an addition may find no memory, but for one to a present key that replaces, and so may a reply
-  -- that would list an item
+  -- an addition may find no memory, but for one to a present key that replaces or keeps, and so
+  -- may a reply that would list an item
   abbrev pub MayLackMemory : Command K V A → Lists K V → Type 0
   MayLackMemory (Append k v) m = Unit {0}
   MayLackMemory (Insert k v) m = is_present eq m.pairs k ≡ false
   MayLackMemory (InsertAll k v) m = Unit {0}
+  MayLackMemory (OrInsert k v) m = is_present eq m.pairs k ≡ false
   MayLackMemory (All k ends) m = ListsItem (walked (values_of eq m.pairs k) ends)
   MayLackMemory (RemoveAll k) m = ListsItem (values_of eq m.pairs k)
   MayLackMemory (RemoveEntryAll k) m = ListsItem (values_of eq m.pairs k)

@@ -22,6 +22,14 @@ pub enum Command<K, V, A: Allocator = Global> {
     Insert(K, V),
     /// The same, and all values that it replaces.
     InsertAll(K, V),
+    /// Writes the key's first value, if it has one, and the old one is told.
+    SetFirst(K, V),
+    /// Writes the value of the first pair, if there is one, and the pair as it was is told.
+    SetFront(V),
+    /// The same of the last pair.
+    SetBack(V),
+    /// Appends the pair unless the key is present, and tells the key's first value.
+    OrInsert(K, V),
     /// The key's first value.
     Get(K),
     /// The key's values.

@@ -15,5 +15,6 @@ pub mod parse;
 pub mod replies;
 pub mod run;
 mod walk;
+mod written;
 
 pub use ordered_multimap::End;

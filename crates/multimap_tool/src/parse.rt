@@ -1,8 +1,8 @@
 //! Commands read from the lines of a text.
-ghost use Rattle.std.specs.Prelude.{◌≡◌, ◌<◌, [], ◌++◌, ◌∷◌, length, IfOk, IfErr, MatchOption};
+ghost use Rattle.std.specs.Prelude.{◌≡◌, ◌<◌, [], ◌++◌, ◌∷◌, length, Some, IfOk, IfErr, MatchOption};
 ghost use Rattle.multimap_tool.specs.Spelling.{key_operand, value_operand, word_operand, lines_of, SpellEach};
 ghost use Rattle.multimap_tool.specs.Execute.{IsTextFaultOf};
-ghost use Rattle.multimap_tool.specs.Parts.{IsWithout, IsFoundFor, IsReadingOf};
+ghost use Rattle.multimap_tool.specs.Parts.{IsWithout, IsFoundFor, IsReadingOf, IsValueOf};
 
 use crate::commands::{Command, Ends};
 use crate::faults::TextFault;
@@ -121,13 +121,46 @@ fn with_one_operand<A: Allocator>(
     requires operand { IsWithout 32 operand.now }
     ensures { IfOk result (IsReadingOf (name.now ++ 32 ∷ operand.now)) }
 {
-    if let Some(key) = key_of(operand) {
-        return Ok(key_command(name, key));
+    if let Some(value) = value_of(operand) {
+        return Ok(with_one_number(name, operand, value));
     }
     let Some(word) = word_of(alloc, operand)? else {
         return Ok(None);
     };
     Ok(walk_command(name, word))
+}
+
+/// The command of a word and a number that is a value, and a key where it fits one.
+fn with_one_number<A: Allocator>(
+    name: &[u8],
+    operand: &[u8],
+    value: i64,
+) -> Option<Command<u32, i64, A>>
+    requires name { IsWithout 32 name.now }
+    requires operand { IsWithout 32 operand.now }
+    requires value { IsValueOf operand.now (Some value) }
+    ensures { IsReadingOf (name.now ++ 32 ∷ operand.now) result }
+{
+    if let Some(command) = value_command(name, value) {
+        return Some(command);
+    }
+    let Some(key) = key_of(operand) else {
+        return None;
+    };
+    key_command(name, key)
+}
+
+/// The command of a word and a value.
+fn value_command<A: Allocator>(name: &[u8], value: i64) -> Option<Command<u32, i64, A>>
+    ensures { IsFoundFor name.now (value_operand value ∷ []) result }
+{
+    if name == b"setfront".as_slice() {
+        return Some(Command::SetFront(value));
+    }
+    if name == b"setback".as_slice() {
+        return Some(Command::SetBack(value));
+    }
+    None
 }
 
 /// The command of a word and a key.
@@ -209,6 +242,12 @@ fn pair_command<A: Allocator>(name: &[u8], key: u32, value: i64) -> Option<Comma
     }
     if name == b"insertall".as_slice() {
         return Some(Command::InsertAll(key, value));
+    }
+    if name == b"setfirst".as_slice() {
+        return Some(Command::SetFirst(key, value));
+    }
+    if name == b"orinsert".as_slice() {
+        return Some(Command::OrInsert(key, value));
     }
     None
 }

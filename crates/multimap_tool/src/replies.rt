@@ -30,7 +30,7 @@ pub enum Reply<K, V, A: Allocator = Global> {
     Counts(usize, usize),
     /// A value, if there is one.
     Value(Option<V>),
-    /// The first of the values that were replaced, if there were any.
+    /// The first of the values that were replaced or written over, if there were any.
     Old(Option<V>),
     /// A pair, if there is one.
     Pair(Option<(K, V)>),

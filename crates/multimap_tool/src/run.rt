@@ -9,6 +9,7 @@ use crate::commands::{Command, Ends};
 use crate::drained::{insert_all, remove_all, remove_entry_all};
 use crate::replies::{Popped, Reply};
 use crate::walk::{copied_pair, walk};
+use crate::written::{or_insert, set_back, set_first, set_front};
 use ordered_multimap::list_ordered_multimap::KeyWrapper;
 use ordered_multimap::{End, ListOrderedMultimap};
 use std::alloc::{AllocError, Allocator};
@@ -58,6 +59,10 @@ fn step<K: Eq + Hash + Copy, V: Copy, S: BuildHasher, A: Allocator + Copy>(
         Command::Append(key, value) => append(map, *key, *value),
         Command::Insert(key, value) => insert(map, *key, *value),
         Command::InsertAll(key, value) => insert_all(alloc, map, *key, *value),
+        Command::SetFirst(key, value) => set_first(map, key, *value),
+        Command::SetFront(value) => set_front(map, *value),
+        Command::SetBack(value) => set_back(map, *value),
+        Command::OrInsert(key, value) => or_insert(map, *key, *value),
         Command::Remove(key) => Reply::Value(map.remove(key)),
         Command::RemoveAll(key) => remove_all(alloc, map, key),
         Command::RemoveEntry(key) => Reply::Pair(map.remove_entry(key)),

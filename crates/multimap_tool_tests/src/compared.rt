@@ -33,7 +33,7 @@ fn some_word(alloc: Global, state: &mut u64) -> Result<Ends, AllocError> {
 }
 
 fn some_change(state: &mut u64, key: u32) -> Command<u32, i64> {
-    match draw(state, 16) {
+    match draw(state, 20) {
         0 => Command::Remove(key),
         1 => Command::RemoveAll(key),
         2 => Command::RemoveEntry(key),
@@ -42,6 +42,10 @@ fn some_change(state: &mut u64, key: u32) -> Command<u32, i64> {
         6 => Command::PopBack,
         7 | 8 => Command::Insert(key, some_value(state)),
         9 | 10 => Command::InsertAll(key, some_value(state)),
+        11 => Command::SetFirst(key, some_value(state)),
+        12 => Command::SetFront(some_value(state)),
+        13 => Command::SetBack(some_value(state)),
+        14 => Command::OrInsert(key, some_value(state)),
         _ => Command::Append(key, some_value(state)),
     }
 }

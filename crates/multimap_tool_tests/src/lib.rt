@@ -1,5 +1,4 @@
-//! Tests of the tool: runs from bytes to bytes, bad input, failing readers and writers, and memory
-//! that is refused.
+//! Tests of the tool: runs of commands, failing readers and writers, and memory that is refused.
 //!
 //! They stand in a crate of their own so that the tool needs no test allocator.
 #![tactic(auto)]
@@ -7,7 +6,7 @@
 #[cfg(test)]
 mod compared;
 #[cfg(test)]
-mod lines;
+mod entered;
 #[cfg(test)]
 mod listed;
 #[cfg(test)]

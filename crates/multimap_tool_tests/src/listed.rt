@@ -7,9 +7,9 @@ use ordered_multimap::list_ordered_multimap::DefaultState;
 use refusing_allocator::RefusingAllocator;
 use test_helpers::{Failed, Test, requests_until_enough};
 
-type Refusing<'a> = ListOrderedMultimap<u32, i64, DefaultState, &'a RefusingAllocator>;
+pub type Refusing<'a> = ListOrderedMultimap<u32, i64, DefaultState, &'a RefusingAllocator>;
 
-type Granted<'a> = Command<u32, i64, &'a RefusingAllocator>;
+pub type Granted<'a> = Command<u32, i64, &'a RefusingAllocator>;
 
 // Commands whose reply lists the two values of the key 1.
 fn listing_command<'a>(which: usize) -> Granted<'a> {
@@ -25,13 +25,15 @@ fn left_by(which: usize) -> usize {
     if which < 2 { 0 } else { 1 }
 }
 
-fn add_three(test: &Test, map: &mut Refusing<'_>) {
+/// Adds two values of the key 1 and one of the key 2.
+pub fn add_three(test: &Test, map: &mut Refusing<'_>) {
     test.expect("append", map.append(1, 1) == Ok(false));
     test.expect("append", map.append(2, 3) == Ok(false));
     test.expect("append", map.append(1, 2) == Ok(true));
 }
 
-fn is_as_before(test: &Test, map: &Refusing<'_>) {
+/// Expects the first two values of the key 1, and three in all.
+pub fn is_as_before(test: &Test, map: &Refusing<'_>) {
     test.expect("entry_len", map.entry_len(&1) == 2);
     test.expect("values_len", map.values_len() == 3);
     test.expect("the first value", map.get(&1).copied() == Some(1));

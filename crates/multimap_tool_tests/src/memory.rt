@@ -15,7 +15,8 @@ use test_helpers::{Failed, Test, requests_until_enough};
 
 /// Commands of which the additions and the lists may find no memory.
 const INPUT: &str = "append 1 1\nappend 2 2\nappend 2 3\nappend 1 4\npairs\nall 1\nget 2\nget 3\n\
-    insert 2 5\ninsert 3 6\ninsertall 1 7\nkeys\nremoveall 2\nremoveentryall 1\npopfront\nclear\n";
+    insert 2 5\ninsert 3 6\ninsertall 1 7\norinsert 4 8\norinsert 1 9\nkeys\nremoveall 2\n\
+    removeentryall 1\npopfront\nclear\n";
 
 /// Whether the reply, but for its line feed, stands in the line.
 fn is_text_of(alloc: Global, reply: Reply<u32, i64>, line: &str) -> bool {
@@ -31,12 +32,12 @@ fn has(alloc: Global, plain: &mut PlainMap, key: u32) -> bool {
     plain.answer(alloc, &Command::Has(key)) == Ok(Reply::Truth(true))
 }
 
-/// Whether the command may be answered by want of memory: an addition, but for an insertion of a
-/// present key, or a list of some item.
+/// Whether the command may be answered by want of memory: an addition, but for one to a present key
+/// that replaces or keeps, or a list of some item.
 fn may_lack(alloc: Global, plain: &mut PlainMap, command: &Command<u32, i64>) -> bool {
     match command {
         Command::Append(_, _) | Command::InsertAll(_, _) => true,
-        Command::Insert(key, _) => !has(alloc, plain, *key),
+        Command::Insert(key, _) | Command::OrInsert(key, _) => !has(alloc, plain, *key),
         Command::RemoveAll(key) | Command::RemoveEntryAll(key) => has(alloc, plain, *key),
         Command::All(_, _) | Command::Pairs(_) | Command::Keys(_) => {
             match plain.answer(alloc, command) {

@@ -68,6 +68,39 @@ impl PlainMap {
         Ok(reply)
     }
 
+    /// Writes the value of the pair at the position, and answers the pair as it was.
+    fn set_at(&mut self, at: usize, value: i64) -> Option<(u32, i64)> {
+        let pair = self.pairs.get_mut(at)?;
+        let old = *pair;
+        pair.1 = value;
+        Some(old)
+    }
+
+    /// The position of the key's first pair, or behind the last pair if it has none.
+    fn position_of(&self, key: u32) -> usize {
+        let first = self.pairs.iter().position(|pair| pair.0 == key);
+        first.unwrap_or(self.pairs.len())
+    }
+
+    fn set_first(&mut self, key: u32, value: i64) -> Answer {
+        let first = self.position_of(key);
+        let old = self.set_at(first, value);
+        Ok(Reply::Old(old.map(|pair| pair.1)))
+    }
+
+    fn set_back(&mut self, value: i64) -> Answer {
+        let last = self.pairs.len().saturating_sub(1);
+        Ok(Reply::Pair(self.set_at(last, value)))
+    }
+
+    fn or_insert(&mut self, alloc: Global, key: u32, value: i64) -> Answer {
+        let first = self.first_of_key(alloc, key)?;
+        if first.is_none() {
+            self.append(key, value)?;
+        }
+        Ok(Reply::Value(Some(first.unwrap_or(value))))
+    }
+
     fn take_out(&mut self, key: u32) {
         self.keys.retain(|other| *other != key);
         self.pairs.retain(|pair| pair.0 != key);
@@ -134,6 +167,10 @@ impl PlainMap {
             Command::Append(key, value) => self.append(*key, *value),
             Command::Insert(key, value) => self.insert(alloc, *key, *value),
             Command::InsertAll(key, value) => self.insert_all(alloc, *key, *value),
+            Command::SetFirst(key, value) => self.set_first(*key, *value),
+            Command::SetFront(value) => Ok(Reply::Pair(self.set_at(0, *value))),
+            Command::SetBack(value) => self.set_back(*value),
+            Command::OrInsert(key, value) => self.or_insert(alloc, *key, *value),
             Command::Remove(key) => self.remove(alloc, *key),
             Command::RemoveAll(key) => self.remove_all(alloc, *key),
             Command::RemoveEntry(key) => self.remove_entry(alloc, *key),

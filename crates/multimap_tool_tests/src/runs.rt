@@ -115,6 +115,30 @@ fn add_removals(rows: &mut Rows, alloc: Global) -> Result<(), AllocError> {
     add(rows, Command::PopBack, Reply::Popped(None))
 }
 
+// The map is empty before them.
+fn add_writes(rows: &mut Rows) -> Result<(), AllocError> {
+    add(rows, Command::SetFront(true), Reply::Pair(None))?;
+    add(rows, Command::SetBack(true), Reply::Pair(None))?;
+    add(rows, Command::SetFirst('s', true), Reply::Old(None))?;
+    add(rows, Command::OrInsert('s', true), Reply::Value(Some(true)))?;
+    add(
+        rows,
+        Command::OrInsert('s', false),
+        Reply::Value(Some(true)),
+    )?;
+    add(rows, Command::SetFirst('s', false), Reply::Old(Some(true)))?;
+    add(
+        rows,
+        Command::SetBack(true),
+        Reply::Pair(Some(('s', false))),
+    )?;
+    add(
+        rows,
+        Command::SetFront(false),
+        Reply::Pair(Some(('s', true))),
+    )
+}
+
 fn add_last(rows: &mut Rows) -> Result<(), AllocError> {
     add(rows, Command::Append('u', true), Reply::Appended(false))?;
     add(rows, Command::Remove('u'), Reply::Value(Some(true)))?;
@@ -135,6 +159,7 @@ fn add_rows(rows: &mut Rows, alloc: Global) -> Result<(), AllocError> {
     add_keys(rows, alloc)?;
     add_insertions(rows, alloc)?;
     add_removals(rows, alloc)?;
+    add_writes(rows)?;
     add_last(rows)
 }
 

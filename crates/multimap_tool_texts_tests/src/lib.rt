@@ -1,7 +1,9 @@
-//! Tests of what the tool reads and says: the lines of commands, the texts of replies and of faults,
-//! and what Debug shows.
+//! Tests of what the tool reads and says: lines in and lines out, bad input, the texts of replies
+//! and of faults, and what Debug shows.
 #![tactic(auto)]
 
+#[cfg(test)]
+mod lines;
 #[cfg(test)]
 mod shown;
 #[cfg(test)]

@@ -58,6 +58,13 @@ fn changes_are_shown(test: &Test) {
     expect_command(test, Command::Keys(Ends::Forward), "Keys(Forward)");
 }
 
+fn writes_are_shown(test: &Test) {
+    expect_command(test, Command::SetFirst("a", "b"), r#"SetFirst("a", "b")"#);
+    expect_command(test, Command::SetFront(TABBED), r#"SetFront("\t\\'")"#);
+    expect_command(test, Command::SetBack(""), r#"SetBack("")"#);
+    expect_command(test, Command::OrInsert("c", ""), r#"OrInsert("c", "")"#);
+}
+
 fn words_are_shown(test: &Test) -> Result<(), AllocError> {
     let word = vec![in test.alloc(); End::Front, End::Back]?;
     let all = Command::All(QUOTED, Ends::Word(word));
@@ -71,6 +78,7 @@ fn commands_are_shown_and_compared(rt: HostRuntime) -> Result<(), Failed> {
     commands_are_shown(&test);
     plain_commands_are_shown(&test);
     changes_are_shown(&test);
+    writes_are_shown(&test);
     test.expect("memory for a word", words_are_shown(&test).is_ok());
     test.end()
 }

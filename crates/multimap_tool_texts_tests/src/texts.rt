@@ -42,6 +42,14 @@ fn add_changes(commands: &mut Commands) -> Result<(), AllocError> {
     Ok(())
 }
 
+fn add_writes(commands: &mut Commands) -> Result<(), AllocError> {
+    commands.push(Command::SetFirst(9, -1))?;
+    commands.push(Command::SetFront(-2))?;
+    commands.push(Command::SetBack(3))?;
+    commands.push(Command::OrInsert(10, 4))?;
+    Ok(())
+}
+
 fn add_words(commands: &mut Commands, alloc: Global) -> Result<(), AllocError> {
     let word = vec![in alloc; End::Front, End::Back]?;
     commands.push(Command::All(5, Ends::Word(word)))?;
@@ -56,12 +64,13 @@ fn add_commands(commands: &mut Commands, alloc: Global) -> Result<(), AllocError
     add_key_commands(commands)?;
     add_plain_commands(commands)?;
     add_changes(commands)?;
+    add_writes(commands)?;
     add_words(commands, alloc)
 }
 
 const LINES: &str = "append 1 -2\nget 3\nall 4\nhas 6\nlen 7\npairs\nfront\nback\nlengths\n\
     insert 1 2\ninsertall 3 -4\nremove 5\nremoveall 6\nremoveentry 7\nremoveentryall 8\n\
-    popfront\npopback\nclear\nkeys\nwalk 5 fb\nwalkpairs b\nwalkkeys bff";
+    popfront\npopback\nclear\nkeys\nsetfirst 9 -1\nsetfront -2\nsetback 3\norinsert 10 4\nwalk 5 fb\nwalkpairs b\nwalkkeys bff";
 
 fn lines_spell(test: &Test, wanted: &Commands) {
     match parse_commands(test.alloc(), LINES.as_bytes()) {

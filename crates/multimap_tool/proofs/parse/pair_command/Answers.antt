@@ -18,6 +18,16 @@ returns-then-eq-3 g c =
     let name = c.args.name.now in
     record { name_is = sym (same_text name _ c.eq-3.result c.if-eq-3.true (c.eq-3.ensures ∙ ap (bytes_eq name) c.as_slice-3.ensures)); operands_are = search (rules) }
 
+pub returns-then-eq-4 : goal.returns-then-eq-4
+returns-then-eq-4 g c =
+    let name = c.args.name.now in
+    record { name_is = sym (same_text name _ c.eq-4.result c.if-eq-4.true (c.eq-4.ensures ∙ ap (bytes_eq name) c.as_slice-4.ensures)); operands_are = search (rules) }
+
+pub returns-then-eq-5 : goal.returns-then-eq-5
+returns-then-eq-5 g c =
+    let name = c.args.name.now in
+    record { name_is = sym (same_text name _ c.eq-5.result c.if-eq-5.true (c.eq-5.ensures ∙ ap (bytes_eq name) c.as_slice-5.ensures)); operands_are = search (rules) }
+
 pub returns : goal.returns
 returns g c =
     let name = c.args.name.now in
@@ -25,5 +35,7 @@ returns g c =
       | inl is_append ↦ other_text name _ c.eq.result c.if-eq.false (c.eq.ensures ∙ ap (bytes_eq name) c.as_slice.ensures) is_append
       | inr (inl is_insert) ↦ other_text name _ c.eq-2.result c.if-eq-2.false (c.eq-2.ensures ∙ ap (bytes_eq name) c.as_slice-2.ensures) is_insert
       | inr (inr (inl is_insertall)) ↦ other_text name _ c.eq-3.result c.if-eq-3.false (c.eq-3.ensures ∙ ap (bytes_eq name) c.as_slice-3.ensures) is_insertall
-      | inr (inr (inr never)) ↦ never
+      | inr (inr (inr (inl is_setfirst))) ↦ other_text name _ c.eq-4.result c.if-eq-4.false (c.eq-4.ensures ∙ ap (bytes_eq name) c.as_slice-4.ensures) is_setfirst
+      | inr (inr (inr (inr (inl is_orinsert)))) ↦ other_text name _ c.eq-5.result c.if-eq-5.false (c.eq-5.ensures ∙ ap (bytes_eq name) c.as_slice-5.ensures) is_orinsert
+      | inr (inr (inr (inr (inr never)))) ↦ never
     ]

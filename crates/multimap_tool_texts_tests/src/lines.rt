@@ -85,6 +85,16 @@ const GOOD: &[(&str, &str)] = &[
         "insert 1 1\ninsert 2 2\nappend 2 3\nappend 1 4\nwalkpairs fbb\nwalkkeys bff\nremoveentryall 2\nremoveentry 2\npairs\nclear\nlengths\n",
         "none\nnone\nmore\nmore\n1:1 1:4 2:3\n2 1 -\n2=2,3\nnone\n1:1 1:4\ndone\n0 0\n",
     ),
+    // Values written in their places, and a pair that comes where its key is absent.
+    (
+        "setfirst 1 5\norinsert 1 42\norinsert 1 7\nsetfirst 1 43\nappend 2 8\nsetback 9\nsetfront 4\npairs\n",
+        "none\n42\n42\nold 42\nnew\n2:8\n1:43\n1:4 2:9\n",
+    ),
+    (
+        "append 1 1\nappend 2 2\nappend 1 3\nsetfirst 1 -1\nsetback 4294967296\norinsert 1 5\npairs\n",
+        "new\nnew\nmore\nold 1\n1:3\n-1\n1:-1 2:2 1:4294967296\n",
+    ),
+    ("setfront 4\nsetback -4\npairs\n", "none\nnone\nempty\n"),
     // Removals of a key that is there, and of one that isn't.
     (
         "append 1 5\nappend 1 6\nremoveentry 1\nremove 1\nremoveall 1\nremoveentryall 1\nkeys\n",
@@ -192,6 +202,13 @@ const BAD: &[(&str, u64)] = &[
     ("removeall f\n", 1),
     ("removeentry 1 f\n", 1),
     ("removeentryal 1\n", 1),
+    ("setfront\n", 1),
+    ("setfront 1 2\n", 1),
+    ("setfront f\n", 1),
+    ("setback 9223372036854775808\n", 1),
+    ("setfirst 1\n", 1),
+    ("setfirst -1 1\n", 1),
+    ("orinsert 1 x\n", 1),
     ("popfront 1\n", 1),
     ("popback f\n", 1),
     ("keys 1\n", 1),
