@@ -1,10 +1,10 @@
 //! Callers of entries that are proved for every key type: each knows what the map is afterwards.
-ghost use Rattle.std.specs.Prelude.{◌≡◌, true, false, OnErr, OnOk};
-ghost use Rattle.ordered_multimap.specs.Changes.{appended, first_written};
-ghost use Rattle.ordered_multimap.specs.Pairs.{is_present};
+ghost use Rattle.std.specs.Prelude.{◌≡◌, true, false, slice_get, Some, IfNone, IfSome, OnSome, OnErr, OnOk};
+ghost use Rattle.ordered_multimap.specs.Changes.{appended, first_written, removed};
+ghost use Rattle.ordered_multimap.specs.Pairs.{is_present, values_of};
 
 use ordered_multimap::ListOrderedMultimap;
-use ordered_multimap::list_ordered_multimap::Refused;
+use ordered_multimap::list_ordered_multimap::{Entry, Refused};
 use std::alloc::Allocator;
 use std::hash::{BuildHasher, Hash};
 
@@ -23,4 +23,23 @@ pub fn set_or_append<K: Eq + Hash + Drop, V: Copy, S: BuildHasher, A: Allocator 
     let first = map.entry(key).or_insert(value)?;
     *first = value;
     Ok(())
+}
+
+/// Takes the key out by its entry, if it is present, and answers its first value.
+pub fn take_out<K: Eq + Hash + Drop, V: Drop, S: BuildHasher, A: Allocator>(
+    map: &mut ListOrderedMultimap<K, V, S, A>,
+    key: K,
+) -> Option<V>
+    ensures present { OnSome result (map.new.lists ≡ removed K.eq map.old.lists key) }
+    ensures value { IfSome result (λ v.
+        slice_get (values_of K.eq map.old.lists.pairs key) 0 ≡ Some v) }
+    ensures absent { IfNone result (map.new.lists ≡ map.old.lists) }
+{
+    match map.entry(key) {
+        Entry::Occupied(entry) => Some(entry.remove()),
+        Entry::Vacant(entry) => {
+            drop(entry.into_key());
+            None
+        }
+    }
 }

@@ -6,6 +6,7 @@ ghost use Rattle.std.specs.Ordering.{on};
 ghost use Rattle.std.specs.Prelude.{nat_eq};
 
 use ordered_multimap::ListOrderedMultimap;
+use ordered_multimap::list_ordered_multimap::Entry;
 use std::hash::{Hash, Hasher};
 use test_helpers::{Failed, Test};
 
@@ -88,10 +89,26 @@ fn replaced_key_stays(test: &Test, map: &mut Words) {
     expect_stored(test, map, "kEY");
 }
 
+// The entry of an equal key is that of the stored one.
+fn stored_key_has_the_entry(test: &Test, map: &mut Words) {
+    test.expect("append", map.append(Word::new("Key"), 1) == Ok(false));
+    match map.entry(Word::new("KEY")) {
+        Entry::Occupied(entry) => test.expect("key", entry.key().text == "Key"),
+        Entry::Vacant(_) => test.expect("an occupied entry", false),
+    }
+    test.expect(
+        "or_insert",
+        map.entry(Word::new("kEY")).or_insert(2).is_ok(),
+    );
+    expect_stored(test, map, "Key");
+    test.expect("one pair", map.values_len() == 1);
+}
+
 #[test]
 fn of_equal_keys_the_first_stays(rt: HostRuntime) -> Result<(), Failed> {
     let test = Test::new(rt.alloc());
     first_key_stays(&test, &mut ListOrderedMultimap::new(test.alloc()));
     replaced_key_stays(&test, &mut ListOrderedMultimap::new(test.alloc()));
+    stored_key_has_the_entry(&test, &mut ListOrderedMultimap::new(test.alloc()));
     test.end()
 }
