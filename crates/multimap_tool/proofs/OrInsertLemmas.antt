@@ -35,6 +35,7 @@ module _ {K V : Type 0} (eq : K → K → Bool) (k : K) where
             (suc later.0, omega (arith, later.1), ap (λ ps. p ∷ ps) later.2)
       ] first position
 
+  -- so the lists stay
   first_written-first : (m : Lists K V) (w : V) → slice_get (values_of eq m.pairs k) 0 ≡ Some w → first_written eq m k w ≡ m
   first_written-first m w first =
       let write : Option ℕ → List (K × V) = λ o. elim o as (λ _. List (K × V)) [ None ↦ m.pairs | Some i ↦ with_value_at m.pairs i w ] in
@@ -48,6 +49,7 @@ module _ {K V : Type 0} (eq : K → K → Bool) (k : K) where
       ] in
       ap (lists m.keys) (all (slice_get (positions_of eq m.pairs k) 0) refl)
 
+  -- a present key has a first value, and an absent key has none
   first_of_present : (values : List V) (v : V) → has_items values ≡ true → slice_get values 0 ≡ Some (unwrap_or (slice_get values 0) v)
   first_of_present [] v present = absurd (true≢false (sym present))
   first_of_present (w ∷ values) v present = refl
@@ -56,6 +58,7 @@ module _ {K V : Type 0} (eq : K → K → Bool) (k : K) where
   first_of_absent [] v absent = refl
   first_of_absent (w ∷ values) v absent = absurd (true≢false absent)
 
+  -- the step where the key is present, where it is absent, and of either kind of entry
   present_step : {A : Type 0} (m n : Lists K V) (v w : V) → true ≡ is_present eq m.pairs k → w ≡ unwrap_or (slice_get (values_of eq m.pairs k) 0) v
       → n ≡ first_written eq m k w → IsStep eq {A = A} (OrInsert k v) m (Value (Some w)) n
   present_step m n v w present first left =
@@ -74,7 +77,7 @@ module _ {R K V S A H : Type 0} {e : equality.Ghosts K} {j : hash.Ghosts K} {b :
   entered_step (Occupied o) v w n occupied first entered = present_step e.eq o.key.value o.map.now.lists n.lists v w occupied first entered.lists
   entered_step (Vacant x) v w n occupied first entered = absent_step e.eq x.key x.map.now.lists n.lists v w occupied first entered.lists
 
-  -- the step of a map, the entry of which was entered
+  -- the step of the map that the entry was made of
   pub or_insert_step : (x : Entry K V S A H e j b h) (m : Multimap K V S) (k : K) (v w : V) (n : Lists K V) (last : Multimap K V S) → entry_map x ≡ m → entry_key x ≡ k
       → is_occupied x ≡ is_present e.eq m.lists.pairs k → w ≡ unwrap_or (first_value x) v → IsEntered x w last → n ≡ last.lists
       → IsStep e.eq {A = R} (OrInsert k v) m.lists (Value (Some w)) n

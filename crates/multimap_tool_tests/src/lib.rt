@@ -1,4 +1,4 @@
-//! Tests of the tool: runs of commands, failing readers and writers, and memory that is refused.
+//! Tests of the tool: runs of commands, and memory that is refused.
 //!
 //! They stand in a crate of their own so that the tool needs no test allocator.
 #![tactic(auto)]
@@ -15,5 +15,3 @@ mod memory;
 mod plain;
 #[cfg(test)]
 mod runs;
-#[cfg(test)]
-mod streams;
