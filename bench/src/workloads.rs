@@ -82,7 +82,7 @@ const SCATTERED: Option<usize> = Some(3);
 const IN_ORDER: Option<Run> = Some(std_side::iter_all_in_order);
 
 /// Every workload. One that starts with another stands behind it.
-pub const WORKLOADS: [Workload; 14] = [
+pub const WORKLOADS: [Workload; 15] = [
     workload!(
         append_distinct,
         bench_append_distinct,
