@@ -21,6 +21,13 @@ enum Way {
     InsertEntry,
 }
 
+// The ways in which an occupied entry puts a value behind the others.
+#[derive(PartialEq, Eq, Clone, Copy)]
+enum Put {
+    Append,
+    InsertAll,
+}
+
 const WAYS: [Way; 6] = [
     Way::OrInsert,
     Way::OrInsertWith,
@@ -139,6 +146,64 @@ fn values_fill_the_room(test: &Test, map: &mut Refusing<'_>) {
     test.expect("insert_all refused", replaced(map, 78) == full);
     expect_lengths(test, map, 2, room);
     expect_key(test, map, &1, Some(1), room.saturating_sub(1));
+}
+
+// A value behind a full map's, with so many requests granted. It answers whether they were enough.
+fn a_value_is_put(
+    test: &Test,
+    allocator: &RefusingAllocator,
+    map: &mut Refusing<'_>,
+    by: Put,
+) -> bool {
+    let room = map.values_capacity();
+    let put = match by {
+        Put::Append => appended(map, 77).is_ok(),
+        Put::InsertAll => replaced(map, 77) == Ok(room),
+    };
+    if put {
+        expect_lengths(
+            test,
+            map,
+            1,
+            if by == Put::Append {
+                room.saturating_add(1)
+            } else {
+                1
+            },
+        );
+    } else {
+        test.expect("refused for want of memory", allocator.refused());
+        expect_lengths(test, map, 1, room);
+        expect_ends(test, map, Some((1, 0)), Some((1, room.saturating_sub(1))));
+    }
+    put
+}
+
+fn a_value_is_put_with(test: &Test, granted: u64, by: Put) -> bool {
+    let allocator = RefusingAllocator::unlimited(test.alloc());
+    let Ok(mut map) = ListOrderedMultimap::with_capacity(&allocator, 1, 2) else {
+        test.expect("memory for a map with room", false);
+        return true;
+    };
+    for number in 0..map.values_capacity() {
+        expect_append(test, &mut map, (1, number), number > 0);
+    }
+    allocator.grant(granted);
+    a_value_is_put(test, &allocator, &mut map, by)
+}
+
+#[test]
+fn a_refused_value_changes_nothing(rt: HostRuntime) -> Result<(), Failed> {
+    let test = Test::new(rt.alloc());
+    let enough = requests_until_enough(|granted| a_value_is_put_with(&test, granted, Put::Append));
+    test.expect("a request or more to append", enough.unwrap_or(0) >= 1);
+    let enough = requests_until_enough(|granted| a_value_is_put_with(
+        &test,
+        granted,
+        Put::InsertAll,
+    ));
+    test.expect("a request or more to insert", enough.unwrap_or(0) >= 1);
+    test.end()
 }
 
 fn room_is_used(test: &Test, map: &mut Refusing<'_>) {
