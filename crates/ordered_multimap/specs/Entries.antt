@@ -42,6 +42,7 @@ module _ {K V S A H : Type 0} {e : equality.Ghosts K} {k : hash.Ghosts K} {b : b
   entry_key (Occupied o) = o.key.value
   entry_key (Vacant v) = v.key
 
+  -- whether the key is present
   abbrev pub is_occupied : Entry K V S A H e k b h → Bool
   is_occupied (Occupied o) = true
   is_occupied (Vacant v) = false

@@ -144,6 +144,7 @@ impl<'map, K: Eq + Hash, V: Drop, S: BuildHasher, A: Allocator + Copy> Entry<'ma
     {
         match self {
             Entry::Occupied(entry) => {
+                // Made anew, so that the proof follows the map into the answer.
                 let OccupiedEntry { map, place, key } = entry;
                 Ok(OccupiedEntry { map, place, key })
             }
