@@ -1,4 +1,5 @@
-//! Times the workloads of the map and of the standard library's, and prints a table.
+//! Times or counts the workloads of the map and of the standard library's, and prints a table.
+mod count;
 mod hashers;
 mod numbers;
 mod std_side;
@@ -10,7 +11,8 @@ use std::process::ExitCode;
 use std::time::{Duration, Instant};
 use workloads::{COLUMNS, WORKLOADS, Workload};
 
-const SEED: u64 = 1;
+/// The seed of all numbers.
+pub const SEED: u64 = 1;
 
 /// Sizes below this many pairs are run several times in a row for one timing.
 const ENOUGH_PAIRS: u64 = 200_000;
@@ -49,14 +51,50 @@ struct Wanted {
 
 fn main() -> ExitCode {
     let words: Vec<String> = std::env::args().skip(1).collect();
+    match words.split_first() {
+        Some((word, rest)) if word == "count" => print_counts(rest),
+        Some((word, rest)) if word == "once" => match count::run_once(rest) {
+            Some(()) => ExitCode::SUCCESS,
+            None => fail("give once WORKLOAD COLUMN N TIMES"),
+        },
+        _ => print_times(&words),
+    }
+}
+
+fn fail(line: &str) -> ExitCode {
+    eprintln!("bench: {line}");
+    ExitCode::FAILURE
+}
+
+fn print_counts(words: &[String]) -> ExitCode {
+    let columns = match words.get(1) {
+        Some(word) if word == "default" => [0, 1],
+        Some(_) => return fail("give count N [default]"),
+        None => [2, 3],
+    };
+    let Some(pairs) = words.first().and_then(|word| parse_pairs(word)) else {
+        return fail("give count N [default]: N a multiple of 16 below 2^29");
+    };
+    match count::print_counts(pairs, columns) {
+        Ok(()) => ExitCode::SUCCESS,
+        Err(error) => fail(&error.to_string()),
+    }
+}
+
+/// The workloads take a multiple of 16 pairs. Numbers from 2^29 on don't fit their arithmetic.
+fn parse_pairs(word: &str) -> Option<u64> {
+    let pairs: u64 = word.parse().ok()?;
+    (pairs > 0 && pairs % 16 == 0 && pairs < 1 << 29).then_some(pairs)
+}
+
+fn print_times(words: &[String]) -> ExitCode {
     let Some(Wanted {
         pairs,
         runs,
         keeps_heap,
-    }) = parse(&words)
+    }) = parse(words)
     else {
-        eprintln!("bench: give N [RUNS [fresh]]: N a multiple of 8 below 2^29, RUNS above 0");
-        return ExitCode::FAILURE;
+        return fail("give N [RUNS [fresh]]: N a multiple of 16 below 2^29, RUNS above 0");
     };
     if keeps_heap {
         keep_the_heap();
@@ -79,7 +117,7 @@ fn main() -> ExitCode {
 }
 
 fn parse(words: &[String]) -> Option<Wanted> {
-    let pairs: u64 = words.first()?.parse().ok()?;
+    let pairs = parse_pairs(words.first()?)?;
     let runs = match words.get(1) {
         Some(word) => word.parse().ok()?,
         None => 5,
@@ -89,8 +127,7 @@ fn parse(words: &[String]) -> Option<Wanted> {
         Some(_) => return None,
         None => true,
     };
-    let fits = pairs > 0 && pairs % 8 == 0 && pairs < 1 << 29 && runs > 0 && words.len() < 4;
-    fits.then_some(Wanted {
+    (runs > 0 && words.len() < 4).then_some(Wanted {
         pairs,
         runs,
         keeps_heap,

@@ -38,6 +38,7 @@ mod exported {
         pub safe fn bench_insert_replace(n: u64, seed: u64) -> u64;
         pub safe fn bench_remove_all_half(n: u64, seed: u64) -> u64;
         pub safe fn bench_entry_count(n: u64, seed: u64) -> u64;
+        pub safe fn bench_small_maps(n: u64, seed: u64) -> u64;
         pub safe fn benchfx_append_distinct(n: u64, seed: u64) -> u64;
         pub safe fn benchfx_append_few(n: u64, seed: u64) -> u64;
         pub safe fn benchfx_append_grouped(n: u64, seed: u64) -> u64;
@@ -53,6 +54,7 @@ mod exported {
         pub safe fn benchfx_insert_replace(n: u64, seed: u64) -> u64;
         pub safe fn benchfx_remove_all_half(n: u64, seed: u64) -> u64;
         pub safe fn benchfx_entry_count(n: u64, seed: u64) -> u64;
+        pub safe fn benchfx_small_maps(n: u64, seed: u64) -> u64;
     }
 }
 
@@ -82,7 +84,7 @@ const SCATTERED: Option<usize> = Some(3);
 const IN_ORDER: Option<Run> = Some(std_side::iter_all_in_order);
 
 /// Every workload. One that starts with another stands behind it.
-pub const WORKLOADS: [Workload; 15] = [
+pub const WORKLOADS: [Workload; 16] = [
     workload!(
         append_distinct,
         bench_append_distinct,
@@ -194,6 +196,14 @@ pub const WORKLOADS: [Workload; 15] = [
         benchfx_entry_count,
         None,
         4,
+        None
+    ),
+    workload!(
+        small_maps,
+        bench_small_maps,
+        benchfx_small_maps,
+        None,
+        2,
         None
     ),
 ];

@@ -86,3 +86,18 @@ pub(crate) fn scattered<S: BuildHasher>(
     }
     Some(ends(map, checksum))
 }
+
+/// Sixteen pairs from `first` on, each under a random one of twelve keys.
+pub(crate) fn spread_over_twelve<S: BuildHasher>(
+    map: &mut Map<S>,
+    first: u64,
+    seed: u64,
+    start: u64,
+) -> Option<u64> {
+    let mut checksum = start;
+    for i in first..first.wrapping_add(16) {
+        let chosen = key(seed, first.wrapping_add(choice(seed, i, 12)));
+        checksum = append(map, chosen, value(seed, i), checksum)?;
+    }
+    Some(checksum)
+}

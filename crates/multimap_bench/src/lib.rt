@@ -20,7 +20,7 @@ use fast::FastHasher;
 use ordered_multimap::list_ordered_multimap::DefaultState;
 use std::alloc::Global;
 use std::hash::BuildHasherDefault;
-use workloads::{Workload, run};
+use workloads::{Workload, run, run_small};
 
 /// The builder of the fast hasher.
 type FastState = BuildHasherDefault<FastHasher>;
@@ -133,6 +133,12 @@ pub extern "C" fn bench_entry_count(alloc: Global, n: u64, seed: u64) -> u64 {
     run(alloc, DefaultState::new(), Workload::EntryCount, n, seed)
 }
 
+/// Makes, fills, asks and drops maps of sixteen pairs.
+#[unsafe(no_mangle)]
+pub extern "C" fn bench_small_maps(alloc: Global, n: u64, seed: u64) -> u64 {
+    run_small::<DefaultState>(alloc, n, seed)
+}
+
 /// Appends a new key for each pair. With the fast hasher.
 #[unsafe(no_mangle)]
 pub extern "C" fn benchfx_append_distinct(alloc: Global, n: u64, seed: u64) -> u64 {
@@ -227,4 +233,10 @@ pub extern "C" fn benchfx_remove_all_half(alloc: Global, n: u64, seed: u64) -> u
 #[unsafe(no_mangle)]
 pub extern "C" fn benchfx_entry_count(alloc: Global, n: u64, seed: u64) -> u64 {
     run(alloc, FastState::new(), Workload::EntryCount, n, seed)
+}
+
+/// Makes, fills, asks and drops maps of sixteen pairs. With the fast hasher.
+#[unsafe(no_mangle)]
+pub extern "C" fn benchfx_small_maps(alloc: Global, n: u64, seed: u64) -> u64 {
+    run_small::<FastState>(alloc, n, seed)
 }

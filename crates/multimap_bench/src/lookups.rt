@@ -44,3 +44,22 @@ pub(crate) fn all_pairs<S: BuildHasher>(map: &Map<S>, start: u64) -> u64 {
     }
     checksum
 }
+
+/// Looks for the sixteen keys from `first` on.
+pub(crate) fn sixteen_keys<S: BuildHasher>(map: &Map<S>, first: u64, seed: u64, start: u64) -> u64 {
+    let mut checksum = start;
+    for i in first..first.wrapping_add(16) {
+        let found = map.get(&key(seed, i));
+        checksum = mix(checksum, found.copied().unwrap_or(1));
+    }
+    checksum
+}
+
+/// The sum of all pairs, each as key ^ value.
+pub(crate) fn sum_of_pairs<S: BuildHasher>(map: &Map<S>) -> u64 {
+    let mut sum = 0u64;
+    for (key, value) in map.iter() {
+        sum = sum.wrapping_add(*key ^ *value);
+    }
+    sum
+}

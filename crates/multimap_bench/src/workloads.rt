@@ -1,8 +1,8 @@
 //! The workloads, each on a map of its own under any hash builder.
-use crate::appends::{Map, distinct, few, grouped, scattered};
+use crate::appends::{Map, distinct, ends, few, grouped, scattered, spread_over_twelve};
 use crate::changes::{counts, fifo, fifo_few, fifo_small, removes, replaces};
-use crate::lookups::{all_pairs, hits, misses, walks};
-use crate::numbers::START;
+use crate::lookups::{all_pairs, hits, misses, sixteen_keys, sum_of_pairs, walks};
+use crate::numbers::{START, mix};
 use ordered_multimap::ListOrderedMultimap;
 use std::alloc::Global;
 use std::hash::BuildHasher;
@@ -119,4 +119,30 @@ fn look_up<S: BuildHasher>(
         Workload::IterAll => all_pairs(map, checksum),
         _ => checksum,
     }
+}
+
+/// Makes, fills, asks and drops a map of sixteen pairs for every sixteen pairs. Answers the checksum.
+pub(crate) fn run_small<S: BuildHasher + Default + Drop>(alloc: Global, n: u64, seed: u64) -> u64 {
+    let mut checksum = START;
+    for round in 0..n / 16 {
+        let map = ListOrderedMultimap::with_hasher(alloc, S::default());
+        match small_map(map, round.wrapping_mul(16), seed, checksum) {
+            Some(seen) => checksum = seen,
+            None => return REFUSED,
+        }
+    }
+    checksum
+}
+
+/// Fills an empty map with the sixteen pairs from `first` on, asks it, and lets it go.
+fn small_map<S: BuildHasher + Drop>(
+    empty: Map<S>,
+    first: u64,
+    seed: u64,
+    start: u64,
+) -> Option<u64> {
+    let mut map = empty;
+    let filled = spread_over_twelve(&mut map, first, seed, start)?;
+    let found = sixteen_keys(&map, first, seed, filled);
+    Some(ends(&map, mix(found, sum_of_pairs(&map))))
 }
