@@ -171,7 +171,20 @@ impl<A: Allocator + Copy> KeyTable<A> {
         let Some(wanted) = self.len.checked_add(additional) else {
             return Err(AllocError);
         };
-        let mut grown = KeyTable::with_groups_for(*self.tags.allocator(), wanted)?;
+        self.grow_to(wanted)
+    }
+
+    /// Takes groups for so many rows, and puts each row into them.
+    #[inline(never)]
+    fn grow_to(&mut self, capacity: usize) -> Result<(), AllocError>
+        requires { self.old.capacity < capacity }
+        ensures unchanged { self.new.rows ≡ self.old.rows }
+        ensures room { OnOk result (capacity ≤ self.new.capacity) }
+        ensures refused { OnErr result (self.new.capacity ≡ self.old.capacity) }
+    {
+        // The capacity tells the proof that all rows fit.
+        let _rows = self.capacity();
+        let mut grown = KeyTable::with_groups_for(*self.tags.allocator(), capacity)?;
         insert_all(
             &mut grown.tags,
             &mut grown.rows,

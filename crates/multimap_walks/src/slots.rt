@@ -18,10 +18,7 @@ pub(crate) fn value_at<'map, V, A: Allocator>(
     ensures slot { HasSlot values.now.list place result.0.now result.1 }
     ensures counted { reads.new ≡ reads.old + 1 }
 {
-    match values.get(place, reads) {
-        Some(slot) => slot,
-        None => unreachable!(),
-    }
+    values.get_listed(place, reads)
 }
 
 /// The value at a place of a chain, with its link. One of the list is a read, and a detached one is
@@ -53,10 +50,8 @@ pub(crate) fn key_at<'map, K, A: Allocator>(
     requires { IsIn place keys.now.order }
     ensures item { item_at keys.now place ≡ Some result.now }
 {
-    match keys.get(place, reads) {
-        Some((key, _)) => key,
-        None => unreachable!(),
-    }
+    let (key, _) = keys.get_listed(place, reads);
+    key
 }
 
 /// The key and the value at a listed place.

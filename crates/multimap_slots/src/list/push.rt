@@ -7,6 +7,12 @@ use super::SlotList;
 use std::alloc::{AllocError, Allocator};
 use std::mem;
 
+/// The slots that the first growth gives at least, and the second one. So a list of few items asks
+/// for memory twice. From then on the slots double.
+const FIRST_SLOTS: usize = 4;
+
+const SECOND_SLOTS: usize = 16;
+
 /// Writes the item at an empty slot, or right behind the slots.
 fn put_item<T, A: Allocator>(items: &mut Vec<Option<T>, A>, place: usize, item: T)
     requires within { place ≤ length items.old.items }
@@ -46,7 +52,8 @@ impl<T, L: Copy, A: Allocator> SlotList<T, L, A> {
         self.grow(additional)
     }
 
-    /// Makes the room that is missing, in both vectors. The free places count as room.
+    /// Makes the room that is missing, or more than that, in both vectors. The free places count as
+    /// room.
     #[inline(never)]
     fn grow(&mut self, additional: usize) -> Result<(), AllocError>
         requires { self.old.capacity < length self.old.order + additional }
@@ -55,8 +62,15 @@ impl<T, L: Copy, A: Allocator> SlotList<T, L, A> {
         ensures capacity { self.old.capacity ≤ self.new.capacity }
     {
         let missing = additional - self.order.vacant();
-        self.items.reserve(missing)?;
-        self.order.reserve(missing)
+        let slots = self.items.len();
+        let least = if slots == 0 {
+            FIRST_SLOTS
+        } else {
+            SECOND_SLOTS
+        };
+        let more = missing.max(least.saturating_sub(slots));
+        self.items.reserve(more)?;
+        self.order.reserve(more)
     }
 
     /// Puts the item last, with its link, and answers its place. Where memory is refused, it hands
@@ -77,7 +91,10 @@ impl<T, L: Copy, A: Allocator> SlotList<T, L, A> {
         Ok(self.push_reserved(item, link))
     }
 
-    fn push_reserved(&mut self, item: T, link: L) -> usize
+    /// Puts the item last, with its link, where there is room, and answers its place. It takes no
+    /// memory. The time is constant.
+    #[inline(always)]
+    pub fn push_reserved(&mut self, item: T, link: L) -> usize
         requires { HasRoomFor self.old 1 }
         ensures pushed { PushesBack self.old self.new result item link }
         ensures capacity { self.new.capacity ≡ self.old.capacity }

@@ -90,6 +90,7 @@ impl<K: Eq + Hash, V, S: BuildHasher, A: Allocator + Copy> ListOrderedMultimap<K
 
 impl<K: Eq + Hash, V, S: BuildHasher, A: Allocator> ListOrderedMultimap<K, V, S, A> {
     /// Puts a value of the key at the place last.
+    #[inline(always)]
     pub(super) fn append_at(&mut self, place: usize, value: V) -> Result<(), RefusedValue<V>>
     where
         V: Drop,
@@ -111,6 +112,7 @@ impl<K: Eq + Hash, V, S: BuildHasher, A: Allocator> ListOrderedMultimap<K, V, S,
 }
 
 /// Appends to the key at the place.
+#[inline(always)]
 fn append_behind<K, V: Drop, A: Allocator>(
     keys: &mut SlotList<K, KeyLink, A>,
     values: &mut Tape<V, ValueLink, A>,

@@ -10,6 +10,7 @@ use multimap_walks::{KeyLink, ValueLink};
 use std::alloc::Allocator;
 
 /// Gives the key at the place another link.
+#[inline(always)]
 pub(super) fn set_link<K, A: Allocator>(
     keys: &mut SlotList<K, KeyLink, A>,
     place: usize,
@@ -18,13 +19,11 @@ pub(super) fn set_link<K, A: Allocator>(
     requires { IsIn place keys.old.order }
     ensures { keys.new ≡ with_link keys.old place link }
 {
-    match keys.link_mut(place) {
-        Some(old) => *old = link,
-        None => unreachable!(),
-    }
+    *keys.listed_link_mut(place) = link;
 }
 
 /// The link of the value at a listed place.
+#[inline(always)]
 pub(super) fn link_of<V, A: Allocator>(values: &Tape<V, ValueLink, A>, place: usize) -> ValueLink
     requires { IsIn place values.now.list.order }
     ensures link { link_at values.now.list place ≡ Some result }
@@ -37,6 +36,7 @@ pub(super) fn link_of<V, A: Allocator>(values: &Tape<V, ValueLink, A>, place: us
 }
 
 /// Writes the next place into the link of the value at the place, if there is one.
+#[inline(always)]
 pub(super) fn set_next<V, A: Allocator>(
     values: &mut Tape<V, ValueLink, A>,
     place: Option<usize>,
@@ -46,14 +46,12 @@ pub(super) fn set_next<V, A: Allocator>(
     ensures { MendsLink values.old values.new place (λ l. record l { next = next }) }
 {
     if let Some(place) = place {
-        match values.link_mut(place) {
-            Some(link) => link.next = next,
-            None => unreachable!(),
-        }
+        values.listed_link_mut(place).next = next;
     }
 }
 
 /// Writes the previous place into the link of the value at the place, if there is one.
+#[inline(always)]
 pub(super) fn set_previous<V, A: Allocator>(
     values: &mut Tape<V, ValueLink, A>,
     place: Option<usize>,
@@ -63,9 +61,6 @@ pub(super) fn set_previous<V, A: Allocator>(
     ensures { MendsLink values.old values.new place (λ l. record l { previous = previous }) }
 {
     if let Some(place) = place {
-        match values.link_mut(place) {
-            Some(link) => link.previous = previous,
-            None => unreachable!(),
-        }
+        values.listed_link_mut(place).previous = previous;
     }
 }

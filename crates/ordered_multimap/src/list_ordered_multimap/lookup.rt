@@ -16,18 +16,17 @@ use std::alloc::Allocator;
 use std::hash::{BuildHasher, Hash};
 
 /// The item at the place, with its link.
+#[inline(always)]
 pub(super) fn slot_at<T, L: Copy, A: Allocator>(slots: &SlotList<T, L, A>, place: usize) -> (&T, L)
     requires { IsIn place slots.now.order }
     ensures { HasSlot slots.now place result.0.now result.1 }
 {
     let mut reads = Reads::new();
-    match slots.get(place, &mut reads) {
-        Some(slot) => slot,
-        None => unreachable!(),
-    }
+    slots.get_listed(place, &mut reads)
 }
 
 /// The value at the place, with its link.
+#[inline(always)]
 pub(super) fn value_at<V, A: Allocator>(
     values: &Tape<V, ValueLink, A>,
     place: usize,
@@ -36,10 +35,7 @@ pub(super) fn value_at<V, A: Allocator>(
     ensures { HasSlot values.now.list place result.0.now result.1 }
 {
     let mut reads = Reads::new();
-    match values.get(place, &mut reads) {
-        Some(slot) => slot,
-        None => unreachable!(),
-    }
+    values.get_listed(place, &mut reads)
 }
 
 /// Whether the key at the place is equal to `key`.

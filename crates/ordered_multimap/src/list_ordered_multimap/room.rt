@@ -17,6 +17,7 @@ use std::alloc::{AllocError, Allocator};
 /// Makes room for one more value behind the others, where half of the slots or more are free. It
 /// closes the holes if the last slot is in use, and takes no memory.
 #[tactic(auto, using(crate::proofs::CompactLemmas::same_places))]
+#[inline(always)]
 pub(super) fn make_end_room<K, V: Drop, A: Allocator>(
     keys: &mut SlotList<K, KeyLink, A>,
     values: &mut Tape<V, ValueLink, A>,
@@ -43,6 +44,7 @@ pub(super) fn make_end_room<K, V: Drop, A: Allocator>(
 /// Makes room for one more value behind the others. Where half of the slots or more are free, it
 /// closes the holes and takes no memory.
 #[tactic(auto, using(crate::proofs::CompactLemmas::grown_places, crate::proofs::CompactLemmas::same_places))]
+#[inline(always)]
 pub(super) fn make_value_room<K, V: Drop, A: Allocator>(
     keys: &mut SlotList<K, KeyLink, A>,
     values: &mut Tape<V, ValueLink, A>,

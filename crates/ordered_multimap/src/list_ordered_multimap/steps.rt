@@ -15,15 +15,13 @@ use multimap_walks::{KeyLink, ValueLink};
 use std::alloc::Allocator;
 
 /// Puts the key last, and answers its place.
+#[inline(always)]
 fn push_key<K, A: Allocator>(keys: &mut SlotList<K, KeyLink, A>, key: K, link: KeyLink) -> usize
     requires { HasRoomFor keys.old 1 }
     ensures pushed { PushesBack keys.old keys.new result key link }
     ensures capacity { keys.new.capacity ≡ keys.old.capacity }
 {
-    match keys.push_back(key, link) {
-        Ok(place) => place,
-        Err(_) => unreachable!(),
-    }
+    keys.push_reserved(key, link)
 }
 
 /// The link of a key whose chain has so many values, all at one place.
@@ -39,6 +37,7 @@ pub(super) fn new_link(hash: u64, place: usize, length: usize) -> KeyLink
 }
 
 /// Puts the value in the slot behind those in use, and answers its place.
+#[inline(always)]
 fn push_slot<V, A: Allocator>(
     values: &mut Tape<V, ValueLink, A>,
     value: V,
@@ -49,14 +48,12 @@ fn push_slot<V, A: Allocator>(
     ensures counts { KeepsCounts values.old values.new }
     ensures capacity { values.new.list.capacity ≡ values.old.list.capacity }
 {
-    match values.push_back(value, link) {
-        Ok(place) => place,
-        Err(_) => unreachable!(),
-    }
+    values.push_reserved(value, link)
 }
 
 /// Puts the value last, behind the value at the tail in the chain of its key, and answers its
 /// place.
+#[inline(always)]
 fn push_value<V, A: Allocator>(
     values: &mut Tape<V, ValueLink, A>,
     value: V,
@@ -90,6 +87,7 @@ fn one_more<V, A: Allocator>(values: &Tape<V, ValueLink, A>, count: usize) -> us
 }
 
 /// Puts the value last, behind the others of the key at the place.
+#[inline(always)]
 pub(super) fn push_behind<K, V, A: Allocator>(
     keys: &mut SlotList<K, KeyLink, A>,
     values: &mut Tape<V, ValueLink, A>,
@@ -116,6 +114,7 @@ pub(super) fn push_behind<K, V, A: Allocator>(
 
 /// Puts the key last, with a row of its hash, and answers its place. Its link names no value yet:
 /// the places in it are 0 until the first value is pushed.
+#[inline(always)]
 pub(super) fn push_row<K, A: Allocator + Copy>(
     keys: &mut SlotList<K, KeyLink, A>,
     table: &mut KeyTable<A>,
@@ -135,6 +134,7 @@ pub(super) fn push_row<K, A: Allocator + Copy>(
 }
 
 /// Puts the value last, as the only one of the key at the place.
+#[inline(always)]
 pub(super) fn push_only<K, V, A: Allocator>(
     keys: &mut SlotList<K, KeyLink, A>,
     values: &mut Tape<V, ValueLink, A>,

@@ -29,10 +29,7 @@ impl<K: Eq + Hash, V, S: BuildHasher, A: Allocator> ListOrderedMultimap<K, V, S,
             S.BuildHasher S.Hasher.Hasher A.Allocator self.entry place result) }
         ensures value { item_at self.old.slots.values place ≡ Some result.now }
     {
-        match self.values.get_mut(place) {
-            Some(value) => value,
-            None => unreachable!(),
-        }
+        self.values.get_listed_mut(place)
     }
 
     /// The first value of the key at the place, to write.
@@ -81,10 +78,7 @@ impl<K: Eq + Hash, V, S: BuildHasher, A: Allocator> ListOrderedMultimap<K, V, S,
     {
         let (_, link) = value_at(&self.values, place);
         let (key, _) = slot_at(&self.keys, link.key);
-        match self.values.get_mut(place) {
-            Some(value) => (key, value),
-            None => unreachable!(),
-        }
+        (key, self.values.get_listed_mut(place))
     }
 
     /// The pair at an end, its value to write.

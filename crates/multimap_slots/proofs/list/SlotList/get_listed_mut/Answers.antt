@@ -1,6 +1,6 @@
 use Rattle.std.proofs.Common.{arith}
 use Rattle.multimap_slots.proofs.FilledLemmas.{filled_within}
-use Rattle.multimap_slots.proofs.list.SlotList.item_mut.Goals as goal
+use Rattle.multimap_slots.proofs.list.SlotList.get_listed_mut.Goals as goal
 
 pub index_mut-requires : goal.index_mut-requires
 index_mut-requires g c =

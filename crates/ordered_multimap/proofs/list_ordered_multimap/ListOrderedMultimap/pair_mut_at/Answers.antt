@@ -16,7 +16,7 @@ pub returns : goal.returns
 returns g c =
     let i = c.self.inside in let at = c.args.place in (
       (
-        refl {a = c.in-Some.value.ghost_name},
+        refl {a = c.get_listed_mut.result.ghost_name},
         λ w.
             multimap-with_item c.self.invariant.agrees at c.value_at.ensures.listed (min i.keys.capacity i.table.capacity) (i.values.list.capacity / 2) i.state (numbers_of i.values) i.left w
             ∙ ap (λ m. with_value m at w) c.self.view_is,
@@ -24,6 +24,6 @@ returns g c =
       record {
         writes_back = tt;
         pair = ap (λ m. pair_at m.slots.keys m.slots.values at) (sym c.self.view_is)
-            ∙ pair_at-is i.keys i.values.list at c.value_at.result.1 c.slot_at.result.0.now c.in-Some.value.now c.value_at.ensures.link_is c.slot_at.ensures.item_is (c.in-Some.ensures {u = tt}).found.item_is;
+            ∙ pair_at-is i.keys i.values.list at c.value_at.result.1 c.slot_at.result.0.now c.get_listed_mut.result.now c.value_at.ensures.link_is c.slot_at.ensures.item_is c.get_listed_mut.ensures.value.item_is;
       },
     )
