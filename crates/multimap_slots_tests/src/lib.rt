@@ -12,6 +12,9 @@ mod detached;
 #[cfg(test)]
 mod detaching;
 #[cfg(test)]
+mod listed;
+mod listed_uses;
+#[cfg(test)]
 mod made;
 mod places;
 #[cfg(test)]
@@ -22,6 +25,9 @@ mod slots;
 mod tape_uses;
 mod uses;
 
+pub use listed_uses::{
+    push_at_end, push_with_room, read_listed, read_on_tape, write_listed, write_on_tape,
+};
 pub use places::Places;
 pub use slots::{Slot, expect_slots, push, slot_at, slots_of, take};
 pub use tape_uses::{

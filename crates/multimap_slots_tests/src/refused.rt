@@ -9,7 +9,7 @@ use test_helpers::{Failed, Sample, Test, Token, requests_until_enough};
 const COUNTS: &[usize] = &[0, 1, 4, 9];
 
 // More slots than any list of these tests has free.
-const MANY: usize = 16;
+const MANY: usize = 40;
 
 pub type Slots<'a, T> = SlotList<T, u8, &'a RefusingAllocator>;
 
