@@ -1,14 +1,9 @@
--- What an entry keeps of its key, and what a pair is that an entry put last.
-use Rattle.std.proofs.Common.{◌≡◌, ℕ, suc, ◌+◌, Bool, true, false, cond, List, [], ◌∷◌, ◌++◌, filter, length, map, slice_get, Option, Some, None, IsSome, is_some, option_map, refl, sym, ap, ◌∙◌, subst, arith, inl, inr, true≢false}
+-- What an entry keeps of its key's place, and what a pair is that an entry put last.
+use Rattle.std.proofs.Common.{◌≡◌, ℕ, suc, ◌+◌, Bool, true, false, cond, List, [], ◌∷◌, ◌++◌, filter, length, map, slice_get, Option, Some, None, is_some, option_map, refl, sym, ap, ◌∙◌, subst, arith, inl, inr, true≢false}
 use Rattle.std.specs.Cmp.{IsEquivalence}
 use Rattle.std.specs.List.{enumerate_from}
 use Rattle.std.proofs.lemmas.Bool.{cases_eq, ne_eqb}
-use Rattle.std.proofs.Math.Logic.{∥∥₁_elim}
-use Rattle.std.proofs.Props.{props}
 use Rattle.multimap_slots.specs.Lists.{IsIn}
-use Rattle.multimap_slots.specs.Slots.{Slots, item_at}
-use Rattle.multimap_walks.specs.declared.links.KeyLink.{KeyLink}
-use Rattle.ordered_multimap.specs.Agrees.{HasKey}
 use Rattle.ordered_multimap.specs.Changes.{appended, first_written}
 use Rattle.ordered_multimap.specs.Keys.{is_listed, keys_with, stored_key}
 use Rattle.ordered_multimap.specs.Lists.{Lists, lists}
@@ -21,30 +16,18 @@ use Rattle.ordered_multimap.specs.Entries.{IsAppended}
 use Rattle.ordered_multimap.specs.Takes.{among}
 use Rattle.ordered_multimap.proofs.InsertLemmas.{values_of-append}
 use Rattle.ordered_multimap.proofs.KeyLemmas.{stored_key_absent}
-use Rattle.ordered_multimap.proofs.PlaceLemmas.{held}
 use Rattle.ordered_multimap.proofs.TakingLemmas.{among-in}
 
-among-is : (places : List ℕ) (q : ℕ) → among places q ≡ true → IsIn q places
-among-is [] q e = absurd (true≢false (sym e))
-among-is (p ∷ places) q e = elim (cases_eq p q) [
+-- an entry says by a test of the places that its place is listed
+pub listed_among : (places : List ℕ) (q : ℕ) → among places q ≡ true → IsIn q places
+listed_among [] q e = absurd (true≢false (sym e))
+listed_among (p ∷ places) q e = elim (cases_eq p q) [
   | inl same ↦ inl (sym same)
-  | inr differs ↦ inr (among-is places q (rw (ne_eqb p q differs) at e))
+  | inr differs ↦ inr (listed_among places q (rw (ne_eqb p q differs) at e))
 ]
 
--- the key of an entry stands at its place
-pub kept_key : {K : Type 0} {eq : K → K → Bool} (keys : Slots K KeyLink) (k : K) (place : ℕ) → ∥ HasKey eq keys k place ∥₁ → HasKey eq keys k place
-kept_key {K} {eq} keys k place some =
-    let listed_prop : IsProp (among keys.order place ≡ true) = Prim.hlevel props in
-    let there_prop : IsProp (IsSome (item_at keys place)) = Prim.hlevel props in
-    let there = ∥∥₁_elim some there_prop (λ h. ap is_some h.item_is) in
-    let item = held (item_at keys place) there in
-    let equal_prop : IsProp (eq k item.value ≡ true) = Prim.hlevel props in
-    record {
-      listed = among-is keys.order place (∥∥₁_elim some listed_prop (λ h. among-in keys.order place h.listed));
-      stored = item.value;
-      item_is = item.is;
-      equal = ∥∥₁_elim some equal_prop (λ h. let same : Some h.stored ≡ Some item.value = sym h.item_is ∙ item.is in let own : h.stored ≡ item.value = cc in ap (eq k) (sym own) ∙ h.equal);
-    }
+pub among_listed : (places : List ℕ) (q : ℕ) → IsIn q places → among places q ≡ true
+among_listed = among-in
 
 -- a removed pair is the stored key with the first value
 pub entry_parts : {K V : Type 0} (key : K) (o : Option V) (r : K × V) → Some r ≡ option_map (λ v. (key, v)) o → (r.0 ≡ key) × (o ≡ Some r.1)

@@ -1,4 +1,5 @@
--- What the contracts of entries cite. The words serve its halves too, as `entry_key (Occupied o)`.
+-- What the contracts of entries cite. What holds of the key of an entry is said for every key that
+-- is equal to it.
 use Rattle.ordered_multimap.specs.declared.list_ordered_multimap.entry as entries
 pub use entries.Entry.TheVariants.{Occupied, Vacant}
 use Rattle.std.specs.Prelude.{◌≡◌, Bool, true, false, slice_get, Some, Option}
@@ -11,6 +12,7 @@ use Rattle.std.specs.declared.hash.Hasher as hasher
 use Rattle.std.specs.declared.hash.BuildHasher as builder
 use Rattle.ordered_multimap.specs.declared.list_ordered_multimap.entry.Entry.{Entry}
 use Rattle.ordered_multimap.specs.declared.list_ordered_multimap.entry.OccupiedEntry.{OccupiedEntry}
+use Rattle.ordered_multimap.specs.Agrees.{HasKey}
 use Rattle.ordered_multimap.specs.Changes.{appended, first_written}
 use Rattle.ordered_multimap.specs.Multimap.{Multimap}
 use Rattle.ordered_multimap.specs.Pairs.{values_of}
@@ -37,24 +39,28 @@ module _ {K V S A H : Type 0} {e : equality.Ghosts K} {k : hash.Ghosts K} {b : b
   abbrev pub entry_map : Entry K V S A H e k b h → Multimap K V S
   entry_map x = (entry_map_ref x).now
 
-  -- the key that the entry was asked for
-  abbrev pub entry_key : Entry K V S A H e k b h → K
-  entry_key (Occupied o) = o.key.value
-  entry_key (Vacant v) = v.key
+  -- the stored key of the entry is equal to this one
+  abbrev pub IsOccupiedBy : OccupiedEntry K V S A H e k b h → K → Type 0
+  IsOccupiedBy o key = HasKey e.eq o.map.now.slots.keys key o.place
+
+  -- the entry is that of the key
+  abbrev pub IsEntryOf : Entry K V S A H e k b h → K → Type 0
+  IsEntryOf (Occupied o) key = IsOccupiedBy o key
+  IsEntryOf (Vacant v) key = v.key ≡ key
 
   -- whether the key is present
   abbrev pub is_occupied : Entry K V S A H e k b h → Bool
   is_occupied (Occupied o) = true
   is_occupied (Vacant v) = false
 
-  -- the first value of the key
-  abbrev pub first_value : Entry K V S A H e k b h → Option V
-  first_value x = slice_get (values_of e.eq (entry_map x).lists.pairs (entry_key x)) 0
+  -- the first value of the key in the map of the entry
+  abbrev pub first_value : Entry K V S A H e k b h → K → Option V
+  first_value x key = slice_get (values_of e.eq (entry_map x).lists.pairs key) 0
 
   -- an entry of the same map for the same key
   pub record IsSameEntry (old new : OccupiedEntry K V S A H e k b h) : Type 0 where
     pub same_map : new.map.ghost_name ≡ old.map.ghost_name
-    pub same_key : new.key.value ≡ old.key.value
+    pub same_key : (key : K) → IsOccupiedBy old key → IsOccupiedBy new key
 
   -- the entry with v as the first value of its key
   abbrev pub with_first_written : OccupiedEntry K V S A H e k b h → V
@@ -62,14 +68,13 @@ module _ {K V S A H : Type 0} {e : equality.Ghosts K} {k : hash.Ghosts K} {b : b
   with_first_written o v = record {
     map = record o.map { now = with_first o.map.now o.place v };
     place = o.place;
-    key = o.key;
-    found = o.found;
+    listed = o.listed;
   }
 
   -- the map once v is the first value of the entry's key: in its place, or put last
   abbrev pub IsEntered : Entry K V S A H e k b h → V → Multimap K V S → Type 0
-  IsEntered (Occupied o) v new =
-      IsWritten o.map.now new (first_written e.eq o.map.now.lists o.key.value v)
+  IsEntered (Occupied o) v new = (key : K) → IsOccupiedBy o key
+      → IsWritten o.map.now new (first_written e.eq o.map.now.lists key v)
   IsEntered (Vacant x) v new = IsAppended e.eq x.key v x.map.now new
 
   -- the map is as it was, or the pair was put last
@@ -82,6 +87,13 @@ module _ {K V S A H : Type 0} {e : equality.Ghosts K} {k : hash.Ghosts K} {b : b
   IsEnteredWith P (Occupied o) new = new ≡ o.map.now
   IsEnteredWith P (Vacant x) new = (v : V) × P v × IsAppended e.eq x.key v x.map.now new
 
+  -- no pair was put last: the lists are as they were, and no value was taken out
+  pub record RefusesEntry (x : Entry K V S A H e k b h) (new : Multimap K V S) : Type 0 where
+    pub lists : new.lists ≡ (entry_map x).lists
+    pub rooms : KeepsRooms (entry_map x) new
+    pub had_room : (key : K) → IsEntryOf x key → RaisesNoRoom e.eq key (entry_map x) new
+    pub taken : TakesOut 0 (entry_map x).tape new.tape
+
 -- a call of f on the first value of the entry's key has written it
 pub record Modifies {F K V S A H : Type 0} {e : equality.Ghosts K} {k : hash.Ghosts K}
     {b : builder.Ghosts S H} {h : hasher.Ghosts H}
@@ -89,9 +101,10 @@ pub record Modifies {F K V S A H : Type 0} {e : equality.Ghosts K} {k : hash.Gho
     (o : OccupiedEntry K V S A H e k b h) (new : Multimap K V S) : Type 0 where
   pub was : V
   pub left : V
-  pub first : first_value (Occupied o) ≡ Some was
+  pub first : (key : K) → IsOccupiedBy o key → first_value (Occupied o) key ≡ Some was
   pub called : MayWrite call f was left
-  pub written : IsWritten o.map.now new (first_written e.eq o.map.now.lists o.key.value left)
+  pub written : (key : K) → IsOccupiedBy o key
+      → IsWritten o.map.now new (first_written e.eq o.map.now.lists key left)
 
 module _ {F K V S A H : Type 0} {e : equality.Ghosts K} {k : hash.Ghosts K} {b : builder.Ghosts S H}
     {h : hasher.Ghosts H} (call : Once F (MutBor V × Unit {0}) (Unit {0} × (MutBor V × Unit {0})))

@@ -11,8 +11,8 @@ use Rattle.ordered_multimap.specs.contracts.list_ordered_multimap.ListOrderedMul
 use Rattle.ordered_multimap.specs.contracts.list_ordered_multimap.entry.OccupiedEntry as occupied
 use Rattle.ordered_multimap.specs.declared.list_ordered_multimap.entry.Entry.{Entry}
 use Rattle.ordered_multimap.specs.declared.list_ordered_multimap.entry.OccupiedEntry.{OccupiedEntry}
-use Rattle.ordered_multimap.specs.DrainLends.{RefusesPair}
-use Rattle.ordered_multimap.specs.Entries.{IsEntered, entry_key, entry_map, entry_map_ref}
+use Rattle.ordered_multimap.specs.declared.list_ordered_multimap.drain.EntryValuesDrain.{EntryValuesDrain}
+use Rattle.ordered_multimap.specs.Entries.{IsEntered, Occupied, RefusesEntry, entry_map_ref}
 use Rattle.ordered_multimap.specs.Entries.{with_first_written}
 use Rattle.ordered_multimap.specs.Writes.{with_first}
 
@@ -26,7 +26,7 @@ module _ (K V S A H : RattleType) {e : equality.Ghosts K.Denot} {k : hash.Ghosts
   lends_entered x r =
       follows_so (the_row K V S A H e k b h alloc) V (entry_map_ref x).ghost_name
       (name_if_ok (λ v. v.ghost_name) r) (λ v n. IsOk r → IsEntered x v n)
-      (λ n. OnErr r (RefusesPair e.eq (entry_key x) (entry_map x) n))
+      (λ n. OnErr r (RefusesEntry x n))
 
   -- the same of an entry that is there
   abbrev pub lends_first : OccupiedEntry K.Denot V.Denot S.Denot A.Denot H.Denot e k b h
@@ -47,4 +47,12 @@ module _ (K V S A H : RattleType) {e : equality.Ghosts K.Denot} {k : hash.Ghosts
       → Result (OccupiedEntry K.Denot V.Denot S.Denot A.Denot H.Denot e k b h) E → Fml
   rests_with_entry x r =
       RestsIfErr (the_row K V S A H e k b h alloc) (entry_map_ref x) (λ o. o.map.ghost_name) r
-      (RefusesPair e.eq (entry_key x) (entry_map x))
+      (RefusesEntry x)
+
+  -- the same of a drain of the entry's values
+  abbrev pub rests_with_drain : {E : Type 0}
+      → OccupiedEntry K.Denot V.Denot S.Denot A.Denot H.Denot e k b h
+      → Result (EntryValuesDrain K.Denot V.Denot S.Denot A.Denot H.Denot e k b h) E → Fml
+  rests_with_drain o r =
+      RestsIfErr (the_row K V S A H e k b h alloc) o.map (λ d. d.map.ghost_name) r
+      (RefusesEntry (Occupied o))

@@ -1,10 +1,10 @@
 //! Callers of entries that are proved for every key type: each knows what the map is afterwards.
-ghost use Rattle.std.specs.Prelude.{◌≡◌, true, false, slice_get, Some, IfNone, IfSome, OnSome, OnErr, OnOk};
-ghost use Rattle.ordered_multimap.specs.Changes.{appended, first_written, removed};
+ghost use Rattle.std.specs.Prelude.{◌≡◌, true, false, slice_get, Some, nat_eq, IfErr, IfNone, IfSome, OnSome, OnErr, OnOk};
+ghost use Rattle.ordered_multimap.specs.Changes.{appended, first_written, inserted, removed};
 ghost use Rattle.ordered_multimap.specs.Pairs.{is_present, values_of};
 
 use ordered_multimap::ListOrderedMultimap;
-use ordered_multimap::list_ordered_multimap::{Entry, Refused};
+use ordered_multimap::list_ordered_multimap::{Entry, Refused, RefusedValue};
 use std::alloc::Allocator;
 use std::hash::{BuildHasher, Hash};
 
@@ -41,5 +41,89 @@ pub fn take_out<K: Eq + Hash + Drop, V: Drop, S: BuildHasher, A: Allocator>(
             drop(entry.into_key());
             None
         }
+    }
+}
+
+/// Puts a pair of the key last by its entry, whether or not the key is present.
+pub fn append_by_entry<K: Eq + Hash + Drop, V: Drop, S: BuildHasher, A: Allocator + Copy>(
+    map: &mut ListOrderedMultimap<K, V, S, A>,
+    key: K,
+    value: V,
+) -> Result<(), RefusedValue<V>>
+    ensures ok { OnOk result (map.new.lists ≡ appended K.eq map.old.lists key value) }
+    ensures unchanged { OnErr result (map.new.lists ≡ map.old.lists) }
+    ensures refused { IfErr result (λ r. r.value ≡ value) }
+{
+    match map.entry(key) {
+        Entry::Occupied(mut entry) => {
+            entry.append(value)?;
+            Ok(())
+        }
+        Entry::Vacant(entry) => match entry.insert(value) {
+            Ok(_) => Ok(()),
+            Err(Refused { key, value }) => {
+                drop(key);
+                Err(RefusedValue { value })
+            }
+        },
+    }
+}
+
+/// Writes the value in place of the first one of the key, if the key is present.
+pub fn set_if_present<K: Eq + Hash + Drop, V: Drop, S: BuildHasher, A: Allocator>(
+    map: &mut ListOrderedMultimap<K, V, S, A>,
+    key: K,
+    value: V,
+)
+    ensures present { is_present K.eq map.old.lists.pairs key ≡ true
+        → map.new.lists ≡ first_written K.eq map.old.lists key value }
+    ensures absent { is_present K.eq map.old.lists.pairs key ≡ false
+        → map.new.lists ≡ map.old.lists }
+{
+    match map.entry(key) {
+        Entry::Occupied(mut entry) => *entry.get_mut() = value,
+        Entry::Vacant(entry) => drop(entry.into_key()),
+    }
+}
+
+/// Puts the pair in the place of all others of its key, or last, and answers the first old value.
+pub fn replace_or_append<K: Eq + Hash + Drop, V: Drop, S: BuildHasher, A: Allocator + Copy>(
+    map: &mut ListOrderedMultimap<K, V, S, A>,
+    key: K,
+    value: V,
+) -> Result<Option<V>, Refused<K, V>>
+    ensures present { is_present K.eq map.old.lists.pairs key ≡ true
+        → OnOk result (map.new.lists ≡ inserted K.eq map.old.lists key value) }
+    ensures absent { is_present K.eq map.old.lists.pairs key ≡ false
+        → OnOk result (map.new.lists ≡ appended K.eq map.old.lists key value) }
+    ensures unchanged { OnErr result (map.new.lists ≡ map.old.lists) }
+{
+    match map.entry(key) {
+        Entry::Occupied(mut entry) => Ok(Some(entry.insert(value))),
+        Entry::Vacant(entry) => {
+            entry.insert(value)?;
+            Ok(None)
+        }
+    }
+}
+
+/// Puts a number last under a key, if the key is present.
+pub fn append_number(
+    map: &mut ListOrderedMultimap<u64, u64>,
+    key: u64,
+    value: u64,
+) -> Result<(), RefusedValue<u64>>
+    ensures present { is_present nat_eq map.old.lists.pairs key ≡ true
+        → OnOk result (map.new.lists ≡ appended nat_eq map.old.lists key value) }
+    ensures absent { is_present nat_eq map.old.lists.pairs key ≡ false
+        → map.new.lists ≡ map.old.lists }
+    ensures unchanged { OnErr result (map.new.lists ≡ map.old.lists) }
+{
+    match map.entry(key) {
+        Entry::Occupied(mut entry) => {
+            entry.append(value)?;
+            Ok(())
+        }
+        Entry::Vacant(_entry) => Ok(()),
     }
 }

@@ -95,6 +95,7 @@ impl<K: Eq + Hash, V, S: BuildHasher, A: Allocator> ListOrderedMultimap<K, V, S,
     where
         V: Drop,
         requires { IsIn place self.old.slots.keys.order }
+        ensures listed { IsIn place self.new.slots.keys.order }
         ensures stays { (k : K) → HasKey K.eq self.old.slots.keys k place
             → HasKey K.eq self.new.slots.keys k place }
         ensures ok { OnOk result ((k : K) → HasKey K.eq self.old.slots.keys k place

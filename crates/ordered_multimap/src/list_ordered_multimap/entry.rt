@@ -1,8 +1,9 @@
 //! A key's place in the map: occupied where the key is present, and else vacant.
-ghost use Rattle.std.specs.Prelude.{◌≡◌, false};
-ghost use Rattle.ordered_multimap.specs.Agrees.{HasKey, hash_of};
+ghost use Rattle.std.specs.Prelude.{◌≡◌, true, false};
+ghost use Rattle.ordered_multimap.specs.Agrees.{hash_of};
 ghost use Rattle.ordered_multimap.specs.Keys.{is_listed};
 ghost use Rattle.ordered_multimap.specs.Pairs.{is_present};
+ghost use Rattle.ordered_multimap.specs.Takes.{among};
 
 mod methods;
 mod occupied;
@@ -12,7 +13,6 @@ mod vacant;
 use super::{DefaultState, ListOrderedMultimap};
 use std::alloc::{Allocator, Global};
 use std::hash::{BuildHasher, Hash};
-use std::snapshot::Snapshot;
 
 /// The entry of a key: of one that is present, or of one that isn't. It borrows the map.
 #[derive(Drop)]
@@ -35,9 +35,7 @@ pub struct OccupiedEntry<
 > {
     map: &'map mut ListOrderedMultimap<K, V, S, A>,
     place: usize,
-    // The key that was handed in, which only clauses read: it was dropped.
-    key: Snapshot<K>,
-    ghost found: { ∥ HasKey K.eq map.now.slots.keys key.value place ∥₁ },
+    ghost listed: { among map.now.slots.keys.order place ≡ true },
 }
 
 /// The entry of a key that is absent. It keeps the key and its hash.

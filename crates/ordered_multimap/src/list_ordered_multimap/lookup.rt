@@ -84,7 +84,8 @@ impl<K: Eq + Hash, V, S: BuildHasher, A: Allocator> ListOrderedMultimap<K, V, S,
     /// The key at the place.
     pub(super) fn key_at(&self, place: usize) -> &K
         requires { IsIn place self.now.slots.keys.order }
-        ensures { (k : K) → HasKey K.eq self.now.slots.keys k place
+        ensures own { HasKey K.eq self.now.slots.keys result.now place }
+        ensures stored { (k : K) → HasKey K.eq self.now.slots.keys k place
             → result.now ≡ stored_key K.eq self.now.lists.keys k }
     {
         let (key, _) = slot_at(&self.keys, place);

@@ -2,7 +2,8 @@
 ghost use Rattle.std.specs.Prelude.{◌≡◌, Some, None, true, false, IfOk, IfErr, IsOk, unwrap_or};
 ghost use Rattle.std.specs.Borrow.{MutBor, sem};
 ghost use Rattle.std.specs.Option.{UnwrapsOrElse};
-ghost use Rattle.ordered_multimap.specs.Entries.{IsEnteredBy, IsEnteredWith, IsModified, entry_key, entry_map, entry_map_ref, first_value, is_occupied};
+ghost use Rattle.ordered_multimap.specs.Entries.{IsEnteredBy, IsEnteredWith, IsEntryOf, IsModified, IsOccupiedBy};
+ghost use Rattle.ordered_multimap.specs.Entries.{entry_map, entry_map_ref, first_value, is_occupied};
 ghost use Rattle.ordered_multimap.specs.EntryLends.{lends_entered, rests_with_entry};
 ghost use Rattle.ordered_multimap.specs.Pairs.{is_present};
 ghost use Rattle.ordered_multimap.specs.Rooms.{HasPairRoom};
@@ -11,7 +12,6 @@ use super::{Entry, OccupiedEntry, VacantEntry};
 use crate::list_ordered_multimap::{ListOrderedMultimap, Refused};
 use std::alloc::Allocator;
 use std::hash::{BuildHasher, Hash};
-use std::snapshot::Snapshot;
 
 impl<K: Eq + Hash, V, S: BuildHasher, A: Allocator> ListOrderedMultimap<K, V, S, A> {
     /// The entry of the key, occupied if it is present. Of an occupied entry the key that was
@@ -26,20 +26,13 @@ impl<K: Eq + Hash, V, S: BuildHasher, A: Allocator> ListOrderedMultimap<K, V, S,
     where
         K: Drop,
         ensures occupied { is_occupied result ≡ is_present K.eq self.old.lists.pairs key }
-        ensures key { entry_key result ≡ key }
+        ensures key { IsEntryOf result key }
         ensures unchanged { entry_map result ≡ self.old }
         ensures same_map { (entry_map_ref result).ghost_name ≡ self.entry.ghost_name }
     {
         let (hash, place) = self.look_up(&key);
         match place {
-            Some(place) => {
-                let handed_in = Snapshot::of(&key);
-                Entry::Occupied(OccupiedEntry {
-                    map: self,
-                    place,
-                    key: handed_in,
-                })
-            }
+            Some(place) => Entry::Occupied(OccupiedEntry { map: self, place }),
             None => Entry::Vacant(VacantEntry {
                 map: self,
                 hash,
@@ -57,11 +50,11 @@ impl<'map, K: Eq + Hash, V, S: BuildHasher, A: Allocator> Entry<'map, K, V, S, A
     /// map.entry("line").and_modify(|value| *value = 9)
     /// ```
     pub fn and_modify<F: FnOnce(&mut V)>(self, f: F) -> Self
-        requires { (p : MutBor V) → is_occupied self ≡ true → first_value self ≡ Some p.now
-            → F.pre f p }
+        requires { (p : MutBor V) → is_occupied self ≡ true
+            → ((k : K) → IsEntryOf self k → first_value self k ≡ Some p.now) → F.pre f p }
         ensures same_map { (entry_map_ref result).ghost_name
             ≡ (entry_map_ref self.entry).ghost_name }
-        ensures key { entry_key result ≡ entry_key self.entry }
+        ensures key { (k : K) → IsEntryOf self.entry k → IsEntryOf result k }
         ensures occupied { is_occupied result ≡ is_occupied self.entry }
         ensures modified { IsModified F.FnOnce f self.entry (entry_map result) }
     {
@@ -86,12 +79,13 @@ impl<'map, K: Eq + Hash, V: Drop, S: BuildHasher, A: Allocator + Copy> Entry<'ma
     pub fn or_insert(self, value: V) -> Result<&'map mut V, Refused<K, V>>
         ensures* writes_back { sem 𝓛 (lends_entered K.row V.row S.row A.row S.Hasher.row
             A.Allocator self.entry result) }
-        ensures value { IfOk result (λ v. v.now ≡ unwrap_or (first_value self.entry) value) }
-        ensures refused { IfErr result (λ pair.
-            pair ≡ record { key = entry_key self.entry; value = value }) }
+        ensures value { IfOk result (λ v. (k : K) → IsEntryOf self.entry k
+            → v.now ≡ unwrap_or (first_value self.entry k) value) }
+        ensures refused { IfErr result (λ pair. (k : K) → IsEntryOf self.entry k
+            → pair ≡ record { key = k; value = value }) }
         ensures occupied { is_occupied self.entry ≡ true → IsOk result }
-        ensures succeeds { HasPairRoom K.eq (entry_map self.entry) (entry_key self.entry)
-            → IsOk result }
+        ensures succeeds { (k : K) → IsEntryOf self.entry k
+            → HasPairRoom K.eq (entry_map self.entry) k → IsOk result }
     {
         match self {
             Entry::Occupied(entry) => Ok(entry.into_mut()),
@@ -108,13 +102,13 @@ impl<'map, K: Eq + Hash, V: Drop, S: BuildHasher, A: Allocator + Copy> Entry<'ma
         requires { is_occupied self ≡ false → F.pre f }
         ensures* writes_back { sem 𝓛 (lends_entered K.row V.row S.row A.row S.Hasher.row
             A.Allocator self.entry result) }
-        ensures value { IfOk result (λ v.
-            UnwrapsOrElse (first_value self.entry) (F.post f) v.now) }
-        ensures refused { IfErr result (λ pair.
-            (pair.key ≡ entry_key self.entry) × F.post f pair.value) }
+        ensures value { IfOk result (λ v. (k : K) → IsEntryOf self.entry k
+            → UnwrapsOrElse (first_value self.entry k) (F.post f) v.now) }
+        ensures refused { IfErr result (λ pair. (k : K) → IsEntryOf self.entry k
+            → (pair.key ≡ k) × F.post f pair.value) }
         ensures occupied { is_occupied self.entry ≡ true → IsOk result }
-        ensures succeeds { HasPairRoom K.eq (entry_map self.entry) (entry_key self.entry)
-            → IsOk result }
+        ensures succeeds { (k : K) → IsEntryOf self.entry k
+            → HasPairRoom K.eq (entry_map self.entry) k → IsOk result }
     {
         match self {
             Entry::Occupied(occupied) => Ok(occupied.into_mut()),
@@ -135,21 +129,15 @@ impl<'map, K: Eq + Hash, V: Drop, S: BuildHasher, A: Allocator + Copy> Entry<'ma
         ensures ok { IfOk result (λ o. IsEnteredBy self.entry value o.map.now) }
         ensures same_map { IfOk result (λ o. o.map.ghost_name
             ≡ (entry_map_ref self.entry).ghost_name) }
-        ensures same_key { IfOk result (λ o. o.key.value ≡ entry_key self.entry) }
-        ensures refused { IfErr result (λ pair.
-            pair ≡ record { key = entry_key self.entry; value = value }) }
+        ensures same_key { IfOk result (λ o. (k : K) → IsEntryOf self.entry k
+            → IsOccupiedBy o k) }
+        ensures refused { IfErr result (λ pair. (k : K) → IsEntryOf self.entry k
+            → pair ≡ record { key = k; value = value }) }
         ensures occupied { is_occupied self.entry ≡ true → IsOk result }
-        ensures succeeds { HasPairRoom K.eq (entry_map self.entry) (entry_key self.entry)
-            → IsOk result }
+        ensures succeeds { (k : K) → IsEntryOf self.entry k
+            → HasPairRoom K.eq (entry_map self.entry) k → IsOk result }
     {
-        match self {
-            Entry::Occupied(entry) => {
-                // Made anew, so that the proof follows the map into the answer.
-                let OccupiedEntry { map, place, key } = entry;
-                Ok(OccupiedEntry { map, place, key })
-            }
-            Entry::Vacant(entry) => entry.insert_entry(value),
-        }
+        self.or_insert_with_entry(|| value)
     }
 
     /// The same with what the function answers, which is called only if the entry is vacant.
@@ -167,17 +155,19 @@ impl<'map, K: Eq + Hash, V: Drop, S: BuildHasher, A: Allocator + Copy> Entry<'ma
         ensures ok { IfOk result (λ o. IsEnteredWith (F.post f) self.entry o.map.now) }
         ensures same_map { IfOk result (λ o. o.map.ghost_name
             ≡ (entry_map_ref self.entry).ghost_name) }
-        ensures same_key { IfOk result (λ o. o.key.value ≡ entry_key self.entry) }
-        ensures refused { IfErr result (λ pair.
-            (pair.key ≡ entry_key self.entry) × F.post f pair.value) }
+        ensures same_key { IfOk result (λ o. (k : K) → IsEntryOf self.entry k
+            → IsOccupiedBy o k) }
+        ensures refused { IfErr result (λ pair. (k : K) → IsEntryOf self.entry k
+            → (pair.key ≡ k) × F.post f pair.value) }
         ensures occupied { is_occupied self.entry ≡ true → IsOk result }
-        ensures succeeds { HasPairRoom K.eq (entry_map self.entry) (entry_key self.entry)
-            → IsOk result }
+        ensures succeeds { (k : K) → IsEntryOf self.entry k
+            → HasPairRoom K.eq (entry_map self.entry) k → IsOk result }
     {
         match self {
             Entry::Occupied(entry) => {
-                let OccupiedEntry { map, place, key } = entry;
-                Ok(OccupiedEntry { map, place, key })
+                // Made anew, so that the proof follows the map into the answer.
+                let OccupiedEntry { map, place } = entry;
+                Ok(OccupiedEntry { map, place })
             }
             Entry::Vacant(entry) => {
                 let value = f();

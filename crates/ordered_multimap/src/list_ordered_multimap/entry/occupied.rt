@@ -1,12 +1,13 @@
 //! The calls of an entry of a key that is present.
+#![tactic(auto, using(crate::proofs::EntryLemmas::listed_among, crate::proofs::EntryLemmas::among_listed))]
+
 ghost use Rattle.std.specs.Prelude.{◌≡◌, ◌<◌, Some, length, slice_get};
 ghost use Rattle.std.specs.Prelude.{OnOk, OnErr, IfOk, IfErr, IsOk};
 ghost use Rattle.std.specs.Borrow.{sem};
 ghost use Rattle.ordered_multimap.specs.Changes.{appended, first_written, inserted, removed};
-ghost use Rattle.ordered_multimap.specs.DrainLends.{ends_inserted};
 ghost use Rattle.ordered_multimap.specs.Drains.{DrainsEntry, DrainsInserted};
-ghost use Rattle.ordered_multimap.specs.Entries.{IsSameEntry};
-ghost use Rattle.ordered_multimap.specs.EntryLends.{lends_first, lends_to_entry};
+ghost use Rattle.ordered_multimap.specs.Entries.{IsOccupiedBy, IsSameEntry};
+ghost use Rattle.ordered_multimap.specs.EntryLends.{lends_first, lends_to_entry, rests_with_drain};
 ghost use Rattle.ordered_multimap.specs.Keys.{stored_key};
 ghost use Rattle.ordered_multimap.specs.Pairs.{positions_of, values_of};
 ghost use Rattle.ordered_multimap.specs.Rooms.{HasValueRoom, KeepsRooms, RaisesNoRoom, SameRooms};
@@ -25,7 +26,9 @@ impl<'map, K: Eq + Hash, V, S: BuildHasher, A: Allocator> OccupiedEntry<'map, K,
     /// *entry.key() == "line"
     /// ```
     pub fn key(&self) -> &K
-        ensures { result.now ≡ stored_key K.eq self.now.map.now.lists.keys self.now.key.value }
+        ensures own { IsOccupiedBy self.now result.now }
+        ensures stored { (k : K) → IsOccupiedBy self.now k
+            → result.now ≡ stored_key K.eq self.now.map.now.lists.keys k }
     {
         self.map.key_at(self.place)
     }
@@ -36,8 +39,8 @@ impl<'map, K: Eq + Hash, V, S: BuildHasher, A: Allocator> OccupiedEntry<'map, K,
     /// entry.len() == 2
     /// ```
     pub fn len(&self) -> usize
-        ensures len { result ≡ length (values_of K.eq self.now.map.now.lists.pairs
-            self.now.key.value) }
+        ensures len { (k : K) → IsOccupiedBy self.now k
+            → result ≡ length (values_of K.eq self.now.map.now.lists.pairs k) }
         ensures some { 0 < result }
     {
         self.map.len_at(self.place)
@@ -49,8 +52,8 @@ impl<'map, K: Eq + Hash, V, S: BuildHasher, A: Allocator> OccupiedEntry<'map, K,
     /// *entry.get() == 1
     /// ```
     pub fn get(&self) -> &V
-        ensures { slice_get (values_of K.eq self.now.map.now.lists.pairs self.now.key.value) 0
-            ≡ Some result.now }
+        ensures { (k : K) → IsOccupiedBy self.now k
+            → slice_get (values_of K.eq self.now.map.now.lists.pairs k) 0 ≡ Some result.now }
     {
         self.map.first_at(self.place)
     }
@@ -63,11 +66,11 @@ impl<'map, K: Eq + Hash, V, S: BuildHasher, A: Allocator> OccupiedEntry<'map, K,
     pub fn get_mut(&mut self) -> &mut V
         ensures* writes_back { sem 𝓛 (lends_to_entry K.row V.row S.row A.row S.Hasher.row
             A.Allocator self.entry result) }
-        ensures value { slice_get (values_of K.eq self.old.map.now.lists.pairs
-            self.old.key.value) 0 ≡ Some result.now }
-        ensures written { (v : V) → IsWritten self.old.map.now
-            (with_first self.old.map.now self.old.place v)
-            (first_written K.eq self.old.map.now.lists self.old.key.value v) }
+        ensures value { (k : K) → IsOccupiedBy self.old k
+            → slice_get (values_of K.eq self.old.map.now.lists.pairs k) 0 ≡ Some result.now }
+        ensures written { (k : K) → IsOccupiedBy self.old k → (v : V)
+            → IsWritten self.old.map.now (with_first self.old.map.now self.old.place v)
+            (first_written K.eq self.old.map.now.lists k v) }
     {
         let place = self.place;
         self.map.first_mut_at(place)
@@ -81,11 +84,11 @@ impl<'map, K: Eq + Hash, V, S: BuildHasher, A: Allocator> OccupiedEntry<'map, K,
     pub fn into_mut(self) -> &'map mut V
         ensures* writes_back { sem 𝓛 (lends_first K.row V.row S.row A.row S.Hasher.row
             A.Allocator self.entry result) }
-        ensures value { slice_get (values_of K.eq self.entry.map.now.lists.pairs
-            self.entry.key.value) 0 ≡ Some result.now }
-        ensures written { (v : V) → IsWritten self.entry.map.now
-            (with_first self.entry.map.now self.entry.place v)
-            (first_written K.eq self.entry.map.now.lists self.entry.key.value v) }
+        ensures value { (k : K) → IsOccupiedBy self.entry k
+            → slice_get (values_of K.eq self.entry.map.now.lists.pairs k) 0 ≡ Some result.now }
+        ensures written { (k : K) → IsOccupiedBy self.entry k → (v : V)
+            → IsWritten self.entry.map.now (with_first self.entry.map.now self.entry.place v)
+            (first_written K.eq self.entry.map.now.lists k v) }
     {
         let map = self.map;
         map.first_mut_at(self.place)
@@ -98,10 +101,10 @@ impl<'map, K: Eq + Hash, V, S: BuildHasher, A: Allocator> OccupiedEntry<'map, K,
     /// entry.iter().next_back() == Some(&2)
     /// ```
     pub fn iter(&self) -> EntryValues<'_, K, V, A>
-        ensures values { result.left
-            ≡ values_of K.eq self.now.map.now.lists.pairs self.now.key.value }
-        ensures positions { result.positions
-            ≡ positions_of K.eq self.now.map.now.lists.pairs self.now.key.value }
+        ensures values { (k : K) → IsOccupiedBy self.now k
+            → result.left ≡ values_of K.eq self.now.map.now.lists.pairs k }
+        ensures positions { (k : K) → IsOccupiedBy self.now k
+            → result.positions ≡ positions_of K.eq self.now.map.now.lists.pairs k }
         ensures reads { result.reads ≡ 0 }
     {
         self.map.values_at(self.place)
@@ -117,13 +120,14 @@ impl<'map, K: Eq + Hash, V, S: BuildHasher, A: Allocator> OccupiedEntry<'map, K,
     where
         V: Drop,
         ensures same_entry { IsSameEntry self.old self.new }
-        ensures ok { OnOk result (self.new.map.now.lists
-            ≡ appended K.eq self.old.map.now.lists self.old.key.value value) }
+        ensures ok { OnOk result ((k : K) → IsOccupiedBy self.old k
+            → self.new.map.now.lists ≡ appended K.eq self.old.map.now.lists k value) }
         ensures unchanged { OnErr result (self.new.map.now.lists ≡ self.old.map.now.lists) }
         ensures refused { IfErr result (λ r. r.value ≡ value) }
         ensures succeeds { HasValueRoom self.old.map.now → IsOk result }
         ensures rooms { KeepsRooms self.old.map.now self.new.map.now }
-        ensures had_room { RaisesNoRoom K.eq self.old.key.value self.old.map.now self.new.map.now }
+        ensures had_room { (k : K) → IsOccupiedBy self.old k
+            → RaisesNoRoom K.eq k self.old.map.now self.new.map.now }
         ensures taken { TakesOut 0 self.old.map.now.tape self.new.map.now.tape }
     {
         let place = self.place;
@@ -140,13 +144,14 @@ impl<'map, K: Eq + Hash, V, S: BuildHasher, A: Allocator> OccupiedEntry<'map, K,
     where
         V: Drop,
         ensures same_entry { IsSameEntry self.old self.new }
-        ensures value { slice_get (values_of K.eq self.old.map.now.lists.pairs
-            self.old.key.value) 0 ≡ Some result }
-        ensures lists { self.new.map.now.lists
-            ≡ inserted K.eq self.old.map.now.lists self.old.key.value value }
+        ensures value { (k : K) → IsOccupiedBy self.old k
+            → slice_get (values_of K.eq self.old.map.now.lists.pairs k) 0 ≡ Some result }
+        ensures lists { (k : K) → IsOccupiedBy self.old k
+            → self.new.map.now.lists ≡ inserted K.eq self.old.map.now.lists k value }
         ensures rooms { SameRooms self.old.map.now self.new.map.now }
-        ensures taken { TakesOut (length (values_of K.eq self.old.map.now.lists.pairs
-            self.old.key.value)) self.old.map.now.tape self.new.map.now.tape }
+        ensures taken { (k : K) → IsOccupiedBy self.old k
+            → TakesOut (length (values_of K.eq self.old.map.now.lists.pairs k))
+            self.old.map.now.tape self.new.map.now.tape }
     {
         let place = self.place;
         self.map.insert_at(place, value)
@@ -160,15 +165,16 @@ impl<'map, K: Eq + Hash, V, S: BuildHasher, A: Allocator> OccupiedEntry<'map, K,
     pub fn remove_entry(self) -> (K, V)
     where
         V: Drop,
-        ensures key { result.0 ≡ stored_key K.eq self.entry.map.now.lists.keys
-            self.entry.key.value }
-        ensures value { slice_get (values_of K.eq self.entry.map.now.lists.pairs
-            self.entry.key.value) 0 ≡ Some result.1 }
-        ensures lists { self.exit.0.now.lists
-            ≡ removed K.eq self.entry.map.now.lists self.entry.key.value }
+        ensures key { (k : K) → IsOccupiedBy self.entry k
+            → result.0 ≡ stored_key K.eq self.entry.map.now.lists.keys k }
+        ensures value { (k : K) → IsOccupiedBy self.entry k
+            → slice_get (values_of K.eq self.entry.map.now.lists.pairs k) 0 ≡ Some result.1 }
+        ensures lists { (k : K) → IsOccupiedBy self.entry k
+            → self.exit.0.now.lists ≡ removed K.eq self.entry.map.now.lists k }
         ensures rooms { SameRooms self.entry.map.now self.exit.0.now }
-        ensures taken { TakesOut (length (values_of K.eq self.entry.map.now.lists.pairs
-            self.entry.key.value)) self.entry.map.now.tape self.exit.0.now.tape }
+        ensures taken { (k : K) → IsOccupiedBy self.entry k
+            → TakesOut (length (values_of K.eq self.entry.map.now.lists.pairs k))
+            self.entry.map.now.tape self.exit.0.now.tape }
     {
         let place = self.place;
         self.map.take_entry_at(place)
@@ -183,13 +189,14 @@ impl<'map, K: Eq + Hash, V, S: BuildHasher, A: Allocator> OccupiedEntry<'map, K,
     where
         K: Drop,
         V: Drop,
-        ensures value { slice_get (values_of K.eq self.entry.map.now.lists.pairs
-            self.entry.key.value) 0 ≡ Some result }
-        ensures lists { self.exit.0.now.lists
-            ≡ removed K.eq self.entry.map.now.lists self.entry.key.value }
+        ensures value { (k : K) → IsOccupiedBy self.entry k
+            → slice_get (values_of K.eq self.entry.map.now.lists.pairs k) 0 ≡ Some result }
+        ensures lists { (k : K) → IsOccupiedBy self.entry k
+            → self.exit.0.now.lists ≡ removed K.eq self.entry.map.now.lists k }
         ensures rooms { SameRooms self.entry.map.now self.exit.0.now }
-        ensures taken { TakesOut (length (values_of K.eq self.entry.map.now.lists.pairs
-            self.entry.key.value)) self.entry.map.now.tape self.exit.0.now.tape }
+        ensures taken { (k : K) → IsOccupiedBy self.entry k
+            → TakesOut (length (values_of K.eq self.entry.map.now.lists.pairs k))
+            self.entry.map.now.tape self.exit.0.now.tape }
     {
         let place = self.place;
         let (_stored, value) = self.map.take_entry_at(place);
@@ -207,14 +214,11 @@ impl<'map, K: Eq + Hash, V: Drop, S: BuildHasher, A: Allocator> OccupiedEntry<'m
     pub fn remove_all(self) -> EntryValuesDrain<'map, K, V, S, A>
     where
         K: Drop,
-        ensures drain { DrainsEntry K.eq self.entry.map.now self.entry.key.value result }
+        ensures drain { (k : K) → IsOccupiedBy self.entry k
+            → DrainsEntry K.eq self.entry.map.now k result }
         ensures same_map { result.map.ghost_name ≡ self.entry.map.ghost_name }
     {
-        let OccupiedEntry {
-            map,
-            place,
-            key: _key,
-        } = self;
+        let OccupiedEntry { map, place } = self;
         drop(map.detach_at(place));
         map.drain()
     }
@@ -225,16 +229,13 @@ impl<'map, K: Eq + Hash, V: Drop, S: BuildHasher, A: Allocator> OccupiedEntry<'m
     /// entry.remove_entry_all().0 == "line"
     /// ```
     pub fn remove_entry_all(self) -> (K, EntryValuesDrain<'map, K, V, S, A>)
-        ensures key { result.0 ≡ stored_key K.eq self.entry.map.now.lists.keys
-            self.entry.key.value }
-        ensures drain { DrainsEntry K.eq self.entry.map.now self.entry.key.value result.1 }
+        ensures key { (k : K) → IsOccupiedBy self.entry k
+            → result.0 ≡ stored_key K.eq self.entry.map.now.lists.keys k }
+        ensures drain { (k : K) → IsOccupiedBy self.entry k
+            → DrainsEntry K.eq self.entry.map.now k result.1 }
         ensures same_map { result.1.map.ghost_name ≡ self.entry.map.ghost_name }
     {
-        let OccupiedEntry {
-            map,
-            place,
-            key: _key,
-        } = self;
+        let OccupiedEntry { map, place } = self;
         let stored = map.detach_at(place);
         (stored, map.drain())
     }
@@ -248,20 +249,15 @@ impl<'map, K: Eq + Hash, V: Drop, S: BuildHasher, A: Allocator> OccupiedEntry<'m
     /// entry.insert_all(3)?.next_back() == Some(2)
     /// ```
     pub fn insert_all(self, value: V) -> Result<EntryValuesDrain<'map, K, V, S, A>, RefusedValue<V>>
-        ensures* rest { sem 𝓛 (ends_inserted K.row V.row S.row A.row S.Hasher.row K.PartialEq
-            K.Hash.own S.BuildHasher S.Hasher.Hasher A.Allocator self.entry.map
-            self.entry.key.value result) }
-        ensures drain { IfOk result (DrainsInserted K.eq self.entry.map.now
-            self.entry.key.value value) }
+        ensures* rest { sem 𝓛 (rests_with_drain K.row V.row S.row A.row S.Hasher.row A.Allocator
+            self.entry result) }
+        ensures drain { IfOk result (λ d. (k : K) → IsOccupiedBy self.entry k
+            → DrainsInserted K.eq self.entry.map.now k value d) }
         ensures same_map { IfOk result (λ d. d.map.ghost_name ≡ self.entry.map.ghost_name) }
         ensures refused { IfErr result (λ r. r.value ≡ value) }
         ensures succeeds { HasValueRoom self.entry.map.now → IsOk result }
     {
-        let OccupiedEntry {
-            map,
-            place,
-            key: _key,
-        } = self;
+        let OccupiedEntry { map, place } = self;
         match map.insert_detaching_at(place, value) {
             Ok(()) => Ok(map.drain()),
             Err(refused) => Err(refused),

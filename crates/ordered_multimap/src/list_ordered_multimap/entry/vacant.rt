@@ -1,7 +1,7 @@
 //! The calls of an entry of a key that is absent.
 ghost use Rattle.std.specs.Prelude.{◌≡◌, IfOk, IfErr, IsOk};
 ghost use Rattle.std.specs.Borrow.{sem};
-ghost use Rattle.ordered_multimap.specs.Entries.{IsAppended, Vacant};
+ghost use Rattle.ordered_multimap.specs.Entries.{IsAppended, IsOccupiedBy, Vacant};
 ghost use Rattle.ordered_multimap.specs.EntryLends.{lends_entered, rests_with_entry};
 ghost use Rattle.ordered_multimap.specs.Rooms.{HasPairRoom};
 
@@ -9,7 +9,6 @@ use super::{OccupiedEntry, VacantEntry};
 use crate::list_ordered_multimap::Refused;
 use std::alloc::Allocator;
 use std::hash::{BuildHasher, Hash};
-use std::snapshot::Snapshot;
 
 impl<'map, K: Eq + Hash, V, S: BuildHasher, A: Allocator> VacantEntry<'map, K, V, S, A> {
     /// The key that was handed in.
@@ -76,19 +75,14 @@ impl<'map, K: Eq + Hash, V: Drop, S: BuildHasher, A: Allocator + Copy> VacantEnt
         ensures ok { IfOk result (λ o. IsAppended K.eq self.entry.key value self.entry.map.now
             o.map.now) }
         ensures same_map { IfOk result (λ o. o.map.ghost_name ≡ self.entry.map.ghost_name) }
-        ensures same_key { IfOk result (λ o. o.key.value ≡ self.entry.key) }
+        ensures same_key { IfOk result (λ o. IsOccupiedBy o self.entry.key) }
         ensures refused { IfErr result (λ pair.
             pair ≡ record { key = self.entry.key; value = value }) }
         ensures succeeds { HasPairRoom K.eq self.entry.map.now self.entry.key → IsOk result }
     {
         let VacantEntry { map, hash, key } = self;
-        let handed_in = Snapshot::of(&key);
         match map.append_new(hash, key, value) {
-            Ok(place) => Ok(OccupiedEntry {
-                map,
-                place,
-                key: handed_in,
-            }),
+            Ok(place) => Ok(OccupiedEntry { map, place }),
             Err(refused) => Err(refused),
         }
     }

@@ -20,6 +20,11 @@ invariant_of-self g c =
       paid = stays_paid i.counts c.self.invariant.paid;
     }
 
+pub returns-clause-listed : goal.returns-clause-listed
+returns-clause-listed g c =
+    let own = own_key g.met.K.Eq.laws c.self.invariant.agrees c.args.place (subst (λ m. IsIn c.args.place m.slots.keys.order) (sym c.self.view_is) c.requires) in
+    (inserted_stays own.0 c.args.place c.insert_behind.ensures.inserted own.1).listed
+
 pub returns-clause-stays : goal.returns-clause-stays
 returns-clause-stays g c =
     subst (λ m. (k : g.row.K.Denot) → HasKey g.K.PartialEq.eq m.slots.keys k c.args.place → HasKey g.K.PartialEq.eq c.insert_behind.new.keys k c.args.place) c.self.view_is

@@ -4,28 +4,23 @@ use Rattle.ordered_multimap.specs.Detaches.{left_of}
 use Rattle.ordered_multimap.specs.Pairs.{values_of}
 use Rattle.ordered_multimap.specs.Rooms.{KeepsRooms, RaisesNoRoom}
 use Rattle.ordered_multimap.specs.TapeNumbers.{TakesOut}
-use Rattle.ordered_multimap.proofs.EntryLemmas.{kept_key}
 use Rattle.ordered_multimap.proofs.list_ordered_multimap.entry.OccupiedEntry.insert_all.Goals as goal
-
-pub insert_detaching_at-requires : goal.insert_detaching_at-requires
-insert_detaching_at-requires g c = (kept_key c.args.self.map.now.slots.keys c.args.self.key.value c.args.self.place c.args.self.found).listed
 
 pub returns-in-Ok : goal.returns-in-Ok
 returns-in-Ok g c =
-    let m = c.args.self.map.now in let k = c.args.self.key.value in
-    let has = kept_key m.slots.keys k c.args.self.place c.args.self.found in
+    let m = c.args.self.map.now in
     let d = c.insert_detaching_at.ensures in
     let ok = c.in-Ok.ensures in
     let same = c.drain.ensures.same in (
       (ap some (sym c.drain.ensures.same_map), (λ w. refl), tt),
       record {
         rest = tt;
-        drain = record {
-          left = ap left_of same ∙ ok.left k has;
-          lists = ap (λ n. n.lists) same ∙ ok.ok k has;
+        drain = λ k is. record {
+          left = ap left_of same ∙ ok.left k is;
+          lists = ap (λ n. n.lists) same ∙ ok.ok k is;
           rooms = subst (KeepsRooms m) (sym same) d.rooms;
-          had_room = subst (RaisesNoRoom g.K.PartialEq.eq k m) (sym same) (d.had_room k has);
-          taken = subst (λ n. TakesOut (length (values_of g.K.PartialEq.eq m.lists.pairs k)) m.tape n.tape) (sym same) (ok.taken k has);
+          had_room = subst (RaisesNoRoom g.K.PartialEq.eq k m) (sym same) (d.had_room k is);
+          taken = subst (λ n. TakesOut (length (values_of g.K.PartialEq.eq m.lists.pairs k)) m.tape n.tape) (sym same) (ok.taken k is);
         };
         same_map = c.drain.ensures.same_map;
         refused = tt;
@@ -33,12 +28,10 @@ returns-in-Ok g c =
       },
     )
 
-pub returns : goal.returns
-returns g c =
-    let m = c.args.self.map.now in let k = c.args.self.key.value in
-    let has = kept_key m.slots.keys k c.args.self.place c.args.self.found in
+pub returns-in-Err : goal.returns-in-Err
+returns-in-Err g c =
     let d = c.insert_detaching_at.ensures in
     let e = c.in-Err.ensures in (
-      (refl, (λ w. tt), record { lists = e.unchanged; rooms = d.rooms; had_room = d.had_room k has; taken = e.none_taken }),
+      (refl, (λ w. tt), record { lists = e.unchanged; rooms = d.rooms; had_room = d.had_room; taken = e.none_taken }),
       record { rest = tt; drain = tt; same_map = tt; refused = e.refused; succeeds = e.succeeds },
     )

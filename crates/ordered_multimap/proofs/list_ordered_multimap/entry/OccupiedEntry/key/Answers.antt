@@ -1,8 +1,0 @@
-use Rattle.ordered_multimap.proofs.EntryLemmas.{kept_key}
-use Rattle.ordered_multimap.proofs.list_ordered_multimap.entry.OccupiedEntry.key.Goals as goal
-
-pub key_at-requires : goal.key_at-requires
-key_at-requires g c = (kept_key c.args.self.now.map.now.slots.keys c.args.self.now.key.value c.args.self.now.place c.args.self.now.found).listed
-
-pub returns : goal.returns
-returns g c = c.key_at.ensures c.args.self.now.key.value (kept_key c.args.self.now.map.now.slots.keys c.args.self.now.key.value c.args.self.now.place c.args.self.now.found)
