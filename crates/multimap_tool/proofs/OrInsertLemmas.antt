@@ -11,7 +11,7 @@ use Rattle.ordered_multimap.specs.Pairs.{has_items, is_present, positions_of, va
 use Rattle.ordered_multimap.specs.Changes.{appended, first_written}
 use Rattle.ordered_multimap.specs.declared.list_ordered_multimap.entry.Entry.{Entry}
 use Rattle.ordered_multimap.specs.declared.list_ordered_multimap.entry.Entry.TheVariants.{Occupied, Vacant}
-use Rattle.ordered_multimap.specs.Entries.{IsEntered, entry_key, entry_map, first_value, is_occupied}
+use Rattle.ordered_multimap.specs.Entries.{IsEntered, IsEntryOf, entry_map, first_value, is_occupied}
 use Rattle.multimap_tool.specs.declared.commands.Command.TheVariants.{OrInsert}
 use Rattle.multimap_tool.specs.declared.replies.Reply.TheVariants.{Value}
 use Rattle.multimap_tool.specs.Step.{IsStep}
@@ -72,18 +72,17 @@ module _ {K V : Type 0} (eq : K → K → Bool) (k : K) where
       inl (ap Some first, left ∙ ap (appended eq m k) own ∙ ap (λ b. cond b m (appended eq m k v)) absent)
 
 module _ {R K V S A H : Type 0} {e : equality.Ghosts K} {j : hash.Ghosts K} {b : builder.Ghosts S H} {h : hasher.Ghosts H} where
-  entered_step : (x : Entry K V S A H e j b h) (v w : V) (n : Multimap K V S) → is_occupied x ≡ is_present e.eq (entry_map x).lists.pairs (entry_key x)
-      → w ≡ unwrap_or (first_value x) v → IsEntered x w n → IsStep e.eq {A = R} (OrInsert (entry_key x) v) (entry_map x).lists (Value (Some w)) n.lists
-  entered_step (Occupied o) v w n occupied first entered = present_step e.eq o.key.value o.map.now.lists n.lists v w occupied first entered.lists
-  entered_step (Vacant x) v w n occupied first entered = absent_step e.eq x.key x.map.now.lists n.lists v w occupied first entered.lists
+  entered_step : (x : Entry K V S A H e j b h) (k : K) (v w : V) (n : Multimap K V S) → IsEntryOf x k → is_occupied x ≡ is_present e.eq (entry_map x).lists.pairs k
+      → w ≡ unwrap_or (first_value x k) v → IsEntered x w n → IsStep e.eq {A = R} (OrInsert k v) (entry_map x).lists (Value (Some w)) n.lists
+  entered_step (Occupied o) k v w n own occupied first entered = present_step e.eq k o.map.now.lists n.lists v w occupied first (entered k own).lists
+  entered_step (Vacant x) k v w n own occupied first entered = absent_step e.eq k x.map.now.lists n.lists v w occupied first (entered.lists ∙ ap (λ q. appended e.eq x.map.now.lists q w) own)
 
   -- the step of the map that the entry was made of
-  pub or_insert_step : (x : Entry K V S A H e j b h) (m : Multimap K V S) (k : K) (v w : V) (n : Lists K V) (last : Multimap K V S) → entry_map x ≡ m → entry_key x ≡ k
-      → is_occupied x ≡ is_present e.eq m.lists.pairs k → w ≡ unwrap_or (first_value x) v → IsEntered x w last → n ≡ last.lists
+  pub or_insert_step : (x : Entry K V S A H e j b h) (m : Multimap K V S) (k : K) (v w : V) (n : Lists K V) (last : Multimap K V S) → entry_map x ≡ m → IsEntryOf x k
+      → is_occupied x ≡ is_present e.eq m.lists.pairs k → w ≡ unwrap_or (first_value x k) v → IsEntered x w last → n ≡ last.lists
       → IsStep e.eq {A = R} (OrInsert k v) m.lists (Value (Some w)) n
-  or_insert_step x m k v w n last same key occupied first entered ended =
-      let present = occupied ∙ (λ i. is_present e.eq (sym same i).lists.pairs (sym key i)) in
-      let step = entered_step x v w last present first entered in
+  or_insert_step x m k v w n last same own occupied first entered ended =
+      let present = occupied ∙ ap (λ l. is_present e.eq l.lists.pairs k) (sym same) in
+      let step = entered_step x k v w last own present first entered in
       subst (λ l. IsStep e.eq {A = R} (OrInsert k v) m.lists (Value (Some w)) l) (sym ended)
-      (subst (λ q. IsStep e.eq {A = R} (OrInsert q v) m.lists (Value (Some w)) last.lists) key
-      (subst (λ l. IsStep e.eq {A = R} (OrInsert (entry_key x) v) l.lists (Value (Some w)) last.lists) same step))
+      (subst (λ l. IsStep e.eq {A = R} (OrInsert k v) l.lists (Value (Some w)) last.lists) same step)

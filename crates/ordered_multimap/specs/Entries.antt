@@ -1,5 +1,5 @@
--- What the contracts of entries cite. What holds of the key of an entry is said for every key that
--- is equal to it.
+-- What the contracts of entries cite. The words serve its halves too, as `first_value (Occupied o)`.
+-- What is said of an occupied entry's key is said for every key to which the stored one is equal.
 use Rattle.ordered_multimap.specs.declared.list_ordered_multimap.entry as entries
 pub use entries.Entry.TheVariants.{Occupied, Vacant}
 use Rattle.std.specs.Prelude.{◌≡◌, Bool, true, false, slice_get, Some, Option}

@@ -1,11 +1,11 @@
 //! Callers of entries that are proved for every key type: each knows what the map is afterwards.
-ghost use Rattle.std.specs.Prelude.{◌≡◌, true, false, slice_get, Some, nat_eq, IfErr, IfNone, IfSome, OnSome, OnErr, OnOk};
+ghost use Rattle.std.specs.Prelude.{◌≡◌, true, false, slice_get, Some, nat_eq, IfNone, IfSome, OnSome, OnErr, OnOk};
 ghost use Rattle.ordered_multimap.specs.Changes.{appended, first_written, inserted, removed};
 ghost use Rattle.ordered_multimap.specs.Pairs.{is_present, values_of};
 
 use ordered_multimap::ListOrderedMultimap;
 use ordered_multimap::list_ordered_multimap::{Entry, Refused, RefusedValue};
-use std::alloc::Allocator;
+use std::alloc::{AllocError, Allocator};
 use std::hash::{BuildHasher, Hash};
 
 /// Writes the value in place of the first one of the key, or puts it last.
@@ -49,23 +49,19 @@ pub fn append_by_entry<K: Eq + Hash + Drop, V: Drop, S: BuildHasher, A: Allocato
     map: &mut ListOrderedMultimap<K, V, S, A>,
     key: K,
     value: V,
-) -> Result<(), RefusedValue<V>>
+) -> Result<(), AllocError>
     ensures ok { OnOk result (map.new.lists ≡ appended K.eq map.old.lists key value) }
     ensures unchanged { OnErr result (map.new.lists ≡ map.old.lists) }
-    ensures refused { IfErr result (λ r. r.value ≡ value) }
 {
     match map.entry(key) {
         Entry::Occupied(mut entry) => {
             entry.append(value)?;
             Ok(())
         }
-        Entry::Vacant(entry) => match entry.insert(value) {
-            Ok(_) => Ok(()),
-            Err(Refused { key, value }) => {
-                drop(key);
-                Err(RefusedValue { value })
-            }
-        },
+        Entry::Vacant(entry) => {
+            entry.insert(value)?;
+            Ok(())
+        }
     }
 }
 

@@ -6,4 +6,4 @@ pub returns-in-Ok-clause-step : goal.returns-in-Ok-clause-step
 returns-in-Ok-clause-step g c =
     let w = c.in-Ok.first.now in let f = c.or_insert.follows in let e = c.entry.ensures in
     or_insert_step c.entry.result c.args.map.now c.args.key c.args.value w _ (f.lender w) e.unchanged e.key e.occupied
-    (c.in-Ok.ensures {u = tt}).value (f.holds w (ap is_ok c.in-Ok.is)) (search (rules))
+    ((c.in-Ok.ensures {u = tt}).value c.args.key e.key) (f.holds w (ap is_ok c.in-Ok.is)) (search (rules))
