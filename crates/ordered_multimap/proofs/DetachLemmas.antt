@@ -18,7 +18,7 @@ use Rattle.ordered_multimap.proofs.Members.{IsIn-kept}
 use Rattle.ordered_multimap.proofs.PlaceLemmas.{AreDistinct-filter, filter_map-agree}
 use Rattle.ordered_multimap.proofs.ChainLemmas.{last_or-push}
 use Rattle.ordered_multimap.proofs.TakeLemmas.{not_true}
-use Rattle.ordered_multimap.proofs.TakingLemmas.{among-in, gone-step, gone_whole, taking-step}
+use Rattle.ordered_multimap.proofs.TakingLemmas.{among_in, gone-step, gone_whole, taking-step}
 use Rattle.ordered_multimap.proofs.DrainLemmas.{drained-chain, drained-kept, left-kept, places_of-chain}
 
 -- what is detached changes no other place
@@ -87,7 +87,7 @@ module _ {K V : Type 0} {keys : Slots K KeyLink} {values : Slots V ValueLink} (s
     unfolding gone
     unlisted p member i =
         let stays = (IsIn-kept (λ q. not (among gone q)) p values.order (subst (IsIn p) detaching.taking.taken.order i)).1 in
-        true≢false (sym (among-in gone p member) ∙ not_true (among gone p) stays)
+        true≢false (sym (among_in gone p member) ∙ not_true (among gone p) stays)
 
     chain : IsDetachedChain new ends.first ends.last ends.length
     unfolding gone

@@ -1,9 +1,7 @@
--- What an entry keeps of its key's place, and what a pair is that an entry put last.
-use Rattle.std.proofs.Common.{◌≡◌, ℕ, suc, ◌+◌, Bool, true, false, cond, List, [], ◌∷◌, ◌++◌, filter, length, map, slice_get, Option, Some, None, is_some, option_map, refl, sym, ap, ◌∙◌, subst, arith, inl, inr, true≢false}
+-- What a removed pair is, and what one is that an entry put last.
+use Rattle.std.proofs.Common.{◌≡◌, ℕ, suc, ◌+◌, Bool, true, false, cond, List, [], ◌∷◌, ◌++◌, filter, length, map, slice_get, Option, Some, None, is_some, option_map, refl, sym, ap, ◌∙◌, subst, arith, true≢false}
 use Rattle.std.specs.Cmp.{IsEquivalence}
 use Rattle.std.specs.List.{enumerate_from}
-use Rattle.std.proofs.lemmas.Bool.{cases_eq, ne_eqb}
-use Rattle.multimap_slots.specs.Lists.{IsIn}
 use Rattle.ordered_multimap.specs.Changes.{appended, first_written}
 use Rattle.ordered_multimap.specs.Keys.{is_listed, keys_with, stored_key}
 use Rattle.ordered_multimap.specs.Lists.{Lists, lists}
@@ -13,21 +11,8 @@ use Rattle.ordered_multimap.specs.Rooms.{KeepsRooms, RaisesNoRoom}
 use Rattle.ordered_multimap.specs.TapeNumbers.{TakesOut}
 use Rattle.ordered_multimap.specs.Writes.{IsWritten}
 use Rattle.ordered_multimap.specs.Entries.{IsAppended}
-use Rattle.ordered_multimap.specs.Takes.{among}
 use Rattle.ordered_multimap.proofs.InsertLemmas.{values_of-append}
 use Rattle.ordered_multimap.proofs.KeyLemmas.{stored_key_absent}
-use Rattle.ordered_multimap.proofs.TakingLemmas.{among-in}
-
--- an entry says by a test of the places that its place is listed
-pub listed_among : (places : List ℕ) (q : ℕ) → among places q ≡ true → IsIn q places
-listed_among [] q e = absurd (true≢false (sym e))
-listed_among (p ∷ places) q e = elim (cases_eq p q) [
-  | inl same ↦ inl (sym same)
-  | inr differs ↦ inr (listed_among places q (rw (ne_eqb p q differs) at e))
-]
-
-pub among_listed : (places : List ℕ) (q : ℕ) → IsIn q places → among places q ≡ true
-among_listed = among-in
 
 -- a removed pair is the stored key with the first value
 pub entry_parts : {K V : Type 0} (key : K) (o : Option V) (r : K × V) → Some r ≡ option_map (λ v. (key, v)) o → (r.0 ≡ key) × (o ≡ Some r.1)

@@ -23,18 +23,25 @@ pub among-none : (places : List ℕ) (q : ℕ) → ¬ IsIn q places → among pl
 among-none [] q absent = refl
 among-none (p ∷ places) q absent = rw (ne_eqb p q (λ e. absent (inl (sym e)))) (among-none places q (λ i. absent (inr i)))
 
-pub among-in : (places : List ℕ) (q : ℕ) → IsIn q places → among places q ≡ true
-among-in [] q i = absurd i
-among-in (p ∷ places) q i = elim (cases_eq p q) [
+pub among_in : (places : List ℕ) (q : ℕ) → IsIn q places → among places q ≡ true
+among_in [] q i = absurd i
+among_in (p ∷ places) q i = elim (cases_eq p q) [
   | inl same ↦ rw (eq-eqb p q same) refl
   | inr differs ↦ elim i [
     | inl here ↦ absurd (differs (sym here))
-    | inr later ↦ rw (ne_eqb p q differs) (among-in places q later)
+    | inr later ↦ rw (ne_eqb p q differs) (among_in places q later)
   ]
 ]
 
+pub in_among : (places : List ℕ) (q : ℕ) → among places q ≡ true → IsIn q places
+in_among [] q e = absurd (true≢false (sym e))
+in_among (p ∷ places) q e = elim (cases_eq p q) [
+  | inl same ↦ inl (sym same)
+  | inr differs ↦ inr (in_among places q (rw (ne_eqb p q differs) at e))
+]
+
 pub not_among : (places : List ℕ) (q : ℕ) → among places q ≡ false → ¬ IsIn q places
-not_among places q e i = true≢false (sym (among-in places q i) ∙ e)
+not_among places q e i = true≢false (sym (among_in places q i) ∙ e)
 
 among-push : (places : List ℕ) (p q : ℕ) → among (places ++ p ∷ []) q ≡ (among places q || (p == q))
 among-push [] p q = elim (p == q) as (λ b. (b || false) ≡ b) [ true ↦ refl | false ↦ refl ]
@@ -44,7 +51,7 @@ pub among-filter : (test : ℕ → Bool) (xs : List ℕ) (q : ℕ) → IsIn q xs
 among-filter test xs q i = cases (test q) refl
   where
     cases : (b : Bool) → test q ≡ b → among (filter test xs) q ≡ b
-    cases true e = among-in (filter test xs) q (IsIn-filter test q xs e i)
+    cases true e = among_in (filter test xs) q (IsIn-filter test q xs e i)
     cases false e = among-none (filter test xs) q (λ j. true≢false (sym (IsIn-kept test q xs j).1 ∙ e))
 
 neither : (a b : Bool) → (a || b) ≡ false → (a ≡ false) × (b ≡ false)
