@@ -1,5 +1,5 @@
 //! Callers of entries that are proved for every key type: each knows what the map is afterwards.
-ghost use Rattle.std.specs.Prelude.{◌≡◌, true, false, slice_get, Some, nat_eq, IfNone, IfSome, OnSome, OnErr, OnOk};
+ghost use Rattle.std.specs.Prelude.{◌≡◌, true, false, length, nat_eq, slice_get, Some, IfNone, IfOk, IfSome, OnSome, OnErr, OnOk};
 ghost use Rattle.ordered_multimap.specs.Changes.{appended, first_written, inserted, removed};
 ghost use Rattle.ordered_multimap.specs.Pairs.{is_present, values_of};
 
@@ -42,6 +42,46 @@ pub fn take_out<K: Eq + Hash + Drop, V: Drop, S: BuildHasher, A: Allocator>(
             None
         }
     }
+}
+
+/// Takes the key out by its entry, if it is present, and reads the last of its values alone.
+pub fn take_last_out<K: Eq + Hash + Drop, V: Drop, S: BuildHasher, A: Allocator>(
+    map: &mut ListOrderedMultimap<K, V, S, A>,
+    key: K,
+) -> Option<V>
+    ensures present { is_present K.eq map.old.lists.pairs key ≡ true
+        → map.new.lists ≡ removed K.eq map.old.lists key }
+    ensures absent { is_present K.eq map.old.lists.pairs key ≡ false
+        → map.new.lists ≡ map.old.lists }
+{
+    match map.entry(key) {
+        Entry::Occupied(entry) => {
+            let mut drain = entry.remove_all();
+            drain.next_back()
+        }
+        Entry::Vacant(entry) => {
+            drop(entry.into_key());
+            None
+        }
+    }
+}
+
+/// Puts the pair last if the key is absent, and answers how many values the key has then.
+pub fn count_entered<K: Eq + Hash + Drop, V: Drop, S: BuildHasher, A: Allocator + Copy>(
+    map: &mut ListOrderedMultimap<K, V, S, A>,
+    key: K,
+    value: V,
+) -> Result<usize, Refused<K, V>>
+    ensures present { OnOk result (is_present K.eq map.old.lists.pairs key ≡ true
+        → map.new.lists ≡ map.old.lists) }
+    ensures absent { OnOk result (is_present K.eq map.old.lists.pairs key ≡ false
+        → map.new.lists ≡ appended K.eq map.old.lists key value) }
+    ensures count { IfOk result (λ n.
+        n ≡ length (values_of K.eq map.new.lists.pairs key)) }
+    ensures unchanged { OnErr result (map.new.lists ≡ map.old.lists) }
+{
+    let entry = map.entry(key).or_insert_entry(value)?;
+    Ok(entry.len())
 }
 
 /// Puts a pair of the key last by its entry, whether or not the key is present.

@@ -226,7 +226,7 @@ impl<'map, K: Eq + Hash, V: Drop, S: BuildHasher, A: Allocator> OccupiedEntry<'m
     /// The same, and the stored key is answered before the drain.
     ///
     /// ```
-    /// entry.remove_entry_all().0 == "line"
+    /// entry.remove_entry_all().1.len() == 2
     /// ```
     pub fn remove_entry_all(self) -> (K, EntryValuesDrain<'map, K, V, S, A>)
         ensures key { (k : K) → IsOccupiedBy self.entry k
