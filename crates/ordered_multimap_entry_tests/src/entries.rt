@@ -1,5 +1,9 @@
 //! Entries of keys that are present and of keys that aren't: what each call answers, and what the
 //! map is then.
+use crate::entered::{
+    append_by_entry, append_number, count_entered, replace_or_append, set_if_present,
+    set_or_append, take_last_out, take_out,
+};
 use ordered_multimap::ListOrderedMultimap;
 use ordered_multimap::list_ordered_multimap::{Entry, KeyWrapper, OccupiedEntry};
 use std::cell::Cell;
@@ -234,5 +238,38 @@ fn entries_compare_keys(rt: HostRuntime) -> Result<(), Failed> {
     let test = Test::new(rt.alloc());
     let mut map = ListOrderedMultimap::with_hasher(test.alloc(), ZERO);
     keys_of_one_hash_are_told_apart(&test, &mut map);
+    test.end()
+}
+
+// The proved callers, which drop an entry, or what it lends, once they have changed the map by it.
+fn callers_enter(test: &Test, map: &mut Numbers) {
+    test.expect("a new key", append_by_entry(map, 1, 1).is_ok());
+    test.expect("the same key", append_by_entry(map, 1, 2).is_ok());
+    set_if_present(map, 1, 3);
+    test.expect(
+        "it was written",
+        replace_or_append(map, 1, 4) == Ok(Some(3)),
+    );
+    test.expect("one value is left", count_entered(map, 1, 5) == Ok(1));
+    test.expect("another key", count_entered(map, 2, 5) == Ok(1));
+    test.expect("the last value", take_last_out(map, 1) == Some(4));
+    test.expect("its key has gone", !map.contains_key(&1));
+}
+
+fn callers_enter_numbers(test: &Test, map: &mut ListOrderedMultimap<u64, u64>) {
+    test.expect("an absent key", append_number(map, 1, 1) == Ok(()));
+    test.expect("no pair", map.is_empty());
+    test.expect("appended", set_or_append(map, 1, 2) == Ok(()));
+    test.expect("a present key", append_number(map, 1, 3) == Ok(()));
+    test.expect("two values", map.entry_len(&1) == 2);
+    test.expect("written", set_or_append(map, 1, 4) == Ok(()));
+    test.expect("taken out", take_out(map, 1) == Some(4));
+}
+
+#[test]
+fn proved_callers_enter(rt: HostRuntime) -> Result<(), Failed> {
+    let test = Test::new(rt.alloc());
+    callers_enter(&test, &mut ListOrderedMultimap::new(test.alloc()));
+    callers_enter_numbers(&test, &mut ListOrderedMultimap::new(test.alloc()));
     test.end()
 }
