@@ -266,10 +266,20 @@ fn callers_enter_numbers(test: &Test, map: &mut ListOrderedMultimap<u64, u64>) {
     test.expect("taken out", take_out(map, 1) == Some(4));
 }
 
+// Removals by an entry are covered at such keys in generic callers alone.
+fn callers_enter_texts(test: &Test, map: &mut ListOrderedMultimap<&'static str, u32>) {
+    test.expect("a text", append_by_entry(map, "line", 1).is_ok());
+    test.expect("its last value", take_last_out(map, "line") == Some(1));
+    test.expect("the text again", append_by_entry(map, "line", 2).is_ok());
+    test.expect("its first value", take_out(map, "line") == Some(2));
+    test.expect("no text", map.is_empty());
+}
+
 #[test]
 fn proved_callers_enter(rt: HostRuntime) -> Result<(), Failed> {
     let test = Test::new(rt.alloc());
     callers_enter(&test, &mut ListOrderedMultimap::new(test.alloc()));
     callers_enter_numbers(&test, &mut ListOrderedMultimap::new(test.alloc()));
+    callers_enter_texts(&test, &mut ListOrderedMultimap::new(test.alloc()));
     test.end()
 }
