@@ -20,6 +20,10 @@ struct Own {
     bytes: f64,
 }
 
+/// A block of so many bytes is held while workloads run, so that the most bytes in use are those of
+/// a workload, and not of the program's start.
+const HELD: usize = 1 << 20;
+
 /// Runs a workload so many times: what is counted. The words are the workload's name, the column,
 /// the pairs and the times.
 pub fn run_once(words: &[String]) -> Option<()> {
@@ -29,9 +33,11 @@ pub fn run_once(words: &[String]) -> Option<()> {
     let workload = WORKLOADS.iter().find(|workload| workload.name == *name)?;
     let run = workload.columns.get(column.parse::<usize>().ok()?)?;
     let pairs: u64 = pairs.parse().ok()?;
+    let held = black_box(vec![0u8; HELD]);
     for _ in 0..rounds.parse().ok()? {
         black_box(run(black_box(pairs), black_box(SEED)));
     }
+    drop(held);
     Some(())
 }
 

@@ -195,7 +195,7 @@ pub const WORKLOADS: [Workload; 16] = [
         bench_entry_count,
         benchfx_entry_count,
         None,
-        4,
+        8,
         None
     ),
     workload!(
