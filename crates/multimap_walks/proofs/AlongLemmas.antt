@@ -1,48 +1,21 @@
 -- What a walk along the order of a list has left, and what a step at either end gives.
-use Rattle.std.proofs.Common.{◌≡◌, ℕ, ◌+◌, List, [], ◌∷◌, ◌++◌, length, Option, Some, unwrap_or, refl, ap}
+use Rattle.std.proofs.Common.{◌≡◌, ℕ, ◌+◌, ◌<◌, List, [], ◌∷◌, ◌++◌, length, Option, Some, None, unwrap_or, refl, sym, ap, ◌∙◌, arith, length-append}
 use Rattle.std.specs.Prelude.{IsSome}
 use Rattle.std.specs.List.{filter_map}
+use Rattle.std.specs.Map.Iter.{TakesFirst, TakesLast}
 use Rattle.multimap_slots.specs.Lists.{IsIn, AreDistinct, first_of, last_of, next_of, previous_of}
-use Rattle.multimap_walks.specs.Along.{items_along, IsAlong}
+use Rattle.multimap_walks.specs.declared.links.ChainEnds.{ChainEnds}
+use Rattle.multimap_walks.specs.Along.{all_places, places_left, AreLeft, items_left, IsAlong}
 use Rattle.multimap_walks.specs.Path.{IsPath}
 use Rattle.multimap_walks.proofs.PathLemmas.{Leads-next_of, Leads-previous_of, is_own, path-is, front_stands, back_stands, front_rest, back_rest, front_taken, back_taken, length-path, shown_first, shown_last}
 
-module _ (order : List ℕ) {X : Type 0} (shows : ℕ → Option X) where
+module _ (order : List ℕ) where
   abbrev listed : ℕ → Type 0
   listed place = IsIn place order
 
-  -- as many items are shown as places are left
-  pub length-along : (front back n : ℕ) → IsAlong order shows front back n → length (items_along order shows front n) ≡ n
-  length-along front back n walk = length-path shows listed (next_of order) (previous_of order) front back n walk.left walk.shown
-
-  module _ (front back m n : ℕ) (more : m ≡ n + 1) (walk : IsAlong order shows front back m) where
-    pub front_listed : IsIn front order
-    front_listed = front_stands listed (next_of order) (previous_of order) front back m n more walk.left
-
-    pub back_listed : IsIn back order
-    back_listed = back_stands listed (next_of order) (previous_of order) front back m n more walk.left
-
-    -- a step at the front gives the first item
-    pub along_behind : (behind : ℕ) → behind ≡ unwrap_or (next_of order front) front → IsAlong order shows behind back n
-    along_behind behind told = record { shown = walk.shown; left = front_rest listed (next_of order) (previous_of order) front back m n more walk.left behind told }
-
-    pub first_item : (behind : ℕ) (x : X) → behind ≡ unwrap_or (next_of order front) front → shows front ≡ Some x
-        → items_along order shows front m ≡ x ∷ items_along order shows behind n
-    first_item behind x told is =
-        shown_first shows _ front _ x (front_taken listed (next_of order) (previous_of order) front back m n more walk.left behind told) is
-
-    -- and one at the back the last
-    pub along_before : (before : ℕ) → before ≡ unwrap_or (previous_of order back) back → IsAlong order shows front before n
-    along_before before told = record { shown = walk.shown; left = back_rest listed (next_of order) (previous_of order) front back m n more walk.left before told }
-
-    pub last_item : (before : ℕ) (x : X) → before ≡ unwrap_or (previous_of order back) back → shows back ≡ Some x
-        → items_along order shows front m ≡ items_along order shows front n ++ x ∷ []
-    last_item before x told is =
-        shown_last shows _ back _ x (back_taken listed (next_of order) (previous_of order) front back m n more walk.left before told) is
-
-  -- a walk begins with the whole order
-  whole : AreDistinct order → IsPath listed (next_of order) (previous_of order) (unwrap_or (first_of order) 0) (unwrap_or (last_of order) 0) (length order)
-  whole distinct = record {
+  -- at first the whole order is left
+  pub all_left : AreDistinct order → AreLeft order (all_places order)
+  all_left distinct = record {
     places = order;
     onward = Leads-next_of order distinct;
     backward = Leads-previous_of order distinct;
@@ -52,10 +25,43 @@ module _ (order : List ℕ) {X : Type 0} (shows : ℕ → Option X) where
     there = λ p member. member;
   }
 
-  module _ (distinct : AreDistinct order) where
-    pub along_all : ((place : ℕ) → IsIn place order → IsSome (shows place)) → IsAlong order shows (unwrap_or (first_of order) 0) (unwrap_or (last_of order) 0) (length order)
-    along_all shown = record { shown = shown; left = whole distinct }
+  pub left_all : AreDistinct order → places_left order (all_places order) ≡ order
+  unfolding all_left
+  left_all distinct = path-is listed (next_of order) (previous_of order) (unwrap_or (first_of order) 0) (unwrap_or (last_of order) 0) (length order) (all_left distinct)
 
-    pub all_along : items_along order shows (unwrap_or (first_of order) 0) (length order) ≡ filter_map shows order
-    unfolding whole
-    all_along = ap (filter_map shows) (path-is listed (next_of order) (previous_of order) (unwrap_or (first_of order) 0) (unwrap_or (last_of order) 0) (length order) (whole distinct))
+  module _ {X : Type 0} (shows : ℕ → Option X) where
+    -- as many items are shown as places are left
+    pub length_along : (left : ChainEnds) → IsAlong order shows left → length (items_left order shows left) ≡ left.length
+    length_along left walk = length-path shows listed (next_of order) (previous_of order) left.first left.last left.length walk.are_left walk.shown
+
+-- a step over places is one over what they show
+module _ {X G : Type 0} (shows : ℕ → Option X) (gives : G → X) where
+  pub shows_first : (before after : List ℕ) (p : ℕ) (given : G) → before ≡ p ∷ after → shows p ≡ Some (gives given)
+      → filter_map shows before ≡ gives given ∷ filter_map shows after
+  shows_first before after p given taken is = shown_first shows before p after (gives given) taken is
+
+  pub shows_last : (before after : List ℕ) (p : ℕ) (given : G) → before ≡ after ++ p ∷ [] → shows p ≡ Some (gives given)
+      → filter_map shows before ≡ filter_map shows after ++ gives given ∷ []
+  shows_last before after p given taken is = shown_last shows before p after (gives given) taken is
+
+-- a step at either end of the places that are left
+module _ (order : List ℕ) (left : ChainEnds) (n : ℕ) (more : left.length ≡ n + 1) (are_left : AreLeft order left) where
+  pub first_listed : IsIn left.first order
+  first_listed = front_stands (listed order) (next_of order) (previous_of order) left.first left.last left.length n more are_left
+
+  pub last_listed : IsIn left.last order
+  last_listed = back_stands (listed order) (next_of order) (previous_of order) left.first left.last left.length n more are_left
+
+  module _ (behind : ℕ) (told : behind ≡ unwrap_or (next_of order left.first) left.first) where
+    pub left_behind : AreLeft order (record { first = behind; last = left.last; length = n })
+    left_behind = front_rest (listed order) (next_of order) (previous_of order) left.first left.last left.length n more are_left behind told
+
+    pub takes_first : places_left order left ≡ left.first ∷ places_left order (record { first = behind; last = left.last; length = n })
+    takes_first = front_taken (listed order) (next_of order) (previous_of order) left.first left.last left.length n more are_left behind told
+
+  module _ (before : ℕ) (told : before ≡ unwrap_or (previous_of order left.last) left.last) where
+    pub left_before : AreLeft order (record { first = left.first; last = before; length = n })
+    left_before = back_rest (listed order) (next_of order) (previous_of order) left.first left.last left.length n more are_left before told
+
+    pub takes_last : places_left order left ≡ places_left order (record { first = left.first; last = before; length = n }) ++ left.last ∷ []
+    takes_last = back_taken (listed order) (next_of order) (previous_of order) left.first left.last left.length n more are_left before told

@@ -1,13 +1,11 @@
--- A walk over all pairs is one along the order of the values, each of which has a pair.
-use Rattle.std.proofs.Common.{◌≡◌, ℕ, length, Option, Some, None, unwrap_or, refl}
+-- Each listed value has a pair.
+use Rattle.std.proofs.Common.{◌≡◌, ℕ, Option, Some, None, refl}
 use Rattle.std.specs.Prelude.{IsSome, option_and_then, option_map}
-use Rattle.multimap_slots.specs.Lists.{IsIn, first_of, last_of}
+use Rattle.multimap_slots.specs.Lists.{IsIn}
 use Rattle.multimap_slots.specs.Slots.{Slots, item_at, link_at, IsSound}
 use Rattle.multimap_walks.specs.declared.links.KeyLink.{KeyLink}
 use Rattle.multimap_walks.specs.declared.links.ValueLink.{ValueLink}
-use Rattle.multimap_walks.specs.Chained.{key_of, pair_at, IsChained}
-use Rattle.multimap_walks.specs.PairWalk.{IsWalk}
-use Rattle.multimap_walks.proofs.AlongLemmas.{along_all}
+use Rattle.multimap_walks.specs.Chained.{key_of, pair_at, AreOwned}
 
 module _ {K V : Type 0} (keys : Slots K KeyLink) (values : Slots V ValueLink) where
   -- a key and a value that are both there make a pair
@@ -21,12 +19,8 @@ module _ {K V : Type 0} (keys : Slots K KeyLink) (values : Slots V ValueLink) wh
   key_there (Some m) some each = each m refl
 
   -- each listed value has a pair
-  pair_some : IsSound keys → IsSound values → IsChained keys values → (p : ℕ) → IsIn p values.order → IsSome (pair_at keys values p)
-  pair_some sound_keys sound_values chained p is_listed =
+  pub pair_some : IsSound keys → IsSound values → AreOwned keys values → (p : ℕ) → IsIn p values.order → IsSome (pair_at keys values p)
+  pair_some sound_keys sound_values owned p is_listed =
       pair_there (key_of keys values p) (item_at values p)
-      (key_there (link_at values p) (sound_values.linked p is_listed) (λ m is. sound_keys.filled m.key (chained.owned p m is_listed is)))
+      (key_there (link_at values p) (sound_values.linked p is_listed) (λ m is. sound_keys.filled m.key (owned p m is_listed is)))
       (sound_values.filled p is_listed)
-
-  -- the walk begins with all pairs
-  pub walk_all : IsSound keys → IsSound values → IsChained keys values → IsWalk keys values (unwrap_or (first_of values.order) 0) (unwrap_or (last_of values.order) 0) (length values.order)
-  walk_all sound_keys sound_values chained = record { chained = chained; along = along_all values.order (pair_at keys values) sound_values.distinct (pair_some sound_keys sound_values chained) }

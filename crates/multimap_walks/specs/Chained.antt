@@ -74,11 +74,15 @@ module _ {K V : Type 0} (keys : Slots K KeyLink) (values : Slots V ValueLink) wh
   abbrev pub pairs_of : List (K × V)
   pairs_of = filter_map pair_at values.order
 
+  -- each value's key is listed
+  abbrev pub AreOwned : Type 0
+  AreOwned = (place : ℕ) (l : ValueLink) → IsIn place values.order
+      → link_at values place ≡ Some l → IsIn l.key keys.order
+
   -- each value's key is listed; each key's link names the ends and the length of its chain, and
   -- each value's link its neighbours there
   pub record IsChained : Type 0 where
-    pub owned : (place : ℕ) (l : ValueLink) → IsIn place values.order
-        → link_at values place ≡ Some l → IsIn l.key keys.order
+    pub owned : AreOwned
     pub head : (key : ℕ) (l : KeyLink) → IsIn key keys.order
         → link_at keys key ≡ Some l → first_of (chain_of values key) ≡ Some l.head
     pub tail : (key : ℕ) (l : KeyLink) → IsIn key keys.order

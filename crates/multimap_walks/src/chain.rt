@@ -6,7 +6,7 @@ ghost use Rattle.multimap_slots.specs.Slots.{HasLink};
 ghost use Rattle.multimap_walks.specs.Chained.{IsChain, IsChained, IsDetachedChain, chain_of, places_along, positions_at, values_at};
 ghost use Rattle.multimap_walks.specs.ChainWalk.{GivesFirst, GivesLast, chain_walk};
 
-use crate::links::{ChainEnds, KeyLink, ValueLink};
+use crate::links::{ChainEnds, KeyLink, NO_ENDS, ValueLink};
 use crate::show::show_left;
 use crate::slots::chained_at;
 use multimap_slots::{Reads, SlotList, Tape};
@@ -14,13 +14,6 @@ use std::alloc::{AllocError, Allocator, Global};
 use std::fmt;
 use std::iter::FusedIterator;
 use std::marker::{Model, PhantomData};
-
-// The ends of no values.
-const NO_CHAIN: ChainEnds = ChainEnds {
-    first: 0,
-    last: 0,
-    length: 0,
-};
 
 /// The values of one key, in order. Each item reads one value slot.
 #[derive(Drop)]
@@ -64,7 +57,7 @@ impl<'map, K, V, A: Allocator> EntryValues<'map, K, V, A> {
         // The length tells the proof that the list is sound.
         let _values = values.len();
         let Some((_, link)) = key else {
-            return EntryValues::along(values, NO_CHAIN, false);
+            return EntryValues::along(values, NO_ENDS, false);
         };
         let ends = ChainEnds {
             first: link.head,
@@ -85,7 +78,7 @@ impl<'map, K, V, A: Allocator> EntryValues<'map, K, V, A> {
         ensures positions { result.positions ≡ [] }
         ensures reads { result.reads ≡ 0 }
     {
-        EntryValues::along(values, ends.unwrap_or(NO_CHAIN), true)
+        EntryValues::along(values, ends.unwrap_or(NO_ENDS), true)
     }
 
     fn along(values: &'map Tape<V, ValueLink, A>, ends: ChainEnds, detached: bool) -> Self

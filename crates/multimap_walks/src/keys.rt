@@ -6,7 +6,8 @@ ghost use Rattle.std.specs.List.{filter_map};
 ghost use Rattle.std.specs.Map.Iter.{TakesFirst, TakesLast, deref};
 ghost use Rattle.multimap_slots.specs.Slots.{item_at};
 
-use crate::links::KeyLink;
+use crate::left::{Ordered, take_first, take_last};
+use crate::links::{ChainEnds, KeyLink};
 use crate::show::show_left;
 use crate::slots::key_at;
 use multimap_slots::{Reads, SlotList};
@@ -19,22 +20,20 @@ use std::marker::Model;
 #[derive(Drop)]
 pub struct Keys<'map, K, A: Allocator = Global> {
     keys: &'map SlotList<K, KeyLink, A>,
-    front: usize,
-    back: usize,
-    length: usize,
+    left: ChainEnds,
     reads: Reads,
 }
 
 impl<'map, K, A: Allocator> Model for Keys<'map, K, A> {
     ghost use Rattle.std.specs.Prelude.{List};
     ghost use Rattle.multimap_slots.specs.Slots.{item_at};
-    ghost use Rattle.multimap_walks.specs.Along.{items_along, IsAlong};
+    ghost use Rattle.multimap_walks.specs.Along.{items_left, IsAlong};
 
     ghost Value = { List K };
 
-    ghost view = { λ w. items_along w.keys.now.order (item_at w.keys.now) w.front w.length };
+    ghost view = { λ w. items_left w.keys.now.order (item_at w.keys.now) w.left };
 
-    ghost invariant = { λ w. IsAlong w.keys.now.order (item_at w.keys.now) w.front w.back w.length };
+    ghost invariant = { λ w. IsAlong w.keys.now.order (item_at w.keys.now) w.left };
 }
 
 impl<'map, K, A: Allocator> Keys<'map, K, A> {
@@ -42,11 +41,11 @@ impl<'map, K, A: Allocator> Keys<'map, K, A> {
     pub fn new(keys: &'map SlotList<K, KeyLink, A>) -> Self
         ensures keys { result ≡ filter_map (item_at keys.now) keys.now.order }
     {
+        // The length tells the proof that the list is sound.
+        let _keys = keys.len();
         Keys {
             keys,
-            front: keys.front_place().unwrap_or(0),
-            back: keys.back_place().unwrap_or(0),
-            length: keys.len(),
+            left: keys.all(),
             reads: Reads::new(),
         }
     }
@@ -60,15 +59,11 @@ impl<'map, K, A: Allocator> Iterator for Keys<'map, K, A> {
     ghost remaining = { λ s. at_most (length s) };
 
     fn next(&mut self) -> Option<&'map K> {
-        if self.length == 0 {
-            return None;
-        }
-        let place = self.front;
-        self.front = self.keys.next_place(place).unwrap_or(place);
-        self.length -= 1;
+        let place = take_first(self.keys, &mut self.left)?;
         Some(key_at(self.keys, place, &mut self.reads))
     }
 
+    #[tactic(auto, using(crate::proofs::AlongLemmas::length_along))]
     fn size_hint(&self) -> (usize, Option<usize>)
         ensures lower { IsWithinCount result.0 (at_most (length self.now)) }
         ensures upper { IfSome result.1 (UpTo (at_most (length self.now))) }
@@ -77,7 +72,7 @@ impl<'map, K, A: Allocator> Iterator for Keys<'map, K, A> {
         ensures least { result.0 ≡ length self.now }
         ensures greatest { result.1 ≡ Some (length self.now) }
     {
-        (self.length, Some(self.length))
+        (self.left.length, Some(self.left.length))
     }
 }
 
@@ -85,19 +80,15 @@ impl<'map, K, A: Allocator> DoubleEndedIterator for Keys<'map, K, A> {
     ghost next_back_gives = { TakesLast deref };
 
     fn next_back(&mut self) -> Option<&'map K> {
-        if self.length == 0 {
-            return None;
-        }
-        let place = self.back;
-        self.back = self.keys.previous_place(place).unwrap_or(place);
-        self.length -= 1;
+        let place = take_last(self.keys, &mut self.left)?;
         Some(key_at(self.keys, place, &mut self.reads))
     }
 }
 
 impl<'map, K, A: Allocator> ExactSizeIterator for Keys<'map, K, A> {
+    #[tactic(auto, using(crate::proofs::AlongLemmas::length_along))]
     fn len(&self) -> usize {
-        self.length
+        self.left.length
     }
 }
 
@@ -111,9 +102,7 @@ impl<'map, K, A: Allocator> Clone for Keys<'map, K, A> {
     fn clone(&self) -> Result<Keys<'map, K, A>, AllocError> {
         Ok(Keys {
             keys: self.keys,
-            front: self.front,
-            back: self.back,
-            length: self.length,
+            left: self.left,
             reads: self.reads.clone()?,
         })
     }

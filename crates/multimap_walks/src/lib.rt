@@ -3,16 +3,21 @@
 #![tactic(auto)]
 
 mod chain;
+mod key_values;
 mod keys;
+mod left;
 pub mod links;
 mod pairs;
 mod show;
 mod slots;
+mod values;
 
 pub use chain::EntryValues;
+pub use key_values::KeyValues;
 pub use keys::Keys;
 pub use links::{ChainEnds, KeyLink, ValueLink};
 pub use pairs::Iter;
+pub use values::Values;
 
 /// An end of a list, and with it the direction of one step of a walk.
 #[derive(Debug, PartialEq, Eq, Clone, Copy)]

@@ -24,13 +24,21 @@ pub struct ValueLink {
     pub next: Option<usize>,
 }
 
-/// Where values of one key stand that name each other in order.
+/// Where a row of items stands that follow each other in order: values of one key that name each
+/// other, or what a walk along a list has left.
 #[derive(Clone, Copy)]
 pub struct ChainEnds {
-    /// The place of the first value.
+    /// The place of the first item.
     pub first: usize,
-    /// The place of the last value.
+    /// The place of the last item.
     pub last: usize,
-    /// How many values there are.
+    /// How many items there are.
     pub length: usize,
 }
+
+/// The ends of no items.
+pub(crate) const NO_ENDS: ChainEnds = ChainEnds {
+    first: 0,
+    last: 0,
+    length: 0,
+};

@@ -3,9 +3,10 @@ ghost use Rattle.std.specs.Prelude.{◌≡◌, length, Some, IfSome, ⊤};
 ghost use Rattle.std.specs.Iterator.{at_most, UpTo};
 ghost use Rattle.std.specs.Iterator.SizeHint.{IsWithinCount};
 ghost use Rattle.std.specs.Map.Iter.{TakesFirst, TakesLast, deref_pair};
-ghost use Rattle.multimap_walks.specs.Chained.{IsChained, pairs_of};
+ghost use Rattle.multimap_walks.specs.Chained.{AreOwned, pairs_of};
 
-use crate::links::{KeyLink, ValueLink};
+use crate::left::{Ordered, take_first, take_last};
+use crate::links::{ChainEnds, KeyLink, ValueLink};
 use crate::show::show_left;
 use crate::slots::pair_of;
 use multimap_slots::{Reads, SlotList, Tape};
@@ -19,37 +20,34 @@ use std::marker::Model;
 pub struct Iter<'map, K, V, A: Allocator = Global> {
     keys: &'map SlotList<K, KeyLink, A>,
     values: &'map Tape<V, ValueLink, A>,
-    front: usize,
-    back: usize,
-    length: usize,
+    left: ChainEnds,
     reads: Reads,
 }
 
 impl<'map, K, V, A: Allocator> Model for Iter<'map, K, V, A> {
     ghost use Rattle.std.specs.Prelude.{List};
-    ghost use Rattle.multimap_walks.specs.PairWalk.{pairs_along, IsWalk};
+    ghost use Rattle.multimap_walks.specs.PairWalk.{pairs_left, IsWalk};
 
     ghost Value = { List (K × V) };
 
-    ghost view = { λ w. pairs_along w.keys.now w.values.now.list w.front w.length };
+    ghost view = { λ w. pairs_left w.keys.now w.values.now.list w.left };
 
-    ghost invariant = { λ w. IsWalk w.keys.now w.values.now.list w.front w.back w.length };
+    ghost invariant = { λ w. IsWalk w.keys.now w.values.now.list w.left };
 }
 
 impl<'map, K, V, A: Allocator> Iter<'map, K, V, A> {
-    /// The walk over all pairs of two slot lists, whose links are chained.
+    /// The walk over all pairs of two slot lists, where the key of each value is listed.
     pub fn new(keys: &'map SlotList<K, KeyLink, A>, values: &'map Tape<V, ValueLink, A>) -> Self
-        requires { IsChained keys.now values.now.list }
+        requires { AreOwned keys.now values.now.list }
         ensures pairs { result ≡ pairs_of keys.now values.now.list }
     {
         // The lengths tell the proof that both lists are sound.
         let _keys = keys.len();
+        let _values = values.len();
         Iter {
             keys,
             values,
-            front: values.front_place().unwrap_or(0),
-            back: values.back_place().unwrap_or(0),
-            length: values.len(),
+            left: values.all(),
             reads: Reads::new(),
         }
     }
@@ -63,15 +61,11 @@ impl<'map, K, V, A: Allocator> Iterator for Iter<'map, K, V, A> {
     ghost remaining = { λ s. at_most (length s) };
 
     fn next(&mut self) -> Option<(&'map K, &'map V)> {
-        if self.length == 0 {
-            return None;
-        }
-        let place = self.front;
-        self.front = self.values.next_place_after(place).unwrap_or(place);
-        self.length -= 1;
+        let place = take_first(self.values, &mut self.left)?;
         Some(pair_of(self.keys, self.values, place, &mut self.reads))
     }
 
+    #[tactic(auto, using(crate::proofs::AlongLemmas::length_along))]
     fn size_hint(&self) -> (usize, Option<usize>)
         ensures lower { IsWithinCount result.0 (at_most (length self.now)) }
         ensures upper { IfSome result.1 (UpTo (at_most (length self.now))) }
@@ -80,7 +74,7 @@ impl<'map, K, V, A: Allocator> Iterator for Iter<'map, K, V, A> {
         ensures least { result.0 ≡ length self.now }
         ensures greatest { result.1 ≡ Some (length self.now) }
     {
-        (self.length, Some(self.length))
+        (self.left.length, Some(self.left.length))
     }
 }
 
@@ -88,19 +82,15 @@ impl<'map, K, V, A: Allocator> DoubleEndedIterator for Iter<'map, K, V, A> {
     ghost next_back_gives = { TakesLast deref_pair };
 
     fn next_back(&mut self) -> Option<(&'map K, &'map V)> {
-        if self.length == 0 {
-            return None;
-        }
-        let place = self.back;
-        self.back = self.values.previous_place_before(place).unwrap_or(place);
-        self.length -= 1;
+        let place = take_last(self.values, &mut self.left)?;
         Some(pair_of(self.keys, self.values, place, &mut self.reads))
     }
 }
 
 impl<'map, K, V, A: Allocator> ExactSizeIterator for Iter<'map, K, V, A> {
+    #[tactic(auto, using(crate::proofs::AlongLemmas::length_along))]
     fn len(&self) -> usize {
-        self.length
+        self.left.length
     }
 }
 
@@ -115,9 +105,7 @@ impl<'map, K, V, A: Allocator> Clone for Iter<'map, K, V, A> {
         Ok(Iter {
             keys: self.keys,
             values: self.values,
-            front: self.front,
-            back: self.back,
-            length: self.length,
+            left: self.left,
             reads: self.reads.clone()?,
         })
     }

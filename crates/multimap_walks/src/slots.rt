@@ -2,8 +2,10 @@
 ghost use Rattle.std.specs.Prelude.{◌≡◌, ◌+◌, Some, if◌then◌else◌};
 ghost use Rattle.multimap_slots.specs.Lists.{IsIn};
 ghost use Rattle.multimap_slots.specs.Slots.{HasSlot, item_at, link_at};
-ghost use Rattle.multimap_walks.specs.Chained.{IsChained, Stands, pair_at};
+ghost use Rattle.multimap_walks.specs.Chained.{AreOwned, IsChained, Stands, pair_at};
+ghost use Rattle.multimap_walks.specs.KeyWalk.{key_values_at};
 
+use crate::chain::EntryValues;
 use crate::links::{KeyLink, ValueLink};
 use multimap_slots::{Reads, SlotList, Tape};
 use std::alloc::Allocator;
@@ -61,10 +63,27 @@ pub(crate) fn pair_of<'map, K, V, A: Allocator>(
     place: usize,
     reads: &mut Reads,
 ) -> (&'map K, &'map V)
-    requires chained { IsChained keys.now values.now.list }
+    requires owned { AreOwned keys.now values.now.list }
     requires listed { IsIn place values.now.list.order }
     ensures pair { pair_at keys.now values.now.list place ≡ Some (result.0.now, result.1.now) }
 {
     let (value, link) = value_at(values, place, reads);
     (key_at(keys, link.key, reads), value)
+}
+
+/// The key at a listed place, with a walk over its values.
+pub(crate) fn key_values_of<'map, K, V, A: Allocator>(
+    keys: &'map SlotList<K, KeyLink, A>,
+    values: &'map Tape<V, ValueLink, A>,
+    place: usize,
+    reads: &mut Reads,
+) -> (&'map K, EntryValues<'map, K, V, A>)
+    requires chained { IsChained keys.now values.now.list }
+    requires listed { IsIn place keys.now.order }
+    ensures { key_values_at keys.now values.now.list place ≡ Some (result.0.now, result.1) }
+{
+    match keys.get(place, reads) {
+        Some((key, link)) => (key, EntryValues::new(keys, values, Some((place, link)))),
+        None => unreachable!(),
+    }
 }

@@ -1,0 +1,154 @@
+//! The walk over all keys, each with a walk over its values.
+ghost use Rattle.std.specs.Prelude.{◌≡◌, [], length, Some, IfSome, MatchOption, ⊤};
+ghost use Rattle.std.specs.Iterator.{at_most, UpTo};
+ghost use Rattle.std.specs.Iterator.SizeHint.{IsWithinCount};
+ghost use Rattle.std.specs.List.{filter_map};
+ghost use Rattle.std.specs.Map.Iter.{TakesFirst, TakesLast};
+ghost use Rattle.multimap_walks.specs.Along.{AreLeft, items_left};
+ghost use Rattle.multimap_walks.specs.Chained.{IsChained};
+ghost use Rattle.multimap_walks.specs.KeyWalk.{deref_key, key_values_at};
+
+use crate::chain::EntryValues;
+use crate::left::{Ordered, take_first, take_last};
+use crate::links::{ChainEnds, KeyLink, NO_ENDS, ValueLink};
+use crate::show::show_left;
+use crate::slots::key_values_of;
+use multimap_slots::{Reads, SlotList, Tape};
+use std::alloc::{AllocError, Allocator, Global};
+use std::fmt;
+use std::iter::FusedIterator;
+use std::marker::Model;
+
+/// The keys of a map, in their order, each with a walk over its values. Each item reads the slot of
+/// its key, and no slot of a value.
+#[derive(Drop)]
+pub struct KeyValues<'map, K, V, A: Allocator = Global> {
+    keys: &'map SlotList<K, KeyLink, A>,
+    values: &'map Tape<V, ValueLink, A>,
+    left: ChainEnds,
+    reads: Reads,
+}
+
+impl<'map, K, V, A: Allocator> Model for KeyValues<'map, K, V, A> {
+    ghost use Rattle.std.specs.Prelude.{List};
+    ghost use Rattle.multimap_walks.specs.Along.{items_left};
+    ghost use Rattle.multimap_walks.specs.ChainWalk.{ChainWalk};
+    ghost use Rattle.multimap_walks.specs.KeyWalk.{IsKeyWalk, key_values_at};
+
+    ghost Value = { List (K × ChainWalk V) };
+
+    ghost view = { λ w. items_left w.keys.now.order
+        (key_values_at w.keys.now w.values.now.list) w.left };
+
+    ghost invariant = { λ w. IsKeyWalk w.keys.now w.values.now.list w.left };
+}
+
+impl<'map, K, V, A: Allocator> KeyValues<'map, K, V, A> {
+    /// The walk over all keys of two slot lists, whose links are chained.
+    pub fn new(keys: &'map SlotList<K, KeyLink, A>, values: &'map Tape<V, ValueLink, A>) -> Self
+        requires { IsChained keys.now values.now.list }
+        ensures keys { result
+            ≡ filter_map (key_values_at keys.now values.now.list) keys.now.order }
+    {
+        KeyValues::along(keys, values, keys.all())
+    }
+
+    /// The walk over the keys from one place of the list to another, which are given with their
+    /// number. None is the empty walk.
+    pub fn new_between(
+        keys: &'map SlotList<K, KeyLink, A>,
+        values: &'map Tape<V, ValueLink, A>,
+        ends: Option<ChainEnds>,
+    ) -> Self
+        requires chained { IsChained keys.now values.now.list }
+        requires between { MatchOption ends ⊤ (AreLeft keys.now.order) }
+        ensures keys { MatchOption ends (result ≡ [])
+            (λ e. result
+            ≡ items_left keys.now.order (key_values_at keys.now values.now.list) e) }
+    {
+        KeyValues::along(keys, values, ends.unwrap_or(NO_ENDS))
+    }
+
+    fn along(
+        keys: &'map SlotList<K, KeyLink, A>,
+        values: &'map Tape<V, ValueLink, A>,
+        left: ChainEnds,
+    ) -> Self
+        requires chained { IsChained keys.now values.now.list }
+        requires left { AreLeft keys.now.order left }
+        ensures { result ≡ items_left keys.now.order (key_values_at keys.now values.now.list) left }
+    {
+        // The length tells the proof that the list of keys is sound.
+        let _keys = keys.len();
+        KeyValues {
+            keys,
+            values,
+            left,
+            reads: Reads::new(),
+        }
+    }
+}
+
+impl<'map, K, V, A: Allocator> Iterator for KeyValues<'map, K, V, A> {
+    type Item = (&'map K, EntryValues<'map, K, V, A>);
+
+    ghost next_gives = { TakesFirst deref_key };
+
+    ghost remaining = { λ s. at_most (length s) };
+
+    fn next(&mut self) -> Option<(&'map K, EntryValues<'map, K, V, A>)> {
+        let place = take_first(self.keys, &mut self.left)?;
+        Some(key_values_of(self.keys, self.values, place, &mut self.reads))
+    }
+
+    #[tactic(auto, using(crate::proofs::AlongLemmas::length_along))]
+    fn size_hint(&self) -> (usize, Option<usize>)
+        ensures lower { IsWithinCount result.0 (at_most (length self.now)) }
+        ensures upper { IfSome result.1 (UpTo (at_most (length self.now))) }
+
+        // Both numbers are that of the items left.
+        ensures least { result.0 ≡ length self.now }
+        ensures greatest { result.1 ≡ Some (length self.now) }
+    {
+        (self.left.length, Some(self.left.length))
+    }
+}
+
+impl<'map, K, V, A: Allocator> DoubleEndedIterator for KeyValues<'map, K, V, A> {
+    ghost next_back_gives = { TakesLast deref_key };
+
+    fn next_back(&mut self) -> Option<(&'map K, EntryValues<'map, K, V, A>)> {
+        let place = take_last(self.keys, &mut self.left)?;
+        Some(key_values_of(self.keys, self.values, place, &mut self.reads))
+    }
+}
+
+impl<'map, K, V, A: Allocator> ExactSizeIterator for KeyValues<'map, K, V, A> {
+    #[tactic(auto, using(crate::proofs::AlongLemmas::length_along))]
+    fn len(&self) -> usize {
+        self.left.length
+    }
+}
+
+impl<'map, K, V, A: Allocator> FusedIterator for KeyValues<'map, K, V, A> {}
+
+impl<'map, K, V, A: Allocator> Clone for KeyValues<'map, K, V, A> {
+    ghost is_clone = { λ s r. r ≡ s };
+
+    ghost is_infallible = { λ _. ⊤ };
+
+    fn clone(&self) -> Result<KeyValues<'map, K, V, A>, AllocError> {
+        Ok(KeyValues {
+            keys: self.keys,
+            values: self.values,
+            left: self.left,
+            reads: self.reads.clone()?,
+        })
+    }
+}
+
+impl<'map, K: fmt::Debug, V: fmt::Debug, A: Allocator> fmt::Debug for KeyValues<'map, K, V, A> {
+    fn fmt<W: fmt::Write>(&self, f: &mut fmt::Formatter<W>) -> fmt::Result {
+        show_left(f, "KeyValues", self)
+    }
+}

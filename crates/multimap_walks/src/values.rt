@@ -1,0 +1,119 @@
+//! The walk over the values of all pairs.
+ghost use Rattle.std.specs.Prelude.{◌≡◌, length, Some, IfSome, ⊤};
+ghost use Rattle.std.specs.Iterator.{at_most, UpTo};
+ghost use Rattle.std.specs.Iterator.SizeHint.{IsWithinCount};
+ghost use Rattle.std.specs.Map.Iter.{TakesFirst, TakesLast, deref};
+ghost use Rattle.multimap_walks.specs.Chained.{values_at};
+
+use crate::left::{Ordered, take_first, take_last};
+use crate::links::{ChainEnds, ValueLink};
+use crate::show::show_left;
+use crate::slots::value_at;
+use multimap_slots::{Reads, Tape};
+use std::alloc::{AllocError, Allocator, Global};
+use std::fmt;
+use std::iter::FusedIterator;
+use std::marker::{Model, PhantomData};
+
+/// The values of all pairs of a map, oldest first. Each item reads the slot of its value.
+#[derive(Drop)]
+pub struct Values<'map, K, V, A: Allocator = Global> {
+    keys: PhantomData<&'map K>,
+    values: &'map Tape<V, ValueLink, A>,
+    left: ChainEnds,
+    reads: Reads,
+}
+
+impl<'map, K, V, A: Allocator> Model for Values<'map, K, V, A> {
+    ghost use Rattle.std.specs.Prelude.{List};
+    ghost use Rattle.multimap_slots.specs.Slots.{item_at};
+    ghost use Rattle.multimap_walks.specs.Along.{items_left, IsAlong};
+
+    ghost Value = { List V };
+
+    ghost view = { λ w. items_left w.values.now.list.order (item_at w.values.now.list) w.left };
+
+    ghost invariant = { λ w. IsAlong w.values.now.list.order (item_at w.values.now.list) w.left };
+}
+
+impl<'map, K, V, A: Allocator> Values<'map, K, V, A> {
+    /// The walk over all items of a tape.
+    pub fn new(values: &'map Tape<V, ValueLink, A>) -> Self
+        ensures values { result ≡ values_at values.now.list values.now.list.order }
+    {
+        // The length tells the proof that the list is sound.
+        let _values = values.len();
+        Values {
+            keys: PhantomData,
+            values,
+            left: values.all(),
+            reads: Reads::new(),
+        }
+    }
+}
+
+impl<'map, K, V, A: Allocator> Iterator for Values<'map, K, V, A> {
+    type Item = &'map V;
+
+    ghost next_gives = { TakesFirst deref };
+
+    ghost remaining = { λ s. at_most (length s) };
+
+    fn next(&mut self) -> Option<&'map V> {
+        let place = take_first(self.values, &mut self.left)?;
+        let (value, _) = value_at(self.values, place, &mut self.reads);
+        Some(value)
+    }
+
+    #[tactic(auto, using(crate::proofs::AlongLemmas::length_along))]
+    fn size_hint(&self) -> (usize, Option<usize>)
+        ensures lower { IsWithinCount result.0 (at_most (length self.now)) }
+        ensures upper { IfSome result.1 (UpTo (at_most (length self.now))) }
+
+        // Both numbers are that of the items left.
+        ensures least { result.0 ≡ length self.now }
+        ensures greatest { result.1 ≡ Some (length self.now) }
+    {
+        (self.left.length, Some(self.left.length))
+    }
+}
+
+impl<'map, K, V, A: Allocator> DoubleEndedIterator for Values<'map, K, V, A> {
+    ghost next_back_gives = { TakesLast deref };
+
+    fn next_back(&mut self) -> Option<&'map V> {
+        let place = take_last(self.values, &mut self.left)?;
+        let (value, _) = value_at(self.values, place, &mut self.reads);
+        Some(value)
+    }
+}
+
+impl<'map, K, V, A: Allocator> ExactSizeIterator for Values<'map, K, V, A> {
+    #[tactic(auto, using(crate::proofs::AlongLemmas::length_along))]
+    fn len(&self) -> usize {
+        self.left.length
+    }
+}
+
+impl<'map, K, V, A: Allocator> FusedIterator for Values<'map, K, V, A> {}
+
+impl<'map, K, V, A: Allocator> Clone for Values<'map, K, V, A> {
+    ghost is_clone = { λ s r. r ≡ s };
+
+    ghost is_infallible = { λ _. ⊤ };
+
+    fn clone(&self) -> Result<Values<'map, K, V, A>, AllocError> {
+        Ok(Values {
+            keys: PhantomData,
+            values: self.values,
+            left: self.left,
+            reads: self.reads.clone()?,
+        })
+    }
+}
+
+impl<'map, K, V: fmt::Debug, A: Allocator> fmt::Debug for Values<'map, K, V, A> {
+    fn fmt<W: fmt::Write>(&self, f: &mut fmt::Formatter<W>) -> fmt::Result {
+        show_left(f, "Values", self)
+    }
+}
