@@ -6,6 +6,8 @@ pub mod DrainLends
 pub mod Drains
 pub mod Entries
 pub mod EntryLends
+pub mod IntoIters
+pub mod KeyLists
 pub mod KeyWrappers
 pub mod Keys
 pub mod Laws

@@ -11,6 +11,10 @@ abbrev pub has_items : {X : Type 0} → List X → Bool
 has_items [] = false
 has_items (x ∷ xs) = true
 
+-- the values of all pairs, in order
+abbrev pub all_values : {K V : Type 0} → List (K × V) → List V
+all_values pairs = map (λ p. p.1) pairs
+
 -- the pairs with v as the value at a position
 abbrev pub with_value_at : {K V : Type 0} → List (K × V) → ℕ → V → List (K × V)
 with_value_at [] i v = []

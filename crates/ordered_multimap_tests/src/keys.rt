@@ -1,5 +1,5 @@
 //! Walks over the keys, from both ends.
-use crate::walks::{MIXED, Numbers, map_of};
+use crate::maps::{MIXED, Numbers, map_of};
 use ordered_multimap::ListOrderedMultimap;
 use ordered_multimap::list_ordered_multimap::Keys;
 use test_helpers::{End, Failed, Test, expect_text, walk_difference};

@@ -1,5 +1,5 @@
-//! Tests of the map, from outside: constructors, appends, look-ups and walks; and the calls that tests
-//! of its removals share.
+//! Tests of the map, from outside: constructors, appends, look-ups and walks; and the calls and
+//! the maps that tests of its other calls share.
 //!
 //! They stand in a crate of their own, since they need an allocator that refuses: a crate has one
 //! list of dependencies for its code and its tests.
@@ -18,6 +18,7 @@ mod examples;
 mod keys;
 #[cfg(test)]
 mod many;
+pub mod maps;
 #[cfg(test)]
 mod refused;
 #[cfg(test)]

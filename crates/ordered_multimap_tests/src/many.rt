@@ -1,6 +1,6 @@
 //! Many keys and many values: look-ups and walks among them.
 use crate::calls::{expect_append, expect_ends, expect_key, expect_lengths};
-use crate::walks::Numbers;
+use crate::maps::Numbers;
 use ordered_multimap::ListOrderedMultimap;
 use test_helpers::{End, Failed, Test, walk_difference};
 

@@ -1,5 +1,5 @@
 //! What Debug shows, and what is equal, of each public type that a map hands out.
-use crate::walks::{MIXED, Numbers, map_of};
+use crate::maps::{MIXED, Numbers, map_of};
 use ordered_multimap::list_ordered_multimap::{EntryValues, Iter, KeyLink, Refused, ValueLink};
 use ordered_multimap::{End, ListOrderedMultimap};
 use test_helpers::{Failed, Test, expect_text, is_compared, is_copied, is_shown};

@@ -1,18 +1,13 @@
 //! Walks from both ends, over all pairs and over one key's values.
+use crate::maps::{MIXED, Numbers, map_of};
 use ordered_multimap::ListOrderedMultimap;
 use ordered_multimap::list_ordered_multimap::{EntryValues, Iter};
 use test_helpers::{End, Failed, Test, walk_difference};
-
-/// A map of numbers.
-pub type Numbers = ListOrderedMultimap<u32, u32>;
 
 // What the front or the back gives: a pair, or a value.
 type PairStep = (End, (u32, u32));
 
 type ValueStep = (End, u32);
-
-/// Two keys with two values each, one inside the other.
-pub const MIXED: &[(u32, u32)] = &[(1, 11), (2, 12), (2, 13), (1, 14)];
 
 // One key with four values, and one pair of another key in their midst.
 const GROUPED: &[(u32, u32)] = &[(1, 11), (1, 12), (2, 20), (1, 13), (1, 14)];
@@ -130,15 +125,6 @@ const VALUE_WALKS: &[ValueWalk] = &[
         ],
     },
 ];
-
-/// A map of these pairs.
-pub fn map_of(test: &Test, pairs: &[(u32, u32)]) -> Numbers {
-    let mut map = ListOrderedMultimap::new(test.alloc());
-    for (key, value) in pairs {
-        test.expect("append", map.append(*key, *value).is_ok());
-    }
-    map
-}
 
 fn expect_pairs(test: &Test, map: &Numbers, row: &PairWalk) {
     test.expect_same(row.name, walk_difference(&mut map.iter(), row.steps));

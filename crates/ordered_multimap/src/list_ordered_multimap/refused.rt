@@ -58,3 +58,30 @@ impl<V: Drop> From<RefusedValue<V>> for AllocError {
         AllocError
     }
 }
+
+/// Want of memory for the clone of a key, with the value that was to be handed out beside it.
+///
+/// By `?` it becomes an [`AllocError`], which lets the value go.
+#[derive(Debug, PartialEq, Eq, Drop)]
+pub struct UnclonedKey<V> {
+    /// The value of the pair.
+    pub value: V,
+}
+
+impl<V> fmt::Display for UnclonedKey<V> {
+    ghost use Rattle.std.specs.Prelude.{Some, codes};
+
+    ghost output = { λ _. Some (codes "memory allocation failed") };
+
+    fn fmt<W: fmt::Write>(&self, f: &mut fmt::Formatter<W>) -> fmt::Result {
+        f.write_str("memory allocation failed")
+    }
+}
+
+impl<V: fmt::Debug + Drop> Error for UnclonedKey<V> {}
+
+impl<V: Drop> From<UnclonedKey<V>> for AllocError {
+    fn from(_refused: UnclonedKey<V>) -> AllocError {
+        AllocError
+    }
+}

@@ -1,12 +1,13 @@
-//! Walks over all pairs, over the keys, and over the values of a key.
+//! Walks over all pairs, over the keys, over all values, and over the values of a key.
 ghost use Rattle.std.specs.Prelude.{◌≡◌};
 ghost use Rattle.multimap_slots.specs.Lists.{IsIn};
 ghost use Rattle.ordered_multimap.specs.Agrees.{HasKey};
-ghost use Rattle.ordered_multimap.specs.Pairs.{positions_of, values_of};
+ghost use Rattle.ordered_multimap.specs.KeyLists.{keys_with_values};
+ghost use Rattle.ordered_multimap.specs.Pairs.{all_values, positions_of, values_of};
 
 use super::ListOrderedMultimap;
 use super::lookup::slot_at;
-use multimap_walks::{EntryValues, Iter, Keys};
+use multimap_walks::{EntryValues, Iter, KeyValues, Keys, Values};
 use std::alloc::Allocator;
 use std::hash::{BuildHasher, Hash};
 
@@ -32,6 +33,29 @@ impl<K: Eq + Hash, V, S: BuildHasher, A: Allocator> ListOrderedMultimap<K, V, S,
         ensures { result ≡ self.now.lists.keys }
     {
         Keys::new(&self.keys)
+    }
+
+    /// A walk over the values of all pairs, in order. Each step reads the slot of its value.
+    ///
+    /// ```
+    /// map.values().next_back() == Some(&2)
+    /// ```
+    pub fn values(&self) -> Values<'_, K, V, A>
+        ensures { result ≡ all_values self.now.lists.pairs }
+    {
+        Values::new(&self.values)
+    }
+
+    /// A walk over the keys, in the order in which they last became present, each with a walk over
+    /// its values. Each step reads the slot of its key, and no slot of a value.
+    ///
+    /// ```
+    /// map.pairs().len() == 2
+    /// ```
+    pub fn pairs(&self) -> KeyValues<'_, K, V, A>
+        ensures { result ≡ keys_with_values K.eq self.now.lists }
+    {
+        KeyValues::new(&self.keys, &self.values)
     }
 
     /// A walk over the key's values, in order, which is empty for an absent key. One look-up and
@@ -64,5 +88,19 @@ impl<K: Eq + Hash, V, S: BuildHasher, A: Allocator> ListOrderedMultimap<K, V, S,
     {
         let (_, link) = slot_at(&self.keys, place);
         EntryValues::new(&self.keys, &self.values, Some((place, link)))
+    }
+}
+
+/// The walk of `iter`.
+impl<'map, K: Eq + Hash, V, S: BuildHasher, A: Allocator> IntoIterator
+    for &'map ListOrderedMultimap<K, V, S, A> {
+    type Item = (&'map K, &'map V);
+
+    type IntoIter = Iter<'map, K, V, A>;
+
+    ghost into_iter_gives = { λ m r. r ≡ m.now.lists.pairs };
+
+    fn into_iter(self) -> Iter<'map, K, V, A> {
+        self.iter()
     }
 }

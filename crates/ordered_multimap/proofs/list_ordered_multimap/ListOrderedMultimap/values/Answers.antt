@@ -1,0 +1,7 @@
+use Rattle.std.proofs.Common.{sym, ap, ◌∙◌}
+use Rattle.ordered_multimap.specs.Pairs.{all_values}
+use Rattle.ordered_multimap.proofs.WalkLemmas.{all_values-listed}
+use Rattle.ordered_multimap.proofs.list_ordered_multimap.ListOrderedMultimap.values.Goals as goal
+
+pub returns : goal.returns
+returns g c = c.new.ensures.values ∙ sym (all_values-listed c.self.invariant.agrees) ∙ ap (λ m. all_values m.lists.pairs) c.self.view_is

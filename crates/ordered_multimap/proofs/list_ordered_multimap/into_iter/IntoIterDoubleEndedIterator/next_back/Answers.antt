@@ -1,0 +1,31 @@
+use Rattle.std.proofs.Common.{◌∙◌, Some, rules, sym, subst}
+use Rattle.multimap_walks.specs.Chained.{pair_at, pairs_of}
+use Rattle.multimap_walks.specs.declared.End.TheVariants.{Back}
+use Rattle.ordered_multimap.specs.IntoIters.{HandsOut}
+use Rattle.ordered_multimap.proofs.HandedLemmas.{fewer_left, hands_out, owned_left}
+use Rattle.ordered_multimap.proofs.PopLemmas.{end_listed, none_at_end}
+use Rattle.ordered_multimap.proofs.list_ordered_multimap.into_iter.IntoIterDoubleEndedIterator.next_back.Goals as goal
+
+pub take_cloning-requires-clause-listed : goal.take_cloning-requires-clause-listed
+take_cloning-requires-clause-listed g c = end_listed Back c.self.inside.values.list.order _ (sym c.back_place.ensures ∙ c.in-Some.is)
+
+pub invariant_of-self : goal.invariant_of-self
+invariant_of-self g c = let i = c.self.inside in owned_left i.keys i.values.list _ c.take_cloning.new.values.list c.take_cloning.ensures.order c.take_cloning.ensures.others c.self.invariant
+
+pub returns-clause-steps : goal.returns-clause-steps
+returns-clause-steps g c =
+    let i = c.self.inside in
+    subst (λ old. HandsOut g.K.Clone.is_clone g.K.Clone.is_infallible Back old (Some c.take_cloning.result) (pairs_of i.keys c.take_cloning.new.values.list)) c.self.view_is
+    (hands_out i.keys i.values.list _ c.take_cloning.new.values.list c.take_cloning.ensures.order c.take_cloning.ensures.others g.K.Clone.is_clone g.K.Clone.is_infallible Back
+    c.len-values.ensures.sound.distinct (sym c.back_place.ensures ∙ c.in-Some.is) c.take_cloning.result c.take_cloning.ensures.handed)
+
+pub returns-clause-goes : goal.returns-clause-goes
+returns-clause-goes g c =
+    let falls = fewer_left g.K.Clone.is_clone g.K.Clone.is_infallible c.take_cloning.result Back c.args.self.now (pairs_of c.self.inside.keys c.take_cloning.new.values.list) (returns-clause-steps g c) in
+    search (rules, falls)
+
+pub returns-in_default-clause-steps : goal.returns-in_default-clause-steps
+returns-in_default-clause-steps g c =
+    let i = c.self.inside in
+    let none = sym c.self.view_is ∙ none_at_end (pair_at i.keys i.values.list) Back i.values.list.order (sym c.back_place.ensures ∙ c.in_default.is) in
+    (none, none)

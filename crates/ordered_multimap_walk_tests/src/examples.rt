@@ -1,0 +1,25 @@
+//! The examples of the doc comments of the calls that this crate tests. `tools/examples` says
+//! whether each line of theirs stands here.
+use ordered_multimap::ListOrderedMultimap;
+use test_helpers::{Failed, Test};
+
+type Numbers = ListOrderedMultimap<&'static str, u32>;
+
+fn add_three(test: &Test, map: &mut Numbers) {
+    test.expect("append", map.append("line", 1).is_ok());
+    test.expect("append", map.append("page", 8).is_ok());
+    test.expect("append", map.append("line", 2).is_ok());
+}
+
+fn walks_answer(test: &Test, map: &mut Numbers) {
+    add_three(test, map);
+    test.expect("values", map.values().next_back() == Some(&2));
+    test.expect("pairs", map.pairs().len() == 2);
+}
+
+#[test]
+fn examples_hold(rt: HostRuntime) -> Result<(), Failed> {
+    let test = Test::new(rt.alloc());
+    walks_answer(&test, &mut ListOrderedMultimap::new(test.alloc()));
+    test.end()
+}

@@ -1,0 +1,16 @@
+//! Tests of the map's walks over all values and over the keys with their values, of the walk that
+//! takes a map apart, and of equality, from outside.
+#![tactic(auto)]
+
+#[cfg(test)]
+mod all_values;
+#[cfg(test)]
+mod equal;
+#[cfg(test)]
+mod examples;
+#[cfg(test)]
+mod into_iter;
+#[cfg(test)]
+mod key_values;
+#[cfg(test)]
+mod uncloned;
