@@ -1,8 +1,9 @@
 -- Laws of the definitions, as statements on all lists.
-use Rattle.std.specs.Prelude.{◌≡◌, Bool, not, Some}
+use Rattle.std.specs.Prelude.{◌≡◌, Bool, true, not, length, Some}
+use Rattle.std.specs.Cmp.{IsEquivalence}
 use Rattle.multimap_walks.specs.declared.End.TheVariants.{Back}
-use Rattle.ordered_multimap.specs.Lists.{Lists, lists}
-use Rattle.ordered_multimap.specs.Pairs.{is_present}
+use Rattle.ordered_multimap.specs.Lists.{IsWellFormed, Lists, lists}
+use Rattle.ordered_multimap.specs.Pairs.{is_present, same_pairs}
 use Rattle.ordered_multimap.specs.Keys.{stored_key}
 use Rattle.ordered_multimap.specs.Changes.{appended, first_occurrences, built_from}
 use Rattle.ordered_multimap.specs.Pop.{popped_pair, popped}
@@ -23,3 +24,10 @@ module _ {K : Type 0} (eq : K → K → Bool) {V : Type 0} where
   -- first occurrence
   abbrev pub IsRebuilt : Lists K V → Type 0
   IsRebuilt m = built_from eq m.pairs ≡ lists (first_occurrences eq m.pairs) m.pairs
+
+  -- lists of pairs are compared by an equivalence, and well-formed lists with the same pairs have as
+  -- many keys
+  pub record ComparesPairs (value_eq : V → V → Bool) : Type 0 where
+    pub equivalence : IsEquivalence (same_pairs eq value_eq)
+    pub keys : (m n : Lists K V) → IsWellFormed eq m → IsWellFormed eq n
+        → same_pairs eq value_eq m.pairs n.pairs ≡ true → length m.keys ≡ length n.keys

@@ -1,6 +1,6 @@
 //! Laws of the definitions, for all lists. The functions do nothing: what they ensure is the law.
 ghost use Rattle.ordered_multimap.specs.Lists.{Lists, IsWellFormed};
-ghost use Rattle.ordered_multimap.specs.Laws.{PopUndoesAppend, IsRebuilt};
+ghost use Rattle.ordered_multimap.specs.Laws.{ComparesPairs, PopUndoesAppend, IsRebuilt};
 
 /// An append and then a pop at the back give the lists again, and the pair that was appended.
 pub fn append_then_pop_back<K: Eq, V>()
@@ -11,4 +11,9 @@ pub fn append_then_pop_back<K: Eq, V>()
 /// which they first occur in the pairs.
 pub fn json_first_occurrence<K: Eq, V>()
     ensures { (m : Lists K V) → IsWellFormed K.eq m → IsRebuilt K.eq m }
+{}
+
+/// Equality of maps is an equivalence, and equal maps have as many keys.
+pub fn equal_maps<K: Eq, V: Eq>()
+    ensures { ComparesPairs K.eq V.eq }
 {}
