@@ -11,7 +11,7 @@ use Rattle.ordered_multimap.specs.Pop.{popped}
 use Rattle.ordered_multimap.proofs.WellFormedLemmas.{empty_well_formed, appended_well_formed, inserted_well_formed, removed_well_formed, popped_well_formed, first_written_well_formed, end_written_well_formed}
 use Rattle.ordered_multimap.proofs.KeyOrderLemmas.{KeepsKeyOrder-same, KeepsKeyOrder-keys_with, KeepsKeyOrder-named_by, KeepsKeyOrder-popped, KeepsKeyOrder-none, KeepsKeyOrder-first_written, KeepsKeyOrder-end_written}
 use Rattle.multimap_tool.specs.declared.commands.Command.{Command}
-use Rattle.multimap_tool.specs.declared.commands.Command.TheVariants.{Append, Insert, InsertAll, SetFirst, SetFront, SetBack, OrInsert, Get, All, Has, Len, Front, Back, Remove, RemoveAll, RemoveEntry, RemoveEntryAll, PopFront, PopBack, Clear, Pairs, Keys, Lengths}
+use Rattle.multimap_tool.specs.declared.commands.Command.TheVariants.{Append, Insert, InsertAll, SetFirst, SetFront, SetBack, OrInsert, Get, All, Has, Len, Front, Back, Remove, RemoveAll, RemoveEntry, RemoveEntryAll, PopFront, PopBack, Clear, Pairs, Keys, Values, Lengths}
 use Rattle.multimap_tool.specs.declared.replies.Reply.{Reply}
 use Rattle.multimap_tool.specs.Step.{Leaves, IsLookUp, IsStep, entered}
 use Rattle.multimap_tool.specs.Runs.{IsRun}
@@ -100,6 +100,7 @@ module _ {K V A : Type 0} {eq : K → K → Bool} (laws : IsEquivalence eq) wher
   })
   leaves_orderly (Pairs ends) m n formed left = unchanged laws m n formed left
   leaves_orderly (Keys ends) m n formed left = unchanged laws m n formed left
+  leaves_orderly (Values ends) m n formed left = unchanged laws m n formed left
   leaves_orderly Lengths m n formed left = unchanged laws m n formed left
 
   pub step_orderly : (command : Command K V A) (m : Lists K V) (reply : Reply K V A) (n : Lists K V) → IsWellFormed eq m → IsStep eq command m reply n → IsOrderly eq m n
@@ -139,6 +140,7 @@ module _ {K V A : Type 0} where
   IsLookUp-else Clear a b c d e f g h i j l m n o = o refl
   IsLookUp-else (Pairs ends) a b c d e f g h i j l m n o = tt
   IsLookUp-else (Keys ends) a b c d e f g h i j l m n o = tt
+  IsLookUp-else (Values ends) a b c d e f g h i j l m n o = tt
   IsLookUp-else Lengths a b c d e f g h i j l m n o = tt
 
 -- what holds of a value where there is one implies what follows from it

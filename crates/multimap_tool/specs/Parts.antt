@@ -25,7 +25,7 @@ IsReadingOf {A} line found = MatchOption found (IsBadLine A line) (λ command. S
 abbrev pub lone_words : List (List ℕ)
 lone_words =
     codes "front" ∷ codes "back" ∷ codes "popfront" ∷ codes "popback" ∷ codes "clear"
-    ∷ codes "pairs" ∷ codes "keys" ∷ codes "lengths" ∷ []
+    ∷ codes "pairs" ∷ codes "keys" ∷ codes "values" ∷ codes "lengths" ∷ []
 
 -- those that a key follows
 abbrev pub key_words : List (List ℕ)
@@ -39,7 +39,7 @@ value_words = codes "setfront" ∷ codes "setback" ∷ []
 
 -- those that the letters of a walk follow
 abbrev pub walk_words : List (List ℕ)
-walk_words = codes "walkpairs" ∷ codes "walkkeys" ∷ []
+walk_words = codes "walkpairs" ∷ codes "walkkeys" ∷ codes "walkvalues" ∷ []
 
 -- those that a key and a value follow
 abbrev pub pair_words : List (List ℕ)

@@ -19,7 +19,7 @@ use Rattle.multimap_tool.specs.declared.commands.Command.TheVariants.{Get, All, 
 use Rattle.multimap_tool.specs.declared.commands.Command.TheVariants.{Remove, RemoveAll}
 use Rattle.multimap_tool.specs.declared.commands.Command.TheVariants.{RemoveEntry, RemoveEntryAll}
 use Rattle.multimap_tool.specs.declared.commands.Command.TheVariants.{PopFront, PopBack, Clear}
-use Rattle.multimap_tool.specs.declared.commands.Command.TheVariants.{Pairs, Keys, Lengths}
+use Rattle.multimap_tool.specs.declared.commands.Command.TheVariants.{Pairs, Keys, Values, Lengths}
 
 -- the letters f and b
 abbrev pub letter_of : End → ℕ
@@ -79,6 +79,8 @@ module _ {A : Type 0} where
   name_of (Pairs (Word word)) = codes "walkpairs"
   name_of (Keys Forward) = codes "keys"
   name_of (Keys (Word word)) = codes "walkkeys"
+  name_of (Values Forward) = codes "values"
+  name_of (Values (Word word)) = codes "walkvalues"
   name_of Lengths = codes "lengths"
 
   -- the operand of a walk
@@ -110,6 +112,7 @@ module _ {A : Type 0} where
   operands_of Clear = []
   operands_of (Pairs ends) = word_of ends
   operands_of (Keys ends) = word_of ends
+  operands_of (Values ends) = word_of ends
   operands_of Lengths = []
 
   -- the line of a command: its word, and each operand after one space

@@ -5,7 +5,7 @@ use Rattle.ordered_multimap.specs.End.{End}
 use Rattle.ordered_multimap.specs.End.TheVariants as ends
 use Rattle.ordered_multimap.specs.Walk.{end_item, answers_of_walk, forward}
 use Rattle.ordered_multimap.specs.Lists.{Lists, empty_lists}
-use Rattle.ordered_multimap.specs.Pairs.{has_items, values_of, is_present}
+use Rattle.ordered_multimap.specs.Pairs.{all_values, has_items, values_of, is_present}
 use Rattle.ordered_multimap.specs.Keys.{stored_key}
 use Rattle.ordered_multimap.specs.Changes.{appended, inserted, removed, first_written, end_written}
 use Rattle.ordered_multimap.specs.Pop.{popped, popped_pair}
@@ -21,7 +21,7 @@ use Rattle.multimap_tool.specs.declared.commands.Command.TheVariants.{Front, Bac
 use Rattle.multimap_tool.specs.declared.commands.Command.TheVariants.{Remove, RemoveAll}
 use Rattle.multimap_tool.specs.declared.commands.Command.TheVariants.{RemoveEntry, RemoveEntryAll}
 use Rattle.multimap_tool.specs.declared.commands.Command.TheVariants.{PopFront, PopBack, Clear}
-use Rattle.multimap_tool.specs.declared.commands.Command.TheVariants.{Pairs, Keys, Lengths}
+use Rattle.multimap_tool.specs.declared.commands.Command.TheVariants.{Pairs, Keys, Values, Lengths}
 use Rattle.multimap_tool.specs.declared.replies.Popped.{Popped}
 use Rattle.multimap_tool.specs.declared.replies.Reply.{Reply}
 use Rattle.multimap_tool.specs.declared.replies.Reply.TheVariants as replies
@@ -125,6 +125,7 @@ module _ {K : Type 0} (eq : K → K → Bool) {V A : Type 0} where
   Tells Clear m replies.Done = Unit {0}
   Tells (Pairs ends) m (replies.Pairs pairs) = pairs.items ≡ walked m.pairs ends
   Tells (Keys ends) m (replies.Keys keys) = keys.items ≡ walked m.keys ends
+  Tells (Values ends) m (replies.Values values) = values.items ≡ walked (all_values m.pairs) ends
   Tells Lengths m (replies.Counts keys pairs) = (keys ≡ length m.keys) × (pairs ≡ length m.pairs)
   Tells _ m _ = ⊥
 
@@ -140,6 +141,7 @@ module _ {K : Type 0} (eq : K → K → Bool) {V A : Type 0} where
   MayLackMemory (RemoveEntryAll k) m = ListsItem (values_of eq m.pairs k)
   MayLackMemory (Pairs ends) m = ListsItem (walked m.pairs ends)
   MayLackMemory (Keys ends) m = ListsItem (walked m.keys ends)
+  MayLackMemory (Values ends) m = ListsItem (walked (all_values m.pairs) ends)
   MayLackMemory _ m = ⊥
 
   -- the command may be given this reply, from these lists to those: want of memory changes nothing

@@ -60,6 +60,8 @@ pub enum Command<K, V, A: Allocator = Global> {
     Pairs(Ends<A>),
     /// All keys.
     Keys(Ends<A>),
+    /// The values of all pairs.
+    Values(Ends<A>),
     /// How many keys and how many pairs there are.
     Lengths,
 }

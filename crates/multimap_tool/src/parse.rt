@@ -105,6 +105,9 @@ fn lone_command<A: Allocator>(name: &[u8]) -> Option<Command<u32, i64, A>>
     if name == b"keys".as_slice() {
         return Some(Command::Keys(Ends::Forward));
     }
+    if name == b"values".as_slice() {
+        return Some(Command::Values(Ends::Forward));
+    }
     if name == b"lengths".as_slice() {
         return Some(Command::Lengths);
     }
@@ -203,6 +206,9 @@ fn walk_command<A: Allocator>(name: &[u8], word: Vec<End, A>) -> Option<Command<
     }
     if name == b"walkkeys".as_slice() {
         return Some(Command::Keys(Ends::Word(word)));
+    }
+    if name == b"walkvalues".as_slice() {
+        return Some(Command::Values(Ends::Word(word)));
     }
     None
 }

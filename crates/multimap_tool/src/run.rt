@@ -167,6 +167,7 @@ fn look_up<K: Eq + Hash + Copy, V: Copy, S: BuildHasher, A: Allocator + Copy>(
         Command::Back => Reply::Pair(copied_pair(map.back())),
         Command::Pairs(ends) => walk_pairs(alloc, map, ends),
         Command::Keys(ends) => walk_keys(alloc, map, ends),
+        Command::Values(ends) => walk_all_values(alloc, map, ends),
         Command::Lengths => Reply::Counts(map.keys_len(), map.values_len()),
         _ => unreachable!(),
     }
@@ -221,6 +222,20 @@ fn walk_keys<K: Eq + Hash + Copy, V: Copy, S: BuildHasher, A: Allocator + Copy>(
 {
     match walk(alloc, map.keys(), ends) {
         Ok(keys) => Reply::Keys(keys),
+        Err(_) => Reply::NoMemory,
+    }
+}
+
+/// The values of all pairs, as a walk takes them.
+fn walk_all_values<K: Eq + Hash + Copy, V: Copy, S: BuildHasher, A: Allocator + Copy>(
+    alloc: A,
+    map: &ListOrderedMultimap<K, V, S, A>,
+    ends: &Ends<A>,
+) -> Reply<K, V, A>
+    ensures { IsStep K.eq (Command.Values ends.now) map.now.lists result map.now.lists }
+{
+    match walk(alloc, map.values(), ends) {
+        Ok(values) => Reply::Values(values),
         Err(_) => Reply::NoMemory,
     }
 }

@@ -6,7 +6,7 @@ ghost use Rattle.multimap_tool.specs.Step.{ListsItem, walked};
 
 use crate::commands::Ends;
 use ordered_multimap::End;
-use ordered_multimap::list_ordered_multimap::{EntryValues, Iter, Keys};
+use ordered_multimap::list_ordered_multimap::{EntryValues, Iter, Keys, Values};
 use std::alloc::{AllocError, Allocator};
 
 /// A walk from both ends whose items are copied.
@@ -63,6 +63,24 @@ impl<'map, K: Copy, A: Allocator> Copied for Keys<'map, K, A> {
             End::Back => self.next_back(),
         };
         key.copied()
+    }
+}
+
+impl<'map, K, V: Copy, A: Allocator> Copied for Values<'map, K, V, A> {
+    type Item = V;
+
+    ghost left = { λ walk. walk };
+
+    fn count(&self) -> usize {
+        self.len()
+    }
+
+    fn take(&mut self, end: End) -> Option<V> {
+        let value = match end {
+            End::Front => self.next(),
+            End::Back => self.next_back(),
+        };
+        value.copied()
     }
 }
 

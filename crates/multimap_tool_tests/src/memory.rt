@@ -39,7 +39,7 @@ fn may_lack(alloc: Global, plain: &mut PlainMap, command: &Command<u32, i64>) ->
         Command::Append(_, _) | Command::InsertAll(_, _) => true,
         Command::Insert(key, _) | Command::OrInsert(key, _) => !has(alloc, plain, *key),
         Command::RemoveAll(key) | Command::RemoveEntryAll(key) => has(alloc, plain, *key),
-        Command::All(_, _) | Command::Pairs(_) | Command::Keys(_) => {
+        Command::All(_, _) | Command::Pairs(_) | Command::Keys(_) | Command::Values(_) => {
             match plain.answer(alloc, command) {
                 Ok(reply) => !is_text_of(alloc, reply, "empty"),
                 Err(_) => false,

@@ -50,6 +50,14 @@ impl PlainMap {
         Ok(Reply::Values(walked(alloc, &values, ends)?))
     }
 
+    fn all_values(&self, alloc: Global, ends: &Ends) -> Answer {
+        let mut values = Vec::new(alloc);
+        for pair in &self.pairs {
+            values.push(pair.1)?;
+        }
+        Ok(Reply::Values(walked(alloc, &values, ends)?))
+    }
+
     fn put_last(&mut self, key: u32, value: i64) -> Result<(), AllocError> {
         self.pairs.retain(|pair| pair.0 != key);
         self.append(key, value)?;
@@ -192,6 +200,7 @@ impl PlainMap {
             Command::Back => Ok(Reply::Pair(self.pairs.last().copied())),
             Command::Pairs(ends) => Ok(Reply::Pairs(walked(alloc, &self.pairs, ends)?)),
             Command::Keys(ends) => Ok(Reply::Keys(walked(alloc, &self.keys, ends)?)),
+            Command::Values(ends) => self.all_values(alloc, ends),
             _ => Ok(Reply::Counts(self.keys.len(), self.pairs.len())),
         }
     }

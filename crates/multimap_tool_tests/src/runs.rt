@@ -79,6 +79,13 @@ fn add_keys(rows: &mut Rows, alloc: Global) -> Result<(), AllocError> {
     add(rows, Command::Keys(Ends::Word(word)), Reply::Keys(keys))
 }
 
+fn add_values(rows: &mut Rows, alloc: Global) -> Result<(), AllocError> {
+    let word = vec![in alloc; End::Back, End::Front]?;
+    let values = vec![in alloc; Some(false), Some(true)]?;
+    let command = Command::Values(Ends::Word(word));
+    add(rows, command, Reply::Values(values))
+}
+
 fn add_insertions(rows: &mut Rows, alloc: Global) -> Result<(), AllocError> {
     let old = vec![in alloc; Some(true), Some(false)]?;
     add(rows, Command::InsertAll('x', false), Reply::Values(old))?;
@@ -157,6 +164,7 @@ fn add_rows(rows: &mut Rows, alloc: Global) -> Result<(), AllocError> {
     add_no_pairs(rows, alloc)?;
     add_ends(rows)?;
     add_keys(rows, alloc)?;
+    add_values(rows, alloc)?;
     add_insertions(rows, alloc)?;
     add_removals(rows, alloc)?;
     add_writes(rows)?;

@@ -82,8 +82,8 @@ const GOOD: &[(&str, &str)] = &[
         "empty\nmore\n1 2\n1:3\n1 1\n",
     ),
     (
-        "insert 1 1\ninsert 2 2\nappend 2 3\nappend 1 4\nwalkpairs fbb\nwalkkeys bff\nremoveentryall 2\nremoveentry 2\npairs\nclear\nlengths\n",
-        "none\nnone\nmore\nmore\n1:1 1:4 2:3\n2 1 -\n2=2,3\nnone\n1:1 1:4\ndone\n0 0\n",
+        "insert 1 1\ninsert 2 2\nappend 2 3\nappend 1 4\nwalkpairs fbb\nwalkkeys bff\nremoveentryall 2\nremoveentry 2\npairs\nvalues\nclear\nlengths\nwalkvalues fb\n",
+        "none\nnone\nmore\nmore\n1:1 1:4 2:3\n2 1 -\n2=2,3\nnone\n1:1 1:4\n1 4\ndone\n0 0\n- -\n",
     ),
     // Values written in their places, and a pair that comes where its key is absent.
     (
@@ -215,6 +215,9 @@ const BAD: &[(&str, u64)] = &[
     ("walkkeys\n", 1),
     ("walkkeys 1\n", 1),
     ("walkkeys \n", 1),
+    ("values f\n", 1),
+    ("walkvalues\n", 1),
+    ("walkvalues 1\n", 1),
     ("walk 1 2\n", 1),
     ("get f\n", 1),
     // Commands that the program doesn't have.

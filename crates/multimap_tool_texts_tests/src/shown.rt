@@ -56,6 +56,7 @@ fn changes_are_shown(test: &Test) {
     expect_command(test, Command::PopBack, "PopBack");
     expect_command(test, Command::Clear, "Clear");
     expect_command(test, Command::Keys(Ends::Forward), "Keys(Forward)");
+    expect_command(test, Command::Values(Ends::Forward), "Values(Forward)");
 }
 
 fn writes_are_shown(test: &Test) {

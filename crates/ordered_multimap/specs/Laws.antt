@@ -25,8 +25,8 @@ module _ {K : Type 0} (eq : K → K → Bool) {V : Type 0} where
   abbrev pub IsRebuilt : Lists K V → Type 0
   IsRebuilt m = built_from eq m.pairs ≡ lists (first_occurrences eq m.pairs) m.pairs
 
-  -- lists of pairs are compared by an equivalence, and well-formed lists with the same pairs have as
-  -- many keys
+  -- lists of pairs are compared by an equivalence, and well-formed lists with the same pairs have
+  -- as many keys
   pub record ComparesPairs (value_eq : V → V → Bool) : Type 0 where
     pub equivalence : IsEquivalence (same_pairs eq value_eq)
     pub keys : (m n : Lists K V) → IsWellFormed eq m → IsWellFormed eq n

@@ -43,6 +43,11 @@ returns-then-eq-8 g c =
     let name = c.args.name.now in
     record { name_is = sym (same_text name _ c.eq-8.result c.if-eq-8.true (c.eq-8.ensures ∙ ap (bytes_eq name) c.as_slice-8.ensures)); operands_are = refl }
 
+pub returns-then-eq-9 : goal.returns-then-eq-9
+returns-then-eq-9 g c =
+    let name = c.args.name.now in
+    record { name_is = sym (same_text name _ c.eq-9.result c.if-eq-9.true (c.eq-9.ensures ∙ ap (bytes_eq name) c.as_slice-9.ensures)); operands_are = refl }
+
 pub returns : goal.returns
 returns g c =
     let name = c.args.name.now in
@@ -54,6 +59,7 @@ returns g c =
       | inr (inr (inr (inr (inl is_clear)))) ↦ other_text name _ c.eq-5.result c.if-eq-5.false (c.eq-5.ensures ∙ ap (bytes_eq name) c.as_slice-5.ensures) is_clear
       | inr (inr (inr (inr (inr (inl is_pairs))))) ↦ other_text name _ c.eq-6.result c.if-eq-6.false (c.eq-6.ensures ∙ ap (bytes_eq name) c.as_slice-6.ensures) is_pairs
       | inr (inr (inr (inr (inr (inr (inl is_keys)))))) ↦ other_text name _ c.eq-7.result c.if-eq-7.false (c.eq-7.ensures ∙ ap (bytes_eq name) c.as_slice-7.ensures) is_keys
-      | inr (inr (inr (inr (inr (inr (inr (inl is_lengths))))))) ↦ other_text name _ c.eq-8.result c.if-eq-8.false (c.eq-8.ensures ∙ ap (bytes_eq name) c.as_slice-8.ensures) is_lengths
-      | inr (inr (inr (inr (inr (inr (inr (inr never))))))) ↦ never
+      | inr (inr (inr (inr (inr (inr (inr (inl is_values))))))) ↦ other_text name _ c.eq-8.result c.if-eq-8.false (c.eq-8.ensures ∙ ap (bytes_eq name) c.as_slice-8.ensures) is_values
+      | inr (inr (inr (inr (inr (inr (inr (inr (inl is_lengths)))))))) ↦ other_text name _ c.eq-9.result c.if-eq-9.false (c.eq-9.ensures ∙ ap (bytes_eq name) c.as_slice-9.ensures) is_lengths
+      | inr (inr (inr (inr (inr (inr (inr (inr (inr never)))))))) ↦ never
     ]
