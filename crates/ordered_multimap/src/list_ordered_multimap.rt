@@ -19,6 +19,7 @@ mod pop;
 mod refused;
 mod remove;
 mod room;
+mod show;
 mod steps;
 mod take_one;
 mod takes;

@@ -1,5 +1,5 @@
 //! Tests of the map's walks over all values and over the keys with their values, of the walk that
-//! takes a map apart, and of equality, from outside.
+//! takes a map apart, of equality, and of a map's text, from outside.
 #![tactic(auto)]
 
 #[cfg(test)]
@@ -12,5 +12,7 @@ mod examples;
 mod into_iter;
 #[cfg(test)]
 mod key_values;
+#[cfg(test)]
+mod shown;
 #[cfg(test)]
 mod uncloned;
