@@ -82,8 +82,6 @@ pub(crate) fn key_values_of<'map, K, V, A: Allocator>(
     requires listed { IsIn place keys.now.order }
     ensures { key_values_at keys.now values.now.list place ≡ Some (result.0.now, result.1) }
 {
-    match keys.get(place, reads) {
-        Some((key, link)) => (key, EntryValues::new(keys, values, Some((place, link)))),
-        None => unreachable!(),
-    }
+    let (key, link) = keys.get_listed(place, reads);
+    (key, EntryValues::new(keys, values, Some((place, link))))
 }
