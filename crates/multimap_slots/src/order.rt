@@ -7,6 +7,7 @@ mod node;
 mod optional_place;
 mod write;
 
+use crate::grow::grow;
 use node::{Node, State};
 use optional_place::OptionalPlace;
 use std::alloc::{AllocError, Allocator};
@@ -102,11 +103,13 @@ impl<L: Copy, A: Allocator> Order<L, A> {
 
     /// Makes room for so many more nodes.
     pub(crate) fn reserve(&mut self, additional: usize) -> Result<(), AllocError>
+    where
+        A: Copy,
         ensures ok { OnOk result (length self.old.states + additional ≤ self.new.capacity) }
         ensures rest { KeepsPlaces self.old self.new }
         ensures capacity { self.old.capacity ≤ self.new.capacity }
     {
-        self.nodes.reserve(additional)
+        grow(&mut self.nodes, additional)
     }
 
     /// Lists a free place last, and answers it.

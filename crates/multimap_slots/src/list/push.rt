@@ -4,6 +4,7 @@ ghost use Rattle.multimap_slots.specs.Slots.{HasRoomFor, KeepsItems, PushesBack}
 ghost use Rattle.multimap_slots.specs.ListLayout.{put};
 
 use super::SlotList;
+use crate::grow::grow;
 use std::alloc::{AllocError, Allocator};
 use std::mem;
 
@@ -38,6 +39,8 @@ impl<T, L: Copy, A: Allocator> SlotList<T, L, A> {
     /// A refusal is want of memory, or a number of items past the greatest `usize`. Where the list
     /// grows, its items and links are moved to new memory, and keep their places.
     pub fn reserve(&mut self, additional: usize) -> Result<(), AllocError>
+    where
+        A: Copy,
         ensures room { OnOk result (HasRoomFor self.new additional) }
         ensures unchanged { KeepsItems self.old self.new }
 
@@ -56,6 +59,8 @@ impl<T, L: Copy, A: Allocator> SlotList<T, L, A> {
     /// room.
     #[inline(never)]
     fn grow(&mut self, additional: usize) -> Result<(), AllocError>
+    where
+        A: Copy,
         requires { self.old.capacity < length self.old.order + additional }
         ensures room { OnOk result (HasRoomFor self.new additional) }
         ensures unchanged { KeepsItems self.old self.new }
@@ -69,13 +74,15 @@ impl<T, L: Copy, A: Allocator> SlotList<T, L, A> {
             SECOND_SLOTS
         };
         let more = missing.max(least.saturating_sub(slots));
-        self.items.reserve(more)?;
+        grow(&mut self.items, more)?;
         self.order.reserve(more)
     }
 
     /// Puts the item last, with its link, and answers its place. Where memory is refused, it hands
     /// the item back. The time is constant but where the list grows, as `reserve` says.
     pub fn push_back(&mut self, item: T, link: L) -> Result<usize, T>
+    where
+        A: Copy,
         ensures pushed { IfOk result (λ place. PushesBack self.old self.new place item link) }
         ensures unchanged { OnErr result (KeepsItems self.old self.new) }
         ensures refused { IfErr result (λ returned. returned ≡ item) }

@@ -86,9 +86,7 @@ impl<K: Eq + Hash, V, S: BuildHasher, A: Allocator + Copy> ListOrderedMultimap<K
             value,
         )
     }
-}
 
-impl<K: Eq + Hash, V, S: BuildHasher, A: Allocator> ListOrderedMultimap<K, V, S, A> {
     /// Puts a value of the key at the place last.
     #[inline(always)]
     pub(super) fn append_at(&mut self, place: usize, value: V) -> Result<(), RefusedValue<V>>
@@ -114,7 +112,7 @@ impl<K: Eq + Hash, V, S: BuildHasher, A: Allocator> ListOrderedMultimap<K, V, S,
 
 /// Appends to the key at the place.
 #[inline(always)]
-fn append_behind<K, V: Drop, A: Allocator>(
+fn append_behind<K, V: Drop, A: Allocator + Copy>(
     keys: &mut SlotList<K, KeyLink, A>,
     values: &mut Tape<V, ValueLink, A>,
     place: usize,

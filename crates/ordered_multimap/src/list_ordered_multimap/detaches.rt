@@ -133,7 +133,7 @@ fn detach_older<K, V, A: Allocator>(
 
 /// Puts the value last, behind the others of the key at the place, detaches these, and answers
 /// where they stand.
-pub(super) fn insert_behind_all<K, V: Drop, A: Allocator>(
+pub(super) fn insert_behind_all<K, V: Drop, A: Allocator + Copy>(
     keys: &mut SlotList<K, KeyLink, A>,
     values: &mut Tape<V, ValueLink, A>,
     place: usize,

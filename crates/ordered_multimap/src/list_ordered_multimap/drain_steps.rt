@@ -181,9 +181,7 @@ impl<K: Eq + Hash, V, S: BuildHasher, A: Allocator + Copy> ListOrderedMultimap<K
             Err(RefusedValue { value }) => Err(Refused { key, value }),
         }
     }
-}
 
-impl<K: Eq + Hash, V, S: BuildHasher, A: Allocator> ListOrderedMultimap<K, V, S, A> {
     /// Puts a value of the key at the place last, and detaches its older values for a drain.
     pub(super) fn insert_detaching_at(
         &mut self,

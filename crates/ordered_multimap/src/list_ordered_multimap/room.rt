@@ -45,7 +45,7 @@ pub(super) fn make_end_room<K, V: Drop, A: Allocator>(
 /// closes the holes and takes no memory.
 #[tactic(auto, using(crate::proofs::CompactLemmas::grown_places, crate::proofs::CompactLemmas::same_places))]
 #[inline(always)]
-pub(super) fn make_value_room<K, V: Drop, A: Allocator>(
+pub(super) fn make_value_room<K, V: Drop, A: Allocator + Copy>(
     keys: &mut SlotList<K, KeyLink, A>,
     values: &mut Tape<V, ValueLink, A>,
 ) -> Result<(), AllocError>

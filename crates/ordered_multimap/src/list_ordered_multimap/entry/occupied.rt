@@ -119,6 +119,7 @@ impl<'map, K: Eq + Hash, V, S: BuildHasher, A: Allocator> OccupiedEntry<'map, K,
     pub fn append(&mut self, value: V) -> Result<(), RefusedValue<V>>
     where
         V: Drop,
+        A: Copy,
         ensures same_entry { IsSameEntry self.old self.new }
         ensures ok { OnOk result ((k : K) → IsOccupiedBy self.old k
             → self.new.map.now.lists ≡ appended K.eq self.old.map.now.lists k value) }
@@ -249,6 +250,8 @@ impl<'map, K: Eq + Hash, V: Drop, S: BuildHasher, A: Allocator> OccupiedEntry<'m
     /// entry.insert_all(3)?.next_back() == Some(2)
     /// ```
     pub fn insert_all(self, value: V) -> Result<EntryValuesDrain<'map, K, V, S, A>, RefusedValue<V>>
+    where
+        A: Copy,
         ensures* rest { sem 𝓛 (rests_with_drain K.row V.row S.row A.row S.Hasher.row A.Allocator
             self.entry result) }
         ensures drain { IfOk result (λ d. (k : K) → IsOccupiedBy self.entry k
