@@ -11,10 +11,14 @@ use Rattle.multimap_slots.specs.Tapes.{Taped, HasTapeRoomFor}
 use Rattle.ordered_multimap.specs.Renames.{AreRenamed}
 use Rattle.ordered_multimap.specs.TapeNumbers.{TakesOut, numbers_of}
 
--- no less room than before, and the same where one more of so many fits
-pub record GrowsIfFull (count old new : ℕ) : Type 0 where
+-- no less room than before, and the same where so many fit
+pub record GrowsFor (count old new : ℕ) : Type 0 where
   pub no_less : old ≤ new
-  pub had_room : count + 1 ≤ old → new ≡ old
+  pub had_room : count ≤ old → new ≡ old
+
+-- no less room than before, and the same where one more of so many fits
+abbrev pub GrowsIfFull : ℕ → ℕ → ℕ → Type 0
+GrowsIfFull count old new = GrowsFor (count + 1) old new
 
 -- the tape has no fewer slots than before, and as many where one more value fits; no value left it
 pub record MakesRoom {V : Type 0} (old new : Taped V ValueLink) : Type 0 where
@@ -22,6 +26,12 @@ pub record MakesRoom {V : Type 0} (old new : Taped V ValueLink) : Type 0 where
   pub taken : TakesOut 0 (numbers_of old) (numbers_of new)
   pub no_less : old.list.capacity ≤ new.list.capacity
   pub had_room : HasTapeRoomFor old 1 → new.list.capacity ≡ old.list.capacity
+
+-- so many more keys and their rows fit
+pub record FitsKeys {K : Type 0} (keys : Slots K KeyLink) (rows : FinMap nat_cmp ℕ)
+    (row_capacity additional : ℕ) : Type 0 where
+  pub key : HasRoomFor keys additional
+  pub row : len rows + additional ≤ row_capacity
 
 -- one more key, its row and its first value fit
 pub record FitsOneMore {K V : Type 0} (keys : Slots K KeyLink) (rows : FinMap nat_cmp ℕ)

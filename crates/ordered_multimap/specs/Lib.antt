@@ -6,6 +6,7 @@ pub mod DrainLends
 pub mod Drains
 pub mod Entries
 pub mod EntryLends
+pub mod Extends
 pub mod IntoIters
 pub mod KeyLists
 pub mod KeyWrappers

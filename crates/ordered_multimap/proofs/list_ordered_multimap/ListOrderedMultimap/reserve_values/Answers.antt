@@ -1,0 +1,30 @@
+use Rattle.std.proofs.Common.{◌≤◌, ◌+◌, IsOk, OnOk, ap, length, refl, arith, subst}
+use Rattle.std.proofs.lemmas.Result.{on_ok_weaker}
+use Rattle.ordered_multimap.specs.Rooms.{SameRooms}
+use Rattle.ordered_multimap.proofs.ReserveLemmas.{agrees-widened, fits_values, values_fit, same_value_rooms}
+use Rattle.ordered_multimap.proofs.RoomLemmas.{map_of}
+use Rattle.ordered_multimap.proofs.list_ordered_multimap.ListOrderedMultimap.reserve_values.Goals as goal
+
+pub invariant_of-self : goal.invariant_of-self
+invariant_of-self g c =
+    let same = c.reserve.ensures.unchanged in
+    record {
+      agrees = agrees-widened c.self.invariant.agrees refl (ap (λ t. t.list) same) (omega arith) c.reserve.ensures.capacity;
+      fits = omega (arith, c.self.invariant.fits, ap (λ t. length t.list.order) same, c.reserve.ensures.capacity);
+      paid = omega (arith, c.self.invariant.paid, ap (λ t. t.moved) same, ap (λ t. t.freed) same, ap (λ t. t.holes) same);
+    }
+
+pub returns-clause-room : goal.returns-clause-room
+returns-clause-room g c =
+    subst (λ m. OnOk c.reserve.result (length m.lists.pairs + c.args.additional ≤ (map_of c.self.inside.keys c.self.inside.table.capacity c.reserve.new.self c.self.inside.state c.self.inside.left).value_room)) c.self.view_is
+    (on_ok_weaker c.reserve.result (values_fit c.self.inside.keys c.self.inside.values c.self.invariant.agrees c.self.inside.table.capacity c.self.inside.state c.self.inside.left c.args.additional c.reserve.ensures.unchanged) c.reserve.ensures.room)
+
+pub returns-clause-succeeds : goal.returns-clause-succeeds
+returns-clause-succeeds g c =
+    subst (λ m. length m.lists.pairs + c.args.additional ≤ m.value_room → IsOk c.reserve.result) c.self.view_is
+    (λ few. c.reserve.ensures.succeeds (fits_values c.self.inside.keys c.self.inside.values c.self.invariant.agrees c.self.inside.table.capacity c.self.inside.state c.self.inside.left c.args.additional few))
+
+pub returns-clause-had_room : goal.returns-clause-had_room
+returns-clause-had_room g c =
+    subst (λ m. length m.lists.pairs + c.args.additional ≤ m.value_room → SameRooms m (map_of c.self.inside.keys c.self.inside.table.capacity c.reserve.new.self c.self.inside.state c.self.inside.left)) c.self.view_is
+    (same_value_rooms c.self.inside.keys c.self.inside.values c.self.invariant.agrees c.self.inside.table.capacity c.self.inside.state c.self.inside.left c.args.additional c.reserve.ensures.had_room)

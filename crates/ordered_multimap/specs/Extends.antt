@@ -1,0 +1,45 @@
+-- What a call makes of a map that appends the pairs of an iterator.
+use Rattle.std.specs.Prelude.{◌≡◌, Bool, List, [], ◌∷◌, ◌++◌, map, Option, Result}
+use Rattle.std.specs.Prelude.{MatchResult}
+use Rattle.std.specs.Borrow.{Bor}
+use Rattle.std.specs.Iterator.{Drains, Yields}
+use Rattle.ordered_multimap.specs.Lists.{Lists}
+use Rattle.ordered_multimap.specs.Changes.{all_appended, built_from}
+use Rattle.ordered_multimap.specs.declared.list_ordered_multimap.refused.Refused.{Refused}
+
+module _ {K V : Type 0} (eq : K → K → Bool) {I T : Type 0} (becomes : I → T → Type 0)
+    (steps : T → Option (K × V) → T → Type 0) where
+  -- each of these pairs was appended in turn; all that the iterator has, or those before the pair
+  -- that was refused
+  abbrev pub Extends : I → Lists K V → Lists K V → Result (Unit {0}) (Refused K V) → Type 0
+  Extends iter old new r = (it : T) × (pairs : List (K × V)) × becomes iter it
+      × (new ≡ all_appended eq old pairs)
+      × MatchResult r (λ _. Drains steps it pairs)
+      (λ refused. (t : T) × Yields steps it (pairs ++ (refused.key, refused.value) ∷ []) t)
+
+  -- the items are the pairs that were appended to empty lists
+  abbrev pub IsBuilt : I → Lists K V → Type 0
+  IsBuilt iter new = (it : T) × (pairs : List (K × V)) × becomes iter it
+      × (new ≡ built_from eq pairs) × Drains steps it pairs
+
+module _ {K V I T : Type 0} (becomes : I → T → Type 0) (steps : T → Option (K × V) → T → Type 0)
+  where
+    -- the pair came from the iterator
+    abbrev pub IsItem : I → Refused K V → Type 0
+    IsItem iter refused = (it : T) × (pairs : List (K × V)) × (t : T) × becomes iter it
+        × Yields steps it (pairs ++ (refused.key, refused.value) ∷ []) t
+
+-- the pair that two references lend
+abbrev pub lent_pair : {K V : Type 0} → Bor K × Bor V → K × V
+lent_pair p = (p.0.now, p.1.now)
+
+module _ {K V : Type 0} (eq : K → K → Bool) {I T : Type 0} (becomes : I → T → Type 0)
+    (steps : T → Option (Bor K × Bor V) → T → Type 0) where
+  -- a copy of each of these pairs was appended in turn; of all that the iterator has, or of those
+  -- before the pair that was refused
+  abbrev pub ExtendsCopied : I → Lists K V → Lists K V → Result (Unit {0}) (Refused K V) → Type 0
+  ExtendsCopied iter old new r = (it : T) × (items : List (Bor K × Bor V)) × becomes iter it
+      × (new ≡ all_appended eq old (map lent_pair items))
+      × MatchResult r (λ _. Drains steps it items)
+      (λ refused. (item : Bor K × Bor V) × (t : T) × Yields steps it (items ++ item ∷ []) t
+      × (lent_pair item ≡ (refused.key, refused.value)))

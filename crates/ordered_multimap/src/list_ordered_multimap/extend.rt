@@ -1,0 +1,103 @@
+//! Many pairs that come last.
+ghost use Rattle.std.specs.Prelude.{◌≡◌, IfOk, IfErr};
+ghost use Rattle.std.specs.Iterator.{IsFinite};
+ghost use Rattle.ordered_multimap.specs.Extends.{Extends, ExtendsCopied, IsBuilt, IsItem};
+ghost use Rattle.ordered_multimap.specs.Rooms.{KeepsRooms};
+ghost use Rattle.ordered_multimap.specs.TapeNumbers.{AreUnused, TakesOut};
+
+use super::{ListOrderedMultimap, Refused};
+use std::alloc::Allocator;
+use std::hash::{BuildHasher, Hash};
+
+impl<K: Eq + Hash + Drop, V: Drop, S: BuildHasher, A: Allocator + Copy> ListOrderedMultimap<
+    K,
+    V,
+    S,
+    A,
+> {
+    /// Appends each pair in turn. `iter` has to end.
+    ///
+    /// It asks for room for as many values as the iterator says that it has at least; that this is
+    /// refused is no refusal of the call. Where memory is refused for a pair, it hands that pair
+    /// back; those before it stay. A caller who hands in `&mut iter` keeps those behind it.
+    ///
+    /// ```
+    /// map.extend(pairs)?;
+    /// ```
+    pub fn extend<I: IntoIterator<Item = (K, V)>>(&mut self, iter: I) -> Result<(), Refused<K, V>>
+        requires { (it : I.IntoIter) → I.into_iter_gives iter it
+            → I.IntoIter.can_next it × IsFinite (I.IntoIter.remaining it) }
+        ensures extends { Extends K.eq I.into_iter_gives I.IntoIter.next_gives iter
+            self.old.lists self.new.lists result }
+        ensures rooms { KeepsRooms self.old self.new }
+        ensures taken { TakesOut 0 self.old.tape self.new.tape }
+    {
+        let pairs = iter.into_iter();
+        // A wish: each append makes the room that it needs.
+        let _reserved = self.reserve_values(pairs.size_hint().0);
+        for (key, value) in pairs {
+            if let Err(refused) = self.append(key, value) {
+                return Err(refused);
+            }
+        }
+        Ok(())
+    }
+
+    /// Appends a copy of each pair in turn, as `extend` does.
+    ///
+    /// ```
+    /// map.extend_copied(other.iter())?;
+    /// ```
+    pub fn extend_copied<'a, I: IntoIterator<Item = (&'a K, &'a V)>>(
+        &mut self,
+        iter: I,
+    ) -> Result<(), Refused<K, V>>
+    where
+        K: Copy + 'a,
+        V: Copy + 'a,
+        requires { (it : I.IntoIter) → I.into_iter_gives iter it
+            → I.IntoIter.can_next it × IsFinite (I.IntoIter.remaining it) }
+        ensures extends { ExtendsCopied K.eq I.into_iter_gives I.IntoIter.next_gives iter
+            self.old.lists self.new.lists result }
+        ensures rooms { KeepsRooms self.old self.new }
+        ensures taken { TakesOut 0 self.old.tape self.new.tape }
+    {
+        let pairs = iter.into_iter();
+        // A wish, as in `extend`.
+        let _reserved = self.reserve_values(pairs.size_hint().0);
+        for (key, value) in pairs {
+            if let Err(refused) = self.append(*key, *value) {
+                return Err(refused);
+            }
+        }
+        Ok(())
+    }
+
+    /// A map with this hash builder, of the pairs in turn, as `extend` appends them. Where memory
+    /// is refused for a pair, it hands that pair back, and there is no map. `iter` has to end.
+    ///
+    /// ```
+    /// ListOrderedMultimap::from_iter(alloc, DefaultState::new(), pairs)?
+    /// ```
+    pub fn from_iter<I: IntoIterator<Item = (K, V)>>(
+        alloc: A,
+        state: S,
+        iter: I,
+    ) -> Result<Self, Refused<K, V>>
+    where
+        S: Drop,
+        requires { (it : I.IntoIter) → I.into_iter_gives iter it
+            → I.IntoIter.can_next it × IsFinite (I.IntoIter.remaining it) }
+        ensures built { IfOk result (λ m.
+            IsBuilt K.eq I.into_iter_gives I.IntoIter.next_gives iter m.lists) }
+        ensures refused { IfErr result (IsItem I.into_iter_gives I.IntoIter.next_gives iter) }
+        ensures hasher { IfOk result (λ m. m.hasher ≡ state) }
+        ensures unused { IfOk result (λ m. AreUnused m.tape) }
+    {
+        let mut map = ListOrderedMultimap::with_hasher(alloc, state);
+        if let Err(refused) = map.extend(iter) {
+            return Err(refused);
+        }
+        Ok(map)
+    }
+}
