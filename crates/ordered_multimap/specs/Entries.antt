@@ -1,5 +1,6 @@
--- What the contracts of entries cite. The words serve its halves too, as `first_value (Occupied o)`.
--- What is said of an occupied entry's key is said for every key to which the stored one is equal.
+-- What the contracts of entries cite. The words serve the halves of an entry too, as in
+-- `first_value (Occupied o)`. What is said of the key of an occupied entry is said for every key
+-- to which the stored one is equal.
 use Rattle.ordered_multimap.specs.declared.list_ordered_multimap.entry as entries
 pub use entries.Entry.TheVariants.{Occupied, Vacant}
 use Rattle.std.specs.Prelude.{◌≡◌, Bool, true, false, slice_get, Some, Option}

@@ -11,7 +11,8 @@ use Rattle.ordered_multimap.specs.contracts.list_ordered_multimap.ListOrderedMul
 use Rattle.ordered_multimap.specs.contracts.list_ordered_multimap.entry.OccupiedEntry as occupied
 use Rattle.ordered_multimap.specs.declared.list_ordered_multimap.entry.Entry.{Entry}
 use Rattle.ordered_multimap.specs.declared.list_ordered_multimap.entry.OccupiedEntry.{OccupiedEntry}
-use Rattle.ordered_multimap.specs.declared.list_ordered_multimap.drain.EntryValuesDrain.{EntryValuesDrain}
+use Rattle.ordered_multimap.specs.declared.list_ordered_multimap.drain as drains
+use drains.EntryValuesDrain.{EntryValuesDrain}
 use Rattle.ordered_multimap.specs.Entries.{IsEntered, Occupied, RefusesEntry, entry_map_ref}
 use Rattle.ordered_multimap.specs.Entries.{with_first_written}
 use Rattle.ordered_multimap.specs.Writes.{with_first}

@@ -1,0 +1,51 @@
+//! The examples of the doc comments of these calls, as tests. `tools/examples` says whether each
+//! line of theirs stands here.
+use ordered_multimap::ListOrderedMultimap;
+use ordered_multimap::list_ordered_multimap::DefaultState;
+use std::alloc::{AllocError, Global};
+use test_helpers::{Failed, Test};
+
+type Numbers = ListOrderedMultimap<&'static str, u32>;
+
+fn reserve_ten(map: &mut Numbers) -> Result<(), AllocError> {
+    map.reserve_keys(10)?;
+    map.reserve_values(10)?;
+    Ok(())
+}
+
+fn extend_by_three(map: &mut Numbers) -> Result<(), AllocError> {
+    let pairs = [("line", 1), ("page", 8), ("line", 2)].iter().copied();
+    map.extend(pairs)?;
+    Ok(())
+}
+
+fn extend_by(map: &mut Numbers, other: &Numbers) -> Result<(), AllocError> {
+    map.extend_copied(other.iter())?;
+    Ok(())
+}
+
+fn made_of_two(alloc: Global) -> Result<Numbers, AllocError> {
+    let pairs = [("line", 1), ("page", 8)].iter().copied();
+    Ok(ListOrderedMultimap::from_iter(alloc, DefaultState::new(), pairs)?)
+}
+
+fn is_extended(test: &Test, map: &mut Numbers, other: &Numbers) {
+    test.expect("reserve", reserve_ten(map).is_ok());
+    test.expect("room for keys", map.keys_capacity() >= 10);
+    test.expect("room for values", map.values_capacity() >= 10);
+    test.expect("extend", extend_by_three(map).is_ok());
+    test.expect("three pairs", map.values_len() == 3);
+    test.expect("extend_copied", extend_by(map, other).is_ok());
+    test.expect("five pairs", map.values_len() == 5);
+    test.expect("the last", map.back() == Some((&"page", &8)));
+}
+
+#[test]
+fn examples_of_many_pairs_hold(rt: HostRuntime) -> Result<(), Failed> {
+    let test = Test::new(rt.alloc());
+    match made_of_two(test.alloc()) {
+        Ok(other) => is_extended(&test, &mut ListOrderedMultimap::new(test.alloc()), &other),
+        Err(_) => test.expect("memory for two pairs", false),
+    }
+    test.end()
+}
