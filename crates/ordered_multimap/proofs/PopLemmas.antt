@@ -17,47 +17,24 @@ use Rattle.multimap_walks.specs.Walk.{end_item, end_rest}
 use Rattle.multimap_walks.specs.declared.links.KeyLink.{KeyLink}
 use Rattle.multimap_walks.specs.declared.links.ValueLink.{ValueLink}
 use Rattle.multimap_walks.specs.Chained.{pair_at, pairs_of}
-use Rattle.ordered_multimap.specs.Lists.{Lists, lists, IsWellFormed}
+use Rattle.ordered_multimap.specs.Lists.{Lists, lists}
 use Rattle.ordered_multimap.specs.Keys.{is_listed}
-use Rattle.ordered_multimap.specs.Pairs.{has_items, pairs_without}
+use Rattle.ordered_multimap.specs.Pairs.{has_items}
 use Rattle.ordered_multimap.specs.Changes.{kept}
 use Rattle.ordered_multimap.specs.Pop.{popped, popped_pair}
 use Rattle.ordered_multimap.specs.Pops.{IsTaken}
-use Rattle.ordered_multimap.specs.Agrees.{Agrees, HasKey, items_of, lists_of}
-use Rattle.ordered_multimap.specs.TakesOne.{TakesOne, TakesLast, TakesPair, TakesByKey, TakesBeside, end_of_list}
+use Rattle.ordered_multimap.specs.Agrees.{Agrees, lists_of}
+use Rattle.ordered_multimap.specs.TakesOne.{TakesLast, TakesPair, TakesByKey, TakesBeside, end_of_list}
 use Rattle.ordered_multimap.specs.TapeNumbers.{TapeNumbers, TakesOut, numbers_of}
 use Rattle.ordered_multimap.specs.declared.list_ordered_multimap.take_one.Taken.{Taken}
 use Rattle.ordered_multimap.specs.declared.list_ordered_multimap.take_one.TakenKey.{TakenKey}
 use Rattle.ordered_multimap.specs.declared.list_ordered_multimap.take_one.TakenKey.TheVariants.{Kept, Gone}
-use Rattle.ordered_multimap.proofs.Members.{filter-all}
-use Rattle.ordered_multimap.proofs.KeyLemmas.{is_listed-self}
-use Rattle.ordered_multimap.proofs.KeptLemmas.{keys_of-without, is_listed-equal}
-use Rattle.ordered_multimap.proofs.PlaceLemmas.{begins, ends, IsIn-filter_map, last_of-member, filter_map-agree, filter_shorter}
+use Rattle.ordered_multimap.proofs.PlaceLemmas.{begins, ends, last_of-member, filter_map-agree, filter_shorter}
 use Rattle.ordered_multimap.proofs.NeighbourLemmas.{first_of-member}
-use Rattle.ordered_multimap.proofs.AgreesLemmas.{PairAt, pair_in, well_formed}
+use Rattle.ordered_multimap.proofs.AgreesLemmas.{PairAt, pair_in}
 use Rattle.ordered_multimap.proofs.LawLemmas.{has_items-push, end_item-push, end_rest-push}
-use Rattle.ordered_multimap.proofs.TakeLemmas.{agrees-taken, lists_of-taken, pair_at-taken}
-use Rattle.ordered_multimap.proofs.OneLemmas.{agrees-one, items_of-one, has_item-one, pair_at-one}
-
--- the lists without one pair of a key that stays
-module _ {K V : Type 0} {eq : K → K → Bool} (laws : IsEquivalence eq) {hash : K → ℕ} {keys keys_after : Slots K KeyLink} {rows : FinMap nat_cmp ℕ} {values values_after : Slots V ValueLink}
-    (agrees : Agrees eq hash keys rows values) (place : ℕ) (listed : IsIn place values.order) {v : V} (takes : TakesOne keys keys_after values values_after place v)
-    (room : values_after.capacity ≡ values.capacity) where
-  formed : IsWellFormed eq (lists_of keys_after values_after)
-  formed = well_formed (agrees-one agrees place listed takes room)
-
-  pub lists_of-one : lists_of keys_after values_after ≡ kept eq (lists_of keys values) (pairs_of keys_after values_after)
-  lists_of-one =
-      let named = λ (j : K) (i : IsIn j (items_of keys)). formed.used j (subst (IsIn j) (sym (items_of-one agrees place listed takes)) i) in
-      ap (λ ks. lists ks (pairs_of keys_after values_after))
-      (items_of-one agrees place listed takes
-      ∙ sym (filter-all (is_listed eq (keys_of (pairs_of keys_after values_after))) (items_of keys) (λ j i. is_listed-self laws j (keys_of (pairs_of keys_after values_after)) (named j i))))
-
-  -- which still name it
-  pub still_named : (k : K) → item_at keys takes.link.key ≡ Some k → is_listed eq (keys_of (pairs_of keys_after values_after)) k ≡ true
-  still_named k is =
-      let has = has_item-one agrees place listed takes k is in
-      is_listed-self laws k (keys_of (pairs_of keys_after values_after)) (formed.used k (IsIn-filter_map (item_at keys_after) takes.link.key k keys_after.order has.listed has.item_is))
+use Rattle.ordered_multimap.proofs.LeavesLemmas.{beside_at, last_at, last_key_is, no_longer_named, still_named}
+use Rattle.ordered_multimap.proofs.OneLemmas.{has_item-one}
 
 -- the pairs without that of one place, where the others are the same
 pub pairs_of-without : {K V : Type 0} (keys keys_after : Slots K KeyLink) (values values_after : Slots V ValueLink) (place : ℕ) → values_after.order ≡ without values.order place
@@ -162,14 +139,14 @@ module _ {K V : Type 0} {eq : K → K → Bool} (laws : IsEquivalence eq) {hash 
       let own : item_at keys beside.one.link.key ≡ Some pair.key = ap (λ (l : ValueLink). item_at keys l.key) link ∙ pair.key_is in
       let value_is : Some v ≡ Some pair.value = sym beside.one.had ∙ pair.value_is in
       let value : v ≡ pair.value = cc in
-      let same = pair_at-one agrees place listed beside.one in
+      let left = beside_at laws agrees place listed keys_room values_room v key beside in
       record {
-        agrees = subst (λ r. Agrees eq hash keys_after r values_after) (sym beside.rows_are) (agrees-one agrees place listed beside.one values_room);
-        lists_are = lists_of-one laws agrees place listed beside.one values_room ∙ popped_is agrees end place at keys_after values_after beside.one.order same;
-        some = (left_at_end agrees end place at keys_after values_after beside.one.order same).some;
+        agrees = left.agrees;
+        lists_are = ap (λ ks. lists ks (pairs_of keys_after values_after)) left.keys_are ∙ popped_is agrees end place at keys_after values_after left.order left.same;
+        some = (left_at_end agrees end place at keys_after values_after left.order left.same).some;
         is_taken =
             subst (λ p. IsTaken keys_after p (Some (record { key = Kept key; value = v })))
-            (sym (pair_is agrees end place at keys_after values_after beside.one.order same true (still_named laws agrees place listed beside.one values_room pair.key own)))
+            (sym (pair_is agrees end place at keys_after values_after left.order left.same true (still_named laws agrees place listed beside.one values_room pair.key own)))
             (value, (refl, subst (λ q. HasItem keys_after q pair.key) beside.key_is (has_item-one agrees place listed beside.one pair.key own)));
       }
 
@@ -178,29 +155,18 @@ module _ {K V : Type 0} {eq : K → K → Bool} (laws : IsEquivalence eq) {hash 
   leaves_last key last =
       let listed = end_listed end values.order place at in
       let pair = pair_in agrees place listed in
-      let link_is : Some last.link ≡ Some pair.link = sym last.link_is ∙ pair.link_is in
-      let link : last.link ≡ pair.link = cc in
-      let own : item_at keys last.link.key ≡ Some pair.key = ap (λ (l : ValueLink). item_at keys l.key) link ∙ pair.key_is in
-      let key_is : Some key ≡ Some pair.key = sym last.entry.removed.had ∙ own in
+      let key_is : Some key ≡ Some pair.key = sym last.entry.removed.had ∙ last_key_is agrees place listed v key last in
       let stored : key ≡ pair.key = cc in
       let value_is : Some v ≡ Some pair.value = sym last.had ∙ pair.value_is in
       let value : v ≡ pair.value = cc in
-      let has : HasKey eq keys pair.key last.link.key =
-      record { listed = agrees.chained.owned place last.link listed last.link_is; stored = pair.key; item_is = own; equal = laws.refl pair.key } in
-      let t = last.entry.taken in
-      let r = last.entry.removed in
-      let same = pair_at-taken laws agrees pair.key last.link.key has t r in
-      let gone = lists_of-taken laws agrees pair.key last.link.key has t r rows_after last.entry.rows_are keys_room values_room in
-      let pairs : pairs_of keys_after values_after ≡ pairs_without eq (pairs_of keys values) pair.key = ap (λ (m : Lists K V). m.pairs) gone in
+      let left = last_at laws agrees place listed keys_room values_room v key last in
       record {
-        agrees = agrees-taken laws agrees pair.key last.link.key has t r rows_after last.entry.rows_are keys_room values_room;
-        lists_are = gone ∙ ap (kept eq (lists_of keys values)) (sym pairs) ∙ popped_is agrees end place at keys_after values_after last.order same;
-        some = (left_at_end agrees end place at keys_after values_after last.order same).some;
+        agrees = left.agrees;
+        lists_are = ap (λ ks. lists ks (pairs_of keys_after values_after)) left.keys_are ∙ popped_is agrees end place at keys_after values_after left.order left.same;
+        some = (left_at_end agrees end place at keys_after values_after left.order left.same).some;
         is_taken =
             subst (λ p. IsTaken keys_after p (Some (record { key = Gone key; value = v })))
-            (sym (pair_is agrees end place at keys_after values_after last.order same false
-            (ap (λ ps. is_listed eq (keys_of ps) pair.key) pairs ∙ ap (λ js. is_listed eq js pair.key) (keys_of-without eq pair.key (pairs_of keys values))
-            ∙ is_listed-equal laws pair.key pair.key (keys_of (pairs_of keys values)) (laws.refl pair.key))))
+            (sym (pair_is agrees end place at keys_after values_after left.order left.same false (no_longer_named laws agrees place listed keys_room values_room v key last)))
             (value, (refl, stored));
       }
 

@@ -16,7 +16,7 @@ use Rattle.multimap_walks.specs.declared.links.ChainEnds.{ChainEnds}
 use Rattle.multimap_walks.specs.declared.links.KeyLink.{KeyLink}
 use Rattle.multimap_walks.specs.declared.links.ValueLink.{ValueLink}
 use Rattle.multimap_walks.specs.Walk.{end_item}
-use Rattle.multimap_walks.specs.Chained.{position_in, chain_of, positions_at, pair_at, pairs_of}
+use Rattle.multimap_walks.specs.Chained.{IsChained, position_in, chain_of, positions_at, pair_at, pairs_of}
 use Rattle.ordered_multimap.specs.Agrees.{Agrees, IsMap, HasKey, items_of, lists_of}
 use Rattle.ordered_multimap.specs.Changes.{first_written}
 use Rattle.ordered_multimap.specs.Lists.{Lists, lists}
@@ -30,6 +30,17 @@ use Rattle.ordered_multimap.proofs.PlaceLemmas.{filter_map-agree, begins, ends}
 use Rattle.ordered_multimap.proofs.LawLemmas.{end_item-push}
 use Rattle.ordered_multimap.proofs.LookupLemmas.{positions_of-chain, length-positions_of}
 
+-- links and order are the same
+pub IsChained-with_item : {K V : Type 0} {keys : Slots K KeyLink} {values : Slots V ValueLink} → IsChained keys values → (place : ℕ) (w : V) → IsChained keys (with_item values place w)
+IsChained-with_item chained place w = record {
+  owned = chained.owned;
+  head = chained.head;
+  tail = chained.tail;
+  length = chained.length;
+  previous = chained.previous;
+  next = chained.next;
+}
+
 module _ {K V : Type 0} {eq : K → K → Bool} {hash : K → ℕ} {keys : Slots K KeyLink} {rows : FinMap nat_cmp ℕ} {values : Slots V ValueLink}
     (agrees : Agrees eq hash keys rows values) (place : ℕ) (listed : IsIn place values.order) (w : V) where
   abbrev written : Slots V ValueLink
@@ -38,7 +49,7 @@ module _ {K V : Type 0} {eq : K → K → Bool} {hash : K → ℕ} {keys : Slots
   item_here : item_at written place ≡ Some w
   item_here = item_at-with_item values place w (agrees.values_sound.filled place listed)
 
-  -- links and order are the same, so keys, table and values agree as before
+  -- so keys, table and values agree as before
   pub Agrees-with_item : Agrees eq hash keys rows (with_item values place w)
   Agrees-with_item = record {
     keys_sound = agrees.keys_sound;
@@ -51,14 +62,7 @@ module _ {K V : Type 0} {eq : K → K → Bool} {hash : K → ℕ} {keys : Slots
       linked = agrees.values_sound.linked;
       fits = agrees.values_sound.fits;
     };
-    chained = record {
-      owned = agrees.chained.owned;
-      head = agrees.chained.head;
-      tail = agrees.chained.tail;
-      length = agrees.chained.length;
-      previous = agrees.chained.previous;
-      next = agrees.chained.next;
-    };
+    chained = IsChained-with_item agrees.chained place w;
     distinct = agrees.distinct;
     hashed = agrees.hashed;
     in_table = agrees.in_table;
@@ -66,7 +70,15 @@ module _ {K V : Type 0} {eq : K → K → Bool} {hash : K → ℕ} {keys : Slots
     counted = agrees.counted;
   }
 
-  pair_other : (q : ℕ) → IsIn q values.order → q ≢ place → pair_at keys written q ≡ pair_at keys values q
+  -- the pair at the place has the value, and each other pair is as it was
+  pub pair_here : (k : K) (v : V) → pair_at keys values place ≡ Some (k, v) → pair_at keys (with_item values place w) place ≡ Some (k, w)
+  pair_here k v is =
+      let p = pair_in agrees place listed in
+      let one : Some (p.key, p.value) ≡ Some (k, v) = sym p.pair_is ∙ is in
+      let both : (p.key, p.value) ≡ (k, v) = cc in
+      pair_at-is keys written place p.link p.key w p.link_is p.key_is item_here ∙ ap (λ (e : K × V). Some (e.0, w)) both
+
+  pub pair_other : (q : ℕ) → IsIn q values.order → q ≢ place → pair_at keys written q ≡ pair_at keys values q
   pair_other q i differs =
       let p = pair_in agrees q i in
       pair_at-is keys written q p.link p.key p.value p.link_is p.key_is ((KeepsOthers-with_item values place w).items q differs ∙ p.value_is) ∙ sym p.pair_is
@@ -138,7 +150,7 @@ module _ {K V : Type 0} {eq : K → K → Bool} (laws : IsEquivalence eq) {hash 
       ap (λ head. with_value_at pairs (position_in values.order head) v) (head_at-is keys place l link_is) ∙ sym (ap put (first_position k place l has link_is))
 
 -- as many places stand before a place as items are listed before it
-position_in-split : (front : List ℕ) (place : ℕ) (back : List ℕ) → (IsIn place front → ⊥) → position_in (front ++ place ∷ back) place ≡ length front
+pub position_in-split : (front : List ℕ) (place : ℕ) (back : List ℕ) → (IsIn place front → ⊥) → position_in (front ++ place ∷ back) place ≡ length front
 position_in-split [] place back absent = ap (λ b. if b then 0 else suc (position_in back place)) (eq-eqb place place refl)
 position_in-split (q ∷ front) place back absent =
     ap (λ b. if b then 0 else suc (position_in (front ++ place ∷ back) place)) (ne_eqb q place (λ same. absent (inl (sym same))))

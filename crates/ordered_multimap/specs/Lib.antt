@@ -20,6 +20,7 @@ pub mod Pop
 pub mod Pops
 pub mod Renames
 pub mod Retain
+pub mod RetainSteps
 pub mod Rooms
 pub mod Takes
 pub mod TakesOne

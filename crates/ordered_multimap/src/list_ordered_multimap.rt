@@ -20,6 +20,7 @@ mod pop;
 mod refused;
 mod remove;
 mod reserve;
+mod retain;
 mod room;
 mod show;
 mod steps;

@@ -17,6 +17,7 @@ use multimap_walks::{KeyLink, ValueLink};
 use std::alloc::Allocator;
 
 /// Where the key of a pair is that was taken out.
+#[derive(Drop)]
 pub(super) enum TakenKey<K> {
     /// At this place of the map.
     Kept(usize),
@@ -25,6 +26,7 @@ pub(super) enum TakenKey<K> {
 }
 
 /// A pair that was taken out.
+#[derive(Drop)]
 pub(super) struct Taken<K, V> {
     pub(super) key: TakenKey<K>,
     pub(super) value: V,

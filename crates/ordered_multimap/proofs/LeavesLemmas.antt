@@ -1,0 +1,135 @@
+-- A pair that leaves at any place, with its key or without: key list, table and values agree, and the others are as they were.
+use Rattle.std.proofs.Common.{◌≡◌, ℕ, Bool, true, false, List, Some, sym, ap, ◌∙◌, subst}
+use Rattle.std.specs.Cmp.{IsEquivalence}
+use Rattle.std.specs.Map.{keys_of}
+use Rattle.std.specs.Ordering.{nat_cmp}
+use Rattle.std.specs.FinMap.{FinMap}
+use Rattle.multimap_slots.specs.Lists.{IsIn, without}
+use Rattle.multimap_slots.specs.Slots.{Slots, item_at}
+use Rattle.multimap_walks.specs.declared.links.KeyLink.{KeyLink}
+use Rattle.multimap_walks.specs.declared.links.ValueLink.{ValueLink}
+use Rattle.multimap_walks.specs.Chained.{pair_at, pairs_of}
+use Rattle.ordered_multimap.specs.Agrees.{Agrees, HasKey, items_of, lists_of}
+use Rattle.ordered_multimap.specs.Keys.{is_listed, stored_key, keys_named_by}
+use Rattle.ordered_multimap.specs.Lists.{Lists, lists, IsWellFormed}
+use Rattle.ordered_multimap.specs.Changes.{kept}
+use Rattle.ordered_multimap.specs.TakesOne.{TakesOne, TakesLast, TakesPair, TakesByKey, TakesBeside}
+use Rattle.ordered_multimap.specs.declared.list_ordered_multimap.take_one.Taken.{Taken}
+use Rattle.ordered_multimap.specs.declared.list_ordered_multimap.take_one.TakenKey.{TakenKey}
+use Rattle.ordered_multimap.specs.declared.list_ordered_multimap.take_one.TakenKey.TheVariants.{Kept, Gone}
+use Rattle.ordered_multimap.proofs.AgreesLemmas.{pair_in, well_formed}
+use Rattle.ordered_multimap.proofs.KeptLemmas.{filter-among, keys_of-without, is_listed-equal}
+use Rattle.ordered_multimap.proofs.KeyLemmas.{is_listed-self, is_listed-member, stored_key_member}
+use Rattle.ordered_multimap.proofs.Members.{filter-all}
+use Rattle.ordered_multimap.proofs.OneLemmas.{agrees-one, items_of-one, has_item-one, pair_at-one}
+use Rattle.ordered_multimap.proofs.PlaceLemmas.{IsIn-filter_map}
+use Rattle.ordered_multimap.proofs.TakeLemmas.{agrees-taken, lists_of-taken, pair_at-taken}
+use Rattle.ordered_multimap.proofs.WellFormedLemmas.{same_keys}
+
+-- the lists without one pair of a key that stays
+module _ {K V : Type 0} {eq : K → K → Bool} (laws : IsEquivalence eq) {hash : K → ℕ} {keys keys_after : Slots K KeyLink} {rows : FinMap nat_cmp ℕ} {values values_after : Slots V ValueLink}
+    (agrees : Agrees eq hash keys rows values) (place : ℕ) (listed : IsIn place values.order) {v : V} (takes : TakesOne keys keys_after values values_after place v)
+    (room : values_after.capacity ≡ values.capacity) where
+  formed : IsWellFormed eq (lists_of keys_after values_after)
+  formed = well_formed (agrees-one agrees place listed takes room)
+
+  pub lists_of-one : lists_of keys_after values_after ≡ kept eq (lists_of keys values) (pairs_of keys_after values_after)
+  lists_of-one =
+      let named = λ (j : K) (i : IsIn j (items_of keys)). formed.used j (subst (IsIn j) (sym (items_of-one agrees place listed takes)) i) in
+      ap (λ ks. lists ks (pairs_of keys_after values_after))
+      (items_of-one agrees place listed takes
+      ∙ sym (filter-all (is_listed eq (keys_of (pairs_of keys_after values_after))) (items_of keys) (λ j i. is_listed-self laws j (keys_of (pairs_of keys_after values_after)) (named j i))))
+
+  -- which still name it
+  pub still_named : (k : K) → item_at keys takes.link.key ≡ Some k → is_listed eq (keys_of (pairs_of keys_after values_after)) k ≡ true
+  still_named k is =
+      let has = has_item-one agrees place listed takes k is in
+      is_listed-self laws k (keys_of (pairs_of keys_after values_after)) (formed.used k (IsIn-filter_map (item_at keys_after) takes.link.key k keys_after.order has.listed has.item_is))
+
+-- the pair at the place has left
+pub record LeavesAt {K V : Type 0} (eq : K → K → Bool) (hash : K → ℕ) (keys keys_after : Slots K KeyLink) (rows_after : FinMap nat_cmp ℕ) (values values_after : Slots V ValueLink) (place : ℕ) : Type 0 where
+  pub agrees : Agrees eq hash keys_after rows_after values_after
+  pub order : values_after.order ≡ without values.order place
+  pub same : (q : ℕ) → IsIn q values_after.order → pair_at keys_after values_after q ≡ pair_at keys values q
+  pub keys_are : items_of keys_after ≡ keys_named_by eq (items_of keys) (pairs_of keys_after values_after)
+
+-- the key whose only value has left
+module _ {K V : Type 0} {eq : K → K → Bool} {hash : K → ℕ} {keys keys_after : Slots K KeyLink} {rows rows_after : FinMap nat_cmp ℕ} {values values_after : Slots V ValueLink}
+    (agrees : Agrees eq hash keys rows values) (place : ℕ) (listed : IsIn place values.order) (v : V) (key : K)
+    (last : TakesLast keys keys_after rows rows_after values values_after place key v) where
+  pub last_key_is : item_at keys last.link.key ≡ Some (pair_in agrees place listed).key
+  last_key_is =
+      let pair = pair_in agrees place listed in
+      let link_is : Some last.link ≡ Some pair.link = sym last.link_is ∙ pair.link_is in
+      let link : last.link ≡ pair.link = cc in
+      ap (λ (l : ValueLink). item_at keys l.key) link ∙ pair.key_is
+
+  pub has_last_key : IsEquivalence eq → HasKey eq keys (pair_in agrees place listed).key last.link.key
+  has_last_key laws = record {
+    listed = agrees.chained.owned place last.link listed last.link_is;
+    stored = (pair_in agrees place listed).key;
+    item_is = last_key_is;
+    equal = laws.refl (pair_in agrees place listed).key;
+  }
+
+module _ {K V : Type 0} {eq : K → K → Bool} (laws : IsEquivalence eq) {hash : K → ℕ} {keys keys_after : Slots K KeyLink} {rows rows_after : FinMap nat_cmp ℕ} {values values_after : Slots V ValueLink}
+    (agrees : Agrees eq hash keys rows values) (place : ℕ) (listed : IsIn place values.order)
+    (keys_room : keys_after.capacity ≡ keys.capacity) (values_room : values_after.capacity ≡ values.capacity) (v : V) where
+  -- the key has other values, and stays
+  pub beside_at : (key : ℕ) → TakesBeside keys keys_after rows rows_after values values_after place v key → LeavesAt eq hash keys keys_after rows_after values values_after place
+  beside_at key beside = record {
+    agrees = subst (λ r. Agrees eq hash keys_after r values_after) (sym beside.rows_are) (agrees-one agrees place listed beside.one values_room);
+    order = beside.one.order;
+    same = pair_at-one agrees place listed beside.one;
+    keys_are = ap (λ (m : Lists K V). m.keys) (lists_of-one laws agrees place listed beside.one values_room);
+  }
+
+  -- it was the key's only value, and the key goes too
+  pub last_at : (key : K) → TakesLast keys keys_after rows rows_after values values_after place key v → LeavesAt eq hash keys keys_after rows_after values values_after place
+  last_at key last =
+      let name = (pair_in agrees place listed).key in
+      let has = has_last_key agrees place listed v key last laws in
+      let t = last.entry.taken in
+      let r = last.entry.removed in
+      let gone = lists_of-taken laws agrees name last.link.key has t r rows_after last.entry.rows_are keys_room values_room in
+      record {
+        agrees = agrees-taken laws agrees name last.link.key has t r rows_after last.entry.rows_are keys_room values_room;
+        order = last.order;
+        same = pair_at-taken laws agrees name last.link.key has t r;
+        keys_are = ap (λ (m : Lists K V). m.keys) gone ∙ ap (λ (m : Lists K V). keys_named_by eq (items_of keys) m.pairs) (sym gone);
+      }
+
+  -- the pairs no longer name it
+  pub no_longer_named : (key : K) → TakesLast keys keys_after rows rows_after values values_after place key v → is_listed eq (keys_of (pairs_of keys_after values_after)) (pair_in agrees place listed).key ≡ false
+  no_longer_named key last =
+      let name = (pair_in agrees place listed).key in
+      let has = has_last_key agrees place listed v key last laws in
+      let gone = lists_of-taken laws agrees name last.link.key has last.entry.taken last.entry.removed rows_after last.entry.rows_are keys_room values_room in
+      ap (λ (m : Lists K V). is_listed eq (keys_of m.pairs) name) gone
+      ∙ ap (λ js. is_listed eq js name) (keys_of-without eq name (pairs_of keys values))
+      ∙ is_listed-equal laws name name (keys_of (pairs_of keys values)) (laws.refl name)
+
+  leaves_by_key : (key : TakenKey K) → TakesByKey keys keys_after rows rows_after values values_after place v key → LeavesAt eq hash keys keys_after rows_after values values_after place
+  leaves_by_key (Kept key) beside = beside_at key beside
+  leaves_by_key (Gone key) last = last_at key last
+
+pub leaves_at : {K V : Type 0} {eq : K → K → Bool} (laws : IsEquivalence eq) {hash : K → ℕ} {keys keys_after : Slots K KeyLink} {rows rows_after : FinMap nat_cmp ℕ} {values values_after : Slots V ValueLink}
+    → Agrees eq hash keys rows values → (place : ℕ) → IsIn place values.order → keys_after.capacity ≡ keys.capacity → values_after.capacity ≡ values.capacity
+    → (taken : Taken K V) → TakesPair keys keys_after rows rows_after values values_after place taken → LeavesAt eq hash keys keys_after rows_after values values_after place
+leaves_at laws agrees place listed keys_room values_room taken takes = leaves_by_key laws agrees place listed keys_room values_room taken.value taken.key takes
+
+-- the keys that pairs name, once others were kept before
+module _ {K V : Type 0} {eq : K → K → Bool} (laws : IsEquivalence eq) where
+  pub named_by-again : (keys : List K) (pairs fewer : List (K × V)) → ((k : K) → IsIn k (keys_of fewer) → IsIn k (keys_of pairs))
+      → keys_named_by eq (keys_named_by eq keys pairs) fewer ≡ keys_named_by eq keys fewer
+  named_by-again keys pairs fewer among =
+      filter-among (is_listed eq (keys_of fewer)) (is_listed eq (keys_of pairs)) keys (λ k member e.
+      let s = stored_key_member laws k (keys_of fewer) e in
+      is_listed-member laws k (stored_key eq (keys_of fewer) k) (keys_of pairs) (among (stored_key eq (keys_of fewer) k) s.0) s.1)
+
+  -- all keys are named at first
+  pub named_by-all : {hash : K → ℕ} {keys : Slots K KeyLink} {rows : FinMap nat_cmp ℕ} {values : Slots V ValueLink} → Agrees eq hash keys rows values
+      → items_of keys ≡ keys_named_by eq (items_of keys) (pairs_of keys values)
+  named_by-all {keys = keys} {values = values} agrees =
+      sym (filter-all (is_listed eq (keys_of (pairs_of keys values))) (items_of keys)
+      (λ k i. same_keys laws (lists_of keys values) k (well_formed agrees) ∙ is_listed-self laws k (items_of keys) i))

@@ -1,0 +1,75 @@
+use Rattle.std.proofs.Common.{◌<◌, refl, sym, ◌∙◌, subst, arith}
+use Rattle.ordered_multimap.specs.RetainSteps.{places_from}
+use Rattle.ordered_multimap.proofs.RetainLemmas.{retaining-at, retaining-start, retaining-end, retaining-step, retaining-counts, retaining-smaller, listed_place, may_ask}
+use Rattle.ordered_multimap.proofs.list_ordered_multimap.retain.retain_pairs.Goals as goal
+
+pub loop-following-init : goal.loop-following-init
+loop-following-init g c = record {
+  retaining = retaining-start g.met.K.Eq.laws c.requires.agrees.1 c.front_place-following.result c.front_place-following.ensures c.requires.callable;
+  moved = refl;
+  freed = refl;
+  holes = refl;
+  fewer = omega arith;
+  keys_capacity = refl;
+  rows_capacity = refl;
+  values_capacity = refl;
+}
+
+pub retain_at-requires-clause-listed : goal.retain_at-requires-clause-listed
+retain_at-requires-clause-listed g c = listed_place g.met.K.Eq.laws c.requires.agrees.1 (retaining-at c.in-Some.is c.loop-following.invariant.retaining)
+
+pub retain_at-requires-clause-chained : goal.retain_at-requires-clause-chained
+retain_at-requires-clause-chained g c = (c.loop-following.invariant.retaining.agrees c.requires.agrees.0 c.requires.agrees.1).chained
+
+pub retain_at-requires-clause-row : goal.retain_at-requires-clause-row
+retain_at-requires-clause-row g c =
+    let agrees = c.loop-following.invariant.retaining.agrees c.requires.agrees.0 c.requires.agrees.1 in
+    λ l k is key_is.
+    let listed = listed_place g.met.K.Eq.laws c.requires.agrees.1 (retaining-at c.in-Some.is c.loop-following.invariant.retaining) in
+    agrees.in_table l.key k (agrees.chained.owned c.in-Some.place l listed is) key_is
+
+pub retain_at-requires-clause-callable : goal.retain_at-requires-clause-callable
+retain_at-requires-clause-callable g c =
+    λ k v is. may_ask g.met.K.Eq.laws c.requires.agrees.1 (retaining-at c.in-Some.is c.loop-following.invariant.retaining) k v is
+
+pub loop-following-smaller : goal.loop-following-smaller
+loop-following-smaller g c =
+    let s = c.retain_at.ensures in
+    subst (λ o. places_from c.retain_at.new.values.list.order c.next_place_after-following.result < places_from c.loop-following.values.list.order o) (sym c.in-Some.is)
+    (retaining-smaller g.met.K.Eq.laws c.requires.agrees.1 (retaining-at c.in-Some.is c.loop-following.invariant.retaining) s.retained s.keys_capacity s.values_capacity
+    c.next_place_after-following.result c.next_place_after-following.ensures)
+
+pub loop-following-preserved : goal.loop-following-preserved
+loop-following-preserved g c =
+    let w = c.loop-following.invariant in
+    let r = retaining-at c.in-Some.is w.retaining in
+    let s = c.retain_at.ensures in
+    let n = retaining-counts g.met.K.Eq.laws c.requires.agrees.1 r s.retained s.keys_capacity s.values_capacity in
+    record {
+      retaining =
+          (retaining-step g.met.K.Eq.laws c.requires.agrees.1 r s.retained s.keys_capacity s.values_capacity
+          c.next_place_after-following.result c.next_place_after-following.ensures).retaining;
+      moved = n.moved ∙ w.moved;
+      freed = n.freed ∙ w.freed;
+      holes = n.holes ∙ w.holes;
+      fewer = omega (arith, n.fewer, w.fewer);
+      keys_capacity = s.keys_capacity ∙ w.keys_capacity;
+      rows_capacity = s.rows_capacity ∙ w.rows_capacity;
+      values_capacity = s.values_capacity ∙ w.values_capacity;
+    }
+
+pub returns-clause-agrees : goal.returns-clause-agrees
+returns-clause-agrees g c = c.loop-following.invariant.retaining.agrees
+
+pub returns-clause-retained : goal.returns-clause-retained
+returns-clause-retained g c =
+    let w = c.loop-following.invariant in
+    (c.loop-following.f, retaining-end c.in_default.is w.retaining)
+
+pub returns-clause-counts : goal.returns-clause-counts
+returns-clause-counts g c =
+    let w = c.loop-following.invariant in
+    record {
+      freed = omega (arith, w.freed, w.fewer);
+      paid = omega (arith, w.moved, w.holes, w.fewer);
+    }

@@ -1,0 +1,127 @@
+//! One pass over all pairs that keeps those for which a function answers yes.
+ghost use Rattle.std.specs.Prelude.{◌≡◌, ◌≤◌, ◌-◌, ℕ, Some, length};
+ghost use Rattle.std.specs.FinMap.{get};
+ghost use Rattle.std.specs.Map.Calls.{CallableOnEachPair, CalledAtPair, TakesPair as MayCall};
+ghost use Rattle.multimap_slots.specs.Lists.{IsIn};
+ghost use Rattle.multimap_slots.specs.Slots.{link_at};
+ghost use Rattle.multimap_walks.specs.Chained.{AreOwned, IsChained, pair_at, pairs_of};
+ghost use Rattle.ordered_multimap.specs.Agrees.{Agrees, items_of};
+ghost use Rattle.ordered_multimap.specs.Keys.{keys_named_by};
+ghost use Rattle.ordered_multimap.specs.Retain.{Retains};
+ghost use Rattle.ordered_multimap.specs.RetainSteps.{Asks, RetainsAt};
+ghost use Rattle.ordered_multimap.specs.Rooms.{SameRooms};
+ghost use Rattle.ordered_multimap.specs.TapeNumbers.{TakesOut, numbers_of};
+
+use super::ListOrderedMultimap;
+use super::lookup::{slot_at, value_at};
+use super::take_one::take_pair;
+use multimap_slots::{SlotList, Tape};
+use multimap_table::KeyTable;
+use multimap_walks::{KeyLink, ValueLink};
+use std::alloc::Allocator;
+use std::hash::{BuildHasher, Hash};
+
+/// Calls the function on the pair at a listed place, and answers its answer.
+fn ask<K, V, A: Allocator, F: FnMut(&K, &mut V) -> bool>(
+    keys: &SlotList<K, KeyLink, A>,
+    values: &mut Tape<V, ValueLink, A>,
+    f: &mut F,
+    place: usize,
+) -> bool
+    requires listed { IsIn place values.old.list.order }
+    requires owned { AreOwned keys.now values.old.list }
+    requires callable { (k : K) (v : V) → pair_at keys.now values.old.list place ≡ Some (k, v)
+        → MayCall F.FnMut f.old k v }
+    ensures { Asks (CalledAtPair F.FnMut) keys.now values.old values.new place f.old result f.new }
+{
+    let (_, link) = value_at(values, place);
+    let (key, _) = slot_at(keys, link.key);
+    f(key, values.get_listed_mut(place))
+}
+
+/// Calls the function on the pair at a listed place, and takes the pair out if the answer is no.
+fn retain_at<K: Drop, V: Drop, A: Allocator, F: FnMut(&K, &mut V) -> bool>(
+    keys: &mut SlotList<K, KeyLink, A>,
+    table: &mut KeyTable<A>,
+    values: &mut Tape<V, ValueLink, A>,
+    f: &mut F,
+    place: usize,
+)
+    requires listed { IsIn place values.old.list.order }
+    requires chained { IsChained keys.old values.old.list }
+    requires row { (l : ValueLink) (k : KeyLink) → link_at values.old.list place ≡ Some l
+        → link_at keys.old l.key ≡ Some k → get table.old.rows l.key ≡ Some k.hash }
+    requires callable { (k : K) (v : V) → pair_at keys.old values.old.list place ≡ Some (k, v)
+        → MayCall F.FnMut f.old k v }
+    ensures retained { RetainsAt (CalledAtPair F.FnMut) keys.old keys.new table.old.rows
+        table.new.rows values.old values.new place f.old f.new }
+    ensures keys_capacity { keys.new.capacity ≡ keys.old.capacity }
+    ensures rows_capacity { table.new.capacity ≡ table.old.capacity }
+    ensures values_capacity { values.new.list.capacity ≡ values.old.list.capacity }
+{
+    if !ask(keys, values, f, place) {
+        take_pair(keys, table, values, place);
+    }
+}
+
+/// Calls the function on each pair in turn, and takes out those for which it answers no.
+fn retain_pairs<K: Eq + Drop, V: Drop, A: Allocator, F: FnMut(&K, &mut V) -> bool>(
+    keys: &mut SlotList<K, KeyLink, A>,
+    table: &mut KeyTable<A>,
+    values: &mut Tape<V, ValueLink, A>,
+    mut f: F,
+)
+    requires agrees { (hash : K → ℕ) × Agrees K.eq hash keys.old table.old.rows values.old.list }
+    requires callable { CallableOnEachPair (CalledAtPair F.FnMut) (MayCall F.FnMut) f
+        (pairs_of keys.old values.old.list) }
+    ensures agrees { (hash : K → ℕ) → Agrees K.eq hash keys.old table.old.rows values.old.list
+        → Agrees K.eq hash keys.new table.new.rows values.new.list }
+    ensures retained { (last : F) × Retains (CalledAtPair F.FnMut) f
+        (pairs_of keys.old values.old.list) (pairs_of keys.new values.new.list) last }
+    ensures keys { items_of keys.new
+        ≡ keys_named_by K.eq (items_of keys.old) (pairs_of keys.new values.new.list) }
+    ensures counts { TakesOut (length values.old.list.order - length values.new.list.order)
+        (numbers_of values.old) (numbers_of values.new) }
+    ensures fewer { length values.new.list.order ≤ length values.old.list.order }
+    ensures keys_capacity { keys.new.capacity ≡ keys.old.capacity }
+    ensures rows_capacity { table.new.capacity ≡ table.old.capacity }
+    ensures values_capacity { values.new.list.capacity ≡ values.old.list.capacity }
+{
+    let mut following = values.front_place();
+    while let Some(place) = following {
+        // Asked for before the pair may go: where no value is listed, none follows.
+        following = values.next_place_after(place);
+        retain_at(keys, table, values, &mut f, place);
+    }
+}
+
+impl<K: Eq + Hash, V, S: BuildHasher, A: Allocator> ListOrderedMultimap<K, V, S, A> {
+    /// Calls the function once on each pair, in the order of the pairs. Those for which it answers
+    /// true stay, with the value as the call left it; the others are dropped, and so is a key with
+    /// its last pair. What stays keeps its order.
+    ///
+    /// It takes no memory and gives none back. For each pair it reads the slots of its value and of
+    /// its key, and for each that goes it writes those of its neighbours among the values of its
+    /// key.
+    ///
+    /// ```
+    /// map.retain(|_key, value| *value != 8);
+    /// ```
+    pub fn retain<F: FnMut(&K, &mut V) -> bool>(&mut self, f: F)
+    where
+        K: Drop,
+        V: Drop,
+        requires { CallableOnEachPair (CalledAtPair F.FnMut) (MayCall F.FnMut) f
+            self.old.lists.pairs }
+        ensures retained { (last : F) × Retains (CalledAtPair F.FnMut) f
+            self.old.lists.pairs self.new.lists.pairs last }
+        ensures keys { self.new.lists.keys
+            ≡ keys_named_by K.eq self.old.lists.keys self.new.lists.pairs }
+        ensures rooms { SameRooms self.old self.new }
+        ensures taken { TakesOut (length self.old.lists.pairs - length self.new.lists.pairs)
+            self.old.tape self.new.tape }
+        ensures fewer { length self.new.lists.pairs ≤ length self.old.lists.pairs }
+    {
+        retain_pairs(&mut self.keys, &mut self.table, &mut self.values, f);
+    }
+}
