@@ -1,9 +1,12 @@
 -- Laws of the definitions, as statements on all lists.
-use Rattle.std.specs.Prelude.{◌≡◌, Bool, true, not, length, Some}
+use Rattle.std.specs.Prelude.{◌≡◌, Bool, true, not, List, length, map, filter, Some}
 use Rattle.std.specs.Cmp.{IsEquivalence}
+use Rattle.std.specs.List.Sorted.{IsPermutation}
+use Rattle.multimap_walks.specs.declared.End.{End}
 use Rattle.multimap_walks.specs.declared.End.TheVariants.{Back}
+use Rattle.multimap_walks.specs.Walk.{answers_of_walk}
 use Rattle.ordered_multimap.specs.Lists.{IsWellFormed, Lists, lists}
-use Rattle.ordered_multimap.specs.Pairs.{is_present, same_pairs}
+use Rattle.ordered_multimap.specs.Pairs.{values_of, is_present, same_pairs}
 use Rattle.ordered_multimap.specs.Keys.{stored_key}
 use Rattle.ordered_multimap.specs.Changes.{appended, first_occurrences, built_from}
 use Rattle.ordered_multimap.specs.Pop.{popped_pair, popped}
@@ -31,3 +34,26 @@ module _ {K : Type 0} (eq : K → K → Bool) {V : Type 0} where
     pub equivalence : IsEquivalence (same_pairs eq value_eq)
     pub keys : (m n : Lists K V) → IsWellFormed eq m → IsWellFormed eq n
         → same_pairs eq value_eq m.pairs n.pairs ≡ true → length m.keys ≡ length n.keys
+
+-- of a list whose items are marked, all items, and those that are marked to stay
+module _ {X : Type 0} where
+  abbrev pub all_of : List (Bool × X) → List X
+  all_of marked = map (λ m. m.1) marked
+
+  abbrev pub staying : List (Bool × X) → List X
+  staying marked = all_of (filter (λ m. m.0) marked)
+
+module _ {K : Type 0} (eq : K → K → Bool) {V : Type 0} where
+  -- the key's values, each with the mark of its pair
+  abbrev pub marked_values : List (Bool × (K × V)) → K → List (Bool × V)
+  marked_values marked k = map (λ m. (m.0, m.1.1)) (filter (λ m. eq k m.1.0) marked)
+
+-- where pairs are dropped, whichever they are, a key has its values but those of its dropped pairs;
+-- and a walk with as many letters as there are items gives each item once
+pub record FiltersChains {K : Type 0} (eq : K → K → Bool) (V : Type 0) : Type 0 where
+  pub before : (pairs : List (Bool × (K × V))) (k : K)
+      → values_of eq (all_of pairs) k ≡ all_of (marked_values eq pairs k)
+  pub after : (pairs : List (Bool × (K × V))) (k : K)
+      → values_of eq (staying pairs) k ≡ staying (marked_values eq pairs k)
+  pub walk : (values : List V) (word : List End) → length word ≡ length values
+      → IsPermutation (map (λ v. Some v) values) (answers_of_walk values word)

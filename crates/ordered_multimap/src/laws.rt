@@ -1,6 +1,6 @@
 //! Laws of the definitions, for all lists. The functions do nothing: what they ensure is the law.
 ghost use Rattle.ordered_multimap.specs.Lists.{Lists, IsWellFormed};
-ghost use Rattle.ordered_multimap.specs.Laws.{ComparesPairs, PopUndoesAppend, IsRebuilt};
+ghost use Rattle.ordered_multimap.specs.Laws.{ComparesPairs, FiltersChains, PopUndoesAppend, IsRebuilt};
 
 /// An append and then a pop at the back give the lists again, and the pair that was appended.
 pub fn append_then_pop_back<K: Eq, V>()
@@ -16,4 +16,10 @@ pub fn json_first_occurrence<K: Eq, V>()
 /// Equality of maps is an equivalence, and equal maps have as many keys.
 pub fn equal_maps<K: Eq, V: Eq>()
     ensures { ComparesPairs K.eq V.eq }
+{}
+
+/// Dropping pairs leaves each key its values in their order, but those of its dropped pairs; and a
+/// walk with as many letters as there are items gives each item once.
+pub fn chain_is_filter<K: Eq, V>()
+    ensures { FiltersChains K.eq V }
 {}
