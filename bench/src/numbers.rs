@@ -13,7 +13,7 @@ pub fn mix(checksum: u64, number: u64) -> u64 {
 }
 
 #[inline(always)]
-fn spread(number: u64) -> u64 {
+pub fn spread(number: u64) -> u64 {
     let mut z = number;
     z = (z ^ (z >> 30)).wrapping_mul(0xBF58_476D_1CE4_E5B9);
     z = (z ^ (z >> 27)).wrapping_mul(0x94D0_49BB_1331_11EB);

@@ -1,5 +1,5 @@
 //! The workloads on the standard library's map, with a vector of values for each key.
-use crate::numbers::{START, choice, key, mix, value};
+use crate::numbers::{START, choice, key, mix, spread, value};
 use std::collections::{HashMap, VecDeque};
 use std::hash::BuildHasher;
 
@@ -41,6 +41,17 @@ impl<S: BuildHasher + Default> Multimap<S> {
         let values = self.keys.remove(&key).unwrap_or_default();
         self.values_len -= values.len() as u64;
         values
+    }
+
+    #[inline(always)]
+    fn retain(&mut self, mut keeps: impl FnMut(u64) -> bool) {
+        let mut left = 0;
+        self.keys.retain(|_, values| {
+            values.retain(|value| keeps(*value));
+            left += values.len() as u64;
+            !values.is_empty()
+        });
+        self.values_len = left;
     }
 
     #[inline(always)]
@@ -196,6 +207,24 @@ pub fn remove_all_half<S: BuildHasher + Default>(n: u64, seed: u64) -> u64 {
         }
     }
     map.ends(checksum)
+}
+
+fn retains<S: BuildHasher + Default>(start: Filled<S>) -> u64 {
+    let Filled { mut map, checksum } = start;
+    let mut calls = 0;
+    map.retain(|value| {
+        calls += 1;
+        spread(value) % 2 == 0
+    });
+    map.ends(mix(checksum, calls))
+}
+
+pub fn retain_half<S: BuildHasher + Default>(n: u64, seed: u64) -> u64 {
+    retains::<S>(distinct(n, seed))
+}
+
+pub fn retain_half_multi<S: BuildHasher + Default>(n: u64, seed: u64) -> u64 {
+    retains::<S>(scattered(n, seed))
 }
 
 /// A queue of pairs, of which the standard library's map has the values of each key.

@@ -37,6 +37,8 @@ mod exported {
         pub safe fn bench_fifo_small(n: u64, seed: u64) -> u64;
         pub safe fn bench_insert_replace(n: u64, seed: u64) -> u64;
         pub safe fn bench_remove_all_half(n: u64, seed: u64) -> u64;
+        pub safe fn bench_retain_half(n: u64, seed: u64) -> u64;
+        pub safe fn bench_retain_half_multi(n: u64, seed: u64) -> u64;
         pub safe fn bench_entry_count(n: u64, seed: u64) -> u64;
         pub safe fn bench_small_maps(n: u64, seed: u64) -> u64;
         pub safe fn benchfx_append_distinct(n: u64, seed: u64) -> u64;
@@ -53,6 +55,8 @@ mod exported {
         pub safe fn benchfx_fifo_small(n: u64, seed: u64) -> u64;
         pub safe fn benchfx_insert_replace(n: u64, seed: u64) -> u64;
         pub safe fn benchfx_remove_all_half(n: u64, seed: u64) -> u64;
+        pub safe fn benchfx_retain_half(n: u64, seed: u64) -> u64;
+        pub safe fn benchfx_retain_half_multi(n: u64, seed: u64) -> u64;
         pub safe fn benchfx_entry_count(n: u64, seed: u64) -> u64;
         pub safe fn benchfx_small_maps(n: u64, seed: u64) -> u64;
     }
@@ -84,7 +88,7 @@ const SCATTERED: Option<usize> = Some(3);
 const IN_ORDER: Option<Run> = Some(std_side::iter_all_in_order);
 
 /// Every workload. One that starts with another stands behind it.
-pub const WORKLOADS: [Workload; 16] = [
+pub const WORKLOADS: [Workload; 18] = [
     workload!(
         append_distinct,
         bench_append_distinct,
@@ -188,6 +192,22 @@ pub const WORKLOADS: [Workload; 16] = [
         benchfx_remove_all_half,
         SCATTERED,
         1,
+        None
+    ),
+    workload!(
+        retain_half,
+        bench_retain_half,
+        benchfx_retain_half,
+        DISTINCT,
+        2,
+        None
+    ),
+    workload!(
+        retain_half_multi,
+        bench_retain_half_multi,
+        benchfx_retain_half_multi,
+        SCATTERED,
+        2,
         None
     ),
     workload!(

@@ -1,7 +1,7 @@
 //! Pairs that come and go, that are replaced, and that leave with their key, on a map that was filled
 //! by appends; and keys that are counted. Each answers none where memory was refused.
 use crate::appends::{Map, distinct, ends};
-use crate::numbers::{choice, key, mix, value};
+use crate::numbers::{choice, key, mix, spread, value};
 use std::hash::BuildHasher;
 
 /// Appends a pair and pops the first one. Mixes in the value that left, whether the key that came
@@ -91,6 +91,17 @@ pub(crate) fn removes<S: BuildHasher>(map: &mut Map<S>, pairs: u64, seed: u64, s
         }
     }
     ends(map, checksum)
+}
+
+/// Keeps the pairs with an even value once its bits are spread, about half of them. Mixes in how
+/// often the map asked.
+pub(crate) fn retains<S: BuildHasher>(map: &mut Map<S>, start: u64) -> u64 {
+    let mut calls = 0u64;
+    map.retain(|_key, value| {
+        calls = calls.wrapping_add(1);
+        spread(*value) % 2 == 0
+    });
+    ends(map, mix(start, calls))
 }
 
 /// Counts how often each of an eighth as many keys is chosen, four times a pair.

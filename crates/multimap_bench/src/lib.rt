@@ -127,6 +127,24 @@ pub extern "C" fn bench_remove_all_half(alloc: Global, n: u64, seed: u64) -> u64
     run(alloc, DefaultState::new(), Workload::RemoveAllHalf, n, seed)
 }
 
+/// Keeps half of the pairs, after `append_distinct`.
+#[unsafe(no_mangle)]
+pub extern "C" fn bench_retain_half(alloc: Global, n: u64, seed: u64) -> u64 {
+    run(alloc, DefaultState::new(), Workload::RetainHalf, n, seed)
+}
+
+/// Keeps half of the pairs, after `append_scattered`.
+#[unsafe(no_mangle)]
+pub extern "C" fn bench_retain_half_multi(alloc: Global, n: u64, seed: u64) -> u64 {
+    run(
+        alloc,
+        DefaultState::new(),
+        Workload::RetainHalfMulti,
+        n,
+        seed,
+    )
+}
+
 /// Counts keys by their entries.
 #[unsafe(no_mangle)]
 pub extern "C" fn bench_entry_count(alloc: Global, n: u64, seed: u64) -> u64 {
@@ -227,6 +245,18 @@ pub extern "C" fn benchfx_insert_replace(alloc: Global, n: u64, seed: u64) -> u6
 #[unsafe(no_mangle)]
 pub extern "C" fn benchfx_remove_all_half(alloc: Global, n: u64, seed: u64) -> u64 {
     run(alloc, FastState::new(), Workload::RemoveAllHalf, n, seed)
+}
+
+/// Keeps half of the pairs, after `append_distinct`. With the fast hasher.
+#[unsafe(no_mangle)]
+pub extern "C" fn benchfx_retain_half(alloc: Global, n: u64, seed: u64) -> u64 {
+    run(alloc, FastState::new(), Workload::RetainHalf, n, seed)
+}
+
+/// Keeps half of the pairs, after `append_scattered`. With the fast hasher.
+#[unsafe(no_mangle)]
+pub extern "C" fn benchfx_retain_half_multi(alloc: Global, n: u64, seed: u64) -> u64 {
+    run(alloc, FastState::new(), Workload::RetainHalfMulti, n, seed)
 }
 
 /// Counts keys by their entries. With the fast hasher.

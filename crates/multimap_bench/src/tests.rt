@@ -3,11 +3,13 @@ use crate::{
     bench_append_distinct, bench_append_few, bench_append_grouped, bench_append_scattered,
     bench_entry_count, bench_fifo_churn, bench_fifo_churn_few, bench_fifo_small,
     bench_get_all_walk, bench_get_all_walk_scattered, bench_get_hit, bench_get_miss,
-    bench_insert_replace, bench_iter_all, bench_remove_all_half, bench_small_maps,
-    benchfx_append_distinct, benchfx_append_few, benchfx_append_grouped, benchfx_append_scattered,
-    benchfx_entry_count, benchfx_fifo_churn, benchfx_fifo_churn_few, benchfx_fifo_small,
-    benchfx_get_all_walk, benchfx_get_all_walk_scattered, benchfx_get_hit, benchfx_get_miss,
-    benchfx_insert_replace, benchfx_iter_all, benchfx_remove_all_half, benchfx_small_maps,
+    bench_insert_replace, bench_iter_all, bench_remove_all_half, bench_retain_half,
+    bench_retain_half_multi, bench_small_maps, benchfx_append_distinct, benchfx_append_few,
+    benchfx_append_grouped, benchfx_append_scattered, benchfx_entry_count, benchfx_fifo_churn,
+    benchfx_fifo_churn_few, benchfx_fifo_small, benchfx_get_all_walk,
+    benchfx_get_all_walk_scattered, benchfx_get_hit, benchfx_get_miss, benchfx_insert_replace,
+    benchfx_iter_all, benchfx_remove_all_half, benchfx_retain_half, benchfx_retain_half_multi,
+    benchfx_small_maps,
 };
 use std::alloc::Global;
 use test_helpers::{Failed, Test};
@@ -27,6 +29,8 @@ const CHECKSUMS: &[(&str, u64)] = &[
     ("fifo_small", 0x569f_2b84_358a_6375),
     ("insert_replace", 0x0820_2a3d_9777_c91d),
     ("remove_all_half", 0x6c9b_7b79_576a_f669),
+    ("retain_half", 0x0887_9326_95cc_4b77),
+    ("retain_half_multi", 0x193e_e88a_8b5c_7261),
     ("entry_count", 0xafef_8b45_c4bd_2042),
     ("small_maps", 0x8960_d8a7_66ee_4890),
 ];
@@ -60,8 +64,10 @@ fn changes_of_the_default_hasher(test: &Test, alloc: Global) {
     expect_checksum(test, 11, bench_fifo_small(alloc, 64, 1));
     expect_checksum(test, 12, bench_insert_replace(alloc, 64, 1));
     expect_checksum(test, 13, bench_remove_all_half(alloc, 64, 1));
-    expect_checksum(test, 14, bench_entry_count(alloc, 64, 1));
-    expect_checksum(test, 15, bench_small_maps(alloc, 64, 1));
+    expect_checksum(test, 14, bench_retain_half(alloc, 64, 1));
+    expect_checksum(test, 15, bench_retain_half_multi(alloc, 64, 1));
+    expect_checksum(test, 16, bench_entry_count(alloc, 64, 1));
+    expect_checksum(test, 17, bench_small_maps(alloc, 64, 1));
 }
 
 #[test]
@@ -94,8 +100,10 @@ fn changes_of_the_fast_hasher(test: &Test, alloc: Global) {
     expect_checksum(test, 11, benchfx_fifo_small(alloc, 64, 1));
     expect_checksum(test, 12, benchfx_insert_replace(alloc, 64, 1));
     expect_checksum(test, 13, benchfx_remove_all_half(alloc, 64, 1));
-    expect_checksum(test, 14, benchfx_entry_count(alloc, 64, 1));
-    expect_checksum(test, 15, benchfx_small_maps(alloc, 64, 1));
+    expect_checksum(test, 14, benchfx_retain_half(alloc, 64, 1));
+    expect_checksum(test, 15, benchfx_retain_half_multi(alloc, 64, 1));
+    expect_checksum(test, 16, benchfx_entry_count(alloc, 64, 1));
+    expect_checksum(test, 17, benchfx_small_maps(alloc, 64, 1));
 }
 
 #[test]

@@ -1,6 +1,6 @@
 //! The workloads, each on a map of its own under any hash builder.
 use crate::appends::{Map, distinct, ends, few, grouped, scattered, spread_over_twelve};
-use crate::changes::{counts, fifo, fifo_few, fifo_small, removes, replaces};
+use crate::changes::{counts, fifo, fifo_few, fifo_small, removes, replaces, retains};
 use crate::lookups::{all_pairs, hits, misses, sixteen_keys, sum_of_pairs, walks};
 use crate::numbers::{START, mix};
 use ordered_multimap::ListOrderedMultimap;
@@ -41,6 +41,10 @@ pub(crate) enum Workload {
     InsertReplace,
     /// Takes out half of the keys with their values, after `AppendScattered`.
     RemoveAllHalf,
+    /// Keeps half of the pairs, after `AppendDistinct`.
+    RetainHalf,
+    /// Keeps half of the pairs, after `AppendScattered`.
+    RetainHalfMulti,
     /// Counts keys by their entries, on an empty map.
     EntryCount,
 }
@@ -74,13 +78,15 @@ fn fill<S: BuildHasher>(map: &mut Map<S>, workload: Workload, n: u64, seed: u64)
         | Workload::GetHit
         | Workload::GetMiss
         | Workload::FifoChurn
-        | Workload::InsertReplace => distinct(map, n, seed, START),
+        | Workload::InsertReplace
+        | Workload::RetainHalf => distinct(map, n, seed, START),
         Workload::AppendFew | Workload::FifoChurnFew => few(map, n, seed, START),
         Workload::AppendGrouped | Workload::GetAllWalk => grouped(map, n, seed, START),
         Workload::AppendScattered
         | Workload::GetAllWalkScattered
         | Workload::IterAll
-        | Workload::RemoveAllHalf => scattered(map, n, seed, START),
+        | Workload::RemoveAllHalf
+        | Workload::RetainHalfMulti => scattered(map, n, seed, START),
         Workload::FifoSmall | Workload::EntryCount => Some(START),
     }
 }
@@ -99,6 +105,7 @@ fn change<S: BuildHasher>(
         Workload::FifoSmall => fifo_small(map, n, seed, checksum),
         Workload::InsertReplace => replaces(map, n, seed, checksum),
         Workload::RemoveAllHalf => Some(removes(map, n, seed, checksum)),
+        Workload::RetainHalf | Workload::RetainHalfMulti => Some(retains(map, checksum)),
         Workload::EntryCount => counts(map, n, seed, checksum),
         _ => Some(checksum),
     }
