@@ -116,6 +116,13 @@ module _ {L : Type 0} where
     pub states : states new ≡ slice_set (states old) place Detached
     pub links : links new ≡ links old
 
+  -- the place is listed behind `previous`, with none behind it, and nothing else changes
+  pub record SetsListed (old new : List (Node L)) (place : ℕ) (previous : Option ℕ) : Type 0 where
+    pub nexts : nexts new ≡ slice_set (nexts old) place None
+    pub previouses : previouses new ≡ slice_set (previouses old) place previous
+    pub states : states new ≡ slice_set (states old) place Listed
+    pub links : links new ≡ links old
+
   -- the nodes are linked in one order, and each other place is detached or on the list of free ones
   pub record IsOrdered (nodes : List (Node L)) (front back free : Option ℕ) (len detached : ℕ)
       : Type 0 where

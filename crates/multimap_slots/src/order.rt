@@ -2,6 +2,7 @@
 ghost use Rattle.std.specs.Prelude.{◌≡◌, ◌+◌, ◌<◌, ◌≤◌, ◌↔◌, [], length, Some, IsTrue, IfOk, OnOk, OnErr, IsOk, slice_get, slice_set};
 ghost use Rattle.multimap_slots.specs.Lists.{IsIn, first_of, last_of, next_of, previous_of, without};
 
+mod attached;
 mod detached;
 mod node;
 mod optional_place;

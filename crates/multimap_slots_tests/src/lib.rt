@@ -16,6 +16,8 @@ mod listed;
 mod listed_uses;
 #[cfg(test)]
 mod made;
+#[cfg(test)]
+mod moved;
 mod places;
 #[cfg(test)]
 mod refused;
@@ -34,4 +36,4 @@ pub use tape_uses::{
     can_move_down, cut_to_no_hole, detach_and_take, detach_listed as detach_on_tape, is_listed,
     move_if_free, push_beside as push_beside_on_tape, push_counted, remove_both, removes_nothing,
 };
-pub use uses::{detach_listed, push_beside, push_two, read_all, relink, remove_none};
+pub use uses::{detach_listed, push_beside, push_two, put_last, read_all, relink, remove_none};

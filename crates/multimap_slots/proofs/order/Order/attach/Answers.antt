@@ -1,0 +1,42 @@
+use Rattle.std.proofs.Common.{◌∷◌, [], ◌++◌, ap, sym, ◌∙◌, arith}
+use Rattle.multimap_slots.specs.ListLayout.{states}
+use Rattle.multimap_slots.proofs.DetachedLemmas.{count_detached-some}
+use Rattle.multimap_slots.proofs.OrderLemmas.{apart-is, back-is, last-within, taken-within, walk-order}
+use Rattle.multimap_slots.proofs.PushLemmas.{IsOrdered-attach, length-listed}
+use Rattle.multimap_slots.proofs.NodeLemmas.{within_more}
+use Rattle.multimap_slots.proofs.order.Order.attach.Goals as goal
+
+pub some-end-requires : goal.some-end-requires
+some-end-requires g c =
+    let apart = rw (← c.self.view_is) at c.requires in
+    omega (arith, c.self.inside.nodes.ok, taken-within c.self.invariant _ apart.not_free)
+
+pub set_next-requires : goal.set_next-requires
+set_next-requires g c =
+    within_more _ _ _ (omega (arith, length-listed _ _ _ _ c.set_listed.ensures.written)) (last-within c.self.invariant _ _ (back-is c.self.invariant) (λ x i. i))
+
+pub overflow_sub-self : goal.overflow_sub-self
+overflow_sub-self g c =
+    let apart = rw (← c.self.view_is) at c.requires in
+    omega (arith, c.self.invariant.apart, count_detached-some (states c.self.inside.nodes.items) c.args.place (apart-is c.self.invariant _ apart.not_listed apart.not_free))
+
+pub invariant_of-self : goal.invariant_of-self
+invariant_of-self g c =
+    let apart = rw (← c.self.view_is) at c.requires in
+    rw c.some-end.ensures
+    (IsOrdered-attach c.self.invariant (apart-is c.self.invariant _ apart.not_listed apart.not_free) (taken-within c.self.invariant _ apart.not_free)
+    c.set_listed.ensures.written (rw c.some-end.ensures at c.set_next.ensures.written)).ordered
+
+pub returns-clause-order : goal.returns-clause-order
+returns-clause-order g c =
+    let apart = rw (← c.self.view_is) at c.requires in
+    let attached =
+    IsOrdered-attach c.self.invariant (apart-is c.self.invariant _ apart.not_listed apart.not_free) (taken-within c.self.invariant _ apart.not_free)
+    c.set_listed.ensures.written (rw c.some-end.ensures at c.set_next.ensures.written) in
+    rw (← c.self.view_is) (walk-order attached.ordered ∙ attached.order_is ∙ ap (λ ps. ps ++ c.args.place ∷ []) (sym (walk-order c.self.invariant)))
+
+pub returns-clause-detached : goal.returns-clause-detached
+returns-clause-detached g c =
+    let apart = rw (← c.self.view_is) at c.requires in
+    let some = count_detached-some (states c.self.inside.nodes.items) c.args.place (apart-is c.self.invariant _ apart.not_listed apart.not_free) in
+    rw (← c.self.view_is) (omega (arith, c.self.invariant.apart, some))

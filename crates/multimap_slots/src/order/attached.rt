@@ -1,0 +1,47 @@
+//! Places that come last in the order: detached ones, and listed ones that move there.
+ghost use Rattle.std.specs.Prelude.{◌≡◌, ◌+◌, ◌∷◌, ◌++◌, [], slice_set};
+ghost use Rattle.multimap_slots.specs.Lists.{IsIn, without};
+
+use super::Order;
+use super::optional_place::OptionalPlace;
+use super::write::{set_listed, set_next};
+use std::alloc::Allocator;
+
+impl<L: Copy, A: Allocator> Order<L, A> {
+    ghost use Rattle.multimap_slots.specs.ListLayout.{IsApart};
+    ghost use Rattle.multimap_slots.specs.declared.order.node.State.TheVariants.{Listed};
+
+    /// Lists the detached place last.
+    pub(crate) fn attach(&mut self, place: usize)
+        requires { IsApart self.old place }
+        ensures order { self.new.order ≡ self.old.order ++ place ∷ [] }
+        ensures states { self.new.states ≡ slice_set self.old.states place Listed }
+        ensures links { self.new.links ≡ self.old.links }
+
+        ensures capacity { self.new.capacity ≡ self.old.capacity }
+        ensures detached { self.new.detached + 1 ≡ self.old.detached }
+    {
+        set_listed(&mut self.nodes, place, self.back);
+        let end = OptionalPlace::some(place);
+        set_next(&mut self.nodes, &mut self.front, self.back, end);
+        self.back = end;
+        self.len += 1;
+        self.detached -= 1;
+    }
+
+    /// Puts the place behind all others of the order.
+    pub(crate) fn move_to_back(&mut self, place: usize)
+        requires { IsIn place self.old.order }
+        ensures order { self.new.order ≡ without self.old.order place ++ place ∷ [] }
+        ensures states { self.new.states ≡ self.old.states }
+        ensures links { self.new.links ≡ self.old.links }
+
+        ensures capacity { self.new.capacity ≡ self.old.capacity }
+        ensures detached { self.new.detached ≡ self.old.detached }
+    {
+        // The length tells the proof that each listed place is marked so.
+        let _len = self.len();
+        self.detach(place);
+        self.attach(place);
+    }
+}
