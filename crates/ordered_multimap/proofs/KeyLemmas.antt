@@ -50,7 +50,7 @@ module _ {K : Type 0} {eq : K → K → Bool} (laws : IsEquivalence eq) where
       let P : Bool → Type 0 = λ b. (b || is_listed eq keys k) ≡ false → unwrap_or (cond b (Some j) (find (eq k) keys)) k ≡ k in
       elim (eq k j) as P [ true ↦ λ never. absurd (true≢false never) | false ↦ λ later. stored_key_absent k keys later ] absent
 
-  apart_member : (k j : K) (keys : List K) → AllByRecursion (λ y. eq k y ≡ false) keys → IsIn j keys → eq k j ≡ false
+  pub apart_member : (k j : K) (keys : List K) → AllByRecursion (λ y. eq k y ≡ false) keys → IsIn j keys → eq k j ≡ false
   apart_member k j [] apart member = absurd member
   apart_member k j (i ∷ keys) apart member = elim member [ inl here ↦ ap (eq k) here ∙ apart.0 | inr later ↦ apart_member k j keys apart.1 later ]
 

@@ -74,6 +74,25 @@ module _ {K : Type 0} {keys keys_after : Slots K KeyLink} {place : ℕ} {stored 
     fits = omega (arith, sound.fits, room, removes.shorter);
   }
 
+-- the keys at the other places are those that aren't equal
+module _ {K : Type 0} {eq : K → K → Bool} (laws : IsEquivalence eq) {keys : Slots K KeyLink} (distinct : IsDistinct eq (items_of keys)) (k : K) (place : ℕ) (has : HasKey eq keys k place) where
+  pub items_besides : filter_map (item_at keys) (without keys.order place) ≡ filter (λ j. not (eq k j)) (items_of keys)
+  items_besides =
+      filter_map-filter (item_at keys) (λ q. not (q == place)) (λ j. not (eq k j)) keys.order (λ q listed j is. ap not (own q listed j is (cases_eq q place)))
+    where
+      own : (q : ℕ) → IsIn q keys.order → (j : K) → item_at keys q ≡ Some j → (q ≡ place) ⊎ (q ≢ place) → (q == place) ≡ eq k j
+      own q listed j is (inl same) =
+          let one : Some has.stored ≡ Some j = sym has.item_is ∙ ap (item_at keys) (sym same) ∙ is in
+          let is_stored : has.stored ≡ j = cc in
+          eq-eqb q place same ∙ sym (ap (eq k) (sym is_stored) ∙ has.equal)
+      own q listed j is (inr differs) =
+          let P : Bool → Type 0 = λ b. eq k j ≡ b → false ≡ b in
+          ne_eqb q place differs ∙ elim (eq k j) as P [
+            | true ↦ λ e. absurd (differs (sym (same_place laws keys keys.order distinct place q has.stored j has.listed listed has.item_is is
+                (sym (laws.congr k has.stored j has.equal) ∙ e))))
+            | false ↦ λ _. refl
+          ] refl
+
 -- a key leaves with all its values
 module _ {K V : Type 0} {eq : K → K → Bool} (laws : IsEquivalence eq) {hash : K → ℕ} {keys keys_after : Slots K KeyLink} {rows : FinMap nat_cmp ℕ} {values values_after : Slots V ValueLink}
     (agrees : Agrees eq hash keys rows values) (k : K) (place : ℕ) (has : HasKey eq keys k place) {stored : K}
@@ -120,20 +139,7 @@ module _ {K V : Type 0} {eq : K → K → Bool} (laws : IsEquivalence eq) {hash 
       ap (filter_map (item_at keys_after)) removes.order
       ∙ filter_map-agree (item_at keys_after) (item_at keys) (without keys.order place)
       (λ q i. removes.others.items q (key_still_listed removes q (subst (IsIn q) (sym removes.order) i)).1)
-      ∙ filter_map-filter (item_at keys) (λ q. not (q == place)) (λ j. not (eq k j)) keys.order (λ q listed j is. ap not (own q listed j is (cases_eq q place)))
-    where
-      own : (q : ℕ) → IsIn q keys.order → (j : K) → item_at keys q ≡ Some j → (q ≡ place) ⊎ (q ≢ place) → (q == place) ≡ eq k j
-      own q listed j is (inl same) =
-          let one : Some has.stored ≡ Some j = sym has.item_is ∙ ap (item_at keys) (sym same) ∙ is in
-          let is_stored : has.stored ≡ j = cc in
-          eq-eqb q place same ∙ sym (ap (eq k) (sym is_stored) ∙ has.equal)
-      own q listed j is (inr differs) =
-          let P : Bool → Type 0 = λ b. eq k j ≡ b → false ≡ b in
-          ne_eqb q place differs ∙ elim (eq k j) as P [
-            | true ↦ λ e. absurd (differs (sym (same_place laws keys keys.order agrees.distinct place q has.stored j has.listed listed has.item_is is
-                (sym (laws.congr k has.stored j has.equal) ∙ e))))
-            | false ↦ λ _. refl
-          ] refl
+      ∙ items_besides laws agrees.distinct k place has
 
   -- a pair that stays is the same
   pub pair_at-taken : (q : ℕ) → IsIn q values_after.order → pair_at keys_after values_after q ≡ pair_at keys values q

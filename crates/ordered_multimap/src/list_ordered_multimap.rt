@@ -4,6 +4,7 @@ ghost use Rattle.ordered_multimap.specs.Lists.{IsWellFormed, empty_lists};
 ghost use Rattle.ordered_multimap.specs.TapeNumbers.{ArePaid, AreUnused};
 
 mod append;
+mod clone;
 mod compact;
 mod detaches;
 mod drain;

@@ -57,9 +57,16 @@ fn last_pair_goes_and_comes(test: &Test, map: &Numbers, other: &mut Numbers) {
     test.expect("equal again", *map == *other);
 }
 
+fn its_clone_changes(test: &Test, map: &Numbers) {
+    match map.clone() {
+        Ok(mut copy) => last_pair_goes_and_comes(test, map, &mut copy),
+        Err(_) => test.expect("memory for a clone", false),
+    }
+}
+
 #[test]
-fn a_map_without_its_last_pair_differs(rt: HostRuntime) -> Result<(), Failed> {
+fn a_clone_without_its_last_pair_differs(rt: HostRuntime) -> Result<(), Failed> {
     let test = Test::new(rt.alloc());
-    last_pair_goes_and_comes(&test, &map_of(&test, FOUR), &mut map_of(&test, FOUR));
+    its_clone_changes(&test, &map_of(&test, FOUR));
     test.end()
 }

@@ -1,6 +1,7 @@
 //! The examples of the doc comments of the calls that this crate tests. `tools/examples` says
 //! whether each line of theirs stands here.
 use ordered_multimap::ListOrderedMultimap;
+use std::alloc::AllocError;
 use test_helpers::{Failed, Test};
 
 type Numbers = ListOrderedMultimap<&'static str, u32>;
@@ -17,9 +18,17 @@ fn walks_answer(test: &Test, map: &mut Numbers) {
     test.expect("pairs", map.pairs().len() == 2);
 }
 
+fn clone_answers(test: &Test, map: &mut Numbers) -> Result<(), AllocError> {
+    add_three(test, map);
+    test.expect("clone", map.clone()?.values_len() == 3);
+    Ok(())
+}
+
 #[test]
 fn examples_hold(rt: HostRuntime) -> Result<(), Failed> {
     let test = Test::new(rt.alloc());
     walks_answer(&test, &mut ListOrderedMultimap::new(test.alloc()));
+    let cloned = clone_answers(&test, &mut ListOrderedMultimap::new(test.alloc()));
+    test.expect("memory for a clone", cloned.is_ok());
     test.end()
 }

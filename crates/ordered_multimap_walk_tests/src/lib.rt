@@ -1,9 +1,11 @@
 //! Tests of the map's walks over all values and over the keys with their values, of the walk that
-//! takes a map apart, of equality, and of a map's text, from outside.
+//! takes a map apart, of equality, of clones, and of a map's text, from outside.
 #![tactic(auto)]
 
 #[cfg(test)]
 mod all_values;
+#[cfg(test)]
+mod clones;
 #[cfg(test)]
 mod equal;
 #[cfg(test)]
@@ -12,6 +14,8 @@ mod examples;
 mod into_iter;
 #[cfg(test)]
 mod key_values;
+#[cfg(test)]
+mod refused_clones;
 #[cfg(test)]
 mod shown;
 #[cfg(test)]

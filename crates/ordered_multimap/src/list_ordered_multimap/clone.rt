@@ -1,0 +1,175 @@
+//! Clones of a map.
+ghost use Rattle.std.specs.Prelude.{◌≡◌, ◌<◌, ◌≤◌, [], ℕ, false, true, length, IfOk, OnOk, IsOk};
+ghost use Rattle.std.specs.Map.{keys_of};
+ghost use Rattle.multimap_slots.specs.Lists.{IsIn};
+ghost use Rattle.ordered_multimap.specs.Agrees.{HasKey, hash_of};
+ghost use Rattle.ordered_multimap.specs.Changes.{appended, all_appended};
+ghost use Rattle.ordered_multimap.specs.Keys.{is_listed, moved_to_back, all_moved};
+ghost use Rattle.ordered_multimap.specs.Lists.{lists};
+ghost use Rattle.ordered_multimap.specs.Pairs.{all_values, is_present};
+ghost use Rattle.ordered_multimap.specs.Rooms.{HasKeyRoom, HasValueRoom, KeepsRooms, SameRooms};
+ghost use Rattle.ordered_multimap.specs.TapeNumbers.{AreUnused, TakesOut};
+
+use super::ListOrderedMultimap;
+use multimap_walks::{Iter, Keys};
+use std::alloc::{AllocError, Allocator};
+use std::hash::{BuildHasher, Hash};
+
+impl<
+    K: Eq + Hash + Clone,
+    V: Clone,
+    S: BuildHasher + Clone,
+    A: Allocator + Copy,
+> ListOrderedMultimap<K, V, S, A> {
+    /// A map with a clone of each key and each value: the same keys and the same pairs, both in the
+    /// same order. The hashes are computed anew, with a clone of the hash builder.
+    ///
+    /// A clone of each key and each value must be that very key or value, so far as contracts see
+    /// them. Memory may be refused for the clone of the builder, for the room of the new map, which
+    /// is made before anything else, and for the clones of keys and values. Then what was made is
+    /// dropped.
+    ///
+    /// It reads each pair once, and looks a key up for each pair and for each key.
+    ///
+    /// ```
+    /// map.clone()?.values_len() == 3
+    /// ```
+    pub fn clone(&self) -> Result<Self, AllocError>
+        requires keys { (k c : K) → IsIn k self.now.lists.keys → K.is_clone k c → c ≡ k }
+        requires values { (v c : V) → IsIn v (all_values self.now.lists.pairs)
+            → V.is_clone v c → c ≡ v }
+        ensures lists { IfOk result (λ m. m.lists ≡ self.now.lists) }
+        ensures hasher { IfOk result (λ m. S.is_clone self.now.hasher m.hasher) }
+        ensures key_room { IfOk result (λ m. length self.now.lists.keys ≤ m.key_room) }
+        ensures value_room { IfOk result (λ m. length self.now.lists.pairs ≤ m.value_room) }
+        ensures unused { IfOk result (λ m. AreUnused m.tape) }
+        ensures succeeds { self.now.lists.pairs ≡ [] → S.is_infallible self.now.hasher
+            → IsOk result }
+    {
+        let state = self.state.clone()?;
+        let mut copy = ListOrderedMultimap::with_capacity_and_hasher(
+            *self.keys.allocator(),
+            self.keys_len(),
+            self.values_len(),
+            state,
+        )?;
+        append_clones(&mut copy, self.iter())?;
+        put_in_order(&mut copy, self.keys());
+        Ok(copy)
+    }
+}
+
+impl<K: Eq + Hash, V, S: BuildHasher, A: Allocator> ListOrderedMultimap<K, V, S, A> {
+    /// Puts the key at the place behind the other keys.
+    fn move_key_to_back(&mut self, place: usize)
+        requires { IsIn place self.old.slots.keys.order }
+        ensures lists { (k : K) → HasKey K.eq self.old.slots.keys k place
+            → self.new.lists ≡ lists (moved_to_back K.eq self.old.lists.keys k) self.old.lists.pairs }
+        ensures rooms { SameRooms self.old self.new }
+        ensures tape { self.new.tape ≡ self.old.tape }
+    {
+        self.keys.move_to_back(place);
+    }
+}
+
+/// Puts the key behind the other keys, where it is present.
+fn put_last<K: Eq + Hash, V, S: BuildHasher, A: Allocator>(
+    copy: &mut ListOrderedMultimap<K, V, S, A>,
+    key: &K,
+)
+    requires { is_present K.eq copy.old.lists.pairs key.now ≡ true }
+    ensures lists { copy.new.lists
+        ≡ lists (moved_to_back K.eq copy.old.lists.keys key.now) copy.old.lists.pairs }
+    ensures rooms { SameRooms copy.old copy.new }
+    ensures tape { copy.new.tape ≡ copy.old.tape }
+{
+    match copy.look_up(key).1 {
+        Some(place) => copy.move_key_to_back(place),
+        None => unreachable!(),
+    }
+}
+
+/// Puts the keys that are left behind the other keys, one after another.
+fn put_in_order<K: Eq + Hash, V, S: BuildHasher, A: Allocator>(
+    copy: &mut ListOrderedMultimap<K, V, S, A>,
+    left: Keys<'_, K, A>,
+)
+    requires { (k : K) → IsIn k left → is_present K.eq copy.old.lists.pairs k ≡ true }
+    ensures lists { copy.new.lists
+        ≡ lists (all_moved K.eq copy.old.lists.keys left.entry) copy.old.lists.pairs }
+    ensures rooms { SameRooms copy.old copy.new }
+    ensures tape { copy.new.tape ≡ copy.old.tape }
+{
+    for key in left {
+        put_last(copy, key);
+    }
+}
+
+/// Appends the value under a clone of the key, where there is room.
+fn append_under_clone<K: Eq + Hash + Clone, V: Drop, S: BuildHasher, A: Allocator + Copy>(
+    copy: &mut ListOrderedMultimap<K, V, S, A>,
+    key: &K,
+    value: V,
+) -> Result<(), AllocError>
+    requires key { (c : K) → K.is_clone key.now c → c ≡ key.now }
+    requires value_room { HasValueRoom copy.old }
+    requires key_room { is_listed K.eq copy.old.lists.keys key.now ≡ false → HasKeyRoom copy.old }
+    ensures ok { OnOk result (copy.new.lists ≡ appended K.eq copy.old.lists key.now value) }
+    ensures rooms { KeepsRooms copy.old copy.new }
+    ensures taken { TakesOut 0 copy.old.tape copy.new.tape }
+    ensures succeeds { K.is_infallible key.now → IsOk result }
+{
+    let (hash, place) = copy.look_up(key);
+    let Some(place) = place else {
+        let key = key.clone()?;
+        return match copy.append_new(hash, key, value) {
+            Ok(_) => Ok(()),
+            Err(_) => unreachable!(),
+        };
+    };
+    match copy.append_at(place, value) {
+        Ok(()) => Ok(()),
+        Err(_) => unreachable!(),
+    }
+}
+
+/// Appends clones of the key and the value, where there is room.
+fn append_clone<K: Eq + Hash + Clone, V: Clone, S: BuildHasher, A: Allocator + Copy>(
+    copy: &mut ListOrderedMultimap<K, V, S, A>,
+    key: &K,
+    value: &V,
+) -> Result<(), AllocError>
+    requires key { (c : K) → K.is_clone key.now c → c ≡ key.now }
+    requires value { (c : V) → V.is_clone value.now c → c ≡ value.now }
+    requires value_room { HasValueRoom copy.old }
+    requires key_room { is_listed K.eq copy.old.lists.keys key.now ≡ false → HasKeyRoom copy.old }
+    ensures ok { OnOk result (copy.new.lists ≡ appended K.eq copy.old.lists key.now value.now) }
+    ensures rooms { KeepsRooms copy.old copy.new }
+    ensures taken { TakesOut 0 copy.old.tape copy.new.tape }
+    ensures succeeds { K.is_infallible key.now → V.is_infallible value.now → IsOk result }
+{
+    let value = value.clone()?;
+    append_under_clone(copy, key, value)
+}
+
+/// Appends clones of the pairs that are left, in their order, where there is room for all.
+fn append_clones<K: Eq + Hash + Clone, V: Clone, S: BuildHasher, A: Allocator + Copy>(
+    copy: &mut ListOrderedMultimap<K, V, S, A>,
+    left: Iter<'_, K, V, A>,
+) -> Result<(), AllocError>
+    requires keys { (k c : K) → IsIn k (keys_of left) → K.is_clone k c → c ≡ k }
+    requires values { (v c : V) → IsIn v (all_values left) → V.is_clone v c → c ≡ v }
+    requires key_room { length (all_appended K.eq copy.old.lists left).keys
+        ≤ copy.old.key_room }
+    requires value_room { length (all_appended K.eq copy.old.lists left).pairs
+        ≤ copy.old.value_room }
+    ensures ok { OnOk result (copy.new.lists ≡ all_appended K.eq copy.old.lists left.entry) }
+    ensures rooms { KeepsRooms copy.old copy.new }
+    ensures taken { TakesOut 0 copy.old.tape copy.new.tape }
+    ensures succeeds { left.entry ≡ [] → IsOk result }
+{
+    for (key, value) in left {
+        append_clone(copy, key, value)?;
+    }
+    Ok(())
+}
