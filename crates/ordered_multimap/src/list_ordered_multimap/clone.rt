@@ -53,7 +53,8 @@ impl<
             self.values_len(),
             state,
         )?;
-        append_clones(&mut copy, self.iter())?;
+        let pairs = self.iter();
+        append_clones(&mut copy, pairs)?;
         put_in_order(&mut copy, self.keys());
         Ok(copy)
     }
