@@ -1,6 +1,7 @@
 pub mod Agrees
 pub mod Appends
 pub mod Changes
+pub mod Clones
 pub mod Detaches
 pub mod DrainLends
 pub mod Drains

@@ -3,9 +3,10 @@ ghost use Rattle.std.specs.Prelude.{◌≡◌, ◌<◌, ◌≤◌, [], ℕ, fals
 ghost use Rattle.std.specs.Map.{keys_of};
 ghost use Rattle.multimap_slots.specs.Lists.{IsIn};
 ghost use Rattle.ordered_multimap.specs.Agrees.{HasKey, hash_of};
-ghost use Rattle.ordered_multimap.specs.Changes.{appended, all_appended};
+ghost use Rattle.ordered_multimap.specs.Changes.{appended, built_from};
+ghost use Rattle.ordered_multimap.specs.Clones.{AreClones};
 ghost use Rattle.ordered_multimap.specs.Keys.{is_listed, moved_to_back, all_moved};
-ghost use Rattle.ordered_multimap.specs.Lists.{lists};
+ghost use Rattle.ordered_multimap.specs.Lists.{Lists, lists, empty_lists};
 ghost use Rattle.ordered_multimap.specs.Pairs.{all_values, is_present};
 ghost use Rattle.ordered_multimap.specs.Rooms.{HasKeyRoom, HasValueRoom, KeepsRooms, SameRooms};
 ghost use Rattle.ordered_multimap.specs.TapeNumbers.{AreUnused, TakesOut};
@@ -21,13 +22,12 @@ impl<
     S: BuildHasher + Clone,
     A: Allocator + Copy,
 > ListOrderedMultimap<K, V, S, A> {
-    /// A map with a clone of each key and each value: the same keys and the same pairs, both in the
-    /// same order. The hashes are computed anew, with a clone of the hash builder.
+    /// A map with a clone of each key and of each value, in the same orders. The hashes are computed
+    /// anew, with a clone of the hash builder.
     ///
-    /// A clone of each key and each value must be that very key or value, so far as contracts see
-    /// them. Memory may be refused for the clone of the builder, for the room of the new map, which
-    /// is made before anything else, and for the clones of keys and values. Then what was made is
-    /// dropped.
+    /// A clone of a key must be equal to it. Memory may be refused for the clone of the builder, for
+    /// the room of the new map, which is made before any key is cloned, and for the clones of keys
+    /// and values. Then what was made is dropped.
     ///
     /// It reads each pair once, and looks a key up for each pair and for each key.
     ///
@@ -35,10 +35,15 @@ impl<
     /// map.clone()?.values_len() == 3
     /// ```
     pub fn clone(&self) -> Result<Self, AllocError>
-        requires keys { (k c : K) → IsIn k self.now.lists.keys → K.is_clone k c → c ≡ k }
-        requires values { (v c : V) → IsIn v (all_values self.now.lists.pairs)
-            → V.is_clone v c → c ≡ v }
-        ensures lists { IfOk result (λ m. m.lists ≡ self.now.lists) }
+        requires { (k c : K) → IsIn k self.now.lists.keys → K.is_clone k c → K.eq k c ≡ true }
+        ensures clones { IfOk result (λ m.
+            AreClones K.eq K.is_clone V.is_clone self.now.lists m.lists) }
+
+        // Where a clone is the very key or value, the lists are the same.
+        ensures lists { ((k c : K) → IsIn k self.now.lists.keys → K.is_clone k c → c ≡ k)
+            → ((v c : V) → IsIn v (all_values self.now.lists.pairs) → V.is_clone v c → c ≡ v)
+            → IfOk result (λ m. m.lists ≡ self.now.lists) }
+
         ensures hasher { IfOk result (λ m. S.is_clone self.now.hasher m.hasher) }
         ensures key_room { IfOk result (λ m. length self.now.lists.keys ≤ m.key_room) }
         ensures value_room { IfOk result (λ m. length self.now.lists.pairs ≤ m.value_room) }
@@ -106,20 +111,23 @@ fn put_in_order<K: Eq + Hash, V, S: BuildHasher, A: Allocator>(
     }
 }
 
-/// Appends the value under a clone of the key, where there is room.
-fn append_under_clone<K: Eq + Hash + Clone, V: Drop, S: BuildHasher, A: Allocator + Copy>(
+/// Appends the value, which is a clone, under a clone of the key, where there is room.
+fn append_under_clone<K: Eq + Hash + Clone, V: Clone, S: BuildHasher, A: Allocator + Copy>(
     copy: &mut ListOrderedMultimap<K, V, S, A>,
     key: &K,
     value: V,
 ) -> Result<(), AllocError>
-    requires key { (c : K) → K.is_clone key.now c → c ≡ key.now }
+    requires key { (c : K) → K.is_clone key.now c → K.eq key.now c ≡ true }
     requires value_room { HasValueRoom copy.old }
     requires key_room { is_listed K.eq copy.old.lists.keys key.now ≡ false → HasKeyRoom copy.old }
-    ensures ok { OnOk result (copy.new.lists ≡ appended K.eq copy.old.lists key.now value) }
+    ensures ok { OnOk result ((m : Lists K V) → (v : V) → V.is_clone v value
+        → AreClones K.eq K.is_clone V.is_clone m copy.old.lists
+        → AreClones K.eq K.is_clone V.is_clone (appended K.eq m key.now v) copy.new.lists) }
     ensures rooms { KeepsRooms copy.old copy.new }
     ensures taken { TakesOut 0 copy.old.tape copy.new.tape }
-    ensures succeeds { K.is_infallible key.now → IsOk result }
 {
+    // The length tells the proof that the lists are well formed.
+    let _len = copy.keys_len();
     let (hash, place) = copy.look_up(key);
     let Some(place) = place else {
         let key = key.clone()?;
@@ -140,31 +148,32 @@ fn append_clone<K: Eq + Hash + Clone, V: Clone, S: BuildHasher, A: Allocator + C
     key: &K,
     value: &V,
 ) -> Result<(), AllocError>
-    requires key { (c : K) → K.is_clone key.now c → c ≡ key.now }
-    requires value { (c : V) → V.is_clone value.now c → c ≡ value.now }
+    requires key { (c : K) → K.is_clone key.now c → K.eq key.now c ≡ true }
     requires value_room { HasValueRoom copy.old }
     requires key_room { is_listed K.eq copy.old.lists.keys key.now ≡ false → HasKeyRoom copy.old }
-    ensures ok { OnOk result (copy.new.lists ≡ appended K.eq copy.old.lists key.now value.now) }
+    ensures ok { OnOk result ((m : Lists K V)
+        → AreClones K.eq K.is_clone V.is_clone m copy.old.lists
+        → AreClones K.eq K.is_clone V.is_clone (appended K.eq m key.now value.now)
+        copy.new.lists) }
     ensures rooms { KeepsRooms copy.old copy.new }
     ensures taken { TakesOut 0 copy.old.tape copy.new.tape }
-    ensures succeeds { K.is_infallible key.now → V.is_infallible value.now → IsOk result }
 {
     let value = value.clone()?;
     append_under_clone(copy, key, value)
 }
 
-/// Appends clones of the pairs that are left, in their order, where there is room for all.
+/// Appends clones of the pairs that are left to an empty map, in their order, where there is room
+/// for all.
 fn append_clones<K: Eq + Hash + Clone, V: Clone, S: BuildHasher, A: Allocator + Copy>(
     copy: &mut ListOrderedMultimap<K, V, S, A>,
     left: Iter<'_, K, V, A>,
 ) -> Result<(), AllocError>
-    requires keys { (k c : K) → IsIn k (keys_of left) → K.is_clone k c → c ≡ k }
-    requires values { (v c : V) → IsIn v (all_values left) → V.is_clone v c → c ≡ v }
-    requires key_room { length (all_appended K.eq copy.old.lists left).keys
-        ≤ copy.old.key_room }
-    requires value_room { length (all_appended K.eq copy.old.lists left).pairs
-        ≤ copy.old.value_room }
-    ensures ok { OnOk result (copy.new.lists ≡ all_appended K.eq copy.old.lists left.entry) }
+    requires empty { copy.old.lists ≡ empty_lists }
+    requires keys { (k c : K) → IsIn k (keys_of left) → K.is_clone k c → K.eq k c ≡ true }
+    requires key_room { length (built_from K.eq left).keys ≤ copy.old.key_room }
+    requires value_room { length (built_from K.eq left).pairs ≤ copy.old.value_room }
+    ensures ok { OnOk result
+        (AreClones K.eq K.is_clone V.is_clone (built_from K.eq left.entry) copy.new.lists) }
     ensures rooms { KeepsRooms copy.old copy.new }
     ensures taken { TakesOut 0 copy.old.tape copy.new.tape }
     ensures succeeds { left.entry ≡ [] → IsOk result }
