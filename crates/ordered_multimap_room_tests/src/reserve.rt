@@ -19,6 +19,9 @@ fn room_is_used(test: &Test, map: &mut Refusing<'_>) {
         _ => test.expect("a pair with its key", false),
     }
     expect_lengths(test, map, 2, 2);
+    map.retain(|_key, value| *value < 9);
+    expect_lengths(test, map, 1, 1);
+    test.expect("what stays", map.front() == Some((&3, &3)));
 }
 
 fn three_are_reserved(test: &Test, allocator: &RefusingAllocator, map: &mut Refusing<'_>) {
