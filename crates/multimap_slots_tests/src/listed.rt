@@ -1,6 +1,7 @@
 //! Tests of what a list offers at places that are known to be listed.
 use crate::listed_uses::{
-    push_at_end, push_with_room, read_listed, read_on_tape, write_listed, write_on_tape,
+    beside_listed, beside_on_tape, push_at_end, push_with_room, read_listed, read_on_tape,
+    write_listed, write_on_tape,
 };
 use multimap_slots::{Reads, SlotList, Tape};
 use test_helpers::{Failed, Test};
@@ -26,6 +27,10 @@ fn are_read(test: &Test, list: &SlotList<u64, u8>, first: usize, second: usize) 
     test.expect("second", seen == Some((21, 3)));
     let seen = read_listed(list, NOWHERE, &mut reads);
     test.expect("nowhere", seen.is_none());
+    let beside = beside_listed(list, first);
+    test.expect("beside first", beside == Some((None, Some(second))));
+    let beside = beside_listed(list, second);
+    test.expect("beside second", beside == Some((Some(first), None)));
 }
 
 fn a_listed_slot_of_a_tape_is_read_and_written(test: &Test, tape: &mut Tape<u64, u8>) {
@@ -45,6 +50,16 @@ fn are_read_on_tape(test: &Test, tape: &Tape<u64, u8>, first: usize, second: usi
     test.expect("second of the tape", seen == Some((21, 3)));
     let seen = read_on_tape(tape, NOWHERE, &mut reads);
     test.expect("nowhere on the tape", seen.is_none());
+    let beside = beside_on_tape(tape, first);
+    test.expect(
+        "beside first of the tape",
+        beside == Some((None, Some(second))),
+    );
+    let beside = beside_on_tape(tape, second);
+    test.expect(
+        "beside second of the tape",
+        beside == Some((Some(first), None)),
+    );
 }
 
 #[test]

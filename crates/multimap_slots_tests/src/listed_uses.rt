@@ -1,6 +1,7 @@
 //! Callers of what a list offers at places that are known to be listed, proved from its public
 //! contracts alone.
 ghost use Rattle.std.specs.Prelude.{◌≡◌, ◌+◌, Some, IfSome, IfNone};
+ghost use Rattle.multimap_slots.specs.Lists.{next_of, previous_of};
 ghost use Rattle.multimap_slots.specs.Slots.{HasSlot, PushesBack};
 
 use multimap_slots::{Reads, SlotList, Tape};
@@ -73,4 +74,31 @@ pub fn write_on_tape(tape: &mut Tape<u64, u8>, place: usize, item: u64, link: u8
     *tape.get_listed_mut(place) = item;
     *tape.listed_link_mut(place) = link;
     true
+}
+
+/// The places before and behind an item, if one is there.
+pub fn beside_listed(
+    list: &SlotList<u64, u8>,
+    place: usize,
+) -> Option<(Option<usize>, Option<usize>)>
+    ensures before { IfSome result (λ r. r.0 ≡ previous_of list.now.order place) }
+    ensures behind { IfSome result (λ r. r.1 ≡ next_of list.now.order place) }
+{
+    if list.get(place, &mut Reads::new()).is_none() {
+        return None;
+    }
+    let before = list.previous_listed_place(place);
+    Some((before, list.next_listed_place(place)))
+}
+
+/// The same on a tape.
+pub fn beside_on_tape(tape: &Tape<u64, u8>, place: usize) -> Option<(Option<usize>, Option<usize>)>
+    ensures before { IfSome result (λ r. r.0 ≡ previous_of tape.now.list.order place) }
+    ensures behind { IfSome result (λ r. r.1 ≡ next_of tape.now.list.order place) }
+{
+    if tape.get(place, &mut Reads::new()).is_none() {
+        return None;
+    }
+    let before = tape.previous_listed_place(place);
+    Some((before, tape.next_listed_place(place)))
 }

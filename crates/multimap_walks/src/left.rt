@@ -21,10 +21,12 @@ pub(crate) trait Ordered {
 
     /// The place behind one of the list.
     fn behind(&self, place: usize) -> Option<usize>
+        requires { IsIn place (order self.now) }
         ensures { result ≡ next_of (order self.now) place };
 
     /// The place before one of the list.
     fn before(&self, place: usize) -> Option<usize>
+        requires { IsIn place (order self.now) }
         ensures { result ≡ previous_of (order self.now) place };
 }
 
@@ -40,11 +42,11 @@ impl<T, L: Copy, A: Allocator> Ordered for SlotList<T, L, A> {
     }
 
     fn behind(&self, place: usize) -> Option<usize> {
-        self.next_place(place)
+        self.next_listed_place(place)
     }
 
     fn before(&self, place: usize) -> Option<usize> {
-        self.previous_place(place)
+        self.previous_listed_place(place)
     }
 }
 
@@ -60,11 +62,11 @@ impl<T, L: Copy, A: Allocator> Ordered for Tape<T, L, A> {
     }
 
     fn behind(&self, place: usize) -> Option<usize> {
-        self.next_place_after(place)
+        self.next_listed_place(place)
     }
 
     fn before(&self, place: usize) -> Option<usize> {
-        self.previous_place_before(place)
+        self.previous_listed_place(place)
     }
 }
 

@@ -26,10 +26,20 @@ impl<T, L: Copy, A: Allocator> SlotList<T, L, A> {
         ensures { result ≡ next_of self.now.order place }
     {
         if self.order.is_listed(place) {
-            self.order.next(place)
+            self.next_listed_place(place)
         } else {
             None
         }
+    }
+
+    /// The place behind `place`, where an item of the list must stand; none at the last one. It
+    /// doesn't test the place.
+    #[inline(always)]
+    pub fn next_listed_place(&self, place: usize) -> Option<usize>
+        requires { IsIn place self.now.order }
+        ensures { result ≡ next_of self.now.order place }
+    {
+        self.order.next(place)
     }
 
     /// The place before `place`: none at the first item, and where no item of the list stands.
@@ -37,11 +47,22 @@ impl<T, L: Copy, A: Allocator> SlotList<T, L, A> {
         ensures { result ≡ previous_of self.now.order place }
     {
         if self.order.is_listed(place) {
-            self.order.previous(place)
+            self.previous_listed_place(place)
         } else {
             None
         }
     }
+
+    /// The place before `place`, where an item of the list must stand; none at the first one. It
+    /// doesn't test the place.
+    #[inline(always)]
+    pub fn previous_listed_place(&self, place: usize) -> Option<usize>
+        requires { IsIn place self.now.order }
+        ensures { result ≡ previous_of self.now.order place }
+    {
+        self.order.previous(place)
+    }
+
     /// Puts the item at `place` behind all others of the list. An item of the list must be there. It
     /// stays at its place, with its link.
     pub fn move_to_back(&mut self, place: usize)

@@ -2,6 +2,9 @@ use Rattle.std.proofs.Common.{◌-◌, ◌∙◌, ap, arith, unwrap_or}
 use Rattle.multimap_walks.proofs.AlongLemmas.{last_listed, left_before, takes_last}
 use Rattle.multimap_walks.proofs.left.take_last.Goals as goal
 
+pub before-requires : goal.before-requires
+before-requires g c = let left = c.args.left.now in last_listed (g.O.Ordered.order c.args.list.now) left (left.length - 1) (omega arith) c.requires
+
 pub returns-clause-are_left : goal.returns-clause-are_left
 returns-clause-are_left g c =
     let left = c.args.left.now in
