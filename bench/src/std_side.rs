@@ -4,6 +4,7 @@ use std::collections::{HashMap, VecDeque};
 use std::hash::BuildHasher;
 
 /// A multimap as one would write it with the standard library.
+#[derive(Clone)]
 struct Multimap<S> {
     keys: HashMap<u64, Vec<u64>, S>,
     values_len: u64,
@@ -225,6 +226,16 @@ pub fn retain_half<S: BuildHasher + Default>(n: u64, seed: u64) -> u64 {
 
 pub fn retain_half_multi<S: BuildHasher + Default>(n: u64, seed: u64) -> u64 {
     retains::<S>(scattered(n, seed))
+}
+
+/// A clone has each key's values in a vector of just their length.
+pub fn clone<S: BuildHasher + Default + Clone>(n: u64, seed: u64) -> u64 {
+    let Filled { map, mut checksum } = scattered::<S>(n, seed);
+    for _ in 0..4 {
+        let copy = std::hint::black_box(map.clone());
+        checksum = copy.ends(checksum);
+    }
+    checksum
 }
 
 /// A queue of pairs, of which the standard library's map has the values of each key.

@@ -39,6 +39,7 @@ mod exported {
         pub safe fn bench_remove_all_half(n: u64, seed: u64) -> u64;
         pub safe fn bench_retain_half(n: u64, seed: u64) -> u64;
         pub safe fn bench_retain_half_multi(n: u64, seed: u64) -> u64;
+        pub safe fn bench_clone(n: u64, seed: u64) -> u64;
         pub safe fn bench_entry_count(n: u64, seed: u64) -> u64;
         pub safe fn bench_small_maps(n: u64, seed: u64) -> u64;
         pub safe fn benchfx_append_distinct(n: u64, seed: u64) -> u64;
@@ -57,6 +58,7 @@ mod exported {
         pub safe fn benchfx_remove_all_half(n: u64, seed: u64) -> u64;
         pub safe fn benchfx_retain_half(n: u64, seed: u64) -> u64;
         pub safe fn benchfx_retain_half_multi(n: u64, seed: u64) -> u64;
+        pub safe fn benchfx_clone(n: u64, seed: u64) -> u64;
         pub safe fn benchfx_entry_count(n: u64, seed: u64) -> u64;
         pub safe fn benchfx_small_maps(n: u64, seed: u64) -> u64;
     }
@@ -88,7 +90,7 @@ const SCATTERED: Option<usize> = Some(3);
 const IN_ORDER: Option<Run> = Some(std_side::iter_all_in_order);
 
 /// Every workload. One that starts with another stands behind it.
-pub const WORKLOADS: [Workload; 18] = [
+pub const WORKLOADS: [Workload; 19] = [
     workload!(
         append_distinct,
         bench_append_distinct,
@@ -194,6 +196,7 @@ pub const WORKLOADS: [Workload; 18] = [
         1,
         None
     ),
+    workload!(clone, bench_clone, benchfx_clone, SCATTERED, 8, None),
     workload!(
         retain_half,
         bench_retain_half,

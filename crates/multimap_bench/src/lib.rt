@@ -145,6 +145,12 @@ pub extern "C" fn bench_retain_half_multi(alloc: Global, n: u64, seed: u64) -> u
     )
 }
 
+/// Clones a map four times, after `append_scattered`.
+#[unsafe(no_mangle)]
+pub extern "C" fn bench_clone(alloc: Global, n: u64, seed: u64) -> u64 {
+    run(alloc, DefaultState::new(), Workload::Clone, n, seed)
+}
+
 /// Counts keys by their entries.
 #[unsafe(no_mangle)]
 pub extern "C" fn bench_entry_count(alloc: Global, n: u64, seed: u64) -> u64 {
@@ -257,6 +263,12 @@ pub extern "C" fn benchfx_retain_half(alloc: Global, n: u64, seed: u64) -> u64 {
 #[unsafe(no_mangle)]
 pub extern "C" fn benchfx_retain_half_multi(alloc: Global, n: u64, seed: u64) -> u64 {
     run(alloc, FastState::new(), Workload::RetainHalfMulti, n, seed)
+}
+
+/// Clones a map four times, after `append_scattered`. With the fast hasher.
+#[unsafe(no_mangle)]
+pub extern "C" fn benchfx_clone(alloc: Global, n: u64, seed: u64) -> u64 {
+    run(alloc, FastState::new(), Workload::Clone, n, seed)
 }
 
 /// Counts keys by their entries. With the fast hasher.

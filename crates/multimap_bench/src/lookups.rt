@@ -1,5 +1,5 @@
-//! Look-ups and walks, on a map that was filled by appends.
-use crate::appends::Map;
+//! Look-ups, walks and clones, on a map that was filled by appends.
+use crate::appends::{Map, ends};
 use crate::numbers::{choice, key, mix};
 use std::hash::BuildHasher;
 
@@ -43,6 +43,18 @@ pub(crate) fn all_pairs<S: BuildHasher>(map: &Map<S>, start: u64) -> u64 {
         }
     }
     checksum
+}
+
+/// Clones the map four times. Answers none where memory was refused.
+pub(crate) fn clones<S: BuildHasher + Clone>(map: &Map<S>, start: u64) -> Option<u64> {
+    let mut checksum = start;
+    for _ in 0..4 {
+        match map.clone() {
+            Ok(copy) => checksum = ends(&copy, checksum),
+            Err(_) => return None,
+        }
+    }
+    Some(checksum)
 }
 
 /// Looks for the sixteen keys from `first` on.

@@ -1,7 +1,7 @@
 //! The workloads, each on a map of its own under any hash builder.
 use crate::appends::{Map, distinct, ends, few, grouped, scattered, spread_over_twelve};
 use crate::changes::{counts, fifo, fifo_few, fifo_small, removes, replaces, retains};
-use crate::lookups::{all_pairs, hits, misses, sixteen_keys, sum_of_pairs, walks};
+use crate::lookups::{all_pairs, clones, hits, misses, sixteen_keys, sum_of_pairs, walks};
 use crate::numbers::{START, mix};
 use ordered_multimap::ListOrderedMultimap;
 use std::alloc::Global;
@@ -45,12 +45,14 @@ pub(crate) enum Workload {
     RetainHalf,
     /// Keeps half of the pairs, after `AppendScattered`.
     RetainHalfMulti,
+    /// Clones the map, after `AppendScattered`.
+    Clone,
     /// Counts keys by their entries, on an empty map.
     EntryCount,
 }
 
 /// Makes a map, runs a workload of `n` pairs on it, and lets the map go. Answers the checksum.
-pub(crate) fn run<S: BuildHasher + Drop>(
+pub(crate) fn run<S: BuildHasher + Clone>(
     alloc: Global,
     state: S,
     workload: Workload,
@@ -61,7 +63,7 @@ pub(crate) fn run<S: BuildHasher + Drop>(
     run_on(&mut map, workload, n, seed)
 }
 
-fn run_on<S: BuildHasher>(map: &mut Map<S>, workload: Workload, n: u64, seed: u64) -> u64 {
+fn run_on<S: BuildHasher + Clone>(map: &mut Map<S>, workload: Workload, n: u64, seed: u64) -> u64 {
     let Some(filled) = fill(map, workload, n, seed) else {
         return REFUSED;
     };
@@ -86,7 +88,8 @@ fn fill<S: BuildHasher>(map: &mut Map<S>, workload: Workload, n: u64, seed: u64)
         | Workload::GetAllWalkScattered
         | Workload::IterAll
         | Workload::RemoveAllHalf
-        | Workload::RetainHalfMulti => scattered(map, n, seed, START),
+        | Workload::RetainHalfMulti
+        | Workload::Clone => scattered(map, n, seed, START),
         Workload::FifoSmall | Workload::EntryCount => Some(START),
     }
 }
@@ -111,8 +114,8 @@ fn change<S: BuildHasher>(
     }
 }
 
-/// The look-ups and walks of a workload, after its appends and changes.
-fn look_up<S: BuildHasher>(
+/// The look-ups, walks and clones of a workload, after its appends and changes.
+fn look_up<S: BuildHasher + Clone>(
     map: &Map<S>,
     workload: Workload,
     n: u64,
@@ -124,6 +127,7 @@ fn look_up<S: BuildHasher>(
         Workload::GetMiss => misses(map, n, seed, checksum),
         Workload::GetAllWalk | Workload::GetAllWalkScattered => walks(map, n, seed, checksum),
         Workload::IterAll => all_pairs(map, checksum),
+        Workload::Clone => clones(map, checksum).unwrap_or(REFUSED),
         _ => checksum,
     }
 }
