@@ -11,7 +11,7 @@ use Rattle.ordered_multimap.specs.Pop.{popped}
 use Rattle.ordered_multimap.proofs.WellFormedLemmas.{empty_well_formed, appended_well_formed, inserted_well_formed, removed_well_formed, popped_well_formed, first_written_well_formed, end_written_well_formed}
 use Rattle.ordered_multimap.proofs.KeyOrderLemmas.{KeepsKeyOrder-same, KeepsKeyOrder-keys_with, KeepsKeyOrder-named_by, KeepsKeyOrder-popped, KeepsKeyOrder-none, KeepsKeyOrder-first_written, KeepsKeyOrder-end_written}
 use Rattle.multimap_tool.specs.declared.commands.Command.{Command}
-use Rattle.multimap_tool.specs.declared.commands.Command.TheVariants.{Append, Insert, InsertAll, SetFirst, SetFront, SetBack, OrInsert, Get, All, Has, Len, Front, Back, Remove, RemoveAll, RemoveEntry, RemoveEntryAll, PopFront, PopBack, Clear, Pairs, Keys, Values, Lengths}
+use Rattle.multimap_tool.specs.declared.commands.Command.TheVariants.{Append, Insert, InsertAll, SetFirst, SetFront, SetBack, OrInsert, Get, All, Has, Len, Front, Back, Remove, RemoveAll, RemoveEntry, RemoveEntryAll, PopFront, PopBack, Clear, Swap, Pairs, Keys, Values, Lengths}
 use Rattle.multimap_tool.specs.declared.replies.Reply.{Reply}
 use Rattle.multimap_tool.specs.Step.{Leaves, IsLookUp, IsStep, entered}
 use Rattle.multimap_tool.specs.Runs.{IsRun}
@@ -98,6 +98,7 @@ module _ {K V A : Type 0} {eq : K → K → Bool} (laws : IsEquivalence eq) wher
     well_formed = empty_well_formed eq;
     key_order = KeepsKeyOrder-none laws m.keys;
   })
+  leaves_orderly Swap m n formed left = unchanged laws m n formed left
   leaves_orderly (Pairs ends) m n formed left = unchanged laws m n formed left
   leaves_orderly (Keys ends) m n formed left = unchanged laws m n formed left
   leaves_orderly (Values ends) m n formed left = unchanged laws m n formed left
@@ -117,31 +118,32 @@ module _ {K V A : Type 0} where
   pub IsLookUp-else : (command : Command K V A) → ((k : K) (v : V) → command ≢ Append k v) → ((k : K) (v : V) → command ≢ Insert k v) → ((k : K) (v : V) → command ≢ InsertAll k v)
       → ((k : K) (v : V) → command ≢ SetFirst k v) → ((v : V) → command ≢ SetFront v) → ((v : V) → command ≢ SetBack v) → ((k : K) (v : V) → command ≢ OrInsert k v)
       → ((k : K) → command ≢ Remove k) → ((k : K) → command ≢ RemoveAll k) → ((k : K) → command ≢ RemoveEntry k) → ((k : K) → command ≢ RemoveEntryAll k)
-      → command ≢ PopFront → command ≢ PopBack → command ≢ Clear → IsLookUp command
-  IsLookUp-else (Append k v) a b c d e f g h i j l m n o = a k v refl
-  IsLookUp-else (Insert k v) a b c d e f g h i j l m n o = b k v refl
-  IsLookUp-else (InsertAll k v) a b c d e f g h i j l m n o = c k v refl
-  IsLookUp-else (SetFirst k v) a b c d e f g h i j l m n o = d k v refl
-  IsLookUp-else (SetFront v) a b c d e f g h i j l m n o = e v refl
-  IsLookUp-else (SetBack v) a b c d e f g h i j l m n o = f v refl
-  IsLookUp-else (OrInsert k v) a b c d e f g h i j l m n o = g k v refl
-  IsLookUp-else (Get k) a b c d e f g h i j l m n o = tt
-  IsLookUp-else (All k ends) a b c d e f g h i j l m n o = tt
-  IsLookUp-else (Has k) a b c d e f g h i j l m n o = tt
-  IsLookUp-else (Len k) a b c d e f g h i j l m n o = tt
-  IsLookUp-else Front a b c d e f g h i j l m n o = tt
-  IsLookUp-else Back a b c d e f g h i j l m n o = tt
-  IsLookUp-else (Remove k) a b c d e f g h i j l m n o = h k refl
-  IsLookUp-else (RemoveAll k) a b c d e f g h i j l m n o = i k refl
-  IsLookUp-else (RemoveEntry k) a b c d e f g h i j l m n o = j k refl
-  IsLookUp-else (RemoveEntryAll k) a b c d e f g h i j l m n o = l k refl
-  IsLookUp-else PopFront a b c d e f g h i j l m n o = m refl
-  IsLookUp-else PopBack a b c d e f g h i j l m n o = n refl
-  IsLookUp-else Clear a b c d e f g h i j l m n o = o refl
-  IsLookUp-else (Pairs ends) a b c d e f g h i j l m n o = tt
-  IsLookUp-else (Keys ends) a b c d e f g h i j l m n o = tt
-  IsLookUp-else (Values ends) a b c d e f g h i j l m n o = tt
-  IsLookUp-else Lengths a b c d e f g h i j l m n o = tt
+      → command ≢ PopFront → command ≢ PopBack → command ≢ Clear → command ≢ Swap → IsLookUp command
+  IsLookUp-else (Append k v) a b c d e f g h i j l m n o p = a k v refl
+  IsLookUp-else (Insert k v) a b c d e f g h i j l m n o p = b k v refl
+  IsLookUp-else (InsertAll k v) a b c d e f g h i j l m n o p = c k v refl
+  IsLookUp-else (SetFirst k v) a b c d e f g h i j l m n o p = d k v refl
+  IsLookUp-else (SetFront v) a b c d e f g h i j l m n o p = e v refl
+  IsLookUp-else (SetBack v) a b c d e f g h i j l m n o p = f v refl
+  IsLookUp-else (OrInsert k v) a b c d e f g h i j l m n o p = g k v refl
+  IsLookUp-else (Get k) a b c d e f g h i j l m n o p = tt
+  IsLookUp-else (All k ends) a b c d e f g h i j l m n o p = tt
+  IsLookUp-else (Has k) a b c d e f g h i j l m n o p = tt
+  IsLookUp-else (Len k) a b c d e f g h i j l m n o p = tt
+  IsLookUp-else Front a b c d e f g h i j l m n o p = tt
+  IsLookUp-else Back a b c d e f g h i j l m n o p = tt
+  IsLookUp-else (Remove k) a b c d e f g h i j l m n o p = h k refl
+  IsLookUp-else (RemoveAll k) a b c d e f g h i j l m n o p = i k refl
+  IsLookUp-else (RemoveEntry k) a b c d e f g h i j l m n o p = j k refl
+  IsLookUp-else (RemoveEntryAll k) a b c d e f g h i j l m n o p = l k refl
+  IsLookUp-else PopFront a b c d e f g h i j l m n o p = m refl
+  IsLookUp-else PopBack a b c d e f g h i j l m n o p = n refl
+  IsLookUp-else Clear a b c d e f g h i j l m n o p = o refl
+  IsLookUp-else Swap a b c d e f g h i j l m n o p = p refl
+  IsLookUp-else (Pairs ends) a b c d e f g h i j l m n o p = tt
+  IsLookUp-else (Keys ends) a b c d e f g h i j l m n o p = tt
+  IsLookUp-else (Values ends) a b c d e f g h i j l m n o p = tt
+  IsLookUp-else Lengths a b c d e f g h i j l m n o p = tt
 
 -- what holds of a value where there is one implies what follows from it
 pub if_ok : {T E : Type 0} {P Q : T → Type 0} (r : Result T E) → ((x : T) → P x → Q x) → IfOk r P → IfOk r Q

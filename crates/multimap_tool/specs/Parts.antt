@@ -25,7 +25,8 @@ IsReadingOf {A} line found = MatchOption found (IsBadLine A line) (λ command. S
 abbrev pub lone_words : List (List ℕ)
 lone_words =
     codes "front" ∷ codes "back" ∷ codes "popfront" ∷ codes "popback" ∷ codes "clear"
-    ∷ codes "pairs" ∷ codes "keys" ∷ codes "values" ∷ codes "lengths" ∷ []
+    ∷ codes "pairs" ∷ codes "keys" ∷ codes "values" ∷ codes "lengths"
+    ∷ codes "swap" ∷ []
 
 -- those that a key follows
 abbrev pub key_words : List (List ℕ)

@@ -19,6 +19,7 @@ use Rattle.multimap_tool.specs.declared.commands.Command.TheVariants.{Get, All, 
 use Rattle.multimap_tool.specs.declared.commands.Command.TheVariants.{Remove, RemoveAll}
 use Rattle.multimap_tool.specs.declared.commands.Command.TheVariants.{RemoveEntry, RemoveEntryAll}
 use Rattle.multimap_tool.specs.declared.commands.Command.TheVariants.{PopFront, PopBack, Clear}
+use Rattle.multimap_tool.specs.declared.commands.Command.TheVariants.{Swap}
 use Rattle.multimap_tool.specs.declared.commands.Command.TheVariants.{Pairs, Keys, Values, Lengths}
 
 -- the letters f and b
@@ -75,6 +76,7 @@ module _ {A : Type 0} where
   name_of PopFront = codes "popfront"
   name_of PopBack = codes "popback"
   name_of Clear = codes "clear"
+  name_of Swap = codes "swap"
   name_of (Pairs Forward) = codes "pairs"
   name_of (Pairs (Word word)) = codes "walkpairs"
   name_of (Keys Forward) = codes "keys"
@@ -110,6 +112,7 @@ module _ {A : Type 0} where
   operands_of PopFront = []
   operands_of PopBack = []
   operands_of Clear = []
+  operands_of Swap = []
   operands_of (Pairs ends) = word_of ends
   operands_of (Keys ends) = word_of ends
   operands_of (Values ends) = word_of ends

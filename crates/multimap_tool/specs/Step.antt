@@ -21,6 +21,7 @@ use Rattle.multimap_tool.specs.declared.commands.Command.TheVariants.{Front, Bac
 use Rattle.multimap_tool.specs.declared.commands.Command.TheVariants.{Remove, RemoveAll}
 use Rattle.multimap_tool.specs.declared.commands.Command.TheVariants.{RemoveEntry, RemoveEntryAll}
 use Rattle.multimap_tool.specs.declared.commands.Command.TheVariants.{PopFront, PopBack, Clear}
+use Rattle.multimap_tool.specs.declared.commands.Command.TheVariants.{Swap}
 use Rattle.multimap_tool.specs.declared.commands.Command.TheVariants.{Pairs, Keys, Values, Lengths}
 use Rattle.multimap_tool.specs.declared.replies.Popped.{Popped}
 use Rattle.multimap_tool.specs.declared.replies.Reply.{Reply}
@@ -74,10 +75,11 @@ IsLookUp (RemoveEntryAll k) = ⊥
 IsLookUp PopFront = ⊥
 IsLookUp PopBack = ⊥
 IsLookUp Clear = ⊥
+IsLookUp Swap = ⊥
 IsLookUp _ = Unit {0}
 
 module _ {K : Type 0} (eq : K → K → Bool) {V A : Type 0} where
-  -- the lists that a command leaves: look-ups leave them as they are
+  -- the lists that a command leaves: look-ups leave them as they are, and so does a clone
   abbrev pub Leaves : Command K V A → Lists K V → Lists K V → Type 0
   Leaves (Append k v) m n = n ≡ appended eq m k v
   Leaves (Insert k v) m n = n ≡ inserted eq m k v
@@ -123,6 +125,7 @@ module _ {K : Type 0} (eq : K → K → Bool) {V A : Type 0} where
   Tells PopBack m (replies.Popped pair) =
       option_map told_pop pair ≡ popped_pair eq ends.Back m.pairs
   Tells Clear m replies.Done = Unit {0}
+  Tells Swap m replies.Done = Unit {0}
   Tells (Pairs ends) m (replies.Pairs pairs) = pairs.items ≡ walked m.pairs ends
   Tells (Keys ends) m (replies.Keys keys) = keys.items ≡ walked m.keys ends
   Tells (Values ends) m (replies.Values values) = values.items ≡ walked (all_values m.pairs) ends
@@ -130,12 +133,13 @@ module _ {K : Type 0} (eq : K → K → Bool) {V A : Type 0} where
   Tells _ m _ = ⊥
 
   -- an addition may find no memory, but for one to a present key that replaces or keeps, and so
-  -- may a reply that would list an item
+  -- may a clone, and a reply that would list an item
   abbrev pub MayLackMemory : Command K V A → Lists K V → Type 0
   MayLackMemory (Append k v) m = Unit {0}
   MayLackMemory (Insert k v) m = is_present eq m.pairs k ≡ false
   MayLackMemory (InsertAll k v) m = Unit {0}
   MayLackMemory (OrInsert k v) m = is_present eq m.pairs k ≡ false
+  MayLackMemory Swap m = Unit {0}
   MayLackMemory (All k ends) m = ListsItem (walked (values_of eq m.pairs k) ends)
   MayLackMemory (RemoveAll k) m = ListsItem (values_of eq m.pairs k)
   MayLackMemory (RemoveEntryAll k) m = ListsItem (values_of eq m.pairs k)

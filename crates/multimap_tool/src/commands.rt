@@ -56,6 +56,8 @@ pub enum Command<K, V, A: Allocator = Global> {
     PopBack,
     /// Takes all pairs out.
     Clear,
+    /// Puts a clone of the map in its place.
+    Swap,
     /// All pairs.
     Pairs(Ends<A>),
     /// All keys.

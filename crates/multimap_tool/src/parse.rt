@@ -111,6 +111,9 @@ fn lone_command<A: Allocator>(name: &[u8]) -> Option<Command<u32, i64, A>>
     if name == b"lengths".as_slice() {
         return Some(Command::Lengths);
     }
+    if name == b"swap".as_slice() {
+        return Some(Command::Swap);
+    }
     None
 }
 

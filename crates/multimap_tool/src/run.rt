@@ -20,11 +20,12 @@ use std::hash::{BuildHasher, Hash};
 /// `alloc` gives the memory of the replies. `keep` is for commands that keep only some values: it
 /// is handed the command's value, a key and its value; no command here calls it yet. The room for
 /// all replies is taken at the start: where it is refused, nothing was done. A command that finds
-/// no memory for itself is answered [`Reply::NoMemory`] and changes neither keys nor pairs.
+/// no memory for itself is answered [`Reply::NoMemory`] and changes neither keys nor pairs. Clones
+/// of keys and values must be the very keys and values.
 pub fn run<
     K: Eq + Hash + Copy,
     V: Copy,
-    S: BuildHasher,
+    S: BuildHasher + Clone,
     A: Allocator + Copy,
     F: Fn(V, &K, &mut V) -> bool + Drop,
 >(
@@ -33,9 +34,11 @@ pub fn run<
     commands: &[Command<K, V, A>],
     keep: F,
 ) -> Result<Vec<Reply<K, V, A>, A>, AllocError>
+    requires keys { (k c : K) → K.is_clone k c → c ≡ k }
+    requires values { (v c : V) → V.is_clone v c → c ≡ v }
     ensures ok { IfOk result (λ replies.
         IsRun K.eq commands.now map.old.lists replies.items map.new.lists) }
-    ensures hasher { map.new.hasher ≡ map.old.hasher }
+    ensures hasher { ((s c : S) → S.is_clone s c → c ≡ s) → map.new.hasher ≡ map.old.hasher }
     ensures unchanged { OnErr result (map.new ≡ map.old) }
 {
     drop(keep);
@@ -47,13 +50,15 @@ pub fn run<
 }
 
 /// Runs one command.
-fn step<K: Eq + Hash + Copy, V: Copy, S: BuildHasher, A: Allocator + Copy>(
+fn step<K: Eq + Hash + Copy, V: Copy, S: BuildHasher + Clone, A: Allocator + Copy>(
     alloc: A,
     map: &mut ListOrderedMultimap<K, V, S, A>,
     command: &Command<K, V, A>,
 ) -> Reply<K, V, A>
+    requires keys { (k c : K) → K.is_clone k c → c ≡ k }
+    requires values { (v c : V) → V.is_clone v c → c ≡ v }
     ensures step { IsStep K.eq command.now map.old.lists result map.new.lists }
-    ensures hasher { map.new.hasher ≡ map.old.hasher }
+    ensures hasher { ((s c : S) → S.is_clone s c → c ≡ s) → map.new.hasher ≡ map.old.hasher }
 {
     match command {
         Command::Append(key, value) => append(map, *key, *value),
@@ -70,6 +75,7 @@ fn step<K: Eq + Hash + Copy, V: Copy, S: BuildHasher, A: Allocator + Copy>(
         Command::PopFront => Reply::Popped(pop(map, End::Front)),
         Command::PopBack => Reply::Popped(pop(map, End::Back)),
         Command::Clear => clear(map),
+        Command::Swap => swap(map),
         _ => look_up(alloc, map, command),
     }
 }
@@ -147,6 +153,24 @@ fn clear<K: Eq + Hash + Copy, V: Copy, S: BuildHasher, A: Allocator + Copy>(
 {
     map.clear();
     Reply::Done
+}
+
+/// Puts a clone of the map in its place.
+fn swap<K: Eq + Hash + Copy, V: Copy, S: BuildHasher + Clone, A: Allocator + Copy>(
+    map: &mut ListOrderedMultimap<K, V, S, A>,
+) -> Reply<K, V, A>
+    requires keys { (k c : K) → K.is_clone k c → c ≡ k }
+    requires values { (v c : V) → V.is_clone v c → c ≡ v }
+    ensures step { IsStep K.eq Command.Swap map.old.lists result map.new.lists }
+    ensures hasher { ((s c : S) → S.is_clone s c → c ≡ s) → map.new.hasher ≡ map.old.hasher }
+{
+    match map.clone() {
+        Ok(copy) => {
+            *map = copy;
+            Reply::Done
+        }
+        Err(_) => Reply::NoMemory,
+    }
 }
 
 /// Answers a command that changes nothing.

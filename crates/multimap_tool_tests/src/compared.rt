@@ -73,11 +73,13 @@ fn some_look_up(alloc: Global, state: &mut u64, key: u32) -> Result<Command<u32,
     }
 }
 
-// Half of the commands change the map, and one of a hundred empties it.
+// Half of the commands change the map; one of a hundred empties it, and one puts a clone in its
+// place.
 fn some_command(alloc: Global, state: &mut u64) -> Result<Command<u32, i64>, AllocError> {
     let key = draw(state, 6);
     match draw(state, 100) {
         0 => Ok(Command::Clear),
+        51 => Ok(Command::Swap),
         1..=50 => Ok(some_change(state, key)),
         _ => some_look_up(alloc, state, key),
     }

@@ -186,6 +186,7 @@ impl PlainMap {
             Command::PopFront => self.pop(End::Front),
             Command::PopBack => self.pop(End::Back),
             Command::Clear => self.clear(),
+            Command::Swap => Ok(Reply::Done),
             _ => self.look_up(alloc, command),
         }
     }

@@ -150,6 +150,7 @@ fn add_last(rows: &mut Rows) -> Result<(), AllocError> {
     add(rows, Command::Append('u', true), Reply::Appended(false))?;
     add(rows, Command::Remove('u'), Reply::Value(Some(true)))?;
     add(rows, Command::Append('t', true), Reply::Appended(false))?;
+    add(rows, Command::Swap, Reply::Done)?;
     add(rows, Command::Clear, Reply::Done)?;
     add(rows, Command::Lengths, Reply::Counts(0, 0))?;
     add_appends(rows)

@@ -72,6 +72,11 @@ const GOOD: &[(&str, &str)] = &[
         "insert 1 10\ninsert 2 20\ninsert 1 30\npairs\nkeys\n",
         "none\nnone\nold 10\n2:20 1:30\n1 2\n",
     ),
+    // A clone keeps the order of the keys.
+    (
+        "insert 1 10\ninsert 2 20\ninsert 1 30\nswap\npairs\nkeys\nappend 2 4\nall 2\n",
+        "none\nnone\nold 10\ndone\n2:20 1:30\n1 2\nmore\n20 4\n",
+    ),
     // A key that comes again goes last.
     (
         "append 1 1\nappend 2 2\nremoveall 1\nappend 1 3\nkeys\npairs\n",
@@ -82,8 +87,8 @@ const GOOD: &[(&str, &str)] = &[
         "empty\nmore\n1 2\n1:3\n1 1\n",
     ),
     (
-        "insert 1 1\ninsert 2 2\nappend 2 3\nappend 1 4\nwalkpairs fbb\nwalkkeys bff\nremoveentryall 2\nremoveentry 2\npairs\nvalues\nclear\nlengths\nwalkvalues fb\n",
-        "none\nnone\nmore\nmore\n1:1 1:4 2:3\n2 1 -\n2=2,3\nnone\n1:1 1:4\n1 4\ndone\n0 0\n- -\n",
+        "insert 1 1\ninsert 2 2\nappend 2 3\nappend 1 4\nwalkpairs fbb\nwalkkeys bff\nswap\nremoveentryall 2\nremoveentry 2\npairs\nvalues\nclear\nlengths\nwalkvalues fb\n",
+        "none\nnone\nmore\nmore\n1:1 1:4 2:3\n2 1 -\ndone\n2=2,3\nnone\n1:1 1:4\n1 4\ndone\n0 0\n- -\n",
     ),
     // Values written in their places, and a pair that comes where its key is absent.
     (
@@ -220,9 +225,9 @@ const BAD: &[(&str, u64)] = &[
     ("walkvalues 1\n", 1),
     ("walk 1 2\n", 1),
     ("get f\n", 1),
+    ("swap 1\n", 1),
     // Commands that the program doesn't have.
     ("retain 1\n", 1),
-    ("swap\n", 1),
     ("json\n", 1),
     // A NUL.
     ("get 1\0\n", 1),

@@ -55,6 +55,7 @@ fn changes_are_shown(test: &Test) {
     expect_command(test, Command::PopFront, "PopFront");
     expect_command(test, Command::PopBack, "PopBack");
     expect_command(test, Command::Clear, "Clear");
+    expect_command(test, Command::Swap, "Swap");
     expect_command(test, Command::Keys(Ends::Forward), "Keys(Forward)");
     expect_command(test, Command::Values(Ends::Forward), "Values(Forward)");
 }

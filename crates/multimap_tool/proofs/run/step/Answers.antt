@@ -5,4 +5,4 @@ pub look_up-requires : goal.look_up-requires
 look_up-requires g c =
     let d = c.in_default in
     IsLookUp-else c.args.command.now d.not-Append d.not-Insert d.not-InsertAll d.not-SetFirst d.not-SetFront d.not-SetBack d.not-OrInsert d.not-Remove d.not-RemoveAll d.not-RemoveEntry d.not-RemoveEntryAll
-    d.not-PopFront d.not-PopBack d.not-Clear
+    d.not-PopFront d.not-PopBack d.not-Clear d.not-Swap
