@@ -1,6 +1,11 @@
 //! The workloads on the standard library's map, with a vector of values for each key.
+mod queues;
+mod small;
+
 use crate::numbers::{START, choice, key, mix, spread, value};
-use std::collections::{HashMap, VecDeque};
+pub use queues::{fifo_churn, fifo_churn_few, fifo_small};
+pub use small::small_maps;
+use std::collections::HashMap;
 use std::hash::BuildHasher;
 
 /// A multimap as one would write it with the standard library.
@@ -228,6 +233,30 @@ pub fn retain_half_multi<S: BuildHasher + Default>(n: u64, seed: u64) -> u64 {
     retains::<S>(scattered(n, seed))
 }
 
+/// The sum of all keys does not tell their order.
+pub fn keys_all<S: BuildHasher + Default>(n: u64, seed: u64) -> u64 {
+    let Filled { map, mut checksum } = scattered::<S>(n, seed);
+    for _ in 0..16 {
+        let sum = map.keys.keys().copied().fold(0, u64::wrapping_add);
+        checksum = mix(checksum, sum);
+    }
+    checksum
+}
+
+pub fn pairs_all<S: BuildHasher + Default>(n: u64, seed: u64) -> u64 {
+    let Filled { map, mut checksum } = scattered::<S>(n, seed);
+    for _ in 0..16 {
+        let mut sum: u64 = 0;
+        for (key, values) in &map.keys {
+            for value in values {
+                sum = sum.wrapping_add(key ^ value);
+            }
+        }
+        checksum = mix(checksum, sum);
+    }
+    checksum
+}
+
 /// A clone has each key's values in a vector of just their length.
 pub fn clone<S: BuildHasher + Default + Clone>(n: u64, seed: u64) -> u64 {
     let Filled { map, mut checksum } = scattered::<S>(n, seed);
@@ -236,89 +265,6 @@ pub fn clone<S: BuildHasher + Default + Clone>(n: u64, seed: u64) -> u64 {
         checksum = copy.ends(checksum);
     }
     checksum
-}
-
-/// A queue of pairs, of which the standard library's map has the values of each key.
-struct Queue<S> {
-    keys: HashMap<u64, VecDeque<u64>, S>,
-    order: VecDeque<u64>,
-}
-
-impl<S: BuildHasher + Default> Queue<S> {
-    fn new() -> Self {
-        Queue {
-            keys: HashMap::default(),
-            order: VecDeque::new(),
-        }
-    }
-
-    #[inline(always)]
-    fn append(&mut self, key: u64, value: u64) -> bool {
-        self.order.push_back(key);
-        let values = self.keys.entry(key).or_default();
-        values.push_back(value);
-        values.len() > 1
-    }
-
-    /// The value of the first pair, and whether its key has gone.
-    #[inline(always)]
-    fn pop_front(&mut self) -> Option<(u64, bool)> {
-        let key = self.order.pop_front()?;
-        let values = self.keys.get_mut(&key)?;
-        let old = values.pop_front()?;
-        let is_last = values.is_empty();
-        if is_last {
-            self.keys.remove(&key);
-        }
-        Some((old, is_last))
-    }
-
-    #[inline(always)]
-    fn churn(&mut self, key: u64, value: u64, checksum: u64) -> u64 {
-        let present = u64::from(self.append(key, value));
-        let number = match self.pop_front() {
-            Some((old, owned)) => old ^ present ^ (u64::from(owned) * 2),
-            None => 5,
-        };
-        mix(checksum, number)
-    }
-
-    fn ends(&self, checksum: u64) -> u64 {
-        mix(
-            mix(checksum, self.keys.len() as u64),
-            self.order.len() as u64,
-        )
-    }
-}
-
-fn churns<S: BuildHasher + Default>(
-    filled: u64,
-    n: u64,
-    seed: u64,
-    key_of: impl Fn(u64) -> u64,
-) -> u64 {
-    let mut queue = Queue::<S>::new();
-    let mut checksum = START;
-    for i in 0..filled {
-        checksum = mix(checksum, u64::from(queue.append(key_of(i), value(seed, i))));
-    }
-    checksum = queue.ends(checksum);
-    for j in filled..filled + 4 * n {
-        checksum = queue.churn(key_of(j), value(seed, j), checksum);
-    }
-    queue.ends(checksum)
-}
-
-pub fn fifo_churn<S: BuildHasher + Default>(n: u64, seed: u64) -> u64 {
-    churns::<S>(n, n, seed, |i| key(seed, i))
-}
-
-pub fn fifo_churn_few<S: BuildHasher + Default>(n: u64, seed: u64) -> u64 {
-    churns::<S>(n, n, seed, |i| key(seed, choice(seed, i, 1000)))
-}
-
-pub fn fifo_small<S: BuildHasher + Default>(n: u64, seed: u64) -> u64 {
-    churns::<S>(64, n, seed, |i| key(seed, i))
 }
 
 /// Each key has one value, so this is a map of numbers and not of vectors.
@@ -333,32 +279,4 @@ pub fn entry_count<S: BuildHasher + Default>(n: u64, seed: u64) -> u64 {
         checksum = mix(checksum, *count);
     }
     mix(mix(checksum, counts.len() as u64), counts.len() as u64)
-}
-
-/// A map of sixteen pairs for every sixteen pairs.
-pub fn small_maps<S: BuildHasher + Default>(n: u64, seed: u64) -> u64 {
-    let mut checksum = START;
-    for first in (0..n / 16 * 16).step_by(16) {
-        checksum = small_map::<S>(first, seed, checksum);
-    }
-    checksum
-}
-
-fn small_map<S: BuildHasher + Default>(first: u64, seed: u64, start: u64) -> u64 {
-    let mut map = Multimap::<S>::new();
-    let mut checksum = start;
-    for i in first..first + 16 {
-        let chosen = key(seed, first + choice(seed, i, 12));
-        checksum = mix(checksum, u64::from(map.append(chosen, value(seed, i))));
-    }
-    for i in first..first + 16 {
-        checksum = mix(checksum, map.get(key(seed, i)).unwrap_or(1));
-    }
-    let mut sum = 0u64;
-    for (key, values) in &map.keys {
-        for value in values {
-            sum = sum.wrapping_add(key ^ value);
-        }
-    }
-    map.ends(mix(checksum, sum))
 }

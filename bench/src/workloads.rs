@@ -39,6 +39,8 @@ mod exported {
         pub safe fn bench_remove_all_half(n: u64, seed: u64) -> u64;
         pub safe fn bench_retain_half(n: u64, seed: u64) -> u64;
         pub safe fn bench_retain_half_multi(n: u64, seed: u64) -> u64;
+        pub safe fn bench_keys_all(n: u64, seed: u64) -> u64;
+        pub safe fn bench_pairs_all(n: u64, seed: u64) -> u64;
         pub safe fn bench_clone(n: u64, seed: u64) -> u64;
         pub safe fn bench_entry_count(n: u64, seed: u64) -> u64;
         pub safe fn bench_small_maps(n: u64, seed: u64) -> u64;
@@ -58,6 +60,8 @@ mod exported {
         pub safe fn benchfx_remove_all_half(n: u64, seed: u64) -> u64;
         pub safe fn benchfx_retain_half(n: u64, seed: u64) -> u64;
         pub safe fn benchfx_retain_half_multi(n: u64, seed: u64) -> u64;
+        pub safe fn benchfx_keys_all(n: u64, seed: u64) -> u64;
+        pub safe fn benchfx_pairs_all(n: u64, seed: u64) -> u64;
         pub safe fn benchfx_clone(n: u64, seed: u64) -> u64;
         pub safe fn benchfx_entry_count(n: u64, seed: u64) -> u64;
         pub safe fn benchfx_small_maps(n: u64, seed: u64) -> u64;
@@ -90,7 +94,7 @@ const SCATTERED: Option<usize> = Some(3);
 const IN_ORDER: Option<Run> = Some(std_side::iter_all_in_order);
 
 /// Every workload. One that starts with another stands behind it.
-pub const WORKLOADS: [Workload; 19] = [
+pub const WORKLOADS: [Workload; 21] = [
     workload!(
         append_distinct,
         bench_append_distinct,
@@ -194,6 +198,22 @@ pub const WORKLOADS: [Workload; 19] = [
         benchfx_remove_all_half,
         SCATTERED,
         1,
+        None
+    ),
+    workload!(
+        keys_all,
+        bench_keys_all,
+        benchfx_keys_all,
+        SCATTERED,
+        4,
+        None
+    ),
+    workload!(
+        pairs_all,
+        bench_pairs_all,
+        benchfx_pairs_all,
+        SCATTERED,
+        32,
         None
     ),
     workload!(clone, bench_clone, benchfx_clone, SCATTERED, 8, None),

@@ -45,6 +45,34 @@ pub(crate) fn all_pairs<S: BuildHasher>(map: &Map<S>, start: u64) -> u64 {
     checksum
 }
 
+/// The sum of all keys, sixteen times.
+pub(crate) fn all_keys<S: BuildHasher>(map: &Map<S>, start: u64) -> u64 {
+    let mut checksum = start;
+    for _ in 0..16 {
+        let mut sum = 0u64;
+        for key in map.keys() {
+            sum = sum.wrapping_add(*key);
+        }
+        checksum = mix(checksum, sum);
+    }
+    checksum
+}
+
+/// The sum of all pairs, each as key ^ value, key by key, sixteen times.
+pub(crate) fn all_lists<S: BuildHasher>(map: &Map<S>, start: u64) -> u64 {
+    let mut checksum = start;
+    for _ in 0..16 {
+        let mut sum = 0u64;
+        for (key, values) in map.pairs() {
+            for value in values {
+                sum = sum.wrapping_add(*key ^ *value);
+            }
+        }
+        checksum = mix(checksum, sum);
+    }
+    checksum
+}
+
 /// Clones the map four times. Answers none where memory was refused.
 pub(crate) fn clones<S: BuildHasher + Clone>(map: &Map<S>, start: u64) -> Option<u64> {
     let mut checksum = start;

@@ -3,13 +3,13 @@ use crate::{
     bench_append_distinct, bench_append_few, bench_append_grouped, bench_append_scattered,
     bench_clone, bench_entry_count, bench_fifo_churn, bench_fifo_churn_few, bench_fifo_small,
     bench_get_all_walk, bench_get_all_walk_scattered, bench_get_hit, bench_get_miss,
-    bench_insert_replace, bench_iter_all, bench_remove_all_half, bench_retain_half,
-    bench_retain_half_multi, bench_small_maps, benchfx_append_distinct, benchfx_append_few,
-    benchfx_append_grouped, benchfx_append_scattered, benchfx_clone, benchfx_entry_count,
-    benchfx_fifo_churn, benchfx_fifo_churn_few, benchfx_fifo_small, benchfx_get_all_walk,
-    benchfx_get_all_walk_scattered, benchfx_get_hit, benchfx_get_miss, benchfx_insert_replace,
-    benchfx_iter_all, benchfx_remove_all_half, benchfx_retain_half, benchfx_retain_half_multi,
-    benchfx_small_maps,
+    bench_insert_replace, bench_iter_all, bench_keys_all, bench_pairs_all, bench_remove_all_half,
+    bench_retain_half, bench_retain_half_multi, bench_small_maps, benchfx_append_distinct,
+    benchfx_append_few, benchfx_append_grouped, benchfx_append_scattered, benchfx_clone,
+    benchfx_entry_count, benchfx_fifo_churn, benchfx_fifo_churn_few, benchfx_fifo_small,
+    benchfx_get_all_walk, benchfx_get_all_walk_scattered, benchfx_get_hit, benchfx_get_miss,
+    benchfx_insert_replace, benchfx_iter_all, benchfx_keys_all, benchfx_pairs_all,
+    benchfx_remove_all_half, benchfx_retain_half, benchfx_retain_half_multi, benchfx_small_maps,
 };
 use std::alloc::Global;
 use test_helpers::{Failed, Test};
@@ -34,6 +34,8 @@ const CHECKSUMS: &[(&str, u64)] = &[
     ("entry_count", 0xafef_8b45_c4bd_2042),
     ("small_maps", 0x8960_d8a7_66ee_4890),
     ("clone", 0x6ad7_6c39_f6ef_c5b5),
+    ("keys_all", 0xa5ea_5741_564e_e8f5),
+    ("pairs_all", 0x0695_bbf9_e1b0_9275),
 ];
 
 /// Expects the checksum of the workload in the row.
@@ -57,7 +59,9 @@ fn look_ups_of_the_default_hasher(test: &Test, alloc: Global) {
     expect_checksum(test, 6, bench_get_all_walk(alloc, 64, 1));
     expect_checksum(test, 7, bench_get_all_walk_scattered(alloc, 64, 1));
     expect_checksum(test, 8, bench_iter_all(alloc, 64, 1));
-    expect_checksum(test, 16, bench_clone(alloc, 64, 1));
+    expect_checksum(test, 18, bench_clone(alloc, 64, 1));
+    expect_checksum(test, 19, bench_keys_all(alloc, 64, 1));
+    expect_checksum(test, 20, bench_pairs_all(alloc, 64, 1));
 }
 
 fn changes_of_the_default_hasher(test: &Test, alloc: Global) {
@@ -94,7 +98,9 @@ fn look_ups_of_the_fast_hasher(test: &Test, alloc: Global) {
     expect_checksum(test, 6, benchfx_get_all_walk(alloc, 64, 1));
     expect_checksum(test, 7, benchfx_get_all_walk_scattered(alloc, 64, 1));
     expect_checksum(test, 8, benchfx_iter_all(alloc, 64, 1));
-    expect_checksum(test, 16, benchfx_clone(alloc, 64, 1));
+    expect_checksum(test, 18, benchfx_clone(alloc, 64, 1));
+    expect_checksum(test, 19, benchfx_keys_all(alloc, 64, 1));
+    expect_checksum(test, 20, benchfx_pairs_all(alloc, 64, 1));
 }
 
 fn changes_of_the_fast_hasher(test: &Test, alloc: Global) {

@@ -1,7 +1,9 @@
 //! The workloads, each on a map of its own under any hash builder.
 use crate::appends::{Map, distinct, ends, few, grouped, scattered, spread_over_twelve};
 use crate::changes::{counts, fifo, fifo_few, fifo_small, removes, replaces, retains};
-use crate::lookups::{all_pairs, clones, hits, misses, sixteen_keys, sum_of_pairs, walks};
+use crate::lookups::{
+    all_keys, all_lists, all_pairs, clones, hits, misses, sixteen_keys, sum_of_pairs, walks,
+};
 use crate::numbers::{START, mix};
 use ordered_multimap::ListOrderedMultimap;
 use std::alloc::Global;
@@ -45,6 +47,10 @@ pub(crate) enum Workload {
     RetainHalf,
     /// Keeps half of the pairs, after `AppendScattered`.
     RetainHalfMulti,
+    /// Goes over all keys, after `AppendScattered`.
+    KeysAll,
+    /// Goes over all keys with their values, after `AppendScattered`.
+    PairsAll,
     /// Clones the map, after `AppendScattered`.
     Clone,
     /// Counts keys by their entries, on an empty map.
@@ -87,6 +93,8 @@ fn fill<S: BuildHasher>(map: &mut Map<S>, workload: Workload, n: u64, seed: u64)
         Workload::AppendScattered
         | Workload::GetAllWalkScattered
         | Workload::IterAll
+        | Workload::KeysAll
+        | Workload::PairsAll
         | Workload::RemoveAllHalf
         | Workload::RetainHalfMulti
         | Workload::Clone => scattered(map, n, seed, START),
@@ -127,6 +135,8 @@ fn look_up<S: BuildHasher + Clone>(
         Workload::GetMiss => misses(map, n, seed, checksum),
         Workload::GetAllWalk | Workload::GetAllWalkScattered => walks(map, n, seed, checksum),
         Workload::IterAll => all_pairs(map, checksum),
+        Workload::KeysAll => all_keys(map, checksum),
+        Workload::PairsAll => all_lists(map, checksum),
         Workload::Clone => clones(map, checksum).unwrap_or(REFUSED),
         _ => checksum,
     }
