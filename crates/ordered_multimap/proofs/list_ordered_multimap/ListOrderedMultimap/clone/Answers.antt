@@ -39,6 +39,10 @@ append_clones-requires-clause-value_room g c =
       c.in_ok-copy.ensures.value_room,
     )
 
+pub returns-in_err-append_clones-clause-succeeds : goal.returns-in_err-append_clones-clause-succeeds
+returns-in_err-append_clones-clause-succeeds g c =
+    λ none sure. absurd (let bad = c.in_err-append_clones.ensures.succeeds (c.iter-pairs.ensures ∙ none) in cc)
+
 pub put_in_order-requires : goal.put_in_order-requires
 put_in_order-requires g c =
     let built = subst (λ ps. AreClones g.K.PartialEq.eq g.K.Clone.is_clone g.V.Clone.is_clone (built_from g.K.PartialEq.eq ps) c.append_clones.new.copy.lists) c.iter-pairs.ensures c.in_ok-append_clones.ensures.ok in
