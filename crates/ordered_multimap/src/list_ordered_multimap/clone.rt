@@ -1,8 +1,8 @@
 //! Clones of a map.
-ghost use Rattle.std.specs.Prelude.{◌≡◌, ◌<◌, ◌≤◌, [], ℕ, false, true, length, IfOk, OnOk, IsOk};
+ghost use Rattle.std.specs.Prelude.{◌≡◌, ◌≤◌, [], false, true, length, IfOk, OnOk, IsOk};
 ghost use Rattle.std.specs.Map.{keys_of};
 ghost use Rattle.multimap_slots.specs.Lists.{IsIn};
-ghost use Rattle.ordered_multimap.specs.Agrees.{HasKey, hash_of};
+ghost use Rattle.ordered_multimap.specs.Agrees.{HasKey};
 ghost use Rattle.ordered_multimap.specs.Changes.{appended, built_from};
 ghost use Rattle.ordered_multimap.specs.Clones.{AreClones};
 ghost use Rattle.ordered_multimap.specs.Keys.{is_listed, moved_to_back, all_moved};
