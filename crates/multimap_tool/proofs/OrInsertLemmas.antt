@@ -14,7 +14,7 @@ use Rattle.ordered_multimap.specs.declared.list_ordered_multimap.entry.Entry.The
 use Rattle.ordered_multimap.specs.Entries.{IsEntered, IsEntryOf, entry_map, first_value, is_occupied}
 use Rattle.multimap_tool.specs.declared.commands.Command.TheVariants.{OrInsert}
 use Rattle.multimap_tool.specs.declared.replies.Reply.TheVariants.{Value}
-use Rattle.multimap_tool.specs.Step.{IsStep}
+use Rattle.multimap_tool.specs.Step.{IsOwnStep}
 
 module _ {K V : Type 0} (eq : K → K → Bool) (k : K) where
   -- the first value of the key stands at its first position, so there is no change where it is written there again
@@ -60,29 +60,29 @@ module _ {K V : Type 0} (eq : K → K → Bool) (k : K) where
 
   -- the step where the key is present, where it is absent, and of either kind of entry
   present_step : {A : Type 0} (m n : Lists K V) (v w : V) → true ≡ is_present eq m.pairs k → w ≡ unwrap_or (slice_get (values_of eq m.pairs k) 0) v
-      → n ≡ first_written eq m k w → IsStep eq {A = A} (OrInsert k v) m (Value (Some w)) n
+      → n ≡ first_written eq m k w → IsOwnStep eq {A = A} (OrInsert k v) m (Value (Some w)) n
   present_step m n v w present first left =
       let there = first_of_present (values_of eq m.pairs k) v (sym present) ∙ ap Some (sym first) in
       inl (ap Some first, left ∙ first_written-first m w there ∙ ap (λ b. cond b m (appended eq m k v)) present)
 
   absent_step : {A : Type 0} (m n : Lists K V) (v w : V) → false ≡ is_present eq m.pairs k → w ≡ unwrap_or (slice_get (values_of eq m.pairs k) 0) v
-      → n ≡ appended eq m k w → IsStep eq {A = A} (OrInsert k v) m (Value (Some w)) n
+      → n ≡ appended eq m k w → IsOwnStep eq {A = A} (OrInsert k v) m (Value (Some w)) n
   absent_step m n v w absent first left =
       let own = first ∙ first_of_absent (values_of eq m.pairs k) v (sym absent) in
       inl (ap Some first, left ∙ ap (appended eq m k) own ∙ ap (λ b. cond b m (appended eq m k v)) absent)
 
 module _ {R K V S A H : Type 0} {e : equality.Ghosts K} {j : hash.Ghosts K} {b : builder.Ghosts S H} {h : hasher.Ghosts H} where
   entered_step : (x : Entry K V S A H e j b h) (k : K) (v w : V) (n : Multimap K V S) → IsEntryOf x k → is_occupied x ≡ is_present e.eq (entry_map x).lists.pairs k
-      → w ≡ unwrap_or (first_value x k) v → IsEntered x w n → IsStep e.eq {A = R} (OrInsert k v) (entry_map x).lists (Value (Some w)) n.lists
+      → w ≡ unwrap_or (first_value x k) v → IsEntered x w n → IsOwnStep e.eq {A = R} (OrInsert k v) (entry_map x).lists (Value (Some w)) n.lists
   entered_step (Occupied o) k v w n own occupied first entered = present_step e.eq k o.map.now.lists n.lists v w occupied first (entered k own).lists
   entered_step (Vacant x) k v w n own occupied first entered = absent_step e.eq k x.map.now.lists n.lists v w occupied first (entered.lists ∙ ap (λ q. appended e.eq x.map.now.lists q w) own)
 
   -- the step of the map that the entry was made of
   pub or_insert_step : (x : Entry K V S A H e j b h) (m : Multimap K V S) (k : K) (v w : V) (n : Lists K V) (last : Multimap K V S) → entry_map x ≡ m → IsEntryOf x k
       → is_occupied x ≡ is_present e.eq m.lists.pairs k → w ≡ unwrap_or (first_value x k) v → IsEntered x w last → n ≡ last.lists
-      → IsStep e.eq {A = R} (OrInsert k v) m.lists (Value (Some w)) n
+      → IsOwnStep e.eq {A = R} (OrInsert k v) m.lists (Value (Some w)) n
   or_insert_step x m k v w n last same own occupied first entered ended =
       let present = occupied ∙ ap (λ l. is_present e.eq l.lists.pairs k) (sym same) in
       let step = entered_step x k v w last own present first entered in
-      subst (λ l. IsStep e.eq {A = R} (OrInsert k v) m.lists (Value (Some w)) l) (sym ended)
-      (subst (λ l. IsStep e.eq {A = R} (OrInsert k v) l.lists (Value (Some w)) last.lists) same step)
+      subst (λ l. IsOwnStep e.eq {A = R} (OrInsert k v) m.lists (Value (Some w)) l) (sym ended)
+      (subst (λ l. IsOwnStep e.eq {A = R} (OrInsert k v) l.lists (Value (Some w)) last.lists) same step)

@@ -13,7 +13,7 @@ use Rattle.ordered_multimap.specs.Pairs.{has_items}
 use Rattle.multimap_tool.specs.declared.commands.Ends.TheVariants.{Forward, Word}
 use Rattle.multimap_tool.specs.declared.commands.Command.{Command}
 use Rattle.multimap_tool.specs.declared.commands.Command.TheVariants as commands
-use Rattle.multimap_tool.specs.declared.commands.Command.TheVariants.{Append, Insert, InsertAll, SetFirst, SetFront, SetBack, OrInsert, Get, All, Has, Len, Remove, RemoveAll, RemoveEntry, RemoveEntryAll, PopFront, PopBack, Clear, Swap, Pairs, Keys, Values, Lengths}
+use Rattle.multimap_tool.specs.declared.commands.Command.TheVariants.{Append, Insert, InsertAll, SetFirst, SetFront, SetBack, OrInsert, Get, All, Has, Len, Remove, RemoveAll, RemoveEntry, RemoveEntryAll, PopFront, PopBack, Retain, Clear, Swap, Pairs, Keys, Values, Lengths}
 use Rattle.multimap_tool.specs.Spelling.{Operand, operand_text, FitsOperand, letter_of, name_of, operands_of, Spells, IsBadLine}
 use Rattle.multimap_tool.specs.Parts.{IsWithout, AreLettersOf, StartsAValue, lone_words, key_words, value_words, walk_words, pair_words, key_walk_words, words_before, IsCommandOf, IsFoundFor, IsReadingOf}
 use Rattle.multimap_tool.proofs.NumberLemmas.{decimal_without_space, signed_without_space, no_value}
@@ -90,7 +90,7 @@ plain_fields name (inl k ∷ []) listed fits = record {
   few = omega arith;
 }
 plain_fields name (inr (inl v) ∷ []) listed fits = record {
-  word = word_without_space value_words name (refl, (refl, tt)) listed;
+  word = word_without_space value_words name (refl, (refl, (refl, tt))) listed;
   texts = texts_without_space (inr (inl v) ∷ []) fits;
   few = omega arith;
 }
@@ -163,6 +163,7 @@ module _ {A : Type 0} where
   listed_word (RemoveEntryAll k) = inr (inr (inr (inr (inr (inr (inr (inl refl)))))))
   listed_word PopFront = inr (inr (inl refl))
   listed_word PopBack = inr (inr (inr (inl refl)))
+  listed_word (Retain v) = inr (inr (inl refl))
   listed_word Clear = inr (inr (inr (inr (inl refl))))
   listed_word (Pairs Forward) = inr (inr (inr (inr (inr (inl refl)))))
   listed_word (Pairs (Word word)) = inl refl

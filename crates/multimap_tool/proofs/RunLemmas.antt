@@ -8,20 +8,24 @@ use Rattle.ordered_multimap.specs.End.TheVariants as ends
 use Rattle.ordered_multimap.specs.Pairs.{is_present, pairs_without}
 use Rattle.ordered_multimap.specs.Changes.{appended, inserted, removed, first_written, end_written}
 use Rattle.ordered_multimap.specs.Pop.{popped}
-use Rattle.ordered_multimap.proofs.WellFormedLemmas.{empty_well_formed, appended_well_formed, inserted_well_formed, removed_well_formed, popped_well_formed, first_written_well_formed, end_written_well_formed}
+use Rattle.ordered_multimap.proofs.WellFormedLemmas.{empty_well_formed, appended_well_formed, inserted_well_formed, removed_well_formed, popped_well_formed, kept_well_formed, first_written_well_formed, end_written_well_formed}
 use Rattle.ordered_multimap.proofs.KeyOrderLemmas.{KeepsKeyOrder-same, KeepsKeyOrder-keys_with, KeepsKeyOrder-named_by, KeepsKeyOrder-popped, KeepsKeyOrder-none, KeepsKeyOrder-first_written, KeepsKeyOrder-end_written}
+use Rattle.ordered_multimap.proofs.RetainedLemmas.{kept-named_by}
+use Rattle.ordered_multimap.specs.Retain.{Retains}
+use Rattle.ordered_multimap.specs.Lists.{IsIn}
+use Rattle.std.specs.Map.{keys_of}
 use Rattle.multimap_tool.specs.declared.commands.Command.{Command}
-use Rattle.multimap_tool.specs.declared.commands.Command.TheVariants.{Append, Insert, InsertAll, SetFirst, SetFront, SetBack, OrInsert, Get, All, Has, Len, Front, Back, Remove, RemoveAll, RemoveEntry, RemoveEntryAll, PopFront, PopBack, Clear, Swap, Pairs, Keys, Values, Lengths}
+use Rattle.multimap_tool.specs.declared.commands.Command.TheVariants.{Append, Insert, InsertAll, SetFirst, SetFront, SetBack, OrInsert, Get, All, Has, Len, Front, Back, Remove, RemoveAll, RemoveEntry, RemoveEntryAll, PopFront, PopBack, Retain, Clear, Swap, Pairs, Keys, Values, Lengths}
 use Rattle.multimap_tool.specs.declared.replies.Reply.{Reply}
-use Rattle.multimap_tool.specs.Step.{Leaves, IsLookUp, IsStep, entered}
+use Rattle.multimap_tool.specs.Step.{Leaves, IsLookUp, IsOwnStep, IsStep, KeepsPairs, entered}
 use Rattle.multimap_tool.specs.Runs.{IsRun}
 use Rattle.multimap_tool.specs.Laws.{IsOrderly}
 
-module _ {K V A : Type 0} (eq : K → K → Bool) where
+module _ {K V A : Type 0} (keeps : V → K → V → Bool → V → Type 0) (eq : K → K → Bool) where
   -- one step more
   pub IsRun-push : (commands : List (Command K V A)) (m : Lists K V) (replies : List (Reply K V A)) (n : Lists K V) (command : Command K V A) (reply : Reply K V A) (last : Lists K V)
-      → IsRun eq commands m replies n → IsStep eq command n reply last → IsRun eq (commands ++ command ∷ []) m (replies ++ reply ∷ []) last
-  IsRun-push [] m [] n command reply last run step = (last, subst (λ l. IsStep eq command l reply last) run step, refl)
+      → IsRun keeps eq commands m replies n → IsStep keeps eq command n reply last → IsRun keeps eq (commands ++ command ∷ []) m (replies ++ reply ∷ []) last
+  IsRun-push [] m [] n command reply last run step = (last, subst (λ l. IsStep keeps eq command l reply last) run step, refl)
   IsRun-push (first ∷ commands) m (told ∷ replies) n command reply last run step = (run.0, run.1, IsRun-push commands run.0 replies n command reply last run.2 step)
   IsRun-push [] m (told ∷ replies) n command reply last run step = absurd run
   IsRun-push (first ∷ commands) m [] n command reply last run step = absurd run
@@ -73,8 +77,24 @@ module _ {K V : Type 0} {eq : K → K → Bool} (laws : IsEquivalence eq) where
     key_order = KeepsKeyOrder-popped laws end m;
   })
 
-module _ {K V A : Type 0} {eq : K → K → Bool} (laws : IsEquivalence eq) where
-  leaves_orderly : (command : Command K V A) (m n : Lists K V) → IsWellFormed eq m → Leaves eq command m n → IsOrderly eq m n
+  -- the keys of the pairs that a function kept are old ones
+  kept_keys : (keeps : K → V → Bool → V → Type 0) (old new : List (K × V)) → Retains (λ s k v b w t. keeps k v b w) (tt {0}) old new (tt {0}) → (k : K) → IsIn k (keys_of new) → IsIn k (keys_of old)
+  kept_keys keeps [] new r k member = subst (λ ps. IsIn k (keys_of ps)) r.0 member
+  kept_keys keeps (p ∷ old) new (b, w, next, rest, called, later, is) k member = by b (kept_keys keeps old rest later k) (subst (λ ps. IsIn k (keys_of ps)) is member)
+    where
+      by : (b : Bool) → (IsIn k (keys_of rest) → IsIn k (keys_of old)) → IsIn k (keys_of (cond b ((p.0, w) ∷ rest) rest)) → IsIn k (keys_of (p ∷ old))
+      by true among (inl here) = inl here
+      by true among (inr later) = inr (among later)
+      by false among later = inr (among later)
+
+  kept_orderly : (m n : Lists K V) (keeps : K → V → Bool → V → Type 0) → IsWellFormed eq m → KeepsPairs keeps eq m n → IsOrderly eq m n
+  kept_orderly m n keeps formed left = subst (IsOrderly eq m) (sym (kept-named_by eq m n left.keys)) (record {
+    well_formed = kept_well_formed laws m n.pairs formed (kept_keys keeps m.pairs n.pairs left.pairs);
+    key_order = KeepsKeyOrder-named_by laws m.keys n.pairs;
+  })
+
+module _ {K V A : Type 0} {eq : K → K → Bool} (laws : IsEquivalence eq) (keeps : V → K → V → Bool → V → Type 0) where
+  leaves_orderly : (command : Command K V A) (m n : Lists K V) → IsWellFormed eq m → Leaves keeps eq command m n → IsOrderly eq m n
   leaves_orderly (Append k v) m n formed left = appended_orderly laws m n k v formed left
   leaves_orderly (Insert k v) m n formed left = replaced_orderly laws m n k v formed left
   leaves_orderly (InsertAll k v) m n formed left = replaced_orderly laws m n k v formed left
@@ -94,6 +114,7 @@ module _ {K V A : Type 0} {eq : K → K → Bool} (laws : IsEquivalence eq) wher
   leaves_orderly (RemoveEntryAll k) m n formed left = gone_orderly laws m n k formed left
   leaves_orderly PopFront m n formed left = popped_orderly laws ends.Front m n formed left
   leaves_orderly PopBack m n formed left = popped_orderly laws ends.Back m n formed left
+  leaves_orderly (Retain x) m n formed left = kept_orderly laws m n (keeps x) formed left
   leaves_orderly Clear m n formed left = subst (IsOrderly eq m) (sym left) (record {
     well_formed = empty_well_formed eq;
     key_order = KeepsKeyOrder-none laws m.keys;
@@ -104,10 +125,10 @@ module _ {K V A : Type 0} {eq : K → K → Bool} (laws : IsEquivalence eq) wher
   leaves_orderly (Values ends) m n formed left = unchanged laws m n formed left
   leaves_orderly Lengths m n formed left = unchanged laws m n formed left
 
-  pub step_orderly : (command : Command K V A) (m : Lists K V) (reply : Reply K V A) (n : Lists K V) → IsWellFormed eq m → IsStep eq command m reply n → IsOrderly eq m n
+  pub step_orderly : (command : Command K V A) (m : Lists K V) (reply : Reply K V A) (n : Lists K V) → IsWellFormed eq m → IsStep keeps eq command m reply n → IsOrderly eq m n
   step_orderly command m reply n formed step = elim step [ inl done ↦ leaves_orderly command m n formed done.1 | inr refused ↦ unchanged laws m n formed refused.2 ]
 
-  pub run_well_formed : (commands : List (Command K V A)) (m : Lists K V) (replies : List (Reply K V A)) (n : Lists K V) → IsWellFormed eq m → IsRun eq commands m replies n → IsWellFormed eq n
+  pub run_well_formed : (commands : List (Command K V A)) (m : Lists K V) (replies : List (Reply K V A)) (n : Lists K V) → IsWellFormed eq m → IsRun keeps eq commands m replies n → IsWellFormed eq n
   run_well_formed [] m [] n formed run = subst (IsWellFormed eq) (sym run) formed
   run_well_formed (command ∷ commands) m (reply ∷ replies) n formed run = run_well_formed commands run.0 replies n (step_orderly command m reply run.0 formed run.1).well_formed run.2
   run_well_formed [] m (reply ∷ replies) n formed run = absurd run
@@ -118,32 +139,106 @@ module _ {K V A : Type 0} where
   pub IsLookUp-else : (command : Command K V A) → ((k : K) (v : V) → command ≢ Append k v) → ((k : K) (v : V) → command ≢ Insert k v) → ((k : K) (v : V) → command ≢ InsertAll k v)
       → ((k : K) (v : V) → command ≢ SetFirst k v) → ((v : V) → command ≢ SetFront v) → ((v : V) → command ≢ SetBack v) → ((k : K) (v : V) → command ≢ OrInsert k v)
       → ((k : K) → command ≢ Remove k) → ((k : K) → command ≢ RemoveAll k) → ((k : K) → command ≢ RemoveEntry k) → ((k : K) → command ≢ RemoveEntryAll k)
-      → command ≢ PopFront → command ≢ PopBack → command ≢ Clear → command ≢ Swap → IsLookUp command
-  IsLookUp-else (Append k v) a b c d e f g h i j l m n o p = a k v refl
-  IsLookUp-else (Insert k v) a b c d e f g h i j l m n o p = b k v refl
-  IsLookUp-else (InsertAll k v) a b c d e f g h i j l m n o p = c k v refl
-  IsLookUp-else (SetFirst k v) a b c d e f g h i j l m n o p = d k v refl
-  IsLookUp-else (SetFront v) a b c d e f g h i j l m n o p = e v refl
-  IsLookUp-else (SetBack v) a b c d e f g h i j l m n o p = f v refl
-  IsLookUp-else (OrInsert k v) a b c d e f g h i j l m n o p = g k v refl
-  IsLookUp-else (Get k) a b c d e f g h i j l m n o p = tt
-  IsLookUp-else (All k ends) a b c d e f g h i j l m n o p = tt
-  IsLookUp-else (Has k) a b c d e f g h i j l m n o p = tt
-  IsLookUp-else (Len k) a b c d e f g h i j l m n o p = tt
-  IsLookUp-else Front a b c d e f g h i j l m n o p = tt
-  IsLookUp-else Back a b c d e f g h i j l m n o p = tt
-  IsLookUp-else (Remove k) a b c d e f g h i j l m n o p = h k refl
-  IsLookUp-else (RemoveAll k) a b c d e f g h i j l m n o p = i k refl
-  IsLookUp-else (RemoveEntry k) a b c d e f g h i j l m n o p = j k refl
-  IsLookUp-else (RemoveEntryAll k) a b c d e f g h i j l m n o p = l k refl
-  IsLookUp-else PopFront a b c d e f g h i j l m n o p = m refl
-  IsLookUp-else PopBack a b c d e f g h i j l m n o p = n refl
-  IsLookUp-else Clear a b c d e f g h i j l m n o p = o refl
-  IsLookUp-else Swap a b c d e f g h i j l m n o p = p refl
-  IsLookUp-else (Pairs ends) a b c d e f g h i j l m n o p = tt
-  IsLookUp-else (Keys ends) a b c d e f g h i j l m n o p = tt
-  IsLookUp-else (Values ends) a b c d e f g h i j l m n o p = tt
-  IsLookUp-else Lengths a b c d e f g h i j l m n o p = tt
+      → command ≢ PopFront → command ≢ PopBack → ((v : V) → command ≢ Retain v) → command ≢ Clear → command ≢ Swap → IsLookUp command
+  IsLookUp-else (Append k v) a b c d e f g h i j l m n p o q = a k v refl
+  IsLookUp-else (Insert k v) a b c d e f g h i j l m n p o q = b k v refl
+  IsLookUp-else (InsertAll k v) a b c d e f g h i j l m n p o q = c k v refl
+  IsLookUp-else (SetFirst k v) a b c d e f g h i j l m n p o q = d k v refl
+  IsLookUp-else (SetFront v) a b c d e f g h i j l m n p o q = e v refl
+  IsLookUp-else (SetBack v) a b c d e f g h i j l m n p o q = f v refl
+  IsLookUp-else (OrInsert k v) a b c d e f g h i j l m n p o q = g k v refl
+  IsLookUp-else (Get k) a b c d e f g h i j l m n p o q = tt
+  IsLookUp-else (All k ends) a b c d e f g h i j l m n p o q = tt
+  IsLookUp-else (Has k) a b c d e f g h i j l m n p o q = tt
+  IsLookUp-else (Len k) a b c d e f g h i j l m n p o q = tt
+  IsLookUp-else Front a b c d e f g h i j l m n p o q = tt
+  IsLookUp-else Back a b c d e f g h i j l m n p o q = tt
+  IsLookUp-else (Remove k) a b c d e f g h i j l m n p o q = h k refl
+  IsLookUp-else (RemoveAll k) a b c d e f g h i j l m n p o q = i k refl
+  IsLookUp-else (RemoveEntry k) a b c d e f g h i j l m n p o q = j k refl
+  IsLookUp-else (RemoveEntryAll k) a b c d e f g h i j l m n p o q = l k refl
+  IsLookUp-else PopFront a b c d e f g h i j l m n p o q = m refl
+  IsLookUp-else PopBack a b c d e f g h i j l m n p o q = n refl
+  IsLookUp-else (Retain v) a b c d e f g h i j l m n p o q = p v refl
+  IsLookUp-else Clear a b c d e f g h i j l m n p o q = o refl
+  IsLookUp-else Swap a b c d e f g h i j l m n p o q = q refl
+  IsLookUp-else (Pairs ends) a b c d e f g h i j l m n p o q = tt
+  IsLookUp-else (Keys ends) a b c d e f g h i j l m n p o q = tt
+  IsLookUp-else (Values ends) a b c d e f g h i j l m n p o q = tt
+  IsLookUp-else Lengths a b c d e f g h i j l m n p o q = tt
+
+  -- a look-up calls no function
+  pub IsStep-look_up : (keeps : V → K → V → Bool → V → Type 0) (eq : K → K → Bool) (command : Command K V A) (m : Lists K V) (reply : Reply K V A) (n : Lists K V)
+      → IsLookUp command → IsOwnStep eq command m reply n → IsStep keeps eq command m reply n
+  IsStep-look_up keeps eq (Append k v) m reply n look step = absurd look
+  IsStep-look_up keeps eq (Insert k v) m reply n look step = absurd look
+  IsStep-look_up keeps eq (InsertAll k v) m reply n look step = absurd look
+  IsStep-look_up keeps eq (SetFirst k v) m reply n look step = absurd look
+  IsStep-look_up keeps eq (SetFront v) m reply n look step = absurd look
+  IsStep-look_up keeps eq (SetBack v) m reply n look step = absurd look
+  IsStep-look_up keeps eq (OrInsert k v) m reply n look step = absurd look
+  IsStep-look_up keeps eq (Get k) m reply n look step = step
+  IsStep-look_up keeps eq (All k ends) m reply n look step = step
+  IsStep-look_up keeps eq (Has k) m reply n look step = step
+  IsStep-look_up keeps eq (Len k) m reply n look step = step
+  IsStep-look_up keeps eq Front m reply n look step = step
+  IsStep-look_up keeps eq Back m reply n look step = step
+  IsStep-look_up keeps eq (Remove k) m reply n look step = absurd look
+  IsStep-look_up keeps eq (RemoveAll k) m reply n look step = absurd look
+  IsStep-look_up keeps eq (RemoveEntry k) m reply n look step = absurd look
+  IsStep-look_up keeps eq (RemoveEntryAll k) m reply n look step = absurd look
+  IsStep-look_up keeps eq PopFront m reply n look step = absurd look
+  IsStep-look_up keeps eq PopBack m reply n look step = absurd look
+  IsStep-look_up keeps eq (Retain x) m reply n look step = absurd look
+  IsStep-look_up keeps eq Clear m reply n look step = absurd look
+  IsStep-look_up keeps eq Swap m reply n look step = absurd look
+  IsStep-look_up keeps eq (Pairs ends) m reply n look step = step
+  IsStep-look_up keeps eq (Keys ends) m reply n look step = step
+  IsStep-look_up keeps eq (Values ends) m reply n look step = step
+  IsStep-look_up keeps eq Lengths m reply n look step = step
+
+-- what a function may answer is what another may
+module _ {K V : Type 0} (keeps other : V → K → V → Bool → V → Type 0) (eq : K → K → Bool) (more : (x : V) (k : K) (v : V) (b : Bool) (w : V) → keeps x k v b w → other x k v b w) where
+  retains_more : (x : V) (old new : List (K × V)) → Retains (λ s k v b w t. keeps x k v b w) (tt {0}) old new (tt {0}) → Retains (λ s k v b w t. other x k v b w) (tt {0}) old new (tt {0})
+  retains_more x [] new r = r
+  retains_more x (p ∷ old) new (b, w, next, rest, called, later, is) = (b, w, next, rest, more x p.0 p.1 b w called, retains_more x old rest later, is)
+
+  module _ {A : Type 0} where
+    leaves_more : (command : Command K V A) (m n : Lists K V) → Leaves keeps eq command m n → Leaves other eq command m n
+    leaves_more (Append k v) m n left = left
+    leaves_more (Insert k v) m n left = left
+    leaves_more (InsertAll k v) m n left = left
+    leaves_more (SetFirst k v) m n left = left
+    leaves_more (SetFront v) m n left = left
+    leaves_more (SetBack v) m n left = left
+    leaves_more (OrInsert k v) m n left = left
+    leaves_more (Get k) m n left = left
+    leaves_more (All k ends) m n left = left
+    leaves_more (Has k) m n left = left
+    leaves_more (Len k) m n left = left
+    leaves_more Front m n left = left
+    leaves_more Back m n left = left
+    leaves_more (Remove k) m n left = left
+    leaves_more (RemoveAll k) m n left = left
+    leaves_more (RemoveEntry k) m n left = left
+    leaves_more (RemoveEntryAll k) m n left = left
+    leaves_more PopFront m n left = left
+    leaves_more PopBack m n left = left
+    leaves_more (Retain x) m n left = record { keys = left.keys; pairs = retains_more x m.pairs n.pairs left.pairs }
+    leaves_more Clear m n left = left
+    leaves_more (Pairs ends) m n left = left
+    leaves_more (Keys ends) m n left = left
+    leaves_more (Values ends) m n left = left
+    leaves_more Lengths m n left = left
+
+    step_more : (command : Command K V A) (m : Lists K V) (reply : Reply K V A) (n : Lists K V) → IsStep keeps eq command m reply n → IsStep other eq command m reply n
+    step_more command m reply n step = elim step [ inl done ↦ inl (done.0, leaves_more command m n done.1) | inr refused ↦ inr refused ]
+
+    pub IsRun-more : (commands : List (Command K V A)) (m : Lists K V) (replies : List (Reply K V A)) (n : Lists K V) → IsRun keeps eq commands m replies n → IsRun other eq commands m replies n
+    IsRun-more [] m [] n run = run
+    IsRun-more (command ∷ commands) m (reply ∷ replies) n run = (run.0, step_more command m reply run.0 run.1, IsRun-more commands run.0 replies n run.2)
+    IsRun-more [] m (reply ∷ replies) n run = absurd run
+    IsRun-more (command ∷ commands) m [] n run = absurd run
 
 -- what holds of a value where there is one implies what follows from it
 pub if_ok : {T E : Type 0} {P Q : T → Type 0} (r : Result T E) → ((x : T) → P x → Q x) → IfOk r P → IfOk r Q

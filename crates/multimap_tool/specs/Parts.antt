@@ -36,7 +36,7 @@ key_words =
 
 -- those that a value follows
 abbrev pub value_words : List (List ℕ)
-value_words = codes "setfront" ∷ codes "setback" ∷ []
+value_words = codes "setfront" ∷ codes "setback" ∷ codes "retain" ∷ []
 
 -- those that the letters of a walk follow
 abbrev pub walk_words : List (List ℕ)

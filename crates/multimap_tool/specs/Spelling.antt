@@ -19,7 +19,7 @@ use Rattle.multimap_tool.specs.declared.commands.Command.TheVariants.{Get, All, 
 use Rattle.multimap_tool.specs.declared.commands.Command.TheVariants.{Remove, RemoveAll}
 use Rattle.multimap_tool.specs.declared.commands.Command.TheVariants.{RemoveEntry, RemoveEntryAll}
 use Rattle.multimap_tool.specs.declared.commands.Command.TheVariants.{PopFront, PopBack, Clear}
-use Rattle.multimap_tool.specs.declared.commands.Command.TheVariants.{Swap}
+use Rattle.multimap_tool.specs.declared.commands.Command.TheVariants.{Retain, Swap}
 use Rattle.multimap_tool.specs.declared.commands.Command.TheVariants.{Pairs, Keys, Values, Lengths}
 
 -- the letters f and b
@@ -75,6 +75,7 @@ module _ {A : Type 0} where
   name_of (RemoveEntryAll k) = codes "removeentryall"
   name_of PopFront = codes "popfront"
   name_of PopBack = codes "popback"
+  name_of (Retain v) = codes "retain"
   name_of Clear = codes "clear"
   name_of Swap = codes "swap"
   name_of (Pairs Forward) = codes "pairs"
@@ -111,6 +112,7 @@ module _ {A : Type 0} where
   operands_of (RemoveEntryAll k) = key_operand k ∷ []
   operands_of PopFront = []
   operands_of PopBack = []
+  operands_of (Retain v) = value_operand v ∷ []
   operands_of Clear = []
   operands_of Swap = []
   operands_of (Pairs ends) = word_of ends

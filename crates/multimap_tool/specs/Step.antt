@@ -1,14 +1,20 @@
--- One command on the two lists: which reply it may be given, and which lists it leaves.
+-- One command on the two lists: which reply it may be given, and which lists it leaves. `keeps` is
+-- said of a function that is handed a command's value, a key and its value: which answer it may
+-- give, and which value it may leave.
 use Rattle.std.specs.Prelude.{◌≡◌, ◌⊎◌, Bool, false, cond, List, length, map, IsTrue}
 use Rattle.std.specs.Prelude.{Option, Some, None, option_map, unwrap_or, slice_get}
+use Rattle.std.specs.Borrow.{Bor, MutBor}
+use Rattle.std.specs.Fn.{FnReturns}
+use denote.Param.Members.{Shared}
 use Rattle.ordered_multimap.specs.End.{End}
 use Rattle.ordered_multimap.specs.End.TheVariants as ends
 use Rattle.ordered_multimap.specs.Walk.{end_item, answers_of_walk, forward}
 use Rattle.ordered_multimap.specs.Lists.{Lists, empty_lists}
 use Rattle.ordered_multimap.specs.Pairs.{all_values, has_items, values_of, is_present}
-use Rattle.ordered_multimap.specs.Keys.{stored_key}
+use Rattle.ordered_multimap.specs.Keys.{stored_key, keys_named_by}
 use Rattle.ordered_multimap.specs.Changes.{appended, inserted, removed, first_written, end_written}
 use Rattle.ordered_multimap.specs.Pop.{popped, popped_pair}
+use Rattle.ordered_multimap.specs.Retain.{Retains}
 use Rattle.ordered_multimap.specs.Pop as pops
 use Rattle.multimap_tool.specs.declared.commands.Ends.{Ends}
 use Rattle.multimap_tool.specs.declared.commands.Ends.TheVariants.{Forward, Word}
@@ -21,7 +27,7 @@ use Rattle.multimap_tool.specs.declared.commands.Command.TheVariants.{Front, Bac
 use Rattle.multimap_tool.specs.declared.commands.Command.TheVariants.{Remove, RemoveAll}
 use Rattle.multimap_tool.specs.declared.commands.Command.TheVariants.{RemoveEntry, RemoveEntryAll}
 use Rattle.multimap_tool.specs.declared.commands.Command.TheVariants.{PopFront, PopBack, Clear}
-use Rattle.multimap_tool.specs.declared.commands.Command.TheVariants.{Swap}
+use Rattle.multimap_tool.specs.declared.commands.Command.TheVariants.{Retain, Swap}
 use Rattle.multimap_tool.specs.declared.commands.Command.TheVariants.{Pairs, Keys, Values, Lengths}
 use Rattle.multimap_tool.specs.declared.replies.Popped.{Popped}
 use Rattle.multimap_tool.specs.declared.replies.Reply.{Reply}
@@ -74,11 +80,30 @@ IsLookUp (RemoveEntry k) = ⊥
 IsLookUp (RemoveEntryAll k) = ⊥
 IsLookUp PopFront = ⊥
 IsLookUp PopBack = ⊥
+IsLookUp (Retain x) = ⊥
 IsLookUp Clear = ⊥
 IsLookUp Swap = ⊥
 IsLookUp _ = Unit {0}
 
-module _ {K : Type 0} (eq : K → K → Bool) {V A : Type 0} where
+-- a call of the function on these may answer b, and leave w as the value
+pub record MayKeep {F K V : Type 0}
+    (g : Shared F (V × (Bor K × (MutBor V × Unit {0}))) (Bool × (MutBor V × Unit {0}))) (keep : F)
+    (operand : V) (k : K) (v : V) (b : Bool) (w : V) : Type 0 where
+  pub key : Bor K
+  pub value : MutBor V
+  pub shows : (key.now ≡ k) × (value.now ≡ v)
+  pub left : MutBor V
+  pub called : FnReturns g keep (operand, (key, (value, tt {0}))) (b, (left, tt {0}))
+  pub leaves : left.now ≡ w
+
+-- the pairs for which the function answers yes stay, and the keys that they name
+pub record KeepsPairs {K V : Type 0} (keeps : K → V → Bool → V → Type 0) (eq : K → K → Bool)
+    (m n : Lists K V) : Type 0 where
+  pub keys : n.keys ≡ keys_named_by eq m.keys n.pairs
+  pub pairs : Retains (λ s k v b w t. keeps k v b w) (tt {0}) m.pairs n.pairs (tt {0})
+
+module _ {K V : Type 0} (keeps : V → K → V → Bool → V → Type 0) (eq : K → K → Bool)
+    {A : Type 0} where
   -- the lists that a command leaves: look-ups leave them as they are, and so does a clone
   abbrev pub Leaves : Command K V A → Lists K V → Lists K V → Type 0
   Leaves (Append k v) m n = n ≡ appended eq m k v
@@ -94,9 +119,11 @@ module _ {K : Type 0} (eq : K → K → Bool) {V A : Type 0} where
   Leaves (RemoveEntryAll k) m n = n ≡ removed eq m k
   Leaves PopFront m n = n ≡ popped eq ends.Front m
   Leaves PopBack m n = n ≡ popped eq ends.Back m
+  Leaves (Retain x) m n = KeepsPairs (keeps x) eq m n
   Leaves Clear m n = n ≡ empty_lists
   Leaves _ m n = n ≡ m
 
+module _ {K : Type 0} (eq : K → K → Bool) {V A : Type 0} where
   -- the reply that tells what the command asks for; no other does
   abbrev pub Tells : Command K V A → Lists K V → Reply K V A → Type 0
   Tells (Append k v) m (replies.Appended present) = present ≡ is_present eq m.pairs k
@@ -124,6 +151,7 @@ module _ {K : Type 0} (eq : K → K → Bool) {V A : Type 0} where
       option_map told_pop pair ≡ popped_pair eq ends.Front m.pairs
   Tells PopBack m (replies.Popped pair) =
       option_map told_pop pair ≡ popped_pair eq ends.Back m.pairs
+  Tells (Retain x) m replies.Done = Unit {0}
   Tells Clear m replies.Done = Unit {0}
   Tells Swap m replies.Done = Unit {0}
   Tells (Pairs ends) m (replies.Pairs pairs) = pairs.items ≡ walked m.pairs ends
@@ -148,8 +176,15 @@ module _ {K : Type 0} (eq : K → K → Bool) {V A : Type 0} where
   MayLackMemory (Values ends) m = ListsItem (walked (all_values m.pairs) ends)
   MayLackMemory _ m = ⊥
 
+module _ {K V : Type 0} (keeps : V → K → V → Bool → V → Type 0) (eq : K → K → Bool)
+    {A : Type 0} where
   -- the command may be given this reply, from these lists to those: want of memory changes nothing
   abbrev pub IsStep : Command K V A → Lists K V → Reply K V A → Lists K V → Type 0
   IsStep command m reply n =
-      (Tells command m reply × Leaves command m n)
-      ⊎ ((reply ≡ replies.NoMemory) × MayLackMemory command m × (n ≡ m))
+      (Tells eq command m reply × Leaves keeps eq command m n)
+      ⊎ ((reply ≡ replies.NoMemory) × MayLackMemory eq command m × (n ≡ m))
+
+-- the same where no function is called
+abbrev pub IsOwnStep : {K : Type 0} (eq : K → K → Bool) {V A : Type 0} → Command K V A
+    → Lists K V → Reply K V A → Lists K V → Type 0
+IsOwnStep eq = IsStep (λ x k v b w. ⊥) eq

@@ -2,7 +2,7 @@
 //! changed.
 ghost use Rattle.std.specs.Prelude.{◌≡◌, ◌+◌, ◌≤◌, ◌++◌, Some, length, map, vec_capacity};
 ghost use Rattle.ordered_multimap.specs.Drains.{drain_left, KeepsMap};
-ghost use Rattle.multimap_tool.specs.Step.{IsStep};
+ghost use Rattle.multimap_tool.specs.Step.{IsOwnStep};
 
 use crate::commands::Command;
 use crate::replies::Reply;
@@ -18,7 +18,7 @@ pub(crate) fn insert_all<K: Eq + Hash + Copy, V: Copy, S: BuildHasher, A: Alloca
     key: K,
     value: V,
 ) -> Reply<K, V, A>
-    ensures step { IsStep K.eq (Command.InsertAll key value) map.old.lists result map.new.lists }
+    ensures step { IsOwnStep K.eq (Command.InsertAll key value) map.old.lists result map.new.lists }
     ensures hasher { map.new.hasher ≡ map.old.hasher }
 {
     let Ok(mut values) = Vec::with_capacity(alloc, map.entry_len(&key)) else {
@@ -37,7 +37,7 @@ pub(crate) fn remove_all<K: Eq + Hash + Copy, V: Copy, S: BuildHasher, A: Alloca
     map: &mut ListOrderedMultimap<K, V, S, A>,
     key: &K,
 ) -> Reply<K, V, A>
-    ensures step { IsStep K.eq (Command.RemoveAll key.now) map.old.lists result map.new.lists }
+    ensures step { IsOwnStep K.eq (Command.RemoveAll key.now) map.old.lists result map.new.lists }
     ensures hasher { map.new.hasher ≡ map.old.hasher }
 {
     let Ok(mut values) = Vec::with_capacity(alloc, map.entry_len(key)) else {
@@ -55,7 +55,7 @@ pub(crate) fn remove_entry_all<K: Eq + Hash + Copy, V: Copy, S: BuildHasher, A: 
     map: &mut ListOrderedMultimap<K, V, S, A>,
     key: &K,
 ) -> Reply<K, V, A>
-    ensures step { IsStep K.eq (Command.RemoveEntryAll key.now)
+    ensures step { IsOwnStep K.eq (Command.RemoveEntryAll key.now)
         map.old.lists result map.new.lists }
     ensures hasher { map.new.hasher ≡ map.old.hasher }
 {

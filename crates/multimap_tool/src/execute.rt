@@ -4,7 +4,7 @@ ghost use Rattle.std.specs.Io.KnownBytes.{Appends};
 ghost use Rattle.ordered_multimap.specs.Lists.{Lists, empty_lists};
 ghost use Rattle.multimap_tool.specs.Runs.{IsRun};
 ghost use Rattle.multimap_tool.specs.Texts.{text_of};
-ghost use Rattle.multimap_tool.specs.Answers.{IsAnsweredBy};
+ghost use Rattle.multimap_tool.specs.Answers.{IsAnsweredBy, keeps_at_least};
 ghost use Rattle.multimap_tool.specs.Execute.{ReadsAll, IsAnswered, IsFaultOf, FaultTells};
 
 use crate::commands::Command;
@@ -78,7 +78,7 @@ fn answer_commands<A: Allocator + Copy>(
     commands: &[Command<u32, i64, A>],
 ) -> Result<Vec<u8, A>, AllocError>
     ensures { IfOk result (λ text. (replies : List (Reply ℕ ℤ A)) × (last : Lists ℕ ℤ)
-        × IsRun nat_eq commands.now empty_lists replies last × (text.items ≡ text_of replies)) }
+        × IsRun keeps_at_least nat_eq commands.now empty_lists replies last × (text.items ≡ text_of replies)) }
 {
     let replies = run_on_empty(alloc, commands)?;
     format_replies(alloc, &replies)
@@ -90,7 +90,7 @@ fn run_on_empty<A: Allocator + Copy>(
     commands: &[Command<u32, i64, A>],
 ) -> Result<Vec<Reply<u32, i64, A>, A>, AllocError>
     ensures { IfOk result (λ replies. (last : Lists ℕ ℤ)
-        × IsRun nat_eq commands.now empty_lists replies.items last) }
+        × IsRun keeps_at_least nat_eq commands.now empty_lists replies.items last) }
 {
     let mut map = ListOrderedMultimap::new(alloc);
     run(

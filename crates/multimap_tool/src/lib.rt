@@ -9,6 +9,7 @@ mod drained;
 pub mod execute;
 pub mod faults;
 pub mod format;
+mod keep;
 pub mod laws;
 mod operands;
 pub mod parse;

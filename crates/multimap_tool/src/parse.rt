@@ -166,6 +166,9 @@ fn value_command<A: Allocator>(name: &[u8], value: i64) -> Option<Command<u32, i
     if name == b"setback".as_slice() {
         return Some(Command::SetBack(value));
     }
+    if name == b"retain".as_slice() {
+        return Some(Command::Retain(value));
+    }
     None
 }
 

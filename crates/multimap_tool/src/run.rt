@@ -2,11 +2,12 @@
 ghost use Rattle.std.specs.Prelude.{◌≡◌, IfOk, OnErr, option_map};
 ghost use Rattle.ordered_multimap.specs.Pop.{popped, popped_pair};
 ghost use Rattle.ordered_multimap.specs.Pops.{popped_of};
-ghost use Rattle.multimap_tool.specs.Step.{IsStep, IsLookUp, told_pop};
+ghost use Rattle.multimap_tool.specs.Step.{IsLookUp, IsOwnStep, IsStep, MayKeep, told_pop};
 ghost use Rattle.multimap_tool.specs.Runs.{IsRun};
 
 use crate::commands::{Command, Ends};
 use crate::drained::{insert_all, remove_all, remove_entry_all};
+use crate::keep::{Keep, KeepBy};
 use crate::replies::{Popped, Reply};
 use crate::walk::{copied_pair, walk};
 use crate::written::{or_insert, set_back, set_first, set_front};
@@ -17,11 +18,11 @@ use std::hash::{BuildHasher, Hash};
 
 /// Runs the commands on the map, in order, and answers each with one reply.
 ///
-/// `alloc` gives the memory of the replies. `keep` is for commands that keep only some values: it
-/// is handed the command's value, a key and its value; no command here calls it yet. The room for
-/// all replies is taken at the start: where it is refused, nothing was done. A command that finds
-/// no memory for itself is answered [`Reply::NoMemory`] and changes neither keys nor pairs. Clones
-/// of keys and values must be the very keys and values.
+/// `alloc` gives the memory of the replies. `keep` tells which pairs a [`Command::Retain`] keeps:
+/// it is handed the command's value, a key and its value, which it may write. The room for all
+/// replies is taken at the start: where it is refused, nothing was done. A command that finds no
+/// memory for itself is answered [`Reply::NoMemory`] and changes neither keys nor pairs. Clones of
+/// keys and values must be the very keys and values.
 pub fn run<
     K: Eq + Hash + Copy,
     V: Copy,
@@ -34,30 +35,34 @@ pub fn run<
     commands: &[Command<K, V, A>],
     keep: F,
 ) -> Result<Vec<Reply<K, V, A>, A>, AllocError>
+    requires callable { F.IsAlwaysCallable keep }
     requires keys { (k c : K) → K.is_clone k c → c ≡ k }
     requires values { (v c : V) → V.is_clone v c → c ≡ v }
-    ensures ok { IfOk result (λ replies.
-        IsRun K.eq commands.now map.old.lists replies.items map.new.lists) }
+    ensures ok { IfOk result (λ replies. IsRun (MayKeep F.Fn keep) K.eq
+        commands.now map.old.lists replies.items map.new.lists) }
     ensures hasher { ((s c : S) → S.is_clone s c → c ≡ s) → map.new.hasher ≡ map.old.hasher }
     ensures unchanged { OnErr result (map.new ≡ map.old) }
 {
-    drop(keep);
+    let keep = KeepBy { keep };
     let mut replies = Vec::with_capacity(alloc, commands.len())?;
     for command in commands {
-        replies.push_reserved(step(alloc, map, command));
+        replies.push_reserved(step(alloc, map, command, &keep));
     }
     Ok(replies)
 }
 
 /// Runs one command.
-fn step<K: Eq + Hash + Copy, V: Copy, S: BuildHasher + Clone, A: Allocator + Copy>(
+fn step<K: Eq + Hash + Copy, V: Copy, S: BuildHasher + Clone, A: Allocator + Copy, F: Keep<K, V>>(
     alloc: A,
     map: &mut ListOrderedMultimap<K, V, S, A>,
     command: &Command<K, V, A>,
+    keep: &F,
 ) -> Reply<K, V, A>
+    requires callable { F.accepts keep.now }
     requires keys { (k c : K) → K.is_clone k c → c ≡ k }
     requires values { (v c : V) → V.is_clone v c → c ≡ v }
-    ensures step { IsStep K.eq command.now map.old.lists result map.new.lists }
+    ensures step { IsStep (F.answers keep.now) K.eq
+        command.now map.old.lists result map.new.lists }
     ensures hasher { ((s c : S) → S.is_clone s c → c ≡ s) → map.new.hasher ≡ map.old.hasher }
 {
     match command {
@@ -74,6 +79,7 @@ fn step<K: Eq + Hash + Copy, V: Copy, S: BuildHasher + Clone, A: Allocator + Cop
         Command::RemoveEntryAll(key) => remove_entry_all(alloc, map, key),
         Command::PopFront => Reply::Popped(pop(map, End::Front)),
         Command::PopBack => Reply::Popped(pop(map, End::Back)),
+        Command::Retain(operand) => retain(map, *operand, keep),
         Command::Clear => clear(map),
         Command::Swap => swap(map),
         _ => look_up(alloc, map, command),
@@ -86,7 +92,7 @@ fn append<K: Eq + Hash + Copy, V: Copy, S: BuildHasher, A: Allocator + Copy>(
     key: K,
     value: V,
 ) -> Reply<K, V, A>
-    ensures step { IsStep K.eq (Command.Append key value) map.old.lists result map.new.lists }
+    ensures step { IsOwnStep K.eq (Command.Append key value) map.old.lists result map.new.lists }
     ensures hasher { map.new.hasher ≡ map.old.hasher }
 {
     match map.append(key, value) {
@@ -101,7 +107,7 @@ fn insert<K: Eq + Hash + Copy, V: Copy, S: BuildHasher, A: Allocator + Copy>(
     key: K,
     value: V,
 ) -> Reply<K, V, A>
-    ensures step { IsStep K.eq (Command.Insert key value) map.old.lists result map.new.lists }
+    ensures step { IsOwnStep K.eq (Command.Insert key value) map.old.lists result map.new.lists }
     ensures hasher { map.new.hasher ≡ map.old.hasher }
 {
     match map.insert(key, value) {
@@ -144,11 +150,26 @@ fn told<K: Copy, V>(pair: Option<(KeyWrapper<'_, K>, V)>) -> Option<Popped<K, V>
     }
 }
 
+/// Keeps the pairs for which the function answers yes.
+fn retain<K: Eq + Hash + Copy, V: Copy, S: BuildHasher, A: Allocator + Copy, F: Keep<K, V>>(
+    map: &mut ListOrderedMultimap<K, V, S, A>,
+    operand: V,
+    keep: &F,
+) -> Reply<K, V, A>
+    requires { F.accepts keep.now }
+    ensures step { IsStep (F.answers keep.now) K.eq (Command.Retain operand)
+        map.old.lists result map.new.lists }
+    ensures hasher { map.new.hasher ≡ map.old.hasher }
+{
+    map.retain(|key, value| keep.keeps(operand, key, value));
+    Reply::Done
+}
+
 /// Takes all pairs out.
 fn clear<K: Eq + Hash + Copy, V: Copy, S: BuildHasher, A: Allocator + Copy>(
     map: &mut ListOrderedMultimap<K, V, S, A>,
 ) -> Reply<K, V, A>
-    ensures step { IsStep K.eq Command.Clear map.old.lists result map.new.lists }
+    ensures step { IsOwnStep K.eq Command.Clear map.old.lists result map.new.lists }
     ensures hasher { map.new.hasher ≡ map.old.hasher }
 {
     map.clear();
@@ -161,7 +182,7 @@ fn swap<K: Eq + Hash + Copy, V: Copy, S: BuildHasher + Clone, A: Allocator + Cop
 ) -> Reply<K, V, A>
     requires keys { (k c : K) → K.is_clone k c → c ≡ k }
     requires values { (v c : V) → V.is_clone v c → c ≡ v }
-    ensures step { IsStep K.eq Command.Swap map.old.lists result map.new.lists }
+    ensures step { IsOwnStep K.eq Command.Swap map.old.lists result map.new.lists }
     ensures hasher { ((s c : S) → S.is_clone s c → c ≡ s) → map.new.hasher ≡ map.old.hasher }
 {
     match map.clone() {
@@ -180,7 +201,7 @@ fn look_up<K: Eq + Hash + Copy, V: Copy, S: BuildHasher, A: Allocator + Copy>(
     command: &Command<K, V, A>,
 ) -> Reply<K, V, A>
     requires { IsLookUp command.now }
-    ensures { IsStep K.eq command.now map.now.lists result map.now.lists }
+    ensures { IsOwnStep K.eq command.now map.now.lists result map.now.lists }
 {
     match command {
         Command::Get(key) => first_value(map, key),
@@ -202,7 +223,7 @@ fn first_value<K: Eq + Hash + Copy, V: Copy, S: BuildHasher, A: Allocator + Copy
     map: &ListOrderedMultimap<K, V, S, A>,
     key: &K,
 ) -> Reply<K, V, A>
-    ensures { IsStep K.eq (Command.Get key.now) map.now.lists result map.now.lists }
+    ensures { IsOwnStep K.eq (Command.Get key.now) map.now.lists result map.now.lists }
 {
     Reply::Value(map.get(key).copied())
 }
@@ -214,7 +235,7 @@ fn walk_values<K: Eq + Hash + Copy, V: Copy, S: BuildHasher, A: Allocator + Copy
     key: &K,
     ends: &Ends<A>,
 ) -> Reply<K, V, A>
-    ensures { IsStep K.eq (Command.All key.now ends.now) map.now.lists result map.now.lists }
+    ensures { IsOwnStep K.eq (Command.All key.now ends.now) map.now.lists result map.now.lists }
 {
     match walk(alloc, map.get_all(key), ends) {
         Ok(values) => Reply::Values(values),
@@ -228,7 +249,7 @@ fn walk_pairs<K: Eq + Hash + Copy, V: Copy, S: BuildHasher, A: Allocator + Copy>
     map: &ListOrderedMultimap<K, V, S, A>,
     ends: &Ends<A>,
 ) -> Reply<K, V, A>
-    ensures { IsStep K.eq (Command.Pairs ends.now) map.now.lists result map.now.lists }
+    ensures { IsOwnStep K.eq (Command.Pairs ends.now) map.now.lists result map.now.lists }
 {
     match walk(alloc, map.iter(), ends) {
         Ok(pairs) => Reply::Pairs(pairs),
@@ -242,7 +263,7 @@ fn walk_keys<K: Eq + Hash + Copy, V: Copy, S: BuildHasher, A: Allocator + Copy>(
     map: &ListOrderedMultimap<K, V, S, A>,
     ends: &Ends<A>,
 ) -> Reply<K, V, A>
-    ensures { IsStep K.eq (Command.Keys ends.now) map.now.lists result map.now.lists }
+    ensures { IsOwnStep K.eq (Command.Keys ends.now) map.now.lists result map.now.lists }
 {
     match walk(alloc, map.keys(), ends) {
         Ok(keys) => Reply::Keys(keys),
@@ -256,7 +277,7 @@ fn walk_all_values<K: Eq + Hash + Copy, V: Copy, S: BuildHasher, A: Allocator + 
     map: &ListOrderedMultimap<K, V, S, A>,
     ends: &Ends<A>,
 ) -> Reply<K, V, A>
-    ensures { IsStep K.eq (Command.Values ends.now) map.now.lists result map.now.lists }
+    ensures { IsOwnStep K.eq (Command.Values ends.now) map.now.lists result map.now.lists }
 {
     match walk(alloc, map.values(), ends) {
         Ok(values) => Reply::Values(values),

@@ -1,6 +1,6 @@
 //! Commands that write a value in its place, or a pair where its key is absent.
 ghost use Rattle.std.specs.Prelude.{◌≡◌};
-ghost use Rattle.multimap_tool.specs.Step.{IsStep};
+ghost use Rattle.multimap_tool.specs.Step.{IsOwnStep};
 
 use crate::commands::Command;
 use crate::replies::Reply;
@@ -15,7 +15,7 @@ pub(crate) fn set_first<K: Eq + Hash + Copy, V: Copy, S: BuildHasher, A: Allocat
     key: &K,
     value: V,
 ) -> Reply<K, V, A>
-    ensures step { IsStep K.eq (Command.SetFirst key.now value)
+    ensures step { IsOwnStep K.eq (Command.SetFirst key.now value)
         map.old.lists result map.new.lists }
     ensures hasher { map.new.hasher ≡ map.old.hasher }
 {
@@ -30,7 +30,7 @@ pub(crate) fn set_front<K: Eq + Hash + Copy, V: Copy, S: BuildHasher, A: Allocat
     map: &mut ListOrderedMultimap<K, V, S, A>,
     value: V,
 ) -> Reply<K, V, A>
-    ensures step { IsStep K.eq (Command.SetFront value) map.old.lists result map.new.lists }
+    ensures step { IsOwnStep K.eq (Command.SetFront value) map.old.lists result map.new.lists }
     ensures hasher { map.new.hasher ≡ map.old.hasher }
 {
     if map.is_empty() {
@@ -45,7 +45,7 @@ pub(crate) fn set_back<K: Eq + Hash + Copy, V: Copy, S: BuildHasher, A: Allocato
     map: &mut ListOrderedMultimap<K, V, S, A>,
     value: V,
 ) -> Reply<K, V, A>
-    ensures step { IsStep K.eq (Command.SetBack value) map.old.lists result map.new.lists }
+    ensures step { IsOwnStep K.eq (Command.SetBack value) map.old.lists result map.new.lists }
     ensures hasher { map.new.hasher ≡ map.old.hasher }
 {
     if map.is_empty() {
@@ -61,7 +61,7 @@ pub(crate) fn or_insert<K: Eq + Hash + Copy, V: Copy, S: BuildHasher, A: Allocat
     key: K,
     value: V,
 ) -> Reply<K, V, A>
-    ensures step { IsStep K.eq (Command.OrInsert key value) map.old.lists result map.new.lists }
+    ensures step { IsOwnStep K.eq (Command.OrInsert key value) map.old.lists result map.new.lists }
     ensures hasher { map.new.hasher ≡ map.old.hasher }
 {
     match map.entry(key).or_insert(value) {

@@ -73,14 +73,15 @@ fn some_look_up(alloc: Global, state: &mut u64, key: u32) -> Result<Command<u32,
     }
 }
 
-// Half of the commands change the map; one of a hundred empties it, and one puts a clone in its
-// place.
+// Half of the commands change the map; of a hundred one empties it, one keeps some pairs, and one
+// puts a clone in its place.
 fn some_command(alloc: Global, state: &mut u64) -> Result<Command<u32, i64>, AllocError> {
     let key = draw(state, 6);
     match draw(state, 100) {
         0 => Ok(Command::Clear),
+        1 => Ok(Command::Retain(some_value(state))),
         51 => Ok(Command::Swap),
-        1..=50 => Ok(some_change(state, key)),
+        2..=50 => Ok(some_change(state, key)),
         _ => some_look_up(alloc, state, key),
     }
 }
@@ -125,7 +126,12 @@ fn replies_are_those_of_a_plain_map(
 fn commands_are_answered(test: &Test, commands: &[Command<u32, i64>]) {
     let mut map = ListOrderedMultimap::new(test.alloc());
     let mut plain = PlainMap::new(test.alloc());
-    match run(test.alloc(), &mut map, commands, |_, _, _| true) {
+    match run(
+        test.alloc(),
+        &mut map,
+        commands,
+        |least, _, value| *value >= least,
+    ) {
         Ok(replies) => replies_are_those_of_a_plain_map(test, &mut plain, commands, &replies),
         Err(_) => test.expect("memory for replies", false),
     }

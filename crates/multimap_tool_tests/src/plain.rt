@@ -163,6 +163,15 @@ impl PlainMap {
         Ok(Reply::Popped(Some(Popped { owned, key, value })))
     }
 
+    /// Keeps the pairs with a value that is no less, and the keys that they name.
+    fn retain(&mut self, least: i64) -> Answer {
+        self.pairs.retain(|pair| pair.1 >= least);
+        let pairs = &self.pairs;
+        self.keys
+            .retain(|key| pairs.iter().any(|pair| pair.0 == *key));
+        Ok(Reply::Done)
+    }
+
     fn clear(&mut self) -> Answer {
         self.keys.clear();
         self.pairs.clear();
@@ -185,6 +194,7 @@ impl PlainMap {
             Command::RemoveEntryAll(key) => self.remove_entry_all(alloc, *key),
             Command::PopFront => self.pop(End::Front),
             Command::PopBack => self.pop(End::Back),
+            Command::Retain(least) => self.retain(*least),
             Command::Clear => self.clear(),
             Command::Swap => Ok(Reply::Done),
             _ => self.look_up(alloc, command),

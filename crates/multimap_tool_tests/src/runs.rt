@@ -5,7 +5,7 @@ use multimap_tool::laws::{run_is_well_formed, step_is_orderly};
 use multimap_tool::replies::{Popped, Reply};
 use multimap_tool::run::run;
 use ordered_multimap::ListOrderedMultimap;
-use ordered_multimap::laws::{append_then_pop_back, json_first_occurrence};
+use ordered_multimap::laws::{append_then_pop_back, chain_is_filter, json_first_occurrence};
 use std::alloc::{AllocError, Global};
 use test_helpers::{End as Side, Failed, Test, walk_difference};
 
@@ -146,6 +146,16 @@ fn add_writes(rows: &mut Rows) -> Result<(), AllocError> {
     )
 }
 
+// A function that turns each value, and keeps the pairs whose value was the operand.
+fn add_retains(rows: &mut Rows) -> Result<(), AllocError> {
+    add(rows, Command::Append('s', true), Reply::Appended(true))?;
+    add(rows, Command::Retain(true), Reply::Done)?;
+    add(rows, Command::Lengths, Reply::Counts(1, 1))?;
+    add(rows, Command::Get('s'), Reply::Value(Some(false)))?;
+    add(rows, Command::Retain(true), Reply::Done)?;
+    add(rows, Command::Lengths, Reply::Counts(0, 0))
+}
+
 fn add_last(rows: &mut Rows) -> Result<(), AllocError> {
     add(rows, Command::Append('u', true), Reply::Appended(false))?;
     add(rows, Command::Remove('u'), Reply::Value(Some(true)))?;
@@ -169,11 +179,18 @@ fn add_rows(rows: &mut Rows, alloc: Global) -> Result<(), AllocError> {
     add_insertions(rows, alloc)?;
     add_removals(rows, alloc)?;
     add_writes(rows)?;
+    add_retains(rows)?;
     add_last(rows)
 }
 
+fn was_operand(operand: bool, _key: &char, value: &mut bool) -> bool {
+    let was = *value == operand;
+    *value = !*value;
+    was
+}
+
 fn rows_are_answered(test: &Test, rows: &Rows, map: &mut Marks) {
-    match run(test.alloc(), map, &rows.commands, |_, _, _| true) {
+    match run(test.alloc(), map, &rows.commands, was_operand) {
         Ok(replies) => test.expect("replies", replies.as_slice() == rows.replies.as_slice()),
         Err(_) => test.expect("memory for replies", false),
     }
@@ -257,6 +274,7 @@ fn the_key_stored_first_stays(rt: HostRuntime) -> Result<(), Failed> {
 fn laws_can_be_called() {
     append_then_pop_back::<u32, i64>();
     json_first_occurrence::<u32, i64>();
-    step_is_orderly::<u32, i64, Global>();
-    run_is_well_formed::<u32, i64, Global>();
+    chain_is_filter::<u32, i64>();
+    step_is_orderly::<u32, i64, Global, _>(&|_, _, _| true);
+    run_is_well_formed::<u32, i64, Global, _>(&|_, _, _| true);
 }

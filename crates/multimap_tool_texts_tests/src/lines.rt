@@ -100,6 +100,19 @@ const GOOD: &[(&str, &str)] = &[
         "new\nnew\nmore\nold 1\n1:3\n-1\n1:-1 2:2 1:4294967296\n",
     ),
     ("setfront 4\nsetback -4\npairs\n", "none\nnone\nempty\n"),
+    // Neighbours of one key that go, all pairs that go, and values below zero.
+    (
+        "append 1 1\nappend 2 9\nappend 1 2\nappend 1 3\nappend 1 9\nretain 9\npairs\nkeys\nall 1\nwalk 1 bf\n",
+        "new\nnew\nmore\nmore\nmore\ndone\n2:9 1:9\n1 2\n9\n9 -\n",
+    ),
+    (
+        "append 1 1\nappend 1 2\nretain 9\npairs\nkeys\nappend 1 5\n",
+        "new\nmore\ndone\nempty\nempty\nnew\n",
+    ),
+    (
+        "append 1 -1\nappend 2 -2\nappend 1 0\nretain -1\npairs\nlengths\n",
+        "new\nnew\nmore\ndone\n1:-1 1:0\n1 2\n",
+    ),
     // Removals of a key that is there, and of one that isn't.
     (
         "append 1 5\nappend 1 6\nremoveentry 1\nremove 1\nremoveall 1\nremoveentryall 1\nkeys\n",
@@ -211,6 +224,8 @@ const BAD: &[(&str, u64)] = &[
     ("setfront 1 2\n", 1),
     ("setfront f\n", 1),
     ("setback 9223372036854775808\n", 1),
+    ("retain\n", 1),
+    ("retain 1 2\n", 1),
     ("setfirst 1\n", 1),
     ("setfirst -1 1\n", 1),
     ("orinsert 1 x\n", 1),
@@ -227,7 +242,6 @@ const BAD: &[(&str, u64)] = &[
     ("get f\n", 1),
     ("swap 1\n", 1),
     // Commands that the program doesn't have.
-    ("retain 1\n", 1),
     ("json\n", 1),
     // A NUL.
     ("get 1\0\n", 1),

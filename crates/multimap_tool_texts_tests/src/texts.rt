@@ -49,6 +49,7 @@ fn add_writes(commands: &mut Commands) -> Result<(), AllocError> {
     commands.push(Command::SetFront(-2))?;
     commands.push(Command::SetBack(3))?;
     commands.push(Command::OrInsert(10, 4))?;
+    commands.push(Command::Retain(-3))?;
     Ok(())
 }
 
@@ -74,7 +75,7 @@ fn add_commands(commands: &mut Commands, alloc: Global) -> Result<(), AllocError
 
 const LINES: &str = "append 1 -2\nget 3\nall 4\nhas 6\nlen 7\npairs\nfront\nback\nlengths\n\
     insert 1 2\ninsertall 3 -4\nremove 5\nremoveall 6\nremoveentry 7\nremoveentryall 8\n\
-    popfront\npopback\nclear\nswap\nkeys\nvalues\nsetfirst 9 -1\nsetfront -2\nsetback 3\norinsert 10 4\nwalk 5 fb\nwalkpairs b\nwalkkeys bff\n\
+    popfront\npopback\nclear\nswap\nkeys\nvalues\nsetfirst 9 -1\nsetfront -2\nsetback 3\norinsert 10 4\nretain -3\nwalk 5 fb\nwalkpairs b\nwalkkeys bff\n\
     walkvalues f";
 
 fn lines_spell(test: &Test, wanted: &Commands) {

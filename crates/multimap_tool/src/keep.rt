@@ -1,0 +1,42 @@
+//! What tells which pairs a command keeps: a trait of its own, since the borrow checker doesn't
+//! cover a closure that calls a function of a type that is a parameter.
+ghost use Rattle.std.specs.Prelude.{Bool};
+ghost use Rattle.multimap_tool.specs.Step.{MayKeep};
+
+use std::marker::Model;
+
+/// Tells which pairs stay.
+pub(crate) trait Keep<K, V>: Drop {
+    /// It may be asked.
+    ghost accepts: { Self → Type 0 };
+
+    /// Asked for an operand, a key and a value, it may answer this, and leave this value.
+    ghost answers: { Self → V → K → V → Bool → V → Type 0 };
+
+    /// Whether the pair stays. It may write the value.
+    fn keeps(&self, operand: V, key: &K, value: &mut V) -> bool
+        requires { accepts self.now }
+        ensures { answers self.now operand key.now value.old result value.new };
+}
+
+/// A function of an operand, a key and a value.
+#[derive(Drop)]
+pub(crate) struct KeepBy<F> {
+    pub(crate) keep: F,
+}
+
+impl<F> Model for KeepBy<F> {
+    ghost Value = { F };
+
+    ghost view = { λ k. k.keep };
+}
+
+impl<K, V, F: Fn(V, &K, &mut V) -> bool + Drop> Keep<K, V> for KeepBy<F> {
+    ghost accepts = { λ f. F.IsAlwaysCallable f };
+
+    ghost answers = { MayKeep F.Fn };
+
+    fn keeps(&self, operand: V, key: &K, value: &mut V) -> bool {
+        (self.keep)(operand, key, value)
+    }
+}
