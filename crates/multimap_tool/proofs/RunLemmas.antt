@@ -226,6 +226,7 @@ module _ {K V : Type 0} (keeps other : V → K → V → Bool → V → Type 0) 
     leaves_more PopBack m n left = left
     leaves_more (Retain x) m n left = record { keys = left.keys; pairs = retains_more x m.pairs n.pairs left.pairs }
     leaves_more Clear m n left = left
+    leaves_more Swap m n left = left
     leaves_more (Pairs ends) m n left = left
     leaves_more (Keys ends) m n left = left
     leaves_more (Values ends) m n left = left

@@ -1,5 +1,6 @@
 //! Commands run in order, with one reply for each.
-ghost use Rattle.std.specs.Prelude.{◌≡◌, IfOk, OnErr, option_map};
+ghost use Rattle.std.specs.Borrow.{Bor, MutBor};
+ghost use Rattle.std.specs.Prelude.{◌≡◌, Contains, IfOk, OnErr, option_map};
 ghost use Rattle.ordered_multimap.specs.Pop.{popped, popped_pair};
 ghost use Rattle.ordered_multimap.specs.Pops.{popped_of};
 ghost use Rattle.multimap_tool.specs.Step.{IsLookUp, IsOwnStep, IsStep, MayKeep, told_pop};
@@ -19,7 +20,8 @@ use std::hash::{BuildHasher, Hash};
 /// Runs the commands on the map, in order, and answers each with one reply.
 ///
 /// `alloc` gives the memory of the replies. `keep` tells which pairs a [`Command::Retain`] keeps:
-/// it is handed the command's value, a key and its value, which it may write. The room for all
+/// it is handed the command's value, a key and its value, which it may write, and has to be callable
+/// with the value of each of these commands and any key and value. The room for all
 /// replies is taken at the start: where it is refused, nothing was done. A command that finds no
 /// memory for itself is answered [`Reply::NoMemory`] and changes neither keys nor pairs. Clones of
 /// keys and values must be the very keys and values.
@@ -35,7 +37,8 @@ pub fn run<
     commands: &[Command<K, V, A>],
     keep: F,
 ) -> Result<Vec<Reply<K, V, A>, A>, AllocError>
-    requires callable { F.IsAlwaysCallable keep }
+    requires callable { (operand : V) → Contains commands.now (Command.Retain operand)
+        → (key : Bor K) (value : MutBor V) → F.pre keep operand key value }
     requires keys { (k c : K) → K.is_clone k c → c ≡ k }
     requires values { (v c : V) → V.is_clone v c → c ≡ v }
     ensures ok { IfOk result (λ replies. IsRun (MayKeep F.Fn keep) K.eq
@@ -58,7 +61,8 @@ fn step<K: Eq + Hash + Copy, V: Copy, S: BuildHasher + Clone, A: Allocator + Cop
     command: &Command<K, V, A>,
     keep: &F,
 ) -> Reply<K, V, A>
-    requires callable { F.accepts keep.now }
+    requires callable { (operand : V) → command.now ≡ Command.Retain operand
+        → F.accepts keep.now operand }
     requires keys { (k c : K) → K.is_clone k c → c ≡ k }
     requires values { (v c : V) → V.is_clone v c → c ≡ v }
     ensures step { IsStep (F.answers keep.now) K.eq
@@ -156,7 +160,7 @@ fn retain<K: Eq + Hash + Copy, V: Copy, S: BuildHasher, A: Allocator + Copy, F: 
     operand: V,
     keep: &F,
 ) -> Reply<K, V, A>
-    requires { F.accepts keep.now }
+    requires { F.accepts keep.now operand }
     ensures step { IsStep (F.answers keep.now) K.eq (Command.Retain operand)
         map.old.lists result map.new.lists }
     ensures hasher { map.new.hasher ≡ map.old.hasher }

@@ -1,4 +1,4 @@
-use Rattle.std.proofs.Common.{[], ◌∷◌, ◌++◌, take, refl, sym, ◌∙◌, ap, subst, arith}
+use Rattle.std.proofs.Common.{◌≡◌, slice_index_or, [], ◌∷◌, ◌++◌, take, refl, sym, ◌∙◌, ap, subst, arith}
 use Rattle.std.proofs.lemmas.List.{take_more, take_all}
 use Rattle.multimap_tool.specs.Runs.{IsRun}
 use Rattle.multimap_tool.specs.Step.{MayKeep}
@@ -12,6 +12,11 @@ loop-command-init g c = record {
   count = c.in_ok-replies.ensures.len;
   room = omega (arith, c.in_ok-replies.ensures.capacity);
 }
+
+pub step-requires-clause-callable : goal.step-requires-clause-callable
+step-requires-clause-callable g c =
+    let l = c.loop-command in
+    λ operand is key value. c.requires.callable operand (l.command-index, c.loop-command-test.true, subst (λ r. slice_index_or c.args.commands.now l.command-index r ≡ r) is (sym c.command-item.is)) key value
 
 pub loop-command-preserved : goal.loop-command-preserved
 loop-command-preserved g c =
