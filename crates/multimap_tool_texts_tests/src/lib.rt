@@ -3,6 +3,8 @@
 #![tactic(auto)]
 
 #[cfg(test)]
+mod bad_lines;
+#[cfg(test)]
 mod lines;
 #[cfg(test)]
 mod shown;
