@@ -94,6 +94,24 @@ fn some_commands(alloc: Global, commands: &mut Commands) -> Result<(), AllocErro
     Ok(())
 }
 
+// Over three keys, half of the commands append, and one of eight keeps some pairs.
+fn some_keeping(alloc: Global, state: &mut u64) -> Result<Command<u32, i64>, AllocError> {
+    let key = draw(state, 3);
+    match draw(state, 8) {
+        0 => Ok(Command::Retain(draw(state, 1000) as i64 - 900)),
+        1..=4 => Ok(Command::Append(key, some_value(state))),
+        _ => some_look_up(alloc, state, key),
+    }
+}
+
+fn some_keepings(alloc: Global, commands: &mut Commands) -> Result<(), AllocError> {
+    let mut state = 2;
+    for _ in 0..1000 {
+        commands.push(some_keeping(alloc, &mut state)?)?;
+    }
+    Ok(())
+}
+
 /// Whether the plain map answers the command so.
 fn answers_so(
     alloc: Global,
@@ -142,6 +160,16 @@ fn a_run_answers_as_a_plain_map_does(rt: HostRuntime) -> Result<(), Failed> {
     let test = Test::new(rt.alloc());
     let mut commands = Vec::new(test.alloc());
     let made = some_commands(test.alloc(), &mut commands);
+    test.expect("memory for commands", made.is_ok());
+    commands_are_answered(&test, &commands);
+    test.end()
+}
+
+#[test]
+fn many_retains_answer_as_a_plain_map_does(rt: HostRuntime) -> Result<(), Failed> {
+    let test = Test::new(rt.alloc());
+    let mut commands = Vec::new(test.alloc());
+    let made = some_keepings(test.alloc(), &mut commands);
     test.expect("memory for commands", made.is_ok());
     commands_are_answered(&test, &commands);
     test.end()
