@@ -15,7 +15,7 @@ use Rattle.ordered_multimap.specs.Retain.{Retains}
 use Rattle.ordered_multimap.specs.Lists.{IsIn}
 use Rattle.std.specs.Map.{keys_of}
 use Rattle.multimap_tool.specs.declared.commands.Command.{Command}
-use Rattle.multimap_tool.specs.declared.commands.Command.TheVariants.{Append, Insert, InsertAll, SetFirst, SetFront, SetBack, OrInsert, Get, All, Has, Len, Front, Back, Remove, RemoveAll, RemoveEntry, RemoveEntryAll, PopFront, PopBack, Retain, Clear, Swap, Pairs, Keys, Values, Lengths}
+use Rattle.multimap_tool.specs.declared.commands.Command.TheVariants.{Append, Insert, InsertAll, SetFirst, SetFront, SetBack, OrInsert, Get, All, Has, Len, Front, Back, Remove, RemoveAll, RemoveEntry, RemoveEntryAll, PopFront, PopBack, Retain, Clear, Swap, Pairs, Keys, Values, KeyLists, Lengths}
 use Rattle.multimap_tool.specs.declared.replies.Reply.{Reply}
 use Rattle.multimap_tool.specs.Step.{Leaves, IsLookUp, IsOwnStep, IsStep, KeepsPairs, entered}
 use Rattle.multimap_tool.specs.Runs.{IsRun}
@@ -123,6 +123,7 @@ module _ {K V A : Type 0} {eq : K → K → Bool} (laws : IsEquivalence eq) (kee
   leaves_orderly (Pairs ends) m n formed left = unchanged laws m n formed left
   leaves_orderly (Keys ends) m n formed left = unchanged laws m n formed left
   leaves_orderly (Values ends) m n formed left = unchanged laws m n formed left
+  leaves_orderly KeyLists m n formed left = unchanged laws m n formed left
   leaves_orderly Lengths m n formed left = unchanged laws m n formed left
 
   pub step_orderly : (command : Command K V A) (m : Lists K V) (reply : Reply K V A) (n : Lists K V) → IsWellFormed eq m → IsStep keeps eq command m reply n → IsOrderly eq m n
@@ -165,6 +166,7 @@ module _ {K V A : Type 0} where
   IsLookUp-else (Pairs ends) a b c d e f g h i j l m n p o q = tt
   IsLookUp-else (Keys ends) a b c d e f g h i j l m n p o q = tt
   IsLookUp-else (Values ends) a b c d e f g h i j l m n p o q = tt
+  IsLookUp-else KeyLists a b c d e f g h i j l m n p o q = tt
   IsLookUp-else Lengths a b c d e f g h i j l m n p o q = tt
 
   -- a look-up calls no function
@@ -195,6 +197,7 @@ module _ {K V A : Type 0} where
   IsStep-look_up keeps eq (Pairs ends) m reply n look step = step
   IsStep-look_up keeps eq (Keys ends) m reply n look step = step
   IsStep-look_up keeps eq (Values ends) m reply n look step = step
+  IsStep-look_up keeps eq KeyLists m reply n look step = step
   IsStep-look_up keeps eq Lengths m reply n look step = step
 
 -- what a function may answer is what another may
@@ -230,6 +233,7 @@ module _ {K V : Type 0} (keeps other : V → K → V → Bool → V → Type 0) 
     leaves_more (Pairs ends) m n left = left
     leaves_more (Keys ends) m n left = left
     leaves_more (Values ends) m n left = left
+    leaves_more KeyLists m n left = left
     leaves_more Lengths m n left = left
 
     step_more : (command : Command K V A) (m : Lists K V) (reply : Reply K V A) (n : Lists K V) → IsStep keeps eq command m reply n → IsStep other eq command m reply n

@@ -26,7 +26,7 @@ abbrev pub lone_words : List (List ℕ)
 lone_words =
     codes "front" ∷ codes "back" ∷ codes "popfront" ∷ codes "popback" ∷ codes "clear"
     ∷ codes "pairs" ∷ codes "keys" ∷ codes "values" ∷ codes "lengths"
-    ∷ codes "swap" ∷ []
+    ∷ codes "swap" ∷ codes "lists" ∷ []
 
 -- those that a key follows
 abbrev pub key_words : List (List ℕ)

@@ -20,7 +20,8 @@ use Rattle.multimap_tool.specs.declared.commands.Command.TheVariants.{Remove, Re
 use Rattle.multimap_tool.specs.declared.commands.Command.TheVariants.{RemoveEntry, RemoveEntryAll}
 use Rattle.multimap_tool.specs.declared.commands.Command.TheVariants.{PopFront, PopBack, Clear}
 use Rattle.multimap_tool.specs.declared.commands.Command.TheVariants.{Retain, Swap}
-use Rattle.multimap_tool.specs.declared.commands.Command.TheVariants.{Pairs, Keys, Values, Lengths}
+use Rattle.multimap_tool.specs.declared.commands.Command.TheVariants.{Pairs, Keys, Values, KeyLists}
+use Rattle.multimap_tool.specs.declared.commands.Command.TheVariants.{Lengths}
 
 -- the letters f and b
 abbrev pub letter_of : End → ℕ
@@ -84,6 +85,7 @@ module _ {A : Type 0} where
   name_of (Keys (Word word)) = codes "walkkeys"
   name_of (Values Forward) = codes "values"
   name_of (Values (Word word)) = codes "walkvalues"
+  name_of KeyLists = codes "lists"
   name_of Lengths = codes "lengths"
 
   -- the operand of a walk
@@ -118,6 +120,7 @@ module _ {A : Type 0} where
   operands_of (Pairs ends) = word_of ends
   operands_of (Keys ends) = word_of ends
   operands_of (Values ends) = word_of ends
+  operands_of KeyLists = []
   operands_of Lengths = []
 
   -- the line of a command: its word, and each operand after one space

@@ -28,7 +28,8 @@ use Rattle.multimap_tool.specs.declared.commands.Command.TheVariants.{Remove, Re
 use Rattle.multimap_tool.specs.declared.commands.Command.TheVariants.{RemoveEntry, RemoveEntryAll}
 use Rattle.multimap_tool.specs.declared.commands.Command.TheVariants.{PopFront, PopBack, Clear}
 use Rattle.multimap_tool.specs.declared.commands.Command.TheVariants.{Retain, Swap}
-use Rattle.multimap_tool.specs.declared.commands.Command.TheVariants.{Pairs, Keys, Values, Lengths}
+use Rattle.multimap_tool.specs.declared.commands.Command.TheVariants.{Pairs, Keys, Values, KeyLists}
+use Rattle.multimap_tool.specs.declared.commands.Command.TheVariants.{Lengths}
 use Rattle.multimap_tool.specs.declared.replies.Popped.{Popped}
 use Rattle.multimap_tool.specs.declared.replies.Reply.{Reply}
 use Rattle.multimap_tool.specs.declared.replies.Reply.TheVariants as replies
@@ -55,6 +56,10 @@ module _ {K : Type 0} (eq : K → K → Bool) {V : Type 0} where
   abbrev pub entry_of : Lists K V → K → Option (K × List V)
   entry_of m k =
       cond (is_present eq m.pairs k) (Some (stored_key eq m.keys k, values_of eq m.pairs k)) None
+
+  -- each key with its values, in the order of the keys
+  abbrev pub key_lists : Lists K V → List (K × List V)
+  key_lists m = map (λ k. (k, values_of eq m.pairs k)) m.keys
 
   -- the stored key and its first value, if it is present
   abbrev pub first_entry : Lists K V → K → Option (K × V)
@@ -157,6 +162,7 @@ module _ {K : Type 0} (eq : K → K → Bool) {V A : Type 0} where
   Tells (Pairs ends) m (replies.Pairs pairs) = pairs.items ≡ walked m.pairs ends
   Tells (Keys ends) m (replies.Keys keys) = keys.items ≡ walked m.keys ends
   Tells (Values ends) m (replies.Values values) = values.items ≡ walked (all_values m.pairs) ends
+  Tells KeyLists m (replies.Lists lists) = map (λ p. (p.0, p.1.items)) lists.items ≡ key_lists eq m
   Tells Lengths m (replies.Counts keys pairs) = (keys ≡ length m.keys) × (pairs ≡ length m.pairs)
   Tells _ m _ = ⊥
 
@@ -174,6 +180,7 @@ module _ {K : Type 0} (eq : K → K → Bool) {V A : Type 0} where
   MayLackMemory (Pairs ends) m = ListsItem (walked m.pairs ends)
   MayLackMemory (Keys ends) m = ListsItem (walked m.keys ends)
   MayLackMemory (Values ends) m = ListsItem (walked (all_values m.pairs) ends)
+  MayLackMemory KeyLists m = ListsItem m.keys
   MayLackMemory _ m = ⊥
 
 module _ {K V : Type 0} (keeps : V → K → V → Bool → V → Type 0) (eq : K → K → Bool)

@@ -7,7 +7,7 @@ use Rattle.multimap_tool.specs.declared.replies.Popped.{Popped}
 use Rattle.multimap_tool.specs.declared.replies.Reply.{Reply}
 use Rattle.multimap_tool.specs.declared.replies.Reply.TheVariants.{NoMemory, Done, Appended, Truth}
 use Rattle.multimap_tool.specs.declared.replies.Reply.TheVariants.{Count, Counts, Value, Old, Pair}
-use Rattle.multimap_tool.specs.declared.replies.Reply.TheVariants.{Values, Keys, Pairs}
+use Rattle.multimap_tool.specs.declared.replies.Reply.TheVariants.{Values, Keys, Pairs, Lists}
 use Rattle.multimap_tool.specs.declared.replies.Reply.TheVariants as replies
 
 -- a pair: its key, a colon and its value
@@ -40,9 +40,9 @@ module _ {X : Type 0} (text : X → List ℕ) where
   text_of_item (Some x) = text x
 
   -- items with one space between each two
-  abbrev pub list_text : List (Option X) → List ℕ
+  abbrev pub list_text : List X → List ℕ
   list_text [] = codes "empty"
-  list_text (item ∷ items) = join_with_byte 32 (map text_of_item (item ∷ items))
+  list_text (item ∷ items) = join_with_byte 32 (map text (item ∷ items))
 
 module _ {A : Type 0} where
   abbrev pub reply_text : Reply ℕ ℤ A → List ℕ
@@ -58,11 +58,12 @@ module _ {A : Type 0} where
   reply_text (Old value) = text_of_option old_text value
   reply_text (Pair pair) = text_of_option pair_text pair
   reply_text (replies.Popped pair) = text_of_option popped_text pair
-  reply_text (Values values) = list_text signed_decimal values.items
-  reply_text (Keys keys) = list_text decimal keys.items
-  reply_text (Pairs pairs) = list_text pair_text pairs.items
+  reply_text (Values values) = list_text (text_of_item signed_decimal) values.items
+  reply_text (Keys keys) = list_text (text_of_item decimal) keys.items
+  reply_text (Pairs pairs) = list_text (text_of_item pair_text) pairs.items
   reply_text (replies.List list) =
       text_of_option (λ entry. entry_text entry.0 entry.1.items) list
+  reply_text (Lists lists) = list_text (λ entry. entry_text entry.0 entry.1.items) lists.items
 
   -- each reply on a line of its own, which a line feed ends
   abbrev pub text_of : List (Reply ℕ ℤ A) → List ℕ

@@ -66,6 +66,8 @@ pub enum Command<K, V, A: Allocator = Global> {
     Keys(Ends<A>),
     /// The values of all pairs.
     Values(Ends<A>),
+    /// Each key with its values.
+    KeyLists,
     /// How many keys and how many pairs there are.
     Lengths,
 }

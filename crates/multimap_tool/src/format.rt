@@ -49,6 +49,7 @@ fn push_reply<A: Allocator>(
         Reply::Keys(keys) => push_list(text, keys),
         Reply::Pairs(pairs) => push_list(text, pairs),
         Reply::List(entry) => push_option(text, entry),
+        Reply::Lists(entries) => push_list(text, entries),
     }
 }
 
@@ -162,11 +163,8 @@ fn push_old<A: Allocator>(text: &mut String<A>, value: &Option<i64>) -> Result<(
     }
 }
 
-/// Puts what a walk gave at the end, with a space between each two.
-fn push_list<T: Listed, A: Allocator>(
-    text: &mut String<A>,
-    items: &[Option<T>],
-) -> Result<(), AllocError>
+/// Puts items at the end, with a space between each two, or the word for a list of none.
+fn push_list<T: Listed, A: Allocator>(text: &mut String<A>, items: &[T]) -> Result<(), AllocError>
     ensures ok { OnOk result (string_bytes text.new
         ≡ string_bytes text.old ++ list_text T.item_text items.now) }
 {

@@ -11,6 +11,7 @@ pub mod faults;
 pub mod format;
 mod keep;
 pub mod laws;
+mod lists;
 mod operands;
 pub mod parse;
 pub mod replies;

@@ -114,6 +114,9 @@ fn lone_command<A: Allocator>(name: &[u8]) -> Option<Command<u32, i64, A>>
     if name == b"swap".as_slice() {
         return Some(Command::Swap);
     }
+    if name == b"lists".as_slice() {
+        return Some(Command::KeyLists);
+    }
     None
 }
 

@@ -44,4 +44,6 @@ pub enum Reply<K, V, A: Allocator = Global> {
     Pairs(Vec<Option<(K, V)>, A>),
     /// A key with its values, if it was present.
     List(Option<(K, Vec<V, A>)>),
+    /// Each key with its values.
+    Lists(Vec<(K, Vec<V, A>), A>),
 }

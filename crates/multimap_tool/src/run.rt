@@ -9,6 +9,7 @@ ghost use Rattle.multimap_tool.specs.Runs.{IsRun};
 use crate::commands::{Command, Ends};
 use crate::drained::{insert_all, remove_all, remove_entry_all};
 use crate::keep::{Keep, KeepBy};
+use crate::lists::list_keys;
 use crate::replies::{Popped, Reply};
 use crate::walk::{copied_pair, walk};
 use crate::written::{or_insert, set_back, set_first, set_front};
@@ -217,6 +218,7 @@ fn look_up<K: Eq + Hash + Copy, V: Copy, S: BuildHasher, A: Allocator + Copy>(
         Command::Pairs(ends) => walk_pairs(alloc, map, ends),
         Command::Keys(ends) => walk_keys(alloc, map, ends),
         Command::Values(ends) => walk_all_values(alloc, map, ends),
+        Command::KeyLists => list_keys(alloc, map),
         Command::Lengths => Reply::Counts(map.keys_len(), map.values_len()),
         _ => unreachable!(),
     }

@@ -55,7 +55,7 @@ fn some_value(state: &mut u64) -> i64 {
 }
 
 fn some_look_up(alloc: Global, state: &mut u64, key: u32) -> Result<Command<u32, i64>, AllocError> {
-    match draw(state, 14) {
+    match draw(state, 15) {
         0 => Ok(Command::Get(key)),
         1 => Ok(Command::All(key, Ends::Forward)),
         2 => Ok(Command::All(key, some_word(alloc, state)?)),
@@ -69,6 +69,7 @@ fn some_look_up(alloc: Global, state: &mut u64, key: u32) -> Result<Command<u32,
         10 => Ok(Command::Keys(some_word(alloc, state)?)),
         11 => Ok(Command::Values(Ends::Forward)),
         12 => Ok(Command::Values(some_word(alloc, state)?)),
+        13 => Ok(Command::KeyLists),
         _ => Ok(Command::Lengths),
     }
 }

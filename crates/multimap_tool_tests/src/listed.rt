@@ -1,4 +1,4 @@
-//! Replies that list what leaves: without room for them nothing leaves.
+//! Replies that list what leaves, or each key with its values: without room for them nothing leaves.
 use multimap_tool::commands::Command;
 use multimap_tool::replies::Reply;
 use multimap_tool::run::run;
@@ -11,18 +11,23 @@ pub type Refusing<'a> = ListOrderedMultimap<u32, i64, DefaultState, &'a Refusing
 
 pub type Granted<'a> = Command<u32, i64, &'a RefusingAllocator>;
 
-// Commands whose reply lists the two values of the key 1.
+// Commands whose reply lists the two values of the key 1, the last one with those of the key 2.
 fn listing_command<'a>(which: usize) -> Granted<'a> {
     match which {
         0 => Command::RemoveAll(1),
         1 => Command::RemoveEntryAll(1),
-        _ => Command::InsertAll(1, 9),
+        2 => Command::InsertAll(1, 9),
+        _ => Command::KeyLists,
     }
 }
 
 // How many values the key has once the command is done.
 fn left_by(which: usize) -> usize {
-    if which < 2 { 0 } else { 1 }
+    match which {
+        0 | 1 => 0,
+        2 => 1,
+        _ => 2,
+    }
 }
 
 /// Adds two values of the key 1 and one of the key 2.
@@ -74,5 +79,8 @@ fn a_reply_without_memory_changes_nothing(rt: HostRuntime) -> Result<(), Failed>
         let enough = requests_until_enough(|granted| listing_with(&test, which, granted));
         test.expect_at("two requests are wanted", which, enough.unwrap_or(0) > 1);
     }
+    // The list of replies, the list of keys, and two lists of values.
+    let enough = requests_until_enough(|granted| listing_with(&test, 3, granted));
+    test.expect("four requests are wanted", enough == Some(4));
     test.end()
 }

@@ -15,8 +15,8 @@ use test_helpers::{Failed, Test, requests_until_enough};
 
 /// Commands of which the additions and the lists may find no memory.
 const INPUT: &str = "append 1 1\nappend 2 2\nappend 2 3\nappend 1 4\npairs\nall 1\nget 2\nget 3\n\
-    swap\ninsert 2 5\ninsert 3 6\ninsertall 1 7\norinsert 4 8\norinsert 1 9\nkeys\nremoveall 2\n\
-    removeentryall 1\npopfront\nretain 8\nclear\n";
+    swap\ninsert 2 5\ninsert 3 6\ninsertall 1 7\norinsert 4 8\norinsert 1 9\nkeys\nlists\n\
+    removeall 2\nremoveentryall 1\npopfront\nretain 8\nclear\nlists\n";
 
 /// Whether the reply, but for its line feed, stands in the line.
 fn is_text_of(alloc: Global, reply: Reply<u32, i64>, line: &str) -> bool {
@@ -39,7 +39,11 @@ fn may_lack(alloc: Global, plain: &mut PlainMap, command: &Command<u32, i64>) ->
         Command::Append(_, _) | Command::InsertAll(_, _) | Command::Swap => true,
         Command::Insert(key, _) | Command::OrInsert(key, _) => !has(alloc, plain, *key),
         Command::RemoveAll(key) | Command::RemoveEntryAll(key) => has(alloc, plain, *key),
-        Command::All(_, _) | Command::Pairs(_) | Command::Keys(_) | Command::Values(_) => {
+        Command::All(_, _)
+        | Command::Pairs(_)
+        | Command::Keys(_)
+        | Command::Values(_)
+        | Command::KeyLists => {
             match plain.answer(alloc, command) {
                 Ok(reply) => !is_text_of(alloc, reply, "empty"),
                 Err(_) => false,

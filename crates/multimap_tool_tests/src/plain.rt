@@ -41,6 +41,14 @@ impl PlainMap {
         Ok(values)
     }
 
+    fn key_lists(&self, alloc: Global) -> Answer {
+        let mut lists = Vec::new(alloc);
+        for key in &self.keys {
+            lists.push((*key, self.values_of(alloc, *key)?))?;
+        }
+        Ok(Reply::Lists(lists))
+    }
+
     fn first_of_key(&self, alloc: Global, key: u32) -> Result<Option<i64>, AllocError> {
         Ok(self.values_of(alloc, key)?.first().copied())
     }
@@ -212,6 +220,7 @@ impl PlainMap {
             Command::Pairs(ends) => Ok(Reply::Pairs(walked(alloc, &self.pairs, ends)?)),
             Command::Keys(ends) => Ok(Reply::Keys(walked(alloc, &self.keys, ends)?)),
             Command::Values(ends) => self.all_values(alloc, ends),
+            Command::KeyLists => self.key_lists(alloc),
             _ => Ok(Reply::Counts(self.keys.len(), self.pairs.len())),
         }
     }

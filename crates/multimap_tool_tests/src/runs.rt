@@ -5,7 +5,9 @@ use multimap_tool::laws::{run_is_well_formed, step_is_orderly};
 use multimap_tool::replies::{Popped, Reply};
 use multimap_tool::run::run;
 use ordered_multimap::ListOrderedMultimap;
-use ordered_multimap::laws::{append_then_pop_back, chain_is_filter, json_first_occurrence};
+use ordered_multimap::laws::{
+    append_then_pop_back, chain_is_filter, equal_maps, json_first_occurrence,
+};
 use std::alloc::{AllocError, Global};
 use test_helpers::{End as Side, Failed, Test, walk_difference};
 
@@ -84,6 +86,13 @@ fn add_values(rows: &mut Rows, alloc: Global) -> Result<(), AllocError> {
     let values = vec![in alloc; Some(false), Some(true)]?;
     let command = Command::Values(Ends::Word(word));
     add(rows, command, Reply::Values(values))
+}
+
+fn add_lists(rows: &mut Rows, alloc: Global) -> Result<(), AllocError> {
+    let mut lists = Vec::new(alloc);
+    lists.push(('x', vec![in alloc; true, false]?))?;
+    lists.push(('y', vec![in alloc; false]?))?;
+    add(rows, Command::KeyLists, Reply::Lists(lists))
 }
 
 fn add_insertions(rows: &mut Rows, alloc: Global) -> Result<(), AllocError> {
@@ -176,6 +185,7 @@ fn add_rows(rows: &mut Rows, alloc: Global) -> Result<(), AllocError> {
     add_ends(rows)?;
     add_keys(rows, alloc)?;
     add_values(rows, alloc)?;
+    add_lists(rows, alloc)?;
     add_insertions(rows, alloc)?;
     add_removals(rows, alloc)?;
     add_writes(rows)?;
@@ -275,6 +285,7 @@ fn laws_can_be_called() {
     append_then_pop_back::<u32, i64>();
     json_first_occurrence::<u32, i64>();
     chain_is_filter::<u32, i64>();
+    equal_maps::<u32, i64>();
     step_is_orderly::<u32, i64, Global, _>(&|_, _, _| true);
     run_is_well_formed::<u32, i64, Global, _>(&|_, _, _| true);
 }

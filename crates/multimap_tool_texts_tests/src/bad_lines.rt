@@ -111,6 +111,7 @@ const BAD: &[(&str, u64)] = &[
     ("walk 1 2\n", 1),
     ("get f\n", 1),
     ("swap 1\n", 1),
+    ("lists 1\n", 1),
     // Commands that the program doesn't have.
     ("json\n", 1),
     // A NUL.

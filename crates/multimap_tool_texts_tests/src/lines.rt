@@ -40,10 +40,11 @@ const GOOD: &[(&str, &str)] = &[
     ("get 1", "none\n"),
     ("", ""),
     ("pairs\nwalkpairs f", "empty\n-\n"),
+    ("lists\nappend 7 -1\nlists\n", "empty\nnew\n7=-1\n"),
     // The greatest and the least numbers.
     (
-        "append 4294967295 -9223372036854775808\nappend 4294967295 9223372036854775807\nall 4294967295\n",
-        "new\nmore\n-9223372036854775808 9223372036854775807\n",
+        "append 4294967295 -9223372036854775808\nappend 4294967295 9223372036854775807\nall 4294967295\nlists\n",
+        "new\nmore\n-9223372036854775808 9223372036854775807\n4294967295=-9223372036854775808,9223372036854775807\n",
     ),
     ("append 0 0\npairs\n", "new\n0:0\n"),
     // Look-ups of a key, the ends, and the lengths.
@@ -93,8 +94,8 @@ const GOOD: &[(&str, &str)] = &[
         "empty\nmore\n1 2\n1:3\n1 1\n",
     ),
     (
-        "insert 1 1\ninsert 2 2\nappend 2 3\nappend 1 4\nwalkpairs fbb\nwalkkeys bff\nswap\nremoveentryall 2\nremoveentry 2\npairs\nvalues\nclear\nlengths\nwalkvalues fb\n",
-        "none\nnone\nmore\nmore\n1:1 1:4 2:3\n2 1 -\ndone\n2=2,3\nnone\n1:1 1:4\n1 4\ndone\n0 0\n- -\n",
+        "insert 1 1\ninsert 2 2\nappend 2 3\nappend 1 4\nlists\nwalkpairs fbb\nwalkkeys bff\nswap\nremoveentryall 2\nremoveentry 2\npairs\nvalues\nclear\nlengths\nwalkvalues fb\n",
+        "none\nnone\nmore\nmore\n1=1,4 2=2,3\n1:1 1:4 2:3\n2 1 -\ndone\n2=2,3\nnone\n1:1 1:4\n1 4\ndone\n0 0\n- -\n",
     ),
     // Values written in their places, and a pair that comes where its key is absent.
     (

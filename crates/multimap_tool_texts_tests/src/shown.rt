@@ -56,6 +56,7 @@ fn changes_are_shown(test: &Test) {
     expect_command(test, Command::PopBack, "PopBack");
     expect_command(test, Command::Clear, "Clear");
     expect_command(test, Command::Swap, "Swap");
+    expect_command(test, Command::KeyLists, "KeyLists");
     expect_command(test, Command::Keys(Ends::Forward), "Keys(Forward)");
     expect_command(test, Command::Values(Ends::Forward), "Values(Forward)");
 }
@@ -173,6 +174,14 @@ fn values_are_shown(test: &Test) -> Result<(), AllocError> {
     Ok(())
 }
 
+fn lists_are_shown(test: &Test) -> Result<(), AllocError> {
+    let mut lists = Vec::new(test.alloc());
+    lists.push((QUOTED, vec![in test.alloc(); TABBED, ""]?))?;
+    let wanted = r#"Lists([("a\"b\n", ["\t\\'", ""])])"#;
+    expect_reply(test, Reply::Lists(lists), wanted);
+    Ok(())
+}
+
 fn pairs_are_shown(test: &Test) -> Result<(), AllocError> {
     let pairs = vec![in test.alloc(); None, Some((TABBED, QUOTED))]?;
     let wanted = r#"Pairs([None, Some(("\t\\'", "a\"b\n"))])"#;
@@ -188,6 +197,7 @@ fn replies_are_shown_and_compared(rt: HostRuntime) -> Result<(), Failed> {
     removals_are_shown(&test);
     test.expect("memory for values", values_are_shown(&test).is_ok());
     test.expect("memory for pairs", pairs_are_shown(&test).is_ok());
+    test.expect("memory for lists", lists_are_shown(&test).is_ok());
     test.end()
 }
 

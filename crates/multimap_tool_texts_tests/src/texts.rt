@@ -39,6 +39,7 @@ fn add_changes(commands: &mut Commands) -> Result<(), AllocError> {
     commands.push(Command::PopBack)?;
     commands.push(Command::Clear)?;
     commands.push(Command::Swap)?;
+    commands.push(Command::KeyLists)?;
     commands.push(Command::Keys(Ends::Forward))?;
     commands.push(Command::Values(Ends::Forward))?;
     Ok(())
@@ -75,7 +76,7 @@ fn add_commands(commands: &mut Commands, alloc: Global) -> Result<(), AllocError
 
 const LINES: &str = "append 1 -2\nget 3\nall 4\nhas 6\nlen 7\npairs\nfront\nback\nlengths\n\
     insert 1 2\ninsertall 3 -4\nremove 5\nremoveall 6\nremoveentry 7\nremoveentryall 8\n\
-    popfront\npopback\nclear\nswap\nkeys\nvalues\nsetfirst 9 -1\nsetfront -2\nsetback 3\norinsert 10 4\nretain -3\nwalk 5 fb\nwalkpairs b\nwalkkeys bff\n\
+    popfront\npopback\nclear\nswap\nlists\nkeys\nvalues\nsetfirst 9 -1\nsetfront -2\nsetback 3\norinsert 10 4\nretain -3\nwalk 5 fb\nwalkpairs b\nwalkkeys bff\n\
     walkvalues f";
 
 fn lines_spell(test: &Test, wanted: &Commands) {
@@ -154,6 +155,16 @@ fn entries_are_said(test: &Test) -> Result<(), AllocError> {
     Ok(())
 }
 
+fn lists_are_said(test: &Test) -> Result<(), AllocError> {
+    says(test, &[Reply::Lists(Vec::new(test.alloc()))], "empty\n");
+    let mut lists = Vec::new(test.alloc());
+    lists.push((u32::MAX, vec![in test.alloc(); -1, 20]?))?;
+    lists.push((0, vec![in test.alloc(); i64::MIN]?))?;
+    let wanted = "4294967295=-1,20 0=-9223372036854775808\n";
+    says(test, &[Reply::Lists(lists)], wanted);
+    Ok(())
+}
+
 fn keys_are_said(test: &Test) -> Result<(), AllocError> {
     let keys = vec![in test.alloc(); Some(2), None, Some(u32::MAX)]?;
     says(test, &[Reply::Keys(keys)], "2 - 4294967295\n");
@@ -190,6 +201,7 @@ fn replies_have_their_texts(rt: HostRuntime) -> Result<(), Failed> {
     test.expect("memory for keys", keys_are_said(&test).is_ok());
     pops_are_said(&test);
     test.expect("memory for entries", entries_are_said(&test).is_ok());
+    test.expect("memory for lists", lists_are_said(&test).is_ok());
     says(
         &test,
         &[Reply::Truth(true), Reply::Value(Some(7))],

@@ -21,7 +21,14 @@ fn walks_answer(test: &Test, map: &mut Numbers) {
 fn clone_answers(test: &Test, map: &mut Numbers) -> Result<(), AllocError> {
     add_three(test, map);
     test.expect("clone", map.clone()?.values_len() == 3);
+    test.expect("==", *map == map.clone()?);
     Ok(())
+}
+
+fn into_iter_answers(test: &Test, mut map: Numbers) {
+    add_three(test, &mut map);
+    let first = map.into_iter().next() == Some(Ok(("line", 1)));
+    test.expect("into_iter", first);
 }
 
 #[test]
@@ -30,5 +37,6 @@ fn examples_hold(rt: HostRuntime) -> Result<(), Failed> {
     walks_answer(&test, &mut ListOrderedMultimap::new(test.alloc()));
     let cloned = clone_answers(&test, &mut ListOrderedMultimap::new(test.alloc()));
     test.expect("memory for a clone", cloned.is_ok());
+    into_iter_answers(&test, ListOrderedMultimap::new(test.alloc()));
     test.end()
 }

@@ -38,6 +38,10 @@ fn are_same<K: PartialEq, V: PartialEq, A: Allocator>(
 
 /// Two maps are equal if they have as many pairs, and equal keys and equal values at each position.
 /// The order of their keys may differ. The lengths are compared first.
+///
+/// ```
+/// map == map.clone()?
+/// ```
 impl<K: Eq + Hash, V: PartialEq, S: BuildHasher, A: Allocator> PartialEq
     for ListOrderedMultimap<K, V, S, A> {
     ghost eq = { λ m n. same_pairs K.eq V.eq m.lists.pairs n.lists.pairs };

@@ -47,6 +47,11 @@ impl<K: Eq + Hash + Clone, V: Drop, S: BuildHasher + Drop, A: Allocator> IntoIte
 
     ghost into_iter_gives = { λ m r. r ≡ m.lists.pairs };
 
+    /// All pairs, oldest first, each handed out with a clone of its key. The map is given up.
+    ///
+    /// ```
+    /// map.into_iter().next() == Some(Ok(("line", 1)))
+    /// ```
     fn into_iter(self) -> IntoIter<K, V, A> {
         let ListOrderedMultimap {
             state: _state,

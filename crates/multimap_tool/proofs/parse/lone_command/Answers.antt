@@ -53,6 +53,11 @@ returns-then-eq-10 g c =
     let name = c.args.name.now in
     record { name_is = sym (same_text name _ c.eq-10.result c.if-eq-10.true (c.eq-10.ensures ∙ ap (bytes_eq name) c.as_slice-10.ensures)); operands_are = refl }
 
+pub returns-then-eq-11 : goal.returns-then-eq-11
+returns-then-eq-11 g c =
+    let name = c.args.name.now in
+    record { name_is = sym (same_text name _ c.eq-11.result c.if-eq-11.true (c.eq-11.ensures ∙ ap (bytes_eq name) c.as_slice-11.ensures)); operands_are = refl }
+
 pub returns : goal.returns
 returns g c =
     let name = c.args.name.now in
@@ -67,5 +72,6 @@ returns g c =
       | inr (inr (inr (inr (inr (inr (inr (inl is_values))))))) ↦ other_text name _ c.eq-8.result c.if-eq-8.false (c.eq-8.ensures ∙ ap (bytes_eq name) c.as_slice-8.ensures) is_values
       | inr (inr (inr (inr (inr (inr (inr (inr (inl is_lengths)))))))) ↦ other_text name _ c.eq-9.result c.if-eq-9.false (c.eq-9.ensures ∙ ap (bytes_eq name) c.as_slice-9.ensures) is_lengths
       | inr (inr (inr (inr (inr (inr (inr (inr (inr (inl is_swap))))))))) ↦ other_text name _ c.eq-10.result c.if-eq-10.false (c.eq-10.ensures ∙ ap (bytes_eq name) c.as_slice-10.ensures) is_swap
-      | inr (inr (inr (inr (inr (inr (inr (inr (inr (inr never))))))))) ↦ never
+      | inr (inr (inr (inr (inr (inr (inr (inr (inr (inr (inl is_lists)))))))))) ↦ other_text name _ c.eq-11.result c.if-eq-11.false (c.eq-11.ensures ∙ ap (bytes_eq name) c.as_slice-11.ensures) is_lists
+      | inr (inr (inr (inr (inr (inr (inr (inr (inr (inr (inr never)))))))))) ↦ never
     ]
