@@ -13,9 +13,9 @@ use Rattle.ordered_multimap.specs.Pairs.{has_items}
 use Rattle.multimap_tool.specs.declared.commands.Ends.TheVariants.{Forward, Word}
 use Rattle.multimap_tool.specs.declared.commands.Command.{Command}
 use Rattle.multimap_tool.specs.declared.commands.Command.TheVariants as commands
-use Rattle.multimap_tool.specs.declared.commands.Command.TheVariants.{Append, Insert, InsertAll, SetFirst, SetFront, SetBack, OrInsert, Get, All, Has, Len, Remove, RemoveAll, RemoveEntry, RemoveEntryAll, PopFront, PopBack, Retain, Clear, Swap, Pairs, Keys, Values, KeyLists, Lengths}
+use Rattle.multimap_tool.specs.declared.commands.Command.TheVariants.{Append, Insert, InsertAll, SetFirst, SetFront, SetBack, OrInsert, Get, All, Has, Len, Remove, RemoveAll, RemoveEntry, RemoveEntryAll, PopFront, PopBack, Retain, Clear, Reserve, Swap, Pairs, Keys, Values, KeyLists, Lengths}
 use Rattle.multimap_tool.specs.Spelling.{Operand, operand_text, FitsOperand, letter_of, name_of, operands_of, Spells, IsBadLine}
-use Rattle.multimap_tool.specs.Parts.{IsWithout, AreLettersOf, StartsAValue, lone_words, key_words, value_words, walk_words, pair_words, key_walk_words, words_before, IsCommandOf, IsFoundFor, IsReadingOf}
+use Rattle.multimap_tool.specs.Parts.{IsWithout, AreLettersOf, StartsAValue, lone_words, key_words, value_words, walk_words, pair_words, room_words, key_walk_words, words_before, IsCommandOf, IsFoundFor, IsReadingOf}
 use Rattle.multimap_tool.proofs.NumberLemmas.{decimal_without_space, signed_without_space, no_value}
 use Rattle.multimap_tool.proofs.FieldLemmas.{ArePlain, no_operand, one_operand, two_operands}
 
@@ -99,7 +99,11 @@ plain_fields name (inr (inr word) ∷ []) listed fits = record {
   texts = texts_without_space (inr (inr word) ∷ []) fits;
   few = omega arith;
 }
-plain_fields name (inl k ∷ inl j ∷ []) listed fits = absurd listed
+plain_fields name (inl k ∷ inl j ∷ []) listed fits = record {
+  word = word_without_space room_words name (refl, tt) listed;
+  texts = texts_without_space (inl k ∷ inl j ∷ []) fits;
+  few = omega arith;
+}
 plain_fields name (inl k ∷ inr (inl v) ∷ []) listed fits = record {
   word = word_without_space pair_words name (refl, (refl, (refl, (refl, (refl, tt))))) listed;
   texts = texts_without_space (inl k ∷ inr (inl v) ∷ []) fits;
@@ -130,12 +134,12 @@ of_one name text (inr (inr word) ∷ []) listed fits same = inr (inr (listed, (w
 of_one name text (o ∷ p ∷ os) listed fits same = absurd (cc)
 
 of_two : (name first second : List ℕ) (os : List Operand) → IsIn name (words_before os) → AllByRecursion FitsOperand os → map operand_text os ≡ first ∷ second ∷ []
-    → (IsIn name pair_words × IsKeyText first × IsValueText second) ⊎ (IsIn name key_walk_words × IsKeyText first × IsWordText second)
+    → (IsIn name pair_words × IsKeyText first × IsValueText second) ⊎ ((IsIn name room_words × IsKeyText first × IsKeyText second) ⊎ (IsIn name key_walk_words × IsKeyText first × IsWordText second))
 of_two name first second [] listed fits same = absurd (cc)
 of_two name first second (o ∷ []) listed fits same = absurd (cc)
-of_two name first second (inl k ∷ inl j ∷ []) listed fits same = absurd listed
+of_two name first second (inl k ∷ inl j ∷ []) listed fits same = inr (inl (listed, (k, fits.0, cc), (j, fits.1.0, cc)))
 of_two name first second (inl k ∷ inr (inl v) ∷ []) listed fits same = inl (listed, (k, fits.0, cc), (v, fits.1.0, cc))
-of_two name first second (inl k ∷ inr (inr word) ∷ []) listed fits same = inr (listed, (k, fits.0, cc), (word, record { spelled = cc; some = fits.1.0 }))
+of_two name first second (inl k ∷ inr (inr word) ∷ []) listed fits same = inr (inr (listed, (k, fits.0, cc), (word, record { spelled = cc; some = fits.1.0 })))
 of_two name first second (inr (inl v) ∷ p ∷ []) listed fits same = absurd listed
 of_two name first second (inr (inr word) ∷ p ∷ []) listed fits same = absurd listed
 of_two name first second (o ∷ p ∷ q ∷ os) listed fits same = absurd (cc)
@@ -164,6 +168,7 @@ module _ {A : Type 0} where
   listed_word PopFront = inr (inr (inl refl))
   listed_word PopBack = inr (inr (inr (inl refl)))
   listed_word (Retain v) = inr (inr (inl refl))
+  listed_word (Reserve a b) = inl refl
   listed_word Clear = inr (inr (inr (inr (inl refl))))
   listed_word (Pairs Forward) = inr (inr (inr (inr (inr (inl refl)))))
   listed_word (Pairs (Word word)) = inl refl
@@ -198,13 +203,14 @@ module _ {A : Type 0} where
 
   -- with two spaces or more, a word and two operands
   pub bad_with_two : (word first second : List ℕ) → IsWithout 32 word → IsWithout 32 first
-      → (IsIn word pair_words → IsKeyText first → IsValueText second → ⊥) → (IsIn word key_walk_words → IsKeyText first → IsWordText second → ⊥)
+      → (IsIn word pair_words → IsKeyText first → IsValueText second → ⊥) → (IsIn word room_words → IsKeyText first → IsKeyText second → ⊥) → (IsIn word key_walk_words → IsKeyText first → IsWordText second → ⊥)
       → IsBadLine A (word ++ 32 ∷ (first ++ 32 ∷ second))
-  bad_with_two word first second without_word without_first not_pair not_walk command spells =
+  bad_with_two word first second without_word without_first not_pair not_room not_walk command spells =
       let fields = two_operands word first second (name_of command) (map operand_text (operands_of command)) without_word without_first (plain command spells.spellable) spells.spelling in
       elim (of_two (name_of command) first second (operands_of command) (listed_word command) spells.spellable fields.1) [
         | inl pair ↦ not_pair (subst (λ name. IsIn name pair_words) (sym fields.0) pair.0) pair.1 pair.2
-        | inr walk ↦ not_walk (subst (λ name. IsIn name key_walk_words) (sym fields.0) walk.0) walk.1 walk.2
+        | inr (inl room) ↦ not_room (subst (λ name. IsIn name room_words) (sym fields.0) room.0) room.1 room.2
+        | inr (inr walk) ↦ not_walk (subst (λ name. IsIn name key_walk_words) (sym fields.0) walk.0) walk.1 walk.2
       ]
 
   -- the line of a word and these operands spells the command that has them

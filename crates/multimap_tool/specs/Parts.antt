@@ -47,6 +47,10 @@ abbrev pub pair_words : List (List ℕ)
 pair_words =
     codes "append" ∷ codes "insert" ∷ codes "insertall" ∷ codes "setfirst" ∷ codes "orinsert" ∷ []
 
+-- the one that two numbers of items follow, which have the bits of a key
+abbrev pub room_words : List (List ℕ)
+room_words = codes "reserve" ∷ []
+
 -- the one that a key and the letters of a walk follow
 abbrev pub key_walk_words : List (List ℕ)
 key_walk_words = codes "walk" ∷ []
@@ -57,6 +61,7 @@ words_before [] = lone_words
 words_before (inl k ∷ []) = key_words
 words_before (inr (inl v) ∷ []) = value_words
 words_before (inr (inr word) ∷ []) = walk_words
+words_before (inl k ∷ inl j ∷ []) = room_words
 words_before (inl k ∷ inr (inl v) ∷ []) = pair_words
 words_before (inl k ∷ inr (inr word) ∷ []) = key_walk_words
 words_before _ = []

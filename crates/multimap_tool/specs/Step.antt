@@ -27,7 +27,7 @@ use Rattle.multimap_tool.specs.declared.commands.Command.TheVariants.{Front, Bac
 use Rattle.multimap_tool.specs.declared.commands.Command.TheVariants.{Remove, RemoveAll}
 use Rattle.multimap_tool.specs.declared.commands.Command.TheVariants.{RemoveEntry, RemoveEntryAll}
 use Rattle.multimap_tool.specs.declared.commands.Command.TheVariants.{PopFront, PopBack, Clear}
-use Rattle.multimap_tool.specs.declared.commands.Command.TheVariants.{Retain, Swap}
+use Rattle.multimap_tool.specs.declared.commands.Command.TheVariants.{Retain, Reserve, Swap}
 use Rattle.multimap_tool.specs.declared.commands.Command.TheVariants.{Pairs, Keys, Values, KeyLists}
 use Rattle.multimap_tool.specs.declared.commands.Command.TheVariants.{Lengths}
 use Rattle.multimap_tool.specs.declared.replies.Popped.{Popped}
@@ -87,6 +87,7 @@ IsLookUp PopFront = ⊥
 IsLookUp PopBack = ⊥
 IsLookUp (Retain x) = ⊥
 IsLookUp Clear = ⊥
+IsLookUp (Reserve a b) = ⊥
 IsLookUp Swap = ⊥
 IsLookUp _ = Unit {0}
 
@@ -109,7 +110,8 @@ pub record KeepsPairs {K V : Type 0} (keeps : K → V → Bool → V → Type 0)
 
 module _ {K V : Type 0} (keeps : V → K → V → Bool → V → Type 0) (eq : K → K → Bool)
     {A : Type 0} where
-  -- the lists that a command leaves: look-ups leave them as they are, and so does a clone
+  -- the lists that a command leaves: look-ups leave them as they are, and so do a clone and a
+  -- request for room
   abbrev pub Leaves : Command K V A → Lists K V → Lists K V → Type 0
   Leaves (Append k v) m n = n ≡ appended eq m k v
   Leaves (Insert k v) m n = n ≡ inserted eq m k v
@@ -158,6 +160,7 @@ module _ {K : Type 0} (eq : K → K → Bool) {V A : Type 0} where
       option_map told_pop pair ≡ popped_pair eq ends.Back m.pairs
   Tells (Retain x) m replies.Done = Unit {0}
   Tells Clear m replies.Done = Unit {0}
+  Tells (Reserve a b) m replies.Done = Unit {0}
   Tells Swap m replies.Done = Unit {0}
   Tells (Pairs ends) m (replies.Pairs pairs) = pairs.items ≡ walked m.pairs ends
   Tells (Keys ends) m (replies.Keys keys) = keys.items ≡ walked m.keys ends
@@ -167,12 +170,13 @@ module _ {K : Type 0} (eq : K → K → Bool) {V A : Type 0} where
   Tells _ m _ = ⊥
 
   -- an addition may find no memory, but for one to a present key that replaces or keeps, and so
-  -- may a clone, and a reply that would list an item
+  -- may a request for room, a clone, and a reply that would list an item
   abbrev pub MayLackMemory : Command K V A → Lists K V → Type 0
   MayLackMemory (Append k v) m = Unit {0}
   MayLackMemory (Insert k v) m = is_present eq m.pairs k ≡ false
   MayLackMemory (InsertAll k v) m = Unit {0}
   MayLackMemory (OrInsert k v) m = is_present eq m.pairs k ≡ false
+  MayLackMemory (Reserve a b) m = Unit {0}
   MayLackMemory Swap m = Unit {0}
   MayLackMemory (All k ends) m = ListsItem (walked (values_of eq m.pairs k) ends)
   MayLackMemory (RemoveAll k) m = ListsItem (values_of eq m.pairs k)

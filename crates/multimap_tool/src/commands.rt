@@ -58,6 +58,8 @@ pub enum Command<K, V, A: Allocator = Global> {
     Retain(V),
     /// Takes all pairs out.
     Clear,
+    /// Makes room for so many more keys, and for so many more values.
+    Reserve(usize, usize),
     /// Puts a clone of the map in its place.
     Swap,
     /// All pairs.

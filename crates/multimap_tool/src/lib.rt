@@ -15,8 +15,10 @@ mod lists;
 mod operands;
 pub mod parse;
 pub mod replies;
+mod rooms;
 pub mod run;
 mod walk;
+mod words;
 mod written;
 
 pub use ordered_multimap::End;

@@ -1,13 +1,16 @@
 //! Commands read from the lines of a text.
-ghost use Rattle.std.specs.Prelude.{◌≡◌, ◌<◌, [], ◌++◌, ◌∷◌, length, Some, IfOk, IfErr, MatchOption};
-ghost use Rattle.multimap_tool.specs.Spelling.{key_operand, value_operand, word_operand, lines_of, SpellEach};
+ghost use Rattle.std.specs.Prelude.{◌≡◌, ◌<◌, ◌++◌, ◌∷◌, length, Some, IfOk, IfErr, MatchOption};
+ghost use Rattle.multimap_tool.specs.Spelling.{lines_of, SpellEach};
 ghost use Rattle.multimap_tool.specs.Execute.{IsTextFaultOf};
-ghost use Rattle.multimap_tool.specs.Parts.{IsWithout, IsFoundFor, IsReadingOf, IsValueOf};
+ghost use Rattle.multimap_tool.specs.Parts.{IsWithout, IsReadingOf, IsKeyOf, IsValueOf};
 
-use crate::commands::{Command, Ends};
+use crate::commands::Command;
 use crate::faults::TextFault;
 use crate::operands::{key_of, value_of, word_of};
-use ordered_multimap::End;
+use crate::words::{
+    key_command, key_walk_command, lone_command, pair_command, room_command, value_command,
+    walk_command,
+};
 use std::alloc::{AllocError, Allocator};
 
 /// The commands that the lines of a text spell, in order, or the first line that spells none.
@@ -80,46 +83,6 @@ fn command_of<A: Allocator + Copy>(
     }
 }
 
-/// The command of a word alone.
-fn lone_command<A: Allocator>(name: &[u8]) -> Option<Command<u32, i64, A>>
-    ensures { IsFoundFor name.now [] result }
-{
-    if name == b"front".as_slice() {
-        return Some(Command::Front);
-    }
-    if name == b"back".as_slice() {
-        return Some(Command::Back);
-    }
-    if name == b"popfront".as_slice() {
-        return Some(Command::PopFront);
-    }
-    if name == b"popback".as_slice() {
-        return Some(Command::PopBack);
-    }
-    if name == b"clear".as_slice() {
-        return Some(Command::Clear);
-    }
-    if name == b"pairs".as_slice() {
-        return Some(Command::Pairs(Ends::Forward));
-    }
-    if name == b"keys".as_slice() {
-        return Some(Command::Keys(Ends::Forward));
-    }
-    if name == b"values".as_slice() {
-        return Some(Command::Values(Ends::Forward));
-    }
-    if name == b"lengths".as_slice() {
-        return Some(Command::Lengths);
-    }
-    if name == b"swap".as_slice() {
-        return Some(Command::Swap);
-    }
-    if name == b"lists".as_slice() {
-        return Some(Command::KeyLists);
-    }
-    None
-}
-
 /// The command of a word and one operand.
 fn with_one_operand<A: Allocator>(
     alloc: A,
@@ -159,69 +122,6 @@ fn with_one_number<A: Allocator>(
     key_command(name, key)
 }
 
-/// The command of a word and a value.
-fn value_command<A: Allocator>(name: &[u8], value: i64) -> Option<Command<u32, i64, A>>
-    ensures { IsFoundFor name.now (value_operand value ∷ []) result }
-{
-    if name == b"setfront".as_slice() {
-        return Some(Command::SetFront(value));
-    }
-    if name == b"setback".as_slice() {
-        return Some(Command::SetBack(value));
-    }
-    if name == b"retain".as_slice() {
-        return Some(Command::Retain(value));
-    }
-    None
-}
-
-/// The command of a word and a key.
-fn key_command<A: Allocator>(name: &[u8], key: u32) -> Option<Command<u32, i64, A>>
-    ensures { IsFoundFor name.now (key_operand key ∷ []) result }
-{
-    if name == b"get".as_slice() {
-        return Some(Command::Get(key));
-    }
-    if name == b"all".as_slice() {
-        return Some(Command::All(key, Ends::Forward));
-    }
-    if name == b"has".as_slice() {
-        return Some(Command::Has(key));
-    }
-    if name == b"len".as_slice() {
-        return Some(Command::Len(key));
-    }
-    if name == b"remove".as_slice() {
-        return Some(Command::Remove(key));
-    }
-    if name == b"removeall".as_slice() {
-        return Some(Command::RemoveAll(key));
-    }
-    if name == b"removeentry".as_slice() {
-        return Some(Command::RemoveEntry(key));
-    }
-    if name == b"removeentryall".as_slice() {
-        return Some(Command::RemoveEntryAll(key));
-    }
-    None
-}
-
-/// The command of a word and the letters of a walk.
-fn walk_command<A: Allocator>(name: &[u8], word: Vec<End, A>) -> Option<Command<u32, i64, A>>
-    ensures { IsFoundFor name.now (word_operand word.items ∷ []) result }
-{
-    if name == b"walkpairs".as_slice() {
-        return Some(Command::Pairs(Ends::Word(word)));
-    }
-    if name == b"walkkeys".as_slice() {
-        return Some(Command::Keys(Ends::Word(word)));
-    }
-    if name == b"walkvalues".as_slice() {
-        return Some(Command::Values(Ends::Word(word)));
-    }
-    None
-}
-
 /// The command of a word and two operands; in the second, spaces may remain.
 fn with_two_operands<A: Allocator>(
     alloc: A,
@@ -237,7 +137,7 @@ fn with_two_operands<A: Allocator>(
         return Ok(None);
     };
     if let Some(value) = value_of(second) {
-        return Ok(pair_command(name, key, value));
+        return Ok(with_two_numbers(name, first, key, second, value));
     }
     let Some(word) = word_of(alloc, second)? else {
         return Ok(None);
@@ -245,38 +145,26 @@ fn with_two_operands<A: Allocator>(
     Ok(key_walk_command(name, key, word))
 }
 
-/// The command of a word, a key and a value.
-fn pair_command<A: Allocator>(name: &[u8], key: u32, value: i64) -> Option<Command<u32, i64, A>>
-    ensures { IsFoundFor name.now (key_operand key ∷ value_operand value ∷ []) result }
-{
-    if name == b"append".as_slice() {
-        return Some(Command::Append(key, value));
-    }
-    if name == b"insert".as_slice() {
-        return Some(Command::Insert(key, value));
-    }
-    if name == b"insertall".as_slice() {
-        return Some(Command::InsertAll(key, value));
-    }
-    if name == b"setfirst".as_slice() {
-        return Some(Command::SetFirst(key, value));
-    }
-    if name == b"orinsert".as_slice() {
-        return Some(Command::OrInsert(key, value));
-    }
-    None
-}
-
-/// The command of a word, a key and the letters of a walk.
-fn key_walk_command<A: Allocator>(
+/// The command of a word, a key and a number that is a value, and a number of items where it fits
+/// one.
+fn with_two_numbers<A: Allocator>(
     name: &[u8],
+    first: &[u8],
     key: u32,
-    word: Vec<End, A>,
+    second: &[u8],
+    value: i64,
 ) -> Option<Command<u32, i64, A>>
-    ensures { IsFoundFor name.now (key_operand key ∷ word_operand word.items ∷ []) result }
+    requires name { IsWithout 32 name.now }
+    requires first { IsWithout 32 first.now }
+    requires key { IsKeyOf first.now (Some key) }
+    requires value { IsValueOf second.now (Some value) }
+    ensures { IsReadingOf (name.now ++ 32 ∷ (first.now ++ 32 ∷ second.now)) result }
 {
-    if name == b"walk".as_slice() {
-        return Some(Command::All(key, Ends::Word(word)));
+    if let Some(command) = pair_command(name, key, value) {
+        return Some(command);
     }
-    None
+    let Some(number) = key_of(second) else {
+        return None;
+    };
+    room_command(name, key, number)
 }

@@ -11,6 +11,7 @@ use crate::drained::{insert_all, remove_all, remove_entry_all};
 use crate::keep::{Keep, KeepBy};
 use crate::lists::list_keys;
 use crate::replies::{Popped, Reply};
+use crate::rooms::reserve;
 use crate::walk::{copied_pair, walk};
 use crate::written::{or_insert, set_back, set_first, set_front};
 use ordered_multimap::list_ordered_multimap::KeyWrapper;
@@ -86,6 +87,7 @@ fn step<K: Eq + Hash + Copy, V: Copy, S: BuildHasher + Clone, A: Allocator + Cop
         Command::PopBack => Reply::Popped(pop(map, End::Back)),
         Command::Retain(operand) => retain(map, *operand, keep),
         Command::Clear => clear(map),
+        Command::Reserve(keys, values) => reserve(map, *keys, *values),
         Command::Swap => swap(map),
         _ => look_up(alloc, map, command),
     }

@@ -54,6 +54,10 @@ fn some_value(state: &mut u64) -> i64 {
     draw(state, 1000) as i64 - 500
 }
 
+fn some_reserve(state: &mut u64) -> Command<u32, i64> {
+    Command::Reserve(draw(state, 40) as usize, draw(state, 40) as usize)
+}
+
 fn some_look_up(alloc: Global, state: &mut u64, key: u32) -> Result<Command<u32, i64>, AllocError> {
     match draw(state, 15) {
         0 => Ok(Command::Get(key)),
@@ -74,14 +78,15 @@ fn some_look_up(alloc: Global, state: &mut u64, key: u32) -> Result<Command<u32,
     }
 }
 
-// Half of the commands change the map; of a hundred one empties it, one keeps some pairs, and one
-// puts a clone in its place.
+// Half of the commands change the map; of a hundred one empties it, one keeps some pairs, one puts a
+// clone in its place, and one asks for room.
 fn some_command(alloc: Global, state: &mut u64) -> Result<Command<u32, i64>, AllocError> {
     let key = draw(state, 6);
     match draw(state, 100) {
         0 => Ok(Command::Clear),
         1 => Ok(Command::Retain(some_value(state))),
         51 => Ok(Command::Swap),
+        52 => Ok(some_reserve(state)),
         2..=50 => Ok(some_change(state, key)),
         _ => some_look_up(alloc, state, key),
     }

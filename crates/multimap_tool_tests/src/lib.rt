@@ -14,4 +14,6 @@ mod memory;
 #[cfg(test)]
 mod plain;
 #[cfg(test)]
+mod rooms;
+#[cfg(test)]
 mod runs;

@@ -170,6 +170,8 @@ fn add_last(rows: &mut Rows) -> Result<(), AllocError> {
     add(rows, Command::Remove('u'), Reply::Value(Some(true)))?;
     add(rows, Command::Append('t', true), Reply::Appended(false))?;
     add(rows, Command::Swap, Reply::Done)?;
+    add(rows, Command::Reserve(7, 0), Reply::Done)?;
+    add(rows, Command::Lengths, Reply::Counts(1, 1))?;
     add(rows, Command::Clear, Reply::Done)?;
     add(rows, Command::Lengths, Reply::Counts(0, 0))?;
     add_appends(rows)

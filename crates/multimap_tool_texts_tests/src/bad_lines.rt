@@ -112,6 +112,13 @@ const BAD: &[(&str, u64)] = &[
     ("get f\n", 1),
     ("swap 1\n", 1),
     ("lists 1\n", 1),
+    ("reserve\n", 1),
+    ("reserve 1\n", 1),
+    ("reserve 1 -1\n", 1),
+    ("reserve 1 4294967296\n", 1),
+    ("reserve 4294967296 1\n", 1),
+    ("reserve 1 f\n", 1),
+    ("reserve 1 2 3\n", 1),
     // Commands that the program doesn't have.
     ("json\n", 1),
     // A NUL.

@@ -1,37 +1,21 @@
-use Rattle.std.proofs.Common.{◌++◌, ◌∷◌, [], sym, ◌∙◌, subst, arith, rules}
-use Rattle.std.specs.Prelude.{FitsSigned}
-use Rattle.std.specs.Int.{w64}
-use Rattle.std.proofs.lemmas.Int.{to_z-of_z}
-use Rattle.multimap_tool.specs.Parts.{IsFoundFor}
+use Rattle.std.proofs.Common.{◌++◌, ◌∷◌, [], sym, ◌∙◌, arith}
 use Rattle.std.proofs.lemmas.List.{append-nil}
-use Rattle.std.specs.Fmt.{signed_decimal}
-use Rattle.multimap_tool.specs.Spelling.{key_operand, value_operand, word_operand}
-use Rattle.multimap_tool.proofs.ReadingLemmas.{bad_with_two, reading, word_is_no_value}
+use Rattle.multimap_tool.specs.Spelling.{key_operand, word_operand}
+use Rattle.multimap_tool.proofs.ReadingLemmas.{bad_with_two, key_is_value, reading}
 use Rattle.multimap_tool.proofs.parse.with_two_operands.Goals as goal
 
 pub returns-in_default : goal.returns-in_default
 returns-in_default g c =
     bad_with_two c.args.name.now c.args.first.now c.args.second.now c.requires.name c.requires.first
-    (λ _ key _. c.in_default.ensures key.0 key.1 key.2) (λ _ key _. c.in_default.ensures key.0 key.1 key.2)
-
-pub returns-in-Some-value_of : goal.returns-in-Some-value_of
-returns-in-Some-value_of g c =
-    let name = c.args.name.now in
-    let first = c.args.first.now in
-    let second = c.args.second.now in
-    let key = c.in-Some.key in
-    let value = c.in-Some-value_of.value in
-    let fits : FitsSigned w64 value = search (rules) in
-    reading name (name ++ 32 ∷ (first ++ 32 ∷ second)) (key_operand key ∷ value_operand value ∷ []) c.pair_command.result (omega arith, (fits, tt))
-    (λ i. name ++ 32 ∷ (sym c.in-Some.ensures i ++ 32 ∷ (sym c.in-Some-value_of.ensures ∙ sym (append-nil (signed_decimal value))) i))
-    (λ none. bad_with_two name first second c.requires.name c.requires.first (λ listed _ _. none listed)
-    (λ _ _ word. word_is_no_value second word (value, fits, c.in-Some-value_of.ensures)))
-    (subst (λ v. IsFoundFor name (key_operand key ∷ value_operand v ∷ []) c.pair_command.result) (to_z-of_z w64 value fits) c.pair_command.ensures)
+    (λ _ key _. c.in_default.ensures key.0 key.1 key.2) (λ _ key _. c.in_default.ensures key.0 key.1 key.2) (λ _ key _. c.in_default.ensures key.0 key.1 key.2)
 
 pub returns-in_default-2 : goal.returns-in_default-2
 returns-in_default-2 g c =
-    bad_with_two c.args.name.now c.args.first.now c.args.second.now c.requires.name c.requires.first
-    (λ _ _ value. c.in_default-value_of.ensures value.0 value.1 value.2) (λ _ _ word. (rw c.in_default-2.is at c.in_ok-word.ensures) word.0 word.1)
+    let second = c.args.second.now in
+    let no_value = c.in_default-value_of.ensures in
+    bad_with_two c.args.name.now c.args.first.now second c.requires.name c.requires.first
+    (λ _ _ value. no_value value.0 value.1 value.2) (λ _ _ key. let value = key_is_value second key in no_value value.0 value.1 value.2)
+    (λ _ _ word. (rw c.in_default-2.is at c.in_ok-word.ensures) word.0 word.1)
 
 pub returns : goal.returns
 returns g c =
@@ -40,8 +24,10 @@ returns g c =
     let second = c.args.second.now in
     let key = c.in-Some.key in
     let word = c.in-Some-2.word in
+    let no_value = c.in_default-value_of.ensures in
     let letters = rw c.in-Some-2.is at c.in_ok-word.ensures in
     reading name (name ++ 32 ∷ (first ++ 32 ∷ second)) (key_operand key ∷ word_operand word.items ∷ []) c.key_walk_command.result (omega arith, (letters.some, tt))
     (λ i. name ++ 32 ∷ (sym c.in-Some.ensures i ++ 32 ∷ (sym letters.spelled ∙ sym (append-nil _)) i))
-    (λ none. bad_with_two name first second c.requires.name c.requires.first (λ _ _ value. c.in_default-value_of.ensures value.0 value.1 value.2) (λ listed _ _. none listed))
+    (λ none. bad_with_two name first second c.requires.name c.requires.first (λ _ _ value. no_value value.0 value.1 value.2)
+    (λ _ _ key. let value = key_is_value second key in no_value value.0 value.1 value.2) (λ listed _ _. none listed))
     c.key_walk_command.ensures

@@ -1,7 +1,7 @@
 use Rattle.std.proofs.Common.{◌∙◌, ap, sym, refl, inl, inr}
 use Rattle.std.specs.Str.{bytes_eq}
 use Rattle.multimap_tool.proofs.ReadingLemmas.{same_text, other_text}
-use Rattle.multimap_tool.proofs.parse.lone_command.Goals as goal
+use Rattle.multimap_tool.proofs.words.lone_command.Goals as goal
 
 pub returns-then-eq : goal.returns-then-eq
 returns-then-eq g c =

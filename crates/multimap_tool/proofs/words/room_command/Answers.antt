@@ -1,7 +1,7 @@
-use Rattle.std.proofs.Common.{◌∙◌, ap, sym, refl, inl, inr}
+use Rattle.std.proofs.Common.{◌∙◌, ap, sym, inl, inr, refl}
 use Rattle.std.specs.Str.{bytes_eq}
 use Rattle.multimap_tool.proofs.ReadingLemmas.{same_text, other_text}
-use Rattle.multimap_tool.proofs.parse.key_walk_command.Goals as goal
+use Rattle.multimap_tool.proofs.words.room_command.Goals as goal
 
 pub returns-then-eq : goal.returns-then-eq
 returns-then-eq g c =
@@ -12,6 +12,6 @@ pub returns : goal.returns
 returns g c =
     let name = c.args.name.now in
     λ word. elim word [
-      | inl is_walk ↦ other_text name _ c.eq.result c.if-eq.false (c.eq.ensures ∙ ap (bytes_eq name) c.as_slice.ensures) is_walk
+      | inl is_reserve ↦ other_text name _ c.eq.result c.if-eq.false (c.eq.ensures ∙ ap (bytes_eq name) c.as_slice.ensures) is_reserve
       | inr never ↦ never
     ]

@@ -1,0 +1,168 @@
+//! Commands found by their words.
+ghost use Rattle.std.specs.Prelude.{[], ◌∷◌};
+ghost use Rattle.multimap_tool.specs.Spelling.{key_operand, value_operand, word_operand};
+ghost use Rattle.multimap_tool.specs.Parts.{IsFoundFor};
+
+use crate::commands::{Command, Ends};
+use ordered_multimap::End;
+use std::alloc::Allocator;
+
+/// The command of a word alone.
+pub(crate) fn lone_command<A: Allocator>(name: &[u8]) -> Option<Command<u32, i64, A>>
+    ensures { IsFoundFor name.now [] result }
+{
+    if name == b"front".as_slice() {
+        return Some(Command::Front);
+    }
+    if name == b"back".as_slice() {
+        return Some(Command::Back);
+    }
+    if name == b"popfront".as_slice() {
+        return Some(Command::PopFront);
+    }
+    if name == b"popback".as_slice() {
+        return Some(Command::PopBack);
+    }
+    if name == b"clear".as_slice() {
+        return Some(Command::Clear);
+    }
+    if name == b"pairs".as_slice() {
+        return Some(Command::Pairs(Ends::Forward));
+    }
+    if name == b"keys".as_slice() {
+        return Some(Command::Keys(Ends::Forward));
+    }
+    if name == b"values".as_slice() {
+        return Some(Command::Values(Ends::Forward));
+    }
+    if name == b"lengths".as_slice() {
+        return Some(Command::Lengths);
+    }
+    if name == b"swap".as_slice() {
+        return Some(Command::Swap);
+    }
+    if name == b"lists".as_slice() {
+        return Some(Command::KeyLists);
+    }
+    None
+}
+
+/// The command of a word and a value.
+pub(crate) fn value_command<A: Allocator>(name: &[u8], value: i64) -> Option<Command<u32, i64, A>>
+    ensures { IsFoundFor name.now (value_operand value ∷ []) result }
+{
+    if name == b"setfront".as_slice() {
+        return Some(Command::SetFront(value));
+    }
+    if name == b"setback".as_slice() {
+        return Some(Command::SetBack(value));
+    }
+    if name == b"retain".as_slice() {
+        return Some(Command::Retain(value));
+    }
+    None
+}
+
+/// The command of a word and a key.
+pub(crate) fn key_command<A: Allocator>(name: &[u8], key: u32) -> Option<Command<u32, i64, A>>
+    ensures { IsFoundFor name.now (key_operand key ∷ []) result }
+{
+    if name == b"get".as_slice() {
+        return Some(Command::Get(key));
+    }
+    if name == b"all".as_slice() {
+        return Some(Command::All(key, Ends::Forward));
+    }
+    if name == b"has".as_slice() {
+        return Some(Command::Has(key));
+    }
+    if name == b"len".as_slice() {
+        return Some(Command::Len(key));
+    }
+    if name == b"remove".as_slice() {
+        return Some(Command::Remove(key));
+    }
+    if name == b"removeall".as_slice() {
+        return Some(Command::RemoveAll(key));
+    }
+    if name == b"removeentry".as_slice() {
+        return Some(Command::RemoveEntry(key));
+    }
+    if name == b"removeentryall".as_slice() {
+        return Some(Command::RemoveEntryAll(key));
+    }
+    None
+}
+
+/// The command of a word and the letters of a walk.
+pub(crate) fn walk_command<A: Allocator>(
+    name: &[u8],
+    word: Vec<End, A>,
+) -> Option<Command<u32, i64, A>>
+    ensures { IsFoundFor name.now (word_operand word.items ∷ []) result }
+{
+    if name == b"walkpairs".as_slice() {
+        return Some(Command::Pairs(Ends::Word(word)));
+    }
+    if name == b"walkkeys".as_slice() {
+        return Some(Command::Keys(Ends::Word(word)));
+    }
+    if name == b"walkvalues".as_slice() {
+        return Some(Command::Values(Ends::Word(word)));
+    }
+    None
+}
+
+/// The command of a word, a key and a value.
+pub(crate) fn pair_command<A: Allocator>(
+    name: &[u8],
+    key: u32,
+    value: i64,
+) -> Option<Command<u32, i64, A>>
+    ensures { IsFoundFor name.now (key_operand key ∷ value_operand value ∷ []) result }
+{
+    if name == b"append".as_slice() {
+        return Some(Command::Append(key, value));
+    }
+    if name == b"insert".as_slice() {
+        return Some(Command::Insert(key, value));
+    }
+    if name == b"insertall".as_slice() {
+        return Some(Command::InsertAll(key, value));
+    }
+    if name == b"setfirst".as_slice() {
+        return Some(Command::SetFirst(key, value));
+    }
+    if name == b"orinsert".as_slice() {
+        return Some(Command::OrInsert(key, value));
+    }
+    None
+}
+
+/// The command of a word and two numbers of items.
+pub(crate) fn room_command<A: Allocator>(
+    name: &[u8],
+    keys: u32,
+    values: u32,
+) -> Option<Command<u32, i64, A>>
+    ensures { IsFoundFor name.now (key_operand keys ∷ key_operand values ∷ []) result }
+{
+    if name == b"reserve".as_slice() {
+        return Some(Command::Reserve(keys as usize, values as usize));
+    }
+    None
+}
+
+/// The command of a word, a key and the letters of a walk.
+pub(crate) fn key_walk_command<A: Allocator>(
+    name: &[u8],
+    key: u32,
+    word: Vec<End, A>,
+) -> Option<Command<u32, i64, A>>
+    ensures { IsFoundFor name.now (key_operand key ∷ word_operand word.items ∷ []) result }
+{
+    if name == b"walk".as_slice() {
+        return Some(Command::All(key, Ends::Word(word)));
+    }
+    None
+}
