@@ -1,5 +1,6 @@
 mod WalkLemmas
 mod RunLemmas
+mod RoomLemmas
 mod OrInsertLemmas
 mod FormatLemmas
 mod CutLemmas

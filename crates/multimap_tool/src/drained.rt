@@ -2,6 +2,7 @@
 //! changed.
 ghost use Rattle.std.specs.Prelude.{◌≡◌, ◌+◌, ◌≤◌, ◌++◌, Some, length, map, vec_capacity};
 ghost use Rattle.ordered_multimap.specs.Drains.{drain_left, KeepsMap};
+ghost use Rattle.ordered_multimap.specs.Rooms.{KeepsRooms};
 ghost use Rattle.multimap_tool.specs.Step.{IsOwnStep};
 
 use crate::commands::Command;
@@ -19,7 +20,7 @@ pub(crate) fn insert_all<K: Eq + Hash + Copy, V: Copy, S: BuildHasher, A: Alloca
     value: V,
 ) -> Reply<K, V, A>
     ensures step { IsOwnStep K.eq (Command.InsertAll key value) map.old.lists result map.new.lists }
-    ensures hasher { map.new.hasher ≡ map.old.hasher }
+    ensures rooms { KeepsRooms map.old map.new }
 {
     let Ok(mut values) = Vec::with_capacity(alloc, map.entry_len(&key)) else {
         return Reply::NoMemory;
@@ -38,7 +39,7 @@ pub(crate) fn remove_all<K: Eq + Hash + Copy, V: Copy, S: BuildHasher, A: Alloca
     key: &K,
 ) -> Reply<K, V, A>
     ensures step { IsOwnStep K.eq (Command.RemoveAll key.now) map.old.lists result map.new.lists }
-    ensures hasher { map.new.hasher ≡ map.old.hasher }
+    ensures rooms { KeepsRooms map.old map.new }
 {
     let Ok(mut values) = Vec::with_capacity(alloc, map.entry_len(key)) else {
         return Reply::NoMemory;
@@ -57,7 +58,7 @@ pub(crate) fn remove_entry_all<K: Eq + Hash + Copy, V: Copy, S: BuildHasher, A: 
 ) -> Reply<K, V, A>
     ensures step { IsOwnStep K.eq (Command.RemoveEntryAll key.now)
         map.old.lists result map.new.lists }
-    ensures hasher { map.new.hasher ≡ map.old.hasher }
+    ensures rooms { KeepsRooms map.old map.new }
 {
     let Ok(mut values) = Vec::with_capacity(alloc, map.entry_len(key)) else {
         return Reply::NoMemory;

@@ -12,6 +12,7 @@ pub mod format;
 mod keep;
 pub mod laws;
 mod lists;
+mod look_ups;
 mod operands;
 pub mod parse;
 pub mod replies;

@@ -1,5 +1,6 @@
 //! Commands that ask for room.
 ghost use Rattle.std.specs.Prelude.{◌≡◌, ◌≤◌, ◌+◌, length};
+ghost use Rattle.ordered_multimap.specs.Rooms.{KeepsRooms};
 ghost use Rattle.multimap_tool.specs.Step.{IsOwnStep};
 
 use crate::commands::Command;
@@ -17,7 +18,7 @@ pub(crate) fn reserve<K: Eq + Hash + Copy, V: Copy, S: BuildHasher, A: Allocator
 ) -> Reply<K, V, A>
     ensures step { IsOwnStep K.eq (Command.Reserve keys values)
         map.old.lists result map.new.lists }
-    ensures hasher { map.new.hasher ≡ map.old.hasher }
+    ensures rooms { KeepsRooms map.old map.new }
     ensures key_room { result ≡ Reply.Done
         → length map.old.lists.keys + keys ≤ map.new.key_room }
     ensures value_room { result ≡ Reply.Done

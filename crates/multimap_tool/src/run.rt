@@ -1,18 +1,19 @@
 //! Commands run in order, with one reply for each.
 ghost use Rattle.std.specs.Borrow.{Bor, MutBor};
-ghost use Rattle.std.specs.Prelude.{◌≡◌, Contains, IfOk, OnErr, option_map};
+ghost use Rattle.std.specs.Prelude.{◌≡◌, ◌≢◌, Contains, IfOk, OnErr, option_map};
 ghost use Rattle.ordered_multimap.specs.Pop.{popped, popped_pair};
 ghost use Rattle.ordered_multimap.specs.Pops.{popped_of};
-ghost use Rattle.multimap_tool.specs.Step.{IsLookUp, IsOwnStep, IsStep, MayKeep, told_pop};
+ghost use Rattle.multimap_tool.specs.Step.{IsOwnStep, IsStep, MayKeep, told_pop};
+ghost use Rattle.ordered_multimap.specs.Rooms.{HasKeyRoom, HasValueRoom, KeepsRooms};
 ghost use Rattle.multimap_tool.specs.Runs.{IsRun};
+ghost use Rattle.multimap_tool.specs.RunRooms.{IsAddition, KeepsRoom, HasRunRoom, FindsRoom};
 
-use crate::commands::{Command, Ends};
+use crate::commands::Command;
 use crate::drained::{insert_all, remove_all, remove_entry_all};
 use crate::keep::{Keep, KeepBy};
-use crate::lists::list_keys;
+use crate::look_ups::look_up;
 use crate::replies::{Popped, Reply};
 use crate::rooms::reserve;
-use crate::walk::{copied_pair, walk};
 use crate::written::{or_insert, set_back, set_first, set_front};
 use ordered_multimap::list_ordered_multimap::KeyWrapper;
 use ordered_multimap::{End, ListOrderedMultimap};
@@ -25,8 +26,10 @@ use std::hash::{BuildHasher, Hash};
 /// it is handed the command's value, a key and its value, which it may write, and has to be callable
 /// with the value of each of these commands and any key and value. The room for all
 /// replies is taken at the start: where it is refused, nothing was done. A command that finds no
-/// memory for itself is answered [`Reply::NoMemory`] and changes neither keys nor pairs. Clones of
-/// keys and values must be the very keys and values.
+/// memory for itself is answered [`Reply::NoMemory`] and changes neither keys nor pairs. That no
+/// append, insert or or-insert is, where the map has room at the start for as many keys and values as
+/// there are commands, and none is a [`Command::Swap`]. Clones of keys and values must be the very
+/// keys and values.
 pub fn run<
     K: Eq + Hash + Copy,
     V: Copy,
@@ -46,6 +49,8 @@ pub fn run<
     ensures ok { IfOk result (λ replies. IsRun (MayKeep F.Fn keep) K.eq
         commands.now map.old.lists replies.items map.new.lists) }
     ensures hasher { ((s c : S) → S.is_clone s c → c ≡ s) → map.new.hasher ≡ map.old.hasher }
+    ensures room { HasRunRoom commands.now map.old
+        → IfOk result (λ replies. FindsRoom commands.now replies.items) }
     ensures unchanged { OnErr result (map.new ≡ map.old) }
 {
     let keep = KeepBy { keep };
@@ -70,6 +75,9 @@ fn step<K: Eq + Hash + Copy, V: Copy, S: BuildHasher + Clone, A: Allocator + Cop
     ensures step { IsStep (F.answers keep.now) K.eq
         command.now map.old.lists result map.new.lists }
     ensures hasher { ((s c : S) → S.is_clone s c → c ≡ s) → map.new.hasher ≡ map.old.hasher }
+    ensures rooms { KeepsRoom command.now → KeepsRooms map.old map.new }
+    ensures finds_room { IsAddition command.now → HasKeyRoom map.old → HasValueRoom map.old
+        → result ≢ Reply.NoMemory }
 {
     match command {
         Command::Append(key, value) => append(map, *key, *value),
@@ -100,7 +108,9 @@ fn append<K: Eq + Hash + Copy, V: Copy, S: BuildHasher, A: Allocator + Copy>(
     value: V,
 ) -> Reply<K, V, A>
     ensures step { IsOwnStep K.eq (Command.Append key value) map.old.lists result map.new.lists }
-    ensures hasher { map.new.hasher ≡ map.old.hasher }
+    ensures rooms { KeepsRooms map.old map.new }
+    ensures finds_room { HasKeyRoom map.old → HasValueRoom map.old
+        → result ≢ Reply.NoMemory }
 {
     match map.append(key, value) {
         Ok(present) => Reply::Appended(present),
@@ -115,7 +125,9 @@ fn insert<K: Eq + Hash + Copy, V: Copy, S: BuildHasher, A: Allocator + Copy>(
     value: V,
 ) -> Reply<K, V, A>
     ensures step { IsOwnStep K.eq (Command.Insert key value) map.old.lists result map.new.lists }
-    ensures hasher { map.new.hasher ≡ map.old.hasher }
+    ensures rooms { KeepsRooms map.old map.new }
+    ensures finds_room { HasKeyRoom map.old → HasValueRoom map.old
+        → result ≢ Reply.NoMemory }
 {
     match map.insert(key, value) {
         Ok(old) => Reply::Old(old),
@@ -130,7 +142,7 @@ fn pop<K: Eq + Hash + Copy, V: Copy, S: BuildHasher, A: Allocator + Copy>(
 ) -> Option<Popped<K, V>>
     ensures lists { map.new.lists ≡ popped K.eq end map.old.lists }
     ensures told { option_map told_pop result ≡ popped_pair K.eq end map.old.lists.pairs }
-    ensures hasher { map.new.hasher ≡ map.old.hasher }
+    ensures rooms { KeepsRooms map.old map.new }
 {
     match end {
         End::Front => map.pop_front_with(|pair| told(pair)),
@@ -166,7 +178,7 @@ fn retain<K: Eq + Hash + Copy, V: Copy, S: BuildHasher, A: Allocator + Copy, F: 
     requires { F.accepts keep.now operand }
     ensures step { IsStep (F.answers keep.now) K.eq (Command.Retain operand)
         map.old.lists result map.new.lists }
-    ensures hasher { map.new.hasher ≡ map.old.hasher }
+    ensures rooms { KeepsRooms map.old map.new }
 {
     map.retain(|key, value| keep.keeps(operand, key, value));
     Reply::Done
@@ -177,7 +189,7 @@ fn clear<K: Eq + Hash + Copy, V: Copy, S: BuildHasher, A: Allocator + Copy>(
     map: &mut ListOrderedMultimap<K, V, S, A>,
 ) -> Reply<K, V, A>
     ensures step { IsOwnStep K.eq Command.Clear map.old.lists result map.new.lists }
-    ensures hasher { map.new.hasher ≡ map.old.hasher }
+    ensures rooms { KeepsRooms map.old map.new }
 {
     map.clear();
     Reply::Done
@@ -197,98 +209,6 @@ fn swap<K: Eq + Hash + Copy, V: Copy, S: BuildHasher + Clone, A: Allocator + Cop
             *map = copy;
             Reply::Done
         }
-        Err(_) => Reply::NoMemory,
-    }
-}
-
-/// Answers a command that changes nothing.
-fn look_up<K: Eq + Hash + Copy, V: Copy, S: BuildHasher, A: Allocator + Copy>(
-    alloc: A,
-    map: &ListOrderedMultimap<K, V, S, A>,
-    command: &Command<K, V, A>,
-) -> Reply<K, V, A>
-    requires { IsLookUp command.now }
-    ensures { IsOwnStep K.eq command.now map.now.lists result map.now.lists }
-{
-    match command {
-        Command::Get(key) => first_value(map, key),
-        Command::All(key, ends) => walk_values(alloc, map, key, ends),
-        Command::Has(key) => Reply::Truth(map.contains_key(key)),
-        Command::Len(key) => Reply::Count(map.entry_len(key)),
-        Command::Front => Reply::Pair(copied_pair(map.front())),
-        Command::Back => Reply::Pair(copied_pair(map.back())),
-        Command::Pairs(ends) => walk_pairs(alloc, map, ends),
-        Command::Keys(ends) => walk_keys(alloc, map, ends),
-        Command::Values(ends) => walk_all_values(alloc, map, ends),
-        Command::KeyLists => list_keys(alloc, map),
-        Command::Lengths => Reply::Counts(map.keys_len(), map.values_len()),
-        _ => unreachable!(),
-    }
-}
-
-/// The key's first value.
-fn first_value<K: Eq + Hash + Copy, V: Copy, S: BuildHasher, A: Allocator + Copy>(
-    map: &ListOrderedMultimap<K, V, S, A>,
-    key: &K,
-) -> Reply<K, V, A>
-    ensures { IsOwnStep K.eq (Command.Get key.now) map.now.lists result map.now.lists }
-{
-    Reply::Value(map.get(key).copied())
-}
-
-/// The key's values, as a walk takes them.
-fn walk_values<K: Eq + Hash + Copy, V: Copy, S: BuildHasher, A: Allocator + Copy>(
-    alloc: A,
-    map: &ListOrderedMultimap<K, V, S, A>,
-    key: &K,
-    ends: &Ends<A>,
-) -> Reply<K, V, A>
-    ensures { IsOwnStep K.eq (Command.All key.now ends.now) map.now.lists result map.now.lists }
-{
-    match walk(alloc, map.get_all(key), ends) {
-        Ok(values) => Reply::Values(values),
-        Err(_) => Reply::NoMemory,
-    }
-}
-
-/// All pairs, as a walk takes them.
-fn walk_pairs<K: Eq + Hash + Copy, V: Copy, S: BuildHasher, A: Allocator + Copy>(
-    alloc: A,
-    map: &ListOrderedMultimap<K, V, S, A>,
-    ends: &Ends<A>,
-) -> Reply<K, V, A>
-    ensures { IsOwnStep K.eq (Command.Pairs ends.now) map.now.lists result map.now.lists }
-{
-    match walk(alloc, map.iter(), ends) {
-        Ok(pairs) => Reply::Pairs(pairs),
-        Err(_) => Reply::NoMemory,
-    }
-}
-
-/// All keys, as a walk takes them.
-fn walk_keys<K: Eq + Hash + Copy, V: Copy, S: BuildHasher, A: Allocator + Copy>(
-    alloc: A,
-    map: &ListOrderedMultimap<K, V, S, A>,
-    ends: &Ends<A>,
-) -> Reply<K, V, A>
-    ensures { IsOwnStep K.eq (Command.Keys ends.now) map.now.lists result map.now.lists }
-{
-    match walk(alloc, map.keys(), ends) {
-        Ok(keys) => Reply::Keys(keys),
-        Err(_) => Reply::NoMemory,
-    }
-}
-
-/// The values of all pairs, as a walk takes them.
-fn walk_all_values<K: Eq + Hash + Copy, V: Copy, S: BuildHasher, A: Allocator + Copy>(
-    alloc: A,
-    map: &ListOrderedMultimap<K, V, S, A>,
-    ends: &Ends<A>,
-) -> Reply<K, V, A>
-    ensures { IsOwnStep K.eq (Command.Values ends.now) map.now.lists result map.now.lists }
-{
-    match walk(alloc, map.values(), ends) {
-        Ok(values) => Reply::Values(values),
         Err(_) => Reply::NoMemory,
     }
 }

@@ -1,5 +1,6 @@
 //! Commands that write a value in its place, or a pair where its key is absent.
-ghost use Rattle.std.specs.Prelude.{◌≡◌};
+ghost use Rattle.std.specs.Prelude.{◌≢◌};
+ghost use Rattle.ordered_multimap.specs.Rooms.{HasKeyRoom, HasValueRoom, KeepsRooms};
 ghost use Rattle.multimap_tool.specs.Step.{IsOwnStep};
 
 use crate::commands::Command;
@@ -17,7 +18,7 @@ pub(crate) fn set_first<K: Eq + Hash + Copy, V: Copy, S: BuildHasher, A: Allocat
 ) -> Reply<K, V, A>
     ensures step { IsOwnStep K.eq (Command.SetFirst key.now value)
         map.old.lists result map.new.lists }
-    ensures hasher { map.new.hasher ≡ map.old.hasher }
+    ensures rooms { KeepsRooms map.old map.new }
 {
     match map.get_mut(key) {
         Some(first) => Reply::Old(Some(replace(first, value))),
@@ -31,7 +32,7 @@ pub(crate) fn set_front<K: Eq + Hash + Copy, V: Copy, S: BuildHasher, A: Allocat
     value: V,
 ) -> Reply<K, V, A>
     ensures step { IsOwnStep K.eq (Command.SetFront value) map.old.lists result map.new.lists }
-    ensures hasher { map.new.hasher ≡ map.old.hasher }
+    ensures rooms { KeepsRooms map.old map.new }
 {
     if map.is_empty() {
         return Reply::Pair(None);
@@ -46,7 +47,7 @@ pub(crate) fn set_back<K: Eq + Hash + Copy, V: Copy, S: BuildHasher, A: Allocato
     value: V,
 ) -> Reply<K, V, A>
     ensures step { IsOwnStep K.eq (Command.SetBack value) map.old.lists result map.new.lists }
-    ensures hasher { map.new.hasher ≡ map.old.hasher }
+    ensures rooms { KeepsRooms map.old map.new }
 {
     if map.is_empty() {
         return Reply::Pair(None);
@@ -62,7 +63,9 @@ pub(crate) fn or_insert<K: Eq + Hash + Copy, V: Copy, S: BuildHasher, A: Allocat
     value: V,
 ) -> Reply<K, V, A>
     ensures step { IsOwnStep K.eq (Command.OrInsert key value) map.old.lists result map.new.lists }
-    ensures hasher { map.new.hasher ≡ map.old.hasher }
+    ensures rooms { KeepsRooms map.old map.new }
+    ensures finds_room { HasKeyRoom map.old → HasValueRoom map.old
+        → result ≢ Reply.NoMemory }
 {
     match map.entry(key).or_insert(value) {
         Ok(first) => Reply::Value(Some(*first)),

@@ -5,14 +5,14 @@ use multimap_tool::commands::{Command, Ends};
 use multimap_tool::replies::Reply;
 use multimap_tool::run::run;
 use ordered_multimap::ListOrderedMultimap;
-use std::alloc::{AllocError, Global};
+use std::alloc::{AllocError, Allocator, Global};
 use test_helpers::{Failed, Test};
 
 type Commands = Vec<Command<u32, i64>>;
 
 /// The next number of a linear congruential sequence, of which the answer is a number below
 /// `below`.
-fn draw(state: &mut u64, below: u32) -> u32 {
+pub(crate) fn draw(state: &mut u64, below: u32) -> u32 {
     *state = state
         .wrapping_mul(6364136223846793005)
         .wrapping_add(1442695040888963407);
@@ -20,7 +20,7 @@ fn draw(state: &mut u64, below: u32) -> u32 {
 }
 
 /// A word of up to five letters.
-fn some_word(alloc: Global, state: &mut u64) -> Result<Ends, AllocError> {
+fn some_word<A: Allocator>(alloc: A, state: &mut u64) -> Result<Ends<A>, AllocError> {
     let mut word = Vec::new(alloc);
     for _ in 0..draw(state, 6) {
         word.push(if draw(state, 2) == 0 {
@@ -32,7 +32,7 @@ fn some_word(alloc: Global, state: &mut u64) -> Result<Ends, AllocError> {
     Ok(Ends::Word(word))
 }
 
-fn some_change(state: &mut u64, key: u32) -> Command<u32, i64> {
+fn some_change<A: Allocator>(state: &mut u64, key: u32) -> Command<u32, i64, A> {
     match draw(state, 20) {
         0 => Command::Remove(key),
         1 => Command::RemoveAll(key),
@@ -54,11 +54,15 @@ fn some_value(state: &mut u64) -> i64 {
     draw(state, 1000) as i64 - 500
 }
 
-fn some_reserve(state: &mut u64) -> Command<u32, i64> {
+fn some_reserve<A: Allocator>(state: &mut u64) -> Command<u32, i64, A> {
     Command::Reserve(draw(state, 40) as usize, draw(state, 40) as usize)
 }
 
-fn some_look_up(alloc: Global, state: &mut u64, key: u32) -> Result<Command<u32, i64>, AllocError> {
+fn some_look_up<A: Allocator>(
+    alloc: A,
+    state: &mut u64,
+    key: u32,
+) -> Result<Command<u32, i64, A>, AllocError> {
     match draw(state, 15) {
         0 => Ok(Command::Get(key)),
         1 => Ok(Command::All(key, Ends::Forward)),
@@ -80,7 +84,10 @@ fn some_look_up(alloc: Global, state: &mut u64, key: u32) -> Result<Command<u32,
 
 // Half of the commands change the map; of a hundred one empties it, one keeps some pairs, one puts a
 // clone in its place, and one asks for room.
-fn some_command(alloc: Global, state: &mut u64) -> Result<Command<u32, i64>, AllocError> {
+pub(crate) fn some_command<A: Allocator>(
+    alloc: A,
+    state: &mut u64,
+) -> Result<Command<u32, i64, A>, AllocError> {
     let key = draw(state, 6);
     match draw(state, 100) {
         0 => Ok(Command::Clear),

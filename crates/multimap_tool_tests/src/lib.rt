@@ -14,6 +14,8 @@ mod memory;
 #[cfg(test)]
 mod plain;
 #[cfg(test)]
+mod refusals;
+#[cfg(test)]
 mod rooms;
 #[cfg(test)]
 mod runs;

@@ -55,7 +55,7 @@ fn may_lack(alloc: Global, plain: &mut PlainMap, command: &Command<u32, i64>) ->
 }
 
 /// Whether a line answers the command as a plain map does, or lacks memory where it may.
-fn line_answers(
+pub(crate) fn line_answers(
     alloc: Global,
     plain: &mut PlainMap,
     command: &Command<u32, i64>,

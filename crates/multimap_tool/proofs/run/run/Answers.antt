@@ -1,7 +1,10 @@
-use Rattle.std.proofs.Common.{◌≡◌, slice_index_or, [], ◌∷◌, ◌++◌, take, refl, sym, ◌∙◌, ap, subst, arith}
+use Rattle.std.proofs.Common.{◌≡◌, ◌≤◌, slice_index_or, [], ◌∷◌, ◌++◌, length, take, refl, sym, ◌∙◌, ap, subst, arith}
+use Rattle.std.specs.Prelude.{Contains}
 use Rattle.std.proofs.lemmas.List.{take_more, take_all}
 use Rattle.multimap_tool.specs.Runs.{IsRun}
+use Rattle.multimap_tool.specs.RunRooms.{FindsRoom}
 use Rattle.multimap_tool.specs.Step.{MayKeep}
+use Rattle.multimap_tool.proofs.RoomLemmas.{step_grows, FindsRoom-push}
 use Rattle.multimap_tool.proofs.RunLemmas.{IsRun-push}
 use Rattle.multimap_tool.proofs.run.run.Goals as goal
 
@@ -9,6 +12,9 @@ pub loop-command-init : goal.loop-command-init
 loop-command-init g c = record {
   ran = subst (λ replies. IsRun (MayKeep g.F.Fn c.args.keep) g.K.PartialEq.eq [] c.args.map.now.lists replies c.args.map.now.lists) (sym c.in_ok-replies.ensures.items) refl;
   hasher = λ same. refl;
+  keys = λ room. omega (arith, room.keys);
+  values = λ room. omega (arith, room.values);
+  found = λ room. subst (FindsRoom []) (sym c.in_ok-replies.ensures.items) tt;
   count = c.in_ok-replies.ensures.len;
   room = omega (arith, c.in_ok-replies.ensures.capacity);
 }
@@ -24,9 +30,16 @@ loop-command-preserved g c =
     let done = take l.command-index c.args.commands.now in
     let command = c.command-item.result in
     let more = take_more c.args.commands.now l.command-index command c.loop-command-test.true ∙ ap (λ x. done ++ x ∷ []) (sym c.command-item.is) in
+    let here : Contains c.args.commands.now command = (l.command-index, c.loop-command-test.true, sym c.command-item.is) in
+    let keeps = MayKeep g.F.Fn c.args.keep in
+    let grows = step_grows keeps g.K.PartialEq.eq command l.map.lists c.step.result c.step.new.map.lists c.step.ensures.step in
     record {
-      ran = rw (more, c.push_reserved.ensures.items) (IsRun-push (MayKeep g.F.Fn c.args.keep) g.K.PartialEq.eq done c.args.map.now.lists l.replies.items l.map.lists command c.step.result c.step.new.map.lists l.invariant.ran c.step.ensures.step);
+      ran = rw (more, c.push_reserved.ensures.items) (IsRun-push keeps g.K.PartialEq.eq done c.args.map.now.lists l.replies.items l.map.lists command c.step.result c.step.new.map.lists l.invariant.ran c.step.ensures.step);
       hasher = λ same. c.step.ensures.hasher same ∙ l.invariant.hasher same;
+      keys = λ room. omega (arith, grows.keys, l.invariant.keys room, (c.step.ensures.rooms (room.keep command here)).keys);
+      values = λ room. omega (arith, grows.pairs, l.invariant.values room, (c.step.ensures.rooms (room.keep command here)).values);
+      found = λ room. rw (more, c.push_reserved.ensures.items) (FindsRoom-push done l.replies.items command c.step.result (l.invariant.found room)
+          (λ adds. c.step.ensures.finds_room adds (omega (arith, l.invariant.keys room, c.loop-command-test.true)) (omega (arith, l.invariant.values room, c.loop-command-test.true))));
       count = omega (arith, l.invariant.count, c.push_reserved.ensures.len);
       room = omega (arith, l.invariant.room, c.push_reserved.ensures.capacity);
     }
@@ -36,3 +49,8 @@ returns-clause-ok g c =
     let l = c.loop-command in
     subst (λ done. IsRun (MayKeep g.F.Fn c.args.keep) g.K.PartialEq.eq done c.args.map.now.lists l.replies.items l.map.lists)
     (take_all l.command-index c.args.commands.now c.loop-command-test.false) l.invariant.ran
+
+pub returns-clause-room : goal.returns-clause-room
+returns-clause-room g c =
+    let l = c.loop-command in
+    λ room. subst (λ done. FindsRoom done l.replies.items) (take_all l.command-index c.args.commands.now c.loop-command-test.false) (l.invariant.found room)

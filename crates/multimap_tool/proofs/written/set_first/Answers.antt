@@ -1,4 +1,4 @@
-use Rattle.std.proofs.Common.{◌≡◌, OnSome, Some, None, slice_get, subst, sym, ap, ◌∙◌, inl}
+use Rattle.std.proofs.Common.{◌≡◌, OnSome, Some, None, slice_get, subst, sym, ap, ◌∙◌, inl, rules}
 use Rattle.ordered_multimap.specs.Changes.{first_written}
 use Rattle.ordered_multimap.specs.Pairs.{values_of}
 use Rattle.ordered_multimap.specs.Writes.{IsWritten}
@@ -13,7 +13,7 @@ returns-in-Some g c =
     let value : Some c.in-Some.first.now ≡ slice_get (values_of eq m.lists.pairs k) 0 = (c.in-Some.ensures {u = tt}).value in
     record {
       step = inl (ap Some c.replace.ensures.value ∙ value, written.lists ∙ ap (first_written eq m.lists k) c.replace.ensures.after);
-      hasher = written.rooms.hasher;
+      rooms = search (rules);
     }
 
 pub returns-in-None-clause-step : goal.returns-in-None-clause-step

@@ -1,0 +1,36 @@
+-- The room that a run of commands finds.
+use Rattle.std.specs.Prelude.{◌≢◌, ◌≤◌, ◌+◌, List, [], ◌∷◌, length, Contains}
+use Rattle.ordered_multimap.specs.Multimap.{Multimap}
+use Rattle.multimap_tool.specs.declared.commands.Command.{Command}
+use Rattle.multimap_tool.specs.declared.commands.Command.TheVariants.{Append, Insert, OrInsert}
+use Rattle.multimap_tool.specs.declared.commands.Command.TheVariants.{Swap}
+use Rattle.multimap_tool.specs.declared.replies.Reply.{Reply}
+use Rattle.multimap_tool.specs.declared.replies.Reply.TheVariants.{NoMemory}
+
+module _ {K V A : Type 0} where
+  -- the command puts one pair in, and tells no list
+  abbrev pub IsAddition : Command K V A → Type 0
+  IsAddition (Append k v) = Unit {0}
+  IsAddition (Insert k v) = Unit {0}
+  IsAddition (OrInsert k v) = Unit {0}
+  IsAddition _ = ⊥
+
+  -- the command lowers no room: it puts no other map in the map's place
+  abbrev pub KeepsRoom : Command K V A → Type 0
+  KeepsRoom Swap = ⊥
+  KeepsRoom _ = Unit {0}
+
+  -- no command lowers a room, and there is room for a key and a value for each of them
+  pub record HasRunRoom {S : Type 0} (commands : List (Command K V A)) (m : Multimap K V S)
+      : Type 0 where
+    pub keep : (command : Command K V A) → Contains commands command → KeepsRoom command
+    pub keys : length m.lists.keys + length commands ≤ m.key_room
+    pub values : length m.lists.pairs + length commands ≤ m.value_room
+
+  -- no addition is answered by want of memory
+  abbrev pub FindsRoom : List (Command K V A) → List (Reply K V A) → Type 0
+  FindsRoom [] [] = Unit {0}
+  FindsRoom (command ∷ commands) (reply ∷ replies) =
+      (IsAddition command → reply ≢ NoMemory) × FindsRoom commands replies
+  FindsRoom [] (reply ∷ replies) = ⊥
+  FindsRoom (command ∷ commands) [] = ⊥
