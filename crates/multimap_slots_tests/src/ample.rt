@@ -146,6 +146,25 @@ fn every_call_of_a_tape_answers(rt: HostRuntime) -> Result<(), Failed> {
     test.end()
 }
 
+// Two items come and one goes; then all go.
+fn slots_are_counted(test: &Test, list: &mut SlotList<usize, u8>) {
+    test.expect("no slot", list.used_slots() == 0);
+    let a = push(test, list, 10, 1);
+    let b = push(test, list, 20, 2);
+    test.expect("remove", take(list, a) == Some(10));
+    test.expect("two slots", list.used_slots() == 2);
+    test.expect("a place below", b < list.used_slots());
+    list.clear();
+    test.expect("no slot again", list.used_slots() == 0);
+}
+
+#[test]
+fn used_slots_stay_until_all_go(rt: HostRuntime) -> Result<(), Failed> {
+    let test = Test::new(rt.alloc());
+    slots_are_counted(&test, &mut SlotList::new(test.alloc()));
+    test.end()
+}
+
 #[test]
 fn a_counter_takes_no_bytes(rt: HostRuntime) -> Result<(), Failed> {
     let test = Test::new(rt.alloc());

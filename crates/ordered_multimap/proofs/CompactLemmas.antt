@@ -11,14 +11,14 @@ use Rattle.ordered_multimap.specs.Renames.{AreRenamed, AreSettled, Renames, plac
 use Rattle.ordered_multimap.proofs.ChainLemmas.{last_or-push}
 use Rattle.ordered_multimap.proofs.MoveLemmas.{renamed-from, renamed-none}
 
-below-less : (n q : ℕ) → IsIn q (places_below n) → q < n
+pub below-less : (n q : ℕ) → IsIn q (places_below n) → q < n
 below-less zero q i = absurd i
 below-less (suc n) q i = elim (IsIn-append q (places_below n) (n ∷ []) i) [
   | inl low ↦ omega (arith, below-less n q low)
   | inr last ↦ elim last [ inl e ↦ omega (arith, e) | inr none ↦ absurd none ]
 ]
 
-length-below : (n : ℕ) → length (places_below n) ≡ n
+pub length-below : (n : ℕ) → length (places_below n) ≡ n
 length-below zero = refl
 length-below (suc n) = length-append (places_below n) (n ∷ []) ∙ omega (arith, length-below n)
 
@@ -106,6 +106,14 @@ settled-end order n f s count = go s.rest s.parts
 
     go : (rest : List ℕ) → order ≡ places_below n ++ rest → end_of order ≡ n
     go [] parts = ap end_of (parts ∙ append-nil (places_below n)) ∙ ends_below n
+    go (p ∷ ps) parts = absurd (omega (arith, count, ap length parts, length-append (places_below n) (p ∷ ps), length-below n))
+
+-- which are those below their number
+pub settled-all : (order : List ℕ) (n : ℕ) (f : Option ℕ) → AreSettled order n f → length order ≡ n → order ≡ places_below n
+settled-all order n f s count = go s.rest s.parts
+  where
+    go : (rest : List ℕ) → order ≡ places_below n ++ rest → order ≡ places_below n
+    go [] parts = parts ∙ append-nil (places_below n)
     go (p ∷ ps) parts = absurd (omega (arith, count, ap length parts, length-append (places_below n) (p ∷ ps), length-below n))
 
 -- no place has another name, and only the capacities differ

@@ -10,6 +10,7 @@ pub mod EntryLends
 pub mod Extends
 pub mod IntoIters
 pub mod KeyLists
+pub mod KeyRenames
 pub mod KeyWrappers
 pub mod Keys
 pub mod Laws

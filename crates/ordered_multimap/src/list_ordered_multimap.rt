@@ -17,6 +17,7 @@ mod into_iter;
 mod key_wrapper;
 mod links;
 mod lookup;
+mod pack;
 mod pop;
 mod refused;
 mod remove;

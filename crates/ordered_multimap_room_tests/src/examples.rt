@@ -13,6 +13,14 @@ fn reserve_ten(map: &mut Numbers) -> Result<(), AllocError> {
     Ok(())
 }
 
+fn pack_five(map: &mut Numbers) -> Result<(), AllocError> {
+    if map.keys_len() <= 5 && map.values_len() <= 5 {
+        map.pack_to(5, 5)?;
+    }
+    map.pack_to_fit()?;
+    Ok(())
+}
+
 fn extend_by_three(map: &mut Numbers) -> Result<(), AllocError> {
     let pairs = [("line", 1), ("page", 8), ("line", 2)].iter().copied();
     map.extend(pairs)?;
@@ -37,6 +45,7 @@ fn is_extended(test: &Test, map: &mut Numbers, other: &Numbers) {
     test.expect("three pairs", map.values_len() == 3);
     test.expect("extend_copied", extend_by(map, other).is_ok());
     test.expect("five pairs", map.values_len() == 5);
+    test.expect("pack", pack_five(map).is_ok());
     test.expect("the last", map.back() == Some((&"page", &8)));
 }
 

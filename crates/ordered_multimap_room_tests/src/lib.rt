@@ -1,10 +1,15 @@
-//! Tests of room that is asked for ahead, and of many pairs that come at once, from outside.
+//! Tests of room that is asked for ahead, of packing, and of many pairs that come at once, from
+//! outside.
 #![tactic(auto)]
 
 #[cfg(test)]
 mod examples;
 #[cfg(test)]
 mod extend;
+#[cfg(test)]
+mod pack;
+#[cfg(test)]
+mod packed_memory;
 #[cfg(test)]
 mod reserve;
 #[cfg(test)]

@@ -4,7 +4,7 @@ ghost use Rattle.multimap_slots.specs.Lists.{IsIn};
 ghost use Rattle.multimap_slots.specs.Slots.{IsSound, link_at, with_link};
 ghost use Rattle.multimap_slots.specs.Tapes.{CountsMove};
 ghost use Rattle.multimap_walks.specs.Chained.{IsChained};
-ghost use Rattle.ordered_multimap.specs.Renames.{AreRenamed, Renames, renamed, renamed_key};
+ghost use Rattle.ordered_multimap.specs.Renames.{AreRenamed, Renames, places_below, renamed, renamed_key};
 
 use super::links::{link_of, set_link, set_next, set_previous};
 use super::lookup::slot_at;
@@ -94,6 +94,7 @@ pub(super) fn compact<K, V: Drop, A: Allocator>(
     requires keys_sound { IsSound keys.old }
     requires chained { IsChained keys.old values.old.list }
     ensures renamed { AreRenamed keys.old keys.new values.old.list values.new.list }
+    ensures settled { values.new.list.order ≡ places_below (length values.old.list.order) }
     ensures no_hole { values.new.holes ≡ 0 }
     ensures moved { values.new.moved ≤ values.old.moved + length values.old.list.order }
     ensures freed { values.new.freed ≡ values.old.freed }

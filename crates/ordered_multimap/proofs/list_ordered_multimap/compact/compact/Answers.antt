@@ -1,8 +1,8 @@
 use Rattle.std.proofs.Common.{◌≡◌, map, length, refl, sym, ap, ◌∙◌, subst, arith, add-one, unwrap_or}
 use Rattle.multimap_slots.specs.Lists.{IsIn, next_of}
-use Rattle.ordered_multimap.specs.Renames.{renamed}
+use Rattle.ordered_multimap.specs.Renames.{places_below, renamed}
 use Rattle.ordered_multimap.proofs.RenameLemmas.{keys_sound-renamed, chained-renamed}
-use Rattle.ordered_multimap.proofs.CompactLemmas.{settled-start, settled-next, next-listed, next-holes, settled-stay, settled-move, settled-end, renamed-room, renames-then, renames-cut}
+use Rattle.ordered_multimap.proofs.CompactLemmas.{settled-start, settled-next, next-listed, next-holes, settled-stay, settled-move, settled-end, settled-all, renamed-room, renames-then, renames-cut}
 use Rattle.std.proofs.lemmas.List.{length-map}
 use Rattle.ordered_multimap.proofs.list_ordered_multimap.compact.compact.Goals as goal
 use Rattle.ordered_multimap.proofs.list_ordered_multimap.compact.compact.Goals.{then-to-from, else-to-from}
@@ -84,6 +84,14 @@ pub returns-clause-renamed : goal.returns-clause-renamed
 returns-clause-renamed g c =
     let w = c.loop-to.invariant in
     record { name = w.renamed.name; renames = renames-cut w.renamed.name c.loop-to.values _ w.renamed.renames c.cut_end.ensures }
+
+pub returns-clause-settled : goal.returns-clause-settled
+returns-clause-settled g c =
+    let w = c.loop-to.invariant in
+    let all : c.loop-to.to ≡ length c.args.values.now.list.order = omega (arith, c.len-count.ensures.len, c.loop-to.auto.to-end, c.loop-to-test.false) in
+    c.cut_end.ensures.order
+    ∙ settled-all c.loop-to.values.list.order c.loop-to.to c.loop-to.following w.settled (omega (arith, w.same_length, all, c.len-count.ensures.len))
+    ∙ ap places_below all
 
 pub returns-clause-no_hole : goal.returns-clause-no_hole
 returns-clause-no_hole g c =

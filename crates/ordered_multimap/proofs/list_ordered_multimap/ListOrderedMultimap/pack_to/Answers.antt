@@ -1,0 +1,42 @@
+use Rattle.std.proofs.Common.{length, ap, ◌∙◌, arith}
+use Rattle.ordered_multimap.proofs.AgreesLemmas.{length-keys, length-pairs}
+use Rattle.ordered_multimap.proofs.KeyRenameLemmas.{agrees-packed, lists_of-packed, packed_length}
+use Rattle.ordered_multimap.proofs.list_ordered_multimap.ListOrderedMultimap.pack_to.Goals as goal
+
+pub pack-requires-clause-key_room : goal.pack-requires-clause-key_room
+pack-requires-clause-key_room g c =
+    omega (arith, c.requires.keys, ap (λ m. length m.lists.keys) c.self.view_is, length-keys c.self.invariant.agrees, c.in_ok-storage.ensures.key_room)
+
+pub pack-requires-clause-row_room : goal.pack-requires-clause-row_room
+pack-requires-clause-row_room g c =
+    omega (arith, c.requires.keys, ap (λ m. length m.lists.keys) c.self.view_is, length-keys c.self.invariant.agrees, c.in_ok-storage.ensures.row_room)
+
+pub pack-requires-clause-value_room : goal.pack-requires-clause-value_room
+pack-requires-clause-value_room g c =
+    omega (arith, c.requires.values, ap (λ m. length m.lists.pairs) c.self.view_is, length-pairs c.self.invariant.agrees, c.in_ok-storage.ensures.value_room)
+
+pub pack-requires-clause-names : goal.pack-requires-clause-names
+pack-requires-clause-names g c =
+    λ q listed. omega (arith, c.used_slots-places.ensures q listed, c.in_ok-storage.ensures.names)
+
+pub invariant_of-self : goal.invariant_of-self
+invariant_of-self g c =
+    let p = c.pack.ensures in
+    record {
+      agrees = agrees-packed c.self.invariant.agrees p.packed;
+      fits =
+          omega (
+            arith,
+            packed_length c.self.invariant.agrees p.packed,
+            p.values_capacity,
+            c.in_ok-storage.ensures.value_room,
+            c.requires.values,
+            ap (λ m. length m.lists.pairs) c.self.view_is,
+            length-pairs c.self.invariant.agrees,
+          );
+      paid = omega (arith, p.unused.moved, p.unused.holes);
+    }
+
+pub returns-clause-unchanged : goal.returns-clause-unchanged
+returns-clause-unchanged g c =
+    lists_of-packed c.self.invariant.agrees c.pack.ensures.packed ∙ ap (λ m. m.lists) c.self.view_is

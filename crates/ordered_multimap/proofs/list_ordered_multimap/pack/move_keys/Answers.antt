@@ -1,0 +1,34 @@
+use Rattle.std.proofs.Common.{length, refl, sym, ◌∙◌, ap, arith}
+use Rattle.std.proofs.lemmas.List.{length-set}
+use Rattle.ordered_multimap.proofs.PackLemmas.{going-start, going-step, going-listed, rows-start, rows-step}
+use Rattle.ordered_multimap.proofs.PlaceLemmas.{begins}
+use Rattle.ordered_multimap.proofs.list_ordered_multimap.pack.move_keys.Goals as goal
+
+pub loop-place-init : goal.loop-place-init
+loop-place-init g c = record {
+  going = going-start _ _ _ c.requires.no_key;
+  rows = rows-start _ _ c.requires.no_key c.requires.no_row;
+  names = refl;
+  keys_capacity = refl;
+  rows_capacity = refl;
+}
+
+pub move_key-requires-clause-within : goal.move_key-requires-clause-within
+move_key-requires-clause-within g c =
+    let w = c.loop-place.invariant in
+    omega (arith, w.names, c.requires.within c.in-Some.place (going-listed w.going (sym c.front_place.ensures ∙ c.in-Some.is)))
+
+pub loop-place-preserved : goal.loop-place-preserved
+loop-place-preserved g c =
+    let w = c.loop-place.invariant in
+    let m = c.move_key.ensures in
+    let first = sym c.front_place.ensures ∙ c.in-Some.is in
+    record {
+      going =
+          going-step m.moved c.len-len.ensures.sound w.going (begins _ _ first)
+          (omega (arith, w.names, c.requires.within c.in-Some.place (going-listed w.going first)));
+      rows = rows-step m.moved w.rows;
+      names = ap length m.moved.names_are ∙ length-set _ _ _ ∙ w.names;
+      keys_capacity = m.keys_capacity ∙ w.keys_capacity;
+      rows_capacity = m.rows_capacity ∙ w.rows_capacity;
+    }

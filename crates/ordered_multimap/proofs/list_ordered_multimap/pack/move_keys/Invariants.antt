@@ -1,0 +1,15 @@
+use Rattle.std.proofs.Common.{◌≡◌, length}
+use Rattle.ordered_multimap.specs.KeyRenames.{AreGoing, HasRows}
+use Rattle.ordered_multimap.proofs.list_ordered_multimap.pack.move_keys.Given as goal
+
+abbrev pub invariant-loop-place : goal.invariant-loop-place
+invariant-loop-place g l = record {
+  going : AreGoing l.names.items l.fn.keys l.keys l.packed;
+  rows : HasRows l.packed l.table.rows;
+  names : length l.names.items ≡ length l.fn.names.items;
+  keys_capacity : l.packed.capacity ≡ l.fn.packed.capacity;
+  rows_capacity : l.table.capacity ≡ l.fn.table.capacity;
+}
+
+abbrev pub decreases-loop-place : goal.decreases-loop-place
+decreases-loop-place g l = length l.keys.order

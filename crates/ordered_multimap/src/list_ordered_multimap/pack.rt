@@ -1,0 +1,248 @@
+//! Packing: keys and values go to new storage in their order, and what is left of the old is
+//! dropped.
+ghost use Rattle.std.specs.Prelude.{◌≡◌, ◌≤◌, ◌<◌, ◌/◌, ℕ, Some, length, IfOk, OnOk, OnErr};
+ghost use Rattle.std.specs.FinMap.{empty, len};
+ghost use Rattle.multimap_slots.specs.Lists.{IsIn};
+ghost use Rattle.multimap_slots.specs.Slots.{HasRoomFor, IsEmpty, IsSound, link_at};
+ghost use Rattle.multimap_slots.specs.Tapes.{KeepsCounts};
+ghost use Rattle.multimap_walks.specs.Chained.{IsChained};
+ghost use Rattle.ordered_multimap.specs.Appends.{HasListedRows};
+ghost use Rattle.ordered_multimap.specs.KeyRenames.{ArePacked, HasRows, HaveCome, HaveGone, MovesKey, name_in};
+ghost use Rattle.ordered_multimap.specs.Renames.{places_below};
+ghost use Rattle.ordered_multimap.specs.TapeNumbers.{AreUnused, numbers_of};
+
+use super::ListOrderedMultimap;
+use super::compact::compact;
+use super::lookup::slot_at;
+use super::takes::take_value;
+use multimap_slots::{SlotList, Tape};
+use multimap_table::KeyTable;
+use multimap_walks::{KeyLink, ValueLink};
+use std::alloc::{AllocError, Allocator};
+use std::hash::{BuildHasher, Hash};
+
+/// New storage for the keys and values of a map.
+#[derive(Drop)]
+struct Storage<K, V, A: Allocator> {
+    keys: SlotList<K, KeyLink, A>,
+    table: KeyTable<A>,
+    values: Tape<V, ValueLink, A>,
+    // At the old place of each key its new one.
+    names: Vec<usize, A>,
+}
+
+/// Empty storage with room for so many keys and values, and with a name for each of so many places.
+fn new_storage<K: Drop, V: Drop, A: Allocator + Copy>(
+    alloc: A,
+    key_capacity: usize,
+    value_capacity: usize,
+    places: usize,
+) -> Result<Storage<K, V, A>, AllocError>
+    ensures no_key { IfOk result (λ s. IsEmpty s.keys) }
+    ensures no_row { IfOk result (λ s. s.table.rows ≡ empty) }
+    ensures no_value { IfOk result (λ s. IsEmpty s.values.list) }
+    ensures unused { IfOk result (λ s. AreUnused (numbers_of s.values)) }
+    ensures key_room { IfOk result (λ s. key_capacity ≤ s.keys.capacity) }
+    ensures row_room { IfOk result (λ s. key_capacity ≤ s.table.capacity) }
+    ensures value_room { IfOk result (λ s. value_capacity ≤ s.values.list.capacity / 2) }
+    ensures names { IfOk result (λ s. length s.names.items ≡ places) }
+{
+    let names = Vec::from_elem(alloc, 0, places)?;
+    let keys = SlotList::with_capacity(alloc, key_capacity)?;
+    let table = KeyTable::with_capacity(alloc, key_capacity)?;
+    let values = Tape::with_capacity(alloc, value_capacity)?;
+    Ok(Storage {
+        keys,
+        table,
+        values,
+        names,
+    })
+}
+
+/// Takes the key at the place to the end of the new list, with its link and a row of its hash, and
+/// notes its new place.
+fn move_key<K, A: Allocator>(
+    keys: &mut SlotList<K, KeyLink, A>,
+    place: usize,
+    packed: &mut SlotList<K, KeyLink, A>,
+    table: &mut KeyTable<A>,
+    names: &mut Vec<usize, A>,
+)
+    requires listed { IsIn place keys.old.order }
+    requires rows { HasListedRows packed.old table.old.rows }
+    requires key_room { HasRoomFor packed.old 1 }
+    requires row_room { len table.old.rows < table.old.capacity }
+    requires within { place < length names.old.items }
+    ensures moved { MovesKey keys.old keys.new packed.old packed.new table.old.rows table.new.rows
+        names.old.items names.new.items place }
+    ensures keys_capacity { packed.new.capacity ≡ packed.old.capacity }
+    ensures rows_capacity { table.new.capacity ≡ table.old.capacity }
+{
+    let (_, link) = slot_at(keys, place);
+    let Some(key) = keys.remove(place) else {
+        unreachable!()
+    };
+    let to = packed.push_reserved(key, link);
+    table.insert(link.hash, to);
+    names[place] = to;
+}
+
+/// Takes all keys to the new list in their order, and notes the new place of each.
+fn move_keys<K, A: Allocator>(
+    keys: &mut SlotList<K, KeyLink, A>,
+    packed: &mut SlotList<K, KeyLink, A>,
+    table: &mut KeyTable<A>,
+    names: &mut Vec<usize, A>,
+)
+    requires no_key { IsEmpty packed.old }
+    requires no_row { table.old.rows ≡ empty }
+    requires key_room { length keys.old.order ≤ packed.old.capacity }
+    requires row_room { length keys.old.order ≤ table.old.capacity }
+    requires within { (q : ℕ) → IsIn q keys.old.order → q < length names.old.items }
+    ensures gone { HaveGone (name_in names.new.items) keys.old.order keys.old packed.new }
+    ensures rows { HasRows packed.new table.new.rows }
+    ensures sound { IsSound packed.new }
+    ensures names { length names.new.items ≡ length names.old.items }
+    ensures keys_capacity { packed.new.capacity ≡ packed.old.capacity }
+    ensures rows_capacity { table.new.capacity ≡ table.old.capacity }
+{
+    // The lengths tell the proof that the lists are sound.
+    let _len = keys.len();
+    while let Some(place) = keys.front_place() {
+        move_key(keys, place, packed, table, names);
+    }
+    let _packed = packed.len();
+}
+
+/// Takes all values to the new tape in their order, with the new places of their keys. The values
+/// stand without a hole, and keep their places.
+fn move_values<V, A: Allocator>(
+    values: &mut Tape<V, ValueLink, A>,
+    packed: &mut Tape<V, ValueLink, A>,
+    names: &Vec<usize, A>,
+)
+    requires settled { values.old.list.order ≡ places_below (length values.old.list.order) }
+    requires no_value { IsEmpty packed.old.list }
+    requires no_hole { packed.old.holes ≡ 0 }
+    requires room { length values.old.list.order ≤ packed.old.list.capacity }
+    requires within { (q : ℕ) (l : ValueLink) → IsIn q values.old.list.order
+        → link_at values.old.list q ≡ Some l → l.key < length names.now.items }
+    ensures come { HaveCome (name_in names.now.items) values.old.list.order
+        values.old.list packed.new.list }
+    ensures counts { KeepsCounts packed.old packed.new }
+    ensures capacity { packed.new.list.capacity ≡ packed.old.list.capacity }
+{
+    for place in 0..values.len() {
+        let (value, link) = take_value(values, place);
+        let key = names[link.key];
+        packed.push_reserved(value, ValueLink { key, ..link });
+    }
+}
+
+/// Takes all keys and values to the new storage, which becomes theirs. Values that a forgotten
+/// drain has left are dropped.
+fn pack<K: Drop, V: Drop, A: Allocator>(
+    keys: &mut SlotList<K, KeyLink, A>,
+    table: &mut KeyTable<A>,
+    values: &mut Tape<V, ValueLink, A>,
+    mut storage: Storage<K, V, A>,
+)
+    requires keys_sound { IsSound keys.old }
+    requires chained { IsChained keys.old values.old.list }
+    requires no_key { IsEmpty storage.keys }
+    requires no_row { storage.table.rows ≡ empty }
+    requires no_value { IsEmpty storage.values.list }
+    requires unused { AreUnused (numbers_of storage.values) }
+    requires key_room { length keys.old.order ≤ storage.keys.capacity }
+    requires row_room { length keys.old.order ≤ storage.table.capacity }
+    requires value_room { length values.old.list.order ≤ storage.values.list.capacity }
+    requires names { (q : ℕ) → IsIn q keys.old.order → q < length storage.names.items }
+    ensures packed { ArePacked keys.old keys.new table.new.rows values.old.list values.new.list }
+    ensures unused { AreUnused (numbers_of values.new) }
+    ensures keys_capacity { keys.new.capacity ≡ storage.keys.capacity }
+    ensures rows_capacity { table.new.capacity ≡ storage.table.capacity }
+    ensures values_capacity { values.new.list.capacity ≡ storage.values.list.capacity }
+{
+    // The length tells the proof that the list of values is sound.
+    let _len = values.len();
+    compact(keys, values);
+    move_keys(
+        keys,
+        &mut storage.keys,
+        &mut storage.table,
+        &mut storage.names,
+    );
+    move_values(values, &mut storage.values, &storage.names);
+    *keys = storage.keys;
+    *table = storage.table;
+    *values = storage.values;
+}
+
+impl<K: Eq + Hash, V, S: BuildHasher, A: Allocator + Copy> ListOrderedMultimap<K, V, S, A> {
+    /// Takes all keys and values, in their orders, to new memory with room for at least
+    /// `keys_minimum_capacity` keys and `values_minimum_capacity` values, and gives the old memory
+    /// back. The map must not have more keys or values than that. What a forgotten drain has left
+    /// is dropped, and no hole stays.
+    ///
+    /// A refusal is want of memory, or a number of slots past the greatest `usize`. All new memory
+    /// is taken before anything is moved, so the map is then as it was. It goes over the slots in
+    /// use and the lanes of the new table; for the time of the call it takes a number for each slot
+    /// of a key that is in use. No key is hashed or compared.
+    ///
+    /// ```
+    /// map.pack_to(5, 5)?;
+    /// ```
+    pub fn pack_to(
+        &mut self,
+        keys_minimum_capacity: usize,
+        values_minimum_capacity: usize,
+    ) -> Result<(), AllocError>
+    where
+        K: Drop,
+        V: Drop,
+        requires keys { length self.old.lists.keys ≤ keys_minimum_capacity }
+        requires values { length self.old.lists.pairs ≤ values_minimum_capacity }
+        ensures key_room { OnOk result (keys_minimum_capacity ≤ self.new.key_room) }
+        ensures value_room { OnOk result (values_minimum_capacity ≤ self.new.value_room) }
+        ensures unused { OnOk result (AreUnused self.new.tape) }
+
+        // Both lists stay in any case, and where memory is refused all of the map does.
+        ensures unchanged { self.new.lists ≡ self.old.lists }
+        ensures hasher { self.new.hasher ≡ self.old.hasher }
+        ensures refused { OnErr result (self.new ≡ self.old) }
+    {
+        let alloc = *self.keys.allocator();
+        let places = self.keys.used_slots();
+        let storage = new_storage(
+            alloc,
+            keys_minimum_capacity,
+            values_minimum_capacity,
+            places,
+        )?;
+        pack(&mut self.keys, &mut self.table, &mut self.values, storage);
+        Ok(())
+    }
+
+    /// The same, with room for at least the keys and values that the map has.
+    ///
+    /// ```
+    /// map.pack_to_fit()?;
+    /// ```
+    pub fn pack_to_fit(&mut self) -> Result<(), AllocError>
+    where
+        K: Drop,
+        V: Drop,
+        ensures key_room { OnOk result (length self.old.lists.keys ≤ self.new.key_room) }
+        ensures value_room { OnOk result (length self.old.lists.pairs ≤ self.new.value_room) }
+        ensures unused { OnOk result (AreUnused self.new.tape) }
+
+        // Both lists stay in any case, and where memory is refused all of the map does.
+        ensures unchanged { self.new.lists ≡ self.old.lists }
+        ensures hasher { self.new.hasher ≡ self.old.hasher }
+        ensures refused { OnErr result (self.new ≡ self.old) }
+    {
+        let keys = self.keys_len();
+        let values = self.values_len();
+        self.pack_to(keys, values)
+    }
+}
