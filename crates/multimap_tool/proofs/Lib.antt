@@ -9,3 +9,4 @@ mod FieldLemmas
 mod ReadingLemmas
 mod LineLemmas
 mod ReadLemmas
+mod JsonLemmas

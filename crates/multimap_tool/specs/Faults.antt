@@ -6,6 +6,10 @@ use Rattle.multimap_tool.specs.declared.faults.TextFault.TheVariants as text_fau
 use Rattle.multimap_tool.specs.declared.faults.ToolFault.{ToolFault}
 use Rattle.multimap_tool.specs.declared.faults.ToolFault.TheVariants.{BadLine, Read, Write}
 use Rattle.multimap_tool.specs.declared.faults.ToolFault.TheVariants.{OutOfMemory}
+use Rattle.multimap_tool.specs.declared.json.faults.PartFault.{PartFault}
+use Rattle.multimap_tool.specs.declared.json.faults.PartFault.TheVariants as part_faults
+use Rattle.multimap_tool.specs.declared.json.faults.ReadFault.{ReadFault}
+use Rattle.multimap_tool.specs.declared.json.faults.ReadFault.TheVariants as read_faults
 
 -- the text of a fault
 abbrev pub fault_text : ToolFault → List ℕ
@@ -28,3 +32,15 @@ as_tool_fault text_faults.OutOfMemory = OutOfMemory
 
 abbrev pub text_fault_text : TextFault → List ℕ
 text_fault_text fault = fault_text (as_tool_fault fault)
+
+-- the texts of what is wrong with a JSON value
+abbrev pub part_fault_text : PartFault → List ℕ
+part_fault_text part_faults.Refused = codes "refused"
+part_fault_text part_faults.OutOfMemory = codes "out of memory"
+
+abbrev pub read_fault_text : ReadFault → List ℕ
+read_fault_text read_faults.NotArray = codes "no array"
+read_fault_text (read_faults.NotPair i) = codes "item " ++ decimal i ++ codes " is no pair"
+read_fault_text (read_faults.BadKey i) = codes "item " ++ decimal i ++ codes " has a bad key"
+read_fault_text (read_faults.BadValue i) = codes "item " ++ decimal i ++ codes " has a bad value"
+read_fault_text read_faults.OutOfMemory = codes "out of memory"

@@ -8,3 +8,4 @@ pub mod Answers
 pub mod Execute
 pub mod Faults
 pub mod Laws
+pub mod Json

@@ -1,12 +1,16 @@
-//! Laws of steps and runs, for all commands. The functions do nothing: what they ensure is the law.
-ghost use Rattle.std.specs.Prelude.{List};
-ghost use Rattle.ordered_multimap.specs.Lists.{Lists, IsWellFormed};
+//! Laws of steps and runs, for all commands, and of maps as JSON values. The functions do nothing:
+//! what they ensure is the law.
+ghost use Rattle.std.specs.Prelude.{◌≡◌, List};
+ghost use Rattle.ordered_multimap.specs.Lists.{Lists, lists, IsWellFormed};
+ghost use Rattle.ordered_multimap.specs.Changes.{first_occurrences};
 ghost use Rattle.multimap_tool.specs.declared.commands.Command.{Command};
 ghost use Rattle.multimap_tool.specs.declared.replies.Reply.{Reply};
 ghost use Rattle.multimap_tool.specs.Step.{IsStep, MayKeep};
 ghost use Rattle.multimap_tool.specs.Runs.{IsRun};
 ghost use Rattle.multimap_tool.specs.Laws.{IsOrderly};
+ghost use Rattle.multimap_tool.specs.Json.{IsReadFrom, pairs_json};
 
+use crate::json::JsonPart;
 use std::alloc::Allocator;
 
 /// A step leaves well-formed lists well formed, whatever the function keeps. Keys that stay keep their order, and a key that
@@ -21,4 +25,15 @@ pub fn run_is_well_formed<K: Eq, V, A: Allocator, F: Fn(V, &K, &mut V) -> bool>(
     ensures { (cs : List (Command K V A))
         (m : Lists K V) (rs : List (Reply K V A)) (n : Lists K V) →
         IsWellFormed K.eq m → IsRun (MayKeep F.Fn _keep.now) K.eq cs m rs n → IsWellFormed K.eq n }
+{}
+
+/// What is read of the JSON value of a map has its pairs, and its keys in the order in which they
+/// first occur in the pairs. Different keys have to have different JSON values, and different values
+/// too, as those of numbers have.
+pub fn what_is_written_is_read<K: JsonPart + Eq, V: JsonPart>()
+    requires keys { (k j : K) → K.json k ≡ K.json j → k ≡ j }
+    requires values { (v w : V) → V.json v ≡ V.json w → v ≡ w }
+    ensures { (m n : Lists K V) → IsWellFormed K.eq m
+        → IsReadFrom K.json V.json K.eq (pairs_json K.json V.json m.pairs) n
+        → n ≡ lists (first_occurrences K.eq m.pairs) m.pairs }
 {}

@@ -9,6 +9,7 @@ mod drained;
 pub mod execute;
 pub mod faults;
 pub mod format;
+pub mod json;
 mod keep;
 pub mod laws;
 mod lists;

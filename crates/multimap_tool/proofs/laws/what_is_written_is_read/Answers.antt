@@ -1,0 +1,5 @@
+use Rattle.multimap_tool.proofs.JsonLemmas.{read_back}
+use Rattle.multimap_tool.proofs.laws.what_is_written_is_read.Goals as goal
+
+pub returns : goal.returns
+returns g c = read_back g.K.JsonPart.json g.V.JsonPart.json c.requires.keys c.requires.values g.met.K.Eq.laws

@@ -1,0 +1,129 @@
+//! Maps as JSON values: an array with an array of the key and the value for each pair, in order.
+ghost use Rattle.std.specs.Prelude.{◌≡◌, ℕ, None, IfOk, IfErr, OnOk, IsSome};
+ghost use Rattle.serde_json.specs.Find.{as_array};
+ghost use Rattle.serde_json.specs.View.{view};
+ghost use Rattle.ordered_multimap.specs.TapeNumbers.{AreUnused};
+ghost use Rattle.multimap_tool.specs.Json.{IsFound, IsReadFrom, fault_in, item_fault};
+ghost use Rattle.multimap_tool.specs.Json.{pair_json, pairs_json};
+
+mod faults;
+mod parts;
+
+pub use faults::{PartFault, ReadFault};
+use ordered_multimap::ListOrderedMultimap;
+pub use parts::JsonPart;
+use serde_json::Value;
+use std::alloc::{AllocError, Allocator, Global};
+use std::hash::{BuildHasher, Hash};
+
+/// The map as a JSON value: an array with one array `[key, value]` for each pair, in order.
+///
+/// `alloc` gives the memory of the JSON value: one request for the whole, one for each pair, and
+/// those of its texts. A refusal is want of memory; the map stays as it is.
+///
+/// ```
+/// to_value(alloc, &map)?.to_string(alloc)? == "[[\"b\",20],[\"a\",10]]"
+/// ```
+pub fn to_value<K: JsonPart + Eq + Hash, V: JsonPart, S: BuildHasher, A: Allocator>(
+    alloc: Global,
+    map: &ListOrderedMultimap<K, V, S, A>,
+) -> Result<Value, AllocError>
+    ensures written { IfOk result (λ value.
+        view value ≡ pairs_json K.json V.json map.now.lists.pairs) }
+    ensures accepted { IfOk result (λ value.
+        fault_in K.is_part V.is_part (view value) ≡ None) }
+{
+    let mut items = Vec::with_capacity(alloc, map.values_len())?;
+    for (key, value) in map.iter() {
+        items.push_reserved(item_of(alloc, key, value)?);
+    }
+    Ok(Value::from(items))
+}
+
+/// The array of the key and the value.
+fn item_of<K: JsonPart, V: JsonPart>(alloc: Global, key: &K, value: &V) -> Result<Value, AllocError>
+    ensures written { IfOk result (λ item.
+        view item ≡ pair_json K.json V.json (key.now, value.now)) }
+    ensures accepted { (index : ℕ) → IfOk result (λ item.
+        item_fault K.is_part V.is_part index (view item) ≡ None) }
+{
+    let mut parts = Vec::with_capacity(alloc, 2)?;
+    parts.push_reserved(key.to_part(alloc)?);
+    parts.push_reserved(value.to_part(alloc)?);
+    Ok(Value::from(parts))
+}
+
+/// A map with this hash builder, of the pairs of a JSON value, appended in order.
+///
+/// `alloc` gives the memory of the map, and `memory` that of keys and values that are read. The
+/// value has to be an array of arrays `[key, value]`; the first item that is none decides which
+/// fault is told, and there is then no map. That there is no room for as many pairs at the start is
+/// no fault: each append makes the room that it needs.
+///
+/// ```
+/// from_value(alloc, memory, DefaultState::new(), &value)?
+/// ```
+pub fn from_value<
+    K: JsonPart + Eq + Hash + Drop,
+    V: JsonPart + Drop,
+    S: BuildHasher + Drop,
+    A: Allocator + Copy,
+>(
+    alloc: A,
+    memory: Global,
+    state: S,
+    value: &Value,
+) -> Result<ListOrderedMultimap<K, V, S, A>, ReadFault>
+    ensures read { IfOk result (λ map.
+        IsReadFrom K.json V.json K.eq (view value.now) map.lists) }
+    ensures accepted { OnOk result (fault_in K.is_part V.is_part (view value.now) ≡ None) }
+    ensures fault { IfErr result (IsFound (fault_in K.is_part V.is_part (view value.now))) }
+    ensures memory { IfErr result (λ fault. fault ≡ ReadFault.OutOfMemory
+        → IsSome (as_array (view value.now))) }
+    ensures hasher { IfOk result (λ map. map.hasher ≡ state) }
+    ensures unused { IfOk result (λ map. AreUnused map.tape) }
+{
+    let Some(items) = value.as_array() else {
+        return Err(ReadFault::NotArray);
+    };
+    let mut map = ListOrderedMultimap::with_hasher(alloc, state);
+    // A wish: each append makes the room that it needs.
+    let _reserved = map.reserve_values(items.len());
+    for (index, item) in items.iter().enumerate() {
+        let (key, value) = read_pair(memory, index, item)?;
+        let Ok(_) = map.append(key, value) else {
+            return Err(ReadFault::OutOfMemory);
+        };
+    }
+    Ok(map)
+}
+
+/// The pair of the item at a position.
+fn read_pair<K: JsonPart + Drop, V: JsonPart>(
+    memory: Global,
+    index: usize,
+    item: &Value,
+) -> Result<(K, V), ReadFault>
+    ensures read { IfOk result (λ pair. view item.now ≡ pair_json K.json V.json pair) }
+    ensures accepted { OnOk result
+        (item_fault K.is_part V.is_part index (view item.now) ≡ None) }
+    ensures fault { IfErr result
+        (IsFound (item_fault K.is_part V.is_part index (view item.now))) }
+{
+    let Some(parts) = item.as_array() else {
+        return Err(ReadFault::NotPair(index));
+    };
+    let [key, value] = parts.as_slice() else {
+        return Err(ReadFault::NotPair(index));
+    };
+    let key = match K::from_part(memory, key) {
+        Ok(key) => key,
+        Err(PartFault::Refused) => return Err(ReadFault::BadKey(index)),
+        Err(PartFault::OutOfMemory) => return Err(ReadFault::OutOfMemory),
+    };
+    match V::from_part(memory, value) {
+        Ok(value) => Ok((key, value)),
+        Err(PartFault::Refused) => Err(ReadFault::BadValue(index)),
+        Err(PartFault::OutOfMemory) => Err(ReadFault::OutOfMemory),
+    }
+}

@@ -1,0 +1,160 @@
+//! Keys and values as parts of JSON values.
+ghost use Rattle.std.specs.Prelude.{◌≡◌, true, false, IfOk, IfErr, OnOk};
+ghost use Rattle.serde_json.specs.View.{view};
+
+use super::faults::PartFault;
+use serde_json::Value;
+use std::alloc::{AllocError, Global};
+
+/// A type whose values can be the keys or the values of a map that is written as JSON.
+///
+/// What `to_part` wrote `from_part` reads as the same value, or it finds no memory.
+pub trait JsonPart {
+    ghost use Rattle.std.specs.Prelude.{Bool};
+    ghost use Rattle.serde_json.specs.Data.{Data};
+
+    /// The JSON value that it is written as.
+    ghost json: { Self → Data };
+
+    /// Whether a value of this type is written as this JSON value.
+    ghost is_part: { Data → Bool };
+
+    /// The JSON value that it is written as. Takes memory from `alloc`, for texts alone.
+    fn to_part(&self, alloc: Global) -> Result<Value, AllocError>
+        ensures written { IfOk result (λ part. view part ≡ json self.now) }
+        ensures accepted { IfOk result (λ part. is_part (view part) ≡ true) };
+
+    /// The value that is written as this JSON value. It is refused exactly where there is none.
+    /// Takes memory from `alloc`, for texts alone.
+    fn from_part(alloc: Global, value: &Value) -> Result<Self, PartFault>
+        ensures read { IfOk result (λ part. view value.now ≡ json part) }
+        ensures accepted { OnOk result (is_part (view value.now) ≡ true) }
+        ensures refused { IfErr result (λ fault. fault ≡ PartFault.Refused
+            → is_part (view value.now) ≡ false) };
+}
+
+/// A whole number of 32 bits.
+impl JsonPart for u32 {
+    ghost use Rattle.serde_json.specs.Data.{number, unsigned};
+    ghost use Rattle.multimap_tool.specs.Json.{is_u32};
+
+    ghost json = { λ part. number (unsigned part) };
+
+    ghost is_part = { is_u32 };
+
+    fn to_part(&self, _alloc: Global) -> Result<Value, AllocError> {
+        Ok(Value::from(*self))
+    }
+
+    fn from_part(_alloc: Global, value: &Value) -> Result<u32, PartFault> {
+        match value.as_u64() {
+            Some(part) if part <= u32::MAX as u64 => Ok(part as u32),
+            _ => Err(PartFault::Refused),
+        }
+    }
+}
+
+/// A whole number of 64 bits.
+impl JsonPart for u64 {
+    ghost use Rattle.serde_json.specs.Data.{number, unsigned};
+    ghost use Rattle.multimap_tool.specs.Json.{is_u64};
+
+    ghost json = { λ part. number (unsigned part) };
+
+    ghost is_part = { is_u64 };
+
+    fn to_part(&self, _alloc: Global) -> Result<Value, AllocError> {
+        Ok(Value::from(*self))
+    }
+
+    fn from_part(_alloc: Global, value: &Value) -> Result<u64, PartFault> {
+        value.as_u64().ok_or(PartFault::Refused)
+    }
+}
+
+/// A whole number of 64 bits with its sign.
+impl JsonPart for i64 {
+    ghost use Rattle.serde_json.specs.Data.{number};
+    ghost use Rattle.serde_json.specs.Find.{of_integer};
+    ghost use Rattle.multimap_tool.specs.Json.{is_i64};
+
+    ghost json = { λ part. number (of_integer part) };
+
+    ghost is_part = { is_i64 };
+
+    fn to_part(&self, _alloc: Global) -> Result<Value, AllocError> {
+        Ok(Value::from(*self))
+    }
+
+    fn from_part(_alloc: Global, value: &Value) -> Result<i64, PartFault> {
+        value.as_i64().ok_or(PartFault::Refused)
+    }
+}
+
+/// `true` or `false`.
+impl JsonPart for bool {
+    ghost use Rattle.serde_json.specs.Data.{boolean};
+    ghost use Rattle.multimap_tool.specs.Json.{is_truth};
+
+    ghost json = { boolean };
+
+    ghost is_part = { is_truth };
+
+    fn to_part(&self, _alloc: Global) -> Result<Value, AllocError> {
+        Ok(Value::from(*self))
+    }
+
+    fn from_part(_alloc: Global, value: &Value) -> Result<bool, PartFault> {
+        value.as_bool().ok_or(PartFault::Refused)
+    }
+}
+
+/// A text of one character.
+impl JsonPart for char {
+    ghost use Rattle.std.specs.Char.{encode_utf8};
+    ghost use Rattle.serde_json.specs.Data.{string};
+    ghost use Rattle.multimap_tool.specs.Json.{is_character};
+
+    ghost json = { λ part. string (encode_utf8 part) };
+
+    ghost is_part = { is_character };
+
+    fn to_part(&self, alloc: Global) -> Result<Value, AllocError> {
+        let mut text = String::new(alloc);
+        text.push(*self)?;
+        Ok(Value::from(text))
+    }
+
+    fn from_part(_alloc: Global, value: &Value) -> Result<char, PartFault> {
+        let Some(text) = value.as_str() else {
+            return Err(PartFault::Refused);
+        };
+        let mut characters = text.chars();
+        match (characters.next(), characters.next()) {
+            (Some(part), None) => Ok(part),
+            _ => Err(PartFault::Refused),
+        }
+    }
+}
+
+/// A text.
+impl JsonPart for String {
+    ghost use Rattle.std.specs.String.{string_bytes};
+    ghost use Rattle.serde_json.specs.Data.{string};
+    ghost use Rattle.multimap_tool.specs.Json.{is_text};
+
+    ghost json = { λ part. string (string_bytes part) };
+
+    ghost is_part = { is_text };
+
+    fn to_part(&self, alloc: Global) -> Result<Value, AllocError> {
+        Value::try_from_str(alloc, self.as_str())
+    }
+
+    fn from_part(alloc: Global, value: &Value) -> Result<String, PartFault> {
+        match value.as_str() {
+            Some(text) => String::from_str(alloc, text).map_err(|_| PartFault::OutOfMemory),
+            None => Err(PartFault::Refused),
+        }
+    }
+}
