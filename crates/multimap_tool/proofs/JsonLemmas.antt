@@ -1,12 +1,12 @@
 -- JSON values of keys, values and maps.
-use Rattle.std.proofs.Common.{◌≡◌, ℕ, suc, ◌==◌, ◌+◌, Bool, true, false, List, [], ◌∷◌, ◌++◌, length, map, slice_get, Option, Some, None, chars, encode_utf8, ℤ, pos, negsuc, refl, sym, ap, ap₂, ◌∙◌, append_assoc, append-nil, subst, arith, Result, Ok, Err, IfErr, IsErrAnd}
+use Rattle.std.proofs.Common.{◌≡◌, ℕ, suc, ◌==◌, ◌+◌, Bool, true, false, List, [], ◌∷◌, ◌++◌, length, map, get_or, slice_get, Option, Some, None, chars, encode_utf8, ℤ, pos, negsuc, refl, sym, ap, ap₂, ◌∙◌, append_assoc, append-nil, subst, arith, Result, Ok, Err, IfErr, IsErrAnd}
 use lib.Utf8.{scalars}
 use Rattle.std.specs.Str.{IsUtf8}
 use Rattle.std.specs.Option.{option_or}
 use Rattle.std.proofs.lemmas.Bool.{ne_eqb}
 use Rattle.std.proofs.lemmas.List.{map-append}
 use Rattle.std.proofs.lemmas.Str.{chars-encodes, chars_past_char}
-use Rattle.serde_json.specs.Data.{Data, null, boolean, number, unsigned, string, array, object, Items}
+use Rattle.serde_json.specs.Data.{Data, null, boolean, number, unsigned, string, array, object, Items, item, no_items}
 use Rattle.serde_json.specs.Find.{as_array, as_str, of_integer}
 use Rattle.serde_json.specs.View.{view, items_of, items_view}
 use Rattle.serde_json.specs.declared.value.Value.{Value}
@@ -58,6 +58,13 @@ not_one x y (z ∷ xs) e = ne_eqb _ 1 (λ is. omega arith)
 
 pub more_characters : (s rest : List ℕ) (c d : ℕ) → IsUtf8 s → s ≡ encode_utf8 c ++ rest → slice_get (chars rest) 0 ≡ Some d → is_character (string s) ≡ false
 more_characters s rest c d utf8 starts goes_on = rw (chars_past_char s rest c utf8 starts) (not_one c d (chars rest) goes_on)
+
+-- an array of two has its two items
+pub array_of_two : (vs : List Value) (d : Value) → length vs ≡ 2 → array (items_view vs) ≡ array (item (view (get_or vs 0 d)) (item (view (get_or vs 1 d)) no_items))
+array_of_two [] d two = absurd (omega arith)
+array_of_two (v ∷ []) d two = absurd (omega arith)
+array_of_two (v ∷ w ∷ []) d two = refl
+array_of_two (v ∷ w ∷ x ∷ more) d two = absurd (omega arith)
 
 module _ (is_key is_value : Data → Bool) where
   -- an array that isn't as long as two is no pair

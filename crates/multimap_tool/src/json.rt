@@ -113,15 +113,15 @@ fn read_pair<K: JsonPart + Drop, V: JsonPart>(
     let Some(parts) = item.as_array() else {
         return Err(ReadFault::NotPair(index));
     };
-    let [key, value] = parts.as_slice() else {
+    if parts.len() != 2 {
         return Err(ReadFault::NotPair(index));
-    };
-    let key = match K::from_part(memory, key) {
+    }
+    let key = match K::from_part(memory, &parts[0]) {
         Ok(key) => key,
         Err(PartFault::Refused) => return Err(ReadFault::BadKey(index)),
         Err(PartFault::OutOfMemory) => return Err(ReadFault::OutOfMemory),
     };
-    match V::from_part(memory, value) {
+    match V::from_part(memory, &parts[1]) {
         Ok(value) => Ok((key, value)),
         Err(PartFault::Refused) => Err(ReadFault::BadValue(index)),
         Err(PartFault::OutOfMemory) => Err(ReadFault::OutOfMemory),

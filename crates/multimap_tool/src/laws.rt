@@ -1,7 +1,7 @@
 //! Laws of steps and runs, for all commands, and of maps as JSON values. The functions do nothing:
 //! what they ensure is the law.
 ghost use Rattle.std.specs.Prelude.{◌≡◌, List};
-ghost use Rattle.ordered_multimap.specs.Lists.{Lists, lists, IsWellFormed};
+ghost use Rattle.ordered_multimap.specs.Lists.{Lists, IsWellFormed};
 ghost use Rattle.ordered_multimap.specs.Changes.{first_occurrences};
 ghost use Rattle.multimap_tool.specs.declared.commands.Command.{Command};
 ghost use Rattle.multimap_tool.specs.declared.replies.Reply.{Reply};
@@ -35,5 +35,5 @@ pub fn what_is_written_is_read<K: JsonPart + Eq, V: JsonPart>()
     requires values { (v w : V) → V.json v ≡ V.json w → v ≡ w }
     ensures { (m n : Lists K V) → IsWellFormed K.eq m
         → IsReadFrom K.json V.json K.eq (pairs_json K.json V.json m.pairs) n
-        → n ≡ lists (first_occurrences K.eq m.pairs) m.pairs }
+        → (n.keys ≡ first_occurrences K.eq m.pairs) × (n.pairs ≡ m.pairs) }
 {}
