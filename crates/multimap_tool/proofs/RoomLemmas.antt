@@ -11,7 +11,7 @@ use Rattle.ordered_multimap.specs.Changes.{appended, inserted, kept, removed, fi
 use Rattle.ordered_multimap.specs.Pop.{popped}
 use Rattle.ordered_multimap.specs.Retain.{Retains}
 use Rattle.multimap_tool.specs.declared.commands.Command.{Command}
-use Rattle.multimap_tool.specs.declared.commands.Command.TheVariants.{Append, Insert, InsertAll, SetFirst, SetFront, SetBack, OrInsert, Get, All, Has, Len, Front, Back, Remove, RemoveAll, RemoveEntry, RemoveEntryAll, PopFront, PopBack, Retain, Clear, Reserve, Swap, Pairs, Keys, Values, KeyLists, Lengths}
+use Rattle.multimap_tool.specs.declared.commands.Command.TheVariants.{Append, Insert, InsertAll, SetFirst, SetFront, SetBack, OrInsert, Get, All, Has, Len, Front, Back, Remove, RemoveAll, RemoveEntry, RemoveEntryAll, PopFront, PopBack, Retain, Clear, Reserve, PackToFit, Swap, Pairs, Keys, Values, KeyLists, Lengths}
 use Rattle.multimap_tool.specs.declared.replies.Reply.{Reply}
 use Rattle.multimap_tool.specs.Step.{Leaves, IsStep, KeepsPairs, entered}
 use Rattle.multimap_tool.specs.RunRooms.{FindsRoom, IsAddition}
@@ -126,6 +126,7 @@ module _ {K V A : Type 0} (keeps : V → K → V → Bool → V → Type 0) (eq 
   leaves_grow (Retain x) m n left = kept_by_grows eq (keeps x) m n left
   leaves_grow Clear m n left = by_same eq m n empty_lists left (record { keys = omega arith; pairs = omega arith })
   leaves_grow (Reserve a b) m n left = same_grows eq m n left
+  leaves_grow PackToFit m n left = same_grows eq m n left
   leaves_grow Swap m n left = same_grows eq m n left
   leaves_grow (Pairs ends) m n left = same_grows eq m n left
   leaves_grow (Keys ends) m n left = same_grows eq m n left

@@ -15,7 +15,7 @@ use Rattle.ordered_multimap.specs.Retain.{Retains}
 use Rattle.ordered_multimap.specs.Lists.{IsIn}
 use Rattle.std.specs.Map.{keys_of}
 use Rattle.multimap_tool.specs.declared.commands.Command.{Command}
-use Rattle.multimap_tool.specs.declared.commands.Command.TheVariants.{Append, Insert, InsertAll, SetFirst, SetFront, SetBack, OrInsert, Get, All, Has, Len, Front, Back, Remove, RemoveAll, RemoveEntry, RemoveEntryAll, PopFront, PopBack, Retain, Clear, Reserve, Swap, Pairs, Keys, Values, KeyLists, Lengths}
+use Rattle.multimap_tool.specs.declared.commands.Command.TheVariants.{Append, Insert, InsertAll, SetFirst, SetFront, SetBack, OrInsert, Get, All, Has, Len, Front, Back, Remove, RemoveAll, RemoveEntry, RemoveEntryAll, PopFront, PopBack, Retain, Clear, Reserve, PackToFit, Swap, Pairs, Keys, Values, KeyLists, Lengths}
 use Rattle.multimap_tool.specs.declared.replies.Reply.{Reply}
 use Rattle.multimap_tool.specs.Step.{Leaves, IsLookUp, IsOwnStep, IsStep, KeepsPairs, entered}
 use Rattle.multimap_tool.specs.Runs.{IsRun}
@@ -120,6 +120,7 @@ module _ {K V A : Type 0} {eq : K → K → Bool} (laws : IsEquivalence eq) (kee
     key_order = KeepsKeyOrder-none laws m.keys;
   })
   leaves_orderly (Reserve a b) m n formed left = unchanged laws m n formed left
+  leaves_orderly PackToFit m n formed left = unchanged laws m n formed left
   leaves_orderly Swap m n formed left = unchanged laws m n formed left
   leaves_orderly (Pairs ends) m n formed left = unchanged laws m n formed left
   leaves_orderly (Keys ends) m n formed left = unchanged laws m n formed left
@@ -141,35 +142,36 @@ module _ {K V A : Type 0} where
   pub IsLookUp-else : (command : Command K V A) → ((k : K) (v : V) → command ≢ Append k v) → ((k : K) (v : V) → command ≢ Insert k v) → ((k : K) (v : V) → command ≢ InsertAll k v)
       → ((k : K) (v : V) → command ≢ SetFirst k v) → ((v : V) → command ≢ SetFront v) → ((v : V) → command ≢ SetBack v) → ((k : K) (v : V) → command ≢ OrInsert k v)
       → ((k : K) → command ≢ Remove k) → ((k : K) → command ≢ RemoveAll k) → ((k : K) → command ≢ RemoveEntry k) → ((k : K) → command ≢ RemoveEntryAll k)
-      → command ≢ PopFront → command ≢ PopBack → ((v : V) → command ≢ Retain v) → command ≢ Clear → ((x y : ℕ) → command ≢ Reserve x y) → command ≢ Swap → IsLookUp command
-  IsLookUp-else (Append k v) a b c d e f g h i j l m n p o r q = a k v refl
-  IsLookUp-else (Insert k v) a b c d e f g h i j l m n p o r q = b k v refl
-  IsLookUp-else (InsertAll k v) a b c d e f g h i j l m n p o r q = c k v refl
-  IsLookUp-else (SetFirst k v) a b c d e f g h i j l m n p o r q = d k v refl
-  IsLookUp-else (SetFront v) a b c d e f g h i j l m n p o r q = e v refl
-  IsLookUp-else (SetBack v) a b c d e f g h i j l m n p o r q = f v refl
-  IsLookUp-else (OrInsert k v) a b c d e f g h i j l m n p o r q = g k v refl
-  IsLookUp-else (Get k) a b c d e f g h i j l m n p o r q = tt
-  IsLookUp-else (All k ends) a b c d e f g h i j l m n p o r q = tt
-  IsLookUp-else (Has k) a b c d e f g h i j l m n p o r q = tt
-  IsLookUp-else (Len k) a b c d e f g h i j l m n p o r q = tt
-  IsLookUp-else Front a b c d e f g h i j l m n p o r q = tt
-  IsLookUp-else Back a b c d e f g h i j l m n p o r q = tt
-  IsLookUp-else (Remove k) a b c d e f g h i j l m n p o r q = h k refl
-  IsLookUp-else (RemoveAll k) a b c d e f g h i j l m n p o r q = i k refl
-  IsLookUp-else (RemoveEntry k) a b c d e f g h i j l m n p o r q = j k refl
-  IsLookUp-else (RemoveEntryAll k) a b c d e f g h i j l m n p o r q = l k refl
-  IsLookUp-else PopFront a b c d e f g h i j l m n p o r q = m refl
-  IsLookUp-else PopBack a b c d e f g h i j l m n p o r q = n refl
-  IsLookUp-else (Retain v) a b c d e f g h i j l m n p o r q = p v refl
-  IsLookUp-else Clear a b c d e f g h i j l m n p o r q = o refl
-  IsLookUp-else (Reserve x y) a b c d e f g h i j l m n p o r q = r x y refl
-  IsLookUp-else Swap a b c d e f g h i j l m n p o r q = q refl
-  IsLookUp-else (Pairs ends) a b c d e f g h i j l m n p o r q = tt
-  IsLookUp-else (Keys ends) a b c d e f g h i j l m n p o r q = tt
-  IsLookUp-else (Values ends) a b c d e f g h i j l m n p o r q = tt
-  IsLookUp-else KeyLists a b c d e f g h i j l m n p o r q = tt
-  IsLookUp-else Lengths a b c d e f g h i j l m n p o r q = tt
+      → command ≢ PopFront → command ≢ PopBack → ((v : V) → command ≢ Retain v) → command ≢ Clear → ((x y : ℕ) → command ≢ Reserve x y) → command ≢ PackToFit → command ≢ Swap → IsLookUp command
+  IsLookUp-else (Append k v) a b c d e f g h i j l m n p o r s q = a k v refl
+  IsLookUp-else (Insert k v) a b c d e f g h i j l m n p o r s q = b k v refl
+  IsLookUp-else (InsertAll k v) a b c d e f g h i j l m n p o r s q = c k v refl
+  IsLookUp-else (SetFirst k v) a b c d e f g h i j l m n p o r s q = d k v refl
+  IsLookUp-else (SetFront v) a b c d e f g h i j l m n p o r s q = e v refl
+  IsLookUp-else (SetBack v) a b c d e f g h i j l m n p o r s q = f v refl
+  IsLookUp-else (OrInsert k v) a b c d e f g h i j l m n p o r s q = g k v refl
+  IsLookUp-else (Get k) a b c d e f g h i j l m n p o r s q = tt
+  IsLookUp-else (All k ends) a b c d e f g h i j l m n p o r s q = tt
+  IsLookUp-else (Has k) a b c d e f g h i j l m n p o r s q = tt
+  IsLookUp-else (Len k) a b c d e f g h i j l m n p o r s q = tt
+  IsLookUp-else Front a b c d e f g h i j l m n p o r s q = tt
+  IsLookUp-else Back a b c d e f g h i j l m n p o r s q = tt
+  IsLookUp-else (Remove k) a b c d e f g h i j l m n p o r s q = h k refl
+  IsLookUp-else (RemoveAll k) a b c d e f g h i j l m n p o r s q = i k refl
+  IsLookUp-else (RemoveEntry k) a b c d e f g h i j l m n p o r s q = j k refl
+  IsLookUp-else (RemoveEntryAll k) a b c d e f g h i j l m n p o r s q = l k refl
+  IsLookUp-else PopFront a b c d e f g h i j l m n p o r s q = m refl
+  IsLookUp-else PopBack a b c d e f g h i j l m n p o r s q = n refl
+  IsLookUp-else (Retain v) a b c d e f g h i j l m n p o r s q = p v refl
+  IsLookUp-else Clear a b c d e f g h i j l m n p o r s q = o refl
+  IsLookUp-else (Reserve x y) a b c d e f g h i j l m n p o r s q = r x y refl
+  IsLookUp-else PackToFit a b c d e f g h i j l m n p o r s q = s refl
+  IsLookUp-else Swap a b c d e f g h i j l m n p o r s q = q refl
+  IsLookUp-else (Pairs ends) a b c d e f g h i j l m n p o r s q = tt
+  IsLookUp-else (Keys ends) a b c d e f g h i j l m n p o r s q = tt
+  IsLookUp-else (Values ends) a b c d e f g h i j l m n p o r s q = tt
+  IsLookUp-else KeyLists a b c d e f g h i j l m n p o r s q = tt
+  IsLookUp-else Lengths a b c d e f g h i j l m n p o r s q = tt
 
   -- a look-up calls no function
   pub IsStep-look_up : (keeps : V → K → V → Bool → V → Type 0) (eq : K → K → Bool) (command : Command K V A) (m : Lists K V) (reply : Reply K V A) (n : Lists K V)
@@ -196,6 +198,7 @@ module _ {K V A : Type 0} where
   IsStep-look_up keeps eq (Retain x) m reply n look step = absurd look
   IsStep-look_up keeps eq Clear m reply n look step = absurd look
   IsStep-look_up keeps eq (Reserve a b) m reply n look step = absurd look
+  IsStep-look_up keeps eq PackToFit m reply n look step = absurd look
   IsStep-look_up keeps eq Swap m reply n look step = absurd look
   IsStep-look_up keeps eq (Pairs ends) m reply n look step = step
   IsStep-look_up keeps eq (Keys ends) m reply n look step = step
@@ -233,6 +236,7 @@ module _ {K V : Type 0} (keeps other : V → K → V → Bool → V → Type 0) 
     leaves_more (Retain x) m n left = record { keys = left.keys; pairs = retains_more x m.pairs n.pairs left.pairs }
     leaves_more Clear m n left = left
     leaves_more (Reserve a b) m n left = left
+    leaves_more PackToFit m n left = left
     leaves_more Swap m n left = left
     leaves_more (Pairs ends) m n left = left
     leaves_more (Keys ends) m n left = left

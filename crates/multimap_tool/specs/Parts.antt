@@ -1,6 +1,6 @@
 -- Words of the parser's own functions. No public clause cites this module.
 use Rattle.std.specs.Prelude.{◌≡◌, ◌≢◌, ◌⊎◌, ℕ, ◌<◌, ◌≤◌, ◌^◌, ℤ, nat_eq, FitsSigned, false, IsTrue}
-use Rattle.std.specs.Prelude.{List, [], ◌∷◌, length, slice_index, map, codes}
+use Rattle.std.specs.Prelude.{List, [], ◌∷◌, ◌++◌, length, slice_index, map, codes}
 use Rattle.std.specs.Prelude.{Option, MatchOption}
 use Rattle.std.specs.List.{list_any}
 use Rattle.std.specs.Int.{w64}
@@ -21,12 +21,20 @@ IsWithout byte text = list_any (nat_eq byte) text ≡ false
 abbrev pub IsReadingOf : {A : Type 0} → List ℕ → Option (Command ℕ ℤ A) → Type 0
 IsReadingOf {A} line found = MatchOption found (IsBadLine A line) (λ command. Spells command line)
 
--- the words that stand alone
+-- the words of changes that stand alone
+abbrev pub lone_change_words : List (List ℕ)
+lone_change_words =
+    codes "popfront" ∷ codes "popback" ∷ codes "clear" ∷ codes "packtofit" ∷ codes "swap" ∷ []
+
+-- those of look-ups
+abbrev pub lone_look_up_words : List (List ℕ)
+lone_look_up_words =
+    codes "front" ∷ codes "back" ∷ codes "pairs" ∷ codes "keys" ∷ codes "values" ∷ codes "lists"
+    ∷ codes "lengths" ∷ []
+
+-- all words that stand alone
 abbrev pub lone_words : List (List ℕ)
-lone_words =
-    codes "front" ∷ codes "back" ∷ codes "popfront" ∷ codes "popback" ∷ codes "clear"
-    ∷ codes "pairs" ∷ codes "keys" ∷ codes "values" ∷ codes "lengths"
-    ∷ codes "swap" ∷ codes "lists" ∷ []
+lone_words = lone_change_words ++ lone_look_up_words
 
 -- those that a key follows
 abbrev pub key_words : List (List ℕ)
@@ -72,10 +80,15 @@ pub record IsCommandOf {A : Type 0} (name : List ℕ) (operands : List Operand)
   pub name_is : name_of command ≡ name
   pub operands_are : operands_of command ≡ operands
 
+-- the command of a word and these operands, or none if it is none of these words
+abbrev pub IsFoundAmong : {A : Type 0} → List (List ℕ) → List ℕ → List Operand
+    → Option (Command ℕ ℤ A) → Type 0
+IsFoundAmong words name operands found =
+    MatchOption found (¬ (IsIn name words)) (IsCommandOf name operands)
+
 -- the command of a word and these operands, or none if no such word is followed by such
 abbrev pub IsFoundFor : {A : Type 0} → List ℕ → List Operand → Option (Command ℕ ℤ A) → Type 0
-IsFoundFor name operands found =
-    MatchOption found (¬ (IsIn name (words_before operands))) (IsCommandOf name operands)
+IsFoundFor name operands found = IsFoundAmong (words_before operands) name operands found
 
 -- a digit comes first, and a zero only alone
 pub record StartsANumber (text : List ℕ) : Type 0 where

@@ -3,7 +3,7 @@ use Rattle.std.specs.Prelude.{◌≢◌, ◌≤◌, ◌+◌, List, [], ◌∷◌
 use Rattle.ordered_multimap.specs.Multimap.{Multimap}
 use Rattle.multimap_tool.specs.declared.commands.Command.{Command}
 use Rattle.multimap_tool.specs.declared.commands.Command.TheVariants.{Append, Insert, OrInsert}
-use Rattle.multimap_tool.specs.declared.commands.Command.TheVariants.{Swap}
+use Rattle.multimap_tool.specs.declared.commands.Command.TheVariants.{PackToFit, Swap}
 use Rattle.multimap_tool.specs.declared.replies.Reply.{Reply}
 use Rattle.multimap_tool.specs.declared.replies.Reply.TheVariants.{NoMemory}
 
@@ -15,8 +15,9 @@ module _ {K V A : Type 0} where
   IsAddition (OrInsert k v) = Unit {0}
   IsAddition _ = ⊥
 
-  -- the command lowers no room: it puts no other map in the map's place
+  -- the command lowers no room: it gives none back, and puts no other map in the map's place
   abbrev pub KeepsRoom : Command K V A → Type 0
+  KeepsRoom PackToFit = ⊥
   KeepsRoom Swap = ⊥
   KeepsRoom _ = Unit {0}
 

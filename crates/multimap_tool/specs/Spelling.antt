@@ -19,7 +19,8 @@ use Rattle.multimap_tool.specs.declared.commands.Command.TheVariants.{Get, All, 
 use Rattle.multimap_tool.specs.declared.commands.Command.TheVariants.{Remove, RemoveAll}
 use Rattle.multimap_tool.specs.declared.commands.Command.TheVariants.{RemoveEntry, RemoveEntryAll}
 use Rattle.multimap_tool.specs.declared.commands.Command.TheVariants.{PopFront, PopBack, Clear}
-use Rattle.multimap_tool.specs.declared.commands.Command.TheVariants.{Retain, Reserve, Swap}
+use Rattle.multimap_tool.specs.declared.commands.Command.TheVariants.{Retain, Reserve, PackToFit}
+use Rattle.multimap_tool.specs.declared.commands.Command.TheVariants.{Swap}
 use Rattle.multimap_tool.specs.declared.commands.Command.TheVariants.{Pairs, Keys, Values, KeyLists}
 use Rattle.multimap_tool.specs.declared.commands.Command.TheVariants.{Lengths}
 
@@ -79,6 +80,7 @@ module _ {A : Type 0} where
   name_of (Retain v) = codes "retain"
   name_of (Reserve a b) = codes "reserve"
   name_of Clear = codes "clear"
+  name_of PackToFit = codes "packtofit"
   name_of Swap = codes "swap"
   name_of (Pairs Forward) = codes "pairs"
   name_of (Pairs (Word word)) = codes "walkpairs"
@@ -118,6 +120,7 @@ module _ {A : Type 0} where
   operands_of (Retain v) = value_operand v ∷ []
   operands_of (Reserve a b) = key_operand a ∷ key_operand b ∷ []
   operands_of Clear = []
+  operands_of PackToFit = []
   operands_of Swap = []
   operands_of (Pairs ends) = word_of ends
   operands_of (Keys ends) = word_of ends

@@ -27,7 +27,8 @@ use Rattle.multimap_tool.specs.declared.commands.Command.TheVariants.{Front, Bac
 use Rattle.multimap_tool.specs.declared.commands.Command.TheVariants.{Remove, RemoveAll}
 use Rattle.multimap_tool.specs.declared.commands.Command.TheVariants.{RemoveEntry, RemoveEntryAll}
 use Rattle.multimap_tool.specs.declared.commands.Command.TheVariants.{PopFront, PopBack, Clear}
-use Rattle.multimap_tool.specs.declared.commands.Command.TheVariants.{Retain, Reserve, Swap}
+use Rattle.multimap_tool.specs.declared.commands.Command.TheVariants.{Retain, Reserve, PackToFit}
+use Rattle.multimap_tool.specs.declared.commands.Command.TheVariants.{Swap}
 use Rattle.multimap_tool.specs.declared.commands.Command.TheVariants.{Pairs, Keys, Values, KeyLists}
 use Rattle.multimap_tool.specs.declared.commands.Command.TheVariants.{Lengths}
 use Rattle.multimap_tool.specs.declared.replies.Popped.{Popped}
@@ -88,6 +89,7 @@ IsLookUp PopBack = ⊥
 IsLookUp (Retain x) = ⊥
 IsLookUp Clear = ⊥
 IsLookUp (Reserve a b) = ⊥
+IsLookUp PackToFit = ⊥
 IsLookUp Swap = ⊥
 IsLookUp _ = Unit {0}
 
@@ -110,8 +112,8 @@ pub record KeepsPairs {K V : Type 0} (keeps : K → V → Bool → V → Type 0)
 
 module _ {K V : Type 0} (keeps : V → K → V → Bool → V → Type 0) (eq : K → K → Bool)
     {A : Type 0} where
-  -- the lists that a command leaves: look-ups leave them as they are, and so do a clone and a
-  -- request for room
+  -- the lists that a command leaves: look-ups leave them as they are, and so do a clone, a
+  -- request for room and a packing
   abbrev pub Leaves : Command K V A → Lists K V → Lists K V → Type 0
   Leaves (Append k v) m n = n ≡ appended eq m k v
   Leaves (Insert k v) m n = n ≡ inserted eq m k v
@@ -161,6 +163,7 @@ module _ {K : Type 0} (eq : K → K → Bool) {V A : Type 0} where
   Tells (Retain x) m replies.Done = Unit {0}
   Tells Clear m replies.Done = Unit {0}
   Tells (Reserve a b) m replies.Done = Unit {0}
+  Tells PackToFit m replies.Done = Unit {0}
   Tells Swap m replies.Done = Unit {0}
   Tells (Pairs ends) m (replies.Pairs pairs) = pairs.items ≡ walked m.pairs ends
   Tells (Keys ends) m (replies.Keys keys) = keys.items ≡ walked m.keys ends
@@ -170,13 +173,14 @@ module _ {K : Type 0} (eq : K → K → Bool) {V A : Type 0} where
   Tells _ m _ = ⊥
 
   -- an addition may find no memory, but for one to a present key that replaces or keeps, and so
-  -- may a request for room, a clone, and a reply that would list an item
+  -- may a request for room, a packing, a clone, and a reply that would list an item
   abbrev pub MayLackMemory : Command K V A → Lists K V → Type 0
   MayLackMemory (Append k v) m = Unit {0}
   MayLackMemory (Insert k v) m = is_present eq m.pairs k ≡ false
   MayLackMemory (InsertAll k v) m = Unit {0}
   MayLackMemory (OrInsert k v) m = is_present eq m.pairs k ≡ false
   MayLackMemory (Reserve a b) m = Unit {0}
+  MayLackMemory PackToFit m = Unit {0}
   MayLackMemory Swap m = Unit {0}
   MayLackMemory (All k ends) m = ListsItem (walked (values_of eq m.pairs k) ends)
   MayLackMemory (RemoveAll k) m = ListsItem (values_of eq m.pairs k)

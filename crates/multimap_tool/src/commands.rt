@@ -60,6 +60,8 @@ pub enum Command<K, V, A: Allocator = Global> {
     Clear,
     /// Makes room for so many more keys, and for so many more values.
     Reserve(usize, usize),
+    /// Gives back the room that is left over.
+    PackToFit,
     /// Puts a clone of the map in its place.
     Swap,
     /// All pairs.

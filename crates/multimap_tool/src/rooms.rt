@@ -1,4 +1,4 @@
-//! Commands that ask for room.
+//! Commands that ask for room, or give it back.
 ghost use Rattle.std.specs.Prelude.{◌≡◌, ◌≤◌, ◌+◌, length};
 ghost use Rattle.ordered_multimap.specs.Rooms.{KeepsRooms};
 ghost use Rattle.multimap_tool.specs.Step.{IsOwnStep};
@@ -28,6 +28,19 @@ pub(crate) fn reserve<K: Eq + Hash + Copy, V: Copy, S: BuildHasher, A: Allocator
         return Reply::NoMemory;
     }
     match map.reserve_values(values) {
+        Ok(()) => Reply::Done,
+        Err(_) => Reply::NoMemory,
+    }
+}
+
+/// Gives back the room that is left over.
+pub(crate) fn pack_to_fit<K: Eq + Hash + Copy, V: Copy, S: BuildHasher, A: Allocator + Copy>(
+    map: &mut ListOrderedMultimap<K, V, S, A>,
+) -> Reply<K, V, A>
+    ensures step { IsOwnStep K.eq Command.PackToFit map.old.lists result map.new.lists }
+    ensures hasher { map.new.hasher ≡ map.old.hasher }
+{
+    match map.pack_to_fit() {
         Ok(()) => Reply::Done,
         Err(_) => Reply::NoMemory,
     }

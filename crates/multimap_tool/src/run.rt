@@ -13,7 +13,7 @@ use crate::drained::{insert_all, remove_all, remove_entry_all};
 use crate::keep::{Keep, KeepBy};
 use crate::look_ups::look_up;
 use crate::replies::{Popped, Reply};
-use crate::rooms::reserve;
+use crate::rooms::{pack_to_fit, reserve};
 use crate::written::{or_insert, set_back, set_first, set_front};
 use ordered_multimap::list_ordered_multimap::KeyWrapper;
 use ordered_multimap::{End, ListOrderedMultimap};
@@ -28,7 +28,7 @@ use std::hash::{BuildHasher, Hash};
 /// replies is taken at the start: where it is refused, nothing was done. A command that finds no
 /// memory for itself is answered [`Reply::NoMemory`] and changes neither keys nor pairs. That no
 /// append, insert or or-insert is, where the map has room at the start for as many keys and values as
-/// there are commands, and none is a [`Command::Swap`]. Clones of keys and values must be the very
+/// there are commands, and none is a [`Command::PackToFit`] or [`Command::Swap`]. Clones of keys and values must be the very
 /// keys and values.
 pub fn run<
     K: Eq + Hash + Copy,
@@ -96,6 +96,7 @@ fn step<K: Eq + Hash + Copy, V: Copy, S: BuildHasher + Clone, A: Allocator + Cop
         Command::Retain(operand) => retain(map, *operand, keep),
         Command::Clear => clear(map),
         Command::Reserve(keys, values) => reserve(map, *keys, *values),
+        Command::PackToFit => pack_to_fit(map),
         Command::Swap => swap(map),
         _ => look_up(alloc, map, command),
     }

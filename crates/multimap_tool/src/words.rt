@@ -1,7 +1,7 @@
 //! Commands found by their words.
 ghost use Rattle.std.specs.Prelude.{[], ◌∷◌};
 ghost use Rattle.multimap_tool.specs.Spelling.{key_operand, value_operand, word_operand};
-ghost use Rattle.multimap_tool.specs.Parts.{IsFoundFor};
+ghost use Rattle.multimap_tool.specs.Parts.{IsFoundFor, IsFoundAmong, lone_change_words, lone_look_up_words};
 
 use crate::commands::{Command, Ends};
 use ordered_multimap::End;
@@ -11,12 +11,16 @@ use std::alloc::Allocator;
 pub(crate) fn lone_command<A: Allocator>(name: &[u8]) -> Option<Command<u32, i64, A>>
     ensures { IsFoundFor name.now [] result }
 {
-    if name == b"front".as_slice() {
-        return Some(Command::Front);
+    if let Some(command) = lone_change(name) {
+        return Some(command);
     }
-    if name == b"back".as_slice() {
-        return Some(Command::Back);
-    }
+    lone_look_up(name)
+}
+
+/// The change of a word alone.
+fn lone_change<A: Allocator>(name: &[u8]) -> Option<Command<u32, i64, A>>
+    ensures { IsFoundAmong lone_change_words name.now [] result }
+{
     if name == b"popfront".as_slice() {
         return Some(Command::PopFront);
     }
@@ -25,6 +29,25 @@ pub(crate) fn lone_command<A: Allocator>(name: &[u8]) -> Option<Command<u32, i64
     }
     if name == b"clear".as_slice() {
         return Some(Command::Clear);
+    }
+    if name == b"packtofit".as_slice() {
+        return Some(Command::PackToFit);
+    }
+    if name == b"swap".as_slice() {
+        return Some(Command::Swap);
+    }
+    None
+}
+
+/// The look-up of a word alone.
+fn lone_look_up<A: Allocator>(name: &[u8]) -> Option<Command<u32, i64, A>>
+    ensures { IsFoundAmong lone_look_up_words name.now [] result }
+{
+    if name == b"front".as_slice() {
+        return Some(Command::Front);
+    }
+    if name == b"back".as_slice() {
+        return Some(Command::Back);
     }
     if name == b"pairs".as_slice() {
         return Some(Command::Pairs(Ends::Forward));
@@ -35,14 +58,11 @@ pub(crate) fn lone_command<A: Allocator>(name: &[u8]) -> Option<Command<u32, i64
     if name == b"values".as_slice() {
         return Some(Command::Values(Ends::Forward));
     }
-    if name == b"lengths".as_slice() {
-        return Some(Command::Lengths);
-    }
-    if name == b"swap".as_slice() {
-        return Some(Command::Swap);
-    }
     if name == b"lists".as_slice() {
         return Some(Command::KeyLists);
+    }
+    if name == b"lengths".as_slice() {
+        return Some(Command::Lengths);
     }
     None
 }

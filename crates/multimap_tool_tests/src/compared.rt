@@ -83,7 +83,7 @@ fn some_look_up<A: Allocator>(
 }
 
 // Half of the commands change the map; of a hundred one empties it, one keeps some pairs, one puts a
-// clone in its place, and one asks for room.
+// clone in its place, one asks for room, and one gives it back.
 pub(crate) fn some_command<A: Allocator>(
     alloc: A,
     state: &mut u64,
@@ -94,6 +94,7 @@ pub(crate) fn some_command<A: Allocator>(
         1 => Ok(Command::Retain(some_value(state))),
         51 => Ok(Command::Swap),
         52 => Ok(some_reserve(state)),
+        53 => Ok(Command::PackToFit),
         2..=50 => Ok(some_change(state, key)),
         _ => some_look_up(alloc, state, key),
     }

@@ -16,7 +16,7 @@ use test_helpers::{Failed, Test, requests_until_enough};
 /// Commands of which the additions and the lists may find no memory.
 const INPUT: &str = "append 1 1\nappend 2 2\nappend 2 3\nappend 1 4\npairs\nall 1\nget 2\nget 3\n\
     swap\ninsert 2 5\ninsert 3 6\ninsertall 1 7\norinsert 4 8\norinsert 1 9\nkeys\nlists\n\
-    removeall 2\nremoveentryall 1\nreserve 9 9\npopfront\nretain 8\nclear\nlists\n";
+    removeall 2\nremoveentryall 1\nreserve 9 9\npacktofit\npopfront\nretain 8\nclear\nlists\n";
 
 /// Whether the reply, but for its line feed, stands in the line.
 fn is_text_of(alloc: Global, reply: Reply<u32, i64>, line: &str) -> bool {
@@ -33,11 +33,12 @@ fn has(alloc: Global, plain: &mut PlainMap, key: u32) -> bool {
 }
 
 /// Whether the command may be answered by want of memory: an addition, but for one to a present key
-/// that replaces or keeps, a request for room, a clone, or a list of some item.
+/// that replaces or keeps, a request for room, a packing, a clone, or
+/// a list of some item.
 fn may_lack(alloc: Global, plain: &mut PlainMap, command: &Command<u32, i64>) -> bool {
     match command {
         Command::Append(_, _) | Command::InsertAll(_, _) => true,
-        Command::Reserve(_, _) | Command::Swap => true,
+        Command::Reserve(_, _) | Command::PackToFit | Command::Swap => true,
         Command::Insert(key, _) | Command::OrInsert(key, _) => !has(alloc, plain, *key),
         Command::RemoveAll(key) | Command::RemoveEntryAll(key) => has(alloc, plain, *key),
         Command::All(_, _)

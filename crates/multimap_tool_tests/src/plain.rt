@@ -204,7 +204,7 @@ impl PlainMap {
             Command::PopBack => self.pop(End::Back),
             Command::Retain(least) => self.retain(*least),
             Command::Clear => self.clear(),
-            Command::Reserve(_, _) | Command::Swap => Ok(Reply::Done),
+            Command::Reserve(_, _) | Command::PackToFit | Command::Swap => Ok(Reply::Done),
             _ => self.look_up(alloc, command),
         }
     }

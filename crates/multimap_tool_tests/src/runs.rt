@@ -171,6 +171,7 @@ fn add_last(rows: &mut Rows) -> Result<(), AllocError> {
     add(rows, Command::Append('t', true), Reply::Appended(false))?;
     add(rows, Command::Swap, Reply::Done)?;
     add(rows, Command::Reserve(7, 0), Reply::Done)?;
+    add(rows, Command::PackToFit, Reply::Done)?;
     add(rows, Command::Lengths, Reply::Counts(1, 1))?;
     add(rows, Command::Clear, Reply::Done)?;
     add(rows, Command::Lengths, Reply::Counts(0, 0))?;

@@ -112,6 +112,8 @@ const BAD: &[(&str, u64)] = &[
     ("get f\n", 1),
     ("swap 1\n", 1),
     ("lists 1\n", 1),
+    ("packtofit 1\n", 1),
+    ("packto 1 1\n", 1),
     ("reserve\n", 1),
     ("reserve 1\n", 1),
     ("reserve 1 -1\n", 1),

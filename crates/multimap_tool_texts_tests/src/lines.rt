@@ -84,10 +84,14 @@ const GOOD: &[(&str, &str)] = &[
         "insert 1 10\ninsert 2 20\ninsert 1 30\nswap\npairs\nkeys\nappend 2 4\nall 2\n",
         "none\nnone\nold 10\ndone\n2:20 1:30\n1 2\nmore\n20 4\n",
     ),
-    // Room that is asked for changes no list.
+    // Room that is asked for or given back changes no list.
     (
-        "insert 1 1\nreserve 2 2\nappend 2 2\nreserve 0 0\npairs\nkeys\n",
-        "none\ndone\nnew\ndone\n1:1 2:2\n1 2\n",
+        "insert 1 1\nreserve 2 2\npacktofit\nappend 2 2\nreserve 0 0\npairs\nkeys\n",
+        "none\ndone\ndone\nnew\ndone\n1:1 2:2\n1 2\n",
+    ),
+    (
+        "packtofit\nappend 1 1\nappend 2 2\nappend 1 3\nremove 2\nappend 2 4\npopfront\npacktofit\npairs\nkeys\nwalk 1 bf\nall 2\n",
+        "done\nnew\nnew\nmore\n2\nnew\nborrowed 1 1\ndone\n1:3 2:4\n1 2\n3 -\n4\n",
     ),
     // A key that comes again goes last.
     (

@@ -58,6 +58,7 @@ fn changes_are_shown(test: &Test) {
     expect_command(test, Command::Swap, "Swap");
     expect_command(test, Command::KeyLists, "KeyLists");
     expect_command(test, Command::Reserve(0, 7), "Reserve(0, 7)");
+    expect_command(test, Command::PackToFit, "PackToFit");
     expect_command(test, Command::Keys(Ends::Forward), "Keys(Forward)");
     expect_command(test, Command::Values(Ends::Forward), "Values(Forward)");
 }
