@@ -1,0 +1,17 @@
+//! A proved caller of the law that what is written of a map is read, at numbers.
+ghost use Rattle.std.specs.Prelude.{◌≡◌, ℕ, ℤ};
+ghost use Rattle.ordered_multimap.specs.Lists.{Lists, IsWellFormed};
+ghost use Rattle.multimap_tool.specs.Json.{IsReadFrom, pairs_json};
+
+use multimap_tool::json::JsonPart;
+use multimap_tool::laws::what_is_written_is_read;
+
+/// What is read of the JSON value of a map of numbers has its pairs.
+pub fn pairs_of_numbers_are_read()
+    ensures { (m n : Lists ℕ ℤ) → IsWellFormed ⟦<u32 as PartialEq>⟧.eq m
+        → IsReadFrom ⟦<u32 as JsonPart>⟧.json ⟦<i64 as JsonPart>⟧.json ⟦<u32 as PartialEq>⟧.eq
+        (pairs_json ⟦<u32 as JsonPart>⟧.json ⟦<i64 as JsonPart>⟧.json m.pairs) n
+        → n.pairs ≡ m.pairs }
+{
+    what_is_written_is_read::<u32, i64>();
+}
