@@ -13,8 +13,8 @@ ghost use Rattle.multimap_tool.specs.Json.{IsReadFrom, pairs_json};
 use crate::json::JsonPart;
 use std::alloc::Allocator;
 
-/// A step leaves well-formed lists well formed, whatever the function keeps. Keys that stay keep their
-/// order, and a key that comes stands behind them.
+/// A step leaves well-formed lists well formed, whatever the function keeps. Keys that stay keep
+/// their order, and a key that comes stands behind them.
 pub fn step_is_orderly<K: Eq, V, A: Allocator, F: Fn(V, &K, &mut V) -> bool>(_keep: &F)
     ensures { (c : Command K V A) (m : Lists K V) (r : Reply K V A) (n : Lists K V) →
         IsWellFormed K.eq m → IsStep (MayKeep F.Fn _keep.now) K.eq c m r n → IsOrderly K.eq m n }

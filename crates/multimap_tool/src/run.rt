@@ -23,13 +23,13 @@ use std::hash::{BuildHasher, Hash};
 /// Runs the commands on the map, in order, and answers each with one reply.
 ///
 /// `alloc` gives the memory of the replies. `keep` tells which pairs a [`Command::Retain`] keeps:
-/// it is handed the command's value, a key and its value, which it may write, and has to be callable
-/// with the value of each of these commands and any key and value. The room for all
+/// it is handed the command's value, a key and its value, which it may write, and has to be
+/// callable with the value of each of these commands and any key and value. The room for all
 /// replies is taken at the start: where it is refused, nothing was done. A command that finds no
 /// memory for itself is answered [`Reply::NoMemory`] and changes neither keys nor pairs. That no
-/// append, insert or or-insert is, where the map has room at the start for as many keys and values as
-/// there are commands, and none is a [`Command::PackToFit`] or [`Command::Swap`]. Clones of keys and values must be the very
-/// keys and values.
+/// append, insert or or-insert is, where the map has room at the start for as many keys and values
+/// as there are commands, and none is a [`Command::PackToFit`] or [`Command::Swap`]. Clones of keys
+/// and values must be the very keys and values.
 pub fn run<
     K: Eq + Hash + Copy,
     V: Copy,
