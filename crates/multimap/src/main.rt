@@ -7,7 +7,8 @@ use std::io;
 use std::process::ExitCode;
 
 fn main(rt: HostRuntime) -> ExitCode {
-    match execute(rt.alloc(), &mut rt.reader(), &mut io::writer(&rt)) {
+    let alloc = rt.alloc();
+    match execute(alloc, alloc, &mut rt.reader(), &mut io::writer(&rt)) {
         Ok(()) => ExitCode::SUCCESS,
         Err(fault) => {
             let _ = eprintln!(rt; "{fault}");

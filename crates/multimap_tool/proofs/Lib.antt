@@ -3,6 +3,7 @@ mod RunLemmas
 mod RoomLemmas
 mod OrInsertLemmas
 mod FormatLemmas
+mod CharacterLemmas
 mod CutLemmas
 mod NumberLemmas
 mod FieldLemmas

@@ -11,10 +11,10 @@ use Rattle.ordered_multimap.specs.Changes.{appended, inserted, kept, removed, fi
 use Rattle.ordered_multimap.specs.Pop.{popped}
 use Rattle.ordered_multimap.specs.Retain.{Retains}
 use Rattle.multimap_tool.specs.declared.commands.Command.{Command}
-use Rattle.multimap_tool.specs.declared.commands.Command.TheVariants.{Append, Insert, InsertAll, SetFirst, SetFront, SetBack, OrInsert, Get, All, Has, Len, Front, Back, Remove, RemoveAll, RemoveEntry, RemoveEntryAll, PopFront, PopBack, Retain, Clear, Reserve, PackToFit, Swap, Pairs, Keys, Values, KeyLists, Lengths}
+use Rattle.multimap_tool.specs.declared.commands.Command.TheVariants.{Append, Insert, InsertAll, SetFirst, SetFront, SetBack, OrInsert, Get, All, Has, Len, Front, Back, Remove, RemoveAll, RemoveEntry, RemoveEntryAll, PopFront, PopBack, Retain, Clear, Reserve, PackToFit, Swap, Json, Pairs, Keys, Values, KeyLists, Lengths}
 use Rattle.multimap_tool.specs.declared.replies.Reply.{Reply}
 use Rattle.multimap_tool.specs.Step.{Leaves, IsStep, KeepsPairs, entered}
-use Rattle.multimap_tool.specs.RunRooms.{FindsRoom, IsAddition}
+use Rattle.multimap_tool.specs.RunRooms.{FindsRoom, IsAddition, KeepsRoom}
 use Rattle.multimap_tool.specs.declared.replies.Reply.TheVariants.{NoMemory}
 
 -- at most one key and one pair more
@@ -103,39 +103,40 @@ module _ {K V : Type 0} (eq : K → K → Bool) where
   by_same m n o same grows = record { keys = omega (arith, grows.keys, ap (λ (l : Lists K V). length l.keys) same); pairs = omega (arith, grows.pairs, ap (λ (l : Lists K V). length l.pairs) same) }
 
 module _ {K V A : Type 0} (keeps : V → K → V → Bool → V → Type 0) (eq : K → K → Bool) where
-  leaves_grow : (command : Command K V A) (m n : Lists K V) → Leaves keeps eq command m n → GrowsByOne m n
-  leaves_grow (Append k v) m n left = by_same eq m n (appended eq m k v) left (appended_grows eq m k v)
-  leaves_grow (Insert k v) m n left = by_same eq m n (inserted eq m k v) left (inserted_grows eq m k v)
-  leaves_grow (InsertAll k v) m n left = by_same eq m n (inserted eq m k v) left (inserted_grows eq m k v)
-  leaves_grow (SetFirst k v) m n left = by_same eq m n (first_written eq m k v) left (first_written_grows eq m k v)
-  leaves_grow (SetFront v) m n left = by_same eq m n (end_written ends.Front m v) left (end_written_grows eq ends.Front m v)
-  leaves_grow (SetBack v) m n left = by_same eq m n (end_written ends.Back m v) left (end_written_grows eq ends.Back m v)
-  leaves_grow (OrInsert k v) m n left = by_same eq m n (entered eq m k v) left (entered_grows eq m k v)
-  leaves_grow (Get k) m n left = same_grows eq m n left
-  leaves_grow (All k ends) m n left = same_grows eq m n left
-  leaves_grow (Has k) m n left = same_grows eq m n left
-  leaves_grow (Len k) m n left = same_grows eq m n left
-  leaves_grow Front m n left = same_grows eq m n left
-  leaves_grow Back m n left = same_grows eq m n left
-  leaves_grow (Remove k) m n left = by_same eq m n (removed eq m k) left (removed_grows eq m k)
-  leaves_grow (RemoveAll k) m n left = by_same eq m n (removed eq m k) left (removed_grows eq m k)
-  leaves_grow (RemoveEntry k) m n left = by_same eq m n (removed eq m k) left (removed_grows eq m k)
-  leaves_grow (RemoveEntryAll k) m n left = by_same eq m n (removed eq m k) left (removed_grows eq m k)
-  leaves_grow PopFront m n left = by_same eq m n (popped eq ends.Front m) left (popped_grows eq ends.Front m)
-  leaves_grow PopBack m n left = by_same eq m n (popped eq ends.Back m) left (popped_grows eq ends.Back m)
-  leaves_grow (Retain x) m n left = kept_by_grows eq (keeps x) m n left
-  leaves_grow Clear m n left = by_same eq m n empty_lists left (record { keys = omega arith; pairs = omega arith })
-  leaves_grow (Reserve a b) m n left = same_grows eq m n left
-  leaves_grow PackToFit m n left = same_grows eq m n left
-  leaves_grow Swap m n left = same_grows eq m n left
-  leaves_grow (Pairs ends) m n left = same_grows eq m n left
-  leaves_grow (Keys ends) m n left = same_grows eq m n left
-  leaves_grow (Values ends) m n left = same_grows eq m n left
-  leaves_grow KeyLists m n left = same_grows eq m n left
-  leaves_grow Lengths m n left = same_grows eq m n left
+  leaves_grow : (command : Command K V A) (m n : Lists K V) → KeepsRoom command → Leaves keeps eq command m n → GrowsByOne m n
+  leaves_grow (Append k v) m n keeps_room left = by_same eq m n (appended eq m k v) left (appended_grows eq m k v)
+  leaves_grow (Insert k v) m n keeps_room left = by_same eq m n (inserted eq m k v) left (inserted_grows eq m k v)
+  leaves_grow (InsertAll k v) m n keeps_room left = by_same eq m n (inserted eq m k v) left (inserted_grows eq m k v)
+  leaves_grow (SetFirst k v) m n keeps_room left = by_same eq m n (first_written eq m k v) left (first_written_grows eq m k v)
+  leaves_grow (SetFront v) m n keeps_room left = by_same eq m n (end_written ends.Front m v) left (end_written_grows eq ends.Front m v)
+  leaves_grow (SetBack v) m n keeps_room left = by_same eq m n (end_written ends.Back m v) left (end_written_grows eq ends.Back m v)
+  leaves_grow (OrInsert k v) m n keeps_room left = by_same eq m n (entered eq m k v) left (entered_grows eq m k v)
+  leaves_grow (Get k) m n keeps_room left = same_grows eq m n left
+  leaves_grow (All k ends) m n keeps_room left = same_grows eq m n left
+  leaves_grow (Has k) m n keeps_room left = same_grows eq m n left
+  leaves_grow (Len k) m n keeps_room left = same_grows eq m n left
+  leaves_grow Front m n keeps_room left = same_grows eq m n left
+  leaves_grow Back m n keeps_room left = same_grows eq m n left
+  leaves_grow (Remove k) m n keeps_room left = by_same eq m n (removed eq m k) left (removed_grows eq m k)
+  leaves_grow (RemoveAll k) m n keeps_room left = by_same eq m n (removed eq m k) left (removed_grows eq m k)
+  leaves_grow (RemoveEntry k) m n keeps_room left = by_same eq m n (removed eq m k) left (removed_grows eq m k)
+  leaves_grow (RemoveEntryAll k) m n keeps_room left = by_same eq m n (removed eq m k) left (removed_grows eq m k)
+  leaves_grow PopFront m n keeps_room left = by_same eq m n (popped eq ends.Front m) left (popped_grows eq ends.Front m)
+  leaves_grow PopBack m n keeps_room left = by_same eq m n (popped eq ends.Back m) left (popped_grows eq ends.Back m)
+  leaves_grow (Retain x) m n keeps_room left = kept_by_grows eq (keeps x) m n left
+  leaves_grow Clear m n keeps_room left = by_same eq m n empty_lists left (record { keys = omega arith; pairs = omega arith })
+  leaves_grow (Reserve a b) m n keeps_room left = same_grows eq m n left
+  leaves_grow PackToFit m n keeps_room left = absurd keeps_room
+  leaves_grow Swap m n keeps_room left = absurd keeps_room
+  leaves_grow Json m n keeps_room left = absurd keeps_room
+  leaves_grow (Pairs ends) m n keeps_room left = same_grows eq m n left
+  leaves_grow (Keys ends) m n keeps_room left = same_grows eq m n left
+  leaves_grow (Values ends) m n keeps_room left = same_grows eq m n left
+  leaves_grow KeyLists m n keeps_room left = same_grows eq m n left
+  leaves_grow Lengths m n keeps_room left = same_grows eq m n left
 
-  pub step_grows : (command : Command K V A) (m : Lists K V) (reply : Reply K V A) (n : Lists K V) → IsStep keeps eq command m reply n → GrowsByOne m n
-  step_grows command m reply n step = elim step [ inl done ↦ leaves_grow command m n done.1 | inr refused ↦ same_grows eq m n refused.2 ]
+  pub step_grows : (command : Command K V A) (m : Lists K V) (reply : Reply K V A) (n : Lists K V) → KeepsRoom command → IsStep keeps eq command m reply n → GrowsByOne m n
+  step_grows command m reply n keeps_room step = elim step [ inl done ↦ leaves_grow command m n keeps_room done.1 | inr refused ↦ same_grows eq m n refused.2 ]
 
 module _ {K V A : Type 0} where
   -- one command more

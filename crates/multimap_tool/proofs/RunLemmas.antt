@@ -2,11 +2,12 @@
 use Rattle.std.proofs.Common.{◌≡◌, ◌≢◌, ℕ, Bool, true, false, cond, List, [], ◌∷◌, ◌++◌, refl, sym, subst, inl, inr, Result, Ok, Err}
 use Rattle.std.specs.Prelude.{IfOk}
 use Rattle.std.specs.Cmp.{IsEquivalence}
-use Rattle.ordered_multimap.specs.Lists.{Lists, IsWellFormed}
+use Rattle.ordered_multimap.specs.Lists.{Lists, lists, empty_lists, IsWellFormed}
 use Rattle.ordered_multimap.specs.End.{End}
 use Rattle.ordered_multimap.specs.End.TheVariants as ends
 use Rattle.ordered_multimap.specs.Pairs.{is_present, pairs_without}
-use Rattle.ordered_multimap.specs.Changes.{appended, inserted, removed, first_written, end_written}
+use Rattle.ordered_multimap.specs.Changes.{appended, inserted, removed, first_written, end_written, all_appended, first_occurrences}
+use Rattle.ordered_multimap.proofs.LawLemmas.{rebuilt}
 use Rattle.ordered_multimap.specs.Pop.{popped}
 use Rattle.ordered_multimap.proofs.WellFormedLemmas.{empty_well_formed, appended_well_formed, inserted_well_formed, removed_well_formed, popped_well_formed, kept_well_formed, first_written_well_formed, end_written_well_formed}
 use Rattle.ordered_multimap.proofs.KeyOrderLemmas.{KeepsKeyOrder-same, KeepsKeyOrder-keys_with, KeepsKeyOrder-named_by, KeepsKeyOrder-popped, KeepsKeyOrder-none, KeepsKeyOrder-first_written, KeepsKeyOrder-end_written}
@@ -15,7 +16,7 @@ use Rattle.ordered_multimap.specs.Retain.{Retains}
 use Rattle.ordered_multimap.specs.Lists.{IsIn}
 use Rattle.std.specs.Map.{keys_of}
 use Rattle.multimap_tool.specs.declared.commands.Command.{Command}
-use Rattle.multimap_tool.specs.declared.commands.Command.TheVariants.{Append, Insert, InsertAll, SetFirst, SetFront, SetBack, OrInsert, Get, All, Has, Len, Front, Back, Remove, RemoveAll, RemoveEntry, RemoveEntryAll, PopFront, PopBack, Retain, Clear, Reserve, PackToFit, Swap, Pairs, Keys, Values, KeyLists, Lengths}
+use Rattle.multimap_tool.specs.declared.commands.Command.TheVariants.{Append, Insert, InsertAll, SetFirst, SetFront, SetBack, OrInsert, Get, All, Has, Len, Front, Back, Remove, RemoveAll, RemoveEntry, RemoveEntryAll, PopFront, PopBack, Retain, Clear, Reserve, PackToFit, Swap, Json, Pairs, Keys, Values, KeyLists, Lengths}
 use Rattle.multimap_tool.specs.declared.replies.Reply.{Reply}
 use Rattle.multimap_tool.specs.Step.{Leaves, IsLookUp, IsOwnStep, IsStep, KeepsPairs, entered}
 use Rattle.multimap_tool.specs.Runs.{IsRun}
@@ -31,52 +32,15 @@ module _ {K V A : Type 0} (keeps : V → K → V → Bool → V → Type 0) (eq 
   IsRun-push (first ∷ commands) m [] n command reply last run step = absurd run
 
 module _ {K V : Type 0} {eq : K → K → Bool} (laws : IsEquivalence eq) where
-  unchanged : (m n : Lists K V) → IsWellFormed eq m → n ≡ m → IsOrderly eq m n
-  unchanged m n formed same = subst (IsOrderly eq m) (sym same) (record { well_formed = formed; key_order = KeepsKeyOrder-same laws m.keys })
+  -- lists built of pairs are well formed
+  built_well_formed : (m : Lists K V) (pairs : List (K × V)) → IsWellFormed eq m → IsWellFormed eq (all_appended eq m pairs)
+  built_well_formed m [] formed = formed
+  built_well_formed m (p ∷ pairs) formed = built_well_formed (appended eq m p.0 p.1) pairs (appended_well_formed laws m p.0 p.1 formed)
 
-  gone_orderly : (m n : Lists K V) (k : K) → IsWellFormed eq m → n ≡ removed eq m k → IsOrderly eq m n
-  gone_orderly m n k formed left = subst (IsOrderly eq m) (sym left) (record {
-    well_formed = removed_well_formed laws m k formed;
-    key_order = KeepsKeyOrder-named_by laws m.keys (pairs_without eq m.pairs k);
-  })
+  read_well_formed : (m : Lists K V) → IsWellFormed eq m → IsWellFormed eq (lists (first_occurrences eq m.pairs) m.pairs)
+  read_well_formed m formed = subst (IsWellFormed eq) (rebuilt laws m formed) (built_well_formed empty_lists m.pairs (empty_well_formed eq))
 
-  replaced_orderly : (m n : Lists K V) (k : K) (v : V) → IsWellFormed eq m → n ≡ inserted eq m k v → IsOrderly eq m n
-  replaced_orderly m n k v formed left = subst (IsOrderly eq m) (sym left) (record {
-    well_formed = inserted_well_formed laws m k v formed;
-    key_order = KeepsKeyOrder-keys_with laws m.keys k;
-  })
-
-  written_orderly : (m n : Lists K V) (k : K) (v : V) → IsWellFormed eq m → n ≡ first_written eq m k v → IsOrderly eq m n
-  written_orderly m n k v formed left = subst (IsOrderly eq m) (sym left) (record {
-    well_formed = first_written_well_formed m formed k v;
-    key_order = KeepsKeyOrder-first_written laws m k v;
-  })
-
-  end_written_orderly : (end : End) (m n : Lists K V) (v : V) → IsWellFormed eq m → n ≡ end_written end m v → IsOrderly eq m n
-  end_written_orderly end m n v formed left = subst (IsOrderly eq m) (sym left) (record {
-    well_formed = end_written_well_formed m formed end v;
-    key_order = KeepsKeyOrder-end_written laws end m v;
-  })
-
-  appended_orderly : (m n : Lists K V) (k : K) (v : V) → IsWellFormed eq m → n ≡ appended eq m k v → IsOrderly eq m n
-  appended_orderly m n k v formed left = subst (IsOrderly eq m) (sym left) (record {
-    well_formed = appended_well_formed laws m k v formed;
-    key_order = KeepsKeyOrder-keys_with laws m.keys k;
-  })
-
-  entered_orderly : (m n : Lists K V) (k : K) (v : V) → IsWellFormed eq m → n ≡ entered eq m k v → IsOrderly eq m n
-  entered_orderly m n k v formed left =
-      elim (is_present eq m.pairs k) as (λ b. n ≡ cond b m (appended eq m k v) → IsOrderly eq m n) [
-        | true ↦ λ same. unchanged m n formed same
-        | false ↦ λ more. appended_orderly m n k v formed more
-      ] left
-
-  popped_orderly : (end : End) (m n : Lists K V) → IsWellFormed eq m → n ≡ popped eq end m → IsOrderly eq m n
-  popped_orderly end m n formed left = subst (IsOrderly eq m) (sym left) (record {
-    well_formed = popped_well_formed laws end m formed;
-    key_order = KeepsKeyOrder-popped laws end m;
-  })
-
+module _ {K V : Type 0} where
   -- the keys of the pairs that a function kept are old ones
   kept_keys : (keeps : K → V → Bool → V → Type 0) (old new : List (K × V)) → Retains (λ s k v b w t. keeps k v b w) (tt {0}) old new (tt {0}) → (k : K) → IsIn k (keys_of new) → IsIn k (keys_of old)
   kept_keys keeps [] new r k member = subst (λ ps. IsIn k (keys_of ps)) r.0 member
@@ -87,14 +51,61 @@ module _ {K V : Type 0} {eq : K → K → Bool} (laws : IsEquivalence eq) where
       by true among (inr later) = inr (among later)
       by false among later = inr (among later)
 
-  kept_orderly : (m n : Lists K V) (keeps : K → V → Bool → V → Type 0) → IsWellFormed eq m → KeepsPairs keeps eq m n → IsOrderly eq m n
-  kept_orderly m n keeps formed left = subst (IsOrderly eq m) (sym (kept-named_by eq m n left.keys)) (record {
+module _ {K V A : Type 0} {eq : K → K → Bool} (laws : IsEquivalence eq) {c : Command K V A} where
+  unchanged : (m n : Lists K V) → IsWellFormed eq m → n ≡ m → IsOrderly eq c m n
+  unchanged m n formed same = subst (IsOrderly eq c m) (sym same) (record { well_formed = formed; key_order = λ _. KeepsKeyOrder-same laws m.keys })
+
+  gone_orderly : (m n : Lists K V) (k : K) → IsWellFormed eq m → n ≡ removed eq m k → IsOrderly eq c m n
+  gone_orderly m n k formed left = subst (IsOrderly eq c m) (sym left) (record {
+    well_formed = removed_well_formed laws m k formed;
+    key_order = λ _. KeepsKeyOrder-named_by laws m.keys (pairs_without eq m.pairs k);
+  })
+
+  replaced_orderly : (m n : Lists K V) (k : K) (v : V) → IsWellFormed eq m → n ≡ inserted eq m k v → IsOrderly eq c m n
+  replaced_orderly m n k v formed left = subst (IsOrderly eq c m) (sym left) (record {
+    well_formed = inserted_well_formed laws m k v formed;
+    key_order = λ _. KeepsKeyOrder-keys_with laws m.keys k;
+  })
+
+  written_orderly : (m n : Lists K V) (k : K) (v : V) → IsWellFormed eq m → n ≡ first_written eq m k v → IsOrderly eq c m n
+  written_orderly m n k v formed left = subst (IsOrderly eq c m) (sym left) (record {
+    well_formed = first_written_well_formed m formed k v;
+    key_order = λ _. KeepsKeyOrder-first_written laws m k v;
+  })
+
+  end_written_orderly : (end : End) (m n : Lists K V) (v : V) → IsWellFormed eq m → n ≡ end_written end m v → IsOrderly eq c m n
+  end_written_orderly end m n v formed left = subst (IsOrderly eq c m) (sym left) (record {
+    well_formed = end_written_well_formed m formed end v;
+    key_order = λ _. KeepsKeyOrder-end_written laws end m v;
+  })
+
+  appended_orderly : (m n : Lists K V) (k : K) (v : V) → IsWellFormed eq m → n ≡ appended eq m k v → IsOrderly eq c m n
+  appended_orderly m n k v formed left = subst (IsOrderly eq c m) (sym left) (record {
+    well_formed = appended_well_formed laws m k v formed;
+    key_order = λ _. KeepsKeyOrder-keys_with laws m.keys k;
+  })
+
+  entered_orderly : (m n : Lists K V) (k : K) (v : V) → IsWellFormed eq m → n ≡ entered eq m k v → IsOrderly eq c m n
+  entered_orderly m n k v formed left =
+      elim (is_present eq m.pairs k) as (λ b. n ≡ cond b m (appended eq m k v) → IsOrderly eq c m n) [
+        | true ↦ λ same. unchanged m n formed same
+        | false ↦ λ more. appended_orderly m n k v formed more
+      ] left
+
+  popped_orderly : (end : End) (m n : Lists K V) → IsWellFormed eq m → n ≡ popped eq end m → IsOrderly eq c m n
+  popped_orderly end m n formed left = subst (IsOrderly eq c m) (sym left) (record {
+    well_formed = popped_well_formed laws end m formed;
+    key_order = λ _. KeepsKeyOrder-popped laws end m;
+  })
+
+  kept_orderly : (m n : Lists K V) (keeps : K → V → Bool → V → Type 0) → IsWellFormed eq m → KeepsPairs keeps eq m n → IsOrderly eq c m n
+  kept_orderly m n keeps formed left = subst (IsOrderly eq c m) (sym (kept-named_by eq m n left.keys)) (record {
     well_formed = kept_well_formed laws m n.pairs formed (kept_keys keeps m.pairs n.pairs left.pairs);
-    key_order = KeepsKeyOrder-named_by laws m.keys n.pairs;
+    key_order = λ _. KeepsKeyOrder-named_by laws m.keys n.pairs;
   })
 
 module _ {K V A : Type 0} {eq : K → K → Bool} (laws : IsEquivalence eq) (keeps : V → K → V → Bool → V → Type 0) where
-  leaves_orderly : (command : Command K V A) (m n : Lists K V) → IsWellFormed eq m → Leaves keeps eq command m n → IsOrderly eq m n
+  leaves_orderly : (command : Command K V A) (m n : Lists K V) → IsWellFormed eq m → Leaves keeps eq command m n → IsOrderly eq command m n
   leaves_orderly (Append k v) m n formed left = appended_orderly laws m n k v formed left
   leaves_orderly (Insert k v) m n formed left = replaced_orderly laws m n k v formed left
   leaves_orderly (InsertAll k v) m n formed left = replaced_orderly laws m n k v formed left
@@ -115,20 +126,24 @@ module _ {K V A : Type 0} {eq : K → K → Bool} (laws : IsEquivalence eq) (kee
   leaves_orderly PopFront m n formed left = popped_orderly laws ends.Front m n formed left
   leaves_orderly PopBack m n formed left = popped_orderly laws ends.Back m n formed left
   leaves_orderly (Retain x) m n formed left = kept_orderly laws m n (keeps x) formed left
-  leaves_orderly Clear m n formed left = subst (IsOrderly eq m) (sym left) (record {
+  leaves_orderly Clear m n formed left = subst (IsOrderly eq Clear m) (sym left) (record {
     well_formed = empty_well_formed eq;
-    key_order = KeepsKeyOrder-none laws m.keys;
+    key_order = λ _. KeepsKeyOrder-none laws m.keys;
   })
   leaves_orderly (Reserve a b) m n formed left = unchanged laws m n formed left
   leaves_orderly PackToFit m n formed left = unchanged laws m n formed left
   leaves_orderly Swap m n formed left = unchanged laws m n formed left
+  leaves_orderly Json m n formed left = subst (IsOrderly eq Json m) (sym left) (record {
+    well_formed = read_well_formed laws m formed;
+    key_order = λ other. absurd (other refl);
+  })
   leaves_orderly (Pairs ends) m n formed left = unchanged laws m n formed left
   leaves_orderly (Keys ends) m n formed left = unchanged laws m n formed left
   leaves_orderly (Values ends) m n formed left = unchanged laws m n formed left
   leaves_orderly KeyLists m n formed left = unchanged laws m n formed left
   leaves_orderly Lengths m n formed left = unchanged laws m n formed left
 
-  pub step_orderly : (command : Command K V A) (m : Lists K V) (reply : Reply K V A) (n : Lists K V) → IsWellFormed eq m → IsStep keeps eq command m reply n → IsOrderly eq m n
+  pub step_orderly : (command : Command K V A) (m : Lists K V) (reply : Reply K V A) (n : Lists K V) → IsWellFormed eq m → IsStep keeps eq command m reply n → IsOrderly eq command m n
   step_orderly command m reply n formed step = elim step [ inl done ↦ leaves_orderly command m n formed done.1 | inr refused ↦ unchanged laws m n formed refused.2 ]
 
   pub run_well_formed : (commands : List (Command K V A)) (m : Lists K V) (replies : List (Reply K V A)) (n : Lists K V) → IsWellFormed eq m → IsRun keeps eq commands m replies n → IsWellFormed eq n
@@ -142,36 +157,37 @@ module _ {K V A : Type 0} where
   pub IsLookUp-else : (command : Command K V A) → ((k : K) (v : V) → command ≢ Append k v) → ((k : K) (v : V) → command ≢ Insert k v) → ((k : K) (v : V) → command ≢ InsertAll k v)
       → ((k : K) (v : V) → command ≢ SetFirst k v) → ((v : V) → command ≢ SetFront v) → ((v : V) → command ≢ SetBack v) → ((k : K) (v : V) → command ≢ OrInsert k v)
       → ((k : K) → command ≢ Remove k) → ((k : K) → command ≢ RemoveAll k) → ((k : K) → command ≢ RemoveEntry k) → ((k : K) → command ≢ RemoveEntryAll k)
-      → command ≢ PopFront → command ≢ PopBack → ((v : V) → command ≢ Retain v) → command ≢ Clear → ((x y : ℕ) → command ≢ Reserve x y) → command ≢ PackToFit → command ≢ Swap → IsLookUp command
-  IsLookUp-else (Append k v) a b c d e f g h i j l m n p o r s q = a k v refl
-  IsLookUp-else (Insert k v) a b c d e f g h i j l m n p o r s q = b k v refl
-  IsLookUp-else (InsertAll k v) a b c d e f g h i j l m n p o r s q = c k v refl
-  IsLookUp-else (SetFirst k v) a b c d e f g h i j l m n p o r s q = d k v refl
-  IsLookUp-else (SetFront v) a b c d e f g h i j l m n p o r s q = e v refl
-  IsLookUp-else (SetBack v) a b c d e f g h i j l m n p o r s q = f v refl
-  IsLookUp-else (OrInsert k v) a b c d e f g h i j l m n p o r s q = g k v refl
-  IsLookUp-else (Get k) a b c d e f g h i j l m n p o r s q = tt
-  IsLookUp-else (All k ends) a b c d e f g h i j l m n p o r s q = tt
-  IsLookUp-else (Has k) a b c d e f g h i j l m n p o r s q = tt
-  IsLookUp-else (Len k) a b c d e f g h i j l m n p o r s q = tt
-  IsLookUp-else Front a b c d e f g h i j l m n p o r s q = tt
-  IsLookUp-else Back a b c d e f g h i j l m n p o r s q = tt
-  IsLookUp-else (Remove k) a b c d e f g h i j l m n p o r s q = h k refl
-  IsLookUp-else (RemoveAll k) a b c d e f g h i j l m n p o r s q = i k refl
-  IsLookUp-else (RemoveEntry k) a b c d e f g h i j l m n p o r s q = j k refl
-  IsLookUp-else (RemoveEntryAll k) a b c d e f g h i j l m n p o r s q = l k refl
-  IsLookUp-else PopFront a b c d e f g h i j l m n p o r s q = m refl
-  IsLookUp-else PopBack a b c d e f g h i j l m n p o r s q = n refl
-  IsLookUp-else (Retain v) a b c d e f g h i j l m n p o r s q = p v refl
-  IsLookUp-else Clear a b c d e f g h i j l m n p o r s q = o refl
-  IsLookUp-else (Reserve x y) a b c d e f g h i j l m n p o r s q = r x y refl
-  IsLookUp-else PackToFit a b c d e f g h i j l m n p o r s q = s refl
-  IsLookUp-else Swap a b c d e f g h i j l m n p o r s q = q refl
-  IsLookUp-else (Pairs ends) a b c d e f g h i j l m n p o r s q = tt
-  IsLookUp-else (Keys ends) a b c d e f g h i j l m n p o r s q = tt
-  IsLookUp-else (Values ends) a b c d e f g h i j l m n p o r s q = tt
-  IsLookUp-else KeyLists a b c d e f g h i j l m n p o r s q = tt
-  IsLookUp-else Lengths a b c d e f g h i j l m n p o r s q = tt
+      → command ≢ PopFront → command ≢ PopBack → ((v : V) → command ≢ Retain v) → command ≢ Clear → ((x y : ℕ) → command ≢ Reserve x y) → command ≢ PackToFit → command ≢ Swap → command ≢ Json → IsLookUp command
+  IsLookUp-else (Append k v) a b c d e f g h i j l m n p o r s q u = a k v refl
+  IsLookUp-else (Insert k v) a b c d e f g h i j l m n p o r s q u = b k v refl
+  IsLookUp-else (InsertAll k v) a b c d e f g h i j l m n p o r s q u = c k v refl
+  IsLookUp-else (SetFirst k v) a b c d e f g h i j l m n p o r s q u = d k v refl
+  IsLookUp-else (SetFront v) a b c d e f g h i j l m n p o r s q u = e v refl
+  IsLookUp-else (SetBack v) a b c d e f g h i j l m n p o r s q u = f v refl
+  IsLookUp-else (OrInsert k v) a b c d e f g h i j l m n p o r s q u = g k v refl
+  IsLookUp-else (Get k) a b c d e f g h i j l m n p o r s q u = tt
+  IsLookUp-else (All k ends) a b c d e f g h i j l m n p o r s q u = tt
+  IsLookUp-else (Has k) a b c d e f g h i j l m n p o r s q u = tt
+  IsLookUp-else (Len k) a b c d e f g h i j l m n p o r s q u = tt
+  IsLookUp-else Front a b c d e f g h i j l m n p o r s q u = tt
+  IsLookUp-else Back a b c d e f g h i j l m n p o r s q u = tt
+  IsLookUp-else (Remove k) a b c d e f g h i j l m n p o r s q u = h k refl
+  IsLookUp-else (RemoveAll k) a b c d e f g h i j l m n p o r s q u = i k refl
+  IsLookUp-else (RemoveEntry k) a b c d e f g h i j l m n p o r s q u = j k refl
+  IsLookUp-else (RemoveEntryAll k) a b c d e f g h i j l m n p o r s q u = l k refl
+  IsLookUp-else PopFront a b c d e f g h i j l m n p o r s q u = m refl
+  IsLookUp-else PopBack a b c d e f g h i j l m n p o r s q u = n refl
+  IsLookUp-else (Retain v) a b c d e f g h i j l m n p o r s q u = p v refl
+  IsLookUp-else Clear a b c d e f g h i j l m n p o r s q u = o refl
+  IsLookUp-else (Reserve x y) a b c d e f g h i j l m n p o r s q u = r x y refl
+  IsLookUp-else PackToFit a b c d e f g h i j l m n p o r s q u = s refl
+  IsLookUp-else Swap a b c d e f g h i j l m n p o r s q u = q refl
+  IsLookUp-else Json a b c d e f g h i j l m n p o r s q u = u refl
+  IsLookUp-else (Pairs ends) a b c d e f g h i j l m n p o r s q u = tt
+  IsLookUp-else (Keys ends) a b c d e f g h i j l m n p o r s q u = tt
+  IsLookUp-else (Values ends) a b c d e f g h i j l m n p o r s q u = tt
+  IsLookUp-else KeyLists a b c d e f g h i j l m n p o r s q u = tt
+  IsLookUp-else Lengths a b c d e f g h i j l m n p o r s q u = tt
 
   -- a look-up calls no function
   pub IsStep-look_up : (keeps : V → K → V → Bool → V → Type 0) (eq : K → K → Bool) (command : Command K V A) (m : Lists K V) (reply : Reply K V A) (n : Lists K V)
@@ -200,6 +216,7 @@ module _ {K V A : Type 0} where
   IsStep-look_up keeps eq (Reserve a b) m reply n look step = absurd look
   IsStep-look_up keeps eq PackToFit m reply n look step = absurd look
   IsStep-look_up keeps eq Swap m reply n look step = absurd look
+  IsStep-look_up keeps eq Json m reply n look step = absurd look
   IsStep-look_up keeps eq (Pairs ends) m reply n look step = step
   IsStep-look_up keeps eq (Keys ends) m reply n look step = step
   IsStep-look_up keeps eq (Values ends) m reply n look step = step
@@ -238,6 +255,7 @@ module _ {K V : Type 0} (keeps other : V → K → V → Bool → V → Type 0) 
     leaves_more (Reserve a b) m n left = left
     leaves_more PackToFit m n left = left
     leaves_more Swap m n left = left
+    leaves_more Json m n left = left
     leaves_more (Pairs ends) m n left = left
     leaves_more (Keys ends) m n left = left
     leaves_more (Values ends) m n left = left

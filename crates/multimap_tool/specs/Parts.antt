@@ -24,7 +24,8 @@ IsReadingOf {A} line found = MatchOption found (IsBadLine A line) (λ command. S
 -- the words of changes that stand alone
 abbrev pub lone_change_words : List (List ℕ)
 lone_change_words =
-    codes "popfront" ∷ codes "popback" ∷ codes "clear" ∷ codes "packtofit" ∷ codes "swap" ∷ []
+    codes "popfront" ∷ codes "popback" ∷ codes "clear" ∷ codes "packtofit" ∷ codes "swap"
+    ∷ codes "json" ∷ []
 
 -- those of look-ups
 abbrev pub lone_look_up_words : List (List ℕ)

@@ -3,7 +3,7 @@ use Rattle.std.specs.Prelude.{◌≢◌, ◌≤◌, ◌+◌, List, [], ◌∷◌
 use Rattle.ordered_multimap.specs.Multimap.{Multimap}
 use Rattle.multimap_tool.specs.declared.commands.Command.{Command}
 use Rattle.multimap_tool.specs.declared.commands.Command.TheVariants.{Append, Insert, OrInsert}
-use Rattle.multimap_tool.specs.declared.commands.Command.TheVariants.{PackToFit, Swap}
+use Rattle.multimap_tool.specs.declared.commands.Command.TheVariants.{PackToFit, Swap, Json}
 use Rattle.multimap_tool.specs.declared.replies.Reply.{Reply}
 use Rattle.multimap_tool.specs.declared.replies.Reply.TheVariants.{NoMemory}
 
@@ -19,6 +19,7 @@ module _ {K V A : Type 0} where
   abbrev pub KeepsRoom : Command K V A → Type 0
   KeepsRoom PackToFit = ⊥
   KeepsRoom Swap = ⊥
+  KeepsRoom Json = ⊥
   KeepsRoom _ = Unit {0}
 
   -- no command lowers a room, and there is room for a key and a value for each of them

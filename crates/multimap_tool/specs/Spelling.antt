@@ -20,7 +20,7 @@ use Rattle.multimap_tool.specs.declared.commands.Command.TheVariants.{Remove, Re
 use Rattle.multimap_tool.specs.declared.commands.Command.TheVariants.{RemoveEntry, RemoveEntryAll}
 use Rattle.multimap_tool.specs.declared.commands.Command.TheVariants.{PopFront, PopBack, Clear}
 use Rattle.multimap_tool.specs.declared.commands.Command.TheVariants.{Retain, Reserve, PackToFit}
-use Rattle.multimap_tool.specs.declared.commands.Command.TheVariants.{Swap}
+use Rattle.multimap_tool.specs.declared.commands.Command.TheVariants.{Swap, Json}
 use Rattle.multimap_tool.specs.declared.commands.Command.TheVariants.{Pairs, Keys, Values, KeyLists}
 use Rattle.multimap_tool.specs.declared.commands.Command.TheVariants.{Lengths}
 
@@ -82,6 +82,7 @@ module _ {A : Type 0} where
   name_of Clear = codes "clear"
   name_of PackToFit = codes "packtofit"
   name_of Swap = codes "swap"
+  name_of Json = codes "json"
   name_of (Pairs Forward) = codes "pairs"
   name_of (Pairs (Word word)) = codes "walkpairs"
   name_of (Keys Forward) = codes "keys"
@@ -122,6 +123,7 @@ module _ {A : Type 0} where
   operands_of Clear = []
   operands_of PackToFit = []
   operands_of Swap = []
+  operands_of Json = []
   operands_of (Pairs ends) = word_of ends
   operands_of (Keys ends) = word_of ends
   operands_of (Values ends) = word_of ends

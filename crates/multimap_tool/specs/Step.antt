@@ -9,10 +9,11 @@ use denote.Param.Members.{Shared}
 use Rattle.ordered_multimap.specs.End.{End}
 use Rattle.ordered_multimap.specs.End.TheVariants as ends
 use Rattle.ordered_multimap.specs.Walk.{end_item, answers_of_walk, forward}
-use Rattle.ordered_multimap.specs.Lists.{Lists, empty_lists}
+use Rattle.ordered_multimap.specs.Lists.{Lists, lists, empty_lists}
 use Rattle.ordered_multimap.specs.Pairs.{all_values, has_items, values_of, is_present}
 use Rattle.ordered_multimap.specs.Keys.{stored_key, keys_named_by}
 use Rattle.ordered_multimap.specs.Changes.{appended, inserted, removed, first_written, end_written}
+use Rattle.ordered_multimap.specs.Changes.{first_occurrences}
 use Rattle.ordered_multimap.specs.Pop.{popped, popped_pair}
 use Rattle.ordered_multimap.specs.Retain.{Retains}
 use Rattle.ordered_multimap.specs.Pop as pops
@@ -28,7 +29,7 @@ use Rattle.multimap_tool.specs.declared.commands.Command.TheVariants.{Remove, Re
 use Rattle.multimap_tool.specs.declared.commands.Command.TheVariants.{RemoveEntry, RemoveEntryAll}
 use Rattle.multimap_tool.specs.declared.commands.Command.TheVariants.{PopFront, PopBack, Clear}
 use Rattle.multimap_tool.specs.declared.commands.Command.TheVariants.{Retain, Reserve, PackToFit}
-use Rattle.multimap_tool.specs.declared.commands.Command.TheVariants.{Swap}
+use Rattle.multimap_tool.specs.declared.commands.Command.TheVariants.{Swap, Json}
 use Rattle.multimap_tool.specs.declared.commands.Command.TheVariants.{Pairs, Keys, Values, KeyLists}
 use Rattle.multimap_tool.specs.declared.commands.Command.TheVariants.{Lengths}
 use Rattle.multimap_tool.specs.declared.replies.Popped.{Popped}
@@ -91,6 +92,7 @@ IsLookUp Clear = ⊥
 IsLookUp (Reserve a b) = ⊥
 IsLookUp PackToFit = ⊥
 IsLookUp Swap = ⊥
+IsLookUp Json = ⊥
 IsLookUp _ = Unit {0}
 
 -- a call of the function on these may answer b, and leave w as the value
@@ -113,7 +115,8 @@ pub record KeepsPairs {K V : Type 0} (keeps : K → V → Bool → V → Type 0)
 module _ {K V : Type 0} (keeps : V → K → V → Bool → V → Type 0) (eq : K → K → Bool)
     {A : Type 0} where
   -- the lists that a command leaves: look-ups leave them as they are, and so do a clone, a
-  -- request for room and a packing
+  -- request for room and a packing; what is read of a JSON value has the keys in the order in which
+  -- they first occur in the pairs
   abbrev pub Leaves : Command K V A → Lists K V → Lists K V → Type 0
   Leaves (Append k v) m n = n ≡ appended eq m k v
   Leaves (Insert k v) m n = n ≡ inserted eq m k v
@@ -130,6 +133,7 @@ module _ {K V : Type 0} (keeps : V → K → V → Bool → V → Type 0) (eq : 
   Leaves PopBack m n = n ≡ popped eq ends.Back m
   Leaves (Retain x) m n = KeepsPairs (keeps x) eq m n
   Leaves Clear m n = n ≡ empty_lists
+  Leaves Json m n = n ≡ lists (first_occurrences eq m.pairs) m.pairs
   Leaves _ m n = n ≡ m
 
 module _ {K : Type 0} (eq : K → K → Bool) {V A : Type 0} where
@@ -165,6 +169,7 @@ module _ {K : Type 0} (eq : K → K → Bool) {V A : Type 0} where
   Tells (Reserve a b) m replies.Done = Unit {0}
   Tells PackToFit m replies.Done = Unit {0}
   Tells Swap m replies.Done = Unit {0}
+  Tells Json m replies.Done = Unit {0}
   Tells (Pairs ends) m (replies.Pairs pairs) = pairs.items ≡ walked m.pairs ends
   Tells (Keys ends) m (replies.Keys keys) = keys.items ≡ walked m.keys ends
   Tells (Values ends) m (replies.Values values) = values.items ≡ walked (all_values m.pairs) ends
@@ -173,7 +178,7 @@ module _ {K : Type 0} (eq : K → K → Bool) {V A : Type 0} where
   Tells _ m _ = ⊥
 
   -- an addition may find no memory, but for one to a present key that replaces or keeps, and so
-  -- may a request for room, a packing, a clone, and a reply that would list an item
+  -- may a request for room, a packing, a clone, a JSON value, and a reply that would list an item
   abbrev pub MayLackMemory : Command K V A → Lists K V → Type 0
   MayLackMemory (Append k v) m = Unit {0}
   MayLackMemory (Insert k v) m = is_present eq m.pairs k ≡ false
@@ -182,6 +187,7 @@ module _ {K : Type 0} (eq : K → K → Bool) {V A : Type 0} where
   MayLackMemory (Reserve a b) m = Unit {0}
   MayLackMemory PackToFit m = Unit {0}
   MayLackMemory Swap m = Unit {0}
+  MayLackMemory Json m = Unit {0}
   MayLackMemory (All k ends) m = ListsItem (walked (values_of eq m.pairs k) ends)
   MayLackMemory (RemoveAll k) m = ListsItem (values_of eq m.pairs k)
   MayLackMemory (RemoveEntryAll k) m = ListsItem (values_of eq m.pairs k)

@@ -64,6 +64,8 @@ pub enum Command<K, V, A: Allocator = Global> {
     PackToFit,
     /// Puts a clone of the map in its place.
     Swap,
+    /// Puts in the map's place what is read of its JSON value.
+    Json,
     /// All pairs.
     Pairs(Ends<A>),
     /// All keys.

@@ -14,14 +14,14 @@ use crate::parse::parse_commands;
 use crate::replies::Reply;
 use crate::run::run;
 use ordered_multimap::ListOrderedMultimap;
-use std::alloc::{AllocError, Allocator};
+use std::alloc::{AllocError, Allocator, Global};
 use std::io::{Read, Write};
 
 /// How many bytes one read asks for.
 const PIECE: usize = 32768;
 
 /// Reads all of the input, runs the commands that its lines spell on an empty map, and writes the
-/// text of their replies. `alloc` gives all memory.
+/// text of their replies. `alloc` gives all memory but that of JSON values, which `memory` gives.
 ///
 /// All input is read before a line is looked at, and all replies are complete before the first
 /// byte is written, so nothing is written before a fault other than [`ToolFault::Write`]. Any
@@ -29,6 +29,7 @@ const PIECE: usize = 32768;
 /// too; a write that takes no bytes is a failed write.
 pub fn execute<A: Allocator + Copy, R: Read, W: Write>(
     alloc: A,
+    memory: Global,
     input: &mut R,
     output: &mut W,
 ) -> Result<(), ToolFault>
@@ -38,7 +39,7 @@ pub fn execute<A: Allocator + Copy, R: Read, W: Write>(
     ensures unwritten { IfErr result (λ fault. fault ≢ ToolFault.Write → output.new ≡ output.old) }
 {
     let bytes = read_all(alloc, input)?;
-    match answer(alloc, &bytes) {
+    match answer(alloc, memory, &bytes) {
         Ok(text) => write_text(output, &text),
         Err(fault) => Err(fault),
     }
@@ -64,29 +65,35 @@ fn read_all<A: Allocator, R: Read>(alloc: A, input: &mut R) -> Result<Vec<u8, A>
 }
 
 /// The text of the replies to the commands that the bytes spell.
-fn answer<A: Allocator + Copy>(alloc: A, bytes: &[u8]) -> Result<Vec<u8, A>, ToolFault>
+fn answer<A: Allocator + Copy>(
+    alloc: A,
+    memory: Global,
+    bytes: &[u8],
+) -> Result<Vec<u8, A>, ToolFault>
     ensures ok { IfOk result (λ text. IsAnsweredBy A bytes.now text.items) }
     ensures fault { IfErr result (IsFaultOf A bytes.now) }
 {
     let commands = parse_commands(alloc, bytes)?;
-    Ok(answer_commands(alloc, &commands)?)
+    Ok(answer_commands(alloc, memory, &commands)?)
 }
 
 /// The text of the replies to the commands, run on an empty map.
 fn answer_commands<A: Allocator + Copy>(
     alloc: A,
+    memory: Global,
     commands: &[Command<u32, i64, A>],
 ) -> Result<Vec<u8, A>, AllocError>
     ensures { IfOk result (λ text. (replies : List (Reply ℕ ℤ A)) × (last : Lists ℕ ℤ)
         × IsRun keeps_at_least nat_eq commands.now empty_lists replies last × (text.items ≡ text_of replies)) }
 {
-    let replies = run_on_empty(alloc, commands)?;
+    let replies = run_on_empty(alloc, memory, commands)?;
     format_replies(alloc, &replies)
 }
 
 /// The replies to the commands, run on an empty map.
 fn run_on_empty<A: Allocator + Copy>(
     alloc: A,
+    memory: Global,
     commands: &[Command<u32, i64, A>],
 ) -> Result<Vec<Reply<u32, i64, A>, A>, AllocError>
     ensures { IfOk result (λ replies. (last : Lists ℕ ℤ)
@@ -95,6 +102,7 @@ fn run_on_empty<A: Allocator + Copy>(
     let mut map = ListOrderedMultimap::new(alloc);
     run(
         alloc,
+        memory,
         &mut map,
         commands,
         |least, _key, value| *value >= least,

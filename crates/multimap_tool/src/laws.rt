@@ -1,6 +1,6 @@
 //! Laws of steps and runs, for all commands, and of maps as JSON values. The functions do nothing:
 //! what they ensure is the law.
-ghost use Rattle.std.specs.Prelude.{◌≡◌, List};
+ghost use Rattle.std.specs.Prelude.{◌≡◌, ℕ, List};
 ghost use Rattle.ordered_multimap.specs.Lists.{Lists, IsWellFormed};
 ghost use Rattle.ordered_multimap.specs.Changes.{first_occurrences};
 ghost use Rattle.multimap_tool.specs.declared.commands.Command.{Command};
@@ -14,10 +14,11 @@ use crate::json::JsonPart;
 use std::alloc::Allocator;
 
 /// A step leaves well-formed lists well formed, whatever the function keeps. Keys that stay keep
-/// their order, and a key that comes stands behind them.
+/// their order, and a key that comes stands behind them: [`Command::Json`] alone may reorder keys.
 pub fn step_is_orderly<K: Eq, V, A: Allocator, F: Fn(V, &K, &mut V) -> bool>(_keep: &F)
     ensures { (c : Command K V A) (m : Lists K V) (r : Reply K V A) (n : Lists K V) →
-        IsWellFormed K.eq m → IsStep (MayKeep F.Fn _keep.now) K.eq c m r n → IsOrderly K.eq m n }
+        IsWellFormed K.eq m → IsStep (MayKeep F.Fn _keep.now) K.eq c m r n
+        → IsOrderly K.eq c m n }
 {}
 
 /// A run leaves well-formed lists well formed, whatever the function keeps.
@@ -36,4 +37,10 @@ pub fn what_is_written_is_read<K: JsonPart + Eq, V: JsonPart>()
     ensures { (m n : Lists K V) → IsWellFormed K.eq m
         → IsReadFrom K.json V.json K.eq (pairs_json K.json V.json m.pairs) n
         → (n.keys ≡ first_occurrences K.eq m.pairs) × (n.pairs ≡ m.pairs) }
+{}
+
+/// Different characters have different JSON values, as [`crate::run::run`] asks of keys and values.
+/// For numbers and truth values a caller's proof needs no such law.
+pub fn characters_differ_as_json()
+    ensures { (c d : ℕ) → ⟦<char as JsonPart>⟧.json c ≡ ⟦<char as JsonPart>⟧.json d → c ≡ d }
 {}

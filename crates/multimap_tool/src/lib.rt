@@ -17,6 +17,7 @@ mod look_ups;
 mod operands;
 pub mod parse;
 pub mod replies;
+mod reread;
 mod rooms;
 pub mod run;
 mod walk;

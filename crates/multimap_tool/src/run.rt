@@ -10,34 +10,39 @@ ghost use Rattle.multimap_tool.specs.RunRooms.{IsAddition, KeepsRoom, HasRunRoom
 
 use crate::commands::Command;
 use crate::drained::{insert_all, remove_all, remove_entry_all};
+use crate::json::JsonPart;
 use crate::keep::{Keep, KeepBy};
 use crate::look_ups::look_up;
 use crate::replies::{Popped, Reply};
+use crate::reread::reread;
 use crate::rooms::{pack_to_fit, reserve};
 use crate::written::{or_insert, set_back, set_first, set_front};
 use ordered_multimap::list_ordered_multimap::KeyWrapper;
 use ordered_multimap::{End, ListOrderedMultimap};
-use std::alloc::{AllocError, Allocator};
+use std::alloc::{AllocError, Allocator, Global};
 use std::hash::{BuildHasher, Hash};
 
 /// Runs the commands on the map, in order, and answers each with one reply.
 ///
-/// `alloc` gives the memory of the replies. `keep` tells which pairs a [`Command::Retain`] keeps:
-/// it is handed the command's value, a key and its value, which it may write, and has to be
-/// callable with the value of each of these commands and any key and value. The room for all
+/// `alloc` gives the memory of the replies, and `memory` that of the JSON value that a
+/// [`Command::Json`] makes and reads. `keep` tells which pairs a [`Command::Retain`] keeps: it is
+/// handed the command's value, a key and its value, which it may write, and has to be callable with
+/// the value of each of these commands and any key and value. The room for all
 /// replies is taken at the start: where it is refused, nothing was done. A command that finds no
 /// memory for itself is answered [`Reply::NoMemory`] and changes neither keys nor pairs. That no
 /// append, insert or or-insert is, where the map has room at the start for as many keys and values
-/// as there are commands, and none is a [`Command::PackToFit`] or [`Command::Swap`]. Clones of keys
-/// and values must be the very keys and values.
+/// as there are commands, and none is a [`Command::PackToFit`], [`Command::Swap`] or
+/// [`Command::Json`]. Clones of keys and values must be the very keys and values, and different ones
+/// must have different JSON values.
 pub fn run<
-    K: Eq + Hash + Copy,
-    V: Copy,
+    K: JsonPart + Eq + Hash + Copy,
+    V: JsonPart + Copy,
     S: BuildHasher + Clone,
     A: Allocator + Copy,
     F: Fn(V, &K, &mut V) -> bool + Drop,
 >(
     alloc: A,
+    memory: Global,
     map: &mut ListOrderedMultimap<K, V, S, A>,
     commands: &[Command<K, V, A>],
     keep: F,
@@ -46,6 +51,8 @@ pub fn run<
         → (key : Bor K) (value : MutBor V) → F.pre keep operand key value }
     requires keys { (k c : K) → K.is_clone k c → c ≡ k }
     requires values { (v c : V) → V.is_clone v c → c ≡ v }
+    requires key_parts { (k j : K) → K.json k ≡ K.json j → k ≡ j }
+    requires value_parts { (v w : V) → V.json v ≡ V.json w → v ≡ w }
     ensures ok { IfOk result (λ replies. IsRun (MayKeep F.Fn keep) K.eq
         commands.now map.old.lists replies.items map.new.lists) }
     ensures hasher { ((s c : S) → S.is_clone s c → c ≡ s) → map.new.hasher ≡ map.old.hasher }
@@ -56,14 +63,21 @@ pub fn run<
     let keep = KeepBy { keep };
     let mut replies = Vec::with_capacity(alloc, commands.len())?;
     for command in commands {
-        replies.push_reserved(step(alloc, map, command, &keep));
+        replies.push_reserved(step(alloc, memory, map, command, &keep));
     }
     Ok(replies)
 }
 
 /// Runs one command.
-fn step<K: Eq + Hash + Copy, V: Copy, S: BuildHasher + Clone, A: Allocator + Copy, F: Keep<K, V>>(
+fn step<
+    K: JsonPart + Eq + Hash + Copy,
+    V: JsonPart + Copy,
+    S: BuildHasher + Clone,
+    A: Allocator + Copy,
+    F: Keep<K, V>,
+>(
     alloc: A,
+    memory: Global,
     map: &mut ListOrderedMultimap<K, V, S, A>,
     command: &Command<K, V, A>,
     keep: &F,
@@ -72,6 +86,8 @@ fn step<K: Eq + Hash + Copy, V: Copy, S: BuildHasher + Clone, A: Allocator + Cop
         → F.accepts keep.now operand }
     requires keys { (k c : K) → K.is_clone k c → c ≡ k }
     requires values { (v c : V) → V.is_clone v c → c ≡ v }
+    requires key_parts { (k j : K) → K.json k ≡ K.json j → k ≡ j }
+    requires value_parts { (v w : V) → V.json v ≡ V.json w → v ≡ w }
     ensures step { IsStep (F.answers keep.now) K.eq
         command.now map.old.lists result map.new.lists }
     ensures hasher { ((s c : S) → S.is_clone s c → c ≡ s) → map.new.hasher ≡ map.old.hasher }
@@ -98,6 +114,7 @@ fn step<K: Eq + Hash + Copy, V: Copy, S: BuildHasher + Clone, A: Allocator + Cop
         Command::Reserve(keys, values) => reserve(map, *keys, *values),
         Command::PackToFit => pack_to_fit(map),
         Command::Swap => swap(map),
+        Command::Json => reread(alloc, memory, map),
         _ => look_up(alloc, map, command),
     }
 }

@@ -36,6 +36,9 @@ fn lone_change<A: Allocator>(name: &[u8]) -> Option<Command<u32, i64, A>>
     if name == b"swap".as_slice() {
         return Some(Command::Swap);
     }
+    if name == b"json".as_slice() {
+        return Some(Command::Json);
+    }
     None
 }
 

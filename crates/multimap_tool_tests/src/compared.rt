@@ -83,7 +83,7 @@ fn some_look_up<A: Allocator>(
 }
 
 // Half of the commands change the map; of a hundred one empties it, one keeps some pairs, one puts a
-// clone in its place, one asks for room, and one gives it back.
+// clone in its place, one what is read of its JSON value, one asks for room, and one gives it back.
 pub(crate) fn some_command<A: Allocator>(
     alloc: A,
     state: &mut u64,
@@ -95,6 +95,7 @@ pub(crate) fn some_command<A: Allocator>(
         51 => Ok(Command::Swap),
         52 => Ok(some_reserve(state)),
         53 => Ok(Command::PackToFit),
+        54 => Ok(Command::Json),
         2..=50 => Ok(some_change(state, key)),
         _ => some_look_up(alloc, state, key),
     }
@@ -159,6 +160,7 @@ fn commands_are_answered(test: &Test, commands: &[Command<u32, i64>]) {
     let mut map = ListOrderedMultimap::new(test.alloc());
     let mut plain = PlainMap::new(test.alloc());
     match run(
+        test.alloc(),
         test.alloc(),
         &mut map,
         commands,

@@ -45,7 +45,7 @@ fn absent_keys_come<'a>(
     map: &mut Refusing<'a>,
     commands: &[Granted<'a>],
 ) {
-    match run(allocator, map, commands, |_, _, _| true) {
+    match run(allocator, test.alloc(), map, commands, |_, _, _| true) {
         Ok(replies) => replies_tell_what_came(test, map, &replies),
         Err(_) => is_as_before(test, map),
     }
@@ -95,7 +95,7 @@ fn writes_run<'a>(test: &Test, allocator: &'a RefusingAllocator, map: &mut Refus
         Command::SetFront(5),
         Command::SetBack(6),
     ];
-    match run(allocator, map, &commands, |_, _, _| true) {
+    match run(allocator, test.alloc(), map, &commands, |_, _, _| true) {
         Ok(replies) => writes_answer(test, &replies),
         Err(_) => test.expect("memory for replies", false),
     }

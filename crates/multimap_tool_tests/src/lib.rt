@@ -8,6 +8,8 @@ mod compared;
 #[cfg(test)]
 mod entered;
 #[cfg(test)]
+mod letters;
+#[cfg(test)]
 mod listed;
 #[cfg(test)]
 mod memory;

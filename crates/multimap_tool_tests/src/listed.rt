@@ -51,7 +51,8 @@ fn listing_runs<'a>(
     map: &mut Refusing<'a>,
     which: usize,
 ) {
-    match run(allocator, map, &[listing_command(which)], |_, _, _| true) {
+    let listing = [listing_command(which)];
+    match run(allocator, test.alloc(), map, &listing, |_, _, _| true) {
         Ok(replies) => {
             if replies.first() == Some(&Reply::NoMemory) {
                 is_as_before(test, map);

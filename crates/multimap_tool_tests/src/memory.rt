@@ -15,7 +15,7 @@ use test_helpers::{Failed, Test, requests_until_enough};
 
 /// Commands of which the additions and the lists may find no memory.
 const INPUT: &str = "append 1 1\nappend 2 2\nappend 2 3\nappend 1 4\npairs\nall 1\nget 2\nget 3\n\
-    swap\ninsert 2 5\ninsert 3 6\ninsertall 1 7\norinsert 4 8\norinsert 1 9\nkeys\nlists\n\
+    swap\ninsert 1 9\njson\nkeys\ninsert 2 5\ninsert 3 6\ninsertall 1 7\norinsert 4 8\norinsert 1 9\nkeys\nlists\n\
     removeall 2\nremoveentryall 1\nreserve 9 9\npacktofit\npopfront\nretain 8\nclear\nlists\n";
 
 /// Whether the reply, but for its line feed, stands in the line.
@@ -33,12 +33,13 @@ fn has(alloc: Global, plain: &mut PlainMap, key: u32) -> bool {
 }
 
 /// Whether the command may be answered by want of memory: an addition, but for one to a present key
-/// that replaces or keeps, a request for room, a packing, a clone, or
-/// a list of some item.
+/// that replaces or keeps, a request for room, a packing, a clone, a JSON value, or a list of some
+/// item.
 fn may_lack(alloc: Global, plain: &mut PlainMap, command: &Command<u32, i64>) -> bool {
     match command {
         Command::Append(_, _) | Command::InsertAll(_, _) => true,
-        Command::Reserve(_, _) | Command::PackToFit | Command::Swap => true,
+        Command::Reserve(_, _) | Command::PackToFit => true,
+        Command::Swap | Command::Json => true,
         Command::Insert(key, _) | Command::OrInsert(key, _) => !has(alloc, plain, *key),
         Command::RemoveAll(key) | Command::RemoveEntryAll(key) => has(alloc, plain, *key),
         Command::All(_, _)
@@ -107,7 +108,7 @@ fn execute_with(test: &Test, granted: u64) -> bool {
     let allocator = RefusingAllocator::new(test.alloc(), granted);
     let mut output = Vec::new(test.alloc());
     let mut input = INPUT.as_bytes();
-    let ended = execute(&allocator, &mut input, &mut output);
+    let ended = execute(&allocator, test.alloc(), &mut input, &mut output);
     ends_well(test, &output, ended);
     !allocator.refused()
 }
@@ -201,7 +202,7 @@ fn run_in<'a>(
     map: &mut Refusing<'a>,
     commands: &Commands<&'a RefusingAllocator>,
 ) {
-    match run(allocator, map, commands, |_, _, _| true) {
+    match run(allocator, test.alloc(), map, commands, |_, _, _| true) {
         Ok(replies) => {
             let appended = is_appended(test, &replies);
             test.expect("values_len", map.values_len() == usize::from(appended));

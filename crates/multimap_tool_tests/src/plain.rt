@@ -186,6 +186,17 @@ impl PlainMap {
         Ok(Reply::Done)
     }
 
+    /// Puts the keys in the order in which they first occur in the pairs.
+    fn reread(&mut self) -> Answer {
+        self.keys.clear();
+        for (key, _) in self.pairs.iter() {
+            if !self.keys.contains(key) {
+                self.keys.push(*key)?;
+            }
+        }
+        Ok(Reply::Done)
+    }
+
     /// Runs a command.
     pub fn answer(&mut self, alloc: Global, command: &Command<u32, i64>) -> Answer {
         match command {
@@ -204,6 +215,7 @@ impl PlainMap {
             Command::PopBack => self.pop(End::Back),
             Command::Retain(least) => self.retain(*least),
             Command::Clear => self.clear(),
+            Command::Json => self.reread(),
             Command::Reserve(_, _) | Command::PackToFit | Command::Swap => Ok(Reply::Done),
             _ => self.look_up(alloc, command),
         }

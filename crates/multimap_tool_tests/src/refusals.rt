@@ -44,6 +44,7 @@ fn command_is_answered<'a>(
 ) -> bool {
     let ran = run(
         allocator,
+        test.alloc(),
         map,
         &[granted],
         |least, _, value| *value >= least,

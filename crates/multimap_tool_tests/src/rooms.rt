@@ -13,7 +13,8 @@ type Numbers = ListOrderedMultimap<u32, i64>;
 type Refusing<'a> = ListOrderedMultimap<u32, i64, DefaultState, &'a RefusingAllocator>;
 
 fn reserves(alloc: Global, map: &mut Numbers) -> bool {
-    match run(alloc, map, &[Command::Reserve(20, 300)], |_, _, _| true) {
+    let reserve = [Command::Reserve(20, 300)];
+    match run(alloc, alloc, map, &reserve, |_, _, _| true) {
         Ok(replies) => replies.first() == Some(&Reply::Done),
         Err(_) => false,
     }
@@ -45,7 +46,13 @@ fn some_commands<'a>() -> [Command<u32, i64, &'a RefusingAllocator>; 8] {
 }
 
 fn additions_find_room<'a>(test: &Test, allocator: &'a RefusingAllocator, map: &mut Refusing<'a>) {
-    match run(allocator, map, &some_commands(), |_, _, _| true) {
+    match run(
+        allocator,
+        test.alloc(),
+        map,
+        &some_commands(),
+        |_, _, _| true,
+    ) {
         Ok(replies) => {
             for (row, reply) in replies.iter().enumerate() {
                 test.expect_at("room", row, *reply != Reply::NoMemory);
@@ -92,7 +99,7 @@ fn three_are_answered<'a>(test: &Test, allocator: &'a RefusingAllocator, map: &m
         Command::Insert(2, 2),
         Command::OrInsert(3, 3),
     ];
-    match run(allocator, map, &three, |_, _, _| true) {
+    match run(allocator, test.alloc(), map, &three, |_, _, _| true) {
         Ok(replies) => test.expect("replies", are_three(&replies)),
         Err(_) => test.expect("nothing was done", is_untouched(map)),
     }

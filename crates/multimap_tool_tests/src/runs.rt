@@ -1,7 +1,7 @@
 //! Runs of commands, and the laws, at concrete types.
 use multimap_tool::End;
 use multimap_tool::commands::{Command, Ends};
-use multimap_tool::laws::{run_is_well_formed, step_is_orderly};
+use multimap_tool::laws::{characters_differ_as_json, run_is_well_formed, step_is_orderly};
 use multimap_tool::replies::{Popped, Reply};
 use multimap_tool::run::run;
 use ordered_multimap::ListOrderedMultimap;
@@ -9,7 +9,7 @@ use ordered_multimap::laws::{
     append_then_pop_back, chain_is_filter, equal_maps, json_first_occurrence,
 };
 use std::alloc::{AllocError, Global};
-use test_helpers::{End as Side, Failed, Test, walk_difference};
+use test_helpers::{Failed, Test};
 
 type Marks = ListOrderedMultimap<char, bool>;
 
@@ -170,6 +170,7 @@ fn add_last(rows: &mut Rows) -> Result<(), AllocError> {
     add(rows, Command::Remove('u'), Reply::Value(Some(true)))?;
     add(rows, Command::Append('t', true), Reply::Appended(false))?;
     add(rows, Command::Swap, Reply::Done)?;
+    add(rows, Command::Json, Reply::Done)?;
     add(rows, Command::Reserve(7, 0), Reply::Done)?;
     add(rows, Command::PackToFit, Reply::Done)?;
     add(rows, Command::Lengths, Reply::Counts(1, 1))?;
@@ -203,7 +204,9 @@ fn was_operand(operand: bool, _key: &char, value: &mut bool) -> bool {
 }
 
 fn rows_are_answered(test: &Test, rows: &Rows, map: &mut Marks) {
-    match run(test.alloc(), map, &rows.commands, was_operand) {
+    characters_differ_as_json();
+    let alloc = test.alloc();
+    match run(alloc, alloc, map, &rows.commands, was_operand) {
         Ok(replies) => test.expect("replies", replies.as_slice() == rows.replies.as_slice()),
         Err(_) => test.expect("memory for replies", false),
     }
@@ -220,66 +223,6 @@ fn commands_run_in_order(rt: HostRuntime) -> Result<(), Failed> {
     };
     test.expect("memory for rows", add_rows(&mut rows, test.alloc()).is_ok());
     rows_are_answered(&test, &rows, &mut ListOrderedMultimap::new(test.alloc()));
-    test.end()
-}
-
-/// A letter, which is equal to itself in the other case.
-#[derive(Clone, Copy, Debug)]
-#[derive_where(PartialEq, Eq, Hash)]
-struct Letter {
-    folded: char,
-    #[derive_where(skip(EqHashOrd))]
-    is_upper: bool,
-}
-
-const UPPER: Letter = Letter {
-    folded: 'k',
-    is_upper: true,
-};
-
-const LOWER: Letter = Letter {
-    folded: 'k',
-    is_upper: false,
-};
-
-type Letters = ListOrderedMultimap<Letter, i64>;
-
-fn letters_are_answered(test: &Test, map: &mut Letters) {
-    let commands = [
-        Command::Append(UPPER, 1),
-        Command::Append(LOWER, 2),
-        Command::Get(LOWER),
-    ];
-    let wanted = [
-        Reply::Appended(false),
-        Reply::Appended(true),
-        Reply::Value(Some(1)),
-    ];
-    match run(test.alloc(), map, &commands, |_, _, _| true) {
-        Ok(replies) => test.expect("replies", replies.as_slice() == wanted.as_slice()),
-        Err(_) => test.expect("memory for replies", false),
-    }
-}
-
-fn the_stored_key_is_upper(test: &Test, map: &Letters) {
-    test.expect("keys_len", map.keys_len() == 1);
-    test.expect("values_len", map.values_len() == 2);
-    for (key, _) in map.iter() {
-        test.expect("the key stored first", key.is_upper);
-    }
-    let wanted = [(Side::Front, 1), (Side::Front, 2)];
-    test.expect_same("values", walk_difference(&mut map.get_all(&LOWER), &wanted));
-}
-
-fn the_first_letter_stays(test: &Test, map: &mut Letters) {
-    letters_are_answered(test, map);
-    the_stored_key_is_upper(test, map);
-}
-
-#[test]
-fn the_key_stored_first_stays(rt: HostRuntime) -> Result<(), Failed> {
-    let test = Test::new(rt.alloc());
-    the_first_letter_stays(&test, &mut ListOrderedMultimap::new(test.alloc()));
     test.end()
 }
 

@@ -111,6 +111,7 @@ const BAD: &[(&str, u64)] = &[
     ("walk 1 2\n", 1),
     ("get f\n", 1),
     ("swap 1\n", 1),
+    ("json 1\n", 1),
     ("lists 1\n", 1),
     ("packtofit 1\n", 1),
     ("packto 1 1\n", 1),
@@ -121,8 +122,8 @@ const BAD: &[(&str, u64)] = &[
     ("reserve 4294967296 1\n", 1),
     ("reserve 1 f\n", 1),
     ("reserve 1 2 3\n", 1),
-    // Commands that the program doesn't have.
-    ("json\n", 1),
+    // A command that the program doesn't have.
+    ("jsons\n", 1),
     // A NUL.
     ("get 1\0\n", 1),
     ("\0\n", 1),

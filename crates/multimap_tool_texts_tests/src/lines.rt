@@ -14,7 +14,7 @@ pub(crate) fn expect_answer(
 ) {
     let mut output = Vec::new(test.alloc());
     let mut rest = input;
-    let fault = execute(test.alloc(), &mut rest, &mut output).err();
+    let fault = execute(test.alloc(), test.alloc(), &mut rest, &mut output).err();
     test.expect_at("the end", row, fault == ended);
     test.expect_at("what is written", row, output.as_slice() == written);
 }
@@ -84,7 +84,18 @@ const GOOD: &[(&str, &str)] = &[
         "insert 1 10\ninsert 2 20\ninsert 1 30\nswap\npairs\nkeys\nappend 2 4\nall 2\n",
         "none\nnone\nold 10\ndone\n2:20 1:30\n1 2\nmore\n20 4\n",
     ),
+    // What is read of the JSON value has its keys in the order in which they first occur in the
+    // pairs.
+    (
+        "insert 1 10\ninsert 2 20\ninsert 1 30\npairs\nkeys\njson\nkeys\npairs\n",
+        "none\nnone\nold 10\n2:20 1:30\n1 2\ndone\n2 1\n2:20 1:30\n",
+    ),
+    ("json\npairs\nkeys\n", "done\nempty\nempty\n"),
     // Room that is asked for or given back changes no list.
+    (
+        "insert 1 1\nreserve 2 2\npacktofit\nappend 2 2\njson\npairs\n",
+        "none\ndone\ndone\nnew\ndone\n1:1 2:2\n",
+    ),
     (
         "insert 1 1\nreserve 2 2\npacktofit\nappend 2 2\nreserve 0 0\npairs\nkeys\n",
         "none\ndone\ndone\nnew\ndone\n1:1 2:2\n1 2\n",

@@ -56,6 +56,7 @@ fn changes_are_shown(test: &Test) {
     expect_command(test, Command::PopBack, "PopBack");
     expect_command(test, Command::Clear, "Clear");
     expect_command(test, Command::Swap, "Swap");
+    expect_command(test, Command::Json, "Json");
     expect_command(test, Command::KeyLists, "KeyLists");
     expect_command(test, Command::Reserve(0, 7), "Reserve(0, 7)");
     expect_command(test, Command::PackToFit, "PackToFit");

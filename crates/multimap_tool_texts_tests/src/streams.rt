@@ -81,7 +81,7 @@ fn read_with(test: &Test, kind: ErrorKind, reads_before: u64) -> bool {
         failed: false,
     };
     let mut output = Vec::new(test.alloc());
-    let fault = execute(test.alloc(), &mut input, &mut output).err();
+    let fault = execute(test.alloc(), test.alloc(), &mut input, &mut output).err();
     if input.failed {
         test.expect("the read is told", fault == Some(ToolFault::Read));
         test.expect("nothing is written", output.is_empty());
@@ -125,7 +125,7 @@ fn a_failed_read_is_told_before_a_bad_line(rt: HostRuntime) -> Result<(), Failed
         failed: false,
     };
     let mut output = Vec::new(test.alloc());
-    let fault = execute(test.alloc(), &mut input, &mut output).err();
+    let fault = execute(test.alloc(), test.alloc(), &mut input, &mut output).err();
     test.expect("the read is told", fault == Some(ToolFault::Read));
     test.expect("nothing is written", output.is_empty());
     test.end()
@@ -148,7 +148,7 @@ fn write_with(test: &Test, trouble: Trouble, writes_before: u64) -> bool {
         trouble,
         met: false,
     };
-    let fault = execute(test.alloc(), &mut input, &mut output).err();
+    let fault = execute(test.alloc(), test.alloc(), &mut input, &mut output).err();
     if output.met {
         test.expect("the write is told", fault == Some(ToolFault::Write));
         is_cut_off(test, &output.taken, writes_before);
@@ -192,7 +192,7 @@ impl Write for Unflushed {
 fn a_failed_flush_is_a_failed_write(rt: HostRuntime) -> Result<(), Failed> {
     let test = Test::new(rt.alloc());
     let mut input = INPUT;
-    let fault = execute(test.alloc(), &mut input, &mut Unflushed).err();
+    let fault = execute(test.alloc(), test.alloc(), &mut input, &mut Unflushed).err();
     test.expect("the flush is told", fault == Some(ToolFault::Write));
     test.end()
 }

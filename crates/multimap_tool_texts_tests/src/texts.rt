@@ -39,6 +39,7 @@ fn add_changes(commands: &mut Commands) -> Result<(), AllocError> {
     commands.push(Command::PopBack)?;
     commands.push(Command::Clear)?;
     commands.push(Command::Swap)?;
+    commands.push(Command::Json)?;
     commands.push(Command::Reserve(0, u32::MAX as usize))?;
     commands.push(Command::PackToFit)?;
     commands.push(Command::KeyLists)?;
@@ -78,7 +79,7 @@ fn add_commands(commands: &mut Commands, alloc: Global) -> Result<(), AllocError
 
 const LINES: &str = "append 1 -2\nget 3\nall 4\nhas 6\nlen 7\npairs\nfront\nback\nlengths\n\
     insert 1 2\ninsertall 3 -4\nremove 5\nremoveall 6\nremoveentry 7\nremoveentryall 8\n\
-    popfront\npopback\nclear\nswap\nreserve 0 4294967295\npacktofit\nlists\nkeys\nvalues\nsetfirst 9 -1\nsetfront -2\nsetback 3\norinsert 10 4\nretain -3\nwalk 5 fb\nwalkpairs b\nwalkkeys bff\n\
+    popfront\npopback\nclear\nswap\njson\nreserve 0 4294967295\npacktofit\nlists\nkeys\nvalues\nsetfirst 9 -1\nsetfront -2\nsetback 3\norinsert 10 4\nretain -3\nwalk 5 fb\nwalkpairs b\nwalkkeys bff\n\
     walkvalues f";
 
 fn lines_spell(test: &Test, wanted: &Commands) {

@@ -2,9 +2,9 @@ use Rattle.std.proofs.Common.{◌≡◌, ◌≤◌, slice_index_or, [], ◌∷�
 use Rattle.std.specs.Prelude.{Contains}
 use Rattle.std.proofs.lemmas.List.{take_more, take_all}
 use Rattle.multimap_tool.specs.Runs.{IsRun}
-use Rattle.multimap_tool.specs.RunRooms.{FindsRoom}
+use Rattle.multimap_tool.specs.RunRooms.{FindsRoom, HasRunRoom}
 use Rattle.multimap_tool.specs.Step.{MayKeep}
-use Rattle.multimap_tool.proofs.RoomLemmas.{step_grows, FindsRoom-push}
+use Rattle.multimap_tool.proofs.RoomLemmas.{GrowsByOne, step_grows, FindsRoom-push}
 use Rattle.multimap_tool.proofs.RunLemmas.{IsRun-push}
 use Rattle.multimap_tool.proofs.run.run.Goals as goal
 
@@ -32,12 +32,12 @@ loop-command-preserved g c =
     let more = take_more c.args.commands.now l.command-index command c.loop-command-test.true ∙ ap (λ x. done ++ x ∷ []) (sym c.command-item.is) in
     let here : Contains c.args.commands.now command = (l.command-index, c.loop-command-test.true, sym c.command-item.is) in
     let keeps = MayKeep g.F.Fn c.args.keep in
-    let grows = step_grows keeps g.K.PartialEq.eq command l.map.lists c.step.result c.step.new.map.lists c.step.ensures.step in
+    let grows : HasRunRoom c.args.commands.now c.args.map.now → GrowsByOne l.map.lists c.step.new.map.lists = λ room. step_grows keeps g.K.PartialEq.eq command l.map.lists c.step.result c.step.new.map.lists (room.keep command here) c.step.ensures.step in
     record {
       ran = rw (more, c.push_reserved.ensures.items) (IsRun-push keeps g.K.PartialEq.eq done c.args.map.now.lists l.replies.items l.map.lists command c.step.result c.step.new.map.lists l.invariant.ran c.step.ensures.step);
       hasher = λ same. c.step.ensures.hasher same ∙ l.invariant.hasher same;
-      keys = λ room. omega (arith, grows.keys, l.invariant.keys room, (c.step.ensures.rooms (room.keep command here)).keys);
-      values = λ room. omega (arith, grows.pairs, l.invariant.values room, (c.step.ensures.rooms (room.keep command here)).values);
+      keys = λ room. omega (arith, (grows room).keys, l.invariant.keys room, (c.step.ensures.rooms (room.keep command here)).keys);
+      values = λ room. omega (arith, (grows room).pairs, l.invariant.values room, (c.step.ensures.rooms (room.keep command here)).values);
       found = λ room. rw (more, c.push_reserved.ensures.items) (FindsRoom-push done l.replies.items command c.step.result (l.invariant.found room)
           (λ adds. c.step.ensures.finds_room adds (omega (arith, l.invariant.keys room, c.loop-command-test.true)) (omega (arith, l.invariant.values room, c.loop-command-test.true))));
       count = omega (arith, l.invariant.count, c.push_reserved.ensures.len);

@@ -28,6 +28,11 @@ returns-then-eq-5 g c =
     let name = c.args.name.now in
     record { name_is = sym (same_text name _ c.eq-5.result c.if-eq-5.true (c.eq-5.ensures ∙ ap (bytes_eq name) c.as_slice-5.ensures)); operands_are = refl }
 
+pub returns-then-eq-6 : goal.returns-then-eq-6
+returns-then-eq-6 g c =
+    let name = c.args.name.now in
+    record { name_is = sym (same_text name _ c.eq-6.result c.if-eq-6.true (c.eq-6.ensures ∙ ap (bytes_eq name) c.as_slice-6.ensures)); operands_are = refl }
+
 pub returns : goal.returns
 returns g c =
     let name = c.args.name.now in
@@ -37,5 +42,6 @@ returns g c =
       | inr (inr (inl is_clear)) ↦ other_text name _ c.eq-3.result c.if-eq-3.false (c.eq-3.ensures ∙ ap (bytes_eq name) c.as_slice-3.ensures) is_clear
       | inr (inr (inr (inl is_packtofit))) ↦ other_text name _ c.eq-4.result c.if-eq-4.false (c.eq-4.ensures ∙ ap (bytes_eq name) c.as_slice-4.ensures) is_packtofit
       | inr (inr (inr (inr (inl is_swap)))) ↦ other_text name _ c.eq-5.result c.if-eq-5.false (c.eq-5.ensures ∙ ap (bytes_eq name) c.as_slice-5.ensures) is_swap
-      | inr (inr (inr (inr (inr never)))) ↦ never
+      | inr (inr (inr (inr (inr (inl is_json))))) ↦ other_text name _ c.eq-6.result c.if-eq-6.false (c.eq-6.ensures ∙ ap (bytes_eq name) c.as_slice-6.ensures) is_json
+      | inr (inr (inr (inr (inr (inr never))))) ↦ never
     ]

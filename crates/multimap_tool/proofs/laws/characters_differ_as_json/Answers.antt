@@ -1,0 +1,5 @@
+use Rattle.multimap_tool.proofs.CharacterLemmas.{same_character}
+use Rattle.multimap_tool.proofs.laws.characters_differ_as_json.Goals as goal
+
+pub returns : goal.returns
+returns g = same_character
