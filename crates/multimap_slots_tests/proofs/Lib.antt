@@ -1,2 +1,3 @@
+pub mod CellsLemmas
 pub mod TapedLemmas
 pub mod WalkedLemmas

@@ -7,6 +7,9 @@
 
 #[cfg(test)]
 mod ample;
+mod cell_uses;
+#[cfg(test)]
+mod cells;
 #[cfg(test)]
 mod detached;
 #[cfg(test)]
@@ -27,6 +30,9 @@ mod slots;
 mod tape_uses;
 mod uses;
 
+pub use cell_uses::{
+    Ends, Lending, Lent, Second, write_last, write_list_ends, write_slots, write_tape_ends,
+};
 pub use listed_uses::{
     push_at_end, push_with_room, read_listed, read_on_tape, write_listed, write_on_tape,
 };

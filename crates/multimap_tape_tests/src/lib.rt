@@ -6,6 +6,8 @@
 #![tactic(auto)]
 
 #[cfg(test)]
+mod cells;
+#[cfg(test)]
 mod dropped;
 #[cfg(test)]
 mod holes;

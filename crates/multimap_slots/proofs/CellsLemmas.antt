@@ -1,0 +1,26 @@
+-- What callers conclude where an item was taken out of those that are lent for writing.
+use Rattle.std.proofs.Common.{◌≢◌, ℕ, false, get_or, sym, ap, subst, ◌∙◌}
+use Rattle.std.specs.Borrow.{MutBor}
+use Rattle.std.proofs.lemmas.List.{get_or-set_other}
+use Rattle.multimap_slots.specs.Lists.{IsIn}
+use Rattle.multimap_slots.specs.Slots.{Slots, IsSound, IsDetached}
+use Rattle.multimap_slots.specs.CellsLends.{with_refilled}
+use Rattle.multimap_slots.specs.SlotCells.{lent_slots, IsLeft, TakesItem}
+use Rattle.multimap_slots.specs.declared.cells_of.SlotCells.{SlotCells}
+use Rattle.multimap_slots.proofs.Refilled.{some-refilled}
+use Rattle.std.specs.Prelude.{List, Option}
+
+module _ {T L A : Type 0} {old new : SlotCells T L A} {place : ℕ} {r : MutBor T} (t : TakesItem old place r new) where
+  pub IsSound-taken : IsSound (lent_slots old) → IsSound (lent_slots new)
+  IsSound-taken sound = subst IsSound (sym t.slots) sound
+
+  -- another item is left still
+  pub IsLeft-other : (q : ℕ) → q ≢ place → IsLeft old q → IsLeft new q
+  IsLeft-other q differs was = record {
+    listed = subst (λ s. IsIn q s.order) (sym t.slots) was.listed;
+    untaken = ap (λ left. get_or left q false) t.left ∙ get_or-set_other old.cells.left place q false false differs ∙ was.untaken;
+  }
+
+-- what is detached stays so, whatever was written
+pub IsDetached-refilled : {T L : Type 0} (s : Slots T L) (items : List (Option T)) (p : ℕ) → IsDetached s p → IsDetached (with_refilled s items) p
+IsDetached-refilled s items p d = record { not_listed = d.not_listed; has_item = some-refilled s.items items p d.has_item }

@@ -1,0 +1,156 @@
+//! The order of a slot list or of a tape while its items are lent for writing.
+ghost use Rattle.std.specs.Prelude.{◌≡◌, Some, length, slice_get};
+ghost use Rattle.multimap_slots.specs.Lists.{IsIn, first_of, last_of, next_of, previous_of};
+
+use crate::order::Order;
+use crate::tape::runs::Runs;
+use std::alloc::Allocator;
+use std::marker::Model;
+
+/// The links and the places of a tape.
+#[derive(Drop)]
+pub(crate) struct TapeOrder<'a, L, A: Allocator> {
+    pub(crate) links: &'a Vec<L, A>,
+    pub(crate) runs: &'a Runs<A>,
+}
+
+impl<'a, L, A: Allocator> Model for TapeOrder<'a, L, A> {
+    ghost use Rattle.std.specs.Prelude.{◌≡◌, length};
+    ghost use Rattle.multimap_slots.specs.LentOrder.{LentPlaces};
+
+    ghost Value = { LentPlaces L };
+
+    ghost view = { λ t. record { order = t.runs.now.order; links = t.links.now.items } };
+
+    ghost invariant = { λ t. length t.links.now.items ≡ t.runs.now.used };
+}
+
+impl<'a, L: Copy, A: Allocator> TapeOrder<'a, L, A> {
+    #[inline(always)]
+    fn link(&self, place: usize) -> L
+        requires { IsIn place self.now.order }
+        ensures { slice_get self.now.links place ≡ Some result }
+    {
+        // The length tells the proof that each listed place is in use.
+        let _len = self.runs.len();
+        self.links[place]
+    }
+
+    #[inline(always)]
+    fn next(&self, place: usize) -> Option<usize>
+        requires { IsIn place self.now.order }
+        ensures { result ≡ next_of self.now.order place }
+    {
+        self.runs.next(place)
+    }
+
+    #[inline(always)]
+    fn previous(&self, place: usize) -> Option<usize>
+        requires { IsIn place self.now.order }
+        ensures { result ≡ previous_of self.now.order place }
+    {
+        self.runs.previous(place)
+    }
+
+    fn len(&self) -> usize
+        ensures { result ≡ length self.now.order }
+    {
+        self.runs.len()
+    }
+
+    fn front(&self) -> Option<usize>
+        ensures { result ≡ first_of self.now.order }
+    {
+        self.runs.front()
+    }
+
+    fn back(&self) -> Option<usize>
+        ensures { result ≡ last_of self.now.order }
+    {
+        self.runs.back()
+    }
+}
+
+/// Which of the two lends.
+#[derive(Drop)]
+pub(crate) enum Lender<'a, L, A: Allocator> {
+    List(&'a Order<L, A>),
+    Tape(TapeOrder<'a, L, A>),
+}
+
+/// The order and the links of what lends its items.
+#[derive(Drop)]
+pub(crate) struct LentOrder<'a, L, A: Allocator> {
+    pub(crate) lender: Lender<'a, L, A>,
+}
+
+impl<'a, L, A: Allocator> Model for LentOrder<'a, L, A> {
+    ghost use Rattle.multimap_slots.specs.LentOrder.{LentPlaces};
+    ghost use Rattle.multimap_slots.specs.Lenders.{places_lent};
+
+    ghost Value = { LentPlaces L };
+
+    ghost view = { λ o. places_lent o.lender };
+}
+
+impl<'a, L: Copy, A: Allocator> LentOrder<'a, L, A> {
+    #[inline(always)]
+    pub(crate) fn link(&self, place: usize) -> L
+        requires { IsIn place self.now.order }
+        ensures { slice_get self.now.links place ≡ Some result }
+    {
+        match &self.lender {
+            Lender::List(order) => order.link(place),
+            Lender::Tape(tape) => tape.link(place),
+        }
+    }
+
+    #[inline(always)]
+    pub(crate) fn next(&self, place: usize) -> Option<usize>
+        requires { IsIn place self.now.order }
+        ensures { result ≡ next_of self.now.order place }
+    {
+        match &self.lender {
+            Lender::List(order) => order.next(place),
+            Lender::Tape(tape) => tape.next(place),
+        }
+    }
+
+    #[inline(always)]
+    pub(crate) fn previous(&self, place: usize) -> Option<usize>
+        requires { IsIn place self.now.order }
+        ensures { result ≡ previous_of self.now.order place }
+    {
+        match &self.lender {
+            Lender::List(order) => order.previous(place),
+            Lender::Tape(tape) => tape.previous(place),
+        }
+    }
+
+    pub(crate) fn len(&self) -> usize
+        ensures { result ≡ length self.now.order }
+    {
+        match &self.lender {
+            Lender::List(order) => order.len(),
+            Lender::Tape(tape) => tape.len(),
+        }
+    }
+
+    pub(crate) fn front(&self) -> Option<usize>
+        ensures { result ≡ first_of self.now.order }
+    {
+        match &self.lender {
+            Lender::List(order) => order.front(),
+            Lender::Tape(tape) => tape.front(),
+        }
+    }
+
+    pub(crate) fn back(&self) -> Option<usize>
+        ensures { result ≡ last_of self.now.order }
+    {
+        match &self.lender {
+            Lender::List(order) => order.back(),
+            Lender::Tape(tape) => tape.back(),
+        }
+    }
+}
