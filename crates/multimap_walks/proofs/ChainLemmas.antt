@@ -40,6 +40,18 @@ module _ {X : Type 0} where
   map-with f Back x xs = map-append f xs (x ∷ [])
 
 module _ {V : Type 0} (values : Slots V ValueLink) where
+  -- the position at an end goes with the place
+  position_goes : (end : End) (p : ℕ) (old new : List ℕ) → old ≡ with_end end p new → positions_at values new ≡ end_rest end (positions_at values old)
+  position_goes end p old new taken =
+      let at = position_in values.order in
+      sym (ap (end_rest end) (ap (positions_at values) taken ∙ map-with at end p new) ∙ end_rest-with end (at p) (positions_at values new))
+
+  pub first_position_goes : (p : ℕ) (old new : List ℕ) → old ≡ p ∷ new → positions_at values new ≡ end_rest Front (positions_at values old)
+  first_position_goes p old new taken = position_goes Front p old new taken
+
+  pub last_position_goes : (p : ℕ) (old new : List ℕ) → old ≡ new ++ p ∷ [] → positions_at values new ≡ end_rest Back (positions_at values old)
+  last_position_goes p old new taken = position_goes Back p old new taken
+
   -- the position of a listed value goes and its read is counted, and neither of a detached one
   counts : (end : End) (detached : Bool) (p : ℕ) (old new : List ℕ) (before after : ℕ) → old ≡ with_end end p new → after ≡ before + (if detached then 0 else 1)
       → (positions_left values detached new ≡ end_rest end (positions_left values detached old))
@@ -48,7 +60,7 @@ module _ {V : Type 0} (values : Slots V ValueLink) where
   counts end false p old new before after taken counted =
       let at = position_in values.order in
       let positions : positions_at values old ≡ with_end end (at p) (positions_at values new) = ap (positions_at values) taken ∙ map-with at end p new in (
-        sym (ap (end_rest end) positions ∙ end_rest-with end (at p) (positions_at values new)),
+        position_goes end p old new taken,
         omega (arith, counted, ap length positions, length-with end (at p) (positions_at values new)),
       )
 
@@ -72,14 +84,16 @@ module _ {V : Type 0} (values : Slots V ValueLink) where
       pub chain_behind : IsChain values detached next back n
       chain_behind = front_rest (Stands values detached) (next_place values) (previous_place values) front back m n more chain next named_next
 
+      pub takes_front : places_along values front m ≡ front ∷ places_along values next n
+      takes_front = front_taken (Stands values detached) (next_place values) (previous_place values) front back m n more chain next named_next
+
       -- a step at the front gives the first value
       pub gives_first : (given : Bor V) (before after : ℕ) → item_at values front ≡ Some given.now → after ≡ before + (if detached then 0 else 1)
           → GivesFirst (chain_walk values detached front m before) (Some given) (chain_walk values detached next n after)
-      gives_first given before after item_is counted =
-          let taken = front_taken (Stands values detached) (next_place values) (previous_place values) front back m n more chain next named_next in (
-            shown_first (item_at values) (places_along values front m) front (places_along values next n) given.now taken item_is,
-            counts Front detached front (places_along values front m) (places_along values next n) before after taken counted,
-          )
+      gives_first given before after item_is counted = (
+        shown_first (item_at values) (places_along values front m) front (places_along values next n) given.now takes_front item_is,
+        counts Front detached front (places_along values front m) (places_along values next n) before after takes_front counted,
+      )
 
     module _ (previous : ℕ) (l : ValueLink) (link_is : link_at values back ≡ Some l) (told : previous ≡ unwrap_or l.previous back) where
       named_previous : previous ≡ unwrap_or (previous_place values back) back
@@ -89,14 +103,16 @@ module _ {V : Type 0} (values : Slots V ValueLink) where
       pub chain_before : IsChain values detached front previous n
       chain_before = back_rest (Stands values detached) (next_place values) (previous_place values) front back m n more chain previous named_previous
 
+      pub takes_back : places_along values front m ≡ places_along values front n ++ back ∷ []
+      takes_back = back_taken (Stands values detached) (next_place values) (previous_place values) front back m n more chain previous named_previous
+
       -- a step at the back gives the last value
       pub gives_last : (given : Bor V) (before after : ℕ) → item_at values back ≡ Some given.now → after ≡ before + (if detached then 0 else 1)
           → GivesLast (chain_walk values detached front m before) (Some given) (chain_walk values detached front n after)
-      gives_last given before after item_is counted =
-          let taken = back_taken (Stands values detached) (next_place values) (previous_place values) front back m n more chain previous named_previous in (
-            shown_last (item_at values) (places_along values front m) back (places_along values front n) given.now taken item_is,
-            counts Back detached back (places_along values front m) (places_along values front n) before after taken counted,
-          )
+      gives_last given before after item_is counted = (
+        shown_last (item_at values) (places_along values front m) back (places_along values front n) given.now takes_back item_is,
+        counts Back detached back (places_along values front m) (places_along values front n) before after takes_back counted,
+      )
 
   -- an item stands at either end of what is left
   pub first_stands : (detached : Bool) (front back m n : ℕ) → m ≡ n + 1 → IsChain values detached front back m → Stands values detached front
@@ -145,11 +161,11 @@ held None some = absurd (let e = some in cc)
 held (Some x) some = record { value = x; is = refl }
 
 module _ {K V : Type 0} (keys : Slots K KeyLink) (values : Slots V ValueLink) (key : ℕ) (l : KeyLink) (sound : IsSound values) (chained : IsChained keys values) (has : HasLink keys key l) where
-  listed : (p : ℕ) → IsIn p (chain_of values key) → IsIn p values.order
-  listed p member = (IsIn-filtered (is_value_of values key) p values.order member).0
+  pub chain_listed : (p : ℕ) → IsIn p (chain_of values key) → IsIn p values.order
+  chain_listed p member = (IsIn-filtered (is_value_of values key) p values.order member).0
 
-  distinct : AreDistinct (chain_of values key)
-  distinct = AreDistinct-filter (is_value_of values key) values.order sound.distinct
+  pub chain_distinct : AreDistinct (chain_of values key)
+  chain_distinct = AreDistinct-filter (is_value_of values key) values.order sound.distinct
 
   -- the link of a place of the chain names the key
   owner : (p : ℕ) (m : ValueLink) → IsIn p (chain_of values key) → link_at values p ≡ Some m → m.key ≡ key
@@ -160,25 +176,25 @@ module _ {K V : Type 0} (keys : Slots K KeyLink) (values : Slots V ValueLink) (k
   -- so it names the neighbours in the chain
   names_next : (p : ℕ) → IsIn p (chain_of values key) → next_of (chain_of values key) p ≡ next_place values p
   names_next p member =
-      let h = held (link_at values p) (sound.linked p (listed p member)) in
-      ap (λ k. next_of (chain_of values k) p) (sym (owner p h.value member h.is)) ∙ chained.next p h.value (listed p member) h.is ∙ sym (next_is values p h.value h.is)
+      let h = held (link_at values p) (sound.linked p (chain_listed p member)) in
+      ap (λ k. next_of (chain_of values k) p) (sym (owner p h.value member h.is)) ∙ chained.next p h.value (chain_listed p member) h.is ∙ sym (next_is values p h.value h.is)
 
   names_previous : (p : ℕ) → IsIn p (chain_of values key) → previous_of (chain_of values key) p ≡ previous_place values p
   names_previous p member =
-      let h = held (link_at values p) (sound.linked p (listed p member)) in
-      ap (λ k. previous_of (chain_of values k) p) (sym (owner p h.value member h.is)) ∙ chained.previous p h.value (listed p member) h.is ∙ sym (previous_is values p h.value h.is)
+      let h = held (link_at values p) (sound.linked p (chain_listed p member)) in
+      ap (λ k. previous_of (chain_of values k) p) (sym (owner p h.value member h.is)) ∙ chained.previous p h.value (chain_listed p member) h.is ∙ sym (previous_is values p h.value h.is)
 
   -- the values of a listed key are a chain
   pub chain_whole : IsChain values false l.head l.tail l.length
   chain_whole = record {
     places = chain_of values key;
-    onward = Leads-agree (next_of (chain_of values key)) (next_place values) (chain_of values key) names_next (Leads-next_of (chain_of values key) distinct);
+    onward = Leads-agree (next_of (chain_of values key)) (next_place values) (chain_of values key) names_next (Leads-next_of (chain_of values key) chain_distinct);
     backward = Leads-agree (previous_of (chain_of values key)) (previous_place values) (reverse (chain_of values key)) (λ p member. names_previous p (IsIn-reverse p (chain_of values key) member))
-        (Leads-previous_of (chain_of values key) distinct);
+        (Leads-previous_of (chain_of values key) chain_distinct);
     first = is_one (first_of (chain_of values key)) l.head (chained.head key l has.listed has.link_is);
     last = is_one (last_of (chain_of values key)) l.tail (chained.tail key l has.listed has.link_is);
     count = chained.length key l has.listed has.link_is;
-    there = λ p member. (listed p member, sound.filled p (listed p member));
+    there = λ p member. (chain_listed p member, sound.filled p (chain_listed p member));
   }
 
   -- whose places are those of the key

@@ -2,3 +2,5 @@ pub mod AlongLemmas
 pub mod ChainLemmas
 pub mod PairLemmas
 pub mod PathLemmas
+pub mod RestLemmas
+pub mod WritingLemmas

@@ -2,6 +2,9 @@ pub mod Along
 pub mod ChainWalk
 pub mod Chained
 pub mod KeyWalk
+pub mod Lending
 pub mod PairWalk
 pub mod Path
+pub mod RestWalk
 pub mod Walk
+pub mod WritingWalk

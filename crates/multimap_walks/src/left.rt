@@ -10,7 +10,7 @@ use multimap_slots::{SlotList, Tape};
 use std::alloc::Allocator;
 
 /// A list whose places stand in an order.
-pub(crate) trait Ordered {
+pub trait Ordered {
     ghost order: { Self → List ℕ };
 
     /// All its places.
@@ -71,7 +71,7 @@ impl<T, L: Copy, A: Allocator> Ordered for Tape<T, L, A> {
 }
 
 /// Takes the first of the places that are left of a list.
-pub(crate) fn take_first<O: Ordered>(list: &O, left: &mut ChainEnds) -> Option<usize>
+pub fn take_first<O: Ordered>(list: &O, left: &mut ChainEnds) -> Option<usize>
     requires { AreLeft (O.order list.now) left.old }
     ensures are_left { AreLeft (O.order list.now) left.new }
     ensures listed { IfSome result (λ place. IsIn place (O.order list.now)) }
@@ -88,7 +88,7 @@ pub(crate) fn take_first<O: Ordered>(list: &O, left: &mut ChainEnds) -> Option<u
 }
 
 /// Takes the last of the places that are left of a list.
-pub(crate) fn take_last<O: Ordered>(list: &O, left: &mut ChainEnds) -> Option<usize>
+pub fn take_last<O: Ordered>(list: &O, left: &mut ChainEnds) -> Option<usize>
     requires { AreLeft (O.order list.now) left.old }
     ensures are_left { AreLeft (O.order list.now) left.new }
     ensures listed { IfSome result (λ place. IsIn place (O.order list.now)) }

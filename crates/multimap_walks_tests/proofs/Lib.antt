@@ -1,1 +1,2 @@
 pub mod DetachedLemmas
+pub mod WritingLemmas

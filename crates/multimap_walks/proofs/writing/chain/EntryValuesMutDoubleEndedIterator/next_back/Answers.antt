@@ -1,0 +1,45 @@
+use Rattle.std.proofs.Common.{◌-◌, ◌∙◌, ◌++◌, [], ◌∷◌, false, ap, arith, subst, sym}
+use Rattle.multimap_slots.specs.Slots.{item_at}
+use Rattle.multimap_slots.specs.SlotCells.{lent_slots}
+use Rattle.multimap_walks.specs.Chained.{IsChain, places_along, positions_at, values_at}
+use Rattle.multimap_walks.specs.Lending.{AreUntaken}
+use Rattle.multimap_walks.proofs.ChainLemmas.{last_position_goes, last_stands, length-left}
+use Rattle.multimap_walks.proofs.PathLemmas.{shown_last}
+use Rattle.multimap_walks.proofs.WritingLemmas.{chain_back_left, untaken_before}
+use Rattle.multimap_walks.proofs.writing.chain.EntryValuesMutDoubleEndedIterator.next_back.Goals as goal
+
+pub take-requires-clause-filled : goal.take-requires-clause-filled
+take-requires-clause-filled g c =
+    let w = c.args.self.now in (last_stands (lent_slots w.values) false w.left.first w.left.last w.left.length (w.left.length - 1) (omega arith) c.requires.chain).1
+
+pub take-requires-clause-left : goal.take-requires-clause-left
+take-requires-clause-left g c =
+    let w = c.args.self.now in chain_back_left w.values w.left (w.left.length - 1) (omega arith) c.requires.chain c.requires.untaken
+
+pub returns-clause-steps : goal.returns-clause-steps
+returns-clause-steps g c =
+    let w = c.args.self.now in
+    let values = lent_slots w.values in
+    let rest = c.chain_before-self.result in
+    let step = c.chain_before-self.ensures in
+    let places = places_along values w.left.first w.left.length in
+    let others = places_along values rest.first rest.length in
+    let takes = c.take.ensures in
+    let chain : IsChain (lent_slots c.take.new.self) false rest.first rest.last rest.length = subst (λ s. IsChain s false rest.first rest.last rest.length) (sym takes.slots) step.can.chain in
+    record {
+      steps =
+          shown_last (item_at values) places w.left.last others c.take.result.now step.taken takes.item_is
+          ∙ ap (λ s. values_at s (places_along s rest.first rest.length) ++ c.take.result.now ∷ []) (sym takes.slots);
+      positions = ap (λ s. positions_at s (places_along s rest.first rest.length)) takes.slots ∙ last_position_goes values w.left.last places others step.taken;
+      ready = record {
+        chain = chain;
+        untaken = subst (λ s. AreUntaken c.take.new.self (places_along s rest.first rest.length)) (sym takes.slots) (untaken_before w.values c.take.new.self w.left.last c.take.result takes places others c.requires.untaken step.taken);
+        count = sym (length-left (lent_slots c.take.new.self) false rest.first rest.last rest.length chain);
+      };
+      taken = takes;
+    }
+
+pub returns-clause-goes : goal.returns-clause-goes
+returns-clause-goes g c =
+    let ready = (returns-clause-steps g c).ready in
+    record { on = λ _. (ready, tt, omega (arith, c.chain_before-self.ensures.count)); keeps = ready; rests = λ _. tt }

@@ -1,0 +1,42 @@
+use Rattle.std.proofs.Common.{◌∙◌, ◌++◌, [], ◌∷◌, ap, arith, subst, sym}
+use Rattle.std.specs.Borrow.{Bor, MutBor}
+use Rattle.std.specs.Map.Iter.{deref_pair_mut}
+use Rattle.multimap_slots.specs.SlotCells.{lent_slots}
+use Rattle.multimap_walks.specs.Chained.{AreOwned, pair_at}
+use Rattle.multimap_walks.specs.PairWalk.{pairs_left}
+use Rattle.multimap_walks.proofs.AlongLemmas.{shows_last}
+use Rattle.multimap_walks.proofs.PairLemmas.{pair_is}
+use Rattle.multimap_walks.proofs.WritingLemmas.{last_is_left, pairs_counted}
+use Rattle.multimap_walks.proofs.writing.pairs.IterMutDoubleEndedIterator.next_back.Goals as goal
+
+pub key_at-requires : goal.key_at-requires
+key_at-requires g c =
+    let w = c.args.self.now in
+    c.requires.owned w.left.last c.in_ok-value.link (last_is_left w.values w.left c.lend_last.new.left.length c.in_ok-value.ensures.count c.requires.lends).listed c.in_ok-value.ensures.slot.1
+
+pub returns-clause-steps : goal.returns-clause-steps
+returns-clause-steps g c =
+    let w = c.args.self.now in
+    let values = lent_slots w.values in
+    let slot = c.in_ok-value.ensures.slot in
+    let given : Bor g.row.K.Denot × MutBor g.row.V.Denot = (c.key_at.result, c.in_ok-value.value) in
+    let pair = deref_pair_mut given in
+    let owned = subst (AreOwned w.keys.now) (sym slot.0.slots) c.requires.owned in
+    record {
+      steps =
+          shows_last (pair_at w.keys.now values) deref_pair_mut _ _ w.left.last given c.in_ok-value.ensures.taken
+          (pair_is w.keys.now values w.left.last c.in_ok-value.link c.key_at.result.now c.in_ok-value.value.now slot.1 c.key_at.ensures.item slot.0.item_is)
+          ∙ ap (λ s. pairs_left w.keys.now s c.lend_last.new.left ++ pair ∷ []) (sym slot.0.slots);
+      ready = record {
+        sound = c.requires.sound;
+        owned = owned;
+        lends = c.in_ok-value.ensures.can;
+        count = pairs_counted c.lend_last.new.cells c.lend_last.new.left c.in_ok-value.ensures.can w.keys.now c.requires.sound owned;
+      };
+      taken = slot.0;
+    }
+
+pub returns-clause-goes : goal.returns-clause-goes
+returns-clause-goes g c =
+    let ready = (returns-clause-steps g c).ready in
+    record { on = λ _. (ready, tt, omega (arith, c.in_ok-value.ensures.count)); keeps = ready; rests = λ _. tt }

@@ -1,0 +1,26 @@
+use Rattle.std.proofs.Common.{◌∙◌, ◌∷◌, ap, arith, sym}
+use Rattle.multimap_slots.specs.Slots.{item_at}
+use Rattle.multimap_slots.specs.SlotCells.{lent_slots}
+use Rattle.multimap_walks.specs.Along.{items_left}
+use Rattle.multimap_walks.specs.WritingWalk.{deref_mut}
+use Rattle.multimap_walks.proofs.AlongLemmas.{shows_first}
+use Rattle.multimap_walks.proofs.WritingLemmas.{values_counted}
+use Rattle.multimap_walks.proofs.writing.values.ValuesMutIterator.next.Goals as goal
+
+pub returns-clause-steps : goal.returns-clause-steps
+returns-clause-steps g c =
+    let w = c.args.self.now in
+    let slot = c.in_ok-value.ensures.slot in
+    let value = c.in_ok-value.value in
+    record {
+      steps =
+          shows_first (item_at (lent_slots w.values)) deref_mut _ _ w.left.first value c.in_ok-value.ensures.taken slot.0.item_is
+          ∙ ap (λ s. value.now ∷ items_left s.order (item_at s) c.lend_first.new.left) (sym slot.0.slots);
+      ready = record { lends = c.in_ok-value.ensures.can; count = values_counted c.lend_first.new.cells c.lend_first.new.left c.in_ok-value.ensures.can };
+      taken = slot.0;
+    }
+
+pub returns-clause-goes : goal.returns-clause-goes
+returns-clause-goes g c =
+    let ready = (returns-clause-steps g c).ready in
+    record { on = λ _. (ready, tt, omega (arith, c.in_ok-value.ensures.count)); keeps = ready; rests = λ _. tt }

@@ -1,0 +1,123 @@
+//! The walk over the values that an `EntryValuesMut` has left, for reading.
+ghost use Rattle.std.specs.Prelude.{◌≡◌, length, Some, IfSome, ⊤};
+ghost use Rattle.std.specs.Iterator.{at_most, UpTo};
+ghost use Rattle.std.specs.Iterator.SizeHint.{IsWithinCount};
+ghost use Rattle.std.specs.Map.Iter.{TakesFirst, TakesLast, deref};
+ghost use Rattle.multimap_walks.specs.RestWalk.{entry_rest, CanReadChain};
+
+use crate::links::{ChainEnds, ValueLink};
+use crate::show::show_left;
+use crate::writing::chain::{chain_before, chain_behind};
+use multimap_slots::SlotCells;
+use std::alloc::{AllocError, Allocator, Global};
+use std::fmt;
+use std::iter::FusedIterator;
+use std::marker::{Model, PhantomData};
+
+/// The values that an `EntryValuesMut` has left, in order, for reading. Each item reads one value
+/// slot and its link.
+#[derive(Drop)]
+pub struct EntryValuesRest<'walk, 'map, K, V, A: Allocator = Global> {
+    keys: PhantomData<&'map K>,
+    values: &'walk SlotCells<'map, V, ValueLink, A>,
+    left: ChainEnds,
+}
+
+impl<'walk, 'map, K, V, A: Allocator> Model for EntryValuesRest<'walk, 'map, K, V, A> {
+    ghost use Rattle.std.specs.Prelude.{List};
+    ghost use Rattle.multimap_walks.specs.RestWalk.{entry_rest, CanReadChain};
+
+    ghost Value = { List V };
+
+    ghost view = { λ w. entry_rest w.values.now w.left };
+
+    ghost invariant = { λ w. CanReadChain w.values.now w.left };
+}
+
+impl<'walk, 'map, K, V, A: Allocator> EntryValuesRest<'walk, 'map, K, V, A> {
+    /// The walk over values of a key that follow each other by their links, none of which was taken.
+    /// No slot is read.
+    pub fn new(values: &'walk SlotCells<'map, V, ValueLink, A>, left: ChainEnds) -> Self
+        requires { CanReadChain values.now left }
+        ensures values { result ≡ entry_rest values.now left }
+    {
+        EntryValuesRest {
+            keys: PhantomData,
+            values,
+            left,
+        }
+    }
+}
+
+impl<'walk, 'map, K, V, A: Allocator> Iterator for EntryValuesRest<'walk, 'map, K, V, A> {
+    type Item = &'walk V;
+
+    ghost next_gives = { TakesFirst deref };
+
+    ghost remaining = { λ s. at_most (length s) };
+
+    fn next(&mut self) -> Option<&'walk V> {
+        if self.left.length == 0 {
+            return None;
+        }
+        let place = self.left.first;
+        self.left = chain_behind(self.values, self.left);
+        Some(self.values.read(place))
+    }
+
+    #[tactic(auto, using(crate::proofs::RestLemmas::entry_rest_counted))]
+    fn size_hint(&self) -> (usize, Option<usize>)
+        ensures lower { IsWithinCount result.0 (at_most (length self.now)) }
+        ensures upper { IfSome result.1 (UpTo (at_most (length self.now))) }
+
+        // Both numbers are that of the items left.
+        ensures least { result.0 ≡ length self.now }
+        ensures greatest { result.1 ≡ Some (length self.now) }
+    {
+        (self.left.length, Some(self.left.length))
+    }
+}
+
+impl<'walk, 'map, K, V, A: Allocator> DoubleEndedIterator
+    for EntryValuesRest<'walk, 'map, K, V, A> {
+    ghost next_back_gives = { TakesLast deref };
+
+    fn next_back(&mut self) -> Option<&'walk V> {
+        if self.left.length == 0 {
+            return None;
+        }
+        let place = self.left.last;
+        self.left = chain_before(self.values, self.left);
+        Some(self.values.read(place))
+    }
+}
+
+impl<'walk, 'map, K, V, A: Allocator> ExactSizeIterator for EntryValuesRest<'walk, 'map, K, V, A> {
+    #[tactic(auto, using(crate::proofs::RestLemmas::entry_rest_counted))]
+    fn len(&self) -> usize {
+        self.left.length
+    }
+}
+
+impl<'walk, 'map, K, V, A: Allocator> FusedIterator for EntryValuesRest<'walk, 'map, K, V, A> {}
+
+impl<'walk, 'map, K, V, A: Allocator> Clone for EntryValuesRest<'walk, 'map, K, V, A> {
+    ghost is_clone = { λ s r. r ≡ s };
+
+    ghost is_infallible = { λ _. ⊤ };
+
+    fn clone(&self) -> Result<EntryValuesRest<'walk, 'map, K, V, A>, AllocError> {
+        Ok(EntryValuesRest {
+            keys: PhantomData,
+            values: self.values,
+            left: self.left,
+        })
+    }
+}
+
+impl<'walk, 'map, K, V: fmt::Debug, A: Allocator> fmt::Debug
+    for EntryValuesRest<'walk, 'map, K, V, A> {
+    fn fmt<W: fmt::Write>(&self, f: &mut fmt::Formatter<W>) -> fmt::Result {
+        show_left(f, "EntryValuesRest", self)
+    }
+}

@@ -1,0 +1,119 @@
+//! The walk over the pairs that an `IterMut` has left, for reading.
+ghost use Rattle.std.specs.Prelude.{◌≡◌, length, Some, IfSome, ⊤};
+ghost use Rattle.std.specs.Iterator.{at_most, UpTo};
+ghost use Rattle.std.specs.Iterator.SizeHint.{IsWithinCount};
+ghost use Rattle.std.specs.Map.Iter.{TakesFirst, TakesLast, deref_pair};
+ghost use Rattle.multimap_slots.specs.SlotCells.{lent_slots};
+ghost use Rattle.multimap_walks.specs.Chained.{AreOwned};
+ghost use Rattle.multimap_walks.specs.Lending.{CanLend};
+ghost use Rattle.multimap_walks.specs.RestWalk.{pairs_rest};
+
+use super::{read_first, read_last};
+use crate::links::{ChainEnds, KeyLink, ValueLink};
+use crate::show::show_left;
+use crate::slots::key_at;
+use multimap_slots::{Reads, SlotCells, SlotList};
+use std::alloc::{AllocError, Allocator, Global};
+use std::fmt;
+use std::iter::FusedIterator;
+use std::marker::Model;
+
+/// The pairs that an `IterMut` has left, oldest first, for reading. Each item reads the slot of its
+/// value, its link and the slot of its key.
+#[derive(Drop)]
+pub struct IterRest<'walk, 'map, K, V, A: Allocator = Global> {
+    keys: &'walk SlotList<K, KeyLink, A>,
+    values: &'walk SlotCells<'map, V, ValueLink, A>,
+    left: ChainEnds,
+}
+
+impl<'walk, 'map, K, V, A: Allocator> Model for IterRest<'walk, 'map, K, V, A> {
+    ghost use Rattle.std.specs.Prelude.{List};
+    ghost use Rattle.multimap_walks.specs.RestWalk.{pairs_rest, CanReadPairs};
+
+    ghost Value = { List (K × V) };
+
+    ghost view = { λ w. pairs_rest w.values.now w.left w.keys.now };
+
+    ghost invariant = { λ w. CanReadPairs w.values.now w.left w.keys.now };
+}
+
+impl<'walk, 'map, K, V, A: Allocator> IterRest<'walk, 'map, K, V, A> {
+    /// The walk over the pairs at places that are left, where the key of each value is listed and no
+    /// value of these places was taken. No slot is read.
+    pub fn new(
+        keys: &'walk SlotList<K, KeyLink, A>,
+        values: &'walk SlotCells<'map, V, ValueLink, A>,
+        left: ChainEnds,
+    ) -> Self
+        requires owned { AreOwned keys.now (lent_slots values.now) }
+        requires lends { CanLend values.now left }
+        ensures pairs { result ≡ pairs_rest values.now left keys.now }
+    {
+        // The length tells the proof that the list of keys is sound.
+        let _keys = keys.len();
+        IterRest { keys, values, left }
+    }
+}
+
+impl<'walk, 'map, K, V, A: Allocator> Iterator for IterRest<'walk, 'map, K, V, A> {
+    type Item = (&'walk K, &'walk V);
+
+    ghost next_gives = { TakesFirst deref_pair };
+
+    ghost remaining = { λ s. at_most (length s) };
+
+    fn next(&mut self) -> Option<(&'walk K, &'walk V)> {
+        let (value, link) = read_first(self.values, &mut self.left)?;
+        Some((key_at(self.keys, link.key, &mut Reads::new()), value))
+    }
+
+    fn size_hint(&self) -> (usize, Option<usize>)
+        ensures lower { IsWithinCount result.0 (at_most (length self.now)) }
+        ensures upper { IfSome result.1 (UpTo (at_most (length self.now))) }
+
+        // Both numbers are that of the items left.
+        ensures least { result.0 ≡ length self.now }
+        ensures greatest { result.1 ≡ Some (length self.now) }
+    {
+        (self.left.length, Some(self.left.length))
+    }
+}
+
+impl<'walk, 'map, K, V, A: Allocator> DoubleEndedIterator for IterRest<'walk, 'map, K, V, A> {
+    ghost next_back_gives = { TakesLast deref_pair };
+
+    fn next_back(&mut self) -> Option<(&'walk K, &'walk V)> {
+        let (value, link) = read_last(self.values, &mut self.left)?;
+        Some((key_at(self.keys, link.key, &mut Reads::new()), value))
+    }
+}
+
+impl<'walk, 'map, K, V, A: Allocator> ExactSizeIterator for IterRest<'walk, 'map, K, V, A> {
+    fn len(&self) -> usize {
+        self.left.length
+    }
+}
+
+impl<'walk, 'map, K, V, A: Allocator> FusedIterator for IterRest<'walk, 'map, K, V, A> {}
+
+impl<'walk, 'map, K, V, A: Allocator> Clone for IterRest<'walk, 'map, K, V, A> {
+    ghost is_clone = { λ s r. r ≡ s };
+
+    ghost is_infallible = { λ _. ⊤ };
+
+    fn clone(&self) -> Result<IterRest<'walk, 'map, K, V, A>, AllocError> {
+        Ok(IterRest {
+            keys: self.keys,
+            values: self.values,
+            left: self.left,
+        })
+    }
+}
+
+impl<'walk, 'map, K: fmt::Debug, V: fmt::Debug, A: Allocator> fmt::Debug
+    for IterRest<'walk, 'map, K, V, A> {
+    fn fmt<W: fmt::Write>(&self, f: &mut fmt::Formatter<W>) -> fmt::Result {
+        show_left(f, "IterRest", self)
+    }
+}

@@ -1,0 +1,114 @@
+//! The walk over the values that a `ValuesMut` has left, for reading.
+ghost use Rattle.std.specs.Prelude.{◌≡◌, length, Some, IfSome, ⊤};
+ghost use Rattle.std.specs.Iterator.{at_most, UpTo};
+ghost use Rattle.std.specs.Iterator.SizeHint.{IsWithinCount};
+ghost use Rattle.std.specs.Map.Iter.{TakesFirst, TakesLast, deref};
+ghost use Rattle.multimap_walks.specs.Lending.{CanLend};
+ghost use Rattle.multimap_walks.specs.RestWalk.{values_rest};
+
+use super::{read_first, read_last};
+use crate::links::{ChainEnds, ValueLink};
+use crate::show::show_left;
+use multimap_slots::SlotCells;
+use std::alloc::{AllocError, Allocator, Global};
+use std::fmt;
+use std::iter::FusedIterator;
+use std::marker::{Model, PhantomData};
+
+/// The values that a `ValuesMut` has left, oldest first, for reading. Each item reads the slot of
+/// its value, and its link.
+#[derive(Drop)]
+pub struct ValuesRest<'walk, 'map, K, V, A: Allocator = Global> {
+    keys: PhantomData<&'map K>,
+    values: &'walk SlotCells<'map, V, ValueLink, A>,
+    left: ChainEnds,
+}
+
+impl<'walk, 'map, K, V, A: Allocator> Model for ValuesRest<'walk, 'map, K, V, A> {
+    ghost use Rattle.std.specs.Prelude.{List};
+    ghost use Rattle.multimap_walks.specs.Lending.{CanLend};
+    ghost use Rattle.multimap_walks.specs.RestWalk.{values_rest};
+
+    ghost Value = { List V };
+
+    ghost view = { λ w. values_rest w.values.now w.left };
+
+    ghost invariant = { λ w. CanLend w.values.now w.left };
+}
+
+impl<'walk, 'map, K, V, A: Allocator> ValuesRest<'walk, 'map, K, V, A> {
+    /// The walk over the values at places that are left, none of which was taken. No slot is read.
+    pub fn new(values: &'walk SlotCells<'map, V, ValueLink, A>, left: ChainEnds) -> Self
+        requires { CanLend values.now left }
+        ensures values { result ≡ values_rest values.now left }
+    {
+        ValuesRest {
+            keys: PhantomData,
+            values,
+            left,
+        }
+    }
+}
+
+impl<'walk, 'map, K, V, A: Allocator> Iterator for ValuesRest<'walk, 'map, K, V, A> {
+    type Item = &'walk V;
+
+    ghost next_gives = { TakesFirst deref };
+
+    ghost remaining = { λ s. at_most (length s) };
+
+    fn next(&mut self) -> Option<&'walk V> {
+        let (value, _) = read_first(self.values, &mut self.left)?;
+        Some(value)
+    }
+
+    #[tactic(auto, using(crate::proofs::WritingLemmas::values_counted))]
+    fn size_hint(&self) -> (usize, Option<usize>)
+        ensures lower { IsWithinCount result.0 (at_most (length self.now)) }
+        ensures upper { IfSome result.1 (UpTo (at_most (length self.now))) }
+
+        // Both numbers are that of the items left.
+        ensures least { result.0 ≡ length self.now }
+        ensures greatest { result.1 ≡ Some (length self.now) }
+    {
+        (self.left.length, Some(self.left.length))
+    }
+}
+
+impl<'walk, 'map, K, V, A: Allocator> DoubleEndedIterator for ValuesRest<'walk, 'map, K, V, A> {
+    ghost next_back_gives = { TakesLast deref };
+
+    fn next_back(&mut self) -> Option<&'walk V> {
+        let (value, _) = read_last(self.values, &mut self.left)?;
+        Some(value)
+    }
+}
+
+impl<'walk, 'map, K, V, A: Allocator> ExactSizeIterator for ValuesRest<'walk, 'map, K, V, A> {
+    #[tactic(auto, using(crate::proofs::WritingLemmas::values_counted))]
+    fn len(&self) -> usize {
+        self.left.length
+    }
+}
+
+impl<'walk, 'map, K, V, A: Allocator> FusedIterator for ValuesRest<'walk, 'map, K, V, A> {}
+
+impl<'walk, 'map, K, V, A: Allocator> Clone for ValuesRest<'walk, 'map, K, V, A> {
+    ghost is_clone = { λ s r. r ≡ s };
+
+    ghost is_infallible = { λ _. ⊤ };
+
+    fn clone(&self) -> Result<ValuesRest<'walk, 'map, K, V, A>, AllocError> {
+        Ok(ValuesRest {
+            keys: PhantomData,
+            values: self.values,
+            left: self.left,
+        })
+    }
+}
+
+impl<'walk, 'map, K, V: fmt::Debug, A: Allocator> fmt::Debug for ValuesRest<'walk, 'map, K, V, A> {
+    fn fmt<W: fmt::Write>(&self, f: &mut fmt::Formatter<W>) -> fmt::Result {
+        show_left(f, "ValuesRest", self)
+    }
+}
