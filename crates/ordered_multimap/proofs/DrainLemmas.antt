@@ -24,7 +24,7 @@ use Rattle.ordered_multimap.proofs.PlaceLemmas.{filter_map-agree}
 use Rattle.ordered_multimap.proofs.RenameLemmas.{agrees-renamed, lists_of-renamed}
 
 -- that a drain's places are detached has one proof at most
-Leads-prop : (names : ℕ → Option ℕ) (ps : List ℕ) → IsProp (Leads names ps)
+pub Leads-prop : (names : ℕ → Option ℕ) (ps : List ℕ) → IsProp (Leads names ps)
 Leads-prop names [] = Unit-prop
 Leads-prop names (p ∷ ps) =
     let here : IsProp (IfSome (first_of ps) (λ q. names p ≡ Some q)) = Prim.hlevel props in

@@ -1,6 +1,6 @@
 -- The pairs that are left of a map that was taken apart, and what a step at either end hands out.
 use Rattle.std.proofs.Common.{◌≡◌, ◌≢◌, ℕ, ◌<◌, ◌-◌, List, [], ◌∷◌, length, Option, Some, None, Result, refl, sym, ap, ◌∙◌, subst, arith, length-drop}
-use Rattle.std.specs.Prelude.{MatchOption, drop}
+use Rattle.std.specs.Prelude.{MatchOption}
 use Rattle.std.specs.List.{filter_map}
 use Rattle.std.proofs.lemmas.List.{length-take}
 use Rattle.multimap_slots.specs.Lists.{IsIn, AreDistinct, without}
@@ -11,11 +11,10 @@ use Rattle.multimap_walks.specs.declared.End.TheVariants.{Front, Back}
 use Rattle.multimap_walks.specs.declared.links.KeyLink.{KeyLink}
 use Rattle.multimap_walks.specs.declared.links.ValueLink.{ValueLink}
 use Rattle.multimap_walks.specs.Chained.{AreOwned, pair_at, pairs_of}
-use Rattle.multimap_walks.specs.Walk.{end_item, end_rest}
 use Rattle.ordered_multimap.specs.IntoIters.{HandsOut, IsHanded}
 use Rattle.ordered_multimap.specs.TakesOne.{end_of_list}
 use Rattle.ordered_multimap.specs.declared.list_ordered_multimap.refused.UnclonedKey.{UnclonedKey}
-use Rattle.ordered_multimap.proofs.PopLemmas.{AtEnd, at_end, pairs_of-without}
+use Rattle.ordered_multimap.proofs.PopLemmas.{at_end, pairs_of-without}
 
 module _ {K V : Type 0} (keys : Slots K KeyLink) (values : Slots V ValueLink) (place : ℕ) where
   -- the pair of a value by its link

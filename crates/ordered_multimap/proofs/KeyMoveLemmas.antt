@@ -1,6 +1,5 @@
 -- Where a key is put behind the others, key list, table and values agree, and the keys are those of the same places.
-use Rattle.std.proofs.Common.{◌≡◌, ◌==◌, ℕ, Bool, not, List, [], ◌∷◌, ◌++◌, length, filter, refl, sym, ap, ◌∙◌, subst, inl, inr, true≢false, arith, length-append}
-use Rattle.std.proofs.lemmas.Bool.{eq-eqb}
+use Rattle.std.proofs.Common.{◌≡◌, ◌==◌, ℕ, Bool, not, List, [], ◌∷◌, ◌++◌, length, filter, refl, sym, ap, ◌∙◌, subst, inl, inr, arith, length-append}
 use Rattle.std.proofs.lemmas.List.Elements.{filter_map-append}
 use Rattle.std.proofs.lemmas.Map.Keys.{IsDistinct-push}
 use Rattle.std.specs.Cmp.{IsEquivalence}
@@ -16,7 +15,7 @@ use Rattle.ordered_multimap.specs.Agrees.{Agrees, HasKey, items_of, lists_of}
 use Rattle.ordered_multimap.specs.Keys.{moved_to_back, stored_key}
 use Rattle.ordered_multimap.specs.Lists.{lists}
 use Rattle.ordered_multimap.proofs.KeptLemmas.{is_listed-equal}
-use Rattle.ordered_multimap.proofs.KeyLemmas.{IsDistinct-filter, stored_key_only}
+use Rattle.ordered_multimap.proofs.KeyLemmas.{IsDistinct-filter}
 use Rattle.ordered_multimap.proofs.LookupLemmas.{own_key, stored_at}
 use Rattle.ordered_multimap.proofs.PlaceLemmas.{AreDistinct-filter}
 use Rattle.ordered_multimap.proofs.TakeLemmas.{items_besides}

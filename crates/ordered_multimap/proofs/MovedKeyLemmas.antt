@@ -7,7 +7,7 @@ use Rattle.std.specs.Cmp.{IsEquivalence}
 use Rattle.std.specs.List.{IsDistinct, AllByRecursion}
 use Rattle.multimap_slots.specs.Lists.{IsIn}
 use Rattle.multimap_slots.proofs.ListsLemmas.{IsIn-left}
-use Rattle.ordered_multimap.specs.Keys.{is_listed, stored_key, moved_to_back, all_moved}
+use Rattle.ordered_multimap.specs.Keys.{is_listed, moved_to_back, all_moved}
 use Rattle.ordered_multimap.proofs.KeptLemmas.{is_listed-equal}
 use Rattle.ordered_multimap.proofs.KeyLemmas.{IsDistinct-filter, apart_member, is_listed-self, stored_key_only}
 use Rattle.ordered_multimap.proofs.Members.{IsIn-filter, filter-all, filter-none}

@@ -11,9 +11,9 @@ use Rattle.multimap_walks.specs.declared.links.ValueLink.{ValueLink}
 use Rattle.multimap_walks.specs.ChainWalk.{ChainWalk}
 use Rattle.multimap_walks.specs.Chained.{chain_of, pair_at, pairs_of, positions_at, values_at}
 use Rattle.multimap_walks.specs.KeyWalk.{key_values_at, whole_walk}
-use Rattle.ordered_multimap.specs.Agrees.{Agrees, HasKey, items_of, lists_of}
+use Rattle.ordered_multimap.specs.Agrees.{Agrees, HasKey, lists_of}
 use Rattle.ordered_multimap.specs.KeyLists.{with_values, keys_with_values}
-use Rattle.ordered_multimap.specs.Pairs.{all_values, positions_of, values_of}
+use Rattle.ordered_multimap.specs.Pairs.{all_values, values_of}
 use Rattle.ordered_multimap.proofs.AgreesLemmas.{pair_in}
 use Rattle.ordered_multimap.proofs.LookupLemmas.{values_of-chain, positions_of-chain}
 use Rattle.ordered_multimap.proofs.PlaceLemmas.{held}

@@ -19,6 +19,7 @@ use Rattle.ordered_multimap.specs.Multimap.{Multimap}
 use Rattle.ordered_multimap.specs.Pairs.{values_of}
 use Rattle.ordered_multimap.specs.Rooms.{KeepsRooms, RaisesNoRoom}
 use Rattle.ordered_multimap.specs.TapeNumbers.{TakesOut}
+use Rattle.ordered_multimap.specs.ValuesLent.{with_values_of}
 use Rattle.ordered_multimap.specs.Writes.{IsWritten, with_first}
 
 -- a pair of the key was put last
@@ -68,6 +69,15 @@ module _ {K V S A H : Type 0} {e : equality.Ghosts K} {k : hash.Ghosts K} {b : b
       → OccupiedEntry K V S A H e k b h
   with_first_written o v = record {
     map = record o.map { now = with_first o.map.now o.place v };
+    place = o.place;
+    listed = o.listed;
+  }
+
+  -- the entry over a map with other values, under the same keys
+  abbrev pub with_map_values : OccupiedEntry K V S A H e k b h → Multimap K V S
+      → OccupiedEntry K V S A H e k b h
+  with_map_values o m = record {
+    map = record o.map { now = with_values_of o.map.now m };
     place = o.place;
     listed = o.listed;
   }

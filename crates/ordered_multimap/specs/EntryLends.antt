@@ -1,6 +1,7 @@
 -- What a map ends as, where an entry lends a value of it or hands it on.
 use Rattle.std.specs.Prelude.{[], Result, IsOk, OnErr}
-use Rattle.std.specs.Borrow.{Fml, MutBor, RattleType, RestsIfErr, follows, follows_so, name_if_ok}
+use Rattle.std.specs.Borrow.{Fml, GName, MutBor, RattleType, RestsIfErr}
+use Rattle.std.specs.Borrow.{follows, follows_so, name_if_ok}
 use Rattle.std.specs.declared.alloc.Allocator as allocator
 use Rattle.std.specs.declared.cmp.PartialEq as equality
 use Rattle.std.specs.declared.hash.Hash as hash
@@ -14,7 +15,7 @@ use Rattle.ordered_multimap.specs.declared.list_ordered_multimap.entry.OccupiedE
 use Rattle.ordered_multimap.specs.declared.list_ordered_multimap.drain as drains
 use drains.EntryValuesDrain.{EntryValuesDrain}
 use Rattle.ordered_multimap.specs.Entries.{IsEntered, Occupied, RefusesEntry, entry_map_ref}
-use Rattle.ordered_multimap.specs.Entries.{with_first_written}
+use Rattle.ordered_multimap.specs.Entries.{with_first_written, with_map_values}
 use Rattle.ordered_multimap.specs.Writes.{with_first}
 
 module _ (K V S A H : RattleType) {e : equality.Ghosts K.Denot} {k : hash.Ghosts K.Denot}
@@ -42,6 +43,14 @@ module _ (K V S A H : RattleType) {e : equality.Ghosts K.Denot} {k : hash.Ghosts
   lends_to_entry o r =
       follows (occupied.the_row (record { mir = named 1; lft = [] }) K V S A H e k b h alloc) V
       o.ghost_name r.ghost_name (with_first_written o.now)
+
+  -- once the loan with this name ends, the entry's map is as before but for its values
+  abbrev pub lends_values_to_entry
+      : MutBor (OccupiedEntry K.Denot V.Denot S.Denot A.Denot H.Denot e k b h) → GName → Fml
+  lends_values_to_entry o r =
+      follows (occupied.the_row (record { mir = named 1; lft = [] }) K V S A H e k b h alloc)
+      (occupied.the_row (record { mir = named 1; lft = [] }) K V S A H e k b h alloc)
+      o.ghost_name r (λ n. with_map_values o.now n.map.now)
 
   -- at `Err` the pair was refused, and else the map ends as what the entry leaves
   abbrev pub rests_with_entry : {E : Type 0} → Entry K.Denot V.Denot S.Denot A.Denot H.Denot e k b h

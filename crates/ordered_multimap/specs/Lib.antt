@@ -12,6 +12,7 @@ pub mod IntoIters
 pub mod KeyLists
 pub mod KeyRenames
 pub mod KeyWrappers
+pub mod KeysLeft
 pub mod Keys
 pub mod Laws
 pub mod Lists
@@ -28,7 +29,9 @@ pub mod Takes
 pub mod TakesOne
 pub mod TapeNumbers
 pub mod WriteLends
+pub mod ValuesLent
 pub mod Writes
 -- the words of walks and the ends, for those who stand on the map alone
 pub use Rattle.multimap_walks.specs.Walk
+pub use Rattle.multimap_walks.specs.WritingWalk
 pub use Rattle.multimap_walks.specs.declared.End

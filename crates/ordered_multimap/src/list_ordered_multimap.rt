@@ -14,7 +14,9 @@ mod equal;
 mod extend;
 mod insert;
 mod into_iter;
+mod key_values_mut;
 mod key_wrapper;
+mod lend;
 mod links;
 mod lookup;
 mod pack;
@@ -29,16 +31,21 @@ mod steps;
 mod take_one;
 mod takes;
 mod walks;
+mod walks_mut;
 mod write;
 
 pub use drain::EntryValuesDrain;
 pub use entry::{Entry, OccupiedEntry, VacantEntry};
 pub use into_iter::IntoIter;
+pub use key_values_mut::KeyValuesMut;
 pub use key_wrapper::KeyWrapper;
 use multimap_slots::{SlotList, Tape};
 use multimap_table::KeyTable;
 use multimap_walks::ChainEnds;
-pub use multimap_walks::{EntryValues, Iter, KeyLink, KeyValues, Keys, ValueLink, Values};
+pub use multimap_walks::{
+    EntryValues, EntryValuesMut, EntryValuesRest, Iter, IterMut, IterRest, KeyLink, KeyValues,
+    Keys, ValueLink, Values, ValuesMut, ValuesRest,
+};
 pub use refused::{Refused, RefusedValue, UnclonedKey};
 use std::alloc::{AllocError, Allocator, Global};
 pub use std::hash::RandomState;

@@ -7,7 +7,8 @@ ghost use Rattle.std.specs.Borrow.{sem};
 ghost use Rattle.ordered_multimap.specs.Changes.{appended, first_written, inserted, removed};
 ghost use Rattle.ordered_multimap.specs.Drains.{DrainsEntry, DrainsInserted};
 ghost use Rattle.ordered_multimap.specs.Entries.{IsOccupiedBy, IsSameEntry};
-ghost use Rattle.ordered_multimap.specs.EntryLends.{lends_first, lends_to_entry, rests_with_drain};
+ghost use Rattle.multimap_walks.specs.WritingWalk.{entry_values_mut_name, entry_values_mut_rest, entry_values_mut_positions, EntryValuesMutCanStep};
+ghost use Rattle.ordered_multimap.specs.EntryLends.{lends_first, lends_to_entry, lends_values_to_entry, rests_with_drain};
 ghost use Rattle.ordered_multimap.specs.Keys.{stored_key};
 ghost use Rattle.ordered_multimap.specs.Pairs.{positions_of, values_of};
 ghost use Rattle.ordered_multimap.specs.Rooms.{HasValueRoom, KeepsRooms, RaisesNoRoom, SameRooms};
@@ -15,7 +16,7 @@ ghost use Rattle.ordered_multimap.specs.TapeNumbers.{TakesOut};
 ghost use Rattle.ordered_multimap.specs.Writes.{IsWritten, with_first};
 
 use super::OccupiedEntry;
-use crate::list_ordered_multimap::{EntryValues, EntryValuesDrain, RefusedValue};
+use crate::list_ordered_multimap::{EntryValues, EntryValuesDrain, EntryValuesMut, RefusedValue};
 use std::alloc::Allocator;
 use std::hash::{BuildHasher, Hash};
 
@@ -108,6 +109,27 @@ impl<'map, K: Eq + Hash, V, S: BuildHasher, A: Allocator> OccupiedEntry<'map, K,
         ensures reads { result.reads ≡ 0 }
     {
         self.map.values_at(self.place)
+    }
+
+    /// A walk over the key's values, each for writing, as that of
+    /// [`get_all_mut`](crate::ListOrderedMultimap::get_all_mut).
+    ///
+    /// ```
+    /// for value in entry.iter_mut() {
+    ///     *value = 7;
+    /// }
+    /// ```
+    pub fn iter_mut(&mut self) -> EntryValuesMut<'_, K, V, A>
+        ensures* writes_back { sem 𝓛 (lends_values_to_entry K.row V.row S.row A.row S.Hasher.row
+            A.Allocator self.entry (entry_values_mut_name result)) }
+        ensures ready { EntryValuesMutCanStep result }
+        ensures values { (k : K) → IsOccupiedBy self.old k
+            → entry_values_mut_rest result ≡ values_of K.eq self.old.map.now.lists.pairs k }
+        ensures positions { (k : K) → IsOccupiedBy self.old k → entry_values_mut_positions result
+            ≡ positions_of K.eq self.old.map.now.lists.pairs k }
+    {
+        let place = self.place;
+        self.map.values_mut_at(place)
     }
 
     /// Puts a pair of the key last. Where memory is refused, it hands back the value, and both

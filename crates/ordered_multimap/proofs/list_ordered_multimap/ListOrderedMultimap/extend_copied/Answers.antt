@@ -1,4 +1,4 @@
-use Rattle.std.proofs.Common.{Bor, [], ◌∷◌, ◌++◌, map, ap, sym, ◌∙◌, subst}
+use Rattle.std.proofs.Common.{Bor, [], ◌∷◌, map, ap, sym, ◌∙◌, subst}
 use Rattle.std.proofs.iter.Next.{Yields-more}
 use Rattle.std.proofs.lemmas.List.{map-append}
 use Rattle.ordered_multimap.specs.Changes.{appended, all_appended}

@@ -1,4 +1,3 @@
-use Rattle.std.proofs.Common.{OnOk, Result, Ok, Err}
 use Rattle.ordered_multimap.proofs.CloneLemmas.{on_ok}
 use Rattle.ordered_multimap.proofs.list_ordered_multimap.clone.append_clone.Goals as goal
 

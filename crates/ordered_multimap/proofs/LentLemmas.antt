@@ -1,0 +1,114 @@
+-- A map whose values were written through a loan is the map with other values, and agrees as before.
+use Rattle.std.proofs.Common.{◌≡◌, ℕ, List, [], ◌∷◌, length, Option, Some, None, IsSome, refl, sym, ap, ◌∙◌, subst, arith, Bool, suc, map}
+use Rattle.std.specs.Prelude.{option_and_then, option_map}
+use Rattle.std.specs.List.{filter_map, cons_option}
+use Rattle.std.specs.Ordering.{nat_cmp}
+use Rattle.std.specs.FinMap.{FinMap}
+use Rattle.multimap_slots.specs.Lists.{IsIn}
+use Rattle.multimap_slots.specs.Slots.{Slots, item_at}
+use Rattle.multimap_slots.specs.CellsLends.{with_refilled}
+use Rattle.multimap_slots.specs.SlotCells.{LendsSlots}
+use Rattle.multimap_slots.specs.declared.cells_of.SlotCells.{SlotCells}
+use Rattle.multimap_slots.specs.Taken.{refilled}
+use Rattle.multimap_slots.proofs.Refilled.{some-refilled, none-refilled}
+use Rattle.multimap_walks.specs.declared.links.KeyLink.{KeyLink}
+use Rattle.multimap_walks.specs.declared.links.ValueLink.{ValueLink}
+use Rattle.multimap_walks.specs.Chained.{key_of, pair_at, pairs_of}
+use Rattle.ordered_multimap.specs.Multimap.{Multimap}
+use Rattle.ordered_multimap.specs.Agrees.{Agrees, lists_of}
+use Rattle.ordered_multimap.specs.Lists.{lists}
+use Rattle.ordered_multimap.specs.ValuesLent.{revalued, with_values_of, AreLent}
+
+-- slots that were refilled take on the same items again
+pub refilled_again : {X : Type 0} (xs ys : List (Option X)) → refilled xs (refilled xs ys) ≡ refilled xs ys
+refilled_again [] ys = refl
+refilled_again (None ∷ xs) [] = ap (λ zs. None ∷ zs) (refilled_again xs [])
+refilled_again (Some x ∷ xs) [] = ap (λ zs. Some x ∷ zs) (refilled_again xs [])
+refilled_again (None ∷ xs) (y ∷ ys) = ap (λ zs. None ∷ zs) (refilled_again xs ys)
+refilled_again (Some x ∷ xs) (None ∷ ys) = ap (λ zs. Some x ∷ zs) (refilled_again xs ys)
+refilled_again (Some x ∷ xs) (Some y ∷ ys) = ap (λ zs. Some y ∷ zs) (refilled_again xs ys)
+
+module _ {K V : Type 0} where
+  abbrev pair : Option K → Option V → Option (K × V)
+  pair o w = option_and_then (λ (k : K). option_map (λ (v : V). let p : K × V = (k, v) in p) w) o
+
+  revalued_one : (k : Option K) (v w : Option V) (ps qs : List (K × V)) → (IsSome v → IsSome w) → (v ≡ None → w ≡ None)
+      → revalued (cons_option (pair k v) ps) (cons_option (pair k w) qs) ≡ cons_option (pair k w) (revalued ps qs)
+  revalued_one None v w ps qs some none = refl
+  revalued_one (Some k) None None ps qs some none = refl
+  revalued_one (Some k) None (Some w) ps qs some none = absurd (let e = none refl in cc)
+  revalued_one (Some k) (Some v) None ps qs some none = absurd (let e = some refl in cc)
+  revalued_one (Some k) (Some v) (Some w) ps qs some none = refl
+
+  revalued_places : (keys : Slots K KeyLink) (values : Slots V ValueLink) (items : List (Option V)) (places : List ℕ)
+      → revalued (filter_map (pair_at keys values) places) (filter_map (pair_at keys (with_refilled values items)) places) ≡ filter_map (pair_at keys (with_refilled values items)) places
+  revalued_places keys values items [] = refl
+  revalued_places keys values items (p ∷ ps) =
+      let new = with_refilled values items in
+      revalued_one (key_of keys values p) (item_at values p) (item_at new p) (filter_map (pair_at keys values) ps) (filter_map (pair_at keys new) ps)
+      (some-refilled values.items items p) (none-refilled values.items items p)
+      ∙ ap (cons_option (pair_at keys new p)) (revalued_places keys values items ps)
+
+  -- the values that refilled slots show are values of the map under its own keys
+  pub revalued_refilled : (keys : Slots K KeyLink) (values : Slots V ValueLink) (items : List (Option V))
+      → revalued (pairs_of keys values) (pairs_of keys (with_refilled values items)) ≡ pairs_of keys (with_refilled values items)
+  revalued_refilled keys values items = revalued_places keys values items values.order
+
+  pub keys-revalued : (ps qs : List (K × V)) → map (λ p. p.0) (revalued ps qs) ≡ map (λ p. p.0) ps
+  keys-revalued [] qs = refl
+  keys-revalued (p ∷ ps) [] = ap (λ ks. p.0 ∷ ks) (keys-revalued ps [])
+  keys-revalued (p ∷ ps) (q ∷ qs) = ap (λ ks. p.0 ∷ ks) (keys-revalued ps qs)
+
+  revalued_again : (ps qs : List (K × V)) → revalued ps (revalued ps qs) ≡ revalued ps qs
+  revalued_again [] qs = refl
+  revalued_again (p ∷ ps) [] = ap (λ rs. p ∷ rs) (revalued_again ps [])
+  revalued_again (p ∷ ps) (q ∷ qs) = ap (λ rs. (p.0, q.1) ∷ rs) (revalued_again ps qs)
+
+  -- a map that took on other values takes on the same ones again
+  pub with_values_again : {S : Type 0} (m n : Multimap K V S) → with_values_of m (with_values_of m n) ≡ with_values_of m n
+  with_values_again m n =
+      let pairs = revalued_again m.lists.pairs n.lists.pairs in
+      let items = refilled_again m.slots.values.items n.slots.values.items in
+      λ i. record m { lists = lists m.lists.keys (pairs i); slots = record m.slots { values = record m.slots.values { items = items i } } }
+
+  pub length_revalued : (ps qs : List (K × V)) → length (revalued ps qs) ≡ length ps
+  length_revalued [] qs = refl
+  length_revalued (p ∷ ps) [] = ap suc (length_revalued ps [])
+  length_revalued (p ∷ ps) (q ∷ qs) = ap suc (length_revalued ps qs)
+
+  pub Agrees-refilled : (eq : K → K → Bool) (hash : K → ℕ) (keys : Slots K KeyLink) (rows : FinMap nat_cmp ℕ) (values : Slots V ValueLink) (items : List (Option V))
+      → Agrees eq hash keys rows values → Agrees eq hash keys rows (with_refilled values items)
+  Agrees-refilled eq hash keys rows values items a = record {
+    keys_sound = a.keys_sound;
+    values_sound = record { distinct = a.values_sound.distinct; filled = λ p i. some-refilled values.items items p (a.values_sound.filled p i); linked = a.values_sound.linked; fits = a.values_sound.fits };
+    chained = record { owned = a.chained.owned; head = a.chained.head; tail = a.chained.tail; length = a.chained.length; previous = a.chained.previous; next = a.chained.next };
+    distinct = a.distinct;
+    hashed = a.hashed;
+    in_table = a.in_table;
+    listed = a.listed;
+    counted = a.counted;
+  }
+
+  Agrees-bare : (eq : K → K → Bool) (hash : K → ℕ) (keys : Slots K KeyLink) (rows : FinMap nat_cmp ℕ) (values : Slots V ValueLink) → Agrees eq hash keys rows values → Agrees eq hash keys rows (record values { capacity = length values.order })
+  Agrees-bare eq hash keys rows values a = record {
+    keys_sound = a.keys_sound;
+    values_sound = record { distinct = a.values_sound.distinct; filled = a.values_sound.filled; linked = a.values_sound.linked; fits = omega arith };
+    chained = record { owned = a.chained.owned; head = a.chained.head; tail = a.chained.tail; length = a.chained.length; previous = a.chained.previous; next = a.chained.next };
+    distinct = a.distinct;
+    hashed = a.hashed;
+    in_table = a.in_table;
+    listed = a.listed;
+    counted = a.counted;
+  }
+
+  -- the cells of the map's values agree with its keys
+  pub AreLent-made : {S A : Type 0} (eq : K → K → Bool) (hash : S → K → ℕ) (m : Multimap K V S) (keys : Slots K KeyLink) (rows : FinMap nat_cmp ℕ) (values : Slots V ValueLink) (cells : SlotCells V ValueLink A)
+      → Agrees eq (hash m.hasher) keys rows values → lists_of keys values ≡ m.lists → keys ≡ m.slots.keys → values ≡ m.slots.values → LendsSlots values cells → AreLent eq hash m cells keys
+  AreLent-made eq hash m keys rows values cells agrees shown keys_are values_are lent = record {
+    keys_are = keys_are;
+    values_are = subst (λ (s : Slots V ValueLink). LendsSlots s cells) values_are lent;
+    shown = ap (lists_of keys) lent.slots ∙ shown;
+    rows = rows;
+    agrees = subst (Agrees eq (hash m.hasher) keys rows) (sym lent.slots) (Agrees-bare eq (hash m.hasher) keys rows values agrees);
+    left = λ p i. lent.left p (subst (λ (s : Slots V ValueLink). IsIn p s.order) lent.slots i);
+  }

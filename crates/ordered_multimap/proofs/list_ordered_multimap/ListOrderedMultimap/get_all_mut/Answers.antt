@@ -1,0 +1,17 @@
+use Rattle.std.proofs.Common.{refl, sym, ◌∙◌}
+use Rattle.ordered_multimap.proofs.LackLemmas.{lacks_position}
+use Rattle.ordered_multimap.proofs.LentLemmas.{keys-revalued}
+use Rattle.ordered_multimap.proofs.list_ordered_multimap.ListOrderedMultimap.get_all_mut.Goals as goal
+
+pub returns-in-None : goal.returns-in-None
+returns-in-None g c =
+    let lacks = rw c.in-None.is at c.look_up.ensures.absent in (
+      (sym c.new.ensures.name, λ w. refl),
+      record {
+        writes_back = tt;
+        ready = c.new.ensures.ready;
+        values = c.new.ensures.values ∙ sym lacks.no_value;
+        positions = c.new.ensures.positions ∙ sym (lacks_position c.args.key.now lacks);
+        keeps = λ n. keys-revalued c.args.self.now.lists.pairs n.lists.pairs;
+      },
+    )

@@ -1,0 +1,17 @@
+use Rattle.std.proofs.Common.{refl, sym, ap, ◌∙◌}
+use Rattle.ordered_multimap.specs.Pairs.{all_values}
+use Rattle.ordered_multimap.proofs.LentLemmas.{keys-revalued}
+use Rattle.ordered_multimap.proofs.WalkLemmas.{all_values-listed}
+use Rattle.ordered_multimap.proofs.list_ordered_multimap.ListOrderedMultimap.values_mut.Goals as goal
+
+pub returns : goal.returns
+returns g c =
+    let lent = c.lend-cells.ensures.lent in (
+      (sym c.new.ensures.name, λ w. refl),
+      record {
+        writes_back = tt;
+        ready = c.new.ensures.ready;
+        values = c.new.ensures.values ∙ sym (all_values-listed lent.agrees) ∙ ap (λ h. all_values h.pairs) lent.shown;
+        keeps = λ n. keys-revalued c.args.self.now.lists.pairs n.lists.pairs;
+      },
+    )

@@ -1,0 +1,69 @@
+-- What a map ends as, where the right to write its values is handed out.
+use Rattle.std.specs.Prelude.{◌≡◌, ℕ, Bool, List, [], ◌∷◌, map}
+use Rattle.std.specs.Borrow.{Fml, GName, RattleType, MutBor, follows}
+use Rattle.std.specs.HashMap.Lent.{HashMembers}
+use Rattle.std.specs.Ordering.{nat_cmp}
+use Rattle.std.specs.FinMap.{FinMap}
+use Rattle.std.specs.declared.alloc.Allocator as alloc
+use Rattle.std.specs.declared.hash.Hasher as hasher
+use Rattle.std.specs.declared.hash.BuildHasher as builder
+use Rattle.multimap_slots.specs.Slots.{Slots}
+use Rattle.multimap_slots.specs.SlotCells.{lent_slots, LendsSlots}
+use Rattle.multimap_slots.specs.Tapes.{Taped}
+use Rattle.multimap_slots.specs.CellsLends.{with_refilled}
+use Rattle.multimap_slots.specs.TapeLends.{lends_cells}
+use Rattle.multimap_slots.specs.declared.cells_of.SlotCells.{SlotCells}
+use Rattle.multimap_walks.specs.declared.links.KeyLink.{KeyLink}
+use Rattle.multimap_walks.specs.declared.links.ValueLink.{ValueLink}
+use Rattle.multimap_walks.specs.contracts.links.ValueLink.{the_row as link_row}
+use Rattle.multimap_walks.specs.Lending.{AllAreLeft}
+use Rattle.ordered_multimap.specs.Lists.{lists}
+use Rattle.ordered_multimap.specs.Multimap.{Multimap}
+use Rattle.ordered_multimap.specs.Agrees.{Agrees, lists_of}
+use Rattle.ordered_multimap.specs.contracts.list_ordered_multimap.ListOrderedMultimap.{the_row}
+
+module _ {K V : Type 0} where
+  -- the pairs, each with the value at its position in the other list, where there is one
+  abbrev pub revalued : List (K × V) → List (K × V) → List (K × V)
+  revalued [] qs = []
+  revalued (p ∷ ps) [] = p ∷ revalued ps []
+  revalued (p ∷ ps) (q ∷ qs) = (p.0, q.1) ∷ revalued ps qs
+
+  -- other values, under the same keys and in the same order
+  abbrev pub with_values_of : {S : Type 0} → Multimap K V S → Multimap K V S → Multimap K V S
+  with_values_of m n = record m {
+    lists = lists m.lists.keys (revalued m.lists.pairs n.lists.pairs);
+    slots = record m.slots { values = with_refilled m.slots.values n.slots.values.items };
+  }
+
+  -- whatever the values become, the keys of the pairs stay, in their order
+  abbrev pub KeepsShape : {S : Type 0} → Multimap K V S → Type 0
+  KeepsShape {S} m = (n : Multimap K V S)
+      → map (λ p. p.0) (with_values_of m n).lists.pairs ≡ map (λ p. p.0) m.lists.pairs
+
+  -- the keys of the map are there to be read and its values to be taken, each once
+  pub record AreLent {S A : Type 0} (eq : K → K → Bool) (hash : S → K → ℕ) (m : Multimap K V S)
+      (cells : SlotCells V ValueLink A) (keys : Slots K KeyLink) : Type 0 where
+    pub keys_are : keys ≡ m.slots.keys
+    pub values_are : LendsSlots m.slots.values cells
+    pub shown : lists_of keys (lent_slots cells) ≡ m.lists
+    pub rows : FinMap nat_cmp ℕ
+    pub agrees : Agrees eq (hash m.hasher) keys rows (lent_slots cells)
+    pub left : AllAreLeft cells
+
+-- once the loan of its items ends, a tape of values is as before but for them
+abbrev pub lends_tape_values : (V A : RattleType) (heap : alloc.Ghosts A.Denot)
+    → MutBor (Taped V.Denot ValueLink) → SlotCells V.Denot ValueLink A.Denot → Fml
+lends_tape_values V A heap t cells = lends_cells V link_row A heap t cells
+
+module _ (K V S A H : RattleType) (key : HashMembers K.Denot)
+    (build : builder.Ghosts S.Denot H.Denot) (hash : hasher.Ghosts H.Denot)
+    (heap : alloc.Ghosts A.Denot) where
+  -- the map's type, as the logic holds it
+  abbrev pub map_row : RattleType
+  map_row = the_row K V S A H (record { eq = key.eq }) (record { hash_input = key.hash_input })
+      build hash heap
+
+  -- once the loan with this name ends, the map is as before but for its values
+  abbrev pub lends_values : MutBor (Multimap K.Denot V.Denot S.Denot) → GName → Fml
+  lends_values m r = follows map_row map_row m.ghost_name r (with_values_of m.now)

@@ -1,0 +1,138 @@
+//! `pairs_mut`, and the calls of its walk.
+ghost use Rattle.std.specs.Prelude.{◌≡◌, length, Some, IfSome, option_map};
+ghost use Rattle.std.specs.Map.Iter.{TakesFirst, TakesLast};
+ghost use Rattle.multimap_slots.specs.Lists.{IsIn};
+ghost use Rattle.multimap_slots.specs.Slots.{item_at};
+ghost use Rattle.multimap_walks.specs.Along.{AreLeft, items_left, places_left};
+ghost use Rattle.multimap_walks.specs.KeyWalk.{key_values_at};
+ghost use Rattle.multimap_walks.specs.Walk.{end_item};
+ghost use Rattle.multimap_walks.specs.WritingWalk.{entry_values_mut_rest, EntryValuesMutCanStep};
+ghost use Rattle.multimap_walks.specs.declared.End.TheVariants.{Front, Back};
+ghost use Rattle.ordered_multimap.specs.KeysLeft.{keys_left};
+ghost use Rattle.ordered_multimap.specs.Pairs.{values_of};
+
+use super::KeyValuesMut;
+use crate::list_ordered_multimap::ListOrderedMultimap;
+use multimap_walks::{ChainEnds, EntryValuesMut, KeyValues, Ordered, take_first, take_last};
+use std::alloc::Allocator;
+use std::fmt;
+use std::hash::{BuildHasher, Hash};
+
+impl<K: Eq + Hash, V, S: BuildHasher, A: Allocator> ListOrderedMultimap<K, V, S, A> {
+    /// A walk over the keys, in the order in which they last became present, each with a walk over
+    /// its values for writing. Keys, their order, and the order and number of pairs stay. Each step
+    /// reads the slot of its key, and no slot of a value.
+    ///
+    /// ```
+    /// map.pairs_mut().size_hint() == (2, Some(2))
+    /// ```
+    pub fn pairs_mut(&mut self) -> KeyValuesMut<'_, K, V, S, A>
+        ensures same_map { result.map.ghost_name ≡ self.entry.ghost_name }
+        ensures map { result.map.now ≡ self.old }
+        ensures keys { keys_left result ≡ self.old.lists.keys }
+    {
+        let left = self.keys.all();
+        KeyValuesMut { map: self, left }
+    }
+
+    /// Takes the first of the places that are left of the keys.
+    fn take_first_key(&self, left: &mut ChainEnds) -> Option<usize>
+        requires { AreLeft self.now.slots.keys.order left.old }
+        ensures are_left { AreLeft self.now.slots.keys.order left.new }
+        ensures listed { IfSome result (λ place. IsIn place self.now.slots.keys.order) }
+        ensures taken { TakesFirst (λ place. place)
+            (places_left self.now.slots.keys.order left.old) result
+            (places_left self.now.slots.keys.order left.new) }
+    {
+        take_first(&self.keys, left)
+    }
+
+    /// Takes the last of the places that are left of the keys.
+    fn take_last_key(&self, left: &mut ChainEnds) -> Option<usize>
+        requires { AreLeft self.now.slots.keys.order left.old }
+        ensures are_left { AreLeft self.now.slots.keys.order left.new }
+        ensures listed { IfSome result (λ place. IsIn place self.now.slots.keys.order) }
+        ensures taken { TakesLast (λ place. place)
+            (places_left self.now.slots.keys.order left.old) result
+            (places_left self.now.slots.keys.order left.new) }
+    {
+        take_last(&self.keys, left)
+    }
+
+    /// How many keys there are from one place to another.
+    fn keys_between(&self, ends: ChainEnds) -> usize
+        requires { AreLeft self.now.slots.keys.order ends }
+        ensures { result ≡ length (items_left self.now.slots.keys.order
+            (item_at self.now.slots.keys) ends) }
+    {
+        // The length tells the proof that the list of keys is sound.
+        let _keys = self.keys.len();
+        ends.length
+    }
+
+    /// The walk over the keys from one place to another.
+    fn key_values_between(&self, ends: ChainEnds) -> KeyValues<'_, K, V, A>
+        requires { AreLeft self.now.slots.keys.order ends }
+        ensures { result ≡ items_left self.now.slots.keys.order
+            (key_values_at self.now.slots.keys self.now.slots.values) ends }
+    {
+        KeyValues::new_between(&self.keys, &self.values, Some(ends))
+    }
+}
+
+impl<'map, K: Eq + Hash, V, S: BuildHasher, A: Allocator> KeyValuesMut<'map, K, V, S, A> {
+    /// The next key from the front, with a walk over its values. The next call may follow once that
+    /// walk has ended.
+    pub fn next(&mut self) -> Option<(&K, EntryValuesMut<'_, K, V, A>)>
+        ensures key { option_map (λ r. r.0.now) result ≡ end_item Front (keys_left self.old) }
+        ensures values { IfSome result (λ r. entry_values_mut_rest r.1
+            ≡ values_of K.eq self.old.map.now.lists.pairs r.0.now) }
+        ensures ready { IfSome result (λ r. EntryValuesMutCanStep r.1) }
+    {
+        let place = self.map.take_first_key(&mut self.left)?;
+        Some(self.map.key_values_mut_at(place))
+    }
+
+    /// The next key from the back, with a walk over its values. The next call may follow once that
+    /// walk has ended.
+    pub fn next_back(&mut self) -> Option<(&K, EntryValuesMut<'_, K, V, A>)>
+        ensures key { option_map (λ r. r.0.now) result ≡ end_item Back (keys_left self.old) }
+        ensures values { IfSome result (λ r. entry_values_mut_rest r.1
+            ≡ values_of K.eq self.old.map.now.lists.pairs r.0.now) }
+        ensures ready { IfSome result (λ r. EntryValuesMutCanStep r.1) }
+    {
+        let place = self.map.take_last_key(&mut self.left)?;
+        Some(self.map.key_values_mut_at(place))
+    }
+
+    /// How many keys are left, as the least and as the greatest number.
+    pub fn size_hint(&self) -> (usize, Option<usize>)
+        ensures least { result.0 ≡ length (keys_left self.now) }
+        ensures greatest { result.1 ≡ Some result.0 }
+    {
+        let left = self.map.keys_between(self.left);
+        (left, Some(left))
+    }
+
+    /// A walk over the keys that are left, each with a walk over its values, for reading.
+    pub fn iter(&self) -> KeyValues<'_, K, V, A>
+        ensures { result ≡ items_left self.now.map.now.slots.keys.order
+            (key_values_at self.now.map.now.slots.keys self.now.map.now.slots.values)
+            self.now.left }
+    {
+        self.map.key_values_between(self.left)
+    }
+}
+
+impl<K: Eq + Hash + fmt::Debug, V: fmt::Debug, S: BuildHasher, A: Allocator> fmt::Debug
+    for KeyValuesMut<'_, K, V, S, A> {
+    fn fmt<W: fmt::Write>(&self, f: &mut fmt::Formatter<W>) -> fmt::Result {
+        f.write_str("KeyValuesMut(")?;
+        let mut list = f.debug_list();
+        for pair in self.iter() {
+            list.entry(&pair);
+        }
+        list.finish()?;
+        f.write_str(")")
+    }
+}

@@ -1,0 +1,141 @@
+//! Walks that lend values for writing.
+ghost use Rattle.std.specs.Prelude.{◌≡◌, Some};
+ghost use Rattle.std.specs.Borrow.{sem};
+ghost use Rattle.multimap_slots.specs.Lists.{IsIn};
+ghost use Rattle.multimap_slots.specs.Slots.{item_at};
+ghost use Rattle.multimap_walks.specs.WritingWalk.{iter_mut_rest, iter_mut_name, IterMutCanStep};
+ghost use Rattle.multimap_walks.specs.WritingWalk.{values_mut_rest, values_mut_name, ValuesMutCanStep};
+ghost use Rattle.multimap_walks.specs.WritingWalk.{entry_values_mut_rest, entry_values_mut_positions, entry_values_mut_name, EntryValuesMutCanStep};
+ghost use Rattle.ordered_multimap.specs.Agrees.{HasKey};
+ghost use Rattle.ordered_multimap.specs.Pairs.{all_values, positions_of, values_of};
+ghost use Rattle.ordered_multimap.specs.ValuesLent.{lends_values, KeepsShape};
+
+use super::ListOrderedMultimap;
+use super::lookup::slot_at;
+use multimap_walks::{EntryValuesMut, IterMut, ValuesMut};
+use std::alloc::Allocator;
+use std::hash::{BuildHasher, Hash};
+
+impl<K: Eq + Hash, V, S: BuildHasher, A: Allocator> ListOrderedMultimap<K, V, S, A> {
+    /// A walk over all pairs, in order, with each value for writing. Keys, their order, and the order
+    /// and number of pairs stay; a value that isn't handed out stays too. Each step takes the slot of
+    /// its value and reads that of its key.
+    ///
+    /// ```
+    /// if let Some((_, value)) = map.iter_mut().next_back() {
+    ///     *value = 7;
+    /// }
+    /// ```
+    pub fn iter_mut(&mut self) -> IterMut<'_, K, V, A>
+        ensures* writes_back { sem 𝓛 (lends_values K.row V.row S.row A.row S.Hasher.row K.Hash
+            S.BuildHasher S.Hasher.Hasher A.Allocator self.entry (iter_mut_name result)) }
+        ensures ready { IterMutCanStep result }
+        ensures pairs { iter_mut_rest result ≡ self.old.lists.pairs }
+        ensures keeps { KeepsShape self.old }
+    {
+        let (cells, keys) = self.lend();
+        IterMut::new(keys, cells)
+    }
+
+    /// A walk over the values of all pairs, in order, each for writing. What stays is what stays of
+    /// `iter_mut`. Each step takes the slot of its value.
+    ///
+    /// ```
+    /// for value in map.values_mut() {
+    ///     *value = 7;
+    /// }
+    /// ```
+    pub fn values_mut(&mut self) -> ValuesMut<'_, K, V, A>
+        ensures* writes_back { sem 𝓛 (lends_values K.row V.row S.row A.row S.Hasher.row K.Hash
+            S.BuildHasher S.Hasher.Hasher A.Allocator self.entry (values_mut_name result)) }
+        ensures ready { ValuesMutCanStep result }
+        ensures values { values_mut_rest result ≡ all_values self.old.lists.pairs }
+        ensures keeps { KeepsShape self.old }
+    {
+        let (cells, _) = self.lend();
+        ValuesMut::new(cells)
+    }
+
+    /// A walk over the key's values, in order, each for writing, which is empty for an absent key.
+    /// What stays is what stays of `iter_mut`. One look-up and the slot of the key; then each step
+    /// takes the slot of its value, and no other.
+    ///
+    /// ```
+    /// for value in map.get_all_mut(&"line") {
+    ///     *value = 9;
+    /// }
+    /// ```
+    pub fn get_all_mut(&mut self, key: &K) -> EntryValuesMut<'_, K, V, A>
+        ensures* writes_back { sem 𝓛 (lends_values K.row V.row S.row A.row S.Hasher.row K.Hash
+            S.BuildHasher S.Hasher.Hasher A.Allocator self.entry (entry_values_mut_name result)) }
+        ensures ready { EntryValuesMutCanStep result }
+        ensures values { entry_values_mut_rest result
+            ≡ values_of K.eq self.old.lists.pairs key.now }
+        ensures positions { entry_values_mut_positions result
+            ≡ positions_of K.eq self.old.lists.pairs key.now }
+        ensures keeps { KeepsShape self.old }
+    {
+        match self.look_up(key).1 {
+            Some(place) => self.values_mut_at(place),
+            None => {
+                let (cells, keys) = self.lend();
+                EntryValuesMut::new(keys, cells, None)
+            }
+        }
+    }
+
+    /// A walk over the values of the key at the place, each for writing.
+    pub(super) fn values_mut_at(&mut self, place: usize) -> EntryValuesMut<'_, K, V, A>
+        requires { IsIn place self.old.slots.keys.order }
+        ensures* writes_back { sem 𝓛 (lends_values K.row V.row S.row A.row S.Hasher.row K.Hash
+            S.BuildHasher S.Hasher.Hasher A.Allocator self.entry (entry_values_mut_name result)) }
+        ensures ready { EntryValuesMutCanStep result }
+        ensures values { (k : K) → HasKey K.eq self.old.slots.keys k place
+            → entry_values_mut_rest result ≡ values_of K.eq self.old.lists.pairs k }
+        ensures positions { (k : K) → HasKey K.eq self.old.slots.keys k place
+            → entry_values_mut_positions result ≡ positions_of K.eq self.old.lists.pairs k }
+        ensures keeps { KeepsShape self.old }
+    {
+        let (_, values) = self.key_values_mut_at(place);
+        values
+    }
+
+    /// The key at the place, with a walk over its values, each for writing.
+    pub(super) fn key_values_mut_at(&mut self, place: usize) -> (&K, EntryValuesMut<'_, K, V, A>)
+        requires { IsIn place self.old.slots.keys.order }
+        ensures* writes_back { sem 𝓛 (lends_values K.row V.row S.row A.row S.Hasher.row K.Hash
+            S.BuildHasher S.Hasher.Hasher A.Allocator self.entry
+            (entry_values_mut_name result.1)) }
+        ensures key { item_at self.old.slots.keys place ≡ Some result.0.now }
+        ensures ready { EntryValuesMutCanStep result.1 }
+        ensures values { (k : K) → HasKey K.eq self.old.slots.keys k place
+            → entry_values_mut_rest result.1 ≡ values_of K.eq self.old.lists.pairs k }
+        ensures positions { (k : K) → HasKey K.eq self.old.slots.keys k place
+            → entry_values_mut_positions result.1 ≡ positions_of K.eq self.old.lists.pairs k }
+        ensures keeps { KeepsShape self.old }
+    {
+        let (cells, keys) = self.lend();
+        let (key, link) = slot_at(keys, place);
+        (key, EntryValuesMut::new(keys, cells, Some((place, link))))
+    }
+}
+
+/// The walk of `iter_mut`.
+impl<'map, K: Eq + Hash, V, S: BuildHasher, A: Allocator> IntoIterator
+    for &'map mut ListOrderedMultimap<K, V, S, A> {
+    type Item = (&'map K, &'map mut V);
+
+    type IntoIter = IterMut<'map, K, V, A>;
+
+    ghost into_iter_gives = { λ m r. (iter_mut_rest r ≡ m.now.lists.pairs) × IterMutCanStep r };
+
+    fn into_iter(self) -> IterMut<'map, K, V, A>
+        ensures* writes_back { sem 𝓛 (lends_values K.row V.row S.row A.row S.Hasher.row K.Hash
+            S.BuildHasher S.Hasher.Hasher A.Allocator self.entry (iter_mut_name result)) }
+        ensures keeps { KeepsShape self.old }
+        ensures into_iter_gives { (iter_mut_rest result ≡ self.old.lists.pairs)
+            × IterMutCanStep result }
+    {
+        self.iter_mut()
+    }
+}

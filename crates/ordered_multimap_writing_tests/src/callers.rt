@@ -1,0 +1,98 @@
+//! Callers of the walks for writing that are proved for every key and value type: each but
+//! `fill_first_key` knows afterwards that keys, order and lengths stay. Which values a walk left no
+//! caller knows, and of a step of `pairs_mut` none knows what it leaves.
+ghost use Rattle.std.specs.Prelude.{◌≡◌, length};
+
+use ordered_multimap::ListOrderedMultimap;
+use std::alloc::Allocator;
+use std::hash::{BuildHasher, Hash};
+
+/// Each value becomes a copy of this one.
+#[tactic(auto, using(ordered_multimap::proofs::LentLemmas::length_revalued))]
+pub fn fill_all<K: Eq + Hash, V: Copy, S: BuildHasher, A: Allocator>(
+    map: &mut ListOrderedMultimap<K, V, S, A>,
+    value: V,
+)
+    ensures keys { map.new.lists.keys ≡ map.old.lists.keys }
+    ensures pairs { length map.new.lists.pairs ≡ length map.old.lists.pairs }
+    ensures key_room { map.new.key_room ≡ map.old.key_room }
+    ensures value_room { map.new.value_room ≡ map.old.value_room }
+    ensures tape { map.new.tape ≡ map.old.tape }
+{
+    for (_, slot) in map.iter_mut() {
+        *slot = value;
+    }
+}
+
+/// The same by a walk over values alone.
+pub fn fill_values<K: Eq + Hash, V: Copy, S: BuildHasher, A: Allocator>(
+    map: &mut ListOrderedMultimap<K, V, S, A>,
+    value: V,
+)
+    ensures keys { map.new.lists.keys ≡ map.old.lists.keys }
+    ensures pairs { length map.new.lists.pairs ≡ length map.old.lists.pairs }
+{
+    for slot in map.values_mut() {
+        *slot = value;
+    }
+}
+
+/// Each value of the key becomes a copy of this one.
+pub fn fill_key<K: Eq + Hash, V: Copy, S: BuildHasher, A: Allocator>(
+    map: &mut ListOrderedMultimap<K, V, S, A>,
+    key: &K,
+    value: V,
+)
+    ensures keys { map.new.lists.keys ≡ map.old.lists.keys }
+    ensures pairs { length map.new.lists.pairs ≡ length map.old.lists.pairs }
+{
+    for slot in map.get_all_mut(key) {
+        *slot = value;
+    }
+}
+
+/// The first and the last value become a copy of this one, while both references live.
+#[tactic(auto, using(ordered_multimap::proofs::LentLemmas::length_revalued))]
+pub fn fill_ends<K: Eq + Hash, V: Copy, S: BuildHasher, A: Allocator>(
+    map: &mut ListOrderedMultimap<K, V, S, A>,
+    value: V,
+)
+    ensures keys { map.new.lists.keys ≡ map.old.lists.keys }
+    ensures pairs { length map.new.lists.pairs ≡ length map.old.lists.pairs }
+{
+    let mut walk = map.iter_mut();
+    let last = walk.next_back();
+    let first = walk.next();
+    if let Some((_, slot)) = last {
+        *slot = value;
+    }
+    if let Some((_, slot)) = first {
+        *slot = value;
+    }
+}
+
+/// Each value becomes a copy of this one, by a loop over the reference to the map itself.
+pub fn fill_by_reference<K: Eq + Hash, V: Copy, S: BuildHasher, A: Allocator>(
+    map: &mut ListOrderedMultimap<K, V, S, A>,
+    value: V,
+)
+    ensures keys { map.new.lists.keys ≡ map.old.lists.keys }
+    ensures pairs { length map.new.lists.pairs ≡ length map.old.lists.pairs }
+{
+    for (_, slot) in map {
+        *slot = value;
+    }
+}
+
+/// Each value of the first key becomes a copy of this one.
+pub fn fill_first_key<K: Eq + Hash, V: Copy, S: BuildHasher, A: Allocator>(
+    map: &mut ListOrderedMultimap<K, V, S, A>,
+    value: V,
+) {
+    let mut keys = map.pairs_mut();
+    if let Some((_, values)) = keys.next() {
+        for slot in values {
+            *slot = value;
+        }
+    }
+}

@@ -1,0 +1,59 @@
+//! The examples of the doc comments of the calls that this crate tests. `tools/examples` says
+//! whether each line of theirs stands here.
+use ordered_multimap::ListOrderedMultimap;
+use ordered_multimap::list_ordered_multimap::Entry;
+use test_helpers::{Failed, Test};
+
+type Numbers = ListOrderedMultimap<&'static str, u32>;
+
+fn add_three(test: &Test, map: &mut Numbers) {
+    map.clear();
+    test.expect("append", map.append("line", 1).is_ok());
+    test.expect("append", map.append("page", 8).is_ok());
+    test.expect("append", map.append("line", 2).is_ok());
+}
+
+fn last_is_written(test: &Test, map: &mut Numbers) {
+    add_three(test, map);
+    if let Some((_, value)) = map.iter_mut().next_back() {
+        *value = 7;
+    }
+    test.expect("the last", map.back() == Some((&"line", &7)));
+    test.expect("pairs_mut", map.pairs_mut().size_hint() == (2, Some(2)));
+}
+
+fn all_are_written(test: &Test, map: &mut Numbers) {
+    add_three(test, map);
+    for value in map.values_mut() {
+        *value = 7;
+    }
+    test.expect("values_mut", map.get(&"page") == Some(&7));
+    for value in map.get_all_mut(&"line") {
+        *value = 9;
+    }
+    test.expect("get_all_mut", map.front() == Some((&"line", &9)));
+    test.expect("another key", map.get(&"page") == Some(&7));
+}
+
+fn entry_is_written(test: &Test, map: &mut Numbers) {
+    add_three(test, map);
+    if let Entry::Occupied(mut entry) = map.entry("line") {
+        for value in entry.iter_mut() {
+            *value = 7;
+        }
+    }
+    test.expect("iter_mut of an entry", map.get(&"line") == Some(&7));
+}
+
+fn examples(test: &Test, map: &mut Numbers) {
+    last_is_written(test, map);
+    all_are_written(test, map);
+    entry_is_written(test, map);
+}
+
+#[test]
+fn examples_hold(rt: HostRuntime) -> Result<(), Failed> {
+    let test = Test::new(rt.alloc());
+    examples(&test, &mut ListOrderedMultimap::new(test.alloc()));
+    test.end()
+}
