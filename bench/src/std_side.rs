@@ -70,6 +70,11 @@ impl<S: BuildHasher + Default> Multimap<S> {
         self.keys.get(&key).map_or(&[], Vec::as_slice)
     }
 
+    #[inline(always)]
+    fn get_all_mut(&mut self, key: u64) -> &mut [u64] {
+        self.keys.get_mut(&key).map_or(&mut [], Vec::as_mut_slice)
+    }
+
     fn ends(&self, checksum: u64) -> u64 {
         mix(mix(checksum, self.keys.len() as u64), self.values_len)
     }
@@ -279,4 +284,33 @@ pub fn entry_count<S: BuildHasher + Default>(n: u64, seed: u64) -> u64 {
         checksum = mix(checksum, *count);
     }
     mix(mix(checksum, counts.len() as u64), counts.len() as u64)
+}
+
+/// The sum of all pairs, each as key ^ value.
+fn sum_of_pairs<S>(map: &Multimap<S>) -> u64 {
+    let pairs = map.keys.iter();
+    let words = pairs.flat_map(|(key, values)| values.iter().map(move |value| key ^ value));
+    words.fold(0, u64::wrapping_add)
+}
+
+pub fn iter_mut_all<S: BuildHasher + Default>(n: u64, seed: u64) -> u64 {
+    let Filled { mut map, checksum } = scattered::<S>(n, seed);
+    for _ in 0..16 {
+        for (key, values) in &mut map.keys {
+            for value in values {
+                *value = value.wrapping_add(*key);
+            }
+        }
+    }
+    mix(checksum, sum_of_pairs(&map))
+}
+
+pub fn get_all_mut_walk<S: BuildHasher + Default>(n: u64, seed: u64) -> u64 {
+    let Filled { mut map, checksum } = grouped::<S>(n, seed);
+    for j in 0..n / 2 {
+        for value in map.get_all_mut(key(seed, choice(seed, j, n / 8))) {
+            *value = value.wrapping_add(j);
+        }
+    }
+    mix(checksum, sum_of_pairs(&map))
 }

@@ -44,6 +44,8 @@ mod exported {
         pub safe fn bench_clone(n: u64, seed: u64) -> u64;
         pub safe fn bench_entry_count(n: u64, seed: u64) -> u64;
         pub safe fn bench_small_maps(n: u64, seed: u64) -> u64;
+        pub safe fn bench_iter_mut_all(n: u64, seed: u64) -> u64;
+        pub safe fn bench_get_all_mut_walk(n: u64, seed: u64) -> u64;
         pub safe fn benchfx_append_distinct(n: u64, seed: u64) -> u64;
         pub safe fn benchfx_append_few(n: u64, seed: u64) -> u64;
         pub safe fn benchfx_append_grouped(n: u64, seed: u64) -> u64;
@@ -65,6 +67,8 @@ mod exported {
         pub safe fn benchfx_clone(n: u64, seed: u64) -> u64;
         pub safe fn benchfx_entry_count(n: u64, seed: u64) -> u64;
         pub safe fn benchfx_small_maps(n: u64, seed: u64) -> u64;
+        pub safe fn benchfx_iter_mut_all(n: u64, seed: u64) -> u64;
+        pub safe fn benchfx_get_all_mut_walk(n: u64, seed: u64) -> u64;
     }
 }
 
@@ -94,7 +98,7 @@ const SCATTERED: Option<usize> = Some(3);
 const IN_ORDER: Option<Run> = Some(std_side::iter_all_in_order);
 
 /// Every workload. One that starts with another stands behind it.
-pub const WORKLOADS: [Workload; 21] = [
+pub const WORKLOADS: [Workload; 23] = [
     workload!(
         append_distinct,
         bench_append_distinct,
@@ -247,6 +251,22 @@ pub const WORKLOADS: [Workload; 21] = [
         benchfx_small_maps,
         None,
         2,
+        None
+    ),
+    workload!(
+        iter_mut_all,
+        bench_iter_mut_all,
+        benchfx_iter_mut_all,
+        SCATTERED,
+        32,
+        None
+    ),
+    workload!(
+        get_all_mut_walk,
+        bench_get_all_mut_walk,
+        benchfx_get_all_mut_walk,
+        GROUPED,
+        8,
         None
     ),
 ];

@@ -16,16 +16,17 @@ mod numbers;
 mod tests;
 mod with_fast;
 mod workloads;
+mod writes;
 
 use ordered_multimap::list_ordered_multimap::DefaultState;
 use std::alloc::Global;
 pub use with_fast::{
     benchfx_append_distinct, benchfx_append_few, benchfx_append_grouped, benchfx_append_scattered,
     benchfx_clone, benchfx_entry_count, benchfx_fifo_churn, benchfx_fifo_churn_few,
-    benchfx_fifo_small, benchfx_get_all_walk, benchfx_get_all_walk_scattered, benchfx_get_hit,
-    benchfx_get_miss, benchfx_insert_replace, benchfx_iter_all, benchfx_keys_all,
-    benchfx_pairs_all, benchfx_remove_all_half, benchfx_retain_half, benchfx_retain_half_multi,
-    benchfx_small_maps,
+    benchfx_fifo_small, benchfx_get_all_mut_walk, benchfx_get_all_walk,
+    benchfx_get_all_walk_scattered, benchfx_get_hit, benchfx_get_miss, benchfx_insert_replace,
+    benchfx_iter_all, benchfx_iter_mut_all, benchfx_keys_all, benchfx_pairs_all,
+    benchfx_remove_all_half, benchfx_retain_half, benchfx_retain_half_multi, benchfx_small_maps,
 };
 use workloads::{Workload, run, run_small};
 
@@ -177,4 +178,16 @@ pub extern "C" fn bench_entry_count(alloc: Global, n: u64, seed: u64) -> u64 {
 #[unsafe(no_mangle)]
 pub extern "C" fn bench_small_maps(alloc: Global, n: u64, seed: u64) -> u64 {
     run_small::<DefaultState>(alloc, n, seed)
+}
+
+/// Writes all values by walks over all pairs, after `append_scattered`.
+#[unsafe(no_mangle)]
+pub extern "C" fn bench_iter_mut_all(alloc: Global, n: u64, seed: u64) -> u64 {
+    run(alloc, DefaultState::new(), Workload::IterMutAll, n, seed)
+}
+
+/// Writes the values of random keys, after `append_grouped`.
+#[unsafe(no_mangle)]
+pub extern "C" fn bench_get_all_mut_walk(alloc: Global, n: u64, seed: u64) -> u64 {
+    run(alloc, DefaultState::new(), Workload::GetAllMutWalk, n, seed)
 }

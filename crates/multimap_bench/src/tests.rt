@@ -2,13 +2,14 @@
 use crate::{
     bench_append_distinct, bench_append_few, bench_append_grouped, bench_append_scattered,
     bench_clone, bench_entry_count, bench_fifo_churn, bench_fifo_churn_few, bench_fifo_small,
-    bench_get_all_walk, bench_get_all_walk_scattered, bench_get_hit, bench_get_miss,
-    bench_insert_replace, bench_iter_all, bench_keys_all, bench_pairs_all, bench_remove_all_half,
-    bench_retain_half, bench_retain_half_multi, bench_small_maps, benchfx_append_distinct,
-    benchfx_append_few, benchfx_append_grouped, benchfx_append_scattered, benchfx_clone,
-    benchfx_entry_count, benchfx_fifo_churn, benchfx_fifo_churn_few, benchfx_fifo_small,
-    benchfx_get_all_walk, benchfx_get_all_walk_scattered, benchfx_get_hit, benchfx_get_miss,
-    benchfx_insert_replace, benchfx_iter_all, benchfx_keys_all, benchfx_pairs_all,
+    bench_get_all_mut_walk, bench_get_all_walk, bench_get_all_walk_scattered, bench_get_hit,
+    bench_get_miss, bench_insert_replace, bench_iter_all, bench_iter_mut_all, bench_keys_all,
+    bench_pairs_all, bench_remove_all_half, bench_retain_half, bench_retain_half_multi,
+    bench_small_maps, benchfx_append_distinct, benchfx_append_few, benchfx_append_grouped,
+    benchfx_append_scattered, benchfx_clone, benchfx_entry_count, benchfx_fifo_churn,
+    benchfx_fifo_churn_few, benchfx_fifo_small, benchfx_get_all_mut_walk, benchfx_get_all_walk,
+    benchfx_get_all_walk_scattered, benchfx_get_hit, benchfx_get_miss, benchfx_insert_replace,
+    benchfx_iter_all, benchfx_iter_mut_all, benchfx_keys_all, benchfx_pairs_all,
     benchfx_remove_all_half, benchfx_retain_half, benchfx_retain_half_multi, benchfx_small_maps,
 };
 use std::alloc::Global;
@@ -36,6 +37,8 @@ const CHECKSUMS: &[(&str, u64)] = &[
     ("clone", 0x6ad7_6c39_f6ef_c5b5),
     ("keys_all", 0xa5ea_5741_564e_e8f5),
     ("pairs_all", 0x0695_bbf9_e1b0_9275),
+    ("iter_mut_all", 0xfe92_7712_543c_a2df),
+    ("get_all_mut_walk", 0xbc60_ee4e_36e0_2b27),
 ];
 
 /// Expects the checksum of the workload in the row.
@@ -76,12 +79,18 @@ fn changes_of_the_default_hasher(test: &Test, alloc: Global) {
     expect_checksum(test, 17, bench_small_maps(alloc, 64, 1));
 }
 
+fn writes_of_the_default_hasher(test: &Test, alloc: Global) {
+    expect_checksum(test, 21, bench_iter_mut_all(alloc, 64, 1));
+    expect_checksum(test, 22, bench_get_all_mut_walk(alloc, 64, 1));
+}
+
 #[test]
 fn checksums_are_right_with_the_default_hasher(rt: HostRuntime) -> Result<(), Failed> {
     let test = Test::new(rt.alloc());
     appends_of_the_default_hasher(&test, test.alloc());
     look_ups_of_the_default_hasher(&test, test.alloc());
     changes_of_the_default_hasher(&test, test.alloc());
+    writes_of_the_default_hasher(&test, test.alloc());
     test.end()
 }
 
@@ -115,11 +124,17 @@ fn changes_of_the_fast_hasher(test: &Test, alloc: Global) {
     expect_checksum(test, 17, benchfx_small_maps(alloc, 64, 1));
 }
 
+fn writes_of_the_fast_hasher(test: &Test, alloc: Global) {
+    expect_checksum(test, 21, benchfx_iter_mut_all(alloc, 64, 1));
+    expect_checksum(test, 22, benchfx_get_all_mut_walk(alloc, 64, 1));
+}
+
 #[test]
 fn checksums_are_right_with_the_fast_hasher(rt: HostRuntime) -> Result<(), Failed> {
     let test = Test::new(rt.alloc());
     appends_of_the_fast_hasher(&test, test.alloc());
     look_ups_of_the_fast_hasher(&test, test.alloc());
     changes_of_the_fast_hasher(&test, test.alloc());
+    writes_of_the_fast_hasher(&test, test.alloc());
     test.end()
 }

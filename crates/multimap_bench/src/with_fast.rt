@@ -138,3 +138,15 @@ pub extern "C" fn benchfx_entry_count(alloc: Global, n: u64, seed: u64) -> u64 {
 pub extern "C" fn benchfx_small_maps(alloc: Global, n: u64, seed: u64) -> u64 {
     run_small::<FastState>(alloc, n, seed)
 }
+
+/// Writes all values by walks over all pairs, after `append_scattered`. With the fast hasher.
+#[unsafe(no_mangle)]
+pub extern "C" fn benchfx_iter_mut_all(alloc: Global, n: u64, seed: u64) -> u64 {
+    run(alloc, FastState::new(), Workload::IterMutAll, n, seed)
+}
+
+/// Writes the values of random keys, after `append_grouped`. With the fast hasher.
+#[unsafe(no_mangle)]
+pub extern "C" fn benchfx_get_all_mut_walk(alloc: Global, n: u64, seed: u64) -> u64 {
+    run(alloc, FastState::new(), Workload::GetAllMutWalk, n, seed)
+}

@@ -5,6 +5,7 @@ use crate::lookups::{
     all_keys, all_lists, all_pairs, clones, hits, misses, sixteen_keys, sum_of_pairs, walks,
 };
 use crate::numbers::{START, mix};
+use crate::writes::{adds_keys, adds_numbers};
 use ordered_multimap::ListOrderedMultimap;
 use std::alloc::Global;
 use std::hash::BuildHasher;
@@ -55,6 +56,10 @@ pub(crate) enum Workload {
     Clone,
     /// Counts keys by their entries, on an empty map.
     EntryCount,
+    /// Writes all values by walks over all pairs, after `AppendScattered`.
+    IterMutAll,
+    /// Writes the values of random keys, after `AppendGrouped`.
+    GetAllMutWalk,
 }
 
 /// Makes a map, runs a workload of `n` pairs on it, and lets the map go. Answers the checksum.
@@ -89,7 +94,9 @@ fn fill<S: BuildHasher>(map: &mut Map<S>, workload: Workload, n: u64, seed: u64)
         | Workload::InsertReplace
         | Workload::RetainHalf => distinct(map, n, seed, START),
         Workload::AppendFew | Workload::FifoChurnFew => few(map, n, seed, START),
-        Workload::AppendGrouped | Workload::GetAllWalk => grouped(map, n, seed, START),
+        Workload::AppendGrouped | Workload::GetAllWalk | Workload::GetAllMutWalk => {
+            grouped(map, n, seed, START)
+        }
         Workload::AppendScattered
         | Workload::GetAllWalkScattered
         | Workload::IterAll
@@ -97,7 +104,8 @@ fn fill<S: BuildHasher>(map: &mut Map<S>, workload: Workload, n: u64, seed: u64)
         | Workload::PairsAll
         | Workload::RemoveAllHalf
         | Workload::RetainHalfMulti
-        | Workload::Clone => scattered(map, n, seed, START),
+        | Workload::Clone
+        | Workload::IterMutAll => scattered(map, n, seed, START),
         Workload::FifoSmall | Workload::EntryCount => Some(START),
     }
 }
@@ -118,6 +126,8 @@ fn change<S: BuildHasher>(
         Workload::RemoveAllHalf => Some(removes(map, n, seed, checksum)),
         Workload::RetainHalf | Workload::RetainHalfMulti => Some(retains(map, checksum)),
         Workload::EntryCount => counts(map, n, seed, checksum),
+        Workload::IterMutAll => Some(adds_keys(map, checksum)),
+        Workload::GetAllMutWalk => Some(adds_numbers(map, n, seed, checksum)),
         _ => Some(checksum),
     }
 }
