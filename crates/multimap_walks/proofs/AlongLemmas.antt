@@ -1,12 +1,9 @@
 -- What a walk along the order of a list has left, and what a step at either end gives.
-use Rattle.std.proofs.Common.{◌≡◌, ℕ, ◌+◌, ◌<◌, List, [], ◌∷◌, ◌++◌, length, Option, Some, None, unwrap_or, refl, sym, ap, ◌∙◌, arith, length-append}
-use Rattle.std.specs.Prelude.{IsSome}
+use Rattle.std.proofs.Common.{◌≡◌, ℕ, ◌+◌, List, [], ◌∷◌, ◌++◌, length, Option, Some, unwrap_or, refl}
 use Rattle.std.specs.List.{filter_map}
-use Rattle.std.specs.Map.Iter.{TakesFirst, TakesLast}
 use Rattle.multimap_slots.specs.Lists.{IsIn, AreDistinct, first_of, last_of, next_of, previous_of}
 use Rattle.multimap_walks.specs.declared.links.ChainEnds.{ChainEnds}
 use Rattle.multimap_walks.specs.Along.{all_places, places_left, AreLeft, items_left, IsAlong}
-use Rattle.multimap_walks.specs.Path.{IsPath}
 use Rattle.multimap_walks.proofs.PathLemmas.{Leads-next_of, Leads-previous_of, is_own, path-is, front_stands, back_stands, front_rest, back_rest, front_taken, back_taken, length-path, shown_first, shown_last}
 
 module _ (order : List ℕ) where

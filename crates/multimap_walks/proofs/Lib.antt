@@ -3,4 +3,5 @@ pub mod ChainLemmas
 pub mod PairLemmas
 pub mod PathLemmas
 pub mod RestLemmas
+pub mod SquashLemmas
 pub mod WritingLemmas

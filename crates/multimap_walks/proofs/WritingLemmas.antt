@@ -4,7 +4,7 @@ use Rattle.std.specs.Prelude.{IfSome}
 use Rattle.std.specs.Borrow.{MutBor}
 use Rattle.std.proofs.lemmas.List.{get_or-set_other}
 use Rattle.multimap_slots.specs.Lists.{IsIn, AreDistinct, previous_of}
-use Rattle.multimap_slots.specs.Slots.{Slots, IsSound, item_at}
+use Rattle.multimap_slots.specs.Slots.{Slots, HasLink, IsSound, item_at}
 use Rattle.multimap_slots.specs.SlotCells.{lent_slots, IsLeft, TakesItem}
 use Rattle.multimap_slots.specs.declared.cells_of.SlotCells.{SlotCells}
 use Rattle.multimap_slots.proofs.ListsLemmas.{IsIn-left, IsIn-right, AreDistinct-gone}
@@ -12,10 +12,12 @@ use Rattle.multimap_walks.specs.declared.links.ChainEnds.{ChainEnds}
 use Rattle.multimap_walks.specs.declared.links.KeyLink.{KeyLink}
 use Rattle.multimap_walks.specs.declared.links.ValueLink.{ValueLink}
 use Rattle.multimap_walks.specs.Along.{all_places, places_left, AreLeft, items_left}
-use Rattle.multimap_walks.specs.Lending.{AllAreLeft, AreUntaken, CanLend}
-use Rattle.multimap_walks.specs.Chained.{AreOwned, IsChain, Stands, next_place, pair_at, places_along, previous_place}
+use Rattle.multimap_walks.specs.Lending.{AllAreLeft, AreUntaken, CanLend, HandsOutSlot}
+use Rattle.multimap_walks.specs.Chained.{AreOwned, IsChain, IsChained, Stands, next_place, pair_at, places_along, previous_place}
 use Rattle.multimap_walks.specs.PairWalk.{pairs_left}
+use Rattle.multimap_walks.specs.RestWalk.{CanReadChain}
 use Rattle.multimap_walks.proofs.AlongLemmas.{all_left, left_all, left_before, length_along, takes_first, takes_last}
+use Rattle.multimap_walks.proofs.ChainLemmas.{along_whole, chain_distinct, chain_listed, chain_whole}
 use Rattle.multimap_walks.proofs.PairLemmas.{pair_some}
 use Rattle.multimap_walks.proofs.PathLemmas.{front_taken, back_taken}
 
@@ -130,6 +132,34 @@ module _ {V A : Type 0} (cells : SlotCells V ValueLink A) (left : ChainEnds) (n 
   chain_back_left =
       left_at_back cells (places_along values left.first left.length) untaken left.last _
       (back_taken (Stands values false) (next_place values) (previous_place values) left.first left.last left.length n more chain _ refl)
+
+-- so does a walk along the links, where another value is left
+module _ {V A : Type 0} (old new : SlotCells V ValueLink A) (place : ℕ) (item : MutBor V) (takes : TakesItem old place item new) where
+  pub reads_on : (rest : ChainEnds) → IsChain (lent_slots old) false rest.first rest.last rest.length → AreUntaken new (places_along (lent_slots old) rest.first rest.length)
+      → CanReadChain new rest
+  reads_on rest chain untaken = record {
+    chain = subst (λ s. IsChain s false rest.first rest.last rest.length) (sym takes.slots) chain;
+    untaken = subst (λ s. AreUntaken new (places_along s rest.first rest.length)) (sym takes.slots) untaken;
+  }
+
+-- all values of a key are left at first
+pub chain_left : {K V A : Type 0} (keys : Slots K KeyLink) (cells : SlotCells V ValueLink A) (key : ℕ) (link : KeyLink)
+    → IsSound (lent_slots cells) → IsChained keys (lent_slots cells) → HasLink keys key link → AllAreLeft cells
+    → CanReadChain cells (record { first = link.head; last = link.tail; length = link.length })
+chain_left keys cells key link sound chained has left =
+    let values = lent_slots cells in
+    record {
+      chain = chain_whole keys values key link sound chained has;
+      untaken = subst (AreUntaken cells) (sym (along_whole keys values key link sound chained has)) (record {
+        distinct = chain_distinct keys values key link sound chained has;
+        each = λ p member. left p (chain_listed keys values key link sound chained has p member);
+      });
+    }
+
+-- a step changes neither what is listed nor the links
+pub step_keeps : {T L A : Type 0} (old : SlotCells T L A) (place : ℕ) (given : Option (MutBor T × L)) (new : SlotCells T L A) → HandsOutSlot old place given new → lent_slots new ≡ lent_slots old
+step_keeps old place None new same = ap lent_slots same
+step_keeps old place (Some slot) new hands = hands.0.slots
 
 -- as many values, or pairs, are left as places
 module _ {V A : Type 0} (cells : SlotCells V ValueLink A) (left : ChainEnds) (can : CanLend cells left) where

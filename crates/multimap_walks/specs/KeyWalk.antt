@@ -1,5 +1,5 @@
 -- What a walk over the keys with their values shows.
-use Rattle.std.specs.Prelude.{ℕ, List, Option, option_map}
+use Rattle.std.specs.Prelude.{ℕ, Option, option_map}
 use Rattle.std.specs.Borrow.{Bor}
 use Rattle.multimap_slots.specs.Slots.{Slots, item_at}
 use Rattle.multimap_walks.specs.declared.links.ChainEnds.{ChainEnds}

@@ -2,7 +2,6 @@
 use Rattle.std.proofs.lemmas.List.{append-nil}
 use Rattle.std.proofs.Common.{◌≡◌, ◌≢◌, ℕ, zero, suc, ◌+◌, Bool, true, List, [], ◌∷◌, ◌++◌, length, map, reverse, Option, Some, None, IsSome, option_map, unwrap_or, refl, sym, ap, ◌∙◌, subst, arith}
 use Rattle.std.specs.Prelude.{IfSome}
-use Rattle.std.specs.Coded.{×_prop, Unit-prop}
 use Rattle.std.proofs.Math.Logic.{∥∥₁_elim}
 use Rattle.std.specs.Ordering.{nat_cmp}
 use Rattle.std.specs.FinMap.{FinMap}
@@ -17,6 +16,7 @@ use Rattle.multimap_walks.specs.Path.{path, Leads}
 use Rattle.multimap_walks.specs.Chained.{IsDetachedChain, next_place, places_along, previous_place, values_at}
 use Rattle.multimap_walks.proofs.PathLemmas.{Leads-agree, path-is, front_taken, back_taken, shown_first, shown_last}
 use Rattle.multimap_walks.proofs.ChainLemmas.{chain_behind, chain_before, first_stands, last_stands, length-left}
+use Rattle.multimap_walks.proofs.SquashLemmas.{AreDistinct-prop, Leads-prop}
 use Rattle.ordered_multimap.specs.Agrees.{Agrees, lists_of}
 use Rattle.ordered_multimap.specs.Detaches.{IsDrained, KeepsSlots, drained, drained_places}
 use Rattle.ordered_multimap.specs.Renames.{Renames}
@@ -24,18 +24,6 @@ use Rattle.ordered_multimap.proofs.PlaceLemmas.{filter_map-agree}
 use Rattle.ordered_multimap.proofs.RenameLemmas.{agrees-renamed, lists_of-renamed}
 
 -- that a drain's places are detached has one proof at most
-pub Leads-prop : (names : ℕ → Option ℕ) (ps : List ℕ) → IsProp (Leads names ps)
-Leads-prop names [] = Unit-prop
-Leads-prop names (p ∷ ps) =
-    let here : IsProp (IfSome (first_of ps) (λ q. names p ≡ Some q)) = Prim.hlevel props in
-    ×_prop here (Leads-prop names ps)
-
-AreDistinct-prop : (ps : List ℕ) → IsProp (AreDistinct ps)
-AreDistinct-prop [] = Unit-prop
-AreDistinct-prop (p ∷ ps) =
-    let here : IsProp (IsIn p ps → ⊥) = Prim.hlevel props in
-    ×_prop here (AreDistinct-prop ps)
-
 module _ {V : Type 0} (values : Slots V ValueLink) where
   IsDetached-prop : (p : ℕ) → IsProp (IsDetached values p)
   IsDetached-prop p x y =

@@ -12,4 +12,6 @@ mod keys;
 #[cfg(test)]
 mod rest;
 #[cfg(test)]
+mod shown;
+#[cfg(test)]
 mod walks;

@@ -37,8 +37,9 @@ fn pairs_are_left(test: &Test, walk: &mut IterMut<'_, u32, u32>)
     let _first = walk.next();
     let _last = walk.next_back();
     test.expect_same("pairs", walk_difference(&mut walk.iter(), PAIRS_BETWEEN));
-    let left = format!(in test.alloc(); "{:?}", walk.iter());
-    expect_text(test, "shown pairs", left, "IterRest([(2, 12), (2, 13)])");
+    let left = format!(in test.alloc(); "{:?} {:?}", &*walk, walk.iter());
+    let wanted = "IterMut([(2, 12), (2, 13)]) IterRest([(2, 12), (2, 13)])";
+    expect_text(test, "shown pairs", left, wanted);
 }
 
 fn values_are_left(test: &Test, walk: &mut ValuesMut<'_, u32, u32>)
@@ -48,8 +49,13 @@ fn values_are_left(test: &Test, walk: &mut ValuesMut<'_, u32, u32>)
     let _last = walk.next_back();
     let _first = walk.next();
     test.expect_same("values", walk_difference(&mut walk.iter(), VALUES_BETWEEN));
-    let left = format!(in test.alloc(); "{:?}", walk.iter());
-    expect_text(test, "shown values", left, "ValuesRest([12, 13])");
+    let left = format!(in test.alloc(); "{:?} {:?}", &*walk, walk.iter());
+    expect_text(
+        test,
+        "shown values",
+        left,
+        "ValuesMut([12, 13]) ValuesRest([12, 13])",
+    );
 }
 
 fn values_of_a_key_are_left(test: &Test, walk: &mut EntryValuesMut<'_, u32, u32>)
@@ -58,8 +64,9 @@ fn values_of_a_key_are_left(test: &Test, walk: &mut EntryValuesMut<'_, u32, u32>
     test.expect_same("both values", walk_difference(&mut walk.iter(), OUTER));
     let _first = walk.next();
     test.expect_same("the last", walk_difference(&mut walk.iter(), LAST));
-    let left = format!(in test.alloc(); "{:?}", walk.iter());
-    expect_text(test, "the last is shown", left, "EntryValuesRest([14])");
+    let left = format!(in test.alloc(); "{:?} {:?}", &*walk, walk.iter());
+    let wanted = "EntryValuesMut([14]) EntryValuesRest([14])";
+    expect_text(test, "the last is shown", left, wanted);
 }
 
 fn pairs(test: &Test, map: &mut Numbers) {
@@ -105,21 +112,15 @@ fn values_of_a_key_are_cloned(test: &Test, rest: &mut EntryValuesRest<'_, '_, u3
     test.expect_same("the walk", walk_difference(rest, LAST));
 }
 
-fn pairs_left_are_cloned(test: &Test, walk: &IterMut<'_, u32, u32>)
-    requires { IterMutCanStep walk.now }
-{
+fn pairs_left_are_cloned(test: &Test, walk: &IterMut<'_, u32, u32>) {
     pairs_are_cloned(test, &mut walk.iter());
 }
 
-fn values_left_are_cloned(test: &Test, walk: &ValuesMut<'_, u32, u32>)
-    requires { ValuesMutCanStep walk.now }
-{
+fn values_left_are_cloned(test: &Test, walk: &ValuesMut<'_, u32, u32>) {
     values_are_cloned(test, &mut walk.iter());
 }
 
-fn values_left_of_a_key_are_cloned(test: &Test, walk: &EntryValuesMut<'_, u32, u32>)
-    requires { EntryValuesMutCanStep walk.now }
-{
+fn values_left_of_a_key_are_cloned(test: &Test, walk: &EntryValuesMut<'_, u32, u32>) {
     values_of_a_key_are_cloned(test, &mut walk.iter());
 }
 

@@ -217,9 +217,7 @@ fn an_empty_map_lends_none(rt: HostRuntime) -> Result<(), Failed> {
 }
 
 /// Whether this value alone is left.
-fn is_left_alone(walk: &EntryValuesMut<'_, u32, u32>, value: u32) -> bool
-    requires { EntryValuesMutCanStep walk.now }
-{
+fn is_left_alone(walk: &EntryValuesMut<'_, u32, u32>, value: u32) -> bool {
     walk_difference(&mut walk.iter(), &[(End::Front, value)]).is_none()
 }
 

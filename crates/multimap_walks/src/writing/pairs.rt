@@ -1,20 +1,11 @@
 //! The walk over all pairs, the values for writing.
-ghost use Rattle.std.specs.Prelude.{◌≡◌, length, Some, IfSome};
-ghost use Rattle.std.specs.Iterator.{at_most, UpTo};
-ghost use Rattle.std.specs.Iterator.SizeHint.{IsWithinCount};
-ghost use Rattle.multimap_slots.specs.Slots.{IsSound};
-ghost use Rattle.multimap_slots.specs.SlotCells.{cells_name, lent_slots};
-ghost use Rattle.multimap_walks.specs.Chained.{AreOwned, pairs_of};
-ghost use Rattle.multimap_walks.specs.Lending.{AllAreLeft};
-ghost use Rattle.multimap_walks.specs.WritingWalk.{iter_mut_count, iter_mut_name, iter_mut_rest, IterMutCanStep, LendsFirstPair, LendsLastPair};
+ghost use Rattle.multimap_walks.specs.RestWalk.{CanReadPairs};
 
-use super::rest::pairs::IterRest;
-use super::{all_of, lend_first, lend_last};
+mod methods;
+
 use crate::links::{ChainEnds, KeyLink, ValueLink};
-use crate::slots::key_at;
-use multimap_slots::{Reads, SlotCells, SlotList};
+use multimap_slots::{SlotCells, SlotList};
 use std::alloc::{Allocator, Global};
-use std::iter::FusedIterator;
 
 /// All pairs of a map, oldest first, each value for writing. Each item takes the slot of its value,
 /// and reads its link and the slot of its key.
@@ -23,79 +14,5 @@ pub struct IterMut<'map, K, V, A: Allocator = Global> {
     keys: &'map SlotList<K, KeyLink, A>,
     values: SlotCells<'map, V, ValueLink, A>,
     left: ChainEnds,
+    ghost readable: { ∥ CanReadPairs values left keys.now ∥₁ },
 }
-
-impl<'map, K, V, A: Allocator> IterMut<'map, K, V, A> {
-    /// The walk over all pairs of a list of keys and of values that are lent, where the key of each
-    /// value is listed and no value was taken. No slot is read.
-    pub fn new(
-        keys: &'map SlotList<K, KeyLink, A>,
-        values: SlotCells<'map, V, ValueLink, A>,
-    ) -> Self
-        requires owned { AreOwned keys.now (lent_slots values) }
-        requires sound { IsSound (lent_slots values) }
-        requires left { AllAreLeft values }
-        ensures ready { IterMutCanStep result }
-        ensures pairs { iter_mut_rest result ≡ pairs_of keys.now (lent_slots values.entry) }
-        ensures name { iter_mut_name result ≡ cells_name values.entry }
-    {
-        // The length tells the proof that the list of keys is sound.
-        let _keys = keys.len();
-        let left = all_of(&values);
-        IterMut { keys, values, left }
-    }
-
-    /// The walk over the pairs that are left, for reading. It lends none of their values for writing,
-    /// and this walk goes on where it is. No slot is read.
-    pub fn iter(&self) -> IterRest<'_, 'map, K, V, A>
-        requires { IterMutCanStep self.now }
-        ensures { result ≡ iter_mut_rest self.now }
-    {
-        IterRest::new(self.keys, &self.values, self.left)
-    }
-}
-
-impl<'map, K, V, A: Allocator> Iterator for IterMut<'map, K, V, A> {
-    type Item = (&'map K, &'map mut V);
-
-    ghost can_next = { IterMutCanStep };
-
-    ghost next_gives = { LendsFirstPair };
-
-    ghost remaining = { λ s. at_most (iter_mut_count s) };
-
-    fn next(&mut self) -> Option<(&'map K, &'map mut V)> {
-        let (value, link) = lend_first(&mut self.values, &mut self.left)?;
-        Some((key_at(self.keys, link.key, &mut Reads::new()), value))
-    }
-
-    fn size_hint(&self) -> (usize, Option<usize>)
-        ensures lower { IsWithinCount result.0 (at_most (iter_mut_count self.now)) }
-        ensures upper { IfSome result.1 (UpTo (at_most (iter_mut_count self.now))) }
-
-        // Both numbers are that of the pairs left.
-        ensures least { IterMutCanStep self.now → result.0 ≡ length (iter_mut_rest self.now) }
-        ensures greatest { result.1 ≡ Some result.0 }
-    {
-        (self.left.length, Some(self.left.length))
-    }
-}
-
-impl<'map, K, V, A: Allocator> DoubleEndedIterator for IterMut<'map, K, V, A> {
-    ghost can_next_back = { IterMutCanStep };
-
-    ghost next_back_gives = { LendsLastPair };
-
-    fn next_back(&mut self) -> Option<(&'map K, &'map mut V)> {
-        let (value, link) = lend_last(&mut self.values, &mut self.left)?;
-        Some((key_at(self.keys, link.key, &mut Reads::new()), value))
-    }
-}
-
-impl<'map, K, V, A: Allocator> ExactSizeIterator for IterMut<'map, K, V, A> {
-    fn len(&self) -> usize {
-        self.left.length
-    }
-}
-
-impl<'map, K, V, A: Allocator> FusedIterator for IterMut<'map, K, V, A> {}

@@ -1,26 +1,19 @@
-use Rattle.std.proofs.Common.{ap, false, subst, sym}
+use Rattle.std.proofs.Common.{ap, false, sym}
 use Rattle.multimap_slots.specs.SlotCells.{lent_slots}
 use Rattle.multimap_walks.specs.Chained.{positions_at, values_at}
-use Rattle.multimap_walks.specs.Lending.{AreUntaken}
-use Rattle.multimap_walks.proofs.ChainLemmas.{along_whole, chain_distinct, chain_listed, chain_whole, length-left}
+use Rattle.multimap_walks.proofs.ChainLemmas.{along_whole, length-left}
+use Rattle.multimap_walks.proofs.WritingLemmas.{chain_left}
 use Rattle.multimap_walks.proofs.writing.chain.EntryValuesMut.new.Goals as goal
 
 pub returns-clause-ready : goal.returns-clause-ready
 returns-clause-ready g c =
-    let keys = c.args.keys.now in
-    let values = lent_slots c.args.values in
-    let key = c.in-Some.field-0-0 in
     let link = c.in-Some.link in
     let has = rw c.in-Some.is at c.requires.listed in
-    let chain = chain_whole keys values key link c.requires.sound c.requires.chained has in
+    let left = chain_left c.args.keys.now c.args.values c.in-Some.field-0-0 link c.requires.sound c.requires.chained has c.requires.left in
     record {
-      chain = chain;
-      untaken = subst (AreUntaken c.args.values) (sym (along_whole keys values key link c.requires.sound c.requires.chained has))
-          (record {
-            distinct = chain_distinct keys values key link c.requires.sound c.requires.chained has;
-            each = λ p member. c.requires.left p (chain_listed keys values key link c.requires.sound c.requires.chained has p member);
-          });
-      count = sym (length-left values false link.head link.tail link.length chain);
+      chain = left.chain;
+      untaken = left.untaken;
+      count = sym (length-left (lent_slots c.args.values) false link.head link.tail link.length left.chain);
     }
 
 pub returns-clause-values : goal.returns-clause-values
@@ -36,3 +29,8 @@ returns-clause-positions g c =
     let has = rw c.in-Some.is at c.requires.listed in
     let whole = along_whole c.args.keys.now values c.in-Some.field-0-0 c.in-Some.link c.requires.sound c.requires.chained has in
     rw c.in-Some.is (ap (positions_at values) whole)
+
+pub invariant_of-result-2 : goal.invariant_of-result-2
+invariant_of-result-2 g c =
+    let has = rw c.in-Some.is at c.requires.listed in
+    record { readable = ∣ chain_left c.args.keys.now c.args.values c.in-Some.field-0-0 c.in-Some.link c.requires.sound c.requires.chained has c.requires.left ∣₁ }

@@ -46,8 +46,12 @@ use denote.Triple.Clauses.{lasts}
 use denote.Triple.Table.{framed}
 use denote.Triple.Walked.{Stays, stay_dropped, walk_of, ends_at, Goes-spent_ref}
 use Rattle.std.proofs.raw_atomic.Walks.{proved}
+use Rattle.std.proofs.Math.Logic.{∥∥₁_map}
 use Rattle.multimap_slots.specs.Lists.{IsIn}
+use Rattle.multimap_slots.specs.declared.cells_of.SlotCells.{SlotCells}
 use Rattle.multimap_slots.proofs.Late.{closes_named}
+use Rattle.multimap_walks.specs.declared.links.ValueLink.{ValueLink}
+use Rattle.multimap_walks.specs.RestWalk.{CanReadChain}
 use Rattle.multimap_walks.specs.WritingWalk.{entry_values_mut_name, entry_values_mut_rest, entry_values_mut_positions, EntryValuesMutCanStep}
 use Rattle.multimap_walks.specs.contracts.writing.chain.EntryValuesMut as W-type
 use Rattle.multimap_walks.proofs.writing.chain.EntryValuesMut.TheLaws as W-laws
@@ -165,13 +169,17 @@ iter_mut_spec 𝓤 𝓛 𝓜 𝓡 wired X₀ X₁ X₂ X₃ X₄ L₀ L₁ L₂ 
     -- [half the token; what the entry follows; the walk; the other half; the tokens of the types; the token of 'map]
     move ! (0 ∷ 3 ∷ []) $ use2 𝓛 (‵ (flft κ q)) (𝓛.lfts.lft_join κ q) $ move ! (4 ∷ 3 ∷ []) $ join ! $
     -- [the other tokens; the token of 'a; what the entry follows; the walk]
-    let e : CR.Denot = record w { values = record w.values { cells = record w.values.cells { whole = ε } } } in
+    let lent : SlotCells V.Denot ValueLink B.Denot = record w.values { cells = record w.values.cells { whole = ε } } in
+    let again : CanReadChain w.values w.left → CanReadChain lent w.left
+    = λ left. record { chain = left.chain; untaken = record { distinct = left.untaken.distinct; each = λ p i. record { listed = (left.untaken.each p i).listed; untaken = (left.untaken.each p i).untaken } } } in
+    let e : CR.Denot = record w { values = lent; readable = ∥∥₁_map w.readable again } in
     move ! (3 ∷ 1 ∷ 2 ∷ 0 ∷ []) $ use1 𝓛 (‵ (CR.own_val e (u ∷ []))) (id⊢ 𝓤 _) $
     returns ! (look_at ! 0 refl) $ free_all ! refl $
     -- [the walk; the token of 'a; what the entry follows; the other tokens]
     suffices ! _ (ends_at 𝓛 En hs c y u e (tt, tt) (tt, tt)) $
     nothing ! $ nothing ! $ fjoin ! $ join ! $ move ! (1 ∷ 3 ∷ []) $ join ! $ join ! $ frame ! $
-    let ready' : Ready e = record { chain = ready.chain; untaken = record { distinct = ready.untaken.distinct; each = λ p i. record { listed = (ready.untaken.each p i).listed; untaken = (ready.untaken.each p i).untaken } }; count = ready.count } in
+    let left = again (record { chain = ready.chain; untaken = ready.untaken }) in
+    let ready' : Ready e = record { chain = left.chain; untaken = left.untaken; count = ready.count } in
     use0 𝓛 (raw (fact 𝓤 (Positions e))) (fact_i 𝓤 (Positions e) (emp 𝓤) positions) $ use0 𝓛 (raw (fact 𝓤 (Values e))) (fact_i 𝓤 (Values e) (emp 𝓤) values) $ join ! $
     use0 𝓛 (raw (fact 𝓤 (Ready e))) (fact_i 𝓤 (Ready e) (emp 𝓤) ready') $ join ! $ move ! (1 ∷ 0 ∷ []) $ done !
     ))))))

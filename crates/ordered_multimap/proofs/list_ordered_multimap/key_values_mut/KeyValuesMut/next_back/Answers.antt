@@ -6,7 +6,7 @@ use Rattle.multimap_walks.specs.Walk.{end_item}
 use Rattle.multimap_walks.specs.declared.End.TheVariants.{Back}
 use Rattle.multimap_walks.proofs.AlongLemmas.{shows_last}
 use Rattle.ordered_multimap.proofs.LawLemmas.{end_item-push}
-use Rattle.ordered_multimap.proofs.KeysLeftLemmas.{read_left}
+use Rattle.multimap_walks.proofs.SquashLemmas.{read_left}
 use Rattle.ordered_multimap.proofs.list_ordered_multimap.key_values_mut.KeyValuesMut.next_back.Goals as goal
 
 pub take_last_key-requires : goal.take_last_key-requires

@@ -5,7 +5,7 @@ use Rattle.multimap_walks.specs.Along.{items_left}
 use Rattle.multimap_walks.specs.WritingWalk.{deref_mut}
 use Rattle.multimap_walks.proofs.AlongLemmas.{shows_last}
 use Rattle.multimap_walks.proofs.WritingLemmas.{values_counted}
-use Rattle.multimap_walks.proofs.writing.values.ValuesMutDoubleEndedIterator.next_back.Goals as goal
+use Rattle.multimap_walks.proofs.writing.values.methods.ValuesMutDoubleEndedIterator.next_back.Goals as goal
 
 pub returns-clause-steps : goal.returns-clause-steps
 returns-clause-steps g c =
@@ -24,3 +24,6 @@ pub returns-clause-goes : goal.returns-clause-goes
 returns-clause-goes g c =
     let ready = (returns-clause-steps g c).ready in
     record { on = λ _. (ready, tt, omega (arith, c.in_ok-value.ensures.count)); keeps = ready; rests = λ _. tt }
+
+pub invariant_of-self : goal.invariant_of-self
+invariant_of-self g c = record { readable = ∣ c.lend_last.ensures.can ∣₁ }

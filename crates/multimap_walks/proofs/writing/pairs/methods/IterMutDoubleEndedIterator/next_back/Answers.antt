@@ -6,8 +6,8 @@ use Rattle.multimap_walks.specs.Chained.{AreOwned, pair_at}
 use Rattle.multimap_walks.specs.PairWalk.{pairs_left}
 use Rattle.multimap_walks.proofs.AlongLemmas.{shows_last}
 use Rattle.multimap_walks.proofs.PairLemmas.{pair_is}
-use Rattle.multimap_walks.proofs.WritingLemmas.{last_is_left, pairs_counted}
-use Rattle.multimap_walks.proofs.writing.pairs.IterMutDoubleEndedIterator.next_back.Goals as goal
+use Rattle.multimap_walks.proofs.WritingLemmas.{last_is_left, pairs_counted, step_keeps}
+use Rattle.multimap_walks.proofs.writing.pairs.methods.IterMutDoubleEndedIterator.next_back.Goals as goal
 
 pub key_at-requires : goal.key_at-requires
 key_at-requires g c =
@@ -40,3 +40,10 @@ pub returns-clause-goes : goal.returns-clause-goes
 returns-clause-goes g c =
     let ready = (returns-clause-steps g c).ready in
     record { on = λ _. (ready, tt, omega (arith, c.in_ok-value.ensures.count)); keeps = ready; rests = λ _. tt }
+
+pub invariant_of-self : goal.invariant_of-self
+invariant_of-self g c =
+    let w = c.args.self.now in
+    let step = c.lend_last in
+    let owned = subst (AreOwned w.keys.now) (sym (step_keeps w.values w.left.last step.result step.new.cells step.ensures.slot)) c.requires.owned in
+    record { readable = ∣ record { sound = c.requires.sound; owned = owned; lends = step.ensures.can } ∣₁ }

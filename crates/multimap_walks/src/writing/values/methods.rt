@@ -1,0 +1,98 @@
+//! The calls of the walk over all values for writing.
+ghost use Rattle.std.specs.Prelude.{◌≡◌, length, Some, IfSome};
+ghost use Rattle.std.specs.Iterator.{at_most, UpTo};
+ghost use Rattle.std.specs.Iterator.SizeHint.{IsWithinCount};
+ghost use Rattle.multimap_slots.specs.Slots.{IsSound};
+ghost use Rattle.multimap_slots.specs.SlotCells.{cells_name, lent_slots};
+ghost use Rattle.multimap_walks.specs.Chained.{values_at};
+ghost use Rattle.multimap_walks.specs.Lending.{AllAreLeft};
+ghost use Rattle.multimap_walks.specs.WritingWalk.{values_mut_count, values_mut_name, values_mut_rest, ValuesMutCanStep, LendsFirstValue, LendsLastValue};
+
+use super::ValuesMut;
+use crate::links::ValueLink;
+use crate::show::show_left;
+use crate::writing::rest::values::ValuesRest;
+use crate::writing::{all_of, lend_first, lend_last};
+use multimap_slots::SlotCells;
+use std::alloc::Allocator;
+use std::fmt;
+use std::iter::FusedIterator;
+use std::marker::PhantomData;
+
+impl<'map, K, V, A: Allocator> ValuesMut<'map, K, V, A> {
+    /// The walk over all values that are lent, none of which was taken. No slot is read.
+    pub fn new(values: SlotCells<'map, V, ValueLink, A>) -> Self
+        requires sound { IsSound (lent_slots values) }
+        requires left { AllAreLeft values }
+        ensures ready { ValuesMutCanStep result }
+        ensures values { values_mut_rest result
+            ≡ values_at (lent_slots values.entry) (lent_slots values.entry).order }
+        ensures name { values_mut_name result ≡ cells_name values.entry }
+    {
+        let left = all_of(&values);
+        ValuesMut {
+            keys: PhantomData,
+            values,
+            left,
+        }
+    }
+
+    /// The walk over the values that are left, for reading. It lends none of them for writing, and
+    /// this walk goes on where it is. No slot is read.
+    pub fn iter(&self) -> ValuesRest<'_, 'map, K, V, A>
+        ensures { result ≡ values_mut_rest self.now }
+    {
+        ValuesRest::new(&self.values, self.left)
+    }
+}
+
+impl<'map, K, V, A: Allocator> Iterator for ValuesMut<'map, K, V, A> {
+    type Item = &'map mut V;
+
+    ghost can_next = { ValuesMutCanStep };
+
+    ghost next_gives = { LendsFirstValue };
+
+    ghost remaining = { λ s. at_most (values_mut_count s) };
+
+    fn next(&mut self) -> Option<&'map mut V> {
+        let (value, _) = lend_first(&mut self.values, &mut self.left)?;
+        Some(value)
+    }
+
+    fn size_hint(&self) -> (usize, Option<usize>)
+        ensures lower { IsWithinCount result.0 (at_most (values_mut_count self.now)) }
+        ensures upper { IfSome result.1 (UpTo (at_most (values_mut_count self.now))) }
+
+        // Both numbers are that of the values left.
+        ensures least { ValuesMutCanStep self.now → result.0 ≡ length (values_mut_rest self.now) }
+        ensures greatest { result.1 ≡ Some result.0 }
+    {
+        (self.left.length, Some(self.left.length))
+    }
+}
+
+impl<'map, K, V, A: Allocator> DoubleEndedIterator for ValuesMut<'map, K, V, A> {
+    ghost can_next_back = { ValuesMutCanStep };
+
+    ghost next_back_gives = { LendsLastValue };
+
+    fn next_back(&mut self) -> Option<&'map mut V> {
+        let (value, _) = lend_last(&mut self.values, &mut self.left)?;
+        Some(value)
+    }
+}
+
+impl<'map, K, V, A: Allocator> ExactSizeIterator for ValuesMut<'map, K, V, A> {
+    fn len(&self) -> usize {
+        self.left.length
+    }
+}
+
+impl<'map, K, V, A: Allocator> FusedIterator for ValuesMut<'map, K, V, A> {}
+
+impl<'map, K, V: fmt::Debug, A: Allocator> fmt::Debug for ValuesMut<'map, K, V, A> {
+    fn fmt<W: fmt::Write>(&self, f: &mut fmt::Formatter<W>) -> fmt::Result {
+        show_left(f, "ValuesMut", &self.iter())
+    }
+}
