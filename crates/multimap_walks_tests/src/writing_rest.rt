@@ -130,11 +130,24 @@ fn values_that_are_left_are_read(rt: HostRuntime) -> Result<(), Failed> {
     test.end()
 }
 
+fn no_pair_is_shown(test: &Test, walk: &IterMut<'_, char, u32>) {
+    let left = format!(in test.alloc(); "{:?}", walk.iter());
+    expect_text(test, "no pair is left", left, "IterRest([])");
+    let shown = format!(in test.alloc(); "{walk:?}");
+    expect_text(test, "the walk", shown, "IterMut([])");
+}
+
+fn no_value_is_shown(test: &Test, walk: &ValuesMut<'_, char, u32>) {
+    let left = format!(in test.alloc(); "{:?}", walk.iter());
+    expect_text(test, "no value is left", left, "ValuesRest([])");
+    let shown = format!(in test.alloc(); "{walk:?}");
+    expect_text(test, "the walk", shown, "ValuesMut([])");
+}
+
 fn no_pair_is_lent(test: &Test, walk: &mut IterMut<'_, char, u32>)
     requires { IterMutCanStep walk.old }
 {
-    let shown = format!(in test.alloc(); "{:?} {:?}", &*walk, walk.iter());
-    expect_text(test, "no pair is shown", shown, "IterMut([]) IterRest([])");
+    no_pair_is_shown(test, walk);
     for end in [End::Front, End::Back] {
         test.expect("no pair is left", has_left(walk, 0));
         test.expect_same("no pair to read", walk_difference(&mut walk.iter(), &[]));
@@ -145,13 +158,7 @@ fn no_pair_is_lent(test: &Test, walk: &mut IterMut<'_, char, u32>)
 fn no_value_is_lent(test: &Test, walk: &mut ValuesMut<'_, char, u32>)
     requires { ValuesMutCanStep walk.old }
 {
-    let shown = format!(in test.alloc(); "{:?} {:?}", &*walk, walk.iter());
-    expect_text(
-        test,
-        "no value is shown",
-        shown,
-        "ValuesMut([]) ValuesRest([])",
-    );
+    no_value_is_shown(test, walk);
     for end in [End::Back, End::Front] {
         test.expect("no value is left", has_left(walk, 0));
         test.expect_same("no value to read", walk_difference(&mut walk.iter(), &[]));

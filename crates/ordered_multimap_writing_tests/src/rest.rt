@@ -30,6 +30,27 @@ const OUTER: &[(End, u32)] = &[(End::Front, 11), (End::Back, 14)];
 
 const LAST: &[(End, u32)] = &[(End::Back, 14)];
 
+fn pairs_are_shown(test: &Test, walk: &IterMut<'_, u32, u32>) {
+    let left = format!(in test.alloc(); "{:?}", walk.iter());
+    expect_text(test, "pairs left", left, "IterRest([(2, 12), (2, 13)])");
+    let shown = format!(in test.alloc(); "{walk:?}");
+    expect_text(test, "the walk", shown, "IterMut([(2, 12), (2, 13)])");
+}
+
+fn values_are_shown(test: &Test, walk: &ValuesMut<'_, u32, u32>) {
+    let left = format!(in test.alloc(); "{:?}", walk.iter());
+    expect_text(test, "values left", left, "ValuesRest([12, 13])");
+    let shown = format!(in test.alloc(); "{walk:?}");
+    expect_text(test, "the walk", shown, "ValuesMut([12, 13])");
+}
+
+fn the_last_is_shown(test: &Test, walk: &EntryValuesMut<'_, u32, u32>) {
+    let left = format!(in test.alloc(); "{:?}", walk.iter());
+    expect_text(test, "value left", left, "EntryValuesRest([14])");
+    let shown = format!(in test.alloc(); "{walk:?}");
+    expect_text(test, "the walk", shown, "EntryValuesMut([14])");
+}
+
 fn pairs_are_left(test: &Test, walk: &mut IterMut<'_, u32, u32>)
     requires { IterMutCanStep walk.old }
 {
@@ -37,9 +58,7 @@ fn pairs_are_left(test: &Test, walk: &mut IterMut<'_, u32, u32>)
     let _first = walk.next();
     let _last = walk.next_back();
     test.expect_same("pairs", walk_difference(&mut walk.iter(), PAIRS_BETWEEN));
-    let left = format!(in test.alloc(); "{:?} {:?}", &*walk, walk.iter());
-    let wanted = "IterMut([(2, 12), (2, 13)]) IterRest([(2, 12), (2, 13)])";
-    expect_text(test, "shown pairs", left, wanted);
+    pairs_are_shown(test, walk);
 }
 
 fn values_are_left(test: &Test, walk: &mut ValuesMut<'_, u32, u32>)
@@ -49,13 +68,7 @@ fn values_are_left(test: &Test, walk: &mut ValuesMut<'_, u32, u32>)
     let _last = walk.next_back();
     let _first = walk.next();
     test.expect_same("values", walk_difference(&mut walk.iter(), VALUES_BETWEEN));
-    let left = format!(in test.alloc(); "{:?} {:?}", &*walk, walk.iter());
-    expect_text(
-        test,
-        "shown values",
-        left,
-        "ValuesMut([12, 13]) ValuesRest([12, 13])",
-    );
+    values_are_shown(test, walk);
 }
 
 fn values_of_a_key_are_left(test: &Test, walk: &mut EntryValuesMut<'_, u32, u32>)
@@ -64,9 +77,7 @@ fn values_of_a_key_are_left(test: &Test, walk: &mut EntryValuesMut<'_, u32, u32>
     test.expect_same("both values", walk_difference(&mut walk.iter(), OUTER));
     let _first = walk.next();
     test.expect_same("the last", walk_difference(&mut walk.iter(), LAST));
-    let left = format!(in test.alloc(); "{:?} {:?}", &*walk, walk.iter());
-    let wanted = "EntryValuesMut([14]) EntryValuesRest([14])";
-    expect_text(test, "the last is shown", left, wanted);
+    the_last_is_shown(test, walk);
 }
 
 fn pairs(test: &Test, map: &mut Numbers) {
