@@ -30,6 +30,7 @@ pub mod TakesOne
 pub mod TapeNumbers
 pub mod WriteLends
 pub mod ValuesLent
+pub mod WalkLends
 pub mod Writes
 -- the words of walks and the ends, for those who stand on the map alone
 pub use Rattle.multimap_walks.specs.Walk

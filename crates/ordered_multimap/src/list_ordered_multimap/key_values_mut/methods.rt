@@ -1,15 +1,18 @@
 //! `pairs_mut`, and the calls of its walk.
 ghost use Rattle.std.specs.Prelude.{◌≡◌, length, Some, IfSome, option_map};
+ghost use Rattle.std.specs.Borrow.{sem};
 ghost use Rattle.std.specs.Map.Iter.{TakesFirst, TakesLast};
 ghost use Rattle.multimap_slots.specs.Lists.{IsIn};
 ghost use Rattle.multimap_slots.specs.Slots.{item_at};
 ghost use Rattle.multimap_walks.specs.Along.{AreLeft, items_left, places_left};
 ghost use Rattle.multimap_walks.specs.KeyWalk.{key_values_at};
 ghost use Rattle.multimap_walks.specs.Walk.{end_item};
-ghost use Rattle.multimap_walks.specs.WritingWalk.{entry_values_mut_rest, EntryValuesMutCanStep};
+ghost use Rattle.multimap_walks.specs.WritingWalk.{entry_values_mut_name, entry_values_mut_rest, EntryValuesMutCanStep};
 ghost use Rattle.multimap_walks.specs.declared.End.TheVariants.{Front, Back};
 ghost use Rattle.ordered_multimap.specs.KeysLeft.{keys_left};
+ghost use Rattle.ordered_multimap.specs.Agrees.{HasKey};
 ghost use Rattle.ordered_multimap.specs.Pairs.{values_of};
+ghost use Rattle.ordered_multimap.specs.WalkLends.{lends_values_to_walk};
 
 use super::KeyValuesMut;
 use crate::list_ordered_multimap::ListOrderedMultimap;
@@ -103,6 +106,19 @@ impl<'map, K: Eq + Hash, V, S: BuildHasher, A: Allocator> KeyValuesMut<'map, K, 
     {
         let place = self.map.take_last_key(&mut self.left)?;
         Some(self.map.key_values_mut_at(place))
+    }
+
+    /// The key at the place, with a walk over its values.
+    fn lend_at(&mut self, place: usize) -> (&K, EntryValuesMut<'_, K, V, A>)
+        requires { IsIn place self.old.map.now.slots.keys.order }
+        ensures* writes_back { sem 𝓛 (lends_values_to_walk K.row V.row S.row A.row S.Hasher.row
+            A.Allocator self.entry (entry_values_mut_name result.1)) }
+        ensures key { item_at self.old.map.now.slots.keys place ≡ Some result.0.now }
+        ensures ready { EntryValuesMutCanStep result.1 }
+        ensures values { (k : K) → HasKey K.eq self.old.map.now.slots.keys k place
+            → entry_values_mut_rest result.1 ≡ values_of K.eq self.old.map.now.lists.pairs k }
+    {
+        self.map.key_values_mut_at(place)
     }
 
     /// How many keys are left, as the least and as the greatest number.
