@@ -1,22 +1,23 @@
 //! `pairs_mut`, and the calls of its walk.
-ghost use Rattle.std.specs.Prelude.{◌≡◌, length, Some, IfSome, option_map};
+ghost use Rattle.std.specs.Prelude.{◌≡◌, length, Some, IfSome, IfNone, OnSome, option_map};
+ghost use Rattle.std.specs.Prelude.{option_and_then};
 ghost use Rattle.std.specs.Borrow.{sem};
-ghost use Rattle.std.specs.Map.Iter.{TakesFirst, TakesLast};
 ghost use Rattle.multimap_slots.specs.Lists.{IsIn};
 ghost use Rattle.multimap_slots.specs.Slots.{item_at};
-ghost use Rattle.multimap_walks.specs.Along.{AreLeft, items_left, places_left};
+ghost use Rattle.multimap_walks.specs.Along.{AreLeft, items_left};
 ghost use Rattle.multimap_walks.specs.KeyWalk.{key_values_at};
-ghost use Rattle.multimap_walks.specs.Walk.{end_item};
-ghost use Rattle.multimap_walks.specs.WritingWalk.{entry_values_mut_name, entry_values_mut_rest, EntryValuesMutCanStep};
+ghost use Rattle.multimap_walks.specs.Walk.{end_item, end_rest};
+ghost use Rattle.multimap_walks.specs.WritingWalk.{entry_values_mut_name, entry_values_mut_rest};
+ghost use Rattle.multimap_walks.specs.WritingWalk.{EntryValuesMutCanStep};
 ghost use Rattle.multimap_walks.specs.declared.End.TheVariants.{Front, Back};
-ghost use Rattle.ordered_multimap.specs.KeysLeft.{keys_left};
 ghost use Rattle.ordered_multimap.specs.Agrees.{HasKey};
+ghost use Rattle.ordered_multimap.specs.KeysLeft.{keys_left};
 ghost use Rattle.ordered_multimap.specs.Pairs.{values_of};
-ghost use Rattle.ordered_multimap.specs.WalkLends.{lends_values_to_walk};
+ghost use Rattle.ordered_multimap.specs.WalkLends.{lends_key_values, lends_values_to_walk};
 
 use super::KeyValuesMut;
 use crate::list_ordered_multimap::ListOrderedMultimap;
-use multimap_walks::{ChainEnds, EntryValuesMut, KeyValues, Ordered, take_first, take_last};
+use multimap_walks::{ChainEnds, End, EntryValuesMut, KeyValues, Ordered, take_first, take_last};
 use std::alloc::Allocator;
 use std::fmt;
 use std::hash::{BuildHasher, Hash};
@@ -38,28 +39,24 @@ impl<K: Eq + Hash, V, S: BuildHasher, A: Allocator> ListOrderedMultimap<K, V, S,
         KeyValuesMut { map: self, left }
     }
 
-    /// Takes the first of the places that are left of the keys.
-    fn take_first_key(&self, left: &mut ChainEnds) -> Option<usize>
+    /// Takes the place at an end from those that are left of the keys.
+    fn take_key(&self, end: End, left: &mut ChainEnds) -> Option<usize>
         requires { AreLeft self.now.slots.keys.order left.old }
         ensures are_left { AreLeft self.now.slots.keys.order left.new }
         ensures listed { IfSome result (λ place. IsIn place self.now.slots.keys.order) }
-        ensures taken { TakesFirst (λ place. place)
-            (places_left self.now.slots.keys.order left.old) result
-            (places_left self.now.slots.keys.order left.new) }
+        ensures key { option_and_then (item_at self.now.slots.keys) result
+            ≡ end_item end (items_left self.now.slots.keys.order (item_at self.now.slots.keys)
+            left.old) }
+        ensures rest { items_left self.now.slots.keys.order (item_at self.now.slots.keys) left.new
+            ≡ end_rest end (items_left self.now.slots.keys.order (item_at self.now.slots.keys)
+            left.old) }
     {
-        take_first(&self.keys, left)
-    }
-
-    /// Takes the last of the places that are left of the keys.
-    fn take_last_key(&self, left: &mut ChainEnds) -> Option<usize>
-        requires { AreLeft self.now.slots.keys.order left.old }
-        ensures are_left { AreLeft self.now.slots.keys.order left.new }
-        ensures listed { IfSome result (λ place. IsIn place self.now.slots.keys.order) }
-        ensures taken { TakesLast (λ place. place)
-            (places_left self.now.slots.keys.order left.old) result
-            (places_left self.now.slots.keys.order left.new) }
-    {
-        take_last(&self.keys, left)
+        // The length tells the proof that the list of keys is sound.
+        let _keys = self.keys.len();
+        match end {
+            End::Front => take_first(&self.keys, left),
+            End::Back => take_last(&self.keys, left),
+        }
     }
 
     /// How many keys there are from one place to another.
@@ -87,38 +84,27 @@ impl<'map, K: Eq + Hash, V, S: BuildHasher, A: Allocator> KeyValuesMut<'map, K, 
     /// The next key from the front, with a walk over its values. The next call may follow once that
     /// walk has ended.
     pub fn next(&mut self) -> Option<(&K, EntryValuesMut<'_, K, V, A>)>
+        ensures* writes_back { sem 𝓛 (lends_key_values K.row V.row S.row A.row S.Hasher.row
+            A.Allocator Front self.entry result) }
         ensures key { option_map (λ r. r.0.now) result ≡ end_item Front (keys_left self.old) }
         ensures values { IfSome result (λ r. entry_values_mut_rest r.1
             ≡ values_of K.eq self.old.map.now.lists.pairs r.0.now) }
         ensures ready { IfSome result (λ r. EntryValuesMutCanStep r.1) }
     {
-        let place = self.map.take_first_key(&mut self.left)?;
-        Some(self.map.key_values_mut_at(place))
+        self.step_mut(End::Front)
     }
 
     /// The next key from the back, with a walk over its values. The next call may follow once that
     /// walk has ended.
     pub fn next_back(&mut self) -> Option<(&K, EntryValuesMut<'_, K, V, A>)>
+        ensures* writes_back { sem 𝓛 (lends_key_values K.row V.row S.row A.row S.Hasher.row
+            A.Allocator Back self.entry result) }
         ensures key { option_map (λ r. r.0.now) result ≡ end_item Back (keys_left self.old) }
         ensures values { IfSome result (λ r. entry_values_mut_rest r.1
             ≡ values_of K.eq self.old.map.now.lists.pairs r.0.now) }
         ensures ready { IfSome result (λ r. EntryValuesMutCanStep r.1) }
     {
-        let place = self.map.take_last_key(&mut self.left)?;
-        Some(self.map.key_values_mut_at(place))
-    }
-
-    /// The key at the place, with a walk over its values.
-    fn lend_at(&mut self, place: usize) -> (&K, EntryValuesMut<'_, K, V, A>)
-        requires { IsIn place self.old.map.now.slots.keys.order }
-        ensures* writes_back { sem 𝓛 (lends_values_to_walk K.row V.row S.row A.row S.Hasher.row
-            A.Allocator self.entry (entry_values_mut_name result.1)) }
-        ensures key { item_at self.old.map.now.slots.keys place ≡ Some result.0.now }
-        ensures ready { EntryValuesMutCanStep result.1 }
-        ensures values { (k : K) → HasKey K.eq self.old.map.now.slots.keys k place
-            → entry_values_mut_rest result.1 ≡ values_of K.eq self.old.map.now.lists.pairs k }
-    {
-        self.map.key_values_mut_at(place)
+        self.step_mut(End::Back)
     }
 
     /// How many keys are left, as the least and as the greatest number.
@@ -137,6 +123,54 @@ impl<'map, K: Eq + Hash, V, S: BuildHasher, A: Allocator> KeyValuesMut<'map, K, 
             self.now.left }
     {
         self.map.key_values_between(self.left)
+    }
+
+    /// Takes the place of the key at the end, if one is left, and hands the walk back.
+    fn step(&mut self, end: End) -> (Option<usize>, &mut Self)
+        ensures same { result.1.ghost_name ≡ self.entry.ghost_name }
+        ensures map { result.1.now.map ≡ self.old.map }
+        ensures listed { IfSome result.0 (λ place. IsIn place self.old.map.now.slots.keys.order) }
+        ensures key { option_and_then (item_at self.old.map.now.slots.keys) result.0
+            ≡ end_item end (keys_left self.old) }
+        ensures rest { OnSome result.0
+            (keys_left result.1.now ≡ end_rest end (keys_left self.old)) }
+        ensures none { IfNone result.0 (result.1.now ≡ self.old) }
+    {
+        let mut left = self.left;
+        let place = self.map.take_key(end, &mut left);
+        if place.is_some() {
+            self.left = left;
+        }
+        (place, self)
+    }
+
+    /// The key at the place, with a walk over its values.
+    fn lend_at(&mut self, place: usize) -> (&K, EntryValuesMut<'_, K, V, A>)
+        requires { IsIn place self.old.map.now.slots.keys.order }
+        ensures* writes_back { sem 𝓛 (lends_values_to_walk K.row V.row S.row A.row S.Hasher.row
+            A.Allocator self.entry (entry_values_mut_name result.1)) }
+        ensures key { item_at self.old.map.now.slots.keys place ≡ Some result.0.now }
+        ensures ready { EntryValuesMutCanStep result.1 }
+        ensures values { (k : K) → HasKey K.eq self.old.map.now.slots.keys k place
+            → entry_values_mut_rest result.1 ≡ values_of K.eq self.old.map.now.lists.pairs k }
+    {
+        self.map.key_values_mut_at(place)
+    }
+
+    /// The key at the end, with a walk over its values, if one is left.
+    fn step_mut(&mut self, end: End) -> Option<(&K, EntryValuesMut<'_, K, V, A>)>
+        ensures* writes_back { sem 𝓛 (lends_key_values K.row V.row S.row A.row S.Hasher.row
+            A.Allocator end self.entry result) }
+        ensures key { option_map (λ r. r.0.now) result ≡ end_item end (keys_left self.old) }
+        ensures values { IfSome result (λ r. entry_values_mut_rest r.1
+            ≡ values_of K.eq self.old.map.now.lists.pairs r.0.now) }
+        ensures ready { IfSome result (λ r. EntryValuesMutCanStep r.1) }
+    {
+        let (place, walk) = self.step(end);
+        match place {
+            Some(place) => Some(walk.lend_at(place)),
+            None => None,
+        }
     }
 }
 

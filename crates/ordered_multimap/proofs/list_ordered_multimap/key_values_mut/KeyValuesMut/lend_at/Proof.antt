@@ -3,9 +3,9 @@ use mathlib.Core.Path.{◌≡◌, refl, sym, ap}
 use Prim.Native.Nat.{ℕ, ◌+◌}
 use native.Mathlib.Omega.{arith}
 use mathlib.Core.List.{List, [], ◌∷◌}
-use mir.Syntax.{Ty, named, erased, mut, ty_int, ty_ref, w64, a_type, dcons, dnil}
+use mir.Syntax.{Ty, named, erased, mut, ty_ref, w64, a_type, dcons, dnil}
 use mir.MapTy.{inst_fn}
-use mir.Val.{Val, vptr, vint}
+use mir.Val.{Val, vptr}
 use base.Logic.{SProp, ent, sep, emp, id⊢, guard_i}
 use base.Share
 use base.Fraction.{full_share}
@@ -13,12 +13,12 @@ use base.Fml.{Lft, GName, Fml, ftrue, fsep, fat, flft, fobs, fbor, flent}
 use ghost.Rules.{aged}
 use prog.Memory.{size, align, up}
 use types.Logic.{sem}
-use types.Kit.{‵, raw, ◌⊛◌, some, later, given, ◌$◌, ◌∵◌, !, qed, by, move, keep, drop, group, learn, use0, use1, use2, split, split3, join, fsplit, fsplit3, fjoin, fjoin3, feq_i, feq_l, rewrite, pick, await, suffices, frame, done}
+use types.Kit.{‵, raw, ◌⊛◌, some, later, given, ◌$◌, ◌∵◌, !, qed, by, move, keep, drop, group, learn, use0, use1, use2, split, split3, join, fsplit, fsplit3, fjoin, fjoin3, feq_i, feq_l, rewrite, pick, await, done}
 use types.Late.{deep, ages, aged_up, bor_new_deep}
 use types.Mut.{open_ref}
 use types.SemTy.{SemTy, Body}
 use types.Through.{lends_late}
-use types.Run.{stop, fld, hop, look, load, of_opd, addr, no_more, and_then, returns, enter, well_typed}
+use types.Run.{stop, fld, hop, look, addr, no_more, and_then, returns, enter}
 use types.ByLocal.{alloc_all, pass_all, free_all, look_at, get, sets, lands_as, through}
 use contract.Running.{tables}
 use contract.Monad.{fact, fact_i}
