@@ -15,8 +15,7 @@ use Rattle.multimap_walks.specs.declared.writing.chain.EntryValuesMut.{EntryValu
 use Rattle.ordered_multimap.specs.KeysLeft.{keys_left}
 use Rattle.ordered_multimap.specs.Multimap.{Multimap}
 use Rattle.ordered_multimap.specs.ValuesLent.{with_values_of}
-use Rattle.ordered_multimap.specs.contracts.list_ordered_multimap.key_values_mut as rows
-use rows.KeyValuesMut.{the_row}
+use Rattle.ordered_multimap.specs.contracts.list_ordered_multimap.key_values_mut.KeyValuesMut as row
 use Rattle.ordered_multimap.specs.declared.list_ordered_multimap.key_values_mut as walks
 use walks.KeyValuesMut.{KeyValuesMut}
 
@@ -45,7 +44,7 @@ module _ (K V S A H : RattleType) where
       → builder.Ghosts S.Denot H.Denot → hasher.Ghosts H.Denot → allocator.Ghosts A.Denot
       → RattleType
   walk_row e k b h alloc =
-      the_row (record { mir = named 1; lft = [] }) K V S A H e k b h alloc
+      row.the_row (record { mir = named 1; lft = [] }) K V S A H e k b h alloc
 
 module _ (K V S A H : RattleType) {e : equality.Ghosts K.Denot} {k : hash.Ghosts K.Denot}
     {b : builder.Ghosts S.Denot H.Denot} {h : hasher.Ghosts H.Denot}
