@@ -1,12 +1,14 @@
 //! The workloads on the standard library's map, with a vector of values for each key.
 mod queues;
 mod small;
+mod writing;
 
 use crate::numbers::{START, choice, key, mix, spread, value};
 pub use queues::{fifo_churn, fifo_churn_few, fifo_small};
 pub use small::small_maps;
 use std::collections::HashMap;
 use std::hash::BuildHasher;
+pub use writing::{get_all_mut_walk, iter_mut_all};
 
 /// A multimap as one would write it with the standard library.
 #[derive(Clone)]
@@ -284,33 +286,4 @@ pub fn entry_count<S: BuildHasher + Default>(n: u64, seed: u64) -> u64 {
         checksum = mix(checksum, *count);
     }
     mix(mix(checksum, counts.len() as u64), counts.len() as u64)
-}
-
-/// The sum of all pairs, each as key ^ value.
-fn sum_of_pairs<S>(map: &Multimap<S>) -> u64 {
-    let pairs = map.keys.iter();
-    let words = pairs.flat_map(|(key, values)| values.iter().map(move |value| key ^ value));
-    words.fold(0, u64::wrapping_add)
-}
-
-pub fn iter_mut_all<S: BuildHasher + Default>(n: u64, seed: u64) -> u64 {
-    let Filled { mut map, checksum } = scattered::<S>(n, seed);
-    for _ in 0..16 {
-        for (key, values) in &mut map.keys {
-            for value in values {
-                *value = value.wrapping_add(*key);
-            }
-        }
-    }
-    mix(checksum, sum_of_pairs(&map))
-}
-
-pub fn get_all_mut_walk<S: BuildHasher + Default>(n: u64, seed: u64) -> u64 {
-    let Filled { mut map, checksum } = grouped::<S>(n, seed);
-    for j in 0..n / 2 {
-        for value in map.get_all_mut(key(seed, choice(seed, j, n / 8))) {
-            *value = value.wrapping_add(j);
-        }
-    }
-    mix(checksum, sum_of_pairs(&map))
 }
