@@ -1,5 +1,5 @@
 //! Keys that leave with a drain of their values: what stays, whatever becomes of the drain.
-use crate::drain_steps::{expect_hint, number_of};
+use crate::drain_steps::{expect_hint, expect_next, expect_next_back, number_of};
 use ordered_multimap::ListOrderedMultimap;
 use ordered_multimap::list_ordered_multimap::{DefaultState, EntryValuesDrain};
 use ordered_multimap_tests::calls::{
@@ -190,6 +190,50 @@ fn a_forgotten_drain_leaves_the_same_pairs(rt: HostRuntime) -> Result<(), Failed
         &test,
         &mut ListOrderedMultimap::new(alloc),
     );
+    test.end()
+}
+
+fn both_are_given(test: &Test, drain: &mut EntryValuesDrain<'_, usize, usize, DefaultState>) {
+    expect_hint(test, drain, 2);
+    expect_next(test, drain, Some(5));
+    expect_next(test, drain, Some(6));
+    expect_next(test, drain, None);
+}
+
+fn an_entry_is_read(test: &Test, map: &mut ListOrderedMultimap<usize, usize>) {
+    test.expect("no entry", map.remove_entry_all(&1).is_none());
+    expect_append(test, map, (1, 5), false);
+    expect_append(test, map, (1, 6), true);
+    match map.remove_entry_all(&1) {
+        Some((key, mut drain)) => {
+            test.expect("the stored key", key == 1);
+            both_are_given(test, &mut drain);
+        }
+        None => test.expect("remove_entry_all", false),
+    }
+    test.expect("it has gone", map.remove_entry_all(&1).is_none());
+}
+
+fn nothing_is_given(test: &Test, drain: &mut EntryValuesDrain<'_, usize, usize, DefaultState>) {
+    expect_hint(test, drain, 0);
+    expect_next_back(test, drain, None);
+    expect_next(test, drain, None);
+}
+
+fn values_are_read(test: &Test, map: &mut ListOrderedMultimap<usize, usize>) {
+    nothing_is_given(test, &mut map.remove_all(&1));
+    expect_append(test, map, (1, 5), false);
+    expect_append(test, map, (1, 6), true);
+    both_are_given(test, &mut map.remove_all(&1));
+    nothing_is_given(test, &mut map.remove_all(&1));
+    expect_lengths(test, map, 0, 0);
+}
+
+#[test]
+fn removed_values_are_read(rt: HostRuntime) -> Result<(), Failed> {
+    let test = Test::new(rt.alloc());
+    an_entry_is_read(&test, &mut ListOrderedMultimap::new(test.alloc()));
+    values_are_read(&test, &mut ListOrderedMultimap::new(test.alloc()));
     test.end()
 }
 

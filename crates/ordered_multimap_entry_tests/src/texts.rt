@@ -111,7 +111,10 @@ fn entries_are_modified(rt: HostRuntime) -> Result<(), Failed> {
     test.end()
 }
 
-const OCCUPIED: &str = r#"OccupiedEntry { key: "key", values: EntryValues(["value1", "value2"]) }"#;
+const OCCUPIED: &str = concat!(
+    r#"OccupiedEntry { key: "key", "#,
+    r#"values: EntryValues(["value1", "value2", "value3", "value4"]) }"#
+);
 
 const VACANT: &str = r#"VacantEntry("key")"#;
 
@@ -131,7 +134,9 @@ fn an_entry_is_shown(test: &Test, map: &mut Texts, wanted: &str) {
 fn entries_are_shown_as(test: &Test, map: &mut Texts) {
     an_entry_is_shown(test, map, VACANT);
     test.expect("insert", map.insert("key", "value1") == Ok(None));
-    test.expect("append", map.append("key", "value2") == Ok(true));
+    for value in &["value2", "value3", "value4"] {
+        test.expect("append", map.append("key", *value) == Ok(true));
+    }
     an_entry_is_shown(test, map, OCCUPIED);
 }
 

@@ -11,6 +11,8 @@ mod pack;
 #[cfg(test)]
 mod packed_memory;
 #[cfg(test)]
+mod refused_pairs;
+#[cfg(test)]
 mod reserve;
 #[cfg(test)]
 mod wishful;
