@@ -1,4 +1,5 @@
 //! The walk that takes a map apart, from both ends.
+use ordered_multimap::ListOrderedMultimap;
 use ordered_multimap::list_ordered_multimap::{IntoIter, UnclonedKey};
 use ordered_multimap_tests::maps::{MIXED, Numbers, map_of};
 use test_helpers::{End, Failed, Test, expect_text, is_compared, is_shown, walk_difference};
@@ -52,16 +53,23 @@ fn taken(walk: &mut IntoIter<u32, u32>, end: End) -> Option<(u32, u32)> {
     }
 }
 
+fn has_left(walk: &IntoIter<u32, u32>, left: usize) -> bool {
+    walk.size_hint() == (left, Some(left)) && walk.len() == left
+}
+
+// A walk that has ended stays so.
 fn expect_end(test: &Test, walk: &mut IntoIter<u32, u32>) {
-    test.expect("no pair is left", walk.size_hint() == (0, Some(0)));
-    test.expect("the end", walk.next().is_none());
-    test.expect("the end at the back", walk.next_back().is_none());
+    for _ in 0..3 {
+        test.expect("no pair is left", has_left(walk, 0));
+        test.expect("the end", walk.next().is_none());
+        test.expect("the end at the back", walk.next_back().is_none());
+    }
 }
 
 fn walk_answers(test: &Test, walk: &mut IntoIter<u32, u32>, row: &PairWalk) {
     let mut left = row.steps.len();
     for (end, pair) in row.steps {
-        test.expect("len", walk.len() == left);
+        test.expect("what is left", has_left(walk, left));
         test.expect(row.name, taken(walk, *end) == Some(*pair));
         left = left.saturating_sub(1);
     }
@@ -100,20 +108,41 @@ fn what_is_left_is_walked(rt: HostRuntime) -> Result<(), Failed> {
     test.end()
 }
 
-fn pairs_are_shown(test: &Test, walk: &mut IntoIter<u32, u32>) {
-    let all = format!(in test.alloc(); "{walk:?}");
-    let wanted = "IntoIter([(1, 11), (2, 12), (2, 13), (1, 14)])";
-    expect_text(test, "all pairs", all, wanted);
-    test.expect("the first", taken(walk, End::Front).is_some());
-    let left = format!(in test.alloc(); "{walk:?}");
-    let wanted = "IntoIter([(2, 12), (2, 13), (1, 14)])";
-    expect_text(test, "what is left", left, wanted);
+type Texts = ListOrderedMultimap<&'static str, &'static str>;
+
+fn expect_shown(
+    test: &Test,
+    name: &'static str,
+    walk: &IntoIter<&'static str, &'static str>,
+    wanted: &'static str,
+) {
+    expect_text(test, name, format!(in test.alloc(); "{walk:?}"), wanted);
+}
+
+fn pairs_are_shown(test: &Test, walk: &mut IntoIter<&'static str, &'static str>) {
+    let all = r#"IntoIter([("key1", "value1"), ("key2", "value2"), ("key1", "value4")])"#;
+    expect_shown(test, "all pairs", walk, all);
+    test.expect("the first", matches!(walk.next(), Some(Ok(_))));
+    let left = r#"IntoIter([("key2", "value2"), ("key1", "value4")])"#;
+    expect_shown(test, "what is left", walk, left);
+}
+
+fn fill_texts(test: &Test, map: &mut Texts) {
+    test.expect("append", map.append("key1", "value1") == Ok(false));
+    test.expect("append", map.append("key2", "value2") == Ok(false));
+    test.expect("append", map.append("key1", "value4") == Ok(true));
+}
+
+fn a_map_is_shown(test: &Test, map: Texts) {
+    pairs_are_shown(test, &mut map.into_iter());
 }
 
 #[test]
 fn a_map_that_is_taken_apart_is_shown(rt: HostRuntime) -> Result<(), Failed> {
     let test = Test::new(rt.alloc());
-    pairs_are_shown(&test, &mut map_of(&test, MIXED).into_iter());
+    let mut map = ListOrderedMultimap::new(test.alloc());
+    fill_texts(&test, &mut map);
+    a_map_is_shown(&test, map);
     test.end()
 }
 

@@ -88,17 +88,28 @@ fn step_answers(walk: &mut KeyValues<'_, u32, u32>, step: &KeyStep) -> bool {
     }
 }
 
-// Each step tells how many keys are left, and a walk that has ended stays so.
+fn has_left(walk: &KeyValues<'_, u32, u32>, left: usize) -> bool {
+    walk.size_hint() == (left, Some(left)) && walk.len() == left
+}
+
+// A walk that has ended stays so.
+fn expect_end(test: &Test, walk: &mut KeyValues<'_, u32, u32>) {
+    for _ in 0..3 {
+        test.expect("no key is left", has_left(walk, 0));
+        test.expect("the end", walk.next().is_none());
+        test.expect("the end at the back", walk.next_back().is_none());
+    }
+}
+
+// Each step tells how many keys are left.
 fn walk_answers(test: &Test, walk: &mut KeyValues<'_, u32, u32>, row: &KeyWalk) {
     let mut left = row.steps.len();
     for step in row.steps {
-        test.expect("len", walk.len() == left);
+        test.expect("what is left", has_left(walk, left));
         test.expect(row.name, step_answers(walk, step));
         left = left.saturating_sub(1);
     }
-    test.expect("no key is left", walk.size_hint() == (0, Some(0)));
-    test.expect("the end", walk.next().is_none());
-    test.expect("the end at the back", walk.next_back().is_none());
+    expect_end(test, walk);
 }
 
 fn key_walk_answers(test: &Test, map: &Numbers, row: &KeyWalk) {
@@ -140,12 +151,17 @@ fn a_clone_of_pairs_goes_on_where_they_are(rt: HostRuntime) -> Result<(), Failed
     test.end()
 }
 
-fn texts_are_shown(test: &Test, map: &mut ListOrderedMultimap<&'static str, u32>) {
-    test.expect("append", map.append("key1", 1) == Ok(false));
-    test.expect("append", map.append("key2", 2) == Ok(false));
-    test.expect("append", map.append("key1", 3) == Ok(true));
+type Texts = ListOrderedMultimap<&'static str, &'static str>;
+
+fn texts_are_shown(test: &Test, map: &mut Texts) {
+    test.expect("append", map.append("key1", "value1") == Ok(false));
+    test.expect("append", map.append("key2", "value2") == Ok(false));
+    test.expect("append", map.append("key1", "value4") == Ok(true));
     let all = format!(in test.alloc(); "{:?}", map.pairs());
-    let wanted = "KeyValues([(\"key1\", EntryValues([1, 3])), (\"key2\", EntryValues([2]))])";
+    let wanted = concat!(
+        r#"KeyValues([("key1", EntryValues(["value1", "value4"])), "#,
+        r#"("key2", EntryValues(["value2"]))])"#
+    );
     expect_text(test, "all keys", all, wanted);
 }
 
