@@ -1,7 +1,8 @@
 //! Callers of the walks for writing that are proved for every key and value type: each but
-//! `fill_first_key` knows afterwards that keys, order and lengths stay. Which values a walk left no
-//! caller knows, and of a step of `pairs_mut` none knows what it leaves.
+//! `fill_first_key` knows afterwards that keys, order, lengths and the key of each pair stay. Which
+//! values a walk left no caller knows, and of a step of `pairs_mut` none knows what it leaves.
 ghost use Rattle.std.specs.Prelude.{◌≡◌, length};
+ghost use Rattle.std.specs.Map.{keys_of};
 
 use ordered_multimap::ListOrderedMultimap;
 use std::alloc::Allocator;
@@ -15,6 +16,7 @@ pub fn fill_all<K: Eq + Hash, V: Copy, S: BuildHasher, A: Allocator>(
 )
     ensures keys { map.new.lists.keys ≡ map.old.lists.keys }
     ensures pairs { length map.new.lists.pairs ≡ length map.old.lists.pairs }
+    ensures pair_keys { keys_of map.new.lists.pairs ≡ keys_of map.old.lists.pairs }
     ensures key_room { map.new.key_room ≡ map.old.key_room }
     ensures value_room { map.new.value_room ≡ map.old.value_room }
     ensures tape { map.new.tape ≡ map.old.tape }
@@ -31,6 +33,7 @@ pub fn fill_values<K: Eq + Hash, V: Copy, S: BuildHasher, A: Allocator>(
 )
     ensures keys { map.new.lists.keys ≡ map.old.lists.keys }
     ensures pairs { length map.new.lists.pairs ≡ length map.old.lists.pairs }
+    ensures pair_keys { keys_of map.new.lists.pairs ≡ keys_of map.old.lists.pairs }
 {
     for slot in map.values_mut() {
         *slot = value;
@@ -45,6 +48,7 @@ pub fn fill_key<K: Eq + Hash, V: Copy, S: BuildHasher, A: Allocator>(
 )
     ensures keys { map.new.lists.keys ≡ map.old.lists.keys }
     ensures pairs { length map.new.lists.pairs ≡ length map.old.lists.pairs }
+    ensures pair_keys { keys_of map.new.lists.pairs ≡ keys_of map.old.lists.pairs }
 {
     for slot in map.get_all_mut(key) {
         *slot = value;
@@ -59,6 +63,7 @@ pub fn fill_ends<K: Eq + Hash, V: Copy, S: BuildHasher, A: Allocator>(
 )
     ensures keys { map.new.lists.keys ≡ map.old.lists.keys }
     ensures pairs { length map.new.lists.pairs ≡ length map.old.lists.pairs }
+    ensures pair_keys { keys_of map.new.lists.pairs ≡ keys_of map.old.lists.pairs }
 {
     let mut walk = map.iter_mut();
     let last = walk.next_back();
@@ -78,6 +83,7 @@ pub fn fill_by_reference<K: Eq + Hash, V: Copy, S: BuildHasher, A: Allocator>(
 )
     ensures keys { map.new.lists.keys ≡ map.old.lists.keys }
     ensures pairs { length map.new.lists.pairs ≡ length map.old.lists.pairs }
+    ensures pair_keys { keys_of map.new.lists.pairs ≡ keys_of map.old.lists.pairs }
 {
     for (_, slot) in map {
         *slot = value;

@@ -14,4 +14,8 @@ mod rest;
 #[cfg(test)]
 mod shown;
 #[cfg(test)]
+mod steps;
+#[cfg(test)]
+mod unread;
+#[cfg(test)]
 mod walks;

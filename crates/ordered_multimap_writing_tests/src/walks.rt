@@ -1,26 +1,48 @@
 //! Walks over all pairs, all values and one key's values for writing, from both ends, and what they
 //! leave.
-ghost use Rattle.std.specs.Prelude.{◌≡◌};
-ghost use Rattle.ordered_multimap.specs.WritingWalk.{EntryValuesMutCanStep, IterMutCanStep, ValuesMutCanStep};
-
 use crate::callers::{
     fill_all, fill_by_reference, fill_ends, fill_first_key, fill_key, fill_values,
 };
-use ordered_multimap::list_ordered_multimap::{EntryValuesMut, IterMut, ValuesMut};
+use crate::steps::{PairStep, Step, expect_values, key_walk, pair_walk, value_walk};
+use ordered_multimap::list_ordered_multimap::EntryValuesMut;
 use ordered_multimap_tests::maps::{MIXED, Numbers, fill, map_of};
 use test_helpers::{End, Failed, Test, walk_difference};
 
-/// An end, and the number that the step lends there: the key's and the value's, or the value's.
-type Step = (End, Option<u32>);
-
 /// From both ends, and past the end.
-const FOUR: &[Step] = &[
+const PAIRS: &[PairStep] = &[
+    (End::Front, Some((1, 11))),
+    (End::Back, Some((1, 14))),
+    (End::Front, Some((2, 12))),
+    (End::Back, Some((2, 13))),
+    (End::Front, None),
+    (End::Back, None),
+    (End::Front, None),
+];
+
+const VALUES: &[Step] = &[
     (End::Front, Some(11)),
     (End::Back, Some(14)),
     (End::Front, Some(12)),
     (End::Back, Some(13)),
     (End::Front, None),
     (End::Back, None),
+    (End::Front, None),
+];
+
+/// From the front alone, to the end.
+const PAIRS_FORTH: &[PairStep] = &[
+    (End::Front, Some((1, 11))),
+    (End::Front, Some((2, 12))),
+    (End::Front, Some((2, 13))),
+    (End::Front, Some((1, 14))),
+    (End::Front, None),
+];
+
+const VALUES_FORTH: &[Step] = &[
+    (End::Front, Some(11)),
+    (End::Front, Some(12)),
+    (End::Front, Some(13)),
+    (End::Front, Some(14)),
     (End::Front, None),
 ];
 
@@ -32,166 +54,56 @@ const OUTER: &[Step] = &[
     (End::Front, None),
 ];
 
-const NONE: &[Step] = &[(End::Back, None), (End::Front, None)];
+const NO_PAIR: &[PairStep] = &[(End::Back, None), (End::Front, None)];
 
-/// Whether both tellings of how many items are left are this number.
-fn has_left<W: ExactSizeIterator>(walk: &W, left: usize) -> bool {
-    walk.size_hint() == (left, Some(left)) && walk.len() == left
-}
+const NO_VALUE: &[Step] = &[(End::Back, None), (End::Front, None)];
 
-/// Adds 100 to a value, and answers what it was.
-fn raise(value: &mut u32) -> u32 {
-    let was = *value;
-    *value = was.saturating_add(100);
-    was
-}
+/// One pair, and past the end from either side.
+const ONE_PAIR: &[PairStep] = &[
+    (End::Front, Some((1, 11))),
+    (End::Front, None),
+    (End::Back, None),
+    (End::Front, None),
+    (End::Back, None),
+    (End::Front, None),
+];
 
-/// Raises the value of the pair at an end, and answers what it was. A key is the one that the map
-/// has for values above 13 and below 12, or the other.
-fn take_pair(walk: &mut IterMut<'_, u32, u32>, end: End) -> Option<u32>
-    requires { IterMutCanStep walk.old }
-    ensures { IterMutCanStep walk.new }
-{
-    let pair = match end {
-        End::Front => walk.next(),
-        End::Back => walk.next_back(),
-    };
-    match pair {
-        Some((key, value)) => {
-            if (*key == 1) == (*value == 11 || *value == 14) {
-                Some(raise(value))
-            } else {
-                None
-            }
-        }
-        None => None,
-    }
-}
+const ONE_VALUE: &[Step] = &[
+    (End::Front, Some(11)),
+    (End::Front, None),
+    (End::Back, None),
+    (End::Front, None),
+    (End::Back, None),
+    (End::Front, None),
+];
 
-fn take_value(walk: &mut ValuesMut<'_, u32, u32>, end: End) -> Option<u32>
-    requires { ValuesMutCanStep walk.old }
-    ensures { ValuesMutCanStep walk.new }
-{
-    let value = match end {
-        End::Front => walk.next(),
-        End::Back => walk.next_back(),
-    };
-    match value {
-        Some(value) => Some(raise(value)),
-        None => None,
-    }
-}
-
-fn take_of_key(walk: &mut EntryValuesMut<'_, u32, u32>, end: End) -> Option<u32>
-    requires { EntryValuesMutCanStep walk.old }
-    ensures { EntryValuesMutCanStep walk.new }
-{
-    let value = match end {
-        End::Front => walk.next(),
-        End::Back => walk.next_back(),
-    };
-    match value {
-        Some(value) => Some(raise(value)),
-        None => None,
-    }
-}
-
-/// How many items a walk has left at first that gives these.
-fn items_of(steps: &[Step]) -> usize {
-    let mut items = 0usize;
-    for (_, item) in steps {
-        if item.is_some() {
-            items = items.saturating_add(1);
-        }
-    }
-    items
-}
-
-fn pairs_are_lent(test: &Test, walk: &mut IterMut<'_, u32, u32>, steps: &[Step])
-    requires { IterMutCanStep walk.old }
-{
-    let mut left = items_of(steps);
-    for (row, (end, item)) in steps.iter().enumerate() {
-        test.expect_at("left", row, has_left(walk, left));
-        test.expect_at("pair", row, take_pair(walk, *end) == *item);
-        left = left.saturating_sub(1);
-    }
-}
-
-fn values_are_lent(test: &Test, walk: &mut ValuesMut<'_, u32, u32>, steps: &[Step])
-    requires { ValuesMutCanStep walk.old }
-{
-    let mut left = items_of(steps);
-    for (row, (end, item)) in steps.iter().enumerate() {
-        test.expect_at("left", row, has_left(walk, left));
-        test.expect_at("value", row, take_value(walk, *end) == *item);
-        left = left.saturating_sub(1);
-    }
-}
-
-fn values_of_a_key_are_lent(test: &Test, walk: &mut EntryValuesMut<'_, u32, u32>, steps: &[Step])
-    requires { EntryValuesMutCanStep walk.old }
-{
-    let mut left = items_of(steps);
-    for (row, (end, item)) in steps.iter().enumerate() {
-        test.expect_at("left", row, has_left(walk, left));
-        test.expect_at("value", row, take_of_key(walk, *end) == *item);
-        left = left.saturating_sub(1);
-    }
-}
-
-fn pair_walk(test: &Test, map: &mut Numbers, steps: &[Step]) {
-    pairs_are_lent(test, &mut map.iter_mut(), steps);
-}
-
-fn value_walk(test: &Test, map: &mut Numbers, steps: &[Step]) {
-    values_are_lent(test, &mut map.values_mut(), steps);
-}
-
-fn key_walk(test: &Test, map: &mut Numbers, key: u32, steps: &[Step]) {
-    values_of_a_key_are_lent(test, &mut map.get_all_mut(&key), steps);
-}
-
-fn expect_values(test: &Test, map: &Numbers, wanted: [u32; 4]) {
-    let [first, second, third, fourth] = wanted;
-    let steps = [
-        (End::Front, (1, first)),
-        (End::Front, (2, second)),
-        (End::Front, (2, third)),
-        (End::Front, (1, fourth)),
-    ];
-    test.expect_same("pairs", walk_difference(&mut map.iter(), &steps));
-    let keys = [(End::Front, 1), (End::Front, 2)];
-    test.expect_same("keys", walk_difference(&mut map.keys(), &keys));
-}
-
-fn all_pairs(test: &Test, map: &mut Numbers) {
-    pair_walk(test, map, FOUR);
+fn all_pairs(test: &Test, map: &mut Numbers, steps: &[PairStep]) {
+    pair_walk(test, map, steps);
     expect_values(test, map, [111, 112, 113, 114]);
 }
 
-fn all_values(test: &Test, map: &mut Numbers) {
-    value_walk(test, map, FOUR);
+fn all_values(test: &Test, map: &mut Numbers, steps: &[Step]) {
+    value_walk(test, map, steps);
     expect_values(test, map, [111, 112, 113, 114]);
 }
 
 fn values_of_keys(test: &Test, map: &mut Numbers) {
     key_walk(test, map, 1, OUTER);
     expect_values(test, map, [111, 12, 13, 114]);
-    key_walk(test, map, 3, NONE);
+    key_walk(test, map, 3, NO_VALUE);
     expect_values(test, map, [111, 12, 13, 114]);
 }
 
-fn fill_again(test: &Test, map: &mut Numbers) {
+fn fill_again(test: &Test, map: &mut Numbers, pairs: &[(u32, u32)]) {
     map.clear();
-    fill(test, map, MIXED);
+    fill(test, map, pairs);
 }
 
 fn walks_lend(test: &Test, map: &mut Numbers) {
-    all_pairs(test, map);
-    fill_again(test, map);
-    all_values(test, map);
-    fill_again(test, map);
+    all_pairs(test, map, PAIRS);
+    fill_again(test, map, MIXED);
+    all_values(test, map, VALUES);
+    fill_again(test, map, MIXED);
     values_of_keys(test, map);
 }
 
@@ -202,10 +114,68 @@ fn each_value_is_lent_once_from_either_end(rt: HostRuntime) -> Result<(), Failed
     test.end()
 }
 
+fn walks_lend_forth(test: &Test, map: &mut Numbers) {
+    all_pairs(test, map, PAIRS_FORTH);
+    fill_again(test, map, MIXED);
+    all_values(test, map, VALUES_FORTH);
+}
+
+#[test]
+fn each_value_is_lent_once_from_the_front(rt: HostRuntime) -> Result<(), Failed> {
+    let test = Test::new(rt.alloc());
+    walks_lend_forth(&test, &mut map_of(&test, MIXED));
+    test.end()
+}
+
+const ONE_KEY: &[(u32, u32)] = &[(1, 11), (1, 12), (1, 13), (1, 14)];
+
+const ONE_KEY_RAISED: &[(End, (u32, u32))] = &[
+    (End::Front, (1, 111)),
+    (End::Front, (1, 112)),
+    (End::Front, (1, 113)),
+    (End::Front, (1, 114)),
+];
+
+fn values_of_one_key(test: &Test, map: &mut Numbers, steps: &[Step]) {
+    key_walk(test, map, 1, steps);
+    test.expect_same("pairs", walk_difference(&mut map.iter(), ONE_KEY_RAISED));
+}
+
+#[test]
+fn four_values_of_one_key_are_lent(rt: HostRuntime) -> Result<(), Failed> {
+    let test = Test::new(rt.alloc());
+    values_of_one_key(&test, &mut map_of(&test, ONE_KEY), VALUES);
+    values_of_one_key(&test, &mut map_of(&test, ONE_KEY), VALUES_FORTH);
+    test.end()
+}
+
+fn expect_raised(test: &Test, map: &Numbers) {
+    let steps = [(End::Front, (1, 111))];
+    test.expect_same("the pair", walk_difference(&mut map.iter(), &steps));
+}
+
+fn one_pair_is_lent(test: &Test, map: &mut Numbers) {
+    pair_walk(test, map, ONE_PAIR);
+    expect_raised(test, map);
+    fill_again(test, map, &[(1, 11)]);
+    value_walk(test, map, ONE_VALUE);
+    expect_raised(test, map);
+    fill_again(test, map, &[(1, 11)]);
+    key_walk(test, map, 1, ONE_VALUE);
+    expect_raised(test, map);
+}
+
+#[test]
+fn walks_over_one_pair_stay_at_their_end(rt: HostRuntime) -> Result<(), Failed> {
+    let test = Test::new(rt.alloc());
+    one_pair_is_lent(&test, &mut map_of(&test, &[(1, 11)]));
+    test.end()
+}
+
 fn empty_walks(test: &Test, map: &mut Numbers) {
-    pair_walk(test, map, NONE);
-    value_walk(test, map, NONE);
-    key_walk(test, map, 1, NONE);
+    pair_walk(test, map, NO_PAIR);
+    value_walk(test, map, NO_VALUE);
+    key_walk(test, map, 1, NO_VALUE);
     test.expect("values_len", map.values_len() == 0);
 }
 

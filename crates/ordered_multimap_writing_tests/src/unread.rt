@@ -1,0 +1,57 @@
+//! A key of `pairs_mut` whose values are written, and one whose walk isn't read.
+ghost use Rattle.ordered_multimap.specs.WritingWalk.{EntryValuesMutCanStep};
+
+use ordered_multimap::list_ordered_multimap::{EntryValuesMut, KeyValuesMut};
+use ordered_multimap_tests::maps::{Numbers, map_of};
+use test_helpers::{End, Failed, Test, walk_difference};
+
+type Keys<'a> = KeyValuesMut<'a, u32, u32>;
+
+/// Multiplies both values that the walk hands out by 10, and answers what they were.
+fn raise_two(values: &mut EntryValuesMut<'_, u32, u32>) -> Option<(u32, u32)>
+    requires { EntryValuesMutCanStep values.old }
+{
+    let first = values.next()?;
+    let last = values.next()?;
+    let were = (*first, *last);
+    *first = were.0.saturating_mul(10);
+    *last = were.1.saturating_mul(10);
+    Some(were)
+}
+
+fn the_first_key(keys: &mut Keys<'_>) -> Option<(u32, u32, u32)> {
+    let (key, mut values) = keys.next()?;
+    let key = *key;
+    let (first, last) = raise_two(&mut values)?;
+    Some((key, first, last))
+}
+
+fn the_last_key(keys: &mut Keys<'_>) -> Option<u32> {
+    let (key, _) = keys.next_back()?;
+    Some(*key)
+}
+
+fn steps_answer(test: &Test, keys: &mut Keys<'_>) {
+    test.expect("two", keys.size_hint() == (2, Some(2)));
+    test.expect("the first", the_first_key(keys) == Some((1, 1, 3)));
+    test.expect("the last", the_last_key(keys) == Some(2));
+    test.expect("the end", keys.next().is_none());
+}
+
+fn one_key_is_written(test: &Test, map: &mut Numbers) {
+    steps_answer(test, &mut map.pairs_mut());
+    let steps = [
+        (End::Front, (1, 10)),
+        (End::Front, (2, 2)),
+        (End::Front, (1, 30)),
+    ];
+    test.expect_same("pairs", walk_difference(&mut map.iter(), &steps));
+}
+
+#[test]
+fn a_key_that_is_not_read_keeps_its_values(rt: HostRuntime) -> Result<(), Failed> {
+    let test = Test::new(rt.alloc());
+    let pairs = [(1, 1), (2, 2), (1, 3)];
+    one_key_is_written(&test, &mut map_of(&test, &pairs));
+    test.end()
+}
