@@ -1,7 +1,7 @@
 //! Workloads of the map, as functions that a program in another language can call and time.
 //!
 //! Each is named for its workload: `bench_NAME` with the map's default hash builder, `benchfx_NAME`
-//! with the fast hasher of `fast.rt`. It is given a number of pairs, a multiple of 8, and a seed,
+//! with the fast hasher of `fast.rt`. It is given a number of pairs, a multiple of 16, and a seed,
 //! makes a map, and lets it go. The answer is a checksum of what the calls answered, which depends
 //! on no hasher, or 0 where memory was refused. Proved is that each is safe and returns. That it
 //! does the work that it is named for is tested: the checksums at 64 pairs stand in `tests.rt`.

@@ -76,7 +76,8 @@ impl<'a, T, L: Copy, A: Allocator> SlotCells<'a, T, L, A> {
     #[inline(always)]
     pub fn previous_place(&self, place: usize) -> Option<usize>
         requires left { IsLeft self.now place }
-        requires neighbour { IfSome (previous_of (lent_slots self.now).order place) (IsLeft self.now) }
+        requires neighbour { IfSome (previous_of (lent_slots self.now).order place)
+            (IsLeft self.now) }
         ensures { result ≡ previous_of (lent_slots self.now).order place }
     {
         self.order.previous(place)
@@ -89,14 +90,14 @@ impl<'a, T, L: Copy, A: Allocator> SlotCells<'a, T, L, A> {
         self.order.len()
     }
 
-    /// The place of the first item.
+    /// The place of the first item, or None where there is none.
     pub fn front_place(&self) -> Option<usize>
         ensures { result ≡ first_of (lent_slots self.now).order }
     {
         self.order.front()
     }
 
-    /// The place of the last item.
+    /// The place of the last item, or None where there is none.
     pub fn back_place(&self) -> Option<usize>
         ensures { result ≡ last_of (lent_slots self.now).order }
     {

@@ -84,7 +84,8 @@ fn answer_commands<A: Allocator + Copy>(
     commands: &[Command<u32, i64, A>],
 ) -> Result<Vec<u8, A>, AllocError>
     ensures { IfOk result (λ text. (replies : List (Reply ℕ ℤ A)) × (last : Lists ℕ ℤ)
-        × IsRun keeps_at_least nat_eq commands.now empty_lists replies last × (text.items ≡ text_of replies)) }
+        × IsRun keeps_at_least nat_eq commands.now empty_lists replies last
+        × (text.items ≡ text_of replies)) }
 {
     let replies = run_on_empty(alloc, memory, commands)?;
     format_replies(alloc, &replies)

@@ -30,10 +30,10 @@ use std::hash::{BuildHasher, Hash};
 /// the value of each of these commands and any key and value. The room for all
 /// replies is taken at the start: where it is refused, nothing was done. A command that finds no
 /// memory for itself is answered [`Reply::NoMemory`] and changes neither keys nor pairs. That no
-/// append, insert or or-insert is, where the map has room at the start for as many keys and values
-/// as there are commands, and none is a [`Command::PackToFit`], [`Command::Swap`] or
-/// [`Command::Json`]. Clones of keys and values must be the very keys and values, and different ones
-/// must have different JSON values.
+/// append, insert or or-insert is, where the map has room at the start for as many more keys and as
+/// many more values as there are commands, and none is a [`Command::PackToFit`], [`Command::Swap`]
+/// or [`Command::Json`]. Clones of keys and values must be the very keys and values, and different
+/// ones must have different JSON values. Each command costs what the map's call of its name does.
 pub fn run<
     K: JsonPart + Eq + Hash + Copy,
     V: JsonPart + Copy,

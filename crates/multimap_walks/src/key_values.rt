@@ -44,7 +44,8 @@ impl<'map, K, V, A: Allocator> Model for KeyValues<'map, K, V, A> {
 }
 
 impl<'map, K, V, A: Allocator> KeyValues<'map, K, V, A> {
-    /// The walk over all keys of two slot lists, whose links are chained.
+    /// The walk over all keys of a slot list of keys and a tape of values, whose links are chained.
+    /// No slot is read.
     pub fn new(keys: &'map SlotList<K, KeyLink, A>, values: &'map Tape<V, ValueLink, A>) -> Self
         requires { IsChained keys.now values.now.list }
         ensures keys { result

@@ -70,7 +70,8 @@ impl<T, L: Copy, A: Allocator> Ordered for Tape<T, L, A> {
     }
 }
 
-/// Takes the first of the places that are left of a list.
+/// Takes the first of the places that are left of a list, or answers None where none is left. It
+/// asks the list for a neighbour only where one is left behind. The time is constant.
 pub fn take_first<O: Ordered>(list: &O, left: &mut ChainEnds) -> Option<usize>
     requires { AreLeft (O.order list.now) left.old }
     ensures are_left { AreLeft (O.order list.now) left.new }
@@ -87,7 +88,8 @@ pub fn take_first<O: Ordered>(list: &O, left: &mut ChainEnds) -> Option<usize>
     Some(place)
 }
 
-/// Takes the last of the places that are left of a list.
+/// Takes the last of the places that are left of a list, or answers None where none is left. It
+/// asks the list for a neighbour only where one is left before. The time is constant.
 pub fn take_last<O: Ordered>(list: &O, left: &mut ChainEnds) -> Option<usize>
     requires { AreLeft (O.order list.now) left.old }
     ensures are_left { AreLeft (O.order list.now) left.new }

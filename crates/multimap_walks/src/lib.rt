@@ -1,5 +1,5 @@
-//! Walks over the keys and values of a multimap: its slot lists, and the links that chain each
-//! key's values.
+//! Walks over the keys and values of a multimap: a slot list and a tape, and the links that chain
+//! each key's values.
 #![tactic(auto)]
 
 mod chain;

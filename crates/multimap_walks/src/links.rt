@@ -1,4 +1,4 @@
-//! The links that stand beside keys and values in their slot lists.
+//! The links that stand beside keys in their slot list and values on their tape.
 
 /// The link of a key: its hash, and where its values stand.
 #[derive(Debug, PartialEq, Eq, Clone, Copy)]

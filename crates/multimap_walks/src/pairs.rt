@@ -36,7 +36,8 @@ impl<'map, K, V, A: Allocator> Model for Iter<'map, K, V, A> {
 }
 
 impl<'map, K, V, A: Allocator> Iter<'map, K, V, A> {
-    /// The walk over all pairs of two slot lists, where the key of each value is listed.
+    /// The walk over all pairs of a slot list of keys and a tape of values, where the key of each
+    /// value is listed. No slot is read.
     pub fn new(keys: &'map SlotList<K, KeyLink, A>, values: &'map Tape<V, ValueLink, A>) -> Self
         requires { AreOwned keys.now values.now.list }
         ensures pairs { result ≡ pairs_of keys.now values.now.list }

@@ -115,7 +115,8 @@ impl<K: Eq + Hash, V, S: BuildHasher, A: Allocator> Model for ListOrderedMultima
 }
 
 impl<K: Eq + Hash, V, A: Allocator + Copy> ListOrderedMultimap<K, V, DefaultState, A> {
-    /// An empty map with the default hash builder, which takes no memory.
+    /// An empty map with the default hash builder, which takes no memory. `alloc` gives its memory
+    /// later.
     ///
     /// ```
     /// ListOrderedMultimap::new(alloc)
@@ -128,9 +129,11 @@ impl<K: Eq + Hash, V, A: Allocator + Copy> ListOrderedMultimap<K, V, DefaultStat
     }
 
     /// An empty map with the default hash builder and room for at least `key_capacity` keys and
-    /// `value_capacity` values. Room for none takes no memory.
+    /// `value_capacity` values. Room for none takes no memory. `alloc` gives its memory, now and
+    /// later.
     ///
-    /// It writes each lane of the table, of which there are at least four for three keys.
+    /// A refusal is want of memory, or a capacity that no memory has. It writes each lane of the
+    /// table, of which there are at least four for three keys.
     ///
     /// ```
     /// ListOrderedMultimap::with_capacity(alloc, 2, 3)?
@@ -155,7 +158,7 @@ impl<K: Eq + Hash, V, A: Allocator + Copy> ListOrderedMultimap<K, V, DefaultStat
 }
 
 impl<K: Eq + Hash, V, S: BuildHasher, A: Allocator + Copy> ListOrderedMultimap<K, V, S, A> {
-    /// An empty map with this hash builder, which takes no memory.
+    /// An empty map with this hash builder, which takes no memory. `alloc` gives its memory later.
     ///
     /// ```
     /// ListOrderedMultimap::with_hasher(alloc, DefaultState::new())
@@ -175,9 +178,11 @@ impl<K: Eq + Hash, V, S: BuildHasher, A: Allocator + Copy> ListOrderedMultimap<K
     }
 
     /// An empty map with this hash builder and room for at least `key_capacity` keys and
-    /// `value_capacity` values. Room for none takes no memory.
+    /// `value_capacity` values. Room for none takes no memory. `alloc` gives its memory, now and
+    /// later.
     ///
-    /// It writes each lane of the table, of which there are at least four for three keys.
+    /// A refusal is want of memory, or a capacity that no memory has; the hash builder is dropped
+    /// then. It writes each lane of the table, of which there are at least four for three keys.
     ///
     /// ```
     /// ListOrderedMultimap::with_capacity_and_hasher(alloc, 2, 3, DefaultState::new())?

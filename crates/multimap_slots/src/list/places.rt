@@ -7,14 +7,14 @@ use super::SlotList;
 use std::alloc::Allocator;
 
 impl<T, L: Copy, A: Allocator> SlotList<T, L, A> {
-    /// The place of the first item.
+    /// The place of the first item, or None where there is none.
     pub fn front_place(&self) -> Option<usize>
         ensures { result ≡ first_of self.now.order }
     {
         self.order.front()
     }
 
-    /// The place of the last item.
+    /// The place of the last item, or None where there is none.
     pub fn back_place(&self) -> Option<usize>
         ensures { result ≡ last_of self.now.order }
     {

@@ -8,8 +8,8 @@ use super::Tape;
 use std::alloc::Allocator;
 
 impl<T, L: Copy, A: Allocator> Tape<T, L, A> {
-    /// Takes the item at `place` out of the list, which leaves a hole, and keeps it there with its
-    /// link until [`Tape::take_detached`] takes it. The time is constant.
+    /// Takes the item at `place`, which must be in the list, out of it, which leaves a hole, and
+    /// keeps it there with its link until [`Tape::take_detached`] takes it. The time is constant.
     ///
     /// An item that is never taken is dropped with the tape, by `clear`, when `move_down` takes
     /// another item to its slot, or by `cut_end`.

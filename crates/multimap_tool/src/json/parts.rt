@@ -8,7 +8,8 @@ use std::alloc::{AllocError, Global};
 
 /// A type whose values can be the keys or the values of a map that is written as JSON.
 ///
-/// What `to_part` wrote `from_part` reads as the same value, or it finds no memory.
+/// What `to_part` wrote `from_part` reads as a value with the same JSON value, or it finds no
+/// memory.
 pub trait JsonPart {
     ghost use Rattle.std.specs.Prelude.{Bool};
     ghost use Rattle.serde_json.specs.Data.{Data};

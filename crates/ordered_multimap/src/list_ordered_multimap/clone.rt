@@ -70,7 +70,8 @@ impl<K: Eq + Hash, V, S: BuildHasher, A: Allocator> ListOrderedMultimap<K, V, S,
     fn move_key_to_back(&mut self, place: usize)
         requires { IsIn place self.old.slots.keys.order }
         ensures lists { (k : K) → HasKey K.eq self.old.slots.keys k place
-            → self.new.lists ≡ lists (moved_to_back K.eq self.old.lists.keys k) self.old.lists.pairs }
+            → self.new.lists
+            ≡ lists (moved_to_back K.eq self.old.lists.keys k) self.old.lists.pairs }
         ensures rooms { SameRooms self.old self.new }
         ensures tape { self.new.tape ≡ self.old.tape }
     {

@@ -20,6 +20,7 @@ impl<K: Eq + Hash + Drop, V: Drop, S: BuildHasher, A: Allocator + Copy> ListOrde
     /// It asks for room for as many values as the iterator says that it has at least; that this is
     /// refused is no refusal of the call. Where memory is refused for a pair, it hands that pair
     /// back; those before it stay. A caller who hands in `&mut iter` keeps those behind it.
+    /// It costs what `append` costs for each pair.
     ///
     /// ```
     /// map.extend(pairs)?;
@@ -33,7 +34,7 @@ impl<K: Eq + Hash + Drop, V: Drop, S: BuildHasher, A: Allocator + Copy> ListOrde
         ensures taken { TakesOut 0 self.old.tape self.new.tape }
     {
         let pairs = iter.into_iter();
-        // A wish: each append makes the room that it needs.
+        // That this is refused is ignored: each append makes the room that it needs.
         let _reserved = self.reserve_values(pairs.size_hint().0);
         for (key, value) in pairs {
             if let Err(refused) = self.append(key, value) {
@@ -63,7 +64,7 @@ impl<K: Eq + Hash + Drop, V: Drop, S: BuildHasher, A: Allocator + Copy> ListOrde
         ensures taken { TakesOut 0 self.old.tape self.new.tape }
     {
         let pairs = iter.into_iter();
-        // A wish, as in `extend`.
+        // Its refusal is ignored, as in `extend`.
         let _reserved = self.reserve_values(pairs.size_hint().0);
         for (key, value) in pairs {
             if let Err(refused) = self.append(*key, *value) {
@@ -73,8 +74,9 @@ impl<K: Eq + Hash + Drop, V: Drop, S: BuildHasher, A: Allocator + Copy> ListOrde
         Ok(())
     }
 
-    /// A map with this hash builder, of the pairs in turn, as `extend` appends them. Where memory
-    /// is refused for a pair, it hands that pair back, and there is no map. `iter` has to end.
+    /// A map with this hash builder, of the pairs in turn, as `extend` appends them. `alloc` gives
+    /// its memory. Where memory is refused for a pair, it hands that pair back, and there is no map.
+    /// `iter` has to end.
     ///
     /// ```
     /// ListOrderedMultimap::from_iter(alloc, DefaultState::new(), pairs)?

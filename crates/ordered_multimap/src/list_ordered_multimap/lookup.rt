@@ -116,7 +116,8 @@ impl<K: Eq + Hash, V, S: BuildHasher, A: Allocator> ListOrderedMultimap<K, V, S,
         link.length
     }
 
-    /// The key's first value. One look-up, and the slots of the key and of that value.
+    /// The key's first value, or None where the key is absent. One look-up, and the slots of the key
+    /// and of that value.
     ///
     /// ```
     /// map.get(&"line").copied() == Some(1)
@@ -158,18 +159,19 @@ impl<K: Eq + Hash, V, S: BuildHasher, A: Allocator> ListOrderedMultimap<K, V, S,
         }
     }
 
-    /// The first pair. Reads the slots of its value and of its key.
+    /// The first pair, or None where there is none. Reads the slots of its value and of its key.
     ///
     /// ```
     /// map.front() == Some((&"line", &1))
     /// ```
     pub fn front(&self) -> Option<(&K, &V)>
-        ensures { option_map (λ r. (r.0.now, r.1.now)) result ≡ end_item Front self.now.lists.pairs }
+        ensures { option_map (λ r. (r.0.now, r.1.now)) result
+            ≡ end_item Front self.now.lists.pairs }
     {
         self.iter().next()
     }
 
-    /// The last pair. Reads the slots of its value and of its key.
+    /// The last pair, or None where there is none. Reads the slots of its value and of its key.
     ///
     /// ```
     /// map.back() == Some((&"line", &2))

@@ -70,8 +70,8 @@ impl<'map, K: Eq + Hash, V, S: BuildHasher, A: Allocator> Entry<'map, K, V, S, A
 
 impl<'map, K: Eq + Hash, V: Drop, S: BuildHasher, A: Allocator + Copy> Entry<'map, K, V, S, A> {
     /// The key's first value, to write, if the entry is occupied; the value handed in is dropped
-    /// then. Else puts the pair last, and lends its value. Where memory is refused, it hands back
-    /// the pair, and both lists are as before.
+    /// then. Else puts the pair last, as `append` does without a look-up, and lends its value. Where
+    /// memory is refused, it hands back the pair, and both lists are as before.
     ///
     /// ```
     /// *map.entry("page").or_insert(0)? = 9;

@@ -158,7 +158,8 @@ impl<'map, K: Eq + Hash, V, S: BuildHasher, A: Allocator> OccupiedEntry<'map, K,
     }
 
     /// Takes all pairs of the key out, puts one with this value last, and answers the first of the
-    /// old values. The key keeps its place among the keys. It takes no memory.
+    /// old values. The key keeps its place among the keys. It takes no memory, and reads and writes
+    /// the slots that the map's call of this name does, as the calls below.
     ///
     /// ```
     /// entry.insert(9) == 1
