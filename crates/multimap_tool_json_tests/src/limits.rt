@@ -10,15 +10,27 @@ fn part_in<T: JsonPart>(alloc: Global, text: &str) -> Option<Result<T, PartFault
     Some(T::from_part(alloc, &value))
 }
 
-/// Whether the value is written as this text, and the text is read as the value.
+/// Whether the value was read.
+fn is_read<T: PartialEq + Drop>(read: Result<T, PartFault>, part: &T) -> bool {
+    matches!(read, Ok(read) if read == *part)
+}
+
+/// Whether the JSON value has this text.
+fn has_text(alloc: Global, value: &Value, text: &str) -> bool {
+    value
+        .to_string(alloc)
+        .is_ok_and(|written| written.as_str() == text)
+}
+
+/// Whether the value is written as this text, and both what was written and the text are read as
+/// the value.
 fn is_text_of<T: JsonPart + PartialEq + Drop>(alloc: Global, part: &T, text: &str) -> bool {
     let Ok(value) = part.to_part(alloc) else {
         return false;
     };
-    let is_written = value
-        .to_string(alloc)
-        .is_ok_and(|written| written.as_str() == text);
-    is_written && matches!(part_in::<T>(alloc, text), Some(Ok(read)) if read == *part)
+    has_text(alloc, &value, text)
+        && is_read(T::from_part(alloc, &value), part)
+        && part_in::<T>(alloc, text).is_some_and(|read| is_read(read, part))
 }
 
 /// Whether each text is refused.
@@ -132,14 +144,19 @@ fn characters(rt: HostRuntime) -> Result<(), Failed> {
     test.end()
 }
 
+/// Texts, and how they are written.
+const TEXTS: &[(&str, &str)] = &[
+    ("", "\"\""),
+    ("ab", "\"ab\""),
+    ("key", "\"key\""),
+    ("a\"é", "\"a\\\"é\""),
+];
+
 #[test]
 fn whole_texts(rt: HostRuntime) -> Result<(), Failed> {
     let test = Test::new(rt.alloc());
     let alloc = test.alloc();
-    for (row, (text, written)) in [("", "\"\""), ("key", "\"key\""), ("a\"é", "\"a\\\"é\"")]
-        .iter()
-        .enumerate()
-    {
+    for (row, (text, written)) in TEXTS.iter().enumerate() {
         match String::from_str(alloc, text) {
             Ok(text) => test.expect_at("a text", row, is_text_of(alloc, &text, written)),
             Err(_) => test.expect_at("memory for a text", row, false),

@@ -1,13 +1,43 @@
-//! The texts of maps.
+//! The texts of maps, and maps that are read of what was written.
 use crate::maps::{is_map_of, numbers_in};
-use multimap_tool::json::{JsonPart, to_value};
+use multimap_tool::json::{JsonPart, from_value, to_value};
 use ordered_multimap::ListOrderedMultimap;
+use ordered_multimap::list_ordered_multimap::DefaultState;
+use serde_json::Value;
 use std::alloc::Global;
 use std::hash::Hash;
 use test_helpers::{Failed, Test, expect_text};
 
-/// Expects that a map of these pairs is written as the text.
-fn expect_map<K: JsonPart + Eq + Hash + Copy, V: JsonPart + Copy>(
+/// Whether the value is read as a map that is equal to this one.
+fn is_read_as<K: JsonPart + Eq + Hash + Copy, V: JsonPart + PartialEq + Copy>(
+    alloc: Global,
+    value: &Value,
+    map: &ListOrderedMultimap<K, V>,
+) -> bool {
+    match from_value(alloc, alloc, DefaultState::new(), value) {
+        Ok(read) => read == *map,
+        Err(_) => false,
+    }
+}
+
+/// Expects that the map is written as the text, and that the value written is read as an equal map.
+fn expect_written<K: JsonPart + Eq + Hash + Copy, V: JsonPart + PartialEq + Copy>(
+    test: &Test,
+    step: &'static str,
+    map: &ListOrderedMultimap<K, V>,
+    wanted: &str,
+) {
+    match to_value(test.alloc(), map) {
+        Ok(value) => {
+            test.expect(step, is_read_as(test.alloc(), &value, map));
+            expect_text(test, step, value.to_string(test.alloc()), wanted);
+        }
+        Err(_) => test.expect(step, false),
+    }
+}
+
+/// Expects that a map of these pairs is written as the text, and read back.
+fn expect_map<K: JsonPart + Eq + Hash + Copy, V: JsonPart + PartialEq + Copy>(
     test: &Test,
     step: &'static str,
     pairs: &[(K, V)],
@@ -17,14 +47,11 @@ fn expect_map<K: JsonPart + Eq + Hash + Copy, V: JsonPart + Copy>(
     for (key, value) in pairs {
         test.expect(step, map.append(*key, *value).is_ok());
     }
-    match to_value(test.alloc(), &map) {
-        Ok(value) => expect_text(test, step, value.to_string(test.alloc()), wanted),
-        Err(_) => test.expect(step, false),
-    }
+    expect_written(test, step, &map, wanted);
 }
 
 #[test]
-fn maps_are_written(rt: HostRuntime) -> Result<(), Failed> {
+fn maps_are_written_and_read_back(rt: HostRuntime) -> Result<(), Failed> {
     let test = Test::new(rt.alloc());
     let letters = [('b', 20u32), ('a', 10), ('c', 30), ('b', 30)];
     let text = "[[\"b\",20],[\"a\",10],[\"c\",30],[\"b\",30]]";
