@@ -22,6 +22,16 @@ impl PlainMap {
         }
     }
 
+    /// The keys, in order.
+    pub fn keys(&self) -> &[u32] {
+        &self.keys
+    }
+
+    /// The pairs, in order.
+    pub fn pairs(&self) -> &[(u32, i64)] {
+        &self.pairs
+    }
+
     fn append(&mut self, key: u32, value: i64) -> Answer {
         let present = self.keys.contains(&key);
         if !present {

@@ -33,7 +33,18 @@ fn is_answered<'a>(
     }
 }
 
-// Where the run is refused, nothing was done, and the commands that follow show it.
+/// Whether the map has just the keys of the plain map, in order.
+fn has_keys(map: &Refusing<'_>, plain: &PlainMap) -> bool {
+    map.keys().copied().eq(plain.keys().iter().copied())
+}
+
+/// Whether the map has just the pairs of the plain map, in order.
+fn has_pairs(map: &Refusing<'_>, plain: &PlainMap) -> bool {
+    map.iter()
+        .map(|(key, value)| (*key, *value))
+        .eq(plain.pairs().iter().copied())
+}
+
 fn command_is_answered<'a>(
     test: &Test,
     allocator: &'a RefusingAllocator,
@@ -59,6 +70,12 @@ fn command_is_answered<'a>(
     refused
 }
 
+// Where the run is refused, or the command finds no memory, the plain map is as before.
+fn lists_are_the_same(test: &Test, map: &Refusing<'_>, plain: &PlainMap) {
+    test.expect("the keys", has_keys(map, plain));
+    test.expect("the pairs", has_pairs(map, plain));
+}
+
 /// Runs one command with at most four requests granted, and answers whether one was refused.
 fn runs_one<'a>(
     test: &Test,
@@ -72,7 +89,9 @@ fn runs_one<'a>(
     match (command, some_command(allocator, state)) {
         (Ok(command), Ok(granted)) => {
             allocator.grant(draw(state, 5) as u64);
-            command_is_answered(test, allocator, map, plain, &command, granted)
+            let refused = command_is_answered(test, allocator, map, plain, &command, granted);
+            lists_are_the_same(test, map, plain);
+            refused
         }
         _ => {
             test.expect("memory for a command", false);
