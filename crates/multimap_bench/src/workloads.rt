@@ -11,7 +11,7 @@ use std::alloc::Global;
 use std::hash::BuildHasher;
 
 /// What a workload answers where memory was refused.
-const REFUSED: u64 = 0;
+pub(crate) const REFUSED: u64 = 0;
 
 /// What is done to an empty map.
 #[derive(Clone, Copy)]
@@ -44,32 +44,64 @@ pub(crate) enum Workload {
     InsertReplace,
     /// Takes out half of the keys with their values, after `AppendScattered`.
     RemoveAllHalf,
-    /// Keeps half of the pairs, after `AppendDistinct`.
-    RetainHalf,
-    /// Keeps half of the pairs, after `AppendScattered`.
-    RetainHalfMulti,
     /// Goes over all keys, after `AppendScattered`.
     KeysAll,
     /// Goes over all keys with their values, after `AppendScattered`.
     PairsAll,
-    /// Clones the map, after `AppendScattered`.
+    /// Clones the map four times, after `AppendScattered`.
     Clone,
+    /// Keeps half of the pairs, after `AppendDistinct`.
+    RetainHalf,
+    /// Keeps half of the pairs, after `AppendScattered`.
+    RetainHalfMulti,
     /// Counts keys by their entries, on an empty map.
     EntryCount,
+    /// Makes, fills, asks and drops maps of sixteen pairs.
+    SmallMaps,
     /// Writes all values by walks over all pairs, after `AppendScattered`.
     IterMutAll,
     /// Writes the values of random keys, after `AppendGrouped`.
     GetAllMutWalk,
 }
 
+/// The workloads by their numbers.
+pub(crate) const WORKLOADS: [Workload; 23] = [
+    Workload::AppendDistinct,
+    Workload::AppendFew,
+    Workload::AppendGrouped,
+    Workload::AppendScattered,
+    Workload::GetHit,
+    Workload::GetMiss,
+    Workload::GetAllWalk,
+    Workload::GetAllWalkScattered,
+    Workload::IterAll,
+    Workload::FifoChurn,
+    Workload::FifoChurnFew,
+    Workload::FifoSmall,
+    Workload::InsertReplace,
+    Workload::RemoveAllHalf,
+    Workload::KeysAll,
+    Workload::PairsAll,
+    Workload::Clone,
+    Workload::RetainHalf,
+    Workload::RetainHalfMulti,
+    Workload::EntryCount,
+    Workload::SmallMaps,
+    Workload::IterMutAll,
+    Workload::GetAllMutWalk,
+];
+
 /// Makes a map, runs a workload of `n` pairs on it, and lets the map go. Answers the checksum.
-pub(crate) fn run<S: BuildHasher + Clone>(
+pub(crate) fn run<S: BuildHasher + Clone + Default + Drop>(
     alloc: Global,
     state: S,
     workload: Workload,
     n: u64,
     seed: u64,
 ) -> u64 {
+    if matches!(workload, Workload::SmallMaps) {
+        return run_small::<S>(alloc, n, seed);
+    }
     let mut map = ListOrderedMultimap::with_hasher(alloc, state);
     run_on(&mut map, workload, n, seed)
 }
@@ -106,7 +138,7 @@ fn fill<S: BuildHasher>(map: &mut Map<S>, workload: Workload, n: u64, seed: u64)
         | Workload::RetainHalfMulti
         | Workload::Clone
         | Workload::IterMutAll => scattered(map, n, seed, START),
-        Workload::FifoSmall | Workload::EntryCount => Some(START),
+        Workload::FifoSmall | Workload::EntryCount | Workload::SmallMaps => Some(START),
     }
 }
 
@@ -153,7 +185,7 @@ fn look_up<S: BuildHasher + Clone>(
 }
 
 /// Makes, fills, asks and drops a map of sixteen pairs for every sixteen pairs. Answers the checksum.
-pub(crate) fn run_small<S: BuildHasher + Default + Drop>(alloc: Global, n: u64, seed: u64) -> u64 {
+fn run_small<S: BuildHasher + Default + Drop>(alloc: Global, n: u64, seed: u64) -> u64 {
     let mut checksum = START;
     for round in 0..n / 16 {
         let map = ListOrderedMultimap::with_hasher(alloc, S::default());
