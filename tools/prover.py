@@ -1,0 +1,165 @@
+"""The prover, its crates and what it says, for the scripts beside this file."""
+import os
+import pathlib
+import re
+import shutil
+
+KIT = pathlib.Path(os.path.realpath(shutil.which("rt") or "/")).parent.parent
+
+
+class Crate:
+    """A crate of crates.txt, in a tree."""
+
+    def __init__(self, name, uses, folder):
+        self.name, self.uses, self.folder = name, uses, folder
+
+    def edits(self):
+        return sorted((self.folder / "must-fail").glob("*.edit"))
+
+    def lines(self, part, ending):
+        return sum(len(it.read_bytes().splitlines()) for it in (self.folder / part).rglob(f"*{ending}"))
+
+    def memory(self):
+        """About the most bytes that a check takes, as `rt ci` reckons it."""
+        proofs = self.lines("specs", ".antt") + self.lines("proofs", ".antt")
+        return 1_000_000_000 + 1_000_000 * self.lines("src", ".rt") + 200_000 * proofs
+
+
+def crates_in(top):
+    found = {}
+    for line in (top / "crates.txt").read_text().splitlines():
+        head, _, uses = line.partition("#")[0].partition(":")
+        if head.strip():
+            name = head.split()[0]
+            found[name] = Crate(name, uses.split(), top / "crates" / name)
+    return found
+
+
+def below(crate, crates):
+    """The libraries of the tree below a crate."""
+    found = []
+    for name in crate.uses:
+        if name in crates:
+            found += [it for it in [*below(crates[name], crates), name] if it not in found]
+    return found
+
+
+def without_first_parameters(text):
+    """The text without the angle brackets that it begins with, and what stands between them."""
+    depth = 0
+    for at, letter in enumerate(text):
+        depth += letter == "<"
+        depth -= letter == ">" and text[at - 1] != "-"
+        if not depth:
+            return text[at + 1 :] if letter == ">" else text
+    return text
+
+
+FN = re.compile(r'^( *)(?:pub(?:\([a-z]+\))? )?(?:const )?(?:unsafe )?(?:extern "C" )?fn (\w+)', re.M)
+
+
+def function_at(crate, file, before):
+    """The function that a file is in after a part of its text, by the prover's name without the crate's: a
+    method is named after its type, in the type's module, or after type and trait, in its own module."""
+    heads = list(FN.finditer(before))
+    if not heads:
+        return None
+    path = module_of(file)
+    if heads[-1][1]:
+        impl = re.findall(r"^impl\b([^{]*)\{", before[: heads[-1].start()], re.M)[-1]
+        named = re.sub(r"\w+::|\bwhere\b.*", "", without_first_parameters(impl), flags=re.S)
+        trait, _, kind = named.rpartition(" for ")
+        kind = re.sub(r"&(?:'\w+ )?", "Ref", re.sub(r"<.*", "", kind, flags=re.S)).strip()
+        if not trait:
+            path = module_of(file_of(crate, kind) or file)
+        path = [*path, kind[:1].upper() + kind[1:] + re.sub(r"\W", "", trait)]
+    return "::".join([*path, heads[-1][2]])
+
+
+def file_of(crate, kind):
+    """The file that declares a type."""
+    words = re.compile(rf"^(?:pub(?:\([a-z]+\))? )?(?:struct|enum) {kind}\b", re.M)
+    files = [it for it in (crate.folder / "src").rglob("*.rt") if words.search(it.read_text())]
+    return str(files[0].relative_to(crate.folder)) if files else None
+
+
+def module_of(file):
+    return [it for it in file.removeprefix("src/").removesuffix(".rt").split("/") if it != "lib"]
+
+
+FINDING = re.compile(r"note: src/\S+: .*\(`([^`]+)`\)")
+VERDICT = re.compile(r"fn (\S+): (.*)")
+ERROR = re.compile(r"\./proofs/(\S+)/(\w+\.antt):(\d+):\d+: error: `([^`]+)`")
+
+
+class Report:
+    """What a check says of each function: whether it is proved, and the goals of its own that are left."""
+
+    def __init__(self, said, crate):
+        self.verdicts, self.goals, self.crate = {}, {}, crate
+        self.unknown = re.findall(r"^rattle: error: .* no function `([^`]+)`", said, re.M)
+        self.has_reached_the_prover = re.search(r"^(only=\d+ |rattle: no verdict)", said, re.M) is not None
+        found = []
+        for line in said.split("\n"):
+            finding, verdict, error = FINDING.match(line), VERDICT.match(line), ERROR.match(line)
+            if finding:
+                found.append(label(finding[1]))
+            elif error:
+                self.add(error[1].replace("/", "::"), [self.label_at(error)])
+            elif verdict:
+                function = verdict[1].removeprefix(f"{crate.name}::")
+                listed = re.findall(r"`([^`]+)`", verdict[2].partition("`search` did not prove ")[2])
+                self.verdicts[function] = verdict[2]
+                self.add(function, [*found, *(label(it) for it in listed if "::" not in it)])
+                found = []
+
+    def add(self, function, goals):
+        self.goals[function] = list(dict.fromkeys([*self.goals.get(function, []), *goals]))
+
+    def label_at(self, error):
+        """What an answer that is refused shows: a clause, or, where it shows several, the outermost field that it is in."""
+        path, file, line, goal = error.groups()
+        if "clause-" in goal or file == "Proof.antt":
+            return label(goal)
+        field, indent = None, 1000
+        lines = (self.crate.folder / "proofs" / path / file).read_text().split("\n")
+        for text in reversed(lines[: int(line)]):
+            found = re.match(r"( +)(\w+) = ", text)
+            if found and len(found[1]) < indent:
+                field, indent = found[2], len(found[1])
+            if re.match(r"\S", text):
+                break
+        if not field:
+            return goal
+        return field if goal.startswith("returns") else f"{goal}.{field}"
+
+    def of(self, function):
+        """'own', 'calls', 'proved' or 'unknown', and the goals that are left."""
+        names = [it for it in self.verdicts if it == function or it.endswith(f"::{function}")]
+        if len(names) != 1:
+            return "unknown", []
+        verdict, goals = self.verdicts[names[0]], self.goals[names[0]]
+        if verdict == "proved":
+            return "proved", []
+        if "could not tell" in verdict:
+            return "unknown", []
+        return ("own" if goals else "calls"), goals
+
+
+def label(goal):
+    return goal.rpartition("clause-")[2]
+
+
+def check_command(crate, crates, built, jobs, only):
+    """The command that checks these functions of a crate, over the libraries that stand built."""
+    words = [KIT / "bin/rattle", "check", "--crate-name", crate.name, "src/lib.rt"]
+    kits = ["std", *(it for it in crate.uses if it not in crates)]
+    words += [it for name in kits for it in ("--extern", f"{name}={KIT}/rlibs/{name}.rlib")]
+    words += ["-L", f"dependency={KIT}/rlibs"]
+    folder_of = lambda name: built / "crates" / name / "out/rlib"
+    own = [it for it in crate.uses if it in crates]
+    words += [it for name in own for it in ("--extern", f"{name}={folder_of(name)}/{name}.rlib")]
+    words += [it for name in below(crate, crates) for it in ("-L", f"dependency={folder_of(name)}")]
+    words += ["--antt-project", KIT / "rattle/logic/antt-project.json", "--logic-built", KIT / "logic_built"]
+    words += ["--links", f"{crate.name}=", "--jobs", str(jobs), "--incremental", "out/incremental"]
+    return [*words, *(it for name in sorted(only) for it in ("--only", name))]
