@@ -3,7 +3,7 @@
 use ordered_multimap::ListOrderedMultimap;
 use ordered_multimap::list_ordered_multimap::{Entry, OccupiedEntry};
 use std::alloc::AllocError;
-use test_helpers::{Failed, Test};
+use test_helpers::Test;
 
 type Numbers = ListOrderedMultimap<&'static str, u32>;
 
@@ -21,8 +21,7 @@ fn expect_first(test: &Test, map: &Numbers, key: &'static str, value: u32) {
     test.expect(key, map.get(&key).copied() == Some(value));
 }
 
-fn entries_are_filled(test: &Test, map: &mut Numbers) -> Result<(), AllocError> {
-    add_three(map)?;
+fn present_keys_stay(test: &Test, map: &mut Numbers) -> Result<(), AllocError> {
     map.entry("line").or_insert(7)?;
     expect_first(test, map, "line", 1);
     let entry = map.entry("line").and_modify(|value| *value = 9);
@@ -30,18 +29,28 @@ fn entries_are_filled(test: &Test, map: &mut Numbers) -> Result<(), AllocError> 
     expect_first(test, map, "line", 9);
     *map.entry("page").or_insert(0)? = 9;
     expect_first(test, map, "page", 9);
+    Ok(())
+}
+
+fn value_is_made(map: &mut Numbers) -> Result<(), AllocError> {
     map.clear();
     map.entry("page").or_insert_with(|| 42)?;
-    expect_first(test, map, "page", 42);
-    test.expect(
-        "or_insert_entry",
-        map.entry("page").or_insert_entry(42)?.len() == 1,
-    );
-    test.expect(
-        "or_insert_with_entry",
-        map.entry("page").or_insert_with_entry(|| 42)?.len() == 1,
-    );
     Ok(())
+}
+
+fn entry_comes_back(map: &mut Numbers) -> Result<bool, AllocError> {
+    Ok(map.entry("page").or_insert_entry(42)?.len() == 1)
+}
+
+fn entry_is_made(map: &mut Numbers) -> Result<bool, AllocError> {
+    Ok(map.entry("page").or_insert_with_entry(|| 42)?.len() == 1)
+}
+
+fn absent_keys_come(test: &Test, map: &mut Numbers) {
+    test.expect("or_insert_with", value_is_made(map).is_ok());
+    expect_first(test, map, "page", 42);
+    test.expect("or_insert_entry", entry_comes_back(map) == Ok(true));
+    test.expect("or_insert_with_entry", entry_is_made(map) == Ok(true));
 }
 
 fn an_entry_is_read(test: &Test, entry: &Occupied<'_>) {
@@ -52,7 +61,6 @@ fn an_entry_is_read(test: &Test, entry: &Occupied<'_>) {
 }
 
 fn an_entry_is_written(test: &Test, map: &mut Numbers) -> Result<(), AllocError> {
-    add_three(map)?;
     if let Entry::Occupied(mut entry) = map.entry("line") {
         an_entry_is_read(test, &entry);
         *entry.get_mut() = 5;
@@ -60,19 +68,24 @@ fn an_entry_is_written(test: &Test, map: &mut Numbers) -> Result<(), AllocError>
         entry.append(3)?;
         test.expect("append", entry.len() == 3);
     }
+    Ok(())
+}
+
+fn a_value_is_kept(test: &Test, map: &mut Numbers) {
     if let Entry::Occupied(entry) = map.entry("line") {
         *entry.into_mut() = 5;
     }
     expect_first(test, map, "line", 5);
-    Ok(())
 }
 
-fn a_value_is_inserted(test: &Test, map: &mut Numbers) -> Result<(), AllocError> {
-    add_three(map)?;
+fn a_value_is_inserted(test: &Test, map: &mut Numbers) {
     if let Entry::Occupied(mut entry) = map.entry("line") {
         test.expect("insert", entry.insert(9) == 1);
     }
-    add_three(map)?;
+    expect_first(test, map, "line", 9);
+}
+
+fn values_are_replaced(test: &Test, map: &mut Numbers) -> Result<(), AllocError> {
     if let Entry::Occupied(entry) = map.entry("line") {
         test.expect("insert_all", entry.insert_all(3)?.next_back() == Some(2));
     }
@@ -113,13 +126,13 @@ fn an_entry_is_drained(test: &Test, map: &mut ListOrderedMultimap<u32, u32>) {
 
 fn a_vacant_entry_is_filled(test: &Test, map: &mut Numbers) -> Result<(), AllocError> {
     if let Entry::Vacant(entry) = map.entry("none") {
-        test.expect("key", *entry.key() == "none");
-        test.expect("into_key", entry.into_key() == "none");
-    }
-    if let Entry::Vacant(entry) = map.entry("none") {
         entry.insert(5)?;
     }
     expect_first(test, map, "none", 5);
+    Ok(())
+}
+
+fn a_vacant_entry_is_occupied(test: &Test, map: &mut Numbers) -> Result<(), AllocError> {
     map.clear();
     if let Entry::Vacant(entry) = map.entry("none") {
         test.expect("insert_entry", entry.insert_entry(5)?.len() == 1);
@@ -128,18 +141,40 @@ fn a_vacant_entry_is_filled(test: &Test, map: &mut Numbers) -> Result<(), AllocE
     Ok(())
 }
 
-fn examples_hold_on(test: &Test, map: &mut Numbers) {
-    test.expect("filled", entries_are_filled(test, map).is_ok());
-    test.expect("written", an_entry_is_written(test, map).is_ok());
-    test.expect("inserted", a_value_is_inserted(test, map).is_ok());
-    test.expect("vacant", a_vacant_entry_is_filled(test, map).is_ok());
+fn a_key_comes_back(test: &Test, map: &mut Numbers) {
+    if let Entry::Vacant(entry) = map.entry("none") {
+        test.expect("key", *entry.key() == "none");
+        test.expect("into_key", entry.into_key() == "none");
+    }
 }
 
-#[test]
-fn examples_of_entries_hold(rt: HostRuntime) -> Result<(), Failed> {
-    let test = Test::new(rt.alloc());
-    examples_hold_on(&test, &mut ListOrderedMultimap::new(test.alloc()));
-    an_entry_is_removed(&test, &mut ListOrderedMultimap::new(test.alloc()));
-    an_entry_is_drained(&test, &mut ListOrderedMultimap::new(test.alloc()));
-    test.end()
+fn add_again(test: &Test, map: &mut Numbers) {
+    test.expect("append", add_three(map).is_ok());
+}
+
+fn occupied_entries_answer(test: &Test, map: &mut Numbers) {
+    add_again(test, map);
+    test.expect("written", an_entry_is_written(test, map).is_ok());
+    a_value_is_kept(test, map);
+    add_again(test, map);
+    a_value_is_inserted(test, map);
+    add_again(test, map);
+    test.expect("replaced", values_are_replaced(test, map).is_ok());
+}
+
+/// The examples with texts for keys.
+pub fn examples_of_texts_hold(test: &Test, map: &mut Numbers) {
+    add_again(test, map);
+    test.expect("present", present_keys_stay(test, map).is_ok());
+    absent_keys_come(test, map);
+    occupied_entries_answer(test, map);
+    a_key_comes_back(test, map);
+    test.expect("vacant", a_vacant_entry_is_filled(test, map).is_ok());
+    test.expect("occupied", a_vacant_entry_is_occupied(test, map).is_ok());
+}
+
+/// The examples with numbers for keys.
+pub fn examples_of_numbers_hold(test: &Test, map: &mut ListOrderedMultimap<u32, u32>) {
+    an_entry_is_removed(test, map);
+    an_entry_is_drained(test, map);
 }

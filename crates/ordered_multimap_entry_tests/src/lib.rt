@@ -6,13 +6,9 @@ pub mod entered;
 #[cfg(test)]
 mod entries;
 #[cfg(test)]
-mod entry_drains;
-#[cfg(test)]
-mod entry_memory;
-#[cfg(test)]
 mod examples;
 #[cfg(test)]
-mod texts;
+mod tests;
 #[cfg(test)]
-mod writes;
+mod texts;
 pub mod written;

@@ -1,11 +1,12 @@
-//! Entries of texts, and what entries and refusals are shown as.
+//! Entries of texts, references to their values, and what entries are shown as.
 use ordered_multimap::ListOrderedMultimap;
-use ordered_multimap::list_ordered_multimap::{Entry, RefusedValue};
-use test_helpers::{Failed, Test, expect_text, is_compared, is_shown};
+use ordered_multimap::list_ordered_multimap::Entry;
+use ordered_multimap_tests::lists::inserts;
+use ordered_multimap_tests::maps::{ONE_KEY, Texts, fill};
+use test_helpers::{Test, is_shown};
 
-type Texts = ListOrderedMultimap<&'static str, &'static str>;
-
-type Counts = ListOrderedMultimap<&'static str, u32>;
+/// A map that counts texts.
+pub type Counts = ListOrderedMultimap<&'static str, u32>;
 
 fn count(test: &Test, map: &mut Counts, wanted: u32) {
     match map
@@ -19,13 +20,11 @@ fn count(test: &Test, map: &mut Counts, wanted: u32) {
     test.expect("get", map.get(&"key").copied() == Some(wanted));
 }
 
-#[test]
-fn values_are_counted(rt: HostRuntime) -> Result<(), Failed> {
-    let test = Test::new(rt.alloc());
-    let mut map = ListOrderedMultimap::new(test.alloc());
-    count(&test, &mut map, 42);
-    count(&test, &mut map, 43);
-    test.end()
+/// A value counts how often its key came.
+pub fn values_are_counted(test: &Test, map: &mut Counts) {
+    map.clear();
+    count(test, map, 42);
+    count(test, map, 43);
 }
 
 fn or_insert(map: &mut Texts, value: &'static str) -> Option<&'static str> {
@@ -56,59 +55,61 @@ fn or_insert_with_entry(map: &mut Texts, value: &'static str) -> Option<&'static
     }
 }
 
-fn the_first_value_stays(test: &Test, map: &mut Texts) {
-    let first = Some("value1");
-    test.expect("or_insert", or_insert(map, "value1") == first);
-    test.expect("or_insert again", or_insert(map, "value2") == first);
-    map.clear();
-    test.expect("or_insert_with", or_insert_with(map, "value1") == first);
-    test.expect(
-        "or_insert_with again",
-        or_insert_with(map, "value2") == first,
-    );
-    map.clear();
-    test.expect("or_insert_entry", or_insert_entry(map, "value1") == first);
-    test.expect(
-        "or_insert_entry again",
-        or_insert_entry(map, "value2") == first,
-    );
-    map.clear();
-    test.expect(
-        "or_insert_with_entry",
-        or_insert_with_entry(map, "value1") == first,
-    );
-    test.expect(
-        "or_insert_with_entry again",
-        or_insert_with_entry(map, "value2") == first,
-    );
-    test.expect("one pair", map.values_len() == 1);
+#[derive(Clone, Copy)]
+enum Call {
+    OrInsert,
+    OrInsertWith,
+    OrInsertEntry,
+    OrInsertWithEntry,
 }
 
-#[test]
-fn a_present_key_keeps_its_value(rt: HostRuntime) -> Result<(), Failed> {
-    let test = Test::new(rt.alloc());
-    the_first_value_stays(&test, &mut ListOrderedMultimap::new(test.alloc()));
-    test.end()
+const CALLS: &[Call] = &[
+    Call::OrInsert,
+    Call::OrInsertWith,
+    Call::OrInsertEntry,
+    Call::OrInsertWithEntry,
+];
+
+fn first_value(map: &mut Texts, call: Call, value: &'static str) -> Option<&'static str> {
+    match call {
+        Call::OrInsert => or_insert(map, value),
+        Call::OrInsertWith => or_insert_with(map, value),
+        Call::OrInsertEntry => or_insert_entry(map, value),
+        Call::OrInsertWithEntry => or_insert_with_entry(map, value),
+    }
 }
 
-fn a_vacant_entry_isnt_modified(test: &Test, map: &mut Texts) {
+fn first_value_stays(test: &Test, map: &mut Texts, row: usize, call: Call) {
+    map.clear();
+    let first = first_value(map, call, "value1");
+    test.expect_at("an absent key", row, first == Some("value1"));
+    let first = first_value(map, call, "value2");
+    test.expect_at("a present key", row, first == Some("value1"));
+    test.expect_at("one pair", row, map.values_len() == 1);
+}
+
+fn vacant_entry_isnt_modified(test: &Test, map: &mut Texts) {
     let _ = map.entry("key").and_modify(|value| *value = "value2");
     test.expect("the key is absent", map.is_empty());
-    test.expect("insert", map.insert("key", "value1") == Ok(None));
-    test.expect("append", map.append("key", "last") == Ok(true));
+    test.expect("insert", inserts(map, "key", "value1", &None));
     let _ = map.entry("key").and_modify(|value| *value = "value2");
-    test.expect(
-        "the first value",
-        map.get(&"key").copied() == Some("value2"),
-    );
-    test.expect("the last", map.back() == Some((&"key", &"last")));
+    test.expect("get", map.get(&"key").copied() == Some("value2"));
 }
 
-#[test]
-fn entries_are_modified(rt: HostRuntime) -> Result<(), Failed> {
-    let test = Test::new(rt.alloc());
-    a_vacant_entry_isnt_modified(&test, &mut ListOrderedMultimap::new(test.alloc()));
-    test.end()
+// The first value of the key, as it is lent for writing.
+fn lent(map: &mut Texts) -> Option<&'static str> {
+    match map.get_mut(&"key") {
+        Some(value) => Some(*value),
+        None => None,
+    }
+}
+
+fn value_is_lent(test: &Test, map: &mut Texts) {
+    test.expect("an absent key", lent(map).is_none());
+    test.expect("insert", inserts(map, "key", "value", &None));
+    test.expect("a present key", lent(map) == Some("value"));
+    test.expect("remove", map.remove(&"key") == Some("value"));
+    test.expect("a removed key", lent(map).is_none());
 }
 
 const OCCUPIED: &str = concat!(
@@ -118,45 +119,31 @@ const OCCUPIED: &str = concat!(
 
 const VACANT: &str = r#"VacantEntry("key")"#;
 
-fn an_entry_is_shown(test: &Test, map: &mut Texts, wanted: &str) {
+fn is_shown_as(test: &Test, map: &mut Texts, wanted: &str) {
     let entry = map.entry("key");
     test.expect("an entry", is_shown(test.alloc(), &entry, wanted));
-    match entry {
-        Entry::Occupied(entry) => {
-            test.expect("an occupied entry", is_shown(test.alloc(), &entry, wanted));
-        }
-        Entry::Vacant(entry) => {
-            test.expect("a vacant entry", is_shown(test.alloc(), &entry, wanted));
-        }
+    let shown = match entry {
+        Entry::Occupied(entry) => is_shown(test.alloc(), &entry, wanted),
+        Entry::Vacant(entry) => is_shown(test.alloc(), &entry, wanted),
+    };
+    test.expect("what it holds", shown);
+}
+
+fn entries_are_shown(test: &Test, map: &mut Texts) {
+    map.clear();
+    is_shown_as(test, map, VACANT);
+    fill(test, map, ONE_KEY);
+    is_shown_as(test, map, OCCUPIED);
+}
+
+/// Entries and references to a key's first value.
+pub fn keys_are_entered(test: &Test, map: &mut Texts) {
+    for (row, call) in CALLS.iter().enumerate() {
+        first_value_stays(test, map, row, *call);
     }
-}
-
-fn entries_are_shown_as(test: &Test, map: &mut Texts) {
-    an_entry_is_shown(test, map, VACANT);
-    test.expect("insert", map.insert("key", "value1") == Ok(None));
-    for value in &["value2", "value3", "value4"] {
-        test.expect("append", map.append("key", *value) == Ok(true));
-    }
-    an_entry_is_shown(test, map, OCCUPIED);
-}
-
-#[test]
-fn entries_are_shown(rt: HostRuntime) -> Result<(), Failed> {
-    let test = Test::new(rt.alloc());
-    entries_are_shown_as(&test, &mut ListOrderedMultimap::new(test.alloc()));
-    test.end()
-}
-
-#[test]
-fn a_refused_value_is_shown_and_compared(rt: HostRuntime) -> Result<(), Failed> {
-    let test = Test::new(rt.alloc());
-    let refused = RefusedValue { value: "a\"b" };
-    let wanted = r#"RefusedValue { value: "a\"b" }"#;
-    test.expect("shown", is_shown(test.alloc(), &refused, wanted));
-    let like = RefusedValue { value: "a\"b" };
-    let other = RefusedValue { value: "" };
-    test.expect("compared", is_compared(&refused, &like, &other));
-    let told = format!(in test.alloc(); "{refused}");
-    expect_text(&test, "told", told, "memory allocation failed");
-    test.end()
+    map.clear();
+    vacant_entry_isnt_modified(test, map);
+    map.clear();
+    value_is_lent(test, map);
+    entries_are_shown(test, map);
 }

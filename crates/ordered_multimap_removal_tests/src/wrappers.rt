@@ -67,7 +67,9 @@ fn clones_are_refused(test: &Test, allocator: &RefusingAllocator, text: Text<'_>
     allocator.refuse_all();
     test.expect("refused", KeyWrapper::Borrowed(&text).into_owned().is_err());
     test.expect("a lent key", KeyWrapper::Borrowed(&text).clone().is_ok());
-    test.expect("owned", KeyWrapper::Owned(text).into_owned().is_ok());
+    let owned = KeyWrapper::Owned(text);
+    test.expect("an owned key", owned.clone().is_err());
+    test.expect("handed on", owned.into_owned().is_ok());
 }
 
 #[test]

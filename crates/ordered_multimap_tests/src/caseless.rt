@@ -6,7 +6,7 @@ ghost use Rattle.std.specs.Ordering.{on};
 ghost use Rattle.std.specs.Prelude.{nat_eq};
 
 use ordered_multimap::ListOrderedMultimap;
-use ordered_multimap::list_ordered_multimap::Entry;
+use ordered_multimap::list_ordered_multimap::KeyWrapper;
 use std::hash::{Hash, Hasher};
 use test_helpers::{Failed, Test};
 
@@ -53,62 +53,69 @@ impl Hash for Word {
 
 type Words = ListOrderedMultimap<Word, u32>;
 
-fn expect_stored(test: &Test, map: &Words, text: &str) {
-    let stored = match map.keys().next() {
-        Some(key) => key.text == text,
-        None => false,
-    };
-    test.expect("the stored key", stored);
-    let named = match map.back() {
-        Some((key, _)) => key.text == text,
-        None => false,
-    };
-    test.expect("the key of the last pair", named);
+// Whether the key was there.
+fn appended(map: &mut Words, text: &'static str, value: u32) -> Option<bool> {
+    match map.append(Word::new(text), value) {
+        Ok(present) => Some(present),
+        Err(_) => None,
+    }
+}
+
+fn inserted(map: &mut Words, text: &'static str, value: u32) -> Option<u32> {
+    match map.insert(Word::new(text), value) {
+        Ok(old) => old,
+        Err(_) => None,
+    }
+}
+
+fn stored(map: &Words) -> Option<&'static str> {
+    match map.keys().next() {
+        Some(key) => Some(key.text),
+        None => None,
+    }
+}
+
+// What a removal of the key hands out.
+fn removed(map: &mut Words, text: &'static str) -> Option<(&'static str, u32)> {
+    match map.remove_entry(&Word::new(text)) {
+        Some((key, value)) => Some((key.text, value)),
+        None => None,
+    }
+}
+
+// What a pop hands out, where the key goes with it.
+fn popped(map: &mut Words) -> Option<(&'static str, u32)> {
+    match map.pop_back() {
+        Some((KeyWrapper::Owned(key), value)) => Some((key.text, value)),
+        _ => None,
+    }
 }
 
 fn first_key_stays(test: &Test, map: &mut Words) {
-    test.expect("append", map.append(Word::new("Key"), 1) == Ok(false));
-    test.expect("append", map.append(Word::new("KEY"), 2) == Ok(true));
-    expect_stored(test, map, "Key");
-    let removed = match map.remove_entry(&Word::new("key")) {
-        Some((key, value)) => key.text == "Key" && value == 1,
-        None => false,
-    };
-    test.expect("remove_entry", removed);
+    test.expect("append", appended(map, "Key", 1) == Some(false));
+    test.expect("append", appended(map, "KEY", 2) == Some(true));
+    test.expect("remove_entry", removed(map, "key") == Some(("Key", 1)));
     test.expect("values_len", map.values_len() == 0);
     test.expect("keys_len", map.keys_len() == 0);
 }
 
 fn replaced_key_stays(test: &Test, map: &mut Words) {
-    test.expect("append", map.append(Word::new("Key"), 1) == Ok(false));
-    test.expect("insert", map.insert(Word::new("KEY"), 2) == Ok(Some(1)));
-    expect_stored(test, map, "Key");
-    test.expect("get", map.get(&Word::new("kEy")).copied() == Some(2));
-    test.expect("remove", map.remove(&Word::new("key")) == Some(2));
-    test.expect("append", map.append(Word::new("kEY"), 3) == Ok(false));
-    expect_stored(test, map, "kEY");
+    test.expect("append", appended(map, "Key", 1) == Some(false));
+    test.expect("insert", inserted(map, "KEY", 2) == Some(1));
+    test.expect("one pair", map.values_len() == 1);
+    test.expect("pop_back", popped(map) == Some(("Key", 2)));
+    test.expect("append", appended(map, "kEY", 3) == Some(false));
+    test.expect("the stored key", stored(map) == Some("kEY"));
 }
 
-// The entry of an equal key is that of the stored one.
-fn stored_key_has_the_entry(test: &Test, map: &mut Words) {
-    test.expect("append", map.append(Word::new("Key"), 1) == Ok(false));
-    match map.entry(Word::new("KEY")) {
-        Entry::Occupied(entry) => test.expect("key", entry.key().text == "Key"),
-        Entry::Vacant(_) => test.expect("an occupied entry", false),
-    }
-    test.expect(
-        "or_insert",
-        map.entry(Word::new("kEY")).or_insert(2).is_ok(),
-    );
-    expect_stored(test, map, "Key");
-    test.expect("one pair", map.values_len() == 1);
+fn keys_stay(test: &Test, map: &mut Words) {
+    first_key_stays(test, map);
+    replaced_key_stays(test, map);
 }
 
 #[test]
 fn of_equal_keys_the_first_stays(rt: HostRuntime) -> Result<(), Failed> {
     let test = Test::new(rt.alloc());
-    first_key_stays(&test, &mut ListOrderedMultimap::new(test.alloc()));
-    replaced_key_stays(&test, &mut ListOrderedMultimap::new(test.alloc()));
-    stored_key_has_the_entry(&test, &mut ListOrderedMultimap::new(test.alloc()));
+    keys_stay(&test, &mut ListOrderedMultimap::new(test.alloc()));
     test.end()
 }

@@ -1,8 +1,9 @@
 //! The examples of the map's doc comments and of README.md, as tests. `tools/examples` says whether
 //! each line of theirs stands here.
+use crate::lists::appends;
 use ordered_multimap::ListOrderedMultimap;
 use ordered_multimap::list_ordered_multimap::{DefaultState, KeyWrapper};
-use std::alloc::AllocError;
+use std::alloc::{AllocError, Global};
 use std::hash::{BuildHasher, Hash};
 use test_helpers::{Failed, Test};
 
@@ -19,17 +20,59 @@ fn look_ups_answer(test: &Test, map: &Numbers) {
     test.expect("get", map.get(&"line").copied() == Some(1));
     test.expect("contains_key", map.contains_key(&"page"));
     test.expect("entry_len", map.entry_len(&"line") == 2);
+}
+
+fn lengths_answer(test: &Test, map: &Numbers) {
     test.expect("keys_len", map.keys_len() == 2);
     test.expect("values_len", map.values_len() == 3);
     test.expect("is_empty", !map.is_empty());
 }
 
-fn walks_answer(test: &Test, map: &Numbers) {
+fn ends_answer(test: &Test, map: &Numbers) {
     test.expect("front", map.front() == Some((&"line", &1)));
     test.expect("back", map.back() == Some((&"line", &2)));
-    test.expect("get_all", map.get_all(&"line").next_back() == Some(&2));
-    test.expect("iter", map.iter().next() == Some((&"line", &1)));
-    test.expect("keys", map.keys().next_back() == Some(&"page"));
+}
+
+fn get_all_answers(map: &Numbers) -> bool {
+    map.get_all(&"line").next_back() == Some(&2)
+}
+
+fn iter_answers(map: &Numbers) -> bool {
+    map.iter().next() == Some((&"line", &1))
+}
+
+fn keys_answer(map: &Numbers) -> bool {
+    map.keys().next_back() == Some(&"page")
+}
+
+fn values_answer(map: &Numbers) -> bool {
+    map.values().next_back() == Some(&2)
+}
+
+fn pairs_answer(map: &Numbers) -> bool {
+    map.pairs().len() == 2
+}
+
+fn walks_answer(test: &Test, map: &Numbers) {
+    test.expect("get_all", get_all_answers(map));
+    test.expect("iter", iter_answers(map));
+    test.expect("keys", keys_answer(map));
+    test.expect("values", values_answer(map));
+    test.expect("pairs", pairs_answer(map));
+}
+
+fn clone_answers(map: &Numbers) -> Result<bool, AllocError> {
+    Ok(map.clone()?.values_len() == 3)
+}
+
+fn clone_is_equal(map: &Numbers) -> Result<bool, AllocError> {
+    Ok(*map == map.clone()?)
+}
+
+fn into_iter_answers(test: &Test, mut map: Numbers) {
+    test.expect("append", add_three(&mut map).is_ok());
+    let first = map.into_iter().next() == Some(Ok(("line", 1)));
+    test.expect("into_iter", first);
 }
 
 fn has_room(test: &Test, map: &Numbers) {
@@ -39,48 +82,56 @@ fn has_room(test: &Test, map: &Numbers) {
     test.expect("hasher", map.hasher().hash_one(&"line") == hash);
 }
 
-fn changes_answer(test: &Test, map: &mut Numbers) {
+fn removals_answer(test: &Test, map: &mut Numbers) {
     test.expect("remove", map.remove(&"line") == Some(1));
     test.expect(
         "remove_entry",
         map.remove_entry(&"page") == Some(("page", 8)),
     );
+}
+
+fn insertions_answer(test: &Test, map: &mut Numbers) {
     test.expect("append", add_three(map).is_ok());
     test.expect("insert", map.insert("page", 9) == Ok(Some(8)));
     map.clear();
     test.expect("clear", map.is_empty());
-    test.expect("append", add_three(map).is_ok());
 }
 
-fn writes_answer(test: &Test, map: &mut Numbers) {
+fn get_mut_answers(test: &Test, map: &mut Numbers) {
     if let Some(value) = map.get_mut(&"line") {
         *value = 3;
     }
     test.expect("get_mut", map.get(&"line").copied() == Some(3));
+}
+
+fn front_mut_answers(test: &Test, map: &mut Numbers) {
     if let Some((_key, value)) = map.front_mut() {
         *value = 4;
     }
     test.expect("front_mut", map.front() == Some((&"line", &4)));
+}
+
+fn back_mut_answers(test: &Test, map: &mut Numbers) {
     if let Some((_key, value)) = map.back_mut() {
         *value = 9;
     }
     test.expect("back_mut", map.back() == Some((&"line", &9)));
 }
 
-// Where there is a pair, the first and the last can be written.
-fn ends_answer(test: &Test, map: &mut Numbers) {
-    if map.values_len() == 0 {
-        return;
+fn first_answers(test: &Test, map: &mut Numbers) {
+    if map.values_len() > 0 {
+        let (_key, value) = map.first_mut();
+        *value = 4;
+        test.expect("first_mut", map.front() == Some((&"line", &4)));
     }
-    let (_key, value) = map.first_mut();
-    *value = 4;
-    test.expect("first_mut", map.front() == Some((&"line", &4)));
-    if map.values_len() == 0 {
-        return;
+}
+
+fn last_answers(test: &Test, map: &mut Numbers) {
+    if map.values_len() > 0 {
+        let (_key, value) = map.last_mut();
+        *value = 9;
+        test.expect("last_mut", map.back() == Some((&"line", &9)));
     }
-    let (_key, value) = map.last_mut();
-    *value = 9;
-    test.expect("last_mut", map.back() == Some((&"line", &9)));
 }
 
 fn pops_answer(test: &Test, map: &mut Numbers) {
@@ -92,6 +143,9 @@ fn pops_answer(test: &Test, map: &mut Numbers) {
         "pop_back",
         map.pop_back() == Some((KeyWrapper::Owned("line"), 2)),
     );
+}
+
+fn pops_by_functions_answer(test: &Test, map: &mut Numbers) {
     test.expect(
         "pop_front_with",
         map.pop_front_with(|popped| popped.is_some()),
@@ -118,79 +172,107 @@ fn removes_page<K: Eq + Hash + Drop>(map: &mut ListOrderedMultimap<K, u32>, page
     first && stored.is_some()
 }
 
-fn drains_answer(test: &Test, map: &mut Numbers) -> Result<(), AllocError> {
-    test.expect("append", add_three(map).is_ok());
-    let last = map.insert_all("line", 3)?.next_back() == Some(2);
-    test.expect("insert_all", last);
-    test.expect("append", map.append("line", 2).is_ok());
-    test.expect("remove_all", map.remove_all(&"line").next_back() == Some(2));
+fn insert_all_answers(map: &mut Numbers) -> Result<bool, AllocError> {
+    Ok(map.insert_all("line", 3)?.next_back() == Some(2))
+}
+
+fn remove_all_answers(map: &mut Numbers) -> bool {
+    map.remove_all(&"line").next_back() == Some(2)
+}
+
+fn remove_entry_all_answers(map: &mut Numbers) -> bool {
+    map.remove_entry_all(&"none").is_none()
+}
+
+fn drains_answer(test: &Test, map: &mut Numbers) {
+    test.expect("insert_all", insert_all_answers(map) == Ok(true));
+    test.expect("append", appends(map, "line", 2, true));
+    test.expect("remove_all", remove_all_answers(map));
     test.expect("remove_entry_with_all", removes_page(map, &"page"));
-    test.expect("remove_entry_all", map.remove_entry_all(&"none").is_none());
-    Ok(())
+    test.expect("remove_entry_all", remove_entry_all_answers(map));
+}
+
+fn reads_answer(test: &Test, map: &Numbers) {
+    look_ups_answer(test, map);
+    lengths_answer(test, map);
+    ends_answer(test, map);
+    walks_answer(test, map);
+    test.expect("clone", clone_answers(map) == Ok(true));
+    test.expect("==", clone_is_equal(map) == Ok(true));
+    has_room(test, map);
+}
+
+fn add_again(test: &Test, map: &mut Numbers) {
+    map.clear();
+    test.expect("append", add_three(map).is_ok());
+}
+
+fn changes_answer(test: &Test, map: &mut Numbers) {
+    get_mut_answers(test, map);
+    front_mut_answers(test, map);
+    back_mut_answers(test, map);
+    first_answers(test, map);
+    last_answers(test, map);
+    add_again(test, map);
+    removals_answer(test, map);
+    insertions_answer(test, map);
+}
+
+fn examples_hold_on(test: &Test, map: &mut Numbers) {
+    add_again(test, map);
+    reads_answer(test, map);
+    changes_answer(test, map);
+    add_again(test, map);
+    pops_answer(test, map);
+    pops_by_functions_answer(test, map);
+    add_again(test, map);
+    drains_answer(test, map);
+    map.clear();
 }
 
 #[test]
 fn examples_hold(rt: HostRuntime) -> Result<(), Failed> {
     let test = Test::new(rt.alloc());
-    let mut map = ListOrderedMultimap::new(test.alloc());
-    test.expect("append", add_three(&mut map).is_ok());
-    look_ups_answer(&test, &map);
-    walks_answer(&test, &map);
-    has_room(&test, &map);
-    changes_answer(&test, &mut map);
-    pops_answer(&test, &mut map);
+    let alloc = test.alloc();
+    let mut map = ListOrderedMultimap::new(alloc);
+    examples_hold_on(&test, &mut map);
     wrappers_answer(&test);
-    test.expect("drains", drains_answer(&test, &mut map).is_ok());
+    into_iter_answers(&test, map);
     test.end()
 }
 
-fn examples_of_writes(test: &Test, map: &mut Numbers) {
-    test.expect("append", add_three(map).is_ok());
-    writes_answer(test, map);
-    ends_answer(test, map);
-}
-
-#[test]
-fn examples_of_writes_hold(rt: HostRuntime) -> Result<(), Failed> {
-    let test = Test::new(rt.alloc());
-    examples_of_writes(&test, &mut ListOrderedMultimap::new(test.alloc()));
-    test.end()
-}
-
-fn is_empty(test: &Test, map: &Numbers) {
+fn is_empty(test: &Test, map: Numbers) {
     test.expect("no pair", map.is_empty());
-    has_room(test, map);
+    has_room(test, &map);
 }
 
-fn has_room_for_three(test: &Test, map: &Numbers) {
-    is_empty(test, map);
-    test.expect("room for keys", map.keys_capacity() >= 2);
-    test.expect("room for values", map.values_capacity() >= 3);
+fn has_room_for_three(test: &Test, made: Result<Numbers, AllocError>) {
+    match made {
+        Ok(map) => {
+            test.expect("room for keys", map.keys_capacity() >= 2);
+            test.expect("room for values", map.values_capacity() >= 3);
+        }
+        Err(_) => test.expect("memory for three pairs", false),
+    }
 }
 
-fn make_with_capacity(test: &Test) -> Result<(), AllocError> {
-    let alloc = test.alloc();
-    has_room_for_three(test, &ListOrderedMultimap::with_capacity(alloc, 2, 3)?);
-    Ok(())
+fn make_with_capacity(alloc: Global) -> Result<Numbers, AllocError> {
+    Ok(ListOrderedMultimap::with_capacity(alloc, 2, 3)?)
 }
 
-fn make_with_both(test: &Test) -> Result<(), AllocError> {
-    let alloc = test.alloc();
-    let map = ListOrderedMultimap::with_capacity_and_hasher(alloc, 2, 3, DefaultState::new())?;
-    has_room_for_three(test, &map);
-    Ok(())
+fn make_with_both(alloc: Global) -> Result<Numbers, AllocError> {
+    Ok(ListOrderedMultimap::with_capacity_and_hasher(alloc, 2, 3, DefaultState::new())?)
 }
 
 #[test]
 fn examples_of_constructors_hold(rt: HostRuntime) -> Result<(), Failed> {
     let test = Test::new(rt.alloc());
     let alloc = test.alloc();
-    is_empty(&test, &ListOrderedMultimap::new(alloc));
     is_empty(
         &test,
-        &ListOrderedMultimap::with_hasher(alloc, DefaultState::new()),
+        ListOrderedMultimap::with_hasher(alloc, DefaultState::new()),
     );
-    test.expect("with_capacity", make_with_capacity(&test).is_ok());
-    test.expect("with_capacity_and_hasher", make_with_both(&test).is_ok());
+    has_room_for_three(&test, make_with_capacity(alloc));
+    has_room_for_three(&test, make_with_both(alloc));
     test.end()
 }

@@ -1,29 +1,34 @@
-//! Tests of the map, from outside: constructors, appends, look-ups and walks; and the calls and
-//! the maps that tests of its other calls share.
+//! Tests of the map, from outside: constructors, appends, look-ups, walks for reading, clones,
+//! equality, and the walk that takes a map apart; and the maps and comparisons that tests of its
+//! other calls share.
 //!
 //! They stand in a crate of their own, since they need an allocator that refuses: a crate has one
 //! list of dependencies for its code and its tests.
 #![tactic(auto)]
 
 #[cfg(test)]
-mod ample;
-pub mod calls;
-#[cfg(test)]
 mod caseless;
 #[cfg(test)]
-mod constructors;
+mod derives;
+#[cfg(test)]
+mod equal;
 #[cfg(test)]
 mod examples;
 #[cfg(test)]
-mod keys;
+mod hashes;
 #[cfg(test)]
-mod many;
+mod into_iter;
+#[cfg(test)]
+mod key_values;
+pub mod lists;
 pub mod maps;
-#[cfg(test)]
-mod refused;
 #[cfg(test)]
 mod shown;
 #[cfg(test)]
+mod tests;
+#[cfg(test)]
 mod texts;
+#[cfg(test)]
+mod uncloned;
 #[cfg(test)]
 mod walks;

@@ -1,186 +1,97 @@
-//! What Debug shows, and what is equal, of each public type that a map hands out.
-use crate::maps::{MIXED, Numbers, map_of};
-use ordered_multimap::list_ordered_multimap::{EntryValues, Iter, KeyLink, Refused, ValueLink};
-use ordered_multimap::{End, ListOrderedMultimap};
-use test_helpers::{Failed, Test, expect_text, is_compared, is_copied, is_shown};
+//! What Debug shows of a map and of the walks for reading: all, and what is left once an item was
+//! taken.
+use crate::maps::{MIXED_TEXTS, ONE_KEY, Texts, refill};
+use std::alloc::Global;
+use std::fmt;
+use test_helpers::{Test, is_shown};
 
-fn pairs_are_shown(test: &Test, pairs: &mut Iter<'_, u32, u32>) {
-    let all = format!(in test.alloc(); "{pairs:?}");
-    expect_text(
-        test,
-        "all",
-        all,
-        "Iter([(1, 11), (2, 12), (2, 13), (1, 14)])",
-    );
-    test.expect("next", pairs.next().is_some());
-    test.expect("next_back", pairs.next_back().is_some());
-    let left = format!(in test.alloc(); "{pairs:?}");
-    expect_text(test, "what is left", left, "Iter([(2, 12), (2, 13)])");
-}
-
-fn values_are_shown(test: &Test, values: &mut EntryValues<'_, u32, u32>) {
-    let all = format!(in test.alloc(); "{values:?}");
-    expect_text(test, "all", all, "EntryValues([12, 13])");
-    test.expect("next_back", values.next_back().is_some());
-    let left = format!(in test.alloc(); "{values:?}");
-    expect_text(test, "what is left", left, "EntryValues([12])");
-}
-
-fn walks_are_shown(test: &Test, map: &Numbers) {
-    pairs_are_shown(test, &mut map.iter());
-    values_are_shown(test, &mut map.get_all(&2));
-}
-
-#[test]
-fn walks_are_shown_with_what_is_left(rt: HostRuntime) -> Result<(), Failed> {
-    let test = Test::new(rt.alloc());
-    walks_are_shown(&test, &map_of(&test, MIXED));
-    test.end()
-}
-
-// A text that is shown with escapes.
-const QUOTED: &str = "a\"b\n";
-
-const TABBED: &str = "\t\\'";
-
-type Texts = ListOrderedMultimap<&'static str, &'static str>;
-
-fn pairs_of_texts_are_shown(test: &Test, map: &Texts) {
-    let pairs = r#"Iter([("a\"b\n", "\t\\'"), ("a\"b\n", "")])"#;
-    test.expect("pairs", is_shown(test.alloc(), &map.iter(), pairs));
-}
-
-fn values_of_a_text_are_shown(test: &Test, map: &Texts) {
-    let values = r#"EntryValues(["\t\\'", ""])"#;
-    let all = is_shown(test.alloc(), &map.get_all(&QUOTED), values);
-    test.expect("values", all);
-    let none = is_shown(test.alloc(), &map.get_all(&""), "EntryValues([])");
-    test.expect("no value", none);
-}
-
-fn texts_are_shown(test: &Test, map: &mut Texts) {
-    test.expect("append", map.append(QUOTED, TABBED) == Ok(false));
-    test.expect("append again", map.append(QUOTED, "") == Ok(true));
-    pairs_of_texts_are_shown(test, map);
-    values_of_a_text_are_shown(test, map);
-}
-
-#[test]
-fn walks_over_texts_are_shown_with_escapes(rt: HostRuntime) -> Result<(), Failed> {
-    let test = Test::new(rt.alloc());
-    texts_are_shown(&test, &mut ListOrderedMultimap::new(test.alloc()));
-    test.end()
-}
-
-fn refused(key: &'static str, value: &'static str) -> Refused<&'static str, &'static str> {
-    Refused { key, value }
-}
-
-#[test]
-fn a_refusal_is_shown_and_compared(rt: HostRuntime) -> Result<(), Failed> {
-    let test = Test::new(rt.alloc());
-    let pair = refused(QUOTED, TABBED);
-    let wanted = r#"Refused { key: "a\"b\n", value: "\t\\'" }"#;
-    test.expect("shown", is_shown(test.alloc(), &pair, wanted));
-    let like = refused(QUOTED, TABBED);
-    test.expect(
-        "another value",
-        is_compared(&pair, &like, &refused(QUOTED, "")),
-    );
-    test.expect(
-        "another key",
-        is_compared(&pair, &like, &refused("", TABBED)),
-    );
-    let numbers = Refused { key: 1, value: 2 };
-    let wanted = "Refused { key: 1, value: 2 }";
-    test.expect("numbers", is_shown(test.alloc(), &numbers, wanted));
-    let told = format!(in test.alloc(); "{numbers}");
-    expect_text(&test, "told", told, "memory allocation failed");
-    test.end()
-}
-
-fn ends_are_shown_and_compared(test: &Test) {
-    test.expect("front", is_shown(test.alloc(), &End::Front, "Front"));
-    test.expect("back", is_shown(test.alloc(), &End::Back, "Back"));
-    let ends = is_compared(&End::Front, &End::Front, &End::Back);
-    test.expect("ends", ends);
-    test.expect("copied", is_copied(&End::Back));
-}
-
-const KEY_LINK: KeyLink = KeyLink {
-    hash: 1,
-    head: 2,
-    tail: 3,
-    length: 4,
-};
-
-const KEY_LINKS: &[KeyLink] = &[
-    KeyLink {
-        hash: 0,
-        ..KEY_LINK
-    },
-    KeyLink {
-        head: 0,
-        ..KEY_LINK
-    },
-    KeyLink {
-        tail: 0,
-        ..KEY_LINK
-    },
-    KeyLink {
-        length: 0,
-        ..KEY_LINK
-    },
+const PAIRS: [&str; 2] = [
+    r#"Iter([("key1", "value1"), ("key2", "value2"), ("key2", "value3"), ("key1", "value4")])"#,
+    r#"Iter([("key2", "value2"), ("key2", "value3"), ("key1", "value4")])"#,
 ];
 
-fn key_links_are_shown_and_compared(test: &Test) {
-    let wanted = "KeyLink { hash: 1, head: 2, tail: 3, length: 4 }";
-    test.expect("shown", is_shown(test.alloc(), &KEY_LINK, wanted));
-    for (row, other) in KEY_LINKS.iter().enumerate() {
-        test.expect_at("compared", row, is_compared(&KEY_LINK, &KEY_LINK, other));
-    }
-    test.expect("copied", is_copied(&KEY_LINK));
-}
-
-const VALUE_LINK: ValueLink = ValueLink {
-    key: 1,
-    previous: Some(2),
-    next: None,
-};
-
-const VALUE_LINKS: &[ValueLink] = &[
-    ValueLink {
-        key: 0,
-        ..VALUE_LINK
-    },
-    ValueLink {
-        previous: None,
-        ..VALUE_LINK
-    },
-    ValueLink {
-        next: Some(0),
-        ..VALUE_LINK
-    },
+const TAKEN_APART: [&str; 2] = [
+    r#"IntoIter([("key1", "value1"), ("key2", "value2"), ("key2", "value3"), ("key1", "value4")])"#,
+    r#"IntoIter([("key2", "value2"), ("key2", "value3"), ("key1", "value4")])"#,
 ];
 
-fn value_links_are_shown_and_compared(test: &Test) {
-    let wanted = "ValueLink { key: 1, previous: Some(2), next: None }";
-    test.expect("shown", is_shown(test.alloc(), &VALUE_LINK, wanted));
-    for (row, other) in VALUE_LINKS.iter().enumerate() {
-        test.expect_at(
-            "compared",
-            row,
-            is_compared(&VALUE_LINK, &VALUE_LINK, other),
-        );
+const VALUES: [&str; 2] = [
+    r#"Values(["value1", "value2", "value3", "value4"])"#,
+    r#"Values(["value2", "value3", "value4"])"#,
+];
+
+const KEYS: [&str; 2] = [r#"Keys(["key1", "key2"])"#, r#"Keys(["key2"])"#];
+
+const KEY_VALUES: [&str; 2] = [
+    concat!(
+        r#"KeyValues([("key1", EntryValues(["value1", "value4"])), "#,
+        r#"("key2", EntryValues(["value2", "value3"]))])"#
+    ),
+    r#"KeyValues([("key2", EntryValues(["value2", "value3"]))])"#,
+];
+
+const VALUES_OF_A_KEY: [&str; 2] = [
+    r#"EntryValues(["value1", "value2", "value3", "value4"])"#,
+    r#"EntryValues(["value2", "value3", "value4"])"#,
+];
+
+const MAP: &str = r#"{"key1": "value1", "key2": "value2", "key2": "value3", "key1": "value4"}"#;
+
+// Whether a walk is shown by both texts, the second one once its first item was taken.
+fn is_shown_twice<W: Iterator + fmt::Debug>(alloc: Global, walk: &mut W, texts: [&str; 2]) -> bool
+where
+    W::Item: Drop,
+    requires { (state : W) → W.can_next state }
+{
+    let [all, rest] = texts;
+    if !is_shown(alloc, walk, all) {
+        return false;
     }
-    test.expect("copied", is_copied(&VALUE_LINK));
+    drop(walk.next());
+    is_shown(alloc, walk, rest)
 }
 
-#[test]
-fn ends_and_links_are_shown_and_compared(rt: HostRuntime) -> Result<(), Failed> {
-    let test = Test::new(rt.alloc());
-    ends_are_shown_and_compared(&test);
-    key_links_are_shown_and_compared(&test);
-    value_links_are_shown_and_compared(&test);
-    test.end()
+fn pairs_are_shown(alloc: Global, map: &Texts) -> bool {
+    is_shown_twice(alloc, &mut map.iter(), PAIRS)
+}
+
+fn values_are_shown(alloc: Global, map: &Texts) -> bool {
+    is_shown_twice(alloc, &mut map.values(), VALUES)
+}
+
+fn keys_are_shown(alloc: Global, map: &Texts) -> bool {
+    is_shown_twice(alloc, &mut map.keys(), KEYS)
+}
+
+fn key_values_are_shown(alloc: Global, map: &Texts) -> bool {
+    is_shown_twice(alloc, &mut map.pairs(), KEY_VALUES)
+}
+
+fn walks_are_shown(test: &Test, map: &Texts) {
+    test.expect("iter", pairs_are_shown(test.alloc(), map));
+    test.expect("values", values_are_shown(test.alloc(), map));
+    test.expect("keys", keys_are_shown(test.alloc(), map));
+    test.expect("pairs", key_values_are_shown(test.alloc(), map));
+    test.expect("map", is_shown(test.alloc(), map, MAP));
+}
+
+fn walk_of_a_key_is_shown(test: &Test, map: &Texts) {
+    let mut values = map.get_all(&"key");
+    let shown = is_shown_twice(test.alloc(), &mut values, VALUES_OF_A_KEY);
+    test.expect("get_all", shown);
+}
+
+/// The texts of a map and of its walks.
+pub fn are_shown(test: &Test, map: &mut Texts) {
+    refill(test, map, MIXED_TEXTS);
+    walks_are_shown(test, map);
+    refill(test, map, ONE_KEY);
+    walk_of_a_key_is_shown(test, map);
+}
+
+/// The texts of the walk that takes a map apart.
+pub fn is_shown_apart(test: &Test, map: Texts) {
+    let mut walk = map.into_iter();
+    let shown = is_shown_twice(test.alloc(), &mut walk, TAKEN_APART);
+    test.expect("into_iter", shown);
 }

@@ -1,234 +1,212 @@
-//! Walks from both ends, over all pairs and over one key's values.
-use crate::maps::{MIXED, Numbers, map_of};
-use ordered_multimap::ListOrderedMultimap;
-use ordered_multimap::list_ordered_multimap::{EntryValues, Iter};
-use test_helpers::{End, Failed, Test, walk_difference};
+//! Walks for reading, from both ends, and their clones.
+use crate::lists::{appends, goes_on, inserts};
+use crate::maps::{MIXED_TEXTS, ONE_KEY, Texts, refill};
+use test_helpers::{End, Test, walk_difference};
 
-// What the front or the back gives: a pair, or a value.
-type PairStep = (End, (u32, u32));
+type Text = &'static str;
 
-type ValueStep = (End, u32);
-
-// One key with four values, and one pair of another key in their midst.
-const GROUPED: &[(u32, u32)] = &[(1, 11), (1, 12), (2, 20), (1, 13), (1, 14)];
-
-// A walk over all pairs of a map.
-struct PairWalk {
-    name: &'static str,
-    pairs: &'static [(u32, u32)],
-    steps: &'static [PairStep],
+// A map of these pairs, and what each walk over it answers: over all pairs, over their values, over
+// the keys, and over the values of one key.
+struct Row {
+    pairs: &'static [(Text, Text)],
+    iter: &'static [(End, (Text, Text))],
+    values: &'static [(End, Text)],
+    keys: &'static [(End, Text)],
+    key: Text,
+    get_all: &'static [(End, Text)],
 }
 
-// A walk over one key's values.
-struct ValueWalk {
-    name: &'static str,
-    pairs: &'static [(u32, u32)],
-    key: u32,
-    steps: &'static [ValueStep],
-}
+const VALUES: &[(End, Text)] = &[
+    (End::Front, "value1"),
+    (End::Back, "value4"),
+    (End::Front, "value2"),
+    (End::Back, "value3"),
+];
 
-const PAIR_WALKS: &[PairWalk] = &[
-    PairWalk {
-        name: "an empty map",
+const VALUES_FORTH: &[(End, Text)] = &[
+    (End::Front, "value1"),
+    (End::Front, "value2"),
+    (End::Front, "value3"),
+    (End::Front, "value4"),
+];
+
+const ROWS: &[Row] = &[
+    Row {
         pairs: &[],
-        steps: &[],
+        iter: &[],
+        values: &[],
+        keys: &[],
+        key: "key",
+        get_all: &[],
     },
-    PairWalk {
-        name: "one pair",
-        pairs: &[(1, 11)],
-        steps: &[(End::Front, (1, 11))],
+    Row {
+        pairs: &[("key", "value")],
+        iter: &[(End::Front, ("key", "value"))],
+        values: &[(End::Front, "value")],
+        keys: &[(End::Front, "key")],
+        key: "key",
+        get_all: &[(End::Front, "value")],
     },
-    PairWalk {
-        name: "one pair from the back",
-        pairs: &[(1, 11)],
-        steps: &[(End::Back, (1, 11))],
-    },
-    PairWalk {
-        name: "from both ends",
-        pairs: MIXED,
-        steps: &[
-            (End::Front, (1, 11)),
-            (End::Back, (1, 14)),
-            (End::Front, (2, 12)),
-            (End::Back, (2, 13)),
+    Row {
+        pairs: MIXED_TEXTS,
+        iter: &[
+            (End::Front, ("key1", "value1")),
+            (End::Back, ("key1", "value4")),
+            (End::Front, ("key2", "value2")),
+            (End::Back, ("key2", "value3")),
         ],
+        values: VALUES,
+        keys: &[(End::Front, "key1"), (End::Back, "key2")],
+        key: "key1",
+        get_all: &[(End::Front, "value1"), (End::Back, "value4")],
     },
-    PairWalk {
-        name: "from the front",
-        pairs: MIXED,
-        steps: &[
-            (End::Front, (1, 11)),
-            (End::Front, (2, 12)),
-            (End::Front, (2, 13)),
-            (End::Front, (1, 14)),
+    Row {
+        pairs: MIXED_TEXTS,
+        iter: &[
+            (End::Front, ("key1", "value1")),
+            (End::Front, ("key2", "value2")),
+            (End::Front, ("key2", "value3")),
+            (End::Front, ("key1", "value4")),
         ],
+        values: VALUES_FORTH,
+        keys: &[(End::Front, "key1"), (End::Front, "key2")],
+        key: "key",
+        get_all: &[],
+    },
+    Row {
+        pairs: ONE_KEY,
+        iter: &[
+            (End::Front, ("key", "value1")),
+            (End::Back, ("key", "value4")),
+            (End::Back, ("key", "value3")),
+            (End::Back, ("key", "value2")),
+        ],
+        values: VALUES,
+        keys: &[(End::Back, "key")],
+        key: "key",
+        get_all: VALUES,
+    },
+    Row {
+        pairs: ONE_KEY,
+        iter: &[
+            (End::Back, ("key", "value4")),
+            (End::Back, ("key", "value3")),
+            (End::Front, ("key", "value1")),
+            (End::Front, ("key", "value2")),
+        ],
+        values: VALUES_FORTH,
+        keys: &[(End::Front, "key")],
+        key: "key",
+        get_all: VALUES_FORTH,
     },
 ];
 
-const VALUE_WALKS: &[ValueWalk] = &[
-    ValueWalk {
-        name: "an empty map",
-        pairs: &[],
-        key: 1,
-        steps: &[],
-    },
-    ValueWalk {
-        name: "one value",
-        pairs: &[(1, 11)],
-        key: 1,
-        steps: &[(End::Front, 11)],
-    },
-    ValueWalk {
-        name: "an absent key",
-        pairs: MIXED,
-        key: 3,
-        steps: &[],
-    },
-    ValueWalk {
-        name: "the outer key",
-        pairs: MIXED,
-        key: 1,
-        steps: &[(End::Front, 11), (End::Front, 14)],
-    },
-    ValueWalk {
-        name: "the inner key",
-        pairs: MIXED,
-        key: 2,
-        steps: &[(End::Back, 13), (End::Back, 12)],
-    },
-    ValueWalk {
-        name: "a lone value",
-        pairs: GROUPED,
-        key: 2,
-        steps: &[(End::Back, 20)],
-    },
-    ValueWalk {
-        name: "from both ends",
-        pairs: GROUPED,
-        key: 1,
-        steps: &[
-            (End::Front, 11),
-            (End::Back, 14),
-            (End::Front, 12),
-            (End::Back, 13),
-        ],
-    },
-    ValueWalk {
-        name: "from the front",
-        pairs: GROUPED,
-        key: 1,
-        steps: &[
-            (End::Front, 11),
-            (End::Front, 12),
-            (End::Front, 13),
-            (End::Front, 14),
-        ],
-    },
+fn pairs_answer(map: &Texts, row: &Row) -> bool {
+    walk_difference(&mut map.iter(), row.iter).is_none()
+}
+
+fn values_answer(map: &Texts, row: &Row) -> bool {
+    walk_difference(&mut map.values(), row.values).is_none()
+}
+
+fn keys_answer(map: &Texts, row: &Row) -> bool {
+    walk_difference(&mut map.keys(), row.keys).is_none()
+}
+
+fn values_of_a_key_answer(map: &Texts, row: &Row) -> bool {
+    walk_difference(&mut map.get_all(&row.key), row.get_all).is_none()
+}
+
+fn walks_answer(test: &Test, map: &Texts, at: usize, row: &Row) {
+    test.expect_at("iter", at, pairs_answer(map, row));
+    test.expect_at("values", at, values_answer(map, row));
+    test.expect_at("keys", at, keys_answer(map, row));
+    test.expect_at("get_all", at, values_of_a_key_answer(map, row));
+}
+
+fn rows_answer(test: &Test, map: &mut Texts) {
+    for (at, row) in ROWS.iter().enumerate() {
+        refill(test, map, row.pairs);
+        walks_answer(test, map, at, row);
+    }
+}
+
+const PAIRS_LEFT: &[(End, (Text, Text))] = &[
+    (End::Back, ("key1", "value4")),
+    (End::Front, ("key2", "value2")),
+    (End::Front, ("key2", "value3")),
 ];
 
-fn expect_pairs(test: &Test, map: &Numbers, row: &PairWalk) {
-    test.expect_same(row.name, walk_difference(&mut map.iter(), row.steps));
+const VALUES_LEFT: &[(End, Text)] = &[
+    (End::Back, "value4"),
+    (End::Front, "value2"),
+    (End::Front, "value3"),
+];
+
+fn clone_of_pairs(test: &Test, map: &Texts) {
+    test.expect("iter", goes_on(&mut map.iter(), PAIRS_LEFT));
 }
 
-fn expect_values(test: &Test, map: &Numbers, row: &ValueWalk) {
-    test.expect_same(
-        row.name,
-        walk_difference(&mut map.get_all(&row.key), row.steps),
-    );
+fn clone_of_values(test: &Test, map: &Texts) {
+    test.expect("values", goes_on(&mut map.values(), VALUES_LEFT));
 }
 
-fn pair_walk_answers(test: &Test, row: &PairWalk) {
-    expect_pairs(test, &map_of(test, row.pairs), row);
+fn clone_of_keys(test: &Test, map: &Texts) {
+    let last = [(End::Front, "key2")];
+    test.expect("keys", goes_on(&mut map.keys(), &last));
 }
 
-fn value_walk_answers(test: &Test, row: &ValueWalk) {
-    expect_values(test, &map_of(test, row.pairs), row);
+fn clone_of_values_of_a_key(test: &Test, map: &Texts) {
+    let last = [(End::Back, "value4")];
+    test.expect("get_all", goes_on(&mut map.get_all(&"key1"), &last));
 }
 
-#[test]
-fn pairs_are_taken_from_both_ends(rt: HostRuntime) -> Result<(), Failed> {
-    let test = Test::new(rt.alloc());
-    for row in PAIR_WALKS {
-        pair_walk_answers(&test, row);
-    }
-    test.end()
+fn clones_go_on(test: &Test, map: &Texts) {
+    clone_of_pairs(test, map);
+    clone_of_values(test, map);
+    clone_of_keys(test, map);
+    clone_of_values_of_a_key(test, map);
 }
 
-#[test]
-fn values_of_a_key_are_taken_from_both_ends(rt: HostRuntime) -> Result<(), Failed> {
-    let test = Test::new(rt.alloc());
-    for row in VALUE_WALKS {
-        value_walk_answers(&test, row);
-    }
-    test.end()
+fn insert(test: &Test, map: &mut Texts, pair: (Text, Text), old: Option<Text>) {
+    test.expect("insert", inserts(map, pair.0, pair.1, &old));
 }
 
-fn values_are_cloned(test: &Test, values: &mut EntryValues<'_, u32, u32>) {
-    test.expect("the first", values.next().copied() == Some(11));
-    let rest = [(End::Front, 12), (End::Front, 13), (End::Front, 14)];
-    match values.clone() {
-        Ok(mut copy) => test.expect_same("the clone", walk_difference(&mut copy, &rest)),
-        Err(_) => test.expect("a clone takes no memory", false),
-    }
-    test.expect_same("the walk", walk_difference(values, &rest));
-}
-
-fn pairs_are_cloned(test: &Test, pairs: &mut Iter<'_, u32, u32>) {
-    test.expect("the last", pairs.next_back().is_some());
-    let rest = [
-        (End::Back, (1, 13)),
-        (End::Front, (1, 11)),
-        (End::Front, (1, 12)),
-        (End::Back, (2, 20)),
+fn three_keys_are_walked(test: &Test, map: &mut Texts) {
+    insert(test, map, ("key1", "value1"), None);
+    insert(test, map, ("key2", "value2"), None);
+    insert(test, map, ("key1", "value3"), Some("value1"));
+    insert(test, map, ("key3", "value4"), None);
+    let keys = [
+        (End::Front, "key1"),
+        (End::Front, "key2"),
+        (End::Front, "key3"),
     ];
-    match pairs.clone() {
-        Ok(mut copy) => test.expect_same("the clone", walk_difference(&mut copy, &rest)),
-        Err(_) => test.expect("a clone takes no memory", false),
-    }
-    test.expect_same("the walk", walk_difference(pairs, &rest));
+    test.expect_same("keys", walk_difference(&mut map.keys(), &keys));
 }
 
-fn walks_are_cloned(test: &Test, map: &Numbers) {
-    values_are_cloned(test, &mut map.get_all(&1));
-    pairs_are_cloned(test, &mut map.iter());
+const FOUR: &[(End, (Text, Text))] = &[
+    (End::Front, ("key1", "value1")),
+    (End::Front, ("key2", "value1")),
+    (End::Front, ("key1", "value2")),
+    (End::Front, ("key2", "value2")),
+];
+
+fn four_pairs_are_walked(test: &Test, map: &mut Texts) {
+    insert(test, map, ("key1", "value1"), None);
+    insert(test, map, ("key2", "value1"), None);
+    test.expect("append", appends(map, "key1", "value2", true));
+    test.expect("append", appends(map, "key2", "value2", true));
+    test.expect_same("pairs", walk_difference(&mut map.iter(), FOUR));
 }
 
-#[test]
-fn a_clone_goes_on_where_the_walk_is(rt: HostRuntime) -> Result<(), Failed> {
-    let test = Test::new(rt.alloc());
-    walks_are_cloned(&test, &map_of(&test, GROUPED));
-    test.end()
-}
-
-// Keys and values that live as long as the map's owner says.
-type Texts<'text> = ListOrderedMultimap<&'text str, &'text str>;
-
-// Appends a value of the key, which then is the last pair's.
-fn append_text(test: &Test, map: &mut Texts<'_>, value: &'static str, count: usize) {
-    test.expect(value, map.append("key", value) == Ok(count > 1));
-    let is_last = match map.back() {
-        Some((key, last)) => *key == "key" && *last == value,
-        None => false,
-    };
-    test.expect("back", is_last);
-    test.expect("entry_len", map.entry_len(&"key") == count);
-}
-
-fn texts_are_appended(test: &Test, map: &mut Texts<'_>) {
-    test.expect("back", map.back().is_none());
-    test.expect("entry_len", map.entry_len(&"key") == 0);
-    append_text(test, map, "value1", 1);
-    append_text(test, map, "value2", 2);
-    let wanted = [(End::Front, "value1"), (End::Front, "value2")];
-    test.expect_same(
-        "get_all",
-        walk_difference(&mut map.get_all(&"key"), &wanted),
-    );
-}
-
-#[test]
-fn appended_values_are_walked(rt: HostRuntime) -> Result<(), Failed> {
-    let test = Test::new(rt.alloc());
-    texts_are_appended(&test, &mut ListOrderedMultimap::new(test.alloc()));
-    test.end()
+/// Walks from both ends, their clones, and walks over what was inserted.
+pub fn are_taken(test: &Test, map: &mut Texts) {
+    rows_answer(test, map);
+    refill(test, map, MIXED_TEXTS);
+    clones_go_on(test, map);
+    map.clear();
+    three_keys_are_walked(test, map);
+    map.clear();
+    four_pairs_are_walked(test, map);
 }

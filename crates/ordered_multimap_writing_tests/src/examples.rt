@@ -2,6 +2,7 @@
 //! whether each line of theirs stands here.
 use ordered_multimap::ListOrderedMultimap;
 use ordered_multimap::list_ordered_multimap::Entry;
+use ordered_multimap_tests::lists::has_pairs;
 use test_helpers::{Failed, Test};
 
 type Numbers = ListOrderedMultimap<&'static str, u32>;
@@ -42,7 +43,8 @@ fn entry_is_written(test: &Test, map: &mut Numbers) {
             *value = 7;
         }
     }
-    test.expect("iter_mut of an entry", map.get(&"line") == Some(&7));
+    let written = has_pairs(map, &[("line", 7), ("page", 8), ("line", 7)]);
+    test.expect("iter_mut of an entry", written);
 }
 
 fn examples(test: &Test, map: &mut Numbers) {

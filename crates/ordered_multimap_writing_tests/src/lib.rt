@@ -4,8 +4,6 @@
 
 pub mod callers;
 #[cfg(test)]
-mod entries;
-#[cfg(test)]
 mod examples;
 #[cfg(test)]
 mod keys;
@@ -15,6 +13,8 @@ mod rest;
 mod shown;
 #[cfg(test)]
 mod steps;
+#[cfg(test)]
+mod tests;
 #[cfg(test)]
 mod unread;
 #[cfg(test)]

@@ -1,53 +1,66 @@
-//! The Debug texts of walks for writing, over texts.
-use ordered_multimap::ListOrderedMultimap;
-use test_helpers::{Failed, Test, expect_text};
+//! The Debug texts of walks for writing, and of what they have left: all, and what is left once an
+//! item was taken.
+use ordered_multimap_tests::maps::{MIXED_TEXTS, ONE_KEY, Texts, fill, refill};
+use test_helpers::{Test, is_shown};
 
-type Texts = ListOrderedMultimap<&'static str, &'static str>;
+const PAIRS: &str =
+    r#"IterMut([("key1", "value1"), ("key2", "value2"), ("key2", "value3"), ("key1", "value4")])"#;
 
-fn fill_texts(test: &Test, map: &mut Texts) {
-    test.expect("insert", map.insert("key1", "value1") == Ok(None));
-    test.expect("append", map.append("key2", "value2") == Ok(false));
-    test.expect("append", map.append("key2", "value3") == Ok(true));
-    test.expect("append", map.append("key1", "value4") == Ok(true));
-}
+const PAIRS_LEFT: &str =
+    r#"IterRest([("key2", "value2"), ("key2", "value3"), ("key1", "value4")])"#;
 
 fn pairs_are_shown(test: &Test, map: &mut Texts) {
-    let wanted =
-        r#"IterMut([("key1", "value1"), ("key2", "value2"), ("key2", "value3"), ("key1", "value4")])"#;
-    let shown = format!(in test.alloc(); "{:?}", map.iter_mut());
-    expect_text(test, "pairs", shown, wanted);
+    let mut walk = map.iter_mut();
+    test.expect("pairs", is_shown(test.alloc(), &walk, PAIRS));
+    test.expect("next", walk.next().is_some());
+    let left = is_shown(test.alloc(), &walk.iter(), PAIRS_LEFT);
+    test.expect("pairs left", left);
 }
+
+const VALUES: &str = r#"ValuesMut(["value1", "value2", "value3", "value4"])"#;
+
+const VALUES_LEFT: &str = r#"ValuesRest(["value2", "value3", "value4"])"#;
 
 fn values_are_shown(test: &Test, map: &mut Texts) {
-    let wanted = r#"ValuesMut(["value1", "value2", "value3", "value4"])"#;
-    let shown = format!(in test.alloc(); "{:?}", map.values_mut());
-    expect_text(test, "values", shown, wanted);
+    let mut walk = map.values_mut();
+    test.expect("values", is_shown(test.alloc(), &walk, VALUES));
+    test.expect("next", walk.next().is_some());
+    let left = is_shown(test.alloc(), &walk.iter(), VALUES_LEFT);
+    test.expect("values left", left);
 }
+
+const VALUES_OF_A_KEY: &str = r#"EntryValuesMut(["value1", "value2", "value3", "value4"])"#;
+
+const LEFT_OF_A_KEY: &str = r#"EntryValuesRest(["value2", "value3", "value4"])"#;
 
 fn values_of_a_key_are_shown(test: &Test, map: &mut Texts) {
-    let wanted = r#"EntryValuesMut(["value2", "value3"])"#;
-    let shown = format!(in test.alloc(); "{:?}", map.get_all_mut(&"key2"));
-    expect_text(test, "values of a key", shown, wanted);
+    let mut walk = map.get_all_mut(&"key");
+    test.expect("all", is_shown(test.alloc(), &walk, VALUES_OF_A_KEY));
+    test.expect("next", walk.next().is_some());
+    let left = is_shown(test.alloc(), &walk.iter(), LEFT_OF_A_KEY);
+    test.expect("left", left);
 }
+
+const KEYS: &str = concat!(
+    r#"KeyValuesMut([("key1", EntryValues(["value1", "value4"])), "#,
+    r#"("key2", EntryValues(["value2", "value3"]))])"#
+);
+
+const KEY_LEFT: &str = r#"KeyValuesMut([("key2", EntryValues(["value2", "value3"]))])"#;
 
 fn keys_are_shown(test: &Test, map: &mut Texts) {
-    let wanted =
-        r#"KeyValuesMut([("key1", EntryValues(["value1", "value4"])), ("key2", EntryValues(["value2", "value3"]))])"#;
-    let shown = format!(in test.alloc(); "{:?}", map.pairs_mut());
-    expect_text(test, "keys", shown, wanted);
+    let mut walk = map.pairs_mut();
+    test.expect("keys", is_shown(test.alloc(), &walk, KEYS));
+    test.expect("next", walk.next().is_some());
+    test.expect("key left", is_shown(test.alloc(), &walk, KEY_LEFT));
 }
 
-fn walks_are_shown(test: &Test, map: &mut Texts) {
-    fill_texts(test, map);
+/// Walks over texts are shown.
+pub fn walks_are_shown(test: &Test, map: &mut Texts) {
+    fill(test, map, MIXED_TEXTS);
     pairs_are_shown(test, map);
     values_are_shown(test, map);
-    values_of_a_key_are_shown(test, map);
     keys_are_shown(test, map);
-}
-
-#[test]
-fn walks_over_texts_are_shown(rt: HostRuntime) -> Result<(), Failed> {
-    let test = Test::new(rt.alloc());
-    walks_are_shown(&test, &mut ListOrderedMultimap::new(test.alloc()));
-    test.end()
+    refill(test, map, ONE_KEY);
+    values_of_a_key_are_shown(test, map);
 }

@@ -3,13 +3,13 @@ ghost use Rattle.ordered_multimap.specs.WritingWalk.{EntryValuesMutCanStep, Iter
 
 use ordered_multimap::list_ordered_multimap::{EntryValuesMut, IterMut, ValuesMut};
 use ordered_multimap_tests::maps::Numbers;
-use test_helpers::{End, Test, walk_difference};
+use test_helpers::{End, Test};
 
-/// An end, and the value that a step lends there.
-pub type Step = (End, Option<u32>);
+/// An end, how many values are left before, and the value that a step lends there.
+pub type Step = (End, usize, Option<u32>);
 
-/// An end, and the pair that a step lends there.
-pub type PairStep = (End, Option<(u32, u32)>);
+/// The same of pairs.
+pub type PairStep = (End, usize, Option<(u32, u32)>);
 
 /// Whether both tellings of how many items are left are this number.
 fn has_left<W: ExactSizeIterator>(walk: &W, left: usize) -> bool {
@@ -66,36 +66,21 @@ fn take_of_key(walk: &mut EntryValuesMut<'_, u32, u32>, end: End) -> Option<u32>
     }
 }
 
-/// How many items a walk has left at first that lends these.
-fn items_of<T>(steps: &[(End, Option<T>)]) -> usize {
-    let mut items = 0usize;
-    for (_, item) in steps {
-        if item.is_some() {
-            items = items.saturating_add(1);
-        }
-    }
-    items
-}
-
 fn pairs_are_lent(test: &Test, walk: &mut IterMut<'_, u32, u32>, steps: &[PairStep])
     requires { IterMutCanStep walk.old }
 {
-    let mut left = items_of(steps);
-    for (row, (end, pair)) in steps.iter().enumerate() {
-        test.expect_at("left", row, has_left(walk, left));
+    for (row, (end, left, pair)) in steps.iter().enumerate() {
+        test.expect_at("left", row, has_left(walk, *left));
         test.expect_at("pair", row, take_pair(walk, *end) == *pair);
-        left = left.saturating_sub(1);
     }
 }
 
 fn values_are_lent(test: &Test, walk: &mut ValuesMut<'_, u32, u32>, steps: &[Step])
     requires { ValuesMutCanStep walk.old }
 {
-    let mut left = items_of(steps);
-    for (row, (end, value)) in steps.iter().enumerate() {
-        test.expect_at("left", row, has_left(walk, left));
+    for (row, (end, left, value)) in steps.iter().enumerate() {
+        test.expect_at("left", row, has_left(walk, *left));
         test.expect_at("value", row, take_value(walk, *end) == *value);
-        left = left.saturating_sub(1);
     }
 }
 
@@ -107,11 +92,9 @@ pub fn values_of_a_key_are_lent(
 )
     requires { EntryValuesMutCanStep walk.old }
 {
-    let mut left = items_of(steps);
-    for (row, (end, value)) in steps.iter().enumerate() {
-        test.expect_at("left", row, has_left(walk, left));
+    for (row, (end, left, value)) in steps.iter().enumerate() {
+        test.expect_at("left", row, has_left(walk, *left));
         test.expect_at("value of a key", row, take_of_key(walk, *end) == *value);
-        left = left.saturating_sub(1);
     }
 }
 
@@ -128,18 +111,4 @@ pub fn value_walk(test: &Test, map: &mut Numbers, steps: &[Step]) {
 /// Expects the same of `get_all_mut`.
 pub fn key_walk(test: &Test, map: &mut Numbers, key: u32, steps: &[Step]) {
     values_of_a_key_are_lent(test, &mut map.get_all_mut(&key), steps);
-}
-
-/// Expects these values of the keys 1, 2, 2 and 1, in this order, and no other pair.
-pub fn expect_values(test: &Test, map: &Numbers, wanted: [u32; 4]) {
-    let [first, second, third, fourth] = wanted;
-    let steps = [
-        (End::Front, (1, first)),
-        (End::Front, (2, second)),
-        (End::Front, (2, third)),
-        (End::Front, (1, fourth)),
-    ];
-    test.expect_same("pairs", walk_difference(&mut map.iter(), &steps));
-    let keys = [(End::Front, 1), (End::Front, 2)];
-    test.expect_same("keys", walk_difference(&mut map.keys(), &keys));
 }

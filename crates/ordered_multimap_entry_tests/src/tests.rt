@@ -1,0 +1,50 @@
+//! The tests: each makes one map and lends it to all comparisons of its type, since a map that is
+//! owned costs its proof more than all that it is lent to.
+use crate::entries::{entries_are_filled, functions_are_called_once, values_are_replaced};
+use crate::examples::{examples_of_numbers_hold, examples_of_texts_hold};
+use crate::texts::{Counts, keys_are_entered, values_are_counted};
+use ordered_multimap::ListOrderedMultimap;
+use ordered_multimap_tests::maps::Numbers;
+use refusing_allocator::RefusingAllocator;
+use test_helpers::{Failed, Test};
+
+#[test]
+fn texts_are_entered(rt: HostRuntime) -> Result<(), Failed> {
+    let test = Test::new(rt.alloc());
+    keys_are_entered(&test, &mut ListOrderedMultimap::new(test.alloc()));
+    test.end()
+}
+
+fn counts(test: &Test, map: &mut Counts) {
+    values_are_counted(test, map);
+    examples_of_texts_hold(test, map);
+}
+
+#[test]
+fn counts_are_entered(rt: HostRuntime) -> Result<(), Failed> {
+    let test = Test::new(rt.alloc());
+    counts(&test, &mut ListOrderedMultimap::new(test.alloc()));
+    test.end()
+}
+
+fn numbers(test: &Test, map: &mut Numbers) {
+    entries_are_filled(test, map);
+    functions_are_called_once(test, map);
+    map.clear();
+    examples_of_numbers_hold(test, map);
+}
+
+#[test]
+fn numbers_are_entered(rt: HostRuntime) -> Result<(), Failed> {
+    let test = Test::new(rt.alloc());
+    numbers(&test, &mut ListOrderedMultimap::new(test.alloc()));
+    test.end()
+}
+
+#[test]
+fn an_occupied_entry_takes_no_memory(rt: HostRuntime) -> Result<(), Failed> {
+    let test = Test::new(rt.alloc());
+    let allocator = RefusingAllocator::unlimited(test.alloc());
+    values_are_replaced(&test, &allocator, &mut ListOrderedMultimap::new(&allocator));
+    test.end()
+}

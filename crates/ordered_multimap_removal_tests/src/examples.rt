@@ -1,0 +1,56 @@
+//! The example of `retain`, and values below zero that go, as tests. `tools/examples` says whether
+//! the line of the example stands here.
+use ordered_multimap::ListOrderedMultimap;
+use ordered_multimap_tests::lists::{appends, has_lists, has_pairs, inserts};
+use ordered_multimap_tests::maps::fill;
+use test_helpers::{Failed, Test};
+
+type Texts = ListOrderedMultimap<&'static str, i64>;
+
+fn page_goes(test: &Test, map: &mut Texts) {
+    fill(test, map, &[("line", 1), ("page", 8), ("line", 2)]);
+    map.retain(|_key, value| *value != 8);
+    let left = has_lists(map, &[("line", 1), ("line", 2)], &["line"]);
+    test.expect("retain", left);
+}
+
+// A pair, and whether it is appended; else it takes the place of others.
+const ADDED: &[(&str, i64, bool)] = &[
+    ("key1", 1, false),
+    ("key2", 5, false),
+    ("key1", -1, true),
+    ("key3", -10, false),
+    ("key4", 1, false),
+    ("key4", -1, true),
+    ("key4", 1, true),
+];
+
+fn add(map: &mut Texts, key: &'static str, value: i64, appended: bool) -> bool {
+    if appended {
+        appends(map, key, value, true)
+    } else {
+        inserts(map, key, value, &None)
+    }
+}
+
+fn values_below_zero_go(test: &Test, map: &mut Texts) {
+    map.clear();
+    for (row, (key, value, appended)) in ADDED.iter().enumerate() {
+        test.expect_at("added", row, add(map, key, *value, *appended));
+    }
+    map.retain(|_key, value| *value >= 0);
+    let kept = [("key1", 1), ("key2", 5), ("key4", 1), ("key4", 1)];
+    test.expect("four pairs", has_pairs(map, &kept));
+}
+
+fn some_stay(test: &Test, map: &mut Texts) {
+    page_goes(test, map);
+    values_below_zero_go(test, map);
+}
+
+#[test]
+fn texts_stay_by_their_values(rt: HostRuntime) -> Result<(), Failed> {
+    let test = Test::new(rt.alloc());
+    some_stay(&test, &mut ListOrderedMultimap::new(test.alloc()));
+    test.end()
+}

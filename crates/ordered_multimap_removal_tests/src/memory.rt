@@ -1,0 +1,104 @@
+//! Room that is used again and again where all memory is refused.
+use ordered_multimap::ListOrderedMultimap;
+use ordered_multimap_tests::lists::{appends, has_lists, inserts};
+use ordered_multimap_tests::maps::{Refusing, reserve_anew};
+use refusing_allocator::RefusingAllocator;
+use std::mem;
+use test_helpers::{End, Failed, Test, walk_difference};
+
+fn append(test: &Test, map: &mut Refusing<'_>, pair: (u32, u32), present: bool) {
+    test.expect("append", appends(map, pair.0, pair.1, present));
+}
+
+// Two values come and leave by a drain that is dropped after one step.
+fn two_come_and_leave(test: &Test, map: &mut Refusing<'_>) {
+    append(test, map, (1, 1), false);
+    append(test, map, (1, 2), true);
+    test.expect("next", map.remove_all(&1).next() == Some(1));
+}
+
+fn drains_are_dropped(test: &Test, allocator: &RefusingAllocator, map: &mut Refusing<'_>) {
+    allocator.refuse_all();
+    for _ in 0..50 {
+        two_come_and_leave(test, map);
+    }
+    test.expect("no request", !allocator.refused());
+    test.expect("no pair", map.is_empty());
+}
+
+fn two_come_behind_forgotten_ones(test: &Test, map: &mut Refusing<'_>) {
+    mem::forget(map.remove_all(&1));
+    append(test, map, (1, 1), false);
+    append(test, map, (1, 2), true);
+}
+
+fn drains_are_forgotten(test: &Test, allocator: &RefusingAllocator, map: &mut Refusing<'_>) {
+    reserve_anew(test, allocator, map, 2, 4);
+    append(test, map, (1, 1), false);
+    append(test, map, (1, 2), true);
+    append(test, map, (2, 3), false);
+    for _ in 0..30 {
+        two_come_behind_forgotten_ones(test, map);
+    }
+    let left = has_lists(map, &[(2, 3), (1, 1), (1, 2)], &[2, 1]);
+    test.expect("no request", !allocator.refused());
+    test.expect("three pairs", left);
+}
+
+// A pair comes, and an older one of its key goes.
+fn one_goes_for_one(test: &Test, map: &mut Refusing<'_>, number: u32) {
+    append(test, map, (1, number), true);
+    let gone = number.saturating_sub(2);
+    map.retain(|key, value| *key != 1 || *value != gone);
+}
+
+fn pairs_come_and_go(test: &Test, allocator: &RefusingAllocator, map: &mut Refusing<'_>) {
+    reserve_anew(test, allocator, map, 2, 4);
+    append(test, map, (1, 0), false);
+    append(test, map, (2, 0), false);
+    append(test, map, (1, 1), true);
+    for number in 2..=60u32 {
+        one_goes_for_one(test, map, number);
+    }
+    let left = has_lists(map, &[(2, 0), (1, 59), (1, 60)], &[1, 2]);
+    test.expect("no request", !allocator.refused());
+    test.expect("three pairs", left);
+    let values = [(End::Back, 60), (End::Back, 59)];
+    test.expect_same("get_all", walk_difference(&mut map.get_all(&1), &values));
+}
+
+fn both_are_replaced(test: &Test, map: &mut Refusing<'_>, number: u32) {
+    let old = Some(number.saturating_sub(1));
+    test.expect("the key 1", inserts(map, 1, number, &old));
+    test.expect("the key 2", inserts(map, 2, number, &old));
+}
+
+fn values_are_replaced(test: &Test, allocator: &RefusingAllocator, map: &mut Refusing<'_>) {
+    reserve_anew(test, allocator, map, 2, 2);
+    append(test, map, (1, 0), false);
+    append(test, map, (2, 0), false);
+    for number in 1..=50u32 {
+        both_are_replaced(test, map, number);
+    }
+    let left = has_lists(map, &[(1, 50), (2, 50)], &[1, 2]);
+    test.expect("no request", !allocator.refused());
+    test.expect("two pairs", left);
+}
+
+fn room_is_used(test: &Test, allocator: &RefusingAllocator, map: &mut Refusing<'_>) {
+    drains_are_dropped(test, allocator, map);
+    drains_are_forgotten(test, allocator, map);
+    pairs_come_and_go(test, allocator, map);
+    values_are_replaced(test, allocator, map);
+}
+
+#[test]
+fn room_is_used_without_memory(rt: HostRuntime) -> Result<(), Failed> {
+    let test = Test::new(rt.alloc());
+    let allocator = RefusingAllocator::unlimited(test.alloc());
+    match ListOrderedMultimap::with_capacity(&allocator, 1, 2) {
+        Ok(mut map) => room_is_used(&test, &allocator, &mut map),
+        Err(_) => test.expect("memory for the map", false),
+    }
+    test.end()
+}

@@ -1,0 +1,45 @@
+//! The tests: each makes one map and lends it to all comparisons of its type, since a map that is
+//! owned costs its proof more than all that it is lent to.
+use crate::drain_steps::{keys_are_drained, values_are_given};
+use crate::drained::lists_are_final;
+use crate::popped::{Alike, collided_keys_leave, key_is_lent_and_handed_out, pairs_leave};
+use crate::removed::keys_leave;
+use crate::retained::pairs_stay;
+use ordered_multimap::ListOrderedMultimap;
+use ordered_multimap_tests::maps::{Numbers, Texts};
+use test_helpers::{Failed, Test, ZERO};
+
+fn texts_leave(test: &Test, map: &mut Texts) {
+    keys_leave(test, map);
+    key_is_lent_and_handed_out(test, map);
+    values_are_given(test, map);
+}
+
+#[test]
+fn pairs_of_texts_leave(rt: HostRuntime) -> Result<(), Failed> {
+    let test = Test::new(rt.alloc());
+    texts_leave(&test, &mut ListOrderedMultimap::new(test.alloc()));
+    test.end()
+}
+
+fn numbers_leave(test: &Test, map: &mut Numbers) {
+    pairs_leave(test, map);
+    pairs_stay(test, map);
+    keys_are_drained(test, map);
+    lists_are_final(test, map);
+}
+
+#[test]
+fn pairs_of_numbers_leave(rt: HostRuntime) -> Result<(), Failed> {
+    let test = Test::new(rt.alloc());
+    numbers_leave(&test, &mut ListOrderedMultimap::new(test.alloc()));
+    test.end()
+}
+
+#[test]
+fn keys_of_one_hash_leave(rt: HostRuntime) -> Result<(), Failed> {
+    let test = Test::new(rt.alloc());
+    let mut map: Alike = ListOrderedMultimap::with_hasher(test.alloc(), ZERO);
+    collided_keys_leave(&test, &mut map);
+    test.end()
+}

@@ -1,0 +1,78 @@
+//! Maps that are made with room, with each request refused, and room that no memory has.
+use ordered_multimap::ListOrderedMultimap;
+use ordered_multimap::list_ordered_multimap::DefaultState;
+use ordered_multimap_tests::lists::{appends, has_lists, has_room};
+use ordered_multimap_tests::maps::Numbers;
+use refusing_allocator::RefusingAllocator;
+use std::alloc::AllocError;
+use std::hash::BuildHasher;
+use test_helpers::{Constant, Failed, Test, ZERO, requests_until_enough};
+
+type Made<'a, S> = Result<ListOrderedMultimap<u32, u32, S, &'a RefusingAllocator>, AllocError>;
+
+// Whether a map was made; where it was, it has the room and no pair.
+fn is_made<S: BuildHasher + Drop>(test: &Test, made: Made<'_, S>, room: (usize, usize)) -> bool {
+    match made {
+        Ok(map) => {
+            test.expect("room", has_room(&map, room.0, room.1) && map.is_empty());
+            true
+        }
+        Err(_) => false,
+    }
+}
+
+fn makes(test: &Test, granted: u64, room: (usize, usize)) -> bool {
+    let allocator = RefusingAllocator::new(test.alloc(), granted);
+    let made = ListOrderedMultimap::with_capacity(&allocator, room.0, room.1);
+    is_made::<DefaultState>(test, made, room)
+}
+
+fn makes_with_hasher(test: &Test, granted: u64, room: (usize, usize)) -> bool {
+    let allocator = RefusingAllocator::new(test.alloc(), granted);
+    let made = ListOrderedMultimap::with_capacity_and_hasher(&allocator, room.0, room.1, ZERO);
+    is_made::<Constant>(test, made, room)
+}
+
+/// Room for keys and values, and how many requests it wants at least.
+const ROOMS: &[((usize, usize), u64)] = &[((0, 0), 0), ((0, 5), 1), ((5, 0), 2), ((1, 2), 3)];
+
+fn room_is_made(test: &Test, at: usize, room: (usize, usize), least: u64) {
+    let enough = requests_until_enough(|granted| makes(test, granted, room));
+    test.expect_at("with_capacity", at, enough.unwrap_or(0) >= least);
+    test.expect_at("no room", at, least > 0 || enough == Some(0));
+    let alike = requests_until_enough(|granted| makes_with_hasher(test, granted, room));
+    test.expect_at("with_capacity_and_hasher", at, alike == enough);
+}
+
+#[test]
+fn each_request_of_a_new_map_is_refused(rt: HostRuntime) -> Result<(), Failed> {
+    let test = Test::new(rt.alloc());
+    for (at, (room, least)) in ROOMS.iter().enumerate() {
+        room_is_made(&test, at, *room, *least);
+    }
+    test.end()
+}
+
+/// Room that no memory has.
+const TOO_MUCH: &[(usize, usize)] = &[(usize::MAX, 0), (0, usize::MAX), (0, usize::MAX / 2)];
+
+/// Room for more than there can be is refused, and the map is as before.
+pub fn room_is_refused(test: &Test, map: &mut Numbers) {
+    test.expect("append", appends(map, 7, 70, false));
+    test.expect("keys", map.reserve_keys(usize::MAX).is_err());
+    test.expect("values", map.reserve_values(usize::MAX).is_err());
+    let half = usize::MAX / 2;
+    test.expect("half as many", map.reserve_values(half).is_err());
+    test.expect("as before", has_lists(map, &[(7, 70)], &[7]));
+}
+
+#[test]
+fn more_than_there_can_be_is_refused(rt: HostRuntime) -> Result<(), Failed> {
+    let test = Test::new(rt.alloc());
+    for (at, room) in TOO_MUCH.iter().enumerate() {
+        test.expect_at("with_capacity", at, !makes(&test, u64::MAX, *room));
+        let made = makes_with_hasher(&test, u64::MAX, *room);
+        test.expect_at("with_capacity_and_hasher", at, !made);
+    }
+    test.end()
+}

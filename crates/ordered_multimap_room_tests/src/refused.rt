@@ -1,0 +1,88 @@
+//! Each request for memory of each call is refused in turn.
+use crate::additions::{Call, Occupied, Vacant};
+use crate::refused_additions::{fill_up, puts};
+use crate::refused_pairs::{PAIRS, extend, extend_copied, from_iter_with};
+use crate::refused_room::{Room, is_made, keep_three};
+use ordered_multimap::ListOrderedMultimap;
+use ordered_multimap_tests::maps::{Numbers, Refusing, map_of};
+use refusing_allocator::RefusingAllocator;
+use test_helpers::{Failed, Test, requests_until_enough};
+
+#[derive(Clone, Copy)]
+enum Try {
+    PutIntoNew(Call),
+    PutIntoFull(Call),
+    Room(Room),
+    Extend,
+    ExtendCopied,
+}
+
+/// A call, and how many requests it makes at least. Key slots, table and value slots each ask for a
+/// block, and a packing for one more, which notes the new places.
+const TRIES: &[(Try, u64)] = &[
+    (Try::PutIntoNew(Call::Append), 3),
+    (Try::PutIntoNew(Call::Insert), 3),
+    (Try::PutIntoNew(Call::InsertAll), 3),
+    (Try::PutIntoNew(Call::OfVacant(Vacant::OrInsert)), 3),
+    (Try::PutIntoNew(Call::OfVacant(Vacant::OrInsertWith)), 3),
+    (Try::PutIntoNew(Call::OfVacant(Vacant::OrInsertEntry)), 3),
+    (
+        Try::PutIntoNew(Call::OfVacant(Vacant::OrInsertWithEntry)),
+        3,
+    ),
+    (Try::PutIntoNew(Call::OfVacant(Vacant::Insert)), 3),
+    (Try::PutIntoNew(Call::OfVacant(Vacant::InsertEntry)), 3),
+    (Try::PutIntoFull(Call::Append), 1),
+    (Try::PutIntoFull(Call::InsertAll), 1),
+    (Try::PutIntoFull(Call::OfOccupied(Occupied::Append)), 1),
+    (Try::PutIntoFull(Call::OfOccupied(Occupied::InsertAll)), 1),
+    (Try::Room(Room::ReserveKeys), 2),
+    (Try::Room(Room::ReserveValues), 1),
+    (Try::Room(Room::PackTo), 4),
+    (Try::Room(Room::PackToFit), 4),
+    (Try::Extend, 3),
+    (Try::ExtendCopied, 3),
+];
+
+fn prepare(test: &Test, map: &mut Refusing<'_>, call: Try) {
+    match call {
+        Try::PutIntoFull(_) => fill_up(test, map),
+        Try::Room(_) => keep_three(test, map),
+        _ => {}
+    }
+}
+
+fn tries(test: &Test, map: &mut Refusing<'_>, call: Try, other: &Numbers) -> bool {
+    match call {
+        Try::PutIntoNew(call) | Try::PutIntoFull(call) => puts(test, map, call),
+        Try::Room(call) => is_made(test, map, call),
+        Try::Extend => extend(test, map),
+        Try::ExtendCopied => extend_copied(test, map, other),
+    }
+}
+
+fn tries_with(test: &Test, granted: u64, call: Try, other: &Numbers) -> bool {
+    let allocator = RefusingAllocator::unlimited(test.alloc());
+    let mut map = ListOrderedMultimap::new(&allocator);
+    prepare(test, &mut map, call);
+    allocator.grant(granted);
+    let enough = tries(test, &mut map, call, other);
+    test.expect("refused for want of memory", enough || allocator.refused());
+    enough
+}
+
+fn all_are_tried(test: &Test, other: &Numbers) {
+    for (row, (call, least)) in TRIES.iter().enumerate() {
+        let enough = requests_until_enough(|granted| tries_with(test, granted, *call, other));
+        test.expect_at("requests", row, enough.unwrap_or(0) >= *least);
+    }
+    let enough = requests_until_enough(|granted| from_iter_with(test, granted));
+    test.expect("from_iter", enough.unwrap_or(0) >= 3);
+}
+
+#[test]
+fn a_refused_request_changes_nothing(rt: HostRuntime) -> Result<(), Failed> {
+    let test = Test::new(rt.alloc());
+    all_are_tried(&test, &map_of(&test, PAIRS));
+    test.end()
+}

@@ -1,0 +1,91 @@
+//! A map of texts that is cloned where memory is refused.
+use ordered_multimap::ListOrderedMultimap;
+use ordered_multimap::list_ordered_multimap::DefaultState;
+use refusing_allocator::RefusingAllocator;
+use test_helpers::{Failed, Test, requests_until_enough};
+
+type Text<'a> = String<&'a RefusingAllocator>;
+
+type Texts<'a> = ListOrderedMultimap<Text<'a>, Text<'a>, DefaultState, &'a RefusingAllocator>;
+
+fn text<'a>(test: &Test, allocator: &'a RefusingAllocator, letter: char) -> Text<'a> {
+    let mut text = String::new(allocator);
+    test.expect("memory for a text", text.push(letter).is_ok());
+    text
+}
+
+fn insert<'a>(
+    test: &Test,
+    allocator: &'a RefusingAllocator,
+    map: &mut Texts<'a>,
+    pair: (char, char),
+) {
+    let key = text(test, allocator, pair.0);
+    let value = text(test, allocator, pair.1);
+    test.expect("insert", map.insert(key, value).is_ok());
+}
+
+// The key and the value of a pair are these.
+fn is_pair(pair: Option<(&Text<'_>, &Text<'_>)>, key: &str, value: &str) -> bool {
+    match pair {
+        Some((k, v)) => k.as_str() == key && v.as_str() == value,
+        None => false,
+    }
+}
+
+fn is_key(key: Option<&Text<'_>>, wanted: &str) -> bool {
+    match key {
+        Some(key) => key.as_str() == wanted,
+        None => false,
+    }
+}
+
+// The keys a, b and the pairs (b, y), (a, z).
+fn has_both(test: &Test, map: &Texts<'_>) {
+    let mut keys = map.keys();
+    test.expect("first key", is_key(keys.next(), "a"));
+    test.expect("second key", is_key(keys.next(), "b"));
+    test.expect("no third key", keys.next().is_none());
+    let mut pairs = map.iter();
+    test.expect("first pair", is_pair(pairs.next(), "b", "y"));
+    test.expect("second pair", is_pair(pairs.next(), "a", "z"));
+    test.expect("no third pair", pairs.next().is_none());
+}
+
+// Answers whether there was memory for a clone.
+fn is_cloned(test: &Test, map: &Texts<'_>) -> bool {
+    match map.clone() {
+        Ok(copy) => {
+            has_both(test, &copy);
+            true
+        }
+        Err(_) => false,
+    }
+}
+
+fn clone_with(test: &Test, granted: u64) -> bool {
+    let allocator = RefusingAllocator::unlimited(test.alloc());
+    let mut map = ListOrderedMultimap::new(&allocator);
+    insert(test, &allocator, &mut map, ('a', 'x'));
+    insert(test, &allocator, &mut map, ('b', 'y'));
+    insert(test, &allocator, &mut map, ('a', 'z'));
+    clones_of_it(test, &allocator, granted, &map)
+}
+
+// A refused request is told, and the map is as it was.
+fn clones_of_it(test: &Test, allocator: &RefusingAllocator, granted: u64, map: &Texts<'_>) -> bool {
+    allocator.grant(granted);
+    let cloned = is_cloned(test, map);
+    test.expect("refused for want of memory", cloned != allocator.refused());
+    has_both(test, map);
+    cloned
+}
+
+#[test]
+fn a_refused_clone_leaves_the_map(rt: HostRuntime) -> Result<(), Failed> {
+    let test = Test::new(rt.alloc());
+    let enough = requests_until_enough(|granted| clone_with(&test, granted));
+    // Both lists, the table and four texts.
+    test.expect("seven requests or more", enough.unwrap_or(0) >= 7);
+    test.end()
+}

@@ -1,0 +1,51 @@
+//! What a call that makes room leaves where memory is refused: both lists are as before.
+use crate::pack::pack_to;
+use ordered_multimap_tests::lists::{appends, has_lists, has_room};
+use ordered_multimap_tests::maps::Refusing;
+use test_helpers::Test;
+
+/// Calls that make room.
+#[derive(Clone, Copy)]
+pub enum Room {
+    ReserveKeys,
+    ReserveValues,
+    PackTo,
+    PackToFit,
+}
+
+fn makes_room(test: &Test, map: &mut Refusing<'_>, call: Room) -> bool {
+    match call {
+        Room::ReserveKeys => map.reserve_keys(100).is_ok(),
+        Room::ReserveValues => map.reserve_values(100).is_ok(),
+        Room::PackTo => pack_to(test, map, 5, 5),
+        Room::PackToFit => map.pack_to_fit().is_ok(),
+    }
+}
+
+/// Leaves three pairs, with a hole among the keys and one among the values.
+pub fn keep_three(test: &Test, map: &mut Refusing<'_>) {
+    test.expect("the first", appends(map, 1, 11, false));
+    test.expect("the second", appends(map, 2, 12, false));
+    test.expect("the third", appends(map, 3, 13, false));
+    test.expect("the fourth", appends(map, 1, 14, true));
+    test.expect("remove", map.remove(&2) == Some(12));
+}
+
+fn room_of(call: Room) -> (usize, usize) {
+    match call {
+        Room::ReserveKeys => (102, 3),
+        Room::ReserveValues => (2, 103),
+        Room::PackTo => (5, 5),
+        Room::PackToFit => (2, 3),
+    }
+}
+
+/// Makes the call. It answers whether there was memory enough.
+pub fn is_made(test: &Test, map: &mut Refusing<'_>, call: Room) -> bool {
+    let made = makes_room(test, map, call);
+    let room = room_of(call);
+    test.expect("the room", !made || has_room(map, room.0, room.1));
+    let lists = has_lists(map, &[(1, 11), (3, 13), (1, 14)], &[1, 3]);
+    test.expect("as before", lists);
+    made
+}

@@ -1,0 +1,65 @@
+//! The tests: each makes one map and lends it to all comparisons of its type, since a map that is
+//! owned costs its proof more than all that it is lent to.
+use crate::extend::{
+    copies_are_appended, map_is_made_without_hint, maps_are_made, texts_are_appended,
+    wish_is_ignored,
+};
+use crate::made::room_is_refused;
+use crate::pack::texts_are_packed;
+use crate::reserve::{room_grows, room_is_used};
+use ordered_multimap::ListOrderedMultimap;
+use ordered_multimap_tests::maps::{Numbers, Texts, map_of};
+use refusing_allocator::RefusingAllocator;
+use test_helpers::{Failed, Test};
+
+fn texts_come(test: &Test, map: &mut Texts) {
+    texts_are_packed(test, map);
+    map.clear();
+    texts_are_appended(test, map);
+}
+
+#[test]
+fn texts_come_at_once_and_are_packed(rt: HostRuntime) -> Result<(), Failed> {
+    let test = Test::new(rt.alloc());
+    room_grows(&test, &mut ListOrderedMultimap::new(test.alloc()));
+    match ListOrderedMultimap::with_capacity(test.alloc(), 10, 10) {
+        Ok(mut map) => texts_come(&test, &mut map),
+        Err(_) => test.expect("memory for ten pairs", false),
+    }
+    test.end()
+}
+
+fn numbers_come(test: &Test, map: &mut Numbers, other: &Numbers) {
+    copies_are_appended(test, map, other);
+    map.clear();
+    wish_is_ignored(test, map);
+    map.clear();
+    room_is_refused(test, map);
+}
+
+#[test]
+fn numbers_come_at_once(rt: HostRuntime) -> Result<(), Failed> {
+    let test = Test::new(rt.alloc());
+    let other = map_of(&test, &[(1, 1), (2, 1), (2, 2)]);
+    numbers_come(&test, &mut ListOrderedMultimap::new(test.alloc()), &other);
+    test.end()
+}
+
+#[test]
+fn maps_are_made_of_pairs(rt: HostRuntime) -> Result<(), Failed> {
+    let test = Test::new(rt.alloc());
+    maps_are_made(&test);
+    map_is_made_without_hint(&test);
+    test.end()
+}
+
+#[test]
+fn room_is_used_without_memory(rt: HostRuntime) -> Result<(), Failed> {
+    let test = Test::new(rt.alloc());
+    let allocator = RefusingAllocator::unlimited(test.alloc());
+    match ListOrderedMultimap::with_capacity(&allocator, 5, 5) {
+        Ok(mut map) => room_is_used(&test, &allocator, &mut map),
+        Err(_) => test.expect("memory for five pairs", false),
+    }
+    test.end()
+}

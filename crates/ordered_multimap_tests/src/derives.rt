@@ -1,0 +1,144 @@
+//! What derives give the types beside the map: refusals, ends, and links.
+use ordered_multimap::End;
+use ordered_multimap::list_ordered_multimap::{
+    KeyLink, Refused, RefusedValue, UnclonedKey, ValueLink,
+};
+use std::fmt;
+use test_helpers::{Failed, Test, expect_text, is_compared, is_copied, is_shown};
+
+fn is_told<T: fmt::Display>(test: &Test, refused: &T) {
+    let told = format!(in test.alloc(); "{refused}");
+    expect_text(test, "told", told, "memory allocation failed");
+}
+
+type Pair = Refused<&'static str, u32>;
+
+fn pairs_are_compared(test: &Test, pair: &Pair, like: &Pair, others: &[Pair; 2]) {
+    let [value, key] = others;
+    test.expect("another value", is_compared(pair, like, value));
+    test.expect("another key", is_compared(pair, like, key));
+    let wanted = r#"Refused { key: "a\"b\n", value: 1 }"#;
+    test.expect("shown", is_shown(test.alloc(), pair, wanted));
+    is_told(test, pair);
+}
+
+const fn refused(key: &'static str, value: u32) -> Pair {
+    Refused { key, value }
+}
+
+#[test]
+fn a_refused_pair_is_shown_and_compared(rt: HostRuntime) -> Result<(), Failed> {
+    let test = Test::new(rt.alloc());
+    let others = [refused("a\"b\n", 2), refused("", 1)];
+    pairs_are_compared(&test, &refused("a\"b\n", 1), &refused("a\"b\n", 1), &others);
+    test.end()
+}
+
+fn values_are_compared(test: &Test, value: &RefusedValue<u32>, other: &RefusedValue<u32>) {
+    test.expect("compared", is_compared(value, value, other));
+    let wanted = "RefusedValue { value: 5 }";
+    test.expect("shown", is_shown(test.alloc(), value, wanted));
+    is_told(test, value);
+}
+
+fn clones_are_compared(test: &Test, value: &UnclonedKey<u32>, other: &UnclonedKey<u32>) {
+    test.expect("compared", is_compared(value, value, other));
+    let wanted = "UnclonedKey { value: 5 }";
+    test.expect("shown", is_shown(test.alloc(), value, wanted));
+    is_told(test, value);
+}
+
+#[test]
+fn a_refused_value_is_shown_and_compared(rt: HostRuntime) -> Result<(), Failed> {
+    let test = Test::new(rt.alloc());
+    values_are_compared(
+        &test,
+        &RefusedValue { value: 5 },
+        &RefusedValue { value: 6 },
+    );
+    clones_are_compared(&test, &UnclonedKey { value: 5 }, &UnclonedKey { value: 6 });
+    test.end()
+}
+
+fn ends_are_shown_and_compared(test: &Test) {
+    test.expect("front", is_shown(test.alloc(), &End::Front, "Front"));
+    test.expect("back", is_shown(test.alloc(), &End::Back, "Back"));
+    let ends = is_compared(&End::Front, &End::Front, &End::Back);
+    test.expect("ends", ends);
+    test.expect("copied", is_copied(&End::Back));
+}
+
+const KEY_LINK: KeyLink = KeyLink {
+    hash: 1,
+    head: 2,
+    tail: 3,
+    length: 4,
+};
+
+const KEY_LINKS: &[KeyLink] = &[
+    KeyLink {
+        hash: 0,
+        ..KEY_LINK
+    },
+    KeyLink {
+        head: 0,
+        ..KEY_LINK
+    },
+    KeyLink {
+        tail: 0,
+        ..KEY_LINK
+    },
+    KeyLink {
+        length: 0,
+        ..KEY_LINK
+    },
+];
+
+fn key_links_are_shown_and_compared(test: &Test) {
+    let wanted = "KeyLink { hash: 1, head: 2, tail: 3, length: 4 }";
+    test.expect("shown", is_shown(test.alloc(), &KEY_LINK, wanted));
+    for (row, other) in KEY_LINKS.iter().enumerate() {
+        test.expect_at("compared", row, is_compared(&KEY_LINK, &KEY_LINK, other));
+    }
+    test.expect("copied", is_copied(&KEY_LINK));
+}
+
+const VALUE_LINK: ValueLink = ValueLink {
+    key: 1,
+    previous: Some(2),
+    next: None,
+};
+
+const VALUE_LINKS: &[ValueLink] = &[
+    ValueLink {
+        key: 0,
+        ..VALUE_LINK
+    },
+    ValueLink {
+        previous: None,
+        ..VALUE_LINK
+    },
+    ValueLink {
+        next: Some(0),
+        ..VALUE_LINK
+    },
+];
+
+fn value_links_are_shown_and_compared(test: &Test) {
+    let wanted = "ValueLink { key: 1, previous: Some(2), next: None }";
+    test.expect("shown", is_shown(test.alloc(), &VALUE_LINK, wanted));
+    for (row, other) in VALUE_LINKS.iter().enumerate() {
+        let compared = is_compared(&VALUE_LINK, &VALUE_LINK, other);
+        test.expect_at("compared", row, compared);
+    }
+    test.expect("copied", is_copied(&VALUE_LINK));
+}
+
+#[test]
+fn ends_and_links_are_shown_and_compared(rt: HostRuntime) -> Result<(), Failed> {
+    let test = Test::new(rt.alloc());
+    ends_are_shown_and_compared(&test);
+    key_links_are_shown_and_compared(&test);
+    value_links_are_shown_and_compared(&test);
+    test.end()
+}

@@ -1,0 +1,56 @@
+//! Equality of maps, and clones.
+use crate::lists::{has_lists, inserts};
+use crate::maps::{MIXED_TEXTS, Texts, refill};
+use test_helpers::Test;
+
+fn are_equal(map: &Texts, other: &Texts) -> bool {
+    *map == *other
+}
+
+fn last_pair_goes_and_comes(test: &Test, map: &Texts, copy: &mut Texts) {
+    test.expect("pop_back", copy.pop_back().is_some());
+    test.expect("one pair less", !are_equal(map, copy));
+    test.expect("append", copy.append("key1", "value4") == Ok(true));
+    test.expect("equal", are_equal(map, copy));
+}
+
+fn insert(
+    test: &Test,
+    map: &mut Texts,
+    pair: (&'static str, &'static str),
+    old: Option<&'static str>,
+) {
+    test.expect("insert", inserts(map, pair.0, pair.1, &old));
+}
+
+fn insert_three(test: &Test, map: &mut Texts) {
+    map.clear();
+    insert(test, map, ("1", "10"), None);
+    insert(test, map, ("2", "20"), None);
+    insert(test, map, ("1", "30"), Some("10"));
+}
+
+const PAIRS: &[(&str, &str)] = &[("2", "20"), ("1", "30")];
+
+// The order of the keys counts for nothing.
+fn keys_in_another_order(test: &Test, map: &mut Texts, other: &mut Texts) {
+    insert_three(test, map);
+    refill(test, other, PAIRS);
+    test.expect("equal pairs", are_equal(map, other));
+    test.expect("its lists", has_lists(map, PAIRS, &["1", "2"]));
+    test.expect("the other's", has_lists(other, PAIRS, &["2", "1"]));
+}
+
+fn clone_is_changed(test: &Test, map: &mut Texts, copy: &mut Texts) {
+    last_pair_goes_and_comes(test, map, copy);
+    keys_in_another_order(test, map, copy);
+}
+
+/// A map and its clone, which then are changed.
+pub fn are_compared(test: &Test, map: &mut Texts) {
+    refill(test, map, MIXED_TEXTS);
+    match map.clone() {
+        Ok(mut copy) => clone_is_changed(test, map, &mut copy),
+        Err(_) => test.expect("memory for a clone", false),
+    }
+}

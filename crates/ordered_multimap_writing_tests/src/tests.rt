@@ -1,0 +1,31 @@
+//! The tests: each makes one map and lends it to all comparisons of its type, since a map that is
+//! owned costs its proof more than all that it is lent to.
+use crate::keys::keys_lend_their_values;
+use crate::rest::walks_have_left;
+use crate::shown::walks_are_shown;
+use crate::unread::one_key_is_written;
+use crate::walks::values_are_lent_once;
+use ordered_multimap::ListOrderedMultimap;
+use ordered_multimap_tests::maps::Numbers;
+use test_helpers::{Failed, Test};
+
+fn numbers_are_lent(test: &Test, map: &mut Numbers) {
+    values_are_lent_once(test, map);
+    keys_lend_their_values(test, map);
+    one_key_is_written(test, map);
+    walks_have_left(test, map);
+}
+
+#[test]
+fn values_are_written_by_walks(rt: HostRuntime) -> Result<(), Failed> {
+    let test = Test::new(rt.alloc());
+    numbers_are_lent(&test, &mut ListOrderedMultimap::new(test.alloc()));
+    test.end()
+}
+
+#[test]
+fn walks_over_texts_are_shown(rt: HostRuntime) -> Result<(), Failed> {
+    let test = Test::new(rt.alloc());
+    walks_are_shown(&test, &mut ListOrderedMultimap::new(test.alloc()));
+    test.end()
+}
