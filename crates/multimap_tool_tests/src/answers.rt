@@ -79,10 +79,14 @@ fn push_list(text: &mut String, pairs: &[Pair<'_>]) -> Pushed {
     text.push_str(if pairs.is_empty() { "none" } else { "" })
 }
 
+fn push_list_of_key(alloc: Global, plain: &PlainMap<'_>, key: &str, text: &mut String) -> Pushed {
+    push_list(text, &plain.pairs_of(alloc, key)?)
+}
+
 fn push_lists(alloc: Global, plain: &PlainMap<'_>, text: &mut String) -> Pushed {
     for (row, key) in plain.keys.iter().enumerate() {
         text.push_str(if row == 0 { "" } else { " " })?;
-        push_list(text, &plain.pairs_of(alloc, key.0)?)?;
+        push_list_of_key(alloc, plain, key.0, text)?;
     }
     text.push_str(if plain.keys.is_empty() { "empty" } else { "" })
 }
@@ -119,7 +123,7 @@ fn look_up(alloc: Global, plain: &PlainMap<'_>, line: Line<'_>, text: &mut Strin
     match line.kind {
         Kind::Get => push_if_there(text, "", first, Shown::Value),
         Kind::Has => text.push_str(if first.is_some() { "yes" } else { "no" }),
-        Kind::Len => push_count(alloc, text, plain.pairs_of(alloc, line.first)?.len()),
+        Kind::Len => push_count(alloc, text, plain.count_of(line.first)),
         Kind::All => push_of_key(alloc, plain, line, text, line.second),
         Kind::Front => push_if_there(text, "", plain.pairs.first().copied(), Shown::Pair),
         Kind::Back => push_if_there(text, "", plain.pairs.last().copied(), Shown::Pair),
@@ -190,7 +194,7 @@ fn remove(alloc: Global, plain: &mut PlainMap<'_>, line: Line<'_>, text: &mut St
         Kind::Remove => push_if_there(text, "", plain.first_of(line.first), Shown::Value)?,
         Kind::RemoveEntry => push_if_there(text, "", plain.first_of(line.first), Shown::Pair)?,
         Kind::RemoveAll => push_of_key(alloc, plain, line, text, "")?,
-        _ => push_list(text, &plain.pairs_of(alloc, line.first)?)?,
+        _ => push_list_of_key(alloc, plain, line.first, text)?,
     }
     plain.take_out(line.first);
     Ok(())

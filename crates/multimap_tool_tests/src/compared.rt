@@ -56,13 +56,22 @@ fn lines_are_refused<'a, 'l>(
     refused
 }
 
+fn many_are_refused<'a>(
+    test: &Test,
+    allocator: &'a RefusingAllocator,
+    map: &mut Map<'a>,
+    input: &str,
+) {
+    let plain = &mut PlainMap::new(test.alloc());
+    let refused = lines_are_refused(test, allocator, map, plain, input);
+    test.expect("many are refused", refused > 300);
+    test.expect("and many are not", refused < 1700);
+}
+
 fn refusals_change_nothing(test: &Test, input: &str) {
     let allocator = RefusingAllocator::unlimited(test.alloc());
     let map = &mut ListOrderedMultimap::new(&allocator);
-    let plain = &mut PlainMap::new(test.alloc());
-    let refused = lines_are_refused(test, &allocator, map, plain, input);
-    test.expect("many are refused", refused > 300);
-    test.expect("and many are not", refused < 1700);
+    many_are_refused(test, &allocator, map, input);
 }
 
 #[test]

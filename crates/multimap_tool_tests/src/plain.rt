@@ -41,6 +41,17 @@ impl<'a> PlainMap<'a> {
         Ok(pairs)
     }
 
+    /// How many pairs a key has.
+    pub fn count_of(&self, key: &str) -> usize {
+        let mut count = 0usize;
+        for pair in &self.pairs {
+            if pair.0 == key {
+                count = count.saturating_add(1);
+            }
+        }
+        count
+    }
+
     fn drop_pairs_of(&mut self, key: &str) {
         self.pairs.retain(|pair| pair.0 != key);
     }
