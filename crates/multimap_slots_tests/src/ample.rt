@@ -87,12 +87,16 @@ fn calls_of_a_list_answer(test: &Test, list: &mut List) {
     items_keep_their_places(test, list);
 }
 
+fn a_counter_has_no_bytes(test: &Test) {
+    test.expect("a counter", Reads::new().clone().is_ok());
+    test.expect("its size", size_of::<Reads>() == 0);
+}
+
 #[test]
 fn every_call_of_a_slot_list_answers(rt: HostRuntime) -> Result<(), Failed> {
     let test = Test::new(rt.alloc());
     calls_of_a_list_answer(&test, &mut SlotList::new(test.alloc()));
-    test.expect("a counter", Reads::new().clone().is_ok());
-    test.expect("has no bytes", size_of::<Reads>() == 0);
+    a_counter_has_no_bytes(&test);
     test.end()
 }
 
