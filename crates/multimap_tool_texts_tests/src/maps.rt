@@ -1,4 +1,5 @@
 //! Maps that are written as JSON values and read of JSON texts.
+use crate::parts::has_text;
 use multimap_tool::json::{JsonPart, ReadFault, from_value, to_value};
 use ordered_multimap::ListOrderedMultimap;
 use ordered_multimap::list_ordered_multimap::DefaultState;
@@ -7,23 +8,33 @@ use std::alloc::Global;
 use std::hash::Hash;
 use test_helpers::{Failed, Test};
 
+/// Whether the value is read as a map that is equal to this one.
+fn is_read_as<K: JsonPart + Eq + Hash + Copy, V: JsonPart + Eq + Copy>(
+    alloc: Global,
+    value: &Value,
+    map: &ListOrderedMultimap<K, V>,
+) -> bool {
+    match from_value(alloc, alloc, DefaultState::new(), value) {
+        Ok(read) => read == *map,
+        Err(_) => false,
+    }
+}
+
 /// Whether the map is written as the text, and what was written is read as an equal map.
 fn is_written<K: JsonPart + Eq + Hash + Copy, V: JsonPart + Eq + Copy>(
     alloc: Global,
     map: &ListOrderedMultimap<K, V>,
     text: &str,
 ) -> bool {
-    let Ok(value) = to_value(alloc, map) else {
-        return false;
-    };
-    let is_read = match from_value(alloc, alloc, DefaultState::new(), &value) {
-        Ok(read) => read == *map,
+    match to_value(alloc, map) {
+        Ok(value) => has_text(alloc, &value, text) && is_read_as(alloc, &value, map),
         Err(_) => false,
-    };
-    is_read
-        && value
-            .to_string(alloc)
-            .is_ok_and(|written| written.as_str() == text)
+    }
+}
+
+/// Whether the map has these keys, in order.
+fn has_keys<K: Eq + Hash + Copy, V: Copy>(map: &ListOrderedMultimap<K, V>, keys: &[K]) -> bool {
+    map.keys().copied().eq(keys.iter().copied())
 }
 
 /// Reads a map from a text: whether it has these keys in order, and is written as the text again;
@@ -36,9 +47,16 @@ fn read<K: JsonPart + Eq + Hash + Copy, V: JsonPart + Eq + Copy>(
     let Ok(value) = Value::from_str(alloc, text) else {
         return Ok(false);
     };
-    let map: ListOrderedMultimap<K, V> = from_value(alloc, alloc, DefaultState::new(), &value)?;
-    let has_keys = map.keys().copied().eq(keys.iter().copied());
-    Ok(has_keys && is_written(alloc, &map, text))
+    let read: Result<ListOrderedMultimap<K, V>, ReadFault> = from_value(
+        alloc,
+        alloc,
+        DefaultState::new(),
+        &value,
+    );
+    match read {
+        Ok(map) => Ok(has_keys(&map, keys) && is_written(alloc, &map, text)),
+        Err(fault) => Err(fault),
+    }
 }
 
 /// Texts of maps of numbers, with the keys.

@@ -5,7 +5,7 @@ use std::alloc::Global;
 use test_helpers::{Failed, Test};
 
 /// Whether the JSON value has this text.
-fn has_text(alloc: Global, value: &Value, text: &str) -> bool {
+pub fn has_text(alloc: Global, value: &Value, text: &str) -> bool {
     value
         .to_string(alloc)
         .is_ok_and(|written| written.as_str() == text)
