@@ -1,196 +1,136 @@
-//! Tests with ample memory: each call of the slot list and of the tape once, at each type of item.
-use crate::places::Places;
-use crate::slots::{expect_slots, push, slot_at, take};
-use crate::{push_two, read_all, relink};
+//! Tests with ample memory: the calls of the slot list and of the tape.
+use crate::listed_uses::{push_at_end, push_with_room, use_listed, use_listed_on_tape};
+use crate::slots::{Items, List, expect_on, expect_slots};
+use crate::uses::{push_two, put_last, read_all, relink};
 use multimap_slots::{Reads, SlotList, Tape};
-use std::alloc::{AllocError, Global};
 use std::mem::size_of;
-use test_helpers::{Failed, Sample, Test, Token};
+use test_helpers::{Failed, Test, is_shown};
 
 // A place that no list of these tests has.
 const NOWHERE: usize = 1000;
 
-fn is_new<L: Places>(test: &Test, list: &L) {
-    test.expect("is_empty of a new list", list.is_empty());
-    test.expect("capacity of a new list", list.capacity() == 0);
-    test.expect("room of a new list", !list.has_room());
-    test.expect("slot of a new list", slot_at(list, 0).is_none());
-    expect_slots(test, list, &[]);
-}
-
-fn has_room_for_five<L: Places>(test: &Test, made: Result<L, AllocError>) {
-    let has_room = match made {
-        Ok(list) => list.is_empty() && list.capacity() >= 5 && list.has_room(),
-        Err(_) => false,
-    };
-    test.expect("with_capacity", has_room);
+fn push(test: &Test, list: &mut List, item: usize) -> usize {
+    let place = list.push_back(item, 1);
+    test.expect("memory for a push", place.is_ok());
+    place.unwrap_or(NOWHERE)
 }
 
 // Items 10, 20, 30 at a, b, c: one goes, one comes, and the first goes.
-fn items_keep_their_places<L: Places>(test: &Test, list: &mut L) {
-    let a = push(test, list, 10, 1);
-    let b = push(test, list, 20, 2);
-    let c = push(test, list, 30, 3);
-    expect_slots(test, list, &[(a, 10, 1), (b, 20, 2), (c, 30, 3)]);
-    test.expect("remove", take(list, b) == Some(20));
-    test.expect("remove again", take(list, b).is_none());
-    expect_slots(test, list, &[(a, 10, 1), (c, 30, 3)]);
+fn items_keep_their_places(test: &Test, list: &mut List) {
+    let a = push(test, list, 10);
+    let b = push(test, list, 20);
+    let c = push(test, list, 30);
+    test.expect("remove", list.remove(b) == Some(20));
+    test.expect("remove again", list.remove(b).is_none());
+    test.expect("next_place", list.next_place(a) == Some(c));
+    test.expect("previous_place", list.previous_place(c) == Some(a));
     one_comes_and_the_first_goes(test, list, a, c);
 }
 
-fn one_comes_and_the_first_goes<L: Places>(test: &Test, list: &mut L, a: usize, c: usize) {
-    let d = push(test, list, 40, 4);
-    test.expect("another place", d != a && d != c);
-    expect_slots(test, list, &[(a, 10, 1), (c, 30, 3), (d, 40, 4)]);
-    test.expect("remove the first", take(list, a) == Some(10));
-    expect_slots(test, list, &[(c, 30, 3), (d, 40, 4)]);
+fn one_comes_and_the_first_goes(test: &Test, list: &mut List, a: usize, c: usize) {
+    let d = push(test, list, 40);
+    expect_slots(test, list, &[(a, 10, 1), (c, 30, 1), (d, 40, 1)]);
+    test.expect("remove the first", list.remove(a) == Some(10));
+    test.expect("front_place", list.front_place() == Some(c));
 }
 
-fn neighbours_are_told<L: Places>(test: &Test, list: &mut L) {
-    let a = push(test, list, 1, 0);
-    let b = push(test, list, 2, 0);
-    test.expect("is_empty", !list.is_empty());
-    test.expect("capacity", list.slots() >= 2);
-    expect_slots(test, list, &[(a, 1, 0), (b, 2, 0)]);
-    nothing_is_nowhere(test, list);
+// The order doesn't follow the places then, and the last item stays where it is.
+fn an_item_is_put_last(test: &Test, list: &mut List) {
+    test.expect("the first", put_last(list, 0));
+    test.expect("the last", put_last(list, 0));
+    test.expect("no item", !put_last(list, NOWHERE));
+    expect_slots(test, list, &[(1, 20, 7), (0, 11, 0)]);
 }
 
-fn nothing_is_nowhere<L: Places>(test: &Test, list: &L) {
-    let next = list.next_place(NOWHERE);
-    test.expect("next of nowhere", next.is_none());
-    let previous = list.previous_place(NOWHERE);
-    test.expect("previous of nowhere", previous.is_none());
-    test.expect("slot of nowhere", slot_at(list, NOWHERE).is_none());
+fn two_are_pushed_and_read(test: &Test, list: &mut List) {
+    let places = push_two(list, 10, 20);
+    test.expect("places", places == Some((0, 1)));
+    test.expect("relink", relink(list, 1, 7));
+    test.expect("relink nowhere", !relink(list, NOWHERE, 7));
+    read_all(list, &mut Reads::new());
+    test.expect("shown", is_shown(test.alloc(), list, "{0: 10, 1: 20}"));
 }
 
-// Writes an item, and answers the number that stood there.
-fn write_item<L: Places>(test: &Test, list: &mut L, place: usize) -> Option<usize> {
-    match list.get_mut(place) {
-        Some(item) => {
-            let number = item.number();
-            *item = L::Item::of(test, 3);
-            Some(number)
-        }
-        None => None,
+fn an_item_is_written(test: &Test, list: &mut List) {
+    match list.get_mut(0) {
+        Some(item) => *item = 11,
+        None => test.expect("get_mut", false),
     }
+    test.expect("get_mut of nowhere", list.get_mut(NOWHERE).is_none());
 }
 
-// Writes a link, and answers the one that stood there.
-fn write_link<L: Places>(list: &mut L, place: usize) -> Option<u8> {
-    match list.link_mut(place) {
-        Some(link) => {
-            let old = *link;
-            *link = 25;
-            Some(old)
-        }
-        None => None,
-    }
-}
-
-fn items_and_links_are_written<L: Places>(test: &Test, list: &mut L) {
-    let a = push(test, list, 1, 10);
-    let b = push(test, list, 2, 20);
-    test.expect("get_mut", write_item(test, list, a) == Some(1));
-    test.expect("link_mut", write_link(list, b) == Some(20));
-    let nowhere = write_item(test, list, NOWHERE);
-    test.expect("get_mut of nowhere", nowhere.is_none());
-    test.expect("link_mut of nowhere", write_link(list, NOWHERE).is_none());
-    expect_slots(test, list, &[(a, 3, 10), (b, 2, 25)]);
-}
-
-fn room_is_kept<L: Places>(test: &Test, list: &mut L) {
-    let a = push(test, list, 1, 0);
-    let b = push(test, list, 2, 0);
-    test.expect("reserve", list.reserve(7).is_ok());
+fn a_list_is_cleared(test: &Test, list: &mut List) {
     let capacity = list.capacity();
-    test.expect("reserved room", capacity >= 9 && list.has_room());
-    expect_slots(test, list, &[(a, 1, 0), (b, 2, 0)]);
+    test.expect("used_slots", list.used_slots() == 2);
     list.clear();
-    is_cleared(test, list, a, b);
-    test.expect("the room stays", list.capacity() == capacity);
+    test.expect("no slot is used", list.used_slots() == 0);
+    test.expect("empty", list.is_empty());
+    test.expect("the capacity stays", list.capacity() == capacity);
 }
 
-fn is_cleared<L: Places>(test: &Test, list: &mut L, a: usize, b: usize) {
-    test.expect("is_empty once cleared", list.is_empty());
-    test.expect("slot once cleared", slot_at(list, a).is_none());
-    test.expect("remove once cleared", take(list, b).is_none());
-    expect_slots(test, list, &[]);
-    let c = push(test, list, 3, 1);
-    expect_slots(test, list, &[(c, 3, 1)]);
+fn listed_slots_answer(test: &Test, list: &mut List) {
+    test.expect("no room", push_with_room(list, 5, 5).is_none());
+    test.expect("reserve", list.reserve(2).is_ok());
+    let a = push_with_room(list, 10, 1).unwrap_or(NOWHERE);
+    let b = push_with_room(list, 20, 2).unwrap_or(NOWHERE);
+    let used = use_listed(list, b, (21, 3), &mut Reads::new());
+    test.expect("listed", used == Some((Some(a), (21, 3), None)));
 }
 
-fn every_call_answers<L: Places<Alloc = Global>>(test: &Test) {
-    is_new(test, &L::new(test.alloc()));
-    has_room_for_five(test, L::with_capacity(test.alloc(), 5));
-    items_keep_their_places(test, &mut L::new(test.alloc()));
-    neighbours_are_told(test, &mut L::new(test.alloc()));
-    items_and_links_are_written(test, &mut L::new(test.alloc()));
-    room_is_kept(test, &mut L::new(test.alloc()));
+fn calls_of_a_list_answer(test: &Test, list: &mut List) {
+    listed_slots_answer(test, list);
+    a_list_is_cleared(test, list);
+    two_are_pushed_and_read(test, list);
+    an_item_is_written(test, list);
+    an_item_is_put_last(test, list);
+    list.clear();
+    items_keep_their_places(test, list);
+}
+
+fn a_counter_has_no_bytes(test: &Test) {
+    test.expect("a counter", Reads::new().clone().is_ok());
+    test.expect("its size", size_of::<Reads>() == 0);
 }
 
 #[test]
 fn every_call_of_a_slot_list_answers(rt: HostRuntime) -> Result<(), Failed> {
     let test = Test::new(rt.alloc());
-    every_call_answers::<SlotList<usize, u8>>(&test);
-    every_call_answers::<SlotList<String, u8>>(&test);
-    every_call_answers::<SlotList<Token, u8>>(&test);
+    calls_of_a_list_answer(&test, &mut SlotList::new(test.alloc()));
+    a_counter_has_no_bytes(&test);
     test.end()
+}
+
+fn listed_slots_of_a_tape_answer(test: &Test, tape: &mut Items) {
+    test.expect("empty", tape.is_empty());
+    test.expect("no slot", push_at_end(tape, 5, 5).is_none());
+    test.expect("reserve", tape.reserve(2).is_ok());
+    let a = push_at_end(tape, 10, 1).unwrap_or(NOWHERE);
+    let b = push_at_end(tape, 20, 2).unwrap_or(NOWHERE);
+    let used = use_listed_on_tape(tape, b, (21, 3), &mut Reads::new());
+    test.expect("listed", used == Some((Some(a), (21, 3), None)));
+    test.expect("shown", is_shown(test.alloc(), tape, "{0: 10, 1: 21}"));
+}
+
+fn an_item_of_a_tape_is_written(test: &Test, tape: &mut Items) {
+    match tape.get_mut(0) {
+        Some(item) => *item = 11,
+        None => test.expect("get_mut", false),
+    }
+    match tape.link_mut(0) {
+        Some(link) => *link = 9,
+        None => test.expect("link_mut", false),
+    }
+    expect_on(test, tape, &[(0, 11, 9), (1, 21, 3)]);
+}
+
+fn calls_of_a_tape_answer(test: &Test, tape: &mut Items) {
+    listed_slots_of_a_tape_answer(test, tape);
+    an_item_of_a_tape_is_written(test, tape);
 }
 
 #[test]
 fn every_call_of_a_tape_answers(rt: HostRuntime) -> Result<(), Failed> {
     let test = Test::new(rt.alloc());
-    every_call_answers::<Tape<usize, u8>>(&test);
-    every_call_answers::<Tape<String, u8>>(&test);
-    every_call_answers::<Tape<Token, u8>>(&test);
-    test.end()
-}
-
-// Two items come and one goes; then all go.
-fn slots_are_counted(test: &Test, list: &mut SlotList<usize, u8>) {
-    test.expect("no slot", list.used_slots() == 0);
-    let a = push(test, list, 10, 1);
-    let b = push(test, list, 20, 2);
-    test.expect("remove", take(list, a) == Some(10));
-    test.expect("two slots", list.used_slots() == 2);
-    test.expect("a place below", b < list.used_slots());
-    list.clear();
-    test.expect("no slot again", list.used_slots() == 0);
-}
-
-#[test]
-fn used_slots_stay_until_all_go(rt: HostRuntime) -> Result<(), Failed> {
-    let test = Test::new(rt.alloc());
-    slots_are_counted(&test, &mut SlotList::new(test.alloc()));
-    test.end()
-}
-
-#[test]
-fn a_counter_takes_no_bytes(rt: HostRuntime) -> Result<(), Failed> {
-    let test = Test::new(rt.alloc());
-    let reads = Reads::new();
-    test.expect("clone", reads.clone().is_ok());
-    test.expect("size", size_of::<Reads>() == 0);
-    test.end()
-}
-
-fn callers_answer(test: &Test, list: &mut SlotList<u64, u8>) {
-    let Some((a, b)) = push_two(list, 10, 20) else {
-        test.expect("memory for two items", false);
-        return;
-    };
-    test.expect("next_place", list.next_place(a) == Some(b));
-    test.expect("relink", relink(list, b, 7));
-    test.expect("relink nowhere", !relink(list, NOWHERE, 7));
-    let mut reads = Reads::new();
-    test.expect("the first", list.get(a, &mut reads) == Some((&10, 0)));
-    test.expect("the second", list.get(b, &mut reads) == Some((&20, 7)));
-    read_all(list, &mut reads);
-}
-
-#[test]
-fn callers_by_contract_answer(rt: HostRuntime) -> Result<(), Failed> {
-    let test = Test::new(rt.alloc());
-    callers_answer(&test, &mut SlotList::new(test.alloc()));
+    calls_of_a_tape_answer(&test, &mut Tape::new(test.alloc()));
     test.end()
 }

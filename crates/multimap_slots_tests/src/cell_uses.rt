@@ -5,7 +5,8 @@ ghost use Rattle.multimap_slots.specs.Slots.{IsSound, IsDetached};
 ghost use Rattle.multimap_slots.specs.SlotCells.{lent_slots, IsLeft};
 ghost use Rattle.multimap_slots.specs.Tapes.{KeepsCounts};
 
-use multimap_slots::{Cells, SlotCells, SlotList, Tape};
+use crate::slots::{Items, List};
+use multimap_slots::{Cells, SlotCells};
 
 /// How many items are lent, and the places of the first and of the last.
 pub type Lent = (usize, Option<usize>, Option<usize>);
@@ -65,7 +66,7 @@ fn write_ends(cells: &mut SlotCells<'_, usize, u8>, first: usize, last: usize) -
 
 /// Reads the order and both ends of a list that lends its items, and writes the items at both ends
 /// while both references live. What is detached stays so.
-pub fn write_list_ends(list: &mut SlotList<usize, u8>, first: usize, last: usize) -> Lending
+pub fn write_list_ends(list: &mut List, first: usize, last: usize) -> Lending
     ensures order { list.new.order ≡ list.old.order }
     ensures links { list.new.links ≡ list.old.links }
     ensures capacity { list.new.capacity ≡ list.old.capacity }
@@ -79,7 +80,7 @@ pub fn write_list_ends(list: &mut SlotList<usize, u8>, first: usize, last: usize
 }
 
 /// The same on a tape.
-pub fn write_tape_ends(tape: &mut Tape<usize, u8>, first: usize, last: usize) -> Lending
+pub fn write_tape_ends(tape: &mut Items, first: usize, last: usize) -> Lending
     ensures order { tape.new.list.order ≡ tape.old.list.order }
     ensures links { tape.new.list.links ≡ tape.old.list.links }
     ensures capacity { tape.new.list.capacity ≡ tape.old.list.capacity }
@@ -111,7 +112,7 @@ fn write_without_order(cells: SlotCells<'_, usize, u8>, last: usize) -> Option<u
 
 /// Writes the last item of a list by the cells without the order, and answers what stood there.
 /// What is detached stays so.
-pub fn write_last(list: &mut SlotList<usize, u8>, last: usize) -> Option<usize>
+pub fn write_last(list: &mut List, last: usize) -> Option<usize>
     ensures order { list.new.order ≡ list.old.order }
     ensures detached { (p : ℕ) → IsDetached list.old p → IsDetached list.new p }
 {

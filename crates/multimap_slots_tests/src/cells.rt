@@ -1,79 +1,97 @@
-//! Tests of the right to write the items of a slot list, each once.
+//! Tests of items that leave the order and stay at their places, and of the right to write the
+//! others, each once.
 ghost use Rattle.std.specs.Prelude.{ℕ};
 ghost use Rattle.multimap_slots.specs.Slots.{IsDetached};
 
-use crate::cell_uses::{write_last, write_list_ends, write_slots};
-use crate::detach_listed;
-use crate::slots::{expect_slots, push};
-use multimap_slots::SlotList;
+use crate::cell_uses::{Lending, write_last, write_list_ends, write_slots, write_tape_ends};
+use crate::slots::{Items, List, expect_on, expect_slots};
+use crate::{tape_uses, uses};
+use multimap_slots::{SlotList, Tape};
 use test_helpers::{Failed, Test};
 
-type List = SlotList<usize, u8>;
-
-fn both_ends_are_written(test: &Test, list: &mut List, room: usize, places: (usize, usize))
-    ensures { (p : ℕ) → IsDetached list.old p → IsDetached list.new p }
+// The second item is detached: it is no item of the list, and stays at its place.
+fn it_has_left_the_list(test: &Test, list: &mut List, detached: usize)
+    requires { IsDetached list.old detached }
+    ensures { IsDetached list.new detached }
 {
-    let (lent, second, read, were) = write_list_ends(list, 11, 41);
-    let beside = (Some(places.0), Some(places.1));
-    test.expect("the ends", lent == (3, beside.0, beside.1));
-    test.expect("the second", second == Some((3, beside.0, beside.1)));
+    test.expect("remove", uses::remove_none(list, detached));
+    let (item, link) = list.get_detached(detached);
+    test.expect("get_detached", (*item, link) == (20, 2));
+    let place = uses::push_beside(list, 40, detached);
+    test.expect("another place", place == Some(3));
+    expect_slots(test, list, &[(0, 10, 1), (2, 30, 3), (3, 40, 4)]);
+}
+
+// Of three items that are lent: the ends, the second one's link and neighbours, and both ends
+// before they were written.
+fn expect_lent(test: &Test, lending: Lending) {
+    let (lent, second, read, were) = lending;
+    test.expect("the ends", lent == (3, Some(0), Some(3)));
+    test.expect("the second", second == Some((3, Some(0), Some(3))));
     test.expect("read", read == Some((10, 40)));
     test.expect("both ends", were == Some((10, 40)));
-    test.expect("capacity", list.capacity() == room);
 }
 
-// The last item is written again, by the cells without the order.
-fn the_last_is_written(test: &Test, list: &mut List, last: usize)
-    ensures { (p : ℕ) → IsDetached list.old p → IsDetached list.new p }
+fn both_ends_are_written(test: &Test, list: &mut List, detached: usize)
+    requires { IsDetached list.old detached }
+    ensures { IsDetached list.new detached }
 {
+    expect_lent(test, write_list_ends(list, 11, 41));
     test.expect("the last", write_last(list, 42) == Some(41));
-    test.expect("the last place", list.back_place() == Some(last));
+    expect_slots(test, list, &[(0, 11, 1), (2, 30, 3), (3, 42, 4)]);
 }
 
-fn the_detached_one_is_as_before(test: &Test, list: &mut List, b: usize)
-    requires { IsDetached list.old b }
-{
-    let (item, link) = list.get_detached(b);
-    test.expect("detached", (*item, link) == (20, 2));
-    test.expect("taken", list.take_detached(b) == 20);
-}
-
-// Items 10, 20, 30 and 40: the second is detached, and the ends of the others are written.
-fn ends_are_written(test: &Test, list: &mut List) {
-    let a = push(test, list, 10, 1);
-    let b = push(test, list, 20, 2);
-    let c = push(test, list, 30, 3);
-    let d = push(test, list, 40, 4);
-    let room = list.capacity();
-    if !detach_listed(list, b) {
-        test.expect("detach", false);
-        return;
+// Items 10, 20 and 30: the second is detached, 40 comes, and the ends of the others are written.
+fn items_leave_and_are_written(test: &Test, list: &mut List) {
+    let _first = list.push_back(10, 1);
+    let detached = list.push_back(20, 2).unwrap_or(9);
+    let _third = list.push_back(30, 3);
+    if !uses::detach_listed(list, detached) {
+        return test.expect("detach", false);
     }
-    both_ends_are_written(test, list, room.saturating_sub(1), (a, d));
-    expect_slots(test, list, &[(a, 11, 1), (c, 30, 3), (d, 41, 4)]);
-    the_last_is_written(test, list, d);
-    expect_slots(test, list, &[(a, 11, 1), (c, 30, 3), (d, 42, 4)]);
-    the_detached_one_is_as_before(test, list, b);
+    it_has_left_the_list(test, list, detached);
+    both_ends_are_written(test, list, detached);
+    test.expect("take_detached", list.take_detached(detached) == 20);
 }
 
-#[test]
-fn the_items_of_a_slot_list_are_written_at_both_ends(rt: HostRuntime) -> Result<(), Failed> {
-    let test = Test::new(rt.alloc());
-    ends_are_written(&test, &mut SlotList::new(test.alloc()));
-    test.end()
+fn it_has_left_the_tape(test: &Test, tape: &mut Items, detached: usize)
+    requires { IsDetached tape.old.list detached }
+    ensures { IsDetached tape.new.list detached }
+{
+    test.expect("remove", tape_uses::removes_nothing(tape, detached));
+    let (item, link) = tape.get_detached(detached);
+    test.expect("get_detached", (*item, link) == (20, 2));
+    let place = tape_uses::push_beside(tape, detached, 40);
+    test.expect("another place", place == Some(3));
 }
 
-#[test]
-fn the_items_of_a_slice_of_slots_are_written(rt: HostRuntime) -> Result<(), Failed> {
-    let test = Test::new(rt.alloc());
+fn items_of_a_tape_leave_and_are_written(test: &Test, tape: &mut Items) {
+    let _first = tape.push_back(10, 1);
+    let detached = tape.push_back(20, 2).unwrap_or(9);
+    let _third = tape.push_back(30, 3);
+    if !tape_uses::detach_listed(tape, detached) {
+        return test.expect("detach", false);
+    }
+    it_has_left_the_tape(test, tape, detached);
+    expect_lent(test, write_tape_ends(tape, 11, 41));
+    expect_on(test, tape, &[(0, 11, 1), (2, 30, 3), (3, 41, 4)]);
+    test.expect("take_detached", tape.take_detached(detached) == 20);
+}
+
+fn a_slice_of_slots_is_written(test: &Test) {
     let mut slots = [Some(10), None, Some(30), Some(40)];
     let (length, read, were) = write_slots(&mut slots, 11, 31);
     test.expect("length", length == 4);
-    test.expect("read", read == (10, 30));
-    test.expect("were", were == (10, 30));
-    test.expect("first", slots[0] == Some(11));
-    test.expect("none", slots[1].is_none());
-    test.expect("third", slots[2] == Some(31));
-    test.expect("not taken", slots[3] == Some(40));
+    test.expect("read", read == (10, 30) && were == (10, 30));
+    let wanted = [Some(11), None, Some(31), Some(40)];
+    test.expect("written", slots == wanted);
+}
+
+#[test]
+fn items_leave_the_order_and_the_others_are_written(rt: HostRuntime) -> Result<(), Failed> {
+    let test = Test::new(rt.alloc());
+    items_leave_and_are_written(&test, &mut SlotList::new(test.alloc()));
+    items_of_a_tape_leave_and_are_written(&test, &mut Tape::new(test.alloc()));
+    a_slice_of_slots_is_written(&test);
     test.end()
 }

@@ -1,255 +1,141 @@
 //! Tests with refused memory: the nth request is refused, for each n until none is.
-use crate::places::Places;
-use crate::slots::{Slot, expect_slots, push, slots_of};
-use multimap_slots::{SlotList, Tape};
+use crate::both::{Both, Kind, push};
+use crate::slots::Slot;
 use refusing_allocator::RefusingAllocator;
-use test_helpers::{Failed, Sample, Test, Token, requests_until_enough};
-
-// How many items come into the lists that a refused call is tried on.
-const COUNTS: &[usize] = &[0, 1, 4, 9];
+use test_helpers::{Failed, Test, requests_until_enough};
 
 // More slots than any list of these tests has free.
 const MANY: usize = 40;
 
-pub type Slots<'a, T> = SlotList<T, u8, &'a RefusingAllocator>;
-
-pub type Taped<'a, T> = Tape<T, u8, &'a RefusingAllocator>;
-
-fn fill<L: Places>(test: &Test, list: &mut L, count: usize) {
-    for number in 0..count {
-        let _place = push(test, list, number, 7);
-    }
+/// A call that may find no memory.
+#[derive(Clone, Copy)]
+enum Call {
+    PushBack,
+    Reserve,
 }
 
 // Pushes items until the next one would take memory.
-fn fill_up<L: Places>(test: &Test, list: &mut L) {
-    for number in 0..MANY {
+fn fill_up(test: &Test, list: &mut Both<'_>) {
+    for item in 0..MANY {
         if list.has_room() {
-            let _place = push(test, list, number, 7);
+            let _place = push(test, list, item, 7);
         }
     }
     test.expect("no room", !list.has_room());
 }
 
-// Takes the first item out: its place is free in a slot list, and a hole in a tape.
-fn take_front<L: Places>(list: &mut L) -> bool {
-    match list.front_place() {
-        Some(place) => list.remove(place).is_some(),
-        None => false,
+// Items of which one goes and others come, so that places don't rise along a slot list, and a tape
+// has a hole.
+fn make_full(test: &Test, list: &mut Both<'_>) {
+    for item in 0..4usize {
+        let place = push(test, list, item, 7);
+        if item == 1 {
+            test.expect("remove", list.remove(place) == Some(1));
+        }
     }
-}
-
-// Fills a list up. Its places don't rise along it, or there is a hole, unless `count` is 0.
-fn make_full<L: Places>(test: &Test, list: &mut L, count: usize) {
-    fill(test, list, count);
-    let _freed = take_front(list);
     fill_up(test, list);
 }
 
-// Pushes an item and notes its slot. It answers whether there was memory enough.
-fn push_one<L: Places>(test: &Test, list: &mut L, slots: &mut Vec<Slot>) -> bool {
-    match list.push_back(L::Item::of(test, 50), 9) {
-        Err(returned) => {
-            test.expect("the item comes back", returned.number() == 50);
-            false
-        }
-        Ok(place) => {
-            test.expect("memory for a slot", slots.push((place, 50, 9)).is_ok());
-            true
-        }
+// Whether the call has memory enough. A refused push hands its item back.
+fn is_enough(test: &Test, list: &mut Both<'_>, call: Call) -> bool {
+    match call {
+        Call::PushBack => match list.push_back(50, 9) {
+            Ok(_) => true,
+            Err(returned) => {
+                test.expect("the item comes back", returned == 50);
+                false
+            }
+        },
+        Call::Reserve => list.reserve(20).is_ok(),
     }
 }
 
-// Whether a call had memory enough, where it is refused for want of memory alone.
-pub fn expect_refusal(test: &Test, allocator: &RefusingAllocator, is_enough: bool) {
-    let refused = allocator.refused();
-    test.expect("refused for want of memory", is_enough != refused);
-}
-
-// One push with so many requests granted. It answers whether that was enough.
-fn push_with<L: Places>(
-    test: &Test,
-    allocator: &RefusingAllocator,
-    list: &mut L,
-    granted: u64,
-) -> bool {
+// After a refusal the list is as before.
+fn call_and_compare(test: &Test, list: &mut Both<'_>, call: Call, before: &Vec<Slot>) -> bool {
     let capacity = list.capacity();
-    let mut slots = slots_of(test, list);
-    allocator.grant(granted);
-    let is_enough = push_one(test, list, &mut slots);
-    expect_refusal(test, allocator, is_enough);
+    let enough = is_enough(test, list, call);
     test.expect("capacity", list.capacity() >= capacity);
-    expect_slots(test, list, slots.as_slice());
-    is_enough
+    test.expect("slots", enough || list.slots(test) == *before);
+    enough
 }
 
-// `alloc` is the allocator as the list takes it: no bound that names its lifetime is proved.
-fn push_to<L: Places>(
+fn call_with(
     test: &Test,
     allocator: &RefusingAllocator,
-    alloc: L::Alloc,
-    count: usize,
+    list: &mut Both<'_>,
+    call: Call,
     granted: u64,
 ) -> bool {
-    allocator.refuse_none();
-    let mut list = L::new(alloc);
-    make_full(test, &mut list, count);
-    push_with(test, allocator, &mut list, granted)
-}
-
-// One reserve with so many requests granted. It answers whether that was enough.
-fn reserve_with<L: Places>(
-    test: &Test,
-    allocator: &RefusingAllocator,
-    list: &mut L,
-    granted: u64,
-) -> bool {
-    let capacity = list.capacity();
-    let slots = slots_of(test, list);
+    make_full(test, list);
+    let before = list.slots(test);
     allocator.grant(granted);
-    let is_enough = list.reserve(20).is_ok();
-    expect_refusal(test, allocator, is_enough);
-    let least = if is_enough {
-        slots.len().saturating_add(20)
-    } else {
-        capacity
-    };
-    test.expect("capacity", list.capacity() >= least);
-    expect_slots(test, list, slots.as_slice());
-    is_enough
+    let enough = call_and_compare(test, list, call, &before);
+    test.expect("want of memory alone", enough != allocator.refused());
+    enough
 }
 
-fn reserve_in<L: Places>(
-    test: &Test,
-    allocator: &RefusingAllocator,
-    alloc: L::Alloc,
-    count: usize,
-    granted: u64,
-) -> bool {
-    allocator.refuse_none();
-    let mut list = L::new(alloc);
-    make_full(test, &mut list, count);
-    let _freed = take_front(&mut list);
-    reserve_with(test, allocator, &mut list, granted)
+fn call_on(test: &Test, kind: Kind, call: Call, granted: u64) -> bool {
+    let allocator = RefusingAllocator::unlimited(test.alloc());
+    let list = &mut Both::new(kind, &allocator);
+    call_with(test, &allocator, list, call, granted)
 }
 
-// Takes items out until the capacity covers those that stay.
-fn take_to_the_capacity<L: Places>(list: &mut L) {
-    for _ in 0..MANY {
-        if list.len() > list.capacity() {
-            let _taken = take_front(list);
-        }
+fn refusals_change_nothing(test: &Test, kind: Kind, call: Call) {
+    let enough = requests_until_enough(|granted| call_on(test, kind, call, granted));
+    test.expect("a request", enough.unwrap_or(0) > 0);
+}
+
+fn is_made(kind: Kind, allocator: &RefusingAllocator, room: usize) -> bool {
+    match Both::with_capacity(kind, allocator, room) {
+        Ok(list) => list.capacity() >= room,
+        Err(_) => false,
     }
 }
 
-// The room that is there is reserved without a request. One more item, or too many, need memory.
-fn reserve_room<L: Places>(test: &Test, allocator: &RefusingAllocator, list: &mut L) {
-    let capacity = list.capacity();
-    let room = capacity.saturating_sub(list.len());
-    test.expect("reserve all", list.reserve(usize::MAX).is_err());
-    allocator.refuse_all();
-    test.expect("reserve the room", list.reserve(room).is_ok());
-    test.expect("no request", !allocator.refused());
-    test.expect("the room stays", list.capacity() == capacity);
+fn make_with(test: &Test, kind: Kind, granted: u64) -> bool {
+    let allocator = RefusingAllocator::new(test.alloc(), granted);
+    test.expect("room for none", is_made(kind, &allocator, 0));
+    test.expect("no request", allocator.granted() == granted);
+    let enough = is_made(kind, &allocator, 5);
+    test.expect("want of memory alone", enough != allocator.refused());
+    enough
 }
 
-fn reserve_one_more<L: Places>(test: &Test, list: &mut L) {
-    let capacity = list.capacity();
-    let room = capacity.saturating_sub(list.len());
-    let more = list.reserve(room.saturating_add(1));
-    test.expect("reserve one more", more.is_err());
-    test.expect("capacity", list.capacity() >= capacity);
+fn lists_are_made(test: &Test, kind: Kind) {
+    let enough = requests_until_enough(|granted| make_with(test, kind, granted));
+    test.expect("a request", enough.unwrap_or(0) > 0);
 }
 
-fn reserve_without_memory<L: Places>(
-    test: &Test,
-    allocator: &RefusingAllocator,
-    list: &mut L,
-    count: usize,
-) {
-    make_full(test, list, count);
-    let _freed = take_front(list);
-    take_to_the_capacity(list);
-    let slots = slots_of(test, list);
-    reserve_room(test, allocator, list);
-    reserve_one_more(test, list);
-    expect_slots(test, list, slots.as_slice());
+// Three come, one goes, and others come.
+fn room_is_used(test: &Test, list: &mut Both<'_>) {
+    for item in 0..3usize {
+        let _place = push(test, list, item, 7);
+    }
+    test.expect("remove", list.remove(0) == Some(0));
+    fill_up(test, list);
 }
 
-fn refusals_change_nothing<L: Places>(
-    test: &Test,
-    allocator: &RefusingAllocator,
-    alloc: L::Alloc,
-    count: usize,
-) {
-    allocator.refuse_none();
-    reserve_without_memory(test, allocator, &mut L::new(alloc), count);
-    let pushed = requests_until_enough(|granted| push_to::<L>(
-        test, allocator, alloc, count, granted,
-    ));
-    test.expect("a push has enough", pushed.is_some());
-    let reserved = requests_until_enough(|granted| reserve_in::<L>(
-        test, allocator, alloc, count, granted,
-    ));
-    test.expect("a reserve has enough", reserved.is_some());
-}
-
-// Room for three, and then no memory at all.
-fn room_is_filled<L: Places>(test: &Test, allocator: &RefusingAllocator, list: &mut L) {
+fn room_is_filled(test: &Test, allocator: &RefusingAllocator, list: &mut Both<'_>) {
     test.expect("reserve", list.reserve(3).is_ok());
     allocator.refuse_all();
-    test.expect("reserve again", list.reserve(3).is_ok());
-    fill(test, list, 3);
-    test.expect("len", list.len() == 3);
-    test.expect("remove", take_front(list));
-    fill(test, list, 1);
-    fill_up(test, list);
+    room_is_used(test, list);
     test.expect("no request", !allocator.refused());
+    test.expect("no memory", !is_enough(test, list, Call::PushBack));
 }
 
-fn a_full_list_hands_the_item_back<L: Places>(test: &Test, list: &mut L) {
-    let returned = match list.push_back(L::Item::of(test, 50), 9) {
-        Ok(_) => None,
-        Err(item) => Some(item.number()),
-    };
-    test.expect("the item comes back", returned == Some(50));
+fn room_of(test: &Test, kind: Kind) {
+    let allocator = RefusingAllocator::unlimited(test.alloc());
+    room_is_filled(test, &allocator, &mut Both::new(kind, &allocator));
 }
 
-fn reserved_room_needs_no_memory<L: Places>(
-    test: &Test,
-    allocator: &RefusingAllocator,
-    list: &mut L,
-) {
-    room_is_filled(test, allocator, list);
-    let slots = slots_of(test, list);
-    a_full_list_hands_the_item_back(test, list);
-    expect_slots(test, list, slots.as_slice());
-}
-
-fn refusals_of<L: Places>(test: &Test, allocator: &RefusingAllocator, alloc: L::Alloc) {
-    for count in COUNTS {
-        refusals_change_nothing::<L>(test, allocator, alloc, *count);
+#[test]
+fn refusals_change_nothing_and_room_is_used(rt: HostRuntime) -> Result<(), Failed> {
+    let test = Test::new(rt.alloc());
+    for kind in [Kind::List, Kind::Tape] {
+        refusals_change_nothing(&test, kind, Call::PushBack);
+        refusals_change_nothing(&test, kind, Call::Reserve);
+        lists_are_made(&test, kind);
+        room_of(&test, kind);
     }
-    allocator.refuse_none();
-    reserved_room_needs_no_memory(test, allocator, &mut L::new(alloc));
-}
-
-#[test]
-fn refusals_change_nothing_of_a_slot_list(rt: HostRuntime) -> Result<(), Failed> {
-    let test = Test::new(rt.alloc());
-    let allocator = RefusingAllocator::unlimited(test.alloc());
-    refusals_of::<Slots<'_, usize>>(&test, &allocator, &allocator);
-    refusals_of::<Slots<'_, String>>(&test, &allocator, &allocator);
-    refusals_of::<Slots<'_, Token>>(&test, &allocator, &allocator);
-    test.end()
-}
-
-#[test]
-fn refusals_change_nothing_of_a_tape(rt: HostRuntime) -> Result<(), Failed> {
-    let test = Test::new(rt.alloc());
-    let allocator = RefusingAllocator::unlimited(test.alloc());
-    refusals_of::<Taped<'_, usize>>(&test, &allocator, &allocator);
-    refusals_of::<Taped<'_, String>>(&test, &allocator, &allocator);
-    refusals_of::<Taped<'_, Token>>(&test, &allocator, &allocator);
     test.end()
 }

@@ -1,76 +1,64 @@
-//! What a test sees of a slot list or of a tape, by the numbers of samples.
-use crate::places::Places;
-use test_helpers::{Sample, Test};
+//! The lists of most of these tests, and what a test sees of one.
+use multimap_slots::{Reads, SlotList, Tape};
+use std::alloc::Allocator;
+use test_helpers::Test;
 
-/// A place, the number of its item, and its link.
+pub type List = SlotList<usize, u8>;
+
+pub type Items = Tape<usize, u8>;
+
+/// A place, its item, and its link.
 pub type Slot = (usize, usize, u8);
 
-/// Pushes an item of a number, and answers its place.
-pub fn push<L: Places>(test: &Test, list: &mut L, number: usize, link: u8) -> usize {
-    match list.push_back(L::Item::of(test, number), link) {
-        Ok(place) => place,
-        Err(_) => {
-            test.expect("memory for a push", false);
-            0
-        }
+// What stands at a place that is told as that of an item.
+fn slot_of(place: usize, found: Option<(&usize, u8)>) -> Slot {
+    match found {
+        Some((item, link)) => (place, *item, link),
+        None => (place, 0, 0),
     }
 }
 
-/// The number of the item that was taken out.
-pub fn take<L: Places>(list: &mut L, place: usize) -> Option<usize> {
-    match list.remove(place) {
-        Some(item) => Some(item.number()),
-        None => None,
-    }
-}
-
-/// The item's number and the link at a place.
-pub fn slot_at<L: Places>(list: &L, place: usize) -> Option<(usize, u8)> {
-    match list.get(place) {
-        Some((item, link)) => Some((item.number(), link)),
-        None => None,
-    }
-}
-
-/// Each slot from the front. Whether it is the same from the back `expect_slots` tells.
-pub fn slots_of<L: Places>(test: &Test, list: &L) -> Vec<Slot> {
-    let mut slots = Vec::new(test.alloc());
+/// Adds each slot from the front. The places have to be the same from the back.
+pub fn add_slots<A: Allocator>(test: &Test, list: &SlotList<usize, u8, A>, slots: &mut Vec<Slot>) {
     let mut following = list.front_place();
+    let mut earlier = None;
     for _ in 0..list.len() {
         let place = following.unwrap_or(0);
-        let (number, link) = slot_at(list, place).unwrap_or((0, 0));
-        test.expect(
-            "memory for a slot",
-            slots.push((place, number, link)).is_ok(),
-        );
+        test.expect("previous_place", list.previous_place(place) == earlier);
+        let slot = slot_of(place, list.get(place, &mut Reads::new()));
+        test.expect("memory for a slot", slots.push(slot).is_ok());
+        earlier = following;
         following = list.next_place(place);
     }
-    slots
+    test.expect("back_place", list.back_place() == earlier);
 }
 
-/// Expects these slots and no others, from the front and from the back.
-pub fn expect_slots<L: Places>(test: &Test, list: &L, wanted: &[Slot]) {
-    test.expect("len", list.len() == wanted.len());
-    test.expect("is_empty", list.is_empty() == wanted.is_empty());
-    expect_from_the_front(test, list, wanted);
-    expect_from_the_back(test, list, wanted);
-}
-
-fn expect_from_the_front<L: Places>(test: &Test, list: &L, wanted: &[Slot]) {
-    let mut following = list.front_place();
-    for (row, (place, number, link)) in wanted.iter().enumerate() {
-        test.expect_at("next place", row, following == Some(*place));
-        test.expect_at("slot", row, slot_at(list, *place) == Some((*number, *link)));
-        following = list.next_place(*place);
+/// The same of a tape.
+pub fn add_slots_on<A: Allocator>(test: &Test, tape: &Tape<usize, u8, A>, slots: &mut Vec<Slot>) {
+    let mut following = tape.front_place();
+    let mut earlier = None;
+    for _ in 0..tape.len() {
+        let place = following.unwrap_or(0);
+        let before = tape.previous_place_before(place);
+        test.expect("previous_place_before", before == earlier);
+        let slot = slot_of(place, tape.get(place, &mut Reads::new()));
+        test.expect("memory for a slot", slots.push(slot).is_ok());
+        earlier = following;
+        following = tape.next_place_after(place);
     }
-    test.expect("no place behind the last", following.is_none());
+    test.expect("back_place", tape.back_place() == earlier);
 }
 
-fn expect_from_the_back<L: Places>(test: &Test, list: &L, wanted: &[Slot]) {
-    let mut following = list.back_place();
-    for (place, _, _) in wanted.iter().rev() {
-        test.expect("previous place", following == Some(*place));
-        following = list.previous_place(*place);
-    }
-    test.expect("no place before the first", following.is_none());
+/// Expects these slots and no others.
+pub fn expect_slots(test: &Test, list: &List, wanted: &[Slot]) {
+    let slots = &mut Vec::new(test.alloc());
+    add_slots(test, list, slots);
+    test.expect("slots", slots.as_slice() == wanted);
+}
+
+/// The same of a tape.
+pub fn expect_on(test: &Test, tape: &Items, wanted: &[Slot]) {
+    let slots = &mut Vec::new(test.alloc());
+    add_slots_on(test, tape, slots);
+    test.expect("slots of a tape", slots.as_slice() == wanted);
 }

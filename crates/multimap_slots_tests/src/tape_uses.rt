@@ -2,8 +2,9 @@
 ghost use Rattle.std.specs.Prelude.{◌≡◌, ◌≢◌, ◌+◌, ◌≤◌, ◌<◌, ℕ, false, Some, IfSome, IfNone, IsTrue};
 ghost use Rattle.multimap_slots.specs.Lists.{IsIn};
 ghost use Rattle.multimap_slots.specs.Slots.{IsDetached, item_at};
-ghost use Rattle.multimap_slots.specs.Tapes.{Frees, KeepsCounts};
+ghost use Rattle.multimap_slots.specs.Tapes.{Frees};
 
+use crate::slots::Items;
 use multimap_slots::{Reads, Tape};
 
 /// Whether an item of the list stands at a place.
@@ -14,7 +15,7 @@ pub fn is_listed<T>(tape: &Tape<T, u8>, place: usize) -> bool
 }
 
 /// Whether the item at `from` may go down to `to`: there are holes alone on its way.
-pub fn can_move_down<T>(tape: &Tape<T, u8>, from: usize, to: usize) -> bool
+pub fn can_move_down(tape: &Items, from: usize, to: usize) -> bool
     ensures listed { IsTrue result → IsIn from tape.now.list.order }
     ensures down { IsTrue result → to < from }
     ensures holes { IsTrue result → (q : ℕ) → to ≤ q → q < from → ¬ IsIn q tape.now.list.order }
@@ -47,7 +48,7 @@ pub fn detach_listed<T>(tape: &mut Tape<T, u8>, place: usize) -> bool
 }
 
 /// Takes an item out of the list and then out of its slot, if one is there. It is freed once.
-pub fn detach_and_take<T>(tape: &mut Tape<T, u8>, place: usize) -> Option<T>
+pub fn detach_and_take(tape: &mut Items, place: usize) -> Option<usize>
     ensures item { IfSome result (λ item. item_at tape.old.list place ≡ Some item) }
     ensures freed { IfSome result (λ _. Frees tape.old tape.new) }
     ensures kept { IfNone result (tape.new ≡ tape.old) }
@@ -60,7 +61,7 @@ pub fn detach_and_take<T>(tape: &mut Tape<T, u8>, place: usize) -> Option<T>
 }
 
 /// Tries to remove what is detached already, and answers whether nothing was there.
-pub fn removes_nothing<T: Drop>(tape: &mut Tape<T, u8>, place: usize) -> bool
+pub fn removes_nothing(tape: &mut Items, place: usize) -> bool
     requires { IsDetached tape.old.list place }
     ensures none { IsTrue result }
     ensures unchanged { tape.new ≡ tape.old }
@@ -69,7 +70,7 @@ pub fn removes_nothing<T: Drop>(tape: &mut Tape<T, u8>, place: usize) -> bool
 }
 
 /// Pushes an item, and answers its place, which is another than a detached item's.
-pub fn push_beside<T: Drop>(tape: &mut Tape<T, u8>, place: usize, item: T) -> Option<usize>
+pub fn push_beside(tape: &mut Items, place: usize, item: usize) -> Option<usize>
     requires { IsDetached tape.old.list place }
     ensures kept { IsDetached tape.new.list place }
     ensures apart { IfSome result (λ at. place ≢ at) }
@@ -81,7 +82,7 @@ pub fn push_beside<T: Drop>(tape: &mut Tape<T, u8>, place: usize, item: T) -> Op
 }
 
 /// Takes both items out, and answers whether both were there.
-pub fn remove_both(tape: &mut Tape<usize, u8>, first: usize, second: usize) -> bool
+pub fn remove_both(tape: &mut Items, first: usize, second: usize) -> bool
     ensures moved { tape.new.moved ≡ tape.old.moved }
     ensures freed { IsTrue result → tape.new.freed ≡ tape.old.freed + 2 }
 {
@@ -91,7 +92,7 @@ pub fn remove_both(tape: &mut Tape<usize, u8>, first: usize, second: usize) -> b
 }
 
 /// Moves an item down, if it may go, and answers whether it went.
-pub fn move_if_free(tape: &mut Tape<usize, u8>, from: usize, to: usize) -> bool
+pub fn move_if_free(tape: &mut Items, from: usize, to: usize) -> bool
     ensures moved { IsTrue result → tape.new.moved ≡ tape.old.moved + 1 }
     ensures freed { tape.new.freed ≡ tape.old.freed }
     ensures kept { result ≡ false → tape.new ≡ tape.old }
@@ -104,7 +105,7 @@ pub fn move_if_free(tape: &mut Tape<usize, u8>, from: usize, to: usize) -> bool
 }
 
 /// Cuts the end, and answers whether the list has no hole then.
-pub fn cut_to_no_hole(tape: &mut Tape<usize, u8>) -> bool
+pub fn cut_to_no_hole(tape: &mut Items) -> bool
     ensures holes { IsTrue result → tape.new.holes ≡ 0 }
     ensures moved { tape.new.moved ≡ tape.old.moved }
     ensures freed { tape.new.freed ≡ tape.old.freed }
@@ -114,11 +115,4 @@ pub fn cut_to_no_hole(tape: &mut Tape<usize, u8>) -> bool
         Some(last) => last < tape.len(),
         None => true,
     }
-}
-
-/// Pushes an item, and answers its place.
-pub fn push_counted(tape: &mut Tape<usize, u8>, item: usize, link: u8) -> Option<usize>
-    ensures { KeepsCounts tape.old tape.new }
-{
-    tape.push_back(item, link).ok()
 }

@@ -3,10 +3,11 @@ ghost use Rattle.std.specs.Prelude.{◌≡◌, ◌≢◌, ◌+◌, ◌∷◌, �
 ghost use Rattle.multimap_slots.specs.Lists.{next_of, without};
 ghost use Rattle.multimap_slots.specs.Slots.{link_at, IsDetached};
 
+use crate::slots::List;
 use multimap_slots::{Reads, SlotList};
 
 /// Pushes two items, and answers their places: the second stands right behind the first.
-pub fn push_two(list: &mut SlotList<u64, u8>, first: u64, second: u64) -> Option<(usize, usize)>
+pub fn push_two(list: &mut List, first: usize, second: usize) -> Option<(usize, usize)>
     ensures { IfSome result (λ places. next_of list.new.order places.0 ≡ Some places.1) }
 {
     let Ok(a) = list.push_back(first, 0) else {
@@ -19,7 +20,7 @@ pub fn push_two(list: &mut SlotList<u64, u8>, first: u64, second: u64) -> Option
 }
 
 /// Writes the link at a place, and answers whether an item of the list is there.
-pub fn relink(list: &mut SlotList<u64, u8>, place: usize, link: u8) -> bool
+pub fn relink(list: &mut List, place: usize, link: u8) -> bool
     ensures written { IsTrue result → link_at list.new place ≡ Some link }
     ensures order { list.new.order ≡ list.old.order }
 {
@@ -33,7 +34,7 @@ pub fn relink(list: &mut SlotList<u64, u8>, place: usize, link: u8) -> bool
 }
 
 /// Reads each item from the front, and so counts as many reads as the list has items.
-pub fn read_all(list: &SlotList<u64, u8>, reads: &mut Reads)
+pub fn read_all(list: &List, reads: &mut Reads)
     ensures { reads.new ≡ reads.old + length list.now.order }
 {
     let mut following = list.front_place();
@@ -49,7 +50,7 @@ pub fn read_all(list: &SlotList<u64, u8>, reads: &mut Reads)
 }
 
 /// Puts the item at a place behind the others, and answers whether an item of the list is there.
-pub fn put_last<T>(list: &mut SlotList<T, u8>, place: usize) -> bool
+pub fn put_last(list: &mut List, place: usize) -> bool
     ensures order { IsTrue result
         → list.new.order ≡ without list.old.order place ++ place ∷ [] }
     ensures items { list.new.items ≡ list.old.items }
@@ -75,7 +76,7 @@ pub fn detach_listed<T>(list: &mut SlotList<T, u8>, place: usize) -> bool
 }
 
 /// Removes no item where one is detached, and answers whether that is so.
-pub fn remove_none<T: Drop>(list: &mut SlotList<T, u8>, place: usize) -> bool
+pub fn remove_none(list: &mut List, place: usize) -> bool
     requires { IsDetached list.old place }
     ensures none { IsTrue result }
     ensures unchanged { list.new ≡ list.old }
@@ -84,7 +85,7 @@ pub fn remove_none<T: Drop>(list: &mut SlotList<T, u8>, place: usize) -> bool
 }
 
 /// Pushes an item beside a detached one, which stays: the item comes to another place.
-pub fn push_beside<T: Drop>(list: &mut SlotList<T, u8>, item: T, detached: usize) -> Option<usize>
+pub fn push_beside(list: &mut List, item: usize, detached: usize) -> Option<usize>
     requires { IsDetached list.old detached }
     ensures another { IfSome result (λ place. place ≢ detached) }
     ensures kept { IsDetached list.new detached }

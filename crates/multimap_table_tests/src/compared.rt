@@ -46,6 +46,7 @@ impl<A: Allocator + Copy> Compared<A> {
     }
 
     /// The table alone.
+    #[cfg(test)]
     pub fn into_table(self) -> KeyTable<A> {
         let Compared { table, hashes: _ } = self;
         table
@@ -85,19 +86,16 @@ impl<A: Allocator + Copy> Compared<A> {
     }
 
     /// How many places the table and the list disagree on.
+    #[cfg(test)]
     pub fn differences(&self) -> usize {
         let mut differences = 0usize;
         let mut rows = 0usize;
         for place in 0..self.hashes.len() {
-            let agrees = match self.hashes[place] {
-                Some(hash) => {
-                    rows = rows.wrapping_add(1);
-                    self.table.find(hash, |other| other == place) == Some(place)
+            if let Some(hash) = self.hashes[place] {
+                rows = rows.wrapping_add(1);
+                if self.table.find(hash, |other| other == place) != Some(place) {
+                    differences = differences.wrapping_add(1);
                 }
-                None => true,
-            };
-            if !agrees {
-                differences = differences.wrapping_add(1);
             }
         }
         if self.table.len() != rows {

@@ -1,97 +1,86 @@
-//! The key table with refused memory.
+//! The key table with refused memory: the nth request is refused, for each n until none is.
 use crate::compared::Compared;
 use crate::rows::{agrees, with_room};
 use multimap_table::KeyTable;
 use refusing_allocator::RefusingAllocator;
 use test_helpers::{Failed, Test, requests_until_enough};
 
+type Rows<'a> = Compared<&'a RefusingAllocator>;
+
 // One table made with so many requests granted. It answers whether that was enough.
 fn make_with(test: &Test, granted: u64) -> bool {
     let allocator = RefusingAllocator::new(test.alloc(), granted);
-    let made = KeyTable::with_capacity(&allocator, 100);
-    test.expect(
-        "refused for want of memory",
-        made.is_err() == allocator.refused(),
-    );
-    match made {
-        Ok(table) => {
-            test.expect("capacity", 100 <= table.capacity());
-            test.expect("is_empty", table.is_empty());
-            true
-        }
+    let enough = match KeyTable::with_capacity(&allocator, 100) {
+        Ok(table) => table.is_empty() && table.capacity() >= 100,
         Err(_) => false,
+    };
+    test.expect("want of memory alone", enough != allocator.refused());
+    enough
+}
+
+fn fill(test: &Test, rows: &mut Rows<'_>) {
+    for place in 0..100usize {
+        test.expect("insert", rows.insert(place as u64 % 7, place));
     }
 }
 
-#[test]
-fn a_new_table_takes_two_blocks(rt: HostRuntime) -> Result<(), Failed> {
-    let test = Test::new(rt.alloc());
-    let enough = requests_until_enough(|granted| make_with(&test, granted));
-    // One block for the tags, and one for the rows.
-    test.expect("two requests", enough == Some(2));
-    test.end()
-}
-
-type Refusing<'a> = Compared<&'a RefusingAllocator>;
-
 // One growth past the capacity with so many requests granted.
-fn grow_with(test: &Test, allocator: &RefusingAllocator, rows: &mut Refusing<'_>, granted: u64) {
+fn grow_with(
+    test: &Test,
+    allocator: &RefusingAllocator,
+    rows: &mut Rows<'_>,
+    granted: u64,
+) -> bool {
     let capacity = rows.table().capacity();
+    allocator.refuse_none();
     allocator.grant(granted);
-    test.expect("reserve", rows.reserve(capacity).is_err());
-    test.expect("capacity", rows.table().capacity() == capacity);
+    let enough = rows.reserve(capacity).is_ok();
+    test.expect("want of memory alone", enough != allocator.refused());
+    test.expect("capacity", enough || rows.table().capacity() == capacity);
     agrees(test, rows);
+    enough
 }
 
-// With all memory refused, what has room goes on.
-fn room_is_used(test: &Test, allocator: &RefusingAllocator, rows: &mut Refusing<'_>) {
+// What has room goes on without memory: a row goes and comes again, and others come.
+fn room_is_used(test: &Test, allocator: &RefusingAllocator, rows: &mut Rows<'_>) {
     let capacity = rows.table().capacity();
+    test.expect("all", rows.reserve(usize::MAX).is_err());
     allocator.refuse_all();
-    test.expect("no room", KeyTable::with_capacity(allocator, 0).is_ok());
     test.expect(
         "the room",
         rows.reserve(capacity.saturating_sub(100)).is_ok(),
     );
-    test.expect("capacity", rows.table().capacity() == capacity);
+    test.expect("no more room", rows.table().capacity() == capacity);
     test.expect("remove", rows.remove(50));
     test.expect("insert again", rows.insert(3, 50));
     for place in 100..capacity {
         test.expect_at("insert", place, rows.insert(3, place));
     }
-    test.expect("insert into a full table", !rows.insert(3, capacity));
     agrees(test, rows);
 }
 
-fn the_table_grows(test: &Test, allocator: &RefusingAllocator, rows: &mut Refusing<'_>) {
-    let capacity = rows.table().capacity();
-    allocator.grant(2);
-    test.expect("reserve one", rows.reserve(1).is_ok());
-    test.expect("more room", capacity < rows.table().capacity());
-    agrees(test, rows);
-}
-
-fn growths_are_refused(test: &Test, allocator: &RefusingAllocator, rows: &mut Refusing<'_>) {
-    for place in 0..100usize {
-        test.expect("insert", rows.insert(place as u64 % 7, place));
+fn rows_are_refused(test: &Test, allocator: &RefusingAllocator, rows: &mut Rows<'_>) {
+    fill(test, rows);
+    room_is_used(test, allocator, rows);
+    for granted in 0..3u64 {
+        let enough = grow_with(test, allocator, rows, granted);
+        test.expect("two requests", enough == (granted == 2));
     }
-    grow_with(test, allocator, rows, 0);
-    grow_with(test, allocator, rows, 1);
-    test.expect("all", rows.reserve(usize::MAX).is_err());
-    test.expect("all but 100", rows.reserve(usize::MAX - 100).is_err());
-    agrees(test, rows);
 }
 
 #[test]
-fn a_refused_growth_changes_nothing(rt: HostRuntime) -> Result<(), Failed> {
+fn refusals_change_nothing_and_room_is_used(rt: HostRuntime) -> Result<(), Failed> {
     let test = Test::new(rt.alloc());
+    // One block for the tags, and one for the rows.
+    let enough = requests_until_enough(|granted| make_with(&test, granted));
+    test.expect("two requests", enough == Some(2));
     let allocator = RefusingAllocator::unlimited(test.alloc());
-    match with_room(&allocator, 200, 100) {
-        Ok(mut rows) => {
-            growths_are_refused(&test, &allocator, &mut rows);
-            room_is_used(&test, &allocator, &mut rows);
-            the_table_grows(&test, &allocator, &mut rows);
-        }
+    match with_room(&allocator, 300, 100) {
+        Ok(mut rows) => rows_are_refused(&test, &allocator, &mut rows),
         Err(_) => test.expect("memory", false),
     }
+    allocator.refuse_all();
+    let none = KeyTable::with_capacity(&allocator, 0);
+    test.expect("room for none", none.is_ok());
     test.end()
 }

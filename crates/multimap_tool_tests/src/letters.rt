@@ -1,12 +1,15 @@
-//! Keys that are equal and not the same: a run keeps the one that came first.
+//! A run over keys that are equal and not the same, whose function writes what it keeps; and the
+//! laws of runs.
 use multimap_tool::commands::Command;
 use multimap_tool::json::{JsonPart, PartFault};
+use multimap_tool::laws::{characters_differ_as_json, run_is_well_formed, step_is_orderly};
 use multimap_tool::replies::Reply;
 use multimap_tool::run::run;
 use ordered_multimap::ListOrderedMultimap;
+use ordered_multimap::laws::{chain_is_filter, equal_maps, json_first_occurrence};
 use serde_json::Value;
 use std::alloc::{AllocError, Global};
-use test_helpers::{End, Failed, Test, walk_difference};
+use test_helpers::{Failed, Test};
 
 /// The letter k, which is equal to itself in the other case.
 #[derive(Clone, Copy, Debug)]
@@ -41,46 +44,53 @@ impl JsonPart for Letter {
     }
 }
 
-type Letters = ListOrderedMultimap<Letter, i64>;
+// Keeps the values that are no less, and writes another.
+fn keep_and_write(least: char, _key: &Letter, value: &mut char) -> bool {
+    let was = *value;
+    *value = 'z';
+    was >= least
+}
 
-fn letters_are_answered(test: &Test, map: &mut Letters) {
+fn letters_are_answered(test: &Test, map: &mut ListOrderedMultimap<Letter, char>) {
     let commands = [
-        Command::Append(UPPER, 1),
-        Command::Append(LOWER, 2),
+        Command::Append(UPPER, 'a'),
+        Command::Append(LOWER, 'b'),
         Command::Json,
+        Command::Retain('b'),
         Command::Get(LOWER),
     ];
     let wanted = [
         Reply::Appended(false),
         Reply::Appended(true),
         Reply::Done,
-        Reply::Value(Some(1)),
+        Reply::Done,
+        Reply::Value(Some('z')),
     ];
-    let alloc = test.alloc();
-    match run(alloc, alloc, map, &commands, |_, _, _| true) {
+    characters_differ_as_json();
+    match run(test.alloc(), test.alloc(), map, &commands, keep_and_write) {
         Ok(replies) => test.expect("replies", replies.as_slice() == wanted.as_slice()),
         Err(_) => test.expect("memory for replies", false),
     }
 }
 
-fn the_stored_key_is_upper(test: &Test, map: &Letters) {
-    test.expect("keys_len", map.keys_len() == 1);
-    test.expect("values_len", map.values_len() == 2);
-    for (key, _) in map.iter() {
-        test.expect("the key stored first", key.is_upper);
-    }
-    let wanted = [(End::Front, 1), (End::Front, 2)];
-    test.expect_same("values", walk_difference(&mut map.get_all(&LOWER), &wanted));
+fn the_first_letter_stays(test: &Test, map: &mut ListOrderedMultimap<Letter, char>) {
+    letters_are_answered(test, map);
+    let first = map.front().is_some_and(|pair| pair.0.is_upper);
+    test.expect("the key stored first", first);
 }
 
-fn the_first_letter_stays(test: &Test, map: &mut Letters) {
-    letters_are_answered(test, map);
-    the_stored_key_is_upper(test, map);
+fn laws_can_be_called() {
+    json_first_occurrence::<u32, i64>();
+    chain_is_filter::<u32, i64>();
+    equal_maps::<u32, i64>();
+    step_is_orderly::<u32, i64, Global, _>(&|_, _, _| true);
+    run_is_well_formed::<u32, i64, Global, _>(&|_, _, _| true);
 }
 
 #[test]
 fn the_key_stored_first_stays(rt: HostRuntime) -> Result<(), Failed> {
     let test = Test::new(rt.alloc());
     the_first_letter_stays(&test, &mut ListOrderedMultimap::new(test.alloc()));
+    laws_can_be_called();
     test.end()
 }

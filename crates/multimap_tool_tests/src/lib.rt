@@ -1,23 +1,22 @@
-//! Tests of the tool: runs of commands, and memory that is refused.
+//! Tests of the tool: random runs beside a plain map, memory that is refused, and readers and
+//! writers that fail.
 //!
 //! They stand in a crate of their own so that the tool needs no test allocator.
 #![tactic(auto)]
 
 #[cfg(test)]
-mod compared;
+mod answers;
 #[cfg(test)]
-mod entered;
+mod compared;
 #[cfg(test)]
 mod letters;
 #[cfg(test)]
-mod listed;
-#[cfg(test)]
-mod memory;
+mod lines;
 #[cfg(test)]
 mod plain;
 #[cfg(test)]
-mod refusals;
-#[cfg(test)]
-mod rooms;
+mod refused;
 #[cfg(test)]
 mod runs;
+#[cfg(test)]
+mod streams;

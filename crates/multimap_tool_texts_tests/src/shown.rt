@@ -1,240 +1,96 @@
-//! What Debug shows, and what is equal, of each public type of the tool.
-use multimap_tool::End;
-use multimap_tool::commands::{Command, Ends};
-use multimap_tool::faults::{TextFault, ToolFault};
-use multimap_tool::replies::{Popped, Reply};
-use std::alloc::{AllocError, Global};
-use test_helpers::{Failed, Test, is_compared, is_copied, is_shown};
+//! What Debug shows, and what is equal, of commands and replies.
+use multimap_tool::commands::Command;
+use multimap_tool::format::format_replies;
+use multimap_tool::parse::parse_commands;
+use multimap_tool::replies::Reply;
+use multimap_tool::run::run;
+use ordered_multimap::ListOrderedMultimap;
+use test_helpers::{Failed, Test, is_compared, is_shown};
 
-// Texts that are shown with escapes.
-const QUOTED: &str = "a\"b\n";
+type Commands = Vec<Command<u32, i64>>;
 
-const TABBED: &str = "\t\\'";
+type Replies = Vec<Reply<u32, i64>>;
 
-type TextCommand = Command<&'static str, &'static str>;
+/// Each word once.
+const LINES: &str =
+    "append 1 -2\ninsert 1 3\ninsertall 1 4\norinsert 2 5\nsetfirst 2 6\nsetfront 7\n\
+    setback 8\nget 3\nall 1\nwalk 1 fb\nhas 2\nlen 1\nfront\nback\npairs\nwalkpairs b\nkeys\n\
+    walkkeys bff\nvalues\nwalkvalues f\nlists\nlengths\nreserve 0 9\npacktofit\nswap\njson\n\
+    retain 8\nremove 1\nremoveall 1\nremoveentry 1\nremoveentryall 2\norinsert 4 4\npopfront\n\
+    popback\nclear";
 
-type TextReply = Reply<&'static str, &'static str>;
+const COMMANDS: &str = "[Append(1, -2), Insert(1, 3), InsertAll(1, 4), OrInsert(2, 5), \
+    SetFirst(2, 6), SetFront(7), SetBack(8), Get(3), All(1, Forward), \
+    All(1, Word([Front, Back])), Has(2), Len(1), Front, Back, Pairs(Forward), \
+    Pairs(Word([Back])), Keys(Forward), Keys(Word([Back, Front, Front])), Values(Forward), \
+    Values(Word([Front])), KeyLists, Lengths, Reserve(0, 9), PackToFit, Swap, Json, Retain(8), \
+    Remove(1), RemoveAll(1), RemoveEntry(1), RemoveEntryAll(2), OrInsert(4, 4), PopFront, \
+    PopBack, Clear]";
 
-fn expect_command(test: &Test, command: TextCommand, wanted: &'static str) {
-    test.expect(wanted, is_shown(test.alloc(), &command, wanted));
-    let other = Command::Append(QUOTED, "");
-    test.expect(wanted, is_compared(&command, &command, &other));
+const REPLIES: &str = "[Appended(false), Old(Some(-2)), Values([Some(3)]), Value(Some(5)), \
+    Old(Some(5)), Pair(Some((1, 4))), Pair(Some((2, 6))), Value(None), Values([Some(7)]), \
+    Values([Some(7), None]), Truth(true), Count(1), Pair(Some((1, 7))), Pair(Some((2, 8))), \
+    Pairs([Some((1, 7)), Some((2, 8))]), Pairs([Some((2, 8))]), Keys([Some(1), Some(2)]), \
+    Keys([Some(2), Some(1), None]), Values([Some(7), Some(8)]), Values([Some(7)]), \
+    Lists([(1, [7]), (2, [8])]), Counts(2, 2), Done, Done, Done, Done, Done, Value(None), \
+    Values([]), Pair(None), List(Some((2, [8]))), Value(Some(4)), \
+    Popped(Some(Popped { owned: true, key: 4, value: 4 })), Popped(None), Done]";
+
+/// A line whose command and reply are others.
+const OTHER_LINE: &str = "walkkeys bfb\n";
+
+fn commands_in(test: &Test, lines: &str) -> Commands {
+    let parsed = parse_commands(test.alloc(), lines.as_bytes());
+    test.expect("good lines", parsed.is_ok());
+    parsed.unwrap_or(Vec::new(test.alloc()))
 }
 
-fn commands_are_shown(test: &Test) {
-    let wanted = r#"Append("a\"b\n", "\t\\'")"#;
-    expect_command(test, Command::Append(QUOTED, TABBED), wanted);
-    expect_command(test, Command::Get(QUOTED), r#"Get("a\"b\n")"#);
-    let all = Command::All(QUOTED, Ends::Forward);
-    expect_command(test, all, r#"All("a\"b\n", Forward)"#);
-    expect_command(test, Command::Has(TABBED), r#"Has("\t\\'")"#);
-    expect_command(test, Command::Len(""), r#"Len("")"#);
-}
-
-fn plain_commands_are_shown(test: &Test) {
-    expect_command(test, Command::Front, "Front");
-    expect_command(test, Command::Back, "Back");
-    expect_command(test, Command::Pairs(Ends::Forward), "Pairs(Forward)");
-    let none = Command::Pairs(Ends::Word(Vec::new(test.alloc())));
-    expect_command(test, none, "Pairs(Word([]))");
-    expect_command(test, Command::Lengths, "Lengths");
-}
-
-fn changes_are_shown(test: &Test) {
-    expect_command(test, Command::Insert(QUOTED, ""), r#"Insert("a\"b\n", "")"#);
-    expect_command(
-        test,
-        Command::InsertAll(TABBED, ""),
-        r#"InsertAll("\t\\'", "")"#,
+fn replies_to(test: &Test, commands: &Commands) -> Replies {
+    let alloc = test.alloc();
+    let mut map = ListOrderedMultimap::new(alloc);
+    let ran = run(
+        alloc,
+        alloc,
+        &mut map,
+        commands,
+        |least, _, value| *value >= least,
     );
-    expect_command(test, Command::Remove(""), r#"Remove("")"#);
-    expect_command(test, Command::RemoveAll("a"), r#"RemoveAll("a")"#);
-    expect_command(test, Command::RemoveEntry("b"), r#"RemoveEntry("b")"#);
-    let all = Command::RemoveEntryAll("c");
-    expect_command(test, all, r#"RemoveEntryAll("c")"#);
-    expect_command(test, Command::PopFront, "PopFront");
-    expect_command(test, Command::PopBack, "PopBack");
-    expect_command(test, Command::Clear, "Clear");
-    expect_command(test, Command::Swap, "Swap");
-    expect_command(test, Command::Json, "Json");
-    expect_command(test, Command::KeyLists, "KeyLists");
-    expect_command(test, Command::Reserve(0, 7), "Reserve(0, 7)");
-    expect_command(test, Command::PackToFit, "PackToFit");
-    expect_command(test, Command::Keys(Ends::Forward), "Keys(Forward)");
-    expect_command(test, Command::Values(Ends::Forward), "Values(Forward)");
+    test.expect("memory for replies", ran.is_ok());
+    ran.unwrap_or(Vec::new(alloc))
 }
 
-fn writes_are_shown(test: &Test) {
-    expect_command(test, Command::SetFirst("a", "b"), r#"SetFirst("a", "b")"#);
-    expect_command(test, Command::SetFront(TABBED), r#"SetFront("\t\\'")"#);
-    expect_command(test, Command::SetBack(""), r#"SetBack("")"#);
-    expect_command(test, Command::OrInsert("c", ""), r#"OrInsert("c", "")"#);
+fn commands_are_shown(test: &Test, commands: &Commands) {
+    test.expect("commands", is_shown(test.alloc(), commands, COMMANDS));
+    let like = commands_in(test, LINES);
+    let other = commands_in(test, OTHER_LINE);
+    test.expect("equal commands", is_compared(commands, &like, &other));
 }
 
-fn words_are_shown(test: &Test) -> Result<(), AllocError> {
-    let word = vec![in test.alloc(); End::Front, End::Back]?;
-    let all = Command::All(QUOTED, Ends::Word(word));
-    expect_command(test, all, r#"All("a\"b\n", Word([Front, Back]))"#);
-    Ok(())
+fn replies_are_shown(test: &Test, commands: &Commands) {
+    let replies = replies_to(test, commands);
+    test.expect("replies", is_shown(test.alloc(), &replies, REPLIES));
+    let like = replies_to(test, commands);
+    let other = replies_to(test, &commands_in(test, OTHER_LINE));
+    test.expect("equal replies", is_compared(&replies, &like, &other));
 }
 
-#[test]
-fn commands_are_shown_and_compared(rt: HostRuntime) -> Result<(), Failed> {
-    let test = Test::new(rt.alloc());
-    commands_are_shown(&test);
-    plain_commands_are_shown(&test);
-    changes_are_shown(&test);
-    writes_are_shown(&test);
-    test.expect("memory for a word", words_are_shown(&test).is_ok());
-    test.end()
-}
-
-// Equality of two walks' words: of as many letters, or of fewer.
-fn word_of(alloc: Global, last: End) -> Result<Ends, AllocError> {
-    Ok(Ends::Word(vec![in alloc; End::Front, last]?))
-}
-
-fn words_are_compared(test: &Test) -> Result<(), AllocError> {
-    let word = word_of(test.alloc(), End::Back)?;
-    test.expect("forward", is_compared(&word, &word, &Ends::Forward));
-    let none = Ends::Word(Vec::new(test.alloc()));
-    test.expect("no letter", is_compared(&word, &word, &none));
-    test.expect(
-        "shown",
-        is_shown(test.alloc(), &word, "Word([Front, Back])"),
-    );
-    Ok(())
-}
-
-fn like_words_are_equal(test: &Test) -> Result<(), AllocError> {
-    let word = word_of(test.alloc(), End::Back)?;
-    let like = word_of(test.alloc(), End::Back)?;
-    let other = word_of(test.alloc(), End::Front)?;
-    test.expect("another letter", is_compared(&word, &like, &other));
-    Ok(())
-}
-
-#[test]
-fn ends_of_walks_are_shown_and_compared(rt: HostRuntime) -> Result<(), Failed> {
-    let test = Test::new(rt.alloc());
-    test.expect("memory for a word", words_are_compared(&test).is_ok());
-    test.expect("memory for words", like_words_are_equal(&test).is_ok());
-    let forward: Ends = Ends::Forward;
-    test.expect("forward", is_shown(test.alloc(), &forward, "Forward"));
-    test.end()
-}
-
-fn expect_reply(test: &Test, reply: TextReply, wanted: &'static str) {
-    test.expect(wanted, is_shown(test.alloc(), &reply, wanted));
-    let other = Reply::Value(Some("another"));
-    test.expect(wanted, is_compared(&reply, &reply, &other));
-}
-
-fn answers_are_shown(test: &Test) {
-    expect_reply(test, Reply::NoMemory, "NoMemory");
-    expect_reply(test, Reply::Appended(true), "Appended(true)");
-    expect_reply(test, Reply::Truth(false), "Truth(false)");
-    expect_reply(test, Reply::Count(7), "Count(7)");
-    expect_reply(
-        test,
-        Reply::Counts(1, usize::MAX),
-        "Counts(1, 18446744073709551615)",
-    );
-}
-
-fn items_are_shown(test: &Test) {
-    expect_reply(test, Reply::Value(None), "Value(None)");
-    expect_reply(test, Reply::Value(Some(QUOTED)), r#"Value(Some("a\"b\n"))"#);
-    expect_reply(test, Reply::Pair(None), "Pair(None)");
-    let wanted = r#"Pair(Some(("a\"b\n", "\t\\'")))"#;
-    expect_reply(test, Reply::Pair(Some((QUOTED, TABBED))), wanted);
-    expect_reply(test, Reply::Values(Vec::new(test.alloc())), "Values([])");
-    expect_reply(test, Reply::Pairs(Vec::new(test.alloc())), "Pairs([])");
-}
-
-fn removals_are_shown(test: &Test) {
-    expect_reply(test, Reply::Done, "Done");
-    expect_reply(test, Reply::Old(Some(QUOTED)), r#"Old(Some("a\"b\n"))"#);
-    expect_reply(test, Reply::Keys(Vec::new(test.alloc())), "Keys([])");
-    expect_reply(test, Reply::List(None), "List(None)");
-    expect_reply(test, Reply::Popped(None), "Popped(None)");
-    let popped = Popped {
-        owned: true,
-        key: QUOTED,
-        value: "",
-    };
-    let wanted = r#"Popped(Some(Popped { owned: true, key: "a\"b\n", value: "" }))"#;
-    expect_reply(test, Reply::Popped(Some(popped)), wanted);
-}
-
-fn values_are_shown(test: &Test) -> Result<(), AllocError> {
-    let values = vec![in test.alloc(); Some(QUOTED), None]?;
-    expect_reply(
-        test,
-        Reply::Values(values),
-        r#"Values([Some("a\"b\n"), None])"#,
-    );
-    Ok(())
-}
-
-fn lists_are_shown(test: &Test) -> Result<(), AllocError> {
-    let mut lists = Vec::new(test.alloc());
-    lists.push((QUOTED, vec![in test.alloc(); TABBED, ""]?))?;
-    let wanted = r#"Lists([("a\"b\n", ["\t\\'", ""])])"#;
-    expect_reply(test, Reply::Lists(lists), wanted);
-    Ok(())
-}
-
-fn pairs_are_shown(test: &Test) -> Result<(), AllocError> {
-    let pairs = vec![in test.alloc(); None, Some((TABBED, QUOTED))]?;
-    let wanted = r#"Pairs([None, Some(("\t\\'", "a\"b\n"))])"#;
-    expect_reply(test, Reply::Pairs(pairs), wanted);
-    Ok(())
-}
-
-#[test]
-fn replies_are_shown_and_compared(rt: HostRuntime) -> Result<(), Failed> {
-    let test = Test::new(rt.alloc());
-    answers_are_shown(&test);
-    items_are_shown(&test);
-    removals_are_shown(&test);
-    test.expect("memory for values", values_are_shown(&test).is_ok());
-    test.expect("memory for pairs", pairs_are_shown(&test).is_ok());
-    test.expect("memory for lists", lists_are_shown(&test).is_ok());
-    test.end()
-}
-
-/// Faults, each with what Debug shows of it and with another fault.
-const TOOL_FAULTS: &[(ToolFault, &str, ToolFault)] = &[
-    (ToolFault::BadLine(7), "BadLine(7)", ToolFault::BadLine(8)),
-    (ToolFault::Read, "Read", ToolFault::Write),
-    (ToolFault::Write, "Write", ToolFault::Read),
-    (ToolFault::OutOfMemory, "OutOfMemory", ToolFault::BadLine(1)),
-];
-
-const TEXT_FAULTS: &[(TextFault, &str, TextFault)] = &[
-    (TextFault::BadLine(7), "BadLine(7)", TextFault::BadLine(8)),
-    (TextFault::OutOfMemory, "OutOfMemory", TextFault::BadLine(1)),
-];
-
-#[test]
-fn faults_are_shown_and_compared(rt: HostRuntime) -> Result<(), Failed> {
-    let test = Test::new(rt.alloc());
-    for (row, (fault, wanted, other)) in TOOL_FAULTS.iter().enumerate() {
-        test.expect_at("shown", row, is_shown(test.alloc(), fault, wanted));
-        test.expect_at("compared", row, is_compared(fault, fault, other));
-        test.expect_at("copied", row, is_copied(fault));
+// No run of lines with ample memory answers so.
+fn rare_replies_are_shown(test: &Test) {
+    let rare: [Reply<u32, i64>; 2] = [Reply::NoMemory, Reply::Count(usize::MAX)];
+    test.expect("shown", is_shown(test.alloc(), &rare[0], "NoMemory"));
+    let wanted = b"no memory\n18446744073709551615\n";
+    match format_replies(test.alloc(), &rare) {
+        Ok(text) => test.expect("text", text.as_slice() == wanted.as_slice()),
+        Err(_) => test.expect("memory for a text", false),
     }
-    test.end()
 }
 
 #[test]
-fn faults_of_texts_are_shown_and_compared(rt: HostRuntime) -> Result<(), Failed> {
+fn commands_and_replies_are_shown_and_compared(rt: HostRuntime) -> Result<(), Failed> {
     let test = Test::new(rt.alloc());
-    for (row, (fault, wanted, other)) in TEXT_FAULTS.iter().enumerate() {
-        test.expect_at("shown", row, is_shown(test.alloc(), fault, wanted));
-        test.expect_at("compared", row, is_compared(fault, fault, other));
-        test.expect_at("copied", row, is_copied(fault));
-    }
+    let commands = commands_in(&test, LINES);
+    commands_are_shown(&test, &commands);
+    replies_are_shown(&test, &commands);
+    rare_replies_are_shown(&test);
     test.end()
 }

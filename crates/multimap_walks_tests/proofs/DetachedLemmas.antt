@@ -1,4 +1,4 @@
--- Values that were detached, and chains of one and of four.
+-- Values that were detached, and a chain of four.
 use Rattle.std.proofs.Common.{◌≡◌, ℕ, [], ◌∷◌, Some, refl, sym, subst, inl, inr}
 use Rattle.multimap_slots.specs.Slots.{Slots, IsDetached, Detaches}
 use Rattle.multimap_slots.proofs.ListsLemmas.{IsIn-without}
@@ -13,17 +13,6 @@ IsDetached-kept old new place p detaches was = record {
 }
 
 module _ {V : Type 0} (values : Slots V ValueLink) where
-  pub chain_of_one : (p : ℕ) → IsDetached values p → IsDetachedChain values p p 1
-  chain_of_one p there = record {
-    places = p ∷ [];
-    onward = (tt, tt);
-    backward = (tt, tt);
-    first = refl;
-    last = refl;
-    count = refl;
-    there = λ q member. elim member [ inl is ↦ subst (IsDetached values) (sym is) there | inr none ↦ absurd none ];
-  }
-
   -- four places of which each names its neighbours
   pub chain_of_four : (p q r s : ℕ) → IsDetached values p → IsDetached values q → IsDetached values r → IsDetached values s
       → next_place values p ≡ Some q → next_place values q ≡ Some r → next_place values r ≡ Some s

@@ -1,2 +1,1 @@
 pub mod DetachedLemmas
-pub mod WritingLemmas

@@ -1,4 +1,4 @@
-//! Values that are detached, and chains of them.
+//! Values that are detached, and a chain of them.
 ghost use Rattle.std.specs.Prelude.{◌≡◌, ℕ, Some, IfSome, IsTrue};
 ghost use Rattle.multimap_slots.specs.Lists.{IsIn};
 ghost use Rattle.multimap_slots.specs.Slots.{IsDetached};
@@ -8,15 +8,15 @@ use multimap_slots::{Reads, Tape};
 use multimap_walks::{ChainEnds, ValueLink};
 
 /// Values with their links.
-pub(crate) type Values<V> = Tape<V, ValueLink>;
+pub(crate) type Values = Tape<u32, ValueLink>;
 
 /// The places of four values of one key.
 pub(crate) type Four = (usize, usize, usize, usize);
 
 /// Puts a value last, and answers its place.
-pub(crate) fn push<V: Drop>(
-    values: &mut Values<V>,
-    value: V,
+pub(crate) fn push(
+    values: &mut Values,
+    value: u32,
     previous: Option<usize>,
     next: Option<usize>,
 ) -> Option<usize> {
@@ -32,14 +32,14 @@ pub(crate) fn push<V: Drop>(
 }
 
 /// Whether a value of the list stands at a place.
-fn is_listed<V>(values: &Values<V>, place: usize) -> bool
+fn is_listed(values: &Values, place: usize) -> bool
     ensures { IsTrue result → IsIn place values.now.list.order }
 {
     values.get(place, &mut Reads::new()).is_some()
 }
 
 /// Detaches the value at a place, if one of the list is there, and answers whether there was.
-fn detach<V>(values: &mut Values<V>, place: usize) -> bool
+fn detach(values: &mut Values, place: usize) -> bool
     ensures detached { IsTrue result → IsDetached values.new.list place }
     ensures kept { (p : ℕ) → IsDetached values.old.list p → IsDetached values.new.list p }
 {
@@ -53,7 +53,7 @@ fn detach<V>(values: &mut Values<V>, place: usize) -> bool
 }
 
 /// Whether two detached values name each other as neighbours.
-fn are_neighbours<V>(values: &Values<V>, place: usize, behind: usize) -> bool
+fn are_neighbours(values: &Values, place: usize, behind: usize) -> bool
     requires place { IsDetached values.now.list place }
     requires behind { IsDetached values.now.list behind }
     ensures next { IsTrue result → next_place values.now.list place ≡ Some behind }
@@ -64,18 +64,8 @@ fn are_neighbours<V>(values: &Values<V>, place: usize, behind: usize) -> bool
     link.next == Some(behind) && link_behind.previous == Some(place)
 }
 
-fn one(place: usize) -> ChainEnds
-    ensures { result ≡ record { first = place; last = place; length = 1 } }
-{
-    ChainEnds {
-        first: place,
-        last: place,
-        length: 1,
-    }
-}
-
 /// The ends of a chain of four, if their links name each other in this order.
-fn four<V>(values: &Values<V>, places: Four) -> Option<ChainEnds>
+fn four(values: &Values, places: Four) -> Option<ChainEnds>
     requires first { IsDetached values.now.list places.0 }
     requires second { IsDetached values.now.list places.1 }
     requires third { IsDetached values.now.list places.2 }
@@ -99,7 +89,7 @@ fn four<V>(values: &Values<V>, places: Four) -> Option<ChainEnds>
 }
 
 /// Detaches four values of the list, and answers their ends if they are a chain in this order.
-pub(crate) fn detach_four<V>(values: &mut Values<V>, places: Four) -> Option<ChainEnds>
+pub(crate) fn detach_four(values: &mut Values, places: Four) -> Option<ChainEnds>
     ensures { IfSome result (λ e. IsDetachedChain values.new.list e.first e.last e.length) }
 {
     let are_there = detach(values, places.0)
@@ -108,17 +98,6 @@ pub(crate) fn detach_four<V>(values: &mut Values<V>, places: Four) -> Option<Cha
         && detach(values, places.3);
     if are_there {
         four(values, places)
-    } else {
-        None
-    }
-}
-
-/// Detaches one value of the list, and answers the ends of the chain that it is by itself.
-pub(crate) fn detach_one<V>(values: &mut Values<V>, place: usize) -> Option<ChainEnds>
-    ensures { IfSome result (λ e. IsDetachedChain values.new.list e.first e.last e.length) }
-{
-    if detach(values, place) {
-        Some(one(place))
     } else {
         None
     }

@@ -1,116 +1,71 @@
-//! Walks that lend values for writing, from both ends, and what they leave.
-ghost use Rattle.std.specs.Prelude.{◌≡◌, ℕ, [], IfSome};
-ghost use Rattle.multimap_slots.specs.Lists.{IsIn};
-ghost use Rattle.multimap_walks.specs.Chained.{AreOwned};
-ghost use Rattle.multimap_walks.specs.WritingWalk.{IterMutCanStep, ValuesMutCanStep};
+//! Walks that lend values for writing, from both ends, what they leave, and the walks that read what
+//! they have left.
+ghost use Rattle.std.specs.Prelude.{◌≡◌, []};
+ghost use Rattle.multimap_walks.specs.WritingWalk.{IterMutCanStep, ValuesMutCanStep, EntryValuesMutCanStep};
+ghost use Rattle.multimap_walks_tests.specs.TwoKeys.{HasTwoKeys, HasFourValues};
 
 use crate::chains::Values;
+use crate::two_keys::{Keys, LONG, push_keys, push_values};
 use multimap_slots::{SlotList, Tape};
-use multimap_walks::{IterMut, KeyLink, ValueLink, Values as AllValues, ValuesMut};
-use test_helpers::{End, Failed, Test, walk_difference};
+use multimap_walks::{EntryValues, EntryValuesMut, IterMut, KeyValues, Ordered, ValuesMut};
+use test_helpers::{End, Failed, Plain, Test, walk_difference};
 
-pub(crate) type Keys = SlotList<char, KeyLink>;
+/// The end of a step, and what it lends.
+type Step<T> = (End, Option<T>);
 
-/// The end of a step, and the pair that it lends.
-type Step = (End, Option<(char, u32)>);
+const LAST_PAIR: &[Step<(char, u32)>] = &[(End::Back, Some(('k', 4)))];
 
-const WORDS: &[&[Step]] = &[
-    &[
-        (End::Front, Some(('k', 1))),
-        (End::Front, Some(('l', 2))),
-        (End::Front, Some(('k', 3))),
-        (End::Front, None),
-        (End::Back, None),
-    ],
-    &[
-        (End::Back, Some(('k', 3))),
-        (End::Back, Some(('l', 2))),
-        (End::Back, Some(('k', 1))),
-        (End::Back, None),
-        (End::Front, None),
-    ],
-    &[
-        (End::Front, Some(('k', 1))),
-        (End::Back, Some(('k', 3))),
-        (End::Front, Some(('l', 2))),
-        (End::Back, None),
-        (End::Front, None),
-        (End::Front, None),
-    ],
-    &[
-        (End::Back, Some(('k', 3))),
-        (End::Front, Some(('k', 1))),
-        (End::Back, Some(('l', 2))),
-        (End::Front, None),
-        (End::Back, None),
-    ],
+const PAIRS_LEFT: &[(End, (char, u32))] = &[
+    (End::Front, ('k', 1)),
+    (End::Back, ('k', 3)),
+    (End::Front, ('l', 2)),
 ];
 
-/// The values that a whole walk leaves.
-const WRITTEN: &[(End, u32)] = &[(End::Front, 101), (End::Front, 102), (End::Front, 103)];
+const OTHER_PAIRS: &[Step<(char, u32)>] = &[
+    (End::Front, Some(('k', 1))),
+    (End::Front, Some(('l', 2))),
+    (End::Back, Some(('k', 3))),
+    (End::Front, None),
+    (End::Back, None),
+];
 
-/// Puts a key last, and answers its place.
-fn push_key(keys: &mut Keys, key: char) -> Option<usize>
-    ensures listed { IfSome result (λ place. IsIn place keys.new.order) }
-    ensures kept { (p : ℕ) → IsIn p keys.old.order → IsIn p keys.new.order }
-{
-    let link = KeyLink {
-        hash: 0,
-        head: 0,
-        tail: 0,
-        length: 0,
-    };
-    match keys.push_back(key, link) {
-        Ok(place) => Some(place),
-        Err(_) => None,
-    }
-}
+const LAST_VALUE: &[Step<u32>] = &[(End::Back, Some(104))];
 
-/// Puts a value of a listed key last, and answers whether there was memory.
-fn push_owned(keys: &Keys, values: &mut Values<u32>, key: usize, value: u32) -> bool
-    requires listed { IsIn key keys.now.order }
-    requires owned { AreOwned keys.now values.old.list }
-    ensures owned { AreOwned keys.now values.new.list }
-{
-    let link = ValueLink {
-        key,
-        previous: None,
-        next: None,
-    };
-    match values.push_back(value, link) {
-        Ok(_) => true,
-        Err(_) => false,
-    }
-}
+const VALUES_LEFT: &[(End, u32)] = &[(End::Front, 101), (End::Back, 103), (End::Front, 102)];
 
-/// Puts two keys and three of their values into empty lists.
-pub(crate) fn push_three(keys: &mut Keys, values: &mut Values<u32>) -> bool
-    requires { values.old.list.order ≡ [] }
-    ensures { AreOwned keys.new values.new.list }
-{
-    let first = push_key(keys, 'k');
-    let second = push_key(keys, 'l');
-    let (Some(first), Some(second)) = (first, second) else {
-        return false;
-    };
-    let are_pushed = push_owned(keys, values, first, 1) && push_owned(keys, values, second, 2);
-    are_pushed && push_owned(keys, values, first, 3)
-}
+const OTHER_VALUES: &[Step<u32>] = &[
+    (End::Front, Some(101)),
+    (End::Back, Some(103)),
+    (End::Back, Some(102)),
+    (End::Back, None),
+    (End::Front, None),
+];
 
-/// Whether both tellings of how many items are left are this number.
-pub(crate) fn has_left<W: ExactSizeIterator>(walk: &W, left: usize) -> bool {
-    walk.size_hint() == (left, Some(left)) && walk.len() == left
-}
+const LAST_OF_KEY: &[Step<u32>] = &[(End::Back, Some(204))];
+
+const LEFT_OF_KEY: &[(End, u32)] = &[(End::Back, 203), (End::Front, 201)];
+
+const OTHERS_OF_KEY: &[Step<u32>] = &[
+    (End::Front, Some(201)),
+    (End::Back, Some(203)),
+    (End::Front, None),
+    (End::Back, None),
+];
+
+/// The values of the first key that all three walks leave, and of the other one.
+const WRITTEN: &[(End, u32)] = &[(End::Back, 304), (End::Front, 301), (End::Front, 303)];
+
+const OTHER_WRITTEN: &[(End, u32)] = &[(End::Front, 202)];
 
 /// Adds 100 to a value, and answers what it was.
-pub(crate) fn raise(value: &mut u32) -> u32 {
+fn raise(value: &mut u32) -> u32 {
     let was = *value;
     *value = was.saturating_add(100);
     was
 }
 
 /// Takes a pair at an end, raises its value, and answers what it was.
-pub(crate) fn take_pair(walk: &mut IterMut<'_, char, u32>, end: End) -> Option<(char, u32)>
+fn take_pair(walk: &mut IterMut<'_, char, u32>, end: End) -> Option<(char, u32)>
     requires { IterMutCanStep walk.old }
     ensures { IterMutCanStep walk.new }
 {
@@ -118,14 +73,21 @@ pub(crate) fn take_pair(walk: &mut IterMut<'_, char, u32>, end: End) -> Option<(
         End::Front => walk.next(),
         End::Back => walk.next_back(),
     };
-    match pair {
-        Some((key, value)) => Some((*key, raise(value))),
-        None => None,
+    let (key, value) = pair?;
+    Some((*key, raise(value)))
+}
+
+fn pairs_are_taken(test: &Test, walk: &mut IterMut<'_, char, u32>, word: &[Step<(char, u32)>])
+    requires { IterMutCanStep walk.old }
+    ensures { IterMutCanStep walk.new }
+{
+    for (end, wanted) in word {
+        test.expect("a pair", take_pair(walk, *end) == *wanted);
     }
 }
 
 /// Takes a value at an end, raises it, and answers what it was.
-pub(crate) fn take_value(walk: &mut ValuesMut<'_, char, u32>, end: End) -> Option<u32>
+fn take_value(walk: &mut ValuesMut<'_, char, u32>, end: End) -> Option<u32>
     requires { ValuesMutCanStep walk.old }
     ensures { ValuesMutCanStep walk.new }
 {
@@ -133,95 +95,151 @@ pub(crate) fn take_value(walk: &mut ValuesMut<'_, char, u32>, end: End) -> Optio
         End::Front => walk.next(),
         End::Back => walk.next_back(),
     };
-    match value {
-        Some(value) => Some(raise(value)),
-        None => None,
-    }
+    Some(raise(value?))
 }
 
-fn pairs_are_taken(test: &Test, walk: &mut IterMut<'_, char, u32>, word: &[Step])
-    requires { IterMutCanStep walk.old }
-{
-    let mut left = 3usize;
-    for (end, wanted) in word {
-        test.expect("pairs left", has_left(walk, left));
-        test.expect("a pair", take_pair(walk, *end) == *wanted);
-        left = left.saturating_sub(1);
-    }
-}
-
-fn values_are_taken(test: &Test, walk: &mut ValuesMut<'_, char, u32>, word: &[Step])
+fn values_are_taken(test: &Test, walk: &mut ValuesMut<'_, char, u32>, word: &[Step<u32>])
     requires { ValuesMutCanStep walk.old }
+    ensures { ValuesMutCanStep walk.new }
 {
-    let mut left = 3usize;
     for (end, wanted) in word {
-        test.expect("values left", has_left(walk, left));
-        let wanted = wanted.map(|pair| pair.1);
-        test.expect("a value", take_value(walk, *end) == wanted);
-        left = left.saturating_sub(1);
+        test.expect("a value", take_value(walk, *end) == *wanted);
     }
 }
 
-pub(crate) fn are_written(test: &Test, values: &Values<u32>, wanted: &[(End, u32)]) {
-    let mut walk: AllValues<'_, char, u32> = AllValues::new(values);
-    test.expect_same("written", walk_difference(&mut walk, wanted));
+/// Takes a value of a key at an end, raises it, and answers what it was.
+fn take_of_key(walk: &mut EntryValuesMut<'_, char, u32>, end: End) -> Option<u32>
+    requires { EntryValuesMutCanStep walk.old }
+    ensures { EntryValuesMutCanStep walk.new }
+{
+    let value = match end {
+        End::Front => walk.next(),
+        End::Back => walk.next_back(),
+    };
+    Some(raise(value?))
 }
 
-fn pairs_are_walked(test: &Test, keys: &mut Keys, values: &mut Values<u32>, word: &[Step])
-    requires { values.old.list.order ≡ [] }
+fn values_of_key_are_taken(
+    test: &Test,
+    walk: &mut EntryValuesMut<'_, char, u32>,
+    word: &[Step<u32>],
+)
+    requires { EntryValuesMutCanStep walk.old }
+    ensures { EntryValuesMutCanStep walk.new }
 {
-    test.expect("three pairs", push_three(keys, values));
-    pairs_are_taken(test, &mut IterMut::new(keys, values.cells()), word);
-    are_written(test, values, WRITTEN);
-}
-
-fn values_are_walked(test: &Test, keys: &mut Keys, values: &mut Values<u32>, word: &[Step])
-    requires { values.old.list.order ≡ [] }
-{
-    test.expect("three pairs", push_three(keys, values));
-    values_are_taken(test, &mut ValuesMut::new(values.cells()), word);
-    are_written(test, values, WRITTEN);
-}
-
-fn loops_write(test: &Test, keys: &mut Keys, values: &mut Values<u32>)
-    requires { values.old.list.order ≡ [] }
-{
-    test.expect("three pairs", push_three(keys, values));
-    for (key, value) in IterMut::new(keys, values.cells()) {
-        test.expect("a key", *key == 'k' || *value == 2);
-        raise(value);
+    for (end, wanted) in word {
+        test.expect("a value of a key", take_of_key(walk, *end) == *wanted);
     }
-    are_written(test, values, WRITTEN);
-    for value in ValuesMut::<'_, char, u32>::new(values.cells()) {
-        *value = 7;
+}
+
+// How a clone of a walk over what is left differs from what is wanted.
+fn difference<W: DoubleEndedIterator + ExactSizeIterator + Clone>(
+    rest: &W,
+    wanted: &[(End, <W::Item as Plain>::Value)],
+) -> Option<usize>
+where
+    W::Item: Plain,
+    requires next { (state : W) → W.can_next state }
+    requires next_back { (state : W) → W.can_next_back state }
+{
+    match rest.clone() {
+        Ok(mut rest) => walk_difference(&mut rest, wanted),
+        Err(_) => Some(wanted.len()),
     }
-    are_written(test, values, &[(End::Front, 7); 3]);
+}
+
+fn pairs_are_lent(test: &Test, keys: &Keys, values: &mut Values)
+    requires keys { HasTwoKeys keys.now }
+    requires values { HasFourValues values.old.list }
+    ensures { HasFourValues values.new.list }
+{
+    let mut walk = IterMut::new(keys, values.cells());
+    pairs_are_taken(test, &mut walk, LAST_PAIR);
+    test.expect_same("what is left", difference(&walk.iter(), PAIRS_LEFT));
+    test.expect("pairs left", walk.len() == 3);
+    pairs_are_taken(test, &mut walk, OTHER_PAIRS);
+}
+
+fn values_are_lent(test: &Test, values: &mut Values)
+    requires { HasFourValues values.old.list }
+    ensures { HasFourValues values.new.list }
+{
+    let mut walk: ValuesMut<'_, char, u32> = ValuesMut::new(values.cells());
+    values_are_taken(test, &mut walk, LAST_VALUE);
+    test.expect_same("what is left", difference(&walk.iter(), VALUES_LEFT));
+    test.expect("values left", walk.len() == 3);
+    values_are_taken(test, &mut walk, OTHER_VALUES);
+}
+
+fn values_of_key_are_lent(test: &Test, keys: &Keys, values: &mut Values)
+    requires keys { HasTwoKeys keys.now }
+    requires values { HasFourValues values.old.list }
+    ensures { HasFourValues values.new.list }
+{
+    let mut walk = EntryValuesMut::new(keys, values.cells(), Some((0, LONG)));
+    values_of_key_are_taken(test, &mut walk, LAST_OF_KEY);
+    test.expect_same("what is left", difference(&walk.iter(), LEFT_OF_KEY));
+    test.expect("values of a key left", walk.len() == 2);
+    values_of_key_are_taken(test, &mut walk, OTHERS_OF_KEY);
+}
+
+fn none_is_lent(test: &Test, keys: &Keys, values: &mut Values)
+    requires keys { HasTwoKeys keys.now }
+    requires values { HasFourValues values.old.list }
+    ensures { HasFourValues values.new.list }
+{
+    let mut walk: EntryValuesMut<'_, char, u32> = EntryValuesMut::new(keys, values.cells(), None);
+    test.expect_same("what is left", difference(&walk.iter(), &[]));
+    test.expect("none", walk.next().is_none());
+    test.expect("none again", walk.next_back().is_none());
+}
+
+// Whether a walk over the keys has given this key with these values.
+fn is_given(
+    given: Option<(&char, EntryValues<'_, char, u32>)>,
+    key: char,
+    wanted: &[(End, u32)],
+) -> bool {
+    match given {
+        Some((found, mut values)) => {
+            *found == key && walk_difference(&mut values, wanted).is_none()
+        }
+        None => false,
+    }
+}
+
+// Each key with what the walks for writing have left of its values.
+fn keys_are_walked(test: &Test, keys: &Keys, values: &Values)
+    requires keys { HasTwoKeys keys.now }
+    requires values { HasFourValues values.now.list }
+{
+    let mut walk = KeyValues::new_between(keys, values, Some(keys.all()));
+    test.expect("keys left", walk.len() == 2);
+    test.expect("the other", is_given(walk.next_back(), 'l', OTHER_WRITTEN));
+    test.expect("the first", is_given(walk.next(), 'k', WRITTEN));
+    test.expect("no other", walk.next().is_none());
+    let mut none: KeyValues<'_, char, u32> = KeyValues::new_between(keys, values, None);
+    test.expect("no key", none.next_back().is_none());
+}
+
+fn all_is_lent(test: &Test, keys: &mut Keys, values: &mut Values)
+    requires keys { keys.old.order ≡ [] }
+    requires values { values.old.list.order ≡ [] }
+{
+    if !push_keys(keys) || !push_values(values) {
+        return test.expect("memory", false);
+    }
+    pairs_are_lent(test, keys, values);
+    values_are_lent(test, values);
+    values_of_key_are_lent(test, keys, values);
+    none_is_lent(test, keys, values);
+    keys_are_walked(test, keys, values);
 }
 
 #[test]
-fn loops_write_every_value(rt: HostRuntime) -> Result<(), Failed> {
+fn values_are_lent_for_writing_from_both_ends(rt: HostRuntime) -> Result<(), Failed> {
     let test = Test::new(rt.alloc());
-    let mut keys = SlotList::new(test.alloc());
-    loops_write(&test, &mut keys, &mut Tape::new(test.alloc()));
-    test.end()
-}
-
-#[test]
-fn pairs_are_lent_from_both_ends(rt: HostRuntime) -> Result<(), Failed> {
-    let test = Test::new(rt.alloc());
-    for word in WORDS {
-        let mut keys = SlotList::new(test.alloc());
-        pairs_are_walked(&test, &mut keys, &mut Tape::new(test.alloc()), *word);
-    }
-    test.end()
-}
-
-#[test]
-fn values_are_lent_from_both_ends(rt: HostRuntime) -> Result<(), Failed> {
-    let test = Test::new(rt.alloc());
-    for word in WORDS {
-        let mut keys = SlotList::new(test.alloc());
-        values_are_walked(&test, &mut keys, &mut Tape::new(test.alloc()), *word);
-    }
+    let keys = &mut SlotList::new(test.alloc());
+    all_is_lent(&test, keys, &mut Tape::new(test.alloc()));
     test.end()
 }

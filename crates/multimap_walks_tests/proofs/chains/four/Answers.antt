@@ -2,7 +2,7 @@ use Rattle.multimap_walks_tests.proofs.DetachedLemmas.{chain_of_four}
 use Rattle.multimap_walks_tests.proofs.chains.four.Goals as goal
 
 pub returns : goal.returns
-returns g c =
+returns c =
     let first = c.if-not-are_neighbours.false in
     let second = c.if-not-are_neighbours-2.false in
     let third = c.if-not-are_neighbours-3.false in

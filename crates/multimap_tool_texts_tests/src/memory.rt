@@ -1,0 +1,115 @@
+//! Requests for the memory of a map that are refused while it is read of a JSON value.
+//!
+//! JSON values live in `Global`, which can't be made to refuse: so what is refused here are the
+//! requests of the map alone.
+use multimap_tool::json::{ReadFault, from_value};
+use ordered_multimap::ListOrderedMultimap;
+use ordered_multimap::list_ordered_multimap::DefaultState;
+use refusing_allocator::RefusingAllocator;
+use serde_json::Value;
+use std::hash::BuildHasher;
+use test_helpers::{Constant, Failed, Test, ZERO, requests_until_enough};
+
+type Read<'a, S> = Result<ListOrderedMultimap<u32, i64, S, &'a RefusingAllocator>, ReadFault>;
+
+const PAIRS: &[(u32, i64)] = &[(1, 5), (2, 6), (1, 7)];
+
+fn has_pairs<S: BuildHasher>(
+    map: &ListOrderedMultimap<u32, i64, S, &RefusingAllocator>,
+    pairs: &[(u32, i64)],
+) -> bool {
+    map.iter()
+        .map(|(key, value)| (*key, *value))
+        .eq(pairs.iter().copied())
+}
+
+/// Whether so many granted requests are enough: with fewer it is want of memory, and else the map,
+/// or the fault of ample memory.
+fn read_with(test: &Test, value: &Value, ample: Option<ReadFault>, granted: u64) -> bool {
+    let budget = RefusingAllocator::new(test.alloc(), granted);
+    let read: Read<'_, DefaultState> = from_value(
+        &budget,
+        test.alloc(),
+        DefaultState::new(),
+        value,
+    );
+    match read {
+        Ok(map) => {
+            test.expect("the map", ample.is_none() && has_pairs(&map, PAIRS));
+            true
+        }
+        Err(ReadFault::OutOfMemory) => {
+            test.expect("a refused request", budget.refused());
+            false
+        }
+        Err(fault) => {
+            test.expect("the fault", ample == Some(fault));
+            !budget.refused()
+        }
+    }
+}
+
+/// Texts, each with the fault of ample memory.
+const TEXTS: &[(&str, Option<ReadFault>)] = &[
+    ("[[1,5],[2,6],[1,7]]", None),
+    ("[[1,2],[3]]", Some(ReadFault::NotPair(1))),
+];
+
+fn requests_are_refused(test: &Test, value: &Value, ample: Option<ReadFault>) {
+    let enough = requests_until_enough(|granted| read_with(test, value, ample, granted));
+    test.expect("some requests", enough.unwrap_or(0) >= 3);
+}
+
+/// A hash builder that ends the refusals of an allocator: once a key is hashed, as the first append
+/// does, all requests are granted.
+#[derive(Drop)]
+struct Granting<'a> {
+    budget: &'a RefusingAllocator,
+}
+
+impl<'a> BuildHasher for Granting<'a> {
+    type Hasher = Constant;
+
+    ghost build_hasher = { λ _. record { hash = 0 } };
+
+    fn build_hasher(&self) -> Constant {
+        self.budget.refuse_none();
+        ZERO
+    }
+}
+
+fn a_refused_wish_is_no_fault(test: &Test, value: &Value) {
+    let budget = RefusingAllocator::new(test.alloc(), 0);
+    let read: Read<'_, Granting<'_>> = from_value(
+        &budget,
+        test.alloc(),
+        Granting { budget: &budget },
+        value,
+    );
+    let is_read = match read {
+        Ok(map) => has_pairs(&map, PAIRS),
+        Err(_) => false,
+    };
+    test.expect("the map", is_read);
+}
+
+fn a_value_is_read(test: &Test, text: &str, ample: Option<ReadFault>) {
+    match Value::from_str(test.alloc(), text) {
+        Ok(value) => {
+            requests_are_refused(test, &value, ample);
+            if ample.is_none() {
+                a_refused_wish_is_no_fault(test, &value);
+            }
+        }
+        Err(_) => test.expect("a value", false),
+    }
+}
+
+#[test]
+fn a_map_that_is_read_finds_no_memory(rt: HostRuntime) -> Result<(), Failed> {
+    let test = Test::new(rt.alloc());
+    for (text, ample) in TEXTS {
+        a_value_is_read(&test, text, *ample);
+    }
+    test.end()
+}
