@@ -1,49 +1,11 @@
-//! Workloads of the map, for a program in another language that calls and times them.
-//!
-//! Proved is that each is safe and returns. That it does the work that it is named for is tested:
-//! the checksums at 64 pairs stand in `tests.rt`.
+//! The workloads of the map as a static library, for a program in another language that times them.
 #![tactic(auto)]
 
-mod appends;
-mod changes;
-mod fast;
-mod lookups;
-mod numbers;
-#[cfg(test)]
-mod tests;
-mod workloads;
-mod writes;
-
-use fast::FastHasher;
-use ordered_multimap::list_ordered_multimap::DefaultState;
 use std::alloc::Global;
-use std::hash::BuildHasherDefault;
-use workloads::{REFUSED, WORKLOADS, run};
 
-/// The number of the map's default hash builder. Every other number is that of the fast hasher of
-/// `fast.rt`.
-const DEFAULT: u64 = 0;
-
-/// Makes a map, runs a workload on it, and lets it go.
-///
-/// `workload` is the place of the workload in `WORKLOADS`, `hasher` 0 for the map's default hash
-/// builder and 1 for the fast one, `n` the number of pairs, a multiple of 16. The answer is a
-/// checksum of what the calls answered, which depends on no hasher, or 0 where memory was refused
-/// or there is no such workload.
+/// Makes a map, runs a workload on it, and lets it go: `bench` of `multimap_workloads`, whose
+/// arguments and answer these are.
 #[unsafe(no_mangle)]
 pub extern "C" fn bench(alloc: Global, workload: u64, hasher: u64, n: u64, seed: u64) -> u64 {
-    let named = usize::try_from(workload)
-        .ok()
-        .and_then(|place| WORKLOADS.get(place));
-    match named {
-        Some(found) if hasher == DEFAULT => run(alloc, DefaultState::new(), *found, n, seed),
-        Some(found) => run(
-            alloc,
-            BuildHasherDefault::<FastHasher>::new(),
-            *found,
-            n,
-            seed,
-        ),
-        None => REFUSED,
-    }
+    multimap_workloads::bench(alloc, workload, hasher, n, seed)
 }

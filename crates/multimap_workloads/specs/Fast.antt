@@ -2,7 +2,7 @@
 use Rattle.std.specs.Prelude.{ℕ, ◌*◌, ◌/◌, ◌-◌, ◌^◌, ◌∷◌, [], List, length}
 use Rattle.std.specs.Prelude.{if◌then◌else◌, nat_eq, slice_index, bit_and, bit_xor}
 use Rattle.std.specs.Int.{w64, from_le_bytes}
-use Rattle.multimap_bench.specs.declared.fast.FastHasher.{FastHasher}
+use Rattle.multimap_workloads.specs.declared.fast.FastHasher.{FastHasher}
 
 -- the two halves of the product, joined
 abbrev pub folded : ℕ → ℕ → ℕ

@@ -1,4 +1,4 @@
-//! One size: a table is filled, looked into, and churned.
+//! Measures the key table: it is filled, looked into, and churned.
 use multimap_table_tests::compared::{Compared, next_random};
 use std::alloc::{AllocError, Allocator, Global};
 use std::time::{Duration, Instant};
@@ -130,6 +130,16 @@ impl<A: Allocator + Copy> Measured<A> {
             place.wrapping_add(1)
         }
     }
+}
+
+/// A line of times for each size.
+pub fn print_times(rt: &HostRuntime) -> io::Result<()> {
+    println!(rt; "rows capacity insert hit miss churn remove answers")?;
+    for rows in [1 << 10, 1474, 1 << 17, 188_743, 1 << 20, 1_509_949] {
+        let times = measure(rt, rows, 4_000_000)?;
+        println!(rt; "{times}")?;
+    }
+    Ok(())
 }
 
 /// Measures a table of so many rows by about so many calls.
