@@ -150,7 +150,7 @@ def label(goal):
     return goal.rpartition("clause-")[2]
 
 
-def check_command(crate, crates, built, jobs, only):
+def check_command(crate, crates, built, only):
     """The command that checks these functions of a crate, over the libraries that stand built."""
     words = [KIT / "bin/rattle", "check", "--crate-name", crate.name, "src/lib.rt"]
     kits = ["std", *(it for it in crate.uses if it not in crates)]
@@ -161,5 +161,5 @@ def check_command(crate, crates, built, jobs, only):
     words += [it for name in own for it in ("--extern", f"{name}={folder_of(name)}/{name}.rlib")]
     words += [it for name in below(crate, crates) for it in ("-L", f"dependency={folder_of(name)}")]
     words += ["--antt-project", KIT / "rattle/logic/antt-project.json", "--logic-built", KIT / "logic_built"]
-    words += ["--links", f"{crate.name}=", "--jobs", str(jobs), "--incremental", "out/incremental"]
+    words += ["--links", f"{crate.name}=", "--jobs", "1", "--incremental", "out/incremental"]
     return [*words, *(it for name in sorted(only) for it in ("--only", name))]
