@@ -1,8 +1,8 @@
 //! Entries of keys that are present and of keys that aren't: what each call answers, and what the
 //! map is then.
 use ordered_multimap::list_ordered_multimap::{Entry, KeyWrapper};
-use ordered_multimap_tests::lists::has_lists;
-use ordered_multimap_tests::maps::{Numbers, Refusing, fill};
+use ordered_multimap_callers::lists::has_lists;
+use ordered_multimap_callers::maps::{Numbers, Refusing, fill};
 use refusing_allocator::RefusingAllocator;
 use std::cell::Cell;
 use test_helpers::Test;

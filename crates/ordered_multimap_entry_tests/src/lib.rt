@@ -1,8 +1,6 @@
-//! Tests of the map's references for writing and of its entries, from outside, and proved callers of
-//! both.
+//! Tests of the map's references for writing and of its entries, from outside.
 #![tactic(auto)]
 
-pub mod entered;
 #[cfg(test)]
 mod entries;
 #[cfg(test)]
@@ -11,4 +9,3 @@ mod examples;
 mod tests;
 #[cfg(test)]
 mod texts;
-pub mod written;

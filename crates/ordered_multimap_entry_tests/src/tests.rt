@@ -4,7 +4,7 @@ use crate::entries::{entries_are_filled, functions_are_called_once, values_are_r
 use crate::examples::{examples_of_numbers_hold, examples_of_texts_hold};
 use crate::texts::{Counts, keys_are_entered, values_are_counted};
 use ordered_multimap::ListOrderedMultimap;
-use ordered_multimap_tests::maps::Numbers;
+use ordered_multimap_callers::maps::Numbers;
 use refusing_allocator::RefusingAllocator;
 use test_helpers::{Failed, Test};
 

@@ -1,8 +1,8 @@
 //! Entries of texts, references to their values, and what entries are shown as.
 use ordered_multimap::ListOrderedMultimap;
 use ordered_multimap::list_ordered_multimap::Entry;
-use ordered_multimap_tests::lists::inserts;
-use ordered_multimap_tests::maps::{ONE_KEY, Texts, fill};
+use ordered_multimap_callers::lists::inserts;
+use ordered_multimap_callers::maps::{ONE_KEY, Texts, fill};
 use test_helpers::{Test, is_shown};
 
 /// A map that counts texts.

@@ -1,7 +1,7 @@
 //! Steps of a drain: what it gives from both ends, and what it shows of the rest.
 use ordered_multimap::list_ordered_multimap::{DefaultState, EntryValuesDrain};
-use ordered_multimap_tests::lists::appends;
-use ordered_multimap_tests::maps::{Numbers, ONE_KEY, Texts, refill};
+use ordered_multimap_callers::lists::appends;
+use ordered_multimap_callers::maps::{Numbers, ONE_KEY, Texts, refill};
 use std::hash::Hash;
 use test_helpers::{End, Test, is_shown, walk_difference};
 

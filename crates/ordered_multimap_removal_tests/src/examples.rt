@@ -1,8 +1,8 @@
 //! The example of `retain`, and values below zero that go, as tests. `tools/examples` says whether
 //! the line of the example stands here.
 use ordered_multimap::ListOrderedMultimap;
-use ordered_multimap_tests::lists::{appends, has_lists, has_pairs, inserts};
-use ordered_multimap_tests::maps::fill;
+use ordered_multimap_callers::lists::{appends, has_lists, has_pairs, inserts};
+use ordered_multimap_callers::maps::fill;
 use test_helpers::{Failed, Test};
 
 type Texts = ListOrderedMultimap<&'static str, i64>;

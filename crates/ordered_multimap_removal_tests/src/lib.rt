@@ -1,13 +1,10 @@
-//! Tests of the map's insertions, removals, pops and drains, and of `retain`, from outside, and
-//! proved callers of them.
+//! Tests of the map's insertions, removals, pops and drains, and of `retain`, from outside.
 #![tactic(auto)]
 
-pub mod callers;
 #[cfg(test)]
 mod drain_steps;
 #[cfg(test)]
 mod drained;
-pub mod drains;
 #[cfg(test)]
 mod examples;
 #[cfg(test)]
@@ -22,6 +19,5 @@ mod retained;
 mod shares;
 #[cfg(test)]
 mod tests;
-pub mod undone;
 #[cfg(test)]
 mod wrappers;

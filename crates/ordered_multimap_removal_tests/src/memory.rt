@@ -1,7 +1,7 @@
 //! Room that is used again and again where all memory is refused.
 use ordered_multimap::ListOrderedMultimap;
-use ordered_multimap_tests::lists::{appends, has_lists, inserts};
-use ordered_multimap_tests::maps::{Refusing, reserve_anew};
+use ordered_multimap_callers::lists::{appends, has_lists, inserts};
+use ordered_multimap_callers::maps::{Refusing, reserve_anew};
 use refusing_allocator::RefusingAllocator;
 use std::mem;
 use test_helpers::{End, Failed, Test, walk_difference};

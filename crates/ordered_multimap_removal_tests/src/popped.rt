@@ -1,9 +1,9 @@
 //! Pairs that leave at an end: what is answered, and whether the key went.
-use crate::undone::append_and_pop;
 use ordered_multimap::ListOrderedMultimap;
 use ordered_multimap::list_ordered_multimap::KeyWrapper;
-use ordered_multimap_tests::lists::{appends, has_lists, inserts};
-use ordered_multimap_tests::maps::{Numbers, Texts, refill};
+use ordered_multimap_callers::lists::{appends, has_lists, inserts};
+use ordered_multimap_callers::maps::{Numbers, Texts, refill};
+use ordered_multimap_callers::undone::append_and_pop;
 use std::hash::BuildHasher;
 use test_helpers::{Constant, End, Test, walk_difference};
 

@@ -1,6 +1,6 @@
 //! Keys that leave with all their values.
-use ordered_multimap_tests::lists::{appends, inserts};
-use ordered_multimap_tests::maps::Texts;
+use ordered_multimap_callers::lists::{appends, inserts};
+use ordered_multimap_callers::maps::Texts;
 use test_helpers::Test;
 
 fn entry_leaves(test: &Test, map: &mut Texts) {

@@ -6,7 +6,7 @@ use crate::popped::{Alike, collided_keys_leave, key_is_lent_and_handed_out, pair
 use crate::removed::keys_leave;
 use crate::retained::pairs_stay;
 use ordered_multimap::ListOrderedMultimap;
-use ordered_multimap_tests::maps::{Numbers, Texts};
+use ordered_multimap_callers::maps::{Numbers, Texts};
 use test_helpers::{Failed, Test, ZERO};
 
 fn texts_leave(test: &Test, map: &mut Texts) {

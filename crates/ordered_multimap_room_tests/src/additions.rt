@@ -1,7 +1,7 @@
 //! Calls that put the pair of the key 1 and the value 77 into a map. Each answers the pair that
 //! comes back where memory is refused.
 use ordered_multimap::list_ordered_multimap::{Entry, Refused, RefusedValue};
-use ordered_multimap_tests::maps::Refusing;
+use ordered_multimap_callers::maps::Refusing;
 
 /// Nothing, or the pair that comes back.
 pub type Answer = Result<(), Refused<u32, u32>>;

@@ -2,8 +2,8 @@
 use crate::iterators::Hinted;
 use ordered_multimap::ListOrderedMultimap;
 use ordered_multimap::list_ordered_multimap::DefaultState;
-use ordered_multimap_tests::lists::has_pairs;
-use ordered_multimap_tests::maps::{Numbers, Texts};
+use ordered_multimap_callers::lists::has_pairs;
+use ordered_multimap_callers::maps::{Numbers, Texts};
 use test_helpers::{End, Test, walk_difference};
 
 const TEXTS: &[(&str, &str)] = &[("key1", "value1"), ("key2", "value2"), ("key2", "value3")];

@@ -1,8 +1,8 @@
 //! Maps that are made with room, with each request refused, and room that no memory has.
 use ordered_multimap::ListOrderedMultimap;
 use ordered_multimap::list_ordered_multimap::DefaultState;
-use ordered_multimap_tests::lists::{appends, has_lists, has_room};
-use ordered_multimap_tests::maps::Numbers;
+use ordered_multimap_callers::lists::{appends, has_lists, has_room};
+use ordered_multimap_callers::maps::Numbers;
 use refusing_allocator::RefusingAllocator;
 use std::alloc::AllocError;
 use std::hash::BuildHasher;

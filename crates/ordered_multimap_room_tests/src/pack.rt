@@ -1,7 +1,7 @@
 //! Maps that are packed: their pairs stay, in less room or more.
 use ordered_multimap::ListOrderedMultimap;
-use ordered_multimap_tests::lists::{has_lists, has_room};
-use ordered_multimap_tests::maps::{MIXED_TEXTS, Texts, fill};
+use ordered_multimap_callers::lists::{has_lists, has_room};
+use ordered_multimap_callers::maps::{MIXED_TEXTS, Texts, fill};
 use std::alloc::Allocator;
 use std::hash::{BuildHasher, Hash};
 use test_helpers::Test;

@@ -4,7 +4,7 @@ use crate::refused_additions::{fill_up, puts};
 use crate::refused_pairs::{PAIRS, extend, extend_copied, from_iter_with};
 use crate::refused_room::{Room, is_made, keep_three};
 use ordered_multimap::ListOrderedMultimap;
-use ordered_multimap_tests::maps::{Numbers, Refusing, map_of};
+use ordered_multimap_callers::maps::{Numbers, Refusing, map_of};
 use refusing_allocator::RefusingAllocator;
 use test_helpers::{Failed, Test, requests_until_enough};
 

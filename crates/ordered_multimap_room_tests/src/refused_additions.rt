@@ -2,8 +2,8 @@
 //! before.
 use crate::additions::{Answer, Call, Occupied, put};
 use ordered_multimap::list_ordered_multimap::Refused;
-use ordered_multimap_tests::lists::has_lists;
-use ordered_multimap_tests::maps::Refusing;
+use ordered_multimap_callers::lists::has_lists;
+use ordered_multimap_callers::maps::Refusing;
 use test_helpers::Test;
 
 /// The values of a full map.

@@ -3,8 +3,8 @@
 use crate::refused_additions::first;
 use ordered_multimap::ListOrderedMultimap;
 use ordered_multimap::list_ordered_multimap::{DefaultState, Refused};
-use ordered_multimap_tests::lists::has_lists;
-use ordered_multimap_tests::maps::{Numbers, Refusing};
+use ordered_multimap_callers::lists::has_lists;
+use ordered_multimap_callers::maps::{Numbers, Refusing};
 use refusing_allocator::RefusingAllocator;
 use test_helpers::Test;
 

@@ -1,7 +1,7 @@
 //! Room that is asked for ahead, and what needs no memory then.
 use ordered_multimap::list_ordered_multimap::KeyWrapper;
-use ordered_multimap_tests::lists::{appends, has_lists, has_room, inserts};
-use ordered_multimap_tests::maps::{Refusing, Texts, reserve, reserve_anew};
+use ordered_multimap_callers::lists::{appends, has_lists, has_room, inserts};
+use ordered_multimap_callers::maps::{Refusing, Texts, reserve, reserve_anew};
 use refusing_allocator::RefusingAllocator;
 use test_helpers::Test;
 

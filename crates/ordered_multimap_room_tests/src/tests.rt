@@ -8,7 +8,7 @@ use crate::made::room_is_refused;
 use crate::pack::texts_are_packed;
 use crate::reserve::{room_grows, room_is_used};
 use ordered_multimap::ListOrderedMultimap;
-use ordered_multimap_tests::maps::{Numbers, Texts, map_of};
+use ordered_multimap_callers::maps::{Numbers, Texts, map_of};
 use refusing_allocator::RefusingAllocator;
 use test_helpers::{Failed, Test};
 

@@ -1,6 +1,6 @@
 //! Equality of maps, and clones.
-use crate::lists::{has_lists, inserts};
-use crate::maps::{MIXED_TEXTS, Texts, refill};
+use ordered_multimap_callers::lists::{has_lists, inserts};
+use ordered_multimap_callers::maps::{MIXED_TEXTS, Texts, refill};
 use test_helpers::Test;
 
 fn are_equal(map: &Texts, other: &Texts) -> bool {

@@ -1,8 +1,8 @@
 //! The examples of the map's doc comments and of README.md, as tests. `tools/examples` says whether
 //! each line of theirs stands here.
-use crate::lists::appends;
 use ordered_multimap::ListOrderedMultimap;
 use ordered_multimap::list_ordered_multimap::{DefaultState, KeyWrapper};
+use ordered_multimap_callers::lists::appends;
 use std::alloc::{AllocError, Global};
 use std::hash::{BuildHasher, Hash};
 use test_helpers::{Failed, Test};

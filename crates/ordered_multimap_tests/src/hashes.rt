@@ -1,7 +1,7 @@
 //! Hash builders that aren't the default: one that hashes all keys alike, and one with a random seed.
-use crate::lists::{appends, inserts};
 use ordered_multimap::ListOrderedMultimap;
 use ordered_multimap::list_ordered_multimap::RandomState;
+use ordered_multimap_callers::lists::{appends, inserts};
 use test_helpers::{Constant, End, Test, walk_difference};
 
 type Collided = ListOrderedMultimap<&'static str, &'static str, Constant>;

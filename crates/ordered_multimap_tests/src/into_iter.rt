@@ -1,6 +1,6 @@
 //! The walk that takes a map apart, from both ends.
-use crate::maps::{MIXED_TEXTS, Numbers, Texts, map_of};
 use ordered_multimap::list_ordered_multimap::IntoIter;
+use ordered_multimap_callers::maps::{MIXED_TEXTS, Numbers, Texts, map_of};
 use test_helpers::{End, Test, walk_difference};
 
 type Text = &'static str;

@@ -1,6 +1,6 @@
 //! Walks over the keys, each with a walk over its values, from both ends.
-use crate::maps::{MIXED_TEXTS, Texts, refill};
 use ordered_multimap::list_ordered_multimap::{EntryValues, KeyValues};
+use ordered_multimap_callers::maps::{MIXED_TEXTS, Texts, refill};
 use test_helpers::{End, Test, walk_difference};
 
 type Text = &'static str;

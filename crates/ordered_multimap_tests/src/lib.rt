@@ -1,6 +1,5 @@
 //! Tests of the map, from outside: constructors, appends, look-ups, walks for reading, clones,
-//! equality, and the walk that takes a map apart; and the maps and comparisons that tests of its
-//! other calls share.
+//! equality, and the walk that takes a map apart.
 //!
 //! They stand in a crate of their own, since they need an allocator that refuses: a crate has one
 //! list of dependencies for its code and its tests.
@@ -20,8 +19,6 @@ mod hashes;
 mod into_iter;
 #[cfg(test)]
 mod key_values;
-pub mod lists;
-pub mod maps;
 #[cfg(test)]
 mod shown;
 #[cfg(test)]

@@ -1,6 +1,6 @@
 //! What Debug shows of a map and of the walks for reading: all, and what is left once an item was
 //! taken.
-use crate::maps::{MIXED_TEXTS, ONE_KEY, Texts, refill};
+use ordered_multimap_callers::maps::{MIXED_TEXTS, ONE_KEY, Texts, refill};
 use std::alloc::Global;
 use std::fmt;
 use test_helpers::{Test, is_shown};

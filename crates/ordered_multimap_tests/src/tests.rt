@@ -2,11 +2,11 @@
 //! owned costs its proof more than all that it is lent to.
 use crate::hashes::{collided_keys_are_inserted, collided_values_are_appended, keys_are_found};
 use crate::into_iter::{pairs_are_handed_out, rest_is_walked, sum_of};
-use crate::maps::{MIXED, MIXED_TEXTS, Numbers, Texts, map_of, refill};
 use crate::shown::is_shown_apart;
 use crate::{equal, key_values, shown, texts, walks};
 use ordered_multimap::ListOrderedMultimap;
 use ordered_multimap::list_ordered_multimap::RandomState;
+use ordered_multimap_callers::maps::{MIXED, MIXED_TEXTS, Numbers, Texts, map_of, refill};
 use test_helpers::{Constant, Failed, Test, ZERO};
 
 fn texts_answer(test: &Test, map: &mut Texts) {

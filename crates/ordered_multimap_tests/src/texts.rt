@@ -1,6 +1,6 @@
 //! Keys and values that are texts: what each call answers before, between and after changes.
-use crate::lists::{appends, copied, inserts};
-use crate::maps::Texts;
+use ordered_multimap_callers::lists::{appends, copied, inserts};
+use ordered_multimap_callers::maps::Texts;
 use test_helpers::{End, Test, walk_difference};
 
 #[derive(Clone, Copy)]

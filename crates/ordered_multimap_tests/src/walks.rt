@@ -1,6 +1,6 @@
 //! Walks for reading, from both ends, and their clones.
-use crate::lists::{appends, goes_on, inserts};
-use crate::maps::{MIXED_TEXTS, ONE_KEY, Texts, refill};
+use ordered_multimap_callers::lists::{appends, goes_on, inserts};
+use ordered_multimap_callers::maps::{MIXED_TEXTS, ONE_KEY, Texts, refill};
 use test_helpers::{End, Test, walk_difference};
 
 type Text = &'static str;

@@ -2,7 +2,7 @@
 //! whether each line of theirs stands here.
 use ordered_multimap::ListOrderedMultimap;
 use ordered_multimap::list_ordered_multimap::Entry;
-use ordered_multimap_tests::lists::has_pairs;
+use ordered_multimap_callers::lists::has_pairs;
 use test_helpers::{Failed, Test};
 
 type Numbers = ListOrderedMultimap<&'static str, u32>;

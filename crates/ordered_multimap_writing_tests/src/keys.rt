@@ -1,8 +1,8 @@
 //! The walk over keys with their values for writing.
 use crate::steps::{Step, values_of_a_key_are_lent};
 use ordered_multimap::list_ordered_multimap::KeyValuesMut;
-use ordered_multimap_tests::lists::has_pairs;
-use ordered_multimap_tests::maps::{MIXED, Numbers, refill};
+use ordered_multimap_callers::lists::has_pairs;
+use ordered_multimap_callers::maps::{MIXED, Numbers, refill};
 use test_helpers::{End, Test};
 
 type Keys<'a> = KeyValuesMut<'a, u32, u32>;

@@ -1,8 +1,6 @@
-//! Tests of the map's walks that lend values for writing, from outside, and callers of them that
-//! are proved for every key and value type.
+//! Tests of the map's walks that lend values for writing, from outside.
 #![tactic(auto)]
 
-pub mod callers;
 #[cfg(test)]
 mod examples;
 #[cfg(test)]

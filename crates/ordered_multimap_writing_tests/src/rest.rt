@@ -2,8 +2,8 @@
 ghost use Rattle.ordered_multimap.specs.WritingWalk.{EntryValuesMutCanStep, IterMutCanStep, ValuesMutCanStep};
 
 use ordered_multimap::list_ordered_multimap::{EntryValuesMut, IterMut, ValuesMut};
-use ordered_multimap_tests::lists::goes_on;
-use ordered_multimap_tests::maps::{MIXED, Numbers, refill};
+use ordered_multimap_callers::lists::goes_on;
+use ordered_multimap_callers::maps::{MIXED, Numbers, refill};
 use test_helpers::{End, Test};
 
 const PAIRS: &[(End, (u32, u32))] = &[(End::Back, (2, 13)), (End::Front, (2, 12))];

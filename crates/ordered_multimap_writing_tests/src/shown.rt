@@ -1,6 +1,6 @@
 //! The Debug texts of walks for writing, and of what they have left: all, and what is left once an
 //! item was taken.
-use ordered_multimap_tests::maps::{MIXED_TEXTS, ONE_KEY, Texts, fill, refill};
+use ordered_multimap_callers::maps::{MIXED_TEXTS, ONE_KEY, Texts, fill, refill};
 use test_helpers::{Test, is_shown};
 
 const PAIRS: &str =

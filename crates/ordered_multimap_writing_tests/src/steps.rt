@@ -2,7 +2,7 @@
 ghost use Rattle.ordered_multimap.specs.WritingWalk.{EntryValuesMutCanStep, IterMutCanStep, ValuesMutCanStep};
 
 use ordered_multimap::list_ordered_multimap::{EntryValuesMut, IterMut, ValuesMut};
-use ordered_multimap_tests::maps::Numbers;
+use ordered_multimap_callers::maps::Numbers;
 use test_helpers::{End, Test};
 
 /// An end, how many values are left before, and the value that a step lends there.

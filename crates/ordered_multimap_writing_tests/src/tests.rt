@@ -6,7 +6,7 @@ use crate::shown::walks_are_shown;
 use crate::unread::one_key_is_written;
 use crate::walks::values_are_lent_once;
 use ordered_multimap::ListOrderedMultimap;
-use ordered_multimap_tests::maps::Numbers;
+use ordered_multimap_callers::maps::Numbers;
 use test_helpers::{Failed, Test};
 
 fn numbers_are_lent(test: &Test, map: &mut Numbers) {

@@ -2,8 +2,8 @@
 ghost use Rattle.ordered_multimap.specs.WritingWalk.{EntryValuesMutCanStep};
 
 use ordered_multimap::list_ordered_multimap::{EntryValuesMut, KeyValuesMut};
-use ordered_multimap_tests::lists::has_lists;
-use ordered_multimap_tests::maps::{Numbers, refill};
+use ordered_multimap_callers::lists::has_lists;
+use ordered_multimap_callers::maps::{Numbers, refill};
 use test_helpers::Test;
 
 type Keys<'a> = KeyValuesMut<'a, u32, u32>;

@@ -1,12 +1,12 @@
 //! Walks over all pairs, all values and one key's values for writing, from both ends, and what they
 //! leave.
-use crate::callers::{
-    fill_all, fill_by_reference, fill_ends, fill_first_key, fill_key, fill_values,
-};
 use crate::steps::{PairStep, Step, key_walk, pair_walk, value_walk};
 use ordered_multimap::list_ordered_multimap::EntryValuesMut;
-use ordered_multimap_tests::lists::{has_lists, has_pairs};
-use ordered_multimap_tests::maps::{MIXED, Numbers, refill};
+use ordered_multimap_callers::filled::{
+    fill_all, fill_by_reference, fill_ends, fill_first_key, fill_key, fill_values,
+};
+use ordered_multimap_callers::lists::{has_lists, has_pairs};
+use ordered_multimap_callers::maps::{MIXED, Numbers, refill};
 use test_helpers::{End, Test, walk_difference};
 
 const VALUES: &[Step] = &[

@@ -4,7 +4,7 @@ use Rattle.ordered_multimap.specs.Changes.{first_written}
 use Rattle.ordered_multimap.specs.Pairs.{values_of}
 use Rattle.ordered_multimap.specs.Writes.{IsWritten}
 use Rattle.ordered_multimap.proofs.WriteLemmas.{first_written-absent}
-use Rattle.ordered_multimap_entry_tests.proofs.written.set_first.Goals as goal
+use Rattle.ordered_multimap_callers.proofs.written.set_first.Goals as goal
 
 pub returns-in-Some-clause-lists : goal.returns-in-Some-clause-lists
 returns-in-Some-clause-lists g c =

@@ -1,5 +1,5 @@
 use Rattle.std.proofs.Common.{◌≡◌}
-use Rattle.ordered_multimap_removal_tests.proofs.drains.remove_and_read.Given as goal
+use Rattle.ordered_multimap_callers.proofs.drains.remove_and_read.Given as goal
 
 abbrev pub invariant-loop : goal.invariant-loop
 invariant-loop g l = record {
