@@ -1,11 +1,19 @@
 //! Commands found by their words.
-ghost use Rattle.std.specs.Prelude.{[], ◌∷◌};
+ghost use Rattle.std.specs.Prelude.{◌≡◌, [], ◌∷◌};
+ghost use Rattle.std.specs.Str.{bytes_eq};
 ghost use Rattle.multimap_tool.specs.Spelling.{key_operand, value_operand, word_operand};
 ghost use Rattle.multimap_tool.specs.Parts.{IsFoundFor, IsFoundAmong, lone_change_words, lone_look_up_words};
 
 use crate::commands::{Command, Ends};
 use ordered_multimap::End;
 use std::alloc::Allocator;
+
+/// Whether both are the same text.
+fn is(name: &[u8], word: &[u8]) -> bool
+    ensures { result ≡ bytes_eq name.now word.now }
+{
+    name == word
+}
 
 /// The command of a word alone.
 pub(crate) fn lone_command<A: Allocator>(name: &[u8]) -> Option<Command<u32, i64, A>>
@@ -21,22 +29,22 @@ pub(crate) fn lone_command<A: Allocator>(name: &[u8]) -> Option<Command<u32, i64
 fn lone_change<A: Allocator>(name: &[u8]) -> Option<Command<u32, i64, A>>
     ensures { IsFoundAmong lone_change_words name.now [] result }
 {
-    if name == b"popfront".as_slice() {
+    if is(name, b"popfront".as_slice()) {
         return Some(Command::PopFront);
     }
-    if name == b"popback".as_slice() {
+    if is(name, b"popback".as_slice()) {
         return Some(Command::PopBack);
     }
-    if name == b"clear".as_slice() {
+    if is(name, b"clear".as_slice()) {
         return Some(Command::Clear);
     }
-    if name == b"packtofit".as_slice() {
+    if is(name, b"packtofit".as_slice()) {
         return Some(Command::PackToFit);
     }
-    if name == b"swap".as_slice() {
+    if is(name, b"swap".as_slice()) {
         return Some(Command::Swap);
     }
-    if name == b"json".as_slice() {
+    if is(name, b"json".as_slice()) {
         return Some(Command::Json);
     }
     None
@@ -46,25 +54,25 @@ fn lone_change<A: Allocator>(name: &[u8]) -> Option<Command<u32, i64, A>>
 fn lone_look_up<A: Allocator>(name: &[u8]) -> Option<Command<u32, i64, A>>
     ensures { IsFoundAmong lone_look_up_words name.now [] result }
 {
-    if name == b"front".as_slice() {
+    if is(name, b"front".as_slice()) {
         return Some(Command::Front);
     }
-    if name == b"back".as_slice() {
+    if is(name, b"back".as_slice()) {
         return Some(Command::Back);
     }
-    if name == b"pairs".as_slice() {
+    if is(name, b"pairs".as_slice()) {
         return Some(Command::Pairs(Ends::Forward));
     }
-    if name == b"keys".as_slice() {
+    if is(name, b"keys".as_slice()) {
         return Some(Command::Keys(Ends::Forward));
     }
-    if name == b"values".as_slice() {
+    if is(name, b"values".as_slice()) {
         return Some(Command::Values(Ends::Forward));
     }
-    if name == b"lists".as_slice() {
+    if is(name, b"lists".as_slice()) {
         return Some(Command::KeyLists);
     }
-    if name == b"lengths".as_slice() {
+    if is(name, b"lengths".as_slice()) {
         return Some(Command::Lengths);
     }
     None
@@ -74,13 +82,13 @@ fn lone_look_up<A: Allocator>(name: &[u8]) -> Option<Command<u32, i64, A>>
 pub(crate) fn value_command<A: Allocator>(name: &[u8], value: i64) -> Option<Command<u32, i64, A>>
     ensures { IsFoundFor name.now (value_operand value ∷ []) result }
 {
-    if name == b"setfront".as_slice() {
+    if is(name, b"setfront".as_slice()) {
         return Some(Command::SetFront(value));
     }
-    if name == b"setback".as_slice() {
+    if is(name, b"setback".as_slice()) {
         return Some(Command::SetBack(value));
     }
-    if name == b"retain".as_slice() {
+    if is(name, b"retain".as_slice()) {
         return Some(Command::Retain(value));
     }
     None
@@ -90,28 +98,28 @@ pub(crate) fn value_command<A: Allocator>(name: &[u8], value: i64) -> Option<Com
 pub(crate) fn key_command<A: Allocator>(name: &[u8], key: u32) -> Option<Command<u32, i64, A>>
     ensures { IsFoundFor name.now (key_operand key ∷ []) result }
 {
-    if name == b"get".as_slice() {
+    if is(name, b"get".as_slice()) {
         return Some(Command::Get(key));
     }
-    if name == b"all".as_slice() {
+    if is(name, b"all".as_slice()) {
         return Some(Command::All(key, Ends::Forward));
     }
-    if name == b"has".as_slice() {
+    if is(name, b"has".as_slice()) {
         return Some(Command::Has(key));
     }
-    if name == b"len".as_slice() {
+    if is(name, b"len".as_slice()) {
         return Some(Command::Len(key));
     }
-    if name == b"remove".as_slice() {
+    if is(name, b"remove".as_slice()) {
         return Some(Command::Remove(key));
     }
-    if name == b"removeall".as_slice() {
+    if is(name, b"removeall".as_slice()) {
         return Some(Command::RemoveAll(key));
     }
-    if name == b"removeentry".as_slice() {
+    if is(name, b"removeentry".as_slice()) {
         return Some(Command::RemoveEntry(key));
     }
-    if name == b"removeentryall".as_slice() {
+    if is(name, b"removeentryall".as_slice()) {
         return Some(Command::RemoveEntryAll(key));
     }
     None
@@ -124,13 +132,13 @@ pub(crate) fn walk_command<A: Allocator>(
 ) -> Option<Command<u32, i64, A>>
     ensures { IsFoundFor name.now (word_operand word.items ∷ []) result }
 {
-    if name == b"walkpairs".as_slice() {
+    if is(name, b"walkpairs".as_slice()) {
         return Some(Command::Pairs(Ends::Word(word)));
     }
-    if name == b"walkkeys".as_slice() {
+    if is(name, b"walkkeys".as_slice()) {
         return Some(Command::Keys(Ends::Word(word)));
     }
-    if name == b"walkvalues".as_slice() {
+    if is(name, b"walkvalues".as_slice()) {
         return Some(Command::Values(Ends::Word(word)));
     }
     None
@@ -144,19 +152,19 @@ pub(crate) fn pair_command<A: Allocator>(
 ) -> Option<Command<u32, i64, A>>
     ensures { IsFoundFor name.now (key_operand key ∷ value_operand value ∷ []) result }
 {
-    if name == b"append".as_slice() {
+    if is(name, b"append".as_slice()) {
         return Some(Command::Append(key, value));
     }
-    if name == b"insert".as_slice() {
+    if is(name, b"insert".as_slice()) {
         return Some(Command::Insert(key, value));
     }
-    if name == b"insertall".as_slice() {
+    if is(name, b"insertall".as_slice()) {
         return Some(Command::InsertAll(key, value));
     }
-    if name == b"setfirst".as_slice() {
+    if is(name, b"setfirst".as_slice()) {
         return Some(Command::SetFirst(key, value));
     }
-    if name == b"orinsert".as_slice() {
+    if is(name, b"orinsert".as_slice()) {
         return Some(Command::OrInsert(key, value));
     }
     None
@@ -170,7 +178,7 @@ pub(crate) fn room_command<A: Allocator>(
 ) -> Option<Command<u32, i64, A>>
     ensures { IsFoundFor name.now (key_operand keys ∷ key_operand values ∷ []) result }
 {
-    if name == b"reserve".as_slice() {
+    if is(name, b"reserve".as_slice()) {
         return Some(Command::Reserve(keys as usize, values as usize));
     }
     None
@@ -184,7 +192,7 @@ pub(crate) fn key_walk_command<A: Allocator>(
 ) -> Option<Command<u32, i64, A>>
     ensures { IsFoundFor name.now (key_operand key ∷ word_operand word.items ∷ []) result }
 {
-    if name == b"walk".as_slice() {
+    if is(name, b"walk".as_slice()) {
         return Some(Command::All(key, Ends::Word(word)));
     }
     None

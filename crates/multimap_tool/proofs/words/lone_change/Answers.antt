@@ -3,45 +3,45 @@ use Rattle.std.specs.Str.{bytes_eq}
 use Rattle.multimap_tool.proofs.ReadingLemmas.{same_text, other_text}
 use Rattle.multimap_tool.proofs.words.lone_change.Goals as goal
 
-pub returns-then-eq : goal.returns-then-eq
-returns-then-eq g c =
+pub returns-then-is : goal.returns-then-is
+returns-then-is g c =
     let name = c.args.name.now in
-    record { name_is = sym (same_text name _ c.eq.result c.if-eq.true (c.eq.ensures ∙ ap (bytes_eq name) c.as_slice.ensures)); operands_are = refl }
+    record { name_is = sym (same_text name _ c.is.result c.if-is.true (c.is.ensures ∙ ap (bytes_eq name) c.as_slice.ensures)); operands_are = refl }
 
-pub returns-then-eq-2 : goal.returns-then-eq-2
-returns-then-eq-2 g c =
+pub returns-then-is-2 : goal.returns-then-is-2
+returns-then-is-2 g c =
     let name = c.args.name.now in
-    record { name_is = sym (same_text name _ c.eq-2.result c.if-eq-2.true (c.eq-2.ensures ∙ ap (bytes_eq name) c.as_slice-2.ensures)); operands_are = refl }
+    record { name_is = sym (same_text name _ c.is-2.result c.if-is-2.true (c.is-2.ensures ∙ ap (bytes_eq name) c.as_slice-2.ensures)); operands_are = refl }
 
-pub returns-then-eq-3 : goal.returns-then-eq-3
-returns-then-eq-3 g c =
+pub returns-then-is-3 : goal.returns-then-is-3
+returns-then-is-3 g c =
     let name = c.args.name.now in
-    record { name_is = sym (same_text name _ c.eq-3.result c.if-eq-3.true (c.eq-3.ensures ∙ ap (bytes_eq name) c.as_slice-3.ensures)); operands_are = refl }
+    record { name_is = sym (same_text name _ c.is-3.result c.if-is-3.true (c.is-3.ensures ∙ ap (bytes_eq name) c.as_slice-3.ensures)); operands_are = refl }
 
-pub returns-then-eq-4 : goal.returns-then-eq-4
-returns-then-eq-4 g c =
+pub returns-then-is-4 : goal.returns-then-is-4
+returns-then-is-4 g c =
     let name = c.args.name.now in
-    record { name_is = sym (same_text name _ c.eq-4.result c.if-eq-4.true (c.eq-4.ensures ∙ ap (bytes_eq name) c.as_slice-4.ensures)); operands_are = refl }
+    record { name_is = sym (same_text name _ c.is-4.result c.if-is-4.true (c.is-4.ensures ∙ ap (bytes_eq name) c.as_slice-4.ensures)); operands_are = refl }
 
-pub returns-then-eq-5 : goal.returns-then-eq-5
-returns-then-eq-5 g c =
+pub returns-then-is-5 : goal.returns-then-is-5
+returns-then-is-5 g c =
     let name = c.args.name.now in
-    record { name_is = sym (same_text name _ c.eq-5.result c.if-eq-5.true (c.eq-5.ensures ∙ ap (bytes_eq name) c.as_slice-5.ensures)); operands_are = refl }
+    record { name_is = sym (same_text name _ c.is-5.result c.if-is-5.true (c.is-5.ensures ∙ ap (bytes_eq name) c.as_slice-5.ensures)); operands_are = refl }
 
-pub returns-then-eq-6 : goal.returns-then-eq-6
-returns-then-eq-6 g c =
+pub returns-then-is-6 : goal.returns-then-is-6
+returns-then-is-6 g c =
     let name = c.args.name.now in
-    record { name_is = sym (same_text name _ c.eq-6.result c.if-eq-6.true (c.eq-6.ensures ∙ ap (bytes_eq name) c.as_slice-6.ensures)); operands_are = refl }
+    record { name_is = sym (same_text name _ c.is-6.result c.if-is-6.true (c.is-6.ensures ∙ ap (bytes_eq name) c.as_slice-6.ensures)); operands_are = refl }
 
 pub returns : goal.returns
 returns g c =
     let name = c.args.name.now in
     λ word. elim word [
-      | inl is_popfront ↦ other_text name _ c.eq.result c.if-eq.false (c.eq.ensures ∙ ap (bytes_eq name) c.as_slice.ensures) is_popfront
-      | inr (inl is_popback) ↦ other_text name _ c.eq-2.result c.if-eq-2.false (c.eq-2.ensures ∙ ap (bytes_eq name) c.as_slice-2.ensures) is_popback
-      | inr (inr (inl is_clear)) ↦ other_text name _ c.eq-3.result c.if-eq-3.false (c.eq-3.ensures ∙ ap (bytes_eq name) c.as_slice-3.ensures) is_clear
-      | inr (inr (inr (inl is_packtofit))) ↦ other_text name _ c.eq-4.result c.if-eq-4.false (c.eq-4.ensures ∙ ap (bytes_eq name) c.as_slice-4.ensures) is_packtofit
-      | inr (inr (inr (inr (inl is_swap)))) ↦ other_text name _ c.eq-5.result c.if-eq-5.false (c.eq-5.ensures ∙ ap (bytes_eq name) c.as_slice-5.ensures) is_swap
-      | inr (inr (inr (inr (inr (inl is_json))))) ↦ other_text name _ c.eq-6.result c.if-eq-6.false (c.eq-6.ensures ∙ ap (bytes_eq name) c.as_slice-6.ensures) is_json
+      | inl is_popfront ↦ other_text name _ c.is.result c.if-is.false (c.is.ensures ∙ ap (bytes_eq name) c.as_slice.ensures) is_popfront
+      | inr (inl is_popback) ↦ other_text name _ c.is-2.result c.if-is-2.false (c.is-2.ensures ∙ ap (bytes_eq name) c.as_slice-2.ensures) is_popback
+      | inr (inr (inl is_clear)) ↦ other_text name _ c.is-3.result c.if-is-3.false (c.is-3.ensures ∙ ap (bytes_eq name) c.as_slice-3.ensures) is_clear
+      | inr (inr (inr (inl is_packtofit))) ↦ other_text name _ c.is-4.result c.if-is-4.false (c.is-4.ensures ∙ ap (bytes_eq name) c.as_slice-4.ensures) is_packtofit
+      | inr (inr (inr (inr (inl is_swap)))) ↦ other_text name _ c.is-5.result c.if-is-5.false (c.is-5.ensures ∙ ap (bytes_eq name) c.as_slice-5.ensures) is_swap
+      | inr (inr (inr (inr (inr (inl is_json))))) ↦ other_text name _ c.is-6.result c.if-is-6.false (c.is-6.ensures ∙ ap (bytes_eq name) c.as_slice-6.ensures) is_json
       | inr (inr (inr (inr (inr (inr never))))) ↦ never
     ]
