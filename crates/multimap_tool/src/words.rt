@@ -29,22 +29,22 @@ pub(crate) fn lone_command<A: Allocator>(name: &[u8]) -> Option<Command<u32, i64
 fn lone_change<A: Allocator>(name: &[u8]) -> Option<Command<u32, i64, A>>
     ensures { IsFoundAmong lone_change_words name.now [] result }
 {
-    if is(name, b"popfront".as_slice()) {
+    if is(name, b"popfront") {
         return Some(Command::PopFront);
     }
-    if is(name, b"popback".as_slice()) {
+    if is(name, b"popback") {
         return Some(Command::PopBack);
     }
-    if is(name, b"clear".as_slice()) {
+    if is(name, b"clear") {
         return Some(Command::Clear);
     }
-    if is(name, b"packtofit".as_slice()) {
+    if is(name, b"packtofit") {
         return Some(Command::PackToFit);
     }
-    if is(name, b"swap".as_slice()) {
+    if is(name, b"swap") {
         return Some(Command::Swap);
     }
-    if is(name, b"json".as_slice()) {
+    if is(name, b"json") {
         return Some(Command::Json);
     }
     None
@@ -54,25 +54,25 @@ fn lone_change<A: Allocator>(name: &[u8]) -> Option<Command<u32, i64, A>>
 fn lone_look_up<A: Allocator>(name: &[u8]) -> Option<Command<u32, i64, A>>
     ensures { IsFoundAmong lone_look_up_words name.now [] result }
 {
-    if is(name, b"front".as_slice()) {
+    if is(name, b"front") {
         return Some(Command::Front);
     }
-    if is(name, b"back".as_slice()) {
+    if is(name, b"back") {
         return Some(Command::Back);
     }
-    if is(name, b"pairs".as_slice()) {
+    if is(name, b"pairs") {
         return Some(Command::Pairs(Ends::Forward));
     }
-    if is(name, b"keys".as_slice()) {
+    if is(name, b"keys") {
         return Some(Command::Keys(Ends::Forward));
     }
-    if is(name, b"values".as_slice()) {
+    if is(name, b"values") {
         return Some(Command::Values(Ends::Forward));
     }
-    if is(name, b"lists".as_slice()) {
+    if is(name, b"lists") {
         return Some(Command::KeyLists);
     }
-    if is(name, b"lengths".as_slice()) {
+    if is(name, b"lengths") {
         return Some(Command::Lengths);
     }
     None
@@ -82,13 +82,13 @@ fn lone_look_up<A: Allocator>(name: &[u8]) -> Option<Command<u32, i64, A>>
 pub(crate) fn value_command<A: Allocator>(name: &[u8], value: i64) -> Option<Command<u32, i64, A>>
     ensures { IsFoundFor name.now (value_operand value ∷ []) result }
 {
-    if is(name, b"setfront".as_slice()) {
+    if is(name, b"setfront") {
         return Some(Command::SetFront(value));
     }
-    if is(name, b"setback".as_slice()) {
+    if is(name, b"setback") {
         return Some(Command::SetBack(value));
     }
-    if is(name, b"retain".as_slice()) {
+    if is(name, b"retain") {
         return Some(Command::Retain(value));
     }
     None
@@ -98,28 +98,28 @@ pub(crate) fn value_command<A: Allocator>(name: &[u8], value: i64) -> Option<Com
 pub(crate) fn key_command<A: Allocator>(name: &[u8], key: u32) -> Option<Command<u32, i64, A>>
     ensures { IsFoundFor name.now (key_operand key ∷ []) result }
 {
-    if is(name, b"get".as_slice()) {
+    if is(name, b"get") {
         return Some(Command::Get(key));
     }
-    if is(name, b"all".as_slice()) {
+    if is(name, b"all") {
         return Some(Command::All(key, Ends::Forward));
     }
-    if is(name, b"has".as_slice()) {
+    if is(name, b"has") {
         return Some(Command::Has(key));
     }
-    if is(name, b"len".as_slice()) {
+    if is(name, b"len") {
         return Some(Command::Len(key));
     }
-    if is(name, b"remove".as_slice()) {
+    if is(name, b"remove") {
         return Some(Command::Remove(key));
     }
-    if is(name, b"removeall".as_slice()) {
+    if is(name, b"removeall") {
         return Some(Command::RemoveAll(key));
     }
-    if is(name, b"removeentry".as_slice()) {
+    if is(name, b"removeentry") {
         return Some(Command::RemoveEntry(key));
     }
-    if is(name, b"removeentryall".as_slice()) {
+    if is(name, b"removeentryall") {
         return Some(Command::RemoveEntryAll(key));
     }
     None
@@ -132,13 +132,13 @@ pub(crate) fn walk_command<A: Allocator>(
 ) -> Option<Command<u32, i64, A>>
     ensures { IsFoundFor name.now (word_operand word.items ∷ []) result }
 {
-    if is(name, b"walkpairs".as_slice()) {
+    if is(name, b"walkpairs") {
         return Some(Command::Pairs(Ends::Word(word)));
     }
-    if is(name, b"walkkeys".as_slice()) {
+    if is(name, b"walkkeys") {
         return Some(Command::Keys(Ends::Word(word)));
     }
-    if is(name, b"walkvalues".as_slice()) {
+    if is(name, b"walkvalues") {
         return Some(Command::Values(Ends::Word(word)));
     }
     None
@@ -152,19 +152,19 @@ pub(crate) fn pair_command<A: Allocator>(
 ) -> Option<Command<u32, i64, A>>
     ensures { IsFoundFor name.now (key_operand key ∷ value_operand value ∷ []) result }
 {
-    if is(name, b"append".as_slice()) {
+    if is(name, b"append") {
         return Some(Command::Append(key, value));
     }
-    if is(name, b"insert".as_slice()) {
+    if is(name, b"insert") {
         return Some(Command::Insert(key, value));
     }
-    if is(name, b"insertall".as_slice()) {
+    if is(name, b"insertall") {
         return Some(Command::InsertAll(key, value));
     }
-    if is(name, b"setfirst".as_slice()) {
+    if is(name, b"setfirst") {
         return Some(Command::SetFirst(key, value));
     }
-    if is(name, b"orinsert".as_slice()) {
+    if is(name, b"orinsert") {
         return Some(Command::OrInsert(key, value));
     }
     None
@@ -178,7 +178,7 @@ pub(crate) fn room_command<A: Allocator>(
 ) -> Option<Command<u32, i64, A>>
     ensures { IsFoundFor name.now (key_operand keys ∷ key_operand values ∷ []) result }
 {
-    if is(name, b"reserve".as_slice()) {
+    if is(name, b"reserve") {
         return Some(Command::Reserve(keys as usize, values as usize));
     }
     None
@@ -192,7 +192,7 @@ pub(crate) fn key_walk_command<A: Allocator>(
 ) -> Option<Command<u32, i64, A>>
     ensures { IsFoundFor name.now (key_operand key ∷ word_operand word.items ∷ []) result }
 {
-    if is(name, b"walk".as_slice()) {
+    if is(name, b"walk") {
         return Some(Command::All(key, Ends::Word(word)));
     }
     None

@@ -1,17 +1,16 @@
-use Rattle.std.proofs.Common.{◌∙◌, ap, sym, inl, inr, refl}
-use Rattle.std.specs.Str.{bytes_eq}
+use Rattle.std.proofs.Common.{sym, inl, inr, refl}
 use Rattle.multimap_tool.proofs.ReadingLemmas.{same_text, other_text}
 use Rattle.multimap_tool.proofs.words.room_command.Goals as goal
 
 pub returns-then-is : goal.returns-then-is
 returns-then-is g c =
     let name = c.args.name.now in
-    record { name_is = sym (same_text name _ c.is.result c.if-is.true (c.is.ensures ∙ ap (bytes_eq name) c.as_slice.ensures)); operands_are = refl }
+    record { name_is = sym (same_text name _ c.is.result c.if-is.true c.is.ensures); operands_are = refl }
 
 pub returns : goal.returns
 returns g c =
     let name = c.args.name.now in
     λ word. elim word [
-      | inl is_reserve ↦ other_text name _ c.is.result c.if-is.false (c.is.ensures ∙ ap (bytes_eq name) c.as_slice.ensures) is_reserve
+      | inl is_reserve ↦ other_text name _ c.is.result c.if-is.false c.is.ensures is_reserve
       | inr never ↦ never
     ]

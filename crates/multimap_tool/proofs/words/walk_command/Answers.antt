@@ -1,29 +1,28 @@
-use Rattle.std.proofs.Common.{◌∙◌, ap, sym, refl, inl, inr}
-use Rattle.std.specs.Str.{bytes_eq}
+use Rattle.std.proofs.Common.{sym, refl, inl, inr}
 use Rattle.multimap_tool.proofs.ReadingLemmas.{same_text, other_text}
 use Rattle.multimap_tool.proofs.words.walk_command.Goals as goal
 
 pub returns-then-is : goal.returns-then-is
 returns-then-is g c =
     let name = c.args.name.now in
-    record { name_is = sym (same_text name _ c.is.result c.if-is.true (c.is.ensures ∙ ap (bytes_eq name) c.as_slice.ensures)); operands_are = refl }
+    record { name_is = sym (same_text name _ c.is.result c.if-is.true c.is.ensures); operands_are = refl }
 
 pub returns-then-is-2 : goal.returns-then-is-2
 returns-then-is-2 g c =
     let name = c.args.name.now in
-    record { name_is = sym (same_text name _ c.is-2.result c.if-is-2.true (c.is-2.ensures ∙ ap (bytes_eq name) c.as_slice-2.ensures)); operands_are = refl }
+    record { name_is = sym (same_text name _ c.is-2.result c.if-is-2.true c.is-2.ensures); operands_are = refl }
 
 pub returns-then-is-3 : goal.returns-then-is-3
 returns-then-is-3 g c =
     let name = c.args.name.now in
-    record { name_is = sym (same_text name _ c.is-3.result c.if-is-3.true (c.is-3.ensures ∙ ap (bytes_eq name) c.as_slice-3.ensures)); operands_are = refl }
+    record { name_is = sym (same_text name _ c.is-3.result c.if-is-3.true c.is-3.ensures); operands_are = refl }
 
 pub returns : goal.returns
 returns g c =
     let name = c.args.name.now in
     λ word. elim word [
-      | inl is_walkpairs ↦ other_text name _ c.is.result c.if-is.false (c.is.ensures ∙ ap (bytes_eq name) c.as_slice.ensures) is_walkpairs
-      | inr (inl is_walkkeys) ↦ other_text name _ c.is-2.result c.if-is-2.false (c.is-2.ensures ∙ ap (bytes_eq name) c.as_slice-2.ensures) is_walkkeys
-      | inr (inr (inl is_walkvalues)) ↦ other_text name _ c.is-3.result c.if-is-3.false (c.is-3.ensures ∙ ap (bytes_eq name) c.as_slice-3.ensures) is_walkvalues
+      | inl is_walkpairs ↦ other_text name _ c.is.result c.if-is.false c.is.ensures is_walkpairs
+      | inr (inl is_walkkeys) ↦ other_text name _ c.is-2.result c.if-is-2.false c.is-2.ensures is_walkkeys
+      | inr (inr (inl is_walkvalues)) ↦ other_text name _ c.is-3.result c.if-is-3.false c.is-3.ensures is_walkvalues
       | inr (inr (inr never)) ↦ never
     ]
