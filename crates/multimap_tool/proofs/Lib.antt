@@ -1,5 +1,6 @@
 mod WalkLemmas
 mod RunLemmas
+mod GroupLemmas
 mod RoomLemmas
 mod OrInsertLemmas
 mod FormatLemmas

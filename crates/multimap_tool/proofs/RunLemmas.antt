@@ -1,5 +1,5 @@
 -- Runs that go on by one step, and what steps and runs leave.
-use Rattle.std.proofs.Common.{◌≡◌, ◌≢◌, ℕ, Bool, true, false, cond, List, [], ◌∷◌, ◌++◌, refl, sym, subst, inl, inr, Result, Ok, Err}
+use Rattle.std.proofs.Common.{◌≡◌, Bool, true, false, cond, List, [], ◌∷◌, ◌++◌, refl, sym, subst, inl, inr, Result, Ok, Err}
 use Rattle.std.specs.Prelude.{IfOk}
 use Rattle.std.specs.Cmp.{IsEquivalence}
 use Rattle.ordered_multimap.specs.Lists.{Lists, lists, empty_lists, IsWellFormed}
@@ -18,7 +18,7 @@ use Rattle.std.specs.Map.{keys_of}
 use Rattle.multimap_tool.specs.declared.commands.Command.{Command}
 use Rattle.multimap_tool.specs.declared.commands.Command.TheVariants.{Append, Insert, InsertAll, SetFirst, SetFront, SetBack, OrInsert, Get, All, Has, Len, Front, Back, Remove, RemoveAll, RemoveEntry, RemoveEntryAll, PopFront, PopBack, Retain, Clear, Reserve, PackToFit, Swap, Json, Pairs, Keys, Values, KeyLists, Lengths}
 use Rattle.multimap_tool.specs.declared.replies.Reply.{Reply}
-use Rattle.multimap_tool.specs.Step.{Leaves, IsLookUp, IsOwnStep, IsStep, KeepsPairs, entered}
+use Rattle.multimap_tool.specs.Step.{Leaves, IsOwnStep, IsStep, KeepsPairs, entered}
 use Rattle.multimap_tool.specs.Runs.{IsRun}
 use Rattle.multimap_tool.specs.Laws.{IsOrderly}
 
@@ -152,77 +152,6 @@ module _ {K V A : Type 0} {eq : K → K → Bool} (laws : IsEquivalence eq) (kee
   run_well_formed [] m (reply ∷ replies) n formed run = absurd run
   run_well_formed (command ∷ commands) m [] n formed run = absurd run
 
-module _ {K V A : Type 0} where
-  -- a command that is none of those that change the lists
-  pub IsLookUp-else : (command : Command K V A) → ((k : K) (v : V) → command ≢ Append k v) → ((k : K) (v : V) → command ≢ Insert k v) → ((k : K) (v : V) → command ≢ InsertAll k v)
-      → ((k : K) (v : V) → command ≢ SetFirst k v) → ((v : V) → command ≢ SetFront v) → ((v : V) → command ≢ SetBack v) → ((k : K) (v : V) → command ≢ OrInsert k v)
-      → ((k : K) → command ≢ Remove k) → ((k : K) → command ≢ RemoveAll k) → ((k : K) → command ≢ RemoveEntry k) → ((k : K) → command ≢ RemoveEntryAll k)
-      → command ≢ PopFront → command ≢ PopBack → ((v : V) → command ≢ Retain v) → command ≢ Clear → ((x y : ℕ) → command ≢ Reserve x y) → command ≢ PackToFit → command ≢ Swap → command ≢ Json → IsLookUp command
-  IsLookUp-else (Append k v) a b c d e f g h i j l m n p o r s q u = a k v refl
-  IsLookUp-else (Insert k v) a b c d e f g h i j l m n p o r s q u = b k v refl
-  IsLookUp-else (InsertAll k v) a b c d e f g h i j l m n p o r s q u = c k v refl
-  IsLookUp-else (SetFirst k v) a b c d e f g h i j l m n p o r s q u = d k v refl
-  IsLookUp-else (SetFront v) a b c d e f g h i j l m n p o r s q u = e v refl
-  IsLookUp-else (SetBack v) a b c d e f g h i j l m n p o r s q u = f v refl
-  IsLookUp-else (OrInsert k v) a b c d e f g h i j l m n p o r s q u = g k v refl
-  IsLookUp-else (Get k) a b c d e f g h i j l m n p o r s q u = tt
-  IsLookUp-else (All k ends) a b c d e f g h i j l m n p o r s q u = tt
-  IsLookUp-else (Has k) a b c d e f g h i j l m n p o r s q u = tt
-  IsLookUp-else (Len k) a b c d e f g h i j l m n p o r s q u = tt
-  IsLookUp-else Front a b c d e f g h i j l m n p o r s q u = tt
-  IsLookUp-else Back a b c d e f g h i j l m n p o r s q u = tt
-  IsLookUp-else (Remove k) a b c d e f g h i j l m n p o r s q u = h k refl
-  IsLookUp-else (RemoveAll k) a b c d e f g h i j l m n p o r s q u = i k refl
-  IsLookUp-else (RemoveEntry k) a b c d e f g h i j l m n p o r s q u = j k refl
-  IsLookUp-else (RemoveEntryAll k) a b c d e f g h i j l m n p o r s q u = l k refl
-  IsLookUp-else PopFront a b c d e f g h i j l m n p o r s q u = m refl
-  IsLookUp-else PopBack a b c d e f g h i j l m n p o r s q u = n refl
-  IsLookUp-else (Retain v) a b c d e f g h i j l m n p o r s q u = p v refl
-  IsLookUp-else Clear a b c d e f g h i j l m n p o r s q u = o refl
-  IsLookUp-else (Reserve x y) a b c d e f g h i j l m n p o r s q u = r x y refl
-  IsLookUp-else PackToFit a b c d e f g h i j l m n p o r s q u = s refl
-  IsLookUp-else Swap a b c d e f g h i j l m n p o r s q u = q refl
-  IsLookUp-else Json a b c d e f g h i j l m n p o r s q u = u refl
-  IsLookUp-else (Pairs ends) a b c d e f g h i j l m n p o r s q u = tt
-  IsLookUp-else (Keys ends) a b c d e f g h i j l m n p o r s q u = tt
-  IsLookUp-else (Values ends) a b c d e f g h i j l m n p o r s q u = tt
-  IsLookUp-else KeyLists a b c d e f g h i j l m n p o r s q u = tt
-  IsLookUp-else Lengths a b c d e f g h i j l m n p o r s q u = tt
-
-  -- a look-up calls no function
-  pub IsStep-look_up : (keeps : V → K → V → Bool → V → Type 0) (eq : K → K → Bool) (command : Command K V A) (m : Lists K V) (reply : Reply K V A) (n : Lists K V)
-      → IsLookUp command → IsOwnStep eq command m reply n → IsStep keeps eq command m reply n
-  IsStep-look_up keeps eq (Append k v) m reply n look step = absurd look
-  IsStep-look_up keeps eq (Insert k v) m reply n look step = absurd look
-  IsStep-look_up keeps eq (InsertAll k v) m reply n look step = absurd look
-  IsStep-look_up keeps eq (SetFirst k v) m reply n look step = absurd look
-  IsStep-look_up keeps eq (SetFront v) m reply n look step = absurd look
-  IsStep-look_up keeps eq (SetBack v) m reply n look step = absurd look
-  IsStep-look_up keeps eq (OrInsert k v) m reply n look step = absurd look
-  IsStep-look_up keeps eq (Get k) m reply n look step = step
-  IsStep-look_up keeps eq (All k ends) m reply n look step = step
-  IsStep-look_up keeps eq (Has k) m reply n look step = step
-  IsStep-look_up keeps eq (Len k) m reply n look step = step
-  IsStep-look_up keeps eq Front m reply n look step = step
-  IsStep-look_up keeps eq Back m reply n look step = step
-  IsStep-look_up keeps eq (Remove k) m reply n look step = absurd look
-  IsStep-look_up keeps eq (RemoveAll k) m reply n look step = absurd look
-  IsStep-look_up keeps eq (RemoveEntry k) m reply n look step = absurd look
-  IsStep-look_up keeps eq (RemoveEntryAll k) m reply n look step = absurd look
-  IsStep-look_up keeps eq PopFront m reply n look step = absurd look
-  IsStep-look_up keeps eq PopBack m reply n look step = absurd look
-  IsStep-look_up keeps eq (Retain x) m reply n look step = absurd look
-  IsStep-look_up keeps eq Clear m reply n look step = absurd look
-  IsStep-look_up keeps eq (Reserve a b) m reply n look step = absurd look
-  IsStep-look_up keeps eq PackToFit m reply n look step = absurd look
-  IsStep-look_up keeps eq Swap m reply n look step = absurd look
-  IsStep-look_up keeps eq Json m reply n look step = absurd look
-  IsStep-look_up keeps eq (Pairs ends) m reply n look step = step
-  IsStep-look_up keeps eq (Keys ends) m reply n look step = step
-  IsStep-look_up keeps eq (Values ends) m reply n look step = step
-  IsStep-look_up keeps eq KeyLists m reply n look step = step
-  IsStep-look_up keeps eq Lengths m reply n look step = step
-
 -- what a function may answer is what another may
 module _ {K V : Type 0} (keeps other : V → K → V → Bool → V → Type 0) (eq : K → K → Bool) (more : (x : V) (k : K) (v : V) (b : Bool) (w : V) → keeps x k v b w → other x k v b w) where
   retains_more : (x : V) (old new : List (K × V)) → Retains (λ s k v b w t. keeps x k v b w) (tt {0}) old new (tt {0}) → Retains (λ s k v b w t. other x k v b w) (tt {0}) old new (tt {0})
@@ -270,6 +199,11 @@ module _ {K V : Type 0} (keeps other : V → K → V → Bool → V → Type 0) 
     IsRun-more (command ∷ commands) m (reply ∷ replies) n run = (run.0, step_more command m reply run.0 run.1, IsRun-more commands run.0 replies n run.2)
     IsRun-more [] m (reply ∷ replies) n run = absurd run
     IsRun-more (command ∷ commands) m [] n run = absurd run
+
+-- what is a step where no function is called is one with any function
+pub IsStep-own : {K V A : Type 0} (keeps : V → K → V → Bool → V → Type 0) (eq : K → K → Bool) (command : Command K V A) (m : Lists K V) (reply : Reply K V A) (n : Lists K V)
+    → IsOwnStep eq command m reply n → IsStep keeps eq command m reply n
+IsStep-own keeps eq command m reply n step = step_more (λ x k v b w. ⊥) keeps eq (λ x k v b w never. absurd never) command m reply n step
 
 -- what holds of a value where there is one implies what follows from it
 pub if_ok : {T E : Type 0} {P Q : T → Type 0} (r : Result T E) → ((x : T) → P x → Q x) → IfOk r P → IfOk r Q

@@ -7,7 +7,7 @@ use Rattle.serde_json.specs.Data.{Data, number, unsigned, negative, boolean, str
 use Rattle.serde_json.specs.Data.{Items, no_items, item}
 use Rattle.serde_json.specs.View.{items_of}
 use Rattle.ordered_multimap.specs.Lists.{Lists}
-use Rattle.ordered_multimap.specs.Changes.{built_from}
+use Rattle.ordered_multimap.specs.Changes.{appended, built_from}
 use Rattle.multimap_tool.specs.declared.json.faults.ReadFault.{ReadFault}
 use Rattle.multimap_tool.specs.declared.json.faults.ReadFault.TheVariants.{NotArray, NotPair}
 use Rattle.multimap_tool.specs.declared.json.faults.ReadFault.TheVariants.{BadKey, BadValue}
@@ -52,6 +52,10 @@ module _ {K V : Type 0} (key_json : K → Data) (value_json : V → Data) where
   -- the lists are built of the pairs of this JSON value, in order
   abbrev pub IsReadFrom : (K → K → Bool) → Data → Lists K V → Type 0
   IsReadFrom eq d m = (pairs : List (K × V)) × (d ≡ pairs_json pairs) × (m ≡ built_from eq pairs)
+
+  -- the pair of this JSON value is appended
+  abbrev pub AppendsRead : (K → K → Bool) → Data → Lists K V → Lists K V → Type 0
+  AppendsRead eq d m n = (pair : K × V) × (d ≡ pair_json pair) × (n ≡ appended eq m pair.0 pair.1)
 
 module _ (is_key is_value : Data → Bool) where
   -- what is wrong with the item at a position: that it is no array of two, else that its first part

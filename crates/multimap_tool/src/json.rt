@@ -1,9 +1,11 @@
 //! Maps as JSON values: an array with an array of the key and the value for each pair, in order.
 ghost use Rattle.std.specs.Prelude.{◌≡◌, ℕ, None, IfOk, IfErr, OnOk, IsSome};
+ghost use Rattle.serde_json.specs.Data.{array};
 ghost use Rattle.serde_json.specs.Find.{as_array};
-ghost use Rattle.serde_json.specs.View.{view};
+ghost use Rattle.serde_json.specs.View.{view, items_view};
+ghost use Rattle.ordered_multimap.specs.Lists.{empty_lists};
 ghost use Rattle.ordered_multimap.specs.TapeNumbers.{AreUnused};
-ghost use Rattle.multimap_tool.specs.Json.{IsFound, IsReadFrom, fault_in, item_fault};
+ghost use Rattle.multimap_tool.specs.Json.{AppendsRead, IsFound, IsReadFrom, fault_in, item_fault};
 ghost use Rattle.multimap_tool.specs.Json.{pair_json, pairs_json};
 
 mod faults;
@@ -87,15 +89,67 @@ pub fn from_value<
         return Err(ReadFault::NotArray);
     };
     let mut map = ListOrderedMultimap::with_hasher(alloc, state);
+    match append_items(memory, items, &mut map) {
+        Ok(()) => Ok(map),
+        Err(fault) => Err(fault),
+    }
+}
+
+/// Appends the pairs of the items to an empty map.
+fn append_items<
+    K: JsonPart + Eq + Hash + Drop,
+    V: JsonPart + Drop,
+    S: BuildHasher,
+    A: Allocator + Copy,
+>(
+    memory: Global,
+    items: &[Value],
+    map: &mut ListOrderedMultimap<K, V, S, A>,
+) -> Result<(), ReadFault>
+    requires { map.old.lists ≡ empty_lists }
+    ensures read { OnOk result
+        (IsReadFrom K.json V.json K.eq (array (items_view items.now)) map.new.lists) }
+    ensures accepted { OnOk result
+        (fault_in K.is_part V.is_part (array (items_view items.now)) ≡ None) }
+    ensures fault { IfErr result
+        (IsFound (fault_in K.is_part V.is_part (array (items_view items.now)))) }
+    ensures hasher { map.new.hasher ≡ map.old.hasher }
+    ensures unused { AreUnused map.old.tape → AreUnused map.new.tape }
+{
     // A wish: each append makes the room that it needs.
     let _reserved = map.reserve_values(items.len());
     for (index, item) in items.iter().enumerate() {
-        let (key, value) = read_pair(memory, index, item)?;
-        let Ok(_) = map.append(key, value) else {
-            return Err(ReadFault::OutOfMemory);
-        };
+        append_item(memory, index, item, map)?;
     }
-    Ok(map)
+    Ok(())
+}
+
+/// Appends the pair of the item at a position.
+fn append_item<
+    K: JsonPart + Eq + Hash + Drop,
+    V: JsonPart + Drop,
+    S: BuildHasher,
+    A: Allocator + Copy,
+>(
+    memory: Global,
+    index: usize,
+    item: &Value,
+    map: &mut ListOrderedMultimap<K, V, S, A>,
+) -> Result<(), ReadFault>
+    ensures read { OnOk result
+        (AppendsRead K.json V.json K.eq (view item.now) map.old.lists map.new.lists) }
+    ensures accepted { OnOk result
+        (item_fault K.is_part V.is_part index (view item.now) ≡ None) }
+    ensures fault { IfErr result
+        (IsFound (item_fault K.is_part V.is_part index (view item.now))) }
+    ensures hasher { map.new.hasher ≡ map.old.hasher }
+    ensures unused { AreUnused map.old.tape → AreUnused map.new.tape }
+{
+    let (key, value) = read_pair(memory, index, item)?;
+    let Ok(_) = map.append(key, value) else {
+        return Err(ReadFault::OutOfMemory);
+    };
+    Ok(())
 }
 
 /// The pair of the item at a position.

@@ -9,6 +9,7 @@ mod drained;
 pub mod execute;
 pub mod faults;
 pub mod format;
+mod in_place;
 pub mod json;
 mod keep;
 pub mod laws;

@@ -1,24 +1,19 @@
 //! Commands run in order, with one reply for each.
 ghost use Rattle.std.specs.Borrow.{Bor, MutBor};
-ghost use Rattle.std.specs.Prelude.{◌≡◌, ◌≢◌, Contains, IfOk, OnErr, option_map};
-ghost use Rattle.ordered_multimap.specs.Pop.{popped, popped_pair};
-ghost use Rattle.ordered_multimap.specs.Pops.{popped_of};
-ghost use Rattle.multimap_tool.specs.Step.{IsOwnStep, IsStep, MayKeep, told_pop};
+ghost use Rattle.std.specs.Prelude.{◌≡◌, ◌≢◌, ◌≤◌, [], Contains, IfOk, OnErr, length, vec_capacity};
+ghost use Rattle.multimap_tool.specs.Step.{IsOwnStep, IsStep, MayKeep};
 ghost use Rattle.ordered_multimap.specs.Rooms.{HasKeyRoom, HasValueRoom, KeepsRooms};
 ghost use Rattle.multimap_tool.specs.Runs.{IsRun};
 ghost use Rattle.multimap_tool.specs.RunRooms.{IsAddition, KeepsRoom, HasRunRoom, FindsRoom};
 
 use crate::commands::Command;
-use crate::drained::{insert_all, remove_all, remove_entry_all};
+use crate::in_place::step_in_place;
 use crate::json::JsonPart;
 use crate::keep::{Keep, KeepBy};
-use crate::look_ups::look_up;
-use crate::replies::{Popped, Reply};
+use crate::replies::Reply;
 use crate::reread::reread;
-use crate::rooms::{pack_to_fit, reserve};
-use crate::written::{or_insert, set_back, set_first, set_front};
-use ordered_multimap::list_ordered_multimap::KeyWrapper;
-use ordered_multimap::{End, ListOrderedMultimap};
+use crate::rooms::pack_to_fit;
+use ordered_multimap::ListOrderedMultimap;
 use std::alloc::{AllocError, Allocator, Global};
 use std::hash::{BuildHasher, Hash};
 
@@ -62,10 +57,41 @@ pub fn run<
 {
     let keep = KeepBy { keep };
     let mut replies = Vec::with_capacity(alloc, commands.len())?;
-    for command in commands {
-        replies.push_reserved(step(alloc, memory, map, command, &keep));
-    }
+    run_all(alloc, memory, map, commands, &keep, &mut replies);
     Ok(replies)
+}
+
+/// Runs the commands, and puts the replies into an empty list with room for them.
+fn run_all<
+    K: JsonPart + Eq + Hash + Copy,
+    V: JsonPart + Copy,
+    S: BuildHasher + Clone,
+    A: Allocator + Copy,
+    F: Keep<K, V>,
+>(
+    alloc: A,
+    memory: Global,
+    map: &mut ListOrderedMultimap<K, V, S, A>,
+    commands: &[Command<K, V, A>],
+    keep: &F,
+    replies: &mut Vec<Reply<K, V, A>, A>,
+)
+    requires callable { (operand : V) → Contains commands.now (Command.Retain operand)
+        → F.accepts keep.now operand }
+    requires keys { (k c : K) → K.is_clone k c → c ≡ k }
+    requires values { (v c : V) → V.is_clone v c → c ≡ v }
+    requires key_parts { (k j : K) → K.json k ≡ K.json j → k ≡ j }
+    requires value_parts { (v w : V) → V.json v ≡ V.json w → v ≡ w }
+    requires empty { replies.old.items ≡ [] }
+    requires capacity { length commands.now ≤ vec_capacity replies.old }
+    ensures ok { IsRun (F.answers keep.now) K.eq
+        commands.now map.old.lists replies.new.items map.new.lists }
+    ensures hasher { ((s c : S) → S.is_clone s c → c ≡ s) → map.new.hasher ≡ map.old.hasher }
+    ensures room { HasRunRoom commands.now map.old → FindsRoom commands.now replies.new.items }
+{
+    for command in commands {
+        replies.push_reserved(step(alloc, memory, map, command, keep));
+    }
 }
 
 /// Runs one command.
@@ -96,94 +122,11 @@ fn step<
         → result ≢ Reply.NoMemory }
 {
     match command {
-        Command::Append(key, value) => append(map, *key, *value),
-        Command::Insert(key, value) => insert(map, *key, *value),
-        Command::InsertAll(key, value) => insert_all(alloc, map, *key, *value),
-        Command::SetFirst(key, value) => set_first(map, key, *value),
-        Command::SetFront(value) => set_front(map, *value),
-        Command::SetBack(value) => set_back(map, *value),
-        Command::OrInsert(key, value) => or_insert(map, *key, *value),
-        Command::Remove(key) => Reply::Value(map.remove(key)),
-        Command::RemoveAll(key) => remove_all(alloc, map, key),
-        Command::RemoveEntry(key) => Reply::Pair(map.remove_entry(key)),
-        Command::RemoveEntryAll(key) => remove_entry_all(alloc, map, key),
-        Command::PopFront => Reply::Popped(pop(map, End::Front)),
-        Command::PopBack => Reply::Popped(pop(map, End::Back)),
         Command::Retain(operand) => retain(map, *operand, keep),
-        Command::Clear => clear(map),
-        Command::Reserve(keys, values) => reserve(map, *keys, *values),
         Command::PackToFit => pack_to_fit(map),
         Command::Swap => swap(map),
         Command::Json => reread(alloc, memory, map),
-        _ => look_up(alloc, map, command),
-    }
-}
-
-/// Appends the pair.
-fn append<K: Eq + Hash + Copy, V: Copy, S: BuildHasher, A: Allocator + Copy>(
-    map: &mut ListOrderedMultimap<K, V, S, A>,
-    key: K,
-    value: V,
-) -> Reply<K, V, A>
-    ensures step { IsOwnStep K.eq (Command.Append key value) map.old.lists result map.new.lists }
-    ensures rooms { KeepsRooms map.old map.new }
-    ensures finds_room { HasKeyRoom map.old → HasValueRoom map.old
-        → result ≢ Reply.NoMemory }
-{
-    match map.append(key, value) {
-        Ok(present) => Reply::Appended(present),
-        Err(_) => Reply::NoMemory,
-    }
-}
-
-/// Puts the pair in the place of all others of its key.
-fn insert<K: Eq + Hash + Copy, V: Copy, S: BuildHasher, A: Allocator + Copy>(
-    map: &mut ListOrderedMultimap<K, V, S, A>,
-    key: K,
-    value: V,
-) -> Reply<K, V, A>
-    ensures step { IsOwnStep K.eq (Command.Insert key value) map.old.lists result map.new.lists }
-    ensures rooms { KeepsRooms map.old map.new }
-    ensures finds_room { HasKeyRoom map.old → HasValueRoom map.old
-        → result ≢ Reply.NoMemory }
-{
-    match map.insert(key, value) {
-        Ok(old) => Reply::Old(old),
-        Err(_) => Reply::NoMemory,
-    }
-}
-
-/// Takes the pair at an end out.
-fn pop<K: Eq + Hash + Copy, V: Copy, S: BuildHasher, A: Allocator + Copy>(
-    map: &mut ListOrderedMultimap<K, V, S, A>,
-    end: End,
-) -> Option<Popped<K, V>>
-    ensures lists { map.new.lists ≡ popped K.eq end map.old.lists }
-    ensures told { option_map told_pop result ≡ popped_pair K.eq end map.old.lists.pairs }
-    ensures rooms { KeepsRooms map.old map.new }
-{
-    match end {
-        End::Front => map.pop_front_with(|pair| told(pair)),
-        End::Back => map.pop_back_with(|pair| told(pair)),
-    }
-}
-
-/// What a pop answers, with a copy of the key.
-fn told<K: Copy, V>(pair: Option<(KeyWrapper<'_, K>, V)>) -> Option<Popped<K, V>>
-    ensures { option_map told_pop result ≡ option_map popped_of pair.entry }
-{
-    match pair {
-        Some((KeyWrapper::Borrowed(key), value)) => Some(Popped {
-            owned: false,
-            key: *key,
-            value,
-        }),
-        Some((KeyWrapper::Owned(key), value)) => Some(Popped {
-            owned: true,
-            key,
-            value,
-        }),
-        None => None,
+        _ => step_in_place(alloc, map, command),
     }
 }
 
@@ -199,17 +142,6 @@ fn retain<K: Eq + Hash + Copy, V: Copy, S: BuildHasher, A: Allocator + Copy, F: 
     ensures rooms { KeepsRooms map.old map.new }
 {
     map.retain(|key, value| keep.keeps(operand, key, value));
-    Reply::Done
-}
-
-/// Takes all pairs out.
-fn clear<K: Eq + Hash + Copy, V: Copy, S: BuildHasher, A: Allocator + Copy>(
-    map: &mut ListOrderedMultimap<K, V, S, A>,
-) -> Reply<K, V, A>
-    ensures step { IsOwnStep K.eq Command.Clear map.old.lists result map.new.lists }
-    ensures rooms { KeepsRooms map.old map.new }
-{
-    map.clear();
     Reply::Done
 }
 

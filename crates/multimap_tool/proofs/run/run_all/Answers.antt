@@ -1,28 +1,27 @@
-use Rattle.std.proofs.Common.{◌≡◌, ◌≤◌, slice_index_or, [], ◌∷◌, ◌++◌, length, take, refl, sym, ◌∙◌, ap, subst, arith}
+use Rattle.std.proofs.Common.{◌≡◌, ◌≤◌, slice_index_or, [], ◌∷◌, ◌++◌, length, length-append, take, refl, sym, ◌∙◌, ap, subst, arith}
 use Rattle.std.specs.Prelude.{Contains}
 use Rattle.std.proofs.lemmas.List.{take_more, take_all}
 use Rattle.multimap_tool.specs.Runs.{IsRun}
 use Rattle.multimap_tool.specs.RunRooms.{FindsRoom, HasRunRoom}
-use Rattle.multimap_tool.specs.Step.{MayKeep}
 use Rattle.multimap_tool.proofs.RoomLemmas.{GrowsByOne, step_grows, FindsRoom-push}
 use Rattle.multimap_tool.proofs.RunLemmas.{IsRun-push}
-use Rattle.multimap_tool.proofs.run.run.Goals as goal
+use Rattle.multimap_tool.proofs.run.run_all.Goals as goal
 
 pub loop-command-init : goal.loop-command-init
 loop-command-init g c = record {
-  ran = subst (λ replies. IsRun (MayKeep g.F.Fn c.args.keep) g.K.PartialEq.eq [] c.args.map.now.lists replies c.args.map.now.lists) (sym c.in_ok-replies.ensures.items) refl;
+  ran = subst (λ replies. IsRun (g.F.Keep.answers c.args.keep.now) g.K.PartialEq.eq [] c.args.map.now.lists replies c.args.map.now.lists) (sym c.requires.empty) refl;
   hasher = λ same. refl;
   keys = λ room. omega (arith, room.keys);
   values = λ room. omega (arith, room.values);
-  found = λ room. subst (FindsRoom []) (sym c.in_ok-replies.ensures.items) tt;
-  count = c.in_ok-replies.ensures.len;
-  room = omega (arith, c.in_ok-replies.ensures.capacity);
+  found = λ room. subst (FindsRoom []) (sym c.requires.empty) tt;
+  count = ap length c.requires.empty;
+  room = c.requires.capacity;
 }
 
 pub step-requires-clause-callable : goal.step-requires-clause-callable
 step-requires-clause-callable g c =
     let l = c.loop-command in
-    λ operand is key value. c.requires.callable operand (l.command-index, c.loop-command-test.true, subst (λ r. slice_index_or c.args.commands.now l.command-index r ≡ r) is (sym c.command-item.is)) key value
+    λ operand is. c.requires.callable operand (l.command-index, c.loop-command-test.true, subst (λ r. slice_index_or c.args.commands.now l.command-index r ≡ r) is (sym c.command-item.is))
 
 pub loop-command-preserved : goal.loop-command-preserved
 loop-command-preserved g c =
@@ -31,7 +30,8 @@ loop-command-preserved g c =
     let command = c.command-item.result in
     let more = take_more c.args.commands.now l.command-index command c.loop-command-test.true ∙ ap (λ x. done ++ x ∷ []) (sym c.command-item.is) in
     let here : Contains c.args.commands.now command = (l.command-index, c.loop-command-test.true, sym c.command-item.is) in
-    let keeps = MayKeep g.F.Fn c.args.keep in
+    let keeps = g.F.Keep.answers c.args.keep.now in
+    let longer = ap length c.push_reserved.ensures.items ∙ length-append l.replies.items (c.step.result ∷ []) in
     let grows : HasRunRoom c.args.commands.now c.args.map.now → GrowsByOne l.map.lists c.step.new.map.lists = λ room. step_grows keeps g.K.PartialEq.eq command l.map.lists c.step.result c.step.new.map.lists (room.keep command here) c.step.ensures.step in
     record {
       ran = rw (more, c.push_reserved.ensures.items) (IsRun-push keeps g.K.PartialEq.eq done c.args.map.now.lists l.replies.items l.map.lists command c.step.result c.step.new.map.lists l.invariant.ran c.step.ensures.step);
@@ -40,14 +40,14 @@ loop-command-preserved g c =
       values = λ room. omega (arith, (grows room).pairs, l.invariant.values room, (c.step.ensures.rooms (room.keep command here)).values);
       found = λ room. rw (more, c.push_reserved.ensures.items) (FindsRoom-push done l.replies.items command c.step.result (l.invariant.found room)
           (λ adds. c.step.ensures.finds_room adds (omega (arith, l.invariant.keys room, c.loop-command-test.true)) (omega (arith, l.invariant.values room, c.loop-command-test.true))));
-      count = omega (arith, l.invariant.count, c.push_reserved.ensures.len);
+      count = omega (arith, l.invariant.count, longer);
       room = omega (arith, l.invariant.room, c.push_reserved.ensures.capacity);
     }
 
 pub returns-clause-ok : goal.returns-clause-ok
 returns-clause-ok g c =
     let l = c.loop-command in
-    subst (λ done. IsRun (MayKeep g.F.Fn c.args.keep) g.K.PartialEq.eq done c.args.map.now.lists l.replies.items l.map.lists)
+    subst (λ done. IsRun (g.F.Keep.answers c.args.keep.now) g.K.PartialEq.eq done c.args.map.now.lists l.replies.items l.map.lists)
     (take_all l.command-index c.args.commands.now c.loop-command-test.false) l.invariant.ran
 
 pub returns-clause-room : goal.returns-clause-room

@@ -1,0 +1,48 @@
+-- A command that is none of those that a function of a run answers is one of the next function's.
+use Rattle.std.proofs.Common.{◌≢◌, ℕ, refl}
+use Rattle.multimap_tool.specs.declared.commands.Command.{Command}
+use Rattle.multimap_tool.specs.declared.commands.Command.TheVariants.{Append, Insert, InsertAll, SetFirst, SetFront, SetBack, OrInsert, Remove, RemoveAll, RemoveEntry, RemoveEntryAll, PopFront, PopBack, Retain, Clear, Reserve, PackToFit, Swap, Json}
+use Rattle.multimap_tool.specs.Step.{IsLookUp}
+use Rattle.multimap_tool.specs.RunRooms.{IsAddition}
+use Rattle.multimap_tool.specs.Groups.{IsInPlace, WritesOrRemoves, RemovesOrLooksUp}
+
+module _ {K V A : Type 0} where
+  pub IsInPlace-else : (command : Command K V A) → ((x : V) → command ≢ Retain x) → command ≢ PackToFit → command ≢ Swap → command ≢ Json → IsInPlace command
+  IsInPlace-else (Retain x) retain pack swap json = retain x refl
+  IsInPlace-else PackToFit retain pack swap json = pack refl
+  IsInPlace-else Swap retain pack swap json = swap refl
+  IsInPlace-else Json retain pack swap json = json refl
+  IsInPlace-else command retain pack swap json = tt
+
+  pub WritesOrRemoves-else : (command : Command K V A) → IsInPlace command → ((k : K) (v : V) → command ≢ Append k v) → ((k : K) (v : V) → command ≢ Insert k v)
+      → ((k : K) (v : V) → command ≢ InsertAll k v) → ((k : K) (v : V) → command ≢ OrInsert k v) → WritesOrRemoves command
+  WritesOrRemoves-else (Append k v) is append insert all or = append k v refl
+  WritesOrRemoves-else (Insert k v) is append insert all or = insert k v refl
+  WritesOrRemoves-else (InsertAll k v) is append insert all or = all k v refl
+  WritesOrRemoves-else (OrInsert k v) is append insert all or = or k v refl
+  WritesOrRemoves-else command is append insert all or = is
+
+  pub no_addition : (command : Command K V A) → WritesOrRemoves command → IsAddition command → ⊥
+  no_addition (Append k v) is adds = is
+  no_addition (Insert k v) is adds = is
+  no_addition (OrInsert k v) is adds = is
+  no_addition command is adds = adds
+
+  pub RemovesOrLooksUp-else : (command : Command K V A) → WritesOrRemoves command → ((k : K) (v : V) → command ≢ SetFirst k v) → ((v : V) → command ≢ SetFront v)
+      → ((v : V) → command ≢ SetBack v) → command ≢ Clear → ((a b : ℕ) → command ≢ Reserve a b) → RemovesOrLooksUp command
+  RemovesOrLooksUp-else (SetFirst k v) is first front back clear reserve = first k v refl
+  RemovesOrLooksUp-else (SetFront v) is first front back clear reserve = front v refl
+  RemovesOrLooksUp-else (SetBack v) is first front back clear reserve = back v refl
+  RemovesOrLooksUp-else Clear is first front back clear reserve = clear refl
+  RemovesOrLooksUp-else (Reserve a b) is first front back clear reserve = reserve a b refl
+  RemovesOrLooksUp-else command is first front back clear reserve = is
+
+  pub IsLookUp-else : (command : Command K V A) → RemovesOrLooksUp command → ((k : K) → command ≢ Remove k) → ((k : K) → command ≢ RemoveAll k) → ((k : K) → command ≢ RemoveEntry k)
+      → ((k : K) → command ≢ RemoveEntryAll k) → command ≢ PopFront → command ≢ PopBack → IsLookUp command
+  IsLookUp-else (Remove k) is remove all entry entry_all front back = remove k refl
+  IsLookUp-else (RemoveAll k) is remove all entry entry_all front back = all k refl
+  IsLookUp-else (RemoveEntry k) is remove all entry entry_all front back = entry k refl
+  IsLookUp-else (RemoveEntryAll k) is remove all entry entry_all front back = entry_all k refl
+  IsLookUp-else PopFront is remove all entry entry_all front back = front refl
+  IsLookUp-else PopBack is remove all entry entry_all front back = back refl
+  IsLookUp-else command is remove all entry entry_all front back = is
