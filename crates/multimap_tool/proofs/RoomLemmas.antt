@@ -1,12 +1,12 @@
 -- The room that a run leaves: a step adds one key and one pair at most.
-use Rattle.std.proofs.Common.{◌≡◌, ◌≢◌, ℕ, zero, suc, ◌+◌, ◌<◌, ◌≤◌, ◌-◌, not, Bool, true, false, cond, List, [], ◌∷◌, ◌++◌, length, filter, Option, None, Some, slice_get, refl, ap, inl, inr, arith, length-append, length-take, length-drop}
+use Rattle.std.proofs.Common.{◌≡◌, ◌≢◌, ℕ, zero, suc, ◌+◌, ◌≤◌, ◌-◌, not, Bool, true, false, cond, List, [], ◌∷◌, ◌++◌, length, filter, Option, None, Some, slice_get, refl, ap, inl, inr, arith, length-append, length-take}
 use Rattle.std.specs.Map.{keys_of}
 use Rattle.ordered_multimap.specs.End.{End}
 use Rattle.ordered_multimap.specs.End.TheVariants as ends
 use Rattle.ordered_multimap.specs.Walk.{end_rest}
 use Rattle.ordered_multimap.specs.Lists.{Lists, empty_lists}
 use Rattle.ordered_multimap.specs.Keys.{is_listed, keys_with, stored_key}
-use Rattle.ordered_multimap.specs.Pairs.{has_items, is_present, pairs_without, positions_of, with_value_at, with_first_value, end_position}
+use Rattle.ordered_multimap.specs.Pairs.{has_items, is_present, pairs_without, positions_of, with_value_at, end_position}
 use Rattle.ordered_multimap.specs.Changes.{appended, inserted, kept, removed, first_written, end_written}
 use Rattle.ordered_multimap.specs.Pop.{popped}
 use Rattle.ordered_multimap.specs.Retain.{Retains}

@@ -1,9 +1,9 @@
-use Rattle.std.proofs.Common.{◌≡◌, suc, ◌+◌, ◌∷◌, [], ◌++◌, map, take, drop, ap, sym, ◌∙◌, subst}
+use Rattle.std.proofs.Common.{suc, ◌+◌, ◌∷◌, [], ◌++◌, map, take, drop, ap, sym, ◌∙◌, subst}
 use Rattle.std.proofs.lemmas.List.{take_more, drop_more}
 use Rattle.serde_json.specs.View.{view, items_view}
 use Rattle.ordered_multimap.specs.Lists.{empty_lists}
 use Rattle.ordered_multimap.specs.Changes.{appended}
-use Rattle.multimap_tool.specs.Json.{pair_json, item_fault, first_fault, fault_in, IsFound}
+use Rattle.multimap_tool.specs.Json.{pair_json, item_fault, first_fault, IsFound}
 use Rattle.multimap_tool.proofs.JsonLemmas.{fault_behind, found_first, passed_on, one_read, appended_last}
 use Rattle.multimap_tool.proofs.json.append_items.Goals as goal
 

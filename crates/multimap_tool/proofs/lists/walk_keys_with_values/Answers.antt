@@ -1,5 +1,4 @@
 use Rattle.std.proofs.Common.{◌++◌, ap, length, map, arith}
-use Rattle.multimap_tool.proofs.WalkLemmas.{has_items-length}
 use Rattle.multimap_tool.proofs.lists.walk_keys_with_values.Goals as goal
 
 pub loop-key-init : goal.loop-key-init

@@ -1,4 +1,4 @@
-use Rattle.std.proofs.Common.{ap, inl, subst, ◌∙◌}
+use Rattle.std.proofs.Common.{inl, subst, ◌∙◌}
 use Rattle.multimap_tool.specs.Json.{IsReadFrom}
 use Rattle.multimap_tool.proofs.JsonLemmas.{read_back}
 use Rattle.multimap_tool.proofs.reread.reread.Goals as goal
