@@ -8,7 +8,7 @@ pub use queues::{fifo_churn, fifo_churn_few, fifo_small};
 pub use small::small_maps;
 use std::collections::HashMap;
 use std::hash::BuildHasher;
-pub use writing::{get_all_mut_walk, iter_mut_all};
+pub use writing::{get_all_mut_walk, get_all_mut_walk as update_all, iter_mut_all, iter_mut_all as update_values};
 
 /// A multimap as one would write it with the standard library.
 #[derive(Clone)]

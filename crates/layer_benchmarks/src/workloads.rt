@@ -27,6 +27,8 @@ const NAMES: &[&str] = &[
     "small_maps",
     "iter_mut_all",
     "get_all_mut_walk",
+    "update_values",
+    "update_all",
 ];
 
 /// A line for each workload: its name, and its checksums under the two hash builders.

@@ -5,13 +5,14 @@ use mathlib.Core.List.{List, [], ◌∷◌}
 use mathlib.Core.Bool.{Bool, true, false}
 use lib.ListN.{length}
 use base.Fml.{Fml, Lft, GName, ftrue, ffalse, fsep, fex, feq, flt, fall, fwand, fobs, fres, fbor}
-use base.Stored.{coded_list}
+use base.Stored.{Gv, gcons, coded_list}
 use types.SemTy.{SemTy, Body}
 use denote.RattleType.{RattleType}
 use denote.RawPtr.{Ptr, block_ptr, null_ptr}
 use denote.Memory.{mem, shared_of}
 use denote.Sharing.{nothing, said, beside, within}
 use Rattle.std.specs.Prelude.{Option, Some, None, is_some}
+use Rattle.std.specs.Coded.{coded_option}
 use Rattle.std.specs.contracts.option.Option.{the_row as Opt}
 
 -- a slot that holds an item exactly if the first value does
@@ -49,6 +50,19 @@ module _ (T : SemTy) where
   tied δ γs =
       fall (List T.rep) (λ ws. fwand (ends γs ws) (fres δ ((coded_list T.coded).code ws)))
 
+-- a code in the midst of what stands around it, from the outside in: `true` stands before what
+-- stands in front of it, `false` before what stands behind it
+abbrev pub plug : List (Bool × Gv) → Gv → Gv
+plug [] g = g
+plug ((true, h) ∷ hs) g = gcons h (plug hs g)
+plug ((false, h) ∷ hs) g = gcons (plug hs g) h
+
+-- the code of the whole with these items: of the slots themselves, or of what they are a part of
+abbrev pub final
+    : (X : RattleType) → Option (List (Bool × Gv)) → List (Option X.Denot) → Gv
+final X None ws = (coded_list (mem (Opt X)).coded).code ws
+final X (Some hs) ws = plug hs ((coded_list (coded_option X.coded)).code ws)
+
 module _ (X : RattleType) where
   -- the last values are these: of a slot that is left under its own name, and of one that was taken
   -- under that of the reference to its item
@@ -65,20 +79,19 @@ module _ (X : RattleType) where
   ends_now (γ ∷ γs) (false ∷ ls) (Some w ∷ ws) =
       fsep (fres γ (X.coded.code w)) (ends_now γs ls ws)
 
-  -- the last value of `δ` is the list of these
-  abbrev pub tied_now : GName → List GName → List Bool → Fml
-  tied_now δ γs ls =
-      fall (List (Option X.Denot)) (λ ws.
-      fwand (ends_now γs ls ws) (fres δ ((coded_list (mem (Opt X)).coded).code ws)))
+  -- the last value of `δ` is the whole with these items
+  abbrev pub tied_now : GName → Option (List (Bool × Gv)) → List GName → List Bool → Fml
+  tied_now δ hs γs ls =
+      fall (List (Option X.Denot)) (λ ws. fwand (ends_now γs ls ws) (fres δ (final X hs ws)))
 
 -- there are n slots, which lie from some address on, and of each that was not taken there is a loan
 abbrev pub cells_own
-    : Lft → (X : RattleType) → ℕ → Ptr → GName → List GName → List (Option X.Denot) → List Bool
-    → Fml
-cells_own κ X n at δ γs xs ls =
+    : Lft → (X : RattleType) → ℕ → Ptr → GName → Option (List (Bool × Gv)) → List GName
+    → List (Option X.Denot) → List Bool → Fml
+cells_own κ X n at δ hs γs xs ls =
     fsep (feq ℕ n (length xs)) (fex (ℕ × ℕ) (λ p.
     fsep (feq Ptr at (block_ptr p.0 p.1)) (fsep (flt (length xs * (mem (Opt X)).size) (2 ^ 63))
-    (fsep (tied_now X δ γs ls) (loans κ X p.0 γs xs ls p.1)))))
+    (fsep (tied_now X δ hs γs ls) (loans κ X p.0 γs xs ls p.1)))))
 
 -- a `&` to each slot that was not taken, for no longer than its loan
 module _ (κ : Lft) (X : RattleType) (b : ℕ) where

@@ -1,5 +1,5 @@
 -- What a contract sees of the right to write the items of a slot list or of a tape.
-use Rattle.std.specs.Prelude.{◌≡◌, ℕ, List, true, false, Some, length, get_or, slice_set}
+use Rattle.std.specs.Prelude.{◌≡◌, ℕ, List, true, false, Some, length, get_or, replicate, slice_set}
 use Rattle.std.specs.Borrow.{GName, MutBor}
 use Rattle.multimap_slots.specs.Lists.{IsIn}
 use Rattle.multimap_slots.specs.Slots.{Slots, item_at}
@@ -37,9 +37,10 @@ module _ {T L A : Type 0} where
     pub left : new.cells.left ≡ slice_set old.cells.left place false
     pub name : cells_name new ≡ cells_name old
     pub ends : end_names new ≡ slice_set (end_names old) place r.ghost_name
-    pub tie : new.cells.tie ≡ old.cells.tie
+    pub around : new.cells.around ≡ old.cells.around
 
-  -- only the capacity differs, and every item of the list is left
+  -- only the capacity differs, and no item was taken, listed or not
   pub record LendsSlots (s : Slots T L) (c : SlotCells T L A) : Type 0 where
     pub slots : lent_slots c ≡ record s { capacity = length s.order }
+    pub untaken : c.cells.left ≡ replicate (length s.items) true
     pub left : (p : ℕ) → IsIn p s.order → IsLeft c p

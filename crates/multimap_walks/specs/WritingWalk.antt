@@ -5,13 +5,17 @@ use Rattle.std.specs.Borrow.{Bor, GName, MutBor}
 use Rattle.std.specs.Map.Iter.{TakesFirst, TakesLast, LendsFirst, LendsLast}
 use Rattle.multimap_slots.specs.Slots.{IsSound, item_at}
 use Rattle.multimap_slots.specs.SlotCells.{cells_name, lent_slots}
-use Rattle.multimap_walks.specs.Along.{items_left}
+use Rattle.multimap_slots.specs.declared.cells.Cells.{Cells}
+use Rattle.multimap_slots.specs.declared.cells_of.SlotCells.{SlotCells}
+use Rattle.multimap_walks.specs.Along.{items_left, places_left}
 use Rattle.multimap_walks.specs.Chained.{AreOwned, IsChain, places_along, positions_at, values_at}
 use Rattle.multimap_walks.specs.Lending.{AreUntaken, CanLend, HandsOut}
 use Rattle.multimap_walks.specs.PairWalk.{pairs_left}
 use Rattle.multimap_walks.specs.Walk.{end_rest}
 use Rattle.multimap_walks.specs.declared.End.{End}
 use Rattle.multimap_walks.specs.declared.End.TheVariants.{Front, Back}
+use Rattle.multimap_walks.specs.declared.links.ChainEnds.{ChainEnds}
+use Rattle.multimap_walks.specs.declared.links.ValueLink.{ValueLink}
 use Rattle.multimap_walks.specs.declared.writing.chain.EntryValuesMut.{EntryValuesMut}
 use Rattle.multimap_walks.specs.declared.writing.pairs.IterMut.{IterMut}
 use Rattle.multimap_walks.specs.declared.writing.values.ValuesMut.{ValuesMut}
@@ -20,10 +24,23 @@ use Rattle.multimap_walks.specs.declared.writing.values.ValuesMut.{ValuesMut}
 abbrev pub deref_mut : {X : Type 0} → MutBor X → X
 deref_mut x = x.now
 
+-- the position at that end goes where a value is lent
+abbrev pub PositionGoes : {X : Type 0} → End → List ℕ → Option X → List ℕ → Type 0
+PositionGoes end old r new = MatchOption r (new ≡ old) (λ _. new ≡ end_rest end old)
+
+-- the positions, among all values, of those between two places of the order
+abbrev pub positions_along : {V A : Type 0} → SlotCells V ValueLink A → ChainEnds → List ℕ
+positions_along cells left =
+    positions_at (lent_slots cells) (places_left (lent_slots cells).order left)
+
 module _ {K V A : Type 0} where
   -- the pairs that an `IterMut` has left, as they were when their values were lent
   abbrev pub iter_mut_rest : IterMut K V A → List (K × V)
   iter_mut_rest w = pairs_left w.keys.now (lent_slots w.values) w.left
+
+  -- their positions among all pairs
+  abbrev pub iter_mut_positions : IterMut K V A → List ℕ
+  iter_mut_positions w = positions_along w.values w.left
 
   -- how many they are
   abbrev pub iter_mut_count : IterMut K V A → ℕ
@@ -33,6 +50,13 @@ module _ {K V A : Type 0} where
   abbrev pub iter_mut_name : IterMut K V A → GName
   iter_mut_name w = cells_name w.values
 
+  -- its right to write the values, beside their order, and alone, with what they end as
+  abbrev pub iter_mut_values : IterMut K V A → SlotCells V ValueLink A
+  iter_mut_values w = w.values
+
+  abbrev pub iter_mut_cells : IterMut K V A → Cells V
+  iter_mut_cells w = w.values.cells
+
   -- it may step: what is left stands in a row and wasn't taken, and each value's key is listed
   pub record IterMutCanStep (w : IterMut K V A) : Type 0 where
     pub sound : IsSound w.keys.now
@@ -40,11 +64,12 @@ module _ {K V A : Type 0} where
     pub lends : CanLend w.values w.left
     pub count : iter_mut_count w ≡ length (iter_mut_rest w)
 
-  -- the first pair that is left is lent, its value's place alone is taken, and the walk may step
-  -- again, also at its end
+  -- the first pair that is left is lent, its position goes, its value's place alone is taken, and
+  -- the walk may step again, also at its end
   pub record LendsFirstPair (s : IterMut K V A) (r : Option (Bor K × MutBor V)) (t : IterMut K V A)
       : Type 0 where
     pub steps : LendsFirst iter_mut_rest s r t
+    pub positions : PositionGoes Front (iter_mut_positions s) r (iter_mut_positions t)
     pub ready : IterMutCanStep t
     pub taken : HandsOut s.values s.left.first (option_map (λ p. p.1) r) t.values
 
@@ -52,6 +77,7 @@ module _ {K V A : Type 0} where
   pub record LendsLastPair (s : IterMut K V A) (r : Option (Bor K × MutBor V)) (t : IterMut K V A)
       : Type 0 where
     pub steps : LendsLast iter_mut_rest s r t
+    pub positions : PositionGoes Back (iter_mut_positions s) r (iter_mut_positions t)
     pub ready : IterMutCanStep t
     pub taken : HandsOut s.values s.left.last (option_map (λ p. p.1) r) t.values
 
@@ -59,11 +85,20 @@ module _ {K V A : Type 0} where
   abbrev pub values_mut_rest : ValuesMut K V A → List V
   values_mut_rest w = items_left (lent_slots w.values).order (item_at (lent_slots w.values)) w.left
 
+  abbrev pub values_mut_positions : ValuesMut K V A → List ℕ
+  values_mut_positions w = positions_along w.values w.left
+
   abbrev pub values_mut_count : ValuesMut K V A → ℕ
   values_mut_count w = w.left.length
 
   abbrev pub values_mut_name : ValuesMut K V A → GName
   values_mut_name w = cells_name w.values
+
+  abbrev pub values_mut_values : ValuesMut K V A → SlotCells V ValueLink A
+  values_mut_values w = w.values
+
+  abbrev pub values_mut_cells : ValuesMut K V A → Cells V
+  values_mut_cells w = w.values.cells
 
   pub record ValuesMutCanStep (w : ValuesMut K V A) : Type 0 where
     pub lends : CanLend w.values w.left
@@ -72,12 +107,14 @@ module _ {K V A : Type 0} where
   pub record LendsFirstValue (s : ValuesMut K V A) (r : Option (MutBor V)) (t : ValuesMut K V A)
       : Type 0 where
     pub steps : TakesFirst deref_mut (values_mut_rest s) r (values_mut_rest t)
+    pub positions : PositionGoes Front (values_mut_positions s) r (values_mut_positions t)
     pub ready : ValuesMutCanStep t
     pub taken : HandsOut s.values s.left.first r t.values
 
   pub record LendsLastValue (s : ValuesMut K V A) (r : Option (MutBor V)) (t : ValuesMut K V A)
       : Type 0 where
     pub steps : TakesLast deref_mut (values_mut_rest s) r (values_mut_rest t)
+    pub positions : PositionGoes Back (values_mut_positions s) r (values_mut_positions t)
     pub ready : ValuesMutCanStep t
     pub taken : HandsOut s.values s.left.last r t.values
 
@@ -98,12 +135,11 @@ module _ {K V A : Type 0} where
   abbrev pub entry_values_mut_name : EntryValuesMut K V A → GName
   entry_values_mut_name w = cells_name w.values
 
-  -- the position at that end goes where a value is lent
-  abbrev pub PositionGoes
-      : End → EntryValuesMut K V A → Option (MutBor V) → EntryValuesMut K V A → Type 0
-  PositionGoes end s r t =
-      MatchOption r (entry_values_mut_positions t ≡ entry_values_mut_positions s)
-      (λ _. entry_values_mut_positions t ≡ end_rest end (entry_values_mut_positions s))
+  abbrev pub entry_values_mut_values : EntryValuesMut K V A → SlotCells V ValueLink A
+  entry_values_mut_values w = w.values
+
+  abbrev pub entry_values_mut_cells : EntryValuesMut K V A → Cells V
+  entry_values_mut_cells w = w.values.cells
 
   -- it may step: what is left is a chain, and wasn't taken
   pub record EntryValuesMutCanStep (w : EntryValuesMut K V A) : Type 0 where
@@ -116,7 +152,8 @@ module _ {K V A : Type 0} where
   pub record LendsFirstOfKey (s : EntryValuesMut K V A) (r : Option (MutBor V))
       (t : EntryValuesMut K V A) : Type 0 where
     pub steps : TakesFirst deref_mut (entry_values_mut_rest s) r (entry_values_mut_rest t)
-    pub positions : PositionGoes Front s r t
+    pub positions : PositionGoes Front (entry_values_mut_positions s) r
+        (entry_values_mut_positions t)
     pub ready : EntryValuesMutCanStep t
     pub taken : HandsOut s.values s.left.first r t.values
 
@@ -124,6 +161,7 @@ module _ {K V A : Type 0} where
   pub record LendsLastOfKey (s : EntryValuesMut K V A) (r : Option (MutBor V))
       (t : EntryValuesMut K V A) : Type 0 where
     pub steps : TakesLast deref_mut (entry_values_mut_rest s) r (entry_values_mut_rest t)
-    pub positions : PositionGoes Back s r t
+    pub positions : PositionGoes Back (entry_values_mut_positions s) r
+        (entry_values_mut_positions t)
     pub ready : EntryValuesMutCanStep t
     pub taken : HandsOut s.values s.left.last r t.values

@@ -5,7 +5,7 @@ use crate::lookups::{
     all_keys, all_lists, all_pairs, clones, hits, misses, sixteen_keys, sum_of_pairs, walks,
 };
 use crate::numbers::{START, mix};
-use crate::writes::{adds_keys, adds_numbers};
+use crate::writes::{adds_keys, adds_keys_by_calls, adds_numbers, adds_numbers_by_calls};
 use ordered_multimap::ListOrderedMultimap;
 use std::alloc::Global;
 use std::hash::BuildHasher;
@@ -62,10 +62,14 @@ pub(crate) enum Workload {
     IterMutAll,
     /// Writes the values of random keys, after `AppendGrouped`.
     GetAllMutWalk,
+    /// What `IterMutAll` does, by a function that is called on each pair.
+    UpdateValues,
+    /// What `GetAllMutWalk` does, by a function that is called on each value of the key.
+    UpdateAll,
 }
 
 /// The workloads by their numbers.
-pub(crate) const WORKLOADS: [Workload; 23] = [
+pub(crate) const WORKLOADS: [Workload; 25] = [
     Workload::AppendDistinct,
     Workload::AppendFew,
     Workload::AppendGrouped,
@@ -89,6 +93,8 @@ pub(crate) const WORKLOADS: [Workload; 23] = [
     Workload::SmallMaps,
     Workload::IterMutAll,
     Workload::GetAllMutWalk,
+    Workload::UpdateValues,
+    Workload::UpdateAll,
 ];
 
 /// Makes a map, runs a workload of `n` pairs on it, and lets the map go. Answers the checksum.
@@ -126,9 +132,10 @@ fn fill<S: BuildHasher>(map: &mut Map<S>, workload: Workload, n: u64, seed: u64)
         | Workload::InsertReplace
         | Workload::RetainHalf => distinct(map, n, seed, START),
         Workload::AppendFew | Workload::FifoChurnFew => few(map, n, seed, START),
-        Workload::AppendGrouped | Workload::GetAllWalk | Workload::GetAllMutWalk => {
-            grouped(map, n, seed, START)
-        }
+        Workload::AppendGrouped
+        | Workload::GetAllWalk
+        | Workload::GetAllMutWalk
+        | Workload::UpdateAll => grouped(map, n, seed, START),
         Workload::AppendScattered
         | Workload::GetAllWalkScattered
         | Workload::IterAll
@@ -137,7 +144,8 @@ fn fill<S: BuildHasher>(map: &mut Map<S>, workload: Workload, n: u64, seed: u64)
         | Workload::RemoveAllHalf
         | Workload::RetainHalfMulti
         | Workload::Clone
-        | Workload::IterMutAll => scattered(map, n, seed, START),
+        | Workload::IterMutAll
+        | Workload::UpdateValues => scattered(map, n, seed, START),
         Workload::FifoSmall | Workload::EntryCount | Workload::SmallMaps => Some(START),
     }
 }
@@ -160,6 +168,8 @@ fn change<S: BuildHasher>(
         Workload::EntryCount => counts(map, n, seed, checksum),
         Workload::IterMutAll => Some(adds_keys(map, checksum)),
         Workload::GetAllMutWalk => Some(adds_numbers(map, n, seed, checksum)),
+        Workload::UpdateValues => Some(adds_keys_by_calls(map, checksum)),
+        Workload::UpdateAll => Some(adds_numbers_by_calls(map, n, seed, checksum)),
         _ => Some(checksum),
     }
 }

@@ -1,4 +1,4 @@
-//! Walks for writing, on a map that was filled by appends.
+//! Walks for writing, and functions that write values, on a map that was filled by appends.
 use crate::appends::Map;
 use crate::lookups::sum_of_pairs;
 use crate::numbers::{choice, key, mix};
@@ -26,6 +26,29 @@ pub(crate) fn adds_numbers<S: BuildHasher>(
         for value in map.get_all_mut(&key(seed, choice(seed, j, pairs / 8))) {
             *value = value.wrapping_add(j);
         }
+    }
+    mix(start, sum_of_pairs(map))
+}
+
+/// What `adds_keys` does, by a function that is called on each pair.
+pub(crate) fn adds_keys_by_calls<S: BuildHasher>(map: &mut Map<S>, start: u64) -> u64 {
+    for _ in 0..16 {
+        map.update_values(|key, value| *value = value.wrapping_add(*key));
+    }
+    mix(start, sum_of_pairs(map))
+}
+
+/// What `adds_numbers` does, by a function that is called on each value of the key.
+pub(crate) fn adds_numbers_by_calls<S: BuildHasher>(
+    map: &mut Map<S>,
+    pairs: u64,
+    seed: u64,
+    start: u64,
+) -> u64 {
+    for j in 0..pairs / 2 {
+        map.update_all(&key(seed, choice(seed, j, pairs / 8)), |value| {
+            *value = value.wrapping_add(j);
+        });
     }
     mix(start, sum_of_pairs(map))
 }

@@ -1,5 +1,6 @@
 -- A map whose values were written through a loan is the map with other values, and agrees as before.
-use Rattle.std.proofs.Common.{◌≡◌, ℕ, List, [], ◌∷◌, length, Option, Some, None, IsSome, refl, sym, ap, ◌∙◌, subst, arith, Bool, suc, map}
+use Rattle.std.proofs.Common.{◌≡◌, ℕ, zero, get_or, unwrap_or, inl, inr, List, [], ◌∷◌, length, Option, Some, None, IsSome, refl, sym, ap, ◌∙◌, subst, arith, Bool, suc, map}
+use base.Stored.{Gv}
 use Rattle.std.specs.Prelude.{option_and_then, option_map}
 use Rattle.std.specs.List.{filter_map, cons_option}
 use Rattle.std.specs.Ordering.{nat_cmp}
@@ -17,7 +18,8 @@ use Rattle.multimap_walks.specs.Chained.{key_of, pair_at, pairs_of}
 use Rattle.ordered_multimap.specs.Multimap.{Multimap}
 use Rattle.ordered_multimap.specs.Agrees.{Agrees, lists_of}
 use Rattle.ordered_multimap.specs.Lists.{lists}
-use Rattle.ordered_multimap.specs.ValuesLent.{revalued, with_values_of, AreLent}
+use Rattle.ordered_multimap.specs.ValuesLent.{pairs_ended, revalued, with_values, with_values_of, AreLent, EndsAs}
+use Rattle.ordered_multimap.proofs.AgreesLemmas.{pair_at-is, pair_in}
 
 -- slots that were refilled take on the same items again
 pub refilled_again : {X : Type 0} (xs ys : List (Option X)) → refilled xs (refilled xs ys) ≡ refilled xs ys
@@ -59,17 +61,12 @@ module _ {K V : Type 0} where
   keys-revalued (p ∷ ps) [] = ap (λ ks. p.0 ∷ ks) (keys-revalued ps [])
   keys-revalued (p ∷ ps) (q ∷ qs) = ap (λ ks. p.0 ∷ ks) (keys-revalued ps qs)
 
-  revalued_again : (ps qs : List (K × V)) → revalued ps (revalued ps qs) ≡ revalued ps qs
-  revalued_again [] qs = refl
-  revalued_again (p ∷ ps) [] = ap (λ rs. p ∷ rs) (revalued_again ps [])
-  revalued_again (p ∷ ps) (q ∷ qs) = ap (λ rs. (p.0, q.1) ∷ rs) (revalued_again ps qs)
-
   -- a map that took on other values takes on the same ones again
   pub with_values_again : {S : Type 0} (m n : Multimap K V S) → with_values_of m (with_values_of m n) ≡ with_values_of m n
   with_values_again m n =
-      let pairs = revalued_again m.lists.pairs n.lists.pairs in
       let items = refilled_again m.slots.values.items n.slots.values.items in
-      λ i. record m { lists = lists m.lists.keys (pairs i); slots = record m.slots { values = record m.slots.values { items = items i } } }
+      λ i. let values : Slots V ValueLink = record m.slots.values { items = items i } in
+      record m { lists = lists m.lists.keys (revalued m.lists.pairs (pairs_of m.slots.keys values)); slots = record m.slots { values = values } }
 
   pub length_revalued : (ps qs : List (K × V)) → length (revalued ps qs) ≡ length ps
   length_revalued [] qs = refl
@@ -112,3 +109,48 @@ module _ {K V : Type 0} where
     agrees = subst (Agrees eq (hash m.hasher) keys rows) (sym lent.slots) (Agrees-bare eq (hash m.hasher) keys rows values agrees);
     left = λ p i. lent.left p (subst (λ (s : Slots V ValueLink). IsIn p s.order) lent.slots i);
   }
+
+-- an item that stood there is another one afterwards, if one is there
+item-refilled : {X : Type 0} (xs ys : List (Option X)) (p : ℕ) (x : X) → get_or xs p None ≡ Some x → get_or (refilled xs ys) p None ≡ Some (unwrap_or (get_or ys p None) x)
+item-refilled [] ys p x e = absurd (let bad = e in cc)
+item-refilled (o ∷ xs) [] zero x e = e
+item-refilled (None ∷ xs) (y ∷ ys) zero x e = absurd (let bad = e in cc)
+item-refilled (Some z ∷ xs) (None ∷ ys) zero x e = e
+item-refilled (Some z ∷ xs) (Some y ∷ ys) zero x e = refl
+item-refilled (o ∷ xs) [] (suc p) x e = item-refilled xs [] p x e
+item-refilled (None ∷ xs) (y ∷ ys) (suc p) x e = item-refilled xs ys p x e
+item-refilled (Some z ∷ xs) (None ∷ ys) (suc p) x e = item-refilled xs ys p x e
+item-refilled (Some z ∷ xs) (Some y ∷ ys) (suc p) x e = item-refilled xs ys p x e
+
+module _ {K V : Type 0} {eq : K → K → Bool} {hash : K → ℕ} {keys : Slots K KeyLink} {rows : FinMap nat_cmp ℕ} {values : Slots V ValueLink} (agrees : Agrees eq hash keys rows values) (ws : List (Option V)) where
+  abbrev new : Slots V ValueLink
+  new = with_refilled values ws
+
+  ended_along : (places : List ℕ) → ((q : ℕ) → IsIn q places → IsIn q values.order)
+      → revalued (filter_map (pair_at keys values) places) (filter_map (pair_at keys new) places) ≡ pairs_ended (filter_map (pair_at keys values) places) places ws
+  ended_along [] listed = refl
+  ended_along (q ∷ places) listed =
+      let p = pair_in agrees q (listed q (inl refl)) in
+      let olds : List (K × V) = filter_map (pair_at keys values) places in
+      let news : List (K × V) = filter_map (pair_at keys new) places in
+      let w : V = unwrap_or (get_or ws q None) p.value in
+      ap (λ o. revalued (cons_option o olds) (cons_option (pair_at keys new q) news)) p.pair_is
+      ∙ ap (λ o. revalued ((p.key, p.value) ∷ olds) (cons_option o news)) (pair_at-is keys new q p.link p.key w p.link_is p.key_is (item-refilled values.items ws q p.value p.value_is))
+      ∙ ap (λ ps. (p.key, w) ∷ ps) (ended_along places (λ r i. listed r (inr i)))
+      ∙ sym (ap (λ o. pairs_ended (cons_option o olds) (q ∷ places) ws) p.pair_is)
+
+  -- the pairs have the items that their places ended with
+  pub pairs-ended : revalued (pairs_of keys values) (pairs_of keys new) ≡ pairs_ended (pairs_of keys values) values.order ws
+  pairs-ended = ended_along values.order (λ q i. i)
+
+-- and so have those of a map
+pub map-ended : {K V S : Type 0} {eq : K → K → Bool} {hash : K → ℕ} (m n : Multimap K V S) (rows : FinMap nat_cmp ℕ) → n ≡ m → Agrees eq hash n.slots.keys rows n.slots.values → n.lists.pairs ≡ pairs_of n.slots.keys n.slots.values
+    → (ws : List (Option V)) → (with_values m ws).lists.pairs ≡ pairs_ended m.lists.pairs m.slots.values.order ws
+map-ended {K} {V} {S} m n rows same agrees shown ws =
+    subst (λ (h : Multimap K V S). (with_values h ws).lists.pairs ≡ pairs_ended h.lists.pairs h.slots.values.order ws) same
+    (ap (λ ps. revalued ps (pairs_of n.slots.keys (with_refilled n.slots.values ws))) shown ∙ pairs-ended agrees ws ∙ sym (ap (λ ps. pairs_ended ps n.slots.values.order ws) shown))
+
+-- a walk lends what the call that made it lent
+pub ends_walk : {K V S A : Type 0} (m : Multimap K V S) (final : Option (List (Bool × Gv)) → List (Option V) → Gv) {walk lent : SlotCells V ValueLink A} {whole : List (Option V) → Gv} → walk ≡ lent
+    → EndsAs m lent (final lent.cells.around) whole → EndsAs m walk (final walk.cells.around) whole
+ends_walk {V = V} {A = A} m final {whole = whole} same lent = subst (λ (c : SlotCells V ValueLink A). EndsAs m c (final c.cells.around) whole) (sym same) lent

@@ -14,7 +14,7 @@ use Rattle.multimap_walks.specs.declared.links.ValueLink.{ValueLink}
 use Rattle.multimap_walks.specs.Walk.{end_item}
 use Rattle.multimap_walks.specs.declared.End.TheVariants.{Front, Back}
 use Rattle.multimap_walks.specs.Chained.{position_in, is_value_of, chain_of, positions_at, values_at, pair_at, pairs_of}
-use Rattle.ordered_multimap.specs.Pairs.{has_items, values_of, positions_of, is_present}
+use Rattle.ordered_multimap.specs.Pairs.{all_positions, has_items, values_of, positions_of, is_present}
 use Rattle.ordered_multimap.specs.Keys.{is_listed, stored_key}
 use Rattle.ordered_multimap.specs.Agrees.{Agrees, AreKeyed, HasKey, IsFoundBy, LacksKey, items_of, lists_of}
 use Rattle.ordered_multimap.proofs.Members.{IsIn-kept}
@@ -174,6 +174,26 @@ module _ {K V : Type 0} {eq : K → K → Bool} (laws : IsEquivalence eq) {hash 
   positions_of-chain k place has =
       positions_along k place has 0 values.order agrees.values_sound.distinct (λ q i. i)
       ∙ map-agree (λ q. 0 + position_in values.order q) (position_in values.order) (chain_of values place) (λ q member. omega arith)
+
+  all_positions_along : (at : ℕ) (qs : List ℕ) → AreDistinct qs → ((q : ℕ) → IsIn q qs → IsIn q values.order)
+      → map (λ e. e.0) (enumerate_from at (filter_map (pair_at keys values) qs)) ≡ map (λ q. at + position_in qs q) qs
+  all_positions_along at [] distinct listed = refl
+  all_positions_along at (q ∷ qs) distinct listed =
+      let p = pair_in agrees q (listed q (inl refl)) in
+      let further : ℕ → ℕ = λ r. at + position_in (q ∷ qs) r in
+      let behind : (r : ℕ) → IsIn r qs → at + 1 + position_in qs r ≡ further r = λ r member.
+      let differs : q ≢ r = λ same. distinct.0 (subst (λ x. IsIn x qs) (sym same) member) in
+      omega (arith, ap (λ b. cond b 0 (suc (position_in qs r))) (ne_eqb q r differs)) in
+      let later = all_positions_along (at + 1) qs distinct.1 (λ r i. listed r (inr i)) ∙ map-agree (λ r. at + 1 + position_in qs r) further qs behind in
+      let here : at ≡ further q = omega (arith, ap (λ b. cond b 0 (suc (position_in qs q))) (eq-eqb q q refl)) in
+      ap (λ o. map (λ e. e.0) (enumerate_from at (cons_option o (filter_map (pair_at keys values) qs)))) p.pair_is
+      ∙ (λ i. here i ∷ later i)
+
+  -- all places have all positions
+  pub positions_at-all : positions_at values values.order ≡ all_positions (pairs_of keys values)
+  positions_at-all =
+      map-agree (position_in values.order) (λ q. 0 + position_in values.order q) values.order (λ q member. omega arith)
+      ∙ sym (all_positions_along 0 values.order agrees.values_sound.distinct (λ q i. i))
 
   -- where no key is equal
   pub lacks_key : (k : K) (o : Option ℕ) → IfNone o (is_listed eq (items_of keys) k ≡ false) → IfNone o (LacksKey eq (lists_of keys values) k)

@@ -32,6 +32,17 @@ pub record CountsLeft {V : Type 0} (values values_after : Taped V ValueLink) : T
   pub holes : values_after.holes + length values_after.list.order ≡ values.holes + length values.list.order
   pub fewer : length values_after.list.order ≤ length values.list.order
 
+-- no place is first, so none is there
+pub no_rest : (rest : List ℕ) → first_of rest ≡ None → rest ≡ []
+no_rest [] e = refl
+no_rest (p ∷ rest) e = absurd (let bad = e in cc)
+
+-- so many places are left, from the first of the rest on
+pub places_from-split : (done rest : List ℕ) → AreDistinct (done ++ rest) → places_from (done ++ rest) (first_of rest) ≡ length rest
+places_from-split done [] distinct = refl
+places_from-split done (p ∷ rest) distinct =
+    omega (arith, length-append done (p ∷ rest), position_in-split done p rest (λ i. AreDistinct-gone done p rest distinct (IsIn-left p done rest i)))
+
 module _ {F K V : Type 0} {eq : K → K → Bool} {calls : F → K → V → Bool → V → F → Type 0} {accepts : F → K → V → Type 0}
     {old_keys : Slots K KeyLink} {old_rows : FinMap nat_cmp ℕ} {old_values : Slots V ValueLink} {first : F} where
   -- a step has left this much to do
@@ -45,12 +56,7 @@ module _ {F K V : Type 0} {eq : K → K → Bool} {calls : F → K → V → Boo
   pub places_from-rest : {keys : Slots K KeyLink} {rows : FinMap nat_cmp ℕ} {values : Slots V ValueLink} {f : F} {following : Option ℕ}
       → (r : IsRetaining calls eq accepts old_keys keys old_rows rows old_values values first f following) → AreDistinct values.order → places_from values.order following ≡ length r.rest
   places_from-rest {values = values} {following = following} r distinct =
-      ap (λ ps. places_from ps following) r.order ∙ ap (places_from (r.done ++ r.rest)) r.following_is ∙ left r.done r.rest (subst AreDistinct r.order distinct)
-    where
-      left : (done rest : List ℕ) → AreDistinct (done ++ rest) → places_from (done ++ rest) (first_of rest) ≡ length rest
-      left done [] distinct = refl
-      left done (p ∷ rest) distinct =
-          omega (arith, length-append done (p ∷ rest), position_in-split done p rest (λ i. AreDistinct-gone done p rest distinct (IsIn-left p done rest i)))
+      ap (λ ps. places_from ps following) r.order ∙ ap (places_from (r.done ++ r.rest)) r.following_is ∙ places_from-split r.done r.rest (subst AreDistinct r.order distinct)
 
   -- there is a place
   pub retaining-at : {keys : Slots K KeyLink} {rows : FinMap nat_cmp ℕ} {values : Slots V ValueLink} {f : F} {following : Option ℕ} {place : ℕ} → following ≡ Some place
@@ -286,7 +292,3 @@ module _ {F K V : Type 0} {eq : K → K → Bool} {calls : F → K → V → Boo
       ap (filter_map (pair_at keys values)) (r.order ∙ ap (λ ps. r.done ++ ps) none ∙ append-nil r.done) ∙ sym (append-nil (filter_map (pair_at keys values) r.done)) in
       subst (λ ps. Retains calls first (pairs_of old_keys old_values) ps f) (sym all)
       (r.goes_on [] f (subst (λ ps. Retains calls f (filter_map (pair_at keys values) ps) [] f) (sym none) (refl, refl)))
-    where
-      no_rest : (rest : List ℕ) → first_of rest ≡ None → rest ≡ []
-      no_rest [] e = refl
-      no_rest (p ∷ rest) e = absurd (let bad = e in cc)

@@ -84,14 +84,14 @@ taking-start chain values = record {
 }
 
 module _ {K V : Type 0} {keys : Slots K KeyLink} {values : Slots V ValueLink} (sound : IsSound values) (chained : IsChained keys values) (key : ℕ) where
-  distinct : AreDistinct (chain_of values key)
+  pub distinct : AreDistinct (chain_of values key)
   distinct = AreDistinct-filter (is_value_of values key) values.order sound.distinct
 
-  in_list : (p : ℕ) → IsIn p (chain_of values key) → IsIn p values.order × (is_value_of values key p ≡ true)
+  pub in_list : (p : ℕ) → IsIn p (chain_of values key) → IsIn p values.order × (is_value_of values key p ≡ true)
   in_list p i = IsIn-kept (is_value_of values key) p values.order i
 
   -- its link names the next place of the chain
-  onward : (p : ℕ) (l : ValueLink) → IsIn p (chain_of values key) → link_at values p ≡ Some l → next_of (chain_of values key) p ≡ l.next
+  pub onward : (p : ℕ) (l : ValueLink) → IsIn p (chain_of values key) → link_at values p ≡ Some l → next_of (chain_of values key) p ≡ l.next
   onward p l i is = elim (cases_eq l.key key) [
     | inl same ↦ subst (λ k. next_of (chain_of values k) p ≡ l.next) same (chained.next p l (in_list p i).0 is)
     | inr other ↦ absurd (true≢false (sym (in_list p i).1 ∙ is_value_of-is keys values key p l is ∙ ne_eqb l.key key other))

@@ -15,7 +15,11 @@ use Rattle.ordered_multimap.specs.declared.list_ordered_multimap.entry.OccupiedE
 use Rattle.ordered_multimap.specs.declared.list_ordered_multimap.drain as drains
 use drains.EntryValuesDrain.{EntryValuesDrain}
 use Rattle.ordered_multimap.specs.Entries.{IsEntered, Occupied, RefusesEntry, entry_map_ref}
-use Rattle.ordered_multimap.specs.Entries.{with_first_written, with_map_values}
+use Rattle.ordered_multimap.specs.Entries.{with_entry_items, with_first_written, with_map_values}
+use Rattle.multimap_slots.specs.Ownership.{final}
+use Rattle.multimap_slots.specs.declared.cells_of.SlotCells.{SlotCells}
+use Rattle.multimap_walks.specs.declared.links.ValueLink.{ValueLink}
+use Rattle.ordered_multimap.specs.ValuesLent.{EndsAs}
 use Rattle.ordered_multimap.specs.Writes.{with_first}
 
 module _ (K V S A H : RattleType) {e : equality.Ghosts K.Denot} {k : hash.Ghosts K.Denot}
@@ -51,6 +55,14 @@ module _ (K V S A H : RattleType) {e : equality.Ghosts K.Denot} {k : hash.Ghosts
       follows (occupied.the_row (record { mir = named 1; lft = [] }) K V S A H e k b h alloc)
       (occupied.the_row (record { mir = named 1; lft = [] }) K V S A H e k b h alloc)
       o.ghost_name r (λ n. with_map_values o.now n.map.now)
+
+  -- the values of the entry's map are lent; and once their slots have ended with some items, the
+  -- entry's loan has ended with the entry that has them in its map
+  abbrev pub EndsEntry : OccupiedEntry K.Denot V.Denot S.Denot A.Denot H.Denot e k b h
+      → SlotCells V.Denot ValueLink A.Denot → Type 0
+  EndsEntry o c = EndsAs o.map.now c (final V c.cells.around) (λ ws.
+      (occupied.the_row (record { mir = named 1; lft = [] }) K V S A H e k b h alloc).coded.code
+      (with_entry_items o ws))
 
   -- at `Err` the pair was refused, and else the map ends as what the entry leaves
   abbrev pub rests_with_entry : {E : Type 0} → Entry K.Denot V.Denot S.Denot A.Denot H.Denot e k b h

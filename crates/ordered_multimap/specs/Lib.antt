@@ -7,6 +7,7 @@ pub mod DrainLends
 pub mod Drains
 pub mod Entries
 pub mod EntryLends
+pub mod Exact
 pub mod Extends
 pub mod IntoIters
 pub mod KeyLists
@@ -28,6 +29,8 @@ pub mod Rooms
 pub mod Takes
 pub mod TakesOne
 pub mod TapeNumbers
+pub mod UpdateSteps
+pub mod Updates
 pub mod WriteLends
 pub mod ValuesLent
 pub mod WalkLends

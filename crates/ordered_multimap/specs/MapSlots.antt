@@ -1,7 +1,8 @@
 -- The slots of a map, for what keeps places of it: drains, and the keys that pops lend. Clauses on
 -- contents speak of its lists alone.
-use Rattle.std.specs.Prelude.{ℕ, List, Option, refl}
-use Rattle.std.specs.Coded.{Coded, code_by, coded×, coded_list, coded_option, coded_ℕ}
+use Rattle.std.specs.Prelude.{ℕ, Option, refl}
+use Rattle.std.specs.Coded.{Coded, code_by, coded×, coded_option, coded_ℕ}
+use Rattle.multimap_slots.specs.Codes.{slots_code}
 use Rattle.multimap_slots.specs.Slots.{Slots}
 use Rattle.multimap_walks.specs.declared.links.ChainEnds.{ChainEnds}
 use Rattle.multimap_walks.specs.declared.links.KeyLink.{KeyLink}
@@ -13,15 +14,6 @@ pub record MapSlots (K V : Type 0) : Type 0 where
   pub keys : Slots K KeyLink
   pub values : Slots V ValueLink
   pub left : ChainEnds
-
--- slots are stored as the order, the items, the links and the capacity
-abbrev pub slots_code : {T L : Type 0} → Coded T → Coded L → Coded (Slots T L)
-slots_code {T} {L} t l =
-    code_by ((List ℕ × List (Option T)) × (List L × ℕ))
-    (coded× (coded× (coded_list coded_ℕ) (coded_list (coded_option t)))
-    (coded× (coded_list l) coded_ℕ))
-    (λ s. ((s.order, s.items), (s.links, s.capacity)))
-    (λ p. record { order = p.0.0; items = p.0.1; links = p.1.0; capacity = p.1.1 }) (λ _. refl)
 
 -- a key's link is stored as two pairs
 abbrev pub key_link_code : Coded KeyLink

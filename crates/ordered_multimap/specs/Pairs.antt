@@ -15,6 +15,10 @@ has_items (x ∷ xs) = true
 abbrev pub all_values : {K V : Type 0} → List (K × V) → List V
 all_values pairs = map (λ p. p.1) pairs
 
+-- the positions of all pairs, in order
+abbrev pub all_positions : {X : Type 0} → List X → List ℕ
+all_positions pairs = map (λ e. e.0) (enumerate_from 0 pairs)
+
 -- the pairs with v as the value at a position
 abbrev pub with_value_at : {K V : Type 0} → List (K × V) → ℕ → V → List (K × V)
 with_value_at [] i v = []

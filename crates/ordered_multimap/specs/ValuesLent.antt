@@ -1,5 +1,7 @@
 -- What a map ends as, where the right to write its values is handed out.
-use Rattle.std.specs.Prelude.{◌≡◌, ℕ, Bool, List, [], ◌∷◌, map}
+use base.Stored.{Gv}
+use Rattle.std.specs.Prelude.{◌≡◌, ℕ, Bool, true, false, List, [], ◌∷◌, Option, None, get_or, map}
+use Rattle.std.specs.Prelude.{unwrap_or}
 use Rattle.std.specs.Borrow.{Fml, GName, RattleType, MutBor, follows}
 use Rattle.std.specs.HashMap.Lent.{HashMembers}
 use Rattle.std.specs.Ordering.{nat_cmp}
@@ -10,15 +12,21 @@ use Rattle.std.specs.declared.hash.BuildHasher as builder
 use Rattle.multimap_slots.specs.Slots.{Slots}
 use Rattle.multimap_slots.specs.SlotCells.{lent_slots, LendsSlots}
 use Rattle.multimap_slots.specs.Tapes.{Taped}
+use Rattle.std.specs.Coded.{Coded, coded×, coded_list, coded_ℕ}
 use Rattle.multimap_slots.specs.CellsLends.{with_refilled}
+use Rattle.multimap_slots.specs.Codes.{around_items, slots_code, EndsTape}
+use Rattle.multimap_slots.specs.Ownership.{final}
 use Rattle.multimap_slots.specs.TapeLends.{lends_cells}
 use Rattle.multimap_slots.specs.declared.cells_of.SlotCells.{SlotCells}
 use Rattle.multimap_walks.specs.declared.links.KeyLink.{KeyLink}
 use Rattle.multimap_walks.specs.declared.links.ValueLink.{ValueLink}
 use Rattle.multimap_walks.specs.contracts.links.ValueLink.{the_row as link_row}
+use Rattle.multimap_walks.specs.Chained.{pairs_of}
 use Rattle.multimap_walks.specs.Lending.{AllAreLeft}
 use Rattle.ordered_multimap.specs.Lists.{lists}
-use Rattle.ordered_multimap.specs.Multimap.{Multimap}
+use Rattle.ordered_multimap.specs.MapSlots.{key_link_code, value_link_code, ends_code}
+use Rattle.ordered_multimap.specs.Multimap.{Multimap, multimap_code}
+use Rattle.ordered_multimap.specs.TapeNumbers.{numbers_code}
 use Rattle.ordered_multimap.specs.Agrees.{Agrees, lists_of}
 use Rattle.ordered_multimap.specs.contracts.list_ordered_multimap.ListOrderedMultimap.{the_row}
 
@@ -29,12 +37,30 @@ module _ {K V : Type 0} where
   revalued (p ∷ ps) [] = p ∷ revalued ps []
   revalued (p ∷ ps) (q ∷ qs) = (p.0, q.1) ∷ revalued ps qs
 
-  -- other values, under the same keys and in the same order
+  -- the map with these items in the slots of its values, exactly where values stand: under the same
+  -- keys and in the same order
+  abbrev pub with_values : {S : Type 0} → Multimap K V S → List (Option V) → Multimap K V S
+  with_values m ws =
+      let values : Slots V ValueLink = with_refilled m.slots.values ws in record m {
+        lists = lists m.lists.keys (revalued m.lists.pairs (pairs_of m.slots.keys values));
+        slots = record m.slots { values = values };
+      }
+
+  -- the pairs, each with the item of its place, where one is there
+  abbrev pub pairs_ended : List (K × V) → List ℕ → List (Option V) → List (K × V)
+  pairs_ended [] places ws = []
+  pairs_ended (p ∷ pairs) [] ws = p ∷ pairs
+  pairs_ended (p ∷ pairs) (place ∷ places) ws =
+      (p.0, unwrap_or (get_or ws place None) p.1) ∷ pairs_ended pairs places ws
+
+  -- the same with those of another map
   abbrev pub with_values_of : {S : Type 0} → Multimap K V S → Multimap K V S → Multimap K V S
-  with_values_of m n = record m {
-    lists = lists m.lists.keys (revalued m.lists.pairs n.lists.pairs);
-    slots = record m.slots { values = with_refilled m.slots.values n.slots.values.items };
-  }
+  with_values_of m n = with_values m n.slots.values.items
+
+  -- the map's slots of values with these items, and nothing else changed
+  abbrev pub with_items : {S : Type 0} → Multimap K V S → List (Option V) → Multimap K V S
+  with_items m ws =
+      record m { slots = record m.slots { values = record m.slots.values { items = ws } } }
 
   -- whatever the values become, the keys of the pairs stay, in their order
   abbrev pub KeepsShape : {S : Type 0} → Multimap K V S → Type 0
@@ -50,6 +76,39 @@ module _ {K V : Type 0} where
     pub rows : FinMap nat_cmp ℕ
     pub agrees : Agrees eq (hash m.hasher) keys rows (lent_slots cells)
     pub left : AllAreLeft cells
+
+-- what stands around the values in a map
+abbrev pub around_values : {K V S : Type 0} → Coded K → Coded V → Coded S → Multimap K V S
+    → List (Bool × Gv)
+around_values k v s m =
+    (true, (coded× (coded_list k) (coded_list (coded× k v))).code (m.lists.keys, m.lists.pairs))
+    ∷ (true, (coded× coded_ℕ coded_ℕ).code (m.key_room, m.value_room))
+    ∷ (true, s.code m.hasher)
+    ∷ (true, numbers_code.code m.tape)
+    ∷ (true, (slots_code k key_link_code).code m.slots.keys)
+    ∷ (false, ends_code.code m.slots.left)
+    ∷ around_items value_link_code m.slots.values
+
+-- the map's values are lent; whatever items their slots end with, the pairs are then the map's own,
+-- each with the item of its place; and the lender's loan ends as what has these items
+pub record EndsAs {K V S A : Type 0} (m : Multimap K V S) (c : SlotCells V ValueLink A)
+    (slots whole : List (Option V) → Gv) : Type 0 where
+  pub lent : LendsSlots m.slots.values c
+  pub pairs : (ws : List (Option V))
+      → (with_values m ws).lists.pairs ≡ pairs_ended m.lists.pairs m.slots.values.order ws
+  pub ends : (ws : List (Option V)) → slots ws ≡ whole ws
+
+-- the values of the map are lent; and once their slots have ended with some items, the lender's
+-- loan has ended with the map that has them there
+abbrev pub EndsMap : (K V S : RattleType) → {A : Type 0} → Multimap K.Denot V.Denot S.Denot
+    → SlotCells V.Denot ValueLink A → Type 0
+EndsMap K V S m c = EndsAs m c (final V c.cells.around)
+    (λ ws. (multimap_code K.coded V.coded S.coded).code (with_items m ws))
+
+-- the same of a tape of values
+abbrev pub EndsTapeOfValues : (V : RattleType) → {A : Type 0} → Taped V.Denot ValueLink
+    → SlotCells V.Denot ValueLink A → Type 0
+EndsTapeOfValues V t c = EndsTape V link_row t c.cells
 
 -- once the loan of its items ends, a tape of values is as before but for them
 abbrev pub lends_tape_values : (V A : RattleType) (heap : alloc.Ghosts A.Denot)

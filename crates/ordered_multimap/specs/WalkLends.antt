@@ -1,5 +1,5 @@
 -- What a walk over keys with their values for writing ends as, where it lends the values of one.
-use Rattle.std.specs.Prelude.{◌≡◌, [], Option, OnSome, IfNone}
+use Rattle.std.specs.Prelude.{◌≡◌, List, [], Option, OnSome, IfNone}
 use Rattle.std.specs.Borrow.{Fml, GName, Bor, MutBor, RattleType}
 use Rattle.std.specs.Borrow.{follows, follows_so, name_if_some}
 use Rattle.std.specs.declared.alloc.Allocator as allocator
@@ -9,12 +9,15 @@ use Rattle.std.specs.declared.hash.Hasher as hasher
 use Rattle.std.specs.declared.hash.BuildHasher as builder
 use mir.Syntax.{named}
 use Rattle.multimap_walks.specs.Walk.{end_rest}
-use Rattle.multimap_walks.specs.WritingWalk.{entry_values_mut_name}
+use Rattle.multimap_walks.specs.WritingWalk.{entry_values_mut_name, entry_values_mut_values}
+use Rattle.multimap_slots.specs.Ownership.{final}
+use Rattle.multimap_slots.specs.declared.cells_of.SlotCells.{SlotCells}
+use Rattle.multimap_walks.specs.declared.links.ValueLink.{ValueLink}
 use Rattle.multimap_walks.specs.declared.End.{End}
 use Rattle.multimap_walks.specs.declared.writing.chain.EntryValuesMut.{EntryValuesMut}
 use Rattle.ordered_multimap.specs.KeysLeft.{keys_left}
 use Rattle.ordered_multimap.specs.Multimap.{Multimap}
-use Rattle.ordered_multimap.specs.ValuesLent.{with_values_of}
+use Rattle.ordered_multimap.specs.ValuesLent.{with_items, with_values_of, EndsAs}
 use Rattle.ordered_multimap.specs.contracts.list_ordered_multimap.key_values_mut.KeyValuesMut as row
 use Rattle.ordered_multimap.specs.declared.list_ordered_multimap.key_values_mut as walks
 use walks.KeyValuesMut.{KeyValuesMut}
@@ -26,6 +29,15 @@ module _ {K V S A H : Type 0} {e : equality.Ghosts K} {k : hash.Ghosts K} {b : b
       → KeyValuesMut K V S A H e k b h
   with_walk_values w m = record {
     map = record w.map { now = with_values_of w.map.now m };
+    left = w.left;
+    are_left = w.are_left;
+  }
+
+  -- the walk once the slots of its map's values have these items, and nothing else changed
+  abbrev pub with_walk_items : KeyValuesMut K V S A H e k b h → List (Option V)
+      → KeyValuesMut K V S A H e k b h
+  with_walk_items w ws = record {
+    map = record w.map { now = with_items w.map.now ws };
     left = w.left;
     are_left = w.are_left;
   }
@@ -55,6 +67,22 @@ module _ (K V S A H : RattleType) {e : equality.Ghosts K.Denot} {k : hash.Ghosts
   lends_values_to_walk w r =
       follows (walk_row K V S A H e k b h alloc) (walk_row K V S A H e k b h alloc) w.ghost_name r
       (λ n. with_walk_values w.now n.map.now)
+
+  -- the values of the walk's map are lent; and once their slots have ended with some items, the
+  -- walk's loan has ended with the walk that has them in its map
+  abbrev pub EndsWalk : KeyValuesMut K.Denot V.Denot S.Denot A.Denot H.Denot e k b h
+      → SlotCells V.Denot ValueLink A.Denot → Type 0
+  EndsWalk w c = EndsAs w.map.now c (final V c.cells.around)
+      (λ ws. (walk_row K V S A H e k b h alloc).coded.code (with_walk_items w ws))
+
+  -- the same of the walk as it is after its step
+  pub record EndsStepped (end : End)
+      (old : KeyValuesMut K.Denot V.Denot S.Denot A.Denot H.Denot e k b h)
+      (r : Bor K.Denot × EntryValuesMut K.Denot V.Denot A.Denot) : Type 0 where
+    pub walk : KeyValuesMut K.Denot V.Denot S.Denot A.Denot H.Denot e k b h
+    pub same_map : walk.map ≡ old.map
+    pub keys : keys_left walk ≡ end_rest end (keys_left old)
+    pub ends : EndsWalk walk (entry_values_mut_values r.1)
 
   -- once the walk over the values ends, the key at the end is no longer left; at `None` the walk
   -- stays as it is

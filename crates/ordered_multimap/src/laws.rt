@@ -1,6 +1,11 @@
 //! Laws of the definitions, for all lists. The functions do nothing: what they ensure is the law.
+ghost use Rattle.std.specs.Borrow.{sem};
+ghost use Rattle.ordered_multimap.specs.Exact.{WalksAreExact};
 ghost use Rattle.ordered_multimap.specs.Lists.{Lists, IsWellFormed};
 ghost use Rattle.ordered_multimap.specs.Laws.{ComparesPairs, FiltersChains, PopUndoesAppend, IsRebuilt};
+
+use std::alloc::Allocator;
+use std::hash::{BuildHasher, Hash};
 
 /// An append and then a pop at the back give the lists again, and the pair that was appended.
 pub fn append_then_pop_back<K: Eq, V>()
@@ -22,4 +27,14 @@ pub fn equal_maps<K: Eq, V: Eq>()
 /// walk with as many letters as there are items gives each item once.
 pub fn chain_is_filter<K: Eq, V>()
     ensures { FiltersChains K.eq V }
+{}
+
+/// Where a call has lent the values of a map to a walk for writing, then once the walk and all
+/// references that it gave have ended, the map has at each place that was given the value with which
+/// the reference to it ended, and at each other place the value that stood there; keys, order and all
+/// else are as before. It joins what the call that makes a walk says (`writes_back`, `ends`), what
+/// each step says (`taken`), and what the end of the walk says (`ends`).
+pub fn walks_are_exact<K: Eq + Hash, V, S: BuildHasher, A: Allocator>()
+    ensures* exact { sem 𝓛 (WalksAreExact K.row V.row S.row A.row S.Hasher.row K.Hash
+        S.BuildHasher S.Hasher.Hasher A.Allocator) }
 {}

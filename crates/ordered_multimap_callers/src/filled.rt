@@ -41,6 +41,7 @@ pub fn fill_values<K: Eq + Hash, V: Copy, S: BuildHasher, A: Allocator>(
 }
 
 /// Each value of the key becomes a copy of this one.
+#[tactic(auto, using(ordered_multimap::proofs::LentLemmas::length_revalued))]
 pub fn fill_key<K: Eq + Hash, V: Copy, S: BuildHasher, A: Allocator>(
     map: &mut ListOrderedMultimap<K, V, S, A>,
     key: &K,

@@ -13,4 +13,5 @@ pub mod lists;
 pub mod maps;
 pub mod retained;
 pub mod undone;
+pub mod updated;
 pub mod written;

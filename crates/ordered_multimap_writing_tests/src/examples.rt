@@ -47,10 +47,21 @@ fn entry_is_written(test: &Test, map: &mut Numbers) {
     test.expect("iter_mut of an entry", written);
 }
 
+fn values_are_updated(test: &Test, map: &mut Numbers) {
+    add_three(test, map);
+    map.update_values(|_key, value| *value += 1);
+    let all = has_pairs(map, &[("line", 2), ("page", 9), ("line", 3)]);
+    test.expect("update_values", all);
+    map.update_all(&"line", |value| *value += 1);
+    let one = has_pairs(map, &[("line", 3), ("page", 9), ("line", 4)]);
+    test.expect("update_all", one);
+}
+
 fn examples(test: &Test, map: &mut Numbers) {
     last_is_written(test, map);
     all_are_written(test, map);
     entry_is_written(test, map);
+    values_are_updated(test, map);
 }
 
 #[test]

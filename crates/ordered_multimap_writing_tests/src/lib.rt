@@ -2,6 +2,8 @@
 #![tactic(auto)]
 
 #[cfg(test)]
+mod ended;
+#[cfg(test)]
 mod examples;
 #[cfg(test)]
 mod keys;
@@ -15,5 +17,7 @@ mod steps;
 mod tests;
 #[cfg(test)]
 mod unread;
+#[cfg(test)]
+mod updated;
 #[cfg(test)]
 mod walks;

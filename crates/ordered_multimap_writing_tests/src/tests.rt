@@ -1,9 +1,11 @@
 //! The tests: each makes one map and lends it to all comparisons of its type, since a map that is
 //! owned costs its proof more than all that it is lent to.
+use crate::ended::walks_leave_values;
 use crate::keys::keys_lend_their_values;
 use crate::rest::walks_have_left;
 use crate::shown::walks_are_shown;
 use crate::unread::one_key_is_written;
+use crate::updated::values_are_updated;
 use crate::walks::values_are_lent_once;
 use ordered_multimap::ListOrderedMultimap;
 use ordered_multimap_callers::maps::Numbers;
@@ -14,6 +16,8 @@ fn numbers_are_lent(test: &Test, map: &mut Numbers) {
     keys_lend_their_values(test, map);
     one_key_is_written(test, map);
     walks_have_left(test, map);
+    values_are_updated(test, map);
+    walks_leave_values(test, map);
 }
 
 #[test]

@@ -13,7 +13,6 @@ use std::marker::PhantomData;
 
 /// The values of one key, in order, each for writing. Each item takes one value slot and reads its
 /// link, and no other slot.
-#[derive(Drop)]
 pub struct EntryValuesMut<'map, K, V, A: Allocator = Global> {
     keys: PhantomData<&'map K>,
     values: SlotCells<'map, V, ValueLink, A>,
@@ -55,4 +54,21 @@ pub(crate) fn chain_before<V, A: Allocator>(
     rest.last = cells.link(left.last).previous.unwrap_or(left.last);
     rest.length -= 1;
     rest
+}
+
+/// The values that the walk has not given stay as they are.
+impl<'map, K, V, A: Allocator> Drop for EntryValuesMut<'map, K, V, A> {
+    ghost use Rattle.std.specs.Borrow.{sem};
+    ghost use Rattle.multimap_slots.specs.Ended.{ends_with};
+    ghost use Rattle.multimap_walks.specs.WritingWalk.{entry_values_mut_cells};
+
+    fn drop(self)
+        ensures* ends { sem 𝓛 (ends_with V.row (entry_values_mut_cells self.entry)) }
+    {
+        let EntryValuesMut {
+            keys: _,
+            values: _,
+            left: _,
+        } = self;
+    }
 }

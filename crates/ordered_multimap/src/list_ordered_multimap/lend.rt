@@ -5,6 +5,7 @@ ghost use Rattle.multimap_slots.specs.Slots.{IsSound};
 ghost use Rattle.multimap_slots.specs.SlotCells.{cells_name, LendsSlots};
 ghost use Rattle.ordered_multimap.specs.Agrees.{hash_of};
 ghost use Rattle.ordered_multimap.specs.ValuesLent.{lends_tape_values, lends_values, AreLent};
+ghost use Rattle.ordered_multimap.specs.ValuesLent.{EndsMap, EndsTapeOfValues};
 
 use super::ListOrderedMultimap;
 use multimap_slots::{SlotCells, SlotList, Tape};
@@ -18,6 +19,7 @@ fn cells_of<K: Eq + Hash, V, S: BuildHasher, A: Allocator>(
 ) -> SlotCells<'_, V, ValueLink, A>
     ensures* writes_back { sem 𝓛 (lends_tape_values V.row A.row A.Allocator values.entry result) }
     ensures lent { LendsSlots values.old.list result }
+    ensures ends { EndsTapeOfValues V.row values.old result }
 {
     values.cells()
 }
@@ -30,6 +32,7 @@ impl<K: Eq + Hash, V, S: BuildHasher, A: Allocator> ListOrderedMultimap<K, V, S,
         ensures lent { AreLent K.eq
             (λ h k. hash_of S.BuildHasher S.Hasher.Hasher h (K.hash_input k))
             self.old result.0 result.1.now }
+        ensures ends { EndsMap K.row V.row S.row self.old result.0 }
     {
         let cells = cells_of::<K, V, S, A>(&mut self.values);
         (cells, &self.keys)

@@ -6,13 +6,13 @@ ghost use Rattle.multimap_slots.specs.Slots.{HasLink, IsSound};
 ghost use Rattle.multimap_slots.specs.SlotCells.{cells_name, lent_slots};
 ghost use Rattle.multimap_walks.specs.Chained.{IsChained, chain_of, positions_at, values_at};
 ghost use Rattle.multimap_walks.specs.Lending.{AllAreLeft};
-ghost use Rattle.multimap_walks.specs.WritingWalk.{entry_values_mut_count, entry_values_mut_name, entry_values_mut_positions, entry_values_mut_rest, EntryValuesMutCanStep, LendsFirstOfKey, LendsLastOfKey};
+ghost use Rattle.multimap_walks.specs.WritingWalk.{entry_values_mut_cells, entry_values_mut_count, entry_values_mut_name, entry_values_mut_positions, entry_values_mut_rest, entry_values_mut_values, EntryValuesMutCanStep, LendsFirstOfKey, LendsLastOfKey};
 
 use super::{EntryValuesMut, chain_before, chain_behind};
 use crate::links::{ChainEnds, KeyLink, NO_ENDS, ValueLink};
 use crate::show::show_left;
 use crate::writing::rest::chain::EntryValuesRest;
-use multimap_slots::{SlotCells, SlotList};
+use multimap_slots::{Cells, SlotCells, SlotList};
 use std::alloc::Allocator;
 use std::fmt;
 use std::iter::FusedIterator;
@@ -38,6 +38,7 @@ impl<'map, K, V, A: Allocator> EntryValuesMut<'map, K, V, A> {
             (λ k. entry_values_mut_positions result
             ≡ positions_at (lent_slots values.entry) (chain_of (lent_slots values.entry) k.0)) }
         ensures name { entry_values_mut_name result ≡ cells_name values.entry }
+        ensures lent { entry_values_mut_values result ≡ values.entry }
     {
         let Some((_, link)) = key else {
             return EntryValuesMut {
@@ -56,6 +57,19 @@ impl<'map, K, V, A: Allocator> EntryValuesMut<'map, K, V, A> {
             values,
             left,
         }
+    }
+
+    /// Ends the walk, and keeps the right to write the values that it has not given. `Cells::end` of
+    /// it tells what all values end as.
+    pub fn into_cells(self) -> Cells<'map, V>
+        ensures { result ≡ entry_values_mut_cells self.entry }
+    {
+        let EntryValuesMut {
+            keys: _,
+            values,
+            left: _,
+        } = self;
+        values.into_cells()
     }
 
     /// The walk over the values that are left, for reading. It lends none of them for writing, and

@@ -4,9 +4,9 @@ ghost use Rattle.std.specs.Iterator.{at_most, UpTo};
 ghost use Rattle.std.specs.Iterator.SizeHint.{IsWithinCount};
 ghost use Rattle.multimap_slots.specs.Slots.{IsSound};
 ghost use Rattle.multimap_slots.specs.SlotCells.{cells_name, lent_slots};
-ghost use Rattle.multimap_walks.specs.Chained.{AreOwned, pairs_of};
+ghost use Rattle.multimap_walks.specs.Chained.{AreOwned, pairs_of, positions_at};
 ghost use Rattle.multimap_walks.specs.Lending.{AllAreLeft};
-ghost use Rattle.multimap_walks.specs.WritingWalk.{iter_mut_count, iter_mut_name, iter_mut_rest, IterMutCanStep, LendsFirstPair, LendsLastPair};
+ghost use Rattle.multimap_walks.specs.WritingWalk.{iter_mut_cells, iter_mut_count, iter_mut_name, iter_mut_positions, iter_mut_rest, iter_mut_values, IterMutCanStep, LendsFirstPair, LendsLastPair};
 
 use super::IterMut;
 use crate::links::{KeyLink, ValueLink};
@@ -14,7 +14,7 @@ use crate::show::show_left;
 use crate::slots::key_at;
 use crate::writing::rest::pairs::IterRest;
 use crate::writing::{all_of, lend_first, lend_last};
-use multimap_slots::{Reads, SlotCells, SlotList};
+use multimap_slots::{Cells, Reads, SlotCells, SlotList};
 use std::alloc::Allocator;
 use std::fmt;
 use std::iter::FusedIterator;
@@ -32,11 +32,27 @@ impl<'map, K, V, A: Allocator> IterMut<'map, K, V, A> {
         ensures ready { IterMutCanStep result }
         ensures pairs { iter_mut_rest result ≡ pairs_of keys.now (lent_slots values.entry) }
         ensures name { iter_mut_name result ≡ cells_name values.entry }
+        ensures positions { iter_mut_positions result
+            ≡ positions_at (lent_slots values.entry) (lent_slots values.entry).order }
+        ensures lent { iter_mut_values result ≡ values.entry }
     {
         // The length tells the proof that the list of keys is sound.
         let _keys = keys.len();
         let left = all_of(&values);
         IterMut { keys, values, left }
+    }
+
+    /// Ends the walk, and keeps the right to write the values that it has not given. `Cells::end` of
+    /// it tells what all values end as.
+    pub fn into_cells(self) -> Cells<'map, V>
+        ensures { result ≡ iter_mut_cells self.entry }
+    {
+        let IterMut {
+            keys: _,
+            values,
+            left: _,
+        } = self;
+        values.into_cells()
     }
 
     /// The walk over the pairs that are left, for reading. It lends none of their values for writing,

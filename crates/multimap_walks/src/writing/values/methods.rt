@@ -4,16 +4,16 @@ ghost use Rattle.std.specs.Iterator.{at_most, UpTo};
 ghost use Rattle.std.specs.Iterator.SizeHint.{IsWithinCount};
 ghost use Rattle.multimap_slots.specs.Slots.{IsSound};
 ghost use Rattle.multimap_slots.specs.SlotCells.{cells_name, lent_slots};
-ghost use Rattle.multimap_walks.specs.Chained.{values_at};
+ghost use Rattle.multimap_walks.specs.Chained.{positions_at, values_at};
 ghost use Rattle.multimap_walks.specs.Lending.{AllAreLeft};
-ghost use Rattle.multimap_walks.specs.WritingWalk.{values_mut_count, values_mut_name, values_mut_rest, ValuesMutCanStep, LendsFirstValue, LendsLastValue};
+ghost use Rattle.multimap_walks.specs.WritingWalk.{values_mut_cells, values_mut_count, values_mut_name, values_mut_positions, values_mut_rest, values_mut_values, ValuesMutCanStep, LendsFirstValue, LendsLastValue};
 
 use super::ValuesMut;
 use crate::links::ValueLink;
 use crate::show::show_left;
 use crate::writing::rest::values::ValuesRest;
 use crate::writing::{all_of, lend_first, lend_last};
-use multimap_slots::SlotCells;
+use multimap_slots::{Cells, SlotCells};
 use std::alloc::Allocator;
 use std::fmt;
 use std::iter::FusedIterator;
@@ -28,6 +28,9 @@ impl<'map, K, V, A: Allocator> ValuesMut<'map, K, V, A> {
         ensures values { values_mut_rest result
             ≡ values_at (lent_slots values.entry) (lent_slots values.entry).order }
         ensures name { values_mut_name result ≡ cells_name values.entry }
+        ensures positions { values_mut_positions result
+            ≡ positions_at (lent_slots values.entry) (lent_slots values.entry).order }
+        ensures lent { values_mut_values result ≡ values.entry }
     {
         let left = all_of(&values);
         ValuesMut {
@@ -35,6 +38,19 @@ impl<'map, K, V, A: Allocator> ValuesMut<'map, K, V, A> {
             values,
             left,
         }
+    }
+
+    /// Ends the walk, and keeps the right to write the values that it has not given. `Cells::end` of
+    /// it tells what all values end as.
+    pub fn into_cells(self) -> Cells<'map, V>
+        ensures { result ≡ values_mut_cells self.entry }
+    {
+        let ValuesMut {
+            keys: _,
+            values,
+            left: _,
+        } = self;
+        values.into_cells()
     }
 
     /// The walk over the values that are left, for reading. It lends none of them for writing, and

@@ -7,8 +7,8 @@ ghost use Rattle.std.specs.Borrow.{sem};
 ghost use Rattle.ordered_multimap.specs.Changes.{appended, first_written, inserted, removed};
 ghost use Rattle.ordered_multimap.specs.Drains.{DrainsEntry, DrainsInserted};
 ghost use Rattle.ordered_multimap.specs.Entries.{IsOccupiedBy, IsSameEntry};
-ghost use Rattle.multimap_walks.specs.WritingWalk.{entry_values_mut_name, entry_values_mut_rest, entry_values_mut_positions, EntryValuesMutCanStep};
-ghost use Rattle.ordered_multimap.specs.EntryLends.{lends_first, lends_to_entry, lends_values_to_entry, rests_with_drain};
+ghost use Rattle.multimap_walks.specs.WritingWalk.{entry_values_mut_values, entry_values_mut_name, entry_values_mut_rest, entry_values_mut_positions, EntryValuesMutCanStep};
+ghost use Rattle.ordered_multimap.specs.EntryLends.{lends_first, lends_to_entry, EndsEntry, lends_values_to_entry, rests_with_drain};
 ghost use Rattle.ordered_multimap.specs.Keys.{stored_key};
 ghost use Rattle.ordered_multimap.specs.Pairs.{positions_of, values_of};
 ghost use Rattle.ordered_multimap.specs.Rooms.{HasValueRoom, KeepsRooms, RaisesNoRoom, SameRooms};
@@ -127,6 +127,8 @@ impl<'map, K: Eq + Hash, V, S: BuildHasher, A: Allocator> OccupiedEntry<'map, K,
             → entry_values_mut_rest result ≡ values_of K.eq self.old.map.now.lists.pairs k }
         ensures positions { (k : K) → IsOccupiedBy self.old k → entry_values_mut_positions result
             ≡ positions_of K.eq self.old.map.now.lists.pairs k }
+        ensures ends { EndsEntry K.row V.row S.row A.row S.Hasher.row A.Allocator self.old
+            (entry_values_mut_values result) }
     {
         let place = self.place;
         self.map.values_mut_at(place)

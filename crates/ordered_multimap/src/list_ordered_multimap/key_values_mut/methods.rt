@@ -7,13 +7,13 @@ ghost use Rattle.multimap_slots.specs.Slots.{item_at};
 ghost use Rattle.multimap_walks.specs.Along.{AreLeft, items_left};
 ghost use Rattle.multimap_walks.specs.KeyWalk.{key_values_at};
 ghost use Rattle.multimap_walks.specs.Walk.{end_item, end_rest};
-ghost use Rattle.multimap_walks.specs.WritingWalk.{entry_values_mut_name, entry_values_mut_rest};
+ghost use Rattle.multimap_walks.specs.WritingWalk.{entry_values_mut_values, entry_values_mut_name, entry_values_mut_rest};
 ghost use Rattle.multimap_walks.specs.WritingWalk.{EntryValuesMutCanStep};
 ghost use Rattle.multimap_walks.specs.declared.End.TheVariants.{Front, Back};
 ghost use Rattle.ordered_multimap.specs.Agrees.{HasKey};
 ghost use Rattle.ordered_multimap.specs.KeysLeft.{keys_left};
 ghost use Rattle.ordered_multimap.specs.Pairs.{values_of};
-ghost use Rattle.ordered_multimap.specs.WalkLends.{lends_key_values, lends_values_to_walk};
+ghost use Rattle.ordered_multimap.specs.WalkLends.{EndsStepped, EndsWalk, lends_key_values, lends_values_to_walk};
 
 use super::KeyValuesMut;
 use crate::list_ordered_multimap::ListOrderedMultimap;
@@ -90,6 +90,8 @@ impl<'map, K: Eq + Hash, V, S: BuildHasher, A: Allocator> KeyValuesMut<'map, K, 
         ensures values { IfSome result (λ r. entry_values_mut_rest r.1
             ≡ values_of K.eq self.old.map.now.lists.pairs r.0.now) }
         ensures ready { IfSome result (λ r. EntryValuesMutCanStep r.1) }
+        ensures ends { IfSome result (EndsStepped K.row V.row S.row A.row S.Hasher.row
+            A.Allocator Front self.old) }
     {
         self.step_mut(End::Front)
     }
@@ -103,6 +105,8 @@ impl<'map, K: Eq + Hash, V, S: BuildHasher, A: Allocator> KeyValuesMut<'map, K, 
         ensures values { IfSome result (λ r. entry_values_mut_rest r.1
             ≡ values_of K.eq self.old.map.now.lists.pairs r.0.now) }
         ensures ready { IfSome result (λ r. EntryValuesMutCanStep r.1) }
+        ensures ends { IfSome result (EndsStepped K.row V.row S.row A.row S.Hasher.row
+            A.Allocator Back self.old) }
     {
         self.step_mut(End::Back)
     }
@@ -153,6 +157,8 @@ impl<'map, K: Eq + Hash, V, S: BuildHasher, A: Allocator> KeyValuesMut<'map, K, 
         ensures ready { EntryValuesMutCanStep result.1 }
         ensures values { (k : K) → HasKey K.eq self.old.map.now.slots.keys k place
             → entry_values_mut_rest result.1 ≡ values_of K.eq self.old.map.now.lists.pairs k }
+        ensures ends { EndsWalk K.row V.row S.row A.row S.Hasher.row A.Allocator self.old
+            (entry_values_mut_values result.1) }
     {
         self.map.key_values_mut_at(place)
     }
@@ -165,6 +171,8 @@ impl<'map, K: Eq + Hash, V, S: BuildHasher, A: Allocator> KeyValuesMut<'map, K, 
         ensures values { IfSome result (λ r. entry_values_mut_rest r.1
             ≡ values_of K.eq self.old.map.now.lists.pairs r.0.now) }
         ensures ready { IfSome result (λ r. EntryValuesMutCanStep r.1) }
+        ensures ends { IfSome result (EndsStepped K.row V.row S.row A.row S.Hasher.row
+            A.Allocator end self.old) }
     {
         let (place, walk) = self.step(end);
         match place {

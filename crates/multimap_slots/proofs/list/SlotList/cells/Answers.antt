@@ -11,11 +11,13 @@ returns g c =
         lends = tt;
         lent = record {
           slots = λ j. record { order = l.order_is j; items = l.made.items_are j; links = l.links_are j; capacity = length (l.order_is j) };
+          untaken = l.made.left;
           left = λ p i. record {
             listed = rw l.order_is i;
             untaken = ap (λ ls. get_or ls p false) l.made.left ∙ all_left c.args.self.now.items p (sound.filled p i);
           };
         };
         sound = sound;
+        ends = l.ends;
       },
     )

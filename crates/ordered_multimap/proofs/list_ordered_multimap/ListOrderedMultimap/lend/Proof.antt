@@ -44,7 +44,12 @@ use denote.Triple.Table.{framed}
 use denote.Triple.Walked.{Stays, stay_dropped, walk_of, ends_at, Goes-spent_ref, says}
 use Rattle.std.proofs.raw_atomic.Walks.{proved}
 use Rattle.multimap_slots.specs.SlotCells.{cells_name, LendsSlots}
-use Rattle.multimap_slots.specs.CellsLends.{with_tape_refilled}
+use Rattle.multimap_slots.specs.CellsLends.{with_refilled, with_tape_refilled}
+use Rattle.multimap_slots.specs.Tapes.{with_list}
+use Rattle.multimap_slots.proofs.CellsLemmas.{LendsSlots-renamed}
+use Rattle.multimap_slots.proofs.Renamed.{slot_cells_renamed}
+use types.Follow.{after}
+use base.Stored.{Gv}
 use Rattle.multimap_slots.specs.contracts.cells_of.SlotCells as C-type
 use Rattle.multimap_slots.specs.contracts.list.SlotList as L-type
 use Rattle.multimap_slots.specs.contracts.tape.Tape as P-type
@@ -60,14 +65,14 @@ use Rattle.multimap_walks.specs.contracts.links.ValueLink as VL-type
 use Rattle.multimap_walks.proofs.links.ChainEnds.TheLaws as E-laws
 use Rattle.multimap_walks.proofs.links.KeyLink.TheLaws as KL-laws
 use Rattle.multimap_walks.proofs.links.ValueLink.TheLaws as VL-laws
-use Rattle.std.specs.Prelude.{Option}
+use Rattle.std.specs.Prelude.{Bool, Option, Some}
 use Rattle.ordered_multimap.specs.Lists.{lists}
 use Rattle.ordered_multimap.specs.Multimap.{Multimap}
 use Rattle.ordered_multimap.specs.Agrees.{Agrees, hash_of}
-use Rattle.ordered_multimap.specs.ValuesLent.{with_values_of}
+use Rattle.ordered_multimap.specs.ValuesLent.{with_values_of, with_values, with_items, around_values, EndsTapeOfValues}
 use Rattle.ordered_multimap.specs.contracts.list_ordered_multimap.ListOrderedMultimap as M-type
 use Rattle.ordered_multimap.specs.contracts.list_ordered_multimap.ListOrderedMultimap.TheInside as I-type
-use Rattle.ordered_multimap.proofs.LentLemmas.{refilled_again, revalued_refilled, Agrees-refilled, AreLent-made}
+use Rattle.ordered_multimap.proofs.LentLemmas.{map-ended, revalued_refilled, Agrees-refilled, AreLent-made}
 use Rattle.ordered_multimap.specs.contracts.list_ordered_multimap.lend.cells_of as g
 use Rattle.ordered_multimap.proofs.list_ordered_multimap.lend.cells_of.Met.{met}
 use Rattle.ordered_multimap.specs.contracts.list_ordered_multimap.ListOrderedMultimap.lend as F
@@ -102,18 +107,18 @@ lend_spec 𝓤 𝓛 𝓜 𝓡 wired X₀ X₁ X₂ X₃ X₄ L₀ L₁ L₂ L₃
     let Own : I.Denot → Fml = λ t. fsep (part_at S full_share t.state b so) (fsep (part_at TS full_share t.table b to) (part_at ES full_share t.left b eo)) in
     let back : (s : Multimap K.Denot V.Denot S.Denot) (t : I.Denot) (items : List (Option V.Denot)) → view t ≡ s → good t
     → ent 𝓤 (sep 𝓤 (sem 𝓛 (part_at VS full_share (with_tape_refilled t.values items) b vo)) (sep 𝓤 (sem 𝓛 (part_at KS full_share t.keys b ko)) (sep 𝓤 (sem 𝓛 (Own t)) (PartsBack 𝓛 full_share [] ms b o))))
-    (sem 𝓛 (part_at R full_share (with_values_of s (view (record t { values = with_tape_refilled t.values items }))) b o))
+    (sem 𝓛 (part_at R full_share (with_values s items) b o))
     = λ s t items seen ok.
     let v' = with_tape_refilled t.values items in let t' : I.Denot = record t { values = v' } in
-    let same = revalued_refilled t.keys t.values.list items in let again = refilled_again t.values.list.items items in
+    let same = revalued_refilled t.keys t.values.list items in
     qed 𝓛 (‵ (part_at VS full_share v' b vo) ∷ ‵ (part_at KS full_share t.keys b ko) ∷ (‵ (Own t) ⊛ raw (PartsBack 𝓛 full_share [] ms b o)) ∷ []) ∵
     move ! (2 ∷ []) $ split ! $ fsplit3 ! $ use0 𝓛 (‵ ftrue) (id⊢ 𝓤 (emp 𝓤)) $
     -- [nothing; the state; the table; the ends; the way back; the values; the keys]
     move ! (3 ∷ 0 ∷ []) $ fjoin ! $ move ! (2 ∷ 0 ∷ []) $ fjoin ! $ move ! (4 ∷ 0 ∷ []) $ fjoin ! $ move ! (1 ∷ 0 ∷ []) $ fjoin ! $ move ! (2 ∷ 0 ∷ 1 ∷ []) $
     use3 𝓛 (‵ (part_at I full_share t' b o)) (field_back 𝓛 full_share [] ms (t.state, (t.keys, (t.table, (v', (t.left, tt))))) b o 3) $
-    by ! (Plain-in R I (view_owns I (Multimap K.Denot V.Denot S.Denot) R.coded view good) 𝓛 full_share (with_values_of s (view t')) t'
-    (view_made I (Multimap K.Denot V.Denot S.Denot) R.coded view good 𝓛 (with_values_of s (view t')) t' (
-      (λ j. record (view t) { lists = lists (view t).lists.keys (sym same j); slots = record (view t).slots { values = record t.values.list { items = sym again j } } }) ∙ ap (λ h. with_values_of h (view t')) seen,
+    by ! (Plain-in R I (view_owns I (Multimap K.Denot V.Denot S.Denot) R.coded view good) 𝓛 full_share (with_values s items) t'
+    (view_made I (Multimap K.Denot V.Denot S.Denot) R.coded view good 𝓛 (with_values s items) t' (
+      (λ j. record (view t) { lists = lists (view t).lists.keys (sym same j); slots = record (view t).slots { values = with_refilled t.values.list items } }) ∙ ap (λ h. with_values h items) seen,
       record { agrees = Agrees-refilled gp.eq (λ k. hash_of gb gj t.state (gk.hash_input k)) t.keys t.table.rows t.values.list items ok.agrees; fits = ok.fits; paid = ok.paid },
     )) b o) in
     let y : (walk_of 𝓛 En hs c).Ghost = ((κs, qs, bounds, a, (mut_vals a.0, tt)), ghost) in let Post : Val → SProp 𝓤 = (walk_of 𝓛 En hs c).post y in
@@ -160,8 +165,8 @@ lend_spec 𝓤 𝓛 𝓜 𝓡 wired X₀ X₁ X₂ X₃ X₄ L₀ L₁ L₂ L₃
     let CR-is : Laws CR = C-laws.the_row_laws a' V VL-type.the_row A ga PV VL-laws.the_row_laws PA in
     calls_at ! (framed 𝓤 H 𝓜 𝓣) G (met 𝓤 𝓛 𝓜 𝓡 (code.calls-ordered_multimap::list_ordered_multimap::lend::cells_of 𝓡.env wired) X₀ X₁ X₂ X₃ X₄ L₀ L₁ L₂ L₃ L₄ ge de gp dp gk dk gb db gj dj ga da dA dJ m₁ m₂ m₃ m₄ m₅ m₆ m₇ m₈) z (and_then ! (get ! refl) (no_more !)) (λ u.
     use1 𝓛 (later (some (λ (m : CR.Denot). ((‵ (flft κ r) ⊛ ‵ (flft κs.1.0 qs.1.0) ⊛ ‵ (flft κs.1.1.0 qs.1.1.0) ⊛ ‵ (flft κs.1.1.1.0 qs.1.1.1.0) ⊛ ‵ (flft κs.1.1.1.1.0 qs.1.1.1.1.0) ⊛ ‵ (flft κs.1.1.1.1.1.0 qs.1.1.1.1.1.0) ⊛ ‵ ftrue) ⊛ ‵ (CR.own_val m (u ∷ []))) ⊛
-    some (λ (ws : Unit {0} × Unit {0}). ‵ (lasts (g.ended X₀ X₁ X₂ X₃ X₄ ge de gp dp gk dk gb db gj dj ga da dA dJ) κs (rv, tt) ws) ⊛ (‵ (follows VS VS δ (cells_name m) (λ h. with_tape_refilled v h.list.items)) ⊛ raw (fact 𝓤 (LendsSlots v.list m))))))) (id⊢ 𝓤 _) $
-    await ! tt $ pick ! (λ m. split ! $ move ! (1 ∷ []) $ pick ! (λ ws. split3 ! $ drop ! $ move ! (1 ∷ []) $ heard ! (LendsSlots v.list m) (λ lent.
+    some (λ (ws : Unit {0} × Unit {0}). ‵ (lasts (g.ended X₀ X₁ X₂ X₃ X₄ ge de gp dp gk dk gb db gj dj ga da dA dJ) κs (rv, tt) ws) ⊛ (‵ (follows VS VS δ (cells_name m) (λ h. with_tape_refilled v h.list.items)) ⊛ raw (fact 𝓤 (LendsSlots v.list m)) ⊛ raw (fact 𝓤 (EndsTapeOfValues V v m))))))) (id⊢ 𝓤 _) $
+    await ! tt $ pick ! (λ m. split ! $ move ! (1 ∷ []) $ pick ! (λ ws. split3 ! $ drop ! $ move ! (1 ∷ []) $ split ! $ heard ! (LendsSlots v.list m) (λ lent. heard ! (EndsTapeOfValues V v m) (λ ended.
     -- [what the values follow; the tokens and the cells; the keys; the open borrow; the rights; the rest; obs; auth]
     move ! (1 ∷ []) $ split ! $ split ! $ move ! (2 ∷ []) $ peeks ! CR (Is CR) (shows 𝓛 CR) m (u ∷ []) (λ is.
     let ok-u = ((CR-is.lawful 𝓛).typed m (u ∷ []) is).0 in let pv : Val = vstruct (vcons u (vcons (vptr b ko) vnil)) in
@@ -172,21 +177,22 @@ lend_spec 𝓤 𝓛 𝓜 𝓡 wired X₀ X₁ X₂ X₃ X₄ L₀ L₁ L₂ L₃
     (as_fields (lone CR.mir ∷ lone KR.mir ∷ []) (u ∷ vptr b ko ∷ []) (ok-u, ((tt, tt), tt))) $
     -- [the cells; half the token; the other tokens; what the values follow; the keys; the open borrow; the rights; the rest; obs; auth]
     move ! (5 ∷ 8 ∷ 9 ∷ 6 ∷ 3 ∷ 7 ∷ []) $ group ! 6 $
-    use1 𝓛 (later (some (λ (ε : GName). ‵ (flft κ l) ⊛ ‵ (follows R R γ ε (with_values_of s)))))
-    (closes_named 𝓛 (mem R) (mem VS) (mem VS) (λ h. with_tape_refilled v h.list.items) (λ h. view (record t { values = with_tape_refilled v h.list.items })) (with_values_of s) κ l b o b vo γ δ (cells_name m) Q Rest
-    (λ h. back s t h.list.items x.1.0 x.1.1) n (R.coded.code s) (R.coded.code s) s) $ await ! tt $ pick ! (λ ε. split ! $
-    -- [half the token; what the map follows; the cells; the other half; the other tokens; the keys]
-    move ! (0 ∷ 3 ∷ []) $ use2 𝓛 (‵ (flft κ q)) (𝓛.lfts.lft_join κ q) $
-    let e : CR.Denot = record m { cells = record m.cells { whole = ε } } in
-    move ! (2 ∷ 4 ∷ []) $ use1 𝓛 (‵ (CR.own_val e (u ∷ []))) (id⊢ 𝓤 _) $
+    use1 𝓛 (later (some (λ (ε : GName). ‵ (flft κ l) ⊛ ‵ (follows R R γ ε (with_values_of s)) ⊛ ‵ (after (mem R) (mem VS) ε (cells_name m) (λ h. with_items s h.list.items)))))
+    (closes_named 𝓛 (mem R) (mem VS) (mem VS) (λ h. with_tape_refilled v h.list.items) (λ h. with_items s h.list.items) (with_values_of s) κ l b o b vo γ δ (cells_name m) Q Rest
+    (λ h. back s t h.list.items x.1.0 x.1.1) n (R.coded.code s) (R.coded.code s) s) $ await ! tt $ pick ! (λ ε. split3 ! $
+    -- [half the token; what the map follows; what its name follows; the cells; the other half; the other tokens; the keys]
+    move ! (0 ∷ 4 ∷ []) $ use2 𝓛 (‵ (flft κ q)) (𝓛.lfts.lft_join κ q) $
+    let rim : Option (List (Bool × Gv)) = Some (around_values K.coded V.coded S.coded s) in let e : CR.Denot = record m { cells = record m.cells { whole = ε; around = rim } } in
+    -- [the token of 'a; what the map follows; what its name follows; the cells; the other tokens; the keys]
+    move ! (3 ∷ 2 ∷ []) $ use2 𝓛 (‵ (CR.own_val e (u ∷ []))) (slot_cells_renamed 𝓛 a' V (mem R) (mem VS) (λ h. with_items s h.list.items) (λ ws. with_list v (record v.list { items = ws })) ε rim VL-type.the_row A ga m (u ∷ []) (λ ws. sym (ended ws)) (λ ws. refl)) $ move ! (0 ∷ 4 ∷ []) $
     returns ! (look_at ! 0 refl) $ free_all ! refl $
     -- [the cells; the keys; the token of 'a; what the map follows; the other tokens]
     nothing ! $ move ! (2 ∷ 0 ∷ []) $ fjoin ! $ move ! (1 ∷ 0 ∷ []) $ fjoin ! $ feq_i ! (List Val) (pv ∷ []) (pv ∷ []) refl $ fjoin ! $
     fpack ! (Valss (CR ∷ KR ∷ [])) (within (record { name = []; args = []; types = []; fields = CR ∷ KR ∷ [] }) (e, (keys, tt)) (pv ∷ [])) (u ∷ [], (vptr b ko ∷ [], tt)) $
     suffices ! _ (ends_at 𝓛 En hs c y pv (e, keys) (tt, tt) (tt, tt)) $
-    nothing ! $ nothing ! $ fjoin ! $ join ! $ move ! (1 ∷ 3 ∷ []) $ join ! $ join ! $ frame ! $
-    says ! (AreLent-made gp.eq (λ h k. hash_of gb gj h (gk.hash_input k)) s t.keys t.table.rows v.list e (subst (λ h. Agrees gp.eq (λ k. hash_of gb gj h (gk.hash_input k)) t.keys t.table.rows v.list) (ap (λ h. h.hasher) x.1.0) x.1.1.agrees) (ap (λ h. h.lists) x.1.0) (ap (λ h. h.slots.keys) x.1.0) (ap (λ h. h.slots.values) x.1.0)
-    (record { slots = lent.slots; left = λ p i. record { listed = (lent.left p i).listed; untaken = (lent.left p i).untaken } })) $ done !
-    )))))))
+    nothing ! $ nothing ! $ fjoin ! $ join ! $ move ! (1 ∷ 3 ∷ []) $ join ! $ join ! $ frame ! $ frame ! $ says ! (record { lent = subst (λ r. LendsSlots r e) (ap (λ h. h.slots.values) x.1.0) (LendsSlots-renamed ε rim lent); pairs = map-ended s (view t) t.table.rows x.1.0 x.1.1.agrees refl; ends = λ ws. refl }) $
+    by ! (fact_i 𝓤 _ (emp 𝓤) (AreLent-made gp.eq (λ h k. hash_of gb gj h (gk.hash_input k)) s t.keys t.table.rows v.list e (subst (λ h. Agrees gp.eq (λ k. hash_of gb gj h (gk.hash_input k)) t.keys t.table.rows v.list) (ap (λ h. h.hasher) x.1.0) x.1.1.agrees) (ap (λ h. h.lists) x.1.0) (ap (λ h. h.slots.keys) x.1.0) (ap (λ h. h.slots.values) x.1.0)
+    (LendsSlots-renamed ε rim lent)))
+    ))))))))
     )))))))
     )

@@ -11,9 +11,13 @@ use base.Share
 use base.Fraction.{full_share}
 use base.Fml.{Lft, GName, Fml, ftrue, fsep, fat, flft, fobs, fbor, flent}
 use ghost.Rules.{aged}
+use base.Stored.{Gv, coded×, coded_ℕ}
+use mathlib.Core.Bool.{Bool, true, false}
+use denote.Struct.Struct.{codeds}
 use prog.Memory.{size, align, up}
 use types.Logic.{sem}
 use types.Kit.{‵, raw, ◌⊛◌, some, later, given, ◌$◌, ◌∵◌, !, qed, by, move, drop, group, learn, use0, use1, use2, split, split3, join, fsplit, fsplit3, fjoin, fjoin3, feq_i, feq_l, rewrite, pick, await, suffices, frame, done}
+use types.Follow.{after}
 use types.Late.{deep, ages, aged_up, bor_new_deep}
 use types.Mut.{open_ref}
 use types.SemTy.{SemTy, Body}
@@ -48,20 +52,23 @@ use denote.Triple.Walked.{Stays, stay_dropped, walk_of, ends_at, Goes-spent_ref}
 use Rattle.std.proofs.raw_atomic.Walks.{proved}
 use Rattle.std.proofs.Math.Logic.{∥∥₁_map}
 use Rattle.multimap_slots.specs.Lists.{IsIn}
+use Rattle.std.specs.Prelude.{Option, Some}
 use Rattle.multimap_slots.specs.declared.cells_of.SlotCells.{SlotCells}
+use Rattle.multimap_slots.proofs.CellsLemmas.{LendsSlots-renamed}
 use Rattle.multimap_slots.proofs.Late.{closes_named}
 use Rattle.multimap_walks.specs.declared.links.ValueLink.{ValueLink}
 use Rattle.multimap_walks.specs.RestWalk.{CanReadChain}
-use Rattle.multimap_walks.specs.WritingWalk.{entry_values_mut_name, entry_values_mut_rest, entry_values_mut_positions, EntryValuesMutCanStep}
+use Rattle.multimap_walks.specs.WritingWalk.{entry_values_mut_values, entry_values_mut_name, entry_values_mut_rest, entry_values_mut_positions, EntryValuesMutCanStep}
 use Rattle.multimap_walks.specs.contracts.writing.chain.EntryValuesMut as W-type
 use Rattle.multimap_walks.proofs.writing.chain.EntryValuesMut.TheLaws as W-laws
 use Rattle.ordered_multimap.specs.Agrees.{HasKey}
-use Rattle.ordered_multimap.specs.Entries.{with_map_values}
+use Rattle.ordered_multimap.specs.Entries.{with_entry_items, with_map_values}
+use Rattle.ordered_multimap.specs.EntryLends.{EndsEntry}
 use Rattle.ordered_multimap.specs.Pairs.{positions_of, values_of}
-use Rattle.ordered_multimap.specs.ValuesLent.{with_values_of, KeepsShape}
+use Rattle.ordered_multimap.specs.ValuesLent.{around_values, with_items, with_values_of, EndsMap, KeepsShape}
 use Rattle.ordered_multimap.specs.contracts.list_ordered_multimap.ListOrderedMultimap as M-type
 use Rattle.ordered_multimap.specs.contracts.list_ordered_multimap.entry.OccupiedEntry as E-type
-use Rattle.ordered_multimap.proofs.LentLemmas.{with_values_again}
+use Rattle.ordered_multimap.proofs.WalkRenamed.{entry_values_renamed}
 use Rattle.ordered_multimap.proofs.TakingLemmas.{in_among}
 use Rattle.ordered_multimap.specs.contracts.list_ordered_multimap.ListOrderedMultimap.values_mut_at as g
 use Rattle.ordered_multimap.proofs.list_ordered_multimap.ListOrderedMultimap.values_mut_at.Met.{met}
@@ -96,13 +103,12 @@ iter_mut_spec 𝓤 𝓛 𝓜 𝓡 wired X₀ X₁ X₂ X₃ X₄ L₀ L₁ L₂ 
     let given_back : (w : R.Denot) → ent 𝓤 (sep 𝓤 (A.obs δ (R.coded.code w)) (sep 𝓤 (A.bor κ' (Body (mem R) mb mo δ)) (sem 𝓛 Cell))) (sem 𝓛 (part_at MR full_share (at_last m w) b ro))
     = λ w. qed 𝓛 (‵ (fobs δ (R.coded.code w)) ∷ ‵ (fbor κ' (Body (mem R) mb mo δ)) ∷ ‵ Cell ∷ []) ∵
     feq_i ! (List Val) (mut_vals m) (mut_vals m) refl $ fjoin3 ! $ move ! (1 ∷ 0 ∷ []) $ by ! (part_in_at 𝓛 MR refl full_share (at_last m w) b ro τ refl (vptr mb mo)) in
-    let back : (w : R.Denot) → ent 𝓤 (sep 𝓤 (sem 𝓛 (part_at MR full_share (at_last m (with_values_of m.now w)) b ro)) (sep 𝓤 (sem 𝓛 ftrue) Rest)) (sem 𝓛 (part_at E full_share (with_map_values s (with_map_values s w).map.now) b o))
+    let back : (w : R.Denot) → ent 𝓤 (sep 𝓤 (sem 𝓛 (part_at MR full_share (at_last m (with_values_of m.now w)) b ro)) (sep 𝓤 (sem 𝓛 ftrue) Rest)) (sem 𝓛 (part_at E full_share (with_map_values s w) b o))
     = λ w. qed 𝓛 (‵ (part_at MR full_share (at_last m (with_values_of m.now w)) b ro) ∷ ‵ ftrue ∷ (‵ Place ⊛ raw Back) ∷ []) ∵
-    rewrite ! 0 (λ (n : R.Denot). ‵ (part_at MR full_share (at_last m n) b ro)) (sym (with_values_again m.now w)) refl $
     move ! (2 ∷ []) $ split ! $ use1 𝓛 (‵ (part_at usize full_share s.place b po)) (uint_in 𝓛 full_share w64 s.place b po) $
     -- [the place; the way back; the reference; true]
     move ! (0 ∷ 3 ∷ []) $ fjoin ! $ move ! (2 ∷ 0 ∷ []) $
-    by ! (field_back 𝓛 full_share [] ms (at_last m (with_values_of m.now (with_values_of m.now w)), (s.place, tt)) b o 0) in
+    by ! (field_back 𝓛 full_share [] ms (at_last m (with_values_of m.now w), (s.place, tt)) b o 0) in
     let y : (walk_of 𝓛 En hs c).Ghost = ((κs, qs, bounds, a, (mut_vals a.0, tt)), ghost) in let Post : Val → SProp 𝓤 = (walk_of 𝓛 En hs c).post y in
     qed 𝓛 (((‵ (flft κ q) ⊛ ‵ (flft κ' q') ⊛ ‵ (flft κs.1.1.0 qs.1.1.0) ⊛ ‵ (flft κs.1.1.1.0 qs.1.1.1.0) ⊛ ‵ (flft κs.1.1.1.1.0 qs.1.1.1.1.0) ⊛ ‵ (flft κs.1.1.1.1.1.0 qs.1.1.1.1.1.0) ⊛ ‵ (flft κs.1.1.1.1.1.1.0 qs.1.1.1.1.1.1.0) ⊛ ‵ ftrue) ⊛ ‵ ((MutRef (named 0) κ E).own_val a.0 (mut_vals a.0)) ⊛ ‵ ftrue)
     ∷ (given (κs.1.1.0 ⊑ K.lives) (‵ ftrue) ⊛ given (κs.1.1.1.0 ⊑ V.lives) (‵ ftrue) ⊛ given (κs.1.1.1.1.0 ⊑ S.lives) (‵ ftrue) ⊛ given (κs.1.1.1.1.1.0 ⊑ B.lives) (‵ ftrue) ⊛ given (κs.1.1.1.1.1.1.0 ⊑ J.lives) (‵ ftrue) ⊛ ‵ ftrue) ∷ []) ∵
@@ -149,12 +155,14 @@ iter_mut_spec 𝓤 𝓛 𝓜 𝓡 wired X₀ X₁ X₂ X₃ X₄ L₀ L₁ L₂ 
     let a' = named_lft 6 0 tt κt in let CR : RattleType = W-type.the_row a' K V B ga in
     let CR-is : Laws CR = W-laws.the_row_laws a' K V B ga (param_laws 0 X₀ L₀) (param_laws 1 X₁ L₁) (param_laws 3 X₃ L₃) in
     let Ready : CR.Denot → Type 0 = λ w. EntryValuesMutCanStep w in
+    let Ends : CR.Denot → Type 0 = λ w. EndsEntry K V S B J ga s (entry_values_mut_values w) in
     let Values : CR.Denot → Type 0 = λ w. (key : K.Denot) → HasKey gp.eq m.now.slots.keys key s.place → entry_values_mut_rest w ≡ values_of gp.eq m.now.lists.pairs key in
     let Positions : CR.Denot → Type 0 = λ w. (key : K.Denot) → HasKey gp.eq m.now.slots.keys key s.place → entry_values_mut_positions w ≡ positions_of gp.eq m.now.lists.pairs key in
+    let Ended : CR.Denot → Type 0 = λ w. EndsMap K V S m.now (entry_values_mut_values w) in
     calls_at ! (framed 𝓤 H 𝓜 𝓣) G (met 𝓤 𝓛 𝓜 𝓡 (code.calls-ordered_multimap::list_ordered_multimap::ListOrderedMultimap::values_mut_at 𝓡.env wired) X₀ X₁ X₂ X₃ X₄ L₀ L₁ L₂ L₃ L₄ ge de gp dp gk dk gb db gj dj ga da dA dJ m₁ m₂ m₃ m₄ m₅ m₆ m₇ m₈) zc (and_then ! (get ! refl) (and_then ! (get ! refl) (no_more !))) (λ u.
     use1 𝓛 (later (some (λ (w : CR.Denot). ((‵ (flft κ r) ⊛ ‵ (flft κs.1.1.0 qs.1.1.0) ⊛ ‵ (flft κs.1.1.1.0 qs.1.1.1.0) ⊛ ‵ (flft κs.1.1.1.1.0 qs.1.1.1.1.0) ⊛ ‵ (flft κs.1.1.1.1.1.0 qs.1.1.1.1.1.0) ⊛ ‵ (flft κs.1.1.1.1.1.1.0 qs.1.1.1.1.1.1.0) ⊛ ‵ ftrue) ⊛ ‵ (CR.own_val w (u ∷ []))) ⊛
-    some (λ (ws : Unit {0} × (Unit {0} × Unit {0})). ‵ (lasts (g.ended X₀ X₁ X₂ X₃ X₄ ge de gp dp gk dk gb db gj dj ga da dA dJ) κt (rv, (s.place, tt)) ws) ⊛ (‵ (follows R R ε₀ (entry_values_mut_name w) (with_values_of m.now)) ⊛ (raw (fact 𝓤 (Ready w)) ⊛ raw (fact 𝓤 (Values w)) ⊛ raw (fact 𝓤 (Positions w)) ⊛ raw (fact 𝓤 (KeepsShape m.now)))))))) (id⊢ 𝓤 _) $
-    await ! tt $ pick ! (λ w. split ! $ move ! (1 ∷ []) $ pick ! (λ ws. split3 ! $ drop ! $ move ! (1 ∷ []) $ split3 ! $ heard ! (Ready w) (λ ready. heard ! (Values w) (λ values. split ! $ heard ! (Positions w) (λ positions. drop ! $
+    some (λ (ws : Unit {0} × (Unit {0} × Unit {0})). ‵ (lasts (g.ended X₀ X₁ X₂ X₃ X₄ ge de gp dp gk dk gb db gj dj ga da dA dJ) κt (rv, (s.place, tt)) ws) ⊛ (‵ (follows R R ε₀ (entry_values_mut_name w) (with_values_of m.now)) ⊛ (raw (fact 𝓤 (Ready w)) ⊛ raw (fact 𝓤 (Values w)) ⊛ raw (fact 𝓤 (Positions w)) ⊛ raw (fact 𝓤 (KeepsShape m.now)) ⊛ raw (fact 𝓤 (Ended w)))))))) (id⊢ 𝓤 _) $
+    await ! tt $ pick ! (λ w. split ! $ move ! (1 ∷ []) $ pick ! (λ ws. split3 ! $ drop ! $ move ! (1 ∷ []) $ split3 ! $ heard ! (Ready w) (λ ready. heard ! (Values w) (λ values. split3 ! $ heard ! (Positions w) (λ positions. drop ! $ heard ! (Ended w) (λ ended.
     -- [what the map follows; the tokens and the walk; the token of 'map; the right to the reference; the right to nothing; the place; the way back; the open borrow; obs; auth]
     move ! (1 ∷ []) $ split ! $ split ! $ move ! (2 ∷ []) $ peeks ! CR (Is CR) (shows 𝓛 CR) w (u ∷ []) (λ is.
     let ok-u = ((CR-is.lawful 𝓛).typed w (u ∷ []) is).0 in
@@ -163,25 +171,26 @@ iter_mut_spec 𝓤 𝓛 𝓜 𝓡 wired X₀ X₁ X₂ X₃ X₄ L₀ L₁ L₂ 
     move ! (7 ∷ 8 ∷ []) $ join ! $ move ! (6 ∷ 7 ∷ []) $ join ! $
     -- [the rights; the rest; the walk; half the token; the tokens of the types; what the map follows; the token of 'map; the open borrow; obs; auth]
     move ! (7 ∷ 8 ∷ 9 ∷ 0 ∷ 5 ∷ 1 ∷ []) $ group ! 6 $
-    use1 𝓛 (later (some (λ (ε : GName). ‵ (flft κ l) ⊛ ‵ (follows E E γ ε (λ h. with_map_values s h.map.now)))))
-    (closes_named 𝓛 (mem E) Seen (mem R) (with_values_of m.now) (with_map_values s) (λ h. with_map_values s h.map.now) κ l b o b ro γ ε₀ (entry_values_mut_name w) ftrue Rest back k (E.coded.code s) (E.coded.code s) s) $
-    await ! tt $ pick ! (λ ε. split ! $
-    -- [half the token; what the entry follows; the walk; the other half; the tokens of the types; the token of 'map]
-    move ! (0 ∷ 3 ∷ []) $ use2 𝓛 (‵ (flft κ q)) (𝓛.lfts.lft_join κ q) $ move ! (4 ∷ 3 ∷ []) $ join ! $
-    -- [the other tokens; the token of 'a; what the entry follows; the walk]
-    let lent : SlotCells V.Denot ValueLink B.Denot = record w.values { cells = record w.values.cells { whole = ε } } in
+    use1 𝓛 (later (some (λ (ε : GName). ‵ (flft κ l) ⊛ ‵ (follows E E γ ε (λ h. with_map_values s h.map.now)) ⊛ ‵ (after (mem E) (mem R) ε (entry_values_mut_name w) (λ n. with_entry_items s n.slots.values.items)))))
+    (closes_named 𝓛 (mem E) Seen (mem R) (with_values_of m.now) (λ n. with_entry_items s n.slots.values.items) (λ h. with_map_values s h.map.now) κ l b o b ro γ ε₀ (entry_values_mut_name w) ftrue Rest back k (E.coded.code s) (E.coded.code s) s) $
+    await ! tt $ pick ! (λ ε. split3 ! $
+    -- [half the token; what the entry follows; what its name follows; the walk; the other half; the tokens of the types; the token of 'map]
+    move ! (0 ∷ 4 ∷ []) $ use2 𝓛 (‵ (flft κ q)) (𝓛.lfts.lft_join κ q) $ move ! (5 ∷ 4 ∷ []) $ join ! $
+    -- [the other tokens; the token of 'a; what the entry follows; what its name follows; the walk]
+    let rim : Option (List (Bool × Gv)) = Some ((false, (codeds (usize ∷ [])).code (s.place, tt)) ∷ (true, (coded× coded_ℕ coded_ℕ).code m.ref_ptr) ∷ (true, coded_ℕ.code δ) ∷ around_values K.coded V.coded S.coded m.now) in
+    let lent : SlotCells V.Denot ValueLink B.Denot = record w.values { cells = record w.values.cells { whole = ε; around = rim } } in
     let again : CanReadChain w.values w.left → CanReadChain lent w.left
     = λ left. record { chain = left.chain; untaken = record { distinct = left.untaken.distinct; each = λ p i. record { listed = (left.untaken.each p i).listed; untaken = (left.untaken.each p i).untaken } } } in
     let e : CR.Denot = record w { values = lent; readable = ∥∥₁_map w.readable again } in
-    move ! (3 ∷ 1 ∷ 2 ∷ 0 ∷ []) $ use1 𝓛 (‵ (CR.own_val e (u ∷ []))) (id⊢ 𝓤 _) $
+    move ! (4 ∷ 3 ∷ []) $ use2 𝓛 (‵ (CR.own_val e (u ∷ []))) (entry_values_renamed 𝓛 a' K V B ga (mem E) (mem R) (λ n. with_entry_items s n.slots.values.items) (λ ws. with_items m.now ws) ε rim w (u ∷ []) (∥∥₁_map w.readable again) (λ ws. sym (ended.ends ws)) (λ ws. refl)) $ move ! (0 ∷ 2 ∷ 3 ∷ 1 ∷ []) $
     returns ! (look_at ! 0 refl) $ free_all ! refl $
     -- [the walk; the token of 'a; what the entry follows; the other tokens]
     suffices ! _ (ends_at 𝓛 En hs c y u e (tt, tt) (tt, tt)) $
     nothing ! $ nothing ! $ fjoin ! $ join ! $ move ! (1 ∷ 3 ∷ []) $ join ! $ join ! $ frame ! $
     let left = again (record { chain = ready.chain; untaken = ready.untaken }) in
     let ready' : Ready e = record { chain = left.chain; untaken = left.untaken; count = ready.count } in
-    use0 𝓛 (raw (fact 𝓤 (Positions e))) (fact_i 𝓤 (Positions e) (emp 𝓤) positions) $ use0 𝓛 (raw (fact 𝓤 (Values e))) (fact_i 𝓤 (Values e) (emp 𝓤) values) $ join ! $
+    use0 𝓛 (raw (fact 𝓤 (Ends e))) (fact_i 𝓤 (Ends e) (emp 𝓤) (record { lent = LendsSlots-renamed ε rim ended.lent; pairs = ended.pairs; ends = λ ws. refl })) $ use0 𝓛 (raw (fact 𝓤 (Positions e))) (fact_i 𝓤 (Positions e) (emp 𝓤) positions) $ join ! $ use0 𝓛 (raw (fact 𝓤 (Values e))) (fact_i 𝓤 (Values e) (emp 𝓤) values) $ join ! $
     use0 𝓛 (raw (fact 𝓤 (Ready e))) (fact_i 𝓤 (Ready e) (emp 𝓤) ready') $ join ! $ move ! (1 ∷ 0 ∷ []) $ done !
-    ))))))
+    )))))))
     )))))))
     )))))))

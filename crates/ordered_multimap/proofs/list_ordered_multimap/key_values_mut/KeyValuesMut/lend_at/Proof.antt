@@ -11,9 +11,13 @@ use base.Share
 use base.Fraction.{full_share}
 use base.Fml.{Lft, GName, Fml, ftrue, fsep, fat, flft, fobs, fbor, flent}
 use ghost.Rules.{aged}
+use base.Stored.{Gv, coded×, coded_ℕ}
+use mathlib.Core.Bool.{Bool, true, false}
+use denote.Struct.Struct.{codeds}
 use prog.Memory.{size, align, up}
 use types.Logic.{sem}
 use types.Kit.{‵, raw, ◌⊛◌, some, later, given, ◌$◌, ◌∵◌, !, qed, by, move, keep, drop, group, learn, use0, use1, use2, split, split3, join, fsplit, fsplit3, fjoin, fjoin3, feq_i, feq_l, rewrite, pick, await, done}
+use types.Follow.{after}
 use types.Late.{deep, ages, aged_up, bor_new_deep}
 use types.Mut.{open_ref}
 use types.SemTy.{SemTy, Body}
@@ -48,26 +52,27 @@ use denote.Triple.Table.{framed}
 use denote.Triple.Walked.{Stays, stay_dropped, walk_of, Goes-spent_ref, Goes-dropped}
 use Rattle.std.proofs.raw_atomic.Walks.{proved, leaves}
 use Rattle.std.proofs.Math.Logic.{∥∥₁_map}
-use Rattle.std.specs.Prelude.{Some}
+use Rattle.std.specs.Prelude.{Option, Some}
 use Rattle.multimap_slots.specs.Lists.{IsIn}
 use Rattle.multimap_slots.specs.Slots.{item_at}
 use Rattle.multimap_slots.specs.declared.cells_of.SlotCells.{SlotCells}
+use Rattle.multimap_slots.proofs.CellsLemmas.{LendsSlots-renamed}
 use Rattle.multimap_slots.proofs.Late.{closes_named}
 use Rattle.multimap_walks.specs.declared.links.ValueLink.{ValueLink}
 use Rattle.multimap_walks.specs.RestWalk.{CanReadChain}
-use Rattle.multimap_walks.specs.WritingWalk.{entry_values_mut_name, entry_values_mut_rest, entry_values_mut_positions, EntryValuesMutCanStep}
+use Rattle.multimap_walks.specs.WritingWalk.{entry_values_mut_values, entry_values_mut_name, entry_values_mut_rest, entry_values_mut_positions, EntryValuesMutCanStep}
 use Rattle.multimap_walks.specs.contracts.links.ChainEnds as C-type
 use Rattle.multimap_walks.proofs.links.ChainEnds.TheLaws as C-laws
 use Rattle.multimap_walks.specs.contracts.writing.chain.EntryValuesMut as W-type
 use Rattle.multimap_walks.proofs.writing.chain.EntryValuesMut.TheLaws as W-laws
 use Rattle.ordered_multimap.specs.Agrees.{HasKey}
 use Rattle.ordered_multimap.proofs.Pairs.{both, both_typed, pair_out, pair_in}
-use Rattle.ordered_multimap.specs.WalkLends.{with_walk_values}
+use Rattle.ordered_multimap.specs.WalkLends.{EndsWalk, with_walk_items, with_walk_values}
 use Rattle.ordered_multimap.specs.Pairs.{positions_of, values_of}
-use Rattle.ordered_multimap.specs.ValuesLent.{with_values_of, KeepsShape}
+use Rattle.ordered_multimap.specs.ValuesLent.{around_values, with_items, with_values_of, EndsMap, KeepsShape}
 use Rattle.ordered_multimap.specs.contracts.list_ordered_multimap.ListOrderedMultimap as M-type
 use Rattle.ordered_multimap.specs.contracts.list_ordered_multimap.key_values_mut.KeyValuesMut as E-type
-use Rattle.ordered_multimap.proofs.LentLemmas.{with_values_again}
+use Rattle.ordered_multimap.proofs.WalkRenamed.{entry_values_renamed}
 use Rattle.ordered_multimap.specs.contracts.list_ordered_multimap.ListOrderedMultimap.key_values_mut_at as g
 use Rattle.ordered_multimap.proofs.list_ordered_multimap.ListOrderedMultimap.key_values_mut_at.Met.{met}
 use Rattle.ordered_multimap.specs.contracts.list_ordered_multimap.key_values_mut.KeyValuesMut.lend_at as F
@@ -102,13 +107,12 @@ lend_at_spec 𝓤 𝓛 𝓜 𝓡 wired X₀ X₁ X₂ X₃ X₄ L₀ L₁ L₂ L
     let given_back : (w : R.Denot) → ent 𝓤 (sep 𝓤 (A.obs δ (R.coded.code w)) (sep 𝓤 (A.bor κ' (Body (mem R) mb mo δ)) (sem 𝓛 Cell))) (sem 𝓛 (part_at MR full_share (at_last m w) b ro))
     = λ w. qed 𝓛 (‵ (fobs δ (R.coded.code w)) ∷ ‵ (fbor κ' (Body (mem R) mb mo δ)) ∷ ‵ Cell ∷ []) ∵
     feq_i ! (List Val) (mut_vals m) (mut_vals m) refl $ fjoin3 ! $ move ! (1 ∷ 0 ∷ []) $ by ! (part_in_at 𝓛 MR refl full_share (at_last m w) b ro τ refl (vptr mb mo)) in
-    let back : (w : R.Denot) → ent 𝓤 (sep 𝓤 (sem 𝓛 (part_at MR full_share (at_last m (with_values_of m.now w)) b ro)) (sep 𝓤 (sem 𝓛 ftrue) Rest)) (sem 𝓛 (part_at E full_share (with_walk_values s (with_walk_values s w).map.now) b o))
+    let back : (w : R.Denot) → ent 𝓤 (sep 𝓤 (sem 𝓛 (part_at MR full_share (at_last m (with_values_of m.now w)) b ro)) (sep 𝓤 (sem 𝓛 ftrue) Rest)) (sem 𝓛 (part_at E full_share (with_walk_values s w) b o))
     = λ w. qed 𝓛 (‵ (part_at MR full_share (at_last m (with_values_of m.now w)) b ro) ∷ ‵ ftrue ∷ (‵ Left ⊛ raw Back) ∷ []) ∵
-    rewrite ! 0 (λ (n : R.Denot). ‵ (part_at MR full_share (at_last m n) b ro)) (sym (with_values_again m.now w)) refl $
     move ! (2 ∷ []) $ split ! $
     -- [the ends; the way back; the reference; true]
     move ! (0 ∷ 3 ∷ []) $ fjoin ! $ move ! (2 ∷ 0 ∷ []) $
-    by ! (field_back 𝓛 full_share [] ms (at_last m (with_values_of m.now (with_values_of m.now w)), (s.left, tt)) b o 0) in
+    by ! (field_back 𝓛 full_share [] ms (at_last m (with_values_of m.now w), (s.left, tt)) b o 0) in
     let y : (walk_of 𝓛 En hs c).Ghost = ((κs, qs, bounds, a, (mut_vals a.0, (at_place, tt))), ghost) in let Post : Val → SProp 𝓤 = (walk_of 𝓛 En hs c).post y in
     qed 𝓛 (((‵ (flft κ q) ⊛ ‵ (flft κ' q') ⊛ ‵ (flft κs.1.1.0 qs.1.1.0) ⊛ ‵ (flft κs.1.1.1.0 qs.1.1.1.0) ⊛ ‵ (flft κs.1.1.1.1.0 qs.1.1.1.1.0) ⊛ ‵ (flft κs.1.1.1.1.1.0 qs.1.1.1.1.1.0) ⊛ ‵ (flft κs.1.1.1.1.1.1.0 qs.1.1.1.1.1.1.0) ⊛ ‵ ftrue) ⊛ ‵ ((MutRef (named 0) κ E).own_val a.0 (mut_vals a.0)) ⊛ ‵ (usize.own_val place at_place) ⊛ ‵ ftrue)
     ∷ (given (κs.1.1.0 ⊑ K.lives) (‵ ftrue) ⊛ given (κs.1.1.1.0 ⊑ V.lives) (‵ ftrue) ⊛ given (κs.1.1.1.1.0 ⊑ S.lives) (‵ ftrue) ⊛ given (κs.1.1.1.1.1.0 ⊑ B.lives) (‵ ftrue) ⊛ given (κs.1.1.1.1.1.1.0 ⊑ J.lives) (‵ ftrue) ⊛ raw (fact 𝓤 Listed)) ∷ []) ∵
@@ -155,10 +159,12 @@ lend_at_spec 𝓤 𝓛 𝓜 𝓡 wired X₀ X₁ X₂ X₃ X₄ L₀ L₁ L₂ L
     let Key : Q.Denot → Type 0 = λ q. item_at m.now.slots.keys place ≡ Some q.0.now in let Ready : Q.Denot → Type 0 = λ q. EntryValuesMutCanStep q.1 in
     let Values : Q.Denot → Type 0 = λ q. (key : K.Denot) → HasKey gp.eq m.now.slots.keys key place → entry_values_mut_rest q.1 ≡ values_of gp.eq m.now.lists.pairs key in
     let Positions : Q.Denot → Type 0 = λ q. (key : K.Denot) → HasKey gp.eq m.now.slots.keys key place → entry_values_mut_positions q.1 ≡ positions_of gp.eq m.now.lists.pairs key in
+    let Ends : Q.Denot → Type 0 = λ q. EndsWalk K V S B J ga s (entry_values_mut_values q.1) in
+    let Ended : CR.Denot → Type 0 = λ w. EndsMap K V S m.now (entry_values_mut_values w) in
     calls_at ! (framed 𝓤 H 𝓜 𝓣) G (met 𝓤 𝓛 𝓜 𝓡 (code.calls-ordered_multimap::list_ordered_multimap::ListOrderedMultimap::key_values_mut_at 𝓡.env wired) X₀ X₁ X₂ X₃ X₄ L₀ L₁ L₂ L₃ L₄ ge de gp dp gk dk gb db gj dj ga da dA dJ m₁ m₂ m₃ m₄ m₅ m₆ m₇ m₈) zc (and_then ! (get ! refl) (and_then ! (get ! refl) (no_more !))) (λ u.
     use1 𝓛 (later (some (λ (w : Q.Denot). ((‵ (flft κ r) ⊛ ‵ (flft κs.1.1.0 qs.1.1.0) ⊛ ‵ (flft κs.1.1.1.0 qs.1.1.1.0) ⊛ ‵ (flft κs.1.1.1.1.0 qs.1.1.1.1.0) ⊛ ‵ (flft κs.1.1.1.1.1.0 qs.1.1.1.1.1.0) ⊛ ‵ (flft κs.1.1.1.1.1.1.0 qs.1.1.1.1.1.1.0) ⊛ ‵ ftrue) ⊛ ‵ (Q.own_val w (u ∷ []))) ⊛
-    some (λ (ws : Unit {0} × (Unit {0} × Unit {0})). ‵ (lasts (g.ended X₀ X₁ X₂ X₃ X₄ ge de gp dp gk dk gb db gj dj ga da dA dJ) κt (rv, (place, tt)) ws) ⊛ (‵ (follows R R ε₀ (entry_values_mut_name w.1) (with_values_of m.now)) ⊛ (raw (fact 𝓤 (Key w)) ⊛ raw (fact 𝓤 (Ready w)) ⊛ raw (fact 𝓤 (Values w)) ⊛ raw (fact 𝓤 (Positions w)) ⊛ raw (fact 𝓤 (KeepsShape m.now)))))))) (id⊢ 𝓤 _) $
-    await ! tt $ pick ! (λ kv. let w = kv.1 in split ! $ move ! (1 ∷ []) $ pick ! (λ ws. split3 ! $ drop ! $ move ! (1 ∷ []) $ split3 ! $ heard ! (Key kv) (λ key. heard ! (Ready kv) (λ ready. split3 ! $ heard ! (Values kv) (λ values. drop ! $ drop ! $
+    some (λ (ws : Unit {0} × (Unit {0} × Unit {0})). ‵ (lasts (g.ended X₀ X₁ X₂ X₃ X₄ ge de gp dp gk dk gb db gj dj ga da dA dJ) κt (rv, (place, tt)) ws) ⊛ (‵ (follows R R ε₀ (entry_values_mut_name w.1) (with_values_of m.now)) ⊛ (raw (fact 𝓤 (Key w)) ⊛ raw (fact 𝓤 (Ready w)) ⊛ raw (fact 𝓤 (Values w)) ⊛ raw (fact 𝓤 (Positions w)) ⊛ raw (fact 𝓤 (KeepsShape m.now)) ⊛ raw (fact 𝓤 (Ended w.1)))))))) (id⊢ 𝓤 _) $
+    await ! tt $ pick ! (λ kv. let w = kv.1 in split ! $ move ! (1 ∷ []) $ pick ! (λ ws. split3 ! $ drop ! $ move ! (1 ∷ []) $ split3 ! $ heard ! (Key kv) (λ key. heard ! (Ready kv) (λ ready. split3 ! $ heard ! (Values kv) (λ values. drop ! $ split ! $ drop ! $ heard ! (Ended kv.1) (λ ended.
     -- [what the map follows; the tokens and the key with its walk; the token of 'map; the right to the reference; the right to nothing; the ends; the way back; the open borrow; obs; auth]
     move ! (1 ∷ []) $ split ! $ split ! $ move ! (2 ∷ []) $ pair_out Sk CR ! refl (shr_Lawful 𝓛 (named 0) κ K) CR-is.one (CR-is.lawful 𝓛) kv.0 w (u ∷ []) (λ i j gi gj iq.
     let v : Val = both i j in lands_as ! (ap only iq) refl (both_typed (layout Sk) (layout CR) i j gi gj) $ move ! (1 ∷ 2 ∷ 3 ∷ 4 ∷ 5 ∷ 6 ∷ 7 ∷ 8 ∷ 9 ∷ 10 ∷ 11 ∷ 12 ∷ []) $
@@ -166,22 +172,23 @@ lend_at_spec 𝓤 𝓛 𝓜 𝓡 wired X₀ X₁ X₂ X₃ X₄ L₀ L₁ L₂ L
     move ! (7 ∷ 8 ∷ []) $ join ! $ move ! (6 ∷ 7 ∷ []) $ join ! $
     -- [the rights; the rest; the values' walk; half the token; the tokens of the types; what the map follows; the token of 'map; the open borrow; obs; auth; the key]
     move ! (7 ∷ 8 ∷ 9 ∷ 0 ∷ 5 ∷ 1 ∷ []) $ group ! 6 $
-    use1 𝓛 (later (some (λ (ε : GName). ‵ (flft κ l) ⊛ ‵ (follows E E γ ε (λ h. with_walk_values s h.map.now)))))
-    (closes_named 𝓛 (mem E) Seen (mem R) (with_values_of m.now) (with_walk_values s) (λ h. with_walk_values s h.map.now) κ l b o b ro γ ε₀ (entry_values_mut_name w) ftrue Rest back k (E.coded.code s) (E.coded.code s) s) $
-    await ! tt $ pick ! (λ ε. split ! $
-    -- [half the token; what the walk follows; the values' walk; the other half; the tokens of the types; the token of 'map; the key]
-    move ! (0 ∷ 3 ∷ []) $ use2 𝓛 (‵ (flft κ q)) (𝓛.lfts.lft_join κ q) $ move ! (4 ∷ 3 ∷ []) $ join ! $
-    -- [the other tokens; the token of 'a; what the walk follows; the values' walk; the key]
-    let lent : SlotCells V.Denot ValueLink B.Denot = record w.values { cells = record w.values.cells { whole = ε } } in
+    use1 𝓛 (later (some (λ (ε : GName). ‵ (flft κ l) ⊛ ‵ (follows E E γ ε (λ h. with_walk_values s h.map.now)) ⊛ ‵ (after (mem E) (mem R) ε (entry_values_mut_name w) (λ n. with_walk_items s n.slots.values.items)))))
+    (closes_named 𝓛 (mem E) Seen (mem R) (with_values_of m.now) (λ n. with_walk_items s n.slots.values.items) (λ h. with_walk_values s h.map.now) κ l b o b ro γ ε₀ (entry_values_mut_name w) ftrue Rest back k (E.coded.code s) (E.coded.code s) s) $
+    await ! tt $ pick ! (λ ε. split3 ! $
+    -- [half the token; what the walk follows; what its name follows; the values' walk; the other half; the tokens of the types; the token of 'map; the key]
+    move ! (0 ∷ 4 ∷ []) $ use2 𝓛 (‵ (flft κ q)) (𝓛.lfts.lft_join κ q) $ move ! (5 ∷ 4 ∷ []) $ join ! $
+    -- [the other tokens; the token of 'a; what the walk follows; what its name follows; the values' walk; the key]
+    let rim : Option (List (Bool × Gv)) = Some ((false, (codeds (CE ∷ [])).code (s.left, tt)) ∷ (true, (coded× coded_ℕ coded_ℕ).code m.ref_ptr) ∷ (true, coded_ℕ.code δ) ∷ around_values K.coded V.coded S.coded m.now) in
+    let lent : SlotCells V.Denot ValueLink B.Denot = record w.values { cells = record w.values.cells { whole = ε; around = rim } } in
     let again : CanReadChain w.values w.left → CanReadChain lent w.left
     = λ left. record { chain = left.chain; untaken = record { distinct = left.untaken.distinct; each = λ p i. record { listed = (left.untaken.each p i).listed; untaken = (left.untaken.each p i).untaken } } } in
     let e : CR.Denot = record w { values = lent; readable = ∥∥₁_map w.readable again } in
-    move ! (3 ∷ 1 ∷ 2 ∷ 0 ∷ []) $ use1 𝓛 (‵ (CR.own_val e (j ∷ []))) (id⊢ 𝓤 _) $ move ! (4 ∷ 0 ∷ []) $ pair_in Sk CR ! kv.0 e i j $
+    move ! (4 ∷ 3 ∷ []) $ use2 𝓛 (‵ (CR.own_val e (j ∷ []))) (entry_values_renamed 𝓛 a' K V B ga (mem E) (mem R) (λ n. with_walk_items s n.slots.values.items) (λ ws. with_items m.now ws) ε rim w (j ∷ []) (∥∥₁_map w.readable again) (λ ws. sym (ended.ends ws)) (λ ws. refl)) $ move ! (0 ∷ 2 ∷ 3 ∷ 1 ∷ []) $ move ! (4 ∷ 0 ∷ []) $ pair_in Sk CR ! kv.0 e i j $
     -- [the key with its walk; the token of 'a; what the walk follows; the other tokens]
     returns ! (look_at ! 0 refl) $ free_all ! refl $ move ! (1 ∷ 3 ∷ []) $ join ! $
     let out : Q.Denot = (kv.0, e) in let left = again (record { chain = ready.chain; untaken = ready.untaken }) in
     let ready' : Ready out = record { chain = left.chain; untaken = left.untaken; count = ready.count } in
-    use0 𝓛 (raw (fact 𝓤 (Values out))) (fact_i 𝓤 (Values out) (emp 𝓤) values) $ use0 𝓛 (raw (fact 𝓤 (Ready out))) (fact_i 𝓤 (Ready out) (emp 𝓤) ready') $ join ! $
+    use0 𝓛 (raw (fact 𝓤 (Ends out))) (fact_i 𝓤 (Ends out) (emp 𝓤) (record { lent = LendsSlots-renamed ε rim ended.lent; pairs = ended.pairs; ends = λ ws. refl })) $ use0 𝓛 (raw (fact 𝓤 (Values out))) (fact_i 𝓤 (Values out) (emp 𝓤) values) $ join ! $ use0 𝓛 (raw (fact 𝓤 (Ready out))) (fact_i 𝓤 (Ready out) (emp 𝓤) ready') $ join ! $
     use0 𝓛 (raw (fact 𝓤 (Key out))) (fact_i 𝓤 (Key out) (emp 𝓤) key) $ join ! $ move ! (3 ∷ 0 ∷ []) $ join ! $ nothing ! $ nothing ! $ fjoin ! $ nothing ! $ fjoin ! $
     keep ! (2 ∷ 0 ∷ 3 ∷ 1 ∷ []) $ by ! (leaves 𝓛 En hs c y v out (tt, (tt, tt)) (tt, (tt, tt)))
-    ))))))))))))))))))))
+    )))))))))))))))))))))

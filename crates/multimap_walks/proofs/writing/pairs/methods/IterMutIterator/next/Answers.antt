@@ -2,9 +2,11 @@ use Rattle.std.proofs.Common.{◌∙◌, ◌∷◌, ap, arith, subst, sym}
 use Rattle.std.specs.Borrow.{Bor, MutBor}
 use Rattle.std.specs.Map.Iter.{deref_pair_mut}
 use Rattle.multimap_slots.specs.SlotCells.{lent_slots}
-use Rattle.multimap_walks.specs.Chained.{AreOwned, pair_at}
+use Rattle.multimap_walks.specs.Chained.{AreOwned, pair_at, positions_at}
+use Rattle.multimap_walks.specs.Along.{places_left}
 use Rattle.multimap_walks.specs.PairWalk.{pairs_left}
 use Rattle.multimap_walks.proofs.AlongLemmas.{shows_first}
+use Rattle.multimap_walks.proofs.ChainLemmas.{first_position_goes}
 use Rattle.multimap_walks.proofs.PairLemmas.{pair_is}
 use Rattle.multimap_walks.proofs.WritingLemmas.{first_is_left, pairs_counted, step_keeps}
 use Rattle.multimap_walks.proofs.writing.pairs.methods.IterMutIterator.next.Goals as goal
@@ -27,6 +29,9 @@ returns-clause-steps g c =
           shows_first (pair_at w.keys.now values) deref_pair_mut _ _ w.left.first given c.in_ok-value.ensures.taken
           (pair_is w.keys.now values w.left.first c.in_ok-value.link c.key_at.result.now c.in_ok-value.value.now slot.1 c.key_at.ensures.item slot.0.item_is)
           ∙ ap (λ s. pair ∷ pairs_left w.keys.now s c.lend_first.new.left) (sym slot.0.slots);
+      positions =
+          ap (λ s. positions_at s (places_left s.order c.lend_first.new.left)) slot.0.slots
+          ∙ first_position_goes (lent_slots w.values) w.left.first (places_left (lent_slots w.values).order w.left) (places_left (lent_slots w.values).order c.lend_first.new.left) c.in_ok-value.ensures.taken;
       ready = record {
         sound = c.requires.sound;
         owned = owned;

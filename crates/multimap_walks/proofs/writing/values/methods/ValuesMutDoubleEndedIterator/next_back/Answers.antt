@@ -1,9 +1,11 @@
 use Rattle.std.proofs.Common.{◌∙◌, ◌++◌, [], ◌∷◌, ap, arith, sym}
 use Rattle.multimap_slots.specs.Slots.{item_at}
 use Rattle.multimap_slots.specs.SlotCells.{lent_slots}
-use Rattle.multimap_walks.specs.Along.{items_left}
+use Rattle.multimap_walks.specs.Along.{items_left, places_left}
+use Rattle.multimap_walks.specs.Chained.{positions_at}
 use Rattle.multimap_walks.specs.WritingWalk.{deref_mut}
 use Rattle.multimap_walks.proofs.AlongLemmas.{shows_last}
+use Rattle.multimap_walks.proofs.ChainLemmas.{last_position_goes}
 use Rattle.multimap_walks.proofs.WritingLemmas.{values_counted}
 use Rattle.multimap_walks.proofs.writing.values.methods.ValuesMutDoubleEndedIterator.next_back.Goals as goal
 
@@ -16,6 +18,9 @@ returns-clause-steps g c =
       steps =
           shows_last (item_at (lent_slots w.values)) deref_mut _ _ w.left.last value c.in_ok-value.ensures.taken slot.0.item_is
           ∙ ap (λ s. items_left s.order (item_at s) c.lend_last.new.left ++ value.now ∷ []) (sym slot.0.slots);
+      positions =
+          ap (λ s. positions_at s (places_left s.order c.lend_last.new.left)) slot.0.slots
+          ∙ last_position_goes (lent_slots w.values) w.left.last (places_left (lent_slots w.values).order w.left) (places_left (lent_slots w.values).order c.lend_last.new.left) c.in_ok-value.ensures.taken;
       ready = record { lends = c.in_ok-value.ensures.can; count = values_counted c.lend_last.new.cells c.lend_last.new.left c.in_ok-value.ensures.can };
       taken = slot.0;
     }

@@ -1,9 +1,11 @@
 use Rattle.std.proofs.Common.{◌∙◌, ◌∷◌, ap, arith, sym}
 use Rattle.multimap_slots.specs.Slots.{item_at}
 use Rattle.multimap_slots.specs.SlotCells.{lent_slots}
-use Rattle.multimap_walks.specs.Along.{items_left}
+use Rattle.multimap_walks.specs.Along.{items_left, places_left}
+use Rattle.multimap_walks.specs.Chained.{positions_at}
 use Rattle.multimap_walks.specs.WritingWalk.{deref_mut}
 use Rattle.multimap_walks.proofs.AlongLemmas.{shows_first}
+use Rattle.multimap_walks.proofs.ChainLemmas.{first_position_goes}
 use Rattle.multimap_walks.proofs.WritingLemmas.{values_counted}
 use Rattle.multimap_walks.proofs.writing.values.methods.ValuesMutIterator.next.Goals as goal
 
@@ -16,6 +18,9 @@ returns-clause-steps g c =
       steps =
           shows_first (item_at (lent_slots w.values)) deref_mut _ _ w.left.first value c.in_ok-value.ensures.taken slot.0.item_is
           ∙ ap (λ s. value.now ∷ items_left s.order (item_at s) c.lend_first.new.left) (sym slot.0.slots);
+      positions =
+          ap (λ s. positions_at s (places_left s.order c.lend_first.new.left)) slot.0.slots
+          ∙ first_position_goes (lent_slots w.values) w.left.first (places_left (lent_slots w.values).order w.left) (places_left (lent_slots w.values).order c.lend_first.new.left) c.in_ok-value.ensures.taken;
       ready = record { lends = c.in_ok-value.ensures.can; count = values_counted c.lend_first.new.cells c.lend_first.new.left c.in_ok-value.ensures.can };
       taken = slot.0;
     }

@@ -1,0 +1,57 @@
+//! What a map has once a walk for writing has ended: at each position that was handed out what its
+//! reference last held, and elsewhere what stood there, also where values of a key are equal.
+use ordered_multimap_callers::lists::has_lists;
+use ordered_multimap_callers::maps::{Numbers, refill};
+use test_helpers::Test;
+
+/// Writes the last value and then the first, while both references live, and lets the walk go with
+/// the one between.
+fn write_ends(map: &mut Numbers) -> bool {
+    let mut walk = map.iter_mut();
+    match (walk.next_back(), walk.next()) {
+        (Some((_, last)), Some((_, first))) => {
+            *last = 30;
+            *first = 10;
+            true
+        }
+        _ => false,
+    }
+}
+
+fn ends_are_written(test: &Test, map: &mut Numbers) {
+    refill(test, map, &[(1, 1), (2, 2), (1, 3)]);
+    test.expect("two steps", write_ends(map));
+    let ends = has_lists(map, &[(1, 10), (2, 2), (1, 30)], &[1, 2]);
+    test.expect("ends", ends);
+    for value in map.values_mut() {
+        *value = value.saturating_add(1);
+    }
+    let all = has_lists(map, &[(1, 11), (2, 3), (1, 31)], &[1, 2]);
+    test.expect("all", all);
+}
+
+/// Writes both values of the key 1, the first by the front step.
+fn write_equal(map: &mut Numbers) -> bool {
+    let mut walk = map.get_all_mut(&1);
+    match (walk.next(), walk.next_back()) {
+        (Some(first), Some(last)) => {
+            *first = 6;
+            *last = 7;
+            true
+        }
+        _ => false,
+    }
+}
+
+fn equal_values_are_told_apart(test: &Test, map: &mut Numbers) {
+    refill(test, map, &[(1, 5), (2, 0), (1, 5)]);
+    test.expect("two steps", write_equal(map));
+    let both = has_lists(map, &[(1, 6), (2, 0), (1, 7)], &[1, 2]);
+    test.expect("equal values", both);
+}
+
+/// Walks that are let go leave each value where it belongs.
+pub fn walks_leave_values(test: &Test, map: &mut Numbers) {
+    ends_are_written(test, map);
+    equal_values_are_told_apart(test, map);
+}
