@@ -49,10 +49,10 @@ fn entry_is_written(test: &Test, map: &mut Numbers) {
 
 fn values_are_updated(test: &Test, map: &mut Numbers) {
     add_three(test, map);
-    map.update_values(|_key, value| *value += 1);
+    map.update_values(|_key, value| *value = value.wrapping_add(1));
     let all = has_pairs(map, &[("line", 2), ("page", 9), ("line", 3)]);
     test.expect("update_values", all);
-    map.update_all(&"line", |value| *value += 1);
+    map.update_all(&"line", |value| *value = value.wrapping_add(1));
     let one = has_pairs(map, &[("line", 3), ("page", 9), ("line", 4)]);
     test.expect("update_all", one);
 }

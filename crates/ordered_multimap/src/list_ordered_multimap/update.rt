@@ -128,7 +128,7 @@ impl<K: Eq + Hash, V, S: BuildHasher, A: Allocator> ListOrderedMultimap<K, V, S,
     /// references.
     ///
     /// ```
-    /// map.update_values(|_key, value| *value += 1);
+    /// map.update_values(|_key, value| *value = value.wrapping_add(1));
     /// ```
     pub fn update_values<F: FnMut(&K, &mut V)>(&mut self, f: F)
         requires { CallableOnEachPair (Updates F.FnMut) (MayUpdate F.FnMut) f
@@ -155,7 +155,7 @@ impl<K: Eq + Hash, V, S: BuildHasher, A: Allocator> ListOrderedMultimap<K, V, S,
     /// the back, or keeps the references.
     ///
     /// ```
-    /// map.update_all(&"line", |value| *value += 1);
+    /// map.update_all(&"line", |value| *value = value.wrapping_add(1));
     /// ```
     pub fn update_all<F: FnMut(&mut V)>(&mut self, key: &K, f: F)
         requires { CallableOnEach F.FnMut f (values_of K.eq self.old.lists.pairs key.now) }
