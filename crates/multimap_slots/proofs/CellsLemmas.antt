@@ -28,6 +28,7 @@ pub LendsSlots-renamed : {T L A : Type 0} {s : Slots T L} {c : SlotCells T L A} 
 LendsSlots-renamed whole around lent = record {
   slots = lent.slots;
   untaken = lent.untaken;
+  named = lent.named;
   left = λ p i. record { listed = (lent.left p i).listed; untaken = (lent.left p i).untaken };
 }
 

@@ -39,8 +39,9 @@ module _ {T L A : Type 0} where
     pub ends : end_names new ≡ slice_set (end_names old) place r.ghost_name
     pub around : new.cells.around ≡ old.cells.around
 
-  -- only the capacity differs, and no item was taken, listed or not
+  -- only the capacity differs, no item was taken, listed or not, and each slot has a name
   pub record LendsSlots (s : Slots T L) (c : SlotCells T L A) : Type 0 where
     pub slots : lent_slots c ≡ record s { capacity = length s.order }
     pub untaken : c.cells.left ≡ replicate (length s.items) true
+    pub named : length (end_names c) ≡ length s.items
     pub left : (p : ℕ) → IsIn p s.order → IsLeft c p

@@ -79,7 +79,7 @@ pub fn write_list_ends(list: &mut List, first: usize, last: usize) -> Lending
     (lent, second, read, write_ends(&mut cells, first, last))
 }
 
-/// The same on a tape.
+/// The same on a tape, where the right to write the item between is given up.
 pub fn write_tape_ends(tape: &mut Items, first: usize, last: usize) -> Lending
     ensures order { tape.new.list.order ≡ tape.old.list.order }
     ensures links { tape.new.list.links ≡ tape.old.list.links }
@@ -91,7 +91,9 @@ pub fn write_tape_ends(tape: &mut Items, first: usize, last: usize) -> Lending
     let lent = lent_of(&cells);
     let second = second_of(&cells);
     let read = read_ends(&cells);
-    (lent, second, read, write_ends(&mut cells, first, last))
+    let were = write_ends(&mut cells, first, last);
+    cells.end();
+    (lent, second, read, were)
 }
 
 // Writes the last item once the order is given up, and gives up the right to the others.

@@ -12,6 +12,7 @@ pub mod filled;
 pub mod lists;
 pub mod maps;
 pub mod retained;
+pub mod stopped;
 pub mod undone;
 pub mod updated;
 pub mod written;

@@ -2,6 +2,8 @@
 //! reference last held, and elsewhere what stood there, also where values of a key are equal.
 use ordered_multimap_callers::lists::has_lists;
 use ordered_multimap_callers::maps::{Numbers, refill};
+use ordered_multimap_callers::stopped::first_by_walk;
+use std::mem;
 use test_helpers::Test;
 
 /// Writes the last value and then the first, while both references live, and lets the walk go with
@@ -50,8 +52,73 @@ fn equal_values_are_told_apart(test: &Test, map: &mut Numbers) {
     test.expect("equal values", both);
 }
 
+/// Writes the last value, and ends the walk by its right to the others.
+fn end_pairs(map: &mut Numbers) -> bool {
+    let mut walk = map.iter_mut();
+    match walk.next_back() {
+        Some((_, last)) => {
+            *last = 30;
+            walk.into_cells().end();
+            true
+        }
+        None => false,
+    }
+}
+
+/// The same with the first value.
+fn end_values(map: &mut Numbers) -> bool {
+    let mut walk = map.values_mut();
+    match walk.next() {
+        Some(first) => {
+            *first = 10;
+            walk.into_cells().end();
+            true
+        }
+        None => false,
+    }
+}
+
+/// The same with the last value of the key 2.
+fn end_values_of_a_key(map: &mut Numbers) -> bool {
+    let mut walk = map.get_all_mut(&2);
+    match walk.next_back() {
+        Some(last) => {
+            *last = 20;
+            walk.into_cells().end();
+            true
+        }
+        None => false,
+    }
+}
+
+fn walks_are_ended(test: &Test, map: &mut Numbers) {
+    refill(test, map, &[(1, 1), (2, 2), (1, 3)]);
+    test.expect("pairs", end_pairs(map));
+    test.expect("values", end_values(map));
+    test.expect("values of a key", end_values_of_a_key(map));
+    let ended = has_lists(map, &[(1, 10), (2, 20), (1, 30)], &[1, 2]);
+    test.expect("ended", ended);
+}
+
+/// Writes the first value, by a walk that is dropped before, and answers the value before.
+fn write_first(map: &mut Numbers) -> Option<u32> {
+    if map.values_len() == 0 {
+        return None;
+    }
+    Some(mem::replace(first_by_walk(map), 7))
+}
+
+fn first_is_written(test: &Test, map: &mut Numbers) {
+    refill(test, map, &[(1, 5), (2, 6), (1, 5)]);
+    test.expect("the value before", write_first(map) == Some(5));
+    let first = has_lists(map, &[(1, 7), (2, 6), (1, 5)], &[1, 2]);
+    test.expect("the first", first);
+}
+
 /// Walks that are let go leave each value where it belongs.
 pub fn walks_leave_values(test: &Test, map: &mut Numbers) {
     ends_are_written(test, map);
     equal_values_are_told_apart(test, map);
+    walks_are_ended(test, map);
+    first_is_written(test, map);
 }

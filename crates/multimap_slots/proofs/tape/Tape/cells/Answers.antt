@@ -12,6 +12,7 @@ returns g c =
         lent = record {
           slots = λ j. record { order = l.order_is j; items = l.made.items_are j; links = l.links_are j; capacity = length (l.order_is j) };
           untaken = l.made.left;
+          named = l.made.named;
           left = λ p i. record {
             listed = rw l.order_is i;
             untaken = ap (λ ls. get_or ls p false) l.made.left ∙ all_left c.args.self.now.list.items p (sound.filled p i);
