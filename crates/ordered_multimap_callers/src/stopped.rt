@@ -1,5 +1,6 @@
 //! A walk for writing that is dropped once it has given one value. The caller is proved by hand,
-//! since a generated proof learns nothing of the loan of a walk.
+//! since a generated proof learns nothing of the loan of a walk; and only a proof by hand can call it,
+//! so no test does.
 ghost use Rattle.std.specs.Prelude.{◌≡◌, ◌<◌, Some, length, option_map};
 ghost use Rattle.std.specs.Borrow.{sem};
 ghost use Rattle.ordered_multimap.specs.End.TheVariants.{Front};

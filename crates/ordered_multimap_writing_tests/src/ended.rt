@@ -2,8 +2,6 @@
 //! reference last held, and elsewhere what stood there, also where values of a key are equal.
 use ordered_multimap_callers::lists::has_lists;
 use ordered_multimap_callers::maps::{Numbers, refill};
-use ordered_multimap_callers::stopped::first_by_walk;
-use std::mem;
 use test_helpers::Test;
 
 /// Writes the last value and then the first, while both references live, and lets the walk go with
@@ -100,25 +98,9 @@ fn walks_are_ended(test: &Test, map: &mut Numbers) {
     test.expect("ended", ended);
 }
 
-/// Writes the first value, by a walk that is dropped before, and answers the value before.
-fn write_first(map: &mut Numbers) -> Option<u32> {
-    if map.values_len() == 0 {
-        return None;
-    }
-    Some(mem::replace(first_by_walk(map), 7))
-}
-
-fn first_is_written(test: &Test, map: &mut Numbers) {
-    refill(test, map, &[(1, 5), (2, 6), (1, 5)]);
-    test.expect("the value before", write_first(map) == Some(5));
-    let first = has_lists(map, &[(1, 7), (2, 6), (1, 5)], &[1, 2]);
-    test.expect("the first", first);
-}
-
 /// Walks that are let go leave each value where it belongs.
 pub fn walks_leave_values(test: &Test, map: &mut Numbers) {
     ends_are_written(test, map);
     equal_values_are_told_apart(test, map);
     walks_are_ended(test, map);
-    first_is_written(test, map);
 }
