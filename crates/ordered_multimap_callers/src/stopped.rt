@@ -1,6 +1,6 @@
 //! A walk for writing that is dropped once it has given one value. The caller is proved by hand,
-//! since a generated proof learns nothing of the loan of a walk; and only a proof by hand can call it,
-//! so no test does.
+//! since a generated proof learns nothing of the loan of a walk. No test calls it: only a function
+//! that is proved by hand can.
 ghost use Rattle.std.specs.Prelude.{◌≡◌, ◌<◌, Some, length, option_map};
 ghost use Rattle.std.specs.Borrow.{sem};
 ghost use Rattle.ordered_multimap.specs.End.TheVariants.{Front};
@@ -30,7 +30,8 @@ fn first_of<'map, K, V, A: Allocator>(
 }
 
 /// The first pair's value, for writing, by a walk over all values that is dropped when it has given
-/// that one. Once the reference has ended, the map has what was written there, and else what it had.
+/// that one. Once the reference has ended, the map has what was written there, and otherwise what
+/// it had.
 pub fn first_by_walk<'map, K: Eq + Hash + Drop, V: Drop, S: BuildHasher, A: Allocator>(
     map: &'map mut ListOrderedMultimap<K, V, S, A>,
 ) -> &'map mut V
