@@ -14,8 +14,8 @@ ends_with_lists K V S γ wanted =
     fsep (feq (Lists K.Denot V.Denot) m.lists wanted)
     (fres γ ((multimap_code K.coded V.coded S.coded).code m)))
 
--- once the reference has ended with a value, so has the loan of the map: its lists are those that it
--- had, with that value in the first pair
+-- once the reference has ended with a value, so has the loan of the map: its lists are those that
+-- it had, with that value in the first pair
 abbrev pub ends_first_written
     : (K V S : RattleType) → MutBor (Multimap K.Denot V.Denot S.Denot) → MutBor V.Denot → Fml
 ends_first_written K V S m r =
