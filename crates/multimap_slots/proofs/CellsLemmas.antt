@@ -4,12 +4,12 @@ use base.Stored.{Gv}
 use Rattle.std.specs.Borrow.{GName, MutBor}
 use Rattle.std.proofs.lemmas.List.{get_or-set_other}
 use Rattle.multimap_slots.specs.Lists.{IsIn}
-use Rattle.multimap_slots.specs.Slots.{Slots, IsSound, IsDetached}
+use Rattle.multimap_slots.specs.Slots.{Slots, IsSound, IsDetached, item_at}
 use Rattle.multimap_slots.specs.CellsLends.{with_refilled}
 use Rattle.multimap_slots.specs.SlotCells.{lent_slots, IsLeft, LendsSlots, TakesItem}
 use Rattle.multimap_slots.specs.declared.cells_of.SlotCells.{SlotCells}
 use Rattle.multimap_slots.proofs.Refilled.{some-refilled}
-use Rattle.std.specs.Prelude.{Bool, List, Option}
+use Rattle.std.specs.Prelude.{Bool, List, Option, IsSome}
 
 module _ {T L A : Type 0} {old new : SlotCells T L A} {place : ℕ} {r : MutBor T} (t : TakesItem old place r new) where
   pub IsSound-taken : IsSound (lent_slots old) → IsSound (lent_slots new)
@@ -19,6 +19,7 @@ module _ {T L A : Type 0} {old new : SlotCells T L A} {place : ℕ} {r : MutBor 
   pub IsLeft-other : (q : ℕ) → q ≢ place → IsLeft old q → IsLeft new q
   IsLeft-other q differs was = record {
     listed = subst (λ s. IsIn q s.order) (sym t.slots) was.listed;
+    filled = subst (λ s. IsSome (item_at s q)) (sym t.slots) was.filled;
     untaken = ap (λ left. get_or left q false) t.left ∙ get_or-set_other old.cells.left place q false false differs ∙ was.untaken;
   }
 
@@ -29,7 +30,7 @@ LendsSlots-renamed whole around lent = record {
   slots = lent.slots;
   untaken = lent.untaken;
   named = lent.named;
-  left = λ p i. record { listed = (lent.left p i).listed; untaken = (lent.left p i).untaken };
+  left = λ p i. record { listed = (lent.left p i).listed; filled = (lent.left p i).filled; untaken = (lent.left p i).untaken };
 }
 
 -- what is detached stays so, whatever was written

@@ -5,9 +5,10 @@ use Rattle.std.proofs.lemmas.List.{get_or-set_same, get_or_past}
 use Rattle.std.proofs.lemmas.List.Sums.{sum_by-cons}
 use Rattle.multimap_slots.specs.declared.order.node.State.{State}
 use Rattle.multimap_slots.specs.declared.order.node.State.TheVariants.{Listed, Free, Detached}
-use Rattle.multimap_slots.specs.Lists.{IsIn, without}
+use Rattle.multimap_slots.specs.Lists.{IsIn, AreDistinct, without}
 use Rattle.multimap_slots.specs.ListLayout.{Places, AreSound, IsApart, one_if_detached, count_detached, put}
 use Rattle.multimap_slots.proofs.ListsLemmas.{IsIn-without}
+use Rattle.multimap_slots.proofs.PutLemmas.{get_or-put_other}
 
 -- a place that is written
 pub count_detached-put : (ss : List State) (i : ℕ) (s : State) → count_detached (put ss i s) + one_if_detached (get_or ss i Free) ≡ count_detached ss + one_if_detached s
@@ -45,3 +46,17 @@ detached-apart {old = old} {new} sound place listed order states = record {
       | inl below ↦ below
       | inr past ↦ absurd (let bad = sym (sound.listed place listed) ∙ get_or_past old.states place Free past in cc)
     ]
+
+-- detached places that differ are no more than the detached ones
+pub detached_counted : (places : List ℕ) (ss : List State) → AreDistinct places → ((p : ℕ) → IsIn p places → get_or ss p Free ≡ Detached) → length places ≤ count_detached ss
+detached_counted [] ss distinct all = omega arith
+detached_counted (p ∷ places) ss distinct all =
+    let here : get_or ss p Free ≡ Detached = all p (inl refl) in
+    let within : p ≤ length ss = some_state ss p here in
+    let fewer = detached_counted places (put ss p Free) distinct.1 (λ q i. get_or-put_other ss p q Free Free within (λ same. distinct.0 (subst (λ x. IsIn x places) same i)) ∙ all q (inr i)) in
+    omega (arith, fewer, count_detached-put ss p Free, ap one_if_detached here)
+  where
+    some_state : (ss : List State) (p : ℕ) → get_or ss p Free ≡ Detached → p ≤ length ss
+    some_state [] p e = absurd (let bad = e in cc)
+    some_state (s ∷ ss) zero e = omega arith
+    some_state (s ∷ ss) (suc p) e = omega (arith, some_state ss p e)

@@ -8,7 +8,7 @@ use Rattle.multimap_slots.specs.Lists.{IsIn, AreDistinct, first_of, last_of, nex
 use Rattle.multimap_slots.specs.Paths.{after, IsPath, walk}
 use Rattle.multimap_slots.specs.ListLayout.{nexts, previouses, states, IsOrdered}
 use Rattle.multimap_slots.proofs.ListsLemmas.{Split, IsIn-left, IsIn-right, IsIn-split, AreDistinct-gone, next_of-split, previous_of-split}
-use Rattle.multimap_slots.proofs.PathsLemmas.{last_or_in, walk-path, path-first, path-last, path-neighbours}
+use Rattle.multimap_slots.proofs.PathsLemmas.{last_or_in, walk-path, path-last, path-neighbours}
 use Rattle.multimap_slots.proofs.DetachedLemmas.{apart-detached}
 use Rattle.multimap_slots.proofs.NodeLemmas.{field_read, length-states, nexts-relink, previouses-relink, states-relink}
 
@@ -38,9 +38,6 @@ module _ {L : Type 0} where
 
     pub walk-length : length (walk (after front (nexts nodes)) None len) ≡ len
     walk-length = ap length walk-order ∙ sym o.counted
-
-    pub front-is : front ≡ first_of o.order
-    front-is = path-first (after front (nexts nodes)) (after back (previouses nodes)) None o.order o.path
 
     pub back-is : back ≡ last_of o.order
     back-is = path-last (after front (nexts nodes)) (after back (previouses nodes)) None o.order o.path

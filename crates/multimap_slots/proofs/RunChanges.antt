@@ -165,9 +165,6 @@ module _ (old : List ℕ) (start from to end : ℕ) (a : IsAround old start from
           ]
         ]
 
-    pub shift-length : length new ≡ length old
-    shift-length = high.same_length ∙ low.same_length ∙ length-set (set old to 0) from 1 ∙ length-set old to 0
-
 -- the holes at the end go
 pub AreRuns-cut : (runs : List ℕ) (start : ℕ) → AreRuns runs → IsRun runs start (length runs) → AreRuns (take start runs)
 AreRuns-cut runs start are r =

@@ -22,9 +22,6 @@ use Rattle.std.specs.contracts.option.Option.{the_row as Opt}
 use Rattle.multimap_slots.specs.Ownership.{Kept, loans, ends, tied}
 use Rattle.multimap_slots.specs.Taken.{refilled}
 
-true-false : {A : Type 1} → true ≡ false → A
-true-false e = absurd (let e' = e in cc)
-
 false-true : {A : Type 1} → false ≡ true → A
 false-true e = absurd (let e' = e in cc)
 

@@ -59,6 +59,11 @@ module _ {L : Type 0} where
     pub among : length o.order + o.detached ≤ length o.states
     pub fits : length o.states ≤ o.capacity
 
+  -- these places differ, and each is detached
+  pub record AreAllDetached (o : Places L) (places : List ℕ) : Type 0 where
+    pub distinct : AreDistinct places
+    pub each : (p : ℕ) → IsIn p places → get_or o.states p Free ≡ Detached
+
   -- so many places are neither listed nor detached
   abbrev pub HasFree : Places L → ℕ → Type 0
   HasFree o vacant = length o.order + vacant + o.detached ≡ length o.states

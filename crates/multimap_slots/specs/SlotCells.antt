@@ -1,5 +1,6 @@
 -- What a contract sees of the right to write the items of a slot list or of a tape.
-use Rattle.std.specs.Prelude.{◌≡◌, ℕ, List, true, false, Some, length, get_or, replicate, slice_set}
+use Rattle.std.specs.Prelude.{◌≡◌, ℕ, List, true, false, Some, IsSome, length, get_or}
+use Rattle.std.specs.Prelude.{replicate, slice_set}
 use Rattle.std.specs.Borrow.{GName, MutBor}
 use Rattle.multimap_slots.specs.Lists.{IsIn}
 use Rattle.multimap_slots.specs.Slots.{Slots, item_at}
@@ -23,9 +24,10 @@ module _ {T L A : Type 0} where
   abbrev pub end_names : SlotCells T L A → List GName
   end_names c = c.cells.names
 
-  -- the place is in the list, and its item wasn't taken
+  -- the place is in the list, and its item stands there and wasn't taken
   pub record IsLeft (c : SlotCells T L A) (p : ℕ) : Type 0 where
     pub listed : IsIn p (lent_slots c).order
+    pub filled : IsSome (item_at (lent_slots c) p)
     pub untaken : get_or c.cells.left p false ≡ true
 
   -- the reference shows the item of the place, which is no longer left, and its name is kept there;

@@ -1,5 +1,5 @@
 -- What a contract sees of a slot list, and what each change of it leaves.
-use Rattle.std.specs.Prelude.{◌≡◌, ◌≢◌, ◌==◌, ℕ, ◌+◌, ◌≤◌, not, if◌then◌else◌}
+use Rattle.std.specs.Prelude.{◌≡◌, ◌≢◌, ◌==◌, ℕ, ◌+◌, ◌*◌, ◌<◌, ◌≤◌, not}
 use Rattle.std.specs.Prelude.{Option, Some, None, IsSome}
 use Rattle.std.specs.Prelude.{List, [], ◌∷◌, ◌++◌, filter, slice_get, slice_set, get_or, length}
 use Rattle.std.specs.List.{filter_map}
@@ -17,6 +17,10 @@ pub record Slot (T L : Type 0) : Type 0 where
   pub place : ℕ
   pub item : T
   pub link : L
+
+-- a capacity that rises at least doubles
+abbrev pub DoublesIfGrown : ℕ → ℕ → Type 0
+DoublesIfGrown old new = old < new → old * 2 ≤ new
 
 module _ {T L : Type 0} where
   -- the item that stands at the place, if there is one
@@ -108,6 +112,11 @@ module _ {T L : Type 0} where
     pub not_listed : ¬ IsIn place s.order
     pub has_item : IsSome (item_at s place)
 
+  -- these places differ, and an item is detached at each
+  pub record AreDetached (s : Slots T L) (places : List ℕ) : Type 0 where
+    pub distinct : AreDistinct places
+    pub each : (p : ℕ) → IsIn p places → IsDetached s p
+
   -- the place isn't listed, and this item is kept there with this link
   pub record HasDetached (s : Slots T L) (place : ℕ) (item : T) (link : L) : Type 0 where
     pub not_listed : ¬ IsIn place s.order
@@ -141,11 +150,3 @@ module _ {T L : Type 0} where
   -- the place has another link
   abbrev pub with_link : Slots T L → ℕ → L → Slots T L
   with_link s place link = record s { links = slice_set s.links place link }
-
-  -- the slot with another item, if it is the one of the place
-  abbrev pub slot_with_item : ℕ → T → Slot T L → Slot T L
-  slot_with_item place item e = if e.place == place then record e { item = item } else e
-
-  -- the slot with another link, if it is the one of the place
-  abbrev pub slot_with_link : ℕ → L → Slot T L → Slot T L
-  slot_with_link place link e = if e.place == place then record e { link = link } else e

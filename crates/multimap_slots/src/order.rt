@@ -8,7 +8,7 @@ mod node;
 mod optional_place;
 mod write;
 
-use crate::grow::grow;
+use crate::grow::grow_to;
 use node::{Node, State};
 use optional_place::OptionalPlace;
 use std::alloc::{AllocError, Allocator};
@@ -102,15 +102,16 @@ impl<L: Copy, A: Allocator> Order<L, A> {
         self.nodes.capacity()
     }
 
-    /// Makes room for so many more nodes.
-    pub(crate) fn reserve(&mut self, additional: usize) -> Result<(), AllocError>
+    /// Makes room for so many nodes in all.
+    pub(crate) fn grow_to(&mut self, slots: usize) -> Result<(), AllocError>
     where
         A: Copy,
-        ensures ok { OnOk result (length self.old.states + additional ≤ self.new.capacity) }
+        ensures ok { OnOk result (slots ≤ self.new.capacity) }
+        ensures refused { OnErr result (self.new.capacity ≡ self.old.capacity) }
         ensures rest { KeepsPlaces self.old self.new }
         ensures capacity { self.old.capacity ≤ self.new.capacity }
     {
-        grow(&mut self.nodes, additional)
+        grow_to(&mut self.nodes, slots)
     }
 
     /// Lists a free place last, and answers it.

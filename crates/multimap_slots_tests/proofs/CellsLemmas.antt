@@ -2,7 +2,6 @@
 use Rattle.std.proofs.Common.{◌≡◌, ℕ, zero, suc, ◌<◌, Bool, true, false, if◌then◌else◌, ◌==◌, List, [], ◌∷◌, length, get_or, Option, Some, None, IsSome, refl, inl, inr, ◌∙◌, reverse, arith}
 use Rattle.std.specs.Prelude.{IfSome}
 use Rattle.multimap_slots.specs.Lists.{IsIn, first_of, last_of, next_of, previous_of}
-use Rattle.multimap_slots.specs.Slots.{IsSound}
 use Rattle.multimap_slots.specs.SlotCells.{lent_slots, IsLeft}
 use Rattle.multimap_slots.specs.Taken.{CanTake}
 use Rattle.multimap_slots.specs.declared.cells_of.SlotCells.{SlotCells}
@@ -45,9 +44,9 @@ some_within (x ∷ xs) zero s = omega arith
 some_within (x ∷ xs) (suc p) s = omega (arith, some_within xs p s)
 
 -- what is left may be taken without the order as well
-pub can_take : {T L A : Type 0} (cells : SlotCells T L A) (p : ℕ) → IsSound (lent_slots cells) → IsLeft cells p → CanTake cells.cells p
-can_take cells p sound is = record {
-  within = some_within cells.cells.items p (sound.filled p is.listed);
-  filled = sound.filled p is.listed;
+pub can_take : {T L A : Type 0} (cells : SlotCells T L A) (p : ℕ) → IsLeft cells p → CanTake cells.cells p
+can_take cells p is = record {
+  within = some_within cells.cells.items p is.filled;
+  filled = is.filled;
   left = is.untaken;
 }

@@ -1,7 +1,7 @@
 //! Callers of the right to write a list's items, proved from its public contracts alone.
 ghost use Rattle.std.specs.Prelude.{◌≡◌, ℕ, IsSome, None, Some, get_or, length};
 ghost use Rattle.multimap_slots.specs.Lists.{IsIn};
-ghost use Rattle.multimap_slots.specs.Slots.{IsSound, IsDetached};
+ghost use Rattle.multimap_slots.specs.Slots.{IsDetached};
 ghost use Rattle.multimap_slots.specs.SlotCells.{lent_slots, IsLeft};
 ghost use Rattle.multimap_slots.specs.Tapes.{KeepsCounts};
 
@@ -37,7 +37,6 @@ fn second_of(cells: &SlotCells<'_, usize, u8>) -> Option<Second>
 }
 
 fn read_ends(cells: &SlotCells<'_, usize, u8>) -> Option<Ends>
-    requires sound { IsSound (lent_slots cells.now) }
     requires left { (p : ℕ) → IsIn p (lent_slots cells.now).order → IsLeft cells.now p }
 {
     let front = cells.front_place()?;
@@ -48,7 +47,6 @@ fn read_ends(cells: &SlotCells<'_, usize, u8>) -> Option<Ends>
 // Writes the items at both ends while both references live, and answers what stood there: the last
 // one is read beside the reference to the first.
 fn write_ends(cells: &mut SlotCells<'_, usize, u8>, first: usize, last: usize) -> Option<Ends>
-    requires sound { IsSound (lent_slots cells.old) }
     requires left { (p : ℕ) → IsIn p (lent_slots cells.old).order → IsLeft cells.old p }
 {
     let front = cells.front_place()?;
@@ -98,7 +96,6 @@ pub fn write_tape_ends(tape: &mut Items, first: usize, last: usize) -> Lending
 
 // Writes the last item once the order is given up, and gives up the right to the others.
 fn write_without_order(cells: SlotCells<'_, usize, u8>, last: usize) -> Option<usize>
-    requires sound { IsSound (lent_slots cells) }
     requires left { (p : ℕ) → IsIn p (lent_slots cells).order → IsLeft cells p }
 {
     let Some(back) = cells.back_place() else {

@@ -8,10 +8,6 @@ use Rattle.multimap_table.specs.Layout.{IsBitSet, IsFull, IsSized, IsReachable, 
 use Rattle.multimap_table.proofs.BitLemmas.{no_bit_zero, bit_trailing_zeros}
 use Rattle.multimap_table.proofs.CycleLemmas.{distance_injective}
 
-pub hash_tag-pos : (hash : ℕ) → 0 < hash_tag hash
-unfolding hash_tag
-hash_tag-pos hash = omega arith
-
 -- a group is full where the mask of its empty lanes is empty
 pub full_from_mask : (tags : List ℕ) (group mask : ℕ) → mask ≡ 0 → ((k : ℕ) → k < 16 → get_or tags (16 * group + k) 0 ≡ 0 → IsBitSet mask k) → IsFull tags group
 full_from_mask tags group mask none all lane p =

@@ -1,5 +1,5 @@
 //! The table itself: its lanes, and how many rows they hold.
-ghost use Rattle.std.specs.Prelude.{◌≡◌, ℕ, ◌+◌, ◌<◌, ◌≤◌, ◌↔◌, true, false, None, Some, IfSome, IfNone, IfOk, OnOk, OnErr, IsOk, IsTrue};
+ghost use Rattle.std.specs.Prelude.{◌≡◌, ℕ, ◌+◌, ◌*◌, ◌<◌, ◌≤◌, ◌↔◌, true, false, None, Some, IfSome, IfNone, IfOk, OnOk, OnErr, IsOk, IsTrue};
 ghost use Rattle.std.specs.FinMap as map;
 ghost use Rattle.multimap_table.specs.Table.{HasRow};
 
@@ -163,6 +163,10 @@ impl<A: Allocator + Copy> KeyTable<A> {
         ensures succeeds { map.len self.old.rows + additional ≤ self.old.capacity → IsOk result }
         ensures had_room { map.len self.old.rows + additional ≤ self.old.capacity
             → self.new.capacity ≡ self.old.capacity }
+
+        // A growth that happens at least doubles, so that n rows that are put in cost n moves.
+        ensures doubles { self.old.capacity < self.new.capacity
+            → self.old.capacity * 2 ≤ self.new.capacity }
     {
         let room = self.capacity() - self.len;
         if additional <= room {
@@ -174,17 +178,22 @@ impl<A: Allocator + Copy> KeyTable<A> {
         self.grow_to(wanted)
     }
 
-    /// Takes groups for so many rows, and puts each row into them.
+    /// Takes groups for so many rows, and for twice the rows that had room, and puts each row into
+    /// them.
     #[inline(never)]
     fn grow_to(&mut self, capacity: usize) -> Result<(), AllocError>
         requires { self.old.capacity < capacity }
         ensures unchanged { self.new.rows ≡ self.old.rows }
         ensures room { OnOk result (capacity ≤ self.new.capacity) }
+        ensures doubles { OnOk result (self.old.capacity * 2 ≤ self.new.capacity) }
         ensures refused { OnErr result (self.new.capacity ≡ self.old.capacity) }
     {
         // The capacity tells the proof that all rows fit.
-        let _rows = self.capacity();
-        let mut grown = KeyTable::with_groups_for(*self.tags.allocator(), capacity)?;
+        let Some(doubled) = self.capacity().checked_mul(2) else {
+            return Err(AllocError);
+        };
+        let wanted = capacity.max(doubled);
+        let mut grown = KeyTable::with_groups_for(*self.tags.allocator(), wanted)?;
         insert_all(
             &mut grown.tags,
             &mut grown.rows,

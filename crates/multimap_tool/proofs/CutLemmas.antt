@@ -1,16 +1,8 @@
 -- A text cut at its first separator.
-use Rattle.std.proofs.Common.{◌≡◌, ℕ, ◌+◌, ◌<◌, Bool, true, false, ◌||◌, nat_eq, List, [], ◌∷◌, ◌++◌, length, take, get_or, refl, ap, ◌∙◌, true≢false}
+use Rattle.std.proofs.Common.{◌≡◌, ℕ, Bool, true, false, ◌||◌, nat_eq, List, [], ◌∷◌, ◌++◌, refl, ap, ◌∙◌, true≢false}
 use Rattle.std.specs.List.{list_any}
 use Rattle.std.proofs.lemmas.Bool.{eqb-false}
-use Rattle.std.proofs.lemmas.List.{take_more}
-use Rattle.std.proofs.lemmas.List.Folds.{list_any-append}
 use Rattle.multimap_tool.specs.Parts.{IsWithout}
-
--- a test that fails on an item and on those before it
-pub list_any-take_more : {X : Type 0} (test : X → Bool) (xs : List X) (i : ℕ) (x : X) → i < length xs → list_any test (take i xs) ≡ false → test (get_or xs i x) ≡ false
-    → list_any test (take (i + 1) xs) ≡ false
-list_any-take_more test xs i x inside before here =
-    rw (take_more xs i x inside, list_any-append, before, here) refl
 
 -- of a disjunction that is false, each part is
 or_false : (a b : Bool) → (a || b) ≡ false → (a ≡ false) × (b ≡ false)

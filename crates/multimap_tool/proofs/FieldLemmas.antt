@@ -56,11 +56,6 @@ pub record ArePlain (name : List ℕ) (operands : List (List ℕ)) : Type 0 wher
   pub texts : AllByRecursion (IsWithout 32) operands
   pub few : length operands ≤ 2
 
--- no operand, where there is no space
-pub no_operand : (line name : List ℕ) (operands : List (List ℕ)) → IsWithout 32 line → line ≡ name ++ joined operands → (line ≡ name) × (operands ≡ [])
-no_operand line name [] without same = (same ∙ append-nil name, refl)
-no_operand line name (o ∷ os) without same = absurd (without-cut 32 name (o ++ joined os) (subst (IsWithout 32) same without))
-
 -- one operand, where there is one space
 pub one_operand : (word operand name : List ℕ) (operands : List (List ℕ)) → IsWithout 32 word → IsWithout 32 operand → ArePlain name operands
     → word ++ 32 ∷ operand ≡ name ++ joined operands → (word ≡ name) × (operands ≡ operand ∷ [])

@@ -45,10 +45,6 @@ module _ {A : Type 0} where
   length-SpellEach (c ∷ commands) [] each = absurd each
   length-SpellEach (c ∷ commands) (l ∷ lines) each = omega (arith, length-SpellEach commands lines each.1)
 
-  -- nothing is read yet
-  pub read_none : (text : List ℕ) → IsReadTo [] text text
-  read_none text = record { before = []; parts = refl; good = tt }
-
   -- all is read
   pub read_all : (commands : List (Command ℕ ℤ A)) (text : List ℕ) → IsReadTo commands text [] → SpellEach commands (lines_of text)
   read_all commands text read = subst (SpellEach commands) (sym (read.parts ∙ append-nil read.before)) read.good

@@ -17,7 +17,7 @@ use Rattle.multimap_tool.specs.declared.commands.Command.TheVariants.{Append, In
 use Rattle.multimap_tool.specs.Spelling.{Operand, operand_text, FitsOperand, letter_of, name_of, operands_of, Spells, IsBadLine}
 use Rattle.multimap_tool.specs.Parts.{IsWithout, AreLettersOf, StartsAValue, lone_words, key_words, value_words, walk_words, pair_words, room_words, key_walk_words, words_before, IsCommandOf, IsFoundAmong, IsFoundFor, IsReadingOf}
 use Rattle.multimap_tool.proofs.NumberLemmas.{decimal_without_space, signed_without_space, no_value}
-use Rattle.multimap_tool.proofs.FieldLemmas.{ArePlain, no_operand, one_operand, two_operands}
+use Rattle.multimap_tool.proofs.FieldLemmas.{ArePlain, one_operand, two_operands}
 
 -- a test of two texts
 pub same_text : (xs ys : List ℕ) (r : Bool) → r ≡ true → r ≡ bytes_eq xs ys → xs ≡ ys
@@ -195,12 +195,6 @@ module _ {A : Type 0} where
       not_both [] none listed = found listed
       not_both (word ∷ words) none (inl same) = none (inl same)
       not_both (word ∷ words) none (inr later) = not_both words (λ among. none (inr among)) later
-
-  -- a line without a space is a word alone
-  pub bad_alone : (line : List ℕ) → IsWithout 32 line → (IsIn line lone_words → ⊥) → IsBadLine A line
-  bad_alone line without none command spells =
-      let fields = no_operand line (name_of command) (map operand_text (operands_of command)) without spells.spelling in
-      none (subst (λ name. IsIn name lone_words) (sym fields.0) (alone (name_of command) (operands_of command) (listed_word command) fields.1))
 
   -- with one space, a word and an operand
   pub bad_with_one : (word operand : List ℕ) → IsWithout 32 word → IsWithout 32 operand

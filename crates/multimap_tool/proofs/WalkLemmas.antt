@@ -19,11 +19,6 @@ module _ {X : Type 0} where
   ListsItem-word items [] some = some
   ListsItem-word items (end ∷ word) some = refl
 
-  -- a walk of each item lists one if there is one
-  pub ListsItem-forward : (items : List X) → IsTrue (has_items items) → ListsItem (answers_of_walk items (forward items))
-  ListsItem-forward [] some = some
-  ListsItem-forward (x ∷ items) some = refl
-
   -- one letter more
   pub word_on : (items : List X) (word : List End) (taken all : List (Option X)) (i : ℕ) (end : End) → i < length word
       → taken ++ answers_of_walk items (drop i word) ≡ all

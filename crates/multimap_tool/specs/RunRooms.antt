@@ -1,11 +1,16 @@
 -- The room that a run of commands finds.
-use Rattle.std.specs.Prelude.{◌≢◌, ◌≤◌, ◌+◌, List, [], ◌∷◌, length, Contains}
+use Rattle.std.specs.Prelude.{◌≢◌, ◌≤◌, ◌+◌, ℕ, List, [], ◌∷◌, length, Contains}
 use Rattle.ordered_multimap.specs.Multimap.{Multimap}
 use Rattle.multimap_tool.specs.declared.commands.Command.{Command}
 use Rattle.multimap_tool.specs.declared.commands.Command.TheVariants.{Append, Insert, OrInsert}
 use Rattle.multimap_tool.specs.declared.commands.Command.TheVariants.{PackToFit, Swap, Json}
 use Rattle.multimap_tool.specs.declared.replies.Reply.{Reply}
 use Rattle.multimap_tool.specs.declared.replies.Reply.TheVariants.{NoMemory}
+
+-- so many more keys fit into the map, and so many more values
+pub record HasRoomsFor {K V S : Type 0} (m : Multimap K V S) (keys values : ℕ) : Type 0 where
+  pub keys_fit : length m.lists.keys + keys ≤ m.key_room
+  pub values_fit : length m.lists.pairs + values ≤ m.value_room
 
 module _ {K V A : Type 0} where
   -- the command puts one pair in, and tells no list

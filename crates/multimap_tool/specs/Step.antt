@@ -1,7 +1,7 @@
 -- One command on the two lists: which reply it may be given, and which lists it leaves. `keeps` is
 -- said of a function that is handed a command's value, a key and its value: which answer it may
 -- give, and which value it may leave.
-use Rattle.std.specs.Prelude.{◌≡◌, ◌⊎◌, Bool, false, cond, List, length, map, IsTrue}
+use Rattle.std.specs.Prelude.{◌≡◌, ◌⊎◌, ◌+◌, ◌<◌, Bool, false, cond, List, length, map, IsTrue}
 use Rattle.std.specs.Prelude.{Option, Some, None, option_map, unwrap_or, slice_get}
 use Rattle.std.specs.Borrow.{Bor, MutBor}
 use Rattle.std.specs.Fn.{FnReturns}
@@ -178,13 +178,14 @@ module _ {K : Type 0} (eq : K → K → Bool) {V A : Type 0} where
   Tells _ m _ = ⊥
 
   -- an addition may find no memory, but for one to a present key that replaces or keeps, and so
-  -- may a request for room, a packing, a clone, a JSON value, and a reply that would list an item
+  -- may a request for any room, a packing, a clone, a JSON value, and a reply that would list an
+  -- item
   abbrev pub MayLackMemory : Command K V A → Lists K V → Type 0
   MayLackMemory (Append k v) m = Unit {0}
   MayLackMemory (Insert k v) m = is_present eq m.pairs k ≡ false
   MayLackMemory (InsertAll k v) m = Unit {0}
   MayLackMemory (OrInsert k v) m = is_present eq m.pairs k ≡ false
-  MayLackMemory (Reserve a b) m = Unit {0}
+  MayLackMemory (Reserve a b) m = 0 < a + b
   MayLackMemory PackToFit m = Unit {0}
   MayLackMemory Swap m = Unit {0}
   MayLackMemory Json m = Unit {0}

@@ -1,8 +1,9 @@
 //! Commands whose replies list the values that leave. The room for them is taken before the map is
 //! changed.
-ghost use Rattle.std.specs.Prelude.{◌≡◌, ◌+◌, ◌≤◌, ◌++◌, Some, length, map, vec_capacity};
+ghost use Rattle.std.specs.Prelude.{◌≡◌, ◌≢◌, ◌+◌, ◌≤◌, ◌++◌, Some, false, length, map, vec_capacity};
 ghost use Rattle.ordered_multimap.specs.Drains.{drain_left, KeepsMap};
-ghost use Rattle.ordered_multimap.specs.Rooms.{KeepsRooms};
+ghost use Rattle.ordered_multimap.specs.Pairs.{is_present};
+ghost use Rattle.ordered_multimap.specs.Rooms.{HasKeyRoom, HasValueRoom, KeepsRooms};
 ghost use Rattle.multimap_tool.specs.Step.{IsOwnStep};
 
 use crate::commands::Command;
@@ -21,6 +22,10 @@ pub(crate) fn insert_all<K: Eq + Hash + Copy, V: Copy, S: BuildHasher, A: Alloca
 ) -> Reply<K, V, A>
     ensures step { IsOwnStep K.eq (Command.InsertAll key value) map.old.lists result map.new.lists }
     ensures rooms { KeepsRooms map.old map.new }
+
+    // The list of no value takes no memory.
+    ensures had_room { is_present K.eq map.old.lists.pairs key ≡ false → HasKeyRoom map.old
+        → HasValueRoom map.old → result ≢ Reply.NoMemory }
 {
     let Ok(mut values) = Vec::with_capacity(alloc, map.entry_len(&key)) else {
         return Reply::NoMemory;

@@ -1,10 +1,11 @@
 //! Commands that keep the map in its place and its room, and ask no function.
-ghost use Rattle.std.specs.Prelude.{◌≡◌, ◌≢◌, option_map};
+ghost use Rattle.std.specs.Prelude.{◌≡◌, ◌≢◌, ℕ, false, option_map};
+ghost use Rattle.ordered_multimap.specs.Pairs.{is_present};
 ghost use Rattle.ordered_multimap.specs.Pop.{popped, popped_pair};
 ghost use Rattle.ordered_multimap.specs.Pops.{popped_of};
 ghost use Rattle.ordered_multimap.specs.Rooms.{HasKeyRoom, HasValueRoom, KeepsRooms};
 ghost use Rattle.multimap_tool.specs.Groups.{IsInPlace, WritesOrRemoves, RemovesOrLooksUp};
-ghost use Rattle.multimap_tool.specs.RunRooms.{IsAddition};
+ghost use Rattle.multimap_tool.specs.RunRooms.{HasRoomsFor, IsAddition};
 ghost use Rattle.multimap_tool.specs.Step.{IsOwnStep, told_pop};
 
 use crate::commands::Command;
@@ -29,6 +30,11 @@ pub(crate) fn step_in_place<K: Eq + Hash + Copy, V: Copy, S: BuildHasher, A: All
     ensures rooms { KeepsRooms map.old map.new }
     ensures finds_room { IsAddition command.now → HasKeyRoom map.old → HasValueRoom map.old
         → result ≢ Reply.NoMemory }
+    ensures inserts_all { (k : K) (v : V) → command.now ≡ Command.InsertAll k v
+        → is_present K.eq map.old.lists.pairs k ≡ false → HasKeyRoom map.old
+        → HasValueRoom map.old → result ≢ Reply.NoMemory }
+    ensures reserves { (a b : ℕ) → command.now ≡ Command.Reserve a b → HasRoomsFor map.old a b
+        → result ≡ Reply.Done }
 {
     match command {
         Command::Append(key, value) => append(map, *key, *value),
@@ -48,6 +54,8 @@ fn write_or_remove<K: Eq + Hash + Copy, V: Copy, S: BuildHasher, A: Allocator + 
     requires { WritesOrRemoves command.now }
     ensures step { IsOwnStep K.eq command.now map.old.lists result map.new.lists }
     ensures rooms { KeepsRooms map.old map.new }
+    ensures reserves { (a b : ℕ) → command.now ≡ Command.Reserve a b → HasRoomsFor map.old a b
+        → result ≡ Reply.Done }
 {
     match command {
         Command::SetFirst(key, value) => set_first(map, key, *value),

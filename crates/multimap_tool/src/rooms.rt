@@ -1,6 +1,8 @@
 //! Commands that ask for room, or give it back.
 ghost use Rattle.std.specs.Prelude.{◌≡◌, ◌≤◌, ◌+◌, length};
 ghost use Rattle.ordered_multimap.specs.Rooms.{KeepsRooms};
+ghost use Rattle.ordered_multimap.specs.TapeNumbers.{AreUnused};
+ghost use Rattle.multimap_tool.specs.RunRooms.{HasRoomsFor};
 ghost use Rattle.multimap_tool.specs.Step.{IsOwnStep};
 
 use crate::commands::Command;
@@ -23,7 +25,10 @@ pub(crate) fn reserve<K: Eq + Hash + Copy, V: Copy, S: BuildHasher, A: Allocator
         → length map.old.lists.keys + keys ≤ map.new.key_room }
     ensures value_room { result ≡ Reply.Done
         → length map.old.lists.pairs + values ≤ map.new.value_room }
+    ensures had_room { HasRoomsFor map.old keys values → result ≡ Reply.Done }
 {
+    // Both rooms tell the proof that they hold what is there.
+    let _rooms = (map.keys_capacity(), map.values_capacity());
     if map.reserve_keys(keys).is_err() {
         return Reply::NoMemory;
     }
@@ -39,6 +44,7 @@ pub(crate) fn pack_to_fit<K: Eq + Hash + Copy, V: Copy, S: BuildHasher, A: Alloc
 ) -> Reply<K, V, A>
     ensures step { IsOwnStep K.eq Command.PackToFit map.old.lists result map.new.lists }
     ensures hasher { map.new.hasher ≡ map.old.hasher }
+    ensures packed { result ≡ Reply.Done → AreUnused map.new.tape }
 {
     match map.pack_to_fit() {
         Ok(()) => Reply::Done,

@@ -1,10 +1,12 @@
 //! Commands run in order, with one reply for each.
 ghost use Rattle.std.specs.Borrow.{Bor, MutBor};
-ghost use Rattle.std.specs.Prelude.{◌≡◌, ◌≢◌, ◌≤◌, [], Contains, IfOk, OnErr, length, vec_capacity};
+ghost use Rattle.std.specs.Prelude.{◌≡◌, ◌≢◌, ◌≤◌, ℕ, [], Contains, false, IfOk, OnErr, length, vec_capacity};
 ghost use Rattle.multimap_tool.specs.Step.{IsOwnStep, IsStep, MayKeep};
+ghost use Rattle.ordered_multimap.specs.Pairs.{is_present};
 ghost use Rattle.ordered_multimap.specs.Rooms.{HasKeyRoom, HasValueRoom, KeepsRooms};
+ghost use Rattle.ordered_multimap.specs.TapeNumbers.{AreUnused};
 ghost use Rattle.multimap_tool.specs.Runs.{IsRun};
-ghost use Rattle.multimap_tool.specs.RunRooms.{IsAddition, KeepsRoom, HasRunRoom, FindsRoom};
+ghost use Rattle.multimap_tool.specs.RunRooms.{HasRoomsFor, IsAddition, KeepsRoom, HasRunRoom, FindsRoom};
 
 use crate::commands::Command;
 use crate::in_place::step_in_place;
@@ -27,8 +29,9 @@ use std::hash::{BuildHasher, Hash};
 /// memory for itself is answered [`Reply::NoMemory`] and changes neither keys nor pairs. That no
 /// append, insert or or-insert is, where the map has room at the start for as many more keys and as
 /// many more values as there are commands, and none is a [`Command::PackToFit`], [`Command::Swap`]
-/// or [`Command::Json`]. Clones of keys and values must be the very keys and values, and different
-/// ones must have different JSON values. Each command costs what the map's call of its name does.
+/// or [`Command::Json`]. Clones of keys and values must be the very keys and values; where a
+/// [`Command::Json`] is among the commands, different keys must have different JSON values, and
+/// different values too. Each command costs what the map's call of its name does.
 pub fn run<
     K: JsonPart + Eq + Hash + Copy,
     V: JsonPart + Copy,
@@ -46,8 +49,10 @@ pub fn run<
         → (key : Bor K) (value : MutBor V) → F.pre keep operand key value }
     requires keys { (k c : K) → K.is_clone k c → c ≡ k }
     requires values { (v c : V) → V.is_clone v c → c ≡ v }
-    requires key_parts { (k j : K) → K.json k ≡ K.json j → k ≡ j }
-    requires value_parts { (v w : V) → V.json v ≡ V.json w → v ≡ w }
+    requires key_parts { Contains commands.now Command.Json
+        → (k j : K) → K.json k ≡ K.json j → k ≡ j }
+    requires value_parts { Contains commands.now Command.Json
+        → (v w : V) → V.json v ≡ V.json w → v ≡ w }
     ensures ok { IfOk result (λ replies. IsRun (MayKeep F.Fn keep) K.eq
         commands.now map.old.lists replies.items map.new.lists) }
     ensures hasher { ((s c : S) → S.is_clone s c → c ≡ s) → map.new.hasher ≡ map.old.hasher }
@@ -80,8 +85,10 @@ fn run_all<
         → F.accepts keep.now operand }
     requires keys { (k c : K) → K.is_clone k c → c ≡ k }
     requires values { (v c : V) → V.is_clone v c → c ≡ v }
-    requires key_parts { (k j : K) → K.json k ≡ K.json j → k ≡ j }
-    requires value_parts { (v w : V) → V.json v ≡ V.json w → v ≡ w }
+    requires key_parts { Contains commands.now Command.Json
+        → (k j : K) → K.json k ≡ K.json j → k ≡ j }
+    requires value_parts { Contains commands.now Command.Json
+        → (v w : V) → V.json v ≡ V.json w → v ≡ w }
     requires empty { replies.old.items ≡ [] }
     requires capacity { length commands.now ≤ vec_capacity replies.old }
     ensures ok { IsRun (F.answers keep.now) K.eq
@@ -112,14 +119,25 @@ fn step<
         → F.accepts keep.now operand }
     requires keys { (k c : K) → K.is_clone k c → c ≡ k }
     requires values { (v c : V) → V.is_clone v c → c ≡ v }
-    requires key_parts { (k j : K) → K.json k ≡ K.json j → k ≡ j }
-    requires value_parts { (v w : V) → V.json v ≡ V.json w → v ≡ w }
+    requires key_parts { command.now ≡ Command.Json
+        → (k j : K) → K.json k ≡ K.json j → k ≡ j }
+    requires value_parts { command.now ≡ Command.Json
+        → (v w : V) → V.json v ≡ V.json w → v ≡ w }
     ensures step { IsStep (F.answers keep.now) K.eq
         command.now map.old.lists result map.new.lists }
     ensures hasher { ((s c : S) → S.is_clone s c → c ≡ s) → map.new.hasher ≡ map.old.hasher }
     ensures rooms { KeepsRoom command.now → KeepsRooms map.old map.new }
     ensures finds_room { IsAddition command.now → HasKeyRoom map.old → HasValueRoom map.old
         → result ≢ Reply.NoMemory }
+    ensures inserts_all { (k : K) (v : V) → command.now ≡ Command.InsertAll k v
+        → is_present K.eq map.old.lists.pairs k ≡ false → HasKeyRoom map.old
+        → HasValueRoom map.old → result ≢ Reply.NoMemory }
+    ensures reserves { (a b : ℕ) → command.now ≡ Command.Reserve a b → HasRoomsFor map.old a b
+        → result ≡ Reply.Done }
+    ensures packed { command.now ≡ Command.PackToFit → result ≡ Reply.Done
+        → AreUnused map.new.tape }
+    ensures swapped { command.now ≡ Command.Swap → result ≡ Reply.Done
+        → AreUnused map.new.tape }
 {
     match command {
         Command::Retain(operand) => retain(map, *operand, keep),
@@ -152,6 +170,7 @@ fn swap<K: Eq + Hash + Copy, V: Copy, S: BuildHasher + Clone, A: Allocator + Cop
     requires keys { (k c : K) → K.is_clone k c → c ≡ k }
     requires values { (v c : V) → V.is_clone v c → c ≡ v }
     ensures step { IsOwnStep K.eq Command.Swap map.old.lists result map.new.lists }
+    ensures swapped { result ≡ Reply.Done → AreUnused map.new.tape }
     ensures hasher { ((s c : S) → S.is_clone s c → c ≡ s) → map.new.hasher ≡ map.old.hasher }
 {
     match map.clone() {

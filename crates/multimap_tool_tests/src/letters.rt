@@ -25,12 +25,17 @@ const LOWER: Letter = Letter { is_upper: false };
 
 /// Whether it is a capital letter.
 impl JsonPart for Letter {
+    ghost use Rattle.std.specs.Prelude.{true};
     ghost use Rattle.serde_json.specs.Data.{boolean};
     ghost use Rattle.multimap_tool.specs.Json.{is_truth};
 
     ghost json = { λ letter. boolean letter.is_upper };
 
     ghost is_part = { is_truth };
+
+    ghost is_written_freely = { true };
+
+    ghost is_read_freely = { true };
 
     fn to_part(&self, _alloc: Global) -> Result<Value, AllocError> {
         Ok(Value::from(self.is_upper))

@@ -152,6 +152,46 @@ fn each_write_has_trouble(test: &Test) {
     }
 }
 
+/// Lines that are longer than two pieces of 32 KiB, all answered alike.
+fn many_lines_are_read(test: &Test, input: &mut Vec<u8>) {
+    for _ in 0..12000 {
+        test.expect("memory", input.extend_from_slice(b"get 1\n").is_ok());
+    }
+    let mut output = Vec::new(test.alloc());
+    let ended = execute(
+        test.alloc(),
+        test.alloc(),
+        &mut input.as_slice(),
+        &mut output,
+    );
+    test.expect("no fault", ended.is_ok());
+    let lines = str::from_utf8(&output).unwrap_or("");
+    test.expect("each line", lines.lines().all(|line| line == "none"));
+    test.expect("all lines", lines.lines().count() == 12000);
+}
+
+// Nothing is to be written, so a writer that takes nothing is no fault.
+fn no_line_is_answered(test: &Test) {
+    let mut output = FailingWriter {
+        taken: Vec::new(test.alloc()),
+        writes_before: 0,
+        trouble: Trouble::TakesNothing,
+        met: false,
+    };
+    let mut input: &[u8] = b"";
+    let ended = execute(test.alloc(), test.alloc(), &mut input, &mut output);
+    test.expect("no fault", ended.is_ok());
+    test.expect("nothing is written", output.taken.is_empty());
+}
+
+#[test]
+fn all_is_read_and_nothing_more_is_written(rt: HostRuntime) -> Result<(), Failed> {
+    let test = Test::new(rt.alloc());
+    many_lines_are_read(&test, &mut Vec::new(test.alloc()));
+    no_line_is_answered(&test);
+    test.end()
+}
+
 /// A writer that takes all, and can't flush it.
 #[derive(Drop)]
 struct Unflushed;

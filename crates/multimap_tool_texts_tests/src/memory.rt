@@ -60,6 +60,53 @@ fn requests_are_refused(test: &Test, value: &Value, ample: Option<ReadFault>) {
     test.expect("some requests", enough.unwrap_or(0) >= 3);
 }
 
+type ReadTexts<'a> = Result<
+    ListOrderedMultimap<String, i64, DefaultState, &'a RefusingAllocator>,
+    ReadFault,
+>;
+
+const KEYS: &str = "[[\"a\",1],[\"b\",2],[\"a\",3]]";
+
+fn has_texts(map: &ListOrderedMultimap<String, i64, DefaultState, &RefusingAllocator>) -> bool {
+    let mut walk = map.iter();
+    let mut same = map.keys_len() == 2;
+    for (text, value) in [("a", 1), ("b", 2), ("a", 3)] {
+        same = same
+            && match walk.next() {
+                Some((key, found)) => key.as_str() == text && *found == value,
+                None => false,
+            };
+    }
+    same && walk.next().is_none()
+}
+
+// The same of a map whose keys are texts.
+fn read_texts_with(test: &Test, value: &Value, granted: u64) -> bool {
+    let budget = RefusingAllocator::new(test.alloc(), granted);
+    let read: ReadTexts<'_> = from_value(&budget, test.alloc(), DefaultState::new(), value);
+    match read {
+        Ok(map) => {
+            test.expect("the map of texts", has_texts(&map));
+            true
+        }
+        Err(fault) => {
+            let told = fault == ReadFault::OutOfMemory && budget.refused();
+            test.expect("a refused request", told);
+            false
+        }
+    }
+}
+
+fn requests_for_texts_are_refused(test: &Test) {
+    match Value::from_str(test.alloc(), KEYS) {
+        Ok(value) => {
+            let enough = requests_until_enough(|granted| read_texts_with(test, &value, granted));
+            test.expect("some requests", enough.unwrap_or(0) >= 3);
+        }
+        Err(_) => test.expect("a value", false),
+    }
+}
+
 /// A hash builder that ends the refusals of an allocator: once a key is hashed, as the first append
 /// does, all requests are granted.
 #[derive(Drop)]
@@ -111,5 +158,6 @@ fn a_map_that_is_read_finds_no_memory(rt: HostRuntime) -> Result<(), Failed> {
     for (text, ample) in TEXTS {
         a_value_is_read(&test, text, *ample);
     }
+    requests_for_texts_are_refused(&test);
     test.end()
 }

@@ -3,7 +3,7 @@ use Rattle.std.proofs.Common.{◌≡◌, ◌==◌, ℕ, ◌+◌, ◌-◌, Bool, 
 use Rattle.std.specs.Prelude.{IsSome, MatchOption, ⊤, option_and_then, option_map, if◌then◌else◌}
 use Rattle.std.specs.Borrow.{Bor}
 use Rattle.std.proofs.lemmas.Bool.Decides.{Decides-eqb}
-use Rattle.std.proofs.lemmas.List.{map-append, length-append, take_at}
+use Rattle.std.proofs.lemmas.List.{map-append, length-append, length-map, take_at}
 use Rattle.multimap_slots.specs.Lists.{IsIn, AreDistinct, first_of, last_of, next_of, previous_of}
 use Rattle.multimap_slots.specs.Slots.{HasLink, Slots, IsSound, item_at, link_at}
 use Rattle.multimap_slots.proofs.ListsLemmas.{IsIn-reverse}
@@ -14,7 +14,7 @@ use Rattle.multimap_walks.specs.declared.links.KeyLink.{KeyLink}
 use Rattle.multimap_walks.specs.declared.links.ValueLink.{ValueLink}
 use Rattle.multimap_walks.specs.Walk.{end_rest}
 use Rattle.multimap_walks.specs.Chained.{position_in, is_value_of, chain_of, values_at, positions_at, positions_left, next_place, previous_place, places_along, Stands, IsChain, IsDetachedChain, IsChained}
-use Rattle.multimap_walks.specs.ChainWalk.{GivesFirst, GivesLast, chain_walk}
+use Rattle.multimap_walks.specs.ChainWalk.{AreCounted, ChainWalk, CountsOne, GivesFirst, GivesLast, chain_walk, reads_of_step}
 use Rattle.multimap_walks.proofs.PathLemmas.{Leads-agree, Leads-next_of, Leads-previous_of, is_one, path-is, path_none, front_stands, back_stands, front_rest, back_rest, front_taken, back_taken, length-path, shown_first, shown_last}
 
 -- a list with one item more at an end
@@ -31,13 +31,14 @@ module _ {X : Type 0} where
   end_rest-with Front x xs = refl
   end_rest-with Back x xs = take_at xs (x ∷ []) (length (xs ++ x ∷ []) - 1) (omega (arith, length-append xs (x ∷ [])))
 
-  length-with : (end : End) (x : X) (xs : List X) → length (with_end end x xs) ≡ length xs + 1
-  length-with Front x xs = omega arith
-  length-with Back x xs = length-append xs (x ∷ [])
-
   map-with : {Y : Type 0} (f : X → Y) (end : End) (x : X) (xs : List X) → map f (with_end end x xs) ≡ with_end end (f x) (map f xs)
   map-with f Front x xs = refl
   map-with f Back x xs = map-append f xs (x ∷ [])
+
+one_read : (end : End) (p : ℕ) (ps : List ℕ) → reads_of_step (with_end end p ps) ≡ 1
+one_read Front p ps = refl
+one_read Back p [] = refl
+one_read Back p (q ∷ ps) = refl
 
 module _ {V : Type 0} (values : Slots V ValueLink) where
   -- the position at an end goes with the place
@@ -52,21 +53,34 @@ module _ {V : Type 0} (values : Slots V ValueLink) where
   pub last_position_goes : (p : ℕ) (old new : List ℕ) → old ≡ new ++ p ∷ [] → positions_at values new ≡ end_rest Back (positions_at values old)
   last_position_goes p old new taken = position_goes Back p old new taken
 
-  -- the position of a listed value goes and its read is counted, and neither of a detached one
-  counts : (end : End) (detached : Bool) (p : ℕ) (old new : List ℕ) (before after : ℕ) → old ≡ with_end end p new → after ≡ before + (if detached then 0 else 1)
-      → (positions_left values detached new ≡ end_rest end (positions_left values detached old))
-      × (after + length (positions_left values detached new) ≡ before + length (positions_left values detached old))
-  counts end true p old new before after taken counted = (sym (end_rest-none end), ap (λ n. n + 0) counted ∙ omega arith)
-  counts end false p old new before after taken counted =
+  -- the position of a listed value goes, and that of a detached one isn't there
+  positions_go : (end : End) (detached : Bool) (p : ℕ) (old new : List ℕ) → old ≡ with_end end p new → positions_left values detached new ≡ end_rest end (positions_left values detached old)
+  positions_go end true p old new taken = sym (end_rest-none end)
+  positions_go end false p old new taken = position_goes end p old new taken
+
+  -- the read of a listed value is counted, and none of a detached one
+  reads_one : (end : End) (detached : Bool) (p : ℕ) (old new : List ℕ) (before after : ℕ) → old ≡ with_end end p new → after ≡ before + (if detached then 0 else 1)
+      → after ≡ before + reads_of_step (positions_left values detached old)
+  reads_one end true p old new before after taken counted = counted
+  reads_one end false p old new before after taken counted =
       let at = position_in values.order in
-      let positions : positions_at values old ≡ with_end end (at p) (positions_at values new) = ap (positions_at values) taken ∙ map-with at end p new in (
-        position_goes end p old new taken,
-        omega (arith, counted, ap length positions, length-with end (at p) (positions_at values new)),
-      )
+      counted ∙ ap (λ n. before + n) (sym (ap (λ ps. reads_of_step (positions_at values ps)) taken ∙ ap reads_of_step (map-with at end p new) ∙ one_read end (at p) (positions_at values new)))
 
   stands_item : (detached : Bool) (p : ℕ) → Stands values detached p → IsSome (item_at values p)
   stands_item true p stands = stands.has_item
   stands_item false p stands = stands.1
+
+  -- as many values are left as places
+  pub length-left : (detached : Bool) (front back n : ℕ) → IsChain values detached front back n → length (values_at values (places_along values front n)) ≡ n
+  length-left detached front back n chain =
+      length-path (item_at values) (Stands values detached) (next_place values) (previous_place values) front back n chain (stands_item detached)
+
+  -- so as many as positions, where they have these
+  are_counted : (detached : Bool) (front back n before : ℕ) → IsChain values detached front back n → AreCounted (chain_walk values detached front n before)
+  are_counted true front back n before chain = inl refl
+  are_counted false front back n before chain =
+      let places = path-is (Stands values false) (next_place values) (previous_place values) front back n chain in
+      inr (length-map (places_along values front n) (position_in values.order) ∙ ap length places ∙ chain.count ∙ sym (length-left false front back n chain))
 
   -- the place that a link names
   next_is : (p : ℕ) (l : ValueLink) → link_at values p ≡ Some l → next_place values p ≡ l.next
@@ -76,6 +90,15 @@ module _ {V : Type 0} (values : Slots V ValueLink) where
   previous_is p l is = ap (option_and_then (λ m. m.previous)) is
 
   module _ (detached : Bool) (front back m n : ℕ) (more : m ≡ n + 1) (chain : IsChain values detached front back m) where
+    -- a step that takes the place at an end
+    counts_one : (end : End) (before : ℕ) (after : ChainWalk V) (p : ℕ) (rest : List ℕ) → places_along values front m ≡ with_end end p rest → after.positions ≡ positions_left values detached rest
+        → after.reads ≡ before + (if detached then 0 else 1) → CountsOne end (chain_walk values detached front m before) after
+    counts_one end before after p rest taken left counted = record {
+      positions = left ∙ positions_go end detached p (places_along values front m) rest taken;
+      reads = reads_one end detached p (places_along values front m) rest before after.reads taken counted;
+      counted = are_counted detached front back m before chain;
+    }
+
     module _ (next : ℕ) (l : ValueLink) (link_is : link_at values front ≡ Some l) (told : next ≡ unwrap_or l.next front) where
       named_next : next ≡ unwrap_or (next_place values front) front
       named_next = told ∙ ap (λ o. unwrap_or o front) (sym (next_is front l link_is))
@@ -92,7 +115,7 @@ module _ {V : Type 0} (values : Slots V ValueLink) where
           → GivesFirst (chain_walk values detached front m before) (Some given) (chain_walk values detached next n after)
       gives_first given before after item_is counted = (
         shown_first (item_at values) (places_along values front m) front (places_along values next n) given.now takes_front item_is,
-        counts Front detached front (places_along values front m) (places_along values next n) before after takes_front counted,
+        counts_one Front before (chain_walk values detached next n after) front (places_along values next n) takes_front refl counted,
       )
 
     module _ (previous : ℕ) (l : ValueLink) (link_is : link_at values back ≡ Some l) (told : previous ≡ unwrap_or l.previous back) where
@@ -111,7 +134,7 @@ module _ {V : Type 0} (values : Slots V ValueLink) where
           → GivesLast (chain_walk values detached front m before) (Some given) (chain_walk values detached front n after)
       gives_last given before after item_is counted = (
         shown_last (item_at values) (places_along values front m) back (places_along values front n) given.now takes_back item_is,
-        counts Back detached back (places_along values front m) (places_along values front n) before after takes_back counted,
+        counts_one Back before (chain_walk values detached front n after) back (places_along values front n) takes_back refl counted,
       )
 
   -- an item stands at either end of what is left
@@ -120,11 +143,6 @@ module _ {V : Type 0} (values : Slots V ValueLink) where
 
   pub last_stands : (detached : Bool) (front back m n : ℕ) → m ≡ n + 1 → IsChain values detached front back m → Stands values detached back
   last_stands detached = back_stands (Stands values detached) (next_place values) (previous_place values)
-
-  -- as many values are left as places
-  pub length-left : (detached : Bool) (front back n : ℕ) → IsChain values detached front back n → length (values_at values (places_along values front n)) ≡ n
-  length-left detached front back n chain =
-      length-path (item_at values) (Stands values detached) (next_place values) (previous_place values) front back n chain (stands_item detached)
 
   -- detached values that are told by their ends, or none
   pub chain_told : (ends : Option ChainEnds) (none told : ChainEnds) → none.length ≡ 0 → told ≡ unwrap_or ends none

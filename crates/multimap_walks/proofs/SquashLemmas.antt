@@ -89,9 +89,11 @@ module _ {T L : Type 0} where
   module _ {A : Type 0} (cells : SlotCells T L A) where
     read_is_left : (p : ℕ) → ∥ IsLeft cells p ∥₁ → IsLeft cells p
     read_is_left p some =
+        let filled_prop : IsProp (IsSome (item_at (lent_slots cells) p)) = Prim.hlevel props in
         let untaken_prop : IsProp (get_or cells.cells.left p false ≡ true) = Prim.hlevel props in
         record {
           listed = read_member p (lent_slots cells).order (∥∥₁_map some (λ x. x.listed));
+          filled = ∥∥₁_elim some filled_prop (λ x. x.filled);
           untaken = ∥∥₁_elim some untaken_prop (λ x. x.untaken);
         }
 

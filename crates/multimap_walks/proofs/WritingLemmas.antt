@@ -1,12 +1,12 @@
 -- What is left to be taken, and what a step of a walk for writing leaves of it.
-use Rattle.std.proofs.Common.{◌≡◌, ◌≢◌, ℕ, ◌+◌, List, [], ◌∷◌, ◌++◌, length, get_or, false, Option, Some, None, unwrap_or, refl, sym, ap, ◌∙◌, subst, inl, inr}
+use Rattle.std.proofs.Common.{◌≡◌, ℕ, ◌+◌, List, [], ◌∷◌, ◌++◌, length, false, Option, Some, None, unwrap_or, refl, sym, ap, subst, inl, inr}
 use Rattle.std.specs.Prelude.{IfSome}
 use Rattle.std.specs.Borrow.{MutBor}
-use Rattle.std.proofs.lemmas.List.{get_or-set_other}
 use Rattle.multimap_slots.specs.Lists.{IsIn, AreDistinct, previous_of}
 use Rattle.multimap_slots.specs.Slots.{Slots, HasLink, IsSound, item_at}
 use Rattle.multimap_slots.specs.SlotCells.{lent_slots, IsLeft, TakesItem}
 use Rattle.multimap_slots.specs.declared.cells_of.SlotCells.{SlotCells}
+use Rattle.multimap_slots.proofs.CellsLemmas.{IsLeft-other}
 use Rattle.multimap_slots.proofs.ListsLemmas.{IsIn-left, IsIn-right, AreDistinct-gone}
 use Rattle.multimap_walks.specs.declared.links.ChainEnds.{ChainEnds}
 use Rattle.multimap_walks.specs.declared.links.KeyLink.{KeyLink}
@@ -83,12 +83,6 @@ module _ {T L A : Type 0} where
 
   module _ (old new : SlotCells T L A) (place : ℕ) (item : MutBor T) (takes : TakesItem old place item new) where
     -- each other item is left as before
-    still_left : (p : ℕ) → p ≢ place → IsLeft old p → IsLeft new p
-    still_left p differs left = record {
-      listed = subst (λ s. IsIn p s.order) (sym takes.slots) left.listed;
-      untaken = ap (λ ls. get_or ls p false) takes.left ∙ get_or-set_other old.cells.left place p false false differs ∙ left.untaken;
-    }
-
     module _ (places rest : List ℕ) (untaken : AreUntaken old places) where
       pub untaken_behind : places ≡ place ∷ rest → AreUntaken new rest
       untaken_behind is =
@@ -96,7 +90,7 @@ module _ {T L A : Type 0} where
           let passed = passed_behind old places untaken place rest is in
           record {
             distinct = passed.distinct;
-            each = λ p member. still_left p (λ same. distinct.0 (subst (λ q. IsIn q rest) same member)) (passed.each p member);
+            each = λ p member. IsLeft-other takes p (λ same. distinct.0 (subst (λ q. IsIn q rest) same member)) (passed.each p member);
           }
 
       pub untaken_before : places ≡ rest ++ place ∷ [] → AreUntaken new rest
@@ -106,7 +100,7 @@ module _ {T L A : Type 0} where
           let passed = passed_before old places untaken place rest is in
           record {
             distinct = passed.distinct;
-            each = λ p member. still_left p (λ same. absent (IsIn-left place rest [] (subst (λ q. IsIn q rest) same member))) (passed.each p member);
+            each = λ p member. IsLeft-other takes p (λ same. absent (IsIn-left place rest [] (subst (λ q. IsIn q rest) same member))) (passed.each p member);
           }
 
     -- so the walk goes on

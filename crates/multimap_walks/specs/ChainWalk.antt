@@ -1,5 +1,5 @@
 -- What a contract sees of a walk over one key's values, and what a step of it leaves.
-use Rattle.std.specs.Prelude.{◌≡◌, ℕ, ◌+◌, Bool, List, length, Option, None, Some}
+use Rattle.std.specs.Prelude.{◌≡◌, ℕ, ◌+◌, Bool, List, [], ◌∷◌, length, Option, None, Some, ◌⊎◌}
 use Rattle.std.specs.Borrow.{Bor}
 use Rattle.std.specs.Map.Iter.{TakesFirst, TakesLast, deref}
 use Rattle.multimap_slots.specs.Slots.{Slots}
@@ -16,6 +16,12 @@ pub record ChainWalk (V : Type 0) : Type 0 where
   pub positions : List ℕ
   pub reads : ℕ
 
+-- how many value slots of the list a step reads: one, or none of values that have left the list,
+-- which have no positions
+abbrev pub reads_of_step : List ℕ → ℕ
+reads_of_step [] = 0
+reads_of_step (position ∷ positions) = 1
+
 module _ {V : Type 0} where
   -- what is left of a walk along the links, from a place on
   abbrev pub chain_walk : Slots V ValueLink → Bool → ℕ → ℕ → ℕ → ChainWalk V
@@ -25,13 +31,20 @@ module _ {V : Type 0} where
     reads = reads;
   }
 
-  -- where no value is given, nothing changes; else the position at that end goes, and as many
-  -- reads are counted as positions have gone
+  -- a walk has a position for each value that is left, or none where its values have left the list
+  abbrev pub AreCounted : ChainWalk V → Type 0
+  AreCounted walk = (walk.positions ≡ []) ⊎ (length walk.positions ≡ length walk.left)
+
+  -- a value is given: its position goes, and the one slot that was read is counted
+  pub record CountsOne (end : End) (old new : ChainWalk V) : Type 0 where
+    pub positions : new.positions ≡ end_rest end old.positions
+    pub reads : new.reads ≡ old.reads + reads_of_step old.positions
+    pub counted : AreCounted old
+
+  -- where no value is given, nothing changes
   abbrev pub Counts : End → ChainWalk V → Option (Bor V) → ChainWalk V → Type 0
   Counts end old None new = (new.positions ≡ old.positions) × (new.reads ≡ old.reads)
-  Counts end old (Some given) new =
-      (new.positions ≡ end_rest end old.positions)
-      × (new.reads + length new.positions ≡ old.reads + length old.positions)
+  Counts end old (Some given) new = CountsOne end old new
 
   -- the first value that is left is given, or none where nothing is left
   abbrev pub GivesFirst : ChainWalk V → Option (Bor V) → ChainWalk V → Type 0

@@ -1,4 +1,5 @@
--- What a walk over all pairs has left. No public clause cites this module.
+-- What a walk over all pairs has left. Words of the walks for writing use `pairs_left`; no public
+-- clause stands on the rest.
 use Rattle.std.specs.Prelude.{List}
 use Rattle.multimap_slots.specs.Slots.{Slots}
 use Rattle.multimap_walks.specs.declared.links.ChainEnds.{ChainEnds}

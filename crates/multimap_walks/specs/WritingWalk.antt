@@ -1,15 +1,15 @@
 -- What the walks that lend values for writing have left, and what a step of each leaves. They have
 -- no model, so that a contract can follow the loan.
-use Rattle.std.specs.Prelude.{◌≡◌, ℕ, false, List, length, Option, MatchOption, option_map}
+use Rattle.std.specs.Prelude.{◌≡◌, ℕ, List, Option, MatchOption, option_map}
 use Rattle.std.specs.Borrow.{Bor, GName, MutBor}
 use Rattle.std.specs.Map.Iter.{TakesFirst, TakesLast, LendsFirst, LendsLast}
-use Rattle.multimap_slots.specs.Slots.{IsSound, item_at}
+use Rattle.multimap_slots.specs.Slots.{item_at}
 use Rattle.multimap_slots.specs.SlotCells.{cells_name, lent_slots}
 use Rattle.multimap_slots.specs.declared.cells.Cells.{Cells}
 use Rattle.multimap_slots.specs.declared.cells_of.SlotCells.{SlotCells}
 use Rattle.multimap_walks.specs.Along.{items_left, places_left}
-use Rattle.multimap_walks.specs.Chained.{AreOwned, IsChain, places_along, positions_at, values_at}
-use Rattle.multimap_walks.specs.Lending.{AreUntaken, CanLend, HandsOut}
+use Rattle.multimap_walks.specs.Chained.{places_along, positions_at, values_at}
+use Rattle.multimap_walks.specs.Lending.{HandsOut}
 use Rattle.multimap_walks.specs.PairWalk.{pairs_left}
 use Rattle.multimap_walks.specs.Walk.{end_rest}
 use Rattle.multimap_walks.specs.declared.End.{End}
@@ -42,10 +42,6 @@ module _ {K V A : Type 0} where
   abbrev pub iter_mut_positions : IterMut K V A → List ℕ
   iter_mut_positions w = positions_along w.values w.left
 
-  -- how many they are
-  abbrev pub iter_mut_count : IterMut K V A → ℕ
-  iter_mut_count w = w.left.length
-
   -- the name of its loan
   abbrev pub iter_mut_name : IterMut K V A → GName
   iter_mut_name w = cells_name w.values
@@ -57,20 +53,11 @@ module _ {K V A : Type 0} where
   abbrev pub iter_mut_cells : IterMut K V A → Cells V
   iter_mut_cells w = w.values.cells
 
-  -- it may step: what is left stands in a row and wasn't taken, and each value's key is listed
-  pub record IterMutCanStep (w : IterMut K V A) : Type 0 where
-    pub sound : IsSound w.keys.now
-    pub owned : AreOwned w.keys.now (lent_slots w.values)
-    pub lends : CanLend w.values w.left
-    pub count : iter_mut_count w ≡ length (iter_mut_rest w)
-
-  -- the first pair that is left is lent, its position goes, its value's place alone is taken, and
-  -- the walk may step again, also at its end
+  -- the first pair that is left is lent, its position goes, and its value's place alone is taken
   pub record LendsFirstPair (s : IterMut K V A) (r : Option (Bor K × MutBor V)) (t : IterMut K V A)
       : Type 0 where
     pub steps : LendsFirst iter_mut_rest s r t
     pub positions : PositionGoes Front (iter_mut_positions s) r (iter_mut_positions t)
-    pub ready : IterMutCanStep t
     pub taken : HandsOut s.values s.left.first (option_map (λ p. p.1) r) t.values
 
   -- and so the last
@@ -78,7 +65,6 @@ module _ {K V A : Type 0} where
       : Type 0 where
     pub steps : LendsLast iter_mut_rest s r t
     pub positions : PositionGoes Back (iter_mut_positions s) r (iter_mut_positions t)
-    pub ready : IterMutCanStep t
     pub taken : HandsOut s.values s.left.last (option_map (λ p. p.1) r) t.values
 
   -- the same of a `ValuesMut`
@@ -87,9 +73,6 @@ module _ {K V A : Type 0} where
 
   abbrev pub values_mut_positions : ValuesMut K V A → List ℕ
   values_mut_positions w = positions_along w.values w.left
-
-  abbrev pub values_mut_count : ValuesMut K V A → ℕ
-  values_mut_count w = w.left.length
 
   abbrev pub values_mut_name : ValuesMut K V A → GName
   values_mut_name w = cells_name w.values
@@ -100,22 +83,16 @@ module _ {K V A : Type 0} where
   abbrev pub values_mut_cells : ValuesMut K V A → Cells V
   values_mut_cells w = w.values.cells
 
-  pub record ValuesMutCanStep (w : ValuesMut K V A) : Type 0 where
-    pub lends : CanLend w.values w.left
-    pub count : values_mut_count w ≡ length (values_mut_rest w)
-
   pub record LendsFirstValue (s : ValuesMut K V A) (r : Option (MutBor V)) (t : ValuesMut K V A)
       : Type 0 where
     pub steps : TakesFirst deref_mut (values_mut_rest s) r (values_mut_rest t)
     pub positions : PositionGoes Front (values_mut_positions s) r (values_mut_positions t)
-    pub ready : ValuesMutCanStep t
     pub taken : HandsOut s.values s.left.first r t.values
 
   pub record LendsLastValue (s : ValuesMut K V A) (r : Option (MutBor V)) (t : ValuesMut K V A)
       : Type 0 where
     pub steps : TakesLast deref_mut (values_mut_rest s) r (values_mut_rest t)
     pub positions : PositionGoes Back (values_mut_positions s) r (values_mut_positions t)
-    pub ready : ValuesMutCanStep t
     pub taken : HandsOut s.values s.left.last r t.values
 
   -- the places of the values that an `EntryValuesMut` has left
@@ -129,9 +106,6 @@ module _ {K V A : Type 0} where
   abbrev pub entry_values_mut_positions : EntryValuesMut K V A → List ℕ
   entry_values_mut_positions w = positions_at (lent_slots w.values) (entry_places w)
 
-  abbrev pub entry_values_mut_count : EntryValuesMut K V A → ℕ
-  entry_values_mut_count w = w.left.length
-
   abbrev pub entry_values_mut_name : EntryValuesMut K V A → GName
   entry_values_mut_name w = cells_name w.values
 
@@ -141,20 +115,12 @@ module _ {K V A : Type 0} where
   abbrev pub entry_values_mut_cells : EntryValuesMut K V A → Cells V
   entry_values_mut_cells w = w.values.cells
 
-  -- it may step: what is left is a chain, and wasn't taken
-  pub record EntryValuesMutCanStep (w : EntryValuesMut K V A) : Type 0 where
-    pub chain : IsChain (lent_slots w.values) false w.left.first w.left.last w.left.length
-    pub untaken : AreUntaken w.values (entry_places w)
-    pub count : entry_values_mut_count w ≡ length (entry_values_mut_rest w)
-
-  -- the first value of the key that is left is lent, its place alone is taken, its position goes,
-  -- and the walk may step again, also at its end
+  -- the key's first value that is left is lent: its position goes, and its place alone is taken
   pub record LendsFirstOfKey (s : EntryValuesMut K V A) (r : Option (MutBor V))
       (t : EntryValuesMut K V A) : Type 0 where
     pub steps : TakesFirst deref_mut (entry_values_mut_rest s) r (entry_values_mut_rest t)
     pub positions : PositionGoes Front (entry_values_mut_positions s) r
         (entry_values_mut_positions t)
-    pub ready : EntryValuesMutCanStep t
     pub taken : HandsOut s.values s.left.first r t.values
 
   -- and so the last
@@ -163,5 +129,4 @@ module _ {K V A : Type 0} where
     pub steps : TakesLast deref_mut (entry_values_mut_rest s) r (entry_values_mut_rest t)
     pub positions : PositionGoes Back (entry_values_mut_positions s) r
         (entry_values_mut_positions t)
-    pub ready : EntryValuesMutCanStep t
     pub taken : HandsOut s.values s.left.last r t.values

@@ -1,7 +1,6 @@
 //! Walks that lend values for writing, from both ends, what they leave, and the walks that read what
 //! they have left.
 ghost use Rattle.std.specs.Prelude.{◌≡◌, []};
-ghost use Rattle.multimap_walks.specs.WritingWalk.{IterMutCanStep, ValuesMutCanStep, EntryValuesMutCanStep};
 ghost use Rattle.multimap_walks_tests.specs.TwoKeys.{HasTwoKeys, HasFourValues};
 
 use crate::chains::Values;
@@ -65,10 +64,7 @@ fn raise(value: &mut u32) -> u32 {
 }
 
 /// Takes a pair at an end, raises its value, and answers what it was.
-fn take_pair(walk: &mut IterMut<'_, char, u32>, end: End) -> Option<(char, u32)>
-    requires { IterMutCanStep walk.old }
-    ensures { IterMutCanStep walk.new }
-{
+fn take_pair(walk: &mut IterMut<'_, char, u32>, end: End) -> Option<(char, u32)> {
     let pair = match end {
         End::Front => walk.next(),
         End::Back => walk.next_back(),
@@ -77,19 +73,20 @@ fn take_pair(walk: &mut IterMut<'_, char, u32>, end: End) -> Option<(char, u32)>
     Some((*key, raise(value)))
 }
 
-fn pairs_are_taken(test: &Test, walk: &mut IterMut<'_, char, u32>, word: &[Step<(char, u32)>])
-    requires { IterMutCanStep walk.old }
-    ensures { IterMutCanStep walk.new }
-{
+fn pairs_are_taken(test: &Test, walk: &mut IterMut<'_, char, u32>, word: &[Step<(char, u32)>]) {
     for (end, wanted) in word {
         test.expect("a pair", take_pair(walk, *end) == *wanted);
     }
 }
 
-/// Takes a value at an end, raises it, and answers what it was.
-fn take_value(walk: &mut ValuesMut<'_, char, u32>, end: End) -> Option<u32>
-    requires { ValuesMutCanStep walk.old }
-    ensures { ValuesMutCanStep walk.new }
+/// Takes a value at an end of any walk over values, raises it, and answers what it was.
+fn take_value<'map, W: DoubleEndedIterator<Item = &'map mut u32>>(
+    walk: &mut W,
+    end: End,
+) -> Option<u32>
+where
+    requires next { (state : W) → W.can_next state }
+    requires next_back { (state : W) → W.can_next_back state }
 {
     let value = match end {
         End::Front => walk.next(),
@@ -98,38 +95,21 @@ fn take_value(walk: &mut ValuesMut<'_, char, u32>, end: End) -> Option<u32>
     Some(raise(value?))
 }
 
-fn values_are_taken(test: &Test, walk: &mut ValuesMut<'_, char, u32>, word: &[Step<u32>])
-    requires { ValuesMutCanStep walk.old }
-    ensures { ValuesMutCanStep walk.new }
-{
-    for (end, wanted) in word {
-        test.expect("a value", take_value(walk, *end) == *wanted);
-    }
-}
-
-/// Takes a value of a key at an end, raises it, and answers what it was.
-fn take_of_key(walk: &mut EntryValuesMut<'_, char, u32>, end: End) -> Option<u32>
-    requires { EntryValuesMutCanStep walk.old }
-    ensures { EntryValuesMutCanStep walk.new }
-{
-    let value = match end {
-        End::Front => walk.next(),
-        End::Back => walk.next_back(),
-    };
-    Some(raise(value?))
-}
-
-fn values_of_key_are_taken(
-    test: &Test,
-    walk: &mut EntryValuesMut<'_, char, u32>,
+// The row of the first step that takes something else.
+fn taking_difference<'map, W: DoubleEndedIterator<Item = &'map mut u32>>(
+    walk: &mut W,
     word: &[Step<u32>],
-)
-    requires { EntryValuesMutCanStep walk.old }
-    ensures { EntryValuesMutCanStep walk.new }
+) -> Option<usize>
+where
+    requires next { (state : W) → W.can_next state }
+    requires next_back { (state : W) → W.can_next_back state }
 {
-    for (end, wanted) in word {
-        test.expect("a value of a key", take_of_key(walk, *end) == *wanted);
+    for (row, (end, wanted)) in word.iter().enumerate() {
+        if take_value(walk, *end) != *wanted {
+            return Some(row);
+        }
     }
+    None
 }
 
 // How a clone of a walk over what is left differs from what is wanted.
@@ -165,10 +145,10 @@ fn values_are_lent(test: &Test, values: &mut Values)
     ensures { HasFourValues values.new.list }
 {
     let mut walk: ValuesMut<'_, char, u32> = ValuesMut::new(values.cells());
-    values_are_taken(test, &mut walk, LAST_VALUE);
+    test.expect_same("values", taking_difference(&mut walk, LAST_VALUE));
     test.expect_same("what is left", difference(&walk.iter(), VALUES_LEFT));
     test.expect("values left", walk.len() == 3);
-    values_are_taken(test, &mut walk, OTHER_VALUES);
+    test.expect_same("values", taking_difference(&mut walk, OTHER_VALUES));
 }
 
 fn values_of_key_are_lent(test: &Test, keys: &Keys, values: &mut Values)
@@ -177,10 +157,10 @@ fn values_of_key_are_lent(test: &Test, keys: &Keys, values: &mut Values)
     ensures { HasFourValues values.new.list }
 {
     let mut walk = EntryValuesMut::new(keys, values.cells(), Some((0, LONG)));
-    values_of_key_are_taken(test, &mut walk, LAST_OF_KEY);
+    test.expect_same("values", taking_difference(&mut walk, LAST_OF_KEY));
     test.expect_same("what is left", difference(&walk.iter(), LEFT_OF_KEY));
     test.expect("values of a key left", walk.len() == 2);
-    values_of_key_are_taken(test, &mut walk, OTHERS_OF_KEY);
+    test.expect_same("values", taking_difference(&mut walk, OTHERS_OF_KEY));
 }
 
 fn none_is_lent(test: &Test, keys: &Keys, values: &mut Values)

@@ -10,7 +10,8 @@ use Rattle.multimap_slots.proofs.ListsLemmas.{IsIn-append}
 use Rattle.multimap_walks.specs.declared.links.KeyLink.{KeyLink}
 use Rattle.multimap_walks.specs.declared.links.ValueLink.{ValueLink}
 use Rattle.multimap_walks.specs.Chained.{IsChained, is_value_of, chain_of, pair_at, pairs_of}
-use Rattle.ordered_multimap.specs.Appends.{SetsKey, PushesValue}
+use Rattle.ordered_multimap.specs.Appends.{PushesValue}
+use Rattle.ordered_multimap.proofs.StepLemmas.{SetsKey}
 use Rattle.ordered_multimap.proofs.Members.{IsIn-kept}
 use Rattle.ordered_multimap.proofs.PlaceLemmas.{held, AreDistinct-filter, filter-agree, filter_map-agree, last_of-member}
 use Rattle.ordered_multimap.proofs.AgreesLemmas.{pair_of, pair_at-is, is_value_of-is}

@@ -16,13 +16,13 @@ use Rattle.ordered_multimap.specs.Lists.{lists}
 use Rattle.ordered_multimap.specs.Keys.{is_listed, stored_key}
 use Rattle.ordered_multimap.specs.Changes.{appended}
 use Rattle.ordered_multimap.specs.Agrees.{Agrees, HasKey, items_of, lists_of}
-use Rattle.ordered_multimap.specs.Appends.{SetsKey, PushesValue, PushesBehind, HasListedRows, PushesRow, PushesOnly, AppendsBehind, AppendsFirst}
+use Rattle.ordered_multimap.specs.Appends.{PushesValue, PushesBehind, HasListedRows, PushesRow, PushesOnly, AppendsBehind, AppendsFirst}
 use Rattle.ordered_multimap.proofs.Members.{IsIn-kept, filter-none}
 use Rattle.ordered_multimap.proofs.PlaceLemmas.{held, IsIn-filter_map, filter_map-agree, filter_shorter, last_of-member}
 use Rattle.ordered_multimap.proofs.KeyLemmas.{is_listed-member, stored_key_only, stored_key_absent}
 use Rattle.ordered_multimap.proofs.AgreesLemmas.{is_value_of-is}
 use Rattle.ordered_multimap.proofs.ChainLemmas.{first_of-push}
-use Rattle.ordered_multimap.proofs.StepLemmas.{old_other, old_listed, new_listed, listed_cases, IsSound-push, IsSound-with_link, sets_link, sets_pushed}
+use Rattle.ordered_multimap.proofs.StepLemmas.{old_other, old_listed, new_listed, listed_cases, IsSound-push, IsSound-with_link, sets_link, sets_pushed, SetsKey}
 use Rattle.ordered_multimap.specs.Renames.{AreRenamed}
 use Rattle.ordered_multimap.specs.TapeNumbers.{TapeNumbers, TakesOut, ArePaid}
 use Rattle.ordered_multimap.proofs.AppendLemmas.{chained-append, pairs_of-append}

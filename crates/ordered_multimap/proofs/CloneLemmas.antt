@@ -192,26 +192,6 @@ module _ {K V : Type 0} {eq : K → K → Bool} (laws : IsEquivalence eq) (key_c
     pub clones : AreClones eq key_clone value_clone original copy
     pub rest : all_appended eq original left ≡ whole
 
-  pub cloning_start : (pairs : List (K × V)) (copy : Lists K V) → copy ≡ empty_lists → IsCloning (built_from eq pairs) pairs copy
-  cloning_start pairs copy empty = record {
-    original = empty_lists;
-    clones = subst (AreClones eq key_clone value_clone empty_lists) (sym empty) (record { keys = tt; pairs = tt });
-    rest = refl;
-  }
-
-  pub cloning_next : (whole copy copy_after : Lists K V) (left rest : List (K × V)) (p : K × V) → left ≡ p ∷ rest
-      → ((m : Lists K V) → AreClones eq key_clone value_clone m copy → AreClones eq key_clone value_clone (appended eq m p.0 p.1) copy_after)
-      → IsCloning whole left copy → IsCloning whole rest copy_after
-  cloning_next whole copy copy_after left rest p is step cloning = record {
-    original = appended eq cloning.original p.0 p.1;
-    clones = step cloning.original cloning.clones;
-    rest = sym (ap (all_appended eq cloning.original) is) ∙ cloning.rest;
-  }
-
-  pub cloning_end : (whole copy : Lists K V) (left : List (K × V)) → left ≡ [] → IsCloning whole left copy → AreClones eq key_clone value_clone whole copy
-  cloning_end whole copy left none cloning =
-      subst (λ m. AreClones eq key_clone value_clone m copy) (sym (ap (all_appended eq cloning.original) none) ∙ cloning.rest) cloning.clones
-
   -- there is room for the next pair where there is room for the whole
   module _ (whole copy : Lists K V) (left rest : List (K × V)) (p : K × V) (is : left ≡ p ∷ rest) (cloning : IsCloning whole left copy) where
     pub value_fits : length copy.pairs + 1 ≤ length whole.pairs

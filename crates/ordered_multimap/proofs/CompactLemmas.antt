@@ -7,9 +7,15 @@ use Rattle.multimap_slots.specs.Tapes.{Taped, CutsEnd, KeepsTape}
 use Rattle.multimap_slots.proofs.ListsLemmas.{IsIn-append, next_of-split}
 use Rattle.multimap_walks.specs.declared.links.KeyLink.{KeyLink}
 use Rattle.multimap_walks.specs.declared.links.ValueLink.{ValueLink}
-use Rattle.ordered_multimap.specs.Renames.{AreRenamed, AreSettled, Renames, places_below, renamed}
+use Rattle.ordered_multimap.specs.Renames.{AreRenamed, Renames, places_below, renamed}
 use Rattle.ordered_multimap.proofs.ChainLemmas.{last_or-push}
 use Rattle.ordered_multimap.proofs.MoveLemmas.{renamed-from, renamed-none}
+
+-- the first n places of the list are those below n, and the next one follows them
+pub record AreSettled (order : List ℕ) (n : ℕ) (following : Option ℕ) : Type 0 where
+  pub rest : List ℕ
+  pub parts : order ≡ places_below n ++ rest
+  pub following_is : following ≡ first_of rest
 
 pub below-less : (n q : ℕ) → IsIn q (places_below n) → q < n
 below-less zero q i = absurd i
@@ -202,11 +208,6 @@ renames-cut f {keys} {keys_after} {values} mid end a cut = record {
 
     there : (q : ℕ) → IsIn q values.order → IsIn (f q) mid.list.order
     there q i = subst (IsIn (f q)) (sym a.order) (in_map q values.order i)
-
--- and two that have names
-pub renamed-then : {K V : Type 0} {keys keys_mid keys_end : Slots K KeyLink} {values values_mid values_end : Slots V ValueLink}
-    → AreRenamed keys keys_mid values values_mid → AreRenamed keys_mid keys_end values_mid values_end → AreRenamed keys keys_end values values_end
-renamed-then a b = record { name = λ p. b.name (a.name p); renames = renames-then a.name b.name a.renames b.renames }
 
 -- no place has another name where the tape only grew, or not even that
 pub grown_places : {K V : Type 0} {keys : Slots K KeyLink} {values values_after : Taped V ValueLink} → IsSound keys → IsSound values.list → KeepsTape values values_after

@@ -1,40 +1,28 @@
 -- What a call that makes a drain answers: the stored key, and the values that are left.
-use Rattle.std.proofs.Common.{◌≡◌, ℕ, Bool, false, [], ◌∷◌, ◌++◌, slice_get, option_map, Some, None, refl, sym, ap, ◌∙◌}
+use Rattle.std.proofs.Common.{◌≡◌, ℕ, Bool, [], ◌∷◌, ◌++◌, refl, sym, ap, ◌∙◌}
 use Rattle.std.proofs.lemmas.List.Elements.{filter_map-append}
 use Rattle.std.specs.Cmp.{IsEquivalence}
 use Rattle.std.specs.List.{cons_option}
 use Rattle.std.specs.Ordering.{nat_cmp}
 use Rattle.std.specs.FinMap.{FinMap}
-use Rattle.multimap_slots.specs.Slots.{Removes, Slots, item_at, link_at}
+use Rattle.multimap_slots.specs.Slots.{Slots, item_at}
 use Rattle.multimap_walks.specs.declared.links.KeyLink.{KeyLink}
 use Rattle.multimap_walks.specs.declared.links.ValueLink.{ValueLink}
 use Rattle.multimap_walks.specs.declared.links.ChainEnds.{ChainEnds}
 use Rattle.multimap_walks.specs.Chained.{pairs_of, values_at}
-use Rattle.ordered_multimap.specs.Keys.{is_listed, stored_key}
+use Rattle.ordered_multimap.specs.Keys.{stored_key}
 use Rattle.ordered_multimap.specs.Pairs.{values_of}
 use Rattle.ordered_multimap.specs.Agrees.{Agrees, HasKey, items_of}
 use Rattle.ordered_multimap.specs.Detaches.{InsertsDetaching, drained}
 use Rattle.ordered_multimap.proofs.KeyLemmas.{is_listed-member, stored_key_member}
 use Rattle.ordered_multimap.proofs.KeptLemmas.{push_inj}
 use Rattle.ordered_multimap.proofs.PlaceLemmas.{IsIn-filter_map, held}
-use Rattle.ordered_multimap.proofs.LookupLemmas.{head_listed, first_value, no_value, values_of-chain}
-use Rattle.ordered_multimap.proofs.TakeLemmas.{removed_key}
+use Rattle.ordered_multimap.proofs.LookupLemmas.{values_of-chain}
 use Rattle.ordered_multimap.proofs.InsertLemmas.{pushed_agrees, pushed_has, pushed_order, pushed_pairs, values_of-append}
 use Rattle.ordered_multimap.proofs.OlderLemmas.{parts, tail_own}
 
 module _ {K V : Type 0} {eq : K → K → Bool} (laws : IsEquivalence eq) {hash : K → ℕ} {keys : Slots K KeyLink} {rows : FinMap nat_cmp ℕ} {values : Slots V ValueLink}
     (agrees : Agrees eq hash keys rows values) (k : K) where
-  pub key_found : (place : ℕ) (has : HasKey eq keys k place) {keys_after : Slots K KeyLink} {stored : K} → Removes keys keys_after place stored
-      → option_map (λ _. stored_key eq (items_of keys) k) (slice_get (values_of eq (pairs_of keys values) k) 0) ≡ Some stored
-  key_found place has {keys_after} {stored} removes =
-      let l = held (link_at keys place) (agrees.keys_sound.linked place has.listed) in
-      let v = held (item_at values l.value.head) (agrees.values_sound.filled l.value.head (head_listed laws agrees place l.value has.listed l.is)) in
-      ap (option_map (λ _. stored_key eq (items_of keys) k)) (first_value laws agrees k place l.value v.value has l.is v.is)
-      ∙ ap Some (removed_key laws agrees k place has removes)
-
-  pub key_absent : is_listed eq (items_of keys) k ≡ false → option_map (λ _. stored_key eq (items_of keys) k) (slice_get (values_of eq (pairs_of keys values) k) 0) ≡ None
-  key_absent none = ap (λ vs. option_map (λ _. stored_key eq (items_of keys) k) (slice_get vs 0)) (no_value laws agrees k none)
-
   -- an insertion leaves the old values to the drain
   pub left-inserted : (v : V) (place : ℕ) (has : HasKey eq keys k place) {keys_after : Slots K KeyLink} {values_after : Slots V ValueLink} {ends : ChainEnds}
       → InsertsDetaching keys keys_after values values_after place v ends → drained values_after ends ≡ values_of eq (pairs_of keys values) k

@@ -13,7 +13,7 @@ use Rattle.multimap_walks.specs.declared.links.ChainEnds.{ChainEnds}
 use Rattle.multimap_walks.specs.declared.links.KeyLink.{KeyLink}
 use Rattle.multimap_walks.specs.declared.links.ValueLink.{ValueLink}
 use Rattle.multimap_walks.specs.Path.{path, Leads}
-use Rattle.multimap_walks.specs.Chained.{IsDetachedChain, next_place, places_along, previous_place, values_at}
+use Rattle.multimap_walks.specs.Chained.{IsDetachedChain, next_place, previous_place, values_at}
 use Rattle.multimap_walks.proofs.PathLemmas.{Leads-agree, path-is, front_taken, back_taken, shown_first, shown_last}
 use Rattle.multimap_walks.proofs.ChainLemmas.{chain_behind, chain_before, first_stands, last_stands, length-left}
 use Rattle.multimap_walks.proofs.SquashLemmas.{AreDistinct-prop, Leads-prop}
@@ -84,21 +84,6 @@ module _ {V : Type 0} (values : Slots V ValueLink) where
   -- as many values are left as places
   pub length-drained : (ends : ChainEnds) → IsDrained values ends → length (drained values ends) ≡ ends.length
   length-drained ends d = length-left values true ends.first ends.last ends.length (chain_of-drained ends d)
-
-  -- no values
-  pub drained-none : (ends : ChainEnds) → ends.length ≡ 0 → IsDrained values ends
-  drained-none ends none =
-      let empty : drained_places values ends ≡ [] = ap (places_along values ends.first) none in
-      record {
-        onward = subst (Leads (next_place values)) (sym empty) tt;
-        backward = subst (λ ps. Leads (previous_place values) (reverse ps)) (sym empty) tt;
-        last = subst (λ ps. IfSome (last_of ps) (λ p. p ≡ ends.last)) (sym empty) tt;
-        distinct = subst AreDistinct (sym empty) tt;
-        there = λ p member. absurd (subst (IsIn p) empty member);
-      }
-
-  pub nothing_drained : (ends : ChainEnds) → ends.length ≡ 0 → drained values ends ≡ []
-  nothing_drained ends none = ap (λ n. values_at values (places_along values ends.first n)) none
 
 -- slots that keep what stands at the places of a drain
 module _ {V : Type 0} {values : Slots V ValueLink} (values_after : Slots V ValueLink) (ends : ChainEnds) (d : IsDrained values ends)

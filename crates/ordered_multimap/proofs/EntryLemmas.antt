@@ -2,6 +2,7 @@
 use Rattle.std.proofs.Common.{◌≡◌, ℕ, suc, ◌+◌, Bool, true, false, cond, List, [], ◌∷◌, ◌++◌, filter, length, map, slice_get, Option, Some, None, is_some, option_map, refl, sym, ap, ◌∙◌, subst, arith, true≢false}
 use Rattle.std.specs.Cmp.{IsEquivalence}
 use Rattle.std.specs.List.{enumerate_from}
+use Rattle.multimap_slots.specs.Slots.{DoublesIfGrown}
 use Rattle.ordered_multimap.specs.Changes.{appended, first_written}
 use Rattle.ordered_multimap.specs.Keys.{is_listed, keys_with, stored_key}
 use Rattle.ordered_multimap.specs.Lists.{Lists, lists}
@@ -83,6 +84,10 @@ written_last {eq = eq} laws old new after k v w unlisted absent came rooms raise
         present = λ there. written.rooms.keys ∙ raises.present there;
         values = λ few. written.rooms.values ∙ raises.values few;
         slots = λ few. written.rooms.slots ∙ raises.slots few;
+        doubles = record {
+          keys = subst (DoublesIfGrown old.key_room) (sym written.rooms.keys) raises.doubles.keys;
+          values = subst (DoublesIfGrown old.value_room) (sym written.rooms.values) raises.doubles.values;
+        };
       };
       taken = subst (λ t. TakesOut 0 old.tape t) (sym written.tape) taken;
     }

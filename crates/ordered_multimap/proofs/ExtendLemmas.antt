@@ -1,15 +1,25 @@
 -- Pairs that are appended in turn.
-use Rattle.std.proofs.Common.{◌≡◌, Bool, List, [], ◌∷◌, ◌++◌, refl, arith, ◌∙◌}
+use Rattle.std.proofs.Common.{◌≡◌, ◌≤◌, ◌+◌, ◌*◌, ℕ, Bool, true, false, cond, List, [], ◌∷◌, ◌++◌, length, length-append, refl, ap, arith, ◌∙◌, inl, inr}
+use Rattle.std.proofs.lemmas.Bool.{cases_lt}
+use Rattle.multimap_slots.specs.Slots.{DoublesIfGrown}
 use Rattle.ordered_multimap.specs.Lists.{Lists}
 use Rattle.ordered_multimap.specs.Changes.{appended, all_appended}
+use Rattle.ordered_multimap.specs.Keys.{is_listed, keys_with, stored_key}
 use Rattle.ordered_multimap.specs.Multimap.{Multimap}
-use Rattle.ordered_multimap.specs.Rooms.{KeepsRooms}
+use Rattle.ordered_multimap.specs.Rooms.{DoublesRooms, HasKeyRoom, HasPairRoom, HasRoomForPairs, HasValueRoom, KeepsRooms, RaisesNoRoom, SameRooms}
 use Rattle.ordered_multimap.specs.TapeNumbers.{TapeNumbers, TakesOut}
 
 pub all_appended-push : {K V : Type 0} (eq : K → K → Bool) (m : Lists K V) (pairs : List (K × V)) (k : K) (v : V)
     → all_appended eq m (pairs ++ (k, v) ∷ []) ≡ appended eq (all_appended eq m pairs) k v
 all_appended-push eq m [] k v = refl
 all_appended-push eq m (p ∷ pairs) k v = all_appended-push eq (appended eq m p.0 p.1) pairs k v
+
+-- a number that grows twice has doubled
+doubles-then : (a b c : ℕ) → a ≤ b → b ≤ c → DoublesIfGrown a b → DoublesIfGrown b c → DoublesIfGrown a c
+doubles-then a b c more later first second = λ grown. elim (cases_lt a b) [
+  | inl less ↦ let doubled : a * 2 ≤ b = first less in omega (arith, doubled, later)
+  | inr same ↦ let doubled : b * 2 ≤ c = second (omega (arith, grown, same)) in omega (arith, doubled, more)
+]
 
 pub keeps_rooms-then : {K V S : Type 0} {a b c : Multimap K V S} → KeepsRooms a b → KeepsRooms b c → KeepsRooms a c
 keeps_rooms-then first second = record {
@@ -18,8 +28,55 @@ keeps_rooms-then first second = record {
   hasher = second.hasher ∙ first.hasher;
 }
 
+pub doubles_rooms-then : {K V S : Type 0} {a b c : Multimap K V S} → KeepsRooms a b → KeepsRooms b c → DoublesRooms a b → DoublesRooms b c → DoublesRooms a c
+doubles_rooms-then more later first second = record {
+  keys = doubles-then _ _ _ more.keys later.keys first.keys second.keys;
+  values = doubles-then _ _ _ more.values later.values first.values second.values;
+}
+
 pub takes_none-then : {a b c : TapeNumbers} → TakesOut 0 a b → TakesOut 0 b c → TakesOut 0 a c
 takes_none-then first second = record {
   freed = omega (arith, first.freed, second.freed);
   paid = omega (arith, first.paid, second.paid);
 }
+
+-- each pair that is appended adds a pair, and a key at most
+length-keys_with : {K : Type 0} (eq : K → K → Bool) (keys : List K) (k : K) → length (keys_with eq keys k) ≤ length keys + 1
+length-keys_with eq keys k = by (is_listed eq keys k)
+  where
+    by : (b : Bool) → length (cond b keys (keys ++ k ∷ [])) ≤ length keys + 1
+    by true = omega arith
+    by false = omega (arith, length-append keys (k ∷ []))
+
+module _ {K V : Type 0} (eq : K → K → Bool) where
+  length-keys : (m : Lists K V) (pairs : List (K × V)) → length (all_appended eq m pairs).keys ≤ length m.keys + length pairs
+  length-keys m [] = omega arith
+  length-keys m (p ∷ pairs) = omega (arith, length-keys (appended eq m p.0 p.1) pairs, length-keys_with eq m.keys p.0)
+
+  length-pairs : (m : Lists K V) (pairs : List (K × V)) → length (all_appended eq m pairs).pairs ≡ length m.pairs + length pairs
+  length-pairs m [] = omega arith
+  length-pairs m (p ∷ pairs) = omega (arith, length-pairs (appended eq m p.0 p.1) pairs, length-append m.pairs ((stored_key eq m.keys p.0, p.1) ∷ []))
+
+-- room for more is room for fewer
+pub room-fewer : {K V S : Type 0} {m : Multimap K V S} {few many : ℕ} → few ≤ many → HasRoomForPairs m many → HasRoomForPairs m few
+room-fewer fewer room = record { keys = omega (arith, fewer, room.keys); values = omega (arith, fewer, room.values) }
+
+-- a map that had room for one more pair than were appended has room for it now
+module _ {K V S : Type 0} (eq : K → K → Bool) {old now : Multimap K V S} (pairs : List (K × V))
+    (room : HasRoomForPairs old (length pairs + 1)) (lists : now.lists ≡ all_appended eq old.lists pairs) (rooms : KeepsRooms old now) where
+  pub has_key_room : HasKeyRoom now
+  has_key_room = omega (arith, ap (λ m. length m.keys) lists, length-keys eq old.lists pairs, room.keys, rooms.keys)
+
+  has_value_room : HasValueRoom now
+  has_value_room = omega (arith, ap (λ m. length m.pairs) lists, length-pairs eq old.lists pairs, room.values, rooms.values)
+
+  pub has_pair_room : (k : K) → HasPairRoom eq now k
+  has_pair_room k = record { value = has_value_room; key = λ _. has_key_room }
+
+  pub same_rooms-then : {new : Multimap K V S} {k : K} → SameRooms old now → RaisesNoRoom eq k now new → KeepsRooms now new → SameRooms old new
+  same_rooms-then same raises keeps = record {
+    keys = raises.keys has_key_room ∙ same.keys;
+    values = raises.values has_value_room ∙ same.values;
+    slots = raises.slots has_value_room ∙ same.slots;
+    hasher = keeps.hasher ∙ same.hasher;
+  }

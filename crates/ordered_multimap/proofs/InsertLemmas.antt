@@ -15,13 +15,13 @@ use Rattle.ordered_multimap.specs.Keys.{is_listed, stored_key, keys_with}
 use Rattle.ordered_multimap.specs.Pairs.{has_items, pairs_without, values_of}
 use Rattle.ordered_multimap.specs.Changes.{appended, inserted}
 use Rattle.ordered_multimap.specs.Agrees.{Agrees, HasKey, items_of, lists_of}
-use Rattle.ordered_multimap.specs.Appends.{PushesValue, PushesBehind, SetsKey}
+use Rattle.ordered_multimap.specs.Appends.{PushesValue, PushesBehind}
 use Rattle.ordered_multimap.specs.Renames.{AreRenamed}
 use Rattle.ordered_multimap.specs.Takes.{InsertsBehind}
 use Rattle.ordered_multimap.proofs.Members.{filter-all}
 use Rattle.ordered_multimap.proofs.PlaceLemmas.{held, begins, filter_shorter}
 use Rattle.ordered_multimap.proofs.ChainLemmas.{first_of-push}
-use Rattle.ordered_multimap.proofs.StepLemmas.{sets_link}
+use Rattle.ordered_multimap.proofs.StepLemmas.{sets_link, SetsKey}
 use Rattle.ordered_multimap.proofs.RenameLemmas.{chain_of-renamed}
 use Rattle.ordered_multimap.proofs.AppendLemmas.{chained-append}
 use Rattle.ordered_multimap.proofs.AppendedLemmas.{Appends, present_step, agrees_reserved}

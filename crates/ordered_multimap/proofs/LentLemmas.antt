@@ -1,5 +1,9 @@
 -- A map whose values were written through a loan is the map with other values, and agrees as before.
-use Rattle.std.proofs.Common.{◌≡◌, ℕ, zero, get_or, unwrap_or, inl, inr, List, [], ◌∷◌, length, Option, Some, None, IsSome, refl, sym, ap, ◌∙◌, subst, arith, Bool, suc, map}
+use Rattle.std.proofs.Common.{◌≡◌, ℕ, zero, get_or, unwrap_or, inl, inr, List, [], ◌∷◌, length, Option, Some, None, IsSome, refl, sym, ap, ◌∙◌, subst, arith, Bool, suc, map, true, false}
+use Rattle.ordered_multimap.specs.TapeNumbers.{numbers_code}
+use Rattle.ordered_multimap.specs.MapSlots.{key_link_code, value_link_code, ends_code}
+use Rattle.multimap_slots.specs.Codes.{around_items, slots_code}
+use Rattle.std.specs.Coded.{Coded, coded×, coded_list, coded_ℕ}
 use base.Stored.{Gv}
 use Rattle.std.specs.Prelude.{option_and_then, option_map}
 use Rattle.std.specs.List.{filter_map, cons_option}
@@ -17,9 +21,20 @@ use Rattle.multimap_walks.specs.declared.links.ValueLink.{ValueLink}
 use Rattle.multimap_walks.specs.Chained.{key_of, pair_at, pairs_of}
 use Rattle.ordered_multimap.specs.Multimap.{Multimap}
 use Rattle.ordered_multimap.specs.Agrees.{Agrees, lists_of}
-use Rattle.ordered_multimap.specs.Lists.{lists}
-use Rattle.ordered_multimap.specs.ValuesLent.{pairs_ended, revalued, with_values, with_values_of, AreLent, EndsAs}
+use Rattle.ordered_multimap.specs.ValuesLent.{pairs_ended, revalued, with_values, AreLent, EndsAs}
 use Rattle.ordered_multimap.proofs.AgreesLemmas.{pair_at-is, pair_in}
+
+-- what stands around the values in a map
+abbrev pub around_values : {K V S : Type 0} → Coded K → Coded V → Coded S → Multimap K V S
+    → List (Bool × Gv)
+around_values k v s m =
+    (true, (coded× (coded_list k) (coded_list (coded× k v))).code (m.lists.keys, m.lists.pairs))
+    ∷ (true, (coded× coded_ℕ coded_ℕ).code (m.key_room, m.value_room))
+    ∷ (true, s.code m.hasher)
+    ∷ (true, numbers_code.code m.tape)
+    ∷ (true, (slots_code k key_link_code).code m.slots.keys)
+    ∷ (false, ends_code.code m.slots.left)
+    ∷ around_items value_link_code m.slots.values
 
 -- slots that were refilled take on the same items again
 pub refilled_again : {X : Type 0} (xs ys : List (Option X)) → refilled xs (refilled xs ys) ≡ refilled xs ys
@@ -56,17 +71,10 @@ module _ {K V : Type 0} where
       → revalued (pairs_of keys values) (pairs_of keys (with_refilled values items)) ≡ pairs_of keys (with_refilled values items)
   revalued_refilled keys values items = revalued_places keys values items values.order
 
-  pub keys-revalued : (ps qs : List (K × V)) → map (λ p. p.0) (revalued ps qs) ≡ map (λ p. p.0) ps
-  keys-revalued [] qs = refl
-  keys-revalued (p ∷ ps) [] = ap (λ ks. p.0 ∷ ks) (keys-revalued ps [])
-  keys-revalued (p ∷ ps) (q ∷ qs) = ap (λ ks. p.0 ∷ ks) (keys-revalued ps qs)
-
-  -- a map that took on other values takes on the same ones again
-  pub with_values_again : {S : Type 0} (m n : Multimap K V S) → with_values_of m (with_values_of m n) ≡ with_values_of m n
-  with_values_again m n =
-      let items = refilled_again m.slots.values.items n.slots.values.items in
-      λ i. let values : Slots V ValueLink = record m.slots.values { items = items i } in
-      record m { lists = lists m.lists.keys (revalued m.lists.pairs (pairs_of m.slots.keys values)); slots = record m.slots { values = values } }
+  pub keys_revalued : (ps qs : List (K × V)) → map (λ p. p.0) (revalued ps qs) ≡ map (λ p. p.0) ps
+  keys_revalued [] qs = refl
+  keys_revalued (p ∷ ps) [] = ap (λ ks. p.0 ∷ ks) (keys_revalued ps [])
+  keys_revalued (p ∷ ps) (q ∷ qs) = ap (λ ks. p.0 ∷ ks) (keys_revalued ps qs)
 
   pub length_revalued : (ps qs : List (K × V)) → length (revalued ps qs) ≡ length ps
   length_revalued [] qs = refl

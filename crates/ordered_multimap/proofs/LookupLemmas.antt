@@ -4,11 +4,11 @@ use Rattle.std.proofs.lemmas.Bool.{cases_eq, eq-eqb, ne_eqb}
 use Rattle.std.specs.List.{filter_map, cons_option, enumerate_from, IsDistinct, AllByRecursion}
 use Rattle.std.specs.Cmp.{IsEquivalence}
 use Rattle.std.specs.Ordering.{nat_cmp}
-use Rattle.std.specs.FinMap.{FinMap}
+use Rattle.std.specs.FinMap.{FinMap, get}
 use Rattle.std.specs.Borrow.{Bor}
 use Rattle.std.specs.Map.Iter.{TakesFirst, TakesLast, deref_pair}
 use Rattle.multimap_slots.specs.Lists.{IsIn, AreDistinct}
-use Rattle.multimap_slots.specs.Slots.{HasItem, Slots, item_at, link_at}
+use Rattle.multimap_slots.specs.Slots.{HasItem, Slots, item_at, link_at, IsSound}
 use Rattle.multimap_walks.specs.declared.links.KeyLink.{KeyLink}
 use Rattle.multimap_walks.specs.declared.links.ValueLink.{ValueLink}
 use Rattle.multimap_walks.specs.Walk.{end_item}
@@ -16,13 +16,23 @@ use Rattle.multimap_walks.specs.declared.End.TheVariants.{Front, Back}
 use Rattle.multimap_walks.specs.Chained.{position_in, is_value_of, chain_of, positions_at, values_at, pair_at, pairs_of}
 use Rattle.ordered_multimap.specs.Pairs.{all_positions, has_items, values_of, positions_of, is_present}
 use Rattle.ordered_multimap.specs.Keys.{is_listed, stored_key}
-use Rattle.ordered_multimap.specs.Agrees.{Agrees, AreKeyed, HasKey, IsFoundBy, LacksKey, items_of, lists_of}
+use Rattle.ordered_multimap.specs.Agrees.{Agrees, HasKey, IsFoundBy, LacksKey, items_of, lists_of}
 use Rattle.ordered_multimap.proofs.Members.{IsIn-kept}
 use Rattle.ordered_multimap.proofs.PlaceLemmas.{held, length-filter_map, IsIn-filter_map, origin, begins}
 use Rattle.ordered_multimap.proofs.LawLemmas.{end_item-push}
 use Rattle.ordered_multimap.proofs.KeyLemmas.{is_listed-member, stored_key_member, stored_key_only}
 use Rattle.ordered_multimap.proofs.WellFormedLemmas.{is_present-keys}
 use Rattle.ordered_multimap.proofs.AgreesLemmas.{PairAt, pair_in, is_value_of-is, well_formed}
+
+-- the table finds each key by the hash of its link, which is that of the key
+pub record AreKeyed {K : Type 0} (eq : K → K → Bool) (hash : K → ℕ) (keys : Slots K KeyLink)
+    (rows : FinMap nat_cmp ℕ) : Type 0 where
+  pub sound : IsSound keys
+  pub hashed : (place : ℕ) (k : K) (l : KeyLink) → IsIn place keys.order
+      → item_at keys place ≡ Some k → link_at keys place ≡ Some l → l.hash ≡ hash k
+  pub in_table : (place : ℕ) (l : KeyLink) → IsIn place keys.order → link_at keys place ≡ Some l
+      → get rows place ≡ Some l.hash
+  pub listed : (place h : ℕ) → get rows place ≡ Some h → IsIn place keys.order
 
 module _ {K : Type 0} {eq : K → K → Bool} (laws : IsEquivalence eq) where
   -- no listed key is equal, so none is in the list

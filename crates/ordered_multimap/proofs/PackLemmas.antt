@@ -1,7 +1,7 @@
 -- What the steps of a packing leave: each key goes to the end of the new list, and each value to its place on the new tape.
-use Rattle.std.proofs.Common.{◌≡◌, ◌≢◌, ◌==◌, ℕ, zero, suc, ◌+◌, ◌<◌, cond, not, List, [], ◌∷◌, ◌++◌, map, length, get_or, Option, Some, None, is_some, refl, sym, ap, ◌∙◌, subst, inl, inr, arith, length-append, append_assoc}
+use Rattle.std.proofs.Common.{◌≡◌, ◌≢◌, ◌==◌, ℕ, zero, suc, ◌+◌, ◌<◌, cond, not, List, [], ◌∷◌, ◌++◌, map, length, get_or, Option, Some, None, is_some, refl, sym, ap, ◌∙◌, subst, inl, inr, arith, length-append, append_assoc, ◌≤◌}
 use Rattle.std.proofs.lemmas.Bool.{cases_eq, eq-eqb, ne_eqb}
-use Rattle.std.proofs.lemmas.List.{append-nil, get_or-set_same, get_or-set_other, length-map, map-append}
+use Rattle.std.proofs.lemmas.List.{get_or-set_same, get_or-set_other, map-append}
 use Rattle.std.specs.Cmp.{nat_cmp_total, unsigned_tied}
 use Rattle.std.specs.Ordering.{nat_cmp}
 use Rattle.std.specs.FinMap.{FinMap, empty, get, len, get-empty, get-insert, len-empty, len-insert}
@@ -10,12 +10,29 @@ use Rattle.multimap_slots.specs.Slots.{Slots, IsEmpty, IsSound, PushesBack, Remo
 use Rattle.multimap_slots.proofs.ListsLemmas.{AreDistinct-gone, IsIn-append, IsIn-left, IsIn-right, IsIn-without, without-split}
 use Rattle.multimap_walks.specs.declared.links.KeyLink.{KeyLink}
 use Rattle.multimap_walks.specs.declared.links.ValueLink.{ValueLink}
-use Rattle.ordered_multimap.specs.KeyRenames.{AreComing, AreGoing, HasRows, HaveCome, HaveGone, MovesKey, name_in, with_new_key}
+use Rattle.ordered_multimap.specs.KeyRenames.{HasRows, HaveCome, HaveGone, MovesKey, name_in, with_new_key}
 use Rattle.ordered_multimap.specs.Renames.{places_below}
 use Rattle.ordered_multimap.proofs.CompactLemmas.{below-less, length-below}
 use Rattle.ordered_multimap.proofs.Members.{IsIn-filter}
 use Rattle.ordered_multimap.proofs.PlaceLemmas.{Begins, begins}
 use Rattle.ordered_multimap.proofs.StepLemmas.{listed_cases, new_listed, old_listed, old_other}
+
+-- a first part of the keys has gone, and the others are left as they were
+pub record AreGoing {K : Type 0} (names : List ℕ) (keys left packed : Slots K KeyLink)
+    : Type 0 where
+  pub part : List ℕ
+  pub parts : keys.order ≡ part ++ left.order
+  pub gone : HaveGone (name_in names) part keys packed
+  pub left_items : (q : ℕ) → IsIn q left.order → item_at left q ≡ item_at keys q
+  pub left_links : (q : ℕ) → IsIn q left.order → link_at left q ≡ link_at keys q
+
+-- the values at the first n places have come, and the others are left as they were
+pub record AreComing {V : Type 0} (name : ℕ → ℕ) (n : ℕ) (values left packed : Slots V ValueLink)
+    : Type 0 where
+  pub come : HaveCome name (places_below n) values packed
+  pub there : (q : ℕ) → n ≤ q → IsIn q values.order → IsIn q left.order
+  pub left_items : (q : ℕ) → IsIn q left.order → item_at left q ≡ item_at values q
+  pub left_links : (q : ℕ) → IsIn q left.order → link_at left q ≡ link_at values q
 
 -- names that agree on a list of places
 map-agree : (f g : ℕ → ℕ) (ps : List ℕ) → ((p : ℕ) → IsIn p ps → f p ≡ g p) → map f ps ≡ map g ps
@@ -147,26 +164,11 @@ module _ {K : Type 0} {left left_after packed packed_after : Slots K KeyLink} {r
         still : (q : ℕ) → IsIn q left_after.order → IsIn q left.order × (q ≢ place)
         still q i = IsIn-without q left.order place (subst (IsIn q) moves.removed.order i)
 
--- once no key is left, all have gone
-pub going-end : {K : Type 0} {names : List ℕ} {keys left packed : Slots K KeyLink} → AreGoing names keys left packed → first_of left.order ≡ None → HaveGone (name_in names) keys.order keys packed
-going-end {names = names} {keys} {left} {packed} going none =
-    subst (λ ps. HaveGone (name_in names) ps keys packed)
-    (sym (going.parts ∙ ap (λ ps. going.part ++ ps) (no_first left.order none) ∙ append-nil going.part)) going.gone
-  where
-    no_first : (ps : List ℕ) → first_of ps ≡ None → ps ≡ []
-    no_first [] e = refl
-    no_first (p ∷ ps) e = absurd (let bad = e in cc)
-
 -- the next key is one of all
 pub going-listed : {K : Type 0} {names : List ℕ} {keys left packed : Slots K KeyLink} {place : ℕ} → AreGoing names keys left packed → first_of left.order ≡ Some place → IsIn place keys.order
 going-listed {keys = keys} {left} {place = place} going first =
     let b = begins left.order place first in
     subst (IsIn place) (sym going.parts) (IsIn-right place going.part left.order (subst (IsIn place) (sym b.is) (inl refl)))
-
--- how many have gone and are left
-pub going-count : {K : Type 0} {names : List ℕ} {keys left packed : Slots K KeyLink} → AreGoing names keys left packed → length packed.order + length left.order ≡ length keys.order
-going-count {names = names} {keys} {left} {packed} going =
-    omega (arith, ap length going.gone.order, length-map going.part (name_in names), ap length going.parts, length-append going.part left.order)
 
 in-below : (n q : ℕ) → q < n → IsIn q (places_below n)
 in-below zero q below = absurd (omega (arith, below))

@@ -1,9 +1,11 @@
 -- Lists of places, and what stands at them.
-use Rattle.std.proofs.Common.{◌≡◌, suc, ◌≤◌, Bool, true, false, cond, List, [], ◌∷◌, ◌++◌, length, filter, Option, Some, None, IsSome, refl, sym, ap, ◌∙◌, subst, inl, inr, arith}
+use Rattle.std.proofs.Common.{◌≡◌, ℕ, ◌-◌, suc, length-append, ◌≤◌, Bool, true, false, cond, if◌then◌else◌, List, [], ◌∷◌, ◌++◌, length, filter, Option, Some, None, IsSome, refl, sym, ap, ◌∙◌, subst, inl, inr, arith}
+use Rattle.std.proofs.lemmas.Bool.{eq-eqb, ne_eqb}
 use Rattle.std.specs.List.{filter_map, cons_option}
 use Rattle.std.specs.Map.{keys_of}
 use Rattle.multimap_slots.specs.Lists.{IsIn, AreDistinct, first_of, last_of}
-use Rattle.multimap_slots.proofs.ListsLemmas.{IsIn-right}
+use Rattle.multimap_slots.proofs.ListsLemmas.{AreDistinct-gone, IsIn-left, IsIn-right}
+use Rattle.multimap_walks.specs.Chained.{position_in}
 use Rattle.ordered_multimap.proofs.Members.{IsIn-kept}
 
 -- what an option holds
@@ -113,3 +115,26 @@ module _ {K V : Type 0} where
 module _ {X : Type 0} (xs : List X) where
   pub last_of-member : (x : X) → last_of xs ≡ Some x → IsIn x xs
   last_of-member x e = let found = ends xs x e in subst (IsIn x) (sym found.is) (IsIn-right x found.front (x ∷ []) (inl refl))
+
+-- as many places stand before a place as items are listed before it
+pub position_in-split : (front : List ℕ) (place : ℕ) (back : List ℕ) → (IsIn place front → ⊥) → position_in (front ++ place ∷ back) place ≡ length front
+position_in-split [] place back absent = ap (λ b. if b then 0 else suc (position_in back place)) (eq-eqb place place refl)
+position_in-split (q ∷ front) place back absent =
+    ap (λ b. if b then 0 else suc (position_in (front ++ place ∷ back) place)) (ne_eqb q place (λ same. absent (inl (sym same))))
+    ∙ ap suc (position_in-split front place back (λ i. absent (inr i)))
+
+-- how many places there are from this one on
+abbrev pub places_from : List ℕ → Option ℕ → ℕ
+places_from order None = 0
+places_from order (Some place) = length order - position_in order place
+
+-- no place is first, so none is there
+pub no_rest : (rest : List ℕ) → first_of rest ≡ None → rest ≡ []
+no_rest [] e = refl
+no_rest (p ∷ rest) e = absurd (let bad = e in cc)
+
+-- so many places are left, from the first of the rest on
+pub places_from-split : (done rest : List ℕ) → AreDistinct (done ++ rest) → places_from (done ++ rest) (first_of rest) ≡ length rest
+places_from-split done [] distinct = refl
+places_from-split done (p ∷ rest) distinct =
+    omega (arith, length-append done (p ∷ rest), position_in-split done p rest (λ i. AreDistinct-gone done p rest distinct (IsIn-left p done rest i)))

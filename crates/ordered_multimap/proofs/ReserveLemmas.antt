@@ -1,20 +1,20 @@
 -- Key list and tape that have other capacities, and are else the same.
-use Rattle.std.proofs.Common.{◌≡◌, ℕ, ◌+◌, ◌≤◌, ◌/◌, min, Bool, length, ap, refl, arith}
+use Rattle.std.proofs.Common.{ℕ, ◌+◌, ◌≤◌, ◌/◌, min, Bool, length, ap, refl, arith}
 use Rattle.std.specs.Ordering.{nat_cmp}
-use Rattle.std.specs.FinMap.{FinMap, len}
+use Rattle.std.specs.FinMap.{FinMap}
 use Rattle.multimap_slots.specs.Slots.{Slots, KeepsItems}
 use Rattle.multimap_slots.specs.Tapes.{Taped, HasTapeRoomFor, KeepsCapacity, KeepsTape}
 use Rattle.multimap_walks.specs.declared.links.ChainEnds.{ChainEnds}
 use Rattle.multimap_walks.specs.declared.links.KeyLink.{KeyLink}
 use Rattle.multimap_walks.specs.declared.links.ValueLink.{ValueLink}
 use Rattle.multimap_walks.specs.Chained.{pairs_of}
-use Rattle.ordered_multimap.specs.Agrees.{Agrees, items_of, lists_of}
+use Rattle.ordered_multimap.specs.Agrees.{Agrees, items_of}
 use Rattle.ordered_multimap.specs.Appends.{FitsKeys, GrowsFor}
 use Rattle.ordered_multimap.specs.Rooms.{SameRooms}
 use Rattle.ordered_multimap.specs.Renames.{AreRenamed}
 use Rattle.ordered_multimap.proofs.CompactLemmas.{renamed-room}
 use Rattle.ordered_multimap.proofs.AgreesLemmas.{length-keys, length-pairs}
-use Rattle.ordered_multimap.proofs.RenameLemmas.{agrees-renamed, lists_of-renamed}
+use Rattle.ordered_multimap.proofs.RenameLemmas.{agrees-renamed}
 use Rattle.ordered_multimap.proofs.RoomLemmas.{map_of}
 
 module _ {K V : Type 0} {eq : K → K → Bool} {hash : K → ℕ} {keys keys_after : Slots K KeyLink} {rows : FinMap nat_cmp ℕ} {values values_after : Slots V ValueLink}
@@ -25,9 +25,6 @@ module _ {K V : Type 0} {eq : K → K → Bool} {hash : K → ℕ} {keys keys_af
 
   pub agrees-widened : Agrees eq hash keys_after rows values_after
   agrees-widened = agrees-renamed widened.name agrees widened.renames
-
-  pub lists_of-widened : lists_of keys_after values_after ≡ lists_of keys values
-  lists_of-widened = lists_of-renamed widened.name agrees widened.renames
 
 -- rooms, where so many more keys fit, and where the slots of values are as many or more
 module _ {K V S : Type 0} {eq : K → K → Bool} {hash : K → ℕ} (keys : Slots K KeyLink) {rows : FinMap nat_cmp ℕ} (values : Taped V ValueLink)
@@ -42,12 +39,12 @@ module _ {K V S : Type 0} {eq : K → K → Bool} {hash : K → ℕ} (keys : Slo
       → length (items_of keys) + additional ≤ min keys_after.capacity rows_after
   keys_fit same fits = omega (arith, fits.key, fits.row, ap (λ s. length s.order) same, length-keys agrees, agrees.counted)
 
-  pub same_key_rooms : {keys_after : Slots K KeyLink} {rows_after : ℕ} → GrowsFor (length keys.order + additional) keys.capacity keys_after.capacity → GrowsFor (len rows + additional) row_capacity rows_after
+  pub same_key_rooms : {keys_after : Slots K KeyLink} {rows_after : ℕ} → GrowsFor keys keys_after rows row_capacity rows_after additional
       → length (items_of keys) + additional ≤ min keys.capacity row_capacity
       → SameRooms (map_of keys row_capacity values state left) (map_of keys_after rows_after values state left)
-  same_key_rooms keys_grow rows_grow few =
+  same_key_rooms grows few =
       let f = fits_keys few in
-      record { keys = (λ i. min (keys_grow.had_room f.key i) (rows_grow.had_room f.row i)); values = refl; slots = refl; hasher = refl }
+      record { keys = (λ i. min (grows.same_keys f i) (grows.same_rows f i)); values = refl; slots = refl; hasher = refl }
 
   pub fits_values : length (pairs_of keys values.list) + additional ≤ values.list.capacity / 2 → HasTapeRoomFor values additional
   fits_values few = omega (arith, few, length-pairs agrees)

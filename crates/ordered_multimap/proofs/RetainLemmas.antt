@@ -8,7 +8,7 @@ use Rattle.std.specs.Map.{keys_of}
 use Rattle.std.specs.Map.Calls.{CallableOnEachPair}
 use Rattle.std.specs.Ordering.{nat_cmp}
 use Rattle.std.specs.FinMap.{FinMap}
-use Rattle.multimap_slots.specs.Lists.{IsIn, AreDistinct, first_of, next_of, without}
+use Rattle.multimap_slots.specs.Lists.{IsIn, first_of, next_of, without, AreDistinct}
 use Rattle.multimap_slots.specs.Slots.{Slots, with_item}
 use Rattle.multimap_slots.specs.Tapes.{Taped}
 use Rattle.multimap_slots.proofs.ListsLemmas.{AreDistinct-gone, IsIn-left, IsIn-right, IsIn-was, next_of-split, without-split}
@@ -19,11 +19,29 @@ use Rattle.ordered_multimap.specs.Agrees.{Agrees, items_of}
 use Rattle.ordered_multimap.specs.Keys.{is_listed, keys_named_by}
 use Rattle.ordered_multimap.specs.Retain.{Retains}
 use Rattle.ordered_multimap.specs.TakesOne.{TakesPair}
-use Rattle.ordered_multimap.specs.RetainSteps.{IsRetaining, RetainsAt, StaysIf, places_from}
+use Rattle.ordered_multimap.specs.RetainSteps.{RetainsAt, StaysIf}
 use Rattle.ordered_multimap.proofs.LeavesLemmas.{LeavesAt, leaves_at, named_by-again, named_by-all}
 use Rattle.ordered_multimap.proofs.Members.{keys_of-append}
-use Rattle.ordered_multimap.proofs.PlaceLemmas.{begins, filter_map-agree}
-use Rattle.ordered_multimap.proofs.WriteLemmas.{Agrees-with_item, pair_here, pair_other, position_in-split}
+use Rattle.ordered_multimap.proofs.PlaceLemmas.{begins, filter_map-agree, no_rest, places_from, places_from-split}
+use Rattle.ordered_multimap.proofs.WriteLemmas.{Agrees-with_item, pair_here, pair_other}
+
+module _ {F K V : Type 0} (calls : F → K → V → Bool → V → F → Type 0) where
+  -- the pairs before this place are retained, and those from it on are still to be asked for
+  pub record IsRetaining (eq : K → K → Bool) (accepts : F → K → V → Type 0)
+      (old_keys keys : Slots K KeyLink) (old_rows rows : FinMap nat_cmp ℕ)
+      (old_values values : Slots V ValueLink) (first f : F) (following : Option ℕ) : Type 0 where
+    pub done : List ℕ
+    pub rest : List ℕ
+    pub order : values.order ≡ done ++ rest
+    pub following_is : following ≡ first_of rest
+    pub agrees : (hash : K → ℕ) → Agrees eq hash old_keys old_rows old_values
+        → Agrees eq hash keys rows values
+    pub keys_are : items_of keys ≡ keys_named_by eq (items_of old_keys) (pairs_of keys values)
+    pub callable : CallableOnEachPair calls accepts f (filter_map (pair_at keys values) rest)
+    pub goes_on : (later : List (K × V)) (last : F)
+        → Retains calls f (filter_map (pair_at keys values) rest) later last
+        → Retains calls first (pairs_of old_keys old_values)
+        (filter_map (pair_at keys values) done ++ later) last
 
 -- each pair that leaves the list is counted
 pub record CountsLeft {V : Type 0} (values values_after : Taped V ValueLink) : Type 0 where
@@ -31,17 +49,6 @@ pub record CountsLeft {V : Type 0} (values values_after : Taped V ValueLink) : T
   pub freed : values_after.freed + length values_after.list.order ≡ values.freed + length values.list.order
   pub holes : values_after.holes + length values_after.list.order ≡ values.holes + length values.list.order
   pub fewer : length values_after.list.order ≤ length values.list.order
-
--- no place is first, so none is there
-pub no_rest : (rest : List ℕ) → first_of rest ≡ None → rest ≡ []
-no_rest [] e = refl
-no_rest (p ∷ rest) e = absurd (let bad = e in cc)
-
--- so many places are left, from the first of the rest on
-pub places_from-split : (done rest : List ℕ) → AreDistinct (done ++ rest) → places_from (done ++ rest) (first_of rest) ≡ length rest
-places_from-split done [] distinct = refl
-places_from-split done (p ∷ rest) distinct =
-    omega (arith, length-append done (p ∷ rest), position_in-split done p rest (λ i. AreDistinct-gone done p rest distinct (IsIn-left p done rest i)))
 
 module _ {F K V : Type 0} {eq : K → K → Bool} {calls : F → K → V → Bool → V → F → Type 0} {accepts : F → K → V → Type 0}
     {old_keys : Slots K KeyLink} {old_rows : FinMap nat_cmp ℕ} {old_values : Slots V ValueLink} {first : F} where
@@ -84,7 +91,6 @@ module _ {F K V : Type 0} {eq : K → K → Bool} {calls : F → K → V → Boo
     abbrev agrees : Agrees eq hash keys rows values
     agrees = r.agrees hash old_agrees
 
-    -- the places behind this one
     abbrev pub back : List ℕ
     back = (begins r.rest place (sym r.following_is)).rest
 

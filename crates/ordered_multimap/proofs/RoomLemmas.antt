@@ -1,9 +1,9 @@
 -- What an append makes of the rooms of a map.
-use Rattle.std.proofs.Common.{◌≡◌, ℕ, ◌≤◌, ◌<◌, ◌/◌, min, Bool, false, length, Result, OnErr, Ok, Err, refl, sym, ap, ◌∙◌, arith, true≢false}
+use Rattle.std.proofs.Common.{◌≡◌, ℕ, ◌≤◌, ◌<◌, ◌*◌, ◌/◌, min, Bool, false, length, Result, OnErr, Ok, Err, refl, sym, ap, ◌∙◌, arith, true≢false}
 use Rattle.std.specs.Cmp.{IsEquivalence}
 use Rattle.std.specs.Ordering.{nat_cmp}
-use Rattle.std.specs.FinMap.{FinMap, len}
-use Rattle.multimap_slots.specs.Slots.{Slots}
+use Rattle.std.specs.FinMap.{FinMap}
+use Rattle.multimap_slots.specs.Slots.{Slots, DoublesIfGrown}
 use Rattle.multimap_slots.specs.Tapes.{Taped, HasTapeRoomFor}
 use Rattle.multimap_walks.specs.declared.links.ChainEnds.{ChainEnds}
 use Rattle.multimap_walks.specs.declared.links.KeyLink.{KeyLink}
@@ -14,9 +14,9 @@ use Rattle.ordered_multimap.specs.Keys.{is_listed}
 use Rattle.ordered_multimap.specs.MapSlots.{MapSlots}
 use Rattle.ordered_multimap.specs.Multimap.{Multimap, multimap}
 use Rattle.ordered_multimap.specs.Agrees.{Agrees, items_of, lists_of}
-use Rattle.ordered_multimap.specs.Appends.{GrowsIfFull, MakesRoom, FitsOneMore}
+use Rattle.ordered_multimap.specs.Appends.{FitsKeys, FitsOneMore, GrowsFor, MakesRoom}
 use Rattle.ordered_multimap.specs.TapeNumbers.{TapeNumbers, numbers_of}
-use Rattle.ordered_multimap.specs.Rooms.{HasPairRoom, HasInsertRoom, KeepsRooms, RaisesNoRoom, InsertRaisesNoRoom}
+use Rattle.ordered_multimap.specs.Rooms.{HasPairRoom, KeepsRooms, RaisesNoRoom}
 use Rattle.ordered_multimap.proofs.AgreesLemmas.{value_room, key_room, row_room}
 use Rattle.ordered_multimap.proofs.LookupLemmas.{absent_if_unlisted}
 
@@ -29,6 +29,11 @@ module _ {K V S : Type 0} (both both_after : Lists K V) (keys keys_after rows ro
     values = omega (arith, more_slots);
     hasher = refl;
   }
+
+-- half of the slots doubles where they do
+pub half_doubles : (slots slots_after : ℕ) → DoublesIfGrown slots slots_after → DoublesIfGrown (slots / 2) (slots_after / 2)
+half_doubles slots slots_after doubles = λ (more : slots / 2 < slots_after / 2).
+    let doubled : slots * 2 ≤ slots_after = doubles (omega (arith, more)) in omega (arith, doubled)
 
 -- the map of these parts
 abbrev pub map_of : {K V S : Type 0} → Slots K KeyLink → ℕ → Taped V ValueLink → S → ChainEnds → Multimap K V S
@@ -51,53 +56,35 @@ module _ {K V S : Type 0} {eq : K → K → Bool} (laws : IsEquivalence eq) {has
         value = fits_value room.value;
       }
 
-  pub fits_absent : is_listed eq (items_of keys) key ≡ false → HasInsertRoom eq (map_of keys row_capacity values state left) key → FitsOneMore keys rows row_capacity values
-  fits_absent unlisted room =
-      let absent = absent_if_unlisted laws agrees key unlisted in
-      fits_pair unlisted (record { value = room.value absent; key = room.key })
-
   -- where the key was present and the slots are as many as before if there was room
   pub raises_none_there : (keys_after : Slots K KeyLink) (rows_after : ℕ) (values_after : Taped V ValueLink) (left_after : ChainEnds)
-      → (HasTapeRoomFor values 1 → values_after.list.capacity ≡ values.list.capacity) → keys_after.capacity ≡ keys.capacity → rows_after ≡ row_capacity
+      → (HasTapeRoomFor values 1 → values_after.list.capacity ≡ values.list.capacity) → DoublesIfGrown values.list.capacity values_after.list.capacity
+      → keys_after.capacity ≡ keys.capacity → rows_after ≡ row_capacity
       → RaisesNoRoom eq key (map_of keys row_capacity values state left) (map_of keys_after rows_after values_after state left_after)
-  raises_none_there keys_after rows_after values_after left_after had_room same_keys same_rows = record {
+  raises_none_there keys_after rows_after values_after left_after had_room doubles same_keys same_rows = record {
     keys = λ few. (λ i. min (same_keys i) (same_rows i));
     present = λ there. (λ i. min (same_keys i) (same_rows i));
     values = λ short. ap (λ n. n / 2) (had_room (fits_value short));
     slots = λ short. had_room (fits_value short);
+    doubles = record { keys = λ more. absurd (omega (arith, more, same_keys, same_rows)); values = half_doubles _ _ doubles };
   }
 
   module _ (keys_after : Slots K KeyLink) (rows_after : ℕ) (values_after : Taped V ValueLink) (made : MakesRoom values values_after) where
     pub raises_none_present : keys_after.capacity ≡ keys.capacity → rows_after ≡ row_capacity
         → RaisesNoRoom eq key (map_of keys row_capacity values state left) (map_of keys_after rows_after values_after state left)
-    raises_none_present = raises_none_there keys_after rows_after values_after left made.had_room
+    raises_none_present = raises_none_there keys_after rows_after values_after left made.had_room made.doubles
 
-    pub raises_none_absent : is_listed eq (items_of keys) key ≡ false
-        → GrowsIfFull (length keys.order) keys.capacity keys_after.capacity → GrowsIfFull (len rows) row_capacity rows_after
+    pub raises_none_absent : is_listed eq (items_of keys) key ≡ false → GrowsFor keys keys_after rows row_capacity rows_after 1
         → RaisesNoRoom eq key (map_of keys row_capacity values state left) (map_of keys_after rows_after values_after state left)
-    raises_none_absent unlisted keys_grow rows_grow = record {
+    raises_none_absent unlisted grows = record {
       keys = λ few.
-          let same_keys = keys_grow.had_room (key_room agrees row_capacity few) in
-          let same_rows = rows_grow.had_room (row_room agrees row_capacity few) in
-          (λ i. min (same_keys i) (same_rows i));
+          let fits : FitsKeys keys rows row_capacity 1 = record { key = key_room agrees row_capacity few; row = row_room agrees row_capacity few } in
+          (λ i. min (grows.same_keys fits i) (grows.same_rows fits i));
       present = λ there. absurd (true≢false (sym there ∙ absent_if_unlisted laws agrees key unlisted));
       values = λ short. ap (λ n. n / 2) (made.had_room (fits_value short));
       slots = λ short. made.had_room (fits_value short);
+      doubles = record { keys = grows.doubles; values = half_doubles _ _ made.doubles };
     }
-
-    pub insert_raises_none : is_listed eq (items_of keys) key ≡ false
-        → GrowsIfFull (length keys.order) keys.capacity keys_after.capacity → GrowsIfFull (len rows) row_capacity rows_after
-        → InsertRaisesNoRoom eq key (map_of keys row_capacity values state left) (map_of keys_after rows_after values_after state left)
-    insert_raises_none unlisted keys_grow rows_grow = record {
-      had_room = raises_none_absent unlisted keys_grow rows_grow;
-      present = λ there. absurd (true≢false (sym there ∙ absent_if_unlisted laws agrees key unlisted));
-    }
-
--- a fact holds on a refusal
--- what is left of a drain is no room
-pub other_left : {K V S : Type 0} {eq : K → K → Bool} {key : K} {old : Multimap K V S} (keys : Slots K KeyLink) (rows : ℕ) (values : Taped V ValueLink) (state : S) (left left_after : ChainEnds)
-    → RaisesNoRoom eq key old (map_of keys rows values state left) → RaisesNoRoom eq key old (map_of keys rows values state left_after)
-other_left keys rows values state left left_after raises = record { keys = raises.keys; present = raises.present; values = raises.values; slots = raises.slots }
 
 pub on_err : {X E P : Type 0} (r : Result X E) → P → OnErr r P
 on_err (Ok x) p = tt

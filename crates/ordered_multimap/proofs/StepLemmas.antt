@@ -1,5 +1,5 @@
 -- What the steps of an append make of the slots.
-use Rattle.std.proofs.Common.{◌≡◌, ◌≢◌, ◌⊎◌, ℕ, true, false, [], ◌∷◌, length, Option, Some, None, IsSome, IfSome, refl, sym, ap, ◌∙◌, subst, inl, inr, true≢false, Result, Ok, Err, is_err, OnOk, IsOk, arith, length-append}
+use Rattle.std.proofs.Common.{◌≡◌, ◌≢◌, ◌⊎◌, ℕ, false, [], ◌∷◌, length, Option, Some, None, IsSome, IfSome, refl, sym, ap, ◌∙◌, subst, inl, inr, true≢false, Result, Ok, Err, is_err, OnOk, arith, length-append}
 use Rattle.std.proofs.lemmas.Bool.{cases_eq}
 use Rattle.multimap_slots.specs.Lists.{IsIn, AreDistinct}
 use Rattle.multimap_slots.specs.Slots.{Slots, IsSound, HasRoomFor, PushesBack, item_at, link_at, with_link}
@@ -8,8 +8,19 @@ use Rattle.multimap_slots.proofs.ListsLemmas.{IsIn-append, IsIn-left, IsIn-right
 use Rattle.multimap_slots.proofs.SlotsLemmas.{link_at-with_link, KeepsOthers-with_link}
 use Rattle.multimap_walks.specs.declared.links.KeyLink.{KeyLink}
 use Rattle.multimap_walks.specs.declared.links.ValueLink.{ValueLink}
-use Rattle.ordered_multimap.specs.Appends.{SetsKey, PushesValue}
+use Rattle.ordered_multimap.specs.Appends.{PushesValue}
 use Rattle.ordered_multimap.specs.Renames.{MendsLink}
+
+-- the key is listed at the place with this link, and each other key as before
+pub record SetsKey {K : Type 0} (old new : Slots K KeyLink) (place : ℕ) (k : K)
+    (link : KeyLink) : Type 0 where
+  pub listed : IsIn place new.order
+  pub item_is : item_at new place ≡ Some k
+  pub link_is : link_at new place ≡ Some link
+  pub kept : (q : ℕ) → IsIn q old.order → IsIn q new.order
+  pub came : (q : ℕ) → q ≢ place → IsIn q new.order → IsIn q old.order
+  pub items : (q : ℕ) → IsIn q old.order → item_at new q ≡ item_at old q
+  pub links : (q : ℕ) → q ≢ place → link_at new q ≡ link_at old q
 
 module _ {T L : Type 0} {old new : Slots T L} {place : ℕ} {item : T} {link : L} (pushed : PushesBack old new place item link) where
   -- an old place is another one
@@ -105,7 +116,3 @@ module _ {X Y : Type 0} where
   pub ok_if : {P : Type 0} (r : Result X Y) → is_err r ≡ false → OnOk r P → P
   ok_if (Ok x) e p = p
   ok_if (Err y) e p = absurd (true≢false e)
-
-  pub not_refused : (r : Result X Y) → is_err r ≡ true → IsOk r → ⊥
-  not_refused (Ok x) e ok = true≢false (sym e)
-  not_refused (Err y) e ok = true≢false (sym ok)

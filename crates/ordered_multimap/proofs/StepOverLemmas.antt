@@ -2,11 +2,11 @@
 use Rattle.std.proofs.Common.{◌≡◌, ℕ, List, Option, Some, None, IsSome, refl, sym, ap, ◌∙◌}
 use Rattle.std.specs.Prelude.{IfSome, option_and_then}
 use Rattle.std.specs.List.{filter_map}
-use Rattle.std.specs.Map.Iter.{TakesFirst, TakesLast}
+use Rattle.std.specs.Map.Iter.{TakesLast}
 use Rattle.multimap_walks.specs.Walk.{end_item, end_rest}
 use Rattle.multimap_walks.specs.declared.End.{End}
-use Rattle.multimap_walks.specs.declared.End.TheVariants.{Front, Back}
-use Rattle.multimap_walks.proofs.AlongLemmas.{shows_first, shows_last}
+use Rattle.multimap_walks.specs.declared.End.TheVariants.{Back}
+use Rattle.multimap_walks.proofs.AlongLemmas.{shows_last}
 use Rattle.ordered_multimap.proofs.LawLemmas.{end_item-push, end_rest-push}
 
 there : {X : Type 0} (o : Option X) → IsSome o → (x : X) × (o ≡ Some x)
@@ -18,16 +18,6 @@ module _ {X : Type 0} (shows : ℕ → Option X) where
   pub record StepsOver (end : End) (before after : List ℕ) (place : Option ℕ) : Type 0 where
     pub item : option_and_then shows place ≡ end_item end (filter_map shows before)
     pub rest : filter_map shows after ≡ end_rest end (filter_map shows before)
-
-  pub over_first : (before after : List ℕ) (place : Option ℕ) → IfSome place (λ p. IsSome (shows p))
-      → TakesFirst (λ p. p) before place after → StepsOver Front before after place
-  over_first before after None some taken = record {
-    item = sym (ap (λ ps. end_item Front (filter_map shows ps)) taken.0);
-    rest = ap (filter_map shows) taken.1 ∙ sym (ap (λ ps. end_rest Front (filter_map shows ps)) taken.0);
-  }
-  over_first before after (Some p) some taken =
-      let x = there (shows p) some in let all = shows_first shows (λ y. y) before after p x.0 taken x.1 in
-      record { item = x.1 ∙ sym (ap (end_item Front) all); rest = sym (ap (end_rest Front) all) }
 
   pub over_last : (before after : List ℕ) (place : Option ℕ) → IfSome place (λ p. IsSome (shows p))
       → TakesLast (λ p. p) before place after → StepsOver Back before after place

@@ -18,7 +18,6 @@ use Rattle.ordered_multimap.specs.Pairs.{pairs_without, values_of}
 use Rattle.ordered_multimap.specs.Changes.{removed, kept}
 use Rattle.ordered_multimap.specs.Agrees.{Agrees, HasKey, items_of, lists_of}
 use Rattle.ordered_multimap.specs.Takes.{TakesValues, TakesEntry}
-use Rattle.ordered_multimap.specs.TapeNumbers.{TapeNumbers, TakesOut}
 use Rattle.ordered_multimap.proofs.Members.{IsIn-kept, IsIn-filter, filter-all}
 use Rattle.ordered_multimap.proofs.KeptLemmas.{filter-among, filter_map-filter, keys_of-without, is_listed-equal}
 use Rattle.ordered_multimap.proofs.PlaceLemmas.{held, pair_named, IsIn-filter_map, AreDistinct-filter, filter-agree, filter_shorter, filter_map-agree}
@@ -254,7 +253,3 @@ module _ {K V : Type 0} {eq : K → K → Bool} (laws : IsEquivalence eq) (m : L
   removed-absent =
       ap (λ ps. kept eq m ps) (filter-all (λ p. not (eq k p.0)) m.pairs (λ p i. ap not (apart p i)))
       ∙ ap (λ ks. lists ks m.pairs) (filter-all (is_listed eq (keys_of m.pairs)) m.keys (λ j i. same_keys laws m j formed ∙ is_listed-self laws j m.keys i))
-
--- nothing taken out
-pub takes_none : {n : ℕ} → n ≡ 0 → (t : TapeNumbers) → TakesOut n t t
-takes_none none t = record { freed = omega (arith, none); paid = omega (arith, none) }

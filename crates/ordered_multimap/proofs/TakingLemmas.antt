@@ -1,9 +1,9 @@
 -- The values of a chain leave one after another.
-use Rattle.std.proofs.Common.{◌≡◌, ◌≢◌, ◌==◌, ◌+◌, ◌<◌, ◌≤◌, ◌||◌, ℕ, suc, Bool, true, false, not, cond, List, [], ◌∷◌, ◌++◌, length, filter, Option, Some, None, refl, sym, ap, ◌∙◌, subst, inl, inr, true≢false, arith, append_assoc, length-append}
+use Rattle.std.proofs.Common.{◌≡◌, ◌≢◌, ◌==◌, ◌+◌, ◌<◌, ◌||◌, ℕ, suc, Bool, true, false, not, cond, List, [], ◌∷◌, ◌++◌, length, filter, Option, Some, None, refl, sym, ap, ◌∙◌, subst, inl, inr, true≢false, arith, append_assoc, length-append}
 use Rattle.std.proofs.lemmas.Bool.{cases_eq, eq-eqb, ne_eqb}
 use Rattle.std.proofs.lemmas.List.{append-nil}
 use Rattle.multimap_slots.specs.Lists.{IsIn, AreDistinct, first_of, last_of, next_of, without}
-use Rattle.multimap_slots.specs.Slots.{Slots, IsSound, KeepsOthers, item_at, link_at}
+use Rattle.multimap_slots.specs.Slots.{Slots, IsSound, KeepsOthers, link_at}
 use Rattle.multimap_slots.proofs.ListsLemmas.{IsIn-left, IsIn-right, AreDistinct-gone, next_of-split}
 use Rattle.multimap_walks.specs.declared.links.KeyLink.{KeyLink}
 use Rattle.multimap_walks.specs.declared.links.ValueLink.{ValueLink}
@@ -107,10 +107,6 @@ module _ {K V : Type 0} {keys : Slots K KeyLink} {values : Slots V ValueLink} (s
       let b = begins (chain_of values key) l.head (chained.head key l listed is) in
       omega (arith, chained.length key l listed is, ap length b.is)
 
-  -- no more have left than the chain has
-  pub taking-most : (n : ℕ) (following : Option ℕ) (mid : Slots V ValueLink) → IsTaking (chain_of values key) n following values mid → n ≤ length (chain_of values key)
-  taking-most n following mid taking = omega (arith, taking.count, ap length taking.parts, length-append taking.gone taking.rest)
-
   module _ (n : ℕ) (p : ℕ) (mid : Slots V ValueLink) (taking : IsTaking (chain_of values key) n (Some p) values mid) where
     -- the next one, and those behind it
     record Onward : Type 0 where
@@ -166,9 +162,6 @@ module _ {K V : Type 0} {keys : Slots K KeyLink} {values : Slots V ValueLink} (s
     pub taking-whole : n + 1 ≡ length (chain_of values key) → chain_of values key ≡ taking.gone ++ p ∷ []
     taking-whole all = next_one.is ∙ ap (λ qs. taking.gone ++ p ∷ qs) (nothing next_one.behind
         (omega (arith, all, taking.count, ap length next_one.is, length-append taking.gone (p ∷ next_one.behind))))
-
-    pub taking-item : item_at mid p ≡ item_at values p
-    taking-item = taking.taken.items p (among-none taking.gone p not_gone)
 
   -- one more is left while fewer have gone than the chain has
   pub taking-more : (n : ℕ) (following : Option ℕ) (mid : Slots V ValueLink) → IsTaking (chain_of values key) n following values mid

@@ -1,18 +1,21 @@
 -- The lists of the walks over all values and over the keys with their values.
-use Rattle.std.proofs.Common.{◌≡◌, ℕ, Bool, List, [], ◌∷◌, map, option_map, refl, sym, ap, ◌∙◌, inl, inr}
+use Rattle.std.proofs.Common.{◌≡◌, ℕ, Bool, List, [], ◌∷◌, map, option_map, refl, sym, ap, ◌∙◌, subst, inl, inr}
 use Rattle.std.specs.Cmp.{IsEquivalence}
 use Rattle.std.specs.List.{filter_map, cons_option}
 use Rattle.std.specs.Ordering.{nat_cmp}
 use Rattle.std.specs.FinMap.{FinMap}
-use Rattle.multimap_slots.specs.Lists.{IsIn}
+use Rattle.multimap_slots.specs.Lists.{IsIn, next_of, previous_of}
 use Rattle.multimap_slots.specs.Slots.{Slots, item_at}
+use Rattle.multimap_walks.specs.declared.links.ChainEnds.{ChainEnds}
 use Rattle.multimap_walks.specs.declared.links.KeyLink.{KeyLink}
 use Rattle.multimap_walks.specs.declared.links.ValueLink.{ValueLink}
+use Rattle.multimap_walks.specs.Along.{AreLeft, items_left, places_left}
 use Rattle.multimap_walks.specs.ChainWalk.{ChainWalk}
 use Rattle.multimap_walks.specs.Chained.{chain_of, pair_at, pairs_of, positions_at, values_at}
 use Rattle.multimap_walks.specs.KeyWalk.{key_values_at, whole_walk}
+use Rattle.multimap_walks.proofs.PathLemmas.{path-is}
 use Rattle.ordered_multimap.specs.Agrees.{Agrees, HasKey, lists_of}
-use Rattle.ordered_multimap.specs.KeyLists.{with_values, keys_with_values}
+use Rattle.ordered_multimap.specs.KeyLists.{each_with_values, with_values, keys_with_values}
 use Rattle.ordered_multimap.specs.Pairs.{all_values, values_of}
 use Rattle.ordered_multimap.proofs.AgreesLemmas.{pair_in}
 use Rattle.ordered_multimap.proofs.LookupLemmas.{values_of-chain, positions_of-chain}
@@ -50,6 +53,13 @@ module _ {K V : Type 0} {eq : K → K → Bool} {hash : K → ℕ} {keys : Slots
         ∙ ap (λ e. e ∷ filter_map (key_values_at keys values) places) (whole_walk-key k.value q has)
         ∙ ap (λ es. one k.value ∷ es) (keys_along places (λ r later. listed r (inr later)))
         ∙ sym (ap (λ o. map one (cons_option o (filter_map (item_at keys) places))) k.is)
+
+    -- so are the walks over the values at the places of keys that are left
+    pub keys_with_values-left : (left : ChainEnds) → AreLeft keys.order left
+        → items_left keys.order (key_values_at keys values) left ≡ each_with_values eq (pairs_of keys values) (items_left keys.order (item_at keys) left)
+    keys_with_values-left left are =
+        let places = path-is (λ place. IsIn place keys.order) (next_of keys.order) (previous_of keys.order) left.first left.last left.length are in
+        keys_along (places_left keys.order left) (λ q member. are.there q (subst (IsIn q) places member))
 
     -- the listed keys with their walks are those of the lists
     pub keys_with_values-listed : filter_map (key_values_at keys values) keys.order ≡ keys_with_values eq (lists_of keys values)

@@ -1,5 +1,5 @@
 -- Another value at a listed place: the map stays one, and its lists have that value there.
-use Rattle.std.proofs.Common.{◌≡◌, ◌≢◌, ◌==◌, ℕ, suc, ◌-◌, Bool, List, [], ◌∷◌, ◌++◌, length, length-append, arith, slice_get, Option, option_map, unwrap_or, Some, None, IsSome, refl, sym, ap, ◌∙◌, subst, inl, inr, if◌then◌else◌}
+use Rattle.std.proofs.Common.{◌≡◌, ◌≢◌, ◌==◌, ℕ, suc, ◌-◌, Bool, List, [], ◌∷◌, length, length-append, arith, slice_get, Option, option_map, unwrap_or, Some, None, IsSome, refl, sym, ap, ◌∙◌, subst, inl, inr, if◌then◌else◌}
 use Rattle.std.proofs.lemmas.Bool.{cases_eq, eq-eqb, ne_eqb}
 use Rattle.std.specs.List.{filter_map, cons_option}
 use Rattle.std.specs.Cmp.{IsEquivalence}
@@ -22,11 +22,11 @@ use Rattle.ordered_multimap.specs.Changes.{first_written}
 use Rattle.ordered_multimap.specs.Lists.{Lists, lists}
 use Rattle.ordered_multimap.specs.Multimap.{Multimap, multimap}
 use Rattle.ordered_multimap.specs.TapeNumbers.{TapeNumbers}
-use Rattle.ordered_multimap.specs.Writes.{head_at, with_value, with_first, with_end}
+use Rattle.ordered_multimap.specs.Writes.{head_at, with_value, with_end}
 use Rattle.ordered_multimap.specs.TakesOne.{end_of_list}
 use Rattle.ordered_multimap.specs.Pairs.{values_of, positions_of, with_value_at, with_first_value, end_position}
 use Rattle.ordered_multimap.proofs.AgreesLemmas.{pair_in, pair_at-is}
-use Rattle.ordered_multimap.proofs.PlaceLemmas.{filter_map-agree, begins, ends}
+use Rattle.ordered_multimap.proofs.PlaceLemmas.{filter_map-agree, begins, ends, position_in-split}
 use Rattle.ordered_multimap.proofs.LawLemmas.{end_item-push}
 use Rattle.ordered_multimap.proofs.LookupLemmas.{positions_of-chain, length-positions_of}
 
@@ -128,10 +128,6 @@ multimap-with_item {keys = keys} {values = values} agrees place listed key_room 
 pub head_at-is : {K : Type 0} (keys : Slots K KeyLink) (place : ℕ) (l : KeyLink) → link_at keys place ≡ Some l → head_at keys place ≡ l.head
 head_at-is keys place l link_is = ap (λ o. unwrap_or (option_map (λ k. k.head) o) 0) link_is
 
--- a write leaves the keys' slots
-pub with_first-keys : {K V S : Type 0} (m : Multimap K V S) (place : ℕ) (v : V) → (let written : Multimap K V S = with_first m place v in written.slots.keys) ≡ m.slots.keys
-with_first-keys m place v = refl
-
 module _ {K V : Type 0} {eq : K → K → Bool} (laws : IsEquivalence eq) {hash : K → ℕ} {keys : Slots K KeyLink} {rows : FinMap nat_cmp ℕ} {values : Slots V ValueLink}
     (agrees : Agrees eq hash keys rows values) where
   -- the head of a key's chain stands at the first of its positions
@@ -148,13 +144,6 @@ module _ {K V : Type 0} {eq : K → K → Bool} (laws : IsEquivalence eq) {hash 
       let pairs : List (K × V) = pairs_of keys values in
       let put : Option ℕ → List (K × V) = λ o. elim o as (λ _. List (K × V)) [ None ↦ pairs | Some i ↦ with_value_at pairs i v ] in
       ap (λ head. with_value_at pairs (position_in values.order head) v) (head_at-is keys place l link_is) ∙ sym (ap put (first_position k place l has link_is))
-
--- as many places stand before a place as items are listed before it
-pub position_in-split : (front : List ℕ) (place : ℕ) (back : List ℕ) → (IsIn place front → ⊥) → position_in (front ++ place ∷ back) place ≡ length front
-position_in-split [] place back absent = ap (λ b. if b then 0 else suc (position_in back place)) (eq-eqb place place refl)
-position_in-split (q ∷ front) place back absent =
-    ap (λ b. if b then 0 else suc (position_in (front ++ place ∷ back) place)) (ne_eqb q place (λ same. absent (inl (sym same))))
-    ∙ ap suc (position_in-split front place back (λ i. absent (inr i)))
 
 -- the place at an end has the position of that end
 position_in-end : (end : End) (order : List ℕ) (place : ℕ) → AreDistinct order → end_of_list end order ≡ Some place → position_in order place ≡ end_position end order

@@ -1,4 +1,5 @@
--- How key list, table and values agree. No public clause cites this module.
+-- How key list, table and values agree. `IsOccupiedBy` of an entry uses `HasKey`; no public clause
+-- stands on the rest.
 use Rattle.std.specs.Prelude.{◌≡◌, ℕ, Bool, true, false, List, [], Some, length}
 use Rattle.std.specs.List.{fold, filter_map, IsDistinct}
 use Rattle.std.specs.Hash.{HashWrites}
@@ -51,16 +52,6 @@ pub record IsFoundBy {K : Type 0} (eq : K → K → Bool) (keys : Slots K KeyLin
   pub places : (place h : ℕ) → get rows place ≡ Some h → IsIn place keys.order
   pub hashed : (place : ℕ) (j : K) → IsIn place keys.order → item_at keys place ≡ Some j
       → eq k j ≡ true → get rows place ≡ Some hash
-
--- the table finds each key by the hash of its link, which is that of the key
-pub record AreKeyed {K : Type 0} (eq : K → K → Bool) (hash : K → ℕ) (keys : Slots K KeyLink)
-    (rows : FinMap nat_cmp ℕ) : Type 0 where
-  pub sound : IsSound keys
-  pub hashed : (place : ℕ) (k : K) (l : KeyLink) → IsIn place keys.order
-      → item_at keys place ≡ Some k → link_at keys place ≡ Some l → l.hash ≡ hash k
-  pub in_table : (place : ℕ) (l : KeyLink) → IsIn place keys.order → link_at keys place ≡ Some l
-      → get rows place ≡ Some l.hash
-  pub listed : (place h : ℕ) → get rows place ≡ Some h → IsIn place keys.order
 
 module _ {K V : Type 0} where
   -- the two lists that the slots mean

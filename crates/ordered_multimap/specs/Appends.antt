@@ -1,24 +1,15 @@
 -- What an append does to the slots. No public clause cites this module.
-use Rattle.std.specs.Prelude.{◌≡◌, ◌≢◌, ◌+◌, ◌≤◌, ℕ, [], ◌∷◌, ◌++◌, Option, Some, None}
+use Rattle.std.specs.Prelude.{◌≡◌, ◌≢◌, ◌+◌, ◌≤◌, ℕ, min, [], ◌∷◌, ◌++◌, Option, Some, None}
 use Rattle.std.specs.Ordering.{nat_cmp}
 use Rattle.std.specs.FinMap.{FinMap, get, insert, len}
 use Rattle.multimap_slots.specs.Lists.{IsIn}
-use Rattle.multimap_slots.specs.Slots.{Slots, IsSound, HasRoomFor, PushesBack, item_at, link_at}
-use Rattle.multimap_slots.specs.Slots.{with_link}
+use Rattle.multimap_slots.specs.Slots.{Slots, DoublesIfGrown, HasRoomFor, IsSound, PushesBack}
+use Rattle.multimap_slots.specs.Slots.{item_at, link_at, with_link}
 use Rattle.multimap_walks.specs.declared.links.KeyLink.{KeyLink}
 use Rattle.multimap_walks.specs.declared.links.ValueLink.{ValueLink}
 use Rattle.multimap_slots.specs.Tapes.{Taped, HasTapeRoomFor}
 use Rattle.ordered_multimap.specs.Renames.{AreRenamed}
 use Rattle.ordered_multimap.specs.TapeNumbers.{TakesOut, numbers_of}
-
--- no less room than before, and the same where so many fit
-pub record GrowsFor (count old new : ℕ) : Type 0 where
-  pub no_less : old ≤ new
-  pub had_room : count ≤ old → new ≡ old
-
--- no less room than before, and the same where one more of so many fits
-abbrev pub GrowsIfFull : ℕ → ℕ → ℕ → Type 0
-GrowsIfFull count old new = GrowsFor (count + 1) old new
 
 -- the tape has no fewer slots than before, and as many where one more value fits; no value left it
 pub record MakesRoom {V : Type 0} (old new : Taped V ValueLink) : Type 0 where
@@ -26,6 +17,7 @@ pub record MakesRoom {V : Type 0} (old new : Taped V ValueLink) : Type 0 where
   pub taken : TakesOut 0 (numbers_of old) (numbers_of new)
   pub no_less : old.list.capacity ≤ new.list.capacity
   pub had_room : HasTapeRoomFor old 1 → new.list.capacity ≡ old.list.capacity
+  pub doubles : DoublesIfGrown old.list.capacity new.list.capacity
 
 -- so many more keys and their rows fit
 pub record FitsKeys {K : Type 0} (keys : Slots K KeyLink) (rows : FinMap nat_cmp ℕ)
@@ -33,23 +25,24 @@ pub record FitsKeys {K : Type 0} (keys : Slots K KeyLink) (rows : FinMap nat_cmp
   pub key : HasRoomFor keys additional
   pub row : len rows + additional ≤ row_capacity
 
+-- no less room for keys and rows than before, the same where so many more fit, and a room for both
+-- that grows at least doubles
+pub record GrowsFor {K : Type 0} (keys keys_after : Slots K KeyLink) (rows : FinMap nat_cmp ℕ)
+    (row_capacity rows_after additional : ℕ) : Type 0 where
+  pub more_keys : keys.capacity ≤ keys_after.capacity
+  pub more_rows : row_capacity ≤ rows_after
+  pub same_keys : FitsKeys keys rows row_capacity additional
+      → keys_after.capacity ≡ keys.capacity
+  pub same_rows : FitsKeys keys rows row_capacity additional → rows_after ≡ row_capacity
+  pub doubles : DoublesIfGrown (min keys.capacity row_capacity)
+      (min keys_after.capacity rows_after)
+
 -- one more key, its row and its first value fit
 pub record FitsOneMore {K V : Type 0} (keys : Slots K KeyLink) (rows : FinMap nat_cmp ℕ)
     (row_capacity : ℕ) (values : Taped V ValueLink) : Type 0 where
   pub key : HasRoomFor keys 1
   pub row : len rows + 1 ≤ row_capacity
   pub value : HasTapeRoomFor values 1
-
--- the key is listed at the place with this link, and each other key as before
-pub record SetsKey {K : Type 0} (old new : Slots K KeyLink) (place : ℕ) (k : K)
-    (link : KeyLink) : Type 0 where
-  pub listed : IsIn place new.order
-  pub item_is : item_at new place ≡ Some k
-  pub link_is : link_at new place ≡ Some link
-  pub kept : (q : ℕ) → IsIn q old.order → IsIn q new.order
-  pub came : (q : ℕ) → q ≢ place → IsIn q new.order → IsIn q old.order
-  pub items : (q : ℕ) → IsIn q old.order → item_at new q ≡ item_at old q
-  pub links : (q : ℕ) → q ≢ place → link_at new q ≡ link_at old q
 
 -- the value stands last in the list, behind the value at the tail in the chain of its key
 pub record PushesValue {V : Type 0} (old new : Slots V ValueLink) (place : ℕ) (value : V) (key : ℕ)

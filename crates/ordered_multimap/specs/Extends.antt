@@ -1,10 +1,12 @@
 -- What a call makes of a map that appends the pairs of an iterator.
-use Rattle.std.specs.Prelude.{◌≡◌, Bool, List, [], ◌∷◌, ◌++◌, map, Option, Result}
+use Rattle.std.specs.Prelude.{◌≡◌, Bool, List, [], ◌∷◌, ◌++◌, length, map, Option, Result}
 use Rattle.std.specs.Prelude.{MatchResult}
 use Rattle.std.specs.Borrow.{Bor}
-use Rattle.std.specs.Iterator.{Drains, Yields}
+use Rattle.std.specs.Iterator.{Count, Drains, HoldsAlong, Yields, size}
 use Rattle.ordered_multimap.specs.Lists.{Lists}
 use Rattle.ordered_multimap.specs.Changes.{all_appended, built_from}
+use Rattle.ordered_multimap.specs.Multimap.{Multimap}
+use Rattle.ordered_multimap.specs.Rooms.{HasRoomForPairs}
 use Rattle.ordered_multimap.specs.declared.list_ordered_multimap.refused.Refused.{Refused}
 
 module _ {K V : Type 0} (eq : K → K → Bool) {I T : Type 0} (becomes : I → T → Type 0)
@@ -43,3 +45,14 @@ module _ {K V : Type 0} (eq : K → K → Bool) {I T : Type 0} (becomes : I → 
       × MatchResult r (λ _. Drains steps it items)
       (λ refused. (item : Bor K × Bor V) × (t : T) × Yields steps it (items ++ item ∷ []) t
       × (lent_pair item ≡ (refused.key, refused.value)))
+
+module _ {K V S I T : Type 0} (becomes : I → T → Type 0) where
+  -- however many pairs the iterator gives, as many more keys and values fit
+  abbrev pub HasRoomForGiven : {X : Type 0} → (T → Option X → T → Type 0) → I → Multimap K V S
+      → Type 0
+  HasRoomForGiven steps iter m =
+      (it : T) → becomes iter it → HoldsAlong steps it (λ given. HasRoomForPairs m (length given))
+
+  -- as many more fit as the iterator says that it has left at most
+  abbrev pub HasRoomForMost : (T → Count) → I → Multimap K V S → Type 0
+  HasRoomForMost left iter m = (it : T) → becomes iter it → HasRoomForPairs m (size (left it))

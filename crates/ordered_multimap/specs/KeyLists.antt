@@ -16,6 +16,10 @@ module _ {K : Type 0} (eq : K → K → Bool) {V : Type 0} where
     },
   )
 
-  -- each key with the walk over its values, in the order of the keys
+  -- each of some keys with the walk over its values
+  abbrev pub each_with_values : List (K × V) → List K → List (K × ChainWalk V)
+  each_with_values pairs keys = map (with_values pairs) keys
+
+  -- all keys, in their order
   abbrev pub keys_with_values : Lists K V → List (K × ChainWalk V)
-  keys_with_values m = map (with_values m.pairs) m.keys
+  keys_with_values m = each_with_values m.pairs m.keys

@@ -1,13 +1,13 @@
 -- Keys that go to other places, with their rows, and values whose links name these. No public
 -- clause cites this module.
-use Rattle.std.specs.Prelude.{◌≡◌, ℕ, ◌≤◌, List, ◌++◌, map, length, get_or, set, Some}
+use Rattle.std.specs.Prelude.{◌≡◌, ℕ, ◌≤◌, List, map, length, get_or, set, Some}
 use Rattle.std.specs.Ordering.{nat_cmp}
 use Rattle.std.specs.FinMap.{FinMap, get, insert, len}
 use Rattle.multimap_slots.specs.Lists.{IsIn}
 use Rattle.multimap_slots.specs.Slots.{Slots, IsSound, PushesBack, Removes, item_at, link_at}
 use Rattle.multimap_walks.specs.declared.links.KeyLink.{KeyLink}
 use Rattle.multimap_walks.specs.declared.links.ValueLink.{ValueLink}
-use Rattle.ordered_multimap.specs.Renames.{AreRenamed, places_below}
+use Rattle.ordered_multimap.specs.Renames.{AreRenamed}
 
 -- the new place of the key at a place, where a list has the new places by the old ones
 abbrev pub name_in : List ℕ → ℕ → ℕ
@@ -54,23 +54,6 @@ pub record MovesKey {K : Type 0} (keys keys_after packed packed_after : Slots K 
   pub pushed : PushesBack packed packed_after to key link
   pub rows_are : rows_after ≡ insert rows to link.hash
   pub names_are : names_after ≡ set names place to
-
--- a first part of the keys has gone, and the others are left as they were
-pub record AreGoing {K : Type 0} (names : List ℕ) (keys left packed : Slots K KeyLink)
-    : Type 0 where
-  pub part : List ℕ
-  pub parts : keys.order ≡ part ++ left.order
-  pub gone : HaveGone (name_in names) part keys packed
-  pub left_items : (q : ℕ) → IsIn q left.order → item_at left q ≡ item_at keys q
-  pub left_links : (q : ℕ) → IsIn q left.order → link_at left q ≡ link_at keys q
-
--- the values at the first n places have come, and the others are left as they were
-pub record AreComing {V : Type 0} (name : ℕ → ℕ) (n : ℕ) (values left packed : Slots V ValueLink)
-    : Type 0 where
-  pub come : HaveCome name (places_below n) values packed
-  pub there : (q : ℕ) → n ≤ q → IsIn q values.order → IsIn q left.order
-  pub left_items : (q : ℕ) → IsIn q left.order → item_at left q ≡ item_at values q
-  pub left_links : (q : ℕ) → IsIn q left.order → link_at left q ≡ link_at values q
 
 -- the values were taken down over holes, and then keys and values went to new storage
 pub record ArePacked {K V : Type 0} (keys keys_after : Slots K KeyLink)

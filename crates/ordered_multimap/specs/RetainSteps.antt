@@ -1,26 +1,15 @@
 -- One pass of `retain`, step by step. No public clause cites this module.
-use Rattle.std.specs.Prelude.{◌≡◌, ◌-◌, ℕ, Bool, true, false, List, ◌++◌, length}
-use Rattle.std.specs.Prelude.{Option, Some, None}
-use Rattle.std.specs.List.{filter_map}
-use Rattle.std.specs.Map.Calls.{CallableOnEachPair}
+use Rattle.std.specs.Prelude.{◌≡◌, ℕ, Bool, true, false}
+use Rattle.std.specs.Prelude.{Some}
 use Rattle.std.specs.Ordering.{nat_cmp}
 use Rattle.std.specs.FinMap.{FinMap}
-use Rattle.multimap_slots.specs.Lists.{first_of}
 use Rattle.multimap_slots.specs.Slots.{Slots, with_item}
 use Rattle.multimap_slots.specs.Tapes.{Taped, Frees, with_list}
 use Rattle.multimap_walks.specs.declared.links.KeyLink.{KeyLink}
 use Rattle.multimap_walks.specs.declared.links.ValueLink.{ValueLink}
-use Rattle.multimap_walks.specs.Chained.{pair_at, pairs_of, position_in}
-use Rattle.ordered_multimap.specs.Agrees.{Agrees, items_of}
-use Rattle.ordered_multimap.specs.Keys.{keys_named_by}
-use Rattle.ordered_multimap.specs.Retain.{Retains}
+use Rattle.multimap_walks.specs.Chained.{pair_at}
 use Rattle.ordered_multimap.specs.TakesOne.{TakesPair}
 use Rattle.ordered_multimap.specs.declared.list_ordered_multimap.take_one.Taken.{Taken}
-
--- how many places there are from this one on
-abbrev pub places_from : List ℕ → Option ℕ → ℕ
-places_from order None = 0
-places_from order (Some place) = length order - position_in order place
 
 module _ {F K V : Type 0} (calls : F → K → V → Bool → V → F → Type 0) where
   -- a call on the pair at the place answers b, and its value is the one that the call left
@@ -58,20 +47,3 @@ module _ {F K V : Type 0} (calls : F → K → V → Bool → V → F → Type 0
     pub asked : Taped V ValueLink
     pub asks : Asks keys values asked place f answer g
     pub rest : StaysIf keys keys_after rows rows_after asked values_after place answer
-
-  -- the pairs before this place are retained, and those from it on are still to be asked for
-  pub record IsRetaining (eq : K → K → Bool) (accepts : F → K → V → Type 0)
-      (old_keys keys : Slots K KeyLink) (old_rows rows : FinMap nat_cmp ℕ)
-      (old_values values : Slots V ValueLink) (first f : F) (following : Option ℕ) : Type 0 where
-    pub done : List ℕ
-    pub rest : List ℕ
-    pub order : values.order ≡ done ++ rest
-    pub following_is : following ≡ first_of rest
-    pub agrees : (hash : K → ℕ) → Agrees eq hash old_keys old_rows old_values
-        → Agrees eq hash keys rows values
-    pub keys_are : items_of keys ≡ keys_named_by eq (items_of old_keys) (pairs_of keys values)
-    pub callable : CallableOnEachPair calls accepts f (filter_map (pair_at keys values) rest)
-    pub goes_on : (later : List (K × V)) (last : F)
-        → Retains calls f (filter_map (pair_at keys values) rest) later last
-        → Retains calls first (pairs_of old_keys old_values)
-        (filter_map (pair_at keys values) done ++ later) last

@@ -1,5 +1,6 @@
 -- Room in a map, and what the changing calls keep of it.
-use Rattle.std.specs.Prelude.{◌≡◌, ◌≤◌, ◌<◌, Bool, true, false, length}
+use Rattle.std.specs.Prelude.{◌≡◌, ℕ, ◌+◌, ◌≤◌, ◌<◌, Bool, true, false, length}
+use Rattle.multimap_slots.specs.Slots.{DoublesIfGrown}
 use Rattle.ordered_multimap.specs.Pairs.{is_present}
 use Rattle.ordered_multimap.specs.Multimap.{Multimap}
 
@@ -17,19 +18,30 @@ module _ {K V S : Type 0} where
     pub value : HasValueRoom m
     pub key : is_present eq m.lists.pairs k ≡ false → HasKeyRoom m
 
+  -- so many more keys fit, and so many more values
+  pub record HasRoomForPairs (m : Multimap K V S) (n : ℕ) : Type 0 where
+    pub keys : length m.lists.keys + n ≤ m.key_room
+    pub values : length m.lists.pairs + n ≤ m.value_room
+
   -- no room is lower than before, and the hash builder is the same
   pub record KeepsRooms (old new : Multimap K V S) : Type 0 where
     pub keys : old.key_room ≤ new.key_room
     pub values : old.value_room ≤ new.value_room
     pub hasher : new.hasher ≡ old.hasher
 
+  -- a room that grows at least doubles
+  pub record DoublesRooms (old new : Multimap K V S) : Type 0 where
+    pub keys : DoublesIfGrown old.key_room new.key_room
+    pub values : DoublesIfGrown old.value_room new.value_room
+
   -- where one more of them fits, the room is the same, and for values no slot was added; a present
-  -- key wants no room for keys
+  -- key wants no room for keys; where there is none, a room that grows at least doubles
   pub record RaisesNoRoom (eq : K → K → Bool) (k : K) (old new : Multimap K V S) : Type 0 where
     pub keys : HasKeyRoom old → new.key_room ≡ old.key_room
     pub present : is_present eq old.lists.pairs k ≡ true → new.key_room ≡ old.key_room
     pub values : HasValueRoom old → new.value_room ≡ old.value_room
     pub slots : HasValueRoom old → new.tape.slots ≡ old.tape.slots
+    pub doubles : DoublesRooms old new
 
   -- all rooms, the number of slots and the hash builder are the same
   pub record SameRooms (old new : Multimap K V S) : Type 0 where

@@ -1,6 +1,6 @@
 -- What a map ends as, where the right to write its values is handed out.
 use base.Stored.{Gv}
-use Rattle.std.specs.Prelude.{◌≡◌, ℕ, Bool, true, false, List, [], ◌∷◌, Option, None, get_or, map}
+use Rattle.std.specs.Prelude.{◌≡◌, ℕ, Bool, List, [], ◌∷◌, Option, None, get_or}
 use Rattle.std.specs.Prelude.{unwrap_or}
 use Rattle.std.specs.Borrow.{Fml, GName, RattleType, MutBor, follows}
 use Rattle.std.specs.HashMap.Lent.{HashMembers}
@@ -12,9 +12,8 @@ use Rattle.std.specs.declared.hash.BuildHasher as builder
 use Rattle.multimap_slots.specs.Slots.{Slots}
 use Rattle.multimap_slots.specs.SlotCells.{lent_slots, LendsSlots}
 use Rattle.multimap_slots.specs.Tapes.{Taped}
-use Rattle.std.specs.Coded.{Coded, coded×, coded_list, coded_ℕ}
 use Rattle.multimap_slots.specs.CellsLends.{with_refilled}
-use Rattle.multimap_slots.specs.Codes.{around_items, slots_code, EndsTape}
+use Rattle.multimap_slots.specs.Codes.{EndsTape}
 use Rattle.multimap_slots.specs.Ownership.{final}
 use Rattle.multimap_slots.specs.TapeLends.{lends_cells}
 use Rattle.multimap_slots.specs.declared.cells_of.SlotCells.{SlotCells}
@@ -24,9 +23,7 @@ use Rattle.multimap_walks.specs.contracts.links.ValueLink.{the_row as link_row}
 use Rattle.multimap_walks.specs.Chained.{pairs_of}
 use Rattle.multimap_walks.specs.Lending.{AllAreLeft}
 use Rattle.ordered_multimap.specs.Lists.{lists}
-use Rattle.ordered_multimap.specs.MapSlots.{key_link_code, value_link_code, ends_code}
 use Rattle.ordered_multimap.specs.Multimap.{Multimap, multimap_code}
-use Rattle.ordered_multimap.specs.TapeNumbers.{numbers_code}
 use Rattle.ordered_multimap.specs.Agrees.{Agrees, lists_of}
 use Rattle.ordered_multimap.specs.contracts.list_ordered_multimap.ListOrderedMultimap.{the_row}
 
@@ -62,11 +59,6 @@ module _ {K V : Type 0} where
   with_items m ws =
       record m { slots = record m.slots { values = record m.slots.values { items = ws } } }
 
-  -- whatever the values become, the keys of the pairs stay, in their order
-  abbrev pub KeepsShape : {S : Type 0} → Multimap K V S → Type 0
-  KeepsShape {S} m = (n : Multimap K V S)
-      → map (λ p. p.0) (with_values_of m n).lists.pairs ≡ map (λ p. p.0) m.lists.pairs
-
   -- the keys of the map are there to be read and its values to be taken, each once
   pub record AreLent {S A : Type 0} (eq : K → K → Bool) (hash : S → K → ℕ) (m : Multimap K V S)
       (cells : SlotCells V ValueLink A) (keys : Slots K KeyLink) : Type 0 where
@@ -76,18 +68,6 @@ module _ {K V : Type 0} where
     pub rows : FinMap nat_cmp ℕ
     pub agrees : Agrees eq (hash m.hasher) keys rows (lent_slots cells)
     pub left : AllAreLeft cells
-
--- what stands around the values in a map
-abbrev pub around_values : {K V S : Type 0} → Coded K → Coded V → Coded S → Multimap K V S
-    → List (Bool × Gv)
-around_values k v s m =
-    (true, (coded× (coded_list k) (coded_list (coded× k v))).code (m.lists.keys, m.lists.pairs))
-    ∷ (true, (coded× coded_ℕ coded_ℕ).code (m.key_room, m.value_room))
-    ∷ (true, s.code m.hasher)
-    ∷ (true, numbers_code.code m.tape)
-    ∷ (true, (slots_code k key_link_code).code m.slots.keys)
-    ∷ (false, ends_code.code m.slots.left)
-    ∷ around_items value_link_code m.slots.values
 
 -- the map's values are lent; whatever items their slots end with, the pairs are then the map's own,
 -- each with the item of its place; and the lender's loan ends as what has these items

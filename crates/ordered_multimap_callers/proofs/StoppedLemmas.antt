@@ -26,12 +26,13 @@ use Rattle.multimap_slots.proofs.TapeLemmas.{IsSome-within}
 use Rattle.multimap_walks.specs.Along.{AreLeft, places_left}
 use Rattle.multimap_walks.specs.Chained.{position_in}
 use Rattle.multimap_walks.specs.Walk.{end_item}
-use Rattle.multimap_walks.specs.WritingWalk.{values_mut_positions, values_mut_rest, LendsFirstValue, ValuesMutCanStep}
+use Rattle.multimap_walks.specs.WritingWalk.{values_mut_positions, values_mut_rest, LendsFirstValue}
 use Rattle.multimap_walks.specs.declared.End.TheVariants.{Front}
 use Rattle.multimap_walks.specs.declared.links.ChainEnds.{ChainEnds}
 use Rattle.multimap_walks.specs.declared.links.ValueLink.{ValueLink}
 use Rattle.multimap_walks.specs.declared.writing.values.ValuesMut.{ValuesMut}
 use Rattle.multimap_walks.proofs.PathLemmas.{path-is}
+use Rattle.multimap_walks.proofs.SquashLemmas.{read_lends}
 use Rattle.ordered_multimap.specs.Multimap.{Multimap, multimap_code}
 use Rattle.ordered_multimap.specs.Pairs.{all_positions, all_values, with_value_at}
 use Rattle.ordered_multimap.specs.Changes.{end_written}
@@ -138,12 +139,12 @@ module _ {K V : Type 0} where
 
   module _ {S A : Type 0} (m : Multimap K V S) (s : ValuesMut K V A) (lent : LendsSlots m.slots.values s.values) where
     -- the pairs with another item in the slot of the first value
-    pub first_alone : (w : V) → ValuesMutCanStep s → values_mut_rest s ≡ all_values m.lists.pairs → values_mut_positions s ≡ all_positions m.lists.pairs
+    pub first_alone : (w : V) → values_mut_rest s ≡ all_values m.lists.pairs → values_mut_positions s ≡ all_positions m.lists.pairs
         → pairs_ended m.lists.pairs m.slots.values.order (set m.slots.values.items s.left.first (Some w)) ≡ with_value_at m.lists.pairs 0 w
-    first_alone w ready values positions =
-        let slots = lent_slots s.values in
+    first_alone w values positions =
+        let slots = lent_slots s.values in let can = read_lends s.values s.left s.readable in
         sym (ap (λ (h : Slots V ValueLink). pairs_ended m.lists.pairs h.order (set h.items s.left.first (Some w))) lent.slots)
-        ∙ first_written slots.order slots.items s.left m.lists.pairs w ready.lends.are_left ready.lends.untaken.distinct ready.lends.sound.filled positions values
+        ∙ first_written slots.order slots.items s.left m.lists.pairs w can.are_left can.untaken.distinct can.sound.filled positions values
 
     -- the place of an item that is lent is one of the slots
     pub place_within : (p : ℕ) (v : V) → item_at (lent_slots s.values) p ≡ Some v → p < length m.slots.values.items
@@ -194,10 +195,10 @@ module _ {M : Type 1} {𝓤 : Ura M} (𝓛 : Logic 𝓤) (K V S A : RattleType) 
   open 𝓛 use {A as B}
 
   -- what the map ends as, by what the reference to its first value ends with
-  pub ends_first : (m : MutBor (Multimap K.Denot V.Denot S.Denot)) (s t : ValuesMut K.Denot V.Denot A.Denot) (r : MutBor V.Denot) → EndsMap K V S m.now s.values → ValuesMutCanStep s
+  pub ends_first : (m : MutBor (Multimap K.Denot V.Denot S.Denot)) (s t : ValuesMut K.Denot V.Denot A.Denot) (r : MutBor V.Denot) → EndsMap K V S m.now s.values
       → values_mut_rest s ≡ all_values m.now.lists.pairs → values_mut_positions s ≡ all_positions m.now.lists.pairs → LendsFirstValue s (Some r) t
       → ent 𝓤 (sem 𝓛 (ends_exactly K V S m.now m.ghost_name t.values.cells)) (sem 𝓛 (ends_first_written K V S m r))
-  ends_first m s t r ended ready values positions lends =
+  ends_first m s t r ended values positions lends =
       let lent = ended.lent in let place = s.left.first in let c = t.values.cells in
       let items : List (Option V.Denot) = m.now.slots.values.items in
       let State : Type 0 = List GName × (List (Option V.Denot) × List Bool) in
@@ -208,7 +209,7 @@ module _ {M : Type 1} {𝓤 : Ura M} (𝓛 : Logic 𝓤) (K V S A : RattleType) 
       qed 𝓛 (‵ (ends_exactly K V S m.now m.ghost_name c) ∷ []) ∵
       each ! (λ (w : V.Denot). wand 𝓤 (B.res r.ghost_name (V.coded.code w)) (sem 𝓛 (ends_with_lists K V S m.ghost_name (end_written Front m.now.lists w)))) (λ w.
       let ws : List (Option V.Denot) = set items place (Some w) in let Two : Type 0 = Lists K.Denot V.Denot in let wanted : Two = end_written Front m.now.lists w in
-      let pairs_are : (ended_map m.now ws).lists ≡ wanted = ap (λ ps. lists m.now.lists.keys ps) (first_alone m.now s lent w ready values positions) in
+      let pairs_are : (ended_map m.now ws).lists ≡ wanted = ap (λ ps. lists m.now.lists.keys ps) (first_alone m.now s lent w values positions) in
       assume ! (‵ (fres r.ghost_name (V.coded.code w))) $
       use1 𝓛 (‵ (become V taken.0 taken.1.0 taken.1.1 ws)) (one_becomes 𝓛 V s.values.cells.names items place r.ghost_name w lent.named (place_within m.now s lent place r.now lends.taken.item_is)) $
       rewrite ! 0 (λ (h : State). ‵ (become V h.0 h.1.0 h.1.1 ws)) is refl $ move ! (1 ∷ []) $

@@ -8,6 +8,7 @@
 
 pub mod drains;
 pub mod entered;
+pub mod entry_calls;
 pub mod filled;
 pub mod lists;
 pub mod maps;

@@ -5,7 +5,7 @@ ghost use Rattle.std.specs.Prelude.{◌≡◌, ◌<◌, Some, length, option_map
 ghost use Rattle.std.specs.Borrow.{sem};
 ghost use Rattle.ordered_multimap.specs.End.TheVariants.{Front};
 ghost use Rattle.ordered_multimap.specs.Walk.{end_item};
-ghost use Rattle.ordered_multimap.specs.WritingWalk.{values_mut_rest, LendsFirstValue, ValuesMutCanStep};
+ghost use Rattle.ordered_multimap.specs.WritingWalk.{values_mut_rest, LendsFirstValue};
 ghost use Rattle.ordered_multimap_callers.specs.Ends.{ends_first_written};
 
 use ordered_multimap::ListOrderedMultimap;
@@ -18,8 +18,7 @@ use std::hash::{BuildHasher, Hash};
 fn first_of<'map, K, V, A: Allocator>(
     walk: ValuesMut<'map, K, V, A>,
 ) -> (ValuesMut<'map, K, V, A>, &'map mut V)
-    requires ready { ValuesMutCanStep walk }
-    requires more { 0 < length (values_mut_rest walk) }
+    requires { 0 < length (values_mut_rest walk) }
     ensures { LendsFirstValue walk.entry (Some result.1) result.0 }
 {
     let mut walk = walk;

@@ -2,6 +2,8 @@
 #![tactic(auto)]
 
 #[cfg(test)]
+mod called;
+#[cfg(test)]
 mod entries;
 #[cfg(test)]
 mod examples;

@@ -1,5 +1,6 @@
 //! The tests: each makes one map and lends it to all comparisons of its type, since a map that is
 //! owned costs its proof more than all that it is lent to.
+use crate::called::callers_answer;
 use crate::entries::{entries_are_filled, functions_are_called_once, values_are_replaced};
 use crate::examples::{examples_of_numbers_hold, examples_of_texts_hold};
 use crate::texts::{Counts, keys_are_entered, values_are_counted};
@@ -30,6 +31,7 @@ fn counts_are_entered(rt: HostRuntime) -> Result<(), Failed> {
 fn numbers(test: &Test, map: &mut Numbers) {
     entries_are_filled(test, map);
     functions_are_called_once(test, map);
+    callers_answer(test, map);
     map.clear();
     examples_of_numbers_hold(test, map);
 }

@@ -1,6 +1,6 @@
 //! Each request for memory of each call is refused in turn.
 use crate::additions::{Call, Occupied, Vacant};
-use crate::refused_additions::{fill_up, puts};
+use crate::refused_additions::{OTHERS, OWN, fill_up, puts};
 use crate::refused_pairs::{PAIRS, extend, extend_copied, from_iter_with};
 use crate::refused_room::{Room, is_made, keep_three};
 use ordered_multimap::ListOrderedMultimap;
@@ -12,6 +12,7 @@ use test_helpers::{Failed, Test, requests_until_enough};
 enum Try {
     PutIntoNew(Call),
     PutIntoFull(Call),
+    PutBesideOthers(Call),
     Room(Room),
     Extend,
     ExtendCopied,
@@ -36,6 +37,10 @@ const TRIES: &[(Try, u64)] = &[
     (Try::PutIntoFull(Call::InsertAll), 1),
     (Try::PutIntoFull(Call::OfOccupied(Occupied::Append)), 1),
     (Try::PutIntoFull(Call::OfOccupied(Occupied::InsertAll)), 1),
+    (Try::PutBesideOthers(Call::Append), 1),
+    (Try::PutBesideOthers(Call::Insert), 1),
+    (Try::PutBesideOthers(Call::InsertAll), 1),
+    (Try::PutBesideOthers(Call::OfVacant(Vacant::InsertEntry)), 1),
     (Try::Room(Room::ReserveKeys), 2),
     (Try::Room(Room::ReserveValues), 1),
     (Try::Room(Room::PackTo), 4),
@@ -46,7 +51,8 @@ const TRIES: &[(Try, u64)] = &[
 
 fn prepare(test: &Test, map: &mut Refusing<'_>, call: Try) {
     match call {
-        Try::PutIntoFull(_) => fill_up(test, map),
+        Try::PutIntoFull(_) => fill_up(test, map, OWN),
+        Try::PutBesideOthers(_) => fill_up(test, map, OTHERS),
         Try::Room(_) => keep_three(test, map),
         _ => {}
     }
@@ -54,7 +60,8 @@ fn prepare(test: &Test, map: &mut Refusing<'_>, call: Try) {
 
 fn tries(test: &Test, map: &mut Refusing<'_>, call: Try, other: &Numbers) -> bool {
     match call {
-        Try::PutIntoNew(call) | Try::PutIntoFull(call) => puts(test, map, call),
+        Try::PutIntoNew(call) | Try::PutIntoFull(call) => puts(test, map, call, OWN),
+        Try::PutBesideOthers(call) => puts(test, map, call, OTHERS),
         Try::Room(call) => is_made(test, map, call),
         Try::Extend => extend(test, map),
         Try::ExtendCopied => extend_copied(test, map, other),

@@ -2,12 +2,14 @@
 //! before.
 use crate::additions::{Answer, Call, Occupied, put};
 use ordered_multimap::list_ordered_multimap::Refused;
-use ordered_multimap_callers::lists::has_lists;
+use ordered_multimap_callers::lists::{copied, has_lists};
 use ordered_multimap_callers::maps::Refusing;
 use test_helpers::Test;
 
-/// The values of a full map.
-const VALUES: &[(u32, u32)] = &[(1, 0), (1, 1), (1, 2), (1, 3), (1, 4), (1, 5)];
+/// The pairs of a full map: of the key that is added to, or of another.
+pub const OWN: &[(u32, u32)] = &[(1, 0), (1, 1), (1, 2), (1, 3), (1, 4), (1, 5)];
+
+pub const OTHERS: &[(u32, u32)] = &[(2, 0), (2, 1), (2, 2), (2, 3), (2, 4), (2, 5)];
 
 const PAIR: Refused<u32, u32> = Refused { key: 1, value: 77 };
 
@@ -16,48 +18,64 @@ pub fn first<T>(rows: &[T], count: usize) -> &[T] {
     &rows[..count.min(rows.len())]
 }
 
-fn is_as_before(map: &Refusing<'_>, count: usize) -> bool {
-    has_lists(map, first(VALUES, count), first(&[1], count))
+// Whether the pair stands behind these, and nothing else is there.
+fn stands_behind(map: &Refusing<'_>, pairs: &[(u32, u32)]) -> bool {
+    let mut walk = map.iter();
+    let mut same = map.keys().next_back() == Some(&1);
+    for pair in pairs {
+        same = same && copied(walk.next()) == Some(*pair);
+    }
+    same && copied(walk.next()) == Some((1, 77)) && walk.next().is_none()
 }
 
-// The pair alone, or behind the others where the call leaves these.
-fn has_pair(map: &Refusing<'_>, call: Call, count: usize) -> bool {
-    let stay = call == Call::Append || call == Call::OfOccupied(Occupied::Append);
-    if !stay || count == 0 {
-        return has_lists(map, &[(1, 77)], &[1]);
+// Whether the pairs before stay: those of another key, and those of the key in an append.
+fn stay(call: Call, before: &[(u32, u32)]) -> bool {
+    let appends = call == Call::Append || call == Call::OfOccupied(Occupied::Append);
+    appends || before.first().copied() == Some((2, 0))
+}
+
+fn is_as_before(map: &Refusing<'_>, before: &[(u32, u32)]) -> bool {
+    match before.first() {
+        Some((key, _)) => has_lists(map, before, &[*key]),
+        None => map.is_empty() && map.keys_len() == 0,
     }
-    map.values_len() == count.saturating_add(1)
-        && map.front() == Some((&1, &0))
-        && map.back() == Some((&1, &77))
 }
 
 // It answers whether there was memory enough.
-fn is_put(test: &Test, map: &Refusing<'_>, call: Call, count: usize, answer: Answer) -> bool {
+fn is_put(
+    test: &Test,
+    map: &Refusing<'_>,
+    call: Call,
+    before: &[(u32, u32)],
+    answer: Answer,
+) -> bool {
     match answer {
         Ok(()) => {
-            test.expect("the pair", has_pair(map, call, count));
+            let kept = if stay(call, before) { before } else { &[] };
+            test.expect("the pair", stands_behind(map, kept));
             true
         }
         Err(refused) => {
             test.expect("the pair comes back", refused == PAIR);
-            test.expect("as before", is_as_before(map, count));
+            test.expect("as before", is_as_before(map, before));
             false
         }
     }
 }
 
-/// Makes the call. It answers whether there was memory enough.
-pub fn puts(test: &Test, map: &mut Refusing<'_>, call: Call) -> bool {
-    let count = map.values_len();
+/// Makes the call on a map that has as many of the pairs as it has any. It answers whether there was
+/// memory enough.
+pub fn puts(test: &Test, map: &mut Refusing<'_>, call: Call, pairs: &[(u32, u32)]) -> bool {
+    let before = first(pairs, map.values_len());
     let answer = put(map, call);
-    is_put(test, map, call, count, answer)
+    is_put(test, map, call, before, answer)
 }
 
-/// Puts in as many values of the key 1 as there is room for.
-pub fn fill_up(test: &Test, map: &mut Refusing<'_>) {
+/// Puts in as many of the pairs, all of one key, as there is room for.
+pub fn fill_up(test: &Test, map: &mut Refusing<'_>, pairs: &[(u32, u32)]) {
     test.expect("reserve_keys", map.reserve_keys(1).is_ok());
     test.expect("reserve_values", map.reserve_values(2).is_ok());
-    for (key, value) in first(VALUES, map.values_capacity()) {
+    for (key, value) in first(pairs, map.values_capacity()) {
         test.expect("append", map.append(*key, *value).is_ok());
     }
     test.expect("no room", map.values_len() == map.values_capacity());

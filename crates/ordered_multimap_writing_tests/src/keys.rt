@@ -1,5 +1,5 @@
 //! The walk over keys with their values for writing.
-use crate::steps::{Step, values_of_a_key_are_lent};
+use crate::steps::{Step, lending_difference};
 use ordered_multimap::list_ordered_multimap::KeyValuesMut;
 use ordered_multimap_callers::lists::has_pairs;
 use ordered_multimap_callers::maps::{MIXED, Numbers, refill};
@@ -72,7 +72,7 @@ fn first_key_is_lent(test: &Test, keys: &mut Keys<'_>, wanted: u32, steps: &[Ste
     match keys.next() {
         Some((key, mut values)) => {
             test.expect("the first key", *key == wanted);
-            values_of_a_key_are_lent(test, &mut values, steps);
+            test.expect_same("its values", lending_difference(&mut values, steps));
         }
         None => test.expect("a first key", false),
     }
@@ -82,7 +82,7 @@ fn last_key_is_lent(test: &Test, keys: &mut Keys<'_>, wanted: u32, steps: &[Step
     match keys.next_back() {
         Some((key, mut values)) => {
             test.expect("the last key", *key == wanted);
-            values_of_a_key_are_lent(test, &mut values, steps);
+            test.expect_same("its values", lending_difference(&mut values, steps));
         }
         None => test.expect("a last key", false),
     }

@@ -1,5 +1,4 @@
 //! What the walks for writing have left, for reading.
-ghost use Rattle.ordered_multimap.specs.WritingWalk.{EntryValuesMutCanStep, IterMutCanStep, ValuesMutCanStep};
 
 use ordered_multimap::list_ordered_multimap::{EntryValuesMut, IterMut, ValuesMut};
 use ordered_multimap_callers::lists::goes_on;
@@ -13,23 +12,17 @@ const VALUES: &[(End, u32)] = &[(End::Front, 12), (End::Front, 13)];
 const LAST: &[(End, u32)] = &[(End::Front, 14)];
 
 // The last pair is handed out, and the first is passed over before the comparison.
-fn pairs_are_left(test: &Test, walk: &mut IterMut<'_, u32, u32>)
-    requires { IterMutCanStep walk.old }
-{
+fn pairs_are_left(test: &Test, walk: &mut IterMut<'_, u32, u32>) {
     let _last = walk.next_back();
     test.expect("pairs", goes_on(&mut walk.iter(), PAIRS));
 }
 
-fn values_are_left(test: &Test, walk: &mut ValuesMut<'_, u32, u32>)
-    requires { ValuesMutCanStep walk.old }
-{
+fn values_are_left(test: &Test, walk: &mut ValuesMut<'_, u32, u32>) {
     let _last = walk.next_back();
     test.expect("values", goes_on(&mut walk.iter(), VALUES));
 }
 
-fn values_of_a_key_are_left(test: &Test, walk: &EntryValuesMut<'_, u32, u32>)
-    requires { EntryValuesMutCanStep walk.now }
-{
+fn values_of_a_key_are_left(test: &Test, walk: &EntryValuesMut<'_, u32, u32>) {
     test.expect("values of a key", goes_on(&mut walk.iter(), LAST));
 }
 

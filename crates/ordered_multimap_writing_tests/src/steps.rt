@@ -1,7 +1,6 @@
 //! Steps of the walks for writing, over numbers: each raises the value that it is lent.
-ghost use Rattle.ordered_multimap.specs.WritingWalk.{EntryValuesMutCanStep, IterMutCanStep, ValuesMutCanStep};
 
-use ordered_multimap::list_ordered_multimap::{EntryValuesMut, IterMut, ValuesMut};
+use ordered_multimap::list_ordered_multimap::IterMut;
 use ordered_multimap_callers::maps::Numbers;
 use test_helpers::{End, Test};
 
@@ -24,10 +23,7 @@ fn raise(value: &mut u32) -> u32 {
 }
 
 /// Raises the value of the pair at an end, and answers the pair as it was.
-fn take_pair(walk: &mut IterMut<'_, u32, u32>, end: End) -> Option<(u32, u32)>
-    requires { IterMutCanStep walk.old }
-    ensures { IterMutCanStep walk.new }
-{
+fn take_pair(walk: &mut IterMut<'_, u32, u32>, end: End) -> Option<(u32, u32)> {
     let pair = match end {
         End::Front => walk.next(),
         End::Back => walk.next_back(),
@@ -38,9 +34,14 @@ fn take_pair(walk: &mut IterMut<'_, u32, u32>, end: End) -> Option<(u32, u32)>
     }
 }
 
-fn take_value(walk: &mut ValuesMut<'_, u32, u32>, end: End) -> Option<u32>
-    requires { ValuesMutCanStep walk.old }
-    ensures { ValuesMutCanStep walk.new }
+/// Raises the value at an end of any walk over values, and answers what it was.
+fn take_value<'map, W: DoubleEndedIterator<Item = &'map mut u32>>(
+    walk: &mut W,
+    end: End,
+) -> Option<u32>
+where
+    requires next { (state : W) → W.can_next state }
+    requires next_back { (state : W) → W.can_next_back state }
 {
     let value = match end {
         End::Front => walk.next(),
@@ -52,50 +53,29 @@ fn take_value(walk: &mut ValuesMut<'_, u32, u32>, end: End) -> Option<u32>
     }
 }
 
-fn take_of_key(walk: &mut EntryValuesMut<'_, u32, u32>, end: End) -> Option<u32>
-    requires { EntryValuesMutCanStep walk.old }
-    ensures { EntryValuesMutCanStep walk.new }
-{
-    let value = match end {
-        End::Front => walk.next(),
-        End::Back => walk.next_back(),
-    };
-    match value {
-        Some(value) => Some(raise(value)),
-        None => None,
-    }
-}
-
-fn pairs_are_lent(test: &Test, walk: &mut IterMut<'_, u32, u32>, steps: &[PairStep])
-    requires { IterMutCanStep walk.old }
-{
+fn pairs_are_lent(test: &Test, walk: &mut IterMut<'_, u32, u32>, steps: &[PairStep]) {
     for (row, (end, left, pair)) in steps.iter().enumerate() {
         test.expect_at("left", row, has_left(walk, *left));
         test.expect_at("pair", row, take_pair(walk, *end) == *pair);
     }
 }
 
-fn values_are_lent(test: &Test, walk: &mut ValuesMut<'_, u32, u32>, steps: &[Step])
-    requires { ValuesMutCanStep walk.old }
-{
-    for (row, (end, left, value)) in steps.iter().enumerate() {
-        test.expect_at("left", row, has_left(walk, *left));
-        test.expect_at("value", row, take_value(walk, *end) == *value);
-    }
-}
-
-/// Expects of a walk over one key's values what each step lends, and how many are left before it.
-pub fn values_of_a_key_are_lent(
-    test: &Test,
-    walk: &mut EntryValuesMut<'_, u32, u32>,
+/// The row of the first step of any walk over values that lends something else, or before which
+/// another number is left.
+pub fn lending_difference<'map, W: DoubleEndedIterator<Item = &'map mut u32> + ExactSizeIterator>(
+    walk: &mut W,
     steps: &[Step],
-)
-    requires { EntryValuesMutCanStep walk.old }
+) -> Option<usize>
+where
+    requires next { (state : W) → W.can_next state }
+    requires next_back { (state : W) → W.can_next_back state }
 {
     for (row, (end, left, value)) in steps.iter().enumerate() {
-        test.expect_at("left", row, has_left(walk, *left));
-        test.expect_at("value of a key", row, take_of_key(walk, *end) == *value);
+        if !has_left(walk, *left) || take_value(walk, *end) != *value {
+            return Some(row);
+        }
     }
+    None
 }
 
 /// Expects the same of `iter_mut`.
@@ -105,10 +85,13 @@ pub fn pair_walk(test: &Test, map: &mut Numbers, steps: &[PairStep]) {
 
 /// Expects the same of `values_mut`.
 pub fn value_walk(test: &Test, map: &mut Numbers, steps: &[Step]) {
-    values_are_lent(test, &mut map.values_mut(), steps);
+    test.expect_same("values", lending_difference(&mut map.values_mut(), steps));
 }
 
 /// Expects the same of `get_all_mut`.
 pub fn key_walk(test: &Test, map: &mut Numbers, key: u32, steps: &[Step]) {
-    values_of_a_key_are_lent(test, &mut map.get_all_mut(&key), steps);
+    test.expect_same(
+        "values of a key",
+        lending_difference(&mut map.get_all_mut(&key), steps),
+    );
 }

@@ -1,5 +1,4 @@
 //! A key of `pairs_mut` whose values are written, and one whose walk isn't read.
-ghost use Rattle.ordered_multimap.specs.WritingWalk.{EntryValuesMutCanStep};
 
 use ordered_multimap::list_ordered_multimap::{EntryValuesMut, KeyValuesMut};
 use ordered_multimap_callers::lists::has_lists;
@@ -9,9 +8,7 @@ use test_helpers::Test;
 type Keys<'a> = KeyValuesMut<'a, u32, u32>;
 
 /// Multiplies both values that the walk hands out by 10, and answers what they were.
-fn raise_two(values: &mut EntryValuesMut<'_, u32, u32>) -> Option<(u32, u32)>
-    requires { EntryValuesMutCanStep values.old }
-{
+fn raise_two(values: &mut EntryValuesMut<'_, u32, u32>) -> Option<(u32, u32)> {
     let first = values.next()?;
     let last = values.next()?;
     let were = (*first, *last);

@@ -1,10 +1,10 @@
 //! Room, and items that come into the list.
 ghost use Rattle.std.specs.Prelude.{◌≡◌, ◌<◌, ◌≤◌, ◌+◌, length, IfOk, IfErr, OnOk, OnErr, IsOk, Some, None, get_or, vec_capacity};
-ghost use Rattle.multimap_slots.specs.Slots.{HasRoomFor, KeepsItems, PushesBack};
+ghost use Rattle.multimap_slots.specs.Slots.{DoublesIfGrown, HasRoomFor, KeepsItems, PushesBack};
 ghost use Rattle.multimap_slots.specs.ListLayout.{put};
 
 use super::SlotList;
-use crate::grow::grow;
+use crate::grow::grow_to;
 use std::alloc::{AllocError, Allocator};
 use std::mem;
 
@@ -12,7 +12,7 @@ use std::mem;
 /// for memory twice. From then on the slots double.
 const FIRST_SLOTS: usize = 4;
 
-const SECOND_SLOTS: usize = 16;
+const SECOND_SLOTS: usize = 12;
 
 /// Writes the item at an empty slot, or right behind the slots.
 fn put_item<T, A: Allocator>(items: &mut Vec<Option<T>, A>, place: usize, item: T)
@@ -48,6 +48,9 @@ impl<T, L: Copy, A: Allocator> SlotList<T, L, A> {
         ensures succeeds { HasRoomFor self.old additional → IsOk result }
         ensures had_room { HasRoomFor self.old additional → self.new.capacity ≡ self.old.capacity }
         ensures capacity { self.old.capacity ≤ self.new.capacity }
+
+        // A growth that happens at least doubles, so that n items that come last cost n moves.
+        ensures doubles { DoublesIfGrown self.old.capacity self.new.capacity }
     {
         if self.capacity() - self.len() >= additional {
             return Ok(());
@@ -55,8 +58,9 @@ impl<T, L: Copy, A: Allocator> SlotList<T, L, A> {
         self.grow(additional)
     }
 
-    /// Makes the room that is missing, or more than that, in both vectors. The free places count as
-    /// room.
+    /// Makes the room that is missing, or more than that, in both vectors: at least twice the room
+    /// that there was. The free places count as room. The smaller vector grows last, so that the room
+    /// stays as it was where memory is refused.
     #[inline(never)]
     fn grow(&mut self, additional: usize) -> Result<(), AllocError>
     where
@@ -65,17 +69,28 @@ impl<T, L: Copy, A: Allocator> SlotList<T, L, A> {
         ensures room { OnOk result (HasRoomFor self.new additional) }
         ensures unchanged { KeepsItems self.old self.new }
         ensures capacity { self.old.capacity ≤ self.new.capacity }
+        ensures doubles { DoublesIfGrown self.old.capacity self.new.capacity }
     {
-        let missing = additional - self.order.vacant();
-        let slots = self.items.len();
-        let least = if slots == 0 {
+        let Some(doubled) = self.capacity().checked_mul(2) else {
+            return Err(AllocError);
+        };
+        let missing = additional.max(doubled - self.len()) - self.order.vacant();
+        let Some(slots) = self.items.len().checked_add(missing) else {
+            return Err(AllocError);
+        };
+        let least = if self.items.len() == 0 {
             FIRST_SLOTS
         } else {
             SECOND_SLOTS
         };
-        let more = missing.max(least.saturating_sub(slots));
-        grow(&mut self.items, more)?;
-        self.order.reserve(more)
+        let slots = slots.max(least);
+        if self.items.capacity() <= self.order.capacity() {
+            self.order.grow_to(slots)?;
+            grow_to(&mut self.items, slots)
+        } else {
+            grow_to(&mut self.items, slots)?;
+            self.order.grow_to(slots)
+        }
     }
 
     /// Puts the item last, with its link, and answers its place. Where memory is refused, it hands
@@ -91,6 +106,7 @@ impl<T, L: Copy, A: Allocator> SlotList<T, L, A> {
         ensures succeeds { HasRoomFor self.old 1 → IsOk result }
         ensures had_room { HasRoomFor self.old 1 → self.new.capacity ≡ self.old.capacity }
         ensures capacity { self.old.capacity ≤ self.new.capacity }
+        ensures doubles { DoublesIfGrown self.old.capacity self.new.capacity }
     {
         if self.reserve(1).is_err() {
             return Err(item);

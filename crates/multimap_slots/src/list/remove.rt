@@ -1,7 +1,7 @@
 //! Items that leave the list.
-ghost use Rattle.std.specs.Prelude.{◌≡◌, ◌≤◌, IfSome, IfNone};
+ghost use Rattle.std.specs.Prelude.{◌≡◌, ◌+◌, ◌≤◌, ℕ, List, length, IfSome, IfNone};
 ghost use Rattle.multimap_slots.specs.Lists.{IsIn};
-ghost use Rattle.multimap_slots.specs.Slots.{IsEmpty, Removes};
+ghost use Rattle.multimap_slots.specs.Slots.{AreDetached, IsEmpty, Removes};
 
 use super::SlotList;
 use std::alloc::Allocator;
@@ -30,7 +30,11 @@ impl<T, L: Copy, A: Allocator> SlotList<T, L, A> {
         T: Drop,
         ensures empty { IsEmpty self.new }
         ensures capacity { self.old.capacity ≤ self.new.capacity }
+        ensures detached { (places : List ℕ) → AreDetached self.old places
+            → self.old.capacity + length places ≤ self.new.capacity }
     {
+        // Both numbers tell the proof how many places are detached.
+        let (_len, _detached) = (self.order.len(), self.order.detached());
         self.items.clear();
         self.order.clear();
     }

@@ -1,5 +1,5 @@
 //! Places that have left the order and aren't free.
-ghost use Rattle.std.specs.Prelude.{◌≡◌, ◌+◌, ◌≤◌, ◌↔◌, length, Some, IsTrue, get_or, slice_get, slice_set};
+ghost use Rattle.std.specs.Prelude.{◌≡◌, ◌+◌, ◌≤◌, ◌↔◌, ℕ, List, length, Some, IsTrue, get_or, slice_get, slice_set};
 ghost use Rattle.multimap_slots.specs.Lists.{IsIn, without};
 
 use super::Order;
@@ -9,7 +9,7 @@ use super::write::{release, set_detached, set_next, set_previous};
 use std::alloc::Allocator;
 
 impl<L: Copy, A: Allocator> Order<L, A> {
-    ghost use Rattle.multimap_slots.specs.ListLayout.{IsApart};
+    ghost use Rattle.multimap_slots.specs.ListLayout.{AreAllDetached, IsApart};
     ghost use Rattle.multimap_slots.specs.declared.order.node.State.TheVariants.{Detached, Free};
 
     /// How many places are detached.
@@ -17,6 +17,8 @@ impl<L: Copy, A: Allocator> Order<L, A> {
         ensures detached { result ≡ self.now.detached }
         ensures among { result ≤ length self.now.states }
         ensures fits { length self.now.states ≤ self.now.capacity }
+        ensures counted { (places : List ℕ) → AreAllDetached self.now places
+            → length places ≤ result }
     {
         self.detached
     }

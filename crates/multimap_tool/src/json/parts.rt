@@ -1,5 +1,5 @@
 //! Keys and values as parts of JSON values.
-ghost use Rattle.std.specs.Prelude.{◌≡◌, true, false, IfOk, IfErr, OnOk};
+ghost use Rattle.std.specs.Prelude.{◌≡◌, true, false, IfOk, IfErr, IsOk, OnOk};
 ghost use Rattle.serde_json.specs.View.{view};
 
 use super::faults::PartFault;
@@ -20,10 +20,16 @@ pub trait JsonPart {
     /// Whether a value of this type is written as this JSON value.
     ghost is_part: { Data → Bool };
 
+    /// Whether it is written without memory, and whether it is read without.
+    ghost is_written_freely: { Bool };
+
+    ghost is_read_freely: { Bool };
+
     /// The JSON value that it is written as. Takes memory from `alloc`, for texts alone.
     fn to_part(&self, alloc: Global) -> Result<Value, AllocError>
         ensures written { IfOk result (λ part. view part ≡ json self.now) }
-        ensures accepted { IfOk result (λ part. is_part (view part) ≡ true) };
+        ensures accepted { IfOk result (λ part. is_part (view part) ≡ true) }
+        ensures free { is_written_freely ≡ true → IsOk result };
 
     /// The value that is written as this JSON value. It is refused exactly where there is none.
     /// Takes memory from `alloc`, for texts alone.
@@ -31,7 +37,8 @@ pub trait JsonPart {
         ensures read { IfOk result (λ part. view value.now ≡ json part) }
         ensures accepted { OnOk result (is_part (view value.now) ≡ true) }
         ensures refused { IfErr result (λ fault. fault ≡ PartFault.Refused
-            → is_part (view value.now) ≡ false) };
+            → is_part (view value.now) ≡ false) }
+        ensures free { is_read_freely ≡ true → IfErr result (λ fault. fault ≡ PartFault.Refused) };
 }
 
 /// A whole number of 32 bits.
@@ -42,6 +49,10 @@ impl JsonPart for u32 {
     ghost json = { λ part. number (unsigned part) };
 
     ghost is_part = { is_u32 };
+
+    ghost is_written_freely = { true };
+
+    ghost is_read_freely = { true };
 
     fn to_part(&self, _alloc: Global) -> Result<Value, AllocError> {
         Ok(Value::from(*self))
@@ -64,6 +75,10 @@ impl JsonPart for u64 {
 
     ghost is_part = { is_u64 };
 
+    ghost is_written_freely = { true };
+
+    ghost is_read_freely = { true };
+
     fn to_part(&self, _alloc: Global) -> Result<Value, AllocError> {
         Ok(Value::from(*self))
     }
@@ -83,6 +98,10 @@ impl JsonPart for i64 {
 
     ghost is_part = { is_i64 };
 
+    ghost is_written_freely = { true };
+
+    ghost is_read_freely = { true };
+
     fn to_part(&self, _alloc: Global) -> Result<Value, AllocError> {
         Ok(Value::from(*self))
     }
@@ -100,6 +119,10 @@ impl JsonPart for bool {
     ghost json = { boolean };
 
     ghost is_part = { is_truth };
+
+    ghost is_written_freely = { true };
+
+    ghost is_read_freely = { true };
 
     fn to_part(&self, _alloc: Global) -> Result<Value, AllocError> {
         Ok(Value::from(*self))
@@ -119,6 +142,10 @@ impl JsonPart for char {
     ghost json = { λ part. string (encode_utf8 part) };
 
     ghost is_part = { is_character };
+
+    ghost is_written_freely = { false };
+
+    ghost is_read_freely = { true };
 
     fn to_part(&self, alloc: Global) -> Result<Value, AllocError> {
         let mut text = String::new(alloc);
@@ -147,6 +174,10 @@ impl JsonPart for String {
     ghost json = { λ part. string (string_bytes part) };
 
     ghost is_part = { is_text };
+
+    ghost is_written_freely = { false };
+
+    ghost is_read_freely = { false };
 
     fn to_part(&self, alloc: Global) -> Result<Value, AllocError> {
         Value::try_from_str(alloc, self.as_str())

@@ -5,7 +5,7 @@ ghost use Rattle.multimap_slots.specs.Lists.{IsIn};
 ghost use Rattle.multimap_slots.specs.Slots.{HasItem, IsSound};
 ghost use Rattle.multimap_slots.specs.Tapes.{HasTapeRoomFor};
 ghost use Rattle.multimap_walks.specs.Chained.{IsChained};
-ghost use Rattle.ordered_multimap.specs.Appends.{AppendsBehind, AppendsFirst, HasListedRows, GrowsIfFull, MakesRoom, FitsOneMore};
+ghost use Rattle.ordered_multimap.specs.Appends.{AppendsBehind, AppendsFirst, FitsOneMore, GrowsFor, HasListedRows, MakesRoom};
 ghost use Rattle.ordered_multimap.specs.Agrees.{HasKey, hash_of};
 ghost use Rattle.ordered_multimap.specs.Renames.{AreRenamed};
 ghost use Rattle.ordered_multimap.specs.TapeNumbers.{TakesOut};
@@ -149,6 +149,7 @@ fn append_first<K, V: Drop, A: Allocator + Copy>(
     value: V,
 ) -> Result<usize, Refused<K, V>>
     requires rows { HasListedRows keys.old table.old.rows }
+    requires counted { len table.old.rows ≡ length keys.old.order }
     requires keys_sound { IsSound keys.old }
     requires chained { IsChained keys.old values.old.list }
     ensures found { IfOk result (λ place. HasItem keys.new place key) }
@@ -159,8 +160,8 @@ fn append_first<K, V: Drop, A: Allocator + Copy>(
     ensures refused { IfErr result (λ pair. pair ≡ record { key = key; value = value }) }
     ensures succeeds { FitsOneMore keys.old table.old.rows table.old.capacity values.old
         → IsOk result }
-    ensures keys { GrowsIfFull (length keys.old.order) keys.old.capacity keys.new.capacity }
-    ensures rows { GrowsIfFull (len table.old.rows) table.old.capacity table.new.capacity }
+    ensures grows { GrowsFor keys.old keys.new table.old.rows
+        table.old.capacity table.new.capacity 1 }
     ensures values { MakesRoom values.old values.new }
 {
     if make_room(keys, table, values).is_err() {

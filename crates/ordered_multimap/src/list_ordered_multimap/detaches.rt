@@ -3,7 +3,7 @@ ghost use Rattle.std.specs.Prelude.{◌≡◌, ◌<◌, ◌≤◌, ◌+◌, ◌-
 ghost use Rattle.std.specs.Prelude.{OnOk, OnErr, IfOk, IfErr, IsOk};
 ghost use Rattle.std.specs.FinMap.{get};
 ghost use Rattle.multimap_slots.specs.Lists.{IsIn};
-ghost use Rattle.multimap_slots.specs.Slots.{Detaches, IsSound, link_at};
+ghost use Rattle.multimap_slots.specs.Slots.{DoublesIfGrown, Detaches, IsSound, link_at};
 ghost use Rattle.multimap_slots.specs.Tapes.{Frees, HasTapeRoomFor};
 ghost use Rattle.multimap_walks.specs.Chained.{IsChained, chain_of};
 ghost use Rattle.ordered_multimap.specs.Renames.{AreRenamed};
@@ -157,6 +157,7 @@ pub(super) fn insert_behind_all<K, V: Drop, A: Allocator + Copy>(
     ensures no_less { values.old.list.capacity ≤ values.new.list.capacity }
     ensures had_room { HasTapeRoomFor values.old 1
         → values.new.list.capacity ≡ values.old.list.capacity }
+    ensures doubles { DoublesIfGrown values.old.list.capacity values.new.list.capacity }
 {
     if make_value_room(keys, values).is_err() {
         return Err(RefusedValue { value });

@@ -222,10 +222,12 @@ impl<'map, K: Eq + Hash, V: Drop, S: BuildHasher, A: Allocator> FusedIterator
 
 impl<'map, K: Eq + Hash, V: Drop, S: BuildHasher, A: Allocator> Drop
     for EntryValuesDrain<'map, K, V, S, A> {
-    ghost use Rattle.ordered_multimap.specs.Detaches.{KeepsListed};
+    ghost use Rattle.std.specs.Prelude.{[]};
+    ghost use Rattle.ordered_multimap.specs.Detaches.{KeepsListed, left_of};
 
     fn drop(self)
-        ensures { KeepsListed self.entry.map.now self.exit.0.now }
+        ensures none_left { left_of self.exit.0.now ≡ [] }
+        ensures kept { KeepsListed self.entry.map.now self.exit.0.now }
     {
         let EntryValuesDrain { map } = self;
         map.drop_left();

@@ -1,8 +1,9 @@
 //! Many pairs that come last.
-ghost use Rattle.std.specs.Prelude.{◌≡◌, IfOk, IfErr};
+ghost use Rattle.std.specs.Prelude.{◌≡◌, IfOk, IfErr, IsOk};
 ghost use Rattle.std.specs.Iterator.{IsFinite};
 ghost use Rattle.ordered_multimap.specs.Extends.{Extends, ExtendsCopied, IsBuilt, IsItem};
-ghost use Rattle.ordered_multimap.specs.Rooms.{KeepsRooms};
+ghost use Rattle.ordered_multimap.specs.Extends.{HasRoomForGiven, HasRoomForMost};
+ghost use Rattle.ordered_multimap.specs.Rooms.{DoublesRooms, KeepsRooms, SameRooms};
 ghost use Rattle.ordered_multimap.specs.TapeNumbers.{AreUnused, TakesOut};
 
 use super::{ListOrderedMultimap, Refused};
@@ -15,7 +16,8 @@ impl<K: Eq + Hash + Drop, V: Drop, S: BuildHasher, A: Allocator + Copy> ListOrde
     S,
     A,
 > {
-    /// Appends each pair in turn. `iter` has to end.
+    /// Appends each pair in turn. `iter` has to end. Where there is room for as many more keys and
+    /// as many more values as there are pairs, it succeeds for sure.
     ///
     /// It asks for room for as many values as the iterator says that it has at least; that this is
     /// refused is no refusal of the call. Where memory is refused for a pair, it hands that pair
@@ -31,7 +33,21 @@ impl<K: Eq + Hash + Drop, V: Drop, S: BuildHasher, A: Allocator + Copy> ListOrde
         ensures extends { Extends K.eq I.into_iter_gives I.IntoIter.next_gives iter
             self.old.lists self.new.lists result }
         ensures rooms { KeepsRooms self.old self.new }
+        ensures doubles { DoublesRooms self.old self.new }
         ensures taken { TakesOut 0 self.old.tape self.new.tape }
+
+        // Where there is room for all pairs that come, none is refused, and no room for keys grows.
+        // That for values may grow: an iterator may tell of more pairs than come.
+        ensures succeeds { HasRoomForGiven I.into_iter_gives I.IntoIter.next_gives iter self.old
+            → IsOk result }
+        ensures had_key_room { HasRoomForGiven I.into_iter_gives I.IntoIter.next_gives iter self.old
+            → self.new.key_room ≡ self.old.key_room }
+
+        // Where there is room for as many as it has at most, none is refused, and nothing grows.
+        ensures succeeds_for_most { HasRoomForMost I.into_iter_gives I.IntoIter.remaining iter
+            self.old → IsOk result }
+        ensures had_room { HasRoomForMost I.into_iter_gives I.IntoIter.remaining iter self.old
+            → SameRooms self.old self.new }
     {
         let pairs = iter.into_iter();
         // That this is refused is ignored: each append makes the room that it needs.
@@ -44,7 +60,7 @@ impl<K: Eq + Hash + Drop, V: Drop, S: BuildHasher, A: Allocator + Copy> ListOrde
         Ok(())
     }
 
-    /// Appends a copy of each pair in turn, as `extend` does.
+    /// Appends a copy of each pair in turn, as `extend` does, and succeeds for sure where it does.
     ///
     /// ```
     /// map.extend_copied(other.iter())?;
@@ -61,7 +77,21 @@ impl<K: Eq + Hash + Drop, V: Drop, S: BuildHasher, A: Allocator + Copy> ListOrde
         ensures extends { ExtendsCopied K.eq I.into_iter_gives I.IntoIter.next_gives iter
             self.old.lists self.new.lists result }
         ensures rooms { KeepsRooms self.old self.new }
+        ensures doubles { DoublesRooms self.old self.new }
         ensures taken { TakesOut 0 self.old.tape self.new.tape }
+
+        // Where there is room for all pairs that come, none is refused, and no room for keys grows.
+        // That for values may grow: an iterator may tell of more pairs than come.
+        ensures succeeds { HasRoomForGiven I.into_iter_gives I.IntoIter.next_gives iter self.old
+            → IsOk result }
+        ensures had_key_room { HasRoomForGiven I.into_iter_gives I.IntoIter.next_gives iter self.old
+            → self.new.key_room ≡ self.old.key_room }
+
+        // Where there is room for as many as it has at most, none is refused, and nothing grows.
+        ensures succeeds_for_most { HasRoomForMost I.into_iter_gives I.IntoIter.remaining iter
+            self.old → IsOk result }
+        ensures had_room { HasRoomForMost I.into_iter_gives I.IntoIter.remaining iter self.old
+            → SameRooms self.old self.new }
     {
         let pairs = iter.into_iter();
         // Its refusal is ignored, as in `extend`.
@@ -75,8 +105,8 @@ impl<K: Eq + Hash + Drop, V: Drop, S: BuildHasher, A: Allocator + Copy> ListOrde
     }
 
     /// A map with this hash builder, of the pairs in turn, as `extend` appends them. `alloc` gives
-    /// its memory. Where memory is refused for a pair, it hands that pair back, and there is no map.
-    /// `iter` has to end.
+    /// its memory. Where memory is refused for a pair, it hands that pair back, and there is no
+    /// map. `iter` has to end.
     ///
     /// ```
     /// ListOrderedMultimap::from_iter(alloc, DefaultState::new(), pairs)?

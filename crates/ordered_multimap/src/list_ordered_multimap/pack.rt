@@ -180,9 +180,8 @@ fn pack<K: Drop, V: Drop, A: Allocator>(
 
 impl<K: Eq + Hash, V, S: BuildHasher, A: Allocator + Copy> ListOrderedMultimap<K, V, S, A> {
     /// Takes all keys and values, in their orders, to new memory with room for at least
-    /// `keys_minimum_capacity` keys and `values_minimum_capacity` values, and gives the old memory
-    /// back. The map must not have more keys or values than that. What a forgotten drain has left
-    /// is dropped, and no hole stays.
+    /// `keys_minimum_capacity` keys and `values_minimum_capacity` values. The map must not have more
+    /// keys or values than that. What a forgotten drain has left is dropped, and no hole stays.
     ///
     /// A refusal is want of memory, or a number of slots past the greatest `usize`. All new memory
     /// is taken before anything is moved, so the map is then as it was. It goes over the slots in

@@ -1,15 +1,10 @@
 //! Room that is asked for ahead.
 ghost use Rattle.std.specs.Prelude.{◌≡◌, ◌≤◌, ◌+◌, OnOk, IsOk, length};
-ghost use Rattle.std.specs.FinMap.{len};
-ghost use Rattle.multimap_slots.specs.Slots.{KeepsItems};
-ghost use Rattle.ordered_multimap.specs.Appends.{FitsKeys, GrowsFor};
-ghost use Rattle.ordered_multimap.specs.Rooms.{KeepsRooms, SameRooms};
+ghost use Rattle.ordered_multimap.specs.Rooms.{DoublesRooms, KeepsRooms, SameRooms};
 ghost use Rattle.ordered_multimap.specs.TapeNumbers.{TakesOut};
 
 use super::ListOrderedMultimap;
-use multimap_slots::SlotList;
-use multimap_table::KeyTable;
-use multimap_walks::KeyLink;
+use super::room::make_key_room;
 use std::alloc::{AllocError, Allocator};
 use std::hash::{BuildHasher, Hash};
 
@@ -18,7 +13,8 @@ impl<K: Eq + Hash, V, S: BuildHasher, A: Allocator + Copy> ListOrderedMultimap<K
     /// there is room for as many, no memory is taken.
     ///
     /// A refusal is want of memory, or a number of keys past the greatest `usize`. Both lists are
-    /// as before. A growth costs the slots of the keys and the rows, which are moved.
+    /// as before. A growth costs the slots of the keys and the rows, which are moved, and leaves at
+    /// least twice the room that there was.
     ///
     /// ```
     /// map.reserve_keys(10)?;
@@ -30,6 +26,7 @@ impl<K: Eq + Hash, V, S: BuildHasher, A: Allocator + Copy> ListOrderedMultimap<K
         ensures values { self.new.value_room ≡ self.old.value_room }
         ensures tape { self.new.tape ≡ self.old.tape }
         ensures rooms { KeepsRooms self.old self.new }
+        ensures doubles { DoublesRooms self.old self.new }
 
         // Where there is room already, nothing grows and nothing is refused.
         ensures succeeds { length self.old.lists.keys + additional ≤ self.old.key_room
@@ -44,7 +41,8 @@ impl<K: Eq + Hash, V, S: BuildHasher, A: Allocator + Copy> ListOrderedMultimap<K
     /// there. Where there is room for as many, no memory is taken.
     ///
     /// A refusal is want of memory, or a number of slots past the greatest `usize`. Both lists are
-    /// as before. A growth costs the slots of the values, which are moved.
+    /// as before. A growth costs the slots of the values, which are moved, and leaves at least
+    /// twice the room that there was.
     ///
     /// ```
     /// map.reserve_values(10)?;
@@ -56,6 +54,7 @@ impl<K: Eq + Hash, V, S: BuildHasher, A: Allocator + Copy> ListOrderedMultimap<K
         ensures keys { self.new.key_room ≡ self.old.key_room }
         ensures taken { TakesOut 0 self.old.tape self.new.tape }
         ensures rooms { KeepsRooms self.old self.new }
+        ensures doubles { DoublesRooms self.old self.new }
 
         // Where there is room already, nothing grows and nothing is refused.
         ensures succeeds { length self.old.lists.pairs + additional ≤ self.old.value_room
@@ -65,24 +64,4 @@ impl<K: Eq + Hash, V, S: BuildHasher, A: Allocator + Copy> ListOrderedMultimap<K
     {
         self.values.reserve(additional)
     }
-}
-
-/// Makes room for so many more keys and their rows.
-fn make_key_room<K, A: Allocator + Copy>(
-    keys: &mut SlotList<K, KeyLink, A>,
-    table: &mut KeyTable<A>,
-    additional: usize,
-) -> Result<(), AllocError>
-    ensures same_keys { KeepsItems keys.old keys.new }
-    ensures same_rows { table.new.rows ≡ table.old.rows }
-    ensures room { OnOk result (FitsKeys keys.new table.old.rows table.new.capacity additional) }
-    ensures succeeds { FitsKeys keys.old table.old.rows table.old.capacity additional
-        → IsOk result }
-    ensures keys { GrowsFor (length keys.old.order + additional)
-        keys.old.capacity keys.new.capacity }
-    ensures rows { GrowsFor (len table.old.rows + additional)
-        table.old.capacity table.new.capacity }
-{
-    keys.reserve(additional)?;
-    table.reserve(additional)
 }

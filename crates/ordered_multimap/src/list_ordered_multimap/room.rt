@@ -1,10 +1,10 @@
 //! Room for one more key and one more value.
 ghost use Rattle.std.specs.Prelude.{◌≡◌, ◌<◌, OnOk, IsOk, length};
 ghost use Rattle.std.specs.FinMap.{len};
-ghost use Rattle.multimap_slots.specs.Slots.{IsSound};
+ghost use Rattle.multimap_slots.specs.Slots.{IsSound, KeepsItems};
 ghost use Rattle.multimap_slots.specs.Tapes.{HasEndRoom, HasTapeRoomFor};
 ghost use Rattle.multimap_walks.specs.Chained.{IsChained};
-ghost use Rattle.ordered_multimap.specs.Appends.{GrowsIfFull, MakesRoom, FitsOneMore};
+ghost use Rattle.ordered_multimap.specs.Appends.{FitsKeys, FitsOneMore, GrowsFor, MakesRoom};
 ghost use Rattle.ordered_multimap.specs.Renames.{AreRenamed};
 ghost use Rattle.ordered_multimap.specs.TapeNumbers.{TakesOut, numbers_of};
 
@@ -66,12 +66,47 @@ pub(super) fn make_value_room<K, V: Drop, A: Allocator + Copy>(
     Ok(())
 }
 
+/// Makes room for so many more keys and their rows. Where list or table grows, both do, so that the
+/// room at least doubles. The smaller of them grows last, so that the room stays as it was where
+/// memory is refused.
+pub(super) fn make_key_room<K, A: Allocator + Copy>(
+    keys: &mut SlotList<K, KeyLink, A>,
+    table: &mut KeyTable<A>,
+    additional: usize,
+) -> Result<(), AllocError>
+    requires counted { len table.old.rows ≡ length keys.old.order }
+    ensures same_keys { KeepsItems keys.old keys.new }
+    ensures same_rows { table.new.rows ≡ table.old.rows }
+    ensures room { OnOk result (FitsKeys keys.new table.old.rows table.new.capacity additional) }
+    ensures succeeds { FitsKeys keys.old table.old.rows table.old.capacity additional
+        → IsOk result }
+    ensures grows { GrowsFor keys.old keys.new table.old.rows
+        table.old.capacity table.new.capacity additional }
+{
+    let room = keys.capacity().min(table.capacity());
+    if additional <= room - keys.len() {
+        return Ok(());
+    }
+    let Some(doubled) = room.checked_mul(2) else {
+        return Err(AllocError);
+    };
+    let wanted = additional.max(doubled - keys.len());
+    if keys.capacity() <= table.capacity() {
+        table.reserve(wanted)?;
+        keys.reserve(wanted)
+    } else {
+        keys.reserve(wanted)?;
+        table.reserve(wanted)
+    }
+}
+
 /// Makes room for one more key and one more value.
 pub(super) fn make_room<K, V: Drop, A: Allocator + Copy>(
     keys: &mut SlotList<K, KeyLink, A>,
     table: &mut KeyTable<A>,
     values: &mut Tape<V, ValueLink, A>,
 ) -> Result<(), AllocError>
+    requires counted { len table.old.rows ≡ length keys.old.order }
     requires keys_sound { IsSound keys.old }
     requires chained { IsChained keys.old values.old.list }
     ensures renamed { AreRenamed keys.old keys.new values.old.list values.new.list }
@@ -80,13 +115,12 @@ pub(super) fn make_room<K, V: Drop, A: Allocator + Copy>(
     ensures end_room { OnOk result (HasEndRoom values.new) }
     ensures succeeds { FitsOneMore keys.old table.old.rows table.old.capacity values.old
         → IsOk result }
-    ensures keys { GrowsIfFull (length keys.old.order) keys.old.capacity keys.new.capacity }
-    ensures rows { GrowsIfFull (len table.old.rows) table.old.capacity table.new.capacity }
+    ensures grows { GrowsFor keys.old keys.new table.old.rows
+        table.old.capacity table.new.capacity 1 }
     ensures values { MakesRoom values.old values.new }
 {
     // The length tells the proof that the list of values is sound.
     let _values = values.len();
-    keys.reserve(1)?;
-    table.reserve(1)?;
+    make_key_room(keys, table, 1)?;
     make_value_room(keys, values)
 }

@@ -3,12 +3,12 @@ ghost use Rattle.std.specs.Prelude.{◌≡◌, Some};
 ghost use Rattle.std.specs.Borrow.{sem};
 ghost use Rattle.multimap_slots.specs.Lists.{IsIn};
 ghost use Rattle.multimap_slots.specs.Slots.{item_at};
-ghost use Rattle.multimap_walks.specs.WritingWalk.{iter_mut_name, iter_mut_positions, iter_mut_rest, iter_mut_values, IterMutCanStep};
-ghost use Rattle.multimap_walks.specs.WritingWalk.{values_mut_name, values_mut_positions, values_mut_rest, values_mut_values, ValuesMutCanStep};
-ghost use Rattle.multimap_walks.specs.WritingWalk.{entry_values_mut_values, entry_values_mut_rest, entry_values_mut_positions, entry_values_mut_name, EntryValuesMutCanStep};
+ghost use Rattle.multimap_walks.specs.WritingWalk.{iter_mut_name, iter_mut_positions, iter_mut_rest, iter_mut_values};
+ghost use Rattle.multimap_walks.specs.WritingWalk.{values_mut_name, values_mut_positions, values_mut_rest, values_mut_values};
+ghost use Rattle.multimap_walks.specs.WritingWalk.{entry_values_mut_values, entry_values_mut_rest, entry_values_mut_positions, entry_values_mut_name};
 ghost use Rattle.ordered_multimap.specs.Agrees.{HasKey};
 ghost use Rattle.ordered_multimap.specs.Pairs.{all_positions, all_values, positions_of, values_of};
-ghost use Rattle.ordered_multimap.specs.ValuesLent.{lends_values, EndsMap, KeepsShape};
+ghost use Rattle.ordered_multimap.specs.ValuesLent.{lends_values, EndsMap};
 
 use super::ListOrderedMultimap;
 use super::lookup::slot_at;
@@ -29,10 +29,8 @@ impl<K: Eq + Hash, V, S: BuildHasher, A: Allocator> ListOrderedMultimap<K, V, S,
     pub fn iter_mut(&mut self) -> IterMut<'_, K, V, A>
         ensures* writes_back { sem 𝓛 (lends_values K.row V.row S.row A.row S.Hasher.row K.Hash
             S.BuildHasher S.Hasher.Hasher A.Allocator self.entry (iter_mut_name result)) }
-        ensures ready { IterMutCanStep result }
         ensures pairs { iter_mut_rest result ≡ self.old.lists.pairs }
         ensures positions { iter_mut_positions result ≡ all_positions self.old.lists.pairs }
-        ensures keeps { KeepsShape self.old }
         ensures ends { EndsMap K.row V.row S.row self.old (iter_mut_values result) }
     {
         let (cells, keys) = self.lend();
@@ -50,10 +48,8 @@ impl<K: Eq + Hash, V, S: BuildHasher, A: Allocator> ListOrderedMultimap<K, V, S,
     pub fn values_mut(&mut self) -> ValuesMut<'_, K, V, A>
         ensures* writes_back { sem 𝓛 (lends_values K.row V.row S.row A.row S.Hasher.row K.Hash
             S.BuildHasher S.Hasher.Hasher A.Allocator self.entry (values_mut_name result)) }
-        ensures ready { ValuesMutCanStep result }
         ensures values { values_mut_rest result ≡ all_values self.old.lists.pairs }
         ensures positions { values_mut_positions result ≡ all_positions self.old.lists.pairs }
-        ensures keeps { KeepsShape self.old }
         ensures ends { EndsMap K.row V.row S.row self.old (values_mut_values result) }
     {
         let (cells, _) = self.lend();
@@ -72,12 +68,10 @@ impl<K: Eq + Hash, V, S: BuildHasher, A: Allocator> ListOrderedMultimap<K, V, S,
     pub fn get_all_mut(&mut self, key: &K) -> EntryValuesMut<'_, K, V, A>
         ensures* writes_back { sem 𝓛 (lends_values K.row V.row S.row A.row S.Hasher.row K.Hash
             S.BuildHasher S.Hasher.Hasher A.Allocator self.entry (entry_values_mut_name result)) }
-        ensures ready { EntryValuesMutCanStep result }
         ensures values { entry_values_mut_rest result
             ≡ values_of K.eq self.old.lists.pairs key.now }
         ensures positions { entry_values_mut_positions result
             ≡ positions_of K.eq self.old.lists.pairs key.now }
-        ensures keeps { KeepsShape self.old }
         ensures ends { EndsMap K.row V.row S.row self.old (entry_values_mut_values result) }
     {
         match self.look_up(key).1 {
@@ -94,12 +88,10 @@ impl<K: Eq + Hash, V, S: BuildHasher, A: Allocator> ListOrderedMultimap<K, V, S,
         requires { IsIn place self.old.slots.keys.order }
         ensures* writes_back { sem 𝓛 (lends_values K.row V.row S.row A.row S.Hasher.row K.Hash
             S.BuildHasher S.Hasher.Hasher A.Allocator self.entry (entry_values_mut_name result)) }
-        ensures ready { EntryValuesMutCanStep result }
         ensures values { (k : K) → HasKey K.eq self.old.slots.keys k place
             → entry_values_mut_rest result ≡ values_of K.eq self.old.lists.pairs k }
         ensures positions { (k : K) → HasKey K.eq self.old.slots.keys k place
             → entry_values_mut_positions result ≡ positions_of K.eq self.old.lists.pairs k }
-        ensures keeps { KeepsShape self.old }
         ensures ends { EndsMap K.row V.row S.row self.old (entry_values_mut_values result) }
     {
         let (_, values) = self.key_values_mut_at(place);
@@ -113,12 +105,10 @@ impl<K: Eq + Hash, V, S: BuildHasher, A: Allocator> ListOrderedMultimap<K, V, S,
             S.BuildHasher S.Hasher.Hasher A.Allocator self.entry
             (entry_values_mut_name result.1)) }
         ensures key { item_at self.old.slots.keys place ≡ Some result.0.now }
-        ensures ready { EntryValuesMutCanStep result.1 }
         ensures values { (k : K) → HasKey K.eq self.old.slots.keys k place
             → entry_values_mut_rest result.1 ≡ values_of K.eq self.old.lists.pairs k }
         ensures positions { (k : K) → HasKey K.eq self.old.slots.keys k place
             → entry_values_mut_positions result.1 ≡ positions_of K.eq self.old.lists.pairs k }
-        ensures keeps { KeepsShape self.old }
         ensures ends { EndsMap K.row V.row S.row self.old (entry_values_mut_values result.1) }
     {
         let (cells, keys) = self.lend();
@@ -134,16 +124,14 @@ impl<'map, K: Eq + Hash, V, S: BuildHasher, A: Allocator> IntoIterator
 
     type IntoIter = IterMut<'map, K, V, A>;
 
-    ghost into_iter_gives = { λ m r. (iter_mut_rest r ≡ m.now.lists.pairs) × IterMutCanStep r };
+    ghost into_iter_gives = { λ m r. iter_mut_rest r ≡ m.now.lists.pairs };
 
     fn into_iter(self) -> IterMut<'map, K, V, A>
         ensures* writes_back { sem 𝓛 (lends_values K.row V.row S.row A.row S.Hasher.row K.Hash
             S.BuildHasher S.Hasher.Hasher A.Allocator self.entry (iter_mut_name result)) }
         ensures positions { iter_mut_positions result ≡ all_positions self.old.lists.pairs }
-        ensures keeps { KeepsShape self.old }
         ensures ends { EndsMap K.row V.row S.row self.old (iter_mut_values result) }
-        ensures into_iter_gives { (iter_mut_rest result ≡ self.old.lists.pairs)
-            × IterMutCanStep result }
+        ensures into_iter_gives { iter_mut_rest result ≡ self.old.lists.pairs }
     {
         self.iter_mut()
     }

@@ -23,6 +23,16 @@ step-requires-clause-callable g c =
     let l = c.loop-command in
     λ operand is. c.requires.callable operand (l.command-index, c.loop-command-test.true, subst (λ r. slice_index_or c.args.commands.now l.command-index r ≡ r) is (sym c.command-item.is))
 
+pub step-requires-clause-key_parts : goal.step-requires-clause-key_parts
+step-requires-clause-key_parts g c =
+    let l = c.loop-command in
+    λ is. c.requires.key_parts (l.command-index, c.loop-command-test.true, subst (λ r. slice_index_or c.args.commands.now l.command-index r ≡ r) is (sym c.command-item.is))
+
+pub step-requires-clause-value_parts : goal.step-requires-clause-value_parts
+step-requires-clause-value_parts g c =
+    let l = c.loop-command in
+    λ is. c.requires.value_parts (l.command-index, c.loop-command-test.true, subst (λ r. slice_index_or c.args.commands.now l.command-index r ≡ r) is (sym c.command-item.is))
+
 pub loop-command-preserved : goal.loop-command-preserved
 loop-command-preserved g c =
     let l = c.loop-command in

@@ -7,12 +7,9 @@ use Rattle.multimap_walks.proofs.writing.lend_first.Goals as goal
 pub link-link-requires : goal.link-link-requires
 link-link-requires g c = let left = c.args.left.now in record { left = first_is_left c.args.cells.now left (left.length - 1) (omega arith) c.requires }
 
-pub take-requires-clause-filled : goal.take-requires-clause-filled
-take-requires-clause-filled g c =
-    let left = c.args.left.now in c.requires.sound.filled left.first (first_is_left c.args.cells.now left (left.length - 1) (omega arith) c.requires).listed
-
-pub take-requires-clause-left : goal.take-requires-clause-left
-take-requires-clause-left g c = let left = c.args.left.now in first_is_left c.args.cells.now left (left.length - 1) (omega arith) c.requires
+pub take-requires : goal.take-requires
+take-requires g c =
+    record { left = let left = c.args.left.now in first_is_left c.args.cells.now left (left.length - 1) (omega arith) c.requires }
 
 pub returns-clause-can : goal.returns-clause-can
 returns-clause-can g c =

@@ -6,7 +6,7 @@ ghost use Rattle.multimap_slots.specs.Slots.{HasLink, IsSound};
 ghost use Rattle.multimap_slots.specs.SlotCells.{cells_name, lent_slots};
 ghost use Rattle.multimap_walks.specs.Chained.{IsChained, chain_of, positions_at, values_at};
 ghost use Rattle.multimap_walks.specs.Lending.{AllAreLeft};
-ghost use Rattle.multimap_walks.specs.WritingWalk.{entry_values_mut_cells, entry_values_mut_count, entry_values_mut_name, entry_values_mut_positions, entry_values_mut_rest, entry_values_mut_values, EntryValuesMutCanStep, LendsFirstOfKey, LendsLastOfKey};
+ghost use Rattle.multimap_walks.specs.WritingWalk.{entry_values_mut_cells, entry_values_mut_name, entry_values_mut_positions, entry_values_mut_rest, entry_values_mut_values, LendsFirstOfKey, LendsLastOfKey};
 
 use super::{EntryValuesMut, chain_before, chain_behind};
 use crate::links::{ChainEnds, KeyLink, NO_ENDS, ValueLink};
@@ -30,7 +30,6 @@ impl<'map, K, V, A: Allocator> EntryValuesMut<'map, K, V, A> {
         requires sound { IsSound (lent_slots values) }
         requires left { AllAreLeft values }
         requires listed { MatchOption key ⊤ (λ k. HasLink keys.now k.0 k.1) }
-        ensures ready { EntryValuesMutCanStep result }
         ensures values { MatchOption key (entry_values_mut_rest result ≡ [])
             (λ k. entry_values_mut_rest result
             ≡ values_at (lent_slots values.entry) (chain_of (lent_slots values.entry) k.0)) }
@@ -84,11 +83,9 @@ impl<'map, K, V, A: Allocator> EntryValuesMut<'map, K, V, A> {
 impl<'map, K, V, A: Allocator> Iterator for EntryValuesMut<'map, K, V, A> {
     type Item = &'map mut V;
 
-    ghost can_next = { EntryValuesMutCanStep };
-
     ghost next_gives = { LendsFirstOfKey };
 
-    ghost remaining = { λ s. at_most (entry_values_mut_count s) };
+    ghost remaining = { λ s. at_most (length (entry_values_mut_rest s)) };
 
     fn next(&mut self) -> Option<&'map mut V> {
         if self.left.length == 0 {
@@ -99,13 +96,14 @@ impl<'map, K, V, A: Allocator> Iterator for EntryValuesMut<'map, K, V, A> {
         Some(self.values.take(place))
     }
 
+    #[tactic(auto, using(crate::proofs::RestLemmas::entry_values_mut_counted))]
     fn size_hint(&self) -> (usize, Option<usize>)
-        ensures lower { IsWithinCount result.0 (at_most (entry_values_mut_count self.now)) }
-        ensures upper { IfSome result.1 (UpTo (at_most (entry_values_mut_count self.now))) }
+        ensures lower { IsWithinCount result.0 (at_most (length (entry_values_mut_rest self.now))) }
+        ensures upper { IfSome result.1
+            (UpTo (at_most (length (entry_values_mut_rest self.now)))) }
 
         // Both numbers are that of the values left.
-        ensures least { EntryValuesMutCanStep self.now
-            → result.0 ≡ length (entry_values_mut_rest self.now) }
+        ensures least { result.0 ≡ length (entry_values_mut_rest self.now) }
         ensures greatest { result.1 ≡ Some result.0 }
     {
         (self.left.length, Some(self.left.length))
@@ -113,8 +111,6 @@ impl<'map, K, V, A: Allocator> Iterator for EntryValuesMut<'map, K, V, A> {
 }
 
 impl<'map, K, V, A: Allocator> DoubleEndedIterator for EntryValuesMut<'map, K, V, A> {
-    ghost can_next_back = { EntryValuesMutCanStep };
-
     ghost next_back_gives = { LendsLastOfKey };
 
     fn next_back(&mut self) -> Option<&'map mut V> {
@@ -128,6 +124,7 @@ impl<'map, K, V, A: Allocator> DoubleEndedIterator for EntryValuesMut<'map, K, V
 }
 
 impl<'map, K, V, A: Allocator> ExactSizeIterator for EntryValuesMut<'map, K, V, A> {
+    #[tactic(auto, using(crate::proofs::RestLemmas::entry_values_mut_counted))]
     fn len(&self) -> usize {
         self.left.length
     }

@@ -6,7 +6,7 @@ ghost use Rattle.multimap_slots.specs.Slots.{IsSound};
 ghost use Rattle.multimap_slots.specs.SlotCells.{cells_name, lent_slots};
 ghost use Rattle.multimap_walks.specs.Chained.{AreOwned, pairs_of, positions_at};
 ghost use Rattle.multimap_walks.specs.Lending.{AllAreLeft};
-ghost use Rattle.multimap_walks.specs.WritingWalk.{iter_mut_cells, iter_mut_count, iter_mut_name, iter_mut_positions, iter_mut_rest, iter_mut_values, IterMutCanStep, LendsFirstPair, LendsLastPair};
+ghost use Rattle.multimap_walks.specs.WritingWalk.{iter_mut_cells, iter_mut_name, iter_mut_positions, iter_mut_rest, iter_mut_values, LendsFirstPair, LendsLastPair};
 
 use super::IterMut;
 use crate::links::{KeyLink, ValueLink};
@@ -29,7 +29,6 @@ impl<'map, K, V, A: Allocator> IterMut<'map, K, V, A> {
         requires owned { AreOwned keys.now (lent_slots values) }
         requires sound { IsSound (lent_slots values) }
         requires left { AllAreLeft values }
-        ensures ready { IterMutCanStep result }
         ensures pairs { iter_mut_rest result ≡ pairs_of keys.now (lent_slots values.entry) }
         ensures name { iter_mut_name result ≡ cells_name values.entry }
         ensures positions { iter_mut_positions result
@@ -67,23 +66,22 @@ impl<'map, K, V, A: Allocator> IterMut<'map, K, V, A> {
 impl<'map, K, V, A: Allocator> Iterator for IterMut<'map, K, V, A> {
     type Item = (&'map K, &'map mut V);
 
-    ghost can_next = { IterMutCanStep };
-
     ghost next_gives = { LendsFirstPair };
 
-    ghost remaining = { λ s. at_most (iter_mut_count s) };
+    ghost remaining = { λ s. at_most (length (iter_mut_rest s)) };
 
     fn next(&mut self) -> Option<(&'map K, &'map mut V)> {
         let (value, link) = lend_first(&mut self.values, &mut self.left)?;
         Some((key_at(self.keys, link.key, &mut Reads::new()), value))
     }
 
+    #[tactic(auto, using(crate::proofs::RestLemmas::iter_mut_counted))]
     fn size_hint(&self) -> (usize, Option<usize>)
-        ensures lower { IsWithinCount result.0 (at_most (iter_mut_count self.now)) }
-        ensures upper { IfSome result.1 (UpTo (at_most (iter_mut_count self.now))) }
+        ensures lower { IsWithinCount result.0 (at_most (length (iter_mut_rest self.now))) }
+        ensures upper { IfSome result.1 (UpTo (at_most (length (iter_mut_rest self.now)))) }
 
         // Both numbers are that of the pairs left.
-        ensures least { IterMutCanStep self.now → result.0 ≡ length (iter_mut_rest self.now) }
+        ensures least { result.0 ≡ length (iter_mut_rest self.now) }
         ensures greatest { result.1 ≡ Some result.0 }
     {
         (self.left.length, Some(self.left.length))
@@ -91,8 +89,6 @@ impl<'map, K, V, A: Allocator> Iterator for IterMut<'map, K, V, A> {
 }
 
 impl<'map, K, V, A: Allocator> DoubleEndedIterator for IterMut<'map, K, V, A> {
-    ghost can_next_back = { IterMutCanStep };
-
     ghost next_back_gives = { LendsLastPair };
 
     fn next_back(&mut self) -> Option<(&'map K, &'map mut V)> {
@@ -102,6 +98,7 @@ impl<'map, K, V, A: Allocator> DoubleEndedIterator for IterMut<'map, K, V, A> {
 }
 
 impl<'map, K, V, A: Allocator> ExactSizeIterator for IterMut<'map, K, V, A> {
+    #[tactic(auto, using(crate::proofs::RestLemmas::iter_mut_counted))]
     fn len(&self) -> usize {
         self.left.length
     }

@@ -25,6 +25,7 @@ pub struct IterRest<'walk, 'map, K, V, A: Allocator = Global> {
     keys: &'walk SlotList<K, KeyLink, A>,
     values: &'walk SlotCells<'map, V, ValueLink, A>,
     left: ChainEnds,
+    reads: Reads,
 }
 
 impl<'walk, 'map, K, V, A: Allocator> Model for IterRest<'walk, 'map, K, V, A> {
@@ -52,7 +53,12 @@ impl<'walk, 'map, K, V, A: Allocator> IterRest<'walk, 'map, K, V, A> {
     {
         // The length tells the proof that the list of keys is sound.
         let _keys = keys.len();
-        IterRest { keys, values, left }
+        IterRest {
+            keys,
+            values,
+            left,
+            reads: Reads::new(),
+        }
     }
 }
 
@@ -65,7 +71,7 @@ impl<'walk, 'map, K, V, A: Allocator> Iterator for IterRest<'walk, 'map, K, V, A
 
     fn next(&mut self) -> Option<(&'walk K, &'walk V)> {
         let (value, link) = read_first(self.values, &mut self.left)?;
-        Some((key_at(self.keys, link.key, &mut Reads::new()), value))
+        Some((key_at(self.keys, link.key, &mut self.reads), value))
     }
 
     fn size_hint(&self) -> (usize, Option<usize>)
@@ -85,7 +91,7 @@ impl<'walk, 'map, K, V, A: Allocator> DoubleEndedIterator for IterRest<'walk, 'm
 
     fn next_back(&mut self) -> Option<(&'walk K, &'walk V)> {
         let (value, link) = read_last(self.values, &mut self.left)?;
-        Some((key_at(self.keys, link.key, &mut Reads::new()), value))
+        Some((key_at(self.keys, link.key, &mut self.reads), value))
     }
 }
 
@@ -107,6 +113,7 @@ impl<'walk, 'map, K, V, A: Allocator> Clone for IterRest<'walk, 'map, K, V, A> {
             keys: self.keys,
             values: self.values,
             left: self.left,
+            reads: self.reads.clone()?,
         })
     }
 }

@@ -6,7 +6,7 @@ ghost use Rattle.multimap_slots.specs.Slots.{IsSound};
 ghost use Rattle.multimap_slots.specs.SlotCells.{cells_name, lent_slots};
 ghost use Rattle.multimap_walks.specs.Chained.{positions_at, values_at};
 ghost use Rattle.multimap_walks.specs.Lending.{AllAreLeft};
-ghost use Rattle.multimap_walks.specs.WritingWalk.{values_mut_cells, values_mut_count, values_mut_name, values_mut_positions, values_mut_rest, values_mut_values, ValuesMutCanStep, LendsFirstValue, LendsLastValue};
+ghost use Rattle.multimap_walks.specs.WritingWalk.{values_mut_cells, values_mut_name, values_mut_positions, values_mut_rest, values_mut_values, LendsFirstValue, LendsLastValue};
 
 use super::ValuesMut;
 use crate::links::ValueLink;
@@ -24,7 +24,6 @@ impl<'map, K, V, A: Allocator> ValuesMut<'map, K, V, A> {
     pub fn new(values: SlotCells<'map, V, ValueLink, A>) -> Self
         requires sound { IsSound (lent_slots values) }
         requires left { AllAreLeft values }
-        ensures ready { ValuesMutCanStep result }
         ensures values { values_mut_rest result
             ≡ values_at (lent_slots values.entry) (lent_slots values.entry).order }
         ensures name { values_mut_name result ≡ cells_name values.entry }
@@ -65,23 +64,22 @@ impl<'map, K, V, A: Allocator> ValuesMut<'map, K, V, A> {
 impl<'map, K, V, A: Allocator> Iterator for ValuesMut<'map, K, V, A> {
     type Item = &'map mut V;
 
-    ghost can_next = { ValuesMutCanStep };
-
     ghost next_gives = { LendsFirstValue };
 
-    ghost remaining = { λ s. at_most (values_mut_count s) };
+    ghost remaining = { λ s. at_most (length (values_mut_rest s)) };
 
     fn next(&mut self) -> Option<&'map mut V> {
         let (value, _) = lend_first(&mut self.values, &mut self.left)?;
         Some(value)
     }
 
+    #[tactic(auto, using(crate::proofs::RestLemmas::values_mut_counted))]
     fn size_hint(&self) -> (usize, Option<usize>)
-        ensures lower { IsWithinCount result.0 (at_most (values_mut_count self.now)) }
-        ensures upper { IfSome result.1 (UpTo (at_most (values_mut_count self.now))) }
+        ensures lower { IsWithinCount result.0 (at_most (length (values_mut_rest self.now))) }
+        ensures upper { IfSome result.1 (UpTo (at_most (length (values_mut_rest self.now)))) }
 
         // Both numbers are that of the values left.
-        ensures least { ValuesMutCanStep self.now → result.0 ≡ length (values_mut_rest self.now) }
+        ensures least { result.0 ≡ length (values_mut_rest self.now) }
         ensures greatest { result.1 ≡ Some result.0 }
     {
         (self.left.length, Some(self.left.length))
@@ -89,8 +87,6 @@ impl<'map, K, V, A: Allocator> Iterator for ValuesMut<'map, K, V, A> {
 }
 
 impl<'map, K, V, A: Allocator> DoubleEndedIterator for ValuesMut<'map, K, V, A> {
-    ghost can_next_back = { ValuesMutCanStep };
-
     ghost next_back_gives = { LendsLastValue };
 
     fn next_back(&mut self) -> Option<&'map mut V> {
@@ -100,6 +96,7 @@ impl<'map, K, V, A: Allocator> DoubleEndedIterator for ValuesMut<'map, K, V, A> 
 }
 
 impl<'map, K, V, A: Allocator> ExactSizeIterator for ValuesMut<'map, K, V, A> {
+    #[tactic(auto, using(crate::proofs::RestLemmas::values_mut_counted))]
     fn len(&self) -> usize {
         self.left.length
     }

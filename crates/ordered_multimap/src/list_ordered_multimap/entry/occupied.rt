@@ -7,7 +7,7 @@ ghost use Rattle.std.specs.Borrow.{sem};
 ghost use Rattle.ordered_multimap.specs.Changes.{appended, first_written, inserted, removed};
 ghost use Rattle.ordered_multimap.specs.Drains.{DrainsEntry, DrainsInserted};
 ghost use Rattle.ordered_multimap.specs.Entries.{IsOccupiedBy, IsSameEntry};
-ghost use Rattle.multimap_walks.specs.WritingWalk.{entry_values_mut_values, entry_values_mut_name, entry_values_mut_rest, entry_values_mut_positions, EntryValuesMutCanStep};
+ghost use Rattle.multimap_walks.specs.WritingWalk.{entry_values_mut_values, entry_values_mut_name, entry_values_mut_rest, entry_values_mut_positions};
 ghost use Rattle.ordered_multimap.specs.EntryLends.{lends_first, lends_to_entry, EndsEntry, lends_values_to_entry, rests_with_drain};
 ghost use Rattle.ordered_multimap.specs.Keys.{stored_key};
 ghost use Rattle.ordered_multimap.specs.Pairs.{positions_of, values_of};
@@ -122,7 +122,6 @@ impl<'map, K: Eq + Hash, V, S: BuildHasher, A: Allocator> OccupiedEntry<'map, K,
     pub fn iter_mut(&mut self) -> EntryValuesMut<'_, K, V, A>
         ensures* writes_back { sem 𝓛 (lends_values_to_entry K.row V.row S.row A.row S.Hasher.row
             A.Allocator self.entry (entry_values_mut_name result)) }
-        ensures ready { EntryValuesMutCanStep result }
         ensures values { (k : K) → IsOccupiedBy self.old k
             → entry_values_mut_rest result ≡ values_of K.eq self.old.map.now.lists.pairs k }
         ensures positions { (k : K) → IsOccupiedBy self.old k → entry_values_mut_positions result
@@ -249,7 +248,8 @@ impl<'map, K: Eq + Hash, V: Drop, S: BuildHasher, A: Allocator> OccupiedEntry<'m
         map.drain()
     }
 
-    /// The same, and the stored key is answered before the drain.
+    /// The same, and the stored key is answered before the drain. A caller that is to be proved
+    /// learns of the map only through a function between that answers the drain alone.
     ///
     /// ```
     /// entry.remove_entry_all().1.len() == 2

@@ -5,14 +5,13 @@ ghost use Rattle.std.specs.Borrow.{sem};
 ghost use Rattle.multimap_slots.specs.Lists.{IsIn};
 ghost use Rattle.multimap_slots.specs.Slots.{item_at};
 ghost use Rattle.multimap_walks.specs.Along.{AreLeft, items_left};
-ghost use Rattle.multimap_walks.specs.KeyWalk.{key_values_at};
 ghost use Rattle.multimap_walks.specs.Walk.{end_item, end_rest};
-ghost use Rattle.multimap_walks.specs.WritingWalk.{entry_values_mut_values, entry_values_mut_name, entry_values_mut_rest};
-ghost use Rattle.multimap_walks.specs.WritingWalk.{EntryValuesMutCanStep};
+ghost use Rattle.multimap_walks.specs.WritingWalk.{entry_values_mut_values, entry_values_mut_name, entry_values_mut_rest, entry_values_mut_positions};
 ghost use Rattle.multimap_walks.specs.declared.End.TheVariants.{Front, Back};
 ghost use Rattle.ordered_multimap.specs.Agrees.{HasKey};
+ghost use Rattle.ordered_multimap.specs.KeyLists.{each_with_values};
 ghost use Rattle.ordered_multimap.specs.KeysLeft.{keys_left};
-ghost use Rattle.ordered_multimap.specs.Pairs.{values_of};
+ghost use Rattle.ordered_multimap.specs.Pairs.{positions_of, values_of};
 ghost use Rattle.ordered_multimap.specs.WalkLends.{EndsStepped, EndsWalk, lends_key_values, lends_values_to_walk};
 
 use super::KeyValuesMut;
@@ -73,8 +72,8 @@ impl<K: Eq + Hash, V, S: BuildHasher, A: Allocator> ListOrderedMultimap<K, V, S,
     /// The walk over the keys from one place to another.
     fn key_values_between(&self, ends: ChainEnds) -> KeyValues<'_, K, V, A>
         requires { AreLeft self.now.slots.keys.order ends }
-        ensures { result ≡ items_left self.now.slots.keys.order
-            (key_values_at self.now.slots.keys self.now.slots.values) ends }
+        ensures { result ≡ each_with_values K.eq self.now.lists.pairs
+            (items_left self.now.slots.keys.order (item_at self.now.slots.keys) ends) }
     {
         KeyValues::new_between(&self.keys, &self.values, Some(ends))
     }
@@ -89,7 +88,8 @@ impl<'map, K: Eq + Hash, V, S: BuildHasher, A: Allocator> KeyValuesMut<'map, K, 
         ensures key { option_map (λ r. r.0.now) result ≡ end_item Front (keys_left self.old) }
         ensures values { IfSome result (λ r. entry_values_mut_rest r.1
             ≡ values_of K.eq self.old.map.now.lists.pairs r.0.now) }
-        ensures ready { IfSome result (λ r. EntryValuesMutCanStep r.1) }
+        ensures positions { IfSome result (λ r. entry_values_mut_positions r.1
+            ≡ positions_of K.eq self.old.map.now.lists.pairs r.0.now) }
         ensures ends { IfSome result (EndsStepped K.row V.row S.row A.row S.Hasher.row
             A.Allocator Front self.old) }
     {
@@ -104,7 +104,8 @@ impl<'map, K: Eq + Hash, V, S: BuildHasher, A: Allocator> KeyValuesMut<'map, K, 
         ensures key { option_map (λ r. r.0.now) result ≡ end_item Back (keys_left self.old) }
         ensures values { IfSome result (λ r. entry_values_mut_rest r.1
             ≡ values_of K.eq self.old.map.now.lists.pairs r.0.now) }
-        ensures ready { IfSome result (λ r. EntryValuesMutCanStep r.1) }
+        ensures positions { IfSome result (λ r. entry_values_mut_positions r.1
+            ≡ positions_of K.eq self.old.map.now.lists.pairs r.0.now) }
         ensures ends { IfSome result (EndsStepped K.row V.row S.row A.row S.Hasher.row
             A.Allocator Back self.old) }
     {
@@ -122,9 +123,8 @@ impl<'map, K: Eq + Hash, V, S: BuildHasher, A: Allocator> KeyValuesMut<'map, K, 
 
     /// A walk over the keys that are left, each with a walk over its values, for reading.
     pub fn iter(&self) -> KeyValues<'_, K, V, A>
-        ensures { result ≡ items_left self.now.map.now.slots.keys.order
-            (key_values_at self.now.map.now.slots.keys self.now.map.now.slots.values)
-            self.now.left }
+        ensures { result
+            ≡ each_with_values K.eq self.now.map.now.lists.pairs (keys_left self.now) }
     {
         self.map.key_values_between(self.left)
     }
@@ -154,9 +154,11 @@ impl<'map, K: Eq + Hash, V, S: BuildHasher, A: Allocator> KeyValuesMut<'map, K, 
         ensures* writes_back { sem 𝓛 (lends_values_to_walk K.row V.row S.row A.row S.Hasher.row
             A.Allocator self.entry (entry_values_mut_name result.1)) }
         ensures key { item_at self.old.map.now.slots.keys place ≡ Some result.0.now }
-        ensures ready { EntryValuesMutCanStep result.1 }
         ensures values { (k : K) → HasKey K.eq self.old.map.now.slots.keys k place
             → entry_values_mut_rest result.1 ≡ values_of K.eq self.old.map.now.lists.pairs k }
+        ensures positions { (k : K) → HasKey K.eq self.old.map.now.slots.keys k place
+            → entry_values_mut_positions result.1
+            ≡ positions_of K.eq self.old.map.now.lists.pairs k }
         ensures ends { EndsWalk K.row V.row S.row A.row S.Hasher.row A.Allocator self.old
             (entry_values_mut_values result.1) }
     {
@@ -170,7 +172,8 @@ impl<'map, K: Eq + Hash, V, S: BuildHasher, A: Allocator> KeyValuesMut<'map, K, 
         ensures key { option_map (λ r. r.0.now) result ≡ end_item end (keys_left self.old) }
         ensures values { IfSome result (λ r. entry_values_mut_rest r.1
             ≡ values_of K.eq self.old.map.now.lists.pairs r.0.now) }
-        ensures ready { IfSome result (λ r. EntryValuesMutCanStep r.1) }
+        ensures positions { IfSome result (λ r. entry_values_mut_positions r.1
+            ≡ positions_of K.eq self.old.map.now.lists.pairs r.0.now) }
         ensures ends { IfSome result (EndsStepped K.row V.row S.row A.row S.Hasher.row
             A.Allocator end self.old) }
     {

@@ -34,13 +34,13 @@ use Rattle.std.proofs.raw_atomic.Walks.{proved, leaves}
 use Rattle.multimap_slots.specs.Ended.{ends_with}
 use Rattle.multimap_slots.specs.declared.cells.Cells.{Cells}
 use Rattle.multimap_walks.specs.Walk.{end_item}
-use Rattle.multimap_walks.specs.WritingWalk.{values_mut_name, values_mut_positions, values_mut_rest, values_mut_values, LendsFirstValue, ValuesMutCanStep}
+use Rattle.multimap_walks.specs.WritingWalk.{values_mut_name, values_mut_positions, values_mut_rest, values_mut_values, LendsFirstValue}
 use Rattle.multimap_walks.specs.declared.End.TheVariants.{Front}
 use Rattle.multimap_walks.specs.contracts.writing.values.ValuesMut as W-type
 use Rattle.multimap_walks.proofs.writing.values.ValuesMut.TheLaws as W-laws
 use Rattle.ordered_multimap.specs.Exact.{ends_exactly, WalksAreExact}
 use Rattle.ordered_multimap.specs.Pairs.{all_positions, all_values}
-use Rattle.ordered_multimap.specs.ValuesLent.{EndsMap, KeepsShape, with_values_of}
+use Rattle.ordered_multimap.specs.ValuesLent.{EndsMap, with_values_of}
 use Rattle.ordered_multimap.proofs.Pairs.{both, both_typed, pair_out}
 use Rattle.ordered_multimap.specs.contracts.list_ordered_multimap.ListOrderedMultimap as Map
 use Rattle.ordered_multimap_callers.specs.Ends.{ends_first_written}
@@ -91,8 +91,8 @@ first_by_walk_spec 𝓤 𝓛 𝓜 𝓡 wired K V S A B LK LV LS LA LB eqs dEq pe
     calls_at ! (framed 𝓤 H 𝓜 𝓣) G₁ (met₁ 𝓤 𝓛 𝓜 𝓡 (code.calls-ordered_multimap::list_ordered_multimap::ListOrderedMultimap::values_mut 𝓡.env wired) K V S A B LK LV LS LA LB eqs dEq pe dPe ha dHa bh dBh hg dHg al dAl dropA dropB mEq mPe mHa mBh mHg mAl mDropA mDropB) z₁ (and_then ! (get ! refl) (no_more !)) (λ v.
     use1 𝓛 (later (some (λ (s : W.Denot). (toks ⊛ ‵ (W.own_val s (v ∷ []))) ⊛
     some (λ (ws : Lasts (g₁.ended K V S A B eqs dEq pe dPe ha dHa bh dBh hg dHg al dAl dropA dropB) κs (a.0, tt)). ‵ (lasts (g₁.ended K V S A B eqs dEq pe dPe ha dHa bh dBh hg dHg al dAl dropA dropB) κs (a.0, tt) ws) ⊛ ‵ (follows R R γ (values_mut_name s) (with_values_of m)) ⊛
-    raw (fact 𝓤 (ValuesMutCanStep s)) ⊛ raw (fact 𝓤 (Values s)) ⊛ raw (fact 𝓤 (Positions s)) ⊛ raw (fact 𝓤 (KeepsShape m)) ⊛ raw (fact 𝓤 (Ends s)))))) (id⊢ 𝓤 _) $
-    await ! tt $ pick ! (λ s. split ! $ split ! $ move ! (2 ∷ []) $ pick ! (λ ws. split ! $ drop ! $ split ! $ move ! (1 ∷ []) $ split ! $ heard ! (ValuesMutCanStep s) (λ ready. split ! $ heard ! (Values s) (λ values. split ! $ heard ! (Positions s) (λ positions. split ! $ drop ! $ heard ! (Ends s) (λ ended.
+    raw (fact 𝓤 (Values s)) ⊛ raw (fact 𝓤 (Positions s)) ⊛ raw (fact 𝓤 (Ends s)))))) (id⊢ 𝓤 _) $
+    await ! tt $ pick ! (λ s. split ! $ split ! $ move ! (2 ∷ []) $ pick ! (λ ws. split ! $ drop ! $ split ! $ move ! (1 ∷ []) $ split ! $ heard ! (Values s) (λ values. split ! $ heard ! (Positions s) (λ positions. heard ! (Ends s) (λ ended.
     -- [what the map follows; the tokens; the walk]
     move ! (2 ∷ []) $ peeks ! W (Is W) (shows 𝓛 W) s (v ∷ []) (λ iw. let gw = ((W-is.lawful 𝓛).typed s (v ∷ []) iw).0 in lands_as ! refl refl gw $
     -- the walk gives the first
@@ -106,8 +106,7 @@ first_by_walk_spec 𝓤 𝓛 𝓜 𝓡 wired K V S A B LK LV LS LA LB eqs dEq pe
     -- [the tokens 5, 4, 3, 2, 1, 0; the walk; what the map follows]
     nothing ! $ move ! (2 ∷ 0 ∷ []) $ join ! $ move ! (3 ∷ 0 ∷ []) $ join ! $ move ! (3 ∷ 0 ∷ []) $ join ! $ move ! (3 ∷ 0 ∷ []) $ join ! $ move ! (0 ∷ 3 ∷ []) $ join ! $
     -- [the tokens with the walk; the tokens 5, 3; what the map follows]
-    use0 𝓛 (raw (fact 𝓤 More)) (fact_i 𝓤 More (emp 𝓤) more) $ use0 𝓛 (raw (fact 𝓤 (ValuesMutCanStep s))) (fact_i 𝓤 (ValuesMutCanStep s) (emp 𝓤) ready) $ join ! $
-    use0 𝓛 (raw (fact 𝓤 inA)) (fact_i 𝓤 inA (emp 𝓤) ap') $ join ! $ use0 𝓛 (raw (fact 𝓤 inV)) (fact_i 𝓤 inV (emp 𝓤) w) $ join ! $ use0 𝓛 (raw (fact 𝓤 inK)) (fact_i 𝓤 inK (emp 𝓤) k) $ join ! $ move ! (1 ∷ 0 ∷ []) $ use2 𝓛 (raw (G₂.pre z₂)) (id⊢ 𝓤 _) $
+    use0 𝓛 (raw (fact 𝓤 More)) (fact_i 𝓤 More (emp 𝓤) more) $ use0 𝓛 (raw (fact 𝓤 inA)) (fact_i 𝓤 inA (emp 𝓤) ap') $ join ! $ use0 𝓛 (raw (fact 𝓤 inV)) (fact_i 𝓤 inV (emp 𝓤) w) $ join ! $ use0 𝓛 (raw (fact 𝓤 inK)) (fact_i 𝓤 inK (emp 𝓤) k) $ join ! $ move ! (1 ∷ 0 ∷ []) $ use2 𝓛 (raw (G₂.pre z₂)) (id⊢ 𝓤 _) $
     sets ! (of_opd ! (get ! refl)) refl gw $
     calls_at ! (framed 𝓤 H 𝓜 𝓣) G₂ (met₂ 𝓤 𝓛 𝓜 𝓡 (code.calls-ordered_multimap_callers::stopped::first_of 𝓡.env wired) K V A LK LV LA al dAl dropA mAl mDropA) z₂ (and_then ! (get ! refl) (no_more !)) (λ v₂.
     let Lends : Tw.Denot → Type 0 = λ q. LendsFirstValue s (Some q.1) q.0 in
@@ -156,7 +155,7 @@ first_by_walk_spec 𝓤 𝓛 𝓜 𝓡 wired K V S A B LK LV LS LA LB eqs dEq pe
     move ! (6 ∷ []) $ rewrite ! 0 (λ (δ : GName). ‵ (follows R R γ δ (with_values_of m))) (sym lends.taken.name) refl $
     use2 𝓛 (‵ (fwand (ends_with Vr c₁) (ends_exactly Kr Vr Sr m γ c₁))) (apply∗ 𝓤 (sem 𝓛 (follows R R γ c₁.whole (with_values_of m))) (sem 𝓛 (fwand (ends_with Vr c₁) (ends_exactly Kr Vr Sr m γ c₁)))) $
     move ! (1 ∷ 0 ∷ []) $ use2 𝓛 (‵ (ends_exactly Kr Vr Sr m γ c₁)) (apply∗ 𝓤 (sem 𝓛 (ends_with Vr c₁)) (sem 𝓛 (ends_exactly Kr Vr Sr m γ c₁))) $
-    use1 𝓛 (‵ (ends_first_written Kr Vr Sr a.0 q.1)) (ends_first 𝓛 Kr Vr Sr Ar a.0 s q.0 q.1 ended ready values positions lends) $
+    use1 𝓛 (‵ (ends_first_written Kr Vr Sr a.0 q.1)) (ends_first 𝓛 Kr Vr Sr Ar a.0 s q.0 q.1 ended values positions lends) $
     -- [what the map ends as; the tokens of the walk; the tokens 5, 3; the reference]
     let Was : Type 0 = option_map (λ x. x.1) (end_item Front m.lists.pairs) ≡ Some q.1.now in
     let was : Was = front_value m.lists.pairs q.1.now (values_mut_rest q.0) (sym values ∙ lends.steps) in
@@ -166,4 +165,4 @@ first_by_walk_spec 𝓤 𝓛 𝓜 𝓡 wired K V S A B LK LV LS LA LB eqs dEq pe
     nothing ! $ move ! (6 ∷ 0 ∷ []) $ join ! $ move ! (1 ∷ 0 ∷ []) $ join ! $ move ! (5 ∷ 0 ∷ []) $ join ! $ move ! (1 ∷ 0 ∷ []) $ join ! $ move ! (1 ∷ 0 ∷ []) $ join ! $ move ! (1 ∷ 0 ∷ []) $ join ! $
     -- [the tokens; what is said; the reference]
     nothing ! $ nothing ! $ fjoin ! $
-    returns ! (look_at ! 0 refl) $ free_all ! refl $ keep ! (1 ∷ 0 ∷ 3 ∷ 2 ∷ []) $ by ! (leaves 𝓛 En hs c y (vptr q.1.ref_ptr.0 q.1.ref_ptr.1) q.1 (tt, tt) (tt, tt))))))))))))))))))))))))))))))))
+    returns ! (look_at ! 0 refl) $ free_all ! refl $ keep ! (1 ∷ 0 ∷ 3 ∷ 2 ∷ []) $ by ! (leaves 𝓛 En hs c y (vptr q.1.ref_ptr.0 q.1.ref_ptr.1) q.1 (tt, tt) (tt, tt)))))))))))))))))))))))))))))))

@@ -15,6 +15,7 @@ returns g c =
           named = l.made.named;
           left = λ p i. record {
             listed = rw l.order_is i;
+            filled = rw l.made.items_are (sound.filled p i);
             untaken = ap (λ ls. get_or ls p false) l.made.left ∙ all_left c.args.self.now.items p (sound.filled p i);
           };
         };

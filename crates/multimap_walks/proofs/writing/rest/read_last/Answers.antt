@@ -4,12 +4,9 @@ use Rattle.multimap_walks.specs.Along.{places_left}
 use Rattle.multimap_walks.proofs.WritingLemmas.{last_is_left, passed_before}
 use Rattle.multimap_walks.proofs.writing.rest.read_last.Goals as goal
 
-pub read-requires-clause-left : goal.read-requires-clause-left
-read-requires-clause-left g c = let left = c.args.left.now in last_is_left c.args.cells.now left (left.length - 1) (omega arith) c.requires
-
-pub read-requires-clause-filled : goal.read-requires-clause-filled
-read-requires-clause-filled g c =
-    let left = c.args.left.now in c.requires.sound.filled left.last (last_is_left c.args.cells.now left (left.length - 1) (omega arith) c.requires).listed
+pub read-requires : goal.read-requires
+read-requires g c =
+    record { left = let left = c.args.left.now in last_is_left c.args.cells.now left (left.length - 1) (omega arith) c.requires }
 
 pub link-requires : goal.link-requires
 link-requires g c = let left = c.args.left.now in record { left = last_is_left c.args.cells.now left (left.length - 1) (omega arith) c.requires }

@@ -44,11 +44,11 @@ pub returns-clause-rooms : goal.returns-clause-rooms
 returns-clause-rooms g c =
     subst (λ m. KeepsRooms m (map_of c.append_first.new.keys c.append_first.new.table.capacity c.append_first.new.values c.self.inside.state c.self.inside.left))
     c.self.view_is
-    (keeps_rooms _ _ _ _ _ _ _ _ _ _ _ _ _ c.append_first.ensures.keys.no_less c.append_first.ensures.rows.no_less c.append_first.ensures.values.no_less)
+    (keeps_rooms _ _ _ _ _ _ _ _ _ _ _ _ _ c.append_first.ensures.grows.more_keys c.append_first.ensures.grows.more_rows c.append_first.ensures.values.no_less)
 
 pub returns-clause-had_room : goal.returns-clause-had_room
 returns-clause-had_room g c =
     subst (λ m. RaisesNoRoom g.K.PartialEq.eq c.args.key m (map_of c.append_first.new.keys c.append_first.new.table.capacity c.append_first.new.values c.self.inside.state c.self.inside.left))
     c.self.view_is
     (raises_none_absent g.met.K.Eq.laws c.self.inside.keys c.self.inside.table.rows c.self.inside.values c.self.invariant.agrees c.self.inside.table.capacity c.self.inside.state c.self.inside.left c.args.key
-    c.append_first.new.keys c.append_first.new.table.capacity c.append_first.new.values c.append_first.ensures.values (ap (λ m. is_listed g.K.PartialEq.eq m.lists.keys c.args.key) c.self.view_is ∙ c.requires.absent) c.append_first.ensures.keys c.append_first.ensures.rows)
+    c.append_first.new.keys c.append_first.new.table.capacity c.append_first.new.values c.append_first.ensures.values (ap (λ m. is_listed g.K.PartialEq.eq m.lists.keys c.args.key) c.self.view_is ∙ c.requires.absent) c.append_first.ensures.grows)

@@ -1,7 +1,7 @@
 use Rattle.std.proofs.Common.{refl, sym, ◌∙◌}
 use Rattle.multimap_slots.specs.Ownership.{final}
 use Rattle.ordered_multimap.proofs.LackLemmas.{lacks_position}
-use Rattle.ordered_multimap.proofs.LentLemmas.{ends_walk, keys-revalued}
+use Rattle.ordered_multimap.proofs.LentLemmas.{ends_walk}
 use Rattle.ordered_multimap.proofs.list_ordered_multimap.ListOrderedMultimap.get_all_mut.Goals as goal
 
 pub returns-in-None : goal.returns-in-None
@@ -10,10 +10,8 @@ returns-in-None g c =
       (sym c.new.ensures.name, λ w. refl),
       record {
         writes_back = tt;
-        ready = c.new.ensures.ready;
         values = c.new.ensures.values ∙ sym lacks.no_value;
         positions = c.new.ensures.positions ∙ sym (lacks_position c.args.key.now lacks);
-        keeps = λ n. keys-revalued c.args.self.now.lists.pairs _;
         ends = ends_walk c.args.self.now (final g.row.V) c.new.ensures.lent c.lend-cells.ensures.ends;
       },
     )

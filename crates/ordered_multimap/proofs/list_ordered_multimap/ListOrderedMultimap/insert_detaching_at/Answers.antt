@@ -45,7 +45,7 @@ returns-in_err-left-clause-had_room g c =
     let e = c.insert_behind_all.ensures in
     subst (λ m. (k : g.row.K.Denot) → HasKey g.K.PartialEq.eq m.slots.keys k c.args.place → RaisesNoRoom g.K.PartialEq.eq k m (map_of c.insert_behind_all.new.keys c.self.inside.table.capacity c.insert_behind_all.new.values c.self.inside.state c.self.inside.left)) c.self.view_is
     (λ k has. raises_none_there g.met.K.Eq.laws c.self.inside.keys c.self.inside.table.rows c.self.inside.values c.self.invariant.agrees c.self.inside.table.capacity c.self.inside.state c.self.inside.left k
-    c.insert_behind_all.new.keys c.self.inside.table.capacity c.insert_behind_all.new.values c.self.inside.left e.had_room e.keys_capacity refl)
+    c.insert_behind_all.new.keys c.self.inside.table.capacity c.insert_behind_all.new.values c.self.inside.left e.had_room e.doubles e.keys_capacity refl)
 
 -- stored
 
@@ -87,4 +87,4 @@ returns-clause-had_room g c =
     let n = c.insert_behind_all.new in
     subst (λ m. (k : g.row.K.Denot) → HasKey g.K.PartialEq.eq m.slots.keys k c.args.place → RaisesNoRoom g.K.PartialEq.eq k m (map_of n.keys c.self.inside.table.capacity n.values c.self.inside.state c.in_ok-left.left)) c.self.view_is
     (λ k has. raises_none_there g.met.K.Eq.laws c.self.inside.keys c.self.inside.table.rows c.self.inside.values c.self.invariant.agrees c.self.inside.table.capacity c.self.inside.state c.self.inside.left k
-    n.keys c.self.inside.table.capacity n.values c.in_ok-left.left e.had_room e.keys_capacity refl)
+    n.keys c.self.inside.table.capacity n.values c.in_ok-left.left e.had_room e.doubles e.keys_capacity refl)

@@ -3,7 +3,7 @@ use Rattle.multimap_slots.specs.Slots.{item_at}
 use Rattle.multimap_slots.specs.Ownership.{final}
 use Rattle.ordered_multimap.specs.Agrees.{HasKey}
 use Rattle.ordered_multimap.specs.Pairs.{positions_of, values_of}
-use Rattle.ordered_multimap.proofs.LentLemmas.{ends_walk, keys-revalued}
+use Rattle.ordered_multimap.proofs.LentLemmas.{ends_walk}
 use Rattle.ordered_multimap.proofs.LookupLemmas.{values_of-chain, positions_of-chain}
 use Rattle.ordered_multimap.proofs.list_ordered_multimap.ListOrderedMultimap.key_values_mut_at.Goals as goal
 
@@ -16,10 +16,8 @@ returns g c =
       record {
         writes_back = tt;
         key = subst (λ keys. item_at keys place ≡ Some c.slot_at.result.0.now) lent.keys_are c.slot_at.ensures.item_is;
-        ready = c.new.ensures.ready;
         values = λ k has. c.new.ensures.values ∙ sym (values_of-chain g.met.K.Eq.laws lent.agrees k place (at k has)) ∙ ap (λ h. values_of eq h.pairs k) lent.shown;
         positions = λ k has. c.new.ensures.positions ∙ sym (positions_of-chain g.met.K.Eq.laws lent.agrees k place (at k has)) ∙ ap (λ h. positions_of eq h.pairs k) lent.shown;
-        keeps = λ n. keys-revalued c.args.self.now.lists.pairs _;
         ends = ends_walk c.args.self.now (final g.row.V) c.new.ensures.lent c.lend-cells.ensures.ends;
       },
     )

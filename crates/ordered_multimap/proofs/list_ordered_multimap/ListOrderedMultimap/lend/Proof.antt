@@ -69,10 +69,10 @@ use Rattle.std.specs.Prelude.{Bool, Option, Some}
 use Rattle.ordered_multimap.specs.Lists.{lists}
 use Rattle.ordered_multimap.specs.Multimap.{Multimap}
 use Rattle.ordered_multimap.specs.Agrees.{Agrees, hash_of}
-use Rattle.ordered_multimap.specs.ValuesLent.{with_values_of, with_values, with_items, around_values, EndsTapeOfValues}
+use Rattle.ordered_multimap.specs.ValuesLent.{with_values_of, with_values, with_items, EndsTapeOfValues}
 use Rattle.ordered_multimap.specs.contracts.list_ordered_multimap.ListOrderedMultimap as M-type
 use Rattle.ordered_multimap.specs.contracts.list_ordered_multimap.ListOrderedMultimap.TheInside as I-type
-use Rattle.ordered_multimap.proofs.LentLemmas.{map-ended, revalued_refilled, Agrees-refilled, AreLent-made}
+use Rattle.ordered_multimap.proofs.LentLemmas.{map-ended, revalued_refilled, Agrees-refilled, AreLent-made, around_values}
 use Rattle.ordered_multimap.specs.contracts.list_ordered_multimap.lend.cells_of as g
 use Rattle.ordered_multimap.proofs.list_ordered_multimap.lend.cells_of.Met.{met}
 use Rattle.ordered_multimap.specs.contracts.list_ordered_multimap.ListOrderedMultimap.lend as F

@@ -1,6 +1,6 @@
-use Rattle.std.proofs.Common.{◌≤◌, ◌+◌, IsOk, OnOk, length, subst}
+use Rattle.std.proofs.Common.{◌≤◌, ◌+◌, IsOk, OnOk, arith, length, subst}
 use Rattle.std.proofs.lemmas.Result.{on_ok_weaker}
-use Rattle.ordered_multimap.specs.Rooms.{SameRooms}
+use Rattle.ordered_multimap.specs.Rooms.{DoublesRooms, SameRooms}
 use Rattle.ordered_multimap.proofs.ReserveLemmas.{fits_keys, keys_fit, same_key_rooms}
 use Rattle.ordered_multimap.proofs.RoomLemmas.{map_of}
 use Rattle.ordered_multimap.proofs.list_ordered_multimap.ListOrderedMultimap.reserve_keys.Goals as goal
@@ -18,4 +18,9 @@ returns-clause-succeeds g c =
 pub returns-clause-had_room : goal.returns-clause-had_room
 returns-clause-had_room g c =
     subst (λ m. length m.lists.keys + c.args.additional ≤ m.key_room → SameRooms m (map_of c.make_key_room.new.keys c.make_key_room.new.table.capacity c.self.inside.values c.self.inside.state c.self.inside.left)) c.self.view_is
-    (same_key_rooms c.self.inside.keys c.self.inside.values c.self.invariant.agrees c.self.inside.table.capacity c.self.inside.state c.self.inside.left c.args.additional c.make_key_room.ensures.keys c.make_key_room.ensures.rows)
+    (same_key_rooms c.self.inside.keys c.self.inside.values c.self.invariant.agrees c.self.inside.table.capacity c.self.inside.state c.self.inside.left c.args.additional c.make_key_room.ensures.grows)
+
+pub returns-clause-doubles : goal.returns-clause-doubles
+returns-clause-doubles g c =
+    subst (λ m. DoublesRooms m (map_of c.make_key_room.new.keys c.make_key_room.new.table.capacity c.self.inside.values c.self.inside.state c.self.inside.left)) c.self.view_is
+    (record { keys = c.make_key_room.ensures.grows.doubles; values = λ more. absurd (omega (arith, more)) })

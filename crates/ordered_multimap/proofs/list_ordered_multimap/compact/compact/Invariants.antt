@@ -1,5 +1,6 @@
 use Rattle.std.proofs.Common.{◌≡◌, ◌≤◌, ◌+◌, length}
-use Rattle.ordered_multimap.specs.Renames.{AreRenamed, AreSettled}
+use Rattle.ordered_multimap.specs.Renames.{AreRenamed}
+use Rattle.ordered_multimap.proofs.CompactLemmas.{AreSettled}
 use Rattle.ordered_multimap.proofs.list_ordered_multimap.compact.compact.Given as goal
 
 abbrev pub invariant-loop-to : goal.invariant-loop-to

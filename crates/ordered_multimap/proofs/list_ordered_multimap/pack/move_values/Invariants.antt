@@ -1,6 +1,7 @@
 use Rattle.std.proofs.Common.{◌≡◌}
 use Rattle.multimap_slots.specs.Tapes.{KeepsCounts}
-use Rattle.ordered_multimap.specs.KeyRenames.{AreComing, name_in}
+use Rattle.ordered_multimap.specs.KeyRenames.{name_in}
+use Rattle.ordered_multimap.proofs.PackLemmas.{AreComing}
 use Rattle.ordered_multimap.proofs.list_ordered_multimap.pack.move_values.Given as goal
 
 abbrev pub invariant-loop-place : goal.invariant-loop-place

@@ -1,5 +1,5 @@
 use Rattle.std.proofs.Common.{◌<◌, refl, sym, ◌∙◌, subst, arith}
-use Rattle.ordered_multimap.specs.RetainSteps.{places_from}
+use Rattle.ordered_multimap.proofs.PlaceLemmas.{places_from}
 use Rattle.ordered_multimap.proofs.RetainLemmas.{retaining-at, retaining-start, retaining-end, retaining-step, retaining-counts, retaining-smaller, listed_place, may_ask}
 use Rattle.ordered_multimap.proofs.list_ordered_multimap.retain.retain_pairs.Goals as goal
 

@@ -1,6 +1,7 @@
 use Rattle.std.proofs.Common.{◌≡◌, ◌+◌, ◌≤◌, length}
 use Rattle.std.specs.Map.Calls.{CalledAtPair, TakesPair}
-use Rattle.ordered_multimap.specs.RetainSteps.{IsRetaining, places_from}
+use Rattle.ordered_multimap.proofs.PlaceLemmas.{places_from}
+use Rattle.ordered_multimap.proofs.RetainLemmas.{IsRetaining}
 use Rattle.ordered_multimap.proofs.list_ordered_multimap.retain.retain_pairs.Given as goal
 
 abbrev pub invariant-loop-following : goal.invariant-loop-following

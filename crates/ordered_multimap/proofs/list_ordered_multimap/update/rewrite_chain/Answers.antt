@@ -1,7 +1,7 @@
 use Rattle.std.proofs.Common.{◌<◌, refl, sym, ap, ◌∙◌, subst}
 use Rattle.multimap_walks.specs.Chained.{chain_of}
-use Rattle.ordered_multimap.specs.RetainSteps.{places_from}
 use Rattle.ordered_multimap.proofs.RewriteLemmas.{may_rewrite, rewriting-at, rewriting-end, rewriting-listed, rewriting-smaller, rewriting-start, rewriting-step}
+use Rattle.ordered_multimap.proofs.PlaceLemmas.{places_from}
 use Rattle.ordered_multimap.proofs.list_ordered_multimap.update.rewrite_chain.Goals as goal
 
 pub loop-following-init : goal.loop-following-init

@@ -1,6 +1,7 @@
 use Rattle.std.proofs.Common.{◌<◌, true, refl, sym, ap, ◌∙◌, subst}
-use Rattle.ordered_multimap.specs.RetainSteps.{RetainsAt, places_from}
+use Rattle.ordered_multimap.specs.RetainSteps.{RetainsAt}
 use Rattle.ordered_multimap.specs.Updates.{Updates}
+use Rattle.ordered_multimap.proofs.PlaceLemmas.{places_from}
 use Rattle.ordered_multimap.proofs.RetainLemmas.{retaining-at, retaining-start, retaining-end, retaining-step, retaining-smaller, listed_place, may_ask}
 use Rattle.ordered_multimap.proofs.list_ordered_multimap.update.update_pairs.Goals as goal
 

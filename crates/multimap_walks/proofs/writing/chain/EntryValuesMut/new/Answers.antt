@@ -1,20 +1,9 @@
-use Rattle.std.proofs.Common.{ap, false, sym}
+use Rattle.std.proofs.Common.{ap}
 use Rattle.multimap_slots.specs.SlotCells.{lent_slots}
 use Rattle.multimap_walks.specs.Chained.{positions_at, values_at}
-use Rattle.multimap_walks.proofs.ChainLemmas.{along_whole, length-left}
+use Rattle.multimap_walks.proofs.ChainLemmas.{along_whole}
 use Rattle.multimap_walks.proofs.WritingLemmas.{chain_left}
 use Rattle.multimap_walks.proofs.writing.chain.EntryValuesMut.new.Goals as goal
-
-pub returns-clause-ready : goal.returns-clause-ready
-returns-clause-ready g c =
-    let link = c.in-Some.link in
-    let has = rw c.in-Some.is at c.requires.listed in
-    let left = chain_left c.args.keys.now c.args.values c.in-Some.field-0-0 link c.requires.sound c.requires.chained has c.requires.left in
-    record {
-      chain = left.chain;
-      untaken = left.untaken;
-      count = sym (length-left (lent_slots c.args.values) false link.head link.tail link.length left.chain);
-    }
 
 pub returns-clause-values : goal.returns-clause-values
 returns-clause-values g c =

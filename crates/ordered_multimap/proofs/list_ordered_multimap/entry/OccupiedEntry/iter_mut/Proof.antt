@@ -58,14 +58,14 @@ use Rattle.multimap_slots.proofs.CellsLemmas.{LendsSlots-renamed}
 use Rattle.multimap_slots.proofs.Late.{closes_named}
 use Rattle.multimap_walks.specs.declared.links.ValueLink.{ValueLink}
 use Rattle.multimap_walks.specs.RestWalk.{CanReadChain}
-use Rattle.multimap_walks.specs.WritingWalk.{entry_values_mut_values, entry_values_mut_name, entry_values_mut_rest, entry_values_mut_positions, EntryValuesMutCanStep}
+use Rattle.multimap_walks.specs.WritingWalk.{entry_values_mut_values, entry_values_mut_name, entry_values_mut_rest, entry_values_mut_positions}
 use Rattle.multimap_walks.specs.contracts.writing.chain.EntryValuesMut as W-type
 use Rattle.multimap_walks.proofs.writing.chain.EntryValuesMut.TheLaws as W-laws
 use Rattle.ordered_multimap.specs.Agrees.{HasKey}
 use Rattle.ordered_multimap.specs.Entries.{with_entry_items, with_map_values}
 use Rattle.ordered_multimap.specs.EntryLends.{EndsEntry}
 use Rattle.ordered_multimap.specs.Pairs.{positions_of, values_of}
-use Rattle.ordered_multimap.specs.ValuesLent.{around_values, with_items, with_values_of, EndsMap, KeepsShape}
+use Rattle.ordered_multimap.specs.ValuesLent.{with_items, with_values_of, EndsMap}
 use Rattle.ordered_multimap.specs.contracts.list_ordered_multimap.ListOrderedMultimap as M-type
 use Rattle.ordered_multimap.specs.contracts.list_ordered_multimap.entry.OccupiedEntry as E-type
 use Rattle.ordered_multimap.proofs.WalkRenamed.{entry_values_renamed}
@@ -74,6 +74,7 @@ use Rattle.ordered_multimap.specs.contracts.list_ordered_multimap.ListOrderedMul
 use Rattle.ordered_multimap.proofs.list_ordered_multimap.ListOrderedMultimap.values_mut_at.Met.{met}
 use Rattle.ordered_multimap.specs.contracts.list_ordered_multimap.entry.OccupiedEntry.iter_mut as F
 use Rattle.ordered_multimap.specs.contracts.list_ordered_multimap.entry.OccupiedEntry.iter_mut.Key.{name as #self}
+use Rattle.ordered_multimap.proofs.LentLemmas.{around_values}
 use Rattle.ordered_multimap.proofs.list_ordered_multimap.entry.OccupiedEntry.iter_mut.Statement.{statement}
 use Rattle.ordered_multimap.proofs.list_ordered_multimap.entry.OccupiedEntry.iter_mut.Code as code
 
@@ -154,15 +155,14 @@ iter_mut_spec 𝓤 𝓛 𝓜 𝓡 wired X₀ X₁ X₂ X₃ X₄ L₀ L₁ L₂ 
     move ! (1 ∷ 0 ∷ []) $ join ! $ use1 𝓛 (raw (G.pre zc)) (id⊢ 𝓤 _) $
     let a' = named_lft 6 0 tt κt in let CR : RattleType = W-type.the_row a' K V B ga in
     let CR-is : Laws CR = W-laws.the_row_laws a' K V B ga (param_laws 0 X₀ L₀) (param_laws 1 X₁ L₁) (param_laws 3 X₃ L₃) in
-    let Ready : CR.Denot → Type 0 = λ w. EntryValuesMutCanStep w in
     let Ends : CR.Denot → Type 0 = λ w. EndsEntry K V S B J ga s (entry_values_mut_values w) in
     let Values : CR.Denot → Type 0 = λ w. (key : K.Denot) → HasKey gp.eq m.now.slots.keys key s.place → entry_values_mut_rest w ≡ values_of gp.eq m.now.lists.pairs key in
     let Positions : CR.Denot → Type 0 = λ w. (key : K.Denot) → HasKey gp.eq m.now.slots.keys key s.place → entry_values_mut_positions w ≡ positions_of gp.eq m.now.lists.pairs key in
     let Ended : CR.Denot → Type 0 = λ w. EndsMap K V S m.now (entry_values_mut_values w) in
     calls_at ! (framed 𝓤 H 𝓜 𝓣) G (met 𝓤 𝓛 𝓜 𝓡 (code.calls-ordered_multimap::list_ordered_multimap::ListOrderedMultimap::values_mut_at 𝓡.env wired) X₀ X₁ X₂ X₃ X₄ L₀ L₁ L₂ L₃ L₄ ge de gp dp gk dk gb db gj dj ga da dA dJ m₁ m₂ m₃ m₄ m₅ m₆ m₇ m₈) zc (and_then ! (get ! refl) (and_then ! (get ! refl) (no_more !))) (λ u.
     use1 𝓛 (later (some (λ (w : CR.Denot). ((‵ (flft κ r) ⊛ ‵ (flft κs.1.1.0 qs.1.1.0) ⊛ ‵ (flft κs.1.1.1.0 qs.1.1.1.0) ⊛ ‵ (flft κs.1.1.1.1.0 qs.1.1.1.1.0) ⊛ ‵ (flft κs.1.1.1.1.1.0 qs.1.1.1.1.1.0) ⊛ ‵ (flft κs.1.1.1.1.1.1.0 qs.1.1.1.1.1.1.0) ⊛ ‵ ftrue) ⊛ ‵ (CR.own_val w (u ∷ []))) ⊛
-    some (λ (ws : Unit {0} × (Unit {0} × Unit {0})). ‵ (lasts (g.ended X₀ X₁ X₂ X₃ X₄ ge de gp dp gk dk gb db gj dj ga da dA dJ) κt (rv, (s.place, tt)) ws) ⊛ (‵ (follows R R ε₀ (entry_values_mut_name w) (with_values_of m.now)) ⊛ (raw (fact 𝓤 (Ready w)) ⊛ raw (fact 𝓤 (Values w)) ⊛ raw (fact 𝓤 (Positions w)) ⊛ raw (fact 𝓤 (KeepsShape m.now)) ⊛ raw (fact 𝓤 (Ended w)))))))) (id⊢ 𝓤 _) $
-    await ! tt $ pick ! (λ w. split ! $ move ! (1 ∷ []) $ pick ! (λ ws. split3 ! $ drop ! $ move ! (1 ∷ []) $ split3 ! $ heard ! (Ready w) (λ ready. heard ! (Values w) (λ values. split3 ! $ heard ! (Positions w) (λ positions. drop ! $ heard ! (Ended w) (λ ended.
+    some (λ (ws : Unit {0} × (Unit {0} × Unit {0})). ‵ (lasts (g.ended X₀ X₁ X₂ X₃ X₄ ge de gp dp gk dk gb db gj dj ga da dA dJ) κt (rv, (s.place, tt)) ws) ⊛ (‵ (follows R R ε₀ (entry_values_mut_name w) (with_values_of m.now)) ⊛ (raw (fact 𝓤 (Values w)) ⊛ raw (fact 𝓤 (Positions w)) ⊛ raw (fact 𝓤 (Ended w)))))))) (id⊢ 𝓤 _) $
+    await ! tt $ pick ! (λ w. split ! $ move ! (1 ∷ []) $ pick ! (λ ws. split3 ! $ drop ! $ move ! (1 ∷ []) $ split3 ! $ heard ! (Values w) (λ values. heard ! (Positions w) (λ positions. heard ! (Ended w) (λ ended.
     -- [what the map follows; the tokens and the walk; the token of 'map; the right to the reference; the right to nothing; the place; the way back; the open borrow; obs; auth]
     move ! (1 ∷ []) $ split ! $ split ! $ move ! (2 ∷ []) $ peeks ! CR (Is CR) (shows 𝓛 CR) w (u ∷ []) (λ is.
     let ok-u = ((CR-is.lawful 𝓛).typed w (u ∷ []) is).0 in
@@ -180,17 +180,14 @@ iter_mut_spec 𝓤 𝓛 𝓜 𝓡 wired X₀ X₁ X₂ X₃ X₄ L₀ L₁ L₂ 
     let rim : Option (List (Bool × Gv)) = Some ((false, (codeds (usize ∷ [])).code (s.place, tt)) ∷ (true, (coded× coded_ℕ coded_ℕ).code m.ref_ptr) ∷ (true, coded_ℕ.code δ) ∷ around_values K.coded V.coded S.coded m.now) in
     let lent : SlotCells V.Denot ValueLink B.Denot = record w.values { cells = record w.values.cells { whole = ε; around = rim } } in
     let again : CanReadChain w.values w.left → CanReadChain lent w.left
-    = λ left. record { chain = left.chain; untaken = record { distinct = left.untaken.distinct; each = λ p i. record { listed = (left.untaken.each p i).listed; untaken = (left.untaken.each p i).untaken } } } in
+    = λ left. record { chain = left.chain; untaken = record { distinct = left.untaken.distinct; each = λ p i. record { listed = (left.untaken.each p i).listed; filled = (left.untaken.each p i).filled; untaken = (left.untaken.each p i).untaken } } } in
     let e : CR.Denot = record w { values = lent; readable = ∥∥₁_map w.readable again } in
     move ! (4 ∷ 3 ∷ []) $ use2 𝓛 (‵ (CR.own_val e (u ∷ []))) (entry_values_renamed 𝓛 a' K V B ga (mem E) (mem R) (λ n. with_entry_items s n.slots.values.items) (λ ws. with_items m.now ws) ε rim w (u ∷ []) (∥∥₁_map w.readable again) (λ ws. sym (ended.ends ws)) (λ ws. refl)) $ move ! (0 ∷ 2 ∷ 3 ∷ 1 ∷ []) $
     returns ! (look_at ! 0 refl) $ free_all ! refl $
     -- [the walk; the token of 'a; what the entry follows; the other tokens]
     suffices ! _ (ends_at 𝓛 En hs c y u e (tt, tt) (tt, tt)) $
     nothing ! $ nothing ! $ fjoin ! $ join ! $ move ! (1 ∷ 3 ∷ []) $ join ! $ join ! $ frame ! $
-    let left = again (record { chain = ready.chain; untaken = ready.untaken }) in
-    let ready' : Ready e = record { chain = left.chain; untaken = left.untaken; count = ready.count } in
-    use0 𝓛 (raw (fact 𝓤 (Ends e))) (fact_i 𝓤 (Ends e) (emp 𝓤) (record { lent = LendsSlots-renamed ε rim ended.lent; pairs = ended.pairs; ends = λ ws. refl })) $ use0 𝓛 (raw (fact 𝓤 (Positions e))) (fact_i 𝓤 (Positions e) (emp 𝓤) positions) $ join ! $ use0 𝓛 (raw (fact 𝓤 (Values e))) (fact_i 𝓤 (Values e) (emp 𝓤) values) $ join ! $
-    use0 𝓛 (raw (fact 𝓤 (Ready e))) (fact_i 𝓤 (Ready e) (emp 𝓤) ready') $ join ! $ move ! (1 ∷ 0 ∷ []) $ done !
+    use0 𝓛 (raw (fact 𝓤 (Ends e))) (fact_i 𝓤 (Ends e) (emp 𝓤) (record { lent = LendsSlots-renamed ε rim ended.lent; pairs = ended.pairs; ends = λ ws. refl })) $ use0 𝓛 (raw (fact 𝓤 (Positions e))) (fact_i 𝓤 (Positions e) (emp 𝓤) positions) $ join ! $ use0 𝓛 (raw (fact 𝓤 (Values e))) (fact_i 𝓤 (Values e) (emp 𝓤) values) $ join ! $ move ! (1 ∷ 0 ∷ []) $ done !
     )))))))
     )))))))
-    )))))))
+    ))))))

@@ -60,7 +60,7 @@ use Rattle.multimap_slots.proofs.CellsLemmas.{LendsSlots-renamed}
 use Rattle.multimap_slots.proofs.Late.{closes_named}
 use Rattle.multimap_walks.specs.declared.links.ValueLink.{ValueLink}
 use Rattle.multimap_walks.specs.RestWalk.{CanReadChain}
-use Rattle.multimap_walks.specs.WritingWalk.{entry_values_mut_values, entry_values_mut_name, entry_values_mut_rest, entry_values_mut_positions, EntryValuesMutCanStep}
+use Rattle.multimap_walks.specs.WritingWalk.{entry_values_mut_values, entry_values_mut_name, entry_values_mut_rest, entry_values_mut_positions}
 use Rattle.multimap_walks.specs.contracts.links.ChainEnds as C-type
 use Rattle.multimap_walks.proofs.links.ChainEnds.TheLaws as C-laws
 use Rattle.multimap_walks.specs.contracts.writing.chain.EntryValuesMut as W-type
@@ -69,7 +69,7 @@ use Rattle.ordered_multimap.specs.Agrees.{HasKey}
 use Rattle.ordered_multimap.proofs.Pairs.{both, both_typed, pair_out, pair_in}
 use Rattle.ordered_multimap.specs.WalkLends.{EndsWalk, with_walk_items, with_walk_values}
 use Rattle.ordered_multimap.specs.Pairs.{positions_of, values_of}
-use Rattle.ordered_multimap.specs.ValuesLent.{around_values, with_items, with_values_of, EndsMap, KeepsShape}
+use Rattle.ordered_multimap.specs.ValuesLent.{with_items, with_values_of, EndsMap}
 use Rattle.ordered_multimap.specs.contracts.list_ordered_multimap.ListOrderedMultimap as M-type
 use Rattle.ordered_multimap.specs.contracts.list_ordered_multimap.key_values_mut.KeyValuesMut as E-type
 use Rattle.ordered_multimap.proofs.WalkRenamed.{entry_values_renamed}
@@ -77,6 +77,7 @@ use Rattle.ordered_multimap.specs.contracts.list_ordered_multimap.ListOrderedMul
 use Rattle.ordered_multimap.proofs.list_ordered_multimap.ListOrderedMultimap.key_values_mut_at.Met.{met}
 use Rattle.ordered_multimap.specs.contracts.list_ordered_multimap.key_values_mut.KeyValuesMut.lend_at as F
 use Rattle.ordered_multimap.specs.contracts.list_ordered_multimap.key_values_mut.KeyValuesMut.lend_at.Key.{name as #self}
+use Rattle.ordered_multimap.proofs.LentLemmas.{around_values}
 use Rattle.ordered_multimap.proofs.list_ordered_multimap.key_values_mut.KeyValuesMut.lend_at.Statement.{statement}
 use Rattle.ordered_multimap.proofs.list_ordered_multimap.key_values_mut.KeyValuesMut.lend_at.Code as code
 
@@ -156,15 +157,15 @@ lend_at_spec 𝓤 𝓛 𝓜 𝓡 wired X₀ X₁ X₂ X₃ X₄ L₀ L₁ L₂ L
     let a' = named_lft 6 0 tt κt in let CR : RattleType = W-type.the_row a' K V B ga in
     let CR-is : Laws CR = W-laws.the_row_laws a' K V B ga (param_laws 0 X₀ L₀) (param_laws 1 X₁ L₁) (param_laws 3 X₃ L₃) in
     let Sk : RattleType = ShrRef (named 0) κ K in let Q : RattleType = Tuple (Sk ∷ CR ∷ []) in
-    let Key : Q.Denot → Type 0 = λ q. item_at m.now.slots.keys place ≡ Some q.0.now in let Ready : Q.Denot → Type 0 = λ q. EntryValuesMutCanStep q.1 in
+    let Key : Q.Denot → Type 0 = λ q. item_at m.now.slots.keys place ≡ Some q.0.now in
     let Values : Q.Denot → Type 0 = λ q. (key : K.Denot) → HasKey gp.eq m.now.slots.keys key place → entry_values_mut_rest q.1 ≡ values_of gp.eq m.now.lists.pairs key in
     let Positions : Q.Denot → Type 0 = λ q. (key : K.Denot) → HasKey gp.eq m.now.slots.keys key place → entry_values_mut_positions q.1 ≡ positions_of gp.eq m.now.lists.pairs key in
     let Ends : Q.Denot → Type 0 = λ q. EndsWalk K V S B J ga s (entry_values_mut_values q.1) in
     let Ended : CR.Denot → Type 0 = λ w. EndsMap K V S m.now (entry_values_mut_values w) in
     calls_at ! (framed 𝓤 H 𝓜 𝓣) G (met 𝓤 𝓛 𝓜 𝓡 (code.calls-ordered_multimap::list_ordered_multimap::ListOrderedMultimap::key_values_mut_at 𝓡.env wired) X₀ X₁ X₂ X₃ X₄ L₀ L₁ L₂ L₃ L₄ ge de gp dp gk dk gb db gj dj ga da dA dJ m₁ m₂ m₃ m₄ m₅ m₆ m₇ m₈) zc (and_then ! (get ! refl) (and_then ! (get ! refl) (no_more !))) (λ u.
     use1 𝓛 (later (some (λ (w : Q.Denot). ((‵ (flft κ r) ⊛ ‵ (flft κs.1.1.0 qs.1.1.0) ⊛ ‵ (flft κs.1.1.1.0 qs.1.1.1.0) ⊛ ‵ (flft κs.1.1.1.1.0 qs.1.1.1.1.0) ⊛ ‵ (flft κs.1.1.1.1.1.0 qs.1.1.1.1.1.0) ⊛ ‵ (flft κs.1.1.1.1.1.1.0 qs.1.1.1.1.1.1.0) ⊛ ‵ ftrue) ⊛ ‵ (Q.own_val w (u ∷ []))) ⊛
-    some (λ (ws : Unit {0} × (Unit {0} × Unit {0})). ‵ (lasts (g.ended X₀ X₁ X₂ X₃ X₄ ge de gp dp gk dk gb db gj dj ga da dA dJ) κt (rv, (place, tt)) ws) ⊛ (‵ (follows R R ε₀ (entry_values_mut_name w.1) (with_values_of m.now)) ⊛ (raw (fact 𝓤 (Key w)) ⊛ raw (fact 𝓤 (Ready w)) ⊛ raw (fact 𝓤 (Values w)) ⊛ raw (fact 𝓤 (Positions w)) ⊛ raw (fact 𝓤 (KeepsShape m.now)) ⊛ raw (fact 𝓤 (Ended w.1)))))))) (id⊢ 𝓤 _) $
-    await ! tt $ pick ! (λ kv. let w = kv.1 in split ! $ move ! (1 ∷ []) $ pick ! (λ ws. split3 ! $ drop ! $ move ! (1 ∷ []) $ split3 ! $ heard ! (Key kv) (λ key. heard ! (Ready kv) (λ ready. split3 ! $ heard ! (Values kv) (λ values. drop ! $ split ! $ drop ! $ heard ! (Ended kv.1) (λ ended.
+    some (λ (ws : Unit {0} × (Unit {0} × Unit {0})). ‵ (lasts (g.ended X₀ X₁ X₂ X₃ X₄ ge de gp dp gk dk gb db gj dj ga da dA dJ) κt (rv, (place, tt)) ws) ⊛ (‵ (follows R R ε₀ (entry_values_mut_name w.1) (with_values_of m.now)) ⊛ (raw (fact 𝓤 (Key w)) ⊛ raw (fact 𝓤 (Values w)) ⊛ raw (fact 𝓤 (Positions w)) ⊛ raw (fact 𝓤 (Ended w.1)))))))) (id⊢ 𝓤 _) $
+    await ! tt $ pick ! (λ kv. let w = kv.1 in split ! $ move ! (1 ∷ []) $ pick ! (λ ws. split3 ! $ drop ! $ move ! (1 ∷ []) $ split3 ! $ heard ! (Key kv) (λ key. heard ! (Values kv) (λ values. split ! $ heard ! (Positions kv) (λ positions. heard ! (Ended kv.1) (λ ended.
     -- [what the map follows; the tokens and the key with its walk; the token of 'map; the right to the reference; the right to nothing; the ends; the way back; the open borrow; obs; auth]
     move ! (1 ∷ []) $ split ! $ split ! $ move ! (2 ∷ []) $ pair_out Sk CR ! refl (shr_Lawful 𝓛 (named 0) κ K) CR-is.one (CR-is.lawful 𝓛) kv.0 w (u ∷ []) (λ i j gi gj iq.
     let v : Val = both i j in lands_as ! (ap only iq) refl (both_typed (layout Sk) (layout CR) i j gi gj) $ move ! (1 ∷ 2 ∷ 3 ∷ 4 ∷ 5 ∷ 6 ∷ 7 ∷ 8 ∷ 9 ∷ 10 ∷ 11 ∷ 12 ∷ []) $
@@ -181,14 +182,13 @@ lend_at_spec 𝓤 𝓛 𝓜 𝓡 wired X₀ X₁ X₂ X₃ X₄ L₀ L₁ L₂ L
     let rim : Option (List (Bool × Gv)) = Some ((false, (codeds (CE ∷ [])).code (s.left, tt)) ∷ (true, (coded× coded_ℕ coded_ℕ).code m.ref_ptr) ∷ (true, coded_ℕ.code δ) ∷ around_values K.coded V.coded S.coded m.now) in
     let lent : SlotCells V.Denot ValueLink B.Denot = record w.values { cells = record w.values.cells { whole = ε; around = rim } } in
     let again : CanReadChain w.values w.left → CanReadChain lent w.left
-    = λ left. record { chain = left.chain; untaken = record { distinct = left.untaken.distinct; each = λ p i. record { listed = (left.untaken.each p i).listed; untaken = (left.untaken.each p i).untaken } } } in
+    = λ left. record { chain = left.chain; untaken = record { distinct = left.untaken.distinct; each = λ p i. record { listed = (left.untaken.each p i).listed; filled = (left.untaken.each p i).filled; untaken = (left.untaken.each p i).untaken } } } in
     let e : CR.Denot = record w { values = lent; readable = ∥∥₁_map w.readable again } in
     move ! (4 ∷ 3 ∷ []) $ use2 𝓛 (‵ (CR.own_val e (j ∷ []))) (entry_values_renamed 𝓛 a' K V B ga (mem E) (mem R) (λ n. with_walk_items s n.slots.values.items) (λ ws. with_items m.now ws) ε rim w (j ∷ []) (∥∥₁_map w.readable again) (λ ws. sym (ended.ends ws)) (λ ws. refl)) $ move ! (0 ∷ 2 ∷ 3 ∷ 1 ∷ []) $ move ! (4 ∷ 0 ∷ []) $ pair_in Sk CR ! kv.0 e i j $
     -- [the key with its walk; the token of 'a; what the walk follows; the other tokens]
     returns ! (look_at ! 0 refl) $ free_all ! refl $ move ! (1 ∷ 3 ∷ []) $ join ! $
-    let out : Q.Denot = (kv.0, e) in let left = again (record { chain = ready.chain; untaken = ready.untaken }) in
-    let ready' : Ready out = record { chain = left.chain; untaken = left.untaken; count = ready.count } in
-    use0 𝓛 (raw (fact 𝓤 (Ends out))) (fact_i 𝓤 (Ends out) (emp 𝓤) (record { lent = LendsSlots-renamed ε rim ended.lent; pairs = ended.pairs; ends = λ ws. refl })) $ use0 𝓛 (raw (fact 𝓤 (Values out))) (fact_i 𝓤 (Values out) (emp 𝓤) values) $ join ! $ use0 𝓛 (raw (fact 𝓤 (Ready out))) (fact_i 𝓤 (Ready out) (emp 𝓤) ready') $ join ! $
+    let out : Q.Denot = (kv.0, e) in
+    use0 𝓛 (raw (fact 𝓤 (Ends out))) (fact_i 𝓤 (Ends out) (emp 𝓤) (record { lent = LendsSlots-renamed ε rim ended.lent; pairs = ended.pairs; ends = λ ws. refl })) $ use0 𝓛 (raw (fact 𝓤 (Positions out))) (fact_i 𝓤 (Positions out) (emp 𝓤) positions) $ join ! $ use0 𝓛 (raw (fact 𝓤 (Values out))) (fact_i 𝓤 (Values out) (emp 𝓤) values) $ join ! $
     use0 𝓛 (raw (fact 𝓤 (Key out))) (fact_i 𝓤 (Key out) (emp 𝓤) key) $ join ! $ move ! (3 ∷ 0 ∷ []) $ join ! $ nothing ! $ nothing ! $ fjoin ! $ nothing ! $ fjoin ! $
     keep ! (2 ∷ 0 ∷ 3 ∷ 1 ∷ []) $ by ! (leaves 𝓛 En hs c y v out (tt, (tt, tt)) (tt, (tt, tt)))
     )))))))))))))))))))))

@@ -49,7 +49,7 @@ use Rattle.std.proofs.ResultValues.{and_tt}
 use Rattle.multimap_slots.specs.Lists.{IsIn}
 use Rattle.multimap_slots.specs.Slots.{item_at}
 use Rattle.multimap_walks.specs.Walk.{end_item, end_rest}
-use Rattle.multimap_walks.specs.WritingWalk.{entry_values_mut_values, entry_values_mut_name, entry_values_mut_rest, EntryValuesMutCanStep}
+use Rattle.multimap_walks.specs.WritingWalk.{entry_values_mut_values, entry_values_mut_name, entry_values_mut_positions, entry_values_mut_rest}
 use Rattle.multimap_walks.specs.declared.End.{End}
 use Rattle.multimap_walks.specs.contracts.End as EndType
 use Rattle.multimap_walks.proofs.End.TheLaws as End-laws
@@ -57,7 +57,7 @@ use Rattle.multimap_walks.specs.contracts.writing.chain.EntryValuesMut as W-type
 use Rattle.multimap_walks.proofs.writing.chain.EntryValuesMut.TheLaws as W-laws
 use Rattle.ordered_multimap.specs.Agrees.{HasKey}
 use Rattle.ordered_multimap.specs.KeysLeft.{keys_left}
-use Rattle.ordered_multimap.specs.Pairs.{values_of}
+use Rattle.ordered_multimap.specs.Pairs.{positions_of, values_of}
 use Rattle.ordered_multimap.specs.ValuesLent.{with_values_of}
 use Rattle.ordered_multimap.specs.WalkLends.{EndsStepped, EndsWalk, IsStepped, lends_key_values, with_walk_values}
 use Rattle.ordered_multimap.proofs.Options.{option_out}
@@ -101,7 +101,7 @@ step_mut_spec 𝓤 𝓛 𝓜 𝓡 wired K V S A B LK LV LS LA LB eqs dEq pe dPe 
     let Key : Out.Denot → Type 0 = λ out. option_map (λ x. x.0.now) out ≡ end_item end (keys_left w₀) in
     let Values : Out.Denot → Type 0 = λ out. IfSome out (λ x. entry_values_mut_rest x.1 ≡ values_of pe.eq m₀.lists.pairs x.0.now) in
     let Ends : Out.Denot → Type 0 = λ out. IfSome out (EndsStepped Kr Vr Sr Ar Br al end w₀) in
-    let Ready : Out.Denot → Type 0 = λ out. IfSome out (λ x. EntryValuesMutCanStep x.1) in
+    let Positions : Out.Denot → Type 0 = λ out. IfSome out (λ x. entry_values_mut_positions x.1 ≡ positions_of pe.eq m₀.lists.pairs x.0.now) in
     let Shows : Out.Denot → R.Denot → R.Denot → Type 0 = λ out v n. OnSome out (IsStepped end w₀ v.map.now n) in let Keeps : Out.Denot → R.Denot → Type 0 = λ out n. IfNone out (n ≡ w₀) in
     let end_good = ((loose_lawful EndType.the_type End-laws.the_loose tt 𝓛).typed end (at_end end) are.1.0).0 in
     let G₁ = triple_of 𝓛 (g₁.signature K V S A B eqs dEq pe dPe ha dHa bh dBh hg dHg al dAl dropA dropB) (g₁.spec K V S A B eqs dEq pe dPe ha dHa bh dBh hg dHg al dAl dropA dropB 𝓛 𝓜.mem 𝓡.returns) in
@@ -138,7 +138,7 @@ step_mut_spec 𝓤 𝓛 𝓜 𝓡 wired K V S A B LK LV LS LA LB eqs dEq pe dPe 
     use1 𝓛 (‵ (Rest out)) (so_none 𝓛 R R γ γ (Shows out) (Keeps out) (λ h. h) r.1.now (λ h. tt) still) $
     -- [the walk rests; its borrow; the tokens]
     let shown₀ : Key out = subst (λ o. option_and_then (item_at m₀.slots.keys) o ≡ end_item end (keys_left w₀)) no_place shown in
-    use0 𝓛 (raw (fact 𝓤 (Ends out))) (fact_i 𝓤 (Ends out) (emp 𝓤) tt) $ use0 𝓛 (raw (fact 𝓤 (Ready out))) (fact_i 𝓤 (Ready out) (emp 𝓤) tt) $ join ! $ use0 𝓛 (raw (fact 𝓤 (Values out))) (fact_i 𝓤 (Values out) (emp 𝓤) tt) $ join ! $ use0 𝓛 (raw (fact 𝓤 (Key out))) (fact_i 𝓤 (Key out) (emp 𝓤) shown₀) $ join ! $
+    use0 𝓛 (raw (fact 𝓤 (Ends out))) (fact_i 𝓤 (Ends out) (emp 𝓤) tt) $ use0 𝓛 (raw (fact 𝓤 (Positions out))) (fact_i 𝓤 (Positions out) (emp 𝓤) tt) $ join ! $ use0 𝓛 (raw (fact 𝓤 (Values out))) (fact_i 𝓤 (Values out) (emp 𝓤) tt) $ join ! $ use0 𝓛 (raw (fact 𝓤 (Key out))) (fact_i 𝓤 (Key out) (emp 𝓤) shown₀) $ join ! $
     move ! (1 ∷ 0 ∷ []) $ join ! $ use0 𝓛 (‵ (Out.own_val out (none ∷ []))) (none_of 𝓛 Tw) $ nothing ! $ nothing ! $ fjoin ! $ nothing ! $ fjoin ! $
     returns ! (look_at ! 0 refl) $ free_all ! refl $ keep ! (4 ∷ 0 ∷ 1 ∷ 2 ∷ []) $ by ! (leaves 𝓛 En hs c y none out (tt, (tt, tt)) (tt, (tt, tt))))
     (λ p i some_place gi some_val.
@@ -157,14 +157,15 @@ step_mut_spec 𝓤 𝓛 𝓜 𝓡 wired K V S A B LK LV LS LA LB eqs dEq pe dPe 
     use0 𝓛 (raw (fact 𝓤 Asked)) (fact_i 𝓤 Asked (emp 𝓤) listed₁) $ use0 𝓛 (raw (fact 𝓤 inB)) (fact_i 𝓤 inB (emp 𝓤) bo) $ join ! $ use0 𝓛 (raw (fact 𝓤 inA)) (fact_i 𝓤 inA (emp 𝓤) ap') $ join ! $ use0 𝓛 (raw (fact 𝓤 inS)) (fact_i 𝓤 inS (emp 𝓤) st) $ join ! $ use0 𝓛 (raw (fact 𝓤 inV)) (fact_i 𝓤 inV (emp 𝓤) w) $ join ! $ use0 𝓛 (raw (fact 𝓤 inK)) (fact_i 𝓤 inK (emp 𝓤) k) $ join ! $ move ! (1 ∷ 0 ∷ []) $ use2 𝓛 (raw (G₂.pre z₂)) (id⊢ 𝓤 _) $
     calls_at ! (framed 𝓤 H 𝓜 𝓣) G₂ (met₂ 𝓤 𝓛 𝓜 𝓡 (code.calls-ordered_multimap::list_ordered_multimap::key_values_mut::KeyValuesMut::lend_at 𝓡.env wired) K V S A B LK LV LS LA LB eqs dEq pe dPe ha dHa bh dBh hg dHg al dAl dropA dropB mEq mPe mHa mBh mHg mAl mDropA mDropB) z₂
     (and_then ! (get ! refl) (and_then ! (get ! refl) (no_more !))) (λ v₂.
-    let Stored : Tw.Denot → Type 0 = λ q. item_at m₁.slots.keys p ≡ Some q.0.now in let Steps : Tw.Denot → Type 0 = λ q. EntryValuesMutCanStep q.1 in
+    let Stored : Tw.Denot → Type 0 = λ q. item_at m₁.slots.keys p ≡ Some q.0.now in
     let Gives : Tw.Denot → Type 0 = λ q. (key : Kr.Denot) → HasKey pe.eq m₁.slots.keys key p → entry_values_mut_rest q.1 ≡ values_of pe.eq m₁.lists.pairs key in
+    let Places : Tw.Denot → Type 0 = λ q. (key : Kr.Denot) → HasKey pe.eq m₁.slots.keys key p → entry_values_mut_positions q.1 ≡ positions_of pe.eq m₁.lists.pairs key in
     let Ended : Tw.Denot → Type 0 = λ q. EndsWalk Kr Vr Sr Ar Br al r.1.now (entry_values_mut_values q.1) in
     let ends_as : R.Denot → R.Denot = λ h. with_walk_values r.1.now h.map.now in
     use1 𝓛 (later (some (λ (q : Tw.Denot). (toks ⊛ ‵ (Tw.own_val q (v₂ ∷ []))) ⊛
     some (λ (ws₂ : Lasts (g₂.ended K V S A B eqs dEq pe dPe ha dHa bh dBh hg dHg al dAl dropA dropB) κs (r.1, (p, tt))). ‵ (lasts (g₂.ended K V S A B eqs dEq pe dPe ha dHa bh dBh hg dHg al dAl dropA dropB) κs (r.1, (p, tt)) ws₂) ⊛ ‵ (follows R R r.1.ghost_name (entry_values_mut_name q.1) ends_as) ⊛
-    raw (fact 𝓤 (Stored q)) ⊛ raw (fact 𝓤 (Steps q)) ⊛ raw (fact 𝓤 (Gives q)) ⊛ raw (fact 𝓤 (Ended q)))))) (id⊢ 𝓤 _) $
-    await ! tt $ pick ! (λ q. split ! $ split ! $ move ! (2 ∷ []) $ pick ! (λ ws₂. split ! $ drop ! $ split ! $ move ! (1 ∷ []) $ split ! $ heard ! (Stored q) (λ stored. split ! $ heard ! (Steps q) (λ steps. split ! $ heard ! (Gives q) (λ gives. heard ! (Ended q) (λ ended.
+    raw (fact 𝓤 (Stored q)) ⊛ raw (fact 𝓤 (Gives q)) ⊛ raw (fact 𝓤 (Places q)) ⊛ raw (fact 𝓤 (Ended q)))))) (id⊢ 𝓤 _) $
+    await ! tt $ pick ! (λ q. split ! $ split ! $ move ! (2 ∷ []) $ pick ! (λ ws₂. split ! $ drop ! $ split ! $ move ! (1 ∷ []) $ split ! $ heard ! (Stored q) (λ stored. split ! $ heard ! (Gives q) (λ gives. split ! $ heard ! (Places q) (λ places. heard ! (Ended q) (λ ended.
     -- [the walk follows; the tokens; the key with its values]
     rewrite ! 0 (λ (δ : GName). ‵ (follows R R δ (entry_values_mut_name q.1) ends_as)) same refl $
     let out : Out.Denot = Some q in let name = entry_values_mut_name q.1 in
@@ -180,7 +181,9 @@ step_mut_spec 𝓤 𝓛 𝓜 𝓡 wired K V S A B LK LV LS LA LB eqs dEq pe dPe 
     -- [the result; the walk follows; the tokens]
     let stored₀ : item_at m₀.slots.keys p ≡ Some q.0.now = subst (λ n. item_at n.now.slots.keys p ≡ Some q.0.now) same_map stored in
     let key : Key out = sym stored₀ ∙ subst (λ o. option_and_then (item_at m₀.slots.keys) o ≡ end_item end (keys_left w₀)) some_place shown in
-    let values : Values out = gives q.0.now (record { listed = listed₁; stored = q.0.now; item_is = stored; equal = mEq.laws.refl q.0.now }) ∙ ap (λ n. values_of pe.eq n.now.lists.pairs q.0.now) same_map in
-    use0 𝓛 (raw (fact 𝓤 (Ends out))) (fact_i 𝓤 (Ends out) (emp 𝓤) (record { walk = r.1.now; same_map = same_map; keys = left₁; ends = ended })) $ use0 𝓛 (raw (fact 𝓤 (Ready out))) (fact_i 𝓤 (Ready out) (emp 𝓤) steps) $ join ! $ use0 𝓛 (raw (fact 𝓤 (Values out))) (fact_i 𝓤 (Values out) (emp 𝓤) values) $ join ! $ use0 𝓛 (raw (fact 𝓤 (Key out))) (fact_i 𝓤 (Key out) (emp 𝓤) key) $ join ! $
+    let here : HasKey pe.eq m₁.slots.keys q.0.now p = record { listed = listed₁; stored = q.0.now; item_is = stored; equal = mEq.laws.refl q.0.now } in
+    let values : Values out = gives q.0.now here ∙ ap (λ n. values_of pe.eq n.now.lists.pairs q.0.now) same_map in
+    let positions : Positions out = places q.0.now here ∙ ap (λ n. positions_of pe.eq n.now.lists.pairs q.0.now) same_map in
+    use0 𝓛 (raw (fact 𝓤 (Ends out))) (fact_i 𝓤 (Ends out) (emp 𝓤) (record { walk = r.1.now; same_map = same_map; keys = left₁; ends = ended })) $ use0 𝓛 (raw (fact 𝓤 (Positions out))) (fact_i 𝓤 (Positions out) (emp 𝓤) positions) $ join ! $ use0 𝓛 (raw (fact 𝓤 (Values out))) (fact_i 𝓤 (Values out) (emp 𝓤) values) $ join ! $ use0 𝓛 (raw (fact 𝓤 (Key out))) (fact_i 𝓤 (Key out) (emp 𝓤) key) $ join ! $
     move ! (2 ∷ 0 ∷ []) $ join ! $ nothing ! $ nothing ! $ fjoin ! $ nothing ! $ fjoin ! $
     returns ! (look_at ! 0 refl) $ free_all ! refl $ keep ! (3 ∷ 0 ∷ 2 ∷ 1 ∷ []) $ by ! (leaves 𝓛 En hs c y made out (tt, (tt, tt)) (tt, (tt, tt))))))))))))))))))))))))))))))

@@ -1,4 +1,4 @@
-use Rattle.std.proofs.Common.{◌∙◌, ◌++◌, [], ◌∷◌, ap, arith, subst, sym}
+use Rattle.std.proofs.Common.{◌∙◌, ◌++◌, [], ◌∷◌, length, ap, rules, subst, sym, length-append}
 use Rattle.std.specs.Borrow.{Bor, MutBor}
 use Rattle.std.specs.Map.Iter.{deref_pair_mut}
 use Rattle.multimap_slots.specs.SlotCells.{lent_slots}
@@ -8,13 +8,19 @@ use Rattle.multimap_walks.specs.PairWalk.{pairs_left}
 use Rattle.multimap_walks.proofs.AlongLemmas.{shows_last}
 use Rattle.multimap_walks.proofs.ChainLemmas.{last_position_goes}
 use Rattle.multimap_walks.proofs.PairLemmas.{pair_is}
-use Rattle.multimap_walks.proofs.WritingLemmas.{last_is_left, pairs_counted, step_keeps}
+use Rattle.multimap_walks.proofs.SquashLemmas.{read_pairs}
+use Rattle.multimap_walks.proofs.WritingLemmas.{last_is_left, step_keeps}
 use Rattle.multimap_walks.proofs.writing.pairs.methods.IterMutDoubleEndedIterator.next_back.Goals as goal
+
+pub lend_last-requires : goal.lend_last-requires
+lend_last-requires g c =
+    let w = c.args.self.now in (read_pairs w.values w.left w.keys.now w.readable).lends
 
 pub key_at-requires : goal.key_at-requires
 key_at-requires g c =
     let w = c.args.self.now in
-    c.requires.owned w.left.last c.in_ok-value.link (last_is_left w.values w.left c.lend_last.new.left.length c.in_ok-value.ensures.count c.requires.lends).listed c.in_ok-value.ensures.slot.1
+    let can = read_pairs w.values w.left w.keys.now w.readable in
+    can.owned w.left.last c.in_ok-value.link (last_is_left w.values w.left c.lend_last.new.left.length c.in_ok-value.ensures.count can.lends).listed c.in_ok-value.ensures.slot.1
 
 pub returns-clause-steps : goal.returns-clause-steps
 returns-clause-steps g c =
@@ -23,7 +29,6 @@ returns-clause-steps g c =
     let slot = c.in_ok-value.ensures.slot in
     let given : Bor g.row.K.Denot × MutBor g.row.V.Denot = (c.key_at.result, c.in_ok-value.value) in
     let pair = deref_pair_mut given in
-    let owned = subst (AreOwned w.keys.now) (sym slot.0.slots) c.requires.owned in
     record {
       steps =
           shows_last (pair_at w.keys.now values) deref_pair_mut _ _ w.left.last given c.in_ok-value.ensures.taken
@@ -32,23 +37,18 @@ returns-clause-steps g c =
       positions =
           ap (λ s. positions_at s (places_left s.order c.lend_last.new.left)) slot.0.slots
           ∙ last_position_goes (lent_slots w.values) w.left.last (places_left (lent_slots w.values).order w.left) (places_left (lent_slots w.values).order c.lend_last.new.left) c.in_ok-value.ensures.taken;
-      ready = record {
-        sound = c.requires.sound;
-        owned = owned;
-        lends = c.in_ok-value.ensures.can;
-        count = pairs_counted c.lend_last.new.cells c.lend_last.new.left c.in_ok-value.ensures.can w.keys.now c.requires.sound owned;
-      };
       taken = slot.0;
     }
 
 pub returns-clause-goes : goal.returns-clause-goes
 returns-clause-goes g c =
-    let ready = (returns-clause-steps g c).ready in
-    record { on = λ _. (ready, tt, omega (arith, c.in_ok-value.ensures.count)); keeps = ready; rests = λ _. tt }
+    let falls = ap length (returns-clause-steps g c).steps ∙ length-append _ (_ ∷ []) in
+    search (rules, falls)
 
 pub invariant_of-self : goal.invariant_of-self
 invariant_of-self g c =
     let w = c.args.self.now in
     let step = c.lend_last in
-    let owned = subst (AreOwned w.keys.now) (sym (step_keeps w.values w.left.last step.result step.new.cells step.ensures.slot)) c.requires.owned in
-    record { readable = ∣ record { sound = c.requires.sound; owned = owned; lends = step.ensures.can } ∣₁ }
+    let can = read_pairs w.values w.left w.keys.now w.readable in
+    let owned = subst (AreOwned w.keys.now) (sym (step_keeps w.values w.left.last step.result step.new.cells step.ensures.slot)) can.owned in
+    record { readable = ∣ record { sound = can.sound; owned = owned; lends = step.ensures.can } ∣₁ }

@@ -1,18 +1,13 @@
-use Rattle.std.proofs.Common.{◌-◌, ◌∙◌, [], ◌∷◌, length, sym, ap, arith, false, rules, length-append}
+use Rattle.std.proofs.Common.{◌-◌, ◌∙◌, [], ◌∷◌, length, sym, ap, arith, rules, length-append}
 use Rattle.multimap_slots.specs.Slots.{item_at}
 use Rattle.multimap_slots.specs.SlotCells.{lent_slots}
-use Rattle.multimap_walks.proofs.ChainLemmas.{last_stands}
 use Rattle.multimap_walks.proofs.PathLemmas.{shown_last}
 use Rattle.multimap_walks.proofs.WritingLemmas.{chain_back_left}
 use Rattle.multimap_walks.proofs.writing.rest.chain.EntryValuesRestDoubleEndedIterator.next_back.Goals as goal
 
-pub read-requires-clause-left : goal.read-requires-clause-left
-read-requires-clause-left g c =
-    let i = c.self.inside in chain_back_left i.values.now i.left (i.left.length - 1) (omega arith) c.self.invariant.chain c.self.invariant.untaken
-
-pub read-requires-clause-filled : goal.read-requires-clause-filled
-read-requires-clause-filled g c =
-    let i = c.self.inside in (last_stands (lent_slots i.values.now) false i.left.first i.left.last i.left.length (i.left.length - 1) (omega arith) c.self.invariant.chain).1
+pub read-requires : goal.read-requires
+read-requires g c =
+    record { left = let i = c.self.inside in chain_back_left i.values.now i.left (i.left.length - 1) (omega arith) c.self.invariant.chain c.self.invariant.untaken }
 
 pub returns-clause-steps : goal.returns-clause-steps
 returns-clause-steps g c =

@@ -1,18 +1,13 @@
-use Rattle.std.proofs.Common.{◌-◌, ◌∙◌, length, sym, ap, arith, false, rules}
+use Rattle.std.proofs.Common.{◌-◌, ◌∙◌, length, sym, ap, arith, rules}
 use Rattle.multimap_slots.specs.Slots.{item_at}
 use Rattle.multimap_slots.specs.SlotCells.{lent_slots}
-use Rattle.multimap_walks.proofs.ChainLemmas.{first_stands}
 use Rattle.multimap_walks.proofs.PathLemmas.{shown_first}
 use Rattle.multimap_walks.proofs.WritingLemmas.{chain_front_left}
 use Rattle.multimap_walks.proofs.writing.rest.chain.EntryValuesRestIterator.next.Goals as goal
 
-pub read-requires-clause-left : goal.read-requires-clause-left
-read-requires-clause-left g c =
-    let i = c.self.inside in chain_front_left i.values.now i.left (i.left.length - 1) (omega arith) c.self.invariant.chain c.self.invariant.untaken
-
-pub read-requires-clause-filled : goal.read-requires-clause-filled
-read-requires-clause-filled g c =
-    let i = c.self.inside in (first_stands (lent_slots i.values.now) false i.left.first i.left.last i.left.length (i.left.length - 1) (omega arith) c.self.invariant.chain).1
+pub read-requires : goal.read-requires
+read-requires g c =
+    record { left = let i = c.self.inside in chain_front_left i.values.now i.left (i.left.length - 1) (omega arith) c.self.invariant.chain c.self.invariant.untaken }
 
 pub returns-clause-steps : goal.returns-clause-steps
 returns-clause-steps g c =

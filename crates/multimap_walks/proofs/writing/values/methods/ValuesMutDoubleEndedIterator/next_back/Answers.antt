@@ -1,4 +1,4 @@
-use Rattle.std.proofs.Common.{◌∙◌, ◌++◌, [], ◌∷◌, ap, arith, sym}
+use Rattle.std.proofs.Common.{◌∙◌, ◌++◌, [], ◌∷◌, length, ap, rules, sym, length-append}
 use Rattle.multimap_slots.specs.Slots.{item_at}
 use Rattle.multimap_slots.specs.SlotCells.{lent_slots}
 use Rattle.multimap_walks.specs.Along.{items_left, places_left}
@@ -6,8 +6,12 @@ use Rattle.multimap_walks.specs.Chained.{positions_at}
 use Rattle.multimap_walks.specs.WritingWalk.{deref_mut}
 use Rattle.multimap_walks.proofs.AlongLemmas.{shows_last}
 use Rattle.multimap_walks.proofs.ChainLemmas.{last_position_goes}
-use Rattle.multimap_walks.proofs.WritingLemmas.{values_counted}
+use Rattle.multimap_walks.proofs.SquashLemmas.{read_lends}
 use Rattle.multimap_walks.proofs.writing.values.methods.ValuesMutDoubleEndedIterator.next_back.Goals as goal
+
+pub lend_last-requires : goal.lend_last-requires
+lend_last-requires g c =
+    let w = c.args.self.now in read_lends w.values w.left w.readable
 
 pub returns-clause-steps : goal.returns-clause-steps
 returns-clause-steps g c =
@@ -21,14 +25,13 @@ returns-clause-steps g c =
       positions =
           ap (λ s. positions_at s (places_left s.order c.lend_last.new.left)) slot.0.slots
           ∙ last_position_goes (lent_slots w.values) w.left.last (places_left (lent_slots w.values).order w.left) (places_left (lent_slots w.values).order c.lend_last.new.left) c.in_ok-value.ensures.taken;
-      ready = record { lends = c.in_ok-value.ensures.can; count = values_counted c.lend_last.new.cells c.lend_last.new.left c.in_ok-value.ensures.can };
       taken = slot.0;
     }
 
 pub returns-clause-goes : goal.returns-clause-goes
 returns-clause-goes g c =
-    let ready = (returns-clause-steps g c).ready in
-    record { on = λ _. (ready, tt, omega (arith, c.in_ok-value.ensures.count)); keeps = ready; rests = λ _. tt }
+    let falls = ap length (returns-clause-steps g c).steps ∙ length-append _ (_ ∷ []) in
+    search (rules, falls)
 
 pub invariant_of-self : goal.invariant_of-self
 invariant_of-self g c = record { readable = ∣ c.lend_last.ensures.can ∣₁ }

@@ -1,5 +1,0 @@
-use Rattle.multimap_walks.specs.WritingWalk.{IterMutCanStep}
-use Rattle.multimap_walks_tests.proofs.writing.pairs_are_taken.Given as goal
-
-abbrev pub invariant-loop-end : goal.invariant-loop-end
-invariant-loop-end l = IterMutCanStep l.walk
