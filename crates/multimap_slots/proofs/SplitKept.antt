@@ -19,7 +19,8 @@ use denote.Memory.{mem}
 use denote.Steps.{nothing}
 use Rattle.std.specs.Prelude.{Option, Some, None, is_some}
 use Rattle.std.specs.contracts.option.Option.{the_row as Opt}
-use Rattle.multimap_slots.specs.Ownership.{Kept, loans, ends, tied}
+use Rattle.multimap_slots.specs.Ownership.{Kept, loans}
+use Rattle.multimap_slots.proofs.Tied.{ends, tied}
 use Rattle.multimap_slots.specs.Taken.{refilled}
 
 false-true : {A : Type 1} → false ≡ true → A

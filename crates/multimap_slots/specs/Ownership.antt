@@ -37,19 +37,6 @@ module _ (κ : Lft) (X : RattleType) (b : ℕ) where
       (loans γs xs ls (o + (mem (Opt X)).size))
   loans (γ ∷ γs) (x ∷ xs) (false ∷ ls) o = loans γs xs ls (o + (mem (Opt X)).size)
 
--- the last values of the names are these
-module _ (T : SemTy) where
-  abbrev pub ends : List GName → List T.rep → Fml
-  ends [] [] = ftrue
-  ends [] (w ∷ ws) = ffalse
-  ends (γ ∷ γs) [] = ffalse
-  ends (γ ∷ γs) (w ∷ ws) = fsep (fres γ (T.coded.code w)) (ends γs ws)
-
-  -- the last value of `δ` is the list of the last values of the names
-  abbrev pub tied : GName → List GName → Fml
-  tied δ γs =
-      fall (List T.rep) (λ ws. fwand (ends γs ws) (fres δ ((coded_list T.coded).code ws)))
-
 -- a code in the midst of what stands around it, from the outside in: `true` stands before what
 -- stands in front of it, `false` before what stands behind it
 abbrev pub plug : List (Bool × Gv) → Gv → Gv

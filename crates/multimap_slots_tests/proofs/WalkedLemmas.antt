@@ -12,9 +12,6 @@ pub record IsWalked (order : List ℕ) (following : Option ℕ) (count : ℕ) : 
   pub following_is : following ≡ first_of rest
   pub counted : length passed ≡ count
 
-pub walked-start : (order : List ℕ) → IsWalked order (first_of order) 0
-walked-start order = record { passed = []; rest = order; is = refl; following_is = refl; counted = refl }
-
 -- a walk with a place ahead steps to the next one
 pub walked-step : (order : List ℕ) (place count : ℕ) → AreDistinct order → IsWalked order (Some place) count
     → IsIn place order × IsWalked order (next_of order place) (count + 1)

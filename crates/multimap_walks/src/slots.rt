@@ -85,3 +85,7 @@ pub(crate) fn key_values_of<'map, K, V, A: Allocator>(
     let (key, link) = keys.get_listed(place, reads);
     (key, EntryValues::new(keys, values, Some((place, link))))
 }
+
+/// Lets a counter go. A `drop` that is proved by hand calls it: one call is less to prove there than
+/// the counter's own parts.
+pub(crate) fn end_reads(_reads: Reads) {}

@@ -76,15 +76,6 @@ module _ {K : Type 0} {eq : K → K → Bool} (laws : IsEquivalence eq) where
         | false ↦ AllByRecursion-filter test P keys all.1
       ]
 
-  -- of distinct keys, one that has an equal key in a part of them is itself in the part
-  pub listed_as_itself : (keys part : List K) → IsDistinct eq keys → ((j : K) → IsIn j part → IsIn j keys)
-      → (k : K) → IsIn k keys → is_listed eq part k ≡ true → IsIn k part
-  listed_as_itself keys part distinct among k k_in listed =
-      let stored = stored_key_member k part listed in
-      let other : stored_key eq keys k ≡ stored_key eq part k = stored_key_only k (stored_key eq part k) keys distinct (among _ stored.0) stored.1 in
-      let own : stored_key eq keys k ≡ k = stored_key_only k k keys distinct k_in (laws.refl k) in
-      subst (λ j. IsIn j part) (sym other ∙ own) stored.0
-
   -- some of distinct keys are distinct
   pub IsDistinct-filter : (test : K → Bool) (keys : List K) → IsDistinct eq keys → IsDistinct eq (filter test keys)
   unfolding IsDistinct

@@ -2,7 +2,8 @@
 use Rattle.std.proofs.Common.{◌≡◌, ℕ, zero, get_or, unwrap_or, inl, inr, List, [], ◌∷◌, length, Option, Some, None, IsSome, refl, sym, ap, ◌∙◌, subst, arith, Bool, suc, map, true, false}
 use Rattle.ordered_multimap.specs.TapeNumbers.{numbers_code}
 use Rattle.ordered_multimap.specs.MapSlots.{key_link_code, value_link_code, ends_code}
-use Rattle.multimap_slots.specs.Codes.{around_items, slots_code}
+use Rattle.multimap_slots.specs.Codes.{slots_code}
+use Rattle.multimap_slots.proofs.Around.{around_items}
 use Rattle.std.specs.Coded.{Coded, coded×, coded_list, coded_ℕ}
 use base.Stored.{Gv}
 use Rattle.std.specs.Prelude.{option_and_then, option_map}

@@ -16,8 +16,9 @@ use Rattle.multimap_walks.specs.declared.links.ValueLink.{ValueLink}
 use Rattle.multimap_walks.specs.Chained.{chain_of, pairs_of, position_in, positions_at, values_at}
 use Rattle.ordered_multimap.specs.Agrees.{Agrees, HasKey}
 use Rattle.ordered_multimap.specs.Pairs.{values_of, with_value_at}
-use Rattle.ordered_multimap.specs.UpdateSteps.{IsRewriting, RewritesAt, RewritesOne}
+use Rattle.ordered_multimap.specs.UpdateSteps.{RewritesAt, RewritesOne}
 use Rattle.ordered_multimap.specs.Updates.{CallableOnEach, MayRewrite, RewritesEach, UpdatesKey, with_values_at}
+use Rattle.ordered_multimap.proofs.Rewriting.{IsRewriting}
 use Rattle.ordered_multimap.proofs.LookupLemmas.{positions_of-chain, values_of-chain}
 use Rattle.ordered_multimap.proofs.PlaceLemmas.{begins, filter_map-agree, no_rest, places_from-split, places_from}
 use Rattle.ordered_multimap.proofs.TakingLemmas.{distinct, in_list, onward}

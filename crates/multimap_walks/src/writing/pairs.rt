@@ -4,12 +4,14 @@ ghost use Rattle.multimap_walks.specs.RestWalk.{CanReadPairs};
 mod methods;
 
 use crate::links::{ChainEnds, KeyLink, ValueLink};
-use multimap_slots::{SlotCells, SlotList};
+use crate::slots::end_reads;
+use multimap_slots::{Reads, SlotCells, SlotList};
 use std::alloc::{Allocator, Global};
 
 /// All pairs of a map, oldest first, each value for writing. Each item takes the slot of its value,
 /// and reads its link and the slot of its key.
 pub struct IterMut<'map, K, V, A: Allocator = Global> {
+    reads: Reads,
     keys: &'map SlotList<K, KeyLink, A>,
     values: SlotCells<'map, V, ValueLink, A>,
     left: ChainEnds,
@@ -26,9 +28,11 @@ impl<'map, K, V, A: Allocator> Drop for IterMut<'map, K, V, A> {
         ensures* ends { sem 𝓛 (ends_with V.row (iter_mut_cells self.entry)) }
     {
         let IterMut {
+            reads,
             keys: _,
             values: _,
             left: _,
         } = self;
+        end_reads(reads);
     }
 }

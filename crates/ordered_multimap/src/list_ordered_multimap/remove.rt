@@ -79,7 +79,7 @@ impl<K: Eq + Hash, V, S: BuildHasher, A: Allocator> ListOrderedMultimap<K, V, S,
         take_entry(&mut self.keys, &mut self.table, &mut self.values, place)
     }
 
-    /// Takes all pairs out, and drops them. The memory stays.
+    /// Takes all pairs out, and drops them. The memory stays, and no hole is left among the slots.
     ///
     /// It goes over the slots in use and the lanes of the table.
     ///
@@ -94,6 +94,7 @@ impl<K: Eq + Hash, V, S: BuildHasher, A: Allocator> ListOrderedMultimap<K, V, S,
         ensures rooms { KeepsRooms self.old self.new }
         ensures slots { self.new.tape.slots ≡ self.old.tape.slots }
         ensures taken { TakesOut (length self.old.lists.pairs) self.old.tape self.new.tape }
+        ensures holes { self.new.tape.holes ≡ 0 }
     {
         self.keys.clear();
         self.table.clear();

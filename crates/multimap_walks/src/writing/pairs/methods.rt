@@ -38,7 +38,12 @@ impl<'map, K, V, A: Allocator> IterMut<'map, K, V, A> {
         // The length tells the proof that the list of keys is sound.
         let _keys = keys.len();
         let left = all_of(&values);
-        IterMut { keys, values, left }
+        IterMut {
+            reads: Reads::new(),
+            keys,
+            values,
+            left,
+        }
     }
 
     /// Ends the walk, and keeps the right to write the values that it has not given. `Cells::end` of
@@ -47,6 +52,7 @@ impl<'map, K, V, A: Allocator> IterMut<'map, K, V, A> {
         ensures { result ≡ iter_mut_cells self.entry }
     {
         let IterMut {
+            reads: _,
             keys: _,
             values,
             left: _,
@@ -72,7 +78,7 @@ impl<'map, K, V, A: Allocator> Iterator for IterMut<'map, K, V, A> {
 
     fn next(&mut self) -> Option<(&'map K, &'map mut V)> {
         let (value, link) = lend_first(&mut self.values, &mut self.left)?;
-        Some((key_at(self.keys, link.key, &mut Reads::new()), value))
+        Some((key_at(self.keys, link.key, &mut self.reads), value))
     }
 
     #[tactic(auto, using(crate::proofs::RestLemmas::iter_mut_counted))]
@@ -93,7 +99,7 @@ impl<'map, K, V, A: Allocator> DoubleEndedIterator for IterMut<'map, K, V, A> {
 
     fn next_back(&mut self) -> Option<(&'map K, &'map mut V)> {
         let (value, link) = lend_last(&mut self.values, &mut self.left)?;
-        Some((key_at(self.keys, link.key, &mut Reads::new()), value))
+        Some((key_at(self.keys, link.key, &mut self.reads), value))
     }
 }
 

@@ -1,6 +1,6 @@
 use Rattle.std.proofs.Common.{◌≡◌}
 use Rattle.multimap_walks.specs.Chained.{chain_of}
-use Rattle.ordered_multimap.specs.UpdateSteps.{IsRewriting}
+use Rattle.ordered_multimap.proofs.Rewriting.{IsRewriting}
 use Rattle.ordered_multimap.proofs.PlaceLemmas.{places_from}
 use Rattle.ordered_multimap.proofs.list_ordered_multimap.update.rewrite_chain.Given as goal
 

@@ -52,3 +52,11 @@ invariant_of-self g c =
     let can = read_pairs w.values w.left w.keys.now w.readable in
     let owned = subst (AreOwned w.keys.now) (sym (step_keeps w.values w.left.last step.result step.new.cells step.ensures.slot)) can.owned in
     record { readable = ∣ record { sound = can.sound; owned = owned; lends = step.ensures.can } ∣₁ }
+
+pub invariant_of-self-2 : goal.invariant_of-self-2
+invariant_of-self-2 g c =
+    let w = c.args.self.now in
+    let step = c.lend_last in
+    let can = read_pairs w.values w.left w.keys.now w.readable in
+    let owned = subst (AreOwned w.keys.now) (sym (step_keeps w.values w.left.last step.result step.new.cells step.ensures.slot)) can.owned in
+    record { readable = ∣ record { sound = can.sound; owned = owned; lends = step.ensures.can } ∣₁ }
