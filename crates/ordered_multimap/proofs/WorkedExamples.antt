@@ -10,6 +10,8 @@ use Rattle.ordered_multimap.specs.Keys.{KeepsKeyOrder}
 use Rattle.ordered_multimap.specs.Changes.{appended, inserted, kept, removed, all_appended, built_from, first_occurrences, first_written, end_written}
 use Rattle.ordered_multimap.specs.Pop.{Popped, popped_pair, popped}
 use Rattle.ordered_multimap.specs.Retain.{Retains}
+use Rattle.ordered_multimap.specs.RemovedAt.{removed_at, value_beside}
+use Rattle.ordered_multimap.specs.Laws.{all_of, staying}
 
 -- the definitions at numbers
 abbrev Numbers : Type 0
@@ -197,3 +199,28 @@ first_values_written = refl
 end_values_written : end_written Front key_twice 7 ∷ end_written Back key_twice 7 ∷ end_written Front none 7 ∷ end_written Back none 7 ∷ []
     ≡ lists (1 ∷ 2 ∷ []) ((1, 7) ∷ (2, 2) ∷ (1, 3) ∷ []) ∷ lists (1 ∷ 2 ∷ []) ((1, 1) ∷ (2, 2) ∷ (1, 7) ∷ []) ∷ none ∷ none ∷ []
 end_values_written = refl
+
+-- one of several values goes, by its index among them, and an only value stays
+marked_pairs : List (Bool × (ℕ × ℕ))
+marked_pairs = (true, (1, 1)) ∷ (false, (1, 2)) ∷ (true, (2, 5)) ∷ (true, (1, 3)) ∷ []
+
+abbrev three_of_one : Numbers
+three_of_one = append_each ((1, 1) ∷ (1, 2) ∷ (2, 5) ∷ (1, 3) ∷ [])
+
+values_beside : value_beside nat_eq three_of_one.pairs 1 1 ∷ value_beside nat_eq three_of_one.pairs 1 3 ∷ value_beside nat_eq three_of_one.pairs 2 0 ∷ []
+    ≡ Some 2 ∷ None ∷ None ∷ []
+values_beside = refl
+
+second_goes : removed_at nat_eq three_of_one 1 1 ≡ lists (1 ∷ 2 ∷ []) ((1, 1) ∷ (2, 5) ∷ (1, 3) ∷ [])
+second_goes = refl
+
+only_one_stays : removed_at nat_eq three_of_one 2 0 ≡ three_of_one
+only_one_stays = refl
+
+-- so it is one of the drops of pairs that the law of chains speaks of
+one_is_dropped : (removed_at nat_eq (lists (1 ∷ 2 ∷ []) (all_of marked_pairs)) 1 1).pairs ≡ staying marked_pairs
+unfolding marked_pairs
+one_is_dropped = refl
+
+positions_left : positions (removed_at nat_eq three_of_one 1 1).pairs 1 ≡ 0 ∷ 2 ∷ []
+positions_left = refl

@@ -22,11 +22,13 @@ pub mod Multimap
 pub mod Pairs
 pub mod Pop
 pub mod Pops
+pub mod RemovedAt
 pub mod Renames
 pub mod Retain
 pub mod RetainSteps
 pub mod Rooms
 pub mod Takes
+pub mod TakesAt
 pub mod TakesOne
 pub mod TapeNumbers
 pub mod UpdateSteps

@@ -1,6 +1,7 @@
 //! Calls of entries from functions that are proved for every key type: what each answers where
 //! there is memory, and what the map is then.
 use ordered_multimap::list_ordered_multimap::Refused;
+use ordered_multimap_callers::entered::take_value_out;
 use ordered_multimap_callers::entry_calls::{
     count_inserted, count_made, first_or_made, modify_by, modify_or_append, modify_to,
     replace_if_present, swap_first, take_key_out, take_pair_out,
@@ -15,6 +16,7 @@ enum Call {
     SwapFirst,
     TakePairOut,
     TakeKeyOut,
+    TakeValueOut,
     CountInserted,
     ModifyTo,
     ModifyBy,
@@ -35,7 +37,7 @@ enum Answer {
 }
 
 // A call on a map of the mixed pairs, with 21 for what a function or a chain of calls writes, and
-// else with 9; what it answers; and the lists then.
+// else with 9, or with the index 1; what it answers; and the lists then.
 type Row = (Call, u32, Answer, &'static [(u32, u32)], &'static [u32]);
 
 const WITH_THREE: &[(u32, u32)] = &[(1, 11), (2, 12), (2, 13), (1, 14), (3, 9)];
@@ -68,6 +70,13 @@ const PRESENT: &[Row] = &[
         Answer::Counted(Some((2, 2))),
         &[(1, 11), (1, 14)],
         &[1],
+    ),
+    (
+        Call::TakeValueOut,
+        1,
+        Answer::First(Some(14)),
+        &[(1, 11), (2, 12), (2, 13)],
+        &[1, 2],
     ),
     (Call::CountInserted, 2, Answer::Count(2), MIXED, &[1, 2]),
     (
@@ -112,6 +121,7 @@ const ABSENT: &[Row] = &[
     (Call::SwapFirst, 3, Answer::First(None), MIXED, &[1, 2]),
     (Call::TakePairOut, 3, Answer::Pair(None), MIXED, &[1, 2]),
     (Call::TakeKeyOut, 3, Answer::Counted(None), MIXED, &[1, 2]),
+    (Call::TakeValueOut, 3, Answer::First(None), MIXED, &[1, 2]),
     (
         Call::CountInserted,
         3,
@@ -172,6 +182,7 @@ fn answer_of(map: &mut Numbers, call: Call, key: u32) -> Answer {
         Call::SwapFirst => Answer::First(swap_first(map, key, 9)),
         Call::TakePairOut => Answer::Pair(take_pair_out(map, key)),
         Call::TakeKeyOut => Answer::Counted(take_key_out(map, key)),
+        Call::TakeValueOut => Answer::First(take_value_out(map, key, 1)),
         Call::CountInserted => count(count_inserted(map, key, 9)),
         Call::ModifyTo => Answer::IsThere(modify_to(map, key, 9)),
         Call::ModifyBy => Answer::IsThere(modify_by(map, key, |value| *value = 21)),

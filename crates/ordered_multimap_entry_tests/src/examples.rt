@@ -85,6 +85,13 @@ fn a_value_is_inserted(test: &Test, map: &mut Numbers) {
     expect_first(test, map, "line", 9);
 }
 
+fn a_value_is_taken(test: &Test, map: &mut Numbers) {
+    if let Entry::Occupied(mut entry) = map.entry("line") {
+        test.expect("remove_at", entry.remove_at(1) == Some(2));
+    }
+    expect_first(test, map, "line", 1);
+}
+
 fn values_are_replaced(test: &Test, map: &mut Numbers) -> Result<(), AllocError> {
     if let Entry::Occupied(entry) = map.entry("line") {
         test.expect("insert_all", entry.insert_all(3)?.next_back() == Some(2));
@@ -158,6 +165,8 @@ fn occupied_entries_answer(test: &Test, map: &mut Numbers) {
     a_value_is_kept(test, map);
     add_again(test, map);
     a_value_is_inserted(test, map);
+    add_again(test, map);
+    a_value_is_taken(test, map);
     add_again(test, map);
     test.expect("replaced", values_are_replaced(test, map).is_ok());
 }

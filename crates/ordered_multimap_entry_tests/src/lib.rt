@@ -8,6 +8,8 @@ mod entries;
 #[cfg(test)]
 mod examples;
 #[cfg(test)]
+mod taken;
+#[cfg(test)]
 mod tests;
 #[cfg(test)]
 mod texts;

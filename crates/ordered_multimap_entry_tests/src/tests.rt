@@ -3,9 +3,10 @@
 use crate::called::callers_answer;
 use crate::entries::{entries_are_filled, functions_are_called_once, values_are_replaced};
 use crate::examples::{examples_of_numbers_hold, examples_of_texts_hold};
+use crate::taken::{one_of_many_is_taken, values_are_taken};
 use crate::texts::{Counts, keys_are_entered, values_are_counted};
 use ordered_multimap::ListOrderedMultimap;
-use ordered_multimap_callers::maps::Numbers;
+use ordered_multimap_callers::maps::{Numbers, Refusing};
 use refusing_allocator::RefusingAllocator;
 use test_helpers::{Failed, Test};
 
@@ -43,10 +44,16 @@ fn numbers_are_entered(rt: HostRuntime) -> Result<(), Failed> {
     test.end()
 }
 
+fn without_memory(test: &Test, allocator: &RefusingAllocator, map: &mut Refusing<'_>) {
+    values_are_replaced(test, allocator, map);
+    values_are_taken(test, allocator, map);
+    one_of_many_is_taken(test, allocator, map);
+}
+
 #[test]
 fn an_occupied_entry_takes_no_memory(rt: HostRuntime) -> Result<(), Failed> {
     let test = Test::new(rt.alloc());
     let allocator = RefusingAllocator::unlimited(test.alloc());
-    values_are_replaced(&test, &allocator, &mut ListOrderedMultimap::new(&allocator));
+    without_memory(&test, &allocator, &mut ListOrderedMultimap::new(&allocator));
     test.end()
 }

@@ -7,6 +7,7 @@ ghost use Rattle.ordered_multimap.specs.Takes.{among};
 
 mod methods;
 mod occupied;
+mod remove_at;
 mod show;
 mod vacant;
 

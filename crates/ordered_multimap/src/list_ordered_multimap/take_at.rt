@@ -1,0 +1,92 @@
+//! A value that leaves by its index among the values of its key, where the key has others.
+ghost use Rattle.std.specs.Prelude.{◌≡◌, ◌<◌, Some, cond, is_some, slice_get};
+ghost use Rattle.multimap_slots.specs.Lists.{IsIn};
+ghost use Rattle.multimap_slots.specs.Slots.{link_at};
+ghost use Rattle.multimap_walks.specs.Chained.{IsChained, chain_of};
+ghost use Rattle.ordered_multimap.specs.Agrees.{HasKey};
+ghost use Rattle.ordered_multimap.specs.RemovedAt.{removed_at, value_beside};
+ghost use Rattle.ordered_multimap.specs.Rooms.{SameRooms};
+ghost use Rattle.ordered_multimap.specs.TakesAt.{TakesAt};
+ghost use Rattle.ordered_multimap.specs.TapeNumbers.{TakesOut, numbers_of};
+
+use super::ListOrderedMultimap;
+use super::links::link_of;
+use super::lookup::slot_at;
+use super::take_one::take_one;
+use multimap_slots::{SlotList, Tape};
+use multimap_walks::{KeyLink, ValueLink};
+use std::alloc::Allocator;
+use std::hash::{BuildHasher, Hash};
+
+/// The place of the value at an index in the chain of the key at the place, along the links from
+/// the nearer end.
+fn place_at<K, V, A: Allocator>(
+    keys: &SlotList<K, KeyLink, A>,
+    values: &Tape<V, ValueLink, A>,
+    place: usize,
+    index: usize,
+) -> usize
+    requires listed { IsIn place keys.now.order }
+    requires chained { IsChained keys.now values.now.list }
+    requires among { (l : KeyLink) → link_at keys.now place ≡ Some l → index < l.length }
+    ensures { slice_get (chain_of values.now.list place) index ≡ Some result }
+{
+    // The length tells the proof that the list is sound.
+    let _len = values.len();
+    let (_, link) = slot_at(keys, place);
+    let behind = link.length - index - 1;
+    if index <= behind {
+        let mut found = link.head;
+        for _ in 0..index {
+            found = link_of(values, found).next.unwrap_or(found);
+        }
+        return found;
+    }
+    let mut found = link.tail;
+    for _ in 0..behind {
+        found = link_of(values, found).previous.unwrap_or(found);
+    }
+    found
+}
+
+/// Takes the value at an index in the chain of the key at the place out, where the key has others.
+fn take_at<K, V, A: Allocator>(
+    keys: &mut SlotList<K, KeyLink, A>,
+    values: &mut Tape<V, ValueLink, A>,
+    place: usize,
+    index: usize,
+) -> Option<V>
+    requires listed { IsIn place keys.old.order }
+    requires chained { IsChained keys.old values.old.list }
+    ensures taken { TakesAt keys.old keys.new values.old.list values.new.list place index result }
+    ensures counts { TakesOut (cond (is_some result) 1 0)
+        (numbers_of values.old) (numbers_of values.new) }
+    ensures keys_capacity { keys.new.capacity ≡ keys.old.capacity }
+    ensures values_capacity { values.new.list.capacity ≡ values.old.list.capacity }
+{
+    let (_, link) = slot_at(keys, place);
+    if link.length < 2 || link.length <= index {
+        return None;
+    }
+    let found = place_at(keys, values, place, index);
+    Some(take_one(keys, values, found))
+}
+
+impl<K: Eq + Hash, V, S: BuildHasher, A: Allocator> ListOrderedMultimap<K, V, S, A> {
+    /// Takes the value at an index among those of the key at the place out, where the key has
+    /// others.
+    pub(super) fn take_value_at(&mut self, place: usize, index: usize) -> Option<V>
+        requires { IsIn place self.old.slots.keys.order }
+        ensures listed { IsIn place self.new.slots.keys.order }
+        ensures stays { (k : K) → HasKey K.eq self.old.slots.keys k place
+            → HasKey K.eq self.new.slots.keys k place }
+        ensures value { (k : K) → HasKey K.eq self.old.slots.keys k place
+            → result ≡ value_beside K.eq self.old.lists.pairs k index }
+        ensures lists { (k : K) → HasKey K.eq self.old.slots.keys k place
+            → self.new.lists ≡ removed_at K.eq self.old.lists k index }
+        ensures rooms { SameRooms self.old self.new }
+        ensures taken { TakesOut (cond (is_some result) 1 0) self.old.tape self.new.tape }
+    {
+        take_at(&mut self.keys, &mut self.values, place, index)
+    }
+}
