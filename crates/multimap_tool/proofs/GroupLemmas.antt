@@ -1,5 +1,6 @@
 -- A command that is none of those that a function of a run answers is one of the next function's.
 use Rattle.std.proofs.Common.{◌≢◌, ℕ, refl}
+use Rattle.multimap_tool.specs.declared.commands.Command.TheVariants.{RemoveAt}
 use Rattle.multimap_tool.specs.declared.commands.Command.{Command}
 use Rattle.multimap_tool.specs.declared.commands.Command.TheVariants.{Append, Insert, InsertAll, SetFirst, SetFront, SetBack, OrInsert, Remove, RemoveAll, RemoveEntry, RemoveEntryAll, PopFront, PopBack, Retain, Clear, Reserve, PackToFit, Swap, Json}
 use Rattle.multimap_tool.specs.Step.{IsLookUp}
@@ -38,11 +39,12 @@ module _ {K V A : Type 0} where
   RemovesOrLooksUp-else command is first front back clear reserve = is
 
   pub IsLookUp-else : (command : Command K V A) → RemovesOrLooksUp command → ((k : K) → command ≢ Remove k) → ((k : K) → command ≢ RemoveAll k) → ((k : K) → command ≢ RemoveEntry k)
-      → ((k : K) → command ≢ RemoveEntryAll k) → command ≢ PopFront → command ≢ PopBack → IsLookUp command
-  IsLookUp-else (Remove k) is remove all entry entry_all front back = remove k refl
-  IsLookUp-else (RemoveAll k) is remove all entry entry_all front back = all k refl
-  IsLookUp-else (RemoveEntry k) is remove all entry entry_all front back = entry k refl
-  IsLookUp-else (RemoveEntryAll k) is remove all entry entry_all front back = entry_all k refl
-  IsLookUp-else PopFront is remove all entry entry_all front back = front refl
-  IsLookUp-else PopBack is remove all entry entry_all front back = back refl
-  IsLookUp-else command is remove all entry entry_all front back = is
+      → ((k : K) → command ≢ RemoveEntryAll k) → ((k : K) (i : ℕ) → command ≢ RemoveAt k i) → command ≢ PopFront → command ≢ PopBack → IsLookUp command
+  IsLookUp-else (Remove k) is remove all entry entry_all at front back = remove k refl
+  IsLookUp-else (RemoveAll k) is remove all entry entry_all at front back = all k refl
+  IsLookUp-else (RemoveEntry k) is remove all entry entry_all at front back = entry k refl
+  IsLookUp-else (RemoveEntryAll k) is remove all entry entry_all at front back = entry_all k refl
+  IsLookUp-else (RemoveAt k i) is remove all entry entry_all at front back = at k i refl
+  IsLookUp-else PopFront is remove all entry entry_all at front back = front refl
+  IsLookUp-else PopBack is remove all entry entry_all at front back = back refl
+  IsLookUp-else command is remove all entry entry_all at front back = is

@@ -1,5 +1,6 @@
 -- The commands that a line with given fields can spell.
 use Rattle.std.proofs.Common.{◌≡◌, ◌⊎◌, inl, inr, Option, Some, None, subst, ℕ, ◌<◌, ◌^◌, Bool, true, false, List, [], ◌∷◌, ◌++◌, map, refl, sym, ap, ◌∙◌, arith, true≢false}
+use Rattle.multimap_tool.specs.declared.commands.Command.TheVariants.{RemoveAt}
 use Rattle.std.specs.Prelude.{ℤ, pos, FitsSigned, IsTrue, slice_index}
 use Rattle.std.specs.Int.{w64}
 use Rattle.std.specs.Fmt.{decimal, signed_decimal}
@@ -15,7 +16,7 @@ use Rattle.multimap_tool.specs.declared.commands.Command.{Command}
 use Rattle.multimap_tool.specs.declared.commands.Command.TheVariants as commands
 use Rattle.multimap_tool.specs.declared.commands.Command.TheVariants.{Append, Insert, InsertAll, SetFirst, SetFront, SetBack, OrInsert, Get, All, Has, Len, Remove, RemoveAll, RemoveEntry, RemoveEntryAll, PopFront, PopBack, Retain, Clear, Reserve, PackToFit, Swap, Json, Pairs, Keys, Values, KeyLists, Lengths}
 use Rattle.multimap_tool.specs.Spelling.{Operand, operand_text, FitsOperand, letter_of, name_of, operands_of, Spells, IsBadLine}
-use Rattle.multimap_tool.specs.Parts.{IsWithout, AreLettersOf, StartsAValue, lone_words, key_words, value_words, walk_words, pair_words, room_words, key_walk_words, words_before, IsCommandOf, IsFoundAmong, IsFoundFor, IsReadingOf}
+use Rattle.multimap_tool.specs.Parts.{IsWithout, AreLettersOf, StartsAValue, lone_words, key_words, value_words, walk_words, pair_words, number_words, key_walk_words, words_before, IsCommandOf, IsFoundAmong, IsFoundFor, IsReadingOf}
 use Rattle.multimap_tool.proofs.NumberLemmas.{decimal_without_space, signed_without_space, no_value}
 use Rattle.multimap_tool.proofs.FieldLemmas.{ArePlain, one_operand, two_operands}
 
@@ -100,7 +101,7 @@ plain_fields name (inr (inr word) ∷ []) listed fits = record {
   few = omega arith;
 }
 plain_fields name (inl k ∷ inl j ∷ []) listed fits = record {
-  word = word_without_space room_words name (refl, tt) listed;
+  word = word_without_space number_words name (refl, (refl, tt)) listed;
   texts = texts_without_space (inl k ∷ inl j ∷ []) fits;
   few = omega arith;
 }
@@ -134,7 +135,7 @@ of_one name text (inr (inr word) ∷ []) listed fits same = inr (inr (listed, (w
 of_one name text (o ∷ p ∷ os) listed fits same = absurd (cc)
 
 of_two : (name first second : List ℕ) (os : List Operand) → IsIn name (words_before os) → AllByRecursion FitsOperand os → map operand_text os ≡ first ∷ second ∷ []
-    → (IsIn name pair_words × IsKeyText first × IsValueText second) ⊎ ((IsIn name room_words × IsKeyText first × IsKeyText second) ⊎ (IsIn name key_walk_words × IsKeyText first × IsWordText second))
+    → (IsIn name pair_words × IsKeyText first × IsValueText second) ⊎ ((IsIn name number_words × IsKeyText first × IsKeyText second) ⊎ (IsIn name key_walk_words × IsKeyText first × IsWordText second))
 of_two name first second [] listed fits same = absurd (cc)
 of_two name first second (o ∷ []) listed fits same = absurd (cc)
 of_two name first second (inl k ∷ inl j ∷ []) listed fits same = inr (inl (listed, (k, fits.0, cc), (j, fits.1.0, cc)))
@@ -165,6 +166,7 @@ module _ {A : Type 0} where
   listed_word (RemoveAll k) = inr (inr (inr (inr (inr (inl refl)))))
   listed_word (RemoveEntry k) = inr (inr (inr (inr (inr (inr (inl refl))))))
   listed_word (RemoveEntryAll k) = inr (inr (inr (inr (inr (inr (inr (inl refl)))))))
+  listed_word (RemoveAt k i) = inr (inl refl)
   listed_word PopFront = inl refl
   listed_word PopBack = inr (inl refl)
   listed_word (Retain v) = inr (inr (inl refl))
@@ -210,13 +212,13 @@ module _ {A : Type 0} where
 
   -- with two spaces or more, a word and two operands
   pub bad_with_two : (word first second : List ℕ) → IsWithout 32 word → IsWithout 32 first
-      → (IsIn word pair_words → IsKeyText first → IsValueText second → ⊥) → (IsIn word room_words → IsKeyText first → IsKeyText second → ⊥) → (IsIn word key_walk_words → IsKeyText first → IsWordText second → ⊥)
+      → (IsIn word pair_words → IsKeyText first → IsValueText second → ⊥) → (IsIn word number_words → IsKeyText first → IsKeyText second → ⊥) → (IsIn word key_walk_words → IsKeyText first → IsWordText second → ⊥)
       → IsBadLine A (word ++ 32 ∷ (first ++ 32 ∷ second))
-  bad_with_two word first second without_word without_first not_pair not_room not_walk command spells =
+  bad_with_two word first second without_word without_first not_pair not_number not_walk command spells =
       let fields = two_operands word first second (name_of command) (map operand_text (operands_of command)) without_word without_first (plain command spells.spellable) spells.spelling in
       elim (of_two (name_of command) first second (operands_of command) (listed_word command) spells.spellable fields.1) [
         | inl pair ↦ not_pair (subst (λ name. IsIn name pair_words) (sym fields.0) pair.0) pair.1 pair.2
-        | inr (inl room) ↦ not_room (subst (λ name. IsIn name room_words) (sym fields.0) room.0) room.1 room.2
+        | inr (inl number) ↦ not_number (subst (λ name. IsIn name number_words) (sym fields.0) number.0) number.1 number.2
         | inr (inr walk) ↦ not_walk (subst (λ name. IsIn name key_walk_words) (sym fields.0) walk.0) walk.1 walk.2
       ]
 

@@ -1,5 +1,6 @@
 -- The room that a run leaves: a step adds one key and one pair at most.
 use Rattle.std.proofs.Common.{◌≡◌, ◌≢◌, ℕ, zero, suc, ◌+◌, ◌≤◌, ◌-◌, not, Bool, true, false, cond, List, [], ◌∷◌, ◌++◌, length, filter, Option, None, Some, slice_get, refl, ap, inl, inr, arith, length-append, length-take}
+use Rattle.multimap_tool.specs.declared.commands.Command.TheVariants.{RemoveAt}
 use Rattle.std.specs.Map.{keys_of}
 use Rattle.ordered_multimap.specs.End.{End}
 use Rattle.ordered_multimap.specs.End.TheVariants as ends
@@ -9,7 +10,9 @@ use Rattle.ordered_multimap.specs.Keys.{is_listed, keys_with, stored_key}
 use Rattle.ordered_multimap.specs.Pairs.{has_items, is_present, pairs_without, positions_of, with_value_at, end_position}
 use Rattle.ordered_multimap.specs.Changes.{appended, inserted, kept, removed, first_written, end_written}
 use Rattle.ordered_multimap.specs.Pop.{popped}
+use Rattle.ordered_multimap.specs.RemovedAt.{removed_at}
 use Rattle.ordered_multimap.specs.Retain.{Retains}
+use Rattle.ordered_multimap.proofs.RemovedLemmas.{pairs_besides-few}
 use Rattle.multimap_tool.specs.declared.commands.Command.{Command}
 use Rattle.multimap_tool.specs.declared.commands.Command.TheVariants.{Append, Insert, InsertAll, SetFirst, SetFront, SetBack, OrInsert, Get, All, Has, Len, Front, Back, Remove, RemoveAll, RemoveEntry, RemoveEntryAll, PopFront, PopBack, Retain, Clear, Reserve, PackToFit, Swap, Json, Pairs, Keys, Values, KeyLists, Lengths}
 use Rattle.multimap_tool.specs.declared.replies.Reply.{Reply}
@@ -72,6 +75,9 @@ module _ {K V : Type 0} (eq : K → K → Bool) where
   removed_grows : (m : Lists K V) (k : K) → GrowsByOne m (removed eq m k)
   removed_grows m k = kept_grows m (pairs_without eq m.pairs k) (filter_few _ m.pairs)
 
+  removed_at_grows : (m : Lists K V) (k : K) (i : ℕ) → GrowsByOne m (removed_at eq m k i)
+  removed_at_grows m k i = record { keys = omega arith; pairs = omega (arith, pairs_besides-few eq k m.pairs i) }
+
   popped_grows : (end : End) (m : Lists K V) → GrowsByOne m (popped eq end m)
   popped_grows end m = elim (has_items m.pairs) as (λ b. GrowsByOne m (cond b (kept eq m (end_rest end m.pairs)) m)) [
     | true ↦ kept_grows m (end_rest end m.pairs) (rest_few end m.pairs)
@@ -121,6 +127,7 @@ module _ {K V A : Type 0} (keeps : V → K → V → Bool → V → Type 0) (eq 
   leaves_grow (RemoveAll k) m n keeps_room left = by_same eq m n (removed eq m k) left (removed_grows eq m k)
   leaves_grow (RemoveEntry k) m n keeps_room left = by_same eq m n (removed eq m k) left (removed_grows eq m k)
   leaves_grow (RemoveEntryAll k) m n keeps_room left = by_same eq m n (removed eq m k) left (removed_grows eq m k)
+  leaves_grow (RemoveAt k i) m n keeps_room left = by_same eq m n (removed_at eq m k i) left (removed_at_grows eq m k i)
   leaves_grow PopFront m n keeps_room left = by_same eq m n (popped eq ends.Front m) left (popped_grows eq ends.Front m)
   leaves_grow PopBack m n keeps_room left = by_same eq m n (popped eq ends.Back m) left (popped_grows eq ends.Back m)
   leaves_grow (Retain x) m n keeps_room left = kept_by_grows eq (keeps x) m n left

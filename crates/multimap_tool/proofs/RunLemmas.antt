@@ -1,5 +1,6 @@
 -- Runs that go on by one step, and what steps and runs leave.
-use Rattle.std.proofs.Common.{◌≡◌, Bool, true, false, cond, List, [], ◌∷◌, ◌++◌, refl, sym, subst, inl, inr, Result, Ok, Err}
+use Rattle.std.proofs.Common.{◌≡◌, ℕ, Bool, true, false, cond, List, [], ◌∷◌, ◌++◌, refl, sym, subst, inl, inr, Result, Ok, Err}
+use Rattle.multimap_tool.specs.declared.commands.Command.TheVariants.{RemoveAt}
 use Rattle.std.specs.Prelude.{IfOk}
 use Rattle.std.specs.Cmp.{IsEquivalence}
 use Rattle.ordered_multimap.specs.Lists.{Lists, lists, empty_lists, IsWellFormed}
@@ -11,7 +12,9 @@ use Rattle.ordered_multimap.proofs.LawLemmas.{rebuilt}
 use Rattle.ordered_multimap.specs.Pop.{popped}
 use Rattle.ordered_multimap.proofs.WellFormedLemmas.{empty_well_formed, appended_well_formed, inserted_well_formed, removed_well_formed, popped_well_formed, kept_well_formed, first_written_well_formed, end_written_well_formed}
 use Rattle.ordered_multimap.proofs.KeyOrderLemmas.{KeepsKeyOrder-same, KeepsKeyOrder-keys_with, KeepsKeyOrder-named_by, KeepsKeyOrder-popped, KeepsKeyOrder-none, KeepsKeyOrder-first_written, KeepsKeyOrder-end_written}
+use Rattle.ordered_multimap.proofs.RemovedLemmas.{removed_at_well_formed}
 use Rattle.ordered_multimap.proofs.RetainedLemmas.{kept-named_by}
+use Rattle.ordered_multimap.specs.RemovedAt.{removed_at}
 use Rattle.ordered_multimap.specs.Retain.{Retains}
 use Rattle.ordered_multimap.specs.Lists.{IsIn}
 use Rattle.std.specs.Map.{keys_of}
@@ -59,6 +62,12 @@ module _ {K V A : Type 0} {eq : K → K → Bool} (laws : IsEquivalence eq) {c :
   gone_orderly m n k formed left = subst (IsOrderly eq c m) (sym left) (record {
     well_formed = removed_well_formed laws m k formed;
     key_order = λ _. KeepsKeyOrder-named_by laws m.keys (pairs_without eq m.pairs k);
+  })
+
+  taken_orderly : (m n : Lists K V) (k : K) (i : ℕ) → IsWellFormed eq m → n ≡ removed_at eq m k i → IsOrderly eq c m n
+  taken_orderly m n k i formed left = subst (IsOrderly eq c m) (sym left) (record {
+    well_formed = removed_at_well_formed laws m k formed i;
+    key_order = λ _. KeepsKeyOrder-same laws m.keys;
   })
 
   replaced_orderly : (m n : Lists K V) (k : K) (v : V) → IsWellFormed eq m → n ≡ inserted eq m k v → IsOrderly eq c m n
@@ -123,6 +132,7 @@ module _ {K V A : Type 0} {eq : K → K → Bool} (laws : IsEquivalence eq) (kee
   leaves_orderly (RemoveAll k) m n formed left = gone_orderly laws m n k formed left
   leaves_orderly (RemoveEntry k) m n formed left = gone_orderly laws m n k formed left
   leaves_orderly (RemoveEntryAll k) m n formed left = gone_orderly laws m n k formed left
+  leaves_orderly (RemoveAt k i) m n formed left = taken_orderly laws m n k i formed left
   leaves_orderly PopFront m n formed left = popped_orderly laws ends.Front m n formed left
   leaves_orderly PopBack m n formed left = popped_orderly laws ends.Back m n formed left
   leaves_orderly (Retain x) m n formed left = kept_orderly laws m n (keeps x) formed left
@@ -177,6 +187,7 @@ module _ {K V : Type 0} (keeps other : V → K → V → Bool → V → Type 0) 
     leaves_more (RemoveAll k) m n left = left
     leaves_more (RemoveEntry k) m n left = left
     leaves_more (RemoveEntryAll k) m n left = left
+    leaves_more (RemoveAt k i) m n left = left
     leaves_more PopFront m n left = left
     leaves_more PopBack m n left = left
     leaves_more (Retain x) m n left = record { keys = left.keys; pairs = retains_more x m.pairs n.pairs left.pairs }

@@ -56,9 +56,10 @@ abbrev pub pair_words : List (List ℕ)
 pair_words =
     codes "append" ∷ codes "insert" ∷ codes "insertall" ∷ codes "setfirst" ∷ codes "orinsert" ∷ []
 
--- the one that two numbers of items follow, which have the bits of a key
-abbrev pub room_words : List (List ℕ)
-room_words = codes "reserve" ∷ []
+-- those that a key or a number of items follows, and then a number of items, which has the bits of
+-- a key
+abbrev pub number_words : List (List ℕ)
+number_words = codes "reserve" ∷ codes "removeat" ∷ []
 
 -- the one that a key and the letters of a walk follow
 abbrev pub key_walk_words : List (List ℕ)
@@ -70,7 +71,7 @@ words_before [] = lone_words
 words_before (inl k ∷ []) = key_words
 words_before (inr (inl v) ∷ []) = value_words
 words_before (inr (inr word) ∷ []) = walk_words
-words_before (inl k ∷ inl j ∷ []) = room_words
+words_before (inl k ∷ inl j ∷ []) = number_words
 words_before (inl k ∷ inr (inl v) ∷ []) = pair_words
 words_before (inl k ∷ inr (inr word) ∷ []) = key_walk_words
 words_before _ = []

@@ -18,6 +18,7 @@ use Rattle.multimap_tool.specs.declared.commands.Command.TheVariants.{OrInsert}
 use Rattle.multimap_tool.specs.declared.commands.Command.TheVariants.{Get, All, Has, Len}
 use Rattle.multimap_tool.specs.declared.commands.Command.TheVariants.{Remove, RemoveAll}
 use Rattle.multimap_tool.specs.declared.commands.Command.TheVariants.{RemoveEntry, RemoveEntryAll}
+use Rattle.multimap_tool.specs.declared.commands.Command.TheVariants.{RemoveAt}
 use Rattle.multimap_tool.specs.declared.commands.Command.TheVariants.{PopFront, PopBack, Clear}
 use Rattle.multimap_tool.specs.declared.commands.Command.TheVariants.{Retain, Reserve, PackToFit}
 use Rattle.multimap_tool.specs.declared.commands.Command.TheVariants.{Swap, Json}
@@ -75,6 +76,7 @@ module _ {A : Type 0} where
   name_of (RemoveAll k) = codes "removeall"
   name_of (RemoveEntry k) = codes "removeentry"
   name_of (RemoveEntryAll k) = codes "removeentryall"
+  name_of (RemoveAt k i) = codes "removeat"
   name_of PopFront = codes "popfront"
   name_of PopBack = codes "popback"
   name_of (Retain v) = codes "retain"
@@ -116,6 +118,7 @@ module _ {A : Type 0} where
   operands_of (RemoveAll k) = key_operand k ∷ []
   operands_of (RemoveEntry k) = key_operand k ∷ []
   operands_of (RemoveEntryAll k) = key_operand k ∷ []
+  operands_of (RemoveAt k i) = key_operand k ∷ key_operand i ∷ []
   operands_of PopFront = []
   operands_of PopBack = []
   operands_of (Retain v) = value_operand v ∷ []

@@ -15,6 +15,7 @@ use Rattle.ordered_multimap.specs.Keys.{stored_key, keys_named_by}
 use Rattle.ordered_multimap.specs.Changes.{appended, inserted, removed, first_written, end_written}
 use Rattle.ordered_multimap.specs.Changes.{first_occurrences}
 use Rattle.ordered_multimap.specs.Pop.{popped, popped_pair}
+use Rattle.ordered_multimap.specs.RemovedAt.{removed_at, value_beside}
 use Rattle.ordered_multimap.specs.Retain.{Retains}
 use Rattle.ordered_multimap.specs.Pop as pops
 use Rattle.multimap_tool.specs.declared.commands.Ends.{Ends}
@@ -27,6 +28,7 @@ use Rattle.multimap_tool.specs.declared.commands.Command.TheVariants.{Get, All, 
 use Rattle.multimap_tool.specs.declared.commands.Command.TheVariants.{Front, Back}
 use Rattle.multimap_tool.specs.declared.commands.Command.TheVariants.{Remove, RemoveAll}
 use Rattle.multimap_tool.specs.declared.commands.Command.TheVariants.{RemoveEntry, RemoveEntryAll}
+use Rattle.multimap_tool.specs.declared.commands.Command.TheVariants.{RemoveAt}
 use Rattle.multimap_tool.specs.declared.commands.Command.TheVariants.{PopFront, PopBack, Clear}
 use Rattle.multimap_tool.specs.declared.commands.Command.TheVariants.{Retain, Reserve, PackToFit}
 use Rattle.multimap_tool.specs.declared.commands.Command.TheVariants.{Swap, Json}
@@ -85,6 +87,7 @@ IsLookUp (Remove k) = ⊥
 IsLookUp (RemoveAll k) = ⊥
 IsLookUp (RemoveEntry k) = ⊥
 IsLookUp (RemoveEntryAll k) = ⊥
+IsLookUp (RemoveAt k i) = ⊥
 IsLookUp PopFront = ⊥
 IsLookUp PopBack = ⊥
 IsLookUp (Retain x) = ⊥
@@ -129,6 +132,7 @@ module _ {K V : Type 0} (keeps : V → K → V → Bool → V → Type 0) (eq : 
   Leaves (RemoveAll k) m n = n ≡ removed eq m k
   Leaves (RemoveEntry k) m n = n ≡ removed eq m k
   Leaves (RemoveEntryAll k) m n = n ≡ removed eq m k
+  Leaves (RemoveAt k i) m n = n ≡ removed_at eq m k i
   Leaves PopFront m n = n ≡ popped eq ends.Front m
   Leaves PopBack m n = n ≡ popped eq ends.Back m
   Leaves (Retain x) m n = KeepsPairs (keeps x) eq m n
@@ -160,6 +164,7 @@ module _ {K : Type 0} (eq : K → K → Bool) {V A : Type 0} where
   Tells (RemoveEntry k) m (replies.Pair pair) = pair ≡ first_entry eq m k
   Tells (RemoveEntryAll k) m (replies.List list) =
       option_map (λ p. (p.0, p.1.items)) list ≡ entry_of eq m k
+  Tells (RemoveAt k i) m (replies.Value value) = value ≡ value_beside eq m.pairs k i
   Tells PopFront m (replies.Popped pair) =
       option_map told_pop pair ≡ popped_pair eq ends.Front m.pairs
   Tells PopBack m (replies.Popped pair) =

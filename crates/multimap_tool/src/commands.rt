@@ -50,6 +50,8 @@ pub enum Command<K, V, A: Allocator = Global> {
     RemoveEntry(K),
     /// The same, and the stored key is told with all its values.
     RemoveEntryAll(K),
+    /// Takes the value at an index among the key's values out, if the key has others, and tells it.
+    RemoveAt(K, usize),
     /// Takes the first pair out.
     PopFront,
     /// Takes the last pair out.

@@ -14,7 +14,7 @@ use crate::look_ups::look_up;
 use crate::replies::{Popped, Reply};
 use crate::rooms::reserve;
 use crate::written::{or_insert, set_back, set_first, set_front};
-use ordered_multimap::list_ordered_multimap::KeyWrapper;
+use ordered_multimap::list_ordered_multimap::{Entry, KeyWrapper};
 use ordered_multimap::{End, ListOrderedMultimap};
 use std::alloc::Allocator;
 use std::hash::{BuildHasher, Hash};
@@ -82,6 +82,7 @@ fn remove_or_look_up<K: Eq + Hash + Copy, V: Copy, S: BuildHasher, A: Allocator 
         Command::RemoveAll(key) => remove_all(alloc, map, key),
         Command::RemoveEntry(key) => Reply::Pair(map.remove_entry(key)),
         Command::RemoveEntryAll(key) => remove_entry_all(alloc, map, key),
+        Command::RemoveAt(key, index) => remove_at(map, *key, *index),
         Command::PopFront => Reply::Popped(pop(map, End::Front)),
         Command::PopBack => Reply::Popped(pop(map, End::Back)),
         _ => look_up(alloc, map, command),
@@ -119,6 +120,24 @@ fn insert<K: Eq + Hash + Copy, V: Copy, S: BuildHasher, A: Allocator + Copy>(
     match map.insert(key, value) {
         Ok(old) => Reply::Old(old),
         Err(_) => Reply::NoMemory,
+    }
+}
+
+/// Takes the value at an index among the key's values out, if the key has others.
+fn remove_at<K: Eq + Hash + Copy, V: Copy, S: BuildHasher, A: Allocator + Copy>(
+    map: &mut ListOrderedMultimap<K, V, S, A>,
+    key: K,
+    index: usize,
+) -> Reply<K, V, A>
+    ensures step { IsOwnStep K.eq (Command.RemoveAt key index) map.old.lists result map.new.lists }
+    ensures rooms { KeepsRooms map.old map.new }
+{
+    match map.entry(key) {
+        Entry::Occupied(mut entry) => Reply::Value(entry.remove_at(index)),
+        Entry::Vacant(entry) => {
+            entry.into_key();
+            Reply::Value(None)
+        }
     }
 }
 

@@ -8,7 +8,7 @@ use crate::commands::Command;
 use crate::faults::TextFault;
 use crate::operands::{key_of, value_of, word_of};
 use crate::words::{
-    key_command, key_walk_command, lone_command, pair_command, room_command, value_command,
+    key_command, key_walk_command, lone_command, number_command, pair_command, value_command,
     walk_command,
 };
 use std::alloc::{AllocError, Allocator};
@@ -166,5 +166,5 @@ fn with_two_numbers<A: Allocator>(
     let Some(number) = key_of(second) else {
         return None;
     };
-    room_command(name, key, number)
+    number_command(name, key, number)
 }

@@ -170,16 +170,19 @@ pub(crate) fn pair_command<A: Allocator>(
     None
 }
 
-/// The command of a word and two numbers of items.
-pub(crate) fn room_command<A: Allocator>(
+/// The command of a word, a key or a number of items, and a number of items.
+pub(crate) fn number_command<A: Allocator>(
     name: &[u8],
-    keys: u32,
-    values: u32,
+    first: u32,
+    items: u32,
 ) -> Option<Command<u32, i64, A>>
-    ensures { IsFoundFor name.now (key_operand keys ∷ key_operand values ∷ []) result }
+    ensures { IsFoundFor name.now (key_operand first ∷ key_operand items ∷ []) result }
 {
     if is(name, b"reserve") {
-        return Some(Command::Reserve(keys as usize, values as usize));
+        return Some(Command::Reserve(first as usize, items as usize));
+    }
+    if is(name, b"removeat") {
+        return Some(Command::RemoveAt(first, items as usize));
     }
     None
 }

@@ -228,6 +228,10 @@ pub fn answer<'a>(
         Kind::Remove | Kind::RemoveAll | Kind::RemoveEntry | Kind::RemoveEntryAll => {
             remove(alloc, plain, line, text)
         }
+        Kind::RemoveAt => {
+            let taken = plain.take_at(line.first, number(line.second));
+            push_if_there(text, "", taken, Shown::Value)
+        }
         Kind::PopFront => push_popped(text, plain.pop(false)),
         Kind::PopBack => push_popped(text, plain.pop(true)),
         Kind::Retain | Kind::Clear | Kind::Json => change(plain, line, text),

@@ -84,6 +84,29 @@ impl<'a> PlainMap<'a> {
         self.drop_keys_without_a_pair();
     }
 
+    /// Takes the pair of a key out that is at an index among those of the key, if there are others.
+    pub fn take_at(&mut self, key: &str, index: i64) -> Option<Pair<'a>> {
+        if self.count_of(key) < 2 {
+            return None;
+        }
+        let at = self.position_of(key, index)?;
+        Some(self.pairs.remove(at))
+    }
+
+    // The position of the pair at an index among those of a key.
+    fn position_of(&self, key: &str, index: i64) -> Option<usize> {
+        let mut before = 0i64;
+        for (at, pair) in self.pairs.iter().enumerate() {
+            if pair.0 == key {
+                if before == index {
+                    return Some(at);
+                }
+                before = before.saturating_add(1);
+            }
+        }
+        None
+    }
+
     /// Writes the value of the pair at a position, and answers the pair as it was.
     pub fn write_at(&mut self, at: usize, value: &'a str) -> Option<Pair<'a>> {
         let pair = self.pairs.get_mut(at)?;

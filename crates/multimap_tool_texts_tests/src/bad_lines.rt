@@ -82,6 +82,10 @@ const BAD: &[(&str, u64)] = &[
     ("reserve 1 4294967296\n", 1),
     ("reserve 4294967296 1\n", 1),
     ("reserve 1 2 3\n", 1),
+    ("removeat 1\n", 1),
+    ("removeat 1 -1\n", 1),
+    ("removeat 1 4294967296\n", 1),
+    ("removeat 1 f\n", 1),
     // A NUL.
     ("get 1\0\n", 1),
     // Text beyond ASCII.

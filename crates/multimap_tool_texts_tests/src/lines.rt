@@ -97,6 +97,11 @@ const GOOD: &[(&str, &str)] = &[
         "insert 1 1\ninsert 2 2\nappend 2 3\nappend 1 4\nlists\nwalkpairs fbb\nwalkkeys bff\nswap\nremoveentryall 2\nremoveentry 2\npairs\nvalues\nclear\nlengths\nwalkvalues fb\n",
         "none\nnone\nmore\nmore\n1=1,4 2=2,3\n1:1 1:4 2:3\n2 1 -\ndone\n2=2,3\nnone\n1:1 1:4\n1 4\ndone\n0 0\n- -\n",
     ),
+    // One of several values that goes, by its index among them; an only value stays.
+    (
+        "append 1 1\nappend 1 2\nappend 2 5\nappend 1 3\nremoveat 1 1\nremoveat 1 2\nremoveat 2 0\nremoveat 7 0\nremoveat 1 0\nremoveat 1 0\npairs\nkeys\nwalk 1 bf\n",
+        "new\nmore\nnew\nmore\n2\nnone\nnone\nnone\n1\nnone\n2:5 1:3\n1 2\n3 -\n",
+    ),
     // Values written in their places, and a pair that comes where its key is absent.
     (
         "setfirst 1 5\norinsert 1 42\norinsert 1 7\nsetfirst 1 43\nappend 2 8\nsetback 9\nsetfront 4\npairs\n",

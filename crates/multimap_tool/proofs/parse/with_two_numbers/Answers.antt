@@ -34,8 +34,8 @@ returns g c =
     let keys = c.args.key in
     let values = c.in-Some-key_of.number in
     let number : IsValueText second = (c.args.value, c.ranges.value, c.requires.value) in
-    reading name (name ++ 32 ∷ (first ++ 32 ∷ second)) (key_operand keys ∷ key_operand values ∷ []) c.room_command.result (omega arith, (omega arith, tt))
+    reading name (name ++ 32 ∷ (first ++ 32 ∷ second)) (key_operand keys ∷ key_operand values ∷ []) c.number_command.result (omega arith, (omega arith, tt))
     (λ i. name ++ 32 ∷ (sym c.requires.key i ++ 32 ∷ (sym c.in-Some-key_of.ensures ∙ sym (append-nil (decimal values))) i))
     (λ none. bad_with_two name first second c.requires.name c.requires.first (λ listed _ _. c.in_default.ensures listed) (λ listed _ _. none listed)
     (λ _ _ word. word_is_no_value second word number))
-    c.room_command.ensures
+    c.number_command.ensures
