@@ -2,18 +2,19 @@
 use Rattle.std.proofs.Common.{◌≢◌, ℕ, refl}
 use Rattle.multimap_tool.specs.declared.commands.Command.TheVariants.{RemoveAt}
 use Rattle.multimap_tool.specs.declared.commands.Command.{Command}
-use Rattle.multimap_tool.specs.declared.commands.Command.TheVariants.{Append, Insert, InsertAll, SetFirst, SetFront, SetBack, OrInsert, Remove, RemoveAll, RemoveEntry, RemoveEntryAll, PopFront, PopBack, Retain, Clear, Reserve, PackToFit, Swap, Json}
+use Rattle.multimap_tool.specs.declared.commands.Command.TheVariants.{Append, Insert, InsertAll, SetFirst, SetFront, SetBack, OrInsert, Remove, RemoveAll, RemoveEntry, RemoveEntryAll, PopFront, PopBack, Retain, Clear, Reserve, PackToFit, Swap, Json, Json2}
 use Rattle.multimap_tool.specs.Step.{IsLookUp}
 use Rattle.multimap_tool.specs.RunRooms.{IsAddition}
 use Rattle.multimap_tool.specs.Groups.{IsInPlace, WritesOrRemoves, RemovesOrLooksUp}
 
 module _ {K V A : Type 0} where
-  pub IsInPlace-else : (command : Command K V A) → ((x : V) → command ≢ Retain x) → command ≢ PackToFit → command ≢ Swap → command ≢ Json → IsInPlace command
-  IsInPlace-else (Retain x) retain pack swap json = retain x refl
-  IsInPlace-else PackToFit retain pack swap json = pack refl
-  IsInPlace-else Swap retain pack swap json = swap refl
-  IsInPlace-else Json retain pack swap json = json refl
-  IsInPlace-else command retain pack swap json = tt
+  pub IsInPlace-else : (command : Command K V A) → ((x : V) → command ≢ Retain x) → command ≢ PackToFit → command ≢ Swap → command ≢ Json → command ≢ Json2 → IsInPlace command
+  IsInPlace-else (Retain x) retain pack swap json json2 = retain x refl
+  IsInPlace-else PackToFit retain pack swap json json2 = pack refl
+  IsInPlace-else Swap retain pack swap json json2 = swap refl
+  IsInPlace-else Json retain pack swap json json2 = json refl
+  IsInPlace-else Json2 retain pack swap json json2 = json2 refl
+  IsInPlace-else command retain pack swap json json2 = tt
 
   pub WritesOrRemoves-else : (command : Command K V A) → IsInPlace command → ((k : K) (v : V) → command ≢ Append k v) → ((k : K) (v : V) → command ≢ Insert k v)
       → ((k : K) (v : V) → command ≢ InsertAll k v) → ((k : K) (v : V) → command ≢ OrInsert k v) → WritesOrRemoves command

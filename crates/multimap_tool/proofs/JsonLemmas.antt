@@ -17,7 +17,7 @@ use Rattle.ordered_multimap.proofs.LawLemmas.{rebuilt}
 use Rattle.ordered_multimap.specs.TapeNumbers.{TapeNumbers, AreUnused, TakesOut}
 use Rattle.multimap_tool.specs.Json.{is_character, item_fault, first_fault, IsFound, pair_json, pairs_json, IsReadFrom}
 use Rattle.multimap_tool.specs.declared.json.faults.ReadFault.{ReadFault}
-use Rattle.multimap_tool.specs.declared.json.faults.ReadFault.TheVariants.{NotArray, NotPair, BadKey, BadValue, OutOfMemory}
+use Rattle.multimap_tool.specs.declared.json.faults.ReadFault.TheVariants.{NotArray, NotVersion2, BadListedKey, RepeatedKey, NotPair, BadKey, UnlistedKey, BadValue, UnusedKey, OutOfMemory}
 
 -- what a look into a JSON value found is all that it is
 pub array_is : (d : Data) (ds : Items) → as_array d ≡ Some ds → d ≡ array ds
@@ -74,7 +74,7 @@ module _ (is_key is_value : Data → Bool) where
   no_pair i (v ∷ w ∷ []) other = absurd (other (omega arith))
   no_pair i (v ∷ w ∷ x ∷ more) other = refl
 
-  nones : {T : Type 0} (o p : Option T) → option_or o p ≡ None → (o ≡ None) × (p ≡ None)
+  pub nones : {T : Type 0} (o p : Option T) → option_or o p ≡ None → (o ≡ None) × (p ≡ None)
   nones None p e = (refl, e)
   nones (Some x) p e = absurd (grind arith)
 
@@ -94,9 +94,14 @@ module _ (is_key is_value : Data → Bool) where
 -- the fault of an item before others
 pub found_first : (o p : Option ReadFault) (f : ReadFault) → IsFound o f → IsFound (option_or o p) f
 found_first o p NotArray e = ap (λ x. option_or x p) e
+found_first o p NotVersion2 e = ap (λ x. option_or x p) e
+found_first o p (BadListedKey i) e = ap (λ x. option_or x p) e
+found_first o p (RepeatedKey i) e = ap (λ x. option_or x p) e
 found_first o p (NotPair i) e = ap (λ x. option_or x p) e
 found_first o p (BadKey i) e = ap (λ x. option_or x p) e
+found_first o p (UnlistedKey i) e = ap (λ x. option_or x p) e
 found_first o p (BadValue i) e = ap (λ x. option_or x p) e
+found_first o p (UnusedKey i) e = ap (λ x. option_or x p) e
 found_first o p OutOfMemory e = tt
 
 -- a fault that was passed on
@@ -140,21 +145,22 @@ same_signed (pos m) (negsuc n) e = absurd (grind arith)
 same_signed (negsuc m) (pos n) e = absurd (grind arith)
 same_signed (negsuc m) (negsuc n) e = grind arith
 
+-- where different values have different JSON values, so have different lists of them
+pub same_items : {P : Type 0} (f : P → Data) → ((p q : P) → f p ≡ f q → p ≡ q) → (ps qs : List P) → items_of (map f ps) ≡ items_of (map f qs) → ps ≡ qs
+same_items f same [] [] e = refl
+same_items f same [] (q ∷ qs) e = absurd (grind arith)
+same_items f same (p ∷ ps) [] e = absurd (grind arith)
+same_items f same (p ∷ ps) (q ∷ qs) e = ap₂ (λ x xs. x ∷ xs) (same p q (grind arith)) (same_items f same ps qs (grind arith))
+
 -- where that is so of keys and of values, different pairs have different JSON values, and what is
 -- read of one is built of the very pairs
 module _ {K V : Type 0} (key_json : K → Data) (value_json : V → Data) (keys : (k j : K) → key_json k ≡ key_json j → k ≡ j)
     (values : (v w : V) → value_json v ≡ value_json w → v ≡ w) where
-  same_pair : (p q : K × V) → pair_json key_json value_json p ≡ pair_json key_json value_json q → p ≡ q
+  pub same_pair : (p q : K × V) → pair_json key_json value_json p ≡ pair_json key_json value_json q → p ≡ q
   same_pair p q e = ap₂ (λ k v. (k, v)) (keys p.0 q.0 (grind arith)) (values p.1 q.1 (grind arith))
 
-  same_items : (ps qs : List (K × V)) → items_of (map (pair_json key_json value_json) ps) ≡ items_of (map (pair_json key_json value_json) qs) → ps ≡ qs
-  same_items [] [] e = refl
-  same_items [] (q ∷ qs) e = absurd (grind arith)
-  same_items (p ∷ ps) [] e = absurd (grind arith)
-  same_items (p ∷ ps) (q ∷ qs) e = ap₂ (λ x xs. x ∷ xs) (same_pair p q (grind arith)) (same_items ps qs (grind arith))
-
   pub same_pairs_json : (ps qs : List (K × V)) → pairs_json key_json value_json ps ≡ pairs_json key_json value_json qs → ps ≡ qs
-  same_pairs_json ps qs e = same_items ps qs (grind arith)
+  same_pairs_json ps qs e = same_items (pair_json key_json value_json) same_pair ps qs (grind arith)
 
   pub read_back : {eq : K → K → Bool} → IsEquivalence eq → (m n : Lists K V) → IsWellFormed eq m
       → IsReadFrom key_json value_json eq (pairs_json key_json value_json m.pairs) n → n ≡ lists (first_occurrences eq m.pairs) m.pairs

@@ -12,3 +12,6 @@ mod ReadingLemmas
 mod LineLemmas
 mod ReadLemmas
 mod JsonLemmas
+mod JsonFaultLemmas
+mod JsonListsLemmas
+mod JsonShapeLemmas

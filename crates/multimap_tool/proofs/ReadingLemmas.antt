@@ -14,7 +14,7 @@ use Rattle.ordered_multimap.specs.Pairs.{has_items}
 use Rattle.multimap_tool.specs.declared.commands.Ends.TheVariants.{Forward, Word}
 use Rattle.multimap_tool.specs.declared.commands.Command.{Command}
 use Rattle.multimap_tool.specs.declared.commands.Command.TheVariants as commands
-use Rattle.multimap_tool.specs.declared.commands.Command.TheVariants.{Append, Insert, InsertAll, SetFirst, SetFront, SetBack, OrInsert, Get, All, Has, Len, Remove, RemoveAll, RemoveEntry, RemoveEntryAll, PopFront, PopBack, Retain, Clear, Reserve, PackToFit, Swap, Json, Pairs, Keys, Values, KeyLists, Lengths}
+use Rattle.multimap_tool.specs.declared.commands.Command.TheVariants.{Append, Insert, InsertAll, SetFirst, SetFront, SetBack, OrInsert, Get, All, Has, Len, Remove, RemoveAll, RemoveEntry, RemoveEntryAll, PopFront, PopBack, Retain, Clear, Reserve, PackToFit, Swap, Json, Json2, Pairs, Keys, Values, KeyLists, Lengths}
 use Rattle.multimap_tool.specs.Spelling.{Operand, operand_text, FitsOperand, letter_of, name_of, operands_of, Spells, IsBadLine}
 use Rattle.multimap_tool.specs.Parts.{IsWithout, AreLettersOf, StartsAValue, lone_words, key_words, value_words, walk_words, pair_words, number_words, key_walk_words, words_before, IsCommandOf, IsFoundAmong, IsFoundFor, IsReadingOf}
 use Rattle.multimap_tool.proofs.NumberLemmas.{decimal_without_space, signed_without_space, no_value}
@@ -81,7 +81,7 @@ word_without_space (word ∷ words) name each listed = elim listed [
 -- spaces stand between fields alone
 plain_fields : (name : List ℕ) (os : List Operand) → IsIn name (words_before os) → AllByRecursion FitsOperand os → ArePlain name (map operand_text os)
 plain_fields name [] listed fits = record {
-  word = word_without_space lone_words name (refl, (refl, (refl, (refl, (refl, (refl, (refl, (refl, (refl, (refl, (refl, (refl, (refl, tt))))))))))))) listed;
+  word = word_without_space lone_words name (refl, (refl, (refl, (refl, (refl, (refl, (refl, (refl, (refl, (refl, (refl, (refl, (refl, (refl, tt)))))))))))))) listed;
   texts = tt;
   few = omega arith;
 }
@@ -160,8 +160,8 @@ module _ {A : Type 0} where
   listed_word (All k (Word word)) = inl refl
   listed_word (Has k) = inr (inr (inl refl))
   listed_word (Len k) = inr (inr (inr (inl refl)))
-  listed_word commands.Front = inr (inr (inr (inr (inr (inr (inl refl))))))
-  listed_word commands.Back = inr (inr (inr (inr (inr (inr (inr (inl refl)))))))
+  listed_word commands.Front = inr (inr (inr (inr (inr (inr (inr (inl refl)))))))
+  listed_word commands.Back = inr (inr (inr (inr (inr (inr (inr (inr (inl refl))))))))
   listed_word (Remove k) = inr (inr (inr (inr (inl refl))))
   listed_word (RemoveAll k) = inr (inr (inr (inr (inr (inl refl)))))
   listed_word (RemoveEntry k) = inr (inr (inr (inr (inr (inr (inl refl))))))
@@ -172,17 +172,18 @@ module _ {A : Type 0} where
   listed_word (Retain v) = inr (inr (inl refl))
   listed_word (Reserve a b) = inl refl
   listed_word Clear = inr (inr (inl refl))
-  listed_word (Pairs Forward) = inr (inr (inr (inr (inr (inr (inr (inr (inl refl))))))))
+  listed_word (Pairs Forward) = inr (inr (inr (inr (inr (inr (inr (inr (inr (inl refl)))))))))
   listed_word (Pairs (Word word)) = inl refl
-  listed_word (Keys Forward) = inr (inr (inr (inr (inr (inr (inr (inr (inr (inl refl)))))))))
+  listed_word (Keys Forward) = inr (inr (inr (inr (inr (inr (inr (inr (inr (inr (inl refl))))))))))
   listed_word (Keys (Word word)) = inr (inl refl)
-  listed_word (Values Forward) = inr (inr (inr (inr (inr (inr (inr (inr (inr (inr (inl refl))))))))))
+  listed_word (Values Forward) = inr (inr (inr (inr (inr (inr (inr (inr (inr (inr (inr (inl refl)))))))))))
   listed_word (Values (Word word)) = inr (inr (inl refl))
-  listed_word Lengths = inr (inr (inr (inr (inr (inr (inr (inr (inr (inr (inr (inr (inl refl))))))))))))
+  listed_word Lengths = inr (inr (inr (inr (inr (inr (inr (inr (inr (inr (inr (inr (inr (inl refl)))))))))))))
   listed_word PackToFit = inr (inr (inr (inl refl)))
   listed_word Swap = inr (inr (inr (inr (inl refl))))
   listed_word Json = inr (inr (inr (inr (inr (inl refl)))))
-  listed_word KeyLists = inr (inr (inr (inr (inr (inr (inr (inr (inr (inr (inr (inl refl)))))))))))
+  listed_word Json2 = inr (inr (inr (inr (inr (inr (inl refl))))))
+  listed_word KeyLists = inr (inr (inr (inr (inr (inr (inr (inr (inr (inr (inr (inr (inl refl))))))))))))
 
   plain : (command : Command ℕ ℤ A) → AllByRecursion FitsOperand (operands_of command) → ArePlain (name_of command) (map operand_text (operands_of command))
   plain command fits = plain_fields (name_of command) (operands_of command) (listed_word command) fits

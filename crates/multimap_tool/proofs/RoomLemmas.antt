@@ -14,7 +14,7 @@ use Rattle.ordered_multimap.specs.RemovedAt.{removed_at}
 use Rattle.ordered_multimap.specs.Retain.{Retains}
 use Rattle.ordered_multimap.proofs.RemovedLemmas.{pairs_besides-few}
 use Rattle.multimap_tool.specs.declared.commands.Command.{Command}
-use Rattle.multimap_tool.specs.declared.commands.Command.TheVariants.{Append, Insert, InsertAll, SetFirst, SetFront, SetBack, OrInsert, Get, All, Has, Len, Front, Back, Remove, RemoveAll, RemoveEntry, RemoveEntryAll, PopFront, PopBack, Retain, Clear, Reserve, PackToFit, Swap, Json, Pairs, Keys, Values, KeyLists, Lengths}
+use Rattle.multimap_tool.specs.declared.commands.Command.TheVariants.{Append, Insert, InsertAll, SetFirst, SetFront, SetBack, OrInsert, Get, All, Has, Len, Front, Back, Remove, RemoveAll, RemoveEntry, RemoveEntryAll, PopFront, PopBack, Retain, Clear, Reserve, PackToFit, Swap, Json, Json2, Pairs, Keys, Values, KeyLists, Lengths}
 use Rattle.multimap_tool.specs.declared.replies.Reply.{Reply}
 use Rattle.multimap_tool.specs.Step.{Leaves, IsStep, KeepsPairs, entered}
 use Rattle.multimap_tool.specs.RunRooms.{FindsRoom, IsAddition, KeepsRoom}
@@ -136,6 +136,7 @@ module _ {K V A : Type 0} (keeps : V → K → V → Bool → V → Type 0) (eq 
   leaves_grow PackToFit m n keeps_room left = absurd keeps_room
   leaves_grow Swap m n keeps_room left = absurd keeps_room
   leaves_grow Json m n keeps_room left = absurd keeps_room
+  leaves_grow Json2 m n keeps_room left = absurd keeps_room
   leaves_grow (Pairs ends) m n keeps_room left = same_grows eq m n left
   leaves_grow (Keys ends) m n keeps_room left = same_grows eq m n left
   leaves_grow (Values ends) m n keeps_room left = same_grows eq m n left

@@ -19,7 +19,7 @@ use Rattle.ordered_multimap.specs.Retain.{Retains}
 use Rattle.ordered_multimap.specs.Lists.{IsIn}
 use Rattle.std.specs.Map.{keys_of}
 use Rattle.multimap_tool.specs.declared.commands.Command.{Command}
-use Rattle.multimap_tool.specs.declared.commands.Command.TheVariants.{Append, Insert, InsertAll, SetFirst, SetFront, SetBack, OrInsert, Get, All, Has, Len, Front, Back, Remove, RemoveAll, RemoveEntry, RemoveEntryAll, PopFront, PopBack, Retain, Clear, Reserve, PackToFit, Swap, Json, Pairs, Keys, Values, KeyLists, Lengths}
+use Rattle.multimap_tool.specs.declared.commands.Command.TheVariants.{Append, Insert, InsertAll, SetFirst, SetFront, SetBack, OrInsert, Get, All, Has, Len, Front, Back, Remove, RemoveAll, RemoveEntry, RemoveEntryAll, PopFront, PopBack, Retain, Clear, Reserve, PackToFit, Swap, Json, Json2, Pairs, Keys, Values, KeyLists, Lengths}
 use Rattle.multimap_tool.specs.declared.replies.Reply.{Reply}
 use Rattle.multimap_tool.specs.Step.{Leaves, IsOwnStep, IsStep, KeepsPairs, entered}
 use Rattle.multimap_tool.specs.Runs.{IsRun}
@@ -147,6 +147,7 @@ module _ {K V A : Type 0} {eq : K → K → Bool} (laws : IsEquivalence eq) (kee
     well_formed = read_well_formed laws m formed;
     key_order = λ other. absurd (other refl);
   })
+  leaves_orderly Json2 m n formed left = unchanged laws m n formed left
   leaves_orderly (Pairs ends) m n formed left = unchanged laws m n formed left
   leaves_orderly (Keys ends) m n formed left = unchanged laws m n formed left
   leaves_orderly (Values ends) m n formed left = unchanged laws m n formed left
@@ -196,6 +197,7 @@ module _ {K V : Type 0} (keeps other : V → K → V → Bool → V → Type 0) 
     leaves_more PackToFit m n left = left
     leaves_more Swap m n left = left
     leaves_more Json m n left = left
+    leaves_more Json2 m n left = left
     leaves_more (Pairs ends) m n left = left
     leaves_more (Keys ends) m n left = left
     leaves_more (Values ends) m n left = left

@@ -39,8 +39,21 @@ part_fault_text part_faults.Refused = codes "refused"
 part_fault_text part_faults.OutOfMemory = codes "out of memory"
 
 abbrev pub read_fault_text : ReadFault → List ℕ
-read_fault_text read_faults.NotArray = codes "no array"
-read_fault_text (read_faults.NotPair i) = codes "item " ++ decimal i ++ codes " is no pair"
-read_fault_text (read_faults.BadKey i) = codes "item " ++ decimal i ++ codes " has a bad key"
-read_fault_text (read_faults.BadValue i) = codes "item " ++ decimal i ++ codes " has a bad value"
+read_fault_text read_faults.NotArray = codes "the value is neither an array nor an object"
+read_fault_text read_faults.NotVersion2 =
+    codes "the object isn't made of two arrays \"keys\" and \"pairs\" alone"
+read_fault_text (read_faults.BadListedKey i) =
+    codes "item " ++ decimal i ++ codes " of \"keys\" is no key of the map's type"
+read_fault_text (read_faults.RepeatedKey i) =
+    codes "item " ++ decimal i ++ codes " of \"keys\" equals an earlier one"
+read_fault_text (read_faults.NotPair i) =
+    codes "pair " ++ decimal i ++ codes " is no array of a key and a value"
+read_fault_text (read_faults.BadKey i) =
+    codes "the key of pair " ++ decimal i ++ codes " is no key of the map's type"
+read_fault_text (read_faults.UnlistedKey i) =
+    codes "the key of pair " ++ decimal i ++ codes " equals no item of \"keys\""
+read_fault_text (read_faults.BadValue i) =
+    codes "the value of pair " ++ decimal i ++ codes " is no value of the map's type"
+read_fault_text (read_faults.UnusedKey i) =
+    codes "item " ++ decimal i ++ codes " of \"keys\" is the key of no pair"
 read_fault_text read_faults.OutOfMemory = codes "out of memory"

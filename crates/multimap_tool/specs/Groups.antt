@@ -4,7 +4,7 @@ use Rattle.multimap_tool.specs.declared.commands.Command.TheVariants.{Append, In
 use Rattle.multimap_tool.specs.declared.commands.Command.TheVariants.{OrInsert, SetFirst}
 use Rattle.multimap_tool.specs.declared.commands.Command.TheVariants.{SetFront, SetBack, Clear}
 use Rattle.multimap_tool.specs.declared.commands.Command.TheVariants.{Retain, Reserve, PackToFit}
-use Rattle.multimap_tool.specs.declared.commands.Command.TheVariants.{Swap, Json}
+use Rattle.multimap_tool.specs.declared.commands.Command.TheVariants.{Swap, Json, Json2}
 
 module _ {K V A : Type 0} where
   -- the command asks no function, and leaves the map its place and its room
@@ -13,6 +13,7 @@ module _ {K V A : Type 0} where
   IsInPlace PackToFit = ⊥
   IsInPlace Swap = ⊥
   IsInPlace Json = ⊥
+  IsInPlace Json2 = ⊥
   IsInPlace _ = Unit {0}
 
   -- the same, and it puts no pair in
@@ -21,6 +22,7 @@ module _ {K V A : Type 0} where
   WritesOrRemoves PackToFit = ⊥
   WritesOrRemoves Swap = ⊥
   WritesOrRemoves Json = ⊥
+  WritesOrRemoves Json2 = ⊥
   WritesOrRemoves (Append k v) = ⊥
   WritesOrRemoves (Insert k v) = ⊥
   WritesOrRemoves (InsertAll k v) = ⊥
@@ -33,6 +35,7 @@ module _ {K V A : Type 0} where
   RemovesOrLooksUp PackToFit = ⊥
   RemovesOrLooksUp Swap = ⊥
   RemovesOrLooksUp Json = ⊥
+  RemovesOrLooksUp Json2 = ⊥
   RemovesOrLooksUp (Append k v) = ⊥
   RemovesOrLooksUp (Insert k v) = ⊥
   RemovesOrLooksUp (InsertAll k v) = ⊥

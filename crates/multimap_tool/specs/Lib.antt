@@ -10,3 +10,5 @@ pub mod Execute
 pub mod Faults
 pub mod Laws
 pub mod Json
+pub mod JsonLists
+pub mod JsonSteps

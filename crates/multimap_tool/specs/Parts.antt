@@ -25,7 +25,7 @@ IsReadingOf {A} line found = MatchOption found (IsBadLine A line) (λ command. S
 abbrev pub lone_change_words : List (List ℕ)
 lone_change_words =
     codes "popfront" ∷ codes "popback" ∷ codes "clear" ∷ codes "packtofit" ∷ codes "swap"
-    ∷ codes "json" ∷ []
+    ∷ codes "json" ∷ codes "json2" ∷ []
 
 -- those of look-ups
 abbrev pub lone_look_up_words : List (List ℕ)

@@ -3,7 +3,8 @@ use Rattle.std.specs.Prelude.{◌≢◌, ◌≤◌, ◌+◌, ℕ, List, [], ◌�
 use Rattle.ordered_multimap.specs.Multimap.{Multimap}
 use Rattle.multimap_tool.specs.declared.commands.Command.{Command}
 use Rattle.multimap_tool.specs.declared.commands.Command.TheVariants.{Append, Insert, OrInsert}
-use Rattle.multimap_tool.specs.declared.commands.Command.TheVariants.{PackToFit, Swap, Json}
+use Rattle.multimap_tool.specs.declared.commands.Command.TheVariants.{PackToFit, Swap}
+use Rattle.multimap_tool.specs.declared.commands.Command.TheVariants.{Json, Json2}
 use Rattle.multimap_tool.specs.declared.replies.Reply.{Reply}
 use Rattle.multimap_tool.specs.declared.replies.Reply.TheVariants.{NoMemory}
 
@@ -25,6 +26,7 @@ module _ {K V A : Type 0} where
   KeepsRoom PackToFit = ⊥
   KeepsRoom Swap = ⊥
   KeepsRoom Json = ⊥
+  KeepsRoom Json2 = ⊥
   KeepsRoom _ = Unit {0}
 
   -- no command lowers a room, and there is room for a key and a value for each of them

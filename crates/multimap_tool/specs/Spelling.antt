@@ -21,7 +21,7 @@ use Rattle.multimap_tool.specs.declared.commands.Command.TheVariants.{RemoveEntr
 use Rattle.multimap_tool.specs.declared.commands.Command.TheVariants.{RemoveAt}
 use Rattle.multimap_tool.specs.declared.commands.Command.TheVariants.{PopFront, PopBack, Clear}
 use Rattle.multimap_tool.specs.declared.commands.Command.TheVariants.{Retain, Reserve, PackToFit}
-use Rattle.multimap_tool.specs.declared.commands.Command.TheVariants.{Swap, Json}
+use Rattle.multimap_tool.specs.declared.commands.Command.TheVariants.{Swap, Json, Json2}
 use Rattle.multimap_tool.specs.declared.commands.Command.TheVariants.{Pairs, Keys, Values, KeyLists}
 use Rattle.multimap_tool.specs.declared.commands.Command.TheVariants.{Lengths}
 
@@ -85,6 +85,7 @@ module _ {A : Type 0} where
   name_of PackToFit = codes "packtofit"
   name_of Swap = codes "swap"
   name_of Json = codes "json"
+  name_of Json2 = codes "json2"
   name_of (Pairs Forward) = codes "pairs"
   name_of (Pairs (Word word)) = codes "walkpairs"
   name_of (Keys Forward) = codes "keys"
@@ -127,6 +128,7 @@ module _ {A : Type 0} where
   operands_of PackToFit = []
   operands_of Swap = []
   operands_of Json = []
+  operands_of Json2 = []
   operands_of (Pairs ends) = word_of ends
   operands_of (Keys ends) = word_of ends
   operands_of (Values ends) = word_of ends

@@ -31,7 +31,7 @@ use Rattle.multimap_tool.specs.declared.commands.Command.TheVariants.{RemoveEntr
 use Rattle.multimap_tool.specs.declared.commands.Command.TheVariants.{RemoveAt}
 use Rattle.multimap_tool.specs.declared.commands.Command.TheVariants.{PopFront, PopBack, Clear}
 use Rattle.multimap_tool.specs.declared.commands.Command.TheVariants.{Retain, Reserve, PackToFit}
-use Rattle.multimap_tool.specs.declared.commands.Command.TheVariants.{Swap, Json}
+use Rattle.multimap_tool.specs.declared.commands.Command.TheVariants.{Swap, Json, Json2}
 use Rattle.multimap_tool.specs.declared.commands.Command.TheVariants.{Pairs, Keys, Values, KeyLists}
 use Rattle.multimap_tool.specs.declared.commands.Command.TheVariants.{Lengths}
 use Rattle.multimap_tool.specs.declared.replies.Popped.{Popped}
@@ -96,7 +96,14 @@ IsLookUp (Reserve a b) = ⊥
 IsLookUp PackToFit = ⊥
 IsLookUp Swap = ⊥
 IsLookUp Json = ⊥
+IsLookUp Json2 = ⊥
 IsLookUp _ = Unit {0}
+
+-- the command reads the map anew from a JSON value
+abbrev pub Rereads : {K V A : Type 0} → Command K V A → Type 0
+Rereads Json = Unit {0}
+Rereads Json2 = Unit {0}
+Rereads _ = ⊥
 
 -- a call of the function on these may answer b, and leave w as the value
 pub record MayKeep {F K V : Type 0}
@@ -118,8 +125,8 @@ pub record KeepsPairs {K V : Type 0} (keeps : K → V → Bool → V → Type 0)
 module _ {K V : Type 0} (keeps : V → K → V → Bool → V → Type 0) (eq : K → K → Bool)
     {A : Type 0} where
   -- the lists that a command leaves: look-ups leave them as they are, and so do a clone, a
-  -- request for room and a packing; what is read of a JSON value has the keys in the order in which
-  -- they first occur in the pairs
+  -- request for room, a packing, and what is read of a JSON value of both lists; what is read of
+  -- one of the pairs has the keys in the order in which they first occur in these
   abbrev pub Leaves : Command K V A → Lists K V → Lists K V → Type 0
   Leaves (Append k v) m n = n ≡ appended eq m k v
   Leaves (Insert k v) m n = n ≡ inserted eq m k v
@@ -175,6 +182,7 @@ module _ {K : Type 0} (eq : K → K → Bool) {V A : Type 0} where
   Tells PackToFit m replies.Done = Unit {0}
   Tells Swap m replies.Done = Unit {0}
   Tells Json m replies.Done = Unit {0}
+  Tells Json2 m replies.Done = Unit {0}
   Tells (Pairs ends) m (replies.Pairs pairs) = pairs.items ≡ walked m.pairs ends
   Tells (Keys ends) m (replies.Keys keys) = keys.items ≡ walked m.keys ends
   Tells (Values ends) m (replies.Values values) = values.items ≡ walked (all_values m.pairs) ends
@@ -194,6 +202,7 @@ module _ {K : Type 0} (eq : K → K → Bool) {V A : Type 0} where
   MayLackMemory PackToFit m = Unit {0}
   MayLackMemory Swap m = Unit {0}
   MayLackMemory Json m = Unit {0}
+  MayLackMemory Json2 m = Unit {0}
   MayLackMemory (All k ends) m = ListsItem (walked (values_of eq m.pairs k) ends)
   MayLackMemory (RemoveAll k) m = ListsItem (values_of eq m.pairs k)
   MayLackMemory (RemoveEntryAll k) m = ListsItem (values_of eq m.pairs k)

@@ -68,6 +68,8 @@ pub enum Command<K, V, A: Allocator = Global> {
     Swap,
     /// Puts in the map's place what is read of its JSON value.
     Json,
+    /// The same with the JSON value that holds both lists.
+    Json2,
     /// All pairs.
     Pairs(Ends<A>),
     /// All keys.

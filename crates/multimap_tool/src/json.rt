@@ -1,5 +1,6 @@
-//! Maps as JSON values: an array with an array of the key and the value for each pair, in order.
-ghost use Rattle.std.specs.Prelude.{◌≡◌, ℕ, None, IfOk, IfErr, OnOk, IsSome};
+//! Maps as JSON values: an array with an array of the key and the value for each pair, in order, or
+//! an object of such an array and of the keys in their order.
+ghost use Rattle.std.specs.Prelude.{◌≡◌, ℕ, true, None, IfOk, IfErr, OnOk, IsSome, length};
 ghost use Rattle.serde_json.specs.Data.{array};
 ghost use Rattle.serde_json.specs.Find.{as_array};
 ghost use Rattle.serde_json.specs.View.{view, items_view};
@@ -7,16 +8,25 @@ ghost use Rattle.ordered_multimap.specs.Lists.{empty_lists};
 ghost use Rattle.ordered_multimap.specs.TapeNumbers.{AreUnused};
 ghost use Rattle.multimap_tool.specs.Json.{AppendsRead, IsFound, IsReadFrom, fault_in, item_fault};
 ghost use Rattle.multimap_tool.specs.Json.{pair_json, pairs_json};
+ghost use Rattle.multimap_tool.specs.JsonLists.{IsRead, IsFaultIn, UnlessMemory, has_form};
+ghost use Rattle.multimap_tool.specs.JsonLists.{both_arrays};
 
 mod faults;
+mod items;
+mod listed;
+mod lists;
 mod parts;
+mod written;
 
 pub use faults::{PartFault, ReadFault};
+use items::read_pair;
+use lists::{both_arrays, read_lists};
 use ordered_multimap::ListOrderedMultimap;
 pub use parts::JsonPart;
 use serde_json::Value;
 use std::alloc::{AllocError, Allocator, Global};
 use std::hash::{BuildHasher, Hash};
+pub use written::to_value_2;
 
 /// The map as a JSON value: an array with one array `[key, value]` for each pair, in order.
 ///
@@ -55,12 +65,17 @@ fn item_of<K: JsonPart, V: JsonPart>(alloc: Global, key: &K, value: &V) -> Resul
     Ok(Value::from(parts))
 }
 
-/// A map with this hash builder, of the pairs of a JSON value, appended in order.
+/// A map with this hash builder, of what a JSON value holds, which [`to_value`] or [`to_value_2`]
+/// gives.
 ///
-/// `alloc` gives the memory of the map, and `memory` that of keys and values that are read. The
-/// value has to be an array of arrays `[key, value]`; the first item that is none decides which
-/// fault is told, and there is then no map. That there is no room for as many pairs at the start is
-/// no fault: each append makes the room that it needs.
+/// `alloc` gives the memory of the map, and `memory` that of keys and values that are read. An array
+/// has to have arrays `[key, value]` as items: these pairs are appended in order. An object has to
+/// have the members `keys`, an array of different keys, and `pairs`, such an array of pairs of these
+/// keys, each of which occurs: the map has the keys in the order of `keys`. The first item that
+/// isn't as it has to be decides which fault is told, and there is then no map. That there is no
+/// room for as many keys and pairs at the start is no fault: each append makes the room that it
+/// needs. One look-up for each item; of an object each key also takes a value slot until all pairs
+/// have come, which is a hole afterwards.
 ///
 /// ```
 /// from_value(alloc, memory, DefaultState::new(), &value)?
@@ -76,18 +91,53 @@ pub fn from_value<
     state: S,
     value: &Value,
 ) -> Result<ListOrderedMultimap<K, V, S, A>, ReadFault>
-    ensures read { IfOk result (λ map.
-        IsReadFrom K.json V.json K.eq (view value.now) map.lists) }
-    ensures accepted { OnOk result (fault_in K.is_part V.is_part (view value.now) ≡ None) }
-    ensures fault { IfErr result (IsFound (fault_in K.is_part V.is_part (view value.now))) }
+    ensures read { IfOk result (λ map. IsRead K.json V.json K.is_part V.is_part K.eq
+        (view value.now) map.lists) }
+    ensures accepted { OnOk result (IsSome (as_array (view value.now))
+        → fault_in K.is_part V.is_part (view value.now) ≡ None) }
+    ensures fault { IfErr result (UnlessMemory (IsFaultIn K.json V.json K.is_part V.is_part K.eq
+        (view value.now))) }
     ensures memory { IfErr result (λ fault. fault ≡ ReadFault.OutOfMemory
-        → IsSome (as_array (view value.now))) }
+        → has_form (view value.now) ≡ true) }
+    ensures hasher { IfOk result (λ map. map.hasher ≡ state) }
+    ensures unused { IfOk result (λ map. IsSome (as_array (view value.now))
+        → AreUnused map.tape) }
+    ensures freed { IfOk result (λ map. IsSome (both_arrays (view value.now))
+        → map.tape.freed ≡ length map.lists.keys) }
+{
+    if let Some(items) = value.as_array() {
+        return read_items(alloc, memory, state, items);
+    }
+    if !value.is_object() {
+        return Err(ReadFault::NotArray);
+    }
+    match both_arrays(value) {
+        Some((keys, pairs)) => read_lists(alloc, memory, state, keys, pairs),
+        None => Err(ReadFault::NotVersion2),
+    }
+}
+
+/// A map of the pairs of the items.
+fn read_items<
+    K: JsonPart + Eq + Hash + Drop,
+    V: JsonPart + Drop,
+    S: BuildHasher + Drop,
+    A: Allocator + Copy,
+>(
+    alloc: A,
+    memory: Global,
+    state: S,
+    items: &[Value],
+) -> Result<ListOrderedMultimap<K, V, S, A>, ReadFault>
+    ensures read { IfOk result (λ map.
+        IsReadFrom K.json V.json K.eq (array (items_view items.now)) map.lists) }
+    ensures accepted { OnOk result
+        (fault_in K.is_part V.is_part (array (items_view items.now)) ≡ None) }
+    ensures fault { IfErr result
+        (IsFound (fault_in K.is_part V.is_part (array (items_view items.now)))) }
     ensures hasher { IfOk result (λ map. map.hasher ≡ state) }
     ensures unused { IfOk result (λ map. AreUnused map.tape) }
 {
-    let Some(items) = value.as_array() else {
-        return Err(ReadFault::NotArray);
-    };
     let mut map = ListOrderedMultimap::with_hasher(alloc, state);
     match append_items(memory, items, &mut map) {
         Ok(()) => Ok(map),
@@ -150,34 +200,4 @@ fn append_item<
         return Err(ReadFault::OutOfMemory);
     };
     Ok(())
-}
-
-/// The pair of the item at a position.
-fn read_pair<K: JsonPart + Drop, V: JsonPart>(
-    memory: Global,
-    index: usize,
-    item: &Value,
-) -> Result<(K, V), ReadFault>
-    ensures read { IfOk result (λ pair. view item.now ≡ pair_json K.json V.json pair) }
-    ensures accepted { OnOk result
-        (item_fault K.is_part V.is_part index (view item.now) ≡ None) }
-    ensures fault { IfErr result
-        (IsFound (item_fault K.is_part V.is_part index (view item.now))) }
-{
-    let Some(parts) = item.as_array() else {
-        return Err(ReadFault::NotPair(index));
-    };
-    if parts.len() != 2 {
-        return Err(ReadFault::NotPair(index));
-    }
-    let key = match K::from_part(memory, &parts[0]) {
-        Ok(key) => key,
-        Err(PartFault::Refused) => return Err(ReadFault::BadKey(index)),
-        Err(PartFault::OutOfMemory) => return Err(ReadFault::OutOfMemory),
-    };
-    match V::from_part(memory, &parts[1]) {
-        Ok(value) => Ok((key, value)),
-        Err(PartFault::Refused) => Err(ReadFault::BadValue(index)),
-        Err(PartFault::OutOfMemory) => Err(ReadFault::OutOfMemory),
-    }
 }

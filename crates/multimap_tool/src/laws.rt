@@ -9,6 +9,7 @@ ghost use Rattle.multimap_tool.specs.Step.{IsStep, MayKeep};
 ghost use Rattle.multimap_tool.specs.Runs.{IsRun};
 ghost use Rattle.multimap_tool.specs.Laws.{IsOrderly};
 ghost use Rattle.multimap_tool.specs.Json.{IsReadFrom, pairs_json};
+ghost use Rattle.multimap_tool.specs.JsonLists.{IsRead, lists_json};
 
 use crate::json::JsonPart;
 use std::alloc::Allocator;
@@ -37,6 +38,15 @@ pub fn what_is_written_is_read<K: JsonPart + Eq, V: JsonPart>()
     ensures { (m n : Lists K V) → IsWellFormed K.eq m
         → IsReadFrom K.json V.json K.eq (pairs_json K.json V.json m.pairs) n
         → (n.keys ≡ first_occurrences K.eq m.pairs) × (n.pairs ≡ m.pairs) }
+{}
+
+/// What is read of the JSON value of both lists of a map are the very lists. Different keys have to
+/// have different JSON values, and different values too.
+pub fn json_two_lists<K: JsonPart + Eq, V: JsonPart>()
+    requires keys { (k j : K) → K.json k ≡ K.json j → k ≡ j }
+    requires values { (v w : V) → V.json v ≡ V.json w → v ≡ w }
+    ensures { (m n : Lists K V) → IsWellFormed K.eq m
+        → IsRead K.json V.json K.is_part V.is_part K.eq (lists_json K.json V.json m) n → n ≡ m }
 {}
 
 /// Different characters have different JSON values, as [`crate::run::run`] asks of keys and values.

@@ -1,7 +1,8 @@
 //! Commands run in order, with one reply for each.
 ghost use Rattle.std.specs.Borrow.{Bor, MutBor};
 ghost use Rattle.std.specs.Prelude.{◌≡◌, ◌≢◌, ◌≤◌, ℕ, [], Contains, false, IfOk, OnErr, length, vec_capacity};
-ghost use Rattle.multimap_tool.specs.Step.{IsOwnStep, IsStep, MayKeep};
+ghost use Rattle.multimap_tool.specs.declared.commands.Command.{Command};
+ghost use Rattle.multimap_tool.specs.Step.{IsOwnStep, IsStep, MayKeep, Rereads};
 ghost use Rattle.ordered_multimap.specs.Pairs.{is_present};
 ghost use Rattle.ordered_multimap.specs.Rooms.{HasKeyRoom, HasValueRoom, KeepsRooms};
 ghost use Rattle.ordered_multimap.specs.TapeNumbers.{AreUnused};
@@ -13,7 +14,7 @@ use crate::in_place::step_in_place;
 use crate::json::JsonPart;
 use crate::keep::{Keep, KeepBy};
 use crate::replies::Reply;
-use crate::reread::reread;
+use crate::reread::{reread, reread_lists};
 use crate::rooms::pack_to_fit;
 use ordered_multimap::ListOrderedMultimap;
 use std::alloc::{AllocError, Allocator, Global};
@@ -22,16 +23,16 @@ use std::hash::{BuildHasher, Hash};
 /// Runs the commands on the map, in order, and answers each with one reply.
 ///
 /// `alloc` gives the memory of the replies, and `memory` that of the JSON value that a
-/// [`Command::Json`] makes and reads. `keep` tells which pairs a [`Command::Retain`] keeps: it is
+/// [`Command::Json`] or [`Command::Json2`] makes and reads. `keep` tells which pairs a [`Command::Retain`] keeps: it is
 /// handed the command's value, a key and its value, which it may write, and has to be callable with
 /// the value of each of these commands and any key and value. The room for all
 /// replies is taken at the start: where it is refused, nothing was done. A command that finds no
 /// memory for itself is answered [`Reply::NoMemory`] and changes neither keys nor pairs. That no
 /// append, insert or or-insert is, where the map has room at the start for as many more keys and as
-/// many more values as there are commands, and none is a [`Command::PackToFit`], [`Command::Swap`]
-/// or [`Command::Json`]. Clones of keys and values must be the very keys and values; where a
-/// [`Command::Json`] is among the commands, different keys must have different JSON values, and
-/// different values too. Each command costs what the map's call of its name does.
+/// many more values as there are commands, and none is a [`Command::PackToFit`], [`Command::Swap`],
+/// [`Command::Json`] or [`Command::Json2`]. Clones of keys and values must be the very keys and
+/// values; where one of the last two is among the commands, different keys must have different JSON
+/// values, and different values too. Each command costs what the map's call of its name does.
 pub fn run<
     K: JsonPart + Eq + Hash + Copy,
     V: JsonPart + Copy,
@@ -49,10 +50,10 @@ pub fn run<
         → (key : Bor K) (value : MutBor V) → F.pre keep operand key value }
     requires keys { (k c : K) → K.is_clone k c → c ≡ k }
     requires values { (v c : V) → V.is_clone v c → c ≡ v }
-    requires key_parts { Contains commands.now Command.Json
-        → (k j : K) → K.json k ≡ K.json j → k ≡ j }
-    requires value_parts { Contains commands.now Command.Json
-        → (v w : V) → V.json v ≡ V.json w → v ≡ w }
+    requires key_parts { (command : Command K V A) → Contains commands.now command
+        → Rereads command → (k j : K) → K.json k ≡ K.json j → k ≡ j }
+    requires value_parts { (command : Command K V A) → Contains commands.now command
+        → Rereads command → (v w : V) → V.json v ≡ V.json w → v ≡ w }
     ensures ok { IfOk result (λ replies. IsRun (MayKeep F.Fn keep) K.eq
         commands.now map.old.lists replies.items map.new.lists) }
     ensures hasher { ((s c : S) → S.is_clone s c → c ≡ s) → map.new.hasher ≡ map.old.hasher }
@@ -85,10 +86,10 @@ fn run_all<
         → F.accepts keep.now operand }
     requires keys { (k c : K) → K.is_clone k c → c ≡ k }
     requires values { (v c : V) → V.is_clone v c → c ≡ v }
-    requires key_parts { Contains commands.now Command.Json
-        → (k j : K) → K.json k ≡ K.json j → k ≡ j }
-    requires value_parts { Contains commands.now Command.Json
-        → (v w : V) → V.json v ≡ V.json w → v ≡ w }
+    requires key_parts { (command : Command K V A) → Contains commands.now command
+        → Rereads command → (k j : K) → K.json k ≡ K.json j → k ≡ j }
+    requires value_parts { (command : Command K V A) → Contains commands.now command
+        → Rereads command → (v w : V) → V.json v ≡ V.json w → v ≡ w }
     requires empty { replies.old.items ≡ [] }
     requires capacity { length commands.now ≤ vec_capacity replies.old }
     ensures ok { IsRun (F.answers keep.now) K.eq
@@ -119,10 +120,8 @@ fn step<
         → F.accepts keep.now operand }
     requires keys { (k c : K) → K.is_clone k c → c ≡ k }
     requires values { (v c : V) → V.is_clone v c → c ≡ v }
-    requires key_parts { command.now ≡ Command.Json
-        → (k j : K) → K.json k ≡ K.json j → k ≡ j }
-    requires value_parts { command.now ≡ Command.Json
-        → (v w : V) → V.json v ≡ V.json w → v ≡ w }
+    requires key_parts { Rereads command.now → (k j : K) → K.json k ≡ K.json j → k ≡ j }
+    requires value_parts { Rereads command.now → (v w : V) → V.json v ≡ V.json w → v ≡ w }
     ensures step { IsStep (F.answers keep.now) K.eq
         command.now map.old.lists result map.new.lists }
     ensures hasher { ((s c : S) → S.is_clone s c → c ≡ s) → map.new.hasher ≡ map.old.hasher }
@@ -144,6 +143,7 @@ fn step<
         Command::PackToFit => pack_to_fit(map),
         Command::Swap => swap(map),
         Command::Json => reread(alloc, memory, map),
+        Command::Json2 => reread_lists(alloc, memory, map),
         _ => step_in_place(alloc, map, command),
     }
 }

@@ -47,6 +47,9 @@ fn lone_change<A: Allocator>(name: &[u8]) -> Option<Command<u32, i64, A>>
     if is(name, b"json") {
         return Some(Command::Json);
     }
+    if is(name, b"json2") {
+        return Some(Command::Json2);
+    }
     None
 }
 

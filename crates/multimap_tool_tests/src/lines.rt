@@ -75,6 +75,7 @@ const WORDS: &[(&str, Kind, &[Operand])] = &[
     ("retain", Kind::Retain, VALUE),
     ("clear", Kind::Clear, NONE),
     ("json", Kind::Json, NONE),
+    ("json2", Kind::Room, NONE),
     ("reserve", Kind::Room, KEYS),
     ("packtofit", Kind::Room, NONE),
     ("swap", Kind::Room, NONE),

@@ -35,6 +35,7 @@ const RUNS: &[(&str, &str, u64)] = &[
     ("append 1 1\nappend 2 3\nappend 1 2\n", "lists\n", 4),
     ("append 1 1\nappend 2 3\nappend 1 2\n", "swap\n", 2),
     ("append 1 1\nappend 2 3\nappend 1 2\n", "json\n", 2),
+    ("append 1 1\nappend 2 3\nappend 1 2\n", "json2\n", 2),
     ("append 1 1\nappend 2 3\nappend 1 2\n", "packtofit\n", 2),
     ("append 1 1\n", "reserve 9 9\n", 2),
     // Pairs that come where their keys are absent, and values written in their places.
@@ -83,7 +84,7 @@ fn run_in_room(test: &Test, granted: u64) -> bool {
 /// Inputs: the additions and the lists may find no memory.
 const INPUTS: &[&str] = &[
     "append 1 1\nappend 2 2\nappend 2 3\nappend 1 4\npairs\nall 1\nget 2\nget 3\n",
-    "append 1 1\nappend 2 2\nswap\ninsert 1 9\njson\nkeys\ninsert 2 5\ninsert 3 6\ninsertall 1 7\n\
+    "append 1 1\nappend 2 2\nswap\ninsert 1 9\njson2\nkeys\njson\nkeys\ninsert 2 5\ninsert 3 6\ninsertall 1 7\n\
     orinsert 4 8\norinsert 1 9\nlists\nremoveall 2\nremoveentryall 1\nreserve 9 9\npacktofit\n\
     popfront\nretain 8\nclear\nwalk 1 fb\nwalkvalues f\n",
 ];

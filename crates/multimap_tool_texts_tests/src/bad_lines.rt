@@ -75,6 +75,8 @@ const BAD: &[(&str, u64)] = &[
     ("walkvalues\n", 1),
     ("swap 1\n", 1),
     ("json 1\n", 1),
+    ("json2 1\n", 1),
+    ("json3\n", 1),
     ("lists 1\n", 1),
     ("packtofit 1\n", 1),
     ("reserve\n", 1),

@@ -58,27 +58,57 @@ const PART_FAULTS: Rows<PartFault> = &[
 const READ_FAULTS: Rows<ReadFault> = &[
     (
         ReadFault::NotArray,
-        ReadFault::NotPair(0),
+        ReadFault::NotVersion2,
         "NotArray",
-        "no array",
+        "the value is neither an array nor an object",
+    ),
+    (
+        ReadFault::NotVersion2,
+        ReadFault::NotArray,
+        "NotVersion2",
+        "the object isn't made of two arrays \"keys\" and \"pairs\" alone",
+    ),
+    (
+        ReadFault::BadListedKey(3),
+        ReadFault::BadListedKey(2),
+        "BadListedKey(3)",
+        "item 3 of \"keys\" is no key of the map's type",
+    ),
+    (
+        ReadFault::RepeatedKey(3),
+        ReadFault::UnusedKey(3),
+        "RepeatedKey(3)",
+        "item 3 of \"keys\" equals an earlier one",
     ),
     (
         ReadFault::NotPair(7),
         ReadFault::NotPair(8),
         "NotPair(7)",
-        "item 7 is no pair",
+        "pair 7 is no array of a key and a value",
     ),
     (
         ReadFault::BadKey(0),
         ReadFault::BadValue(0),
         "BadKey(0)",
-        "item 0 has a bad key",
+        "the key of pair 0 is no key of the map's type",
+    ),
+    (
+        ReadFault::UnlistedKey(10),
+        ReadFault::BadKey(10),
+        "UnlistedKey(10)",
+        "the key of pair 10 equals no item of \"keys\"",
     ),
     (
         ReadFault::BadValue(1),
         ReadFault::BadKey(1),
         "BadValue(1)",
-        "item 1 has a bad value",
+        "the value of pair 1 is no value of the map's type",
+    ),
+    (
+        ReadFault::UnusedKey(0),
+        ReadFault::UnusedKey(1),
+        "UnusedKey(0)",
+        "item 0 of \"keys\" is the key of no pair",
     ),
     (
         ReadFault::OutOfMemory,

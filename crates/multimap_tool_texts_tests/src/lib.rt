@@ -10,6 +10,8 @@ mod faults;
 #[cfg(test)]
 mod lines;
 #[cfg(test)]
+mod lists;
+#[cfg(test)]
 mod maps;
 #[cfg(test)]
 mod memory;

@@ -79,6 +79,12 @@ const GOOD: &[(&str, &str)] = &[
         "insert 1 10\ninsert 2 20\ninsert 1 30\npairs\nkeys\njson\nkeys\npairs\n",
         "none\nnone\nold 10\n2:20 1:30\n1 2\ndone\n2 1\n2:20 1:30\n",
     ),
+    // What is read of the JSON value of both lists keeps both orders.
+    (
+        "insert 1 10\ninsert 2 20\ninsert 1 30\njson2\nkeys\njson\nkeys\njson2\nkeys\npairs\n",
+        "none\nnone\nold 10\ndone\n1 2\ndone\n2 1\ndone\n2 1\n2:20 1:30\n",
+    ),
+    ("json2\npairs\nkeys\n", "done\nempty\nempty\n"),
     // Room that is asked for or given back changes no list.
     (
         "insert 1 1\nreserve 2 2\npacktofit\nappend 2 2\njson\npairs\n",

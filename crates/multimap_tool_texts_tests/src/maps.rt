@@ -9,7 +9,7 @@ use std::hash::Hash;
 use test_helpers::{Failed, Test};
 
 /// Whether the value is read as a map that is equal to this one.
-fn is_read_as<K: JsonPart + Eq + Hash + Copy, V: JsonPart + Eq + Copy>(
+pub fn is_read_as<K: JsonPart + Eq + Hash + Copy, V: JsonPart + Eq + Copy>(
     alloc: Global,
     value: &Value,
     map: &ListOrderedMultimap<K, V>,
@@ -33,7 +33,7 @@ fn is_written<K: JsonPart + Eq + Hash + Copy, V: JsonPart + Eq + Copy>(
 }
 
 /// Whether the map has these keys, in order.
-fn has_keys<K: Eq + Hash + Copy, V: Copy>(map: &ListOrderedMultimap<K, V>, keys: &[K]) -> bool {
+pub fn has_keys<K: Eq + Hash + Copy, V: Copy>(map: &ListOrderedMultimap<K, V>, keys: &[K]) -> bool {
     map.keys().copied().eq(keys.iter().copied())
 }
 
@@ -64,7 +64,6 @@ const NUMBERS: &[(&str, &[u32])] = &[("[]", &[]), ("[[1,5],[2,6],[1,7]]", &[1, 2
 
 /// Texts of no map of numbers, with the fault.
 const BAD: &[(&str, ReadFault)] = &[
-    ("{}", ReadFault::NotArray),
     ("null", ReadFault::NotArray),
     ("7", ReadFault::NotArray),
     ("\"x\"", ReadFault::NotArray),

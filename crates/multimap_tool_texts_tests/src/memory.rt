@@ -53,6 +53,19 @@ fn read_with(test: &Test, value: &Value, ample: Option<ReadFault>, granted: u64)
 const TEXTS: &[(&str, Option<ReadFault>)] = &[
     ("[[1,5],[2,6],[1,7]]", None),
     ("[[1,2],[3]]", Some(ReadFault::NotPair(1))),
+    ("{\"keys\":[2,1],\"pairs\":[[1,5],[2,6],[1,7]]}", None),
+    (
+        "{\"keys\":[1,1],\"pairs\":[[1,2]]}",
+        Some(ReadFault::RepeatedKey(1)),
+    ),
+    (
+        "{\"keys\":[1,2],\"pairs\":[[1,5]]}",
+        Some(ReadFault::UnusedKey(1)),
+    ),
+    (
+        "{\"keys\":[1],\"pairs\":[[2,true]]}",
+        Some(ReadFault::UnlistedKey(0)),
+    ),
 ];
 
 fn requests_are_refused(test: &Test, value: &Value, ample: Option<ReadFault>) {
@@ -65,7 +78,10 @@ type ReadTexts<'a> = Result<
     ReadFault,
 >;
 
-const KEYS: &str = "[[\"a\",1],[\"b\",2],[\"a\",3]]";
+const TEXT_KEYS: &[&str] = &[
+    "[[\"a\",1],[\"b\",2],[\"a\",3]]",
+    "{\"keys\":[\"b\",\"a\"],\"pairs\":[[\"a\",1],[\"b\",2],[\"a\",3]]}",
+];
 
 fn has_texts(map: &ListOrderedMultimap<String, i64, DefaultState, &RefusingAllocator>) -> bool {
     let mut walk = map.iter();
@@ -97,8 +113,8 @@ fn read_texts_with(test: &Test, value: &Value, granted: u64) -> bool {
     }
 }
 
-fn requests_for_texts_are_refused(test: &Test) {
-    match Value::from_str(test.alloc(), KEYS) {
+fn requests_for_texts_are_refused(test: &Test, text: &str) {
+    match Value::from_str(test.alloc(), text) {
         Ok(value) => {
             let enough = requests_until_enough(|granted| read_texts_with(test, &value, granted));
             test.expect("some requests", enough.unwrap_or(0) >= 3);
@@ -158,6 +174,8 @@ fn a_map_that_is_read_finds_no_memory(rt: HostRuntime) -> Result<(), Failed> {
     for (text, ample) in TEXTS {
         a_value_is_read(&test, text, *ample);
     }
-    requests_for_texts_are_refused(&test);
+    for text in TEXT_KEYS {
+        requests_for_texts_are_refused(&test, text);
+    }
     test.end()
 }

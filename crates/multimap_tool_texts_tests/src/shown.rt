@@ -16,24 +16,24 @@ const LINES: &str =
     "append 1 -2\ninsert 1 3\ninsertall 1 4\norinsert 2 5\nsetfirst 2 6\nsetfront 7\n\
     setback 8\nget 3\nall 1\nwalk 1 fb\nhas 2\nlen 1\nfront\nback\npairs\nwalkpairs b\nkeys\n\
     walkkeys bff\nvalues\nwalkvalues f\nlists\nlengths\nreserve 0 9\npacktofit\nswap\njson\n\
-    retain 8\nremove 1\nremoveall 1\nremoveentry 1\nremoveentryall 2\nremoveat 2 1\n\
+    json2\nretain 8\nremove 1\nremoveall 1\nremoveentry 1\nremoveentryall 2\nremoveat 2 1\n\
     orinsert 4 4\npopfront\npopback\nclear";
 
 const COMMANDS: &str = "[Append(1, -2), Insert(1, 3), InsertAll(1, 4), OrInsert(2, 5), \
     SetFirst(2, 6), SetFront(7), SetBack(8), Get(3), All(1, Forward), \
     All(1, Word([Front, Back])), Has(2), Len(1), Front, Back, Pairs(Forward), \
     Pairs(Word([Back])), Keys(Forward), Keys(Word([Back, Front, Front])), Values(Forward), \
-    Values(Word([Front])), KeyLists, Lengths, Reserve(0, 9), PackToFit, Swap, Json, Retain(8), \
-    Remove(1), RemoveAll(1), RemoveEntry(1), RemoveEntryAll(2), RemoveAt(2, 1), OrInsert(4, 4), \
-    PopFront, PopBack, Clear]";
+    Values(Word([Front])), KeyLists, Lengths, Reserve(0, 9), PackToFit, Swap, Json, Json2, \
+    Retain(8), Remove(1), RemoveAll(1), RemoveEntry(1), RemoveEntryAll(2), RemoveAt(2, 1), \
+    OrInsert(4, 4), PopFront, PopBack, Clear]";
 
 const REPLIES: &str = "[Appended(false), Old(Some(-2)), Values([Some(3)]), Value(Some(5)), \
     Old(Some(5)), Pair(Some((1, 4))), Pair(Some((2, 6))), Value(None), Values([Some(7)]), \
     Values([Some(7), None]), Truth(true), Count(1), Pair(Some((1, 7))), Pair(Some((2, 8))), \
     Pairs([Some((1, 7)), Some((2, 8))]), Pairs([Some((2, 8))]), Keys([Some(1), Some(2)]), \
     Keys([Some(2), Some(1), None]), Values([Some(7), Some(8)]), Values([Some(7)]), \
-    Lists([(1, [7]), (2, [8])]), Counts(2, 2), Done, Done, Done, Done, Done, Value(None), \
-    Values([]), Pair(None), List(Some((2, [8]))), Value(None), Value(Some(4)), \
+    Lists([(1, [7]), (2, [8])]), Counts(2, 2), Done, Done, Done, Done, Done, Done, \
+    Value(None), Values([]), Pair(None), List(Some((2, [8]))), Value(None), Value(Some(4)), \
     Popped(Some(Popped { owned: true, key: 4, value: 4 })), Popped(None), Done]";
 
 /// A line whose command and reply are others.

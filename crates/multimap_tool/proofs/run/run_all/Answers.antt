@@ -26,12 +26,12 @@ step-requires-clause-callable g c =
 pub step-requires-clause-key_parts : goal.step-requires-clause-key_parts
 step-requires-clause-key_parts g c =
     let l = c.loop-command in
-    λ is. c.requires.key_parts (l.command-index, c.loop-command-test.true, subst (λ r. slice_index_or c.args.commands.now l.command-index r ≡ r) is (sym c.command-item.is))
+    λ rereads. c.requires.key_parts c.command-item.result (l.command-index, c.loop-command-test.true, sym c.command-item.is) rereads
 
 pub step-requires-clause-value_parts : goal.step-requires-clause-value_parts
 step-requires-clause-value_parts g c =
     let l = c.loop-command in
-    λ is. c.requires.value_parts (l.command-index, c.loop-command-test.true, subst (λ r. slice_index_or c.args.commands.now l.command-index r ≡ r) is (sym c.command-item.is))
+    λ rereads. c.requires.value_parts c.command-item.result (l.command-index, c.loop-command-test.true, sym c.command-item.is) rereads
 
 pub loop-command-preserved : goal.loop-command-preserved
 loop-command-preserved g c =

@@ -32,6 +32,11 @@ returns-then-is-6 g c =
     let name = c.args.name.now in
     record { name_is = sym (same_text name _ c.is-6.result c.if-is-6.true c.is-6.ensures); operands_are = refl }
 
+pub returns-then-is-7 : goal.returns-then-is-7
+returns-then-is-7 g c =
+    let name = c.args.name.now in
+    record { name_is = sym (same_text name _ c.is-7.result c.if-is-7.true c.is-7.ensures); operands_are = refl }
+
 pub returns : goal.returns
 returns g c =
     let name = c.args.name.now in
@@ -42,5 +47,6 @@ returns g c =
       | inr (inr (inr (inl is_packtofit))) ↦ other_text name _ c.is-4.result c.if-is-4.false c.is-4.ensures is_packtofit
       | inr (inr (inr (inr (inl is_swap)))) ↦ other_text name _ c.is-5.result c.if-is-5.false c.is-5.ensures is_swap
       | inr (inr (inr (inr (inr (inl is_json))))) ↦ other_text name _ c.is-6.result c.if-is-6.false c.is-6.ensures is_json
-      | inr (inr (inr (inr (inr (inr never))))) ↦ never
+      | inr (inr (inr (inr (inr (inr (inl is_json2)))))) ↦ other_text name _ c.is-7.result c.if-is-7.false c.is-7.ensures is_json2
+      | inr (inr (inr (inr (inr (inr (inr never)))))) ↦ never
     ]

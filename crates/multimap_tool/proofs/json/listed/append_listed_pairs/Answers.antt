@@ -1,0 +1,72 @@
+use Rattle.std.proofs.Common.{◌+◌, ◌∷◌, [], ◌++◌, map, take, drop, arith, refl, ap, sym, ◌∙◌, subst}
+use Rattle.std.proofs.lemmas.List.{append-nil, take_more, drop_more}
+use Rattle.serde_json.specs.View.{view, items_view}
+use Rattle.ordered_multimap.specs.Lists.{lists}
+use Rattle.ordered_multimap.specs.Keys.{is_listed}
+use Rattle.multimap_tool.specs.Json.{pair_json, first_fault}
+use Rattle.multimap_tool.specs.JsonLists.{IsPairFault, IsPairsFault}
+use Rattle.multimap_tool.proofs.JsonLemmas.{fault_behind, passed_on, one_read, still_unused}
+use Rattle.multimap_tool.proofs.JsonFaultLemmas.{unless_other, pairs_fault_here, pairs_fault_later}
+use Rattle.multimap_tool.proofs.JsonListsLemmas.{one_under, each_listed-push}
+use Rattle.multimap_tool.proofs.json.listed.append_listed_pairs.Goals as goal
+
+pub returns-in_err-append_listed_pair-clause-fault : goal.returns-in_err-append_listed_pair-clause-fault
+returns-in_err-append_listed_pair-clause-fault g c =
+    let l = c.loop-index in
+    let json = g.K.JsonPart.json in
+    let is_key = g.K.JsonPart.is_part in
+    let is_value = g.V.JsonPart.is_part in
+    let eq = g.K.PartialEq.eq in
+    let keys = c.args.map.now.lists.keys in
+    let fault = c.in_err-append_listed_pair.field-0.0 in
+    let xs = c.args.items.now in
+    let rest = drop (l.index + 1) xs in
+    let item = c.index-items-index.result in
+    let left = drop_more xs l.index item c.loop-index-test.true ∙ ap (λ x. x ∷ rest) (sym c.index-items-index.is) in
+    let same = ap (λ m. m.keys) l.invariant.read.2 in
+    let all = unless_other (IsPairFault json is_key is_value eq l.index l.map.lists.keys (view item)) (IsPairsFault json is_key is_value eq 0 keys (items_view xs))
+    (λ f is. l.invariant.fault f (pairs_fault_here json is_key is_value eq l.index keys (drop l.index xs) rest item f left (subst (λ js. IsPairFault json is_key is_value eq l.index js (view item) f) same is))) fault c.in_err-append_listed_pair.ensures.fault in
+    passed_on c.from_residual.result _ fault c.from_residual.ensures.1 all
+
+pub loop-index-preserved : goal.loop-index-preserved
+loop-index-preserved g c =
+    let l = c.loop-index in
+    let json = g.K.JsonPart.json in
+    let value_json = g.V.JsonPart.json in
+    let is_key = g.K.JsonPart.is_part in
+    let is_value = g.V.JsonPart.is_part in
+    let eq = g.K.PartialEq.eq in
+    let first = c.args.map.now.lists in
+    let xs = c.args.items.now in
+    let rest = drop (l.index + 1) xs in
+    let item = c.index-items-index.result in
+    let seen = take_more xs l.index item c.loop-index-test.true ∙ ap (λ x. take l.index xs ++ x ∷ []) (sym c.index-items-index.is) in
+    let left = drop_more xs l.index item c.loop-index-test.true ∙ ap (λ x. x ∷ rest) (sym c.index-items-index.is) in
+    let read = l.invariant.read in
+    let same = ap (λ m. m.keys) read.2 in
+    let more = c.in_ok-append_listed_pair.ensures.read in
+    let p : g.row.K.Denot × g.row.V.Denot = more.pair in
+    let listed = ap (λ js. is_listed eq js p.0) (sym same) ∙ more.listed in
+    record {
+      read = (
+        read.0 ++ p ∷ [],
+        ap (map view) seen ∙ one_read (pair_json json value_json) (take l.index xs) item read.0 p more.json read.1,
+        one_under eq first.keys first.pairs read.0 p l.map.lists c.append_listed_pair.new.map.lists read.2 more.appended,
+        each_listed-push eq first.keys read.0 p read.3 listed,
+      );
+      accepted = l.invariant.accepted ∙ ap (λ ys. first_fault is_key is_value l.index (items_view ys)) left ∙ fault_behind is_key is_value l.index item rest (more.accepted l.index);
+      fault = λ f is. l.invariant.fault f (pairs_fault_later json is_key is_value eq value_json l.index (l.index + 1) first.keys (drop l.index xs) rest item p f left (omega arith) more.json more.accepted listed is);
+      hasher = c.append_listed_pair.ensures.hasher ∙ l.invariant.hasher;
+      unused = λ unused. c.append_listed_pair.ensures.unused (l.invariant.unused unused);
+    }
+
+pub loop-index-init : goal.loop-index-init
+loop-index-init g c =
+    let first = c.args.map.now.lists in
+    record {
+      read = ([], refl, c.reserve_values-reserved.ensures.unchanged ∙ ap (lists first.keys) (sym (append-nil first.pairs)), λ k never. absurd never);
+      accepted = refl;
+      fault = λ f is. is;
+      hasher = c.reserve_values-reserved.ensures.rooms.hasher;
+      unused = λ unused. still_unused unused c.reserve_values-reserved.ensures.taken;
+    }

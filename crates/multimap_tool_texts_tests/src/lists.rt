@@ -1,0 +1,175 @@
+//! Maps that are written as JSON values with both lists, and read of JSON texts of that form.
+use crate::maps::{has_keys, is_read_as};
+use crate::parts::has_text;
+use multimap_tool::json::{ReadFault, from_value, to_value, to_value_2};
+use ordered_multimap::ListOrderedMultimap;
+use ordered_multimap::list_ordered_multimap::DefaultState;
+use serde_json::Value;
+use std::alloc::Global;
+use test_helpers::{Failed, Test};
+
+type Numbers = ListOrderedMultimap<u32, i64>;
+
+/// Whether the map is written as the text, with both lists, and what was written is read as an
+/// equal map.
+fn is_written(alloc: Global, map: &Numbers, text: &str) -> bool {
+    match to_value_2(alloc, map) {
+        Ok(value) => has_text(alloc, &value, text) && is_read_as(alloc, &value, map),
+        Err(_) => false,
+    }
+}
+
+fn read_value(alloc: Global, value: &Value) -> Result<Numbers, ReadFault> {
+    from_value(alloc, alloc, DefaultState::new(), value)
+}
+
+/// Reads a map from a text: whether it has these keys in order, and is written as the other text;
+/// or the fault.
+fn read(alloc: Global, text: &str, keys: &[u32], written: &str) -> Result<bool, ReadFault> {
+    let Ok(value) = Value::from_str(alloc, text) else {
+        return Ok(false);
+    };
+    match read_value(alloc, &value) {
+        Ok(map) => Ok(has_keys(&map, keys) && is_written(alloc, &map, written)),
+        Err(fault) => Err(fault),
+    }
+}
+
+/// Texts of maps with the keys, and the text as which each is written.
+const MAPS: &[(&str, &[u32], &str)] = &[
+    (
+        "{\"keys\":[],\"pairs\":[]}",
+        &[],
+        "{\"keys\":[],\"pairs\":[]}",
+    ),
+    (
+        "{\"keys\":[2,1],\"pairs\":[[1,5],[2,6],[1,7]]}",
+        &[2, 1],
+        "{\"keys\":[2,1],\"pairs\":[[1,5],[2,6],[1,7]]}",
+    ),
+    // A file of the first version, and one of the second, as they are stored.
+    (
+        "[\n  [7, -1],\n  [3, 0],\n  [7, 2]\n]\n",
+        &[7, 3],
+        "{\"keys\":[7,3],\"pairs\":[[7,-1],[3,0],[7,2]]}",
+    ),
+    (
+        "{\n  \"pairs\": [\n    [7, -1],\n    [3, 0],\n    [7, 2]\n  ],\n  \"keys\": [3, 7]\n}\n",
+        &[3, 7],
+        "{\"keys\":[3,7],\"pairs\":[[7,-1],[3,0],[7,2]]}",
+    ),
+];
+
+/// Texts of no map, with the fault.
+const BAD: &[(&str, ReadFault)] = &[
+    ("{}", ReadFault::NotVersion2),
+    ("{\"keys\":[1]}", ReadFault::NotVersion2),
+    (
+        "{\"keys\":[1],\"pairs\":[[1,2]],\"v\":2}",
+        ReadFault::NotVersion2,
+    ),
+    ("{\"keys\":[\"x\"],\"pairs\":7}", ReadFault::NotVersion2),
+    ("{\"keys\":{},\"pairs\":[]}", ReadFault::NotVersion2),
+    ("{\"keys\":[1],\"values\":[[1,2]]}", ReadFault::NotVersion2),
+    (
+        "{\"keys\":[\"x\"],\"pairs\":[[1]]}",
+        ReadFault::BadListedKey(0),
+    ),
+    (
+        "{\"keys\":[1,1,\"x\"],\"pairs\":[[1,2]]}",
+        ReadFault::RepeatedKey(1),
+    ),
+    (
+        "{\"keys\":[1,1],\"pairs\":[[1,2]]}",
+        ReadFault::RepeatedKey(1),
+    ),
+    (
+        "{\"keys\":[1],\"pairs\":[[1,5],[3]]}",
+        ReadFault::NotPair(1),
+    ),
+    (
+        "{\"keys\":[1],\"pairs\":[[2,2.5]]}",
+        ReadFault::UnlistedKey(0),
+    ),
+    (
+        "{\"keys\":[1,2],\"pairs\":[[1,5]]}",
+        ReadFault::UnusedKey(1),
+    ),
+    ("{\"keys\":[1],\"pairs\":[]}", ReadFault::UnusedKey(0)),
+    ("{\"keys\":[],\"pairs\":[[1,5]]}", ReadFault::UnlistedKey(0)),
+];
+
+/// The same where the first pair has no value, and where a later pair is bad.
+const BAD_PAIRS: &[(&str, ReadFault)] = &[
+    ("{\"keys\":[1,1],\"pairs\":[]}", ReadFault::RepeatedKey(1)),
+    (
+        "{\"keys\":[2,1,2],\"pairs\":[[1]]}",
+        ReadFault::RepeatedKey(2),
+    ),
+    ("{\"keys\":[1],\"pairs\":[7]}", ReadFault::NotPair(0)),
+    (
+        "{\"keys\":[1],\"pairs\":[[\"x\",2.5]]}",
+        ReadFault::BadKey(0),
+    ),
+    (
+        "{\"keys\":[1,2],\"pairs\":[[1,2.5],7]}",
+        ReadFault::BadValue(0),
+    ),
+    (
+        "{\"keys\":[1],\"pairs\":[[1,5],[-1,6]]}",
+        ReadFault::BadKey(1),
+    ),
+    (
+        "{\"keys\":[1],\"pairs\":[[1,5],[2,true]]}",
+        ReadFault::UnlistedKey(1),
+    ),
+    (
+        "{\"keys\":[1],\"pairs\":[[1,5],[2,6],[3]]}",
+        ReadFault::UnlistedKey(1),
+    ),
+    (
+        "{\"keys\":[1,2],\"pairs\":[[1,5],[1,true]]}",
+        ReadFault::BadValue(1),
+    ),
+];
+
+fn maps_are_read(test: &Test) {
+    for (row, (text, keys, written)) in MAPS.iter().enumerate() {
+        let told = read(test.alloc(), text, keys, written);
+        test.expect_at("a map", row, told == Ok(true));
+    }
+}
+
+fn faults_are_found(test: &Test, rows: &[(&str, ReadFault)]) {
+    for (row, (text, fault)) in rows.iter().enumerate() {
+        let told = read(test.alloc(), text, &[], "");
+        test.expect_at("a fault", row, told == Err(*fault));
+    }
+}
+
+/// Whether the map is written by its pairs alone as the text.
+fn has_pairs(alloc: Global, map: &Numbers, text: &str) -> bool {
+    to_value(alloc, map).is_ok_and(|value| has_text(alloc, &value, text))
+}
+
+fn a_map_is_written(test: &Test, map: &mut Numbers) {
+    let empty = is_written(test.alloc(), map, "{\"keys\":[],\"pairs\":[]}");
+    test.expect("an empty map", empty);
+    for (key, value) in [(1, 10), (2, 20), (1, 30)] {
+        test.expect("insert", map.insert(key, value).is_ok());
+    }
+    let wanted = "{\"keys\":[1,2],\"pairs\":[[2,20],[1,30]]}";
+    test.expect("a map", is_written(test.alloc(), map, wanted));
+    let pairs = has_pairs(test.alloc(), map, "[[2,20],[1,30]]");
+    test.expect("its pairs alone", pairs);
+}
+
+#[test]
+fn maps_are_written_and_read_with_both_lists(rt: HostRuntime) -> Result<(), Failed> {
+    let test = Test::new(rt.alloc());
+    maps_are_read(&test);
+    faults_are_found(&test, BAD);
+    faults_are_found(&test, BAD_PAIRS);
+    a_map_is_written(&test, &mut ListOrderedMultimap::new(test.alloc()));
+    test.end()
+}
