@@ -89,8 +89,10 @@ impl<'a> PlainMap<'a> {
         if self.count_of(key) < 2 {
             return None;
         }
-        let at = self.position_of(key, index)?;
-        Some(self.pairs.remove(at))
+        match self.position_of(key, index) {
+            Some(at) if at < self.pairs.len() => Some(self.pairs.remove(at)),
+            _ => None,
+        }
     }
 
     // The position of the pair at an index among those of a key.
