@@ -1,8 +1,7 @@
 -- A command that is none of those that a function of a run answers is one of the next function's.
 use Rattle.std.proofs.Common.{◌≢◌, ℕ, refl}
-use Rattle.multimap_tool.specs.declared.commands.Command.TheVariants.{RemoveAt}
 use Rattle.multimap_tool.specs.declared.commands.Command.{Command}
-use Rattle.multimap_tool.specs.declared.commands.Command.TheVariants.{Append, Insert, InsertAll, SetFirst, SetFront, SetBack, OrInsert, Remove, RemoveAll, RemoveEntry, RemoveEntryAll, PopFront, PopBack, Retain, Clear, Reserve, PackToFit, Swap, Json, Json2}
+use Rattle.multimap_tool.specs.declared.commands.Command.TheVariants.{Append, Insert, InsertAll, SetFirst, SetFront, SetBack, OrInsert, Remove, RemoveAll, RemoveEntry, RemoveEntryAll, RemoveAt, PopFront, PopBack, Retain, Clear, Reserve, PackToFit, Swap, Json, Json2}
 use Rattle.multimap_tool.specs.Step.{IsLookUp}
 use Rattle.multimap_tool.specs.RunRooms.{IsAddition}
 use Rattle.multimap_tool.specs.Groups.{IsInPlace, WritesOrRemoves, RemovesOrLooksUp}

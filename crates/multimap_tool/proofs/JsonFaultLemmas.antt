@@ -1,5 +1,5 @@
 -- What is wrong with a JSON value of both lists of a map, and which bad item is the first.
-use Rattle.std.proofs.Common.{◌≡◌, ◌⊎◌, ℕ, suc, ◌==◌, Bool, true, false, cond, List, [], ◌∷◌, ◌++◌, length, map, Option, Some, None, refl, sym, ap, ap₂, ◌∙◌, subst, arith, inl, inr}
+use Rattle.std.proofs.Common.{◌≡◌, ◌⊎◌, ℕ, suc, ◌==◌, Bool, true, false, cond, List, [], ◌∷◌, ◌++◌, length, map, Some, None, refl, sym, ap, ap₂, ◌∙◌, subst, arith, inl, inr}
 use Rattle.std.specs.List.{IsDistinct}
 use Rattle.std.specs.Map.{keys_of}
 use Rattle.serde_json.specs.Data.{Data, array, item, no_items}
@@ -7,80 +7,10 @@ use Rattle.serde_json.specs.View.{view, items_of, items_view}
 use Rattle.serde_json.specs.declared.value.Value.{Value}
 use Rattle.ordered_multimap.specs.Lists.{Lists, lists}
 use Rattle.ordered_multimap.specs.Keys.{is_listed}
-use Rattle.multimap_tool.specs.Json.{item_fault, first_fault, IsFound, pair_json}
-use Rattle.multimap_tool.specs.JsonLists.{first_unused, UnlessMemory, IsReadKey, AreReadKeys, IsListedKeyFault, IsKeysFault, HasListedKey, IsPairFault, IsPairsFault, IsListsFault, AreReadLists}
+use Rattle.multimap_tool.specs.Json.{item_fault, first_fault, pair_json}
+use Rattle.multimap_tool.specs.JsonLists.{first_unused, IsReadKey, AreReadKeys, IsListedKeyFault, IsKeysFault, HasListedKey, IsPairFault, IsPairsFault, IsListsFault, AreReadLists}
 use Rattle.multimap_tool.specs.declared.json.faults.ReadFault.{ReadFault}
-use Rattle.multimap_tool.specs.declared.json.faults.ReadFault.TheVariants.{NotArray, NotVersion2, BadListedKey, RepeatedKey, NotPair, BadKey, UnlistedKey, BadValue, UnusedKey, OutOfMemory}
-
--- a fault of one kind is one of another
-pub unless_other : (P Q : ReadFault → Type 0) → ((f : ReadFault) → P f → Q f) → (f : ReadFault) → UnlessMemory P f → UnlessMemory Q f
-unless_other P Q other NotArray is = other NotArray is
-unless_other P Q other NotVersion2 is = other NotVersion2 is
-unless_other P Q other (BadListedKey i) is = other (BadListedKey i) is
-unless_other P Q other (RepeatedKey i) is = other (RepeatedKey i) is
-unless_other P Q other (NotPair i) is = other (NotPair i) is
-unless_other P Q other (BadKey i) is = other (BadKey i) is
-unless_other P Q other (UnlistedKey i) is = other (UnlistedKey i) is
-unless_other P Q other (BadValue i) is = other (BadValue i) is
-unless_other P Q other (UnusedKey i) is = other (UnusedKey i) is
-unless_other P Q other OutOfMemory is = tt
-
--- the fault that was to be found
-pub found_is : (o : Option ReadFault) (f : ReadFault) → IsFound o f → UnlessMemory (λ g. o ≡ Some g) f
-found_is o NotArray e = e
-found_is o NotVersion2 e = e
-found_is o (BadListedKey i) e = e
-found_is o (RepeatedKey i) e = e
-found_is o (NotPair i) e = e
-found_is o (BadKey i) e = e
-found_is o (UnlistedKey i) e = e
-found_is o (BadValue i) e = e
-found_is o (UnusedKey i) e = e
-found_is o OutOfMemory e = tt
-
-pub is_found : (o : Option ReadFault) (f : ReadFault) → UnlessMemory (λ g. o ≡ Some g) f → IsFound o f
-is_found o NotArray e = e
-is_found o NotVersion2 e = e
-is_found o (BadListedKey i) e = e
-is_found o (RepeatedKey i) e = e
-is_found o (NotPair i) e = e
-is_found o (BadKey i) e = e
-is_found o (UnlistedKey i) e = e
-is_found o (BadValue i) e = e
-is_found o (UnusedKey i) e = e
-is_found o OutOfMemory e = tt
-
--- a fault that wants no memory is of its kind
-pub unless_is : (P : ReadFault → Type 0) (f : ReadFault) → (f ≡ OutOfMemory → ⊥) → UnlessMemory P f → P f
-unless_is P NotArray other is = is
-unless_is P NotVersion2 other is = is
-unless_is P (BadListedKey i) other is = is
-unless_is P (RepeatedKey i) other is = is
-unless_is P (NotPair i) other is = is
-unless_is P (BadKey i) other is = is
-unless_is P (UnlistedKey i) other is = is
-unless_is P (BadValue i) other is = is
-unless_is P (UnusedKey i) other is = is
-unless_is P OutOfMemory other is = absurd (other refl)
-
-pub unless_made : (P : ReadFault → Type 0) (f : ReadFault) → P f → UnlessMemory P f
-unless_made P NotArray is = is
-unless_made P NotVersion2 is = is
-unless_made P (BadListedKey i) is = is
-unless_made P (RepeatedKey i) is = is
-unless_made P (NotPair i) is = is
-unless_made P (BadKey i) is = is
-unless_made P (UnlistedKey i) is = is
-unless_made P (BadValue i) is = is
-unless_made P (UnusedKey i) is = is
-unless_made P OutOfMemory is = tt
-
--- nor in what was written of the pairs alone
-pub no_fault_in_pairs : (o : Option ReadFault) (f : ReadFault) → o ≡ None → (f ≡ OutOfMemory → ⊥) → UnlessMemory (λ g. o ≡ Some g) f → ⊥
-no_fault_in_pairs o f none other fault = both (unless_is (λ g. o ≡ Some g) f other fault)
-  where
-    both : o ≡ Some f → ⊥
-    both some = absurd (grind arith)
+use Rattle.multimap_tool.specs.declared.json.faults.ReadFault.TheVariants.{BadKey, BadValue, UnusedKey}
 
 -- the first bad item is the first one, or it comes later
 module _ {K : Type 0} (key_json : K → Data) (is_key is_value : Data → Bool) (eq : K → K → Bool) where
@@ -112,19 +42,6 @@ module _ {K : Type 0} (key_json : K → Data) (is_key is_value : Data → Bool) 
       good_key a b none =
           let P : Bool → Type 0 = λ t. cond t (cond (is_value b) None (Some (BadValue i))) (Some (BadKey i)) ≡ None → t ≡ true in
           elim (is_key a) as P [ true ↦ λ _. refl | false ↦ λ never. absurd (grind arith) ] none
-
-module _ {K : Type 0} (key_json : K → Data) (is_key is_value : Data → Bool) (eq : K → K → Bool) where
-  -- a pair whose value is refused
-  pub refused_is : (i : ℕ) (keys : List K) (d value : Data) (k : K) → d ≡ array (item (key_json k) (item value no_items)) → is_key (key_json k) ≡ true → is_value value ≡ false
-      → IsPairFault key_json is_key is_value eq i keys d (cond (is_listed eq keys k) (BadValue i) (UnlistedKey i))
-  refused_is i keys d value k is accepted refused =
-      let bad : item_fault is_key is_value i d ≡ Some (BadValue i) = ap (item_fault is_key is_value i) is
-      ∙ ap₂ (λ a b. cond a (cond b None (Some (BadValue i))) (Some (BadKey i))) accepted refused in
-      let P : Bool → Type 0 = λ b. is_listed eq keys k ≡ b → IsPairFault key_json is_key is_value eq i keys d (cond b (BadValue i) (UnlistedKey i)) in
-      elim (is_listed eq keys k) as P [
-        | true ↦ λ listed. inr (inr (k, record { value = value; json = is; accepted = accepted; listed = listed }, bad))
-        | false ↦ λ unlisted. inr (inl (k, record { value = value; json = is; accepted = accepted; listed = unlisted }, refl))
-      ] refl
 
 -- a map of nothing, and what is wrong where there is no value
 module _ {K V : Type 0} (key_json : K → Data) (value_json : V → Data) (is_key is_value : Data → Bool) (eq : K → K → Bool) where

@@ -1,12 +1,12 @@
 -- JSON values of keys, values and maps.
-use Rattle.std.proofs.Common.{◌≡◌, ℕ, suc, ◌==◌, ◌+◌, Bool, true, false, List, [], ◌∷◌, ◌++◌, length, map, get_or, slice_get, Option, Some, None, chars, encode_utf8, ℤ, pos, negsuc, refl, sym, ap, ap₂, ◌∙◌, append_assoc, append-nil, subst, arith, Result, Ok, Err, IfErr, IsErrAnd}
+use Rattle.std.proofs.Common.{◌≡◌, ℕ, suc, ◌==◌, ◌+◌, Bool, true, false, List, [], ◌∷◌, ◌++◌, length, map, slice_get, Option, Some, None, chars, encode_utf8, ℤ, pos, negsuc, refl, sym, ap, ap₂, ◌∙◌, append_assoc, append-nil, subst, arith, Result, Ok, Err, IfErr, IsErrAnd}
 use lib.Utf8.{scalars}
 use Rattle.std.specs.Str.{IsUtf8}
 use Rattle.std.specs.Option.{option_or}
 use Rattle.std.proofs.lemmas.Bool.{ne_eqb}
 use Rattle.std.proofs.lemmas.List.{map-append}
 use Rattle.std.proofs.lemmas.Str.{chars-encodes, chars_past_char}
-use Rattle.serde_json.specs.Data.{Data, null, boolean, number, unsigned, string, array, object, Items, item, no_items}
+use Rattle.serde_json.specs.Data.{Data, null, boolean, number, unsigned, string, array, object, Items, item}
 use Rattle.serde_json.specs.Find.{as_array, as_str, of_integer}
 use Rattle.serde_json.specs.View.{view, items_of, items_view}
 use Rattle.serde_json.specs.declared.value.Value.{Value}
@@ -59,21 +59,7 @@ not_one x y (z ∷ xs) e = ne_eqb _ 1 (λ is. omega arith)
 pub more_characters : (s rest : List ℕ) (c d : ℕ) → IsUtf8 s → s ≡ encode_utf8 c ++ rest → slice_get (chars rest) 0 ≡ Some d → is_character (string s) ≡ false
 more_characters s rest c d utf8 starts goes_on = rw (chars_past_char s rest c utf8 starts) (not_one c d (chars rest) goes_on)
 
--- an array of two has its two items
-pub array_of_two : (vs : List Value) (d : Value) → length vs ≡ 2 → array (items_view vs) ≡ array (item (view (get_or vs 0 d)) (item (view (get_or vs 1 d)) no_items))
-array_of_two [] d two = absurd (omega arith)
-array_of_two (v ∷ []) d two = absurd (omega arith)
-array_of_two (v ∷ w ∷ []) d two = refl
-array_of_two (v ∷ w ∷ x ∷ more) d two = absurd (omega arith)
-
 module _ (is_key is_value : Data → Bool) where
-  -- an array that isn't as long as two is no pair
-  pub no_pair : (i : ℕ) (vs : List Value) → (length vs ≡ 2 → ⊥) → item_fault is_key is_value i (array (items_view vs)) ≡ Some (NotPair i)
-  no_pair i [] other = refl
-  no_pair i (v ∷ []) other = refl
-  no_pair i (v ∷ w ∷ []) other = absurd (other (omega arith))
-  no_pair i (v ∷ w ∷ x ∷ more) other = refl
-
   pub nones : {T : Type 0} (o p : Option T) → option_or o p ≡ None → (o ≡ None) × (p ≡ None)
   nones None p e = (refl, e)
   nones (Some x) p e = absurd (grind arith)
@@ -91,18 +77,35 @@ module _ (is_key is_value : Data → Bool) where
       → first_fault is_key is_value i (items_view (v ∷ vs)) ≡ first_fault is_key is_value (i + 1) (items_view vs)
   fault_behind i v vs good = rw good (ap (λ j. first_fault is_key is_value j (items_view vs)) (omega arith))
 
+-- a fault of one kind is one of another
+pub unless_other : (P Q : ReadFault → Type 0) → ((f : ReadFault) → P f → Q f) → (f : ReadFault) → UnlessMemory P f → UnlessMemory Q f
+unless_other P Q other NotArray is = other NotArray is
+unless_other P Q other NotVersion2 is = other NotVersion2 is
+unless_other P Q other (BadListedKey i) is = other (BadListedKey i) is
+unless_other P Q other (RepeatedKey i) is = other (RepeatedKey i) is
+unless_other P Q other (NotPair i) is = other (NotPair i) is
+unless_other P Q other (BadKey i) is = other (BadKey i) is
+unless_other P Q other (UnlistedKey i) is = other (UnlistedKey i) is
+unless_other P Q other (BadValue i) is = other (BadValue i) is
+unless_other P Q other (UnusedKey i) is = other (UnusedKey i) is
+unless_other P Q other OutOfMemory is = tt
+
+-- a fault that wants no memory is of its kind
+pub unless_is : (P : ReadFault → Type 0) (f : ReadFault) → (f ≡ OutOfMemory → ⊥) → UnlessMemory P f → P f
+unless_is P NotArray other is = is
+unless_is P NotVersion2 other is = is
+unless_is P (BadListedKey i) other is = is
+unless_is P (RepeatedKey i) other is = is
+unless_is P (NotPair i) other is = is
+unless_is P (BadKey i) other is = is
+unless_is P (UnlistedKey i) other is = is
+unless_is P (BadValue i) other is = is
+unless_is P (UnusedKey i) other is = is
+unless_is P OutOfMemory other is = absurd (other refl)
+
 -- the fault of an item before others
 pub found_first : (o p : Option ReadFault) (f : ReadFault) → IsFound o f → IsFound (option_or o p) f
-found_first o p NotArray e = ap (λ x. option_or x p) e
-found_first o p NotVersion2 e = ap (λ x. option_or x p) e
-found_first o p (BadListedKey i) e = ap (λ x. option_or x p) e
-found_first o p (RepeatedKey i) e = ap (λ x. option_or x p) e
-found_first o p (NotPair i) e = ap (λ x. option_or x p) e
-found_first o p (BadKey i) e = ap (λ x. option_or x p) e
-found_first o p (UnlistedKey i) e = ap (λ x. option_or x p) e
-found_first o p (BadValue i) e = ap (λ x. option_or x p) e
-found_first o p (UnusedKey i) e = ap (λ x. option_or x p) e
-found_first o p OutOfMemory e = tt
+found_first o p f e = unless_other (λ g. o ≡ Some g) (λ g. option_or o p ≡ Some g) (λ g is. ap (λ x. option_or x p) is) f e
 
 -- a fault that was passed on
 pub passed_on : {T : Type 0} (r : Result T ReadFault) (P : ReadFault → Type 0) (f : ReadFault) → IsErrAnd r (λ g. g ≡ f) → P f → IfErr r P

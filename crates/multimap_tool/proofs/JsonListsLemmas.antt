@@ -1,7 +1,6 @@
 -- JSON values of both lists of a map: what is read of them, and the pairs that stand for the keys.
 use Rattle.std.proofs.Common.{◌≡◌, ℕ, zero, suc, ◌<◌, ◌≤◌, ◌&&◌, ◌||◌, Bool, true, false, cond, not, List, [], ◌∷◌, ◌++◌, length, map, take, drop, Option, Some, None, IfSome, refl, sym, ap, ap₂, ◌∙◌, subst, arith, inl, inr, true≢false}
-use Rattle.std.proofs.lemmas.List.{map-append, append_assoc, length-map, take-append-drop}
-use Rattle.std.proofs.Math.Seq.{take-append_seam, drop-append_seam}
+use Rattle.std.proofs.lemmas.List.{map-append, append_assoc, take-append-drop}
 use Rattle.std.specs.Cmp.{IsEquivalence}
 use Rattle.std.specs.List.{IsDistinct, AllByRecursion}
 use Rattle.std.specs.Map.{keys_of}
@@ -15,14 +14,13 @@ use Rattle.ordered_multimap.specs.Changes.{appended}
 use Rattle.ordered_multimap.specs.Pop.{popped, popped_pair}
 use Rattle.ordered_multimap.proofs.KeyLemmas.{is_listed-self, stored_key_only, stored_key_absent, apart_member, is_present-is_listed}
 use Rattle.ordered_multimap.proofs.Members.{filter-all, keys_of-append}
-use Rattle.multimap_tool.specs.Json.{item_fault, first_fault, pair_json}
-use Rattle.multimap_tool.specs.JsonLists.{both_arrays, each_item, first_unused, under_listed, lists_json, UnlessMemory, IsKeysFault, IsPairsFault, IsListsFault, AreReadLists, IsRead, IsFaultIn, AreAccepted}
+use Rattle.multimap_tool.specs.Json.{item_fault, first_fault, pair_json, UnlessMemory}
+use Rattle.multimap_tool.specs.JsonLists.{both_arrays, each_item, first_unused, under_listed, lists_json, IsKeysFault, IsPairsFault, IsListsFault, AreReadLists, IsRead, IsFaultIn, AreAccepted}
 use Rattle.multimap_tool.specs.JsonSteps.{is_owned_pop}
-use Rattle.multimap_tool.proofs.JsonLemmas.{same_items, same_pairs_json, nones}
+use Rattle.multimap_tool.proofs.JsonLemmas.{same_items, same_pairs_json, nones, unless_is}
 use Rattle.multimap_tool.specs.declared.json.faults.ReadFault.{ReadFault}
 use Rattle.multimap_tool.specs.declared.json.faults.ReadFault.TheVariants.{UnusedKey, OutOfMemory}
 use Rattle.multimap_tool.proofs.JsonShapeLemmas.{each_item-behind, fault_of_key}
-use Rattle.multimap_tool.proofs.JsonFaultLemmas.{unless_is}
 
 module _ {K : Type 0} {eq : K → K → Bool} (laws : IsEquivalence eq) where
   apart_is_unlisted : (k : K) (keys : List K) → AllByRecursion (λ j. eq k j ≡ false) keys → is_listed eq keys k ≡ false
@@ -250,18 +248,3 @@ module _ {K V : Type 0} {eq : K → K → Bool} (laws : IsEquivalence eq) where
 
   pub listed_if_named : (m : Lists K V) (k : K) → keys_of m.pairs ≡ m.keys → is_present eq m.pairs k ≡ is_listed eq m.keys k
   listed_if_named m k same = is_present-is_listed eq k m.pairs ∙ ap (λ ks. is_listed eq ks k) same
-
-module _ {K V : Type 0} where
-  -- the pairs that stand for the keys are the first ones
-  pub record StandFirst (m : Lists K V) (more : List (K × V)) : Type 0 where
-    pub first : keys_of (take (length m.keys) m.pairs) ≡ m.keys
-    pub rest : drop (length m.keys) m.pairs ≡ more
-
-  pub stand_first : (m n : Lists K V) (more : List (K × V)) → keys_of m.pairs ≡ m.keys → n ≡ lists m.keys (m.pairs ++ more) → StandFirst n more
-  stand_first m n more same is =
-      let count : length n.keys ≡ length m.pairs = ap (λ l. length l.keys) is ∙ ap length (sym same) ∙ length-map m.pairs (λ p. p.0) in
-      let pairs : n.pairs ≡ m.pairs ++ more = ap (λ l. l.pairs) is in
-      record {
-        first = ap keys_of (ap₂ (λ i ps. take i ps) count pairs ∙ take-append_seam m.pairs more) ∙ same ∙ sym (ap (λ l. l.keys) is);
-        rest = ap₂ (λ i ps. drop i ps) count pairs ∙ drop-append_seam m.pairs more;
-      }

@@ -3,39 +3,20 @@ use Rattle.std.proofs.Common.{◌≡◌, ℕ, ◌&&◌, Bool, true, false, cond,
 use Rattle.std.proofs.lemmas.Bool.{eq-eqb, ne_eqb}
 use Rattle.serde_json.specs.Data.{Data, null, boolean, number, string, array, object, Items, item, no_items, Members}
 use Rattle.serde_json.specs.Events.{members_len}
-use Rattle.serde_json.specs.Find.{as_array, as_object}
+use Rattle.serde_json.specs.Find.{as_object}
 use Rattle.serde_json.specs.View.{view, items_view}
 use Rattle.serde_json.specs.declared.value.Value.{Value}
 use Rattle.multimap_tool.specs.Json.{item_fault}
 use Rattle.multimap_tool.specs.JsonLists.{any, array_at, parts_of, both_arrays, each_item}
 use Rattle.multimap_tool.specs.declared.json.faults.ReadFault.{ReadFault}
-use Rattle.multimap_tool.specs.declared.json.faults.ReadFault.TheVariants.{NotPair, BadKey, BadValue}
+use Rattle.multimap_tool.specs.declared.json.faults.ReadFault.TheVariants.{BadKey, BadValue}
 
--- arrays of two
-pub no_parts : (d : Data) → as_array d ≡ None → parts_of d ≡ None
-no_parts null e = refl
-no_parts (boolean b) e = refl
-no_parts (number n) e = refl
-no_parts (string s) e = refl
-no_parts (array ds) e = absurd (grind arith)
-no_parts (object ms) e = refl
-
+-- an array that isn't as long as two
 pub parts_of_others : (vs : List Value) → (length vs ≡ 2 → ⊥) → parts_of (array (items_view vs)) ≡ None
 parts_of_others [] other = refl
 parts_of_others (v ∷ []) other = refl
 parts_of_others (v ∷ w ∷ []) other = absurd (other (omega arith))
 parts_of_others (v ∷ w ∷ x ∷ more) other = refl
-
-pub parts_are : (d a b : Data) → parts_of d ≡ Some (a, b) → d ≡ array (item a (item b no_items))
-parts_are null a b e = absurd (grind arith)
-parts_are (boolean x) a b e = absurd (grind arith)
-parts_are (number n) a b e = absurd (grind arith)
-parts_are (string s) a b e = absurd (grind arith)
-parts_are (object ms) a b e = absurd (grind arith)
-parts_are (array no_items) a b e = absurd (grind arith)
-parts_are (array (item c no_items)) a b e = absurd (grind arith)
-parts_are (array (item c (item d no_items))) a b e = ap₂ (λ x y. array (item x (item y no_items))) (grind arith) (grind arith)
-parts_are (array (item c (item d (item f ds)))) a b e = absurd (grind arith)
 
 -- objects with two members
 pub object_is : (d : Data) (ms : Members) → as_object d ≡ Some ms → d ≡ object ms
@@ -60,17 +41,6 @@ both_are d ms keys pairs is two are_keys are_pairs =
     ∙ ap₂ both (ap (array_at (codes "keys")) (sym is) ∙ are_keys) (ap (array_at (codes "pairs")) (sym is) ∙ are_pairs)
 
 module _ (is_key is_value : Data → Bool) where
-  pub no_pair_in : (i : ℕ) (d : Data) → parts_of d ≡ None → item_fault is_key is_value i d ≡ Some (NotPair i)
-  no_pair_in i null e = refl
-  no_pair_in i (boolean x) e = refl
-  no_pair_in i (number n) e = refl
-  no_pair_in i (string s) e = refl
-  no_pair_in i (object ms) e = refl
-  no_pair_in i (array no_items) e = refl
-  no_pair_in i (array (item c no_items)) e = refl
-  no_pair_in i (array (item c (item d no_items))) e = absurd (grind arith)
-  no_pair_in i (array (item c (item d (item f ds)))) e = refl
-
   -- a fault of the shape or of the key, whatever the value is
   pub fault_of_key : (i : ℕ) (d : Data) (f : ReadFault) → item_fault is_key any i d ≡ Some f → item_fault is_key is_value i d ≡ Some f
   fault_of_key i null f e = e

@@ -1,6 +1,5 @@
 -- Runs that go on by one step, and what steps and runs leave.
 use Rattle.std.proofs.Common.{◌≡◌, ℕ, Bool, true, false, cond, List, [], ◌∷◌, ◌++◌, refl, sym, subst, inl, inr, Result, Ok, Err}
-use Rattle.multimap_tool.specs.declared.commands.Command.TheVariants.{RemoveAt}
 use Rattle.std.specs.Prelude.{IfOk}
 use Rattle.std.specs.Cmp.{IsEquivalence}
 use Rattle.ordered_multimap.specs.Lists.{Lists, lists, empty_lists, IsWellFormed}
@@ -19,7 +18,7 @@ use Rattle.ordered_multimap.specs.Retain.{Retains}
 use Rattle.ordered_multimap.specs.Lists.{IsIn}
 use Rattle.std.specs.Map.{keys_of}
 use Rattle.multimap_tool.specs.declared.commands.Command.{Command}
-use Rattle.multimap_tool.specs.declared.commands.Command.TheVariants.{Append, Insert, InsertAll, SetFirst, SetFront, SetBack, OrInsert, Get, All, Has, Len, Front, Back, Remove, RemoveAll, RemoveEntry, RemoveEntryAll, PopFront, PopBack, Retain, Clear, Reserve, PackToFit, Swap, Json, Json2, Pairs, Keys, Values, KeyLists, Lengths}
+use Rattle.multimap_tool.specs.declared.commands.Command.TheVariants.{Append, Insert, InsertAll, SetFirst, SetFront, SetBack, OrInsert, Get, All, Has, Len, Front, Back, Remove, RemoveAll, RemoveEntry, RemoveEntryAll, RemoveAt, PopFront, PopBack, Retain, Clear, Reserve, PackToFit, Swap, Json, Json2, Pairs, Keys, Values, KeyLists, Lengths}
 use Rattle.multimap_tool.specs.declared.replies.Reply.{Reply}
 use Rattle.multimap_tool.specs.Step.{Leaves, IsOwnStep, IsStep, KeepsPairs, entered}
 use Rattle.multimap_tool.specs.Runs.{IsRun}

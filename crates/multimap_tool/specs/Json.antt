@@ -75,7 +75,11 @@ module _ (is_key is_value : Data → Bool) where
   fault_in (array ds) = first_fault 0 ds
   fault_in d = Some NotArray
 
+-- a fault of this kind, or want of memory
+abbrev pub UnlessMemory : (ReadFault → Type 0) → ReadFault → Type 0
+UnlessMemory IsFault OutOfMemory = Unit {0}
+UnlessMemory IsFault fault = IsFault fault
+
 -- a fault is the one that was to be found, unless memory was wanting
 abbrev pub IsFound : Option ReadFault → ReadFault → Type 0
-IsFound found OutOfMemory = Unit {0}
-IsFound found fault = found ≡ Some fault
+IsFound found = UnlessMemory (λ fault. found ≡ Some fault)

@@ -60,11 +60,6 @@ each_item test (item d ds) = test d && each_item test ds
 abbrev pub any : Data → Bool
 any d = true
 
--- a fault of this kind, or want of memory
-abbrev pub UnlessMemory : (ReadFault → Type 0) → ReadFault → Type 0
-UnlessMemory IsFault OutOfMemory = Unit {0}
-UnlessMemory IsFault fault = IsFault fault
-
 -- the first key that none of the named keys equals, counted from a position on, is unused
 abbrev pub first_unused : {K : Type 0} → (K → K → Bool) → ℕ → List K → List K → Option ReadFault
 first_unused eq i [] named = None

@@ -6,9 +6,9 @@ ghost use Rattle.serde_json.specs.Find.{as_array};
 ghost use Rattle.serde_json.specs.View.{view, items_view};
 ghost use Rattle.ordered_multimap.specs.Lists.{empty_lists};
 ghost use Rattle.ordered_multimap.specs.TapeNumbers.{AreUnused};
-ghost use Rattle.multimap_tool.specs.Json.{AppendsRead, IsFound, IsReadFrom, fault_in, item_fault};
+ghost use Rattle.multimap_tool.specs.Json.{AppendsRead, IsFound, IsReadFrom, fault_in, item_fault, UnlessMemory};
 ghost use Rattle.multimap_tool.specs.Json.{pair_json, pairs_json};
-ghost use Rattle.multimap_tool.specs.JsonLists.{IsRead, IsFaultIn, UnlessMemory, has_form};
+ghost use Rattle.multimap_tool.specs.JsonLists.{IsRead, IsFaultIn, has_form};
 ghost use Rattle.multimap_tool.specs.JsonLists.{both_arrays};
 
 mod faults;

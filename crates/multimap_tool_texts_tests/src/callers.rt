@@ -1,10 +1,11 @@
-//! A proved caller of the law that what is written of a map is read, at numbers.
+//! Proved callers of the laws that what is written of a map is read, at numbers.
 ghost use Rattle.std.specs.Prelude.{◌≡◌, ℕ, ℤ};
 ghost use Rattle.ordered_multimap.specs.Lists.{Lists, IsWellFormed};
 ghost use Rattle.multimap_tool.specs.Json.{IsReadFrom, pairs_json};
+ghost use Rattle.multimap_tool.specs.JsonLists.{IsRead, lists_json};
 
 use multimap_tool::json::JsonPart;
-use multimap_tool::laws::what_is_written_is_read;
+use multimap_tool::laws::{json_two_lists, what_is_written_is_read};
 
 /// What is read of the JSON value of a map of numbers has its pairs.
 pub fn pairs_of_numbers_are_read()
@@ -14,4 +15,14 @@ pub fn pairs_of_numbers_are_read()
         → n.pairs ≡ m.pairs }
 {
     what_is_written_is_read::<u32, i64>();
+}
+
+/// What is read of the JSON value of both lists of a map of numbers are the very lists.
+pub fn lists_of_numbers_are_read()
+    ensures { (m n : Lists ℕ ℤ) → IsWellFormed ⟦<u32 as PartialEq>⟧.eq m
+        → IsRead ⟦<u32 as JsonPart>⟧.json ⟦<i64 as JsonPart>⟧.json ⟦<u32 as JsonPart>⟧.is_part
+        ⟦<i64 as JsonPart>⟧.is_part ⟦<u32 as PartialEq>⟧.eq
+        (lists_json ⟦<u32 as JsonPart>⟧.json ⟦<i64 as JsonPart>⟧.json m) n → n ≡ m }
+{
+    json_two_lists::<u32, i64>();
 }

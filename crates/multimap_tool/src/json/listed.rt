@@ -13,7 +13,8 @@ ghost use Rattle.ordered_multimap.specs.Pops.{IsPopped, popped_of};
 ghost use Rattle.ordered_multimap.specs.TapeNumbers.{AreUnused};
 ghost use Rattle.multimap_tool.specs.JsonLists.{AreReadKeys, IsReadKey, IsKeysFault};
 ghost use Rattle.multimap_tool.specs.JsonLists.{IsListedKeyFault, IsPairFault, IsPairsFault};
-ghost use Rattle.multimap_tool.specs.JsonLists.{UnlessMemory, first_unused};
+ghost use Rattle.multimap_tool.specs.Json.{UnlessMemory};
+ghost use Rattle.multimap_tool.specs.JsonLists.{first_unused};
 ghost use Rattle.multimap_tool.specs.JsonSteps.{AppendsPair, AppendsPairs, is_owned_pop};
 
 use super::faults::{PartFault, ReadFault};

@@ -6,7 +6,8 @@ ghost use Rattle.serde_json.specs.View.{view, items_view};
 ghost use Rattle.ordered_multimap.specs.Lists.{empty_lists};
 ghost use Rattle.ordered_multimap.specs.TapeNumbers.{AreUnused};
 ghost use Rattle.multimap_tool.specs.JsonLists.{array_at, both_arrays, has_value};
-ghost use Rattle.multimap_tool.specs.JsonLists.{AreReadLists, IsListsFault, IsPairsFault, UnlessMemory};
+ghost use Rattle.multimap_tool.specs.Json.{UnlessMemory};
+ghost use Rattle.multimap_tool.specs.JsonLists.{AreReadLists, IsListsFault, IsPairsFault};
 
 use super::faults::{PartFault, ReadFault};
 use super::items::{read_key, two_parts};

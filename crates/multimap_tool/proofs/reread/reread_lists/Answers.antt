@@ -1,5 +1,6 @@
 use Rattle.std.proofs.Common.{inl, IfSome, subst, ◌∙◌}
-use Rattle.multimap_tool.specs.JsonLists.{both_arrays, AreAccepted, IsRead, IsFaultIn, UnlessMemory}
+use Rattle.multimap_tool.specs.Json.{UnlessMemory}
+use Rattle.multimap_tool.specs.JsonLists.{both_arrays, AreAccepted, IsRead, IsFaultIn}
 use Rattle.multimap_tool.proofs.JsonListsLemmas.{read_lists_back, no_fault_in_lists}
 use Rattle.multimap_tool.proofs.reread.reread_lists.Goals as goal
 
