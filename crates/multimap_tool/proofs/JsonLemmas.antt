@@ -15,7 +15,7 @@ use Rattle.ordered_multimap.specs.Lists.{Lists, lists, IsWellFormed}
 use Rattle.ordered_multimap.specs.Changes.{appended, all_appended, built_from, first_occurrences}
 use Rattle.ordered_multimap.proofs.LawLemmas.{rebuilt}
 use Rattle.ordered_multimap.specs.TapeNumbers.{TapeNumbers, AreUnused, TakesOut}
-use Rattle.multimap_tool.specs.Json.{is_character, item_fault, first_fault, IsFound, pair_json, pairs_json, IsReadFrom}
+use Rattle.multimap_tool.specs.Json.{is_character, item_fault, first_fault, IsFound, UnlessMemory, pair_json, pairs_json, IsReadFrom}
 use Rattle.multimap_tool.specs.declared.json.faults.ReadFault.{ReadFault}
 use Rattle.multimap_tool.specs.declared.json.faults.ReadFault.TheVariants.{NotArray, NotVersion2, BadListedKey, RepeatedKey, NotPair, BadKey, UnlistedKey, BadValue, UnusedKey, OutOfMemory}
 
