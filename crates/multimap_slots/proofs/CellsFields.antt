@@ -32,5 +32,10 @@ module _ (a : NamedLft) (R : RattleType) where
 
   pub words_open : {M : Type 1} {𝓤 : Ura M} (𝓛 : Logic 𝓤) → Opens 𝓛 Words
   words_open {M} {𝓤 = 𝓤} 𝓛 =
-      (Struct-Copied 𝓛 (shape (C.the_type a R)) (refl, (refl, (refl, tt)))
-      (RawPtr-copy.copied M 𝓤 𝓛, (usize-copy.copied M 𝓤 𝓛, ((field_copy (Mark.the_type (MutRef a.mir a.lft R)) tt).copied M 𝓤 𝓛, tt)))).opens
+      (Struct-Copied 𝓛 (shape (C.the_type a R)) (refl, (refl, (refl, tt))) (
+        RawPtr-copy.copied M 𝓤 𝓛,
+        (
+          usize-copy.copied M 𝓤 𝓛,
+          ((field_copy (Mark.the_type (MutRef a.mir a.lft R)) tt).copied M 𝓤 𝓛, tt),
+        ),
+      )).opens

@@ -24,7 +24,8 @@ module _ {T L A : Type 0} {old new : SlotCells T L A} {place : ℕ} {r : MutBor 
   }
 
 -- the same items are lent where another loan is followed
-pub LendsSlots-renamed : {T L A : Type 0} {s : Slots T L} {c : SlotCells T L A} (whole : GName) (around : Option (List (Bool × Gv))) → LendsSlots s c
+pub LendsSlots-renamed : {T L A : Type 0} {s : Slots T L} {c : SlotCells T L A} (whole : GName) (around : Option (List (Bool × Gv)))
+    → LendsSlots s c
     → LendsSlots s (record c { cells = record c.cells { whole = whole; around = around } })
 LendsSlots-renamed whole around lent = record {
   slots = lent.slots;
@@ -34,5 +35,6 @@ LendsSlots-renamed whole around lent = record {
 }
 
 -- what is detached stays so, whatever was written
-pub IsDetached-refilled : {T L : Type 0} (s : Slots T L) (items : List (Option T)) (p : ℕ) → IsDetached s p → IsDetached (with_refilled s items) p
+pub IsDetached-refilled : {T L : Type 0} (s : Slots T L) (items : List (Option T)) (p : ℕ) → IsDetached s p
+    → IsDetached (with_refilled s items) p
 IsDetached-refilled s items p d = record { not_listed = d.not_listed; has_item = some-refilled s.items items p d.has_item }

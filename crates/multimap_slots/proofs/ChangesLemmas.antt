@@ -1,5 +1,6 @@
 -- The changes of a slot list, from what its vectors and its order do.
-use Rattle.std.proofs.Common.{◌≡◌, ℕ, ◌+◌, ◌<◌, ◌≤◌, [], ◌∷◌, ◌++◌, length, get_or, set, slice_get, Option, Some, None, IfSome, refl, ap, ◌∙◌}
+use Rattle.std.proofs.Common.{◌≡◌, ℕ, ◌+◌, ◌<◌, ◌≤◌, [], ◌∷◌, ◌++◌, length, get_or, set, slice_get, Option, Some, None, IfSome, refl, ap}
+use Rattle.std.proofs.Common.{◌∙◌}
 use Rattle.std.proofs.lemmas.List.{get_or-set_same, get_or-set_other}
 use Rattle.multimap_slots.specs.Lists.{IsIn, without}
 use Rattle.multimap_slots.specs.ListLayout.{put}
@@ -8,7 +9,8 @@ use Rattle.multimap_slots.proofs.PutLemmas.{get_or-put_same, get_or-put_other, s
 use Rattle.multimap_slots.proofs.SlotsLemmas.{listed_slots-kept, listed_slots-push, listed_slots-remove}
 
 module _ {T L : Type 0} (old new : Slots T L) (place : ℕ) (item : T) where
-  pub PushesBack-put : (link : L) → item_at old place ≡ None → (IsIn place old.order → ⊥) → place ≤ length old.items → place ≤ length old.links
+  pub PushesBack-put : (link : L) → item_at old place ≡ None → (IsIn place old.order → ⊥) → place ≤ length old.items
+      → place ≤ length old.links
       → new.order ≡ old.order ++ place ∷ [] → new.items ≡ put old.items place (Some item) → new.links ≡ put old.links place link
       → PushesBack old new place item link
   PushesBack-put link was_free absent within within_links order items links =
@@ -42,9 +44,10 @@ module _ {T L : Type 0} (old new : Slots T L) (place : ℕ) (item : T) where
   }
 
   pub Removes-set : IsIn place old.order → item_at old place ≡ Some item → place < length old.items
-      → new.order ≡ without old.order place → length new.order + 1 ≡ length old.order → new.items ≡ set old.items place None → new.links ≡ old.links
-      → Removes old new place item
-  Removes-set was_listed had within order shorter items links =
+      → new.order ≡ without old.order place → length new.order + 1 ≡ length old.order → new.items ≡ set old.items place None
+      → new.links ≡ old.links
+      → new.capacity ≡ old.capacity → Removes old new place item
+  Removes-set was_listed had within order shorter items links capacity =
       record {
         was_listed = was_listed;
         had = had;
@@ -53,6 +56,7 @@ module _ {T L : Type 0} (old new : Slots T L) (place : ℕ) (item : T) where
         freed = ap (λ xs. get_or xs place None) items ∙ get_or-set_same old.items place None None within;
         others = others-set items links;
         slots = listed_slots-remove old new place (others-set items links) order;
+        capacity = capacity;
       }
 
   pub TakesDetached-set : (IsIn place old.order → ⊥) → item_at old place ≡ Some item → place < length old.items
@@ -67,7 +71,8 @@ module _ {T L : Type 0} (old new : Slots T L) (place : ℕ) (item : T) where
         slots = listed_slots-kept old new place not_listed (others-set items links) order;
       }
 
-pub Detaches-kept : {T L : Type 0} (old new : Slots T L) (place : ℕ) → new.order ≡ without old.order place → length new.order + 1 ≡ length old.order
+pub Detaches-kept : {T L : Type 0} (old new : Slots T L) (place : ℕ) → new.order ≡ without old.order place
+    → length new.order + 1 ≡ length old.order
     → new.items ≡ old.items → new.links ≡ old.links → Detaches old new place
 Detaches-kept old new place order shorter items links =
     record {

@@ -1,5 +1,6 @@
 -- The number of detached places.
-use Rattle.std.proofs.Common.{◌≡◌, ◌≢◌, ℕ, zero, suc, ◌+◌, ◌<◌, ◌≤◌, List, [], ◌∷◌, length, set, get_or, refl, sym, ap, subst, ◌∙◌, inl, inr, arith}
+use Rattle.std.proofs.Common.{◌≡◌, ◌≢◌, ℕ, zero, suc, ◌+◌, ◌<◌, ◌≤◌, List, [], ◌∷◌, length, set, get_or, refl, sym, ap, subst, ◌∙◌, inl}
+use Rattle.std.proofs.Common.{inr, arith}
 use Rattle.std.proofs.lemmas.Bool.{cases_lt}
 use Rattle.std.proofs.lemmas.List.{get_or-set_same, get_or_past}
 use Rattle.std.proofs.lemmas.List.Sums.{sum_by-cons}
@@ -11,7 +12,8 @@ use Rattle.multimap_slots.proofs.ListsLemmas.{IsIn-without}
 use Rattle.multimap_slots.proofs.PutLemmas.{get_or-put_other}
 
 -- a place that is written
-pub count_detached-put : (ss : List State) (i : ℕ) (s : State) → count_detached (put ss i s) + one_if_detached (get_or ss i Free) ≡ count_detached ss + one_if_detached s
+pub count_detached-put : (ss : List State) (i : ℕ) (s : State)
+    → count_detached (put ss i s) + one_if_detached (get_or ss i Free) ≡ count_detached ss + one_if_detached s
 count_detached-put [] i s = omega (arith, sum_by-cons one_if_detached s [])
 count_detached-put (r ∷ ss) zero s = omega (arith, sum_by-cons one_if_detached r ss, sum_by-cons one_if_detached s ss)
 count_detached-put (r ∷ ss) (suc i) s =
@@ -34,7 +36,8 @@ apart-detached Free unlisted taken = absurd (taken refl)
 apart-detached Detached unlisted taken = refl
 
 -- a place that has just been detached is neither listed nor free
-pub detached-apart : {L : Type 0} {old new : Places L} → AreSound old → (place : ℕ) → IsIn place old.order → new.order ≡ without old.order place
+pub detached-apart : {L : Type 0} {old new : Places L} → AreSound old → (place : ℕ) → IsIn place old.order
+    → new.order ≡ without old.order place
     → new.states ≡ set old.states place Detached → IsApart new place
 detached-apart {old = old} {new} sound place listed order states = record {
   not_listed = λ i. (IsIn-without place old.order place (subst (IsIn place) order i)).1 refl;
@@ -48,12 +51,14 @@ detached-apart {old = old} {new} sound place listed order states = record {
     ]
 
 -- detached places that differ are no more than the detached ones
-pub detached_counted : (places : List ℕ) (ss : List State) → AreDistinct places → ((p : ℕ) → IsIn p places → get_or ss p Free ≡ Detached) → length places ≤ count_detached ss
+pub detached_counted : (places : List ℕ) (ss : List State) → AreDistinct places → ((p : ℕ) → IsIn p places → get_or ss p Free ≡ Detached)
+    → length places ≤ count_detached ss
 detached_counted [] ss distinct all = omega arith
 detached_counted (p ∷ places) ss distinct all =
     let here : get_or ss p Free ≡ Detached = all p (inl refl) in
     let within : p ≤ length ss = some_state ss p here in
-    let fewer = detached_counted places (put ss p Free) distinct.1 (λ q i. get_or-put_other ss p q Free Free within (λ same. distinct.0 (subst (λ x. IsIn x places) same i)) ∙ all q (inr i)) in
+    let fewer = detached_counted places (put ss p Free) distinct.1
+    (λ q i. get_or-put_other ss p q Free Free within (λ same. distinct.0 (subst (λ x. IsIn x places) same i)) ∙ all q (inr i)) in
     omega (arith, fewer, count_detached-put ss p Free, ap one_if_detached here)
   where
     some_state : (ss : List State) (p : ℕ) → get_or ss p Free ≡ Detached → p ≤ length ss

@@ -1,5 +1,6 @@
 -- How each change keeps an item at each place that is not free.
-use Rattle.std.proofs.Common.{◌≡◌, ◌≢◌, ◌⊎◌, ℕ, ◌<◌, ◌≤◌, List, [], ◌∷◌, ◌++◌, length, get_or, set, Option, Some, None, IsSome, refl, sym, ap, ◌∙◌, inl, inr, arith}
+use Rattle.std.proofs.Common.{◌≡◌, ◌≢◌, ◌⊎◌, ℕ, ◌<◌, ◌≤◌, List, [], ◌∷◌, ◌++◌, length, get_or, set, Option, Some, None, IsSome, refl, sym}
+use Rattle.std.proofs.Common.{ap, ◌∙◌, inl, inr, arith}
 use Rattle.std.proofs.lemmas.Bool.{cases_eq, cases_lt}
 use Rattle.std.proofs.lemmas.List.{length-set, get_or-set_same, get_or-set_other, get_or_past}
 use Rattle.multimap_slots.specs.declared.order.node.State.{State}
@@ -33,7 +34,8 @@ module _ {T : Type 0} where
     some_not_free p some e = no_item (get_or items p None) (f.empty p e) some
 
     -- a place is freed, and its item goes
-    pub IsFilled-free : (place : ℕ) (left : List ℕ) → place < length items → ((p : ℕ) → IsIn p left → IsIn p order × (p ≢ place)) → IsFilled (set items place None) left (set states place Free)
+    pub IsFilled-free : (place : ℕ) (left : List ℕ) → place < length items → ((p : ℕ) → IsIn p left → IsIn p order × (p ≢ place))
+        → IsFilled (set items place None) left (set states place Free)
     IsFilled-free place left within others =
         record {
           same_length = length-set items place None ∙ f.same_length ∙ sym (length-set states place Free);
@@ -41,12 +43,15 @@ module _ {T : Type 0} where
               let was = others p j in
               rw (get_or-set_other items place p None None was.1) (f.filled p was.0);
           kept = λ p e. elim (cases_eq p place) [
-            | inl same ↦ absurd (let bad = sym (get_or-set_same states place Free Free within_states) ∙ ap (λ x. get_or (set states place Free) x Free) (sym same) ∙ e in cc)
-            | inr differs ↦ rw (get_or-set_other items place p None None differs) (f.kept p (sym (get_or-set_other states place p Free Free differs) ∙ e))
+            | inl same ↦ absurd (let bad = sym (get_or-set_same states place Free Free within_states)
+                ∙ ap (λ x. get_or (set states place Free) x Free) (sym same) ∙ e in cc)
+            | inr differs ↦ rw (get_or-set_other items place p None None differs)
+                (f.kept p (sym (get_or-set_other states place p Free Free differs) ∙ e))
           ];
           empty = λ p e. elim (cases_eq p place) [
             | inl same ↦ rw (same, get_or-set_same items place None None within) refl
-            | inr differs ↦ get_or-set_other items place p None None differs ∙ f.empty p (sym (get_or-set_other states place p Free Free differs) ∙ e)
+            | inr differs ↦ get_or-set_other items place p None None differs
+                ∙ f.empty p (sym (get_or-set_other states place p Free Free differs) ∙ e)
           ];
         }
       where
@@ -68,7 +73,8 @@ module _ {T : Type 0} where
             | inr differs ↦ f.kept p (sym (get_or-set_other states place p Detached Free differs) ∙ e)
           ];
           empty = λ p e. elim (cases_eq p place) [
-            | inl same ↦ absurd (let bad = sym (get_or-set_same states place Detached Free within_states) ∙ ap (λ x. get_or (set states place Detached) x Free) (sym same) ∙ e in cc)
+            | inl same ↦ absurd (let bad = sym (get_or-set_same states place Detached Free within_states)
+                ∙ ap (λ x. get_or (set states place Detached) x Free) (sym same) ∙ e in cc)
             | inr differs ↦ f.empty p (sym (get_or-set_other states place p Detached Free differs) ∙ e)
           ];
         }
@@ -120,7 +126,8 @@ module _ {T : Type 0} where
 
       empty_then : (p : ℕ) → get_or (put old.states place Listed) p Free ≡ Free → get_or (put items place (Some item)) p None ≡ None
       empty_then p e = elim (cases_eq p place) [
-        | inl same ↦ absurd (let bad = sym (get_or-put_same old.states place Listed Free a.within) ∙ ap (λ x. get_or (put old.states place Listed) x Free) (sym same) ∙ e in cc)
+        | inl same ↦ absurd (let bad = sym (get_or-put_same old.states place Listed Free a.within)
+            ∙ ap (λ x. get_or (put old.states place Listed) x Free) (sym same) ∙ e in cc)
         | inr differs ↦
             get_or-put_other items place p (Some item) None within differs
             ∙ f.empty p (sym (get_or-put_other old.states place p Listed Free a.within differs) ∙ e)

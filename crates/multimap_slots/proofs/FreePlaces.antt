@@ -1,5 +1,6 @@
 -- The list of free places, and the claim of one.
-use Rattle.std.proofs.Common.{◌≡◌, ◌≢◌, ℕ, zero, suc, ◌<◌, List, [], ◌∷◌, ◌++◌, length, get_or, set, Option, Some, None, refl, sym, ap, subst, ◌∙◌, arith}
+use Rattle.std.proofs.Common.{◌≡◌, ◌≢◌, ℕ, zero, suc, ◌<◌, List, [], ◌∷◌, ◌++◌, length, get_or, set, Option, Some, None, refl, sym, ap}
+use Rattle.std.proofs.Common.{subst, ◌∙◌, arith}
 use Rattle.std.proofs.lemmas.List.{map-set, length-map, length-set, get_or-map, get_or-set_other, get_or_past, length_push}
 use Rattle.multimap_slots.specs.declared.order.node.Node.{Node}
 use Rattle.multimap_slots.specs.declared.order.node.State.{State}
@@ -38,7 +39,8 @@ free-none ns ss zero l = refl
 free-none ns ss (suc k) l = absurd (let e = l.1 in cc)
 
 -- the first place on the list is free
-pub free_here : (ns : List (Option ℕ)) (ss : List State) (m q : ℕ) → IsFreeList ns ss (suc m) (Some q) → (q < length ss) × (get_or ss q Free ≡ Free)
+pub free_here : (ns : List (Option ℕ)) (ss : List State) (m q : ℕ) → IsFreeList ns ss (suc m) (Some q)
+    → (q < length ss) × (get_or ss q Free ≡ Free)
 free_here ns ss m q l =
     let first = l.1 in
     let same : l.0 ≡ q = cc in
@@ -62,7 +64,11 @@ module _ {L : Type 0} where
             let rest = free-agree (nexts old) (nexts (set old place node)) (states old) (states (set old place node)) n next
             (λ q m below later.
             let here = free_here (nexts old) (states old) m q later in
-            let differs : q ≢ place = λ e. absurd (omega (arith, free-count (nexts old) (states old) (suc m) (suc n) (Some place) (subst (λ x. IsFreeList (nexts old) (states old) (suc m) (Some x)) e later) l)) in
+            let differs : q ≢ place = λ e. absurd (omega (
+              arith,
+              free-count (nexts old) (states old) (suc m) (suc n) (Some place)
+                  (subst (λ x. IsFreeList (nexts old) (states old) (suc m) (Some x)) e later) l,
+            )) in
             record {
               within = rw (length-map, length-set) (rw length-map at here.0);
               state = rw map-set (get_or-set_other (states old) place q node.state Free differs ∙ here.1);
@@ -73,7 +79,8 @@ module _ {L : Type 0} where
       }
 
   -- the node was read at the free place, and written there
-  pub Claims-some : (old : List (Node L)) (place : ℕ) (node read : Node L) (free : Option ℕ) → free ≡ Some place → read ≡ get_or old place read
+  pub Claims-some : (old : List (Node L)) (place : ℕ) (node read : Node L) (free : Option ℕ) → free ≡ Some place
+      → read ≡ get_or old place read
       → (v : ℕ) → IsFreeList (nexts old) (states old) v free → Claims old (set old place node) free read.next node place
   Claims-some old place node read free e reading zero l = absurd (let e' = sym e ∙ l in cc)
   Claims-some old place node read free e reading (suc v) l =
@@ -81,7 +88,8 @@ module _ {L : Type 0} where
       let first = l'.1 in
       let same : l'.0 ≡ place = cc in
       let within : place < length old = rw (same, length-map) at l'.2 in
-      rw e (Claims-first old place node read.next (get_or-map (λ n. n.next) old place read None within ∙ ap (λ n. n.next) (sym reading)) v l')
+      rw e (Claims-first old place node read.next (get_or-map (λ n. n.next) old place read None within ∙ ap (λ n. n.next) (sym reading)) v
+      l')
 
   -- with no place on the list, the place behind the nodes is claimed
   Claims-push : (old : List (Node L)) (node : Node L) → Claims old (old ++ node ∷ []) None None node (length old)
@@ -94,5 +102,6 @@ module _ {L : Type 0} where
         frees = λ k whole. (0, omega (arith, length_push old node, free-none (nexts old) (states old) k whole), refl);
       }
 
-  pub Claims-none : (old new : List (Node L)) (node : Node L) (free : Option ℕ) (at : ℕ) → free ≡ None → at ≡ length old → new ≡ old ++ node ∷ [] → Claims old new free free node at
+  pub Claims-none : (old new : List (Node L)) (node : Node L) (free : Option ℕ) (at : ℕ) → free ≡ None → at ≡ length old
+      → new ≡ old ++ node ∷ [] → Claims old new free free node at
   Claims-none old new node free at e end made = rw (e, end, made) (Claims-push old node)

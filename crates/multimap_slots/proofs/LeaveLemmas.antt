@@ -1,5 +1,6 @@
 -- How the nodes stay linked where a place leaves the order, and where a detached one is freed.
-use Rattle.std.proofs.Common.{◌≡◌, ◌≢◌, ℕ, suc, ◌+◌, ◌-◌, ◌<◌, List, ◌∷◌, ◌++◌, length, get_or, set, Option, Some, None, refl, sym, ap, subst, ◌∙◌, inl, inr, arith}
+use Rattle.std.proofs.Common.{◌≡◌, ◌≢◌, ℕ, suc, ◌+◌, ◌-◌, ◌<◌, List, ◌∷◌, ◌++◌, length, get_or, set, Option, Some, None, refl, sym, ap}
+use Rattle.std.proofs.Common.{subst, ◌∙◌, inl, inr, arith}
 use Rattle.std.proofs.lemmas.Bool.{cases_eq}
 use Rattle.std.proofs.lemmas.List.{length-map, length-set, get_or-set_same, get_or-set_other, length-append}
 use Rattle.std.proofs.lemmas.List.Sums.{sum_by-set}
@@ -8,7 +9,8 @@ use Rattle.multimap_slots.specs.declared.order.node.State.{State}
 use Rattle.multimap_slots.specs.declared.order.node.State.TheVariants.{Listed, Free, Detached}
 use Rattle.multimap_slots.specs.Lists.{IsIn, first_of, last_of, without}
 use Rattle.multimap_slots.specs.Paths.{after, IsPath, walk}
-use Rattle.multimap_slots.specs.ListLayout.{one_if_detached, count_detached, nexts, previouses, states, IsFreeList, IsOrdered, SetsNext, SetsPrevious, SetsDetached, Releases}
+use Rattle.multimap_slots.specs.ListLayout.{one_if_detached, count_detached, nexts, previouses, states, IsFreeList, IsOrdered, SetsNext}
+use Rattle.multimap_slots.specs.ListLayout.{SetsPrevious, SetsDetached, Releases}
 use Rattle.multimap_slots.proofs.ListsLemmas.{Split, IsIn-left, IsIn-right, IsIn-was, IsIn-besides, AreDistinct-remove, without-split}
 use Rattle.multimap_slots.proofs.PathsLemmas.{last_or_in, path-agree, path-remove}
 use Rattle.multimap_slots.proofs.NodeLemmas.{length-states}
@@ -57,7 +59,8 @@ module _ {L : Type 0} where
     marks-other p d = ap (λ xs. get_or xs p Free) m.states ∙ get_or-set_other (states old) place p state Free d
 
     -- a place that was not free is on no list of free ones
-    marks-frees : get_or (states old) place Free ≢ Free → (n : ℕ) (at : Option ℕ) → IsFreeList (nexts old) (states old) n at → IsFreeList (nexts new) (states new) n at
+    marks-frees : get_or (states old) place Free ≢ Free → (n : ℕ) (at : Option ℕ) → IsFreeList (nexts old) (states old) n at
+        → IsFreeList (nexts new) (states new) n at
     marks-frees taken n at = free-agree (nexts old) (nexts new) (states old) (states new) n at (λ q k below later.
         let here = free_here (nexts old) (states old) k q later in
         let differs : q ≢ place = λ e. taken (subst (λ x. get_or (states old) x Free ≡ Free) e here.1) in
@@ -67,13 +70,16 @@ module _ {L : Type 0} where
           next = m.nexts q differs;
         })
 
-    marks-count : place < length old → count_detached (states new) + one_if_detached (get_or (states old) place Free) ≡ count_detached (states old) + one_if_detached state
+    marks-count : place < length old → count_detached (states new) + one_if_detached (get_or (states old) place Free) ≡ count_detached
+        (states old) + one_if_detached state
     marks-count within =
         ap (λ ss. count_detached ss + one_if_detached (get_or (states old) place Free)) m.states
         ∙ sum_by-set one_if_detached (states old) place state Free (rw length-map within)
 
-  module _ {old tied both new : List (Node L)} {front back free front' back' previous next : Option ℕ} {len detached place : ℕ} {state : State} (o : IsOrdered old front back free len detached) (s : Split place o.order)
-      (forth : SetsNext old tied front front' previous next) (backward : SetsPrevious tied both back back' next previous) (m : Marks both new place state)
+  module _ {old tied both new : List (Node L)} {front back free front' back' previous next : Option ℕ} {len detached
+      place : ℕ} {state : State} (o : IsOrdered old front back free len detached) (s : Split place o.order)
+      (forth : SetsNext old tied front front' previous next) (backward : SetsPrevious tied both back back' next previous)
+      (m : Marks both new place state)
       (before : previous ≡ get_or (previouses old) place None) (behind : next ≡ get_or (nexts old) place None) where
     same_states : states both ≡ states old
     same_states = backward.states ∙ forth.states
@@ -113,18 +119,29 @@ module _ {L : Type 0} where
         }) o.frees)
 
     -- the neighbours are tied to each other, and the place has a state of its own
-    IsOrdered-leave : state ≢ Listed → (free' : Option ℕ) (vacant' : ℕ) → vacant' + one_if_detached state ≡ o.vacant + 1 → IsFreeList (nexts new) (states new) vacant' free'
+    IsOrdered-leave : state ≢ Listed → (free' : Option ℕ) (vacant' : ℕ) → vacant' + one_if_detached state ≡ o.vacant + 1
+        → IsFreeList (nexts new) (states new) vacant' free'
         → HasOrder new front' back' free' (len - 1) (detached + one_if_detached state) (s.front ++ s.back)
     IsOrdered-leave unlisted free' vacant' one_more frees = record {
       ordered = record {
         order = s.front ++ s.back;
-        path = path-agree (after front' (nexts tied)) (after back' (previouses both)) (after front' (nexts new)) (after back' (previouses new)) None (s.front ++ s.back)
+        path = path-agree (after front' (nexts tied)) (after back' (previouses both)) (after front' (nexts new))
+            (after back' (previouses new)) None (s.front ++ s.back)
             refl refl
             (λ x j. (m.nexts x (differs_in x j) ∙ ap (λ ns. get_or ns x None) backward.nexts, ap (λ ps. get_or ps x None) m.previouses))
-            (path-remove (after front (nexts old)) (after back (previouses old)) (after front' (nexts tied)) (after back' (previouses both)) None s.front place s.back
+            (path-remove (after front (nexts old)) (after back (previouses old)) (after front' (nexts tied))
+            (after back' (previouses both)) None s.front place s.back
             (λ x j e. cc) (split_distinct o s)
-            (record { moved = ap (after front' (nexts tied)) (sym from) ∙ forth.nexts.moved ∙ to; kept = λ x d. forth.nexts.kept x (λ e. d (e ∙ from)) })
-            (record { moved = ap (after back' (previouses both)) (sym to) ∙ backward.previouses.moved ∙ from; kept = λ x d. backward.previouses.kept x (λ e. d (e ∙ to)) ∙ ap (λ ps. after back ps x) forth.previouses })
+            (record {
+              moved = ap (after front' (nexts tied)) (sym from) ∙ forth.nexts.moved
+                  ∙ to;
+              kept = λ x d. forth.nexts.kept x (λ e. d (e ∙ from));
+            })
+            (record {
+              moved = ap (after back' (previouses both)) (sym to) ∙ backward.previouses.moved
+                  ∙ from;
+              kept = λ x d. backward.previouses.kept x (λ e. d (e ∙ to)) ∙ ap (λ ps. after back ps x) forth.previouses;
+            })
             (subst (IsPath (after front (nexts old)) (after back (previouses old)) None) s.is o.path));
         distinct = AreDistinct-remove s.front place s.back (split_distinct o s);
         listed = λ p j. state_other p (differs_in p j) ∙ o.listed p (rw s.is (IsIn-was p s.front place s.back j));
@@ -153,7 +170,8 @@ module _ {L : Type 0} where
         state_other : (p : ℕ) → p ≢ place → get_or (states new) p Free ≡ get_or (states old) p Free
         state_other p d = marks-other m p d ∙ ap (λ xs. get_or xs p Free) same_states
 
-  module _ {old tied both new : List (Node L)} {front back free front' back' previous next : Option ℕ} {len detached place : ℕ} (o : IsOrdered old front back free len detached) (s : Split place o.order)
+  module _ {old tied both new : List (Node L)} {front back free front' back' previous next : Option ℕ} {len detached place : ℕ}
+      (o : IsOrdered old front back free len detached) (s : Split place o.order)
       (forth : SetsNext old tied front front' previous next) (backward : SetsPrevious tied both back back' next previous)
       (before : previous ≡ get_or (previouses old) place None) (behind : next ≡ get_or (nexts old) place None) where
     -- the place that has left is neither listed nor free
@@ -165,12 +183,15 @@ module _ {L : Type 0} where
         m = Marks-detached both new place written
 
   -- a detached place is the first free one
-  pub IsOrdered-free : {old new : List (Node L)} {front back free : Option ℕ} {len detached place : ℕ} (o : IsOrdered old front back free len detached)
-      → get_or (states old) place Free ≡ Detached → place < length old → Releases old new place free → HasOrder new front back (Some place) len (detached - 1) o.order
+  pub IsOrdered-free : {old new : List (Node L)} {front back free : Option ℕ} {len detached place : ℕ}
+      (o : IsOrdered old front back free len detached)
+      → get_or (states old) place Free ≡ Detached → place < length old → Releases old new place free
+      → HasOrder new front back (Some place) len (detached - 1) o.order
   IsOrdered-free {old} {new} {front} {back} {free} {len} {detached} {place} o apart within freed = record {
     ordered = record {
       order = o.order;
-      path = path-agree (after front (nexts old)) (after back (previouses old)) (after front (nexts new)) (after back (previouses new)) None o.order
+      path = path-agree (after front (nexts old)) (after back (previouses old)) (after front (nexts new))
+          (after back (previouses new)) None o.order
           refl refl (λ x j. (m.nexts x (differs_in x j), ap (λ ps. get_or ps x None) m.previouses)) o.path;
       distinct = o.distinct;
       listed = λ p i. marks-other m p (differs_in p i) ∙ o.listed p i;
@@ -186,7 +207,8 @@ module _ {L : Type 0} where
         refl,
         rw length-map (omega (arith, marks-length m, within)),
         marks-same m within,
-        subst (IsFreeList (nexts new) (states new) o.vacant) (sym (ap (λ ns. get_or ns place None) freed.nexts ∙ get_or-set_same (nexts old) place free None (rw length-map within)))
+        subst (IsFreeList (nexts new) (states new) o.vacant)
+            (sym (ap (λ ns. get_or ns place None) freed.nexts ∙ get_or-set_same (nexts old) place free None (rw length-map within)))
             (marks-frees m (λ e. let bad = sym apart ∙ e in cc) o.vacant free o.frees),
       );
       apart = omega (arith, o.apart, fewer);
@@ -204,7 +226,9 @@ module _ {L : Type 0} where
       differs_in x i e = let bad = sym (o.listed x i) ∙ ap (λ y. get_or (states old) y Free) e ∙ apart in cc
 
   -- the order without the place, as it is walked
-  module _ {nodes new : List (Node L)} {front back free front' back' free' : Option ℕ} {len len' detached detached' place : ℕ} (o : IsOrdered nodes front back free len detached) (s : Split place o.order) (r : HasOrder new front' back' free' len' detached' (s.front ++ s.back)) where
+  module _ {nodes new : List (Node L)} {front back free front' back' free' : Option ℕ} {len len' detached detached' place : ℕ}
+      (o : IsOrdered nodes front back free len detached) (s : Split place o.order)
+      (r : HasOrder new front' back' free' len' detached' (s.front ++ s.back)) where
     pub walk-removed : walk (after front' (nexts new)) None len' ≡ without (walk (after front (nexts nodes)) None len) place
     walk-removed =
         walk-order r.ordered ∙ r.order_is ∙ sym (without-split s.front place s.back (split_gone o s))
@@ -212,9 +236,17 @@ module _ {L : Type 0} where
 
     pub length-walk_removed : length (walk (after front' (nexts new)) None len') + 1 ≡ length (walk (after front (nexts nodes)) None len)
     length-walk_removed =
-        omega (arith, ap length (walk-order r.ordered ∙ r.order_is), length-append s.front s.back, ap length (walk-order o ∙ s.is), length-append s.front (place ∷ s.back))
+        omega (
+          arith,
+          ap length (walk-order r.ordered ∙ r.order_is),
+          length-append s.front s.back,
+          ap length
+              (walk-order o ∙ s.is),
+          length-append s.front (place ∷ s.back),
+        )
 
   -- the same order is walked alike
-  pub walk-kept : {nodes new : List (Node L)} {front back free front' back' free' : Option ℕ} {len len' detached detached' : ℕ} (o : IsOrdered nodes front back free len detached) (r : HasOrder new front' back' free' len' detached' o.order)
+  pub walk-kept : {nodes new : List (Node L)} {front back free front' back' free' : Option ℕ} {len len' detached detached' : ℕ}
+      (o : IsOrdered nodes front back free len detached) (r : HasOrder new front' back' free' len' detached' o.order)
       → walk (after front' (nexts new)) None len' ≡ walk (after front (nexts nodes)) None len
   walk-kept o r = walk-order r.ordered ∙ r.order_is ∙ sym (walk-order o)

@@ -7,7 +7,8 @@ use Rattle.multimap_slots.specs.ListLayout.{nexts, previouses, states}
 use Rattle.multimap_slots.specs.declared.order.node.Node.{Node}
 
 -- one field is written, of those that say where to go
-pub IsMoved-field : {A : Type 0} (f : A → Option ℕ) (first : Option ℕ) (xs : List A) (p : ℕ) (y : A) → p < length xs → IsMoved (after first (map f xs)) (after first (map f (set xs p y))) (Some p) (f y)
+pub IsMoved-field : {A : Type 0} (f : A → Option ℕ) (first : Option ℕ) (xs : List A) (p : ℕ) (y : A) → p < length xs
+    → IsMoved (after first (map f xs)) (after first (map f (set xs p y))) (Some p) (f y)
 IsMoved-field f first xs p y within =
     Prim.rw (map-set f xs p y) (record { moved = get_or-set_same (map f xs) p (f y) None (Prim.rw length-map within); kept = others })
   where
@@ -25,7 +26,8 @@ IsMoved-first first to ns =
     others (Some q) differs = refl
 
 -- a field of a node that was read
-pub field_read : {A B : Type 0} (f : A → B) (xs : List A) (p : ℕ) (read : A) (d : B) → p < length xs → read ≡ get_or xs p read → f read ≡ get_or (map f xs) p d
+pub field_read : {A B : Type 0} (f : A → B) (xs : List A) (p : ℕ) (read : A) (d : B) → p < length xs → read ≡ get_or xs p read
+    → f read ≡ get_or (map f xs) p d
 field_read f xs p read d within reading = ap f reading ∙ sym (get_or-map f xs p read d within)
 
 -- as many states, as many nodes

@@ -1,5 +1,6 @@
 -- What linked nodes tell of their order, and how a push and a removal keep it.
-use Rattle.std.proofs.Common.{◌≡◌, ◌≢◌, ℕ, ◌<◌, List, [], ◌∷◌, ◌++◌, length, get_or, set, IfSome, Option, None, refl, sym, ap, subst, ◌∙◌, inl, inr}
+use Rattle.std.proofs.Common.{◌≡◌, ◌≢◌, ℕ, ◌<◌, List, [], ◌∷◌, ◌++◌, length, get_or, set, IfSome, Option, None, refl, sym, ap, subst, ◌∙◌}
+use Rattle.std.proofs.Common.{inl, inr}
 use Rattle.std.proofs.lemmas.Bool.{cases_lt}
 use Rattle.std.proofs.lemmas.List.{length-map, get_or_past}
 use Rattle.multimap_slots.specs.declared.order.node.Node.{Node}
@@ -53,7 +54,8 @@ module _ {L : Type 0} where
     IsIn-within p i = taken-within p (λ e. let bad = sym (o.listed p i) ∙ e in cc)
 
     -- a place that is neither free nor listed
-    pub apart-is : (p : ℕ) → (IsIn p (walk (after front (nexts nodes)) None len) → ⊥) → get_or (states nodes) p Free ≢ Free → get_or (states nodes) p Free ≡ Detached
+    pub apart-is : (p : ℕ) → (IsIn p (walk (after front (nexts nodes)) None len) → ⊥) → get_or (states nodes) p Free ≢ Free
+        → get_or (states nodes) p Free ≡ Detached
     apart-is p absent taken =
         apart-detached (get_or (states nodes) p Free) (λ e. absent (rw walk-order (o.all_in p e))) taken
 
@@ -90,20 +92,23 @@ module _ {L : Type 0} where
           ∙ ap (λ ps. previous_of ps p) (sym s.is)
 
     -- the last of some listed places is within the nodes
-    pub last-within : (a : Option ℕ) (ps : List ℕ) → a ≡ last_of ps → ((x : ℕ) → IsIn x ps → IsIn x o.order) → IfSome a (λ q. q < length nodes)
+    pub last-within : (a : Option ℕ) (ps : List ℕ) → a ≡ last_of ps → ((x : ℕ) → IsIn x ps → IsIn x o.order)
+        → IfSome a (λ q. q < length nodes)
     last-within a ps e listed = elim (last_or_in None ps) [
       | inl none ↦ rw (e ∙ none) tt
       | inr some ↦ rw (e ∙ some.1) (IsIn-within some.0 (listed some.0 some.2))
     ]
 
     -- and so is the first
-    pub first-within : (a : Option ℕ) (ps : List ℕ) → a ≡ first_of ps → ((x : ℕ) → IsIn x ps → IsIn x o.order) → IfSome a (λ q. q < length nodes)
+    pub first-within : (a : Option ℕ) (ps : List ℕ) → a ≡ first_of ps → ((x : ℕ) → IsIn x ps → IsIn x o.order)
+        → IfSome a (λ q. q < length nodes)
     first-within a [] e listed = rw e tt
     first-within a (p ∷ ps) e listed = rw e (IsIn-within p (listed p (inl refl)))
 
     -- what the state of a node that was read says
     pub state_tells : (p : ℕ) (read : Node L) → p < length nodes → read ≡ get_or nodes p read
-        → (IsIn p (walk (after front (nexts nodes)) None len) → read.state ≡ Listed) × (read.state ≡ Listed → IsIn p (walk (after front (nexts nodes)) None len))
+        → (IsIn p (walk (after front (nexts nodes)) None len) → read.state ≡ Listed)
+        × (read.state ≡ Listed → IsIn p (walk (after front (nexts nodes)) None len))
     state_tells p read within reading = (
       λ i. field_read (λ n. n.state) nodes p read Free within reading ∙ o.listed p (rw walk-order at i),
       λ e. rw walk-order (o.all_in p (sym (field_read (λ n. n.state) nodes p read Free within reading) ∙ e)),
@@ -130,4 +135,5 @@ module _ {L : Type 0} {nodes : List (Node L)} {front back free : Option ℕ} {le
   pub IsOrdered-relink : (p : ℕ) (read : Node L) (link : L) → read ≡ get_or nodes p read
       → IsOrdered nodes front back free len detached → IsOrdered (set nodes p (record read { link = link })) front back free len detached
   IsOrdered-relink p read link reading o =
-      IsOrdered-same (nexts-relink nodes p read link reading) (previouses-relink nodes p read link reading) (states-relink nodes p read link reading) o
+      IsOrdered-same (nexts-relink nodes p read link reading) (previouses-relink nodes p read link reading)
+      (states-relink nodes p read link reading) o

@@ -69,7 +69,8 @@ module _ (forth back : Option ℕ → Option ℕ) where
     path-push a (p ∷ ps) n not_a absent away distinct keeps_forth last end keeps_back before top path = (
       keeps_forth a (last_differs a p ps away) not_a ∙ path.0,
       keeps_back p (λ e. absent (inl (sym e))) ∙ path.1,
-      path-push (Some p) ps n (λ e. absent (inl (sym (same_place p n e)))) (λ i. absent (inr i)) (away_rest p ps distinct.0) distinct.1 keeps_forth last end keeps_back before top path.2,
+      path-push (Some p) ps n (λ e. absent (inl (sym (same_place p n e)))) (λ i. absent (inr i))
+          (away_rest p ps distinct.0) distinct.1 keeps_forth last end keeps_back before top path.2,
     )
 
     -- the places beside `r` are tied to each other
@@ -83,7 +84,11 @@ module _ (forth back : Option ℕ → Option ℕ) where
       path-agree (Some q) qs
           (forward.kept (Some q) (λ e. away q (inr (inl refl)) (sym e)))
           (backward.kept None (λ e. cc))
-          (λ x i. (forward.kept (Some x) (λ e. away x (inr (inr i)) (sym e)), backward.kept (Some x) (λ e. distinct.1.0 (subst (λ y. IsIn y qs) (same_place x q e) i))))
+          (λ x i. (
+            forward.kept (Some x) (λ e. away x (inr (inr i)) (sym e)),
+            backward.kept (Some x)
+                (λ e. distinct.1.0 (subst (λ y. IsIn y qs) (same_place x q e) i)),
+          ))
           path.2.2,
     )
     path-remove a (x ∷ xs) r ys away distinct forward backward path = (

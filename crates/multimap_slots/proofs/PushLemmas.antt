@@ -1,5 +1,6 @@
 -- How a place that comes into the order keeps the nodes linked: one that is claimed, and a detached one.
-use Rattle.std.proofs.Common.{◌≡◌, ◌≢◌, ◌⊎◌, ℕ, ◌+◌, ◌-◌, ◌<◌, ◌≤◌, List, [], ◌∷◌, ◌++◌, length, get_or, Option, Some, None, refl, sym, ap, subst, ◌∙◌, inl, inr, arith}
+use Rattle.std.proofs.Common.{◌≡◌, ◌≢◌, ◌⊎◌, ℕ, ◌+◌, ◌-◌, ◌<◌, ◌≤◌, List, [], ◌∷◌, ◌++◌, length, get_or, Option, Some, None, refl, sym, ap}
+use Rattle.std.proofs.Common.{subst, ◌∙◌, inl, inr, arith}
 use Rattle.std.proofs.lemmas.Bool.{cases_eq}
 use Rattle.std.proofs.lemmas.List.{length-map, length-set, length_push, get_or-set_other}
 use Rattle.std.proofs.lemmas.List.Sums.{sum_by-set}
@@ -7,7 +8,8 @@ use Rattle.multimap_slots.specs.declared.order.node.Node.{Node}
 use Rattle.multimap_slots.specs.declared.order.node.State.TheVariants.{Listed, Free, Detached}
 use Rattle.multimap_slots.specs.Lists.{IsIn}
 use Rattle.multimap_slots.specs.Paths.{after}
-use Rattle.multimap_slots.specs.ListLayout.{one_if_detached, count_detached, nexts, previouses, states, put, IsFreeList, IsOrdered, Claims, SetsNext, SetsListed}
+use Rattle.multimap_slots.specs.ListLayout.{one_if_detached, count_detached, nexts, previouses, states, put, IsFreeList, IsOrdered, Claims}
+use Rattle.multimap_slots.specs.ListLayout.{SetsNext, SetsListed}
 use Rattle.multimap_slots.proofs.ListsLemmas.{IsIn-append, IsIn-left, IsIn-right, AreDistinct-push}
 use Rattle.multimap_slots.proofs.PathsLemmas.{last_or_in, path-push}
 use Rattle.multimap_slots.proofs.PutLemmas.{map-put, put-set, get_or-put_same, get_or-put_other}
@@ -18,7 +20,8 @@ use Rattle.multimap_slots.proofs.DetachedLemmas.{count_detached-put}
 
 module _ {L : Type 0} where
   -- where a place is listed again, the nodes are as many
-  pub length-listed : (old written : List (Node L)) (place : ℕ) (previous : Option ℕ) → SetsListed old written place previous → length written ≡ length old
+  pub length-listed : (old written : List (Node L)) (place : ℕ) (previous : Option ℕ) → SetsListed old written place previous
+      → length written ≡ length old
   length-listed old written place previous sets =
       sym (length-map written (λ (n : Node L). n.state)) ∙ ap length sets.states ∙ length-set (states old) place Listed
       ∙ length-map old (λ (n : Node L). n.state)
@@ -35,7 +38,8 @@ module _ {L : Type 0} where
     previouses_are : previouses written ≡ put (previouses old) place back
     states_are : states written ≡ put (states old) place Listed
 
-  module _ {old written : List (Node L)} {front back free free' : Option ℕ} {len detached detached' place : ℕ} (o : IsOrdered old front back free len detached) (enters : Enters old written back free' len detached' place) where
+  module _ {old written : List (Node L)} {front back free free' : Option ℕ} {len detached detached' place : ℕ}
+      (o : IsOrdered old front back free len detached) (enters : Enters old written back free' len detached' place) where
     absent : IsIn place o.order → ⊥
     absent i = enters.unlisted (o.listed place i)
 
@@ -43,7 +47,8 @@ module _ {L : Type 0} where
     next_other None d = refl
     next_other (Some q) d =
         ap (λ xs. get_or xs q None) enters.nexts_are
-        ∙ get_or-put_other (nexts old) place q None None (omega (arith, enters.within, length-map old (λ (n : Node L). n.next))) (λ e. d (ap Some e))
+        ∙ get_or-put_other (nexts old) place q None None (omega (arith, enters.within, length-map old (λ (n : Node L). n.next)))
+        (λ e. d (ap Some e))
 
     previous_other : (q : ℕ) → q ≢ place → get_or (previouses written) q None ≡ get_or (previouses old) q None
     previous_other q d =
@@ -71,12 +76,14 @@ module _ {L : Type 0} where
         ∙ get_or-put_same (states old) place Listed Free (omega (arith, enters.within, length-map old (λ (n : Node L). n.state)))
 
     -- the place is tied behind the last
-    IsOrdered-enter : {new : List (Node L)} {front' : Option ℕ} → SetsNext written new front front' back (Some place) → HasOrder new front' (Some place) free' (len + 1) detached' (o.order ++ place ∷ [])
+    IsOrdered-enter : {new : List (Node L)} {front' : Option ℕ} → SetsNext written new front front' back (Some place)
+        → HasOrder new front' (Some place) free' (len + 1) detached' (o.order ++ place ∷ [])
     IsOrdered-enter {new} {front'} tied =
         record {
           ordered = record {
             order = o.order ++ place ∷ [];
-            path = path-push (after front (nexts old)) (after back (previouses old)) (after front' (nexts new)) (after (Some place) (previouses new)) None o.order place
+            path = path-push (after front (nexts old)) (after back (previouses old)) (after front' (nexts new))
+                (after (Some place) (previouses new)) None o.order place
                 (λ e. cc) absent (λ x i e. cc) o.distinct
                 (λ x not_last not_place. tied.nexts.kept x (λ e. not_last (e ∙ back-is o)) ∙ next_other x not_place)
                 (ap (after front' (nexts new)) (sym (back-is o)) ∙ tied.nexts.moved)
@@ -128,10 +135,13 @@ module _ {L : Type 0} where
         ]
 
   -- a place that was claimed comes last
-  pub IsOrdered-push : {old claimed new : List (Node L)} {front back free front' free' : Option ℕ} {len detached place : ℕ} {node : Node L} (o : IsOrdered old front back free len detached) → Claims old claimed free free' node place
+  pub IsOrdered-push : {old claimed new : List (Node L)} {front back free front' free' : Option ℕ} {len detached place : ℕ} {node : Node L}
+      (o : IsOrdered old front back free len detached) → Claims old claimed free free' node place
       → node.next ≡ None → node.previous ≡ back → node.state ≡ Listed
-      → SetsNext claimed new front front' back (Some place) → HasOrder new front' (Some place) free' (len + 1) detached (o.order ++ place ∷ [])
-  IsOrdered-push {old} {claimed} {front = front} {back} {free} {free' = free'} {len} {detached} {place} {node} o cl is_last is_behind is_listed tied =
+      → SetsNext claimed new front front' back (Some place)
+      → HasOrder new front' (Some place) free' (len + 1) detached (o.order ++ place ∷ [])
+  IsOrdered-push {old} {claimed} {front = front} {back} {free} {free' = free'} {len} {detached} {place} {node} o cl is_last is_behind
+      is_listed tied =
       IsOrdered-enter o (record {
         within = cl.within;
         unlisted = λ e. let bad = sym e ∙ cl.was_free in cc;
@@ -149,15 +159,24 @@ module _ {L : Type 0} where
 
       kept_apart : count_detached (states claimed) ≡ count_detached (states old)
       kept_apart =
-          omega (arith, ap count_detached made, count_detached-put (states old) place node.state, ap one_if_detached cl.was_free, ap one_if_detached is_listed)
+          omega (
+            arith,
+            ap count_detached made,
+            count_detached-put
+                (states old) place node.state,
+            ap one_if_detached cl.was_free,
+            ap one_if_detached is_listed,
+          )
 
       left : (m : ℕ) × (m + length old + 1 ≡ o.vacant + length claimed) × IsFreeList (nexts claimed) (states claimed) m free'
       left = cl.frees o.vacant o.frees
 
   -- a detached place comes last
-  pub IsOrdered-attach : {old written new : List (Node L)} {front back free front' : Option ℕ} {len detached place : ℕ} (o : IsOrdered old front back free len detached)
+  pub IsOrdered-attach : {old written new : List (Node L)} {front back free front' : Option ℕ} {len detached place : ℕ}
+      (o : IsOrdered old front back free len detached)
       → get_or (states old) place Free ≡ Detached → place < length old → SetsListed old written place back
-      → SetsNext written new front front' back (Some place) → HasOrder new front' (Some place) free (len + 1) (detached - 1) (o.order ++ place ∷ [])
+      → SetsNext written new front front' back (Some place)
+      → HasOrder new front' (Some place) free (len + 1) (detached - 1) (o.order ++ place ∷ [])
   IsOrdered-attach {old} {written} {front = front} {back} {free} {len = len} {detached} {place} o apart within sets tied =
       IsOrdered-enter o (record {
         within = omega (arith, within);
@@ -180,4 +199,10 @@ module _ {L : Type 0} where
     where
       fewer : count_detached (states written) + 1 ≡ count_detached (states old)
       fewer =
-          omega (arith, ap count_detached sets.states, sum_by-set one_if_detached (states old) place Listed Free (rw length-map within), ap one_if_detached apart)
+          omega (
+            arith,
+            ap count_detached sets.states,
+            sum_by-set one_if_detached (states old) place Listed Free
+                (rw length-map within),
+            ap one_if_detached apart,
+          )

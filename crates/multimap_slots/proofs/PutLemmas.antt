@@ -1,5 +1,6 @@
 -- A list with one item written, at a place of the list or right behind it.
-use Rattle.std.proofs.Common.{◌≡◌, ◌≢◌, ℕ, zero, suc, ◌<◌, ◌≤◌, List, [], ◌∷◌, ◌++◌, map, length, get_or, slice_get, set, Some, IsSome, refl, ap, arith}
+use Rattle.std.proofs.Common.{◌≡◌, ◌≢◌, ℕ, zero, suc, ◌<◌, ◌≤◌, List, [], ◌∷◌, ◌++◌, map, length, get_or, slice_get, set, Some, IsSome}
+use Rattle.std.proofs.Common.{refl, ap, arith}
 use Rattle.multimap_slots.specs.ListLayout.{put}
 
 module _ {X : Type 0} where
@@ -61,7 +62,8 @@ module _ {X : Type 0} where
   map-put f (y ∷ ys) (suc i) x = ap (λ zs. f y ∷ zs) (map-put f ys i x)
 
 -- lists of one length stay so
-pub put-length : {X Y : Type 0} (xs : List X) (ys : List Y) (i : ℕ) (x : X) (y : Y) → length xs ≡ length ys → length (put xs i x) ≡ length (put ys i y)
+pub put-length : {X Y : Type 0} (xs : List X) (ys : List Y) (i : ℕ) (x : X) (y : Y) → length xs ≡ length ys
+    → length (put xs i x) ≡ length (put ys i y)
 put-length [] [] i x y same = refl
 put-length [] (b ∷ ys) i x y same = absurd (omega arith)
 put-length (a ∷ xs) [] i x y same = absurd (omega arith)

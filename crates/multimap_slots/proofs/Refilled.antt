@@ -47,7 +47,8 @@ none-refilled (Some x ∷ xs) (None ∷ ys) (suc p) e = none-refilled xs ys p e
 none-refilled (Some x ∷ xs) (Some y ∷ ys) zero e = none_some x e
 none-refilled (Some x ∷ xs) (Some y ∷ ys) (suc p) e = none-refilled xs ys p e
 
-pub IsFilled-refilled : {X : Type 0} (xs ys : List (Option X)) (order : List ℕ) (states : List State) → IsFilled xs order states → IsFilled (refilled xs ys) order states
+pub IsFilled-refilled : {X : Type 0} (xs ys : List (Option X)) (order : List ℕ) (states : List State) → IsFilled xs order states
+    → IsFilled (refilled xs ys) order states
 IsFilled-refilled xs ys order states f = record {
   same_length = length-refilled xs ys ∙ f.same_length;
   filled = λ p i. some-refilled xs ys p (f.filled p i);
@@ -55,7 +56,8 @@ IsFilled-refilled xs ys order states f = record {
   empty = λ p e. none-refilled xs ys p (f.empty p e);
 }
 
-pub IsTape-refilled : {X L : Type 0} (xs ys : List (Option X)) (links : List L) (runs : Spread) → IsTape xs links runs → IsTape (refilled xs ys) links runs
+pub IsTape-refilled : {X L : Type 0} (xs ys : List (Option X)) (links : List L) (runs : Spread) → IsTape xs links runs
+    → IsTape (refilled xs ys) links runs
 IsTape-refilled xs ys links runs t = record {
   items_used = length-refilled xs ys ∙ t.items_used;
   links_used = t.links_used;
@@ -63,7 +65,8 @@ IsTape-refilled xs ys links runs t = record {
 }
 
 -- where a vector of n items takes on refilled ones, these are its items
-pub taken_refilled : {X : Type 0} (n : ℕ) (xs ws : List (Option X)) → n ≡ length xs → take n (refilled xs ws ++ drop (length (refilled xs ws)) xs) ≡ refilled xs ws
+pub taken_refilled : {X : Type 0} (n : ℕ) (xs ws : List (Option X)) → n ≡ length xs
+    → take n (refilled xs ws ++ drop (length (refilled xs ws)) xs) ≡ refilled xs ws
 taken_refilled n xs ws e =
     let rs = refilled xs ws in
     ap (λ m. take m (rs ++ drop (length rs) xs)) (e ∙ sym (length-refilled xs ws)) ∙ take-append_seam rs (drop (length rs) xs)

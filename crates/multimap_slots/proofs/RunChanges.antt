@@ -1,5 +1,7 @@
--- The runs of a tape where an item's place becomes a hole, where an item comes behind all or goes down into a hole, and where the end is cut.
-use Rattle.std.proofs.Common.{◌≡◌, ◌≢◌, ◌⊎◌, ℕ, zero, suc, ◌+◌, ◌<◌, ◌≤◌, List, [], ◌∷◌, ◌++◌, length, get_or, set, take, refl, sym, ◌∙◌, inl, inr, arith, length-append, length-take-le}
+-- The runs of a tape where an item's place becomes a hole, where an item comes behind all or goes down into a hole, and where the end is
+-- cut.
+use Rattle.std.proofs.Common.{◌≡◌, ◌≢◌, ◌⊎◌, ℕ, zero, suc, ◌+◌, ◌<◌, ◌≤◌, List, [], ◌∷◌, ◌++◌, length, get_or, set, take, refl, sym, ◌∙◌}
+use Rattle.std.proofs.Common.{inl, inr, arith, length-append, length-take-le}
 use Rattle.std.proofs.lemmas.Bool.{cases_eq, cases_lt}
 use Rattle.std.proofs.lemmas.List.{get_or-set_same, get_or-set_other, get_or_past, length-set, get_or-take}
 use Rattle.multimap_slots.proofs.PlacesLemmas.{places-hole, places-push}
@@ -20,12 +22,14 @@ module _ (old : List ℕ) (start place end : ℕ) (a : IsAround old start place 
   pub AreRuns-join : (new : List ℕ) → AreRuns old → WritesRun (set old place 1) new start end → AreRuns new
   AreRuns-join new are w =
       AreRuns-within old new start end (omega (arith, a.left.rises, a.right.rises)) a.left.starts a.right.stops
-      (λ q side. w.others q side ∙ get_or-set_other old place q 1 0 (elim side [ inl low ↦ (λ e. omega (arith, low, e, a.left.rises)) | inr high ↦ (λ e. omega (arith, high, e, a.right.rises)) ]))
+      (λ q side. w.others q side ∙ get_or-set_other old place q 1 0
+      (elim side [ inl low ↦ (λ e. omega (arith, low, e, a.left.rises)) | inr high ↦ (λ e. omega (arith, high, e, a.right.rises)) ]))
       are inside
     where
       inside : (s e : ℕ) → start ≤ s → e ≤ end → IsRun new s e → HasLength new s e
       inside s e above below r =
-          let all = whole new s e start end (λ q from to. w.holes q (join-holes q from to)) above below r (omega (arith, a.left.rises, a.right.rises)) in
+          let all = whole new s e start end (λ q from to. w.holes q (join-holes q from to)) above below r
+          (omega (arith, a.left.rises, a.right.rises)) in
           rw (all.0, all.1) (w.ends (omega (arith, a.left.rises, a.right.rises)))
 
 pub before-suc : (runs : List ℕ) (end last : ℕ) → suc last ≡ end → before runs end ≡ get_or runs last 0
@@ -38,8 +42,19 @@ WritesRun-set old start last end n last_is n_is rises within holes =
     record {
       same_length = length-set (set old start n) last n ∙ length-set old start n;
       ends = λ some. record {
-        first = omega (arith, n_is, get_or-set_again (set old start n) last n start (rw length-set (omega (arith, rises, within))) (get_or-set_same old start n 0 (omega (arith, rises, within))));
-        last = omega (arith, n_is, before-suc (set (set old start n) last n) end last last_is, get_or-set_same (set old start n) last n 0 (rw length-set within));
+        first = omega (
+          arith,
+          n_is,
+          get_or-set_again (set old start n) last n start (rw length-set (omega (arith, rises, within)))
+              (get_or-set_same old start n 0 (omega (arith, rises, within))),
+        );
+        last = omega (
+          arith,
+          n_is,
+          before-suc (set (set old start n) last n) end last last_is,
+          get_or-set_same (set old start n) last n 0
+              (rw length-set within),
+        );
       };
       others = λ q side.
           get_or-set_other (set old start n) last q n 0 (not_last q side)
@@ -67,7 +82,8 @@ AreLaid-push runs len laid =
     record {
       are =
           AreRuns-within runs (runs ++ 0 ∷ []) (suc (length runs)) (suc (length runs)) (omega arith)
-          (get_or_past runs (length runs) 0 (omega arith)) (get_or_past runs (suc (length runs)) 0 (omega arith)) (λ q side. get_or-push runs q) laid.are
+          (get_or_past runs (length runs) 0 (omega arith)) (get_or_past runs (suc (length runs)) 0 (omega arith))
+          (λ q side. get_or-push runs q) laid.are
           (λ s e above below r. HasLength-none (runs ++ 0 ∷ []) s e r (omega (arith, above, below, r.rises)));
       counted = rw places-push (rw length-append (omega (arith, laid.counted)));
     }
@@ -79,18 +95,21 @@ AreLaid-push runs len laid =
     get_or-push (r ∷ runs) (suc q) = get_or-push runs q
 
 -- a run reaches down over all holes before its end
-pub run_reaches : (runs : List ℕ) (start end from : ℕ) → IsRun runs start end → from < end → ((q : ℕ) → from ≤ q → q < end → 0 < get_or runs q 0) → start ≤ from
+pub run_reaches : (runs : List ℕ) (start end from : ℕ) → IsRun runs start end → from < end
+    → ((q : ℕ) → from ≤ q → q < end → 0 < get_or runs q 0) → start ≤ from
 run_reaches runs start end from r below holes = reaches start refl
   where
     reaches : (s : ℕ) → s ≡ start → start ≤ from
     reaches zero e = omega (arith, e)
     reaches (suc p) e = elim (cases_lt from (suc p)) [
-      | inl more ↦ absurd (let none = rw (← e) at r.starts in omega (arith, none, holes p (omega (arith, more)) (omega (arith, e, r.rises))))
+      | inl more ↦ absurd (let none = rw (← e) at r.starts in
+          omega (arith, none, holes p (omega (arith, more)) (omega (arith, e, r.rises))))
       | inr fits ↦ omega (arith, fits, e)
     ]
 
 -- an item goes down into a hole
-module _ (old : List ℕ) (start from to end : ℕ) (a : IsAround old start from end) (item : get_or old from 1 ≡ 0) (down : to < from) (above_start : start ≤ to) where
+module _ (old : List ℕ) (start from to end : ℕ) (a : IsAround old start from end) (item : get_or old from 1 ≡ 0) (down : to < from)
+    (above_start : start ≤ to) where
   shift-same : (q : ℕ) → q ≢ to → q ≢ from → get_or (set (set old to 0) from 1) q 0 ≡ get_or old q 0
   shift-same q not_to not_from = get_or-set_other (set old to 0) from q 1 0 not_from ∙ get_or-set_other old to q 0 0 not_to
 
@@ -98,10 +117,12 @@ module _ (old : List ℕ) (start from to end : ℕ) (a : IsAround old start from
   shift-from = get_or-set_same (set old to 0) from 1 0 (rw length-set (omega (arith, a.within, a.right.rises)))
 
   shift-to : get_or (set (set old to 0) from 1) to 0 ≡ 0
-  shift-to = get_or-set_other (set old to 0) from to 1 0 (λ e. omega (arith, e, down)) ∙ get_or-set_same old to 0 0 (omega (arith, a.within, a.right.rises, down))
+  shift-to = get_or-set_other (set old to 0) from to 1 0 (λ e. omega (arith, e, down))
+      ∙ get_or-set_same old to 0 0 (omega (arith, a.within, a.right.rises, down))
 
   pub shift-low : (q : ℕ) → start ≤ q → q < to → 0 < get_or (set (set old to 0) from 1) q 0
-  shift-low q above below = rw (shift-same q (λ e. omega (arith, e, below)) (λ e. omega (arith, e, below, down))) (a.left.holes q above (omega (arith, below, down)))
+  shift-low q above below = rw (shift-same q (λ e. omega (arith, e, below)) (λ e. omega (arith, e, below, down)))
+      (a.left.holes q above (omega (arith, below, down)))
 
   pub shift-high : (q : ℕ) → suc to ≤ q → q < end → 0 < get_or (set (set old to 0) from 1) q 0
   shift-high q above below = elim (cases_eq q from) [
@@ -179,5 +200,10 @@ AreRuns-cut runs start are r =
     same q (inr high) = get_or_past (take start runs) q 0 (omega (arith, high, shorter, r.rises)) ∙ sym (get_or_past runs q 0 high)
 
     none : (s e : ℕ) → start ≤ s → IsRun (take start runs) s e → (s < e) ⊎ (e ≤ s) → e ≡ s
-    none s e above new (inl some) = absurd (omega (arith, new.holes s (omega arith) some, get_or_past (take start runs) s 0 (omega (arith, above, shorter))))
+    none s e above new (inl some) = absurd (omega (
+      arith,
+      new.holes s (omega arith) some,
+      get_or_past (take start runs) s 0
+          (omega (arith, above, shorter)),
+    ))
     none s e above new (inr less) = omega (arith, less, new.rises)

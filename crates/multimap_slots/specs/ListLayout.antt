@@ -77,6 +77,13 @@ module _ {L : Type 0} where
   abbrev pub KeepsPlaces : Places L → Places L → Type 0
   KeepsPlaces old new = new ≡ record old { capacity = new.capacity }
 
+  -- these are the order and the states now; each place has its link, and as many places fit
+  pub record Relists (order : List ℕ) (states : List State) (old new : Places L) : Type 0 where
+    pub order_is : new.order ≡ order
+    pub states_are : new.states ≡ states
+    pub links : new.links ≡ old.links
+    pub capacity : new.capacity ≡ old.capacity
+
   -- the place behind each node
   abbrev pub nexts : List (Node L) → List (Option ℕ)
   nexts nodes = map (λ n. n.next) nodes

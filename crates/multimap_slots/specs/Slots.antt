@@ -97,7 +97,7 @@ module _ {T L : Type 0} where
     pub slots : listed_slots new
         ≡ listed_slots old ++ record { place = place; item = item; link = link } ∷ []
 
-  -- the place has left the list, and the item that stood there has gone
+  -- the place has left the list, the item that stood there has gone, and as many fit as before
   pub record Removes (old new : Slots T L) (place : ℕ) (item : T) : Type 0 where
     pub was_listed : IsIn place old.order
     pub had : item_at old place ≡ Some item
@@ -106,6 +106,7 @@ module _ {T L : Type 0} where
     pub freed : item_at new place ≡ None
     pub others : KeepsOthers old new place
     pub slots : listed_slots new ≡ filter (λ e. not (e.place == place)) (listed_slots old)
+    pub capacity : new.capacity ≡ old.capacity
 
   -- the place has left the list, and an item is kept there
   pub record IsDetached (s : Slots T L) (place : ℕ) : Type 0 where

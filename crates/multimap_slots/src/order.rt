@@ -48,7 +48,7 @@ impl<L, A: Allocator> Model for Order<L, A> {
 
 impl<L: Copy, A: Allocator> Order<L, A> {
     ghost use Rattle.std.specs.Borrow.{sem};
-    ghost use Rattle.multimap_slots.specs.ListLayout.{HasNoPlaces, HasFree, AreSound, AddsLast, KeepsPlaces};
+    ghost use Rattle.multimap_slots.specs.ListLayout.{HasNoPlaces, HasFree, AreSound, AddsLast, KeepsPlaces, Relists};
     ghost use Rattle.multimap_slots.specs.OrderLends.{lends_place_link};
     ghost use Rattle.multimap_slots.specs.declared.order.node.State.TheVariants.{Free};
 
@@ -137,12 +137,9 @@ impl<L: Copy, A: Allocator> Order<L, A> {
     /// Takes the place out of the order. It is free then, and the next to be given.
     pub(crate) fn remove(&mut self, place: usize)
         requires { IsIn place self.old.order }
-        ensures order { self.new.order ≡ without self.old.order place }
+        ensures relists { Relists (without self.old.order place)
+            (slice_set self.old.states place Free) self.old self.new }
         ensures shorter { length self.new.order + 1 ≡ length self.old.order }
-        ensures states { self.new.states ≡ slice_set self.old.states place Free }
-        ensures links { self.new.links ≡ self.old.links }
-
-        ensures capacity { self.new.capacity ≡ self.old.capacity }
         ensures detached { self.new.detached ≡ self.old.detached }
     {
         // The length tells the proof that each listed place is marked so.

@@ -1,5 +1,6 @@
 -- The ends of an order and the neighbours in it are places of it, and where an item stands.
-use Rattle.std.proofs.Common.{◌≡◌, ℕ, zero, suc, ◌<◌, Bool, true, false, if◌then◌else◌, ◌==◌, List, [], ◌∷◌, length, get_or, Option, Some, None, IsSome, refl, inl, inr, ◌∙◌, reverse, arith}
+use Rattle.std.proofs.Common.{◌≡◌, ℕ, zero, suc, ◌<◌, Bool, true, false, if◌then◌else◌, ◌==◌, List, [], ◌∷◌, length, get_or, Option, Some}
+use Rattle.std.proofs.Common.{None, IsSome, refl, inl, inr, ◌∙◌, reverse, arith}
 use Rattle.std.specs.Prelude.{IfSome}
 use Rattle.multimap_slots.specs.Lists.{IsIn, first_of, last_of, next_of, previous_of}
 use Rattle.multimap_slots.specs.SlotCells.{lent_slots, IsLeft}

@@ -1,5 +1,6 @@
 -- What callers of the tape conclude from its contracts.
-use Rattle.std.proofs.Common.{◌≡◌, ◌≢◌, ℕ, ◌<◌, ◌≤◌, List, [], ◌∷◌, ◌++◌, Option, Some, None, IsSome, refl, sym, ap, subst, ◌∙◌, inl, inr, arith}
+use Rattle.std.proofs.Common.{◌≡◌, ◌≢◌, ℕ, ◌<◌, ◌≤◌, List, [], ◌∷◌, ◌++◌, Option, Some, None, IsSome, refl, sym, ap, subst, ◌∙◌, inl, inr}
+use Rattle.std.proofs.Common.{arith}
 use Rattle.std.specs.List.{last_or}
 use Rattle.multimap_slots.specs.Lists.{IsIn, Rises, last_of, previous_of}
 use Rattle.multimap_slots.specs.Slots.{Slots, item_at, IsDetached, Detaches, PushesBack}
@@ -40,7 +41,8 @@ IsBelow None to = Unit {0}
 IsBelow (Some b) to = b < to
 
 -- then no place is listed from there up to it
-pub none_between : (order : List ℕ) (from to : ℕ) → Rises order → IsIn from order → (o : Option ℕ) → o ≡ previous_of order from → IsBelow o to
+pub none_between : (order : List ℕ) (from to : ℕ) → Rises order → IsIn from order → (o : Option ℕ) → o ≡ previous_of order from
+    → IsBelow o to
     → (q : ℕ) → to ≤ q → q < from → IsIn q order → ⊥
 none_between order from to rises listed o o_is low q above below i =
     elim (IsIn-append q s.front (from ∷ s.back) (subst (IsIn q) s.is i)) [

@@ -1,5 +1,6 @@
 -- A walk over the places of an order, from the front.
-use Rattle.std.proofs.Common.{◌≡◌, ℕ, ◌+◌, List, [], ◌∷◌, ◌++◌, length, Option, Some, None, IfNone, is_some, true, refl, ap, sym, subst, ◌∙◌, inl, arith}
+use Rattle.std.proofs.Common.{◌≡◌, ℕ, ◌+◌, List, [], ◌∷◌, ◌++◌, length, Option, Some, None, IfNone, is_some, true, refl, ap, sym, subst}
+use Rattle.std.proofs.Common.{◌∙◌, inl, arith}
 use Rattle.std.proofs.lemmas.List.{append-nil, append_assoc, length-append}
 use Rattle.multimap_slots.specs.Lists.{IsIn, AreDistinct, first_of, next_of}
 use Rattle.multimap_slots.proofs.ListsLemmas.{IsIn-left, IsIn-right, AreDistinct-gone, next_of-split}
@@ -17,7 +18,8 @@ pub walked-step : (order : List ℕ) (place count : ℕ) → AreDistinct order �
     → IsIn place order × IsWalked order (next_of order place) (count + 1)
 walked-step order place count distinct w = go w.rest w.is w.following_is
   where
-    go : (rest : List ℕ) → order ≡ w.passed ++ rest → Some place ≡ first_of rest → IsIn place order × IsWalked order (next_of order place) (count + 1)
+    go : (rest : List ℕ) → order ≡ w.passed ++ rest → Some place ≡ first_of rest
+        → IsIn place order × IsWalked order (next_of order place) (count + 1)
     go [] is next = absurd (let e = next in cc)
     go (p ∷ rest) is next =
         let same : p ≡ place = cc in
@@ -28,7 +30,8 @@ walked-step order place count distinct w = go w.rest w.is w.following_is
             passed = w.passed ++ place ∷ [];
             rest = rest;
             is = split ∙ sym (append_assoc w.passed (place ∷ []) rest);
-            following_is = ap (λ ps. next_of ps place) split ∙ next_of-split w.passed place rest (λ i. gone (IsIn-left place w.passed rest i));
+            following_is = ap (λ ps. next_of ps place) split
+                ∙ next_of-split w.passed place rest (λ i. gone (IsIn-left place w.passed rest i));
             counted = omega (arith, w.counted, length-append w.passed (place ∷ []));
           },
         )

@@ -1,5 +1,7 @@
 //! Tests with ample memory: the calls of the slot list and of the tape.
-use crate::listed_uses::{push_at_end, push_with_room, use_listed, use_listed_on_tape};
+use crate::listed_uses::{
+    push_at_end, push_with_room, take_from, take_from_tape, use_listed, use_listed_on_tape,
+};
 use crate::slots::{Items, List, expect_on, expect_slots};
 use crate::uses::{push_two, put_last, read_all, relink};
 use multimap_slots::{Reads, SlotList, Tape};
@@ -75,6 +77,8 @@ fn listed_slots_answer(test: &Test, list: &mut List) {
     let b = push_with_room(list, 20, 2).unwrap_or(NOWHERE);
     let used = use_listed(list, b, (21, 3), &mut Reads::new());
     test.expect("listed", used == Some((Some(a), (21, 3), None)));
+    test.expect("take_listed", take_from(list, a) == Some((10, 1)));
+    expect_slots(test, list, &[(b, 21, 3)]);
 }
 
 fn calls_of_a_list_answer(test: &Test, list: &mut List) {
@@ -123,9 +127,16 @@ fn an_item_of_a_tape_is_written(test: &Test, tape: &mut Items) {
     expect_on(test, tape, &[(0, 11, 9), (1, 21, 3)]);
 }
 
+fn an_item_of_a_tape_is_taken(test: &Test, tape: &mut Items) {
+    test.expect("take_listed", take_from_tape(tape, 0) == Some((11, 9)));
+    test.expect("a hole", take_from_tape(tape, 0).is_none());
+    expect_on(test, tape, &[(1, 21, 3)]);
+}
+
 fn calls_of_a_tape_answer(test: &Test, tape: &mut Items) {
     listed_slots_of_a_tape_answer(test, tape);
     an_item_of_a_tape_is_written(test, tape);
+    an_item_of_a_tape_is_taken(test, tape);
 }
 
 #[test]

@@ -1,8 +1,9 @@
 //! Callers of what a list offers at places that are known to be listed, proved from its public
 //! contracts alone.
 ghost use Rattle.std.specs.Prelude.{◌≡◌, ◌+◌, IfSome};
-ghost use Rattle.multimap_slots.specs.Lists.{next_of, previous_of};
+ghost use Rattle.multimap_slots.specs.Lists.{next_of, previous_of, without};
 ghost use Rattle.multimap_slots.specs.Slots.{HasSlot, PushesBack};
+ghost use Rattle.multimap_slots.specs.Tapes.{Frees};
 
 use crate::slots::{Items, List};
 use multimap_slots::Reads;
@@ -76,4 +77,27 @@ pub fn use_listed_on_tape(
     let behind = tape.next_listed_place(place);
     let (item, link) = tape.get_listed(place, reads);
     Some((before, (*item, link), behind))
+}
+
+/// Takes an item with its link, if one is there.
+pub fn take_from(list: &mut List, place: usize) -> Option<(usize, u8)>
+    ensures taken { IfSome result (λ r. HasSlot list.old place r.0 r.1) }
+    ensures order { IfSome result (λ _. list.new.order ≡ without list.old.order place) }
+{
+    if list.get(place, &mut Reads::new()).is_none() {
+        return None;
+    }
+    Some(list.take_listed(place))
+}
+
+/// The same on a tape, which counts the slot as freed.
+pub fn take_from_tape(tape: &mut Items, place: usize) -> Option<(usize, u8)>
+    ensures taken { IfSome result (λ r. HasSlot tape.old.list place r.0 r.1) }
+    ensures order { IfSome result (λ _. tape.new.list.order ≡ without tape.old.list.order place) }
+    ensures freed { IfSome result (λ _. Frees tape.old tape.new) }
+{
+    if tape.get(place, &mut Reads::new()).is_none() {
+        return None;
+    }
+    Some(tape.take_listed(place))
 }

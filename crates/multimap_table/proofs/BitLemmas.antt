@@ -1,5 +1,6 @@
 -- The bits of a mask, and the lanes that it stands for.
-use Rattle.std.proofs.Common.{◌≡◌, ℕ, zero, suc, ◌+◌, ◌-◌, ◌/◌, ◌%◌, ◌^◌, ◌<◌, ◌≤◌, min, Bool, true, false, cond, eqb, List, [], ◌∷◌, map, length, get_or, replicate, refl, sym, ap, subst, ◌∙◌, arith, w8}
+use Rattle.std.proofs.Common.{◌≡◌, ℕ, zero, suc, ◌+◌, ◌-◌, ◌/◌, ◌%◌, ◌^◌, ◌<◌, ◌≤◌, min, Bool, true, false, cond, eqb, List, [], ◌∷◌, map}
+use Rattle.std.proofs.Common.{length, get_or, replicate, refl, sym, ap, subst, ◌∙◌, arith, w8}
 use native.Mathlib.Numerals.{one-add}
 use native.Mathlib.Nat.{zero-div}
 use lib.Bits.{bit_and, and_step, and_shr}
@@ -37,14 +38,17 @@ lowest_by b t (suc d) e half = omega arith
 pub bit_trailing_zeros : (w b : ℕ) → 0 < b → b < 2 ^ w → IsBitSet b (count_trailing_zeros w b)
 unfolding IsBitSet count_trailing_zeros
 bit_trailing_zeros zero b p q = absurd (omega arith)
-bit_trailing_zeros (suc w) b p q = lowest_by b (count_trailing_zeros w (b / 2)) (b % 2) refl (λ e. bit_trailing_zeros w (b / 2) (omega arith) (omega arith))
+bit_trailing_zeros (suc w) b p q = lowest_by b (count_trailing_zeros w (b / 2)) (b % 2) refl
+    (λ e. bit_trailing_zeros w (b / 2) (omega arith) (omega arith))
 
 others_by : (b t d j : ℕ) → 0 < b → b % 2 ≡ d → digit b j ≡ 1 → (j ≡ under d t → ⊥)
-    → ((i : ℕ) → b % 2 ≡ 0 → digit (b / 2) i ≡ 1 → (i ≡ t → ⊥) → digit (bit_and (b / 2) (b / 2 - 1)) i ≡ 1) → digit (bit_and b (b - 1)) j ≡ 1
+    → ((i : ℕ) → b % 2 ≡ 0 → digit (b / 2) i ≡ 1 → (i ≡ t → ⊥) → digit (bit_and (b / 2) (b / 2 - 1)) i ≡ 1)
+    → digit (bit_and b (b - 1)) j ≡ 1
 others_by b t zero zero p e s ne half = absurd (omega arith)
 others_by b t zero (suc i) p e s ne half =
     let less : (b - 1) / 2 ≡ b / 2 - 1 = omega arith in
-    digit-suc (bit_and b (b - 1)) i ∙ ap (λ x. digit x i) (and_shr b (b - 1) 1 ∙ ap (bit_and (b / 2)) less) ∙ half i e (sym (digit-suc b i) ∙ s) (λ z. ne (ap suc z))
+    digit-suc (bit_and b (b - 1)) i ∙ ap (λ x. digit x i) (and_shr b (b - 1) 1 ∙ ap (bit_and (b / 2)) less)
+    ∙ half i e (sym (digit-suc b i) ∙ s) (λ z. ne (ap suc z))
 others_by b t (suc d) zero p e s ne half = absurd (ne refl)
 others_by b t (suc d) (suc i) p e s ne half =
     let same_half : (b - 1) / 2 ≡ b / 2 = omega arith in
@@ -55,7 +59,8 @@ others_by b t (suc d) (suc i) p e s ne half =
 pub bit_remove_lowest : (w b j : ℕ) → 0 < b → b < 2 ^ w → IsBitSet b j → (j ≡ count_trailing_zeros w b → ⊥) → IsBitSet (bit_and b (b - 1)) j
 unfolding IsBitSet count_trailing_zeros
 bit_remove_lowest zero b j p q s ne = absurd (omega arith)
-bit_remove_lowest (suc w) b j p q s ne = others_by b (count_trailing_zeros w (b / 2)) (b % 2) j p refl s ne (λ i e. bit_remove_lowest w (b / 2) i (omega arith) (omega arith))
+bit_remove_lowest (suc w) b j p q s ne = others_by b (count_trailing_zeros w (b / 2)) (b % 2) j p refl s ne
+    (λ i e. bit_remove_lowest w (b / 2) i (omega arith) (omega arith))
 
 pub no_bit_zero : (k : ℕ) → IsBitSet 0 k → ⊥
 unfolding IsBitSet
@@ -88,7 +93,8 @@ true_compared (x ∷ xs) y (suc k) p e = true_compared xs y k (omega arith) e
 abbrev pub equal_mask : List ℕ → ℕ → ℕ → ℕ
 equal_mask xs i y = mask_l (map (top 7) (zip2 (λ a b. cond (eqb a b) 255 0) (chunk i 16 xs) (replicate 16 y))) % 2 ^ 64
 
-pub equal_from_bit : (xs : List ℕ) (i y : ℕ) → i + 16 ≤ length xs → (k : ℕ) → IsBitSet (equal_mask xs i y) k → (k < 16) × (get_or xs (i + k) 0 ≡ y)
+pub equal_from_bit : (xs : List ℕ) (i y : ℕ) → i + 16 ≤ length xs → (k : ℕ) → IsBitSet (equal_mask xs i y) k
+    → (k < 16) × (get_or xs (i + k) 0 ≡ y)
 equal_from_bit xs i y room k h =
     let long = length-chunk i 16 xs room in
     let compared = bitmask_splat w8 (λ a b. eqb a b) (chunk i 16 xs) 16 y long (omega arith) in
@@ -96,8 +102,10 @@ equal_from_bit xs i y room k h =
     let small : k < 16 = omega (arith, at.0, long) in
     (small, sym (get_or-chunk i 16 xs k 0 small) ∙ at.1)
 
-pub bit_from_equal : (xs : List ℕ) (i y : ℕ) → i + 16 ≤ length xs → (k : ℕ) → k < 16 → get_or xs (i + k) 0 ≡ y → IsBitSet (equal_mask xs i y) k
+pub bit_from_equal : (xs : List ℕ) (i y : ℕ) → i + 16 ≤ length xs → (k : ℕ) → k < 16 → get_or xs (i + k) 0 ≡ y
+    → IsBitSet (equal_mask xs i y) k
 bit_from_equal xs i y room k small e =
     let long = length-chunk i 16 xs room in
     let compared = bitmask_splat w8 (λ a b. eqb a b) (chunk i 16 xs) 16 y long (omega arith) in
-    subst (λ n. IsBitSet n k) (sym compared) (mask_bit _ k (true_compared (chunk i 16 xs) y k (omega (arith, long)) (get_or-chunk i 16 xs k 0 small ∙ e)))
+    subst (λ n. IsBitSet n k) (sym compared) (mask_bit _ k
+    (true_compared (chunk i 16 xs) y k (omega (arith, long)) (get_or-chunk i 16 xs k 0 small ∙ e)))

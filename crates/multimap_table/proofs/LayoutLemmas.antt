@@ -1,14 +1,20 @@
 -- A row put into an empty lane leaves the lanes laid out.
-use Rattle.std.proofs.Common.{◌≡◌, ℕ, ◌+◌, ◌*◌, ◌/◌, ◌<◌, ◌⊎◌, inl, inr, None, List, length, get_or, set, sym, ap, subst, ◌∙◌, arith, length-set, get_or-set_same, get_or-set_other}
+use Rattle.std.proofs.Common.{◌≡◌, ℕ, ◌+◌, ◌*◌, ◌/◌, ◌<◌, ◌⊎◌, inl, inr, None, List, length, get_or, set, sym, ap, subst, ◌∙◌, arith}
+use Rattle.std.proofs.Common.{length-set, get_or-set_same, get_or-set_other}
 use native.Mathlib.Decide.{dec_lt}
 use Rattle.std.specs.FinMap.{get}
 use Rattle.multimap_table.specs.declared.group.Row.{Row}
 use Rattle.multimap_table.specs.Entries.{rows_of, no_row, row_at}
-use Rattle.multimap_table.specs.Layout.{IsGroupCount, IsFull, Reaches, IsSized, IsReachable, IsLaidOut, distance, group_count, hash_tag, probe_start}
+use Rattle.multimap_table.specs.Layout.{IsGroupCount, IsFull, Reaches, IsSized, IsReachable, IsLaidOut, distance, group_count, hash_tag}
+use Rattle.multimap_table.specs.Layout.{probe_start}
 use Rattle.multimap_table.proofs.RowLemmas.{put_row}
 
 pub same_or_not : (i j : ℕ) → (i ≡ j) ⊎ (i ≡ j → ⊥)
-same_or_not i j = elim (dec_lt i j) [ yes p ↦ inr (λ e. omega arith) | no p ↦ elim (dec_lt j i) [ yes q ↦ inr (λ e. omega arith) | no q ↦ inl (omega arith) ] ]
+same_or_not i j = elim (dec_lt i j) [
+  | yes p ↦ inr (λ e. omega arith)
+  | no p ↦ elim
+      (dec_lt j i) [ yes q ↦ inr (λ e. omega arith) | no q ↦ inl (omega arith) ]
+]
 
 -- an element after a write
 pub get_set_same : {X : Type 0} (xs : List X) (i j : ℕ) (x d : X) → j ≡ i → i < length xs → get_or (set xs i x) j d ≡ x
@@ -18,7 +24,8 @@ get_set_same xs i j x d e p = ap (λ k. get_or (set xs i x) k d) e ∙ get_or-se
 abbrev pub ReachesIn : ℕ → List ℕ → ℕ → ℕ → Type 0
 ReachesIn count tags start group = (other : ℕ) → other < count → distance count start other < distance count start group → IsFull tags other
 
-pub reaches_along : {count count' start start' : ℕ} (tags : List ℕ) (group : ℕ) → count ≡ count' → start ≡ start' → ReachesIn count tags start group → ReachesIn count' tags start' group
+pub reaches_along : {count count' start start' : ℕ} (tags : List ℕ) (group : ℕ) → count ≡ count' → start ≡ start'
+    → ReachesIn count tags start group → ReachesIn count' tags start' group
 reaches_along {count = count} {start' = start'} tags group same_count same_start reaches =
     subst (λ n. ReachesIn n tags start' group) same_count (subst (λ s. ReachesIn count tags s group) same_start reaches)
 
@@ -46,31 +53,45 @@ module _ (tags : List ℕ) (rows : List Row) (i tag : ℕ) (row : Row) (sized : 
     row_each = length-set rows i row ∙ sized.row_each ∙ sym (length-set tags i tag);
   }
 
-  pub reachable_put : tag ≡ hash_tag row.hash → 0 < tag → Reaches tags (probe_start (group_count tags) row.hash) (i / 16) → IsReachable tags rows → IsReachable new_tags new_rows
+  pub reachable_put : tag ≡ hash_tag row.hash → 0 < tag → Reaches tags (probe_start (group_count tags) row.hash) (i / 16)
+      → IsReachable tags rows → IsReachable new_tags new_rows
   reachable_put is_tag some here old =
       let in_rows : i < length rows = omega (arith, sized.row_each) in
-      let start : (hash : ℕ) → probe_start (group_count tags) hash ≡ probe_start (group_count new_tags) hash = λ hash. ap (λ n. probe_start n hash) (sym count_set) in
+      let start : (hash : ℕ) → probe_start (group_count tags) hash ≡ probe_start (group_count new_tags) hash = λ hash. ap
+      (λ n. probe_start n hash) (sym count_set) in
       record {
         tagged = λ lane q full.
             elim (same_or_not lane i) [
-              | inl e ↦ get_set_same tags i lane tag 0 e p ∙ is_tag ∙ ap (λ (r : Row). hash_tag r.hash) (sym (get_set_same rows i lane row no_row e in_rows))
+              | inl e ↦ get_set_same tags i lane tag 0 e p ∙ is_tag
+                  ∙ ap (λ (r : Row). hash_tag r.hash) (sym (get_set_same rows i lane row no_row e in_rows))
               | inr ne ↦
                   let kept = get_or-set_other tags i lane tag 0 ne in
-                  kept ∙ old.tagged lane (omega (arith, length-set tags i tag)) (subst (λ n. 0 < n) kept full) ∙ ap (λ (r : Row). hash_tag r.hash) (sym (get_or-set_other rows i lane row no_row ne))
+                  kept ∙ old.tagged lane (omega (arith, length-set tags i tag)) (subst (λ n. 0 < n) kept full)
+                  ∙ ap (λ (r : Row). hash_tag r.hash) (sym (get_or-set_other rows i lane row no_row ne))
             ];
         reached = λ lane q full.
             elim (same_or_not lane i) [
               | inl e ↦
-                  let from : probe_start (group_count tags) row.hash ≡ probe_start (group_count new_tags) (row_at new_rows lane).hash = start row.hash ∙ ap (λ (r : Row). probe_start (group_count new_tags) r.hash) (sym (get_set_same rows i lane row no_row e in_rows)) in
-                  reaches_along new_tags (lane / 16) (sym count_set) from (λ u r near. full_set tags i tag u p some (here u r (subst (λ n. distance (group_count tags) (probe_start (group_count tags) row.hash) u < distance (group_count tags) (probe_start (group_count tags) row.hash) (n / 16)) e near)))
+                  let from : probe_start (group_count tags) row.hash ≡ probe_start (group_count new_tags)
+                  (row_at new_rows lane).hash = start row.hash
+                  ∙ ap (λ (r : Row). probe_start (group_count new_tags) r.hash) (sym (get_set_same rows i lane row no_row e in_rows)) in
+                  reaches_along new_tags (lane / 16) (sym count_set) from
+                  (λ u r near. full_set tags i tag u p some
+                  (here u r (subst (λ n. distance (group_count tags) (probe_start (group_count tags) row.hash) u < distance
+                  (group_count tags) (probe_start (group_count tags) row.hash) (n / 16)) e near)))
               | inr ne ↦
                   let kept = get_or-set_other tags i lane tag 0 ne in
-                  let from : probe_start (group_count tags) (row_at rows lane).hash ≡ probe_start (group_count new_tags) (row_at new_rows lane).hash = start (row_at rows lane).hash ∙ ap (λ (r : Row). probe_start (group_count new_tags) r.hash) (sym (get_or-set_other rows i lane row no_row ne)) in
-                  reaches_along new_tags (lane / 16) (sym count_set) from (λ u r near. full_set tags i tag u p some (old.reached lane (omega (arith, length-set tags i tag)) (subst (λ n. 0 < n) kept full) u r near))
+                  let from : probe_start (group_count tags) (row_at rows lane).hash ≡ probe_start (group_count new_tags)
+                  (row_at new_rows lane).hash = start (row_at rows lane).hash
+                  ∙ ap (λ (r : Row). probe_start (group_count new_tags) r.hash) (sym (get_or-set_other rows i lane row no_row ne)) in
+                  reaches_along new_tags (lane / 16) (sym count_set) from
+                  (λ u r near. full_set tags i tag u p some
+                  (old.reached lane (omega (arith, length-set tags i tag)) (subst (λ n. 0 < n) kept full) u r near))
             ];
       }
 
-  pub laid_out_put : tag ≡ hash_tag row.hash → 0 < tag → get_or tags i 0 ≡ 0 → get (rows_of tags rows) row.place ≡ None → Reaches tags (probe_start (group_count tags) row.hash) (i / 16) → IsLaidOut tags rows
+  pub laid_out_put : tag ≡ hash_tag row.hash → 0 < tag → get_or tags i 0 ≡ 0 → get (rows_of tags rows) row.place ≡ None
+      → Reaches tags (probe_start (group_count tags) row.hash) (i / 16) → IsLaidOut tags rows
       → IsLaidOut new_tags new_rows
   laid_out_put is_tag some free none here old = record {
     sized = sized_set;

@@ -6,7 +6,8 @@ use lib.Utf8.{encode, next}
 -- the bytes of a character, where the tests of its size are answered so
 of_size : Bool → Bool → Bool → ℕ → List ℕ
 of_size one two three c =
-    cond one (c ∷ []) (cond two ((192 + c / 64) ∷ next c ∷ []) (cond three ((224 + c / 4096) ∷ next (c / 64) ∷ next c ∷ []) ((240 + c / 262144) ∷ next (c / 4096) ∷ next (c / 64) ∷ next c ∷ [])))
+    cond one (c ∷ []) (cond two ((192 + c / 64) ∷ next c ∷ [])
+    (cond three ((224 + c / 4096) ∷ next (c / 64) ∷ next c ∷ []) ((240 + c / 262144) ∷ next (c / 4096) ∷ next (c / 64) ∷ next c ∷ [])))
 
 same_of_size : (a b f x y z : Bool) (c d : ℕ) → of_size a b f c ≡ of_size x y z d → c ≡ d
 unfolding of_size

@@ -6,13 +6,15 @@ use Rattle.multimap_tool.specs.Parts.{IsWithout}
 
 -- of a disjunction that is false, each part is
 or_false : (a b : Bool) → (a || b) ≡ false → (a ≡ false) × (b ≡ false)
-or_false a b e = elim a as (λ v. (v || b) ≡ false → (v ≡ false) × (b ≡ false)) [ true ↦ λ never. absurd (true≢false never) | false ↦ λ e. (refl, e) ] e
+or_false a b e = elim a as (λ v. (v || b) ≡ false
+    → (v ≡ false) × (b ≡ false)) [ true ↦ λ never. absurd (true≢false never) | false ↦ λ e. (refl, e) ] e
 
 module _ (s : ℕ) where
   -- the separator isn't in what is without it
   pub without-cut : (before after : List ℕ) → IsWithout s (before ++ s ∷ after) → ⊥
   without-cut [] after without = eqb-false s s (or_false (nat_eq s s) (list_any (nat_eq s) after) without).0 refl
-  without-cut (b ∷ before) after without = without-cut before after (or_false (nat_eq s b) (list_any (nat_eq s) (before ++ s ∷ after)) without).1
+  without-cut (b ∷ before) after without = without-cut before after
+      (or_false (nat_eq s b) (list_any (nat_eq s) (before ++ s ∷ after)) without).1
 
   pub head_differs : (b : ℕ) (bs : List ℕ) → IsWithout s (b ∷ bs) → s ≡ b → ⊥
   head_differs b bs without e = eqb-false s b (or_false (nat_eq s b) (list_any (nat_eq s) bs) without).0 e

@@ -1,5 +1,6 @@
 -- The fields of a line, and the commands that they can spell.
-use Rattle.std.proofs.Common.{◌≡◌, ◌≢◌, ◌⊎◌, true, nat_eq, true≢false, ℕ, zero, suc, ◌<◌, ◌≤◌, List, [], ◌∷◌, ◌++◌, ◌+◌, length, take, get_or, map, refl, sym, ap, ◌∙◌, subst, inl, inr, arith}
+use Rattle.std.proofs.Common.{◌≡◌, ◌≢◌, ◌⊎◌, true, nat_eq, true≢false, ℕ, zero, suc, ◌<◌, ◌≤◌, List, [], ◌∷◌, ◌++◌, ◌+◌, length, take}
+use Rattle.std.proofs.Common.{get_or, map, refl, sym, ap, ◌∙◌, subst, inl, inr, arith}
 use Rattle.std.specs.Bool.{IsTrue}
 use Rattle.std.proofs.lemmas.Bool.{false≢true, ne_eqb}
 use Rattle.std.proofs.lemmas.List.{append-nil, map-append, take_more, take_all}
@@ -12,7 +13,8 @@ use Rattle.multimap_tool.specs.Parts.{IsWithout, AreLettersOf, IsNoWord}
 use Rattle.multimap_tool.proofs.CutLemmas.{without-cut, same_cut}
 
 -- a letter is f or b
-pub letter_cases : (word : List End) (i : ℕ) → i < length (map letter_of word) → (get_or (map letter_of word) i 0 ≡ 102) ⊎ (get_or (map letter_of word) i 0 ≡ 98)
+pub letter_cases : (word : List End) (i : ℕ) → i < length (map letter_of word)
+    → (get_or (map letter_of word) i 0 ≡ 102) ⊎ (get_or (map letter_of word) i 0 ≡ 98)
 letter_cases [] i inside = absurd (omega (arith, inside))
 letter_cases (Front ∷ word) zero inside = inl refl
 letter_cases (Back ∷ word) zero inside = inr refl
@@ -41,7 +43,8 @@ has_letters : (word : List End) → 0 < length (map letter_of word) → IsTrue (
 has_letters [] some = absurd (omega (arith, some))
 has_letters (end ∷ word) some = refl
 
-pub letters_done : (text : List ℕ) (i : ℕ) (word : List End) → 0 < length text → length text ≤ i → map letter_of word ≡ take i text → AreLettersOf text word
+pub letters_done : (text : List ℕ) (i : ℕ) (word : List End) → 0 < length text → length text ≤ i → map letter_of word ≡ take i text
+    → AreLettersOf text word
 letters_done text i word some ended so_far =
     let spelled : map letter_of word ≡ text = so_far ∙ take_all i text ended in
     record { spelled = spelled; some = has_letters word (rw spelled some) }
@@ -57,7 +60,8 @@ pub record ArePlain (name : List ℕ) (operands : List (List ℕ)) : Type 0 wher
   pub few : length operands ≤ 2
 
 -- one operand, where there is one space
-pub one_operand : (word operand name : List ℕ) (operands : List (List ℕ)) → IsWithout 32 word → IsWithout 32 operand → ArePlain name operands
+pub one_operand : (word operand name : List ℕ) (operands : List (List ℕ)) → IsWithout 32 word → IsWithout 32 operand
+    → ArePlain name operands
     → word ++ 32 ∷ operand ≡ name ++ joined operands → (word ≡ name) × (operands ≡ operand ∷ [])
 one_operand word operand name [] without_word without_operand plain same =
     absurd (without-cut 32 word operand (subst (IsWithout 32) (sym (same ∙ append-nil name)) plain.word))
@@ -69,7 +73,8 @@ one_operand word operand name (o ∷ p ∷ os) without_word without_operand plai
     absurd (without-cut 32 o (p ++ joined os) (subst (IsWithout 32) parts.1 without_operand))
 
 -- two operands, where there are two spaces or more
-pub two_operands : (word first second name : List ℕ) (operands : List (List ℕ)) → IsWithout 32 word → IsWithout 32 first → ArePlain name operands
+pub two_operands : (word first second name : List ℕ) (operands : List (List ℕ)) → IsWithout 32 word → IsWithout 32 first
+    → ArePlain name operands
     → word ++ 32 ∷ (first ++ 32 ∷ second) ≡ name ++ joined operands → (word ≡ name) × (operands ≡ first ∷ second ∷ [])
 two_operands word first second name [] without_word without_first plain same =
     absurd (without-cut 32 word (first ++ 32 ∷ second) (subst (IsWithout 32) (sym (same ∙ append-nil name)) plain.word))

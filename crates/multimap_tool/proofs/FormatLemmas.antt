@@ -36,7 +36,8 @@ module _ {X : Type 0} (text : X → List ℕ) (c : ℕ) where
 
 module _ {A : Type 0} where
   -- one reply more, and a line feed
-  pub replies_on : (replies : List (Reply ℕ ℤ A)) (i : ℕ) (reply : Reply ℕ ℤ A) (front all : List ℕ) → i < length replies → reply ≡ get_or replies i reply
+  pub replies_on : (replies : List (Reply ℕ ℤ A)) (i : ℕ) (reply : Reply ℕ ℤ A) (front all : List ℕ) → i < length replies
+      → reply ≡ get_or replies i reply
       → front ++ text_of (drop i replies) ≡ all → ((front ++ reply_text reply) ++ 10 ∷ []) ++ text_of (drop (i + 1) replies) ≡ all
   replies_on replies i reply front all inside is so_far =
       let rest = text_of (drop (i + 1) replies) in

@@ -1,13 +1,16 @@
 -- A command that is none of those that a function of a run answers is one of the next function's.
 use Rattle.std.proofs.Common.{◌≢◌, ℕ, refl}
 use Rattle.multimap_tool.specs.declared.commands.Command.{Command}
-use Rattle.multimap_tool.specs.declared.commands.Command.TheVariants.{Append, Insert, InsertAll, SetFirst, SetFront, SetBack, OrInsert, Remove, RemoveAll, RemoveEntry, RemoveEntryAll, RemoveAt, PopFront, PopBack, Retain, Clear, Reserve, PackToFit, Swap, Json, Json2}
+use Rattle.multimap_tool.specs.declared.commands.Command.TheVariants.{Append, Insert, InsertAll, SetFirst, SetFront, SetBack, OrInsert}
+use Rattle.multimap_tool.specs.declared.commands.Command.TheVariants.{Remove, RemoveAll, RemoveEntry, RemoveEntryAll, RemoveAt, PopFront}
+use Rattle.multimap_tool.specs.declared.commands.Command.TheVariants.{PopBack, Retain, Clear, Reserve, PackToFit, Swap, Json, Json2}
 use Rattle.multimap_tool.specs.Step.{IsLookUp}
 use Rattle.multimap_tool.specs.RunRooms.{IsAddition}
 use Rattle.multimap_tool.specs.Groups.{IsInPlace, WritesOrRemoves, RemovesOrLooksUp}
 
 module _ {K V A : Type 0} where
-  pub IsInPlace-else : (command : Command K V A) → ((x : V) → command ≢ Retain x) → command ≢ PackToFit → command ≢ Swap → command ≢ Json → command ≢ Json2 → IsInPlace command
+  pub IsInPlace-else : (command : Command K V A) → ((x : V) → command ≢ Retain x) → command ≢ PackToFit → command ≢ Swap → command ≢ Json
+      → command ≢ Json2 → IsInPlace command
   IsInPlace-else (Retain x) retain pack swap json json2 = retain x refl
   IsInPlace-else PackToFit retain pack swap json json2 = pack refl
   IsInPlace-else Swap retain pack swap json json2 = swap refl
@@ -15,7 +18,8 @@ module _ {K V A : Type 0} where
   IsInPlace-else Json2 retain pack swap json json2 = json2 refl
   IsInPlace-else command retain pack swap json json2 = tt
 
-  pub WritesOrRemoves-else : (command : Command K V A) → IsInPlace command → ((k : K) (v : V) → command ≢ Append k v) → ((k : K) (v : V) → command ≢ Insert k v)
+  pub WritesOrRemoves-else : (command : Command K V A) → IsInPlace command → ((k : K) (v : V) → command ≢ Append k v)
+      → ((k : K) (v : V) → command ≢ Insert k v)
       → ((k : K) (v : V) → command ≢ InsertAll k v) → ((k : K) (v : V) → command ≢ OrInsert k v) → WritesOrRemoves command
   WritesOrRemoves-else (Append k v) is append insert all or = append k v refl
   WritesOrRemoves-else (Insert k v) is append insert all or = insert k v refl
@@ -29,7 +33,8 @@ module _ {K V A : Type 0} where
   no_addition (OrInsert k v) is adds = is
   no_addition command is adds = adds
 
-  pub RemovesOrLooksUp-else : (command : Command K V A) → WritesOrRemoves command → ((k : K) (v : V) → command ≢ SetFirst k v) → ((v : V) → command ≢ SetFront v)
+  pub RemovesOrLooksUp-else : (command : Command K V A) → WritesOrRemoves command → ((k : K) (v : V) → command ≢ SetFirst k v)
+      → ((v : V) → command ≢ SetFront v)
       → ((v : V) → command ≢ SetBack v) → command ≢ Clear → ((a b : ℕ) → command ≢ Reserve a b) → RemovesOrLooksUp command
   RemovesOrLooksUp-else (SetFirst k v) is first front back clear reserve = first k v refl
   RemovesOrLooksUp-else (SetFront v) is first front back clear reserve = front v refl
@@ -38,8 +43,10 @@ module _ {K V A : Type 0} where
   RemovesOrLooksUp-else (Reserve a b) is first front back clear reserve = reserve a b refl
   RemovesOrLooksUp-else command is first front back clear reserve = is
 
-  pub IsLookUp-else : (command : Command K V A) → RemovesOrLooksUp command → ((k : K) → command ≢ Remove k) → ((k : K) → command ≢ RemoveAll k) → ((k : K) → command ≢ RemoveEntry k)
-      → ((k : K) → command ≢ RemoveEntryAll k) → ((k : K) (i : ℕ) → command ≢ RemoveAt k i) → command ≢ PopFront → command ≢ PopBack → IsLookUp command
+  pub IsLookUp-else : (command : Command K V A) → RemovesOrLooksUp command → ((k : K) → command ≢ Remove k)
+      → ((k : K) → command ≢ RemoveAll k) → ((k : K) → command ≢ RemoveEntry k)
+      → ((k : K) → command ≢ RemoveEntryAll k) → ((k : K) (i : ℕ) → command ≢ RemoveAt k i) → command ≢ PopFront → command ≢ PopBack
+      → IsLookUp command
   IsLookUp-else (Remove k) is remove all entry entry_all at front back = remove k refl
   IsLookUp-else (RemoveAll k) is remove all entry entry_all at front back = all k refl
   IsLookUp-else (RemoveEntry k) is remove all entry entry_all at front back = entry k refl

@@ -1,5 +1,7 @@
 -- JSON values of keys, values and maps.
-use Rattle.std.proofs.Common.{◌≡◌, ℕ, suc, ◌==◌, ◌+◌, Bool, true, false, List, [], ◌∷◌, ◌++◌, length, map, slice_get, Option, Some, None, chars, encode_utf8, ℤ, pos, negsuc, refl, sym, ap, ap₂, ◌∙◌, append_assoc, append-nil, subst, arith, Result, Ok, Err, IfErr, IsErrAnd}
+use Rattle.std.proofs.Common.{◌≡◌, ℕ, suc, ◌==◌, ◌+◌, Bool, true, false, List, [], ◌∷◌, ◌++◌, length, map, slice_get, Option, Some, None}
+use Rattle.std.proofs.Common.{chars, encode_utf8, ℤ, pos, negsuc, refl, sym, ap, ap₂, ◌∙◌, append_assoc, append-nil, subst, arith, Result}
+use Rattle.std.proofs.Common.{Ok, Err, IfErr, IsErrAnd}
 use lib.Utf8.{scalars}
 use Rattle.std.specs.Str.{IsUtf8}
 use Rattle.std.specs.Option.{option_or}
@@ -17,7 +19,8 @@ use Rattle.ordered_multimap.proofs.LawLemmas.{rebuilt}
 use Rattle.ordered_multimap.specs.TapeNumbers.{TapeNumbers, AreUnused, TakesOut}
 use Rattle.multimap_tool.specs.Json.{is_character, item_fault, first_fault, IsFound, UnlessMemory, pair_json, pairs_json, IsReadFrom}
 use Rattle.multimap_tool.specs.declared.json.faults.ReadFault.{ReadFault}
-use Rattle.multimap_tool.specs.declared.json.faults.ReadFault.TheVariants.{NotArray, NotVersion2, BadListedKey, RepeatedKey, NotPair, BadKey, UnlistedKey, BadValue, UnusedKey, OutOfMemory}
+use Rattle.multimap_tool.specs.declared.json.faults.ReadFault.TheVariants.{NotArray, NotVersion2, BadListedKey, RepeatedKey, NotPair}
+use Rattle.multimap_tool.specs.declared.json.faults.ReadFault.TheVariants.{BadKey, UnlistedKey, BadValue, UnusedKey, OutOfMemory}
 
 -- what a look into a JSON value found is all that it is
 pub array_is : (d : Data) (ds : Items) → as_array d ≡ Some ds → d ≡ array ds
@@ -49,14 +52,16 @@ nothing (x ∷ xs) e = absurd (grind arith)
 pub no_character : (s : List ℕ) → slice_get (chars s) 0 ≡ None → is_character (string s) ≡ false
 no_character s e = rw (nothing (chars s) e) refl
 
-pub one_character : (s rest : List ℕ) (c : ℕ) → IsUtf8 s → s ≡ encode_utf8 c ++ rest → slice_get (chars rest) 0 ≡ None → is_character (string s) ≡ true
+pub one_character : (s rest : List ℕ) (c : ℕ) → IsUtf8 s → s ≡ encode_utf8 c ++ rest → slice_get (chars rest) 0 ≡ None
+    → is_character (string s) ≡ true
 one_character s rest c utf8 starts ends = rw (chars_past_char s rest c utf8 starts, nothing (chars rest) ends) refl
 
 not_one : (x y : ℕ) (xs : List ℕ) → slice_get xs 0 ≡ Some y → length (x ∷ xs) == 1 ≡ false
 not_one x y [] e = absurd (grind arith)
 not_one x y (z ∷ xs) e = ne_eqb _ 1 (λ is. omega arith)
 
-pub more_characters : (s rest : List ℕ) (c d : ℕ) → IsUtf8 s → s ≡ encode_utf8 c ++ rest → slice_get (chars rest) 0 ≡ Some d → is_character (string s) ≡ false
+pub more_characters : (s rest : List ℕ) (c d : ℕ) → IsUtf8 s → s ≡ encode_utf8 c ++ rest → slice_get (chars rest) 0 ≡ Some d
+    → is_character (string s) ≡ false
 more_characters s rest c d utf8 starts goes_on = rw (chars_past_char s rest c utf8 starts) (not_one c d (chars rest) goes_on)
 
 module _ (is_key is_value : Data → Bool) where
@@ -149,7 +154,8 @@ same_signed (negsuc m) (pos n) e = absurd (grind arith)
 same_signed (negsuc m) (negsuc n) e = grind arith
 
 -- where different values have different JSON values, so have different lists of them
-pub same_items : {P : Type 0} (f : P → Data) → ((p q : P) → f p ≡ f q → p ≡ q) → (ps qs : List P) → items_of (map f ps) ≡ items_of (map f qs) → ps ≡ qs
+pub same_items : {P : Type 0} (f : P → Data) → ((p q : P) → f p ≡ f q → p ≡ q) → (ps qs : List P)
+    → items_of (map f ps) ≡ items_of (map f qs) → ps ≡ qs
 same_items f same [] [] e = refl
 same_items f same [] (q ∷ qs) e = absurd (grind arith)
 same_items f same (p ∷ ps) [] e = absurd (grind arith)

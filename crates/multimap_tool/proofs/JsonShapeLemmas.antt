@@ -1,5 +1,6 @@
 -- Arrays of two, objects of two members, and items that pass.
-use Rattle.std.proofs.Common.{◌≡◌, ℕ, ◌&&◌, Bool, true, false, cond, List, [], ◌∷◌, ◌++◌, length, Option, Some, None, Result, Ok, Err, OnOk, codes, option_map, option_and_then, refl, sym, ap, ap₂, ◌∙◌, arith}
+use Rattle.std.proofs.Common.{◌≡◌, ℕ, ◌&&◌, Bool, true, false, cond, List, [], ◌∷◌, ◌++◌, length, Option, Some, None, Result, Ok, Err, OnOk}
+use Rattle.std.proofs.Common.{codes, option_map, option_and_then, refl, sym, ap, ap₂, ◌∙◌, arith}
 use Rattle.std.proofs.lemmas.Bool.{eq-eqb, ne_eqb}
 use Rattle.serde_json.specs.Data.{Data, null, boolean, number, string, array, object, Items, item, no_items, Members}
 use Rattle.serde_json.specs.Events.{members_len}
@@ -29,15 +30,18 @@ object_is (object ns) ms e = ap object (grind arith)
 
 pub other_members : (ms : Members) → (members_len ms ≡ 2 → ⊥) → both_arrays (object ms) ≡ None
 other_members ms other =
-    let two : Option (Items × Items) = option_and_then (λ keys. option_map (λ pairs. (keys, pairs)) (array_at (codes "pairs") (object ms))) (array_at (codes "keys") (object ms)) in
+    let two : Option (Items × Items) = option_and_then (λ keys. option_map (λ pairs. (keys, pairs)) (array_at (codes "pairs") (object ms)))
+    (array_at (codes "keys") (object ms)) in
     ap (λ b. cond b two None) (ne_eqb (members_len ms) 2 other)
 
-pub both_are : (d : Data) (ms : Members) (keys pairs : Items) → d ≡ object ms → members_len ms ≡ 2 → array_at (codes "keys") d ≡ Some keys → array_at (codes "pairs") d ≡ Some pairs
+pub both_are : (d : Data) (ms : Members) (keys pairs : Items) → d ≡ object ms → members_len ms ≡ 2 → array_at (codes "keys") d ≡ Some keys
+    → array_at (codes "pairs") d ≡ Some pairs
     → both_arrays d ≡ Some (keys, pairs)
 both_are d ms keys pairs is two are_keys are_pairs =
     let both : Option Items → Option Items → Option (Items × Items) = λ o p. option_and_then (λ js. option_map (λ ds. (js, ds)) p) o in
     ap both_arrays is
-    ∙ ap (λ b. cond b (both (array_at (codes "keys") (object ms)) (array_at (codes "pairs") (object ms))) None) (eq-eqb (members_len ms) 2 two)
+    ∙ ap (λ b. cond b (both (array_at (codes "keys") (object ms)) (array_at (codes "pairs") (object ms))) None)
+    (eq-eqb (members_len ms) 2 two)
     ∙ ap₂ both (ap (array_at (codes "keys")) (sym is) ∙ are_keys) (ap (array_at (codes "pairs")) (sym is) ∙ are_pairs)
 
 module _ (is_key is_value : Data → Bool) where
@@ -51,7 +55,8 @@ module _ (is_key is_value : Data → Bool) where
   fault_of_key i (array no_items) f e = e
   fault_of_key i (array (item c no_items)) f e = e
   fault_of_key i (array (item c (item d no_items))) f e =
-      let P : Bool → Type 0 = λ b. cond b None (Some (BadKey i)) ≡ Some f → cond b (cond (is_value d) None (Some (BadValue i))) (Some (BadKey i)) ≡ Some f in
+      let P : Bool → Type 0 = λ b. cond b None (Some (BadKey i)) ≡ Some f
+      → cond b (cond (is_value d) None (Some (BadValue i))) (Some (BadKey i)) ≡ Some f in
       elim (is_key c) as P [ true ↦ λ never. absurd (grind arith) | false ↦ λ is. is ] e
   fault_of_key i (array (item c (item d (item g ds)))) f e = e
 
@@ -60,7 +65,8 @@ pub each_item-behind : (test : Data → Bool) (d : Data) (ds : Items) → test d
 each_item-behind test d ds passes = ap (λ b. b && each_item test ds) passes
 
 -- one more item that passes
-pub each_item-push : (test : Data → Bool) (vs : List Value) (v : Value) → each_item test (items_view vs) ≡ true → test (view v) ≡ true → each_item test (items_view (vs ++ v ∷ [])) ≡ true
+pub each_item-push : (test : Data → Bool) (vs : List Value) (v : Value) → each_item test (items_view vs) ≡ true → test (view v) ≡ true
+    → each_item test (items_view (vs ++ v ∷ [])) ≡ true
 each_item-push test [] v each passes = ap (λ b. b && true) passes
 each_item-push test (w ∷ vs) v each passes =
     let P : Bool → Type 0 = λ b. (b && each_item test (items_view vs)) ≡ true → (b && each_item test (items_view (vs ++ v ∷ []))) ≡ true in

@@ -23,7 +23,8 @@ pub lines_of-last : (line : List ℕ) → 0 < length line → IsWithout 10 line 
 lines_of-last [] some without = absurd (omega (arith, some))
 lines_of-last (b ∷ []) some without = rw (no_feed b [] without) refl
 lines_of-last (b ∷ c ∷ line) some without =
-    rw (no_feed b (c ∷ line) without) (ap (onto_first_line b) (lines_of-last (c ∷ line) (omega arith) (tail_without 10 b (c ∷ line) without)))
+    rw (no_feed b (c ∷ line) without) (ap (onto_first_line b)
+    (lines_of-last (c ∷ line) (omega arith) (tail_without 10 b (c ∷ line) without)))
 
 module _ {A : Type 0} where
   -- the commands spell the lines before what is left of the text
@@ -51,7 +52,8 @@ module _ {A : Type 0} where
 
   -- one line more
   pub read_more : (commands : List (Command ℕ ℤ A)) (text rest : List ℕ) (line after : List ℕ) (command : Command ℕ ℤ A)
-      → IsReadTo commands text rest → lines_of rest ≡ line ∷ lines_of after → Spells command line → IsReadTo (commands ++ command ∷ []) text after
+      → IsReadTo commands text rest → lines_of rest ≡ line ∷ lines_of after → Spells command line
+      → IsReadTo (commands ++ command ∷ []) text after
   read_more commands text rest line after command read first spells = record {
     before = read.before ++ line ∷ [];
     parts = read.parts ∙ ap (λ ls. read.before ++ ls) first ∙ sym (append_assoc read.before (line ∷ []) (lines_of after));
@@ -60,7 +62,8 @@ module _ {A : Type 0} where
 
   -- a bad line is the first one
   pub read_bad : (commands : List (Command ℕ ℤ A)) (text rest : List ℕ) (line after : List ℕ) (n : ℕ)
-      → IsReadTo commands text rest → lines_of rest ≡ line ∷ lines_of after → IsBadLine A line → n ≡ length commands + 1 → IsFirstBadLine A (lines_of text) n
+      → IsReadTo commands text rest → lines_of rest ≡ line ∷ lines_of after → IsBadLine A line → n ≡ length commands + 1
+      → IsFirstBadLine A (lines_of text) n
   read_bad commands text rest line after n read first bad number = record {
     before = read.before;
     line = line;

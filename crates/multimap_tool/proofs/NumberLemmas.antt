@@ -1,5 +1,6 @@
 -- Numbers and their texts.
-use Rattle.std.proofs.Common.{◌≡◌, ℕ, zero, suc, ◌<◌, ◌≤◌, ◌^◌, true, false, nat_eq, List, [], ◌∷◌, length, drop, get_or, Result, Ok, Err, None, refl, sym, ap, ◌∙◌, subst, arith, inl, inr}
+use Rattle.std.proofs.Common.{◌≡◌, ℕ, zero, suc, ◌<◌, ◌≤◌, ◌^◌, true, false, nat_eq, List, [], ◌∷◌, length, drop, get_or, Result, Ok, Err}
+use Rattle.std.proofs.Common.{None, refl, sym, ap, ◌∙◌, subst, arith, inl, inr}
 use Rattle.std.specs.Prelude.{ℤ, pos, negsuc, FitsSigned}
 use Rattle.std.proofs.Math.IntN.{neg_ℤ}
 use Rattle.std.specs.Result.{OkIff, result_ok}
@@ -9,8 +10,10 @@ use Rattle.std.specs.Str.Parse.{digits_value, ParsesUnsigned, ParsesSigned}
 use Rattle.std.specs.Fmt.{decimal, signed_decimal}
 use Rattle.std.proofs.lemmas.Bool.{ne_eqb}
 use Rattle.std.proofs.lemmas.Str.{IsUtf8-from_ascii}
-use Rattle.std.proofs.lemmas.Str.Parse.{IsNumeralModel, numerals_by_value, tells_all_ascii_digits, parse_plain, parse_signed_plain, parse_signed_minus, digit_at}
-use Rattle.std.proofs.lemmas.Fmt.{digits_decimal, digits_value-decimal, decimal-digits_value, decimal_nonempty, decimal_digit, first_decimal, IsAscii-decimal, IsAscii-signed}
+use Rattle.std.proofs.lemmas.Str.Parse.{IsNumeralModel, numerals_by_value, tells_all_ascii_digits, parse_plain, parse_signed_plain}
+use Rattle.std.proofs.lemmas.Str.Parse.{parse_signed_minus, digit_at}
+use Rattle.std.proofs.lemmas.Fmt.{digits_decimal, digits_value-decimal, decimal-digits_value, decimal_nonempty, decimal_digit}
+use Rattle.std.proofs.lemmas.Fmt.{first_decimal, IsAscii-decimal, IsAscii-signed}
 use Rattle.multimap_tool.specs.Parts.{IsWithout, StartsANumber, StartsBelowZero, StartsAValue, IsKeyOf, IsValueOf}
 
 -- texts of digits, and the numbers that they stand for
@@ -55,14 +58,18 @@ pub no_key : (text : List ℕ) → (StartsANumber text → ⊥) → IsKeyOf text
 no_key text otherwise = λ k small same. otherwise (subst StartsANumber same (decimal_starts k (omega (arith, small))))
 
 pub no_key_text : (text : List ℕ) → (IsUtf8 text → ⊥) → IsKeyOf text None
-no_key_text text otherwise = λ k small same. otherwise (subst IsUtf8 same (IsUtf8-from_ascii (decimal k) (IsAscii-decimal k (omega (arith, small)))))
+no_key_text text otherwise = λ k small same. otherwise
+    (subst IsUtf8 same (IsUtf8-from_ascii (decimal k) (IsAscii-decimal k (omega (arith, small)))))
 
 -- where it does, parsing tells the number
-pub key_parsed : {E : Type 0} (text : List ℕ) (r : Result ℕ E) → StartsANumber text → ParsesUnsigned 32 10 text r → IsKeyOf text (result_ok r)
+pub key_parsed : {E : Type 0} (text : List ℕ) (r : Result ℕ E) → StartsANumber text → ParsesUnsigned 32 10 text r
+    → IsKeyOf text (result_ok r)
 key_parsed text r starts parses =
     let read = parse_plain numerals 32 text r parses (λ plus. omega (arith, starts.greatest, starts.least, plus)) in
-    elim r as (λ r. OkIff r (AreDigits text × (0 < length text) × (digits_value 10 text < 2 ^ 32)) (digits_value 10 text) → IsKeyOf text (result_ok r)) [
-      | Ok n ↦ λ found. ap decimal found.1 ∙ decimal-digits_value numerals text found.0.0 starts.some starts.alone (omega (arith, found.0.2))
+    elim r as (λ r. OkIff r (AreDigits text × (0 < length text) × (digits_value 10 text < 2 ^ 32)) (digits_value 10 text)
+    → IsKeyOf text (result_ok r)) [
+      | Ok n ↦ λ found. ap decimal found.1 ∙ decimal-digits_value numerals text found.0.0 starts.some starts.alone
+          (omega (arith, found.0.2))
       | Err e ↦ λ none k small same. none (
         subst AreDigits same (digits_decimal numerals k (omega (arith, small))),
         starts.some,
@@ -89,14 +96,19 @@ no_value text otherwise = elim [
 ]
 
 pub no_value_text : (text : List ℕ) → (IsUtf8 text → ⊥) → IsValueOf text None
-no_value_text text otherwise = λ z fits same. otherwise (subst IsUtf8 same (IsUtf8-from_ascii (signed_decimal z) (IsAscii-signed z fits.sfits)))
+no_value_text text otherwise = λ z fits same. otherwise
+    (subst IsUtf8 same (IsUtf8-from_ascii (signed_decimal z) (IsAscii-signed z fits.sfits)))
 
 -- digits alone are parsed as a number from 0 on
-plain_parsed : {E : Type 0} (text : List ℕ) (r : Result ℤ E) → StartsANumber text → ParsesSigned w64 10 text r → IsValueOf text (result_ok r)
+plain_parsed : {E : Type 0} (text : List ℕ) (r : Result ℤ E) → StartsANumber text → ParsesSigned w64 10 text r
+    → IsValueOf text (result_ok r)
 plain_parsed text r starts parses =
-    let read = parse_signed_plain numerals w64 text r parses (λ plus. omega (arith, starts.least, plus)) (λ minus. omega (arith, starts.least, minus)) in
-    elim r as (λ r. OkIff r (AreDigits text × (0 < length text) × (digits_value 10 text < 2 ^ 63)) (pos (digits_value 10 text)) → IsValueOf text (result_ok r)) [
-      | Ok z ↦ λ found. ap signed_decimal found.1 ∙ decimal-digits_value numerals text found.0.0 starts.some starts.alone (omega (arith, found.0.2))
+    let read = parse_signed_plain numerals w64 text r parses (λ plus. omega (arith, starts.least, plus))
+    (λ minus. omega (arith, starts.least, minus)) in
+    elim r as (λ r. OkIff r (AreDigits text × (0 < length text) × (digits_value 10 text < 2 ^ 63)) (pos (digits_value 10 text))
+    → IsValueOf text (result_ok r)) [
+      | Ok z ↦ λ found. ap signed_decimal found.1 ∙ decimal-digits_value numerals text found.0.0 starts.some starts.alone
+          (omega (arith, found.0.2))
       | Err e ↦ λ none. elim [
         | pos n ↦ λ fits same. none (
           subst AreDigits same (digits_decimal numerals n (omega (arith, fits.sfits))),
@@ -129,16 +141,19 @@ negated : (digits : List ℕ) (n : ℕ) → decimal n ≡ digits → 49 ≤ get_
 negated digits zero same first = absurd (omega (arith, first, ap (λ t. get_or t 0 0) (sym same ∙ decimal_digit 0 (omega arith))))
 negated digits (suc n) same first = ap (λ t. 45 ∷ t) same
 
-below_zero_parsed : {E : Type 0} (text : List ℕ) (r : Result ℤ E) → StartsBelowZero text → ParsesSigned w64 10 text r → IsValueOf text (result_ok r)
+below_zero_parsed : {E : Type 0} (text : List ℕ) (r : Result ℤ E) → StartsBelowZero text → ParsesSigned w64 10 text r
+    → IsValueOf text (result_ok r)
 below_zero_parsed text r starts parses =
     let digits = drop 1 text in
     let whole : text ≡ 45 ∷ digits = below_zero_parts text starts in
     let number = below_zero_digits text starts in
     let read = parse_signed_minus numerals w64 text r parses starts.sign in
-    elim r as (λ r. OkIff r (AreDigits digits × (0 < length digits) × (digits_value 10 digits ≤ 2 ^ 63)) (neg_ℤ (pos (digits_value 10 digits))) → IsValueOf text (result_ok r)) [
+    elim r as (λ r. OkIff r (AreDigits digits × (0 < length digits) × (digits_value 10 digits ≤ 2 ^ 63))
+    (neg_ℤ (pos (digits_value 10 digits))) → IsValueOf text (result_ok r)) [
       | Ok z ↦ λ found.
           ap signed_decimal found.1
-          ∙ negated digits (digits_value 10 digits) (decimal-digits_value numerals digits found.0.0 number.some number.alone (omega (arith, found.0.2))) (below_zero_first text starts)
+          ∙ negated digits (digits_value 10 digits) (decimal-digits_value numerals digits found.0.0 number.some number.alone
+          (omega (arith, found.0.2))) (below_zero_first text starts)
           ∙ sym whole
       | Err e ↦ λ none. elim [
         | pos n ↦ λ fits same. omega (arith, (decimal_starts n (omega (arith, fits.sfits))).least, ap (λ t. get_or t 0 0) same, starts.sign)
@@ -147,10 +162,16 @@ below_zero_parsed text r starts parses =
             none (
               subst AreDigits spelled (digits_decimal numerals (suc n) (omega (arith, fits.sfits))),
               number.some,
-              subst (λ ds. digits_value 10 ds ≤ 2 ^ 63) spelled (rw (digits_value-decimal numerals (suc n) (omega (arith, fits.sfits))) (omega (arith, fits.sfits))),
+              subst (λ ds. digits_value 10 ds ≤ 2 ^ 63) spelled
+                  (rw (digits_value-decimal numerals (suc n) (omega (arith, fits.sfits))) (omega (arith, fits.sfits))),
             )
       ]
     ] read
 
-pub value_parsed : {E : Type 0} (text : List ℕ) (r : Result ℤ E) → StartsAValue text → ParsesSigned w64 10 text r → IsValueOf text (result_ok r)
-value_parsed text r starts parses = elim starts [ inl number ↦ plain_parsed text r number parses | inr below ↦ below_zero_parsed text r below parses ]
+pub value_parsed : {E : Type 0} (text : List ℕ) (r : Result ℤ E) → StartsAValue text → ParsesSigned w64 10 text r
+    → IsValueOf text (result_ok r)
+value_parsed text r starts parses = elim starts [
+  | inl number ↦ plain_parsed text r number parses
+  | inr below ↦ below_zero_parsed text r
+      below parses
+]

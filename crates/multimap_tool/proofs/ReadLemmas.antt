@@ -4,7 +4,8 @@ use Rattle.std.proofs.lemmas.List.{append_assoc}
 use Rattle.std.specs.Io.KnownBytes.{Consumes}
 
 -- two reads take what both gave
-pub Consumes-append : (old between new : Option (List ℕ)) (xs ys : List ℕ) → Consumes old between xs → Consumes between new ys → Consumes old new (xs ++ ys)
+pub Consumes-append : (old between new : Option (List ℕ)) (xs ys : List ℕ) → Consumes old between xs → Consumes between new ys
+    → Consumes old new (xs ++ ys)
 Consumes-append None between new xs ys first second = tt
 Consumes-append (Some all) None new xs ys first second = absurd first
 Consumes-append (Some all) (Some rest) None xs ys first second = absurd second

@@ -1,11 +1,10 @@
 -- The commands that a line with given fields can spell.
-use Rattle.std.proofs.Common.{◌≡◌, ◌⊎◌, inl, inr, Option, Some, None, subst, ℕ, ◌<◌, ◌^◌, Bool, true, false, List, [], ◌∷◌, ◌++◌, map, refl, sym, ap, ◌∙◌, arith, true≢false}
+use Rattle.std.proofs.Common.{◌≡◌, ◌⊎◌, inl, inr, Option, Some, None, subst, ℕ, ◌<◌, ◌^◌, Bool, true, false, List, [], ◌∷◌, ◌++◌, map, refl}
+use Rattle.std.proofs.Common.{sym, ap, ◌∙◌, arith, true≢false}
 use Rattle.std.specs.Prelude.{ℤ, pos, FitsSigned, IsTrue, slice_index}
 use Rattle.std.specs.Int.{w64}
 use Rattle.std.specs.Fmt.{decimal, signed_decimal}
 use Rattle.std.specs.List.{AllByRecursion, flat_map}
-use Rattle.std.specs.Str.{bytes_eq}
-use Rattle.std.proofs.lemmas.Slice.Eq.{bytes_eq-Decides}
 use Rattle.ordered_multimap.specs.End.{End}
 use Rattle.ordered_multimap.specs.End.TheVariants.{Front, Back}
 use Rattle.ordered_multimap.specs.Lists.{IsIn}
@@ -13,18 +12,15 @@ use Rattle.ordered_multimap.specs.Pairs.{has_items}
 use Rattle.multimap_tool.specs.declared.commands.Ends.TheVariants.{Forward, Word}
 use Rattle.multimap_tool.specs.declared.commands.Command.{Command}
 use Rattle.multimap_tool.specs.declared.commands.Command.TheVariants as commands
-use Rattle.multimap_tool.specs.declared.commands.Command.TheVariants.{Append, Insert, InsertAll, SetFirst, SetFront, SetBack, OrInsert, Get, All, Has, Len, Remove, RemoveAll, RemoveEntry, RemoveEntryAll, RemoveAt, PopFront, PopBack, Retain, Clear, Reserve, PackToFit, Swap, Json, Json2, Pairs, Keys, Values, KeyLists, Lengths}
+use Rattle.multimap_tool.specs.declared.commands.Command.TheVariants.{Append, Insert, InsertAll, SetFirst, SetFront, SetBack, OrInsert, Get}
+use Rattle.multimap_tool.specs.declared.commands.Command.TheVariants.{All, Has, Len, Remove, RemoveAll, RemoveEntry, RemoveEntryAll}
+use Rattle.multimap_tool.specs.declared.commands.Command.TheVariants.{RemoveAt, PopFront, PopBack, Retain, Clear, Reserve, PackToFit, Swap}
+use Rattle.multimap_tool.specs.declared.commands.Command.TheVariants.{Json, Json2, Pairs, Keys, Values, KeyLists, Lengths}
 use Rattle.multimap_tool.specs.Spelling.{Operand, operand_text, FitsOperand, letter_of, name_of, operands_of, Spells, IsBadLine}
-use Rattle.multimap_tool.specs.Parts.{IsWithout, AreLettersOf, StartsAValue, lone_words, key_words, value_words, walk_words, pair_words, number_words, key_walk_words, words_before, IsCommandOf, IsFoundAmong, IsFoundFor, IsReadingOf}
+use Rattle.multimap_tool.specs.Parts.{IsWithout, AreLettersOf, StartsAValue, lone_words, key_words, value_words, walk_words, pair_words}
+use Rattle.multimap_tool.specs.Parts.{number_words, key_walk_words, words_before, IsCommandOf, IsFoundAmong, IsFoundFor, IsReadingOf}
 use Rattle.multimap_tool.proofs.NumberLemmas.{decimal_without_space, signed_without_space, no_value}
 use Rattle.multimap_tool.proofs.FieldLemmas.{ArePlain, one_operand, two_operands}
-
--- a test of two texts
-pub same_text : (xs ys : List ℕ) (r : Bool) → r ≡ true → r ≡ bytes_eq xs ys → xs ≡ ys
-same_text xs ys r holds told = (bytes_eq-Decides xs ys).0 (sym told ∙ holds)
-
-pub other_text : (xs ys : List ℕ) (r : Bool) → r ≡ false → r ≡ bytes_eq xs ys → xs ≡ ys → ⊥
-other_text xs ys r fails told same = true≢false (sym ((bytes_eq-Decides xs ys).1 same) ∙ sym told ∙ fails)
 
 -- the text of a key, of a value, of letters
 abbrev pub IsKeyText : List ℕ → Type 0
@@ -78,9 +74,13 @@ word_without_space (word ∷ words) name each listed = elim listed [
 ]
 
 -- spaces stand between fields alone
-plain_fields : (name : List ℕ) (os : List Operand) → IsIn name (words_before os) → AllByRecursion FitsOperand os → ArePlain name (map operand_text os)
+plain_fields : (name : List ℕ) (os : List Operand) → IsIn name (words_before os) → AllByRecursion FitsOperand os
+    → ArePlain name (map operand_text os)
 plain_fields name [] listed fits = record {
-  word = word_without_space lone_words name (refl, (refl, (refl, (refl, (refl, (refl, (refl, (refl, (refl, (refl, (refl, (refl, (refl, (refl, tt)))))))))))))) listed;
+  word = word_without_space lone_words name (
+    refl,
+    (refl, (refl, (refl, (refl, (refl, (refl, (refl, (refl, (refl, (refl, (refl, (refl, (refl, tt))))))))))))),
+  ) listed;
   texts = tt;
   few = omega arith;
 }
@@ -125,7 +125,8 @@ alone : (name : List ℕ) (os : List Operand) → IsIn name (words_before os) �
 alone name [] listed same = listed
 alone name (o ∷ os) listed same = absurd (cc)
 
-of_one : (name text : List ℕ) (os : List Operand) → IsIn name (words_before os) → AllByRecursion FitsOperand os → map operand_text os ≡ text ∷ []
+of_one : (name text : List ℕ) (os : List Operand) → IsIn name (words_before os) → AllByRecursion FitsOperand os
+    → map operand_text os ≡ text ∷ []
     → (IsIn name key_words × IsKeyText text) ⊎ ((IsIn name value_words × IsValueText text) ⊎ (IsIn name walk_words × IsWordText text))
 of_one name text [] listed fits same = absurd (cc)
 of_one name text (inl k ∷ []) listed fits same = inl (listed, (k, fits.0, cc))
@@ -133,13 +134,16 @@ of_one name text (inr (inl v) ∷ []) listed fits same = inr (inl (listed, (v, f
 of_one name text (inr (inr word) ∷ []) listed fits same = inr (inr (listed, (word, record { spelled = cc; some = fits.0 })))
 of_one name text (o ∷ p ∷ os) listed fits same = absurd (cc)
 
-of_two : (name first second : List ℕ) (os : List Operand) → IsIn name (words_before os) → AllByRecursion FitsOperand os → map operand_text os ≡ first ∷ second ∷ []
-    → (IsIn name pair_words × IsKeyText first × IsValueText second) ⊎ ((IsIn name number_words × IsKeyText first × IsKeyText second) ⊎ (IsIn name key_walk_words × IsKeyText first × IsWordText second))
+of_two : (name first second : List ℕ) (os : List Operand) → IsIn name (words_before os) → AllByRecursion FitsOperand os
+    → map operand_text os ≡ first ∷ second ∷ []
+    → (IsIn name pair_words × IsKeyText first × IsValueText second)
+    ⊎ ((IsIn name number_words × IsKeyText first × IsKeyText second) ⊎ (IsIn name key_walk_words × IsKeyText first × IsWordText second))
 of_two name first second [] listed fits same = absurd (cc)
 of_two name first second (o ∷ []) listed fits same = absurd (cc)
 of_two name first second (inl k ∷ inl j ∷ []) listed fits same = inr (inl (listed, (k, fits.0, cc), (j, fits.1.0, cc)))
 of_two name first second (inl k ∷ inr (inl v) ∷ []) listed fits same = inl (listed, (k, fits.0, cc), (v, fits.1.0, cc))
-of_two name first second (inl k ∷ inr (inr word) ∷ []) listed fits same = inr (inr (listed, (k, fits.0, cc), (word, record { spelled = cc; some = fits.1.0 })))
+of_two name first second (inl k ∷ inr (inr word) ∷ []) listed fits same = inr
+    (inr (listed, (k, fits.0, cc), (word, record { spelled = cc; some = fits.1.0 })))
 of_two name first second (inr (inl v) ∷ p ∷ []) listed fits same = absurd listed
 of_two name first second (inr (inr word) ∷ p ∷ []) listed fits same = absurd listed
 of_two name first second (o ∷ p ∷ q ∷ os) listed fits same = absurd (cc)
@@ -184,11 +188,13 @@ module _ {A : Type 0} where
   listed_word Json2 = inr (inr (inr (inr (inr (inr (inl refl))))))
   listed_word KeyLists = inr (inr (inr (inr (inr (inr (inr (inr (inr (inr (inr (inr (inl refl))))))))))))
 
-  plain : (command : Command ℕ ℤ A) → AllByRecursion FitsOperand (operands_of command) → ArePlain (name_of command) (map operand_text (operands_of command))
+  plain : (command : Command ℕ ℤ A) → AllByRecursion FitsOperand (operands_of command)
+      → ArePlain (name_of command) (map operand_text (operands_of command))
   plain command fits = plain_fields (name_of command) (operands_of command) (listed_word command) fits
 
   -- a word that is none of the first words is looked for among the others
-  pub found_in_second : (first second : List (List ℕ)) (name : List ℕ) (found : Option (Command ℕ ℤ A)) → (IsIn name first → ⊥) → IsFoundAmong second name [] found
+  pub found_in_second : (first second : List (List ℕ)) (name : List ℕ) (found : Option (Command ℕ ℤ A)) → (IsIn name first → ⊥)
+      → IsFoundAmong second name [] found
       → IsFoundAmong (first ++ second) name [] found
   found_in_second first second name (Some command) none found = found
   found_in_second first second name None none found = not_both first none
@@ -200,10 +206,12 @@ module _ {A : Type 0} where
 
   -- with one space, a word and an operand
   pub bad_with_one : (word operand : List ℕ) → IsWithout 32 word → IsWithout 32 operand
-      → (IsIn word key_words → IsKeyText operand → ⊥) → (IsIn word value_words → IsValueText operand → ⊥) → (IsIn word walk_words → IsWordText operand → ⊥)
+      → (IsIn word key_words → IsKeyText operand → ⊥) → (IsIn word value_words → IsValueText operand → ⊥)
+      → (IsIn word walk_words → IsWordText operand → ⊥)
       → IsBadLine A (word ++ 32 ∷ operand)
   bad_with_one word operand without_word without_operand not_key not_value not_walk command spells =
-      let fields = one_operand word operand (name_of command) (map operand_text (operands_of command)) without_word without_operand (plain command spells.spellable) spells.spelling in
+      let fields = one_operand word operand (name_of command) (map operand_text (operands_of command)) without_word without_operand
+      (plain command spells.spellable) spells.spelling in
       elim (of_one (name_of command) operand (operands_of command) (listed_word command) spells.spellable fields.1) [
         | inl key ↦ not_key (subst (λ name. IsIn name key_words) (sym fields.0) key.0) key.1
         | inr (inl value) ↦ not_value (subst (λ name. IsIn name value_words) (sym fields.0) value.0) value.1
@@ -212,10 +220,13 @@ module _ {A : Type 0} where
 
   -- with two spaces or more, a word and two operands
   pub bad_with_two : (word first second : List ℕ) → IsWithout 32 word → IsWithout 32 first
-      → (IsIn word pair_words → IsKeyText first → IsValueText second → ⊥) → (IsIn word number_words → IsKeyText first → IsKeyText second → ⊥) → (IsIn word key_walk_words → IsKeyText first → IsWordText second → ⊥)
+      → (IsIn word pair_words → IsKeyText first → IsValueText second → ⊥)
+      → (IsIn word number_words → IsKeyText first → IsKeyText second → ⊥)
+      → (IsIn word key_walk_words → IsKeyText first → IsWordText second → ⊥)
       → IsBadLine A (word ++ 32 ∷ (first ++ 32 ∷ second))
   bad_with_two word first second without_word without_first not_pair not_number not_walk command spells =
-      let fields = two_operands word first second (name_of command) (map operand_text (operands_of command)) without_word without_first (plain command spells.spellable) spells.spelling in
+      let fields = two_operands word first second (name_of command) (map operand_text (operands_of command)) without_word without_first
+      (plain command spells.spellable) spells.spelling in
       elim (of_two (name_of command) first second (operands_of command) (listed_word command) spells.spellable fields.1) [
         | inl pair ↦ not_pair (subst (λ name. IsIn name pair_words) (sym fields.0) pair.0) pair.1 pair.2
         | inr (inl number) ↦ not_number (subst (λ name. IsIn name number_words) (sym fields.0) number.0) number.1 number.2

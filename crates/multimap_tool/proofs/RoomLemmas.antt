@@ -1,5 +1,6 @@
 -- The room that a run leaves: a step adds one key and one pair at most.
-use Rattle.std.proofs.Common.{◌≡◌, ◌≢◌, ℕ, zero, suc, ◌+◌, ◌≤◌, ◌-◌, not, Bool, true, false, cond, List, [], ◌∷◌, ◌++◌, length, filter, Option, None, Some, slice_get, refl, ap, inl, inr, arith, length-append, length-take}
+use Rattle.std.proofs.Common.{◌≡◌, ◌≢◌, ℕ, zero, suc, ◌+◌, ◌≤◌, ◌-◌, not, Bool, true, false, cond, List, [], ◌∷◌, ◌++◌, length, filter}
+use Rattle.std.proofs.Common.{Option, None, Some, slice_get, refl, ap, inl, inr, arith, length-append, length-take}
 use Rattle.std.specs.Map.{keys_of}
 use Rattle.ordered_multimap.specs.End.{End}
 use Rattle.ordered_multimap.specs.End.TheVariants as ends
@@ -13,7 +14,10 @@ use Rattle.ordered_multimap.specs.RemovedAt.{removed_at}
 use Rattle.ordered_multimap.specs.Retain.{Retains}
 use Rattle.ordered_multimap.proofs.RemovedLemmas.{pairs_besides-few}
 use Rattle.multimap_tool.specs.declared.commands.Command.{Command}
-use Rattle.multimap_tool.specs.declared.commands.Command.TheVariants.{Append, Insert, InsertAll, SetFirst, SetFront, SetBack, OrInsert, Get, All, Has, Len, Front, Back, Remove, RemoveAll, RemoveEntry, RemoveEntryAll, RemoveAt, PopFront, PopBack, Retain, Clear, Reserve, PackToFit, Swap, Json, Json2, Pairs, Keys, Values, KeyLists, Lengths}
+use Rattle.multimap_tool.specs.declared.commands.Command.TheVariants.{Append, Insert, InsertAll, SetFirst, SetFront, SetBack, OrInsert, Get}
+use Rattle.multimap_tool.specs.declared.commands.Command.TheVariants.{All, Has, Len, Front, Back, Remove, RemoveAll, RemoveEntry}
+use Rattle.multimap_tool.specs.declared.commands.Command.TheVariants.{RemoveEntryAll, RemoveAt, PopFront, PopBack, Retain, Clear, Reserve}
+use Rattle.multimap_tool.specs.declared.commands.Command.TheVariants.{PackToFit, Swap, Json, Json2, Pairs, Keys, Values, KeyLists, Lengths}
 use Rattle.multimap_tool.specs.declared.replies.Reply.{Reply}
 use Rattle.multimap_tool.specs.Step.{Leaves, IsStep, KeepsPairs, entered}
 use Rattle.multimap_tool.specs.RunRooms.{FindsRoom, IsAddition, KeepsRoom}
@@ -41,7 +45,8 @@ as_many [] i v = refl
 as_many (p ∷ pairs) zero v = refl
 as_many (p ∷ pairs) (suc i) v = ap suc (as_many pairs i v)
 
-retained_few : {K V : Type 0} (keeps : K → V → Bool → V → Type 0) (old new : List (K × V)) → Retains (λ s k v b w t. keeps k v b w) (tt {0}) old new (tt {0}) → length new ≤ length old
+retained_few : {K V : Type 0} (keeps : K → V → Bool → V → Type 0) (old new : List (K × V))
+    → Retains (λ s k v b w t. keeps k v b w) (tt {0}) old new (tt {0}) → length new ≤ length old
 retained_few keeps [] new r = omega (arith, ap length r.0)
 retained_few keeps (p ∷ old) new (b, w, next, rest, called, later, is) =
     elim b as (λ x. new ≡ cond x ((p.0, w) ∷ rest) rest → length new ≤ suc (length old)) [
@@ -57,18 +62,31 @@ one_key eq keys k = elim (is_listed eq keys k) as (λ b. length (cond b keys (ke
 
 module _ {K V : Type 0} (eq : K → K → Bool) where
   same_grows : (m n : Lists K V) → n ≡ m → GrowsByOne m n
-  same_grows m n same = record { keys = omega (arith, ap (λ (l : Lists K V). length l.keys) same); pairs = omega (arith, ap (λ (l : Lists K V). length l.pairs) same) }
+  same_grows m n same = record {
+    keys = omega (arith, ap (λ (l : Lists K V). length l.keys) same);
+    pairs = omega
+        (arith, ap (λ (l : Lists K V). length l.pairs) same);
+  }
 
   kept_grows : (m : Lists K V) (pairs : List (K × V)) → length pairs ≤ length m.pairs → GrowsByOne m (kept eq m pairs)
   kept_grows m pairs few = record { keys = omega (arith, filter_few (is_listed eq (keys_of pairs)) m.keys); pairs = omega (arith, few) }
 
   appended_grows : (m : Lists K V) (k : K) (v : V) → GrowsByOne m (appended eq m k v)
-  appended_grows m k v = record { keys = one_key eq m.keys k; pairs = omega (arith, length-append m.pairs ((stored_key eq m.keys k, v) ∷ [])) }
+  appended_grows m k v = record {
+    keys = one_key eq m.keys k;
+    pairs = omega
+        (arith, length-append m.pairs ((stored_key eq m.keys k, v) ∷ []));
+  }
 
   inserted_grows : (m : Lists K V) (k : K) (v : V) → GrowsByOne m (inserted eq m k v)
   inserted_grows m k v = record {
     keys = one_key eq m.keys k;
-    pairs = omega (arith, length-append (pairs_without eq m.pairs k) ((stored_key eq m.keys k, v) ∷ []), filter_few (λ p. not (eq k p.0)) m.pairs);
+    pairs = omega (
+      arith,
+      length-append (pairs_without eq m.pairs k) ((stored_key eq m.keys k, v) ∷ []),
+      filter_few
+          (λ p. not (eq k p.0)) m.pairs,
+    );
   }
 
   removed_grows : (m : Lists K V) (k : K) → GrowsByOne m (removed eq m k)
@@ -92,20 +110,31 @@ module _ {K V : Type 0} (eq : K → K → Bool) where
   first_written_grows : (m : Lists K V) (k : K) (v : V) → GrowsByOne m (first_written eq m k v)
   first_written_grows m k v = record {
     keys = omega arith;
-    pairs = elim (slice_get (positions_of eq m.pairs k) 0) as (λ (o : Option ℕ). length (elim o as (λ _. List (K × V)) [ None ↦ m.pairs | Some i ↦ with_value_at m.pairs i v ]) ≤ length m.pairs + 1) [
-      | None ↦ omega arith
-      | Some i ↦ omega (arith, as_many m.pairs i v)
-    ];
+    pairs = elim (slice_get (positions_of eq m.pairs k) 0) as
+        (λ (o : Option ℕ). length (elim o as (λ _. List (K × V)) [ None ↦ m.pairs | Some i ↦ with_value_at m.pairs i v ]) ≤ length m.pairs
+        + 1) [
+          | None ↦ omega arith
+          | Some i ↦ omega (arith, as_many m.pairs i v)
+        ];
   }
 
   end_written_grows : (end : End) (m : Lists K V) (v : V) → GrowsByOne m (end_written end m v)
   end_written_grows end m v = record { keys = omega arith; pairs = omega (arith, as_many m.pairs (end_position end m.pairs) v) }
 
   kept_by_grows : (keeps : K → V → Bool → V → Type 0) (m n : Lists K V) → KeepsPairs keeps eq m n → GrowsByOne m n
-  kept_by_grows keeps m n left = record { keys = omega (arith, ap length left.keys, filter_few (is_listed eq (keys_of n.pairs)) m.keys); pairs = omega (arith, retained_few keeps m.pairs n.pairs left.pairs) }
+  kept_by_grows keeps m n left = record {
+    keys = omega
+        (arith, ap length left.keys, filter_few (is_listed eq (keys_of n.pairs)) m.keys);
+    pairs = omega
+        (arith, retained_few keeps m.pairs n.pairs left.pairs);
+  }
 
   by_same : (m n : Lists K V) (o : Lists K V) → n ≡ o → GrowsByOne m o → GrowsByOne m n
-  by_same m n o same grows = record { keys = omega (arith, grows.keys, ap (λ (l : Lists K V). length l.keys) same); pairs = omega (arith, grows.pairs, ap (λ (l : Lists K V). length l.pairs) same) }
+  by_same m n o same grows = record {
+    keys = omega (arith, grows.keys, ap (λ (l : Lists K V). length l.keys) same);
+    pairs = omega
+        (arith, grows.pairs, ap (λ (l : Lists K V). length l.pairs) same);
+  }
 
 module _ {K V A : Type 0} (keeps : V → K → V → Bool → V → Type 0) (eq : K → K → Bool) where
   leaves_grow : (command : Command K V A) (m n : Lists K V) → KeepsRoom command → Leaves keeps eq command m n → GrowsByOne m n
@@ -142,14 +171,20 @@ module _ {K V A : Type 0} (keeps : V → K → V → Bool → V → Type 0) (eq 
   leaves_grow KeyLists m n keeps_room left = same_grows eq m n left
   leaves_grow Lengths m n keeps_room left = same_grows eq m n left
 
-  pub step_grows : (command : Command K V A) (m : Lists K V) (reply : Reply K V A) (n : Lists K V) → KeepsRoom command → IsStep keeps eq command m reply n → GrowsByOne m n
-  step_grows command m reply n keeps_room step = elim step [ inl done ↦ leaves_grow command m n keeps_room done.1 | inr refused ↦ same_grows eq m n refused.2 ]
+  pub step_grows : (command : Command K V A) (m : Lists K V) (reply : Reply K V A) (n : Lists K V) → KeepsRoom command
+      → IsStep keeps eq command m reply n → GrowsByOne m n
+  step_grows command m reply n keeps_room step = elim step [
+    | inl done ↦ leaves_grow command m n keeps_room done.1
+    | inr refused ↦ same_grows
+        eq m n refused.2
+  ]
 
 module _ {K V A : Type 0} where
   -- one command more
   pub FindsRoom-push : (commands : List (Command K V A)) (replies : List (Reply K V A)) (command : Command K V A) (reply : Reply K V A)
       → FindsRoom commands replies → (IsAddition command → reply ≢ NoMemory) → FindsRoom (commands ++ command ∷ []) (replies ++ reply ∷ [])
   FindsRoom-push [] [] command reply found finds = (finds, tt)
-  FindsRoom-push (first ∷ commands) (told ∷ replies) command reply found finds = (found.0, FindsRoom-push commands replies command reply found.1 finds)
+  FindsRoom-push (first ∷ commands) (told ∷ replies) command reply found finds =
+      (found.0, FindsRoom-push commands replies command reply found.1 finds)
   FindsRoom-push [] (told ∷ replies) command reply found finds = absurd found
   FindsRoom-push (first ∷ commands) [] command reply found finds = absurd found

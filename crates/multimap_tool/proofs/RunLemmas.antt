@@ -9,8 +9,12 @@ use Rattle.ordered_multimap.specs.Pairs.{is_present, pairs_without}
 use Rattle.ordered_multimap.specs.Changes.{appended, inserted, removed, first_written, end_written, all_appended, first_occurrences}
 use Rattle.ordered_multimap.proofs.LawLemmas.{rebuilt}
 use Rattle.ordered_multimap.specs.Pop.{popped}
-use Rattle.ordered_multimap.proofs.WellFormedLemmas.{empty_well_formed, appended_well_formed, inserted_well_formed, removed_well_formed, popped_well_formed, kept_well_formed, first_written_well_formed, end_written_well_formed}
-use Rattle.ordered_multimap.proofs.KeyOrderLemmas.{KeepsKeyOrder-same, KeepsKeyOrder-keys_with, KeepsKeyOrder-named_by, KeepsKeyOrder-popped, KeepsKeyOrder-none, KeepsKeyOrder-first_written, KeepsKeyOrder-end_written}
+use Rattle.ordered_multimap.proofs.WellFormedLemmas.{empty_well_formed, appended_well_formed, inserted_well_formed, removed_well_formed}
+use Rattle.ordered_multimap.proofs.WellFormedLemmas.{popped_well_formed, kept_well_formed, first_written_well_formed}
+use Rattle.ordered_multimap.proofs.WellFormedLemmas.{end_written_well_formed}
+use Rattle.ordered_multimap.proofs.KeyOrderLemmas.{KeepsKeyOrder-same, KeepsKeyOrder-keys_with, KeepsKeyOrder-named_by}
+use Rattle.ordered_multimap.proofs.KeyOrderLemmas.{KeepsKeyOrder-popped, KeepsKeyOrder-none, KeepsKeyOrder-first_written}
+use Rattle.ordered_multimap.proofs.KeyOrderLemmas.{KeepsKeyOrder-end_written}
 use Rattle.ordered_multimap.proofs.RemovedLemmas.{removed_at_well_formed}
 use Rattle.ordered_multimap.proofs.RetainedLemmas.{kept-named_by}
 use Rattle.ordered_multimap.specs.RemovedAt.{removed_at}
@@ -18,7 +22,10 @@ use Rattle.ordered_multimap.specs.Retain.{Retains}
 use Rattle.ordered_multimap.specs.Lists.{IsIn}
 use Rattle.std.specs.Map.{keys_of}
 use Rattle.multimap_tool.specs.declared.commands.Command.{Command}
-use Rattle.multimap_tool.specs.declared.commands.Command.TheVariants.{Append, Insert, InsertAll, SetFirst, SetFront, SetBack, OrInsert, Get, All, Has, Len, Front, Back, Remove, RemoveAll, RemoveEntry, RemoveEntryAll, RemoveAt, PopFront, PopBack, Retain, Clear, Reserve, PackToFit, Swap, Json, Json2, Pairs, Keys, Values, KeyLists, Lengths}
+use Rattle.multimap_tool.specs.declared.commands.Command.TheVariants.{Append, Insert, InsertAll, SetFirst, SetFront, SetBack, OrInsert, Get}
+use Rattle.multimap_tool.specs.declared.commands.Command.TheVariants.{All, Has, Len, Front, Back, Remove, RemoveAll, RemoveEntry}
+use Rattle.multimap_tool.specs.declared.commands.Command.TheVariants.{RemoveEntryAll, RemoveAt, PopFront, PopBack, Retain, Clear, Reserve}
+use Rattle.multimap_tool.specs.declared.commands.Command.TheVariants.{PackToFit, Swap, Json, Json2, Pairs, Keys, Values, KeyLists, Lengths}
 use Rattle.multimap_tool.specs.declared.replies.Reply.{Reply}
 use Rattle.multimap_tool.specs.Step.{Leaves, IsOwnStep, IsStep, KeepsPairs, entered}
 use Rattle.multimap_tool.specs.Runs.{IsRun}
@@ -26,10 +33,13 @@ use Rattle.multimap_tool.specs.Laws.{IsOrderly}
 
 module _ {K V A : Type 0} (keeps : V → K → V → Bool → V → Type 0) (eq : K → K → Bool) where
   -- one step more
-  pub IsRun-push : (commands : List (Command K V A)) (m : Lists K V) (replies : List (Reply K V A)) (n : Lists K V) (command : Command K V A) (reply : Reply K V A) (last : Lists K V)
-      → IsRun keeps eq commands m replies n → IsStep keeps eq command n reply last → IsRun keeps eq (commands ++ command ∷ []) m (replies ++ reply ∷ []) last
+  pub IsRun-push : (commands : List (Command K V A)) (m : Lists K V) (replies : List (Reply K V A)) (n : Lists K V)
+      (command : Command K V A) (reply : Reply K V A) (last : Lists K V)
+      → IsRun keeps eq commands m replies n → IsStep keeps eq command n reply last
+      → IsRun keeps eq (commands ++ command ∷ []) m (replies ++ reply ∷ []) last
   IsRun-push [] m [] n command reply last run step = (last, subst (λ l. IsStep keeps eq command l reply last) run step, refl)
-  IsRun-push (first ∷ commands) m (told ∷ replies) n command reply last run step = (run.0, run.1, IsRun-push commands run.0 replies n command reply last run.2 step)
+  IsRun-push (first ∷ commands) m (told ∷ replies) n command reply last run step =
+      (run.0, run.1, IsRun-push commands run.0 replies n command reply last run.2 step)
   IsRun-push [] m (told ∷ replies) n command reply last run step = absurd run
   IsRun-push (first ∷ commands) m [] n command reply last run step = absurd run
 
@@ -44,18 +54,22 @@ module _ {K V : Type 0} {eq : K → K → Bool} (laws : IsEquivalence eq) where
 
 module _ {K V : Type 0} where
   -- the keys of the pairs that a function kept are old ones
-  kept_keys : (keeps : K → V → Bool → V → Type 0) (old new : List (K × V)) → Retains (λ s k v b w t. keeps k v b w) (tt {0}) old new (tt {0}) → (k : K) → IsIn k (keys_of new) → IsIn k (keys_of old)
+  kept_keys : (keeps : K → V → Bool → V → Type 0) (old new : List (K × V))
+      → Retains (λ s k v b w t. keeps k v b w) (tt {0}) old new (tt {0}) → (k : K) → IsIn k (keys_of new) → IsIn k (keys_of old)
   kept_keys keeps [] new r k member = subst (λ ps. IsIn k (keys_of ps)) r.0 member
-  kept_keys keeps (p ∷ old) new (b, w, next, rest, called, later, is) k member = by b (kept_keys keeps old rest later k) (subst (λ ps. IsIn k (keys_of ps)) is member)
+  kept_keys keeps (p ∷ old) new (b, w, next, rest, called, later, is) k member = by b (kept_keys keeps old rest later k)
+      (subst (λ ps. IsIn k (keys_of ps)) is member)
     where
-      by : (b : Bool) → (IsIn k (keys_of rest) → IsIn k (keys_of old)) → IsIn k (keys_of (cond b ((p.0, w) ∷ rest) rest)) → IsIn k (keys_of (p ∷ old))
+      by : (b : Bool) → (IsIn k (keys_of rest) → IsIn k (keys_of old)) → IsIn k (keys_of (cond b ((p.0, w) ∷ rest) rest))
+          → IsIn k (keys_of (p ∷ old))
       by true among (inl here) = inl here
       by true among (inr later) = inr (among later)
       by false among later = inr (among later)
 
 module _ {K V A : Type 0} {eq : K → K → Bool} (laws : IsEquivalence eq) {c : Command K V A} where
   unchanged : (m n : Lists K V) → IsWellFormed eq m → n ≡ m → IsOrderly eq c m n
-  unchanged m n formed same = subst (IsOrderly eq c m) (sym same) (record { well_formed = formed; key_order = λ _. KeepsKeyOrder-same laws m.keys })
+  unchanged m n formed same = subst (IsOrderly eq c m) (sym same)
+      (record { well_formed = formed; key_order = λ _. KeepsKeyOrder-same laws m.keys })
 
   gone_orderly : (m n : Lists K V) (k : K) → IsWellFormed eq m → n ≡ removed eq m k → IsOrderly eq c m n
   gone_orderly m n k formed left = subst (IsOrderly eq c m) (sym left) (record {
@@ -153,20 +167,30 @@ module _ {K V A : Type 0} {eq : K → K → Bool} (laws : IsEquivalence eq) (kee
   leaves_orderly KeyLists m n formed left = unchanged laws m n formed left
   leaves_orderly Lengths m n formed left = unchanged laws m n formed left
 
-  pub step_orderly : (command : Command K V A) (m : Lists K V) (reply : Reply K V A) (n : Lists K V) → IsWellFormed eq m → IsStep keeps eq command m reply n → IsOrderly eq command m n
-  step_orderly command m reply n formed step = elim step [ inl done ↦ leaves_orderly command m n formed done.1 | inr refused ↦ unchanged laws m n formed refused.2 ]
+  pub step_orderly : (command : Command K V A) (m : Lists K V) (reply : Reply K V A) (n : Lists K V) → IsWellFormed eq m
+      → IsStep keeps eq command m reply n → IsOrderly eq command m n
+  step_orderly command m reply n formed step = elim step [
+    | inl done ↦ leaves_orderly command m n formed done.1
+    | inr refused ↦ unchanged
+        laws m n formed refused.2
+  ]
 
-  pub run_well_formed : (commands : List (Command K V A)) (m : Lists K V) (replies : List (Reply K V A)) (n : Lists K V) → IsWellFormed eq m → IsRun keeps eq commands m replies n → IsWellFormed eq n
+  pub run_well_formed : (commands : List (Command K V A)) (m : Lists K V) (replies : List (Reply K V A)) (n : Lists K V) → IsWellFormed eq m
+      → IsRun keeps eq commands m replies n → IsWellFormed eq n
   run_well_formed [] m [] n formed run = subst (IsWellFormed eq) (sym run) formed
-  run_well_formed (command ∷ commands) m (reply ∷ replies) n formed run = run_well_formed commands run.0 replies n (step_orderly command m reply run.0 formed run.1).well_formed run.2
+  run_well_formed (command ∷ commands) m (reply ∷ replies) n formed run = run_well_formed commands run.0 replies n
+      (step_orderly command m reply run.0 formed run.1).well_formed run.2
   run_well_formed [] m (reply ∷ replies) n formed run = absurd run
   run_well_formed (command ∷ commands) m [] n formed run = absurd run
 
 -- what a function may answer is what another may
-module _ {K V : Type 0} (keeps other : V → K → V → Bool → V → Type 0) (eq : K → K → Bool) (more : (x : V) (k : K) (v : V) (b : Bool) (w : V) → keeps x k v b w → other x k v b w) where
-  retains_more : (x : V) (old new : List (K × V)) → Retains (λ s k v b w t. keeps x k v b w) (tt {0}) old new (tt {0}) → Retains (λ s k v b w t. other x k v b w) (tt {0}) old new (tt {0})
+module _ {K V : Type 0} (keeps other : V → K → V → Bool → V → Type 0) (eq : K → K → Bool)
+    (more : (x : V) (k : K) (v : V) (b : Bool) (w : V) → keeps x k v b w → other x k v b w) where
+  retains_more : (x : V) (old new : List (K × V)) → Retains (λ s k v b w t. keeps x k v b w) (tt {0}) old new (tt {0})
+      → Retains (λ s k v b w t. other x k v b w) (tt {0}) old new (tt {0})
   retains_more x [] new r = r
-  retains_more x (p ∷ old) new (b, w, next, rest, called, later, is) = (b, w, next, rest, more x p.0 p.1 b w called, retains_more x old rest later, is)
+  retains_more x (p ∷ old) new (b, w, next, rest, called, later, is) =
+      (b, w, next, rest, more x p.0 p.1 b w called, retains_more x old rest later, is)
 
   module _ {A : Type 0} where
     leaves_more : (command : Command K V A) (m n : Lists K V) → Leaves keeps eq command m n → Leaves other eq command m n
@@ -203,17 +227,21 @@ module _ {K V : Type 0} (keeps other : V → K → V → Bool → V → Type 0) 
     leaves_more KeyLists m n left = left
     leaves_more Lengths m n left = left
 
-    step_more : (command : Command K V A) (m : Lists K V) (reply : Reply K V A) (n : Lists K V) → IsStep keeps eq command m reply n → IsStep other eq command m reply n
+    step_more : (command : Command K V A) (m : Lists K V) (reply : Reply K V A) (n : Lists K V) → IsStep keeps eq command m reply n
+        → IsStep other eq command m reply n
     step_more command m reply n step = elim step [ inl done ↦ inl (done.0, leaves_more command m n done.1) | inr refused ↦ inr refused ]
 
-    pub IsRun-more : (commands : List (Command K V A)) (m : Lists K V) (replies : List (Reply K V A)) (n : Lists K V) → IsRun keeps eq commands m replies n → IsRun other eq commands m replies n
+    pub IsRun-more : (commands : List (Command K V A)) (m : Lists K V) (replies : List (Reply K V A)) (n : Lists K V)
+        → IsRun keeps eq commands m replies n → IsRun other eq commands m replies n
     IsRun-more [] m [] n run = run
-    IsRun-more (command ∷ commands) m (reply ∷ replies) n run = (run.0, step_more command m reply run.0 run.1, IsRun-more commands run.0 replies n run.2)
+    IsRun-more (command ∷ commands) m (reply ∷ replies) n run =
+        (run.0, step_more command m reply run.0 run.1, IsRun-more commands run.0 replies n run.2)
     IsRun-more [] m (reply ∷ replies) n run = absurd run
     IsRun-more (command ∷ commands) m [] n run = absurd run
 
 -- what is a step where no function is called is one with any function
-pub IsStep-own : {K V A : Type 0} (keeps : V → K → V → Bool → V → Type 0) (eq : K → K → Bool) (command : Command K V A) (m : Lists K V) (reply : Reply K V A) (n : Lists K V)
+pub IsStep-own : {K V A : Type 0} (keeps : V → K → V → Bool → V → Type 0) (eq : K → K → Bool) (command : Command K V A) (m : Lists K V)
+    (reply : Reply K V A) (n : Lists K V)
     → IsOwnStep eq command m reply n → IsStep keeps eq command m reply n
 IsStep-own keeps eq command m reply n step = step_more (λ x k v b w. ⊥) keeps eq (λ x k v b w never. absurd never) command m reply n step
 

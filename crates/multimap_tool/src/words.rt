@@ -1,6 +1,5 @@
 //! Commands found by their words.
-ghost use Rattle.std.specs.Prelude.{◌≡◌, [], ◌∷◌};
-ghost use Rattle.std.specs.Str.{bytes_eq};
+ghost use Rattle.std.specs.Prelude.{◌≡◌, ◌↔◌, [], ◌∷◌, IsTrue};
 ghost use Rattle.multimap_tool.specs.Spelling.{key_operand, value_operand, word_operand};
 ghost use Rattle.multimap_tool.specs.Parts.{IsFoundFor, IsFoundAmong, lone_change_words, lone_look_up_words};
 
@@ -10,7 +9,7 @@ use std::alloc::Allocator;
 
 /// Whether both are the same text.
 fn is(name: &[u8], word: &[u8]) -> bool
-    ensures { result ≡ bytes_eq name.now word.now }
+    ensures { IsTrue result ↔ (name.now ≡ word.now) }
 {
     name == word
 }

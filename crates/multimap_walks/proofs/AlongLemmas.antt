@@ -1,10 +1,13 @@
 -- What a walk along the order of a list has left, and what a step at either end gives.
-use Rattle.std.proofs.Common.{◌≡◌, ℕ, ◌+◌, List, [], ◌∷◌, ◌++◌, length, Option, Some, unwrap_or, refl}
-use Rattle.std.specs.List.{filter_map}
+use Rattle.std.proofs.Common.{◌≡◌, ℕ, ◌+◌, ◌-◌, List, length, Option, unwrap_or, refl}
 use Rattle.multimap_slots.specs.Lists.{IsIn, AreDistinct, first_of, last_of, next_of, previous_of}
+use Rattle.multimap_walks.specs.declared.End.{End}
 use Rattle.multimap_walks.specs.declared.links.ChainEnds.{ChainEnds}
-use Rattle.multimap_walks.specs.Along.{all_places, places_left, AreLeft, items_left, IsAlong}
-use Rattle.multimap_walks.proofs.PathLemmas.{Leads-next_of, Leads-previous_of, is_own, path-is, front_stands, back_stands, front_rest, back_rest, front_taken, back_taken, length-path, shown_first, shown_last}
+use Rattle.multimap_walks.specs.Along.{all_places, places_left, neighbour_of, AreLeft, items_left, IsAlong}
+use Rattle.multimap_walks.specs.Ends.{end_place, ends_after}
+use Rattle.multimap_walks.specs.Walk.{with_end}
+use Rattle.multimap_walks.proofs.EndLemmas.{end_stands, end_leaves, end_taken}
+use Rattle.multimap_walks.proofs.PathLemmas.{Leads-next_of, Leads-previous_of, is_own, path-is, length-path}
 
 module _ (order : List ℕ) where
   abbrev listed : ℕ → Type 0
@@ -24,41 +27,24 @@ module _ (order : List ℕ) where
 
   pub left_all : AreDistinct order → places_left order (all_places order) ≡ order
   unfolding all_left
-  left_all distinct = path-is listed (next_of order) (previous_of order) (unwrap_or (first_of order) 0) (unwrap_or (last_of order) 0) (length order) (all_left distinct)
+  left_all distinct =
+      path-is listed (next_of order) (previous_of order) (unwrap_or (first_of order) 0) (unwrap_or (last_of order) 0) (length order)
+      (all_left distinct)
 
   module _ {X : Type 0} (shows : ℕ → Option X) where
     -- as many items are shown as places are left
     pub length_along : (left : ChainEnds) → IsAlong order shows left → length (items_left order shows left) ≡ left.length
-    length_along left walk = length-path shows listed (next_of order) (previous_of order) left.first left.last left.length walk.are_left walk.shown
-
--- a step over places is one over what they show
-module _ {X G : Type 0} (shows : ℕ → Option X) (gives : G → X) where
-  pub shows_first : (before after : List ℕ) (p : ℕ) (given : G) → before ≡ p ∷ after → shows p ≡ Some (gives given)
-      → filter_map shows before ≡ gives given ∷ filter_map shows after
-  shows_first before after p given taken is = shown_first shows before p after (gives given) taken is
-
-  pub shows_last : (before after : List ℕ) (p : ℕ) (given : G) → before ≡ after ++ p ∷ [] → shows p ≡ Some (gives given)
-      → filter_map shows before ≡ filter_map shows after ++ gives given ∷ []
-  shows_last before after p given taken is = shown_last shows before p after (gives given) taken is
+    length_along left walk =
+        length-path shows listed (next_of order) (previous_of order) left.first left.last left.length walk.are_left walk.shown
 
 -- a step at either end of the places that are left
-module _ (order : List ℕ) (left : ChainEnds) (n : ℕ) (more : left.length ≡ n + 1) (are_left : AreLeft order left) where
-  pub first_listed : IsIn left.first order
-  first_listed = front_stands (listed order) (next_of order) (previous_of order) left.first left.last left.length n more are_left
+module _ (order : List ℕ) (left : ChainEnds) (more : left.length ≡ left.length - 1 + 1) (are_left : AreLeft order left) (end : End) where
+  pub end_listed : IsIn (end_place end left) order
+  end_listed = end_stands (listed order) (next_of order) (previous_of order) left more are_left end
 
-  pub last_listed : IsIn left.last order
-  last_listed = back_stands (listed order) (next_of order) (previous_of order) left.first left.last left.length n more are_left
+  module _ (place : ℕ) (told : place ≡ unwrap_or (neighbour_of order end (end_place end left)) (end_place end left)) where
+    pub left_after : AreLeft order (ends_after end left place)
+    left_after = end_leaves (listed order) (next_of order) (previous_of order) left more are_left place end told
 
-  module _ (behind : ℕ) (told : behind ≡ unwrap_or (next_of order left.first) left.first) where
-    pub left_behind : AreLeft order (record { first = behind; last = left.last; length = n })
-    left_behind = front_rest (listed order) (next_of order) (previous_of order) left.first left.last left.length n more are_left behind told
-
-    pub takes_first : places_left order left ≡ left.first ∷ places_left order (record { first = behind; last = left.last; length = n })
-    takes_first = front_taken (listed order) (next_of order) (previous_of order) left.first left.last left.length n more are_left behind told
-
-  module _ (before : ℕ) (told : before ≡ unwrap_or (previous_of order left.last) left.last) where
-    pub left_before : AreLeft order (record { first = left.first; last = before; length = n })
-    left_before = back_rest (listed order) (next_of order) (previous_of order) left.first left.last left.length n more are_left before told
-
-    pub takes_last : places_left order left ≡ places_left order (record { first = left.first; last = before; length = n }) ++ left.last ∷ []
-    takes_last = back_taken (listed order) (next_of order) (previous_of order) left.first left.last left.length n more are_left before told
+    pub takes_end : places_left order left ≡ with_end end (end_place end left) (places_left order (ends_after end left place))
+    takes_end = end_taken (listed order) (next_of order) (previous_of order) left more are_left place end told

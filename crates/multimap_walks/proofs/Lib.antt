@@ -1,7 +1,8 @@
 pub mod AlongLemmas
 pub mod ChainLemmas
+pub mod CountLemmas
+pub mod EndLemmas
 pub mod PairLemmas
 pub mod PathLemmas
-pub mod RestLemmas
 pub mod SquashLemmas
 pub mod WritingLemmas

@@ -9,12 +9,14 @@ use Rattle.multimap_walks.specs.Chained.{key_of, pair_at, AreOwned}
 
 module _ {K V : Type 0} (keys : Slots K KeyLink) (values : Slots V ValueLink) where
   -- a key and a value that are both there make a pair
-  pair_there : (k : Option K) (v : Option V) → IsSome k → IsSome v → IsSome (option_and_then (λ (x : K). option_map (λ (y : V). let pair : K × V = (x, y) in pair) v) k)
+  pair_there : (k : Option K) (v : Option V) → IsSome k → IsSome v
+      → IsSome (option_and_then (λ (x : K). option_map (λ (y : V). let pair : K × V = (x, y) in pair) v) k)
   pair_there None v key value = absurd (cc)
   pair_there (Some x) None key value = absurd (cc)
   pair_there (Some x) (Some y) key value = refl
 
-  key_there : (l : Option ValueLink) → IsSome l → ((m : ValueLink) → l ≡ Some m → IsSome (item_at keys m.key)) → IsSome (option_and_then (λ (m : ValueLink). item_at keys m.key) l)
+  key_there : (l : Option ValueLink) → IsSome l → ((m : ValueLink) → l ≡ Some m → IsSome (item_at keys m.key))
+      → IsSome (option_and_then (λ (m : ValueLink). item_at keys m.key) l)
   key_there None some each = absurd (cc)
   key_there (Some m) some each = each m refl
 
@@ -26,7 +28,10 @@ module _ {K V : Type 0} (keys : Slots K KeyLink) (values : Slots V ValueLink) wh
       (sound_values.filled p is_listed)
 
   -- the key and the value of a place are its pair
-  pub pair_is : (place : ℕ) (l : ValueLink) (k : K) (v : V) → link_at values place ≡ Some l → item_at keys l.key ≡ Some k → item_at values place ≡ Some v → pair_at keys values place ≡ Some (k, v)
+  pub pair_is : (place : ℕ) (l : ValueLink) (k : K) (v : V) → link_at values place ≡ Some l → item_at keys l.key ≡ Some k
+      → item_at values place ≡ Some v → pair_at keys values place ≡ Some (k, v)
   pair_is place l k v link key value =
-      let pair : Option K → Option V → Option (K × V) = λ o w. option_and_then (λ (x : K). option_map (λ (y : V). let both : K × V = (x, y) in both) w) o in
-      ap (λ o. pair (option_and_then (λ (m : ValueLink). item_at keys m.key) o) (item_at values place)) link ∙ ap (λ o. pair o (item_at values place)) key ∙ ap (pair (Some k)) value
+      let pair : Option K → Option V → Option (K × V) =
+      λ o w. option_and_then (λ (x : K). option_map (λ (y : V). let both : K × V = (x, y) in both) w) o in
+      ap (λ o. pair (option_and_then (λ (m : ValueLink). item_at keys m.key) o) (item_at values place)) link
+      ∙ ap (λ o. pair o (item_at values place)) key ∙ ap (pair (Some k)) value

@@ -1,5 +1,6 @@
 -- Steps along a path, from either end, and what is shown along it.
-use Rattle.std.proofs.Common.{◌≡◌, ℕ, ◌+◌, List, [], ◌∷◌, ◌++◌, length, reverse, Option, Some, None, unwrap_or, refl, sym, ap, ◌∙◌, subst, inl, inr, arith}
+use Rattle.std.proofs.Common.{◌≡◌, ℕ, ◌+◌, List, [], ◌∷◌, ◌++◌, length, reverse, Option, Some, None, unwrap_or, refl, sym, ap, ◌∙◌, subst}
+use Rattle.std.proofs.Common.{inl, inr, arith}
 use Rattle.std.specs.Prelude.{IfSome, IsSome}
 use Rattle.std.specs.List.{filter_map, cons_option}
 use Rattle.std.proofs.lemmas.Bool.{eq-eqb, ne_eqb}
@@ -16,7 +17,8 @@ module _ (names : ℕ → Option ℕ) where
   Leads-left (x ∷ z ∷ xs) ys leads = (leads.0, Leads-left (z ∷ xs) ys leads.1)
 
   -- places that lead on are the path from the first one
-  path-leads : (places : List ℕ) (p : ℕ) → Leads names places → IfSome (first_of places) (λ q. q ≡ p) → path names p (length places) ≡ places
+  path-leads : (places : List ℕ) (p : ℕ) → Leads names places → IfSome (first_of places) (λ q. q ≡ p)
+      → path names p (length places) ≡ places
   path-leads [] p leads first = refl
   path-leads (q ∷ []) p leads first = ap (λ x. x ∷ []) (sym first)
   path-leads (q ∷ r ∷ places) p leads first =
@@ -25,10 +27,12 @@ module _ (names : ℕ → Option ℕ) where
       ∙ ap (λ xs. q ∷ xs) (path-leads (r ∷ places) r leads.1 refl)
 
   -- functions that name the same
-  pub Leads-agree : (other : ℕ → Option ℕ) (places : List ℕ) → ((p : ℕ) → IsIn p places → names p ≡ other p) → Leads names places → Leads other places
+  pub Leads-agree : (other : ℕ → Option ℕ) (places : List ℕ) → ((p : ℕ) → IsIn p places → names p ≡ other p) → Leads names places
+      → Leads other places
   Leads-agree other [] same leads = tt
   Leads-agree other (p ∷ []) same leads = (tt, tt)
-  Leads-agree other (p ∷ q ∷ places) same leads = (sym (same p (inl refl)) ∙ leads.0, Leads-agree other (q ∷ places) (λ r later. same r (inr later)) leads.1)
+  Leads-agree other (p ∷ q ∷ places) same leads =
+      (sym (same p (inl refl)) ∙ leads.0, Leads-agree other (q ∷ places) (λ r later. same r (inr later)) leads.1)
 
 -- distinct places lead on by their order
 named_first : (places : List ℕ) (o : Option ℕ) → o ≡ first_of places → IfSome (first_of places) (λ q. o ≡ Some q)
@@ -39,7 +43,8 @@ pub Leads-next_of : (places : List ℕ) → AreDistinct places → Leads (next_o
 Leads-next_of [] distinct = tt
 Leads-next_of (p ∷ places) distinct = (
   named_first places (next_of (p ∷ places) p) (rw (eq-eqb p p refl) refl),
-  Leads-agree (next_of places) (next_of (p ∷ places)) places (λ q later. sym (rw (ne_eqb p q (λ same. distinct.0 (subst (λ x. IsIn x places) (sym same) later))) refl))
+  Leads-agree (next_of places) (next_of (p ∷ places)) places
+      (λ q later. sym (rw (ne_eqb p q (λ same. distinct.0 (subst (λ x. IsIn x places) (sym same) later))) refl))
       (Leads-next_of places distinct.1),
 )
 
@@ -49,7 +54,8 @@ reverse-cons p places = reverse-append (p ∷ []) places
 AreDistinct-reverse : (places : List ℕ) → AreDistinct places → AreDistinct (reverse places)
 AreDistinct-reverse [] distinct = tt
 AreDistinct-reverse (p ∷ places) distinct =
-    subst AreDistinct (sym (reverse-cons p places)) (AreDistinct-push (reverse places) p (λ member. distinct.0 (IsIn-reverse p places member)) (AreDistinct-reverse places distinct.1))
+    subst AreDistinct (sym (reverse-cons p places))
+    (AreDistinct-push (reverse places) p (λ member. distinct.0 (IsIn-reverse p places member)) (AreDistinct-reverse places distinct.1))
 
 pub Leads-previous_of : (places : List ℕ) → AreDistinct places → Leads (previous_of places) (reverse places)
 Leads-previous_of places distinct = Leads-next_of (reverse places) (AreDistinct-reverse places distinct)
@@ -70,7 +76,8 @@ module _ (stands : ℕ → Type 0) (next previous : ℕ → Option ℕ) where
 
   -- no place is left
   pub path_none : (front back : ℕ) → IsPath stands next previous front back 0
-  path_none front back = record { places = []; onward = tt; backward = tt; first = tt; last = tt; count = refl; there = λ p member. absurd member }
+  path_none front back =
+      record { places = []; onward = tt; backward = tt; first = tt; last = tt; count = refl; there = λ p member. absurd member }
 
   -- a path backward
   mirrored : (front back n : ℕ) → IsPath stands next previous front back n → IsPath stands previous next back front n
@@ -79,7 +86,9 @@ module _ (stands : ℕ → Type 0) (next previous : ℕ → Option ℕ) where
     onward = walk.backward;
     backward = subst (Leads next) (sym (reverse-reverse walk.places)) walk.onward;
     first = subst (λ o. IfSome o (λ p. p ≡ back)) (sym (first_of-reverse walk.places)) walk.last;
-    last = subst (λ o. IfSome o (λ p. p ≡ front)) (sym (sym (first_of-reverse (reverse walk.places)) ∙ ap first_of (reverse-reverse walk.places))) walk.first;
+    last =
+        subst (λ o. IfSome o (λ p. p ≡ front))
+        (sym (sym (first_of-reverse (reverse walk.places)) ∙ ap first_of (reverse-reverse walk.places))) walk.first;
     count = length-reverse walk.places ∙ walk.count;
     there = λ p member. walk.there p (IsIn-reverse p walk.places member);
   }
@@ -95,14 +104,17 @@ module _ (stands : ℕ → Type 0) (next previous : ℕ → Option ℕ) where
   first_behind p (q ∷ places) front behind first leads told =
       sym (told ∙ ap (λ x. unwrap_or (next x) x) (sym first) ∙ ap (λ o. unwrap_or o p) leads)
 
-  last_behind : (p : ℕ) (places : List ℕ) (back : ℕ) → IfSome (last_of (p ∷ places)) (λ q. q ≡ back) → IfSome (last_of places) (λ q. q ≡ back)
+  last_behind : (p : ℕ) (places : List ℕ) (back : ℕ) → IfSome (last_of (p ∷ places)) (λ q. q ≡ back)
+      → IfSome (last_of places) (λ q. q ≡ back)
   last_behind p [] back last = tt
   last_behind p (q ∷ places) back last = last
 
-  step : (front back behind n : ℕ) (walk : IsPath stands next previous front back (n + 1)) → behind ≡ unwrap_or (next front) front → Step front back n behind walk.places
+  step : (front back behind n : ℕ) (walk : IsPath stands next previous front back (n + 1)) → behind ≡ unwrap_or (next front) front
+      → Step front back n behind walk.places
   step front back behind n walk told =
       from walk.places walk.onward walk.backward walk.first walk.last walk.count walk.there where
-        from : (places : List ℕ) → Leads next places → Leads previous (reverse places) → IfSome (first_of places) (λ p. p ≡ front) → IfSome (last_of places) (λ p. p ≡ back)
+        from : (places : List ℕ) → Leads next places → Leads previous (reverse places) → IfSome (first_of places) (λ p. p ≡ front)
+            → IfSome (last_of places) (λ p. p ≡ back)
             → length places ≡ n + 1 → ((p : ℕ) → IsIn p places → stands p) → Step front back n behind places
         from [] onward backward first last count there = absurd (omega (arith, count))
         from (p ∷ places) onward backward first last count there = record {
@@ -119,7 +131,8 @@ module _ (stands : ℕ → Type 0) (next previous : ℕ → Option ℕ) where
         }
 
 -- a step at either end: what stands there, the path that is left, and the place that is taken
-module _ (stands : ℕ → Type 0) (next previous : ℕ → Option ℕ) (front back m n : ℕ) (more : m ≡ n + 1) (walk : IsPath stands next previous front back m) where
+module _ (stands : ℕ → Type 0) (next previous : ℕ → Option ℕ) (front back m n : ℕ) (more : m ≡ n + 1)
+    (walk : IsPath stands next previous front back m) where
   grown : IsPath stands next previous front back (n + 1)
   grown = subst (IsPath stands next previous front back) more walk
 
@@ -165,17 +178,20 @@ module _ {X : Type 0} (shows : ℕ → Option X) where
 
   length-shown : (ps : List ℕ) → ((p : ℕ) → IsIn p ps → IsSome (shows p)) → length (filter_map shows ps) ≡ length ps
   length-shown [] each = refl
-  length-shown (p ∷ ps) each = omega (arith, one_more (shows p) (filter_map shows ps) (each p (inl refl)), length-shown ps (λ q later. each q (inr later)))
+  length-shown (p ∷ ps) each =
+      omega (arith, one_more (shows p) (filter_map shows ps) (each p (inl refl)), length-shown ps (λ q later. each q (inr later)))
 
   -- where each place shows something, as much is shown as places are left
-  pub length-path : (stands : ℕ → Type 0) (next previous : ℕ → Option ℕ) (front back n : ℕ) → IsPath stands next previous front back n → ((p : ℕ) → stands p → IsSome (shows p))
+  pub length-path : (stands : ℕ → Type 0) (next previous : ℕ → Option ℕ) (front back n : ℕ) → IsPath stands next previous front back n
+      → ((p : ℕ) → stands p → IsSome (shows p))
       → length (filter_map shows (path next front n)) ≡ n
   length-path stands next previous front back n walk each =
       ap (λ ps. length (filter_map shows ps)) (path-is stands next previous front back n walk)
       ∙ length-shown walk.places (λ p member. each p (walk.there p member)) ∙ walk.count
 
   -- the first place and the last show an item each
-  pub shown_first : (places : List ℕ) (p : ℕ) (ps : List ℕ) (x : X) → places ≡ p ∷ ps → shows p ≡ Some x → filter_map shows places ≡ x ∷ filter_map shows ps
+  pub shown_first : (places : List ℕ) (p : ℕ) (ps : List ℕ) (x : X) → places ≡ p ∷ ps → shows p ≡ Some x
+      → filter_map shows places ≡ x ∷ filter_map shows ps
   shown_first places p ps x taken is = ap (filter_map shows) taken ∙ ap (λ o. cons_option o (filter_map shows ps)) is
 
   shown_end : (ps : List ℕ) (p : ℕ) (x : X) → shows p ≡ Some x → filter_map shows (ps ++ p ∷ []) ≡ filter_map shows ps ++ x ∷ []
@@ -186,5 +202,6 @@ module _ {X : Type 0} (shows : ℕ → Option X) where
         | Some y ↦ ap (λ ys. y ∷ ys) (shown_end ps p x is)
       ]
 
-  pub shown_last : (places : List ℕ) (p : ℕ) (ps : List ℕ) (x : X) → places ≡ ps ++ p ∷ [] → shows p ≡ Some x → filter_map shows places ≡ filter_map shows ps ++ x ∷ []
+  pub shown_last : (places : List ℕ) (p : ℕ) (ps : List ℕ) (x : X) → places ≡ ps ++ p ∷ [] → shows p ≡ Some x
+      → filter_map shows places ≡ filter_map shows ps ++ x ∷ []
   shown_last places p ps x taken is = ap (filter_map shows) taken ∙ shown_end ps p x is

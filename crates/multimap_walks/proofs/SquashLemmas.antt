@@ -1,5 +1,6 @@
 -- What a ghost field says squashed can be read off it: it has one proof at most, or is computed.
-use Rattle.std.proofs.Common.{◌≡◌, ℕ, false, true, List, [], ◌∷◌, length, reverse, Option, Some, IsSome, get_or, sym, ap, ◌∙◌, subst, inl, inr, ◌≤◌}
+use Rattle.std.proofs.Common.{◌≡◌, ℕ, false, true, List, [], ◌∷◌, length, reverse, Option, Some, IsSome, get_or, sym, ap, ◌∙◌, subst, inl}
+use Rattle.std.proofs.Common.{inr, ◌≤◌}
 use Rattle.std.specs.Prelude.{IfSome}
 use Rattle.std.specs.Coded.{×_prop, Unit-prop}
 use Rattle.std.proofs.Math.Logic.{∥∥₁_elim, ∥∥₁_map}
@@ -62,7 +63,8 @@ module _ (stands : ℕ → Type 0) (next previous : ℕ → Option ℕ) (front b
       record {
         places = along;
         onward = ∥∥₁_elim some (Leads-prop next along) (λ x. subst (Leads next) (along-is x) x.onward);
-        backward = ∥∥₁_elim some (Leads-prop previous (reverse along)) (λ x. subst (λ ps. Leads previous (reverse ps)) (along-is x) x.backward);
+        backward =
+            ∥∥₁_elim some (Leads-prop previous (reverse along)) (λ x. subst (λ ps. Leads previous (reverse ps)) (along-is x) x.backward);
         first = ∥∥₁_elim some first_prop (λ x. subst (λ ps. IfSome (first_of ps) (λ p. p ≡ front)) (along-is x) x.first);
         last = ∥∥₁_elim some last_prop (λ x. subst (λ ps. IfSome (last_of ps) (λ p. p ≡ back)) (along-is x) x.last);
         count = ∥∥₁_elim some count_prop (λ x. sym (ap length (along-is x)) ∙ x.count);
@@ -71,7 +73,8 @@ module _ (stands : ℕ → Type 0) (next previous : ℕ → Option ℕ) (front b
 
 -- that places of the order are left
 pub read_left : (order : List ℕ) (left : ChainEnds) → ∥ AreLeft order left ∥₁ → AreLeft order left
-read_left order left some = read_path (λ p. IsIn p order) (next_of order) (previous_of order) left.first left.last left.length (λ p. read_member p order) some
+read_left order left some =
+    read_path (λ p. IsIn p order) (next_of order) (previous_of order) left.first left.last left.length (λ p. read_member p order) some
 
 module _ {T L : Type 0} where
   pub read_sound : (s : Slots T L) → ∥ IsSound s ∥₁ → IsSound s
@@ -132,6 +135,8 @@ module _ {V A : Type 0} (cells : SlotCells V ValueLink A) (left : ChainEnds) whe
   read_chain some =
       let values = lent_slots cells in
       record {
-        chain = read_path (Stands values false) (next_place values) (previous_place values) left.first left.last left.length stands (∥∥₁_map some (λ x. x.chain));
+        chain =
+            read_path (Stands values false) (next_place values) (previous_place values) left.first left.last left.length stands
+            (∥∥₁_map some (λ x. x.chain));
         untaken = read_untaken cells (places_along values left.first left.length) (∥∥₁_map some (λ x. x.untaken));
       }

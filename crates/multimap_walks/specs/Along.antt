@@ -2,7 +2,9 @@
 use Rattle.std.specs.Prelude.{ℕ, List, Option, IsSome, length, unwrap_or}
 use Rattle.std.specs.List.{filter_map}
 use Rattle.multimap_slots.specs.Lists.{IsIn, first_of, last_of, next_of, previous_of}
+use Rattle.multimap_walks.specs.declared.End.{End}
 use Rattle.multimap_walks.specs.declared.links.ChainEnds.{ChainEnds}
+use Rattle.multimap_walks.specs.Ends.{step_from}
 use Rattle.multimap_walks.specs.Path.{path, IsPath}
 
 module _ (order : List ℕ) where
@@ -13,6 +15,10 @@ module _ (order : List ℕ) where
     last = unwrap_or (last_of order) 0;
     length = length order;
   }
+
+  -- the place that a step from an end reaches
+  abbrev pub neighbour_of : End → ℕ → Option ℕ
+  neighbour_of end = step_from end (next_of order) (previous_of order)
 
   -- the places of the order that are left
   abbrev pub places_left : ChainEnds → List ℕ

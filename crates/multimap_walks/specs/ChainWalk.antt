@@ -1,10 +1,10 @@
 -- What a contract sees of a walk over one key's values, and what a step of it leaves.
 use Rattle.std.specs.Prelude.{◌≡◌, ℕ, ◌+◌, Bool, List, [], ◌∷◌, length, Option, None, Some, ◌⊎◌}
 use Rattle.std.specs.Borrow.{Bor}
-use Rattle.std.specs.Map.Iter.{TakesFirst, TakesLast, deref}
+use Rattle.std.specs.Map.Iter.{deref}
 use Rattle.multimap_slots.specs.Slots.{Slots}
 use Rattle.multimap_walks.specs.Chained.{places_along, positions_left, values_at}
-use Rattle.multimap_walks.specs.Walk.{end_rest}
+use Rattle.multimap_walks.specs.Walk.{end_rest, TakesEnd}
 use Rattle.multimap_walks.specs.declared.links.ValueLink.{ValueLink}
 use Rattle.multimap_walks.specs.declared.End.{End}
 use Rattle.multimap_walks.specs.declared.End.TheVariants.{Front, Back}
@@ -46,10 +46,14 @@ module _ {V : Type 0} where
   Counts end old None new = (new.positions ≡ old.positions) × (new.reads ≡ old.reads)
   Counts end old (Some given) new = CountsOne end old new
 
-  -- the first value that is left is given, or none where nothing is left
+  -- the value at an end of what is left is given, or none where nothing is left
+  abbrev pub GivesEnd : End → ChainWalk V → Option (Bor V) → ChainWalk V → Type 0
+  GivesEnd end old given new = TakesEnd end deref old.left given new.left × Counts end old given new
+
+  -- the first is
   abbrev pub GivesFirst : ChainWalk V → Option (Bor V) → ChainWalk V → Type 0
-  GivesFirst old given new = TakesFirst deref old.left given new.left × Counts Front old given new
+  GivesFirst = GivesEnd Front
 
   -- and so the last
   abbrev pub GivesLast : ChainWalk V → Option (Bor V) → ChainWalk V → Type 0
-  GivesLast old given new = TakesLast deref old.left given new.left × Counts Back old given new
+  GivesLast = GivesEnd Back

@@ -1,6 +1,7 @@
 pub mod Along
 pub mod ChainWalk
 pub mod Chained
+pub mod Ends
 pub mod KeyWalk
 pub mod Lending
 pub mod PairWalk

@@ -2,16 +2,17 @@
 -- no model, so that a contract can follow the loan.
 use Rattle.std.specs.Prelude.{◌≡◌, ℕ, List, Option, MatchOption, option_map}
 use Rattle.std.specs.Borrow.{Bor, GName, MutBor}
-use Rattle.std.specs.Map.Iter.{TakesFirst, TakesLast, LendsFirst, LendsLast}
+use Rattle.std.specs.Map.Iter.{deref_pair_mut}
 use Rattle.multimap_slots.specs.Slots.{item_at}
 use Rattle.multimap_slots.specs.SlotCells.{cells_name, lent_slots}
 use Rattle.multimap_slots.specs.declared.cells.Cells.{Cells}
 use Rattle.multimap_slots.specs.declared.cells_of.SlotCells.{SlotCells}
 use Rattle.multimap_walks.specs.Along.{items_left, places_left}
 use Rattle.multimap_walks.specs.Chained.{places_along, positions_at, values_at}
+use Rattle.multimap_walks.specs.Ends.{end_place}
 use Rattle.multimap_walks.specs.Lending.{HandsOut}
 use Rattle.multimap_walks.specs.PairWalk.{pairs_left}
-use Rattle.multimap_walks.specs.Walk.{end_rest}
+use Rattle.multimap_walks.specs.Walk.{end_rest, TakesEnd}
 use Rattle.multimap_walks.specs.declared.End.{End}
 use Rattle.multimap_walks.specs.declared.End.TheVariants.{Front, Back}
 use Rattle.multimap_walks.specs.declared.links.ChainEnds.{ChainEnds}
@@ -53,19 +54,21 @@ module _ {K V A : Type 0} where
   abbrev pub iter_mut_cells : IterMut K V A → Cells V
   iter_mut_cells w = w.values.cells
 
-  -- the first pair that is left is lent, its position goes, and its value's place alone is taken
-  pub record LendsFirstPair (s : IterMut K V A) (r : Option (Bor K × MutBor V)) (t : IterMut K V A)
-      : Type 0 where
-    pub steps : LendsFirst iter_mut_rest s r t
-    pub positions : PositionGoes Front (iter_mut_positions s) r (iter_mut_positions t)
-    pub taken : HandsOut s.values s.left.first (option_map (λ p. p.1) r) t.values
+  -- the pair at an end of what is left is lent, its position goes, and its value's place alone is
+  -- taken
+  pub record LendsPair (end : End) (s : IterMut K V A) (r : Option (Bor K × MutBor V))
+      (t : IterMut K V A) : Type 0 where
+    pub steps : TakesEnd end deref_pair_mut (iter_mut_rest s) r (iter_mut_rest t)
+    pub positions : PositionGoes end (iter_mut_positions s) r (iter_mut_positions t)
+    pub taken : HandsOut s.values (end_place end s.left) (option_map (λ p. p.1) r) t.values
+
+  -- the first pair is
+  abbrev pub LendsFirstPair : IterMut K V A → Option (Bor K × MutBor V) → IterMut K V A → Type 0
+  LendsFirstPair = LendsPair Front
 
   -- and so the last
-  pub record LendsLastPair (s : IterMut K V A) (r : Option (Bor K × MutBor V)) (t : IterMut K V A)
-      : Type 0 where
-    pub steps : LendsLast iter_mut_rest s r t
-    pub positions : PositionGoes Back (iter_mut_positions s) r (iter_mut_positions t)
-    pub taken : HandsOut s.values s.left.last (option_map (λ p. p.1) r) t.values
+  abbrev pub LendsLastPair : IterMut K V A → Option (Bor K × MutBor V) → IterMut K V A → Type 0
+  LendsLastPair = LendsPair Back
 
   -- the same of a `ValuesMut`
   abbrev pub values_mut_rest : ValuesMut K V A → List V
@@ -83,17 +86,17 @@ module _ {K V A : Type 0} where
   abbrev pub values_mut_cells : ValuesMut K V A → Cells V
   values_mut_cells w = w.values.cells
 
-  pub record LendsFirstValue (s : ValuesMut K V A) (r : Option (MutBor V)) (t : ValuesMut K V A)
-      : Type 0 where
-    pub steps : TakesFirst deref_mut (values_mut_rest s) r (values_mut_rest t)
-    pub positions : PositionGoes Front (values_mut_positions s) r (values_mut_positions t)
-    pub taken : HandsOut s.values s.left.first r t.values
+  pub record LendsValue (end : End) (s : ValuesMut K V A) (r : Option (MutBor V))
+      (t : ValuesMut K V A) : Type 0 where
+    pub steps : TakesEnd end deref_mut (values_mut_rest s) r (values_mut_rest t)
+    pub positions : PositionGoes end (values_mut_positions s) r (values_mut_positions t)
+    pub taken : HandsOut s.values (end_place end s.left) r t.values
 
-  pub record LendsLastValue (s : ValuesMut K V A) (r : Option (MutBor V)) (t : ValuesMut K V A)
-      : Type 0 where
-    pub steps : TakesLast deref_mut (values_mut_rest s) r (values_mut_rest t)
-    pub positions : PositionGoes Back (values_mut_positions s) r (values_mut_positions t)
-    pub taken : HandsOut s.values s.left.last r t.values
+  abbrev pub LendsFirstValue : ValuesMut K V A → Option (MutBor V) → ValuesMut K V A → Type 0
+  LendsFirstValue = LendsValue Front
+
+  abbrev pub LendsLastValue : ValuesMut K V A → Option (MutBor V) → ValuesMut K V A → Type 0
+  LendsLastValue = LendsValue Back
 
   -- the places of the values that an `EntryValuesMut` has left
   abbrev pub entry_places : EntryValuesMut K V A → List ℕ
@@ -115,18 +118,21 @@ module _ {K V A : Type 0} where
   abbrev pub entry_values_mut_cells : EntryValuesMut K V A → Cells V
   entry_values_mut_cells w = w.values.cells
 
-  -- the key's first value that is left is lent: its position goes, and its place alone is taken
-  pub record LendsFirstOfKey (s : EntryValuesMut K V A) (r : Option (MutBor V))
+  -- the key's value at an end of what is left is lent: its position goes, and its place alone is
+  -- taken
+  pub record LendsOfKey (end : End) (s : EntryValuesMut K V A) (r : Option (MutBor V))
       (t : EntryValuesMut K V A) : Type 0 where
-    pub steps : TakesFirst deref_mut (entry_values_mut_rest s) r (entry_values_mut_rest t)
-    pub positions : PositionGoes Front (entry_values_mut_positions s) r
+    pub steps : TakesEnd end deref_mut (entry_values_mut_rest s) r (entry_values_mut_rest t)
+    pub positions : PositionGoes end (entry_values_mut_positions s) r
         (entry_values_mut_positions t)
-    pub taken : HandsOut s.values s.left.first r t.values
+    pub taken : HandsOut s.values (end_place end s.left) r t.values
+
+  -- the first value is
+  abbrev pub LendsFirstOfKey
+      : EntryValuesMut K V A → Option (MutBor V) → EntryValuesMut K V A → Type 0
+  LendsFirstOfKey = LendsOfKey Front
 
   -- and so the last
-  pub record LendsLastOfKey (s : EntryValuesMut K V A) (r : Option (MutBor V))
-      (t : EntryValuesMut K V A) : Type 0 where
-    pub steps : TakesLast deref_mut (entry_values_mut_rest s) r (entry_values_mut_rest t)
-    pub positions : PositionGoes Back (entry_values_mut_positions s) r
-        (entry_values_mut_positions t)
-    pub taken : HandsOut s.values s.left.last r t.values
+  abbrev pub LendsLastOfKey
+      : EntryValuesMut K V A → Option (MutBor V) → EntryValuesMut K V A → Type 0
+  LendsLastOfKey = LendsOfKey Back

@@ -1,11 +1,12 @@
 //! The walk over one key's values.
-ghost use Rattle.std.specs.Prelude.{◌≡◌, Some, None, [], length, IfSome, MatchOption, ⊤};
-ghost use Rattle.std.specs.Iterator.{at_most, UpTo};
-ghost use Rattle.std.specs.Iterator.SizeHint.{IsWithinCount};
+ghost use Rattle.std.specs.Prelude.{◌≡◌, [], length, MatchOption, ⊤};
+ghost use Rattle.std.specs.Iterator.{at_most};
 ghost use Rattle.multimap_slots.specs.Slots.{HasLink};
 ghost use Rattle.multimap_walks.specs.Chained.{IsChain, IsChained, IsDetachedChain, chain_of, places_along, positions_at, values_at};
-ghost use Rattle.multimap_walks.specs.ChainWalk.{GivesFirst, GivesLast, chain_walk};
+ghost use Rattle.multimap_walks.specs.ChainWalk.{GivesEnd, GivesFirst, GivesLast, chain_walk};
+ghost use Rattle.multimap_walks.specs.Walk.{TellsLength};
 
+use crate::End;
 use crate::links::{ChainEnds, KeyLink, NO_ENDS, ValueLink};
 use crate::show::show_left;
 use crate::slots::chained_at;
@@ -20,9 +21,7 @@ use std::marker::{Model, PhantomData};
 pub struct EntryValues<'map, K, V, A: Allocator = Global> {
     keys: PhantomData<&'map K>,
     values: &'map Tape<V, ValueLink, A>,
-    front: usize,
-    back: usize,
-    length: usize,
+    left: ChainEnds,
     detached: bool,
     reads: Reads,
 }
@@ -33,9 +32,10 @@ impl<'map, K, V, A: Allocator> Model for EntryValues<'map, K, V, A> {
 
     ghost Value = { ChainWalk V };
 
-    ghost view = { λ w. chain_walk w.values.now.list w.detached w.front w.length w.reads };
+    ghost view = { λ w. chain_walk w.values.now.list w.detached w.left.first w.left.length w.reads };
 
-    ghost invariant = { λ w. IsChain w.values.now.list w.detached w.front w.back w.length };
+    ghost invariant = { λ w.
+        IsChain w.values.now.list w.detached w.left.first w.left.last w.left.length };
 }
 
 impl<'map, K, V, A: Allocator> EntryValues<'map, K, V, A> {
@@ -88,12 +88,24 @@ impl<'map, K, V, A: Allocator> EntryValues<'map, K, V, A> {
         EntryValues {
             keys: PhantomData,
             values,
-            front: ends.first,
-            back: ends.last,
-            length: ends.length,
+            left: ends,
             detached,
             reads: Reads::new(),
         }
+    }
+
+    /// Takes the value at an end of what is left, and follows its link.
+    #[inline(always)]
+    fn step(&mut self, end: End) -> Option<&'map V>
+        ensures { GivesEnd end self.old result self.new }
+    {
+        if self.left.length == 0 {
+            return None;
+        }
+        let place = self.left.place_at(end);
+        let (value, link) = chained_at(self.values, place, self.detached, &mut self.reads);
+        self.left = self.left.after(end, link.step_from(end).unwrap_or(place));
+        Some(value)
     }
 }
 
@@ -105,24 +117,13 @@ impl<'map, K, V, A: Allocator> Iterator for EntryValues<'map, K, V, A> {
     ghost remaining = { λ s. at_most (length s.left) };
 
     fn next(&mut self) -> Option<&'map V> {
-        if self.length == 0 {
-            return None;
-        }
-        let (value, link) = chained_at(self.values, self.front, self.detached, &mut self.reads);
-        self.front = link.next.unwrap_or(self.front);
-        self.length -= 1;
-        Some(value)
+        self.step(End::Front)
     }
 
     fn size_hint(&self) -> (usize, Option<usize>)
-        ensures lower { IsWithinCount result.0 (at_most (length self.now.left)) }
-        ensures upper { IfSome result.1 (UpTo (at_most (length self.now.left))) }
-
-        // Both numbers are that of the items left.
-        ensures least { result.0 ≡ length self.now.left }
-        ensures greatest { result.1 ≡ Some (length self.now.left) }
+        ensures { TellsLength result self.now.left }
     {
-        (self.length, Some(self.length))
+        (self.left.length, Some(self.left.length))
     }
 }
 
@@ -130,19 +131,13 @@ impl<'map, K, V, A: Allocator> DoubleEndedIterator for EntryValues<'map, K, V, A
     ghost next_back_gives = { GivesLast };
 
     fn next_back(&mut self) -> Option<&'map V> {
-        if self.length == 0 {
-            return None;
-        }
-        let (value, link) = chained_at(self.values, self.back, self.detached, &mut self.reads);
-        self.back = link.previous.unwrap_or(self.back);
-        self.length -= 1;
-        Some(value)
+        self.step(End::Back)
     }
 }
 
 impl<'map, K, V, A: Allocator> ExactSizeIterator for EntryValues<'map, K, V, A> {
     fn len(&self) -> usize {
-        self.length
+        self.left.length
     }
 }
 
@@ -157,9 +152,7 @@ impl<'map, K, V, A: Allocator> Clone for EntryValues<'map, K, V, A> {
         Ok(EntryValues {
             keys: PhantomData,
             values: self.values,
-            front: self.front,
-            back: self.back,
-            length: self.length,
+            left: self.left,
             detached: self.detached,
             reads: self.reads.clone()?,
         })

@@ -1,15 +1,16 @@
 //! The walk over all keys, each with a walk over its values.
-ghost use Rattle.std.specs.Prelude.{◌≡◌, [], length, Some, IfSome, MatchOption, ⊤};
-ghost use Rattle.std.specs.Iterator.{at_most, UpTo};
-ghost use Rattle.std.specs.Iterator.SizeHint.{IsWithinCount};
+ghost use Rattle.std.specs.Prelude.{◌≡◌, [], length, MatchOption, ⊤};
+ghost use Rattle.std.specs.Iterator.{at_most};
 ghost use Rattle.std.specs.List.{filter_map};
 ghost use Rattle.std.specs.Map.Iter.{TakesFirst, TakesLast};
 ghost use Rattle.multimap_walks.specs.Along.{AreLeft, items_left};
 ghost use Rattle.multimap_walks.specs.Chained.{IsChained};
 ghost use Rattle.multimap_walks.specs.KeyWalk.{deref_key, key_values_at};
+ghost use Rattle.multimap_walks.specs.Walk.{TakesEnd, TellsLength};
 
+use crate::End;
 use crate::chain::EntryValues;
-use crate::left::{Ordered, take_first, take_last};
+use crate::left::{Ordered, take};
 use crate::links::{ChainEnds, KeyLink, NO_ENDS, ValueLink};
 use crate::show::show_left;
 use crate::slots::key_values_of;
@@ -88,6 +89,15 @@ impl<'map, K, V, A: Allocator> KeyValues<'map, K, V, A> {
             reads: Reads::new(),
         }
     }
+
+    /// Takes the item at an end of what is left.
+    #[inline(always)]
+    fn step(&mut self, end: End) -> Option<(&'map K, EntryValues<'map, K, V, A>)>
+        ensures { TakesEnd end deref_key self.old result self.new }
+    {
+        let place = take(end, self.keys, &mut self.left)?;
+        Some(key_values_of(self.keys, self.values, place, &mut self.reads))
+    }
 }
 
 impl<'map, K, V, A: Allocator> Iterator for KeyValues<'map, K, V, A> {
@@ -98,18 +108,12 @@ impl<'map, K, V, A: Allocator> Iterator for KeyValues<'map, K, V, A> {
     ghost remaining = { λ s. at_most (length s) };
 
     fn next(&mut self) -> Option<(&'map K, EntryValues<'map, K, V, A>)> {
-        let place = take_first(self.keys, &mut self.left)?;
-        Some(key_values_of(self.keys, self.values, place, &mut self.reads))
+        self.step(End::Front)
     }
 
     #[tactic(auto, using(crate::proofs::AlongLemmas::length_along))]
     fn size_hint(&self) -> (usize, Option<usize>)
-        ensures lower { IsWithinCount result.0 (at_most (length self.now)) }
-        ensures upper { IfSome result.1 (UpTo (at_most (length self.now))) }
-
-        // Both numbers are that of the items left.
-        ensures least { result.0 ≡ length self.now }
-        ensures greatest { result.1 ≡ Some (length self.now) }
+        ensures { TellsLength result self.now }
     {
         (self.left.length, Some(self.left.length))
     }
@@ -119,8 +123,7 @@ impl<'map, K, V, A: Allocator> DoubleEndedIterator for KeyValues<'map, K, V, A> 
     ghost next_back_gives = { TakesLast deref_key };
 
     fn next_back(&mut self) -> Option<(&'map K, EntryValues<'map, K, V, A>)> {
-        let place = take_last(self.keys, &mut self.left)?;
-        Some(key_values_of(self.keys, self.values, place, &mut self.reads))
+        self.step(End::Back)
     }
 }
 

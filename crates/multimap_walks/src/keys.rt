@@ -1,12 +1,13 @@
 //! The walk over all keys.
-ghost use Rattle.std.specs.Prelude.{◌≡◌, length, Some, IfSome, ⊤};
-ghost use Rattle.std.specs.Iterator.{at_most, UpTo};
-ghost use Rattle.std.specs.Iterator.SizeHint.{IsWithinCount};
+ghost use Rattle.std.specs.Prelude.{◌≡◌, length, ⊤};
+ghost use Rattle.std.specs.Iterator.{at_most};
 ghost use Rattle.std.specs.List.{filter_map};
 ghost use Rattle.std.specs.Map.Iter.{TakesFirst, TakesLast, deref};
 ghost use Rattle.multimap_slots.specs.Slots.{item_at};
+ghost use Rattle.multimap_walks.specs.Walk.{TakesEnd, TellsLength};
 
-use crate::left::{Ordered, take_first, take_last};
+use crate::End;
+use crate::left::{Ordered, take};
 use crate::links::{ChainEnds, KeyLink};
 use crate::show::show_left;
 use crate::slots::key_at;
@@ -41,13 +42,20 @@ impl<'map, K, A: Allocator> Keys<'map, K, A> {
     pub fn new(keys: &'map SlotList<K, KeyLink, A>) -> Self
         ensures keys { result ≡ filter_map (item_at keys.now) keys.now.order }
     {
-        // The length tells the proof that the list is sound.
-        let _keys = keys.len();
         Keys {
             keys,
             left: keys.all(),
             reads: Reads::new(),
         }
+    }
+
+    /// Takes the item at an end of what is left.
+    #[inline(always)]
+    fn step(&mut self, end: End) -> Option<&'map K>
+        ensures { TakesEnd end deref self.old result self.new }
+    {
+        let place = take(end, self.keys, &mut self.left)?;
+        Some(key_at(self.keys, place, &mut self.reads))
     }
 }
 
@@ -59,18 +67,12 @@ impl<'map, K, A: Allocator> Iterator for Keys<'map, K, A> {
     ghost remaining = { λ s. at_most (length s) };
 
     fn next(&mut self) -> Option<&'map K> {
-        let place = take_first(self.keys, &mut self.left)?;
-        Some(key_at(self.keys, place, &mut self.reads))
+        self.step(End::Front)
     }
 
     #[tactic(auto, using(crate::proofs::AlongLemmas::length_along))]
     fn size_hint(&self) -> (usize, Option<usize>)
-        ensures lower { IsWithinCount result.0 (at_most (length self.now)) }
-        ensures upper { IfSome result.1 (UpTo (at_most (length self.now))) }
-
-        // Both numbers are that of the items left.
-        ensures least { result.0 ≡ length self.now }
-        ensures greatest { result.1 ≡ Some (length self.now) }
+        ensures { TellsLength result self.now }
     {
         (self.left.length, Some(self.left.length))
     }
@@ -80,8 +82,7 @@ impl<'map, K, A: Allocator> DoubleEndedIterator for Keys<'map, K, A> {
     ghost next_back_gives = { TakesLast deref };
 
     fn next_back(&mut self) -> Option<&'map K> {
-        let place = take_last(self.keys, &mut self.left)?;
-        Some(key_at(self.keys, place, &mut self.reads))
+        self.step(End::Back)
     }
 }
 

@@ -1,10 +1,12 @@
-//! The places of a list that a walk has left, and its steps from both ends. What a walk gives for a
+//! The places of a list that a walk has left, and its step from either end. What a walk gives for a
 //! place is the walk's own.
 ghost use Rattle.std.specs.Prelude.{◌≡◌, ℕ, List, IfSome};
-ghost use Rattle.std.specs.Map.Iter.{TakesFirst, TakesLast};
-ghost use Rattle.multimap_slots.specs.Lists.{IsIn, next_of, previous_of};
-ghost use Rattle.multimap_walks.specs.Along.{AreLeft, all_places, places_left};
+ghost use Rattle.multimap_slots.specs.Lists.{IsIn};
+ghost use Rattle.multimap_slots.specs.Slots.{IsSound};
+ghost use Rattle.multimap_walks.specs.Along.{AreLeft, all_places, neighbour_of, places_left};
+ghost use Rattle.multimap_walks.specs.Walk.{TakesEnd};
 
+use crate::End;
 use crate::links::ChainEnds;
 use multimap_slots::{SlotList, Tape};
 use std::alloc::Allocator;
@@ -13,25 +15,25 @@ use std::alloc::Allocator;
 pub trait Ordered {
     ghost order: { Self → List ℕ };
 
+    ghost is_sound: { Self → Type 0 };
+
     /// All its places.
     fn all(&self) -> ChainEnds
         ensures all { result ≡ all_places (order self.now) }
         ensures are_left { AreLeft (order self.now) result }
-        ensures whole { places_left (order self.now) result ≡ order self.now };
+        ensures whole { places_left (order self.now) result ≡ order self.now }
+        ensures sound { is_sound self.now };
 
-    /// The place behind one of the list.
-    fn behind(&self, place: usize) -> Option<usize>
+    /// The place that a step from an end reaches, from a place of the list.
+    fn neighbour(&self, end: End, place: usize) -> Option<usize>
         requires { IsIn place (order self.now) }
-        ensures { result ≡ next_of (order self.now) place };
-
-    /// The place before one of the list.
-    fn before(&self, place: usize) -> Option<usize>
-        requires { IsIn place (order self.now) }
-        ensures { result ≡ previous_of (order self.now) place };
+        ensures { result ≡ neighbour_of (order self.now) end place };
 }
 
 impl<T, L: Copy, A: Allocator> Ordered for SlotList<T, L, A> {
     ghost order = { λ s. s.order };
+
+    ghost is_sound = { IsSound };
 
     fn all(&self) -> ChainEnds {
         ChainEnds {
@@ -41,18 +43,20 @@ impl<T, L: Copy, A: Allocator> Ordered for SlotList<T, L, A> {
         }
     }
 
-    fn behind(&self, place: usize) -> Option<usize> {
-        self.next_listed_place(place)
-    }
-
-    fn before(&self, place: usize) -> Option<usize> {
-        self.previous_listed_place(place)
+    #[inline(always)]
+    fn neighbour(&self, end: End, place: usize) -> Option<usize> {
+        match end {
+            End::Front => self.next_listed_place(place),
+            End::Back => self.previous_listed_place(place),
+        }
     }
 }
 
 impl<T, L: Copy, A: Allocator> Ordered for Tape<T, L, A> {
     ghost order = { λ t. t.list.order };
 
+    ghost is_sound = { λ t. IsSound t.list };
+
     fn all(&self) -> ChainEnds {
         ChainEnds {
             first: self.front_place().unwrap_or(0),
@@ -61,47 +65,30 @@ impl<T, L: Copy, A: Allocator> Ordered for Tape<T, L, A> {
         }
     }
 
-    fn behind(&self, place: usize) -> Option<usize> {
-        self.next_listed_place(place)
-    }
-
-    fn before(&self, place: usize) -> Option<usize> {
-        self.previous_listed_place(place)
+    #[inline(always)]
+    fn neighbour(&self, end: End, place: usize) -> Option<usize> {
+        match end {
+            End::Front => self.next_listed_place(place),
+            End::Back => self.previous_listed_place(place),
+        }
     }
 }
 
-/// Takes the first of the places that are left of a list, or answers None where none is left. It
-/// asks the list for a neighbour only where one is left behind. The time is constant.
-pub fn take_first<O: Ordered>(list: &O, left: &mut ChainEnds) -> Option<usize>
+/// Takes the place at an end from those that are left of a list, or answers None where none is left.
+/// It asks the list for one neighbour. The time is constant.
+#[inline(always)]
+pub fn take<O: Ordered>(end: End, list: &O, left: &mut ChainEnds) -> Option<usize>
     requires { AreLeft (O.order list.now) left.old }
     ensures are_left { AreLeft (O.order list.now) left.new }
     ensures listed { IfSome result (λ place. IsIn place (O.order list.now)) }
-    ensures taken { TakesFirst (λ place. place) (places_left (O.order list.now) left.old)
+    ensures taken { TakesEnd end (λ place. place) (places_left (O.order list.now) left.old)
         result (places_left (O.order list.now) left.new) }
 {
     if left.length == 0 {
         return None;
     }
-    let place = left.first;
-    left.first = list.behind(place).unwrap_or(place);
-    left.length -= 1;
-    Some(place)
-}
-
-/// Takes the last of the places that are left of a list, or answers None where none is left. It
-/// asks the list for a neighbour only where one is left before. The time is constant.
-pub fn take_last<O: Ordered>(list: &O, left: &mut ChainEnds) -> Option<usize>
-    requires { AreLeft (O.order list.now) left.old }
-    ensures are_left { AreLeft (O.order list.now) left.new }
-    ensures listed { IfSome result (λ place. IsIn place (O.order list.now)) }
-    ensures taken { TakesLast (λ place. place) (places_left (O.order list.now) left.old)
-        result (places_left (O.order list.now) left.new) }
-{
-    if left.length == 0 {
-        return None;
-    }
-    let place = left.last;
-    left.last = list.before(place).unwrap_or(place);
-    left.length -= 1;
+    let place = left.place_at(end);
+    let neighbour = list.neighbour(end, place).unwrap_or(place);
+    *left = left.after(end, neighbour);
     Some(place)
 }

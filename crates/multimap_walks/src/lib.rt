@@ -16,7 +16,7 @@ mod writing;
 pub use chain::EntryValues;
 pub use key_values::KeyValues;
 pub use keys::Keys;
-pub use left::{Ordered, take_first, take_last};
+pub use left::{Ordered, take};
 pub use links::{ChainEnds, KeyLink, ValueLink};
 pub use pairs::Iter;
 pub use values::Values;

@@ -1,4 +1,8 @@
 //! The links that stand beside keys in their slot list and values on their tape.
+ghost use Rattle.std.specs.Prelude.{◌≡◌};
+ghost use Rattle.multimap_walks.specs.Ends.{end_place, ends_after, step_from};
+
+use crate::End;
 
 /// The link of a key: its hash, and where its values stand.
 #[derive(Debug, PartialEq, Eq, Clone, Copy)]
@@ -24,6 +28,19 @@ pub struct ValueLink {
     pub next: Option<usize>,
 }
 
+impl ValueLink {
+    /// The place that a step from an end reaches, if the value isn't the last one there.
+    #[inline(always)]
+    pub(crate) fn step_from(&self, end: End) -> Option<usize>
+        ensures { result ≡ step_from end self.now.next self.now.previous }
+    {
+        match end {
+            End::Front => self.next,
+            End::Back => self.previous,
+        }
+    }
+}
+
 /// Where a row of items stands that follow each other in order: values of one key that name each
 /// other, or what a walk along a list has left.
 #[derive(Clone, Copy)]
@@ -34,6 +51,40 @@ pub struct ChainEnds {
     pub last: usize,
     /// How many items there are.
     pub length: usize,
+}
+
+impl ChainEnds {
+    /// The place at an end.
+    #[inline(always)]
+    pub(crate) fn place_at(&self, end: End) -> usize
+        ensures { result ≡ end_place end self.now }
+    {
+        match end {
+            End::Front => self.first,
+            End::Back => self.last,
+        }
+    }
+
+    /// What is left once the place at an end has gone, where `place` is at that end then.
+    #[inline(always)]
+    pub(crate) fn after(&self, end: End, place: usize) -> ChainEnds
+        requires more { ¬ (self.now.length ≡ 0) }
+        ensures { result ≡ ends_after end self.now place }
+    {
+        let length = self.length - 1;
+        match end {
+            End::Front => ChainEnds {
+                first: place,
+                last: self.last,
+                length,
+            },
+            End::Back => ChainEnds {
+                first: self.first,
+                last: place,
+                length,
+            },
+        }
+    }
 }
 
 /// The ends of no items.

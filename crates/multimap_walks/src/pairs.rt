@@ -1,11 +1,12 @@
 //! The walk over all pairs.
-ghost use Rattle.std.specs.Prelude.{◌≡◌, length, Some, IfSome, ⊤};
-ghost use Rattle.std.specs.Iterator.{at_most, UpTo};
-ghost use Rattle.std.specs.Iterator.SizeHint.{IsWithinCount};
+ghost use Rattle.std.specs.Prelude.{◌≡◌, length, ⊤};
+ghost use Rattle.std.specs.Iterator.{at_most};
 ghost use Rattle.std.specs.Map.Iter.{TakesFirst, TakesLast, deref_pair};
 ghost use Rattle.multimap_walks.specs.Chained.{AreOwned, pairs_of};
+ghost use Rattle.multimap_walks.specs.Walk.{TakesEnd, TellsLength};
 
-use crate::left::{Ordered, take_first, take_last};
+use crate::End;
+use crate::left::{Ordered, take};
 use crate::links::{ChainEnds, KeyLink, ValueLink};
 use crate::show::show_left;
 use crate::slots::pair_of;
@@ -42,15 +43,23 @@ impl<'map, K, V, A: Allocator> Iter<'map, K, V, A> {
         requires { AreOwned keys.now values.now.list }
         ensures pairs { result ≡ pairs_of keys.now values.now.list }
     {
-        // The lengths tell the proof that both lists are sound.
+        // The length tells the proof that the list of keys is sound.
         let _keys = keys.len();
-        let _values = values.len();
         Iter {
             keys,
             values,
             left: values.all(),
             reads: Reads::new(),
         }
+    }
+
+    /// Takes the item at an end of what is left.
+    #[inline(always)]
+    fn step(&mut self, end: End) -> Option<(&'map K, &'map V)>
+        ensures { TakesEnd end deref_pair self.old result self.new }
+    {
+        let place = take(end, self.values, &mut self.left)?;
+        Some(pair_of(self.keys, self.values, place, &mut self.reads))
     }
 }
 
@@ -62,18 +71,12 @@ impl<'map, K, V, A: Allocator> Iterator for Iter<'map, K, V, A> {
     ghost remaining = { λ s. at_most (length s) };
 
     fn next(&mut self) -> Option<(&'map K, &'map V)> {
-        let place = take_first(self.values, &mut self.left)?;
-        Some(pair_of(self.keys, self.values, place, &mut self.reads))
+        self.step(End::Front)
     }
 
     #[tactic(auto, using(crate::proofs::AlongLemmas::length_along))]
     fn size_hint(&self) -> (usize, Option<usize>)
-        ensures lower { IsWithinCount result.0 (at_most (length self.now)) }
-        ensures upper { IfSome result.1 (UpTo (at_most (length self.now))) }
-
-        // Both numbers are that of the items left.
-        ensures least { result.0 ≡ length self.now }
-        ensures greatest { result.1 ≡ Some (length self.now) }
+        ensures { TellsLength result self.now }
     {
         (self.left.length, Some(self.left.length))
     }
@@ -83,8 +86,7 @@ impl<'map, K, V, A: Allocator> DoubleEndedIterator for Iter<'map, K, V, A> {
     ghost next_back_gives = { TakesLast deref_pair };
 
     fn next_back(&mut self) -> Option<(&'map K, &'map V)> {
-        let place = take_last(self.values, &mut self.left)?;
-        Some(pair_of(self.keys, self.values, place, &mut self.reads))
+        self.step(End::Back)
     }
 }
 

@@ -1,11 +1,12 @@
 //! The walk over the values of all pairs.
-ghost use Rattle.std.specs.Prelude.{◌≡◌, length, Some, IfSome, ⊤};
-ghost use Rattle.std.specs.Iterator.{at_most, UpTo};
-ghost use Rattle.std.specs.Iterator.SizeHint.{IsWithinCount};
+ghost use Rattle.std.specs.Prelude.{◌≡◌, length, ⊤};
+ghost use Rattle.std.specs.Iterator.{at_most};
 ghost use Rattle.std.specs.Map.Iter.{TakesFirst, TakesLast, deref};
 ghost use Rattle.multimap_walks.specs.Chained.{values_at};
+ghost use Rattle.multimap_walks.specs.Walk.{TakesEnd, TellsLength};
 
-use crate::left::{Ordered, take_first, take_last};
+use crate::End;
+use crate::left::{Ordered, take};
 use crate::links::{ChainEnds, ValueLink};
 use crate::show::show_left;
 use crate::slots::value_at;
@@ -41,14 +42,22 @@ impl<'map, K, V, A: Allocator> Values<'map, K, V, A> {
     pub fn new(values: &'map Tape<V, ValueLink, A>) -> Self
         ensures values { result ≡ values_at values.now.list values.now.list.order }
     {
-        // The length tells the proof that the list is sound.
-        let _values = values.len();
         Values {
             keys: PhantomData,
             values,
             left: values.all(),
             reads: Reads::new(),
         }
+    }
+
+    /// Takes the item at an end of what is left.
+    #[inline(always)]
+    fn step(&mut self, end: End) -> Option<&'map V>
+        ensures { TakesEnd end deref self.old result self.new }
+    {
+        let place = take(end, self.values, &mut self.left)?;
+        let (value, _) = value_at(self.values, place, &mut self.reads);
+        Some(value)
     }
 }
 
@@ -60,19 +69,12 @@ impl<'map, K, V, A: Allocator> Iterator for Values<'map, K, V, A> {
     ghost remaining = { λ s. at_most (length s) };
 
     fn next(&mut self) -> Option<&'map V> {
-        let place = take_first(self.values, &mut self.left)?;
-        let (value, _) = value_at(self.values, place, &mut self.reads);
-        Some(value)
+        self.step(End::Front)
     }
 
     #[tactic(auto, using(crate::proofs::AlongLemmas::length_along))]
     fn size_hint(&self) -> (usize, Option<usize>)
-        ensures lower { IsWithinCount result.0 (at_most (length self.now)) }
-        ensures upper { IfSome result.1 (UpTo (at_most (length self.now))) }
-
-        // Both numbers are that of the items left.
-        ensures least { result.0 ≡ length self.now }
-        ensures greatest { result.1 ≡ Some (length self.now) }
+        ensures { TellsLength result self.now }
     {
         (self.left.length, Some(self.left.length))
     }
@@ -82,9 +84,7 @@ impl<'map, K, V, A: Allocator> DoubleEndedIterator for Values<'map, K, V, A> {
     ghost next_back_gives = { TakesLast deref };
 
     fn next_back(&mut self) -> Option<&'map V> {
-        let place = take_last(self.values, &mut self.left)?;
-        let (value, _) = value_at(self.values, place, &mut self.reads);
-        Some(value)
+        self.step(End::Back)
     }
 }
 

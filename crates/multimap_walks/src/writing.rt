@@ -1,16 +1,18 @@
 //! Walks that lend values for writing, and the step of those along the order of a list.
-ghost use Rattle.std.specs.Prelude.{◌≡◌, ◌-◌, ◌+◌, ◌∷◌, ◌++◌, []};
-ghost use Rattle.std.specs.Map.Iter.{TakesFirst, TakesLast};
-ghost use Rattle.multimap_slots.specs.SlotCells.{lent_slots};
+ghost use Rattle.std.specs.Prelude.{◌≡◌, ◌+◌, IfSome};
+ghost use Rattle.multimap_slots.specs.SlotCells.{lent_slots, IsLeft};
 ghost use Rattle.multimap_slots.specs.Slots.{IsSound};
-ghost use Rattle.multimap_walks.specs.Along.{AreLeft, places_left};
+ghost use Rattle.multimap_walks.specs.Along.{AreLeft, neighbour_of, places_left};
+ghost use Rattle.multimap_walks.specs.Ends.{end_place};
 ghost use Rattle.multimap_walks.specs.Lending.{AllAreLeft, CanLend, HandsOutSlot, OneGoes};
+ghost use Rattle.multimap_walks.specs.Walk.{TakesEnd, with_end};
 
 pub(crate) mod chain;
 pub(crate) mod pairs;
 pub(crate) mod rest;
 pub(crate) mod values;
 
+use crate::End;
 use crate::links::{ChainEnds, ValueLink};
 use multimap_slots::SlotCells;
 use std::alloc::Allocator;
@@ -29,9 +31,29 @@ fn all_of<V, A: Allocator>(cells: &SlotCells<'_, V, ValueLink, A>) -> ChainEnds
     }
 }
 
-/// Where the places that are left begin once the first is taken. No place is asked for behind the
-/// last.
-fn first_behind<V, A: Allocator>(
+/// The place that a step from an end reaches, where the items of both places are left.
+#[inline(always)]
+fn neighbour<V, A: Allocator>(
+    end: End,
+    cells: &SlotCells<'_, V, ValueLink, A>,
+    place: usize,
+) -> Option<usize>
+    requires left { IsLeft cells.now place }
+    requires neighbour { IfSome (neighbour_of (lent_slots cells.now).order end place)
+        (IsLeft cells.now) }
+    ensures { result ≡ neighbour_of (lent_slots cells.now).order end place }
+{
+    match end {
+        End::Front => cells.next_place(place),
+        End::Back => cells.previous_place(place),
+    }
+}
+
+/// The places that are left once that at an end is taken. No place is asked for beyond the other
+/// end.
+#[inline(always)]
+fn rest_after<V, A: Allocator>(
+    end: End,
     cells: &SlotCells<'_, V, ValueLink, A>,
     left: ChainEnds,
 ) -> ChainEnds
@@ -39,47 +61,28 @@ fn first_behind<V, A: Allocator>(
     requires more { ¬ (left.length ≡ 0) }
     ensures are_left { AreLeft (lent_slots cells.now).order result }
     ensures taken { places_left (lent_slots cells.now).order left
-        ≡ left.first ∷ places_left (lent_slots cells.now).order result }
+        ≡ with_end end (end_place end left) (places_left (lent_slots cells.now).order result) }
     ensures count { left.length ≡ result.length + 1 }
 {
-    let mut rest = left;
-    rest.length -= 1;
-    if rest.length > 0 {
-        rest.first = cells.next_place(left.first).unwrap_or(left.first);
+    let place = left.place_at(end);
+    if left.length > 1 {
+        left.after(end, neighbour(end, cells, place).unwrap_or(place))
+    } else {
+        left.after(end, place)
     }
-    rest
 }
 
-/// Where the places that are left end once the last is taken. No place is asked for before the
-/// first.
-fn last_before<V, A: Allocator>(
-    cells: &SlotCells<'_, V, ValueLink, A>,
-    left: ChainEnds,
-) -> ChainEnds
-    requires can { CanLend cells.now left }
-    requires more { ¬ (left.length ≡ 0) }
-    ensures are_left { AreLeft (lent_slots cells.now).order result }
-    ensures taken { places_left (lent_slots cells.now).order left
-        ≡ places_left (lent_slots cells.now).order result ++ left.last ∷ [] }
-    ensures count { left.length ≡ result.length + 1 }
-{
-    let mut rest = left;
-    rest.length -= 1;
-    if rest.length > 0 {
-        rest.last = cells.previous_place(left.last).unwrap_or(left.last);
-    }
-    rest
-}
-
-/// Lends the first of the values that are left, with its link.
-fn lend_first<'map, V, A: Allocator>(
+/// Lends the value at an end of those that are left, with its link.
+#[inline(always)]
+fn lend<'map, V, A: Allocator>(
+    end: End,
     cells: &mut SlotCells<'map, V, ValueLink, A>,
     left: &mut ChainEnds,
 ) -> Option<(&'map mut V, ValueLink)>
     requires { CanLend cells.old left.old }
     ensures can { CanLend cells.new left.new }
-    ensures slot { HandsOutSlot cells.old left.old.first result cells.new }
-    ensures taken { TakesFirst (λ _. left.old.first)
+    ensures slot { HandsOutSlot cells.old (end_place end left.old) result cells.new }
+    ensures taken { TakesEnd end (λ _. end_place end left.old)
         (places_left (lent_slots cells.old).order left.old) result
         (places_left (lent_slots cells.old).order left.new) }
     ensures count { OneGoes left.old result left.new }
@@ -87,30 +90,8 @@ fn lend_first<'map, V, A: Allocator>(
     if left.length == 0 {
         return None;
     }
-    let place = left.first;
+    let place = left.place_at(end);
     let link = cells.link(place);
-    *left = first_behind(cells, *left);
-    Some((cells.take(place), link))
-}
-
-/// Lends the last of the values that are left, with its link.
-fn lend_last<'map, V, A: Allocator>(
-    cells: &mut SlotCells<'map, V, ValueLink, A>,
-    left: &mut ChainEnds,
-) -> Option<(&'map mut V, ValueLink)>
-    requires { CanLend cells.old left.old }
-    ensures can { CanLend cells.new left.new }
-    ensures slot { HandsOutSlot cells.old left.old.last result cells.new }
-    ensures taken { TakesLast (λ _. left.old.last)
-        (places_left (lent_slots cells.old).order left.old) result
-        (places_left (lent_slots cells.old).order left.new) }
-    ensures count { OneGoes left.old result left.new }
-{
-    if left.length == 0 {
-        return None;
-    }
-    let place = left.last;
-    let link = cells.link(place);
-    *left = last_before(cells, *left);
+    *left = rest_after(end, cells, *left);
     Some((cells.take(place), link))
 }

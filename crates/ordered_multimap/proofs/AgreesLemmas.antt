@@ -1,5 +1,6 @@
 -- What the agreement of key list, table and values says of the two lists.
-use Rattle.std.proofs.Common.{◌≡◌, ◌==◌, ℕ, ◌+◌, ◌<◌, ◌≤◌, min, Bool, true, false, List, [], ◌∷◌, length, Option, Some, None, IsSome, option_map, option_and_then, unwrap_or, refl, sym, ap, ◌∙◌, subst, inl, inr, true≢false, arith}
+use Rattle.std.proofs.Common.{◌≡◌, ◌==◌, ℕ, ◌+◌, ◌<◌, ◌≤◌, min, Bool, true, false, List, [], ◌∷◌, length, Option, Some, None, IsSome}
+use Rattle.std.proofs.Common.{option_map, option_and_then, unwrap_or, refl, sym, ap, ◌∙◌, subst, inl, inr, true≢false, arith}
 use Rattle.std.proofs.lemmas.Bool.{cases_eq, ne_eqb}
 use Rattle.std.specs.List.{filter_map, IsDistinct}
 use Rattle.std.specs.Map.{keys_of}
@@ -32,11 +33,13 @@ pub record PairAt {K V : Type 0} (keys : Slots K KeyLink) (values : Slots V Valu
   pub pair_is : pair_at keys values place ≡ Some (key, value)
 
 module _ {K V : Type 0} (keys : Slots K KeyLink) (values : Slots V ValueLink) where
-  pub pair_at-is : (place : ℕ) (l : ValueLink) (k : K) (v : V) → link_at values place ≡ Some l → item_at keys l.key ≡ Some k → item_at values place ≡ Some v
+  pub pair_at-is : (place : ℕ) (l : ValueLink) (k : K) (v : V) → link_at values place ≡ Some l → item_at keys l.key ≡ Some k
+      → item_at values place ≡ Some v
       → pair_at keys values place ≡ Some (k, v)
   pair_at-is place l k v link_is key_is value_is =
       let value_with : Option K → Option (K × V) = option_and_then (λ j. option_map (λ w. (j, w)) (item_at values place)) in
-      ap (λ o. value_with (option_and_then (λ m. item_at keys m.key) o)) link_is ∙ ap value_with key_is ∙ ap (option_map (λ w. (k, w))) value_is
+      ap (λ o. value_with (option_and_then (λ m. item_at keys m.key) o)) link_is ∙ ap value_with key_is
+      ∙ ap (option_map (λ w. (k, w))) value_is
 
   pub is_value_of-is : (key place : ℕ) (l : ValueLink) → link_at values place ≡ Some l → is_value_of values key place ≡ (l.key == key)
   is_value_of-is key place l link_is = ap (λ o. unwrap_or (option_map (λ m. m.key == key) o) false) link_is
@@ -65,7 +68,8 @@ module _ {K V : Type 0} (keys : Slots K KeyLink) (values : Slots V ValueLink) wh
         pair_is = pair_at-is place l.value k.value v.value l.is k.is v.is;
       }
 
-module _ {K V : Type 0} {eq : K → K → Bool} {hash : K → ℕ} {keys : Slots K KeyLink} {rows : FinMap nat_cmp ℕ} {values : Slots V ValueLink} (agrees : Agrees eq hash keys rows values) where
+module _ {K V : Type 0} {eq : K → K → Bool} {hash : K → ℕ} {keys : Slots K KeyLink} {rows : FinMap nat_cmp ℕ} {values : Slots V ValueLink}
+    (agrees : Agrees eq hash keys rows values) where
   pub pair_in : (place : ℕ) → IsIn place values.order → PairAt keys values place
   pair_in = pair_of keys values agrees.keys_sound agrees.values_sound agrees.chained
 
@@ -130,7 +134,9 @@ module _ {K V : Type 0} {eq : K → K → Bool} {hash : K → ℕ} {keys : Slots
         let own : p.link.key ≡ o.from = owner_of o.from h.0 p h.2 in
         let both : Some p.key ≡ Some k = sym p.key_is ∙ ap (item_at keys) own ∙ o.gives in
         let same : p.key ≡ k = cc in
-        subst (λ j. IsIn j (keys_of (pairs_of keys values))) same (pair_named p.key p.value (pairs_of keys values) (IsIn-filter_map (pair_at keys values) h.0 (p.key, p.value) values.order h.1 p.pair_is));
+        subst (λ j. IsIn j (keys_of (pairs_of keys values))) same
+        (pair_named p.key p.value (pairs_of keys values)
+        (IsIn-filter_map (pair_at keys values) h.0 (p.key, p.value) values.order h.1 p.pair_is));
   }
 
 -- empty slots and an empty table
@@ -171,7 +177,8 @@ module _ {K V : Type 0} (keys : Slots K KeyLink) (values : Slots V ValueLink) (n
       }
 
 -- and an empty tape that has moved nothing
-pub empty_map : {K V : Type 0} (eq : K → K → Bool) (hash : K → ℕ) (keys : Slots K KeyLink) (rows : FinMap nat_cmp ℕ) (values : Taped V ValueLink)
+pub empty_map : {K V : Type 0} (eq : K → K → Bool) (hash : K → ℕ) (keys : Slots K KeyLink) (rows : FinMap nat_cmp ℕ)
+    (values : Taped V ValueLink)
     → IsEmpty keys → IsEmpty values.list → rows ≡ empty → values.moved ≡ 0 → values.holes ≡ 0 → IsMap eq hash keys rows values
 empty_map eq hash keys rows values no_key no_value no_row moved holes = record {
   agrees = agrees_empty keys values.list no_key no_value eq hash rows no_row;

@@ -1,5 +1,6 @@
 -- After an append key list, table and values agree, and the two lists are the appended ones.
-use Rattle.std.proofs.Common.{◌≡◌, ◌≢◌, ℕ, ◌+◌, ◌<◌, Bool, true, false, cond, List, [], ◌∷◌, ◌++◌, length, Option, Some, None, refl, sym, ap, ◌∙◌, subst, inl, inr, is_some, arith, length-append, Result, Ok, Err, OnOk, OnErr}
+use Rattle.std.proofs.Common.{◌≡◌, ◌≢◌, ℕ, ◌+◌, ◌<◌, Bool, true, false, cond, List, [], ◌∷◌, ◌++◌, length, Option, Some, None, refl, sym}
+use Rattle.std.proofs.Common.{ap, ◌∙◌, subst, inl, inr, is_some, arith, length-append, Result, Ok, Err, OnOk, OnErr}
 use Rattle.std.proofs.lemmas.Bool.{cases_eq, eq-eqb, ne_eqb}
 use Rattle.std.proofs.lemmas.List.Elements.{filter_map-append}
 use Rattle.std.proofs.lemmas.Map.Keys.{IsDistinct-push}
@@ -22,7 +23,8 @@ use Rattle.ordered_multimap.proofs.PlaceLemmas.{held, IsIn-filter_map, filter_ma
 use Rattle.ordered_multimap.proofs.KeyLemmas.{is_listed-member, stored_key_only, stored_key_absent}
 use Rattle.ordered_multimap.proofs.AgreesLemmas.{is_value_of-is}
 use Rattle.ordered_multimap.proofs.ChainLemmas.{first_of-push}
-use Rattle.ordered_multimap.proofs.StepLemmas.{old_other, old_listed, new_listed, listed_cases, IsSound-push, IsSound-with_link, sets_link, sets_pushed, SetsKey}
+use Rattle.ordered_multimap.proofs.StepLemmas.{old_other, old_listed, new_listed, listed_cases, IsSound-push, IsSound-with_link, sets_link}
+use Rattle.ordered_multimap.proofs.StepLemmas.{sets_pushed, SetsKey}
 use Rattle.ordered_multimap.specs.Renames.{AreRenamed}
 use Rattle.ordered_multimap.specs.TapeNumbers.{TapeNumbers, TakesOut, ArePaid}
 use Rattle.ordered_multimap.proofs.AppendLemmas.{chained-append, pairs_of-append}
@@ -34,8 +36,10 @@ pub record Appends {K V : Type 0} (eq : K → K → Bool) (hash : K → ℕ) (ke
   pub agrees : Agrees eq hash keys_after rows_after values_after
   pub lists : lists_of keys_after values_after ≡ appended eq (lists_of keys values) key v
 
-module _ {K V : Type 0} {eq : K → K → Bool} (laws : IsEquivalence eq) {hash : K → ℕ} {keys : Slots K KeyLink} {rows : FinMap nat_cmp ℕ} {values : Slots V ValueLink}
-    (agrees : Agrees eq hash keys rows values) (key : K) (v : V) (place last n : ℕ) (values_after : Slots V ValueLink) (sound : IsSound values_after) where
+module _ {K V : Type 0} {eq : K → K → Bool} (laws : IsEquivalence eq) {hash : K
+    → ℕ} {keys : Slots K KeyLink} {rows : FinMap nat_cmp ℕ} {values : Slots V ValueLink}
+    (agrees : Agrees eq hash keys rows values) (key : K) (v : V) (place last n : ℕ) (values_after : Slots V ValueLink)
+    (sound : IsSound values_after) where
   -- one more value of a present key
   pub append_present : (l : KeyLink) (keys_after : Slots K KeyLink) → HasKey eq keys key place → link_at keys place ≡ Some l
       → PushesValue values values_after last v place (Some l.tail) → n ≡ l.length + 1
@@ -48,10 +52,14 @@ module _ {K V : Type 0} {eq : K → K → Bool} (laws : IsEquivalence eq) {hash 
       let ks : List K = items_of keys in
       let ps : List (K × V) = pairs_of keys values in
       let tail_is : Some l.tail ≡ last_of chain = sym (agrees.chained.tail place l has.listed link_is) in
-      let behind : PushesValue values values_after last v place (last_of chain) = subst (PushesValue values values_after last v place) tail_is pushes in
-      let sets : SetsKey keys after place has.stored link = sets_link keys place has.stored link has.listed has.item_is (agrees.keys_sound.linked place has.listed) in
-      let there : is_listed eq ks key ≡ true = is_listed-member laws key has.stored ks (IsIn-filter_map (item_at keys) place has.stored keys.order has.listed has.item_is) has.equal in
-      let own : stored_key eq ks key ≡ has.stored = stored_key_only laws key has.stored ks agrees.distinct (IsIn-filter_map (item_at keys) place has.stored keys.order has.listed has.item_is) has.equal in
+      let behind : PushesValue values values_after last v place (last_of chain) = subst
+      (PushesValue values values_after last v place) tail_is pushes in
+      let sets : SetsKey keys after place has.stored link = sets_link keys place has.stored link has.listed has.item_is
+      (agrees.keys_sound.linked place has.listed) in
+      let there : is_listed eq ks key ≡ true = is_listed-member laws key has.stored ks
+      (IsIn-filter_map (item_at keys) place has.stored keys.order has.listed has.item_is) has.equal in
+      let own : stored_key eq ks key ≡ has.stored = stored_key_only laws key has.stored ks agrees.distinct
+      (IsIn-filter_map (item_at keys) place has.stored keys.order has.listed has.item_is) has.equal in
       let all : Appends eq hash keys values key v after rows values_after = record {
         agrees = record {
           keys_sound = IsSound-with_link keys place link has.listed agrees.keys_sound;
@@ -64,7 +72,8 @@ module _ {K V : Type 0} {eq : K → K → Bool} (laws : IsEquivalence eq) {hash 
             | inl same ↦
                 let both : Some link ≡ Some m = sym sets.link_is ∙ ap (link_at after) (sym same) ∙ is in
                 let is_link : link ≡ m = cc in
-                ap (λ (x : KeyLink). x.hash) (sym is_link) ∙ agrees.hashed place k l has.listed (ap (item_at keys) (sym same) ∙ item) link_is
+                ap (λ (x : KeyLink). x.hash) (sym is_link)
+                ∙ agrees.hashed place k l has.listed (ap (item_at keys) (sym same) ∙ item) link_is
             | inr differs ↦ agrees.hashed p k m listed item (sym (sets.links p differs) ∙ is)
           ];
           in_table = λ p m listed is. elim (cases_eq p place) [
@@ -79,7 +88,8 @@ module _ {K V : Type 0} {eq : K → K → Bool} (laws : IsEquivalence eq) {hash 
         };
         lists =
             ap (λ pairs. lists ks pairs) (pairs_of-append agrees.keys_sound agrees.values_sound agrees.chained sets behind)
-            ∙ sym (ap (λ b. lists (cond b ks (ks ++ key ∷ [])) (ps ++ (stored_key eq ks key, v) ∷ [])) there ∙ ap (λ s. lists ks (ps ++ (s, v) ∷ [])) own);
+            ∙ sym (ap (λ b. lists (cond b ks (ks ++ key ∷ [])) (ps ++ (stored_key eq ks key, v) ∷ [])) there
+            ∙ ap (λ s. lists ks (ps ++ (s, v) ∷ [])) own);
       } in
       subst (λ s. Appends eq hash keys values key v s rows values_after) (sym sets_is) all
 
@@ -104,13 +114,16 @@ module _ {K V : Type 0} {eq : K → K → Bool} (laws : IsEquivalence eq) {hash 
       let ps : List (K × V) = pairs_of keys values in
       let none : chain ≡ [] = filter-none (is_value_of values place) values.order (λ q listed.
       let l = held (link_at values q) (agrees.values_sound.linked q listed) in
-      is_value_of-is keys values place q l.value l.is ∙ ne_eqb l.value.key place (old_other pushed l.value.key (agrees.chained.owned q l.value listed l.is))) in
-      let first : PushesValue values values_after last v place (last_of chain) = subst (PushesValue values values_after last v place) (sym (ap last_of none)) pushes in
+      is_value_of-is keys values place q l.value l.is
+      ∙ ne_eqb l.value.key place (old_other pushed l.value.key (agrees.chained.owned q l.value listed l.is))) in
+      let first : PushesValue values values_after last v place (last_of chain) = subst (PushesValue values values_after last v place)
+      (sym (ap last_of none)) pushes in
       let sets : SetsKey keys after place key link = sets_pushed keys keys_pushed place key unset link pushed in
       let items : items_of after ≡ ks ++ key ∷ [] =
       ap (filter_map (item_at keys_pushed)) pushed.order
       ∙ filter_map-append (item_at keys_pushed) keys.order (place ∷ [])
-      ∙ ap (λ js. js ++ filter_map (item_at keys_pushed) (place ∷ [])) (filter_map-agree (item_at keys_pushed) (item_at keys) keys.order (λ q i. pushed.others.items q (old_other pushed q i)))
+      ∙ ap (λ js. js ++ filter_map (item_at keys_pushed) (place ∷ []))
+      (filter_map-agree (item_at keys_pushed) (item_at keys) keys.order (λ q i. pushed.others.items q (old_other pushed q i)))
       ∙ ap (λ o. ks ++ cons_option o []) pushed.item_is in
       let inserted = λ (p : ℕ). get-insert nat_cmp_total rows place h p ∙ ap (λ b. cond b (Some h) (get rows p)) (unsigned_tied p place) in
       let at_place = λ (p : ℕ) (same : p ≡ place). inserted p ∙ ap (λ b. cond b (Some h) (get rows p)) (eq-eqb p place same) in
@@ -124,7 +137,8 @@ module _ {K V : Type 0} {eq : K → K → Bool} (laws : IsEquivalence eq) {hash 
               (ap (λ qs. first_of (qs ++ last ∷ [])) none) refl (one ∙ ap (λ qs. length qs + 1) (sym none));
           distinct = subst (IsDistinct eq) (sym items) (IsDistinct-push laws ks key agrees.distinct unlisted);
           hashed = λ p k m listed item is. elim (listed_cases pushed p listed) [
-            | inl before ↦ agrees.hashed p k m before (sym (pushed.others.items p (old_other pushed p before)) ∙ item) (sym (sets.links p (old_other pushed p before)) ∙ is)
+            | inl before ↦ agrees.hashed p k m before (sym (pushed.others.items p (old_other pushed p before)) ∙ item)
+                (sym (sets.links p (old_other pushed p before)) ∙ is)
             | inr here ↦
                 let both : Some link ≡ Some m = sym sets.link_is ∙ ap (link_at after) (sym here) ∙ is in
                 let is_link : link ≡ m = cc in
@@ -133,7 +147,8 @@ module _ {K V : Type 0} {eq : K → K → Bool} (laws : IsEquivalence eq) {hash 
                 ap (λ (x : KeyLink). x.hash) (sym is_link) ∙ hash_is ∙ ap hash is_key
           ];
           in_table = λ p m listed is. elim (listed_cases pushed p listed) [
-            | inl before ↦ elsewhere p (old_other pushed p before) ∙ agrees.in_table p m before (sym (sets.links p (old_other pushed p before)) ∙ is)
+            | inl before ↦ elsewhere p (old_other pushed p before)
+                ∙ agrees.in_table p m before (sym (sets.links p (old_other pushed p before)) ∙ is)
             | inr here ↦
                 let both : Some link ≡ Some m = sym sets.link_is ∙ ap (link_at after) (sym here) ∙ is in
                 let is_link : link ≡ m = cc in
@@ -151,7 +166,8 @@ module _ {K V : Type 0} {eq : K → K → Bool} (laws : IsEquivalence eq) {hash 
         };
         lists =
             (λ i. lists (items i) (pairs_of-append agrees.keys_sound agrees.values_sound agrees.chained sets first i))
-            ∙ sym (ap (λ b. lists (cond b ks (ks ++ key ∷ [])) (ps ++ (stored_key eq ks key, v) ∷ [])) unlisted ∙ ap (λ s. lists (ks ++ key ∷ []) (ps ++ (s, v) ∷ [])) own);
+            ∙ sym (ap (λ b. lists (cond b ks (ks ++ key ∷ [])) (ps ++ (stored_key eq ks key, v) ∷ [])) unlisted
+            ∙ ap (λ s. lists (ks ++ key ∷ []) (ps ++ (s, v) ∷ [])) own);
       } in
       subst (λ s. Appends eq hash keys values key v s rows_after values_after) (sym sets_is)
       (subst (λ r. Appends eq hash keys values key v after r values_after) (sym rows_is) all)
@@ -176,8 +192,10 @@ module _ {K V : Type 0} {keys : Slots K KeyLink} {values : Slots V ValueLink} (c
       omega (arith, count, short, ap length is, length-append values.order (last ∷ []))
 
 -- an append, from the slots before room was made
-module _ {K V : Type 0} {eq : K → K → Bool} (laws : IsEquivalence eq) {hash : K → ℕ} {keys : Slots K KeyLink} {rows : FinMap nat_cmp ℕ} {values : Slots V ValueLink}
-    (agrees : Agrees eq hash keys rows values) {keys_reserved : Slots K KeyLink} {reserved : Slots V ValueLink} (r : AreRenamed keys keys_reserved values reserved) where
+module _ {K V : Type 0} {eq : K → K → Bool} (laws : IsEquivalence eq) {hash : K
+    → ℕ} {keys : Slots K KeyLink} {rows : FinMap nat_cmp ℕ} {values : Slots V ValueLink}
+    (agrees : Agrees eq hash keys rows values) {keys_reserved : Slots K KeyLink} {reserved : Slots V ValueLink}
+    (r : AreRenamed keys keys_reserved values reserved) where
   -- with room
   pub agrees_reserved : Agrees eq hash keys_reserved rows reserved
   agrees_reserved = agrees-renamed r.name agrees r.renames
@@ -185,7 +203,8 @@ module _ {K V : Type 0} {eq : K → K → Bool} (laws : IsEquivalence eq) {hash 
   pub lists_reserved : lists_of keys_reserved reserved ≡ lists_of keys values
   lists_reserved = lists_of-renamed r.name agrees r.renames
 
-  pub present_step : (key : K) (v : V) (place : ℕ) {values_after : Slots V ValueLink} {keys_after : Slots K KeyLink} → HasKey eq keys key place
+  pub present_step : (key : K) (v : V) (place : ℕ) {values_after : Slots V ValueLink} {keys_after : Slots K KeyLink}
+      → HasKey eq keys key place
       → PushesBehind keys_reserved keys_after reserved values_after place v → Appends eq hash keys values key v keys_after rows values_after
   present_step key v place {values_after} {keys_after} has p =
       let there : HasKey eq keys_reserved key place = record {
@@ -194,7 +213,8 @@ module _ {K V : Type 0} {eq : K → K → Bool} (laws : IsEquivalence eq) {hash 
         item_is = r.renames.key_items place ∙ has.item_is;
         equal = has.equal;
       } in
-      let done = append_present laws agrees_reserved key v place p.last (p.link.length + 1) values_after p.sound p.link keys_after there p.link_is p.pushed refl p.keys_are in
+      let done = append_present laws agrees_reserved key v place p.last
+      (p.link.length + 1) values_after p.sound p.link keys_after there p.link_is p.pushed refl p.keys_are in
       record { agrees = done.agrees; lists = done.lists ∙ ap (λ m. appended eq m key v) lists_reserved }
 
   absent_step : (keys_pushed : Slots K KeyLink) (rows_reserved : FinMap nat_cmp ℕ) → rows_reserved ≡ rows
@@ -203,21 +223,28 @@ module _ {K V : Type 0} {eq : K → K → Bool} (laws : IsEquivalence eq) {hash 
       → PushesRow keys_reserved keys_pushed rows_reserved rows_after place key h → keys_pushed.capacity ≡ keys_reserved.capacity
       → PushesOnly keys_pushed keys_after reserved values_after place h v
       → Appends eq hash keys values key v keys_after rows_after values_after
-  absent_step keys_pushed rows_reserved same_rows key v place h {values_after} {keys_after} {rows_after} unlisted hash_is fits row same_room only =
-      let a : Agrees eq hash keys_reserved rows_reserved reserved = subst (λ m. Agrees eq hash keys_reserved m reserved) (sym same_rows) agrees_reserved in
+  absent_step keys_pushed rows_reserved same_rows key v place h {values_after} {keys_after} {rows_after} unlisted hash_is fits row same_room
+      only =
+      let a : Agrees eq hash keys_reserved rows_reserved reserved = subst (λ m. Agrees eq hash keys_reserved m reserved)
+      (sym same_rows) agrees_reserved in
       let done = append_absent laws a key v place only.last (0 + 1) values_after only.sound h row.link keys_pushed keys_after rows_after
-      (ap (λ m. is_listed eq m.keys key) lists_reserved ∙ unlisted) hash_is fits row.key_pushed same_room row.rows_are only.value_pushed refl only.keys_are in
+      (ap (λ m. is_listed eq m.keys key) lists_reserved ∙ unlisted) hash_is fits row.key_pushed same_room row.rows_are only.value_pushed
+      refl only.keys_are in
       record { agrees = done.agrees; lists = done.lists ∙ ap (λ m. appended eq m key v) lists_reserved }
 
 -- the table of reserved rows has listed places alone
-pub rows_listed : {K V : Type 0} {keys keys_reserved : Slots K KeyLink} {values reserved : Slots V ValueLink} {rows rows_reserved : FinMap nat_cmp ℕ}
-    → AreRenamed keys keys_reserved values reserved → rows_reserved ≡ rows → HasListedRows keys rows → HasListedRows keys_reserved rows_reserved
+pub rows_listed : {K V : Type 0} {keys keys_reserved : Slots K KeyLink} {values reserved : Slots V ValueLink} {rows rows_reserved : FinMap
+    nat_cmp ℕ}
+    → AreRenamed keys keys_reserved values reserved → rows_reserved ≡ rows → HasListedRows keys rows
+    → HasListedRows keys_reserved rows_reserved
 rows_listed r same_rows listed p h is = subst (IsIn p) (sym r.renames.key_order) (listed p h (ap (λ m. get m p) (sym same_rows) ∙ is))
 
 -- what either outcome of an append leaves
-module _ {K V : Type 0} {eq : K → K → Bool} (laws : IsEquivalence eq) {hash : K → ℕ} {keys : Slots K KeyLink} {rows : FinMap nat_cmp ℕ} {values : Slots V ValueLink}
+module _ {K V : Type 0} {eq : K → K → Bool} (laws : IsEquivalence eq) {hash : K
+    → ℕ} {keys : Slots K KeyLink} {rows : FinMap nat_cmp ℕ} {values : Slots V ValueLink}
     (agrees : Agrees eq hash keys rows values) (key : K) (v : V) (keys_after : Slots K KeyLink) (values_after : Slots V ValueLink) where
-  pub refused_lists : {X E : Type 0} (r : Result X E) → OnErr r (AreRenamed keys keys_after values values_after) → OnErr r (lists_of keys_after values_after ≡ lists_of keys values)
+  pub refused_lists : {X E : Type 0} (r : Result X E) → OnErr r (AreRenamed keys keys_after values values_after)
+      → OnErr r (lists_of keys_after values_after ≡ lists_of keys values)
   refused_lists (Ok x) renamed = renamed
   refused_lists (Err e) renamed = lists_reserved laws agrees renamed
 
@@ -233,7 +260,8 @@ module _ {K V : Type 0} {eq : K → K → Bool} (laws : IsEquivalence eq) {hash 
 
   -- of an absent key
   module _ (rows_after : FinMap nat_cmp ℕ) (h : ℕ) (unlisted : is_listed eq (items_of keys) key ≡ false) (hash_is : h ≡ hash key) where
-    pub first : AppendsFirst keys keys_after rows rows_after values values_after h key v → Appends eq hash keys values key v keys_after rows_after values_after
+    pub first : AppendsFirst keys keys_after rows rows_after values values_after h key v
+        → Appends eq hash keys values key v keys_after rows_after values_after
     first done =
         absent_step laws agrees done.renamed done.keys_pushed done.rows_reserved done.same_rows
         key v done.place h unlisted hash_is done.fits done.row done.same_room done.only
@@ -249,10 +277,13 @@ module _ {K V : Type 0} {eq : K → K → Bool} (laws : IsEquivalence eq) {hash 
     first_lists (Err e) done = done
 
 -- under each key that is equal to the one at the place
-pub behind_lists : {K V : Type 0} {eq : K → K → Bool} (laws : IsEquivalence eq) {hash : K → ℕ} {keys : Slots K KeyLink} {rows : FinMap nat_cmp ℕ} {values : Slots V ValueLink}
-    → Agrees eq hash keys rows values → (keys_after : Slots K KeyLink) (values_after : Slots V ValueLink) (v : V) (place : ℕ) {X E : Type 0} (r : Result X E) → OnOk r (AppendsBehind keys keys_after values values_after place v)
+pub behind_lists : {K V : Type 0} {eq : K → K → Bool}
+    (laws : IsEquivalence eq) {hash : K → ℕ} {keys : Slots K KeyLink} {rows : FinMap nat_cmp ℕ} {values : Slots V ValueLink}
+    → Agrees eq hash keys rows values → (keys_after : Slots K KeyLink) (values_after : Slots V ValueLink) (v : V) (place : ℕ) {X E : Type 0}
+    (r : Result X E) → OnOk r (AppendsBehind keys keys_after values values_after place v)
     → OnOk r ((k : K) → HasKey eq keys k place → lists_of keys_after values_after ≡ appended eq (lists_of keys values) k v)
-behind_lists laws agrees keys_after values_after v place (Ok x) done = λ k has. (present_step laws agrees done.renamed k v place has done.pushed).lists
+behind_lists laws agrees keys_after values_after v place (Ok x) done = λ k has.
+    (present_step laws agrees done.renamed k v place has done.pushed).lists
 behind_lists laws agrees keys_after values_after v place (Err e) done = done
 
 -- the moves stay paid, however many pairs were taken out

@@ -8,7 +8,11 @@ use Rattle.ordered_multimap.proofs.PlaceLemmas.{ends}
 
 pub cases_some : (o : Option ℕ) (q : ℕ) → (o ≡ Some q) ⊎ (o ≢ Some q)
 cases_some None q = inr (λ e. cc)
-cases_some (Some p) q = elim (cases_eq p q) [ inl same ↦ inl (ap Some same) | inr differs ↦ inr (λ e. differs (let same : p ≡ q = cc in same)) ]
+cases_some (Some p) q = elim (cases_eq p q) [
+  | inl same ↦ inl (ap Some same)
+  | inr differs ↦ inr
+      (λ e. differs (let same : p ≡ q = cc in same))
+]
 
 pub last_or-push : {X : Type 0} (o : Option X) (xs : List X) (x : X) → last_or o (xs ++ x ∷ []) ≡ Some x
 last_or-push o [] x = refl

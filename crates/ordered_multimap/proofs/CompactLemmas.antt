@@ -1,5 +1,6 @@
 -- The values settle at the lowest places, one after the other, and renamings in a row are one renaming.
-use Rattle.std.proofs.Common.{◌≡◌, ℕ, zero, suc, ◌<◌, ◌≤◌, List, [], ◌∷◌, ◌++◌, map, length, Option, Some, None, option_map, refl, sym, ap, ◌∙◌, subst, inl, inr, arith, length-append, append_assoc}
+use Rattle.std.proofs.Common.{◌≡◌, ℕ, zero, suc, ◌<◌, ◌≤◌, List, [], ◌∷◌, ◌++◌, map, length, Option, Some, None, option_map, refl, sym, ap}
+use Rattle.std.proofs.Common.{◌∙◌, subst, inl, inr, arith, length-append, append_assoc}
 use Rattle.std.proofs.lemmas.List.{length-map, map-append, append-nil}
 use Rattle.multimap_slots.specs.Lists.{IsIn, Rises, first_of, next_of, end_of}
 use Rattle.multimap_slots.specs.Slots.{Slots, IsSound, KeepsItems}
@@ -56,7 +57,8 @@ pub record Next (order : List ℕ) (n : ℕ) (following : Option ℕ) : Type 0 w
 pub settled-start : (order : List ℕ) (following : Option ℕ) → following ≡ first_of order → AreSettled order 0 following
 settled-start order following e = record { rest = order; parts = refl; following_is = e }
 
-pub settled-next : (order : List ℕ) (n : ℕ) (following : Option ℕ) → AreSettled order n following → n < length order → Rises order → Next order n following
+pub settled-next : (order : List ℕ) (n : ℕ) (following : Option ℕ) → AreSettled order n following → n < length order → Rises order
+    → Next order n following
 settled-next order n following s more rises = go s.rest s.parts s.following_is
   where
     at_least : (m from : ℕ) → ((q : ℕ) → IsIn q (places_below m) → q < from) → m ≤ from
@@ -100,7 +102,8 @@ module _ (order : List ℕ) (n : ℕ) (following : Option ℕ) (x : Next order n
   pub settled-move : (now : List ℕ) → now ≡ map (renamed x.from n) order → (f : Option ℕ) → f ≡ next_of now n → AreSettled now (suc n) f
   settled-move now is =
       settled now (is ∙ ap (map (renamed x.from n)) x.parts ∙ map-append (renamed x.from n) (places_below n) (x.from ∷ x.rest)
-      ∙ (λ i. renamed-none x.from n (places_below n) (λ j. omega (arith, x.low x.from j)) i ++ renamed-from x.from n x.from refl i ∷ renamed-none x.from n x.rest (λ j. omega (arith, x.high x.from j)) i))
+      ∙ (λ i. renamed-none x.from n (places_below n) (λ j. omega (arith, x.low x.from j)) i
+      ++ renamed-from x.from n x.from refl i ∷ renamed-none x.from n x.rest (λ j. omega (arith, x.high x.from j)) i))
 
 -- at the end the items stand without a hole
 pub settled-end : (order : List ℕ) (n : ℕ) (f : Option ℕ) → AreSettled order n f → length order ≡ n → end_of order ≡ n
@@ -123,8 +126,10 @@ settled-all order n f s count = go s.rest s.parts
     go (p ∷ ps) parts = absurd (omega (arith, count, ap length parts, length-append (places_below n) (p ∷ ps), length-below n))
 
 -- no place has another name, and only the capacities differ
-pub renamed-room : {K V : Type 0} (keys keys_after : Slots K KeyLink) (values values_after : Slots V ValueLink) → IsSound keys → IsSound values
-    → KeepsItems keys keys_after → KeepsItems values values_after → keys.capacity ≤ keys_after.capacity → values.capacity ≤ values_after.capacity
+pub renamed-room : {K V : Type 0} (keys keys_after : Slots K KeyLink) (values values_after : Slots V ValueLink) → IsSound keys
+    → IsSound values
+    → KeepsItems keys keys_after → KeepsItems values values_after → keys.capacity ≤ keys_after.capacity
+    → values.capacity ≤ values_after.capacity
     → AreRenamed keys keys_after values values_after
 renamed-room {K} {V} keys keys_after values values_after keys_sound values_sound same_keys same_values key_room value_room =
     let k : Slots K KeyLink = record keys { capacity = keys_after.capacity } in
@@ -142,7 +147,8 @@ renamed-room {K} {V} keys keys_after values values_after keys_sound values_sound
     } in
     record {
       name = λ p. p;
-      renames = subst (λ s. Renames (λ p. p) keys s values values_after) (sym same_keys) (subst (λ s. Renames (λ p. p) keys k values s) (sym same_values) base);
+      renames = subst (λ s. Renames (λ p. p) keys s values values_after) (sym same_keys)
+          (subst (λ s. Renames (λ p. p) keys k values s) (sym same_values) base);
     }
   where
     same_map : (ps : List ℕ) → map (λ p. p) ps ≡ ps
@@ -154,8 +160,10 @@ renamed-room {K} {V} keys keys_after values values_after keys_sound values_sound
     same_option (Some p) = refl
 
 -- one renaming after the other
-pub renames-then : {K V : Type 0} (f g : ℕ → ℕ) {keys keys_mid keys_end : Slots K KeyLink} {values values_mid values_end : Slots V ValueLink}
-    → Renames f keys keys_mid values values_mid → Renames g keys_mid keys_end values_mid values_end → Renames (λ p. g (f p)) keys keys_end values values_end
+pub renames-then : {K V : Type 0} (f g : ℕ → ℕ) {keys keys_mid keys_end : Slots K KeyLink} {values values_mid values_end : Slots V
+    ValueLink}
+    → Renames f keys keys_mid values values_mid → Renames g keys_mid keys_end values_mid values_end
+    → Renames (λ p. g (f p)) keys keys_end values values_end
 renames-then f g {keys} {keys_mid} {keys_end} {values} {values_mid} {values_end} a b = record {
   apart = λ p q i j e. a.apart p q i j (b.apart (f p) (f q) (there p i) (there q j) e);
   key_order = b.key_order ∙ a.key_order;
@@ -210,10 +218,13 @@ renames-cut f {keys} {keys_after} {values} mid end a cut = record {
     there q i = subst (IsIn (f q)) (sym a.order) (in_map q values.order i)
 
 -- no place has another name where the tape only grew, or not even that
-pub grown_places : {K V : Type 0} {keys : Slots K KeyLink} {values values_after : Taped V ValueLink} → IsSound keys → IsSound values.list → KeepsTape values values_after
+pub grown_places : {K V : Type 0} {keys : Slots K KeyLink} {values values_after : Taped V ValueLink} → IsSound keys → IsSound values.list
+    → KeepsTape values values_after
     → values.list.capacity ≤ values_after.list.capacity → AreRenamed keys keys values.list values_after.list
 grown_places {keys = keys} {values} {values_after} keys_sound values_sound same room =
     renamed-room keys keys values.list values_after.list keys_sound values_sound refl (ap (λ t. t.list) same) (omega arith) room
 
-pub same_places : {K V : Type 0} {keys : Slots K KeyLink} {values : Slots V ValueLink} → IsSound keys → IsSound values → AreRenamed keys keys values values
-same_places {keys = keys} {values} keys_sound values_sound = renamed-room keys keys values values keys_sound values_sound refl refl (omega arith) (omega arith)
+pub same_places : {K V : Type 0} {keys : Slots K KeyLink} {values : Slots V ValueLink} → IsSound keys → IsSound values
+    → AreRenamed keys keys values values
+same_places {keys = keys} {values} keys_sound values_sound = renamed-room keys keys values values keys_sound values_sound refl refl
+    (omega arith) (omega arith)

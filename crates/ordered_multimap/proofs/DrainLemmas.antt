@@ -1,6 +1,7 @@
 -- What a drain has left, and what its steps leave of the slots.
 use Rattle.std.proofs.lemmas.List.{append-nil}
-use Rattle.std.proofs.Common.{◌≡◌, ◌≢◌, ℕ, zero, suc, ◌+◌, Bool, true, List, [], ◌∷◌, ◌++◌, length, map, reverse, Option, Some, None, IsSome, option_map, unwrap_or, refl, sym, ap, ◌∙◌, subst, arith}
+use Rattle.std.proofs.Common.{◌≡◌, ◌≢◌, ℕ, zero, suc, ◌+◌, Bool, true, List, [], ◌∷◌, ◌++◌, length, map, reverse, Option, Some, None}
+use Rattle.std.proofs.Common.{IsSome, option_map, unwrap_or, refl, sym, ap, ◌∙◌, subst, arith}
 use Rattle.std.specs.Prelude.{IfSome}
 use Rattle.std.proofs.Math.Logic.{∥∥₁_elim}
 use Rattle.std.specs.Ordering.{nat_cmp}
@@ -66,11 +67,14 @@ module _ {V : Type 0} (values : Slots V ValueLink) where
     there = d.there;
   }
 
-  pub places_of-chain : (ends : ChainEnds) (chain : IsDetachedChain values ends.first ends.last ends.length) → drained_places values ends ≡ chain.places
-  places_of-chain ends chain = path-is (IsDetached values) (next_place values) (previous_place values) ends.first ends.last ends.length chain
+  pub places_of-chain : (ends : ChainEnds) (chain : IsDetachedChain values ends.first ends.last ends.length)
+      → drained_places values ends ≡ chain.places
+  places_of-chain ends chain = path-is (IsDetached values) (next_place values)
+      (previous_place values) ends.first ends.last ends.length chain
 
   -- a chain at places of their own
-  pub drained-chain : (ends : ChainEnds) (chain : IsDetachedChain values ends.first ends.last ends.length) → AreDistinct chain.places → IsDrained values ends
+  pub drained-chain : (ends : ChainEnds) (chain : IsDetachedChain values ends.first ends.last ends.length) → AreDistinct chain.places
+      → IsDrained values ends
   drained-chain ends chain distinct =
       let same = sym (places_of-chain ends chain) in
       record {
@@ -96,7 +100,8 @@ module _ {V : Type 0} {values : Slots V ValueLink} (values_after : Slots V Value
       let chain = chain_of-drained values ends d in
       record {
         places = drained_places values ends;
-        onward = Leads-agree (next_place values) (next_place values_after) (drained_places values ends) (λ p member. rw (links p member) refl) d.onward;
+        onward = Leads-agree (next_place values) (next_place values_after) (drained_places values ends)
+            (λ p member. rw (links p member) refl) d.onward;
         backward = Leads-agree (previous_place values) (previous_place values_after) (reverse (drained_places values ends))
             (λ p member. rw (links p (IsIn-reverse p (drained_places values ends) member)) refl) d.backward;
         first = chain.first;
@@ -114,10 +119,12 @@ module _ {V : Type 0} {values : Slots V ValueLink} (values_after : Slots V Value
   places-kept = places_of-chain values_after ends chain_kept
 
   pub left-kept : drained values_after ends ≡ drained values ends
-  left-kept = ap (values_at values_after) places-kept ∙ filter_map-agree (item_at values_after) (item_at values) (drained_places values ends) items
+  left-kept = ap (values_at values_after) places-kept
+      ∙ filter_map-agree (item_at values_after) (item_at values) (drained_places values ends) items
 
 -- a step at either end
-module _ {V : Type 0} {values : Slots V ValueLink} (ends : ChainEnds) (some : ∥ IsDrained values ends ∥₁) (n : ℕ) (more : ends.length ≡ n + 1) where
+module _ {V : Type 0} {values : Slots V ValueLink} (ends : ChainEnds) (some : ∥ IsDrained values ends ∥₁) (n : ℕ)
+    (more : ends.length ≡ n + 1) where
   d : IsDrained values ends
   d = drains values ends some
 
@@ -136,7 +143,8 @@ module _ {V : Type 0} {values : Slots V ValueLink} (ends : ChainEnds) (some : �
 
     places_are : drained_places values ends ≡ ends.first ∷ drained_places values behind_ends
     unfolding behind_ends
-    places_are = front_taken (IsDetached values) (next_place values) (previous_place values) ends.first ends.last ends.length n more chain behind
+    places_are = front_taken (IsDetached values) (next_place values)
+        (previous_place values) ends.first ends.last ends.length n more chain behind
         (told ∙ rw link_is refl)
 
     split : AreDistinct (ends.first ∷ drained_places values behind_ends)
@@ -154,14 +162,16 @@ module _ {V : Type 0} {values : Slots V ValueLink} (ends : ChainEnds) (some : �
     module _ {values_after : Slots V ValueLink} {v : V} (takes : TakesDetached values values_after ends.first v) where
       pub first_rest : IsDrained values_after (record { first = behind; last = ends.last; length = n })
       unfolding behind_ends
-      first_rest = drained-kept values_after behind_ends rest (λ p member listed. (rest.there p member).not_listed (subst (IsIn p) takes.order listed))
+      first_rest = drained-kept values_after behind_ends rest
+          (λ p member listed. (rest.there p member).not_listed (subst (IsIn p) takes.order listed))
           (λ p member. takes.others.items p (elsewhere p member)) (λ p member. takes.others.links p (elsewhere p member))
 
       pub first_given : drained values ends ≡ v ∷ drained values_after (record { first = behind; last = ends.last; length = n })
       unfolding behind_ends
       first_given =
           shown_first (item_at values) (drained_places values ends) ends.first (drained_places values behind_ends) v places_are takes.had
-          ∙ ap (λ vs. v ∷ vs) (sym (left-kept values_after behind_ends rest (λ p member listed. (rest.there p member).not_listed (subst (IsIn p) takes.order listed))
+          ∙ ap (λ vs. v ∷ vs) (sym (left-kept values_after behind_ends rest
+          (λ p member listed. (rest.there p member).not_listed (subst (IsIn p) takes.order listed))
           (λ p member. takes.others.items p (elsewhere p member)) (λ p member. takes.others.links p (elsewhere p member))))
 
   module _ (l : ValueLink) (before : ℕ) (link_is : link_at values ends.last ≡ Some l) (told : before ≡ unwrap_or l.previous ends.last) where
@@ -170,7 +180,8 @@ module _ {V : Type 0} {values : Slots V ValueLink} (ends : ChainEnds) (some : �
 
     places_end : drained_places values ends ≡ drained_places values before_ends ++ ends.last ∷ []
     unfolding before_ends
-    places_end = back_taken (IsDetached values) (next_place values) (previous_place values) ends.first ends.last ends.length n more chain before
+    places_end = back_taken (IsDetached values) (next_place values)
+        (previous_place values) ends.first ends.last ends.length n more chain before
         (told ∙ rw link_is refl)
 
     whole : AreDistinct (drained_places values before_ends ++ ends.last ∷ [])
@@ -181,7 +192,8 @@ module _ {V : Type 0} {values : Slots V ValueLink} (ends : ChainEnds) (some : �
     front =
         let c = chain_before values true ends.first ends.last ends.length n more chain before l link_is told in
         drained-chain values before_ends c (subst AreDistinct (places_of-chain values before_ends c)
-        (subst AreDistinct (append-nil (drained_places values before_ends)) (AreDistinct-remove (drained_places values before_ends) ends.last [] whole)))
+        (subst AreDistinct (append-nil (drained_places values before_ends))
+        (AreDistinct-remove (drained_places values before_ends) ends.last [] whole)))
 
     apart : (p : ℕ) → IsIn p (drained_places values before_ends) → p ≢ ends.last
     apart p member same = AreDistinct-gone (drained_places values before_ends) ends.last [] whole
@@ -190,14 +202,16 @@ module _ {V : Type 0} {values : Slots V ValueLink} (ends : ChainEnds) (some : �
     module _ {values_after : Slots V ValueLink} {v : V} (takes : TakesDetached values values_after ends.last v) where
       pub last_rest : IsDrained values_after (record { first = ends.first; last = before; length = n })
       unfolding before_ends
-      last_rest = drained-kept values_after before_ends front (λ p member listed. (front.there p member).not_listed (subst (IsIn p) takes.order listed))
+      last_rest = drained-kept values_after before_ends front
+          (λ p member listed. (front.there p member).not_listed (subst (IsIn p) takes.order listed))
           (λ p member. takes.others.items p (apart p member)) (λ p member. takes.others.links p (apart p member))
 
       pub last_given : drained values ends ≡ drained values_after (record { first = ends.first; last = before; length = n }) ++ v ∷ []
       unfolding before_ends
       last_given =
           shown_last (item_at values) (drained_places values ends) ends.last (drained_places values before_ends) v places_end takes.had
-          ∙ ap (λ vs. vs ++ v ∷ []) (sym (left-kept values_after before_ends front (λ p member listed. (front.there p member).not_listed (subst (IsIn p) takes.order listed))
+          ∙ ap (λ vs. vs ++ v ∷ []) (sym (left-kept values_after before_ends front
+          (λ p member listed. (front.there p member).not_listed (subst (IsIn p) takes.order listed))
           (λ p member. takes.others.items p (apart p member)) (λ p member. takes.others.links p (apart p member))))
 
 -- nothing was taken
@@ -206,19 +220,22 @@ module _ {V : Type 0} {values : Slots V ValueLink} where
   keeps_all = record { order = refl; items = λ q listed. refl; links = λ q listed. refl }
 
   -- the same number of places
-  pub drained-length : (first last n m : ℕ) → n ≡ m → IsDrained values (record { first = first; last = last; length = n }) → IsDrained values (record { first = first; last = last; length = m })
+  pub drained-length : (first last n m : ℕ) → n ≡ m → IsDrained values (record { first = first; last = last; length = n })
+      → IsDrained values (record { first = first; last = last; length = m })
   drained-length first last n m same drain = subst (λ k. IsDrained values (record { first = first; last = last; length = k })) same drain
 
 -- what only takes detached values keeps the list
 module _ {V : Type 0} {values values_after : Slots V ValueLink} where
-  pub keeps_slots : (sound : IsSound values) {place : ℕ} {v : V} → IsDetached values place → TakesDetached values values_after place v → KeepsSlots values values_after
+  pub keeps_slots : (sound : IsSound values) {place : ℕ} {v : V} → IsDetached values place → TakesDetached values values_after place v
+      → KeepsSlots values values_after
   keeps_slots sound {place} detached takes = record {
     order = takes.order;
     items = λ q listed. takes.others.items q (λ same. detached.not_listed (subst (λ x. IsIn x values.order) same listed));
     links = λ q listed. takes.others.links q (λ same. detached.not_listed (subst (λ x. IsIn x values.order) same listed));
   }
 
-  pub keeps_more : {values_last : Slots V ValueLink} → KeepsSlots values values_after → KeepsSlots values_after values_last → KeepsSlots values values_last
+  pub keeps_more : {values_last : Slots V ValueLink} → KeepsSlots values values_after → KeepsSlots values_after values_last
+      → KeepsSlots values values_last
   keeps_more first then = record {
     order = then.order ∙ first.order;
     items = λ q listed. then.items q (subst (IsIn q) (sym first.order) listed) ∙ first.items q listed;
@@ -226,8 +243,10 @@ module _ {V : Type 0} {values values_after : Slots V ValueLink} where
   }
 
 -- the same name for each place
-module _ {K V : Type 0} {eq : K → K → Bool} {hash : K → ℕ} {keys : Slots K KeyLink} {rows : FinMap nat_cmp ℕ} {values values_after : Slots V ValueLink}
-    (agrees : Agrees eq hash keys rows values) (keeps : KeepsSlots values values_after) (room : values_after.capacity ≡ values.capacity) where
+module _ {K V : Type 0} {eq : K → K → Bool} {hash : K
+    → ℕ} {keys : Slots K KeyLink} {rows : FinMap nat_cmp ℕ} {values values_after : Slots V ValueLink}
+    (agrees : Agrees eq hash keys rows values) (keeps : KeepsSlots values values_after)
+    (room : values_after.capacity ≡ values.capacity) where
   same_option : (o : Option ℕ) → o ≡ option_map (λ p. p) o
   same_option None = refl
   same_option (Some p) = refl
@@ -245,7 +264,8 @@ module _ {K V : Type 0} {eq : K → K → Bool} {hash : K → ℕ} {keys : Slots
     key_room = agrees.keys_sound.fits;
     order = keeps.order ∙ map-same values.order;
     items = λ q listed. keeps.items q listed;
-    links = λ q l listed is. keeps.links q listed ∙ is ∙ (λ i. Some (record l { previous = same_option l.previous i; next = same_option l.next i }));
+    links = λ q l listed is. keeps.links q listed ∙ is
+        ∙ (λ i. Some (record l { previous = same_option l.previous i; next = same_option l.next i }));
     room = omega (arith, agrees.values_sound.fits, room);
   }
 

@@ -1,5 +1,6 @@
 -- Pairs that are dropped, and walks that take each item once.
-use Rattle.std.proofs.Common.{◌≡◌, Bool, true, false, cond, List, [], ◌∷◌, ◌++◌, map, filter, length, length-append, Option, Some, refl, sym, ap, subst, arith}
+use Rattle.std.proofs.Common.{◌≡◌, Bool, true, false, cond, List, [], ◌∷◌, ◌++◌, map, filter, length, length-append, Option, Some, refl}
+use Rattle.std.proofs.Common.{sym, ap, subst, arith}
 use Rattle.std.specs.List.Sorted.{IsPermutation}
 use Rattle.std.proofs.lemmas.List.Sorted.{IsPermutation-refl, IsPermutation-cons, IsPermutation-to_front, IsPermutation-trans}
 use Rattle.std.proofs.lemmas.List.{map-append}
@@ -21,11 +22,13 @@ pushed x [] = record { front = []; last = x; is = refl }
 pushed x (y ∷ xs) = let rest = pushed y xs in record { front = x ∷ rest.front; last = rest.last; is = ap (λ ys. x ∷ ys) rest.is }
 
 -- each item once, whatever the order of the ends
-pub walk_takes_all : {X : Type 0} (items : List X) (word : List End) → length word ≡ length items → IsPermutation (map (λ x. Some x) items) (answers_of_walk items word)
+pub walk_takes_all : {X : Type 0} (items : List X) (word : List End) → length word ≡ length items
+    → IsPermutation (map (λ x. Some x) items) (answers_of_walk items word)
 walk_takes_all [] [] e = IsPermutation-refl []
 walk_takes_all (x ∷ items) [] e = absurd (omega (arith, e))
 walk_takes_all [] (end ∷ word) e = absurd (omega (arith, e))
-walk_takes_all (x ∷ items) (Front ∷ word) e = IsPermutation-cons (Some x) (map (λ y. Some y) items) (answers_of_walk items word) (walk_takes_all items word (omega (arith, e)))
+walk_takes_all (x ∷ items) (Front ∷ word) e = IsPermutation-cons (Some x) (map (λ y. Some y) items) (answers_of_walk items word)
+    (walk_takes_all items word (omega (arith, e)))
 walk_takes_all {X} (x ∷ items) (Back ∷ word) e =
     let p = pushed x items in
     let some : List X → List (Option X) = map (λ y. Some y) in

@@ -11,8 +11,10 @@ use Rattle.ordered_multimap.specs.Writes.{with_first}
 use Rattle.ordered_multimap.specs.declared.list_ordered_multimap.entry.OccupiedEntry.{OccupiedEntry}
 
 -- that its place is listed has one proof at most
-pub same_written : {K V S A H : Type 0} {e : equality.Ghosts K} {k : hash.Ghosts K} {b : builder.Ghosts S H} {h : hasher.Ghosts H} (o : OccupiedEntry K V S A H e k b h) (v : V)
-    (p : among o.map.now.slots.keys.order o.place ≡ true) → record { map = record o.map { now = with_first o.map.now o.place v }; place = o.place; listed = p } ≡ with_first_written o v
+pub same_written : {K V S A H : Type 0} {e : equality.Ghosts K} {k : hash.Ghosts K} {b : builder.Ghosts S H} {h : hasher.Ghosts H}
+    (o : OccupiedEntry K V S A H e k b h) (v : V)
+    (p : among o.map.now.slots.keys.order o.place ≡ true)
+    → record { map = record o.map { now = with_first o.map.now o.place v }; place = o.place; listed = p } ≡ with_first_written o v
 same_written o v p =
     let one : IsProp (among o.map.now.slots.keys.order o.place ≡ true) = Prim.hlevel props in
     ap (λ l. record (with_first_written o v) { listed = l }) (one p o.listed)

@@ -1,12 +1,15 @@
 -- Pairs that are appended in turn.
-use Rattle.std.proofs.Common.{◌≡◌, ◌≤◌, ◌+◌, ◌*◌, ℕ, Bool, true, false, cond, List, [], ◌∷◌, ◌++◌, length, length-append, refl, ap, arith, ◌∙◌, inl, inr}
+use Rattle.std.proofs.Common.{◌≡◌, ◌≤◌, ◌+◌, ◌*◌, ℕ, Bool, true, false, cond, List, [], ◌∷◌, ◌++◌, length, length-append, refl, ap, arith}
+use Rattle.std.proofs.Common.{◌∙◌, inl, inr}
 use Rattle.std.proofs.lemmas.Bool.{cases_lt}
 use Rattle.multimap_slots.specs.Slots.{DoublesIfGrown}
 use Rattle.ordered_multimap.specs.Lists.{Lists}
 use Rattle.ordered_multimap.specs.Changes.{appended, all_appended}
+use Rattle.ordered_multimap.specs.Extends.{GrowsForPairs}
 use Rattle.ordered_multimap.specs.Keys.{is_listed, keys_with, stored_key}
 use Rattle.ordered_multimap.specs.Multimap.{Multimap}
-use Rattle.ordered_multimap.specs.Rooms.{DoublesRooms, HasKeyRoom, HasPairRoom, HasRoomForPairs, HasValueRoom, KeepsRooms, RaisesNoRoom, SameRooms}
+use Rattle.ordered_multimap.specs.Rooms.{DoublesRooms, HasKeyRoom, HasPairRoom, HasRoomForPairs, HasValueRoom, KeepsRooms, RaisesNoRoom}
+use Rattle.ordered_multimap.specs.Rooms.{SameRooms}
 use Rattle.ordered_multimap.specs.TapeNumbers.{TapeNumbers, TakesOut}
 
 pub all_appended-push : {K V : Type 0} (eq : K → K → Bool) (m : Lists K V) (pairs : List (K × V)) (k : K) (v : V)
@@ -21,20 +24,21 @@ doubles-then a b c more later first second = λ grown. elim (cases_lt a b) [
   | inr same ↦ let doubled : b * 2 ≤ c = second (omega (arith, grown, same)) in omega (arith, doubled, more)
 ]
 
-pub keeps_rooms-then : {K V S : Type 0} {a b c : Multimap K V S} → KeepsRooms a b → KeepsRooms b c → KeepsRooms a c
+keeps_rooms-then : {K V S : Type 0} {a b c : Multimap K V S} → KeepsRooms a b → KeepsRooms b c → KeepsRooms a c
 keeps_rooms-then first second = record {
   keys = omega (arith, first.keys, second.keys);
   values = omega (arith, first.values, second.values);
   hasher = second.hasher ∙ first.hasher;
 }
 
-pub doubles_rooms-then : {K V S : Type 0} {a b c : Multimap K V S} → KeepsRooms a b → KeepsRooms b c → DoublesRooms a b → DoublesRooms b c → DoublesRooms a c
+doubles_rooms-then : {K V S : Type 0} {a b c : Multimap K V S} → KeepsRooms a b → KeepsRooms b c → DoublesRooms a b → DoublesRooms b c
+    → DoublesRooms a c
 doubles_rooms-then more later first second = record {
   keys = doubles-then _ _ _ more.keys later.keys first.keys second.keys;
   values = doubles-then _ _ _ more.values later.values first.values second.values;
 }
 
-pub takes_none-then : {a b c : TapeNumbers} → TakesOut 0 a b → TakesOut 0 b c → TakesOut 0 a c
+takes_none-then : {a b c : TapeNumbers} → TakesOut 0 a b → TakesOut 0 b c → TakesOut 0 a c
 takes_none-then first second = record {
   freed = omega (arith, first.freed, second.freed);
   paid = omega (arith, first.paid, second.paid);
@@ -55,7 +59,12 @@ module _ {K V : Type 0} (eq : K → K → Bool) where
 
   length-pairs : (m : Lists K V) (pairs : List (K × V)) → length (all_appended eq m pairs).pairs ≡ length m.pairs + length pairs
   length-pairs m [] = omega arith
-  length-pairs m (p ∷ pairs) = omega (arith, length-pairs (appended eq m p.0 p.1) pairs, length-append m.pairs ((stored_key eq m.keys p.0, p.1) ∷ []))
+  length-pairs m (p ∷ pairs) = omega (
+    arith,
+    length-pairs (appended eq m p.0 p.1) pairs,
+    length-append m.pairs
+        ((stored_key eq m.keys p.0, p.1) ∷ []),
+  )
 
 -- room for more is room for fewer
 pub room-fewer : {K V S : Type 0} {m : Multimap K V S} {few many : ℕ} → few ≤ many → HasRoomForPairs m many → HasRoomForPairs m few
@@ -64,7 +73,7 @@ room-fewer fewer room = record { keys = omega (arith, fewer, room.keys); values 
 -- a map that had room for one more pair than were appended has room for it now
 module _ {K V S : Type 0} (eq : K → K → Bool) {old now : Multimap K V S} (pairs : List (K × V))
     (room : HasRoomForPairs old (length pairs + 1)) (lists : now.lists ≡ all_appended eq old.lists pairs) (rooms : KeepsRooms old now) where
-  pub has_key_room : HasKeyRoom now
+  has_key_room : HasKeyRoom now
   has_key_room = omega (arith, ap (λ m. length m.keys) lists, length-keys eq old.lists pairs, room.keys, rooms.keys)
 
   has_value_room : HasValueRoom now
@@ -73,10 +82,23 @@ module _ {K V S : Type 0} (eq : K → K → Bool) {old now : Multimap K V S} (pa
   pub has_pair_room : (k : K) → HasPairRoom eq now k
   has_pair_room k = record { value = has_value_room; key = λ _. has_key_room }
 
-  pub same_rooms-then : {new : Multimap K V S} {k : K} → SameRooms old now → RaisesNoRoom eq k now new → KeepsRooms now new → SameRooms old new
+  same_rooms-then : {new : Multimap K V S} {k : K} → SameRooms old now → RaisesNoRoom eq k now new → KeepsRooms now new → SameRooms old new
   same_rooms-then same raises keeps = record {
     keys = raises.keys has_key_room ∙ same.keys;
     values = raises.values has_value_room ∙ same.values;
     slots = raises.slots has_value_room ∙ same.slots;
     hasher = keeps.hasher ∙ same.hasher;
   }
+
+-- one more pair was appended, or refused
+pub grows_on : {K V S : Type 0} (eq : K → K → Bool) {old now new : Multimap K V S} {given most : Type 0} (pairs : List (K × V)) {k : K}
+    → (given → HasRoomForPairs old (length pairs + 1)) → (most → HasRoomForPairs old (length pairs + 1))
+    → now.lists ≡ all_appended eq old.lists pairs → GrowsForPairs given most old now
+    → KeepsRooms now new → RaisesNoRoom eq k now new → TakesOut 0 now.tape new.tape → GrowsForPairs given most old new
+grows_on eq pairs for_given for_most lists grows rooms raises taken = record {
+  rooms = keeps_rooms-then grows.rooms rooms;
+  doubles = doubles_rooms-then grows.rooms rooms grows.doubles raises.doubles;
+  taken = takes_none-then grows.taken taken;
+  key_room = λ room. raises.keys (has_key_room eq pairs (for_given room) lists grows.rooms) ∙ grows.key_room room;
+  had_room = λ room. same_rooms-then eq pairs (for_most room) lists grows.rooms (grows.had_room room) raises rooms;
+}

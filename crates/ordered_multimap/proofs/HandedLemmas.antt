@@ -1,5 +1,6 @@
 -- The pairs that are left of a map that was taken apart, and what a step at either end hands out.
-use Rattle.std.proofs.Common.{◌≡◌, ◌≢◌, ℕ, ◌<◌, ◌-◌, List, [], ◌∷◌, length, Option, Some, None, Result, refl, sym, ap, ◌∙◌, subst, arith, length-drop}
+use Rattle.std.proofs.Common.{◌≡◌, ◌≢◌, ℕ, ◌<◌, ◌-◌, List, [], ◌∷◌, length, Option, Some, None, Result, refl, sym, ap, ◌∙◌, subst, arith}
+use Rattle.std.proofs.Common.{length-drop}
 use Rattle.std.specs.Prelude.{MatchOption}
 use Rattle.std.specs.List.{filter_map}
 use Rattle.std.proofs.lemmas.List.{length-take}
@@ -18,11 +19,13 @@ use Rattle.ordered_multimap.proofs.PopLemmas.{at_end, pairs_of-without}
 
 module _ {K V : Type 0} (keys : Slots K KeyLink) (values : Slots V ValueLink) (place : ℕ) where
   -- the pair of a value by its link
-  pub pair_here : (l : ValueLink) (k : K) (v : V) → link_at values place ≡ Some l → item_at keys l.key ≡ Some k → item_at values place ≡ Some v
+  pub pair_here : (l : ValueLink) (k : K) (v : V) → link_at values place ≡ Some l → item_at keys l.key ≡ Some k
+      → item_at values place ≡ Some v
       → pair_at keys values place ≡ Some (k, v)
   pair_here l k v link_is key_is value_is = rw (value_is, link_is, key_is) refl
 
-  module _ (values_after : Slots V ValueLink) (order : values_after.order ≡ without values.order place) (others : KeepsOthers values values_after place) where
+  module _ (values_after : Slots V ValueLink) (order : values_after.order ≡ without values.order place)
+      (others : KeepsOthers values values_after place) where
     stays : (q : ℕ) → IsIn q values_after.order → IsIn q values.order × (q ≢ place)
     stays q member = IsIn-without q values.order place (subst (IsIn q) order member)
 
@@ -37,7 +40,8 @@ module _ {K V : Type 0} (keys : Slots K KeyLink) (values : Slots V ValueLink) (p
     pairs_left = pairs_of-without keys keys values values_after place order (λ q member. pair_at-kept q (stays q member).1)
 
     -- the pair at an end is handed out, and the others are left
-    pub hands_out : (is_clone : K → K → Type 0) (is_infallible : K → Type 0) (end : End) → AreDistinct values.order → end_of_list end values.order ≡ Some place
+    pub hands_out : (is_clone : K → K → Type 0) (is_infallible : K → Type 0) (end : End) → AreDistinct values.order
+        → end_of_list end values.order ≡ Some place
         → (given : Result (K × V) (UnclonedKey V)) → MatchOption (pair_at keys values place) ⊥ (IsHanded is_clone is_infallible given)
         → HandsOut is_clone is_infallible end (pairs_of keys values) (Some given) (pairs_of keys values_after)
     hands_out is_clone is_infallible end distinct at given handed = from (pair_at keys values place) refl handed

@@ -1,5 +1,6 @@
 -- Places by their index in a chain: the ends, the steps along its links, and a list without one item.
-use Rattle.std.proofs.Common.{◌≡◌, ◌+◌, ◌-◌, ◌<◌, ◌≤◌, ℕ, zero, suc, true, List, [], ◌∷◌, ◌++◌, length, length-append, map, slice_get, get_or, Option, option_and_then, unwrap_or, Some, None, IsSome, refl, sym, ap, ◌∙◌, subst, inl, inr, arith}
+use Rattle.std.proofs.Common.{◌≡◌, ◌+◌, ◌-◌, ◌<◌, ◌≤◌, ℕ, zero, suc, true, List, [], ◌∷◌, ◌++◌, length, length-append, map, slice_get}
+use Rattle.std.proofs.Common.{get_or, Option, option_and_then, unwrap_or, Some, None, IsSome, refl, sym, ap, ◌∙◌, subst, inl, inr, arith}
 use Rattle.std.proofs.lemmas.Bool.{eq-eqb, ne_eqb}
 use Rattle.std.proofs.lemmas.List.Edits.{remove-append_right}
 use Rattle.std.proofs.lemmas.List.Elements.{filter_map-append}
@@ -61,7 +62,8 @@ module _ {X : Type 0} where
 
   module _ {Y : Type 0} (f : X → Option Y) where
     -- what is made of an item at an index
-    indexed_shown : (xs : List X) (i : ℕ) → ((x : X) → IsIn x xs → IsSome (f x)) → slice_get (filter_map f xs) i ≡ option_and_then f (slice_get xs i)
+    indexed_shown : (xs : List X) (i : ℕ) → ((x : X) → IsIn x xs → IsSome (f x))
+        → slice_get (filter_map f xs) i ≡ option_and_then f (slice_get xs i)
     indexed_shown [] i all = refl
     indexed_shown (x ∷ xs) zero all =
         let h = held (f x) (all x (inl refl)) in
@@ -81,7 +83,8 @@ module _ {X : Type 0} where
         ∙ ap (λ o. several (h.value ∷ cons_option o rest)) k.is
         ∙ sym (ap (λ o. cons_option o (cons_option (f y) rest)) h.is ∙ ap (λ o. h.value ∷ cons_option o rest) k.is)
 
-    pub several_shown : (xs : List X) (i : ℕ) → ((x : X) → IsIn x xs → IsSome (f x)) → slice_get (several (filter_map f xs)) i ≡ option_and_then f (slice_get (several xs) i)
+    pub several_shown : (xs : List X) (i : ℕ) → ((x : X) → IsIn x xs → IsSome (f x))
+        → slice_get (several (filter_map f xs)) i ≡ option_and_then f (slice_get (several xs) i)
     several_shown xs i all =
         ap (λ ys. slice_get ys i) (several-shown xs all)
         ∙ indexed_shown (several xs) i (λ x j. all x (among xs x j))
@@ -92,7 +95,8 @@ module _ {X : Type 0} where
         among (y ∷ z ∷ xs) x j = j
 
 -- what the places show without one of them is all that they show without the item at its position
-pub shown_without : {X : Type 0} (f : ℕ → Option X) (ps : List ℕ) (p : ℕ) → AreDistinct ps → ((q : ℕ) → IsIn q ps → IsSome (f q)) → IsIn p ps
+pub shown_without : {X : Type 0} (f : ℕ → Option X) (ps : List ℕ) (p : ℕ) → AreDistinct ps → ((q : ℕ) → IsIn q ps → IsSome (f q))
+    → IsIn p ps
     → filter_map f (without ps p) ≡ remove (filter_map f ps) (position_in ps p)
 shown_without {X} f ps p apart all member =
     let s = IsIn-split p ps member in
@@ -106,9 +110,11 @@ shown_without {X} f ps p apart all member =
     ap (λ qs. position_in qs p) s.is ∙ position_in-split s.front p s.back (λ i. gone (IsIn-left p s.front s.back i))
     ∙ sym (length-filter_map f s.front (λ q i. all q (subst (IsIn q) (sym s.is) (IsIn-left q s.front (p ∷ s.back) i)))) in
     let none : length front - length front ≡ 0 = omega arith in
-    ap (λ qs. filter_map f (without qs p)) s.is ∙ ap (filter_map f) (without-split s.front p s.back gone) ∙ filter_map-append f s.front s.back
+    ap (λ qs. filter_map f (without qs p)) s.is ∙ ap (filter_map f) (without-split s.front p s.back gone)
+    ∙ filter_map-append f s.front s.back
     ∙ sym (ap (remove (filter_map f ps)) position ∙ ap (λ xs. remove xs (length front)) shown
-    ∙ remove-append_right front (h.value ∷ back) (length front) (length front) refl (omega arith) ∙ ap (λ n. front ++ remove (h.value ∷ back) n) none)
+    ∙ remove-append_right front (h.value ∷ back) (length front) (length front) refl (omega arith)
+    ∙ ap (λ n. front ++ remove (h.value ∷ back) n) none)
 
 -- the place behind another one is that at the next index
 next_along : (ps : List ℕ) → AreDistinct ps → (i p q : ℕ) → slice_get ps i ≡ Some p → slice_get ps (suc i) ≡ Some q → next_of ps p ≡ Some q
@@ -128,7 +134,8 @@ module _ {V : Type 0} (values : Slots V ValueLink) (key i p : ℕ) (at : slice_g
   pub indexed_owner : {K : Type 0} (keys : Slots K KeyLink) (m : ValueLink) → link_at values p ≡ Some m → m.key ≡ key
   indexed_owner keys m is = value_owner keys values key p m is of_key.1
 
-module _ {K V : Type 0} {keys : Slots K KeyLink} {values : Slots V ValueLink} (sound : IsSound values) (chained : IsChained keys values) (key : ℕ) where
+module _ {K V : Type 0} {keys : Slots K KeyLink} {values : Slots V ValueLink} (sound : IsSound values) (chained : IsChained keys values)
+    (key : ℕ) where
   -- the link of a place names the one at the index before
   pub previous_indexed : (i p : ℕ) (m : ValueLink) → slice_get (chain_of values key) (suc i) ≡ Some p → link_at values p ≡ Some m
       → slice_get (chain_of values key) i ≡ Some (unwrap_or m.previous p)
@@ -166,5 +173,6 @@ module _ {K V : Type 0} {keys : Slots K KeyLink} {values : Slots V ValueLink} (s
         let ps : List ℕ = chain_of values key in
         let q : ℕ = get_or ps (suc i) 0 in
         let there : slice_get ps (suc i) ≡ Some q = indexed (suc i) less in
-        let named : m.next ≡ Some q = sym (onward sound chained key p m (indexed_member ps i p at) is) ∙ next_along ps (distinct sound chained key) i p q at there in
+        let named : m.next ≡ Some q = sym (onward sound chained key p m (indexed_member ps i p at) is)
+        ∙ next_along ps (distinct sound chained key) i p q at there in
         there ∙ ap Some (sym (ap (λ o. unwrap_or o p) named))

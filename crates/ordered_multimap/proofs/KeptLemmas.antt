@@ -1,5 +1,6 @@
 -- What of a list is kept, and what is made of it.
-use Rattle.std.proofs.Common.{◌≡◌, ◌++◌, length, length-append, arith, Bool, true, false, not, cond, List, [], ◌∷◌, filter, Option, Some, None, refl, sym, ap, ◌∙◌, inl, inr}
+use Rattle.std.proofs.Common.{◌≡◌, ◌++◌, length, length-append, arith, Bool, true, false, not, cond, List, [], ◌∷◌, filter, Option, Some}
+use Rattle.std.proofs.Common.{None, refl, sym, ap, ◌∙◌, inl, inr}
 use Rattle.std.specs.Cmp.{IsEquivalence}
 use Rattle.std.specs.List.{filter_map, cons_option}
 use Rattle.std.specs.Map.{keys_of}
@@ -8,11 +9,13 @@ use Rattle.ordered_multimap.specs.Keys.{is_listed}
 use Rattle.ordered_multimap.specs.Pairs.{pairs_without}
 
 -- a test that passes only kept items sees no other
-pub filter-among : {X : Type 0} (test keep : X → Bool) (xs : List X) → ((x : X) → IsIn x xs → test x ≡ true → keep x ≡ true) → filter test (filter keep xs) ≡ filter test xs
+pub filter-among : {X : Type 0} (test keep : X → Bool) (xs : List X) → ((x : X) → IsIn x xs → test x ≡ true → keep x ≡ true)
+    → filter test (filter keep xs) ≡ filter test xs
 filter-among test keep [] among = refl
 filter-among test keep (x ∷ xs) among =
     let rest = filter-among test keep xs (λ y i. among y (inr i)) in
-    let P : Bool → Type 0 = λ b. test x ≡ b → filter test (cond (keep x) (x ∷ filter keep xs) (filter keep xs)) ≡ cond b (x ∷ filter test xs) (filter test xs) in
+    let P : Bool → Type 0 = λ b. test x ≡ b → filter test (cond (keep x) (x ∷ filter keep xs) (filter keep xs)) ≡ cond b
+    (x ∷ filter test xs) (filter test xs) in
     elim (test x) as P [
       | true ↦ λ e. rw (among x (inl refl) e, e) (ap (λ ys. x ∷ ys) rest)
       | false ↦ λ e.
@@ -26,13 +29,15 @@ pub filter_map-filter : {X Y : Type 0} (f : X → Option Y) (keep : X → Bool) 
 filter_map-filter f keep test [] same = refl
 filter_map-filter {X} {Y} f keep test (x ∷ xs) same =
     let rest = filter_map-filter f keep test xs (λ z i. same z (inr i)) in
-    let P : Option Y → Type 0 = λ o. f x ≡ o → filter_map f (cond (keep x) (x ∷ filter keep xs) (filter keep xs)) ≡ filter test (cons_option o (filter_map f xs)) in
+    let P : Option Y → Type 0 = λ o. f x ≡ o → filter_map f (cond (keep x) (x ∷ filter keep xs) (filter keep xs)) ≡ filter test
+    (cons_option o (filter_map f xs)) in
     elim (f x) as P [
       | None ↦ λ e.
           let Q : Bool → Type 0 = λ b. filter_map f (cond b (x ∷ filter keep xs) (filter keep xs)) ≡ filter test (filter_map f xs) in
           elim (keep x) as Q [ true ↦ ap (λ o. cons_option o (filter_map f (filter keep xs))) e ∙ rest | false ↦ rest ]
       | Some y ↦ λ e.
-          let Q : Bool → Type 0 = λ b. keep x ≡ b → filter_map f (cond b (x ∷ filter keep xs) (filter keep xs)) ≡ cond b (y ∷ filter test (filter_map f xs)) (filter test (filter_map f xs)) in
+          let Q : Bool → Type 0 = λ b. keep x ≡ b → filter_map f (cond b (x ∷ filter keep xs) (filter keep xs)) ≡ cond b
+          (y ∷ filter test (filter_map f xs)) (filter test (filter_map f xs)) in
           elim (keep x) as Q [
             | true ↦ λ _. ap (λ o. cons_option o (filter_map f (filter keep xs))) e ∙ ap (λ ys. y ∷ ys) rest
             | false ↦ λ _. rest
@@ -41,10 +46,12 @@ filter_map-filter {X} {Y} f keep test (x ∷ xs) same =
     ] refl
 
 -- the keys of the pairs of other keys
-pub keys_of-without : {K V : Type 0} (eq : K → K → Bool) (k : K) (pairs : List (K × V)) → keys_of (pairs_without eq pairs k) ≡ filter (λ j. not (eq k j)) (keys_of pairs)
+pub keys_of-without : {K V : Type 0} (eq : K → K → Bool) (k : K) (pairs : List (K × V))
+    → keys_of (pairs_without eq pairs k) ≡ filter (λ j. not (eq k j)) (keys_of pairs)
 keys_of-without eq k [] = refl
 keys_of-without {K} eq k (p ∷ pairs) =
-    let P : Bool → Type 0 = λ b. keys_of (cond b (p ∷ pairs_without eq pairs k) (pairs_without eq pairs k)) ≡ cond b (p.0 ∷ filter (λ j. not (eq k j)) (keys_of pairs)) (filter (λ j. not (eq k j)) (keys_of pairs)) in
+    let P : Bool → Type 0 = λ b. keys_of (cond b (p ∷ pairs_without eq pairs k) (pairs_without eq pairs k)) ≡ cond b
+    (p.0 ∷ filter (λ j. not (eq k j)) (keys_of pairs)) (filter (λ j. not (eq k j)) (keys_of pairs)) in
     elim (not (eq k p.0)) as P [ true ↦ ap (λ js. p.0 ∷ js) (keys_of-without eq k pairs) | false ↦ keys_of-without eq k pairs ]
 
 -- no key that is equal to k is among those that aren't

@@ -1,5 +1,6 @@
 -- Listed keys, where the keys' equality is an equivalence.
-use Rattle.std.proofs.Common.{◌≡◌, ◌⊎◌, Bool, true, false, cond, ◌||◌, List, [], ◌∷◌, ◌++◌, filter, find, unwrap_or, Some, refl, sym, ap, ◌∙◌, subst, inl, inr, true≢false}
+use Rattle.std.proofs.Common.{◌≡◌, ◌⊎◌, Bool, true, false, cond, ◌||◌, List, [], ◌∷◌, ◌++◌, filter, find, unwrap_or, Some, refl, sym, ap}
+use Rattle.std.proofs.Common.{◌∙◌, subst, inl, inr, true≢false}
 use Rattle.std.specs.List.{IsDistinct, AllByRecursion}
 use Rattle.std.specs.Map.{keys_of, values_of as values_in}
 use Rattle.std.specs.Cmp.{IsEquivalence}
@@ -13,7 +14,8 @@ or_right : (a b : Bool) → b ≡ true → (a || b) ≡ true
 or_right a b e = elim a as (λ v. (v || b) ≡ true) [ true ↦ refl | false ↦ e ]
 
 -- a key has a value if the pairs name it
-pub is_present-is_listed : {K V : Type 0} (eq : K → K → Bool) (k : K) (pairs : List (K × V)) → is_present eq pairs k ≡ is_listed eq (keys_of pairs) k
+pub is_present-is_listed : {K V : Type 0} (eq : K → K → Bool) (k : K) (pairs : List (K × V))
+    → is_present eq pairs k ≡ is_listed eq (keys_of pairs) k
 is_present-is_listed eq k [] = refl
 is_present-is_listed {K = K} {V = V} eq k (p ∷ pairs) =
     let rest : List (K × V) = filter (λ p. eq k p.0) pairs in
@@ -33,7 +35,8 @@ module _ {K : Type 0} {eq : K → K → Bool} (laws : IsEquivalence eq) where
   is_listed-self k keys member = is_listed-member k k keys member (laws.refl k)
 
   -- where an equal key is listed, the stored key is a member, and equal
-  pub stored_key_member : (k : K) (keys : List K) → is_listed eq keys k ≡ true → IsIn (stored_key eq keys k) keys × (eq k (stored_key eq keys k) ≡ true)
+  pub stored_key_member : (k : K) (keys : List K) → is_listed eq keys k ≡ true
+      → IsIn (stored_key eq keys k) keys × (eq k (stored_key eq keys k) ≡ true)
   stored_key_member k [] listed = absurd (true≢false (sym listed))
   stored_key_member k (j ∷ keys) listed =
       let P : Bool → Type 0 = λ b. eq k j ≡ b → (b || is_listed eq keys k) ≡ true
@@ -52,7 +55,11 @@ module _ {K : Type 0} {eq : K → K → Bool} (laws : IsEquivalence eq) where
 
   pub apart_member : (k j : K) (keys : List K) → AllByRecursion (λ y. eq k y ≡ false) keys → IsIn j keys → eq k j ≡ false
   apart_member k j [] apart member = absurd member
-  apart_member k j (i ∷ keys) apart member = elim member [ inl here ↦ ap (eq k) here ∙ apart.0 | inr later ↦ apart_member k j keys apart.1 later ]
+  apart_member k j (i ∷ keys) apart member = elim member [
+    | inl here ↦ ap (eq k) here
+        ∙ apart.0
+    | inr later ↦ apart_member k j keys apart.1 later
+  ]
 
   -- of distinct keys the stored one is the only member that is equal
   pub stored_key_only : (k j : K) (keys : List K) → IsDistinct eq keys → IsIn j keys → eq k j ≡ true → stored_key eq keys k ≡ j
@@ -96,12 +103,14 @@ module _ {K : Type 0} {eq : K → K → Bool} (laws : IsEquivalence eq) where
       ] refl
 
   pub keys_with-old : (k j : K) (keys : List K) → IsIn j keys → IsIn j (keys_with eq keys k)
-  keys_with-old k j keys member = elim (is_listed eq keys k) as (λ b. IsIn j (cond b keys (keys ++ k ∷ []))) [ true ↦ member | false ↦ IsIn-left j keys (k ∷ []) member ]
+  keys_with-old k j keys member = elim (is_listed eq keys k) as
+      (λ b. IsIn j (cond b keys (keys ++ k ∷ []))) [ true ↦ member | false ↦ IsIn-left j keys (k ∷ []) member ]
 
   -- no other key is
   pub keys_with-cases : (k j : K) (keys : List K) → IsIn j (keys_with eq keys k) → IsIn j keys ⊎ (stored_key eq keys k ≡ j)
   keys_with-cases k j keys member =
-      let P : Bool → Type 0 = λ b. is_listed eq keys k ≡ b → IsIn j (cond b keys (keys ++ k ∷ [])) → IsIn j keys ⊎ (stored_key eq keys k ≡ j) in
+      let P : Bool → Type 0 = λ b. is_listed eq keys k ≡ b → IsIn j (cond b keys (keys ++ k ∷ []))
+      → IsIn j keys ⊎ (stored_key eq keys k ≡ j) in
       elim (is_listed eq keys k) as P [
         | true ↦ λ e old. inl old
         | false ↦ λ e among. elim (IsIn-append j keys (k ∷ []) among) [

@@ -1,5 +1,6 @@
 -- Where a key is put behind the others, key list, table and values agree, and the keys are those of the same places.
-use Rattle.std.proofs.Common.{◌≡◌, ◌==◌, ℕ, Bool, not, List, [], ◌∷◌, ◌++◌, length, filter, refl, sym, ap, ◌∙◌, subst, inl, inr, arith, length-append}
+use Rattle.std.proofs.Common.{◌≡◌, ◌==◌, ℕ, Bool, not, List, [], ◌∷◌, ◌++◌, length, filter, refl, sym, ap, ◌∙◌, subst, inl, inr, arith}
+use Rattle.std.proofs.Common.{length-append}
 use Rattle.std.proofs.lemmas.List.Elements.{filter_map-append}
 use Rattle.std.proofs.lemmas.Map.Keys.{IsDistinct-push}
 use Rattle.std.specs.Cmp.{IsEquivalence}
@@ -8,7 +9,8 @@ use Rattle.std.specs.Ordering.{nat_cmp}
 use Rattle.std.specs.FinMap.{FinMap}
 use Rattle.multimap_slots.specs.Lists.{IsIn, AreDistinct, without}
 use Rattle.multimap_slots.specs.Slots.{Slots, item_at}
-use Rattle.multimap_slots.proofs.ListsLemmas.{IsIn-append, IsIn-left, IsIn-right, IsIn-split, IsIn-without, AreDistinct-gone, AreDistinct-push, without-split}
+use Rattle.multimap_slots.proofs.ListsLemmas.{IsIn-append, IsIn-left, IsIn-right, IsIn-split, IsIn-without, AreDistinct-gone}
+use Rattle.multimap_slots.proofs.ListsLemmas.{AreDistinct-push, without-split}
 use Rattle.multimap_walks.specs.declared.links.KeyLink.{KeyLink}
 use Rattle.multimap_walks.specs.declared.links.ValueLink.{ValueLink}
 use Rattle.ordered_multimap.specs.Agrees.{Agrees, HasKey, items_of, lists_of}
@@ -38,7 +40,8 @@ module _ (order : List ℕ) (place : ℕ) (listed : IsIn place order) (distinct 
   stays_in q i =
       let s = IsIn-split place order listed in
       let left : without order place ≡ s.front ++ s.back =
-      ap (λ ps. without ps place) s.is ∙ without-split s.front place s.back (AreDistinct-gone s.front place s.back (subst AreDistinct s.is distinct)) in
+      ap (λ ps. without ps place) s.is ∙ without-split s.front place s.back
+      (AreDistinct-gone s.front place s.back (subst AreDistinct s.is distinct)) in
       elim (IsIn-append q s.front (place ∷ s.back) (subst (IsIn q) s.is i)) [
         | inl before ↦ IsIn-left q (without order place) (place ∷ []) (subst (IsIn q) (sym left) (IsIn-left q s.front s.back before))
         | inr from ↦ elim from [
@@ -51,10 +54,20 @@ module _ (order : List ℕ) (place : ℕ) (listed : IsIn place order) (distinct 
   as_many =
       let s = IsIn-split place order listed in
       let left : without order place ≡ s.front ++ s.back =
-      ap (λ ps. without ps place) s.is ∙ without-split s.front place s.back (AreDistinct-gone s.front place s.back (subst AreDistinct s.is distinct)) in
-      omega (arith, length-append (without order place) (place ∷ []), ap length left, length-append s.front s.back, ap length s.is, length-append s.front (place ∷ s.back))
+      ap (λ ps. without ps place) s.is ∙ without-split s.front place s.back
+      (AreDistinct-gone s.front place s.back (subst AreDistinct s.is distinct)) in
+      omega (
+        arith,
+        length-append (without order place)
+            (place ∷ []),
+        ap length left,
+        length-append s.front s.back,
+        ap length s.is,
+        length-append s.front (place ∷ s.back),
+      )
 
-module _ {K V : Type 0} {eq : K → K → Bool} (laws : IsEquivalence eq) {hash : K → ℕ} {keys : Slots K KeyLink} {rows : FinMap nat_cmp ℕ} {values : Slots V ValueLink}
+module _ {K V : Type 0} {eq : K → K → Bool} (laws : IsEquivalence eq) {hash : K
+    → ℕ} {keys : Slots K KeyLink} {rows : FinMap nat_cmp ℕ} {values : Slots V ValueLink}
     (agrees : Agrees eq hash keys rows values) (place : ℕ) where
   items_of-moved : (k : K) → HasKey eq keys k place → items_of (with_last keys place) ≡ moved_to_back eq (items_of keys) k
   items_of-moved k has =
@@ -63,7 +76,8 @@ module _ {K V : Type 0} {eq : K → K → Bool} (laws : IsEquivalence eq) {hash 
       ∙ ap (λ o. filter (λ j. not (eq k j)) (items_of keys) ++ cons_option o []) has.item_is
       ∙ ap (λ j. filter (λ j. not (eq k j)) (items_of keys) ++ j ∷ []) (stored_at laws agrees k place has.stored has has.item_is)
 
-  pub lists_of-moved : (k : K) → HasKey eq keys k place → lists_of (with_last keys place) values ≡ lists (moved_to_back eq (items_of keys) k) (lists_of keys values).pairs
+  pub lists_of-moved : (k : K) → HasKey eq keys k place
+      → lists_of (with_last keys place) values ≡ lists (moved_to_back eq (items_of keys) k) (lists_of keys values).pairs
   lists_of-moved k has = ap (λ js. lists js (lists_of keys values).pairs) (items_of-moved k has)
 
   module _ (listed : IsIn place keys.order) where

@@ -1,5 +1,6 @@
 -- Where keys go to other places, with their rows, and the links of their values name these, all agree as before.
-use Rattle.std.proofs.Common.{◌≡◌, ℕ, ◌≤◌, ◌==◌, Bool, List, [], ◌∷◌, map, length, filter, Some, IsSome, refl, sym, ap, ◌∙◌, subst, inl, inr, arith}
+use Rattle.std.proofs.Common.{◌≡◌, ℕ, ◌≤◌, ◌==◌, Bool, List, [], ◌∷◌, map, length, filter, Some, IsSome, refl, sym, ap, ◌∙◌, subst, inl}
+use Rattle.std.proofs.Common.{inr, arith}
 use Rattle.std.proofs.lemmas.Bool.{cases_eq, eq-eqb, ne_eqb}
 use Rattle.std.proofs.lemmas.List.{length-map}
 use Rattle.std.specs.List.{filter_map}
@@ -17,9 +18,11 @@ use Rattle.ordered_multimap.proofs.AgreesLemmas.{pair_in, pair_at-is, is_value_o
 use Rattle.ordered_multimap.proofs.PlaceLemmas.{held, filter-agree, filter_map-agree}
 use Rattle.ordered_multimap.proofs.RenameLemmas.{IsIn-map, filter_map-map, agrees-renamed, lists_of-renamed}
 
-module _ {K V : Type 0} (name : ℕ → ℕ) {eq : K → K → Bool} {hash : K → ℕ} {keys keys_after : Slots K KeyLink} {rows rows_after : FinMap nat_cmp ℕ} {values values_after : Slots V ValueLink}
+module _ {K V : Type 0} (name : ℕ → ℕ) {eq : K → K → Bool} {hash : K
+    → ℕ} {keys keys_after : Slots K KeyLink} {rows rows_after : FinMap nat_cmp ℕ} {values values_after : Slots V ValueLink}
     (agrees : Agrees eq hash keys rows values) (gone : HaveGone name keys.order keys keys_after) (has_rows : HasRows keys_after rows_after)
-    (come : HaveCome name values.order values values_after) (keys_sound : IsSound keys_after) (fits : length values.order ≤ values_after.capacity) where
+    (come : HaveCome name values.order values values_after) (keys_sound : IsSound keys_after)
+    (fits : length values.order ≤ values_after.capacity) where
   -- the old place of a key
   record WasAt (place : ℕ) : Type 0 where
     old : ℕ
@@ -57,7 +60,8 @@ module _ {K V : Type 0} (name : ℕ → ℕ) {eq : K → K → Bool} {hash : K �
     | inr differs ↦ ne_eqb (name p) (name q) (λ e. differs (gone.apart p q i j e)) ∙ sym (ne_eqb p q differs)
   ]
 
-  same_owner : (key : ℕ) → IsIn key keys.order → (q : ℕ) → IsIn q values.order → is_value_of values_after (name key) q ≡ is_value_of values key q
+  same_owner : (key : ℕ) → IsIn key keys.order → (q : ℕ) → IsIn q values.order
+      → is_value_of values_after (name key) q ≡ is_value_of values key q
   same_owner key there q listed =
       let l = held (link_at values q) (agrees.values_sound.linked q listed) in
       is_value_of-is keys_after values_after (name key) q (with_new_key name l.value) (come.links q l.value listed l.is)
@@ -74,23 +78,30 @@ module _ {K V : Type 0} (name : ℕ → ℕ) {eq : K → K → Bool} {hash : K �
   chain_at place w = ap (chain_of values_after) w.place_is ∙ same_chain w.old w.old_listed
 
   chain_by : (place : ℕ) (l : ValueLink) (b : Before place l) → chain_of values_after l.key ≡ chain_of values b.link.key
-  chain_by place l b = ap (λ (x : ValueLink). chain_of values_after x.key) b.link_is ∙ same_chain b.link.key (agrees.chained.owned place b.link b.old_listed b.link_was)
+  chain_by place l b = ap (λ (x : ValueLink). chain_of values_after x.key) b.link_is
+      ∙ same_chain b.link.key (agrees.chained.owned place b.link b.old_listed b.link_was)
 
   chained : IsChained keys_after values_after
   chained = record {
     owned = λ place l listed is.
         let b = before place l listed is in
         subst (λ q. IsIn q keys_after.order) (sym (ap (λ (x : ValueLink). x.key) b.link_is))
-        (subst (IsIn (name b.link.key)) (sym gone.order) (IsIn-name b.link.key keys.order (agrees.chained.owned place b.link b.old_listed b.link_was)));
-    head = λ key l listed is. let w = was_at key listed in ap first_of (chain_at key w) ∙ agrees.chained.head w.old l w.old_listed (link_was key l w is);
-    tail = λ key l listed is. let w = was_at key listed in ap last_of (chain_at key w) ∙ agrees.chained.tail w.old l w.old_listed (link_was key l w is);
-    length = λ key l listed is. let w = was_at key listed in ap length (chain_at key w) ∙ agrees.chained.length w.old l w.old_listed (link_was key l w is);
+        (subst (IsIn (name b.link.key)) (sym gone.order)
+        (IsIn-name b.link.key keys.order (agrees.chained.owned place b.link b.old_listed b.link_was)));
+    head = λ key l listed is. let w = was_at key listed in
+        ap first_of (chain_at key w) ∙ agrees.chained.head w.old l w.old_listed (link_was key l w is);
+    tail = λ key l listed is. let w = was_at key listed in
+        ap last_of (chain_at key w) ∙ agrees.chained.tail w.old l w.old_listed (link_was key l w is);
+    length = λ key l listed is. let w = was_at key listed in
+        ap length (chain_at key w) ∙ agrees.chained.length w.old l w.old_listed (link_was key l w is);
     previous = λ place l listed is.
         let b = before place l listed is in
-        ap (λ ps. previous_of ps place) (chain_by place l b) ∙ agrees.chained.previous place b.link b.old_listed b.link_was ∙ ap (λ (x : ValueLink). x.previous) (sym b.link_is);
+        ap (λ ps. previous_of ps place) (chain_by place l b) ∙ agrees.chained.previous place b.link b.old_listed b.link_was
+        ∙ ap (λ (x : ValueLink). x.previous) (sym b.link_is);
     next = λ place l listed is.
         let b = before place l listed is in
-        ap (λ ps. next_of ps place) (chain_by place l b) ∙ agrees.chained.next place b.link b.old_listed b.link_was ∙ ap (λ (x : ValueLink). x.next) (sym b.link_is);
+        ap (λ ps. next_of ps place) (chain_by place l b) ∙ agrees.chained.next place b.link b.old_listed b.link_was
+        ∙ ap (λ (x : ValueLink). x.next) (sym b.link_is);
   }
     where
       IsIn-name : (q : ℕ) (ps : List ℕ) → IsIn q ps → IsIn (name q) (map name ps)
@@ -99,21 +110,24 @@ module _ {K V : Type 0} (name : ℕ → ℕ) {eq : K → K → Bool} {hash : K �
       IsIn-name q (p ∷ ps) (inr i) = inr (IsIn-name q ps i)
 
   items_of-gone : items_of keys_after ≡ items_of keys
-  items_of-gone = ap (filter_map (item_at keys_after)) gone.order ∙ filter_map-map name (item_at keys_after) (item_at keys) keys.order gone.items
+  items_of-gone = ap (filter_map (item_at keys_after)) gone.order
+      ∙ filter_map-map name (item_at keys_after) (item_at keys) keys.order gone.items
 
   pairs_of-gone : pairs_of keys_after values_after ≡ pairs_of keys values
   pairs_of-gone =
       ap (filter_map (pair_at keys_after values_after)) come.order
       ∙ filter_map-agree (pair_at keys_after values_after) (pair_at keys values) values.order (λ q listed.
       let p = pair_in agrees q listed in
-      pair_at-is keys_after values_after q (with_new_key name p.link) p.key p.value (come.links q p.link listed p.link_is) (gone.items p.link.key p.key_listed ∙ p.key_is) (come.items q listed ∙ p.value_is) ∙ sym p.pair_is)
+      pair_at-is keys_after values_after q (with_new_key name p.link) p.key p.value (come.links q p.link listed p.link_is)
+      (gone.items p.link.key p.key_listed ∙ p.key_is) (come.items q listed ∙ p.value_is) ∙ sym p.pair_is)
 
   pub agrees-gone : Agrees eq hash keys_after rows_after values_after
   agrees-gone = record {
     keys_sound = keys_sound;
     values_sound = record {
       distinct = subst AreDistinct (sym come.order) agrees.values_sound.distinct;
-      filled = λ q i. let there = subst (IsIn q) come.order i in subst IsSome (sym (come.items q there)) (agrees.values_sound.filled q there);
+      filled = λ q i. let there = subst (IsIn q) come.order i in
+          subst IsSome (sym (come.items q there)) (agrees.values_sound.filled q there);
       linked = λ q i.
           let there = subst (IsIn q) come.order i in
           let l = held (link_at values q) (agrees.values_sound.linked q there) in
@@ -122,7 +136,8 @@ module _ {K V : Type 0} (name : ℕ → ℕ) {eq : K → K → Bool} {hash : K �
     };
     chained = chained;
     distinct = rw items_of-gone agrees.distinct;
-    hashed = λ place k l listed item is. let w = was_at place listed in agrees.hashed w.old k l w.old_listed (item_was place k w item) (link_was place l w is);
+    hashed = λ place k l listed item is. let w = was_at place listed in
+        agrees.hashed w.old k l w.old_listed (item_was place k w item) (link_was place l w is);
     in_table = has_rows.in_table;
     listed = has_rows.listed;
     counted = has_rows.counted;
@@ -132,7 +147,8 @@ module _ {K V : Type 0} (name : ℕ → ℕ) {eq : K → K → Bool} {hash : K �
   lists_of-gone = λ i. lists (items_of-gone i) (pairs_of-gone i)
 
 -- where the values were taken down over holes before
-module _ {K V : Type 0} {eq : K → K → Bool} {hash : K → ℕ} {keys keys_after : Slots K KeyLink} {rows rows_after : FinMap nat_cmp ℕ} {values values_after : Slots V ValueLink}
+module _ {K V : Type 0} {eq : K → K → Bool} {hash : K
+    → ℕ} {keys keys_after : Slots K KeyLink} {rows rows_after : FinMap nat_cmp ℕ} {values values_after : Slots V ValueLink}
     (agrees : Agrees eq hash keys rows values) (p : ArePacked keys keys_after rows_after values values_after) where
   settled : Agrees eq hash p.keys_settled rows p.values_settled
   settled = agrees-renamed p.settled.name agrees p.settled.renames
@@ -147,7 +163,8 @@ module _ {K V : Type 0} {eq : K → K → Bool} {hash : K → ℕ} {keys keys_af
   agrees-packed = agrees-gone p.name settled p.gone p.rows p.come p.keys_sound fits_settled
 
   pub lists_of-packed : lists_of keys_after values_after ≡ lists_of keys values
-  lists_of-packed = lists_of-gone p.name settled p.gone p.rows p.come p.keys_sound fits_settled ∙ lists_of-renamed p.settled.name agrees p.settled.renames
+  lists_of-packed = lists_of-gone p.name settled p.gone p.rows p.come p.keys_sound fits_settled
+      ∙ lists_of-renamed p.settled.name agrees p.settled.renames
 
   pub packed_length : length values_after.order ≡ length values.order
   packed_length = ap length p.come.order ∙ same_length

@@ -1,5 +1,6 @@
 -- The laws of the definitions.
-use Rattle.std.proofs.Common.{◌≡◌, ◌-◌, Bool, true, false, not, cond, ◌||◌, List, [], ◌∷◌, ◌++◌, filter, length, take, slice_get, Some, refl, sym, ap, ◌∙◌, subst, inl, inr, arith}
+use Rattle.std.proofs.Common.{◌≡◌, ◌-◌, Bool, true, false, not, cond, ◌||◌, List, [], ◌∷◌, ◌++◌, filter, length, take, slice_get, Some}
+use Rattle.std.proofs.Common.{refl, sym, ap, ◌∙◌, subst, inl, inr, arith}
 use Rattle.std.proofs.lemmas.List.{append-nil, append_assoc, length-append, take_at}
 use Rattle.std.proofs.lemmas.List.Elements.{filter-append}
 use Rattle.std.specs.Map.{keys_of}
@@ -41,7 +42,8 @@ module _ {K V : Type 0} {eq : K → K → Bool} (laws : IsEquivalence eq) where
   keys_named_by-keys_with : (m : Lists K V) (k : K) → IsWellFormed eq m → keys_named_by eq (keys_with eq m.keys k) m.pairs ≡ m.keys
   keys_named_by-keys_with m k formed =
       let named : K → Bool = is_listed eq (keys_of m.pairs) in
-      let old : filter named m.keys ≡ m.keys = filter-all named m.keys (λ j member. is_listed-self laws j (keys_of m.pairs) (formed.used j member)) in
+      let old : filter named m.keys ≡ m.keys = filter-all named m.keys
+      (λ j member. is_listed-self laws j (keys_of m.pairs) (formed.used j member)) in
       let P : Bool → Type 0 = λ b. is_listed eq m.keys k ≡ b → filter named (cond b m.keys (m.keys ++ k ∷ [])) ≡ m.keys in
       elim (is_listed eq m.keys k) as P [
         | true ↦ λ _. old
@@ -51,7 +53,8 @@ module _ {K V : Type 0} {eq : K → K → Bool} (laws : IsEquivalence eq) where
       ] refl
 
   -- the stored key is still named exactly if the key was present
-  is_listed-stored_key : (m : Lists K V) (k : K) → IsWellFormed eq m → is_listed eq (keys_of m.pairs) (stored_key eq m.keys k) ≡ is_present eq m.pairs k
+  is_listed-stored_key : (m : Lists K V) (k : K) → IsWellFormed eq m
+      → is_listed eq (keys_of m.pairs) (stored_key eq m.keys k) ≡ is_present eq m.pairs k
   is_listed-stored_key m k formed =
       let P : Bool → Type 0 = λ b. is_listed eq m.keys k ≡ b → is_listed eq (keys_of m.pairs) (stored_key eq m.keys k) ≡ b in
       elim (is_listed eq m.keys k) as P [
@@ -63,7 +66,8 @@ module _ {K V : Type 0} {eq : K → K → Bool} (laws : IsEquivalence eq) where
   pop_undoes_append m k v formed =
       let last : K × V = (stored_key eq m.keys k, v) in
       record {
-        lists_again = rw (has_items-push m.pairs last, end_rest-push m.pairs last) (ap (λ keys. lists keys m.pairs) (keys_named_by-keys_with m k formed));
+        lists_again = rw (has_items-push m.pairs last, end_rest-push m.pairs last)
+            (ap (λ keys. lists keys m.pairs) (keys_named_by-keys_with m k formed));
         answer = rw (end_item-push m.pairs last, end_rest-push m.pairs last, is_listed-stored_key m k formed) refl;
       }
 
@@ -73,20 +77,24 @@ module _ {K : Type 0} {eq : K → K → Bool} (laws : IsEquivalence eq) where
   is_listed-others j k [] e = refl
   is_listed-others j k (i ∷ keys) e =
       let P : Bool → Type 0 = λ b. eq j i ≡ b
-      → is_listed eq (cond (not b) (i ∷ filter (λ i. not (eq j i)) keys) (filter (λ i. not (eq j i)) keys)) k ≡ (eq k i || is_listed eq keys k) in
+      → is_listed eq (cond (not b) (i ∷ filter (λ i. not (eq j i)) keys) (filter (λ i. not (eq j i)) keys)) k ≡
+      (eq k i || is_listed eq keys k) in
       elim (eq j i) as P [
-        | true ↦ λ y. let apart : eq k i ≡ false = laws.symm k i ∙ sym (laws.congr j i k y) ∙ laws.symm j k ∙ e in rw apart (is_listed-others j k keys e)
+        | true ↦ λ y. let apart : eq k i ≡ false = laws.symm k i ∙ sym (laws.congr j i k y) ∙ laws.symm j k ∙ e in
+            rw apart (is_listed-others j k keys e)
         | false ↦ λ y. ap (λ b. eq k i || b) (is_listed-others j k keys e)
       ] refl
 
 module _ {K V : Type 0} {eq : K → K → Bool} (laws : IsEquivalence eq) where
-  first_occurrences-push : (pairs : List (K × V)) (k : K) (v : V) → first_occurrences eq (pairs ++ (k, v) ∷ []) ≡ keys_with eq (first_occurrences eq pairs) k
+  first_occurrences-push : (pairs : List (K × V)) (k : K) (v : V)
+      → first_occurrences eq (pairs ++ (k, v) ∷ []) ≡ keys_with eq (first_occurrences eq pairs) k
   first_occurrences-push [] k v = refl
   first_occurrences-push (q ∷ pairs) k v =
       let apart : K → Bool = λ i. not (eq q.0 i) in
       let keys : List K = first_occurrences eq pairs in
       let P : Bool → Type 0 = λ b. eq k q.0 ≡ b
-      → (q.0 ∷ filter apart (keys_with eq keys k)) ≡ cond (b || is_listed eq (filter apart keys) k) (q.0 ∷ filter apart keys) ((q.0 ∷ filter apart keys) ++ k ∷ []) in
+      → (q.0 ∷ filter apart (keys_with eq keys k)) ≡ cond (b || is_listed eq (filter apart keys) k) (q.0 ∷ filter apart keys)
+      ((q.0 ∷ filter apart keys) ++ k ∷ []) in
       let Q : Bool → Type 0 = λ b. is_listed eq keys k ≡ b
       → (q.0 ∷ filter apart (cond b keys (keys ++ k ∷ []))) ≡ cond b (q.0 ∷ filter apart keys) (q.0 ∷ (filter apart keys ++ k ∷ [])) in
       ap (λ js. q.0 ∷ filter apart js) (first_occurrences-push pairs k v) ∙ elim (eq k q.0) as P [
@@ -94,11 +102,13 @@ module _ {K V : Type 0} {eq : K → K → Bool} (laws : IsEquivalence eq) where
             let back : eq q.0 k ≡ true = laws.symm q.0 k ∙ y in
             elim (is_listed eq keys k) as (λ b. (q.0 ∷ filter apart (cond b keys (keys ++ k ∷ []))) ≡ q.0 ∷ filter apart keys) [
               | true ↦ refl
-              | false ↦ ap (λ js. q.0 ∷ js) (filter-append apart keys (k ∷ []) ∙ ap (λ b. filter apart keys ++ cond (not b) (k ∷ []) []) back ∙ append-nil (filter apart keys))
+              | false ↦ ap (λ js. q.0 ∷ js) (filter-append apart keys (k ∷ [])
+                  ∙ ap (λ b. filter apart keys ++ cond (not b) (k ∷ []) []) back ∙ append-nil (filter apart keys))
             ]
         | false ↦ λ n. rw (is_listed-others laws q.0 k keys n) (elim (is_listed eq keys k) as Q [
           | true ↦ λ _. refl
-          | false ↦ λ _. ap (λ js. q.0 ∷ js) (filter-append apart keys (k ∷ []) ∙ ap (λ b. filter apart keys ++ cond (not b) (k ∷ []) []) (laws.symm q.0 k ∙ n))
+          | false ↦ λ _. ap (λ js. q.0 ∷ js) (filter-append apart keys (k ∷ [])
+              ∙ ap (λ b. filter apart keys ++ cond (not b) (k ∷ []) []) (laws.symm q.0 k ∙ n))
         ] refl)
       ] refl
 
@@ -133,7 +143,8 @@ module _ {K V : Type 0} {eq : K → K → Bool} (laws : IsEquivalence eq) where
       let step : appended eq (lists keys done) p.0 p.1 ≡ lists (first_occurrences eq (done ++ p ∷ [])) (done ++ p ∷ []) =
       ap (λ new. lists new (done ++ (stored_key eq keys p.0, p.1) ∷ [])) (sym (first_occurrences-push done p.0 p.1))
       ∙ ap (λ key. lists (first_occurrences eq (done ++ p ∷ [])) (done ++ (key, p.1) ∷ [])) own in
-      ap (λ m. all_appended eq m pairs) step ∙ built_on (done ++ p ∷ []) pairs (subst IsExact (sym whole) exact) ∙ ap (λ all. lists (first_occurrences eq all) all) whole
+      ap (λ m. all_appended eq m pairs) step ∙ built_on (done ++ p ∷ []) pairs (subst IsExact (sym whole) exact)
+      ∙ ap (λ all. lists (first_occurrences eq all) all) whole
 
   pub rebuilt : (m : Lists K V) → IsWellFormed eq m → IsRebuilt eq m
   rebuilt m formed = built_on [] m.pairs (record {

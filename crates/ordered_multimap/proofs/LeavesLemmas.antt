@@ -6,6 +6,8 @@ use Rattle.std.specs.Ordering.{nat_cmp}
 use Rattle.std.specs.FinMap.{FinMap}
 use Rattle.multimap_slots.specs.Lists.{IsIn, without}
 use Rattle.multimap_slots.specs.Slots.{Slots, item_at}
+use Rattle.multimap_slots.specs.Tapes.{Taped}
+use Rattle.multimap_table.specs.Table.{Table}
 use Rattle.multimap_walks.specs.declared.links.KeyLink.{KeyLink}
 use Rattle.multimap_walks.specs.declared.links.ValueLink.{ValueLink}
 use Rattle.multimap_walks.specs.Chained.{pair_at, pairs_of}
@@ -13,7 +15,9 @@ use Rattle.ordered_multimap.specs.Agrees.{Agrees, HasKey, items_of, lists_of}
 use Rattle.ordered_multimap.specs.Keys.{is_listed, stored_key, keys_named_by}
 use Rattle.ordered_multimap.specs.Lists.{Lists, lists, IsWellFormed}
 use Rattle.ordered_multimap.specs.Changes.{kept}
-use Rattle.ordered_multimap.specs.TakesOne.{TakesOne, TakesLast, TakesPair, TakesByKey, TakesBeside}
+use Rattle.ordered_multimap.specs.RetainSteps.{RetainsAt, StaysIf}
+use Rattle.ordered_multimap.specs.Takes.{HasChain, KeepsRoom}
+use Rattle.ordered_multimap.specs.TakesOne.{HasPair, TakesOne, TakesLast, TakesPair, TakesByKey, TakesBeside}
 use Rattle.ordered_multimap.specs.declared.list_ordered_multimap.take_one.Taken.{Taken}
 use Rattle.ordered_multimap.specs.declared.list_ordered_multimap.take_one.TakenKey.{TakenKey}
 use Rattle.ordered_multimap.specs.declared.list_ordered_multimap.take_one.TakenKey.TheVariants.{Kept, Gone}
@@ -26,35 +30,80 @@ use Rattle.ordered_multimap.proofs.PlaceLemmas.{IsIn-filter_map}
 use Rattle.ordered_multimap.proofs.TakeLemmas.{agrees-taken, lists_of-taken, pair_at-taken}
 use Rattle.ordered_multimap.proofs.WellFormedLemmas.{same_keys}
 
+-- a listed value is that of a pair
+pub has_pair : {K V : Type 0} {eq : K → K → Bool} {hash : K → ℕ} {keys : Slots K KeyLink} {rows : FinMap nat_cmp ℕ}
+    {values : Slots V ValueLink}
+    → Agrees eq hash keys rows values → (place : ℕ) → IsIn place values.order → HasPair keys rows values place
+has_pair agrees place listed = record {
+  listed = listed;
+  sound = agrees.values_sound;
+  chained = agrees.chained;
+  row = λ l k is key_is. agrees.in_table l.key k (agrees.chained.owned place l listed is) key_is;
+}
+
+-- a listed key has a chain
+pub has_chain : {K V : Type 0} {eq : K → K → Bool} {hash : K → ℕ} {keys : Slots K KeyLink} {rows : FinMap nat_cmp ℕ}
+    {values : Slots V ValueLink}
+    → Agrees eq hash keys rows values → (place : ℕ) → IsIn place keys.order → HasChain keys values place
+has_chain agrees place listed = record { listed = listed; sound = agrees.values_sound; chained = agrees.chained }
+
+-- a step of `retain` changes no room
+module _ {F K V : Type 0} {calls : F → K → V → Bool → V → F → Type 0} {keys keys_after : Slots K KeyLink} {table table_after : Table}
+    {values values_after : Taped V ValueLink} {place : ℕ} {f g : F} where
+  pub retains_room : RetainsAt calls keys keys_after table table_after values values_after place f g
+      → KeepsRoom keys keys_after table table_after values values_after
+  retains_room at = by at.answer at.rest
+    where
+      same : at.asked.list.capacity ≡ values.list.capacity
+      same = ap (λ (t : Taped V ValueLink). t.list.capacity) at.asks.written
+
+      by : (b : Bool) → StaysIf calls keys keys_after table table_after at.asked values_after place b
+          → KeepsRoom keys keys_after table table_after values values_after
+      by true stays = record {
+        key_room = ap (λ (s : Slots K KeyLink). s.capacity) stays.keys_are;
+        row_room = ap (λ (t : Table). t.capacity) stays.table_is;
+        value_room = ap (λ (t : Taped V ValueLink). t.list.capacity) stays.values_are ∙ same;
+      }
+      by false leaves = record {
+        key_room = leaves.1.room.key_room;
+        row_room = leaves.1.room.row_room;
+        value_room = leaves.1.room.value_room ∙ same;
+      }
+
 -- the lists without one pair of a key that stays
-module _ {K V : Type 0} {eq : K → K → Bool} (laws : IsEquivalence eq) {hash : K → ℕ} {keys keys_after : Slots K KeyLink} {rows : FinMap nat_cmp ℕ} {values values_after : Slots V ValueLink}
-    (agrees : Agrees eq hash keys rows values) (place : ℕ) (listed : IsIn place values.order) {v : V} (takes : TakesOne keys keys_after values values_after place v)
-    (room : values_after.capacity ≡ values.capacity) where
+module _ {K V : Type 0} {eq : K → K → Bool} (laws : IsEquivalence eq) {hash : K
+    → ℕ} {keys keys_after : Slots K KeyLink} {rows : FinMap nat_cmp ℕ} {values values_after : Slots V ValueLink}
+    (agrees : Agrees eq hash keys rows values) (place : ℕ) (listed : IsIn place values.order) {v : V}
+    (takes : TakesOne keys keys_after values values_after place v) where
   formed : IsWellFormed eq (lists_of keys_after values_after)
-  formed = well_formed (agrees-one agrees place listed takes room)
+  formed = well_formed (agrees-one agrees place listed takes)
 
   pub lists_of-one : lists_of keys_after values_after ≡ kept eq (lists_of keys values) (pairs_of keys_after values_after)
   lists_of-one =
       let named = λ (j : K) (i : IsIn j (items_of keys)). formed.used j (subst (IsIn j) (sym (items_of-one agrees place listed takes)) i) in
       ap (λ ks. lists ks (pairs_of keys_after values_after))
       (items_of-one agrees place listed takes
-      ∙ sym (filter-all (is_listed eq (keys_of (pairs_of keys_after values_after))) (items_of keys) (λ j i. is_listed-self laws j (keys_of (pairs_of keys_after values_after)) (named j i))))
+      ∙ sym (filter-all (is_listed eq (keys_of (pairs_of keys_after values_after))) (items_of keys)
+      (λ j i. is_listed-self laws j (keys_of (pairs_of keys_after values_after)) (named j i))))
 
   -- which still name it
   pub still_named : (k : K) → item_at keys takes.link.key ≡ Some k → is_listed eq (keys_of (pairs_of keys_after values_after)) k ≡ true
   still_named k is =
       let has = has_item-one agrees place listed takes k is in
-      is_listed-self laws k (keys_of (pairs_of keys_after values_after)) (formed.used k (IsIn-filter_map (item_at keys_after) takes.link.key k keys_after.order has.listed has.item_is))
+      is_listed-self laws k (keys_of (pairs_of keys_after values_after))
+      (formed.used k (IsIn-filter_map (item_at keys_after) takes.link.key k keys_after.order has.listed has.item_is))
 
 -- the pair at the place has left
-pub record LeavesAt {K V : Type 0} (eq : K → K → Bool) (hash : K → ℕ) (keys keys_after : Slots K KeyLink) (rows_after : FinMap nat_cmp ℕ) (values values_after : Slots V ValueLink) (place : ℕ) : Type 0 where
+pub record LeavesAt {K V : Type 0} (eq : K → K → Bool) (hash : K → ℕ) (keys keys_after : Slots K KeyLink) (rows_after : FinMap nat_cmp ℕ)
+    (values values_after : Slots V ValueLink) (place : ℕ) : Type 0 where
   pub agrees : Agrees eq hash keys_after rows_after values_after
   pub order : values_after.order ≡ without values.order place
   pub same : (q : ℕ) → IsIn q values_after.order → pair_at keys_after values_after q ≡ pair_at keys values q
   pub keys_are : items_of keys_after ≡ keys_named_by eq (items_of keys) (pairs_of keys_after values_after)
 
 -- the key whose only value has left
-module _ {K V : Type 0} {eq : K → K → Bool} {hash : K → ℕ} {keys keys_after : Slots K KeyLink} {rows rows_after : FinMap nat_cmp ℕ} {values values_after : Slots V ValueLink}
+module _ {K V : Type 0} {eq : K → K → Bool} {hash : K
+    → ℕ} {keys keys_after : Slots K KeyLink} {rows rows_after : FinMap nat_cmp ℕ} {values values_after : Slots V ValueLink}
     (agrees : Agrees eq hash keys rows values) (place : ℕ) (listed : IsIn place values.order) (v : V) (key : K)
     (last : TakesLast keys keys_after rows rows_after values values_after place key v) where
   pub last_key_is : item_at keys last.link.key ≡ Some (pair_in agrees place listed).key
@@ -72,51 +121,58 @@ module _ {K V : Type 0} {eq : K → K → Bool} {hash : K → ℕ} {keys keys_af
     equal = laws.refl (pair_in agrees place listed).key;
   }
 
-module _ {K V : Type 0} {eq : K → K → Bool} (laws : IsEquivalence eq) {hash : K → ℕ} {keys keys_after : Slots K KeyLink} {rows rows_after : FinMap nat_cmp ℕ} {values values_after : Slots V ValueLink}
-    (agrees : Agrees eq hash keys rows values) (place : ℕ) (listed : IsIn place values.order)
-    (keys_room : keys_after.capacity ≡ keys.capacity) (values_room : values_after.capacity ≡ values.capacity) (v : V) where
+module _ {K V : Type 0} {eq : K → K → Bool} (laws : IsEquivalence eq) {hash : K
+    → ℕ} {keys keys_after : Slots K KeyLink} {rows rows_after : FinMap nat_cmp ℕ} {values values_after : Slots V ValueLink}
+    (agrees : Agrees eq hash keys rows values) (place : ℕ) (listed : IsIn place values.order) (v : V) where
   -- the key has other values, and stays
-  pub beside_at : (key : ℕ) → TakesBeside keys keys_after rows rows_after values values_after place v key → LeavesAt eq hash keys keys_after rows_after values values_after place
+  pub beside_at : (key : ℕ) → TakesBeside keys keys_after rows rows_after values values_after place v key
+      → LeavesAt eq hash keys keys_after rows_after values values_after place
   beside_at key beside = record {
-    agrees = subst (λ r. Agrees eq hash keys_after r values_after) (sym beside.rows_are) (agrees-one agrees place listed beside.one values_room);
+    agrees = subst (λ r. Agrees eq hash keys_after r values_after) (sym beside.rows_are) (agrees-one agrees place listed beside.one);
     order = beside.one.order;
     same = pair_at-one agrees place listed beside.one;
-    keys_are = ap (λ (m : Lists K V). m.keys) (lists_of-one laws agrees place listed beside.one values_room);
+    keys_are = ap (λ (m : Lists K V). m.keys) (lists_of-one laws agrees place listed beside.one);
   }
 
   -- it was the key's only value, and the key goes too
-  pub last_at : (key : K) → TakesLast keys keys_after rows rows_after values values_after place key v → LeavesAt eq hash keys keys_after rows_after values values_after place
+  pub last_at : (key : K) → TakesLast keys keys_after rows rows_after values values_after place key v
+      → LeavesAt eq hash keys keys_after rows_after values values_after place
   last_at key last =
       let name = (pair_in agrees place listed).key in
       let has = has_last_key agrees place listed v key last laws in
       let t = last.entry.taken in
       let r = last.entry.removed in
-      let gone = lists_of-taken laws agrees name last.link.key has t r rows_after last.entry.rows_are keys_room values_room in
+      let gone = lists_of-taken laws agrees name last.link.key has t r rows_after last.entry.rows_are in
       record {
-        agrees = agrees-taken laws agrees name last.link.key has t r rows_after last.entry.rows_are keys_room values_room;
+        agrees = agrees-taken laws agrees name last.link.key has t r rows_after last.entry.rows_are;
         order = last.order;
         same = pair_at-taken laws agrees name last.link.key has t r;
         keys_are = ap (λ (m : Lists K V). m.keys) gone ∙ ap (λ (m : Lists K V). keys_named_by eq (items_of keys) m.pairs) (sym gone);
       }
 
   -- the pairs no longer name it
-  pub no_longer_named : (key : K) → TakesLast keys keys_after rows rows_after values values_after place key v → is_listed eq (keys_of (pairs_of keys_after values_after)) (pair_in agrees place listed).key ≡ false
+  pub no_longer_named : (key : K) → TakesLast keys keys_after rows rows_after values values_after place key v
+      → is_listed eq (keys_of (pairs_of keys_after values_after)) (pair_in agrees place listed).key ≡ false
   no_longer_named key last =
       let name = (pair_in agrees place listed).key in
       let has = has_last_key agrees place listed v key last laws in
-      let gone = lists_of-taken laws agrees name last.link.key has last.entry.taken last.entry.removed rows_after last.entry.rows_are keys_room values_room in
+      let gone = lists_of-taken laws agrees name last.link.key has last.entry.taken last.entry.removed rows_after last.entry.rows_are in
       ap (λ (m : Lists K V). is_listed eq (keys_of m.pairs) name) gone
       ∙ ap (λ js. is_listed eq js name) (keys_of-without eq name (pairs_of keys values))
       ∙ is_listed-equal laws name name (keys_of (pairs_of keys values)) (laws.refl name)
 
-  leaves_by_key : (key : TakenKey K) → TakesByKey keys keys_after rows rows_after values values_after place v key → LeavesAt eq hash keys keys_after rows_after values values_after place
+  leaves_by_key : (key : TakenKey K) → TakesByKey keys keys_after rows rows_after values values_after place v key
+      → LeavesAt eq hash keys keys_after rows_after values values_after place
   leaves_by_key (Kept key) beside = beside_at key beside
   leaves_by_key (Gone key) last = last_at key last
 
-pub leaves_at : {K V : Type 0} {eq : K → K → Bool} (laws : IsEquivalence eq) {hash : K → ℕ} {keys keys_after : Slots K KeyLink} {rows rows_after : FinMap nat_cmp ℕ} {values values_after : Slots V ValueLink}
-    → Agrees eq hash keys rows values → (place : ℕ) → IsIn place values.order → keys_after.capacity ≡ keys.capacity → values_after.capacity ≡ values.capacity
-    → (taken : Taken K V) → TakesPair keys keys_after rows rows_after values values_after place taken → LeavesAt eq hash keys keys_after rows_after values values_after place
-leaves_at laws agrees place listed keys_room values_room taken takes = leaves_by_key laws agrees place listed keys_room values_room taken.value taken.key takes
+pub leaves_at : {K V : Type 0} {eq : K → K → Bool}
+    (laws : IsEquivalence eq) {hash : K → ℕ} {keys keys_after : Slots K KeyLink} {rows rows_after : FinMap nat_cmp ℕ} {values
+    values_after : Slots V ValueLink}
+    → Agrees eq hash keys rows values → (place : ℕ) → IsIn place values.order
+    → (taken : Taken K V) → TakesPair keys keys_after rows rows_after values values_after place taken
+    → LeavesAt eq hash keys keys_after rows_after values values_after place
+leaves_at laws agrees place listed taken takes = leaves_by_key laws agrees place listed taken.value taken.key takes
 
 -- the keys that pairs name, once others were kept before
 module _ {K V : Type 0} {eq : K → K → Bool} (laws : IsEquivalence eq) where
@@ -128,7 +184,8 @@ module _ {K V : Type 0} {eq : K → K → Bool} (laws : IsEquivalence eq) where
       is_listed-member laws k (stored_key eq (keys_of fewer) k) (keys_of pairs) (among (stored_key eq (keys_of fewer) k) s.0) s.1)
 
   -- all keys are named at first
-  pub named_by-all : {hash : K → ℕ} {keys : Slots K KeyLink} {rows : FinMap nat_cmp ℕ} {values : Slots V ValueLink} → Agrees eq hash keys rows values
+  pub named_by-all : {hash : K → ℕ} {keys : Slots K KeyLink} {rows : FinMap nat_cmp ℕ} {values : Slots V ValueLink}
+      → Agrees eq hash keys rows values
       → items_of keys ≡ keys_named_by eq (items_of keys) (pairs_of keys values)
   named_by-all {keys = keys} {values = values} agrees =
       sym (filter-all (is_listed eq (keys_of (pairs_of keys values))) (items_of keys)

@@ -1,5 +1,6 @@
 -- A map whose values were written through a loan is the map with other values, and agrees as before.
-use Rattle.std.proofs.Common.{◌≡◌, ℕ, zero, get_or, unwrap_or, inl, inr, List, [], ◌∷◌, length, Option, Some, None, IsSome, refl, sym, ap, ◌∙◌, subst, arith, Bool, suc, map, true, false}
+use Rattle.std.proofs.Common.{◌≡◌, ℕ, zero, get_or, unwrap_or, inl, inr, List, [], ◌∷◌, length, Option, Some, None, IsSome, refl, sym, ap}
+use Rattle.std.proofs.Common.{◌∙◌, subst, arith, Bool, suc, map, true, false}
 use Rattle.ordered_multimap.specs.TapeNumbers.{numbers_code}
 use Rattle.ordered_multimap.specs.MapSlots.{key_link_code, value_link_code, ends_code}
 use Rattle.multimap_slots.specs.Codes.{slots_code}
@@ -59,11 +60,13 @@ module _ {K V : Type 0} where
   revalued_one (Some k) (Some v) (Some w) ps qs some none = refl
 
   revalued_places : (keys : Slots K KeyLink) (values : Slots V ValueLink) (items : List (Option V)) (places : List ℕ)
-      → revalued (filter_map (pair_at keys values) places) (filter_map (pair_at keys (with_refilled values items)) places) ≡ filter_map (pair_at keys (with_refilled values items)) places
+      → revalued (filter_map (pair_at keys values) places) (filter_map (pair_at keys (with_refilled values items)) places) ≡ filter_map
+      (pair_at keys (with_refilled values items)) places
   revalued_places keys values items [] = refl
   revalued_places keys values items (p ∷ ps) =
       let new = with_refilled values items in
-      revalued_one (key_of keys values p) (item_at values p) (item_at new p) (filter_map (pair_at keys values) ps) (filter_map (pair_at keys new) ps)
+      revalued_one (key_of keys values p) (item_at values p) (item_at new p) (filter_map (pair_at keys values) ps)
+      (filter_map (pair_at keys new) ps)
       (some-refilled values.items items p) (none-refilled values.items items p)
       ∙ ap (cons_option (pair_at keys new p)) (revalued_places keys values items ps)
 
@@ -82,11 +85,18 @@ module _ {K V : Type 0} where
   length_revalued (p ∷ ps) [] = ap suc (length_revalued ps [])
   length_revalued (p ∷ ps) (q ∷ qs) = ap suc (length_revalued ps qs)
 
-  pub Agrees-refilled : (eq : K → K → Bool) (hash : K → ℕ) (keys : Slots K KeyLink) (rows : FinMap nat_cmp ℕ) (values : Slots V ValueLink) (items : List (Option V))
+  pub Agrees-refilled : (eq : K → K → Bool) (hash : K → ℕ) (keys : Slots K KeyLink) (rows : FinMap nat_cmp ℕ) (values : Slots V ValueLink)
+      (items : List (Option V))
       → Agrees eq hash keys rows values → Agrees eq hash keys rows (with_refilled values items)
   Agrees-refilled eq hash keys rows values items a = record {
     keys_sound = a.keys_sound;
-    values_sound = record { distinct = a.values_sound.distinct; filled = λ p i. some-refilled values.items items p (a.values_sound.filled p i); linked = a.values_sound.linked; fits = a.values_sound.fits };
+    values_sound = record {
+      distinct = a.values_sound.distinct;
+      filled = λ p i. some-refilled values.items items p
+          (a.values_sound.filled p i);
+      linked = a.values_sound.linked;
+      fits = a.values_sound.fits;
+    };
     chained = record { owned = a.chained.owned; head = a.chained.head; tail = a.chained.tail; length = a.chained.length; previous = a.chained.previous; next = a.chained.next };
     distinct = a.distinct;
     hashed = a.hashed;
@@ -95,10 +105,17 @@ module _ {K V : Type 0} where
     counted = a.counted;
   }
 
-  Agrees-bare : (eq : K → K → Bool) (hash : K → ℕ) (keys : Slots K KeyLink) (rows : FinMap nat_cmp ℕ) (values : Slots V ValueLink) → Agrees eq hash keys rows values → Agrees eq hash keys rows (record values { capacity = length values.order })
+  Agrees-bare : (eq : K → K → Bool) (hash : K → ℕ) (keys : Slots K KeyLink) (rows : FinMap nat_cmp ℕ) (values : Slots V ValueLink)
+      → Agrees eq hash keys rows values → Agrees eq hash keys rows (record values { capacity = length values.order })
   Agrees-bare eq hash keys rows values a = record {
     keys_sound = a.keys_sound;
-    values_sound = record { distinct = a.values_sound.distinct; filled = a.values_sound.filled; linked = a.values_sound.linked; fits = omega arith };
+    values_sound = record {
+      distinct = a.values_sound.distinct;
+      filled = a.values_sound.filled;
+      linked = a.values_sound.linked;
+      fits = omega
+          arith;
+    };
     chained = record { owned = a.chained.owned; head = a.chained.head; tail = a.chained.tail; length = a.chained.length; previous = a.chained.previous; next = a.chained.next };
     distinct = a.distinct;
     hashed = a.hashed;
@@ -108,8 +125,10 @@ module _ {K V : Type 0} where
   }
 
   -- the cells of the map's values agree with its keys
-  pub AreLent-made : {S A : Type 0} (eq : K → K → Bool) (hash : S → K → ℕ) (m : Multimap K V S) (keys : Slots K KeyLink) (rows : FinMap nat_cmp ℕ) (values : Slots V ValueLink) (cells : SlotCells V ValueLink A)
-      → Agrees eq (hash m.hasher) keys rows values → lists_of keys values ≡ m.lists → keys ≡ m.slots.keys → values ≡ m.slots.values → LendsSlots values cells → AreLent eq hash m cells keys
+  pub AreLent-made : {S A : Type 0} (eq : K → K → Bool) (hash : S → K → ℕ) (m : Multimap K V S) (keys : Slots K KeyLink)
+      (rows : FinMap nat_cmp ℕ) (values : Slots V ValueLink) (cells : SlotCells V ValueLink A)
+      → Agrees eq (hash m.hasher) keys rows values → lists_of keys values ≡ m.lists → keys ≡ m.slots.keys → values ≡ m.slots.values
+      → LendsSlots values cells → AreLent eq hash m cells keys
   AreLent-made eq hash m keys rows values cells agrees shown keys_are values_are lent = record {
     keys_are = keys_are;
     values_are = subst (λ (s : Slots V ValueLink). LendsSlots s cells) values_are lent;
@@ -120,7 +139,8 @@ module _ {K V : Type 0} where
   }
 
 -- an item that stood there is another one afterwards, if one is there
-item-refilled : {X : Type 0} (xs ys : List (Option X)) (p : ℕ) (x : X) → get_or xs p None ≡ Some x → get_or (refilled xs ys) p None ≡ Some (unwrap_or (get_or ys p None) x)
+item-refilled : {X : Type 0} (xs ys : List (Option X)) (p : ℕ) (x : X) → get_or xs p None ≡ Some x
+    → get_or (refilled xs ys) p None ≡ Some (unwrap_or (get_or ys p None) x)
 item-refilled [] ys p x e = absurd (let bad = e in cc)
 item-refilled (o ∷ xs) [] zero x e = e
 item-refilled (None ∷ xs) (y ∷ ys) zero x e = absurd (let bad = e in cc)
@@ -131,12 +151,14 @@ item-refilled (None ∷ xs) (y ∷ ys) (suc p) x e = item-refilled xs ys p x e
 item-refilled (Some z ∷ xs) (None ∷ ys) (suc p) x e = item-refilled xs ys p x e
 item-refilled (Some z ∷ xs) (Some y ∷ ys) (suc p) x e = item-refilled xs ys p x e
 
-module _ {K V : Type 0} {eq : K → K → Bool} {hash : K → ℕ} {keys : Slots K KeyLink} {rows : FinMap nat_cmp ℕ} {values : Slots V ValueLink} (agrees : Agrees eq hash keys rows values) (ws : List (Option V)) where
+module _ {K V : Type 0} {eq : K → K → Bool} {hash : K → ℕ} {keys : Slots K KeyLink} {rows : FinMap nat_cmp ℕ} {values : Slots V ValueLink}
+    (agrees : Agrees eq hash keys rows values) (ws : List (Option V)) where
   abbrev new : Slots V ValueLink
   new = with_refilled values ws
 
   ended_along : (places : List ℕ) → ((q : ℕ) → IsIn q places → IsIn q values.order)
-      → revalued (filter_map (pair_at keys values) places) (filter_map (pair_at keys new) places) ≡ pairs_ended (filter_map (pair_at keys values) places) places ws
+      → revalued (filter_map (pair_at keys values) places) (filter_map (pair_at keys new) places) ≡ pairs_ended
+      (filter_map (pair_at keys values) places) places ws
   ended_along [] listed = refl
   ended_along (q ∷ places) listed =
       let p = pair_in agrees q (listed q (inl refl)) in
@@ -144,7 +166,8 @@ module _ {K V : Type 0} {eq : K → K → Bool} {hash : K → ℕ} {keys : Slots
       let news : List (K × V) = filter_map (pair_at keys new) places in
       let w : V = unwrap_or (get_or ws q None) p.value in
       ap (λ o. revalued (cons_option o olds) (cons_option (pair_at keys new q) news)) p.pair_is
-      ∙ ap (λ o. revalued ((p.key, p.value) ∷ olds) (cons_option o news)) (pair_at-is keys new q p.link p.key w p.link_is p.key_is (item-refilled values.items ws q p.value p.value_is))
+      ∙ ap (λ o. revalued ((p.key, p.value) ∷ olds) (cons_option o news))
+      (pair_at-is keys new q p.link p.key w p.link_is p.key_is (item-refilled values.items ws q p.value p.value_is))
       ∙ ap (λ ps. (p.key, w) ∷ ps) (ended_along places (λ r i. listed r (inr i)))
       ∙ sym (ap (λ o. pairs_ended (cons_option o olds) (q ∷ places) ws) p.pair_is)
 
@@ -153,13 +176,18 @@ module _ {K V : Type 0} {eq : K → K → Bool} {hash : K → ℕ} {keys : Slots
   pairs-ended = ended_along values.order (λ q i. i)
 
 -- and so have those of a map
-pub map-ended : {K V S : Type 0} {eq : K → K → Bool} {hash : K → ℕ} (m n : Multimap K V S) (rows : FinMap nat_cmp ℕ) → n ≡ m → Agrees eq hash n.slots.keys rows n.slots.values → n.lists.pairs ≡ pairs_of n.slots.keys n.slots.values
+pub map-ended : {K V S : Type 0} {eq : K → K → Bool} {hash : K → ℕ} (m n : Multimap K V S) (rows : FinMap nat_cmp ℕ) → n ≡ m
+    → Agrees eq hash n.slots.keys rows n.slots.values → n.lists.pairs ≡ pairs_of n.slots.keys n.slots.values
     → (ws : List (Option V)) → (with_values m ws).lists.pairs ≡ pairs_ended m.lists.pairs m.slots.values.order ws
 map-ended {K} {V} {S} m n rows same agrees shown ws =
     subst (λ (h : Multimap K V S). (with_values h ws).lists.pairs ≡ pairs_ended h.lists.pairs h.slots.values.order ws) same
-    (ap (λ ps. revalued ps (pairs_of n.slots.keys (with_refilled n.slots.values ws))) shown ∙ pairs-ended agrees ws ∙ sym (ap (λ ps. pairs_ended ps n.slots.values.order ws) shown))
+    (ap (λ ps. revalued ps (pairs_of n.slots.keys (with_refilled n.slots.values ws))) shown ∙ pairs-ended agrees ws
+    ∙ sym (ap (λ ps. pairs_ended ps n.slots.values.order ws) shown))
 
 -- a walk lends what the call that made it lent
-pub ends_walk : {K V S A : Type 0} (m : Multimap K V S) (final : Option (List (Bool × Gv)) → List (Option V) → Gv) {walk lent : SlotCells V ValueLink A} {whole : List (Option V) → Gv} → walk ≡ lent
+pub ends_walk : {K V S A : Type 0} (m : Multimap K V S)
+    (final : Option (List (Bool × Gv)) → List (Option V) → Gv) {walk lent : SlotCells V ValueLink A} {whole : List (Option V) → Gv}
+    → walk ≡ lent
     → EndsAs m lent (final lent.cells.around) whole → EndsAs m walk (final walk.cells.around) whole
-ends_walk {V = V} {A = A} m final {whole = whole} same lent = subst (λ (c : SlotCells V ValueLink A). EndsAs m c (final c.cells.around) whole) (sym same) lent
+ends_walk {V = V} {A = A} m final {whole = whole} same lent = subst
+    (λ (c : SlotCells V ValueLink A). EndsAs m c (final c.cells.around) whole) (sym same) lent

@@ -19,7 +19,8 @@ module _ (ℓ : NamedLft) (K V : RattleType) where
   lent_pair_laws LK LV =
       let key = is_one K LK in let value = is_one V LV in
       Opt-laws LentPair (tuple_laws (ShrRef ℓ.mir ℓ.lft K ∷ MutRef ℓ.mir ℓ.lft V ∷ []) (
-        of_field (shr_ref_field ℓ K key) (shr_ref_laws ℓ K key) refl (copy_shared (shr_ref_field ℓ K key) (shr_ref_copy ℓ K key LK.shr_laws)),
+        of_field (shr_ref_field ℓ K key) (shr_ref_laws ℓ K key) refl
+            (copy_shared (shr_ref_field ℓ K key) (shr_ref_copy ℓ K key LK.shr_laws)),
         (of_field (mut_ref_field ℓ V value) (mut_ref_laws ℓ V value) refl (mut_ref_shared ℓ V value (row_shared V LV)), tt),
       ))
 
@@ -31,4 +32,8 @@ module _ (ℓ : NamedLft) (K W : RattleType) where
   pub lent_key_laws : Laws K → Laws W → Laws (Opt LentKey)
   lent_key_laws LK LW =
       let key = is_one K LK in
-      Opt-laws LentKey (tuple_laws (ShrRef ℓ.mir ℓ.lft K ∷ W ∷ []) (of_field (shr_ref_field ℓ K key) (shr_ref_laws ℓ K key) refl (copy_shared (shr_ref_field ℓ K key) (shr_ref_copy ℓ K key LK.shr_laws)), (LW, tt)))
+      Opt-laws LentKey (tuple_laws (ShrRef ℓ.mir ℓ.lft K ∷ W ∷ []) (
+        of_field (shr_ref_field ℓ K key) (shr_ref_laws ℓ K key) refl
+            (copy_shared (shr_ref_field ℓ K key) (shr_ref_copy ℓ K key LK.shr_laws)),
+        (LW, tt),
+      ))

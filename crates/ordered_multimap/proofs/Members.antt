@@ -20,7 +20,11 @@ module _ {X : Type 0} where
   IsIn-kept test x (y ∷ xs) member =
       let P : Bool → Type 0 = λ b. test y ≡ b → IsIn x (cond b (y ∷ filter test xs) (filter test xs)) → IsIn x (y ∷ xs) × (test x ≡ true) in
       elim (test y) as P [
-        | true ↦ λ e among. elim among [ inl here ↦ (inl here, ap test here ∙ e) | inr later ↦ let found = IsIn-kept test x xs later in (inr found.0, found.1) ]
+        | true ↦ λ e among. elim among [
+          | inl here ↦ (inl here, ap test here ∙ e)
+          | inr later ↦ let found = IsIn-kept test x xs later in
+              (inr found.0, found.1)
+        ]
         | false ↦ λ e among. let found = IsIn-kept test x xs among in (inr found.0, found.1)
       ] refl member
 
@@ -39,7 +43,8 @@ keys_of-append [] more = refl
 keys_of-append (p ∷ pairs) more = ap (λ keys. p.0 ∷ keys) (keys_of-append pairs more)
 
 -- pairs that are kept name no new key
-pub keys_of-filter : {K V : Type 0} (test : K × V → Bool) (k : K) (pairs : List (K × V)) → IsIn k (keys_of (filter test pairs)) → IsIn k (keys_of pairs)
+pub keys_of-filter : {K V : Type 0} (test : K × V → Bool) (k : K) (pairs : List (K × V)) → IsIn k (keys_of (filter test pairs))
+    → IsIn k (keys_of pairs)
 keys_of-filter test k [] member = member
 keys_of-filter test k (p ∷ pairs) member =
     let P : Bool → Type 0 = λ b. IsIn k (keys_of (cond b (p ∷ filter test pairs) (filter test pairs))) → IsIn k (keys_of (p ∷ pairs)) in

@@ -26,14 +26,15 @@ use Rattle.ordered_multimap.proofs.TakeLemmas.{not_true, still_listed, values_so
 use Rattle.ordered_multimap.proofs.TakingLemmas.{among-none, among-filter, not_among, taking-whole}
 
 module _ {K V : Type 0} {eq : K → K → Bool} (laws : IsEquivalence eq) {hash : K → ℕ} {keys keys_after : Slots K KeyLink} {rows : FinMap nat_cmp ℕ} {values values_after : Slots V ValueLink}
-    (agrees : Agrees eq hash keys rows values) (k : K) (place : ℕ) (has : HasKey eq keys k place) {first : V} (takes : TakesOlder keys keys_after values values_after place first)
+    (agrees : Agrees eq hash keys rows values) (k : K) (place : ℕ) (has : HasKey eq keys k place)
+    (takes : TakesOlder keys keys_after values values_after place)
     (front : List ℕ) (order_is : values.order ≡ front ++ takes.link.tail ∷ []) where
   abbrev own : ℕ → Bool
   own = is_value_of values place
 
   -- what has left is the chain without its last place
   pub parts : chain_of values place ≡ takes.taking.gone ++ takes.link.tail ∷ []
-  parts = taking-whole agrees.values_sound agrees.chained place takes.count takes.link.tail takes.left takes.taking
+  parts = taking-whole takes.count takes.link.tail takes.taking
       (omega (arith, takes.older, agrees.chained.length place takes.link has.listed takes.link_is))
 
   pub tail_own : (IsIn takes.link.tail values.order) × (own takes.link.tail ≡ true)
@@ -224,9 +225,9 @@ module _ {K V : Type 0} {eq : K → K → Bool} (laws : IsEquivalence eq) {hash 
             (ap (λ ps. next_of ps q) (chain_there s.old.key (other_key q s differs)) ∙ agrees.chained.next q s.old s.listed s.old_is)
       ]
 
-  values_sound-older : values_after.capacity ≡ values.capacity → IsSound values_after
-  values_sound-older room =
-      let left : IsSound takes.left = values_sound-taken takes.taking.taken agrees.values_sound (ap (λ (s : Slots V ValueLink). s.capacity) (sym takes.rest) ∙ room) in
+  values_sound-older : IsSound values_after
+  values_sound-older =
+      let left : IsSound takes.left = values_sound-taken takes.taking.taken agrees.values_sound in
       record {
         distinct = subst (λ (s : Slots V ValueLink). AreDistinct s.order) (sym takes.rest) left.distinct;
         filled = λ q i. subst (λ (s : Slots V ValueLink). IsSome (item_at s q)) (sym takes.rest) (left.filled q (subst (λ (s : Slots V ValueLink). IsIn q s.order) takes.rest i));
@@ -271,11 +272,11 @@ module _ {K V : Type 0} {eq : K → K → Bool} (laws : IsEquivalence eq) {hash 
           (s.item ∙ here.value_is)
           ∙ sym here.pair_is
 
-  pub agrees-older : values_after.capacity ≡ values.capacity → Agrees eq hash keys_after rows values_after
+  pub agrees-older : Agrees eq hash keys_after rows values_after
   unfolding link_now
-  agrees-older room = record {
+  agrees-older = record {
     keys_sound = subst IsSound (sym takes.keys_are) (IsSound-with_link keys place link_now has.listed agrees.keys_sound);
-    values_sound = values_sound-older room;
+    values_sound = values_sound-older;
     chained = chained-older;
     distinct = subst (λ (s : Slots K KeyLink). IsDistinct eq (items_of s)) (sym takes.keys_are) agrees.distinct;
     hashed = λ key j l i item is. elim (key_links key l is) [

@@ -247,19 +247,19 @@ module _ {K V : Type 0} {eq : K → K → Bool} {hash : K → ℕ} {keys keys_af
         subst (λ (m : ValueLink). next_of (chain_of values_after m.key) q ≡ m.next) e (behind q i s);
   }
 
-  values_sound-one : values_after.capacity ≡ values.capacity → IsSound values_after
-  values_sound-one room = record {
+  values_sound-one : IsSound values_after
+  values_sound-one = record {
     distinct = order_distinct;
     filled = λ q i. let s = stays_at q i in subst IsSome (sym s.item) (agrees.values_sound.filled q s.was_listed);
     linked = λ q i. let s = stays_at q i in subst IsSome (sym s.now_is) refl;
-    fits = omega (arith, agrees.values_sound.fits, room, ap length takes.order, filter_shorter (λ p. not (p == place)) values.order);
+    fits = omega (arith, agrees.values_sound.fits, takes.capacity, ap length takes.order, filter_shorter (λ p. not (p == place)) values.order);
   }
 
-  pub agrees-one : values_after.capacity ≡ values.capacity → Agrees eq hash keys_after rows values_after
+  pub agrees-one : Agrees eq hash keys_after rows values_after
   unfolding link_now
-  agrees-one room = record {
+  agrees-one = record {
     keys_sound = subst IsSound (sym takes.keys_are) (IsSound-with_link keys takes.link.key link_now key_listed agrees.keys_sound);
-    values_sound = values_sound-one room;
+    values_sound = values_sound-one;
     chained = chained-one;
     distinct = subst (λ (s : Slots K KeyLink). IsDistinct eq (items_of s)) (sym takes.keys_are) agrees.distinct;
     hashed = λ key j l i item is. elim (key_links key l is) [

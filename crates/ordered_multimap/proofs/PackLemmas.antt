@@ -1,5 +1,6 @@
 -- What the steps of a packing leave: each key goes to the end of the new list, and each value to its place on the new tape.
-use Rattle.std.proofs.Common.{◌≡◌, ◌≢◌, ◌==◌, ℕ, zero, suc, ◌+◌, ◌<◌, cond, not, List, [], ◌∷◌, ◌++◌, map, length, get_or, Option, Some, None, is_some, refl, sym, ap, ◌∙◌, subst, inl, inr, arith, length-append, append_assoc, ◌≤◌}
+use Rattle.std.proofs.Common.{◌≡◌, ◌≢◌, ◌==◌, ℕ, zero, suc, ◌+◌, ◌<◌, cond, not, List, [], ◌∷◌, ◌++◌, map, length, get_or, Option, Some}
+use Rattle.std.proofs.Common.{None, is_some, refl, sym, ap, ◌∙◌, subst, inl, inr, arith, length-append, append_assoc, ◌≤◌}
 use Rattle.std.proofs.lemmas.Bool.{cases_eq, eq-eqb, ne_eqb}
 use Rattle.std.proofs.lemmas.List.{get_or-set_same, get_or-set_other, map-append}
 use Rattle.std.specs.Cmp.{nat_cmp_total, unsigned_tied}
@@ -65,13 +66,15 @@ rows-start packed rows none no_row = record {
   counted = ap len no_row ∙ len-empty nat_cmp ℕ ∙ sym (ap length none.order);
 }
 
-module _ {K : Type 0} {left left_after packed packed_after : Slots K KeyLink} {rows rows_after : FinMap nat_cmp ℕ} {names names_after : List ℕ} {place : ℕ}
+module _ {K : Type 0} {left left_after packed packed_after : Slots K KeyLink} {rows rows_after : FinMap nat_cmp ℕ} {names names_after : List
+    ℕ} {place : ℕ}
     (moves : MovesKey left left_after packed packed_after rows rows_after names names_after place) where
   -- the row of the key comes, and the others stay
   pub rows-step : HasRows packed rows → HasRows packed_after rows_after
   rows-step has = record {
     in_table = λ p l listed is. elim (listed_cases moves.pushed p listed) [
-      | inl before ↦ elsewhere p (old_other moves.pushed p before) ∙ has.in_table p l before (sym (moves.pushed.others.links p (old_other moves.pushed p before)) ∙ is)
+      | inl before ↦ elsewhere p (old_other moves.pushed p before)
+          ∙ has.in_table p l before (sym (moves.pushed.others.links p (old_other moves.pushed p before)) ∙ is)
       | inr here ↦
           let both : Some moves.link ≡ Some l = sym moves.pushed.link_is ∙ ap (link_at packed_after) (sym here) ∙ is in
           let own : moves.link ≡ l = cc in
@@ -102,9 +105,11 @@ module _ {K : Type 0} {left left_after packed packed_after : Slots K KeyLink} {r
       absent : get rows moves.to ≡ None
       absent =
           let P : Option ℕ → Type 0 = λ o. get rows moves.to ≡ o → o ≡ None in
-          elim (get rows moves.to) as P [ None ↦ λ _. refl | Some h ↦ λ is. absurd (moves.pushed.was_absent (has.listed moves.to h is)) ] refl
+          elim (get rows moves.to) as P [ None ↦ λ _. refl | Some h ↦ λ is. absurd (moves.pushed.was_absent (has.listed moves.to h is)) ]
+          refl
 
-  module _ {keys : Slots K KeyLink} (sound : IsSound keys) (going : AreGoing names keys left packed) (b : Begins left.order place) (within : place < length names) where
+  module _ {keys : Slots K KeyLink} (sound : IsSound keys) (going : AreGoing names keys left packed) (b : Begins left.order place)
+      (within : place < length names) where
     -- the place is in neither part
     not_in : IsIn place (going.part ++ b.rest) → ⊥
     not_in = AreDistinct-gone going.part place b.rest (subst AreDistinct (going.parts ∙ ap (λ ps. going.part ++ ps) b.is) sound.distinct)
@@ -113,7 +118,8 @@ module _ {K : Type 0} {left left_after packed packed_after : Slots K KeyLink} {r
     other q i same = not_in (IsIn-left place going.part b.rest (subst (λ p. IsIn p going.part) same i))
 
     left_after_is : left_after.order ≡ b.rest
-    left_after_is = moves.removed.order ∙ ap (λ ps. without ps place) b.is ∙ without-split [] place b.rest (λ i. not_in (IsIn-right place going.part b.rest i))
+    left_after_is = moves.removed.order ∙ ap (λ ps. without ps place) b.is
+        ∙ without-split [] place b.rest (λ i. not_in (IsIn-right place going.part b.rest i))
 
     old_name : (q : ℕ) → IsIn q going.part → name_in names_after q ≡ name_in names q
     old_name q i = ap (λ ns. get_or ns q 0) moves.names_are ∙ get_or-set_other names place q moves.to 0 (other q i)
@@ -123,7 +129,8 @@ module _ {K : Type 0} {left left_after packed packed_after : Slots K KeyLink} {r
 
     -- no old name is the new one
     taken : (q : ℕ) → IsIn q going.part → name_in names q ≢ moves.to
-    taken q i = old_other moves.pushed (name_in names q) (subst (IsIn (name_in names q)) (sym going.gone.order) (IsIn-name (name_in names) q going.part i))
+    taken q i = old_other moves.pushed (name_in names q)
+        (subst (IsIn (name_in names q)) (sym going.gone.order) (IsIn-name (name_in names) q going.part i))
 
     cases : {P : ℕ → Type 0} → ((q : ℕ) → IsIn q going.part → P q) → P place → (q : ℕ) → IsIn q (going.part ++ place ∷ []) → P q
     cases {P} before here q i = elim (IsIn-append q going.part (place ∷ []) i) [
@@ -147,15 +154,20 @@ module _ {K : Type 0} {left left_after packed packed_after : Slots K KeyLink} {r
             (λ y old e. absurd (taken y old (sym (old_name y old) ∙ sym e ∙ new_name)))
             (λ e. refl) q j) p i;
         order =
-            moves.pushed.order ∙ ap (λ ps. ps ++ moves.to ∷ []) (going.gone.order ∙ sym (map-agree (name_in names_after) (name_in names) going.part old_name))
+            moves.pushed.order ∙ ap (λ ps. ps ++ moves.to ∷ [])
+            (going.gone.order ∙ sym (map-agree (name_in names_after) (name_in names) going.part old_name))
             ∙ ap (λ p. map (name_in names_after) going.part ++ p ∷ []) (sym new_name)
             ∙ sym (map-append (name_in names_after) going.part (place ∷ []));
         items = cases {P = λ q. item_at packed_after (name_in names_after q) ≡ item_at keys q}
-            (λ q old. ap (item_at packed_after) (old_name q old) ∙ moves.pushed.others.items (name_in names q) (taken q old) ∙ going.gone.items q old)
-            (ap (item_at packed_after) new_name ∙ moves.pushed.item_is ∙ sym moves.removed.had ∙ going.left_items place moves.removed.was_listed);
+            (λ q old. ap (item_at packed_after) (old_name q old) ∙ moves.pushed.others.items (name_in names q) (taken q old)
+            ∙ going.gone.items q old)
+            (ap (item_at packed_after) new_name ∙ moves.pushed.item_is ∙ sym moves.removed.had
+            ∙ going.left_items place moves.removed.was_listed);
         links = cases {P = λ q. link_at packed_after (name_in names_after q) ≡ link_at keys q}
-            (λ q old. ap (link_at packed_after) (old_name q old) ∙ moves.pushed.others.links (name_in names q) (taken q old) ∙ going.gone.links q old)
-            (ap (link_at packed_after) new_name ∙ moves.pushed.link_is ∙ sym moves.link_was ∙ going.left_links place moves.removed.was_listed);
+            (λ q old. ap (link_at packed_after) (old_name q old) ∙ moves.pushed.others.links (name_in names q) (taken q old)
+            ∙ going.gone.links q old)
+            (ap (link_at packed_after) new_name ∙ moves.pushed.link_is ∙ sym moves.link_was
+            ∙ going.left_links place moves.removed.was_listed);
       };
       left_items = λ q i. let was = still q i in moves.removed.others.items q was.1 ∙ going.left_items q was.0;
       left_links = λ q i. let was = still q i in moves.removed.others.links q was.1 ∙ going.left_links q was.0;
@@ -165,7 +177,8 @@ module _ {K : Type 0} {left left_after packed packed_after : Slots K KeyLink} {r
         still q i = IsIn-without q left.order place (subst (IsIn q) moves.removed.order i)
 
 -- the next key is one of all
-pub going-listed : {K : Type 0} {names : List ℕ} {keys left packed : Slots K KeyLink} {place : ℕ} → AreGoing names keys left packed → first_of left.order ≡ Some place → IsIn place keys.order
+pub going-listed : {K : Type 0} {names : List ℕ} {keys left packed : Slots K KeyLink} {place : ℕ} → AreGoing names keys left packed
+    → first_of left.order ≡ Some place → IsIn place keys.order
 going-listed {keys = keys} {left} {place = place} going first =
     let b = begins left.order place first in
     subst (IsIn place) (sym going.parts) (IsIn-right place going.part left.order (subst (IsIn place) (sym b.is) (inl refl)))
@@ -200,7 +213,8 @@ module _ {V : Type 0} {name : ℕ → ℕ} {n : ℕ} {values left packed : Slots
   pub coming-end : n ≡ length values.order → HaveCome name values.order values packed
   coming-end all = subst (λ ps. HaveCome name ps values packed) (ap places_below all ∙ sym settled) coming.come
 
-  module _ {left_after packed_after : Slots V ValueLink} {value : V} {link : ValueLink} {to : ℕ} (removed : Removes left left_after n value) (link_was : link_at left n ≡ Some link)
+  module _ {left_after packed_after : Slots V ValueLink} {value : V} {link : ValueLink} {to : ℕ} (removed : Removes left left_after n value)
+      (link_was : link_at left n ≡ Some link)
       (pushed : PushesBack packed packed_after to value (with_new_key name link)) (to_is : to ≡ n) where
     pub coming-step : AreComing name (suc n) values left_after packed_after
     coming-step = record {
@@ -208,13 +222,18 @@ module _ {V : Type 0} {name : ℕ → ℕ} {n : ℕ} {values left packed : Slots
         order = pushed.order ∙ (λ i. coming.come.order i ++ to_is i ∷ []);
         items = λ q i. elim (IsIn-append q (places_below n) (n ∷ []) i) [
           | inl below ↦ pushed.others.items q (low q below) ∙ coming.come.items q below
-          | inr last ↦ elim last [ inl same ↦ ap (item_at packed_after) (same ∙ sym to_is) ∙ pushed.item_is ∙ sym removed.had ∙ coming.left_items n removed.was_listed ∙ ap (item_at values) (sym same) | inr none ↦ absurd none ]
+          | inr last ↦ elim last [
+            | inl same ↦ ap (item_at packed_after) (same ∙ sym to_is) ∙ pushed.item_is ∙ sym removed.had
+                ∙ coming.left_items n removed.was_listed ∙ ap (item_at values) (sym same)
+            | inr none ↦ absurd none
+          ]
         ];
         links = λ q l i is. elim (IsIn-append q (places_below n) (n ∷ []) i) [
           | inl below ↦ pushed.others.links q (low q below) ∙ coming.come.links q l below is
           | inr last ↦ elim last [
             | inl same ↦
-                let both : Some link ≡ Some l = sym link_was ∙ coming.left_links n removed.was_listed ∙ ap (link_at values) (sym same) ∙ is in
+                let both : Some link ≡ Some l = sym link_was ∙ coming.left_links n removed.was_listed ∙ ap (link_at values) (sym same)
+                ∙ is in
                 let own : link ≡ l = cc in
                 ap (link_at packed_after) (same ∙ sym to_is) ∙ pushed.link_is ∙ ap (λ m. Some (with_new_key name m)) own
             | inr none ↦ absurd none
@@ -222,7 +241,8 @@ module _ {V : Type 0} {name : ℕ → ℕ} {n : ℕ} {values left packed : Slots
         ];
       };
       there = λ q above i.
-          subst (IsIn q) (sym removed.order) (IsIn-filter (λ p. not (p == n)) q left.order (ap not (ne_eqb q n (λ e. omega (arith, above, e)))) (coming.there q (omega (arith, above)) i));
+          subst (IsIn q) (sym removed.order) (IsIn-filter (λ p. not (p == n)) q left.order
+          (ap not (ne_eqb q n (λ e. omega (arith, above, e)))) (coming.there q (omega (arith, above)) i));
       left_items = λ q i. let was = still q i in removed.others.items q was.1 ∙ coming.left_items q was.0;
       left_links = λ q i. let was = still q i in removed.others.links q was.1 ∙ coming.left_links q was.0;
     }

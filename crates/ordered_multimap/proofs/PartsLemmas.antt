@@ -1,11 +1,13 @@
 -- A place in the chain of its key: what stands before it and behind it, and the chain without it.
-use Rattle.std.proofs.Common.{◌≡◌, ◌≢◌, ◌==◌, ◌<◌, ℕ, Bool, true, false, cond, List, [], ◌∷◌, ◌++◌, reverse, length, filter, Option, Some, None, refl, sym, ap, ◌∙◌, subst, inl, inr, arith, length-append}
+use Rattle.std.proofs.Common.{◌≡◌, ◌≢◌, ◌==◌, ◌<◌, ℕ, Bool, true, false, cond, List, [], ◌∷◌, ◌++◌, reverse, length, filter, Option, Some}
+use Rattle.std.proofs.Common.{None, refl, sym, ap, ◌∙◌, subst, inl, inr, arith, length-append}
 use Rattle.std.proofs.lemmas.Bool.{cases_eq, eq-eqb, ne_eqb}
 use Rattle.std.proofs.lemmas.List.{append-nil, reverse-append}
 use Rattle.std.specs.List.{last_or}
 use Rattle.multimap_slots.specs.Lists.{IsIn, AreDistinct, first_of, last_of, next_of, previous_of}
 use Rattle.multimap_slots.specs.Slots.{Slots, IsSound, link_at}
-use Rattle.multimap_slots.proofs.ListsLemmas.{Split, IsIn-split, IsIn-left, IsIn-right, AreDistinct-gone, next_of-split, previous_of-split, reverse-split}
+use Rattle.multimap_slots.proofs.ListsLemmas.{Split, IsIn-split, IsIn-left, IsIn-right, AreDistinct-gone, next_of-split, previous_of-split}
+use Rattle.multimap_slots.proofs.ListsLemmas.{reverse-split}
 use Rattle.multimap_walks.specs.declared.links.KeyLink.{KeyLink}
 use Rattle.multimap_walks.specs.declared.links.ValueLink.{ValueLink}
 use Rattle.multimap_walks.specs.Chained.{IsChained, is_value_of, chain_of}
@@ -48,7 +50,8 @@ last_of-reverse [] = refl
 last_of-reverse (x ∷ xs) = ap last_of (reverse-split [] x xs) ∙ last_or-push None (reverse xs) x
 
 -- where a place leaves, the others keep what is behind them, but for the one before it
-pub next_of-skip : (xs : List ℕ) (p : ℕ) (ys : List ℕ) (q : ℕ) → q ≢ p → last_of xs ≢ Some q → next_of (xs ++ ys) q ≡ next_of (xs ++ p ∷ ys) q
+pub next_of-skip : (xs : List ℕ) (p : ℕ) (ys : List ℕ) (q : ℕ) → q ≢ p → last_of xs ≢ Some q
+    → next_of (xs ++ ys) q ≡ next_of (xs ++ p ∷ ys) q
 next_of-skip [] p ys q differs not_last = rw (ne_eqb p q (λ e. differs (sym e))) refl
 next_of-skip (x ∷ []) p ys q differs not_last = rw (ne_eqb x q (λ e. not_last (ap Some e)), ne_eqb p q (λ e. differs (sym e))) refl
 next_of-skip (x ∷ y ∷ xs) p ys q differs not_last = elim (cases_eq x q) [
@@ -57,14 +60,16 @@ next_of-skip (x ∷ y ∷ xs) p ys q differs not_last = elim (cases_eq x q) [
 ]
 
 -- and what is before them, but for the one behind it
-pub previous_of-skip : (xs : List ℕ) (p : ℕ) (ys : List ℕ) (q : ℕ) → q ≢ p → first_of ys ≢ Some q → previous_of (xs ++ ys) q ≡ previous_of (xs ++ p ∷ ys) q
+pub previous_of-skip : (xs : List ℕ) (p : ℕ) (ys : List ℕ) (q : ℕ) → q ≢ p → first_of ys ≢ Some q
+    → previous_of (xs ++ ys) q ≡ previous_of (xs ++ p ∷ ys) q
 previous_of-skip xs p ys q differs not_first =
     ap (λ zs. next_of zs q) (reverse-append xs ys)
     ∙ next_of-skip (reverse ys) p (reverse xs) q differs (λ e. not_first (sym (last_of-reverse ys) ∙ e))
     ∙ ap (λ zs. next_of zs q) (sym (reverse-split xs p ys))
 
 -- the ends of what is left
-pub head_left : (front back : List ℕ) (place : ℕ) (before behind : Option ℕ) (head : ℕ) → last_of front ≡ before → first_of back ≡ behind → 1 < length (front ++ place ∷ back)
+pub head_left : (front back : List ℕ) (place : ℕ) (before behind : Option ℕ) (head : ℕ) → last_of front ≡ before → first_of back ≡ behind
+    → 1 < length (front ++ place ∷ back)
     → first_of (front ++ place ∷ back) ≡ Some head → first_of (front ++ back) ≡ Some (end_left before behind head)
 head_left [] [] place before behind head last first more e = absurd (omega (arith, more))
 head_left [] (b ∷ back) place before behind head last first more e = λ i. Some (end_left (last i) (first i) head)
@@ -72,7 +77,8 @@ head_left (f ∷ front) back place before behind head last first more e =
     let l = some_last front f in
     e ∙ (λ i. Some (end_left ((sym l.1 ∙ last) i) behind head))
 
-pub tail_left : (front back : List ℕ) (place : ℕ) (before behind : Option ℕ) (tail : ℕ) → last_of front ≡ before → first_of back ≡ behind → 1 < length (front ++ place ∷ back)
+pub tail_left : (front back : List ℕ) (place : ℕ) (before behind : Option ℕ) (tail : ℕ) → last_of front ≡ before → first_of back ≡ behind
+    → 1 < length (front ++ place ∷ back)
     → last_of (front ++ place ∷ back) ≡ Some tail → last_of (front ++ back) ≡ Some (end_left behind before tail)
 tail_left [] [] place before behind tail last first more e = absurd (omega (arith, more))
 tail_left (f ∷ front) [] place before behind tail last first more e =
@@ -99,12 +105,14 @@ module _ {K V : Type 0} {keys : Slots K KeyLink} {values : Slots V ValueLink} (s
   -- its link names its neighbours
   pub last_before : last_of parts.front ≡ link.previous
   last_before =
-      sym (ap (λ ps. previous_of ps place) parts.is ∙ previous_of-split parts.front place parts.back (λ i. apart (IsIn-right place parts.front parts.back i)))
+      sym (ap (λ ps. previous_of ps place) parts.is
+      ∙ previous_of-split parts.front place parts.back (λ i. apart (IsIn-right place parts.front parts.back i)))
       ∙ chained.previous place link listed link_is
 
   pub first_behind : first_of parts.back ≡ link.next
   first_behind =
-      sym (ap (λ ps. next_of ps place) parts.is ∙ next_of-split parts.front place parts.back (λ i. apart (IsIn-left place parts.front parts.back i)))
+      sym (ap (λ ps. next_of ps place) parts.is ∙ next_of-split parts.front place parts.back
+      (λ i. apart (IsIn-left place parts.front parts.back i)))
       ∙ chained.next place link listed link_is
 
   in_front : (q : ℕ) → link.previous ≡ Some q → IsIn q parts.front
@@ -115,10 +123,12 @@ module _ {K V : Type 0} {keys : Slots K KeyLink} {values : Slots V ValueLink} (s
 
   -- which are listed values of the same key
   pub before_own : (q : ℕ) → link.previous ≡ Some q → IsIn q values.order × (is_value_of values link.key q ≡ true)
-  before_own q e = IsIn-kept (is_value_of values link.key) q values.order (subst (IsIn q) (sym parts.is) (IsIn-left q parts.front (place ∷ parts.back) (in_front q e)))
+  before_own q e = IsIn-kept (is_value_of values link.key) q values.order
+      (subst (IsIn q) (sym parts.is) (IsIn-left q parts.front (place ∷ parts.back) (in_front q e)))
 
   pub behind_own : (q : ℕ) → link.next ≡ Some q → IsIn q values.order × (is_value_of values link.key q ≡ true)
-  behind_own q e = IsIn-kept (is_value_of values link.key) q values.order (subst (IsIn q) (sym parts.is) (IsIn-right q parts.front (place ∷ parts.back) (inr (in_back q e))))
+  behind_own q e = IsIn-kept (is_value_of values link.key) q values.order
+      (subst (IsIn q) (sym parts.is) (IsIn-right q parts.front (place ∷ parts.back) (inr (in_back q e))))
 
   -- and other places
   pub before_other : (q : ℕ) → link.previous ≡ Some q → q ≢ place
@@ -128,7 +138,8 @@ module _ {K V : Type 0} {keys : Slots K KeyLink} {values : Slots V ValueLink} (s
   behind_other q e same = apart (IsIn-right place parts.front parts.back (subst (λ p. IsIn p parts.back) same (in_back q e)))
 
   pub neighbours_differ : (q : ℕ) → link.previous ≡ Some q → link.next ≢ Some q
-  neighbours_differ q before behind = disjoint parts.front (place ∷ parts.back) q parts_distinct (in_front q before) (inr (in_back q behind))
+  neighbours_differ q before behind = disjoint parts.front (place ∷ parts.back) q parts_distinct (in_front q before)
+      (inr (in_back q behind))
 
   -- the only value of its key
   module _ (only : length (chain_of values link.key) ≡ 1) where
@@ -148,7 +159,8 @@ module _ {K V : Type 0} {keys : Slots K KeyLink} {values : Slots V ValueLink} (s
       where
         other : (b : Bool) → is_value_of values link.key q ≡ b → q ≢ place → is_value_of values link.key q ≡ false
         other false e differs = e
-        other true e differs = elim (subst (IsIn q) chain-only (IsIn-filter (is_value_of values link.key) q values.order e i)) [ inl same ↦ absurd (differs same) | inr never ↦ absurd never ]
+        other true e differs = elim (subst (IsIn q) chain-only
+            (IsIn-filter (is_value_of values link.key) q values.order e i)) [ inl same ↦ absurd (differs same) | inr never ↦ absurd never ]
 
     pub head-only : (k : KeyLink) → IsIn link.key keys.order → link_at keys link.key ≡ Some k → k.head ≡ place
     head-only k i is =

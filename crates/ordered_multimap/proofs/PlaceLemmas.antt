@@ -1,5 +1,6 @@
 -- Lists of places, and what stands at them.
-use Rattle.std.proofs.Common.{◌≡◌, ℕ, ◌-◌, suc, length-append, ◌≤◌, Bool, true, false, cond, if◌then◌else◌, List, [], ◌∷◌, ◌++◌, length, filter, Option, Some, None, IsSome, refl, sym, ap, ◌∙◌, subst, inl, inr, arith}
+use Rattle.std.proofs.Common.{◌≡◌, ℕ, ◌-◌, suc, length-append, ◌≤◌, Bool, true, false, cond, if◌then◌else◌, List, [], ◌∷◌, ◌++◌, length}
+use Rattle.std.proofs.Common.{filter, Option, Some, None, IsSome, refl, sym, ap, ◌∙◌, subst, inl, inr, arith}
 use Rattle.std.proofs.lemmas.Bool.{eq-eqb, ne_eqb}
 use Rattle.std.specs.List.{filter_map, cons_option}
 use Rattle.std.specs.Map.{keys_of}
@@ -117,7 +118,8 @@ module _ {X : Type 0} (xs : List X) where
   last_of-member x e = let found = ends xs x e in subst (IsIn x) (sym found.is) (IsIn-right x found.front (x ∷ []) (inl refl))
 
 -- as many places stand before a place as items are listed before it
-pub position_in-split : (front : List ℕ) (place : ℕ) (back : List ℕ) → (IsIn place front → ⊥) → position_in (front ++ place ∷ back) place ≡ length front
+pub position_in-split : (front : List ℕ) (place : ℕ) (back : List ℕ) → (IsIn place front → ⊥)
+    → position_in (front ++ place ∷ back) place ≡ length front
 position_in-split [] place back absent = ap (λ b. if b then 0 else suc (position_in back place)) (eq-eqb place place refl)
 position_in-split (q ∷ front) place back absent =
     ap (λ b. if b then 0 else suc (position_in (front ++ place ∷ back) place)) (ne_eqb q place (λ same. absent (inl (sym same))))
@@ -137,4 +139,9 @@ no_rest (p ∷ rest) e = absurd (let bad = e in cc)
 pub places_from-split : (done rest : List ℕ) → AreDistinct (done ++ rest) → places_from (done ++ rest) (first_of rest) ≡ length rest
 places_from-split done [] distinct = refl
 places_from-split done (p ∷ rest) distinct =
-    omega (arith, length-append done (p ∷ rest), position_in-split done p rest (λ i. AreDistinct-gone done p rest distinct (IsIn-left p done rest i)))
+    omega (
+      arith,
+      length-append done (p ∷ rest),
+      position_in-split done p rest
+          (λ i. AreDistinct-gone done p rest distinct (IsIn-left p done rest i)),
+    )

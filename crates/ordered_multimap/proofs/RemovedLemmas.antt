@@ -1,5 +1,7 @@
--- What a removal of one of several values leaves: nothing changes of an absent key, lists stay well formed, and pairs are no more than before.
-use Rattle.std.proofs.Common.{◌≡◌, ◌⊎◌, ◌+◌, ◌<◌, ◌≤◌, ℕ, zero, suc, Bool, true, false, cond, List, [], ◌∷◌, length, filter, map, slice_get, Option, Some, None, refl, sym, ap, ◌∙◌, subst, inl, inr, arith, true≢false}
+-- What a removal of one of several values leaves: nothing changes of an absent key, lists stay well formed, and pairs are no more than
+-- before.
+use Rattle.std.proofs.Common.{◌≡◌, ◌⊎◌, ◌+◌, ◌<◌, ◌≤◌, ℕ, zero, suc, Bool, true, false, cond, List, [], ◌∷◌, length, filter, map, slice_get}
+use Rattle.std.proofs.Common.{Option, Some, None, refl, sym, ap, ◌∙◌, subst, inl, inr, arith, true≢false}
 use Rattle.std.specs.Cmp.{IsEquivalence}
 use Rattle.std.specs.List.{enumerate_from, remove}
 use Rattle.std.specs.Map.{keys_of}
@@ -63,7 +65,9 @@ module _ {K V : Type 0} (eq : K → K → Bool) (k : K) where
   one_of_some : (pairs : List (K × V)) → 0 < length (values_of eq pairs k) → (q : K × V) × IsIn q pairs × (eq k q.0 ≡ true)
   one_of_some [] some = absurd (omega (arith, some))
   one_of_some (p ∷ pairs) some =
-      let P : Bool → Type 0 = λ b. eq k p.0 ≡ b → 0 < length (map (λ q. q.1) (cond b (p ∷ filter (λ q. eq k q.0) pairs) (filter (λ q. eq k q.0) pairs))) → (q : K × V) × IsIn q (p ∷ pairs) × (eq k q.0 ≡ true) in
+      let P : Bool → Type 0 = λ b. eq k p.0 ≡ b → 0 < length
+      (map (λ q. q.1) (cond b (p ∷ filter (λ q. eq k q.0) pairs) (filter (λ q. eq k q.0) pairs)))
+      → (q : K × V) × IsIn q (p ∷ pairs) × (eq k q.0 ≡ true) in
       elim (eq k p.0) as P [
         | true ↦ λ own _. (p, inl refl, own)
         | false ↦ λ _ more. let found = one_of_some pairs more in (found.0, inr found.1, found.2)
@@ -75,19 +79,23 @@ module _ {K V : Type 0} (eq : K → K → Bool) (k : K) where
       one_of_some pairs (fewer more)
     where
       fewer : 1 < length (values_of eq (p ∷ pairs) k) → 0 < length (values_of eq pairs k)
-      fewer = elim (eq k p.0) as (λ b. 1 < length (map (λ q. q.1) (cond b (p ∷ filter (λ q. eq k q.0) pairs) (filter (λ q. eq k q.0) pairs))) → 0 < length (values_of eq pairs k)) [
-        | true ↦ λ two. omega (arith, two)
-        | false ↦ λ two. omega (arith, two)
-      ]
+      fewer = elim (eq k p.0) as (λ b. 1 < length (map (λ q. q.1)
+          (cond b (p ∷ filter (λ q. eq k q.0) pairs) (filter (λ q. eq k q.0) pairs))) → 0 < length (values_of eq pairs k)) [
+            | true ↦ λ two. omega (arith, two)
+            | false ↦ λ two. omega (arith, two)
+          ]
   one_left (p ∷ pairs) (suc i) more =
-      let P : Bool → Type 0 = λ b. eq k p.0 ≡ b → 1 < length (map (λ q. q.1) (cond b (p ∷ filter (λ q. eq k q.0) pairs) (filter (λ q. eq k q.0) pairs))) → (q : K × V) × IsIn q (p ∷ remove pairs i) × (eq k q.0 ≡ true) in
+      let P : Bool → Type 0 = λ b. eq k p.0 ≡ b → 1 < length
+      (map (λ q. q.1) (cond b (p ∷ filter (λ q. eq k q.0) pairs) (filter (λ q. eq k q.0) pairs)))
+      → (q : K × V) × IsIn q (p ∷ remove pairs i) × (eq k q.0 ≡ true) in
       elim (eq k p.0) as P [
         | true ↦ λ own _. (p, inl refl, own)
         | false ↦ λ _ two. let found = one_left pairs i two in (found.0, inr found.1, found.2)
       ] refl more
 
   -- a position of the key is that of a pair of it
-  pair_at_position : (at : ℕ) (pairs : List (K × V)) (n j : ℕ) → slice_get (map (λ e. e.0) (filter (λ e. eq k e.1.0) (enumerate_from at pairs))) n ≡ Some j
+  pair_at_position : (at : ℕ) (pairs : List (K × V)) (n j : ℕ)
+      → slice_get (map (λ e. e.0) (filter (λ e. eq k e.1.0) (enumerate_from at pairs))) n ≡ Some j
       → (i : ℕ) × (j ≡ at + i) × ((p : K × V) × (slice_get pairs i ≡ Some p) × (eq k p.0 ≡ true))
   pair_at_position at [] n j e = absurd (let bad = e in cc)
   pair_at_position at (p ∷ pairs) n j e =
@@ -95,14 +103,16 @@ module _ {K V : Type 0} (eq : K → K → Bool) (k : K) where
       let Found : Type 0 = (i : ℕ) × (j ≡ at + i) × ((q : K × V) × (slice_get (p ∷ pairs) i ≡ Some q) × (eq k q.0 ≡ true)) in
       let later : (m : ℕ) → slice_get (map (λ e. e.0) (filter (λ e. eq k e.1.0) rest)) m ≡ Some j → Found =
       λ m there. let found = pair_at_position (at + 1) pairs m j there in (suc found.0, omega (arith, found.1), found.2) in
-      let P : Bool → Type 0 = λ b. eq k p.0 ≡ b → slice_get (map (λ e. e.0) (cond b ((at, p) ∷ filter (λ e. eq k e.1.0) rest) (filter (λ e. eq k e.1.0) rest))) n ≡ Some j → Found in
+      let P : Bool → Type 0 = λ b. eq k p.0 ≡ b → slice_get
+      (map (λ e. e.0) (cond b ((at, p) ∷ filter (λ e. eq k e.1.0) rest) (filter (λ e. eq k e.1.0) rest))) n ≡ Some j → Found in
       elim (eq k p.0) as P [
         | true ↦ λ own. first own later n
         | false ↦ λ _. later n
       ] refl e
     where
       first : eq k p.0 ≡ true
-          → ((m : ℕ) → slice_get (map (λ e. e.0) (filter (λ e. eq k e.1.0) (enumerate_from (at + 1) pairs))) m ≡ Some j → (i : ℕ) × (j ≡ at + i) × ((q : K × V) × (slice_get (p ∷ pairs) i ≡ Some q) × (eq k q.0 ≡ true)))
+          → ((m : ℕ) → slice_get (map (λ e. e.0) (filter (λ e. eq k e.1.0) (enumerate_from (at + 1) pairs))) m ≡ Some j
+          → (i : ℕ) × (j ≡ at + i) × ((q : K × V) × (slice_get (p ∷ pairs) i ≡ Some q) × (eq k q.0 ≡ true)))
           → (m : ℕ) → slice_get (at ∷ map (λ e. e.0) (filter (λ e. eq k e.1.0) (enumerate_from (at + 1) pairs))) m ≡ Some j
           → (i : ℕ) × (j ≡ at + i) × ((q : K × V) × (slice_get (p ∷ pairs) i ≡ Some q) × (eq k q.0 ≡ true))
       first own later zero here = let same : at ≡ j = cc in (0, omega (arith, same), (p, refl, own))
@@ -113,25 +123,30 @@ module _ {K V : Type 0} (eq : K → K → Bool) (k : K) where
   without_at pairs p = elim p as (λ _. List (K × V)) [ None ↦ pairs | Some i ↦ remove pairs i ]
 
   pub pairs_besides-few : (pairs : List (K × V)) (index : ℕ) → length (pairs_besides eq pairs k index) ≤ length pairs
-  pairs_besides-few pairs index = elim (position_beside eq pairs k index) as (λ p. length (without_at pairs p) ≤ length pairs) [ None ↦ omega arith | Some i ↦ remove_few pairs i ]
+  pairs_besides-few pairs index = elim (position_beside eq pairs k index) as
+      (λ p. length (without_at pairs p) ≤ length pairs) [ None ↦ omega arith | Some i ↦ remove_few pairs i ]
 
   -- an absent key has no value that can go
   pub value_beside-absent : (pairs : List (K × V)) (index : ℕ) → is_present eq pairs k ≡ false → value_beside eq pairs k index ≡ None
-  value_beside-absent pairs index absent = ap (λ vs. slice_get (several vs) index) (empty (values_of eq pairs k) (no_items (values_of eq pairs k) absent))
+  value_beside-absent pairs index absent = ap (λ vs. slice_get (several vs) index)
+      (empty (values_of eq pairs k) (no_items (values_of eq pairs k) absent))
 
   pub removed_at-absent : (m : Lists K V) (index : ℕ) → is_present eq m.pairs k ≡ false → removed_at eq m k index ≡ m
   removed_at-absent m index absent =
-      let none : positions_of eq m.pairs k ≡ [] = empty (positions_of eq m.pairs k) (length-positions_of eq k 0 m.pairs ∙ no_items (values_of eq m.pairs k) absent) in
+      let none : positions_of eq m.pairs k ≡ [] = empty (positions_of eq m.pairs k)
+      (length-positions_of eq k 0 m.pairs ∙ no_items (values_of eq m.pairs k) absent) in
       ap (λ ps. lists m.keys (without_at m.pairs (slice_get (several ps) index))) none
 
 module _ {K V : Type 0} {eq : K → K → Bool} (laws : IsEquivalence eq) (m : Lists K V) (k : K) (formed : IsWellFormed eq m) where
   -- the key of the pair that goes is that of another one
-  still_used : (i : ℕ) (p : K × V) → slice_get m.pairs i ≡ Some p → eq k p.0 ≡ true → 1 < length (values_of eq m.pairs k) → IsIn p.0 (keys_of (remove m.pairs i))
+  still_used : (i : ℕ) (p : K × V) → slice_get m.pairs i ≡ Some p → eq k p.0 ≡ true → 1 < length (values_of eq m.pairs k)
+      → IsIn p.0 (keys_of (remove m.pairs i))
   still_used i p at own more =
       let other = one_left eq k m.pairs i more in
       let named : IsIn other.0.0 (keys_of m.pairs) = key_member other.0 m.pairs (remove_member other.0 m.pairs i other.1) in
       let here : IsIn p.0 (keys_of m.pairs) = key_member p m.pairs (indexed m.pairs i p at) in
-      let first : stored_key eq m.keys k ≡ other.0.0 = stored_key_only laws k other.0.0 m.keys formed.distinct (formed.listed other.0.0 named) other.2 in
+      let first : stored_key eq m.keys k ≡ other.0.0 = stored_key_only laws k other.0.0 m.keys formed.distinct
+      (formed.listed other.0.0 named) other.2 in
       let second : stored_key eq m.keys k ≡ p.0 = stored_key_only laws k p.0 m.keys formed.distinct (formed.listed p.0 here) own in
       subst (λ j. IsIn j (keys_of (remove m.pairs i))) (sym first ∙ second) (key_member other.0 (remove m.pairs i) other.1)
     where
@@ -157,7 +172,8 @@ module _ {K V : Type 0} {eq : K → K → Bool} (laws : IsEquivalence eq) (m : L
           let more : 1 < length (values_of eq m.pairs k) = omega (arith, two.0, length-positions_of eq k 0 m.pairs) in
           subst (λ i. IsWellFormed eq (lists m.keys (remove m.pairs i))) (sym place) (record {
             distinct = formed.distinct;
-            listed = λ c member. formed.listed c (remove_member c (keys_of m.pairs) found.0 (subst (IsIn c) (keys_of-remove m.pairs found.0) member));
+            listed = λ c member. formed.listed c (remove_member c (keys_of m.pairs) found.0
+                (subst (IsIn c) (keys_of-remove m.pairs found.0) member));
             used = λ c member. elim (removed_here c (keys_of m.pairs) found.0 (formed.used c member)) [
               | inl stays ↦ subst (IsIn c) (sym (keys_of-remove m.pairs found.0)) stays
               | inr gone ↦

@@ -17,7 +17,8 @@ use Rattle.ordered_multimap.proofs.AgreesLemmas.{length-keys, length-pairs}
 use Rattle.ordered_multimap.proofs.RenameLemmas.{agrees-renamed}
 use Rattle.ordered_multimap.proofs.RoomLemmas.{map_of}
 
-module _ {K V : Type 0} {eq : K → K → Bool} {hash : K → ℕ} {keys keys_after : Slots K KeyLink} {rows : FinMap nat_cmp ℕ} {values values_after : Slots V ValueLink}
+module _ {K V : Type 0} {eq : K → K → Bool} {hash : K
+    → ℕ} {keys keys_after : Slots K KeyLink} {rows : FinMap nat_cmp ℕ} {values values_after : Slots V ValueLink}
     (agrees : Agrees eq hash keys rows values) (same_keys : KeepsItems keys keys_after) (same_values : KeepsItems values values_after)
     (key_room : keys.capacity ≤ keys_after.capacity) (value_room : values.capacity ≤ values_after.capacity) where
   widened : AreRenamed keys keys_after values values_after
@@ -35,7 +36,8 @@ module _ {K V S : Type 0} {eq : K → K → Bool} {hash : K → ℕ} (keys : Slo
     row = omega (arith, few, length-keys agrees, agrees.counted);
   }
 
-  pub keys_fit : {keys_after : Slots K KeyLink} {rows_after : ℕ} → KeepsItems keys keys_after → FitsKeys keys_after rows rows_after additional
+  pub keys_fit : {keys_after : Slots K KeyLink} {rows_after : ℕ} → KeepsItems keys keys_after
+      → FitsKeys keys_after rows rows_after additional
       → length (items_of keys) + additional ≤ min keys_after.capacity rows_after
   keys_fit same fits = omega (arith, fits.key, fits.row, ap (λ s. length s.order) same, length-keys agrees, agrees.counted)
 

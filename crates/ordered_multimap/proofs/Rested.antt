@@ -27,20 +27,25 @@ module _ {M : Type 1} {𝓤 : Ura M} (𝓛 : Logic 𝓤) (R : RattleType) (γ : 
   pub follows_itself : ent 𝓤 (emp 𝓤) (sem 𝓛 (follows R R γ γ (λ w. w)))
   follows_itself =
       let From : R.Denot → R.Denot → Fml = λ z w. fsep (feq R.Denot z w) (fauth γ (R.coded.code w)) in
-      let said = qed 𝓛 [] ∵ each ! (λ (w : R.Denot). wand 𝓤 (A.res γ (R.coded.code w)) (A.res γ (R.coded.code w))) (λ w. assume ! (‵ (fres γ (R.coded.code w))) $ done !) in
-      let back = qed 𝓛 [] ∵ each ! (λ (z : R.Denot). wand 𝓤 (A.auth γ (R.coded.code z)) (sem 𝓛 (fex R.Denot (From z)))) (λ z. assume ! (‵ (fauth γ (R.coded.code z))) $ feq_i ! R.Denot z z refl $ fjoin ! $ fpack ! R.Denot (From z) z $ done !) in
+      let said = qed 𝓛 [] ∵ each ! (λ (w : R.Denot). wand 𝓤 (A.res γ (R.coded.code w)) (A.res γ (R.coded.code w)))
+      (λ w. assume ! (‵ (fres γ (R.coded.code w))) $ done !) in
+      let back = qed 𝓛 [] ∵ each ! (λ (z : R.Denot). wand 𝓤 (A.auth γ (R.coded.code z)) (sem 𝓛 (fex R.Denot (From z))))
+      (λ z. assume ! (‵ (fauth γ (R.coded.code z))) $ feq_i ! R.Denot z z refl $ fjoin ! $ fpack ! R.Denot (From z) z $ done !) in
       record { apply = λ a p. (said.apply a p, back.apply a p) }
 
-module _ {M : Type 1} {𝓤 : Ura M} (𝓛 : Logic 𝓤) (R T : RattleType) (γ γ' : GName) (P : T.Denot → R.Denot → Type 0) (Q : R.Denot → Type 0) (F : T.Denot → R.Denot) (v : R.Denot) (met : (w : T.Denot) → P w (F w)) (at_none : Q v) where
+module _ {M : Type 1} {𝓤 : Ura M} (𝓛 : Logic 𝓤) (R T : RattleType) (γ γ' : GName) (P : T.Denot → R.Denot → Type 0) (Q : R.Denot → Type 0)
+    (F : T.Denot → R.Denot) (v : R.Denot) (met : (w : T.Denot) → P w (F w)) (at_none : Q v) where
   abbrev Met : Type 0
   Met = (s : (T.Denot → R.Denot) × R.Denot) × ((w : T.Denot) → P w (s.0 w)) × Q s.1
 
   -- a relation, from the function of what the loan's name ends as
   pub so_some : ent 𝓤 (sem 𝓛 (follows R T γ γ' F)) (sem 𝓛 (follows_so R T γ (some γ') P Q))
   unfolding such_by follows_by
-  so_some = qed 𝓛 (‵ (follows R T γ γ' F) ∷ []) ∵ fpack ! Met (λ s. follows_by R.Denot T.Denot R.coded.code T.coded.code γ (some γ') s.0.0 s.0.1) ((F, v), met, at_none) $ done !
+  so_some = qed 𝓛 (‵ (follows R T γ γ' F) ∷ []) ∵ fpack ! Met
+      (λ s. follows_by R.Denot T.Denot R.coded.code T.coded.code γ (some γ') s.0.0 s.0.1) ((F, v), met, at_none) $ done !
 
   -- the same from the last value, where nothing names the loan
   pub so_none : ent 𝓤 (sem 𝓛 (fres γ (R.coded.code v))) (sem 𝓛 (follows_so R T γ none P Q))
   unfolding such_by follows_by
-  so_none = qed 𝓛 (‵ (fres γ (R.coded.code v)) ∷ []) ∵ fpack ! Met (λ s. follows_by R.Denot T.Denot R.coded.code T.coded.code γ none s.0.0 s.0.1) ((F, v), met, at_none) $ done !
+  so_none = qed 𝓛 (‵ (fres γ (R.coded.code v)) ∷ []) ∵ fpack ! Met
+      (λ s. follows_by R.Denot T.Denot R.coded.code T.coded.code γ none s.0.0 s.0.1) ((F, v), met, at_none) $ done !

@@ -11,6 +11,7 @@ use Rattle.std.specs.FinMap.{FinMap}
 use Rattle.multimap_slots.specs.Lists.{IsIn, first_of, next_of, without, AreDistinct}
 use Rattle.multimap_slots.specs.Slots.{Slots, with_item}
 use Rattle.multimap_slots.specs.Tapes.{Taped}
+use Rattle.multimap_table.specs.Table.{Table}
 use Rattle.multimap_slots.proofs.ListsLemmas.{AreDistinct-gone, IsIn-left, IsIn-right, IsIn-was, next_of-split, without-split}
 use Rattle.multimap_walks.specs.declared.links.KeyLink.{KeyLink}
 use Rattle.multimap_walks.specs.declared.links.ValueLink.{ValueLink}
@@ -241,25 +242,24 @@ module _ {F K V : Type 0} {eq : K → K → Bool} {calls : F → K → V → Boo
 
   -- one step: the pair at the place stays or has left
   module _ (laws : IsEquivalence eq) {hash : K → ℕ} (old_agrees : Agrees eq hash old_keys old_rows old_values)
-      {keys keys_after : Slots K KeyLink} {rows rows_after : FinMap nat_cmp ℕ} {values values_after : Taped V ValueLink} {f g : F} {place : ℕ}
-      (r : IsRetaining calls eq accepts old_keys keys old_rows rows old_values values.list first f (Some place))
-      (at : RetainsAt calls keys keys_after rows rows_after values values_after place f g)
-      (keys_room : keys_after.capacity ≡ keys.capacity) (values_room : values_after.list.capacity ≡ values.list.capacity) where
+      {keys keys_after : Slots K KeyLink} {table table_after : Table} {values values_after : Taped V ValueLink} {f g : F} {place : ℕ}
+      (r : IsRetaining calls eq accepts old_keys keys old_rows table.rows old_values values.list first f (Some place))
+      (at : RetainsAt calls keys keys_after table table_after values values_after place f g) where
     asked_list : at.asked.list ≡ with_item values.list place at.asks.left
     asked_list = ap (λ (t : Taped V ValueLink). t.list) at.asks.written
 
-    turns : (b : Bool) → StaysIf calls keys keys_after rows rows_after at.asked values_after place b → Turned laws old_agrees r b at.asks.left at.asks.key keys_after rows_after values_after.list
+    turns : (b : Bool) → StaysIf calls keys keys_after table table_after at.asked values_after place b → Turned laws old_agrees r b at.asks.left at.asks.key keys_after table_after.rows values_after.list
     turns true stays =
         let lists : with_item values.list place at.asks.left ≡ values_after.list = sym (ap (λ (t : Taped V ValueLink). t.list) stays.values_are ∙ asked_list) in
-        subst (λ ks. Turned laws old_agrees r true at.asks.left at.asks.key ks rows_after values_after.list) (sym stays.keys_are)
-        (subst (λ rs. Turned laws old_agrees r true at.asks.left at.asks.key keys rs values_after.list) (sym stays.rows_are)
-        (subst (λ vs. Turned laws old_agrees r true at.asks.left at.asks.key keys rows vs) lists (turned_stays laws old_agrees r at.asks.key at.asks.was at.asks.left at.asks.pair)))
+        subst (λ ks. Turned laws old_agrees r true at.asks.left at.asks.key ks table_after.rows values_after.list) (sym stays.keys_are)
+        (subst (λ (t : Table). Turned laws old_agrees r true at.asks.left at.asks.key keys t.rows values_after.list) (sym stays.table_is)
+        (subst (λ vs. Turned laws old_agrees r true at.asks.left at.asks.key keys table.rows vs) lists (turned_stays laws old_agrees r at.asks.key at.asks.was at.asks.left at.asks.pair)))
     turns false leaves =
         turned_leaves laws old_agrees r at.asks.key at.asks.was at.asks.left at.asks.pair (λ h a.
-        leaves_at laws a place (listed_place laws old_agrees r) keys_room values_room leaves.pair
-        (subst (λ vs. TakesPair keys keys_after rows rows_after vs values_after.list place leaves.pair) asked_list leaves.takes))
+        leaves_at laws a place (listed_place laws old_agrees r) leaves.0
+        (subst (λ vs. TakesPair keys keys_after table.rows table_after.rows vs values_after.list place leaves.0) asked_list leaves.1.takes))
 
-    pub retaining-step : (next : Option ℕ) → next ≡ next_of values.list.order place → Continues r keys_after rows_after values_after.list g next
+    pub retaining-step : (next : Option ℕ) → next ≡ next_of values.list.order place → Continues r keys_after table_after.rows values_after.list g next
     retaining-step next is = continues laws old_agrees r at.asks.pair at.asks.called (turns at.answer at.rest) next is
 
     pub retaining-smaller : (next : Option ℕ) → next ≡ next_of values.list.order place → places_from values_after.list.order next < places_from values.list.order (Some place)
@@ -271,7 +271,7 @@ module _ {F K V : Type 0} {eq : K → K → Bool} {calls : F → K → V → Boo
     pub retaining-counts : CountsLeft values values_after
     retaining-counts = by at.answer at.rest
       where
-        by : (b : Bool) → StaysIf calls keys keys_after rows rows_after at.asked values_after place b → CountsLeft values values_after
+        by : (b : Bool) → StaysIf calls keys keys_after table table_after at.asked values_after place b → CountsLeft values values_after
         by true stays =
             let same = stays.values_are ∙ at.asks.written in
             record {
@@ -283,9 +283,9 @@ module _ {F K V : Type 0} {eq : K → K → Bool} {calls : F → K → V → Boo
         by false leaves =
             let one : length values_after.list.order + 1 ≡ length values.list.order = one_fewer laws old_agrees r (turns false leaves) in
             record {
-              moved = leaves.frees.moved ∙ ap (λ (t : Taped V ValueLink). t.moved) at.asks.written;
-              freed = omega (arith, one, leaves.frees.freed, ap (λ (t : Taped V ValueLink). t.freed) at.asks.written);
-              holes = omega (arith, one, leaves.frees.holes, ap (λ (t : Taped V ValueLink). t.holes) at.asks.written);
+              moved = leaves.1.frees.moved ∙ ap (λ (t : Taped V ValueLink). t.moved) at.asks.written;
+              freed = omega (arith, one, leaves.1.frees.freed, ap (λ (t : Taped V ValueLink). t.freed) at.asks.written);
+              holes = omega (arith, one, leaves.1.frees.holes, ap (λ (t : Taped V ValueLink). t.holes) at.asks.written);
               fewer = omega (arith, one);
             }
 

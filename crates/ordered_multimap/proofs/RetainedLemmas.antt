@@ -14,7 +14,8 @@ module _ {F K V : Type 0} (calls : F → K → V → Bool → V → F → Type 0
       (b, w, next, rest, called, RetainsPairs-retains next old rest last later, is)
 
 -- both lists, by what is said of the keys
-pub kept-named_by : {K V : Type 0} (eq : K → K → Bool) (old new : Lists K V) → new.keys ≡ keys_named_by eq old.keys new.pairs → new ≡ kept eq old new.pairs
+pub kept-named_by : {K V : Type 0} (eq : K → K → Bool) (old new : Lists K V) → new.keys ≡ keys_named_by eq old.keys new.pairs
+    → new ≡ kept eq old new.pairs
 kept-named_by eq old new keys = λ i. lists (keys i) new.pairs
 
 -- no pair stays

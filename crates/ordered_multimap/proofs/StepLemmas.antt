@@ -1,5 +1,6 @@
 -- What the steps of an append make of the slots.
-use Rattle.std.proofs.Common.{◌≡◌, ◌≢◌, ◌⊎◌, ℕ, false, [], ◌∷◌, length, Option, Some, None, IsSome, IfSome, refl, sym, ap, ◌∙◌, subst, inl, inr, true≢false, Result, Ok, Err, is_err, OnOk, arith, length-append}
+use Rattle.std.proofs.Common.{◌≡◌, ◌≢◌, ◌⊎◌, ℕ, false, [], ◌∷◌, length, Option, Some, None, IsSome, IfSome, refl, sym, ap, ◌∙◌, subst, inl}
+use Rattle.std.proofs.Common.{inr, true≢false, Result, Ok, Err, is_err, OnOk, arith, length-append}
 use Rattle.std.proofs.lemmas.Bool.{cases_eq}
 use Rattle.multimap_slots.specs.Lists.{IsIn, AreDistinct}
 use Rattle.multimap_slots.specs.Slots.{Slots, IsSound, HasRoomFor, PushesBack, item_at, link_at, with_link}
@@ -55,12 +56,14 @@ module _ {T L : Type 0} {old new : Slots T L} {place : ℕ} {item : T} {link : L
   }
 
 -- another link keeps a list sound
-pub IsSound-with_link : {T L : Type 0} (s : Slots T L) (place : ℕ) (link : L) → IsIn place s.order → IsSound s → IsSound (with_link s place link)
+pub IsSound-with_link : {T L : Type 0} (s : Slots T L) (place : ℕ) (link : L) → IsIn place s.order → IsSound s
+    → IsSound (with_link s place link)
 IsSound-with_link s place link at_place sound = record {
   distinct = sound.distinct;
   filled = sound.filled;
   linked = λ q listed. elim (cases_eq q place) [
-    | inl here ↦ subst IsSome (sym (ap (link_at (with_link s place link)) here ∙ link_at-with_link s place link (sound.linked place at_place))) refl
+    | inl here ↦ subst IsSome (sym (ap (link_at (with_link s place link)) here
+        ∙ link_at-with_link s place link (sound.linked place at_place))) refl
     | inr other ↦ subst IsSome (sym ((KeepsOthers-with_link s place link).links q other)) (sound.linked q listed)
   ];
   fits = sound.fits;
@@ -73,8 +76,10 @@ if_each (Some p) each = each p refl
 
 -- a value that came, and then the link of the one before it in its chain
 module _ {V : Type 0} {old : Slots V ValueLink} {mid : Taped V ValueLink} {place : ℕ} {v : V} {key : ℕ} {tail : Option ℕ}
-    (pushed : PushesBack old mid.list place v (record { key = key; previous = tail; next = None })) (listed : (q : ℕ) → tail ≡ Some q → IsIn q old.order) where
-  pub pushes_value : {new : Taped V ValueLink} → MendsLink mid new tail (λ l. record l { next = Some place }) → PushesValue old new.list place v key tail
+    (pushed : PushesBack old mid.list place v (record { key = key; previous = tail; next = None }))
+    (listed : (q : ℕ) → tail ≡ Some q → IsIn q old.order) where
+  pub pushes_value : {new : Taped V ValueLink} → MendsLink mid new tail (λ l. record l { next = Some place })
+      → PushesValue old new.list place v key tail
   pushes_value mends = record {
     was_absent = pushed.was_absent;
     order = ap (λ t. t.list.order) mends.rest ∙ pushed.order;
@@ -86,7 +91,8 @@ module _ {V : Type 0} {old : Slots V ValueLink} {mid : Taped V ValueLink} {place
   }
 
 -- another link of a listed key
-pub sets_link : {K : Type 0} (keys : Slots K KeyLink) (place : ℕ) (k : K) (link : KeyLink) → IsIn place keys.order → item_at keys place ≡ Some k → IsSome (link_at keys place)
+pub sets_link : {K : Type 0} (keys : Slots K KeyLink) (place : ℕ) (k : K) (link : KeyLink) → IsIn place keys.order
+    → item_at keys place ≡ Some k → IsSome (link_at keys place)
     → SetsKey keys (with_link keys place link) place k link
 sets_link keys place k link listed item_is linked = record {
   listed = listed;

@@ -1,5 +1,6 @@
 -- Where a key goes with all its values, key list, table and values agree, and the lists are without its pairs.
-use Rattle.std.proofs.Common.{◌≡◌, ◌≢◌, ◌⊎◌, ◌==◌, ◌-◌, ◌/◌, ℕ, Bool, true, false, not, cond, length, filter, slice_get, option_map, Some, None, IsSome, is_some, refl, sym, ap, ◌∙◌, subst, inl, inr, true≢false, arith}
+use Rattle.std.proofs.Common.{◌≡◌, ◌≢◌, ◌⊎◌, ◌==◌, ◌-◌, ◌/◌, ℕ, Bool, true, false, not, cond, length, filter, slice_get, option_map, Some}
+use Rattle.std.proofs.Common.{None, IsSome, is_some, refl, sym, ap, ◌∙◌, subst, inl, inr, true≢false, arith}
 use Rattle.std.proofs.lemmas.Bool.{cases_eq, eq-eqb, ne_eqb}
 use Rattle.std.specs.Cmp.{IsEquivalence, nat_cmp_total, unsigned_tied}
 use Rattle.std.specs.List.{filter_map, IsDistinct}
@@ -17,10 +18,11 @@ use Rattle.ordered_multimap.specs.Keys.{is_listed, stored_key}
 use Rattle.ordered_multimap.specs.Pairs.{pairs_without, values_of}
 use Rattle.ordered_multimap.specs.Changes.{removed, kept}
 use Rattle.ordered_multimap.specs.Agrees.{Agrees, HasKey, items_of, lists_of}
-use Rattle.ordered_multimap.specs.Takes.{TakesValues, TakesEntry}
+use Rattle.ordered_multimap.specs.Takes.{TakesValues}
 use Rattle.ordered_multimap.proofs.Members.{IsIn-kept, IsIn-filter, filter-all}
 use Rattle.ordered_multimap.proofs.KeptLemmas.{filter-among, filter_map-filter, keys_of-without, is_listed-equal}
-use Rattle.ordered_multimap.proofs.PlaceLemmas.{held, pair_named, IsIn-filter_map, AreDistinct-filter, filter-agree, filter_shorter, filter_map-agree}
+use Rattle.ordered_multimap.proofs.PlaceLemmas.{begins, held, pair_named, IsIn-filter_map, AreDistinct-filter, filter-agree, filter_shorter}
+use Rattle.ordered_multimap.proofs.PlaceLemmas.{filter_map-agree}
 use Rattle.ordered_multimap.proofs.KeyLemmas.{stored_key_only, is_listed-self, is_listed-member, IsDistinct-filter}
 use Rattle.ordered_multimap.proofs.AgreesLemmas.{value_owner, well_formed, pair_in, pair_at-is, is_value_of-is}
 use Rattle.ordered_multimap.proofs.LookupLemmas.{owns, same_place, first_value, count_of_values}
@@ -38,12 +40,12 @@ module _ {V : Type 0} {gone : ℕ → Bool} {values values_after : Slots V Value
       let found = IsIn-kept (λ p. not (gone p)) q values.order (subst (IsIn q) takes.order listed) in
       (found.0, not_true (gone q) found.1)
 
-  pub values_sound-taken : IsSound values → values_after.capacity ≡ values.capacity → IsSound values_after
-  values_sound-taken sound room = record {
+  pub values_sound-taken : IsSound values → IsSound values_after
+  values_sound-taken sound = record {
     distinct = rw takes.order (AreDistinct-filter (λ p. not (gone p)) values.order sound.distinct);
     filled = λ q i. let old = still_listed q i in subst IsSome (sym (takes.items q old.1)) (sound.filled q old.0);
     linked = λ q i. let old = still_listed q i in subst IsSome (sym (takes.links q old.1)) (sound.linked q old.0);
-    fits = omega (arith, sound.fits, room, ap length takes.order, filter_shorter (λ p. not (gone p)) values.order);
+    fits = omega (arith, sound.fits, takes.capacity, ap length takes.order, filter_shorter (λ p. not (gone p)) values.order);
   }
 
   same_owner : (key q : ℕ) → IsIn q values_after.order → is_value_of values_after key q ≡ is_value_of values key q
@@ -63,21 +65,24 @@ module _ {K : Type 0} {keys keys_after : Slots K KeyLink} {place : ℕ} {stored 
       (found.0, λ same. true≢false (sym (eq-eqb q place same) ∙ not_true (q == place) found.1))
 
   pub key_stays : (q : ℕ) → IsIn q keys.order → q ≢ place → IsIn q keys_after.order
-  key_stays q listed differs = subst (IsIn q) (sym removes.order) (IsIn-filter (λ p. not (p == place)) q keys.order (ap not (ne_eqb q place differs)) listed)
+  key_stays q listed differs = subst (IsIn q) (sym removes.order)
+      (IsIn-filter (λ p. not (p == place)) q keys.order (ap not (ne_eqb q place differs)) listed)
 
-  pub keys_sound-removed : IsSound keys → keys_after.capacity ≡ keys.capacity → IsSound keys_after
-  keys_sound-removed sound room = record {
+  pub keys_sound-removed : IsSound keys → IsSound keys_after
+  keys_sound-removed sound = record {
     distinct = rw removes.order (AreDistinct-filter (λ p. not (p == place)) keys.order sound.distinct);
     filled = λ q i. let old = key_still_listed q i in subst IsSome (sym (removes.others.items q old.1)) (sound.filled q old.0);
     linked = λ q i. let old = key_still_listed q i in subst IsSome (sym (removes.others.links q old.1)) (sound.linked q old.0);
-    fits = omega (arith, sound.fits, room, removes.shorter);
+    fits = omega (arith, sound.fits, removes.capacity, removes.shorter);
   }
 
 -- the keys at the other places are those that aren't equal
-module _ {K : Type 0} {eq : K → K → Bool} (laws : IsEquivalence eq) {keys : Slots K KeyLink} (distinct : IsDistinct eq (items_of keys)) (k : K) (place : ℕ) (has : HasKey eq keys k place) where
+module _ {K : Type 0} {eq : K → K → Bool} (laws : IsEquivalence eq) {keys : Slots K KeyLink} (distinct : IsDistinct eq (items_of keys))
+    (k : K) (place : ℕ) (has : HasKey eq keys k place) where
   pub items_besides : filter_map (item_at keys) (without keys.order place) ≡ filter (λ j. not (eq k j)) (items_of keys)
   items_besides =
-      filter_map-filter (item_at keys) (λ q. not (q == place)) (λ j. not (eq k j)) keys.order (λ q listed j is. ap not (own q listed j is (cases_eq q place)))
+      filter_map-filter (item_at keys) (λ q. not (q == place)) (λ j. not (eq k j)) keys.order
+      (λ q listed j is. ap not (own q listed j is (cases_eq q place)))
     where
       own : (q : ℕ) → IsIn q keys.order → (j : K) → item_at keys q ≡ Some j → (q ≡ place) ⊎ (q ≢ place) → (q == place) ≡ eq k j
       own q listed j is (inl same) =
@@ -87,13 +92,15 @@ module _ {K : Type 0} {eq : K → K → Bool} (laws : IsEquivalence eq) {keys : 
       own q listed j is (inr differs) =
           let P : Bool → Type 0 = λ b. eq k j ≡ b → false ≡ b in
           ne_eqb q place differs ∙ elim (eq k j) as P [
-            | true ↦ λ e. absurd (differs (sym (same_place laws keys keys.order distinct place q has.stored j has.listed listed has.item_is is
+            | true ↦ λ e. absurd (differs (sym (same_place laws keys keys.order distinct place q has.stored j has.listed listed has.item_is
+                is
                 (sym (laws.congr k has.stored j has.equal) ∙ e))))
             | false ↦ λ _. refl
           ] refl
 
 -- a key leaves with all its values
-module _ {K V : Type 0} {eq : K → K → Bool} (laws : IsEquivalence eq) {hash : K → ℕ} {keys keys_after : Slots K KeyLink} {rows : FinMap nat_cmp ℕ} {values values_after : Slots V ValueLink}
+module _ {K V : Type 0} {eq : K → K → Bool} (laws : IsEquivalence eq) {hash : K
+    → ℕ} {keys keys_after : Slots K KeyLink} {rows : FinMap nat_cmp ℕ} {values values_after : Slots V ValueLink}
     (agrees : Agrees eq hash keys rows values) (k : K) (place : ℕ) (has : HasKey eq keys k place) {stored : K}
     (takes : TakesValues (is_value_of values place) values values_after) (removes : Removes keys keys_after place stored) where
   -- the keys of the values that stay are others
@@ -146,7 +153,8 @@ module _ {K V : Type 0} {eq : K → K → Bool} (laws : IsEquivalence eq) {hash 
       let old = still_listed takes q listed in
       let p = pair_in agrees q old.0 in
       let differs = other_key q p.link listed p.link_is in
-      pair_at-is keys_after values_after q p.link p.key p.value (takes.links q old.1 ∙ p.link_is) (removes.others.items p.link.key differs ∙ p.key_is) (takes.items q old.1 ∙ p.value_is)
+      pair_at-is keys_after values_after q p.link p.key p.value (takes.links q old.1 ∙ p.link_is)
+      (removes.others.items p.link.key differs ∙ p.key_is) (takes.items q old.1 ∙ p.value_is)
       ∙ sym p.pair_is
 
   -- the pairs that stay are those of the other keys
@@ -160,10 +168,10 @@ module _ {K V : Type 0} {eq : K → K → Bool} (laws : IsEquivalence eq) {hash 
       let is_pair : (pair.key, pair.value) ≡ p = cc in
       ap not (owns laws agrees k place has q pair ∙ ap (λ (e : K × V). eq k e.0) is_pair))
 
-  module _ (rows_after : FinMap nat_cmp ℕ) (rows_are : rows_after ≡ remove rows place)
-      (keys_room : keys_after.capacity ≡ keys.capacity) (values_room : values_after.capacity ≡ values.capacity) where
+  module _ (rows_after : FinMap nat_cmp ℕ) (rows_are : rows_after ≡ remove rows place) where
     row_of : (q : ℕ) → get rows_after q ≡ cond (q == place) None (get rows q)
-    row_of q = ap (λ m. get m q) rows_are ∙ get-remove nat_cmp_total rows place q ∙ ap (λ b. cond b None (get rows q)) (unsigned_tied q place)
+    row_of q = ap (λ m. get m q) rows_are ∙ get-remove nat_cmp_total rows place q
+        ∙ ap (λ b. cond b None (get rows q)) (unsigned_tied q place)
 
     row_elsewhere : (q : ℕ) → q ≢ place → get rows_after q ≡ get rows q
     row_elsewhere q differs = row_of q ∙ ap (λ b. cond b None (get rows q)) (ne_eqb q place differs)
@@ -175,8 +183,8 @@ module _ {K V : Type 0} {eq : K → K → Bool} (laws : IsEquivalence eq) {hash 
 
     pub agrees-taken : Agrees eq hash keys_after rows_after values_after
     agrees-taken = record {
-      keys_sound = keys_sound-removed removes agrees.keys_sound keys_room;
-      values_sound = values_sound-taken takes agrees.values_sound values_room;
+      keys_sound = keys_sound-removed removes agrees.keys_sound;
+      values_sound = values_sound-taken takes agrees.values_sound;
       chained = chained-taken;
       distinct = subst (IsDistinct eq) (sym items_of-removed) (IsDistinct-filter laws (λ j. not (eq k j)) (items_of keys) agrees.distinct);
       hashed = λ q j l listed item is. let old = key_still_listed removes q listed in
@@ -184,7 +192,8 @@ module _ {K V : Type 0} {eq : K → K → Bool} (laws : IsEquivalence eq) {hash 
       in_table = λ q l listed is. let old = key_still_listed removes q listed in
           row_elsewhere q old.1 ∙ agrees.in_table q l old.0 (sym (removes.others.links q old.1) ∙ is);
       listed = λ q h is. elim (cases_eq q place) [
-        | inl same ↦ absurd (let gone : None ≡ Some h = sym (row_of q ∙ ap (λ b. cond b None (get rows q)) (eq-eqb q place same)) ∙ is in cc)
+        | inl same ↦ absurd (let gone : None ≡ Some h = sym (row_of q ∙ ap (λ b. cond b None (get rows q)) (eq-eqb q place same)) ∙ is in
+            cc)
         | inr differs ↦ key_stays removes q (agrees.listed q h (sym (row_elsewhere q differs) ∙ is)) differs
       ];
       counted =
@@ -196,7 +205,8 @@ module _ {K V : Type 0} {eq : K → K → Bool} (laws : IsEquivalence eq) {hash 
     pub lists_of-taken : lists_of keys_after values_after ≡ removed eq (lists_of keys values) k
     lists_of-taken =
         (λ i. lists (items_of-removed i) (pairs_of-taken i))
-        ∙ ap (λ js. lists js (pairs_without eq (pairs_of keys values) k)) (filter-agree (λ j. not (eq k j)) (is_listed eq (keys_of (pairs_without eq (pairs_of keys values) k))) (items_of keys) named)
+        ∙ ap (λ js. lists js (pairs_without eq (pairs_of keys values) k))
+        (filter-agree (λ j. not (eq k j)) (is_listed eq (keys_of (pairs_without eq (pairs_of keys values) k))) (items_of keys) named)
       where
         named : (j : K) → IsIn j (items_of keys) → not (eq k j) ≡ is_listed eq (keys_of (pairs_without eq (pairs_of keys values) k)) j
         named j listed =
@@ -204,43 +214,59 @@ module _ {K V : Type 0} {eq : K → K → Bool} (laws : IsEquivalence eq) {hash 
             same_keys laws (lists_of keys values) j (well_formed agrees) ∙ is_listed-self laws j (items_of keys) listed in
             let P : Bool → Type 0 = λ b. eq k j ≡ b → not b ≡ is_listed eq (keys_of (pairs_without eq (pairs_of keys values) k)) j in
             elim (eq k j) as P [
-              | true ↦ λ e. sym (ap (λ js. is_listed eq js j) (keys_of-without eq k (pairs_of keys values)) ∙ is_listed-equal laws k j (keys_of (pairs_of keys values)) e)
+              | true ↦ λ e. sym (ap (λ js. is_listed eq js j) (keys_of-without eq k (pairs_of keys values))
+                  ∙ is_listed-equal laws k j (keys_of (pairs_of keys values)) e)
               | false ↦ λ n. sym (ap (λ js. is_listed eq js j) (keys_of-without eq k (pairs_of keys values))
                   ∙ is_listed-others laws k j (keys_of (pairs_of keys values)) (laws.symm j k ∙ n) ∙ there)
             ] refl
 
 -- the key that left was the stored one
-pub removed_key : {K V : Type 0} {eq : K → K → Bool} (laws : IsEquivalence eq) {hash : K → ℕ} {keys keys_after : Slots K KeyLink} {rows : FinMap nat_cmp ℕ} {values : Slots V ValueLink}
-    (agrees : Agrees eq hash keys rows values) (k : K) (place : ℕ) (has : HasKey eq keys k place) {stored : K} → Removes keys keys_after place stored → stored_key eq (items_of keys) k ≡ stored
+pub removed_key : {K V : Type 0} {eq : K → K → Bool}
+    (laws : IsEquivalence eq) {hash : K → ℕ} {keys keys_after : Slots K KeyLink} {rows : FinMap nat_cmp ℕ} {values : Slots V ValueLink}
+    (agrees : Agrees eq hash keys rows values) (k : K) (place : ℕ) (has : HasKey eq keys k place) {stored : K}
+    → Removes keys keys_after place stored → stored_key eq (items_of keys) k ≡ stored
 removed_key laws {keys = keys} agrees k place has {stored} removes =
     let one : Some has.stored ≡ Some stored = sym has.item_is ∙ removes.had in
     let same : has.stored ≡ stored = cc in
-    stored_key_only laws k has.stored (items_of keys) agrees.distinct (IsIn-filter_map (item_at keys) place has.stored keys.order has.listed has.item_is) has.equal ∙ same
+    stored_key_only laws k has.stored (items_of keys) agrees.distinct
+    (IsIn-filter_map (item_at keys) place has.stored keys.order has.listed has.item_is) has.equal ∙ same
 
 -- what a whole entry was
-module _ {K V : Type 0} {eq : K → K → Bool} (laws : IsEquivalence eq) {hash : K → ℕ} {keys keys_after : Slots K KeyLink} {rows rows_after : FinMap nat_cmp ℕ} {values values_after : Slots V ValueLink}
+module _ {K V : Type 0} {eq : K → K → Bool} (laws : IsEquivalence eq) {hash : K → ℕ} {keys keys_after : Slots K KeyLink}
+    {rows : FinMap nat_cmp ℕ} {values : Slots V ValueLink}
     (agrees : Agrees eq hash keys rows values) (k : K) (place : ℕ) (has : HasKey eq keys k place) {stored : K} {v : V}
-    (takes : TakesEntry keys keys_after rows rows_after values values_after place stored v) where
-  pub entry_is : option_map {U = K × V} (λ x. (stored_key eq (items_of keys) k, x)) (slice_get (values_of eq (pairs_of keys values) k) 0) ≡ Some (stored, v)
+    (removes : Removes keys keys_after place stored)
+    (given : (l : KeyLink) (u : V) → link_at keys place ≡ Some l → item_at values l.head ≡ Some u → v ≡ u) where
+  pub entry_is : option_map {U = K × V} (λ x. (stored_key eq (items_of keys) k, x))
+      (slice_get (values_of eq (pairs_of keys values) k) 0) ≡ Some (stored, v)
   entry_is =
       let l = held (link_at keys place) (agrees.keys_sound.linked place has.listed) in
-      let own : stored_key eq (items_of keys) k ≡ stored = removed_key laws agrees k place has takes.removed in
-      ap (option_map {U = K × V} (λ x. (stored_key eq (items_of keys) k, x))) (first_value laws agrees k place l.value v has l.is (takes.first l.value l.is))
+      let b = begins (chain_of values place) l.value.head (agrees.chained.head place l.value has.listed l.is) in
+      let i = IsIn-kept (is_value_of values place) l.value.head values.order (subst (IsIn l.value.head) (sym b.is) (inl refl)) in
+      let item = held (item_at values l.value.head) (agrees.values_sound.filled l.value.head i.0) in
+      let own : stored_key eq (items_of keys) k ≡ stored = removed_key laws agrees k place has removes in
+      ap (option_map {U = K × V} (λ x. (stored_key eq (items_of keys) k, x)))
+      (first_value laws agrees k place l.value v has l.is (item.is ∙ ap Some (sym (given l.value item.value l.is item.is))))
       ∙ ap (λ j. Some (j, v)) own
 
-  pub entry_count : length (values_of eq (pairs_of keys values) k) ≡ length (chain_of values place)
-  entry_count =
-      let l = held (link_at keys place) (agrees.keys_sound.linked place has.listed) in
-      count_of_values laws agrees k place l.value has l.is ∙ sym (agrees.chained.length place l.value has.listed l.is)
+-- how many values it has
+pub entry_count : {K V : Type 0} {eq : K → K → Bool} (laws : IsEquivalence eq) {hash : K → ℕ} {keys : Slots K KeyLink}
+    {rows : FinMap nat_cmp ℕ} {values : Slots V ValueLink}
+    (agrees : Agrees eq hash keys rows values) (k : K) (place : ℕ) (has : HasKey eq keys k place)
+    → length (values_of eq (pairs_of keys values) k) ≡ length (chain_of values place)
+entry_count laws {keys = keys} agrees k place has =
+    let l = held (link_at keys place) (agrees.keys_sound.linked place has.listed) in
+    count_of_values laws agrees k place l.value has l.is ∙ sym (agrees.chained.length place l.value has.listed l.is)
 
 -- fewer values fit as well
 pub fits-taken : {V : Type 0} {gone : ℕ → Bool} (values values_after : Taped V ValueLink) → TakesValues gone values.list values_after.list
-    → values_after.list.capacity ≡ values.list.capacity → HasTapeRoomFor values 0 → HasTapeRoomFor values_after 0
-fits-taken {gone = gone} values values_after takes room fits =
-    omega (arith, fits, ap (λ n. n / 2) room, ap length takes.order, filter_shorter (λ p. not (gone p)) values.list.order)
+    → HasTapeRoomFor values 0 → HasTapeRoomFor values_after 0
+fits-taken {gone = gone} values values_after takes fits =
+    omega (arith, fits, ap (λ n. n / 2) takes.capacity, ap length takes.order, filter_shorter (λ p. not (gone p)) values.list.order)
 
 -- an absent key has nothing to be removed
-module _ {K V : Type 0} {eq : K → K → Bool} (laws : IsEquivalence eq) (m : Lists K V) (k : K) (formed : IsWellFormed eq m) (unlisted : is_listed eq m.keys k ≡ false) where
+module _ {K V : Type 0} {eq : K → K → Bool} (laws : IsEquivalence eq) (m : Lists K V) (k : K) (formed : IsWellFormed eq m)
+    (unlisted : is_listed eq m.keys k ≡ false) where
   pub apart : (p : K × V) → IsIn p m.pairs → eq k p.0 ≡ false
   apart p i =
       let P : Bool → Type 0 = λ b. eq k p.0 ≡ b → b ≡ false in
@@ -252,4 +278,5 @@ module _ {K V : Type 0} {eq : K → K → Bool} (laws : IsEquivalence eq) (m : L
   pub removed-absent : removed eq m k ≡ m
   removed-absent =
       ap (λ ps. kept eq m ps) (filter-all (λ p. not (eq k p.0)) m.pairs (λ p i. ap not (apart p i)))
-      ∙ ap (λ ks. lists ks m.pairs) (filter-all (is_listed eq (keys_of m.pairs)) m.keys (λ j i. same_keys laws m j formed ∙ is_listed-self laws j m.keys i))
+      ∙ ap (λ ks. lists ks m.pairs) (filter-all (is_listed eq (keys_of m.pairs)) m.keys
+      (λ j i. same_keys laws m j formed ∙ is_listed-self laws j m.keys i))

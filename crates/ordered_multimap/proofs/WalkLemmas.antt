@@ -21,8 +21,10 @@ use Rattle.ordered_multimap.proofs.AgreesLemmas.{pair_in}
 use Rattle.ordered_multimap.proofs.LookupLemmas.{values_of-chain, positions_of-chain}
 use Rattle.ordered_multimap.proofs.PlaceLemmas.{held}
 
-module _ {K V : Type 0} {eq : K → K → Bool} {hash : K → ℕ} {keys : Slots K KeyLink} {rows : FinMap nat_cmp ℕ} {values : Slots V ValueLink} (agrees : Agrees eq hash keys rows values) where
-  values_along : (places : List ℕ) → ((q : ℕ) → IsIn q places → IsIn q values.order) → all_values (filter_map (pair_at keys values) places) ≡ values_at values places
+module _ {K V : Type 0} {eq : K → K → Bool} {hash : K → ℕ} {keys : Slots K KeyLink} {rows : FinMap nat_cmp ℕ} {values : Slots V ValueLink}
+    (agrees : Agrees eq hash keys rows values) where
+  values_along : (places : List ℕ) → ((q : ℕ) → IsIn q places → IsIn q values.order)
+      → all_values (filter_map (pair_at keys values) places) ≡ values_at values places
   values_along [] listed = refl
   values_along (q ∷ places) listed =
       let p = pair_in agrees q (listed q (inl refl)) in
@@ -47,7 +49,13 @@ module _ {K V : Type 0} {eq : K → K → Bool} {hash : K → ℕ} {keys : Slots
     keys_along [] listed = refl
     keys_along (q ∷ places) listed =
         let k = held (item_at keys q) (agrees.keys_sound.filled q (listed q (inl refl))) in
-        let has : HasKey eq keys k.value q = record { listed = listed q (inl refl); stored = k.value; item_is = k.is; equal = laws.refl k.value } in
+        let has : HasKey eq keys k.value q = record {
+          listed = listed q
+              (inl refl);
+          stored = k.value;
+          item_is = k.is;
+          equal = laws.refl k.value;
+        } in
         let one = with_values eq (pairs_of keys values) in
         ap (λ o. cons_option (option_map (λ j. (j, whole_walk values q)) o) (filter_map (key_values_at keys values) places)) k.is
         ∙ ap (λ e. e ∷ filter_map (key_values_at keys values) places) (whole_walk-key k.value q has)
@@ -56,9 +64,11 @@ module _ {K V : Type 0} {eq : K → K → Bool} {hash : K → ℕ} {keys : Slots
 
     -- so are the walks over the values at the places of keys that are left
     pub keys_with_values-left : (left : ChainEnds) → AreLeft keys.order left
-        → items_left keys.order (key_values_at keys values) left ≡ each_with_values eq (pairs_of keys values) (items_left keys.order (item_at keys) left)
+        → items_left keys.order (key_values_at keys values) left ≡ each_with_values eq (pairs_of keys values)
+        (items_left keys.order (item_at keys) left)
     keys_with_values-left left are =
-        let places = path-is (λ place. IsIn place keys.order) (next_of keys.order) (previous_of keys.order) left.first left.last left.length are in
+        let places = path-is (λ place. IsIn place keys.order) (next_of keys.order)
+        (previous_of keys.order) left.first left.last left.length are in
         keys_along (places_left keys.order left) (λ q member. are.there q (subst (IsIn q) places member))
 
     -- the listed keys with their walks are those of the lists

@@ -1,5 +1,6 @@
 -- Each change leaves well-formed lists.
-use Rattle.std.proofs.Common.{◌≡◌, ◌⊎◌, ℕ, zero, suc, ◌-◌, Bool, true, false, not, cond, length, take, slice_get, Option, Some, None, ap, List, [], ◌∷◌, ◌++◌, refl, sym, ◌∙◌, subst, inl, inr, true≢false}
+use Rattle.std.proofs.Common.{◌≡◌, ◌⊎◌, ℕ, zero, suc, ◌-◌, Bool, true, false, not, cond, length, take, slice_get, Option, Some, None, ap}
+use Rattle.std.proofs.Common.{List, [], ◌∷◌, ◌++◌, refl, sym, ◌∙◌, subst, inl, inr, true≢false}
 use Rattle.std.specs.List.{IsDistinct}
 use Rattle.std.specs.Map.{keys_of}
 use Rattle.std.specs.Cmp.{IsEquivalence}
@@ -15,7 +16,8 @@ use Rattle.multimap_walks.specs.Walk.{end_rest}
 use Rattle.multimap_slots.proofs.ListsLemmas.{IsIn-left, IsIn-right, IsIn-append}
 use Rattle.ordered_multimap.proofs.Members.{IsIn-filter, IsIn-kept, keys_of-append, keys_of-filter}
 use Rattle.ordered_multimap.proofs.KeptLemmas.{keys_of-without}
-use Rattle.ordered_multimap.proofs.KeyLemmas.{is_listed-member, is_listed-self, is_present-is_listed, stored_key_member, stored_key_only, IsDistinct-filter, keys_with-stored_key, keys_with-old, keys_with-cases, keys_with-distinct}
+use Rattle.ordered_multimap.proofs.KeyLemmas.{is_listed-member, is_listed-self, is_present-is_listed, stored_key_member, stored_key_only}
+use Rattle.ordered_multimap.proofs.KeyLemmas.{IsDistinct-filter, keys_with-stored_key, keys_with-old, keys_with-cases, keys_with-distinct}
 
 pub empty_well_formed : {K V : Type 0} (eq : K → K → Bool) → IsWellFormed {V = V} eq empty_lists
 unfolding IsDistinct
@@ -58,10 +60,15 @@ module _ {K V : Type 0} {eq : K → K → Bool} (laws : IsEquivalence eq) where
       → IsWellFormed eq (lists (keys_with eq m.keys k) (pairs ++ (stored_key eq m.keys k, v) ∷ []))
   put_last m pairs k v formed old rest = record {
     distinct = keys_with-distinct laws k m.keys formed.distinct;
-    listed = λ j member. elim (IsIn-append j (keys_of pairs) (stored_key eq m.keys k ∷ []) (subst (IsIn j) (keys_of-append pairs _) member)) [
-      | inl among ↦ keys_with-old laws k j m.keys (formed.listed j (old j among))
-      | inr last ↦ elim last [ inl here ↦ subst (λ i. IsIn i (keys_with eq m.keys k)) (sym here) (keys_with-stored_key laws k m.keys) | inr never ↦ absurd never ]
-    ];
+    listed = λ j member. elim (IsIn-append j (keys_of pairs) (stored_key eq m.keys k ∷ [])
+        (subst (IsIn j) (keys_of-append pairs _) member)) [
+          | inl among ↦ keys_with-old laws k j m.keys (formed.listed j (old j among))
+          | inr last ↦ elim last [
+            | inl here ↦ subst (λ i. IsIn i (keys_with eq m.keys k)) (sym here)
+                (keys_with-stored_key laws k m.keys)
+            | inr never ↦ absurd never
+          ]
+        ];
     used = λ j member. subst (IsIn j) (sym (keys_of-append pairs _)) (elim (keys_with-cases laws k j m.keys member) [
       | inl among ↦ elim (rest j among) [
         | inl named ↦ IsIn-left j (keys_of pairs) _ named
@@ -75,20 +82,24 @@ module _ {K V : Type 0} {eq : K → K → Bool} (laws : IsEquivalence eq) where
   appended_well_formed m k v formed = put_last m m.pairs k v formed (λ j member. member) (λ j member. inl (formed.used j member))
 
   -- some of the pairs stay
-  pub kept_well_formed : (m : Lists K V) (pairs : List (K × V)) → IsWellFormed eq m → ((j : K) → IsIn j (keys_of pairs) → IsIn j (keys_of m.pairs)) → IsWellFormed eq (kept eq m pairs)
+  pub kept_well_formed : (m : Lists K V) (pairs : List (K × V)) → IsWellFormed eq m
+      → ((j : K) → IsIn j (keys_of pairs) → IsIn j (keys_of m.pairs)) → IsWellFormed eq (kept eq m pairs)
   kept_well_formed m pairs formed old = record {
     distinct = IsDistinct-filter laws _ m.keys formed.distinct;
-    listed = λ j member. IsIn-filter (is_listed eq (keys_of pairs)) j m.keys (is_listed-self laws j (keys_of pairs) member) (formed.listed j (old j member));
+    listed = λ j member. IsIn-filter (is_listed eq (keys_of pairs)) j m.keys (is_listed-self laws j (keys_of pairs) member)
+        (formed.listed j (old j member));
     used = λ j member.
         let found = IsIn-kept (is_listed eq (keys_of pairs)) j m.keys member in
         let s = stored_key_member laws j (keys_of pairs) found.1 in
         let own : stored_key eq m.keys j ≡ j = stored_key_only laws j j m.keys formed.distinct found.0 (laws.refl j) in
-        let other : stored_key eq m.keys j ≡ stored_key eq (keys_of pairs) j = stored_key_only laws j _ m.keys formed.distinct (formed.listed _ (old _ s.0)) s.1 in
+        let other : stored_key eq m.keys j ≡ stored_key eq (keys_of pairs) j = stored_key_only laws j _ m.keys formed.distinct
+        (formed.listed _ (old _ s.0)) s.1 in
         subst (λ k. IsIn k (keys_of pairs)) (sym other ∙ own) s.0;
   }
 
   pub removed_well_formed : (m : Lists K V) (k : K) → IsWellFormed eq m → IsWellFormed eq (removed eq m k)
-  removed_well_formed m k formed = kept_well_formed m (pairs_without eq m.pairs k) formed (λ j member. keys_of-filter (λ p. not (eq k p.0)) j m.pairs member)
+  removed_well_formed m k formed = kept_well_formed m (pairs_without eq m.pairs k) formed
+      (λ j member. keys_of-filter (λ p. not (eq k p.0)) j m.pairs member)
 
   -- the old pairs of a key go, and a pair of it comes
   pub inserted_well_formed : (m : Lists K V) (k : K) (v : V) → IsWellFormed eq m → IsWellFormed eq (inserted eq m k v)
@@ -100,7 +111,8 @@ module _ {K V : Type 0} {eq : K → K → Bool} (laws : IsEquivalence eq) where
           let Named : Type 0 = IsIn j (keys_of (pairs_without eq m.pairs k)) ⊎ (stored_key eq m.keys k ≡ j) in
           elim (eq k j) as (λ b. eq k j ≡ b → Named) [
             | true ↦ λ e. inr (stored_key_only laws k j m.keys formed.distinct member e)
-            | false ↦ λ e. inl (subst (IsIn j) (sym (keys_of-without eq k m.pairs)) (IsIn-filter (λ i. not (eq k i)) j (keys_of m.pairs) (ap not e) (formed.used j member)))
+            | false ↦ λ e. inl (subst (IsIn j) (sym (keys_of-without eq k m.pairs))
+                (IsIn-filter (λ i. not (eq k i)) j (keys_of m.pairs) (ap not e) (formed.used j member)))
           ] refl
 
   -- a pair goes at an end
@@ -127,7 +139,9 @@ module _ {K V : Type 0} {eq : K → K → Bool} (m : Lists K V) (formed : IsWell
 
   pub first_written_well_formed : (k : K) (v : V) → IsWellFormed eq (first_written eq m k v)
   first_written_well_formed k v = same_keys_well_formed (with_first_value eq m.pairs k v) (
-      elim (slice_get (positions_of eq m.pairs k) 0) as (λ (o : Option ℕ). keys_of (elim o as (λ _. List (K × V)) [ None ↦ m.pairs | Some i ↦ with_value_at m.pairs i v ]) ≡ keys_of m.pairs) [
+      elim (slice_get (positions_of eq m.pairs k) 0) as
+      (λ (o : Option ℕ). keys_of (elim o as (λ _. List (K × V)) [ None ↦ m.pairs | Some i ↦ with_value_at m.pairs i v ]) ≡ keys_of
+      m.pairs) [
         | None ↦ refl
         | Some i ↦ keys_of-with_value_at m.pairs i v
       ]
@@ -135,4 +149,5 @@ module _ {K V : Type 0} {eq : K → K → Bool} (m : Lists K V) (formed : IsWell
 
   pub end_written_well_formed : (end : End) (v : V) → IsWellFormed eq (end_written end m v)
   end_written_well_formed end v =
-      same_keys_well_formed (with_value_at m.pairs (end_position end m.pairs) v) (keys_of-with_value_at m.pairs (end_position end m.pairs) v)
+      same_keys_well_formed (with_value_at m.pairs (end_position end m.pairs) v)
+      (keys_of-with_value_at m.pairs (end_position end m.pairs) v)

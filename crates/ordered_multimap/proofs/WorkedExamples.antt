@@ -7,7 +7,8 @@ use Rattle.multimap_walks.specs.Walk.{answers_of_walk, forward}
 use Rattle.ordered_multimap.specs.Lists.{Lists, lists, empty_lists}
 use Rattle.ordered_multimap.specs.Pairs.{values_of, positions_of, is_present, same_pairs, with_value_at}
 use Rattle.ordered_multimap.specs.Keys.{KeepsKeyOrder}
-use Rattle.ordered_multimap.specs.Changes.{appended, inserted, kept, removed, all_appended, built_from, first_occurrences, first_written, end_written}
+use Rattle.ordered_multimap.specs.Changes.{appended, inserted, kept, removed, all_appended, built_from, first_occurrences, first_written}
+use Rattle.ordered_multimap.specs.Changes.{end_written}
 use Rattle.ordered_multimap.specs.Pop.{Popped, popped_pair, popped}
 use Rattle.ordered_multimap.specs.Retain.{Retains}
 use Rattle.ordered_multimap.specs.RemovedAt.{removed_at, value_beside}
@@ -60,12 +61,15 @@ four_additions = refl
 
 -- popped from the back, a key is owned with its last value
 popped_at_back : pair_popped Back four_pairs ∷ pair_popped Back (pop Back four_pairs) ∷ pair_popped Back (pop Back (pop Back four_pairs))
-    ∷ pair_popped Back (pop Back (pop Back (pop Back four_pairs))) ∷ pair_popped Back (pop Back (pop Back (pop Back (pop Back four_pairs)))) ∷ []
+    ∷ pair_popped Back (pop Back (pop Back (pop Back four_pairs))) ∷ pair_popped Back
+    (pop Back (pop Back (pop Back (pop Back four_pairs)))) ∷ []
     ≡ popped_as false 1 4 ∷ popped_as false 2 3 ∷ popped_as true 2 2 ∷ popped_as true 1 1 ∷ None ∷ []
 popped_at_back = refl
 
-popped_at_front : pair_popped Front four_pairs ∷ pair_popped Front (pop Front four_pairs) ∷ pair_popped Front (pop Front (pop Front four_pairs))
-    ∷ pair_popped Front (pop Front (pop Front (pop Front four_pairs))) ∷ pair_popped Front (pop Front (pop Front (pop Front (pop Front four_pairs)))) ∷ []
+popped_at_front : pair_popped Front four_pairs ∷ pair_popped Front (pop Front four_pairs) ∷ pair_popped Front
+    (pop Front (pop Front four_pairs))
+    ∷ pair_popped Front (pop Front (pop Front (pop Front four_pairs))) ∷ pair_popped Front
+    (pop Front (pop Front (pop Front (pop Front four_pairs)))) ∷ []
     ≡ popped_as false 1 1 ∷ popped_as false 2 2 ∷ popped_as true 2 3 ∷ popped_as true 1 4 ∷ None ∷ []
 popped_at_front = refl
 
@@ -207,7 +211,8 @@ marked_pairs = (true, (1, 1)) ∷ (false, (1, 2)) ∷ (true, (2, 5)) ∷ (true, 
 abbrev three_of_one : Numbers
 three_of_one = append_each ((1, 1) ∷ (1, 2) ∷ (2, 5) ∷ (1, 3) ∷ [])
 
-values_beside : value_beside nat_eq three_of_one.pairs 1 1 ∷ value_beside nat_eq three_of_one.pairs 1 3 ∷ value_beside nat_eq three_of_one.pairs 2 0 ∷ []
+values_beside : value_beside nat_eq three_of_one.pairs 1 1 ∷ value_beside nat_eq three_of_one.pairs 1 3 ∷ value_beside nat_eq
+    three_of_one.pairs 2 0 ∷ []
     ≡ Some 2 ∷ None ∷ None ∷ []
 values_beside = refl
 

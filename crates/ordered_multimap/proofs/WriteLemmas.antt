@@ -1,12 +1,13 @@
 -- Another value at a listed place: the map stays one, and its lists have that value there.
-use Rattle.std.proofs.Common.{◌≡◌, ◌≢◌, ◌==◌, ℕ, suc, ◌-◌, Bool, List, [], ◌∷◌, length, length-append, arith, slice_get, Option, option_map, unwrap_or, Some, None, IsSome, refl, sym, ap, ◌∙◌, subst, inl, inr, if◌then◌else◌}
+use Rattle.std.proofs.Common.{◌≡◌, ◌≢◌, ◌==◌, ℕ, suc, ◌-◌, Bool, List, [], ◌∷◌, length, length-append, arith, slice_get, Option, option_map}
+use Rattle.std.proofs.Common.{unwrap_or, Some, None, IsSome, refl, sym, ap, ◌∙◌, subst, inl, inr, if◌then◌else◌}
 use Rattle.std.proofs.lemmas.Bool.{cases_eq, eq-eqb, ne_eqb}
 use Rattle.std.specs.List.{filter_map, cons_option}
 use Rattle.std.specs.Cmp.{IsEquivalence}
 use Rattle.std.specs.Ordering.{nat_cmp}
 use Rattle.std.specs.FinMap.{FinMap}
 use Rattle.multimap_slots.specs.Lists.{IsIn, AreDistinct}
-use Rattle.multimap_slots.specs.Slots.{Slots, item_at, link_at, with_item}
+use Rattle.multimap_slots.specs.Slots.{Slots, IsSound, item_at, link_at, with_item}
 use Rattle.multimap_slots.specs.Tapes.{Taped, with_list}
 use Rattle.multimap_slots.proofs.ListsLemmas.{AreDistinct-gone, IsIn-left}
 use Rattle.multimap_slots.proofs.SlotsLemmas.{item_at-with_item, KeepsOthers-with_item}
@@ -31,7 +32,8 @@ use Rattle.ordered_multimap.proofs.LawLemmas.{end_item-push}
 use Rattle.ordered_multimap.proofs.LookupLemmas.{positions_of-chain, length-positions_of}
 
 -- links and order are the same
-pub IsChained-with_item : {K V : Type 0} {keys : Slots K KeyLink} {values : Slots V ValueLink} → IsChained keys values → (place : ℕ) (w : V) → IsChained keys (with_item values place w)
+pub IsChained-with_item : {K V : Type 0} {keys : Slots K KeyLink} {values : Slots V ValueLink} → IsChained keys values → (place : ℕ) (w : V)
+    → IsChained keys (with_item values place w)
 IsChained-with_item chained place w = record {
   owned = chained.owned;
   head = chained.head;
@@ -39,6 +41,19 @@ IsChained-with_item chained place w = record {
   length = chained.length;
   previous = chained.previous;
   next = chained.next;
+}
+
+pub IsSound-with_item : {V : Type 0} {values : Slots V ValueLink} → IsSound values → (place : ℕ) → IsIn place values.order → (w : V)
+    → IsSound (with_item values place w)
+IsSound-with_item {values = values} sound place listed w = record {
+  distinct = sound.distinct;
+  filled = λ q i. elim (cases_eq q place) [
+    | inl same ↦ subst (λ p. IsSome (item_at (with_item values place w) p)) (sym same)
+        (subst IsSome (sym (item_at-with_item values place w (sound.filled place listed))) refl)
+    | inr differs ↦ subst IsSome (sym ((KeepsOthers-with_item values place w).items q differs)) (sound.filled q i)
+  ];
+  linked = sound.linked;
+  fits = sound.fits;
 }
 
 module _ {K V : Type 0} {eq : K → K → Bool} {hash : K → ℕ} {keys : Slots K KeyLink} {rows : FinMap nat_cmp ℕ} {values : Slots V ValueLink}
@@ -53,15 +68,7 @@ module _ {K V : Type 0} {eq : K → K → Bool} {hash : K → ℕ} {keys : Slots
   pub Agrees-with_item : Agrees eq hash keys rows (with_item values place w)
   Agrees-with_item = record {
     keys_sound = agrees.keys_sound;
-    values_sound = record {
-      distinct = agrees.values_sound.distinct;
-      filled = λ q i. elim (cases_eq q place) [
-        | inl same ↦ subst (λ p. IsSome (item_at written p)) (sym same) (subst IsSome (sym item_here) refl)
-        | inr differs ↦ subst IsSome (sym ((KeepsOthers-with_item values place w).items q differs)) (agrees.values_sound.filled q i)
-      ];
-      linked = agrees.values_sound.linked;
-      fits = agrees.values_sound.fits;
-    };
+    values_sound = IsSound-with_item agrees.values_sound place listed w;
     chained = IsChained-with_item agrees.chained place w;
     distinct = agrees.distinct;
     hashed = agrees.hashed;
@@ -81,7 +88,8 @@ module _ {K V : Type 0} {eq : K → K → Bool} {hash : K → ℕ} {keys : Slots
   pub pair_other : (q : ℕ) → IsIn q values.order → q ≢ place → pair_at keys written q ≡ pair_at keys values q
   pair_other q i differs =
       let p = pair_in agrees q i in
-      pair_at-is keys written q p.link p.key p.value p.link_is p.key_is ((KeepsOthers-with_item values place w).items q differs ∙ p.value_is) ∙ sym p.pair_is
+      pair_at-is keys written q p.link p.key p.value p.link_is p.key_is
+      ((KeepsOthers-with_item values place w).items q differs ∙ p.value_is) ∙ sym p.pair_is
 
   pairs_along : (qs : List ℕ) → AreDistinct qs → ((q : ℕ) → IsIn q qs → IsIn q values.order) → IsIn place qs
       → filter_map (pair_at keys written) qs ≡ with_value_at (filter_map (pair_at keys values) qs) (position_in qs place) w
@@ -98,37 +106,54 @@ module _ {K V : Type 0} {eq : K → K → Bool} {hash : K → ℕ} {keys : Slots
             (λ r i. pair_other r (among r (inr i)) (λ e. distinct.0 (subst (λ x. IsIn x qs) (e ∙ sym same) i))) in
             let here : item_at written q ≡ Some w = ap (item_at written) same ∙ item_here in
             ap (λ o. cons_option o new) (pair_at-is keys written q p.link p.key w p.link_is p.key_is here) ∙ ap (λ ps. (p.key, w) ∷ ps) rest
-            ∙ sym (ap (λ o. with_value_at (cons_option o old) 0 w) p.pair_is) ∙ sym (ap (λ b. at (if b then 0 else suc (position_in qs place))) (eq-eqb q place same))
+            ∙ sym (ap (λ o. with_value_at (cons_option o old) 0 w) p.pair_is)
+            ∙ sym (ap (λ b. at (if b then 0 else suc (position_in qs place))) (eq-eqb q place same))
         | inr differs ↦
-            let behind : IsIn place qs = elim member as (λ _. IsIn place qs) [ inl here ↦ absurd (differs (sym here)) | inr later ↦ later ] in
+            let behind : IsIn place qs = elim member as
+            (λ _. IsIn place qs) [ inl here ↦ absurd (differs (sym here)) | inr later ↦ later ] in
             let later = pairs_along qs distinct.1 (λ r i. among r (inr i)) behind in
             ap (λ o. cons_option o new) (pair_other q (among q (inl refl)) differs ∙ p.pair_is) ∙ ap (λ ps. (p.key, p.value) ∷ ps) later
-            ∙ sym (ap (λ o. with_value_at (cons_option o old) (suc (position_in qs place)) w) p.pair_is) ∙ sym (ap (λ b. at (if b then 0 else suc (position_in qs place))) (ne_eqb q place differs))
+            ∙ sym (ap (λ o. with_value_at (cons_option o old) (suc (position_in qs place)) w) p.pair_is)
+            ∙ sym (ap (λ b. at (if b then 0 else suc (position_in qs place))) (ne_eqb q place differs))
       ]
 
   -- the pairs have the value at the position of its place
-  pub pairs_of-with_item : pairs_of keys (with_item values place w) ≡ with_value_at (pairs_of keys values) (position_in values.order place) w
+  pub pairs_of-with_item : pairs_of keys (with_item values place w) ≡ with_value_at (pairs_of keys values)
+      (position_in values.order place) w
   pairs_of-with_item = pairs_along values.order agrees.values_sound.distinct (λ q i. i) listed
 
 -- so the map stays one
-pub IsMap-with_item : {K V : Type 0} {eq : K → K → Bool} {hash : K → ℕ} {keys : Slots K KeyLink} {rows : FinMap nat_cmp ℕ} {values : Taped V ValueLink}
-    → IsMap eq hash keys rows values → (place : ℕ) → IsIn place values.list.order → (w : V) → IsMap eq hash keys rows (with_list values (with_item values.list place w))
-IsMap-with_item is_map place listed w = record { agrees = Agrees-with_item is_map.agrees place listed w; fits = is_map.fits; paid = is_map.paid }
+pub IsMap-with_item : {K V : Type 0} {eq : K → K → Bool} {hash : K
+    → ℕ} {keys : Slots K KeyLink} {rows : FinMap nat_cmp ℕ} {values : Taped V ValueLink}
+    → IsMap eq hash keys rows values → (place : ℕ) → IsIn place values.list.order → (w : V)
+    → IsMap eq hash keys rows (with_list values (with_item values.list place w))
+IsMap-with_item is_map place listed w = record {
+  agrees = Agrees-with_item is_map.agrees place listed
+      w;
+  fits = is_map.fits;
+  paid = is_map.paid;
+}
 
 -- and what a contract sees of it is the map with the value at that place
-pub multimap-with_item : {K V S : Type 0} {eq : K → K → Bool} {hash : K → ℕ} {keys : Slots K KeyLink} {rows : FinMap nat_cmp ℕ} {values : Slots V ValueLink}
-    → Agrees eq hash keys rows values → (place : ℕ) → IsIn place values.order → (key_room value_room : ℕ) (state : S) (tape : TapeNumbers) (left : ChainEnds) (w : V)
-    → multimap (lists_of keys (with_item values place w)) key_room value_room state tape (record { keys = keys; values = with_item values place w; left = left })
-    ≡ with_value (multimap (lists_of keys values) key_room value_room state tape (record { keys = keys; values = values; left = left })) place w
+pub multimap-with_item : {K V S : Type 0} {eq : K → K → Bool} {hash : K
+    → ℕ} {keys : Slots K KeyLink} {rows : FinMap nat_cmp ℕ} {values : Slots V ValueLink}
+    → Agrees eq hash keys rows values → (place : ℕ) → IsIn place values.order
+    → (key_room value_room : ℕ) (state : S) (tape : TapeNumbers) (left : ChainEnds) (w : V)
+    → multimap (lists_of keys (with_item values place w)) key_room value_room state tape
+    (record { keys = keys; values = with_item values place w; left = left })
+    ≡ with_value (multimap (lists_of keys values) key_room value_room state tape (record { keys = keys; values = values; left = left }))
+    place w
 multimap-with_item {keys = keys} {values = values} agrees place listed key_room value_room state tape left w =
-    ap (λ pairs. multimap (lists (items_of keys) pairs) key_room value_room state tape (record { keys = keys; values = with_item values place w; left = left }))
+    ap (λ pairs. multimap (lists (items_of keys) pairs) key_room value_room state tape
+    (record { keys = keys; values = with_item values place w; left = left }))
     (pairs_of-with_item agrees place listed w)
 
 -- the head that a key's link names
 pub head_at-is : {K : Type 0} (keys : Slots K KeyLink) (place : ℕ) (l : KeyLink) → link_at keys place ≡ Some l → head_at keys place ≡ l.head
 head_at-is keys place l link_is = ap (λ o. unwrap_or (option_map (λ k. k.head) o) 0) link_is
 
-module _ {K V : Type 0} {eq : K → K → Bool} (laws : IsEquivalence eq) {hash : K → ℕ} {keys : Slots K KeyLink} {rows : FinMap nat_cmp ℕ} {values : Slots V ValueLink}
+module _ {K V : Type 0} {eq : K → K → Bool} (laws : IsEquivalence eq) {hash : K
+    → ℕ} {keys : Slots K KeyLink} {rows : FinMap nat_cmp ℕ} {values : Slots V ValueLink}
     (agrees : Agrees eq hash keys rows values) where
   -- the head of a key's chain stands at the first of its positions
   first_position : (k : K) (place : ℕ) (l : KeyLink) → HasKey eq keys k place → link_at keys place ≡ Some l
@@ -139,25 +164,30 @@ module _ {K V : Type 0} {eq : K → K → Bool} (laws : IsEquivalence eq) {hash 
 
   -- so another value there is another first value
   pub with_first_value-head_at : (k : K) (place : ℕ) (l : KeyLink) → HasKey eq keys k place → link_at keys place ≡ Some l → (v : V)
-      → with_value_at (pairs_of keys values) (position_in values.order (head_at keys place)) v ≡ with_first_value eq (pairs_of keys values) k v
+      → with_value_at (pairs_of keys values) (position_in values.order (head_at keys place)) v ≡ with_first_value eq
+      (pairs_of keys values) k v
   with_first_value-head_at k place l has link_is v =
       let pairs : List (K × V) = pairs_of keys values in
       let put : Option ℕ → List (K × V) = λ o. elim o as (λ _. List (K × V)) [ None ↦ pairs | Some i ↦ with_value_at pairs i v ] in
-      ap (λ head. with_value_at pairs (position_in values.order head) v) (head_at-is keys place l link_is) ∙ sym (ap put (first_position k place l has link_is))
+      ap (λ head. with_value_at pairs (position_in values.order head) v) (head_at-is keys place l link_is)
+      ∙ sym (ap put (first_position k place l has link_is))
 
 -- the place at an end has the position of that end
-position_in-end : (end : End) (order : List ℕ) (place : ℕ) → AreDistinct order → end_of_list end order ≡ Some place → position_in order place ≡ end_position end order
+position_in-end : (end : End) (order : List ℕ) (place : ℕ) → AreDistinct order → end_of_list end order ≡ Some place
+    → position_in order place ≡ end_position end order
 position_in-end Front order place distinct at =
     let b = begins order place at in
     ap (λ ps. position_in ps place) b.is ∙ position_in-split [] place b.rest (λ i. i)
 position_in-end Back order place distinct at =
     let b = ends order place at in
-    let absent = λ (i : IsIn place b.front). AreDistinct-gone b.front place [] (subst AreDistinct b.is distinct) (IsIn-left place b.front [] i) in
+    let absent = λ (i : IsIn place b.front). AreDistinct-gone b.front place [] (subst AreDistinct b.is distinct)
+    (IsIn-left place b.front [] i) in
     ap (λ ps. position_in ps place) b.is ∙ position_in-split b.front place [] absent
     ∙ omega (arith, length-append b.front (place ∷ []), ap length b.is)
 
 -- lists of one length have their ends at the same positions
-end_position-length : {X Y : Type 0} (end : End) (xs : List X) (ys : List Y) → length xs ≡ length ys → end_position end xs ≡ end_position end ys
+end_position-length : {X Y : Type 0} (end : End) (xs : List X) (ys : List Y) → length xs ≡ length ys
+    → end_position end xs ≡ end_position end ys
 end_position-length Front xs ys e = refl
 end_position-length Back xs ys e = ap (λ n. n - 1) e
 
@@ -167,12 +197,19 @@ item_at_end Front order place at = let b = begins order place at in ap (end_item
 item_at_end Back order place at = let b = ends order place at in ap (end_item Back) b.is ∙ end_item-push b.front place
 
 -- a write at the place at an end is one of the pair there
-pub with_value-end : {K V S : Type 0} (m : Multimap K V S) (end : End) (place : ℕ) → AreDistinct m.slots.values.order → length m.lists.pairs ≡ length m.slots.values.order
+pub with_value-end : {K V S : Type 0} (m : Multimap K V S) (end : End) (place : ℕ) → AreDistinct m.slots.values.order
+    → length m.lists.pairs ≡ length m.slots.values.order
     → end_of_list end m.slots.values.order ≡ Some place → (w : V) → with_value m place w ≡ with_end end m w
 with_value-end {K} {V} {S} m end place distinct long at w =
-    let put : ℕ → ℕ → Multimap K V S = λ n p. record m { lists = lists m.lists.keys (with_value_at m.lists.pairs n w); slots = record m.slots { values = with_item m.slots.values p w } } in
-    let position = position_in-end end m.slots.values.order place distinct at ∙ end_position-length end m.slots.values.order m.lists.pairs (sym long) in
-    ap (λ n. put n place) position ∙ ap (put (end_position end m.lists.pairs)) (sym (ap (λ o. unwrap_or o 0) (item_at_end end m.slots.values.order place at)))
+    let put : ℕ → ℕ → Multimap K V S = λ n p. record m {
+      lists = lists m.lists.keys
+          (with_value_at m.lists.pairs n w);
+      slots = record m.slots { values = with_item m.slots.values p w };
+    } in
+    let position = position_in-end end m.slots.values.order place distinct at
+    ∙ end_position-length end m.slots.values.order m.lists.pairs (sym long) in
+    ap (λ n. put n place) position ∙ ap (put (end_position end m.lists.pairs))
+    (sym (ap (λ o. unwrap_or o 0) (item_at_end end m.slots.values.order place at)))
 
 -- a key without a value has no first one, and a write leaves the lists
 no_first : {X Y : Type 0} (xs : List X) (ys : List Y) → length ys ≡ length xs → slice_get xs 0 ≡ None → slice_get ys 0 ≡ None
@@ -180,7 +217,8 @@ no_first xs [] same none = refl
 no_first [] (y ∷ ys) same none = absurd (omega (arith, same))
 no_first (x ∷ xs) (y ∷ ys) same none = absurd (let bad = none in cc)
 
-pub first_written-absent : {K V : Type 0} (eq : K → K → Bool) (m : Lists K V) (k : K) (v : V) → slice_get (values_of eq m.pairs k) 0 ≡ None → first_written eq m k v ≡ m
+pub first_written-absent : {K V : Type 0} (eq : K → K → Bool) (m : Lists K V) (k : K) (v : V) → slice_get (values_of eq m.pairs k) 0 ≡ None
+    → first_written eq m k v ≡ m
 first_written-absent {K} {V} eq m k v none =
     ap (λ (o : Option ℕ). lists m.keys (elim o as (λ _. List (K × V)) [ None ↦ m.pairs | Some i ↦ with_value_at m.pairs i v ]))
     (no_first (values_of eq m.pairs k) (positions_of eq m.pairs k) (length-positions_of eq k 0 m.pairs) none)

@@ -1,18 +1,14 @@
 -- Values that leave the list together and are kept in their slots, for a drain to take. Of the
 -- slots that a drain names, clauses on contents show the values alone.
-use Rattle.std.specs.Prelude.{◌≡◌, ℕ, List, reverse, Option, Some, IfSome}
-use Rattle.std.specs.Ordering.{nat_cmp}
-use Rattle.std.specs.FinMap.{FinMap, remove}
+use Rattle.std.specs.Prelude.{◌≡◌, ℕ, List, reverse, IfSome}
 use Rattle.multimap_slots.specs.Lists.{AreDistinct, IsIn, last_of}
-use Rattle.multimap_slots.specs.Slots.{IsDetached, Removes, Slots, item_at, link_at}
+use Rattle.multimap_slots.specs.Slots.{IsDetached, Slots, item_at, link_at}
 use Rattle.multimap_walks.specs.declared.links.ChainEnds.{ChainEnds}
-use Rattle.multimap_walks.specs.declared.links.KeyLink.{KeyLink}
 use Rattle.multimap_walks.specs.declared.links.ValueLink.{ValueLink}
-use Rattle.multimap_walks.specs.Chained.{chain_of, is_value_of, next_place, places_along}
+use Rattle.multimap_walks.specs.Chained.{next_place, places_along}
 use Rattle.multimap_walks.specs.Chained.{previous_place, values_at}
 use Rattle.multimap_walks.specs.Path.{Leads}
 use Rattle.ordered_multimap.specs.Multimap.{Multimap}
-use Rattle.ordered_multimap.specs.Takes.{IsTaking, InsertsBehind, TakesOlder, TakesValues}
 
 -- the places of detached values, in order
 abbrev pub drained_places : {V : Type 0} → Slots V ValueLink → ChainEnds → List ℕ
@@ -53,40 +49,3 @@ pub record KeepsSlots {V : Type 0} (old new : Slots V ValueLink) : Type 0 where
   pub order : new.order ≡ old.order
   pub items : (q : ℕ) → IsIn q old.order → item_at new q ≡ item_at old q
   pub links : (q : ℕ) → IsIn q old.order → link_at new q ≡ link_at old q
-
--- of the places of a chain the first n have left the list, up to the last one of these; no value
--- and no link has changed
-pub record IsDetaching {V : Type 0} (chain : List ℕ) (n last : ℕ) (following : Option ℕ)
-    (old new : Slots V ValueLink) : Type 0 where
-  pub taking : IsTaking chain n following old new
-  pub last_is : last_of taking.gone ≡ Some last
-  pub items : new.items ≡ old.items
-  pub links : new.links ≡ old.links
-
--- the key at the place has left, with its row, and all its values are detached
-pub record DetachesEntry {K V : Type 0} (keys keys_after : Slots K KeyLink)
-    (rows rows_after : FinMap nat_cmp ℕ)
-    (values values_after : Slots V ValueLink) (place : ℕ) (key : K) (ends : ChainEnds)
-    : Type 0 where
-  pub taken : TakesValues (is_value_of values place) values values_after
-  pub removed : Removes keys keys_after place key
-  pub rows_are : rows_after ≡ remove rows place
-  pub chain : IsDrained values_after ends
-  pub left : drained values_after ends ≡ values_at values (chain_of values place)
-
--- all values of the key at the place are detached but its last one
-pub record DetachesOlder {K V : Type 0} (keys keys_after : Slots K KeyLink)
-    (values values_after : Slots V ValueLink) (place : ℕ) (ends : ChainEnds) : Type 0 where
-  pub first : V
-  pub older : TakesOlder keys keys_after values values_after place first
-  pub chain : IsDrained values_after ends
-  pub left : drained values_after ends ≡ values_at values older.taking.gone
-
--- room was made, a value was put behind the others of the key at the place, and these were detached
-pub record InsertsDetaching {K V : Type 0} (keys keys_after : Slots K KeyLink)
-    (values values_after : Slots V ValueLink) (place : ℕ) (value : V) (ends : ChainEnds)
-    : Type 0 where
-  pub first : V
-  pub done : InsertsBehind keys keys_after values values_after place value first
-  pub chain : IsDrained values_after ends
-  pub left : drained values_after ends ≡ values_at done.pushed_values done.older.taking.gone

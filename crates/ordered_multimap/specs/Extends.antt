@@ -6,7 +6,8 @@ use Rattle.std.specs.Iterator.{Count, Drains, HoldsAlong, Yields, size}
 use Rattle.ordered_multimap.specs.Lists.{Lists}
 use Rattle.ordered_multimap.specs.Changes.{all_appended, built_from}
 use Rattle.ordered_multimap.specs.Multimap.{Multimap}
-use Rattle.ordered_multimap.specs.Rooms.{HasRoomForPairs}
+use Rattle.ordered_multimap.specs.Rooms.{DoublesRooms, HasRoomForPairs, KeepsRooms, SameRooms}
+use Rattle.ordered_multimap.specs.TapeNumbers.{TakesOut}
 use Rattle.ordered_multimap.specs.declared.list_ordered_multimap.refused.Refused.{Refused}
 
 module _ {K V : Type 0} (eq : K → K → Bool) {I T : Type 0} (becomes : I → T → Type 0)
@@ -56,3 +57,14 @@ module _ {K V S I T : Type 0} (becomes : I → T → Type 0) where
   -- as many more fit as the iterator says that it has left at most
   abbrev pub HasRoomForMost : (T → Count) → I → Multimap K V S → Type 0
   HasRoomForMost left iter m = (it : T) → becomes iter it → HasRoomForPairs m (size (left it))
+
+-- no room is lower, one that grows at least doubles, and no value leaves; where there is room for
+-- all pairs that come, no room for keys grows, and where there is room for as many as may come at
+-- most, nothing does
+pub record GrowsForPairs {K V S : Type 0} (given most : Type 0) (old new : Multimap K V S) : Type 0
+  where
+    pub rooms : KeepsRooms old new
+    pub doubles : DoublesRooms old new
+    pub taken : TakesOut 0 old.tape new.tape
+    pub key_room : given → new.key_room ≡ old.key_room
+    pub had_room : most → SameRooms old new

@@ -1,3 +1,4 @@
+pub mod Additions
 pub mod Agrees
 pub mod Appends
 pub mod Changes
@@ -12,6 +13,7 @@ pub mod Extends
 pub mod IntoIters
 pub mod KeyLists
 pub mod KeyRenames
+pub mod KeySteps
 pub mod KeyWrappers
 pub mod KeysLeft
 pub mod Keys

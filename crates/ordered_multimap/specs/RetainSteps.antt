@@ -1,14 +1,13 @@
 -- One pass of `retain`, step by step. No public clause cites this module.
 use Rattle.std.specs.Prelude.{◌≡◌, ℕ, Bool, true, false}
 use Rattle.std.specs.Prelude.{Some}
-use Rattle.std.specs.Ordering.{nat_cmp}
-use Rattle.std.specs.FinMap.{FinMap}
 use Rattle.multimap_slots.specs.Slots.{Slots, with_item}
-use Rattle.multimap_slots.specs.Tapes.{Taped, Frees, with_list}
+use Rattle.multimap_slots.specs.Tapes.{Taped, with_list}
+use Rattle.multimap_table.specs.Table.{Table}
 use Rattle.multimap_walks.specs.declared.links.KeyLink.{KeyLink}
 use Rattle.multimap_walks.specs.declared.links.ValueLink.{ValueLink}
 use Rattle.multimap_walks.specs.Chained.{pair_at}
-use Rattle.ordered_multimap.specs.TakesOne.{TakesPair}
+use Rattle.ordered_multimap.specs.TakesOne.{LeavesPair}
 use Rattle.ordered_multimap.specs.declared.list_ordered_multimap.take_one.Taken.{Taken}
 
 module _ {F K V : Type 0} (calls : F → K → V → Bool → V → F → Type 0) where
@@ -22,28 +21,25 @@ module _ {F K V : Type 0} (calls : F → K → V → Bool → V → F → Type 0
     pub called : calls f key was b left g
     pub written : values_after ≡ with_list values (with_item values.list place left)
 
-  module _ (keys keys_after : Slots K KeyLink) (rows rows_after : FinMap nat_cmp ℕ)
+  module _ (keys keys_after : Slots K KeyLink) (table table_after : Table)
       (values values_after : Taped V ValueLink) (place : ℕ) where
-    -- the pair at the place has left
-    pub record Leaves : Type 0 where
-      pub pair : Taken K V
-      pub takes : TakesPair keys keys_after rows rows_after values.list values_after.list place pair
-      pub frees : Frees values values_after
-
-    -- it stays, and all is as it was
+    -- the pair stays, and all is as it was
     pub record Stays : Type 0 where
       pub keys_are : keys_after ≡ keys
-      pub rows_are : rows_after ≡ rows
+      pub table_is : table_after ≡ table
       pub values_are : values_after ≡ values
 
+    -- it stays, or has left
     abbrev pub StaysIf : Bool → Type 0
     StaysIf true = Stays
-    StaysIf false = Leaves
+    StaysIf false =
+        (pair : Taken K V)
+        × LeavesPair keys keys_after table table_after values values_after place pair
 
   -- a call on the pair at the place has told whether it stays
-  pub record RetainsAt (keys keys_after : Slots K KeyLink) (rows rows_after : FinMap nat_cmp ℕ)
+  pub record RetainsAt (keys keys_after : Slots K KeyLink) (table table_after : Table)
       (values values_after : Taped V ValueLink) (place : ℕ) (f g : F) : Type 0 where
     pub answer : Bool
     pub asked : Taped V ValueLink
     pub asks : Asks keys values asked place f answer g
-    pub rest : StaysIf keys keys_after rows rows_after asked values_after place answer
+    pub rest : StaysIf keys keys_after table table_after asked values_after place answer

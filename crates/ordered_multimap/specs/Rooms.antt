@@ -43,6 +43,14 @@ module _ {K V S : Type 0} where
     pub slots : HasValueRoom old → new.tape.slots ≡ old.tape.slots
     pub doubles : DoublesRooms old new
 
+  -- the same for a value of a key that is there: the room for keys is as it was
+  pub record GrowsForValue (old new : Multimap K V S) : Type 0 where
+    pub rooms : KeepsRooms old new
+    pub keys : new.key_room ≡ old.key_room
+    pub values : HasValueRoom old → new.value_room ≡ old.value_room
+    pub slots : HasValueRoom old → new.tape.slots ≡ old.tape.slots
+    pub doubles : DoublesRooms old new
+
   -- all rooms, the number of slots and the hash builder are the same
   pub record SameRooms (old new : Multimap K V S) : Type 0 where
     pub keys : new.key_room ≡ old.key_room

@@ -1,7 +1,7 @@
 //! Items that leave the list.
-ghost use Rattle.std.specs.Prelude.{◌≡◌, ◌+◌, ◌≤◌, ℕ, List, length, IfSome, IfNone};
+ghost use Rattle.std.specs.Prelude.{◌≡◌, ◌+◌, ◌≤◌, ℕ, List, Some, length, IfSome, IfNone};
 ghost use Rattle.multimap_slots.specs.Lists.{IsIn};
-ghost use Rattle.multimap_slots.specs.Slots.{AreDetached, IsEmpty, Removes};
+ghost use Rattle.multimap_slots.specs.Slots.{AreDetached, IsEmpty, Removes, link_at};
 
 use super::SlotList;
 use std::alloc::Allocator;
@@ -13,13 +13,28 @@ impl<T, L: Copy, A: Allocator> SlotList<T, L, A> {
         ensures removed { IfSome result (Removes self.old self.new place) }
         ensures absent { IfNone result (¬ IsIn place self.old.order) }
         ensures unchanged { IfNone result (self.new ≡ self.old) }
-        ensures capacity { self.new.capacity ≡ self.old.capacity }
     {
         if !self.order.is_listed(place) {
             return None;
         }
+        let (item, _) = self.take_listed(place);
+        Some(item)
+    }
+
+    /// Takes the item at `place`, which must be in the list, out of it, frees the place, and answers
+    /// the item with its link. Unlike `remove` it does not test the place.
+    #[inline(always)]
+    pub fn take_listed(&mut self, place: usize) -> (T, L)
+        requires { IsIn place self.old.order }
+        ensures removed { Removes self.old self.new place result.0 }
+        ensures link { link_at self.old place ≡ Some result.1 }
+    {
+        let link = self.order.link(place);
         self.order.remove(place);
-        self.items[place].take()
+        match self.items[place].take() {
+            Some(item) => (item, link),
+            None => unreachable!(),
+        }
     }
 
     /// Drops every item and frees every place, detached ones too, which count in the capacity

@@ -8,17 +8,14 @@ use super::write::{set_listed, set_next};
 use std::alloc::Allocator;
 
 impl<L: Copy, A: Allocator> Order<L, A> {
-    ghost use Rattle.multimap_slots.specs.ListLayout.{IsApart};
+    ghost use Rattle.multimap_slots.specs.ListLayout.{IsApart, Relists};
     ghost use Rattle.multimap_slots.specs.declared.order.node.State.TheVariants.{Listed};
 
     /// Lists the detached place last.
     pub(crate) fn attach(&mut self, place: usize)
         requires { IsApart self.old place }
-        ensures order { self.new.order ≡ self.old.order ++ place ∷ [] }
-        ensures states { self.new.states ≡ slice_set self.old.states place Listed }
-        ensures links { self.new.links ≡ self.old.links }
-
-        ensures capacity { self.new.capacity ≡ self.old.capacity }
+        ensures relists { Relists (self.old.order ++ place ∷ [])
+            (slice_set self.old.states place Listed) self.old self.new }
         ensures detached { self.new.detached + 1 ≡ self.old.detached }
     {
         set_listed(&mut self.nodes, place, self.back);
@@ -32,11 +29,8 @@ impl<L: Copy, A: Allocator> Order<L, A> {
     /// Puts the place behind all others of the order.
     pub(crate) fn move_to_back(&mut self, place: usize)
         requires { IsIn place self.old.order }
-        ensures order { self.new.order ≡ without self.old.order place ++ place ∷ [] }
-        ensures states { self.new.states ≡ self.old.states }
-        ensures links { self.new.links ≡ self.old.links }
-
-        ensures capacity { self.new.capacity ≡ self.old.capacity }
+        ensures relists { Relists (without self.old.order place ++ place ∷ [])
+            (self.old.states) self.old self.new }
         ensures detached { self.new.detached ≡ self.old.detached }
     {
         // The length tells the proof that each listed place is marked so.

@@ -9,7 +9,7 @@ use super::write::{release, set_detached, set_next, set_previous};
 use std::alloc::Allocator;
 
 impl<L: Copy, A: Allocator> Order<L, A> {
-    ghost use Rattle.multimap_slots.specs.ListLayout.{AreAllDetached, IsApart};
+    ghost use Rattle.multimap_slots.specs.ListLayout.{AreAllDetached, IsApart, Relists};
     ghost use Rattle.multimap_slots.specs.declared.order.node.State.TheVariants.{Detached, Free};
 
     /// How many places are detached.
@@ -46,12 +46,9 @@ impl<L: Copy, A: Allocator> Order<L, A> {
     /// Takes the place out of the order, and keeps it from being given.
     pub(crate) fn detach(&mut self, place: usize)
         requires { IsIn place self.old.order }
-        ensures order { self.new.order ≡ without self.old.order place }
+        ensures relists { Relists (without self.old.order place)
+            (slice_set self.old.states place Detached) self.old self.new }
         ensures shorter { length self.new.order + 1 ≡ length self.old.order }
-        ensures states { self.new.states ≡ slice_set self.old.states place Detached }
-        ensures links { self.new.links ≡ self.old.links }
-
-        ensures capacity { self.new.capacity ≡ self.old.capacity }
         ensures detached { self.new.detached ≡ self.old.detached + 1 }
         ensures among { self.new.detached ≤ length self.old.states }
         ensures fits { length self.old.states ≤ self.old.capacity }
@@ -68,11 +65,8 @@ impl<L: Copy, A: Allocator> Order<L, A> {
     /// Makes the detached place free, and the next to be given.
     pub(crate) fn free_detached(&mut self, place: usize)
         requires { IsApart self.old place }
-        ensures order { self.new.order ≡ self.old.order }
-        ensures states { self.new.states ≡ slice_set self.old.states place Free }
-        ensures links { self.new.links ≡ self.old.links }
-
-        ensures capacity { self.new.capacity ≡ self.old.capacity }
+        ensures relists { Relists self.old.order (slice_set self.old.states place Free)
+            self.old self.new }
         ensures detached { self.new.detached + 1 ≡ self.old.detached }
         ensures among { self.old.detached ≤ length self.old.states }
         ensures fits { length self.old.states ≤ self.old.capacity }

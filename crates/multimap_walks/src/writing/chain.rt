@@ -1,11 +1,14 @@
 //! The walk over one key's values, for writing, and where it goes on.
-ghost use Rattle.std.specs.Prelude.{◌≡◌, ◌+◌, [], ◌∷◌, ◌++◌};
+ghost use Rattle.std.specs.Prelude.{◌≡◌, ◌+◌};
 ghost use Rattle.multimap_slots.specs.SlotCells.{lent_slots};
 ghost use Rattle.multimap_walks.specs.Chained.{places_along};
+ghost use Rattle.multimap_walks.specs.Ends.{end_place};
 ghost use Rattle.multimap_walks.specs.RestWalk.{CanReadChain};
+ghost use Rattle.multimap_walks.specs.Walk.{with_end};
 
 mod methods;
 
+use crate::End;
 use crate::links::{ChainEnds, ValueLink};
 use multimap_slots::SlotCells;
 use std::alloc::{Allocator, Global};
@@ -20,8 +23,10 @@ pub struct EntryValuesMut<'map, K, V, A: Allocator = Global> {
     ghost readable: { ∥ CanReadChain values left ∥₁ },
 }
 
-/// Where the values of a key that are left begin once the first is taken. Its link alone is read.
-pub(crate) fn chain_behind<V, A: Allocator>(
+/// The values of a key that are left once that at an end is taken. Its link alone is read.
+#[inline(always)]
+pub(crate) fn chain_after<V, A: Allocator>(
+    end: End,
     cells: &SlotCells<'_, V, ValueLink, A>,
     left: ChainEnds,
 ) -> ChainEnds
@@ -29,31 +34,12 @@ pub(crate) fn chain_behind<V, A: Allocator>(
     requires more { ¬ (left.length ≡ 0) }
     ensures can { CanReadChain cells.now result }
     ensures taken { places_along (lent_slots cells.now) left.first left.length
-        ≡ left.first ∷ places_along (lent_slots cells.now) result.first result.length }
+        ≡ with_end end (end_place end left)
+        (places_along (lent_slots cells.now) result.first result.length) }
     ensures count { left.length ≡ result.length + 1 }
 {
-    let mut rest = left;
-    rest.first = cells.link(left.first).next.unwrap_or(left.first);
-    rest.length -= 1;
-    rest
-}
-
-/// Where the values of a key that are left end once the last is taken. Its link alone is read.
-pub(crate) fn chain_before<V, A: Allocator>(
-    cells: &SlotCells<'_, V, ValueLink, A>,
-    left: ChainEnds,
-) -> ChainEnds
-    requires can { CanReadChain cells.now left }
-    requires more { ¬ (left.length ≡ 0) }
-    ensures can { CanReadChain cells.now result }
-    ensures taken { places_along (lent_slots cells.now) left.first left.length
-        ≡ places_along (lent_slots cells.now) result.first result.length ++ left.last ∷ [] }
-    ensures count { left.length ≡ result.length + 1 }
-{
-    let mut rest = left;
-    rest.last = cells.link(left.last).previous.unwrap_or(left.last);
-    rest.length -= 1;
-    rest
+    let place = left.place_at(end);
+    left.after(end, cells.link(place).step_from(end).unwrap_or(place))
 }
 
 /// The values that the walk has not given stay as they are.

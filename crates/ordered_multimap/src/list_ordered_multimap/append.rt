@@ -6,13 +6,13 @@ ghost use Rattle.multimap_slots.specs.Slots.{HasItem, IsSound};
 ghost use Rattle.multimap_slots.specs.Tapes.{HasTapeRoomFor};
 ghost use Rattle.multimap_walks.specs.Chained.{IsChained};
 ghost use Rattle.ordered_multimap.specs.Appends.{AppendsBehind, AppendsFirst, FitsOneMore, GrowsFor, HasListedRows, MakesRoom};
+ghost use Rattle.ordered_multimap.specs.Additions.{IsAppended, IsAppendedAt, IsRefused, RefusesValue};
+ghost use Rattle.ordered_multimap.specs.KeySteps.{KeepsPlace};
 ghost use Rattle.ordered_multimap.specs.Agrees.{HasKey, hash_of};
 ghost use Rattle.ordered_multimap.specs.Renames.{AreRenamed};
-ghost use Rattle.ordered_multimap.specs.TapeNumbers.{TakesOut};
 ghost use Rattle.ordered_multimap.specs.Keys.{is_listed};
 ghost use Rattle.ordered_multimap.specs.Pairs.{is_present};
-ghost use Rattle.ordered_multimap.specs.Changes.{appended};
-ghost use Rattle.ordered_multimap.specs.Rooms.{HasPairRoom, HasValueRoom, KeepsRooms, RaisesNoRoom};
+ghost use Rattle.ordered_multimap.specs.Rooms.{HasPairRoom, HasValueRoom};
 
 use super::room::{make_room, make_value_room};
 use super::steps::{push_behind, push_only, push_row};
@@ -36,19 +36,17 @@ impl<K: Eq + Hash, V, S: BuildHasher, A: Allocator + Copy> ListOrderedMultimap<K
     /// ```
     /// map.append("page", 8)?;
     /// ```
+    #[tactic(auto, using(crate::proofs::RoomLemmas::appended_there, crate::proofs::RoomLemmas::refused_there))]
     pub fn append(&mut self, key: K, value: V) -> Result<bool, Refused<K, V>>
     where
         K: Drop,
         V: Drop,
         ensures present { IfOk result (λ present.
             present ≡ is_present K.eq self.old.lists.pairs key) }
-        ensures ok { OnOk result (self.new.lists ≡ appended K.eq self.old.lists key value) }
-        ensures unchanged { OnErr result (self.new.lists ≡ self.old.lists) }
+        ensures ok { OnOk result (IsAppended K.eq key value self.old self.new) }
+        ensures unchanged { OnErr result (IsRefused K.eq key self.old self.new) }
         ensures refused { IfErr result (λ pair. pair ≡ record { key = key; value = value }) }
         ensures succeeds { HasPairRoom K.eq self.old key → IsOk result }
-        ensures rooms { KeepsRooms self.old self.new }
-        ensures had_room { RaisesNoRoom K.eq key self.old self.new }
-        ensures taken { TakesOut 0 self.old.tape self.new.tape }
     {
         let (hash, place) = self.look_up(&key);
         let Some(place) = place else {
@@ -69,13 +67,10 @@ impl<K: Eq + Hash, V, S: BuildHasher, A: Allocator + Copy> ListOrderedMultimap<K
             (K.hash_input key) }
         requires absent { is_listed K.eq self.old.lists.keys key ≡ false }
         ensures found { IfOk result (HasKey K.eq self.new.slots.keys key) }
-        ensures ok { OnOk result (self.new.lists ≡ appended K.eq self.old.lists key value) }
-        ensures unchanged { OnErr result (self.new.lists ≡ self.old.lists) }
+        ensures ok { OnOk result (IsAppended K.eq key value self.old self.new) }
+        ensures unchanged { OnErr result (IsRefused K.eq key self.old self.new) }
         ensures refused { IfErr result (λ pair. pair ≡ record { key = key; value = value }) }
         ensures succeeds { HasPairRoom K.eq self.old key → IsOk result }
-        ensures rooms { KeepsRooms self.old self.new }
-        ensures had_room { RaisesNoRoom K.eq key self.old self.new }
-        ensures taken { TakesOut 0 self.old.tape self.new.tape }
     {
         append_first(
             &mut self.keys,
@@ -93,18 +88,11 @@ impl<K: Eq + Hash, V, S: BuildHasher, A: Allocator + Copy> ListOrderedMultimap<K
     where
         V: Drop,
         requires { IsIn place self.old.slots.keys.order }
-        ensures listed { IsIn place self.new.slots.keys.order }
-        ensures stays { (k : K) → HasKey K.eq self.old.slots.keys k place
-            → HasKey K.eq self.new.slots.keys k place }
-        ensures ok { OnOk result ((k : K) → HasKey K.eq self.old.slots.keys k place
-            → self.new.lists ≡ appended K.eq self.old.lists k value) }
-        ensures unchanged { OnErr result (self.new.lists ≡ self.old.lists) }
+        ensures stays { KeepsPlace K.eq self.old self.new place }
+        ensures ok { OnOk result (IsAppendedAt K.eq place value self.old self.new) }
+        ensures unchanged { OnErr result (RefusesValue self.old self.new) }
         ensures refused { IfErr result (λ r. r.value ≡ value) }
         ensures succeeds { HasValueRoom self.old → IsOk result }
-        ensures rooms { KeepsRooms self.old self.new }
-        ensures had_room { (k : K) → HasKey K.eq self.old.slots.keys k place
-            → RaisesNoRoom K.eq k self.old self.new }
-        ensures taken { TakesOut 0 self.old.tape self.new.tape }
     {
         append_behind(&mut self.keys, &mut self.values, place, value)
     }

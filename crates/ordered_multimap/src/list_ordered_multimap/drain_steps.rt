@@ -7,12 +7,15 @@ ghost use Rattle.multimap_slots.specs.Tapes.{KeepsCounts};
 ghost use Rattle.ordered_multimap.specs.Agrees.{HasKey};
 ghost use Rattle.ordered_multimap.specs.Changes.{inserted, removed};
 ghost use Rattle.ordered_multimap.specs.Keys.{stored_key};
+ghost use Rattle.ordered_multimap.specs.KeySteps.{DetachesValues, KeepsPairs};
 ghost use Rattle.ordered_multimap.specs.Pairs.{values_of};
 ghost use Rattle.ordered_multimap.specs.Rooms.{HasPairRoom, HasValueRoom, KeepsRooms, RaisesNoRoom, SameRooms};
 ghost use Rattle.ordered_multimap.specs.TapeNumbers.{TakesOut};
 ghost use Rattle.ordered_multimap.specs.Detaches.{HoldsDrain, IsDrained, KeepsListed, KeepsSlots, left_of};
 
-use super::detaches::{detach_entry, insert_behind_all};
+use super::insert::insert_behind_all;
+use super::leaving::KeptInPlace;
+use super::takes::leave_entry;
 use super::{EntryValues, ListOrderedMultimap, NO_CHAIN, Refused, RefusedValue};
 use multimap_slots::Tape;
 use multimap_walks::{ChainEnds, ValueLink};
@@ -23,13 +26,11 @@ impl<K: Eq + Hash, V, S: BuildHasher, A: Allocator> ListOrderedMultimap<K, V, S,
     /// Takes the key out, detaches all its values for a drain, and answers the stored key.
     pub(super) fn detach_all(&mut self, key: &K) -> Option<K>
         ensures holds { HoldsDrain self.new }
-        ensures left { left_of self.new ≡ values_of K.eq self.old.lists.pairs key.now }
+        ensures detached { DetachesValues K.eq self.old self.new key.now
+            (removed K.eq self.old.lists key.now) }
         ensures key { result ≡ option_map (λ _. stored_key K.eq self.old.lists.keys key.now)
             (slice_get (values_of K.eq self.old.lists.pairs key.now) 0) }
-        ensures lists { self.new.lists ≡ removed K.eq self.old.lists key.now }
         ensures rooms { SameRooms self.old self.new }
-        ensures taken { TakesOut (length (values_of K.eq self.old.lists.pairs key.now))
-            self.old.tape self.new.tape }
         ensures absent { IfNone result (KeepsListed self.old self.new) }
     {
         match self.look_up(key).1 {
@@ -45,18 +46,18 @@ impl<K: Eq + Hash, V, S: BuildHasher, A: Allocator> ListOrderedMultimap<K, V, S,
     pub(super) fn detach_at(&mut self, place: usize) -> K
         requires { IsIn place self.old.slots.keys.order }
         ensures holds { HoldsDrain self.new }
-        ensures left { (k : K) → HasKey K.eq self.old.slots.keys k place
-            → left_of self.new ≡ values_of K.eq self.old.lists.pairs k }
+        ensures detached { (k : K) → HasKey K.eq self.old.slots.keys k place
+            → DetachesValues K.eq self.old self.new k (removed K.eq self.old.lists k) }
         ensures key { (k : K) → HasKey K.eq self.old.slots.keys k place
             → result ≡ stored_key K.eq self.old.lists.keys k }
-        ensures lists { (k : K) → HasKey K.eq self.old.slots.keys k place
-            → self.new.lists ≡ removed K.eq self.old.lists k }
         ensures rooms { SameRooms self.old self.new }
-        ensures taken { (k : K) → HasKey K.eq self.old.slots.keys k place
-            → TakesOut (length (values_of K.eq self.old.lists.pairs k))
-            self.old.tape self.new.tape }
     {
-        let (key, left) = detach_entry(&mut self.keys, &mut self.table, &mut self.values, place);
+        let (key, _, left) = leave_entry::<K, V, KeptInPlace, A>(
+            &mut self.keys,
+            &mut self.table,
+            &mut self.values,
+            place,
+        );
         self.left = left;
         key
     }
@@ -159,12 +160,9 @@ impl<K: Eq + Hash, V, S: BuildHasher, A: Allocator + Copy> ListOrderedMultimap<K
         K: Drop,
         V: Drop,
         ensures holds { OnOk result (HoldsDrain self.new) }
-        ensures left { OnOk result (left_of self.new ≡ values_of K.eq self.old.lists.pairs key) }
-        ensures ok { OnOk result (self.new.lists ≡ inserted K.eq self.old.lists key value) }
-        ensures taken { OnOk result (TakesOut (length (values_of K.eq self.old.lists.pairs key))
-            self.old.tape self.new.tape) }
-        ensures unchanged { OnErr result (self.new.lists ≡ self.old.lists) }
-        ensures none_taken { OnErr result (TakesOut 0 self.old.tape self.new.tape) }
+        ensures ok { OnOk result (DetachesValues K.eq self.old self.new key
+            (inserted K.eq self.old.lists key value)) }
+        ensures unchanged { OnErr result (KeepsPairs self.old self.new) }
         ensures refused { IfErr result (λ pair. pair ≡ record { key = key; value = value }) }
         ensures succeeds { HasPairRoom K.eq self.old key → IsOk result }
         ensures rooms { KeepsRooms self.old self.new }
@@ -194,15 +192,9 @@ impl<K: Eq + Hash, V, S: BuildHasher, A: Allocator + Copy> ListOrderedMultimap<K
         ensures stays { (k : K) → HasKey K.eq self.old.slots.keys k place
             → HasKey K.eq self.new.slots.keys k place }
         ensures holds { OnOk result (HoldsDrain self.new) }
-        ensures left { OnOk result ((k : K) → HasKey K.eq self.old.slots.keys k place
-            → left_of self.new ≡ values_of K.eq self.old.lists.pairs k) }
         ensures ok { OnOk result ((k : K) → HasKey K.eq self.old.slots.keys k place
-            → self.new.lists ≡ inserted K.eq self.old.lists k value) }
-        ensures taken { OnOk result ((k : K) → HasKey K.eq self.old.slots.keys k place
-            → TakesOut (length (values_of K.eq self.old.lists.pairs k))
-            self.old.tape self.new.tape) }
-        ensures unchanged { OnErr result (self.new.lists ≡ self.old.lists) }
-        ensures none_taken { OnErr result (TakesOut 0 self.old.tape self.new.tape) }
+            → DetachesValues K.eq self.old self.new k (inserted K.eq self.old.lists k value)) }
+        ensures unchanged { OnErr result (KeepsPairs self.old self.new) }
         ensures refused { IfErr result (λ r. r.value ≡ value) }
         ensures succeeds { HasValueRoom self.old → IsOk result }
         ensures rooms { KeepsRooms self.old self.new }

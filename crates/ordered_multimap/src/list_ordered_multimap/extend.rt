@@ -2,9 +2,8 @@
 ghost use Rattle.std.specs.Prelude.{◌≡◌, IfOk, IfErr, IsOk};
 ghost use Rattle.std.specs.Iterator.{IsFinite};
 ghost use Rattle.ordered_multimap.specs.Extends.{Extends, ExtendsCopied, IsBuilt, IsItem};
-ghost use Rattle.ordered_multimap.specs.Extends.{HasRoomForGiven, HasRoomForMost};
-ghost use Rattle.ordered_multimap.specs.Rooms.{DoublesRooms, KeepsRooms, SameRooms};
-ghost use Rattle.ordered_multimap.specs.TapeNumbers.{AreUnused, TakesOut};
+ghost use Rattle.ordered_multimap.specs.Extends.{GrowsForPairs, HasRoomForGiven, HasRoomForMost};
+ghost use Rattle.ordered_multimap.specs.TapeNumbers.{AreUnused};
 
 use super::{ListOrderedMultimap, Refused};
 use std::alloc::Allocator;
@@ -32,22 +31,17 @@ impl<K: Eq + Hash + Drop, V: Drop, S: BuildHasher, A: Allocator + Copy> ListOrde
             → I.IntoIter.can_next it × IsFinite (I.IntoIter.remaining it) }
         ensures extends { Extends K.eq I.into_iter_gives I.IntoIter.next_gives iter
             self.old.lists self.new.lists result }
-        ensures rooms { KeepsRooms self.old self.new }
-        ensures doubles { DoublesRooms self.old self.new }
-        ensures taken { TakesOut 0 self.old.tape self.new.tape }
+        ensures grows { GrowsForPairs
+            (HasRoomForGiven I.into_iter_gives I.IntoIter.next_gives iter self.old)
+            (HasRoomForMost I.into_iter_gives I.IntoIter.remaining iter self.old)
+            self.old self.new }
 
-        // Where there is room for all pairs that come, none is refused, and no room for keys grows.
-        // That for values may grow: an iterator may tell of more pairs than come.
+        // Where there is room for all pairs that come, or for as many as may come, none is refused.
+        // The room for values may grow beyond the pairs that come: an iterator may tell of more.
         ensures succeeds { HasRoomForGiven I.into_iter_gives I.IntoIter.next_gives iter self.old
             → IsOk result }
-        ensures had_key_room { HasRoomForGiven I.into_iter_gives I.IntoIter.next_gives iter self.old
-            → self.new.key_room ≡ self.old.key_room }
-
-        // Where there is room for as many as it has at most, none is refused, and nothing grows.
         ensures succeeds_for_most { HasRoomForMost I.into_iter_gives I.IntoIter.remaining iter
             self.old → IsOk result }
-        ensures had_room { HasRoomForMost I.into_iter_gives I.IntoIter.remaining iter self.old
-            → SameRooms self.old self.new }
     {
         let pairs = iter.into_iter();
         // That this is refused is ignored: each append makes the room that it needs.
@@ -76,22 +70,17 @@ impl<K: Eq + Hash + Drop, V: Drop, S: BuildHasher, A: Allocator + Copy> ListOrde
             → I.IntoIter.can_next it × IsFinite (I.IntoIter.remaining it) }
         ensures extends { ExtendsCopied K.eq I.into_iter_gives I.IntoIter.next_gives iter
             self.old.lists self.new.lists result }
-        ensures rooms { KeepsRooms self.old self.new }
-        ensures doubles { DoublesRooms self.old self.new }
-        ensures taken { TakesOut 0 self.old.tape self.new.tape }
+        ensures grows { GrowsForPairs
+            (HasRoomForGiven I.into_iter_gives I.IntoIter.next_gives iter self.old)
+            (HasRoomForMost I.into_iter_gives I.IntoIter.remaining iter self.old)
+            self.old self.new }
 
-        // Where there is room for all pairs that come, none is refused, and no room for keys grows.
-        // That for values may grow: an iterator may tell of more pairs than come.
+        // Where there is room for all pairs that come, or for as many as may come, none is refused.
+        // The room for values may grow beyond the pairs that come: an iterator may tell of more.
         ensures succeeds { HasRoomForGiven I.into_iter_gives I.IntoIter.next_gives iter self.old
             → IsOk result }
-        ensures had_key_room { HasRoomForGiven I.into_iter_gives I.IntoIter.next_gives iter self.old
-            → self.new.key_room ≡ self.old.key_room }
-
-        // Where there is room for as many as it has at most, none is refused, and nothing grows.
         ensures succeeds_for_most { HasRoomForMost I.into_iter_gives I.IntoIter.remaining iter
             self.old → IsOk result }
-        ensures had_room { HasRoomForMost I.into_iter_gives I.IntoIter.remaining iter self.old
-            → SameRooms self.old self.new }
     {
         let pairs = iter.into_iter();
         // Its refusal is ignored, as in `extend`.

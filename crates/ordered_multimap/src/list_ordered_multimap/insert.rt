@@ -1,22 +1,22 @@
 //! Pairs that come last and take the place of all others of their key.
-ghost use Rattle.std.specs.Prelude.{◌≡◌, Some, length, slice_get, IfOk, IfErr, OnOk, OnErr, IsOk};
+ghost use Rattle.std.specs.Prelude.{◌≡◌, true, false, Some, length, slice_get, IfOk, IfErr, OnOk, OnErr, IsOk, ⊤};
 ghost use Rattle.multimap_slots.specs.Lists.{IsIn};
 ghost use Rattle.multimap_slots.specs.Slots.{IsSound};
 ghost use Rattle.multimap_slots.specs.Tapes.{HasTapeRoomFor};
-ghost use Rattle.multimap_walks.specs.Chained.{IsChained, chain_of};
 ghost use Rattle.ordered_multimap.specs.Agrees.{HasKey};
-ghost use Rattle.ordered_multimap.specs.Takes.{InsertsBehind};
-ghost use Rattle.ordered_multimap.specs.TapeNumbers.{TakesOut, numbers_of};
+ghost use Rattle.ordered_multimap.specs.KeySteps.{KeepsPlace, LosesValues};
+ghost use Rattle.ordered_multimap.specs.Takes.{GrowsForOne, HasChain, Inserts, KeepsNames};
+ghost use Rattle.ordered_multimap.specs.TapeNumbers.{TakesOut};
 ghost use Rattle.ordered_multimap.specs.Pairs.{values_of};
 ghost use Rattle.ordered_multimap.specs.Changes.{inserted};
 ghost use Rattle.ordered_multimap.specs.Rooms.{HasInsertRoom, KeepsRooms, InsertRaisesNoRoom, SameRooms};
 
-use super::room::make_end_room;
-use super::steps::push_behind;
-use super::takes::take_older;
-use super::{ListOrderedMultimap, Refused};
+use super::leaving::{KeptInPlace, TakenOut};
+use super::room::{make_end_room, make_value_room};
+use super::takes::push_over;
+use super::{ListOrderedMultimap, Refused, RefusedValue};
 use multimap_slots::{SlotList, Tape};
-use multimap_walks::{KeyLink, ValueLink};
+use multimap_walks::{ChainEnds, KeyLink, ValueLink};
 use std::alloc::Allocator;
 use std::hash::{BuildHasher, Hash};
 
@@ -64,17 +64,12 @@ impl<K: Eq + Hash, V, S: BuildHasher, A: Allocator> ListOrderedMultimap<K, V, S,
     where
         V: Drop,
         requires { IsIn place self.old.slots.keys.order }
-        ensures listed { IsIn place self.new.slots.keys.order }
-        ensures stays { (k : K) → HasKey K.eq self.old.slots.keys k place
-            → HasKey K.eq self.new.slots.keys k place }
+        ensures keeps { KeepsPlace K.eq self.old self.new place }
         ensures value { (k : K) → HasKey K.eq self.old.slots.keys k place
             → slice_get (values_of K.eq self.old.lists.pairs k) 0 ≡ Some result }
-        ensures lists { (k : K) → HasKey K.eq self.old.slots.keys k place
-            → self.new.lists ≡ inserted K.eq self.old.lists k value }
+        ensures inserted { (k : K) → HasKey K.eq self.old.slots.keys k place
+            → LosesValues K.eq self.old self.new k (inserted K.eq self.old.lists k value) }
         ensures rooms { SameRooms self.old self.new }
-        ensures taken { (k : K) → HasKey K.eq self.old.slots.keys k place
-            → TakesOut (length (values_of K.eq self.old.lists.pairs k))
-            self.old.tape self.new.tape }
     {
         insert_behind(&mut self.keys, &mut self.values, place, value)
     }
@@ -82,25 +77,47 @@ impl<K: Eq + Hash, V, S: BuildHasher, A: Allocator> ListOrderedMultimap<K, V, S,
 
 /// Puts the value last, behind the others of the key at the place, takes these out, and answers the
 /// first of them. There is a slot for it, since a tape has two for each value of the map.
+#[inline(always)]
 fn insert_behind<K, V: Drop, A: Allocator>(
     keys: &mut SlotList<K, KeyLink, A>,
     values: &mut Tape<V, ValueLink, A>,
     place: usize,
     value: V,
 ) -> V
-    requires listed { IsIn place keys.old.order }
+    requires stands { HasChain keys.old values.old.list place }
     requires keys_sound { IsSound keys.old }
-    requires chained { IsChained keys.old values.old.list }
     requires fits { HasTapeRoomFor values.old 0 }
-    ensures inserted { InsertsBehind keys.old keys.new values.old.list values.new.list
-        place value result }
-    ensures fits { HasTapeRoomFor values.new 0 }
-    ensures counts { TakesOut (length (chain_of values.old.list place))
-        (numbers_of values.old) (numbers_of values.new) }
+    ensures inserted { (ends : _) × Inserts false (λ v. result ≡ v) keys.old keys.new
+        values.old values.new place value ends }
     ensures keys_capacity { keys.new.capacity ≡ keys.old.capacity }
     ensures values_capacity { values.new.list.capacity ≡ values.old.list.capacity }
 {
     make_end_room(keys, values);
-    push_behind(keys, values, place, value);
-    take_older(keys, values, place)
+    let (first, _) = push_over::<K, V, TakenOut<V>, A>(keys, values, place, value);
+    first.value
+}
+
+/// Puts the value last, behind the others of the key at the place, detaches these, and answers
+/// where they stand.
+pub(super) fn insert_behind_all<K, V: Drop, A: Allocator + Copy>(
+    keys: &mut SlotList<K, KeyLink, A>,
+    values: &mut Tape<V, ValueLink, A>,
+    place: usize,
+    value: V,
+) -> Result<ChainEnds, RefusedValue<V>>
+    requires stands { HasChain keys.old values.old.list place }
+    requires keys_sound { IsSound keys.old }
+    requires fits { HasTapeRoomFor values.old 0 }
+    ensures ok { IfOk result (Inserts true (λ _. ⊤) keys.old keys.new values.old values.new
+        place value) }
+    ensures unchanged { OnErr result (KeepsNames keys.old keys.new values.old values.new) }
+    ensures refused { IfErr result (λ r. r.value ≡ value) }
+    ensures succeeds { HasTapeRoomFor values.old 1 → IsOk result }
+    ensures grows { GrowsForOne keys.old keys.new values.old values.new }
+{
+    if make_value_room(keys, values).is_err() {
+        return Err(RefusedValue { value });
+    }
+    let (_, left) = push_over::<K, V, KeptInPlace, A>(keys, values, place, value);
+    Ok(left)
 }

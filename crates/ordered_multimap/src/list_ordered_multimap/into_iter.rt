@@ -1,14 +1,13 @@
 //! The pairs of a map that is given up, handed out one by one.
-ghost use Rattle.std.specs.Prelude.{◌≡◌, Some, length, IfSome, MatchOption};
-ghost use Rattle.std.specs.Iterator.{at_most, UpTo};
-ghost use Rattle.std.specs.Iterator.SizeHint.{IsWithinCount};
+ghost use Rattle.std.specs.Prelude.{◌≡◌, length, MatchOption};
+ghost use Rattle.std.specs.Iterator.{at_most};
 ghost use Rattle.multimap_slots.specs.Lists.{IsIn, without};
 ghost use Rattle.multimap_slots.specs.Slots.{KeepsOthers};
 ghost use Rattle.multimap_walks.specs.Chained.{AreOwned, pair_at};
+ghost use Rattle.multimap_walks.specs.Walk.{TellsLength};
 ghost use Rattle.ordered_multimap.specs.IntoIters.{HandsFirst, HandsLast, IsHanded};
 
 use super::lookup::slot_at;
-use super::takes::take_value;
 use super::{ListOrderedMultimap, UnclonedKey};
 use multimap_slots::{SlotList, Tape};
 use multimap_walks::{Iter, KeyLink, ValueLink};
@@ -86,7 +85,7 @@ fn take_cloning<K: Clone, V, A: Allocator>(
     ensures order { values.new.list.order ≡ without values.old.list.order place }
     ensures others { KeepsOthers values.old.list values.new.list place }
 {
-    let (value, link) = take_value(values, place);
+    let (value, link) = values.take_listed(place);
     let (key, _) = slot_at(keys, link.key);
     match key.clone() {
         Ok(key) => Ok((key, value)),
@@ -111,12 +110,7 @@ impl<K: Clone, V: Drop, A: Allocator> Iterator for IntoIter<K, V, A> {
     }
 
     fn size_hint(&self) -> (usize, Option<usize>)
-        ensures lower { IsWithinCount result.0 (at_most (length self.now)) }
-        ensures upper { IfSome result.1 (UpTo (at_most (length self.now))) }
-
-        // Both numbers are that of the items left.
-        ensures least { result.0 ≡ length self.now }
-        ensures greatest { result.1 ≡ Some (length self.now) }
+        ensures { TellsLength result self.now }
     {
         self.iter().size_hint()
     }

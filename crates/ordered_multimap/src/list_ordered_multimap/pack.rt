@@ -13,8 +13,6 @@ ghost use Rattle.ordered_multimap.specs.TapeNumbers.{AreUnused, numbers_of};
 
 use super::ListOrderedMultimap;
 use super::compact::compact;
-use super::lookup::slot_at;
-use super::takes::take_value;
 use multimap_slots::{SlotList, Tape};
 use multimap_table::KeyTable;
 use multimap_walks::{KeyLink, ValueLink};
@@ -78,10 +76,7 @@ fn move_key<K, A: Allocator>(
     ensures keys_capacity { packed.new.capacity ≡ packed.old.capacity }
     ensures rows_capacity { table.new.capacity ≡ table.old.capacity }
 {
-    let (_, link) = slot_at(keys, place);
-    let Some(key) = keys.remove(place) else {
-        unreachable!()
-    };
+    let (key, link) = keys.take_listed(place);
     let to = packed.push_reserved(key, link);
     table.insert(link.hash, to);
     names[place] = to;
@@ -133,7 +128,7 @@ fn move_values<V, A: Allocator>(
     ensures capacity { packed.new.list.capacity ≡ packed.old.list.capacity }
 {
     for place in 0..values.len() {
-        let (value, link) = take_value(values, place);
+        let (value, link) = values.take_listed(place);
         let key = names[link.key];
         packed.push_reserved(value, ValueLink { key, ..link });
     }

@@ -7,7 +7,7 @@ ghost use Rattle.ordered_multimap.specs.Pops.{IsPopped, IsTaken, IsTakenKey, pop
 ghost use Rattle.ordered_multimap.specs.TakesOne.{end_of_list};
 
 use super::lookup::slot_at;
-use super::take_one::{Taken, TakenKey, take_pair};
+use super::take_one::{Taken, TakenKey, take_pair_at};
 use super::{KeyWrapper, ListOrderedMultimap};
 use multimap_slots::Tape;
 use multimap_walks::{End, ValueLink};
@@ -32,7 +32,7 @@ impl<K: Eq + Hash, V, S: BuildHasher, A: Allocator> ListOrderedMultimap<K, V, S,
             result }
     {
         match end_place(&self.values, end) {
-            Some(place) => Some(take_pair(
+            Some(place) => Some(take_pair_at(
                 &mut self.keys,
                 &mut self.table,
                 &mut self.values,

@@ -2,6 +2,7 @@
 ghost use Rattle.std.specs.Prelude.{◌≡◌, Some, length, slice_get, option_map};
 ghost use Rattle.multimap_slots.specs.Lists.{IsIn};
 ghost use Rattle.ordered_multimap.specs.Agrees.{HasKey};
+ghost use Rattle.ordered_multimap.specs.KeySteps.{LosesValues};
 ghost use Rattle.ordered_multimap.specs.Lists.{empty_lists};
 ghost use Rattle.ordered_multimap.specs.Pairs.{values_of};
 ghost use Rattle.ordered_multimap.specs.Keys.{stored_key};
@@ -10,7 +11,8 @@ ghost use Rattle.ordered_multimap.specs.Rooms.{KeepsRooms, SameRooms};
 ghost use Rattle.ordered_multimap.specs.TapeNumbers.{TakesOut};
 
 use super::ListOrderedMultimap;
-use super::takes::take_entry;
+use super::leaving::TakenOut;
+use super::takes::leave_entry;
 use std::alloc::Allocator;
 use std::hash::{BuildHasher, Hash};
 
@@ -69,14 +71,17 @@ impl<K: Eq + Hash, V, S: BuildHasher, A: Allocator> ListOrderedMultimap<K, V, S,
         ensures entry { (k : K) → HasKey K.eq self.old.slots.keys k place
             → Some result ≡ option_map (λ v. (stored_key K.eq self.old.lists.keys k, v))
             (slice_get (values_of K.eq self.old.lists.pairs k) 0) }
-        ensures lists { (k : K) → HasKey K.eq self.old.slots.keys k place
-            → self.new.lists ≡ removed K.eq self.old.lists k }
+        ensures removed { (k : K) → HasKey K.eq self.old.slots.keys k place
+            → LosesValues K.eq self.old self.new k (removed K.eq self.old.lists k) }
         ensures rooms { SameRooms self.old self.new }
-        ensures taken { (k : K) → HasKey K.eq self.old.slots.keys k place
-            → TakesOut (length (values_of K.eq self.old.lists.pairs k))
-            self.old.tape self.new.tape }
     {
-        take_entry(&mut self.keys, &mut self.table, &mut self.values, place)
+        let (key, first, _) = leave_entry::<K, V, TakenOut<V>, A>(
+            &mut self.keys,
+            &mut self.table,
+            &mut self.values,
+            place,
+        );
+        (key, first.value)
     }
 
     /// Takes all pairs out, and drops them. The memory stays, and no hole is left among the slots.

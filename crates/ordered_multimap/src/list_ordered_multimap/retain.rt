@@ -1,15 +1,16 @@
 //! One pass over all pairs that keeps those for which a function answers yes.
 ghost use Rattle.std.specs.Prelude.{◌≡◌, ◌≤◌, ◌-◌, ℕ, Some, length};
-ghost use Rattle.std.specs.FinMap.{get};
 ghost use Rattle.std.specs.Map.Calls.{CallableOnEachPair, CalledAtPair, TakesPair as MayCall};
 ghost use Rattle.multimap_slots.specs.Lists.{IsIn};
 ghost use Rattle.multimap_slots.specs.Slots.{link_at};
-ghost use Rattle.multimap_walks.specs.Chained.{AreOwned, IsChained, pair_at, pairs_of};
+ghost use Rattle.multimap_walks.specs.Chained.{AreOwned, pair_at, pairs_of};
 ghost use Rattle.ordered_multimap.specs.Agrees.{Agrees, items_of};
 ghost use Rattle.ordered_multimap.specs.Keys.{keys_named_by};
 ghost use Rattle.ordered_multimap.specs.Retain.{Retains};
 ghost use Rattle.ordered_multimap.specs.RetainSteps.{Asks, RetainsAt};
 ghost use Rattle.ordered_multimap.specs.Rooms.{SameRooms};
+ghost use Rattle.ordered_multimap.specs.Takes.{KeepsRoom};
+ghost use Rattle.ordered_multimap.specs.TakesOne.{HasPair};
 ghost use Rattle.ordered_multimap.specs.TapeNumbers.{TakesOut, numbers_of};
 
 use super::ListOrderedMultimap;
@@ -21,22 +22,26 @@ use multimap_walks::{KeyLink, ValueLink};
 use std::alloc::Allocator;
 use std::hash::{BuildHasher, Hash};
 
-/// Calls the function on the pair at a listed place, and answers its answer.
+/// Calls the function on the pair at a listed place, and answers its answer, with the links of the
+/// value and of its key.
 fn ask<K, V, A: Allocator, F: FnMut(&K, &mut V) -> bool>(
     keys: &SlotList<K, KeyLink, A>,
     values: &mut Tape<V, ValueLink, A>,
     f: &mut F,
     place: usize,
-) -> bool
+) -> (bool, ValueLink, KeyLink)
     requires listed { IsIn place values.old.list.order }
     requires owned { AreOwned keys.now values.old.list }
     requires callable { (k : K) (v : V) → pair_at keys.now values.old.list place ≡ Some (k, v)
         → MayCall F.FnMut f.old k v }
-    ensures { Asks (CalledAtPair F.FnMut) keys.now values.old values.new place f.old result f.new }
+    ensures asked { Asks (CalledAtPair F.FnMut) keys.now values.old values.new place
+        f.old result.0 f.new }
+    ensures link { link_at values.old.list place ≡ Some result.1 }
+    ensures key_link { link_at keys.now result.1.key ≡ Some result.2 }
 {
     let (_, link) = value_at(values, place);
-    let (key, _) = slot_at(keys, link.key);
-    f(key, values.get_listed_mut(place))
+    let (key, key_link) = slot_at(keys, link.key);
+    (f(key, values.get_listed_mut(place)), link, key_link)
 }
 
 /// Calls the function on the pair at a listed place, and takes the pair out if the answer is no.
@@ -47,20 +52,15 @@ fn retain_at<K: Drop, V: Drop, A: Allocator, F: FnMut(&K, &mut V) -> bool>(
     f: &mut F,
     place: usize,
 )
-    requires listed { IsIn place values.old.list.order }
-    requires chained { IsChained keys.old values.old.list }
-    requires row { (l : ValueLink) (k : KeyLink) → link_at values.old.list place ≡ Some l
-        → link_at keys.old l.key ≡ Some k → get table.old.rows l.key ≡ Some k.hash }
+    requires stands { HasPair keys.old table.old.rows values.old.list place }
     requires callable { (k : K) (v : V) → pair_at keys.old values.old.list place ≡ Some (k, v)
         → MayCall F.FnMut f.old k v }
-    ensures retained { RetainsAt (CalledAtPair F.FnMut) keys.old keys.new table.old.rows
-        table.new.rows values.old values.new place f.old f.new }
-    ensures keys_capacity { keys.new.capacity ≡ keys.old.capacity }
-    ensures rows_capacity { table.new.capacity ≡ table.old.capacity }
-    ensures values_capacity { values.new.list.capacity ≡ values.old.list.capacity }
+    ensures { RetainsAt (CalledAtPair F.FnMut) keys.old keys.new table.old table.new
+        values.old values.new place f.old f.new }
 {
-    if !ask(keys, values, f, place) {
-        take_pair(keys, table, values, place);
+    let (stays, link, key_link) = ask(keys, values, f, place);
+    if !stays {
+        take_pair(keys, table, values, place, link, key_link);
     }
 }
 
@@ -83,14 +83,12 @@ fn retain_pairs<K: Eq + Drop, V: Drop, A: Allocator, F: FnMut(&K, &mut V) -> boo
     ensures counts { TakesOut (length values.old.list.order - length values.new.list.order)
         (numbers_of values.old) (numbers_of values.new) }
     ensures fewer { length values.new.list.order ≤ length values.old.list.order }
-    ensures keys_capacity { keys.new.capacity ≡ keys.old.capacity }
-    ensures rows_capacity { table.new.capacity ≡ table.old.capacity }
-    ensures values_capacity { values.new.list.capacity ≡ values.old.list.capacity }
+    ensures room { KeepsRoom keys.old keys.new table.old table.new values.old values.new }
 {
     let mut following = values.front_place();
     while let Some(place) = following {
         // Asked for before the pair may go: where no value is listed, none follows.
-        following = values.next_place_after(place);
+        following = values.next_listed_place(place);
         retain_at(keys, table, values, &mut f, place);
     }
 }

@@ -4,6 +4,7 @@ ghost use Rattle.multimap_slots.specs.Lists.{IsIn};
 ghost use Rattle.multimap_slots.specs.Slots.{link_at};
 ghost use Rattle.multimap_walks.specs.Chained.{IsChained, chain_of};
 ghost use Rattle.ordered_multimap.specs.Agrees.{HasKey};
+ghost use Rattle.ordered_multimap.specs.KeySteps.{KeepsPlace};
 ghost use Rattle.ordered_multimap.specs.RemovedAt.{removed_at, value_beside};
 ghost use Rattle.ordered_multimap.specs.Rooms.{SameRooms};
 ghost use Rattle.ordered_multimap.specs.TakesAt.{TakesAt};
@@ -61,15 +62,14 @@ fn take_at<K, V, A: Allocator>(
     ensures taken { TakesAt keys.old keys.new values.old.list values.new.list place index result }
     ensures counts { TakesOut (cond (is_some result) 1 0)
         (numbers_of values.old) (numbers_of values.new) }
-    ensures keys_capacity { keys.new.capacity ≡ keys.old.capacity }
-    ensures values_capacity { values.new.list.capacity ≡ values.old.list.capacity }
 {
     let (_, link) = slot_at(keys, place);
     if link.length < 2 || link.length <= index {
         return None;
     }
     let found = place_at(keys, values, place, index);
-    Some(take_one(keys, values, found))
+    let gone = link_of(values, found);
+    Some(take_one(keys, values, found, gone, link))
 }
 
 impl<K: Eq + Hash, V, S: BuildHasher, A: Allocator> ListOrderedMultimap<K, V, S, A> {
@@ -77,9 +77,7 @@ impl<K: Eq + Hash, V, S: BuildHasher, A: Allocator> ListOrderedMultimap<K, V, S,
     /// others.
     pub(super) fn take_value_at(&mut self, place: usize, index: usize) -> Option<V>
         requires { IsIn place self.old.slots.keys.order }
-        ensures listed { IsIn place self.new.slots.keys.order }
-        ensures stays { (k : K) → HasKey K.eq self.old.slots.keys k place
-            → HasKey K.eq self.new.slots.keys k place }
+        ensures keeps { KeepsPlace K.eq self.old self.new place }
         ensures value { (k : K) → HasKey K.eq self.old.slots.keys k place
             → result ≡ value_beside K.eq self.old.lists.pairs k index }
         ensures lists { (k : K) → HasKey K.eq self.old.slots.keys k place

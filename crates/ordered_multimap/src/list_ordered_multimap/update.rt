@@ -63,7 +63,7 @@ fn update_pairs<K: Eq, V, A: Allocator, F: FnMut(&K, &mut V)>(
 {
     let mut following = values.front_place();
     while let Some(place) = following {
-        following = values.next_place_after(place);
+        following = values.next_listed_place(place);
         update_at(keys, values, &mut f, place);
     }
 }

@@ -8,5 +8,6 @@ pub returns : goal.returns
 returns c =
     let first = c.in-Ok.ensures.pushed in
     let second = c.in-Ok-push_back.ensures.pushed in
-    ap (λ ps. next_of ps c.in-Ok.a) (second.order ∙ ap (λ ps. ps ++ c.in-Ok-push_back.b ∷ []) first.order ∙ append_assoc c.args.list.now.order (c.in-Ok.a ∷ []) (c.in-Ok-push_back.b ∷ []))
+    ap (λ ps. next_of ps c.in-Ok.a) (second.order ∙ ap (λ ps. ps ++ c.in-Ok-push_back.b ∷ []) first.order
+    ∙ append_assoc c.args.list.now.order (c.in-Ok.a ∷ []) (c.in-Ok-push_back.b ∷ []))
     ∙ next_of-split c.args.list.now.order c.in-Ok.a (c.in-Ok-push_back.b ∷ []) first.was_absent

@@ -6,8 +6,10 @@ use Rattle.multimap_slots_tests.proofs.uses.read_all.Goals.{in-Some, in-None}
 pub loop-preserved : goal.loop-preserved
 loop-preserved c = elim c.match-following.branch [
   | in-Some w ↦
-      let step = walked-step c.args.list.now.order w.in-Some.place c.loop.counter c.len-end.ensures.sound.distinct (rw w.in-Some.is at c.loop.invariant.walked) in
-      let one = w.get-item.ensures.counted ∙ ap (λ b. c.loop.reads + (if b then 1 else 0)) (is_some-where w.get-item.result w.get-item.ensures.absent step.0) in
+      let step = walked-step c.args.list.now.order w.in-Some.place c.loop.counter c.len-end.ensures.sound.distinct
+      (rw w.in-Some.is at c.loop.invariant.walked) in
+      let one = w.get-item.ensures.counted ∙ ap (λ b. c.loop.reads + (if b then 1 else 0))
+      (is_some-where w.get-item.result w.get-item.ensures.absent step.0) in
       record {
         walked = rw (w.following-is, w.next_place-following.ensures) step.1;
         counted = omega (arith, one, w.reads-is, c.loop.invariant.counted);

@@ -4,7 +4,8 @@ use Rattle.std.specs.FinMap.{FinMap, insert, get}
 use Rattle.multimap_table.specs.Entries.{entries, rows_of, row_at}
 use Rattle.multimap_table.proofs.EntryLemmas.{room_from_count}
 use Rattle.multimap_table.proofs.RowLemmas.{rows_of-nil}
-use Rattle.multimap_table.proofs.TakeLemmas.{take_fewer, take_full, take_empty, take_whole, rows_of-take_full, rows_of-take_empty, get_before}
+use Rattle.multimap_table.proofs.TakeLemmas.{take_fewer, take_full, take_empty, take_whole, rows_of-take_full, rows_of-take_empty}
+use Rattle.multimap_table.proofs.TakeLemmas.{get_before}
 use Rattle.multimap_table.proofs.grow.insert_all.Goals.{then-old_tags-lane-ne0, else-old_tags-lane-ne0}
 use Rattle.multimap_table.proofs.grow.insert_all.Goals as goal
 
@@ -27,7 +28,9 @@ insert_row-requires-clause-room g c =
 pub insert_row-requires-clause-absent : goal.insert_row-requires-clause-absent
 insert_row-requires-clause-absent g c =
     let place = (row_at c.args.old_rows.now c.loop-lane.lane).place in
-    ap (λ (m : FinMap nat_cmp ℕ). get m place) c.loop-lane.invariant.map ∙ get_before c.args.old_tags.now c.args.old_rows.now c.loop-lane.lane c.requires.unique c.requires.old_rows (omega arith) (omega arith)
+    ap (λ (m : FinMap nat_cmp ℕ). get m place) c.loop-lane.invariant.map
+    ∙ get_before c.args.old_tags.now c.args.old_rows.now c.loop-lane.lane c.requires.unique c.requires.old_rows (omega arith)
+    (omega arith)
 
 pub loop-lane-preserved : goal.loop-lane-preserved
 loop-lane-preserved g c =
@@ -43,8 +46,11 @@ loop-lane-preserved g c =
           let put = b.insert_row.ensures in
           rw (add-one, b.tags-is, b.rows-is) (record {
             laid_out = put.laid_out;
-            map = put.rows ∙ ap (λ (m : FinMap nat_cmp ℕ). insert m row.place row.hash) w.map ∙ sym (rows_of-take_full tags rows lane c.requires.unique c.requires.old_rows in_range full);
-            counted = put.counted ∙ ap (λ n. n + 1) w.counted ∙ sym (ap length (take_full tags rows lane c.requires.old_rows in_range full) ∙ length-append (entries (take lane tags) (take lane rows)) _);
+            map = put.rows ∙ ap (λ (m : FinMap nat_cmp ℕ). insert m row.place row.hash) w.map
+                ∙ sym (rows_of-take_full tags rows lane c.requires.unique c.requires.old_rows in_range full);
+            counted = put.counted ∙ ap (λ n. n + 1) w.counted
+                ∙ sym (ap length (take_full tags rows lane c.requires.old_rows in_range full)
+                ∙ length-append (entries (take lane tags) (take lane rows)) _);
             lanes = put.lanes ∙ w.lanes;
           })
       | else-old_tags-lane-ne0 b ↦

@@ -8,16 +8,25 @@ pub returns-then-match_tag-ne0-clause-absent : goal.returns-then-match_tag-ne0-c
 returns-then-match_tag-ne0-clause-absent g c =
     let tags = c.args.tags.now in
     let group = c.probe-group.result in
-    missed_at_stop (λ lane. goal.F-post g c.args.test.now (row_at c.args.rows.now lane).place false) tags c.args.rows.now c.args.hash c.probe_start-start.result c.loop-step.step group
-    c.requires.sized c.requires.reachable c.probe_start-start.ensures.in_range c.probe-group.ensures.in_range c.probe-group.ensures.value c.loop-step.invariant (c.in_default.ensures {u = tt}).absent
-    c.probe_start-start.ensures.value (not_full_from_mask tags group c.match_tag.result c.if-match_tag-ne0.true c.match_tag.type_inv c.match_tag.ensures.only)
+    missed_at_stop (λ lane. goal.F-post g c.args.test.now (row_at c.args.rows.now lane).place false) tags c.args.rows.now c.args.hash
+    c.probe_start-start.result c.loop-step.step group
+    c.requires.sized c.requires.reachable c.probe_start-start.ensures.in_range c.probe-group.ensures.in_range c.probe-group.ensures.value
+    c.loop-step.invariant (c.in_default.ensures {u = tt}).absent
+    c.probe_start-start.ensures.value (not_full_from_mask tags group c.match_tag.result c.if-match_tag-ne0.true c.match_tag.type_inv
+    c.match_tag.ensures.only)
 
 pub loop-step-preserved : goal.loop-step-preserved
 loop-step-preserved g c =
-    missed_one_more (λ lane. goal.F-post g c.args.test.now (row_at c.args.rows.now lane).place false) c.args.tags.now c.args.rows.now c.args.hash c.probe_start-start.result c.loop-step.step c.probe-group.result
-    c.requires.sized c.requires.reachable c.probe_start-start.ensures.in_range c.probe-group.ensures.in_range c.probe-group.ensures.value c.loop-step.invariant (c.in_default.ensures {u = tt}).absent
+    missed_one_more (λ lane. goal.F-post g c.args.test.now (row_at c.args.rows.now lane).place false) c.args.tags.now c.args.rows.now
+    c.args.hash c.probe_start-start.result c.loop-step.step c.probe-group.result
+    c.requires.sized c.requires.reachable c.probe_start-start.ensures.in_range c.probe-group.ensures.in_range c.probe-group.ensures.value
+    c.loop-step.invariant (c.in_default.ensures {u = tt}).absent
 
 pub returns-clause-absent : goal.returns-clause-absent
 returns-clause-absent g c = λ lane holds.
     let in_range = group_of-lt c.args.tags.now lane c.requires.sized.whole_groups holds.in_range in
-    c.loop-step.invariant lane holds (omega (arith, distance-lt (length c.args.tags.now / 16) c.probe_start-start.result (lane / 16) c.probe_start-start.ensures.in_range in_range))
+    c.loop-step.invariant lane holds (omega (
+      arith,
+      distance-lt (length c.args.tags.now / 16) c.probe_start-start.result
+          (lane / 16) c.probe_start-start.ensures.in_range in_range,
+    ))

@@ -19,12 +19,16 @@ loop-group-init g c =
     let rows = c.args.rows.now.items in
     let old = c.requires.laid_out in
     let found = c.lane_with_room-last.ensures in
-    let room = subst (IsRoom c.lane_with_room-last.result (c.args.lane / 16)) c.deref.ensures.value (found.in_range, found.empty, found.reached) in
+    let room = subst (IsRoom c.lane_with_room-last.result (c.args.lane / 16)) c.deref.ensures.value
+    (found.in_range, found.empty, found.reached) in
     let out = erase_row tags rows c.args.lane old.unique old.sized.row_each c.requires.in_range c.requires.full in
-    let count : length tags / 16 ≡ c.len-count.result / 16 = ap (λ n. n / 16) (sym (c.len-count.ensures ∙ sym c.deref.ensures.len ∙ ap length c.deref.ensures.value)) in
+    let count : length tags / 16 ≡ c.len-count.result / 16 = ap (λ n. n / 16)
+    (sym (c.len-count.ensures ∙ sym c.deref.ensures.len ∙ ap length c.deref.ensures.value)) in
     record {
-      closing = subst (λ n. IsClosing n (set tags c.args.lane 0) rows c.args.lane (c.args.lane / 16) (c.lane_with_room-last.result / 16)) count
-          (opened tags rows c.args.lane c.lane_with_room-last.result old c.requires.in_range c.requires.full room.0 room.1 room.2 out.unique);
+      closing = subst (λ n. IsClosing n (set tags c.args.lane 0) rows c.args.lane (c.args.lane / 16) (c.lane_with_room-last.result / 16))
+          count
+          (opened tags rows c.args.lane c.lane_with_room-last.result old c.requires.in_range c.requires.full room.0 room.1 room.2
+          out.unique);
       map = refl;
       counted = refl;
       lanes = refl;
@@ -50,10 +54,13 @@ loop-group-preserved-in-Some g c =
     let found = (c.in-Some.ensures {u = tt}).found in
     let full : 0 < get_or tags later 0 = subst (λ (ts : List ℕ). 0 < get_or ts later 0) c.deref-in-loop-group.ensures.value found.1 in
     let past : Passes tags rows later (gap / 16)
-    = subst (λ (ts : List ℕ). Passes ts rows later (gap / 16)) c.deref-in-loop-group.ensures.value (subst (λ (rs : List Row). Passes c.deref-in-loop-group.result.now rs later (gap / 16)) c.deref-in-loop-group-2.ensures.value found.2) in
+    = subst (λ (ts : List ℕ). Passes ts rows later (gap / 16)) c.deref-in-loop-group.ensures.value
+    (subst (λ (rs : List Row). Passes c.deref-in-loop-group.result.now rs later (gap / 16)) c.deref-in-loop-group-2.ensures.value
+    found.2) in
     let in_range : later < length tags = let l = w.lanes in let q = c.probe-group.ensures.in_range in let at = found.0 in omega arith in
     let moved = move_row tags rows later gap w.unique w.row_each in_range full w.gap_in_range w.empty in
-    let closing = moved_in (c.len-count.result / 16) tags rows gap c.loop-group.group (c.lane_with_room-last.result / 16) later w in_range full past c.probe-group.result c.loop-group-test.true
+    let closing = moved_in (c.len-count.result / 16) tags rows gap c.loop-group.group
+    (c.lane_with_room-last.result / 16) later w in_range full past c.probe-group.result c.loop-group-test.true
     c.probe-group.ensures.in_range c.probe-group.ensures.value found.0 moved.unique in
     rw (c.move_row.ensures.tags, c.move_row.ensures.rows) (record {
       closing = closing;
@@ -69,11 +76,14 @@ loop-group-preserved g c =
     let gap = c.loop-group.gap in
     let w = c.loop-group.invariant.closing in
     let missed = (c.in_default.ensures {u = tt}).absent in
-    let none = subst (λ (ts : List ℕ). (lane : ℕ) → lane / 16 ≡ c.probe-group.result → 0 < get_or ts lane 0 → Passes ts rows lane (gap / 16) → ⊥) c.deref-in-loop-group.ensures.value
-    (subst (λ (rs : List Row). (lane : ℕ) → lane / 16 ≡ c.probe-group.result → 0 < get_or c.deref-in-loop-group.result.now lane 0 → Passes c.deref-in-loop-group.result.now rs lane (gap / 16) → ⊥)
+    let none = subst (λ (ts : List ℕ). (lane : ℕ) → lane / 16 ≡ c.probe-group.result → 0 < get_or ts lane 0 → Passes ts rows lane (gap / 16)
+    → ⊥) c.deref-in-loop-group.ensures.value
+    (subst (λ (rs : List Row). (lane : ℕ) → lane / 16 ≡ c.probe-group.result → 0 < get_or c.deref-in-loop-group.result.now lane 0
+    → Passes c.deref-in-loop-group.result.now rs lane (gap / 16) → ⊥)
     c.deref-in-loop-group-2.ensures.value missed) in
     record {
-      closing = passed_by (c.len-count.result / 16) tags rows gap c.loop-group.group c.probe-group.result (c.lane_with_room-last.result / 16) w c.loop-group-test.true c.probe-group.ensures.in_range
+      closing = passed_by (c.len-count.result / 16) tags rows gap c.loop-group.group c.probe-group.result
+          (c.lane_with_room-last.result / 16) w c.loop-group-test.true c.probe-group.ensures.in_range
           c.probe-group.ensures.value none;
       map = c.loop-group.invariant.map;
       counted = c.loop-group.invariant.counted;
@@ -84,10 +94,13 @@ pub returns-clause-laid_out : goal.returns-clause-laid_out
 returns-clause-laid_out g c =
     let last = c.lane_with_room-last.result / 16 in
     closed (c.len-count.result / 16) c.loop-group.tags.items c.loop-group.rows.items c.loop-group.gap last
-    (subst (λ n. IsClosing (c.len-count.result / 16) c.loop-group.tags.items c.loop-group.rows.items c.loop-group.gap n last) c.loop-group-test.false c.loop-group.invariant.closing)
+    (subst (λ n. IsClosing (c.len-count.result / 16) c.loop-group.tags.items c.loop-group.rows.items c.loop-group.gap n last)
+    c.loop-group-test.false c.loop-group.invariant.closing)
 
-out : (g : Over) (c : After-loop-group g) → IsErased c.args.tags.now.items c.args.rows.now.items (set c.args.tags.now.items c.args.lane 0) (row_at c.args.rows.now.items c.args.lane).place
-out g c = let old = c.requires.laid_out in erase_row c.args.tags.now.items c.args.rows.now.items c.args.lane old.unique old.sized.row_each c.requires.in_range c.requires.full
+out : (g : Over) (c : After-loop-group g) → IsErased c.args.tags.now.items c.args.rows.now.items (set c.args.tags.now.items c.args.lane 0)
+    (row_at c.args.rows.now.items c.args.lane).place
+out g c = let old = c.requires.laid_out in erase_row c.args.tags.now.items c.args.rows.now.items c.args.lane old.unique old.sized.row_each
+    c.requires.in_range c.requires.full
 
 pub returns-clause-rows : goal.returns-clause-rows
 returns-clause-rows g c = c.loop-group.invariant.map ∙ (out g c).map

@@ -14,8 +14,10 @@ loop-lane-preserved c = λ lane from below full passes.
           let at : lane ≡ c.loop-lane.lane = omega arith in
           let group : c.loop-lane.lane / 16 ≡ c.args.group = omega arith in
           let start = probe_start count (row_at c.args.rows.now c.loop-lane.lane).hash in
-          let here : Passes c.args.tags.now c.args.rows.now c.loop-lane.lane c.args.earlier = subst (λ n. Passes c.args.tags.now c.args.rows.now n c.args.earlier) at passes in
-          let nearer : distance count start c.args.earlier < distance count start c.args.group = subst (λ n. distance count start c.args.earlier < distance count start n) group here in
+          let here : Passes c.args.tags.now c.args.rows.now c.loop-lane.lane c.args.earlier = subst
+          (λ n. Passes c.args.tags.now c.args.rows.now n c.args.earlier) at passes in
+          let nearer : distance count start c.args.earlier < distance count start c.args.group = subst
+          (λ n. distance count start c.args.earlier < distance count start n) group here in
           elim c.if-tags-lane-ne0.branch [
             | then-tags-lane-ne0+else-distance w ↦
                 omega (

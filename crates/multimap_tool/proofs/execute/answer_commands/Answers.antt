@@ -6,4 +6,5 @@ use Rattle.multimap_tool.proofs.execute.answer_commands.Goals as goal
 pub returns : goal.returns
 returns g c =
     let run = c.in_ok-replies.ensures in
-    if_ok c.format_replies.result (λ text told. (c.in_ok-replies.replies.items, run.0, run.1, told ∙ ap text_of c.deref.ensures.value)) c.format_replies.ensures.ok
+    if_ok c.format_replies.result (λ text told. (c.in_ok-replies.replies.items, run.0, run.1, told ∙ ap text_of c.deref.ensures.value))
+    c.format_replies.ensures.ok

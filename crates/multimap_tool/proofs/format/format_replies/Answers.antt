@@ -8,9 +8,13 @@ unfolding lib.Utf8.encode
 loop-reply-preserved g c =
     let l = c.loop-reply in
     rw (c.in_ok-push.ensures.bytes, c.in_ok-push_reply.ensures.ok)
-    (replies_on c.args.replies.now l.reply-index c.reply-item.result (string_bytes l.text) (text_of c.args.replies.now) c.loop-reply-test.true c.reply-item.is l.invariant)
+    (replies_on c.args.replies.now l.reply-index c.reply-item.result (string_bytes l.text)
+    (text_of c.args.replies.now) c.loop-reply-test.true c.reply-item.is l.invariant)
 
 pub returns : goal.returns
 returns g c =
     let l = c.loop-reply in
-    record { ok = rw c.into_bytes.ensures.value (replies_done c.args.replies.now l.reply-index (string_bytes l.text) (text_of c.args.replies.now) c.loop-reply-test.false l.invariant) }
+    record {
+      ok = rw c.into_bytes.ensures.value (replies_done c.args.replies.now l.reply-index (string_bytes l.text)
+          (text_of c.args.replies.now) c.loop-reply-test.false l.invariant);
+    }

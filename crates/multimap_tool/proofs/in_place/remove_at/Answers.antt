@@ -8,8 +8,10 @@ use Rattle.multimap_tool.specs.Step.{IsOwnStep}
 use Rattle.multimap_tool.proofs.in_place.remove_at.Goals as goal
 
 -- nothing changes of an absent key, and no value is told
-absent_step : {K V A : Type 0} (eq : K → K → Bool) (k : K) (i : ℕ) (m n : Lists K V) → n ≡ m → is_present eq m.pairs k ≡ false → IsOwnStep eq {A = A} (RemoveAt k i) m (Value None) n
+absent_step : {K V A : Type 0} (eq : K → K → Bool) (k : K) (i : ℕ) (m n : Lists K V) → n ≡ m → is_present eq m.pairs k ≡ false
+    → IsOwnStep eq {A = A} (RemoveAt k i) m (Value None) n
 absent_step eq k i m n same absent = inl (sym (value_beside-absent eq k m.pairs i absent), same ∙ sym (removed_at-absent eq k m i absent))
 
 pub returns-in-Vacant-clause-step : goal.returns-in-Vacant-clause-step
-returns-in-Vacant-clause-step g c = absent_step g.K.PartialEq.eq c.args.key c.args.index c.args.map.now.lists _ (search rules) (sym c.in-Vacant.ensures.occupied)
+returns-in-Vacant-clause-step g c = absent_step g.K.PartialEq.eq c.args.key c.args.index c.args.map.now.lists _ (search rules)
+    (sym c.in-Vacant.ensures.occupied)

@@ -39,7 +39,8 @@ loop-index-preserved g c =
         more.2 ∙ ap (λ m. appended g.K.PartialEq.eq m p.0 p.1) read.2 ∙ sym (appended_last g.K.PartialEq.eq empty_lists read.0 p),
       );
       accepted = l.invariant.accepted ∙ ap (λ ys. first_fault g.K.JsonPart.is_part g.V.JsonPart.is_part l.index (items_view ys)) left
-          ∙ fault_behind g.K.JsonPart.is_part g.V.JsonPart.is_part l.index item (drop (l.index + 1) xs) c.in_ok-append_item.ensures.accepted;
+          ∙ fault_behind g.K.JsonPart.is_part g.V.JsonPart.is_part l.index item
+          (drop (l.index + 1) xs) c.in_ok-append_item.ensures.accepted;
       hasher = c.append_item.ensures.hasher ∙ l.invariant.hasher;
       unused = λ unused. c.append_item.ensures.unused (l.invariant.unused unused);
     }

@@ -16,7 +16,9 @@ loop-key-preserved g c =
     ap length c.push_reserved.ensures.items ∙ length-append l.items.items (item ∷ []) in
     let fewer : length l.key-iterator ≡ suc (length c.next.new.self) = ap length c.in-Some.ensures.steps in
     record {
-      written = rw c.push_reserved.ensures.items (one_written pair l.items.items item p c.next.new.self c.args.map.now.lists.pairs c.in_ok-item_of.ensures.written before);
+      written = rw c.push_reserved.ensures.items (one_written pair l.items.items item p c.next.new.self c.args.map.now.lists.pairs
+          c.in_ok-item_of.ensures.written before);
       room = omega (arith, longer, fewer, l.invariant.room, c.push_reserved.ensures.capacity);
-      accepted = rw c.push_reserved.ensures.items (none_bad-push g.K.JsonPart.is_part g.V.JsonPart.is_part 0 l.items.items item l.invariant.accepted c.in_ok-item_of.ensures.accepted);
+      accepted = rw c.push_reserved.ensures.items (none_bad-push g.K.JsonPart.is_part g.V.JsonPart.is_part 0 l.items.items item
+          l.invariant.accepted c.in_ok-item_of.ensures.accepted);
     }

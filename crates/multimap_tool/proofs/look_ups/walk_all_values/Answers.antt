@@ -6,4 +6,9 @@ pub returns-in-Ok : goal.returns-in-Ok
 returns-in-Ok g c = inl (c.in-Ok.ensures.ok ∙ ap (λ values. walked values c.args.ends.now) c.values.ensures, refl)
 
 pub returns-in-Err : goal.returns-in-Err
-returns-in-Err g c = inr (refl, subst (λ values. ListsItem (walked values c.args.ends.now)) c.values.ensures c.in-Err.ensures.lists_item, refl)
+returns-in-Err g c = inr (
+  refl,
+  subst (λ values. ListsItem (walked values c.args.ends.now)) c.values.ensures
+      c.in-Err.ensures.lists_item,
+  refl,
+)

@@ -5,7 +5,8 @@ use Rattle.multimap_tool.proofs.NumberLemmas.{no_key, no_key_text, key_parsed}
 use Rattle.multimap_tool.proofs.operands.key_of.Goals as goal
 
 pub returns-then-not-starts_a_number : goal.returns-then-not-starts_a_number
-returns-then-not-starts_a_number c = no_key c.args.text.now (λ starts. true≢false (sym (c.starts_a_number.ensures.1 starts) ∙ c.if-not-starts_a_number.true))
+returns-then-not-starts_a_number c = no_key c.args.text.now
+    (λ starts. true≢false (sym (c.starts_a_number.ensures.1 starts) ∙ c.if-not-starts_a_number.true))
 
 pub returns-in_default : goal.returns-in_default
 returns-in_default c = no_key_text c.args.text.now c.in_default.ensures.cases.0
@@ -14,4 +15,5 @@ pub returns : goal.returns
 returns c =
     let text = c.args.text.now in
     let parses = subst (λ t. ParsesUnsigned 32 10 t c.parse.result) c.in-Ok.ensures.cases.0 c.parse.ensures.value.0 in
-    subst (IsKeyOf text) (sym c.ok.ensures.value) (key_parsed text c.parse.result (c.starts_a_number.ensures.0 c.if-not-starts_a_number.false) parses)
+    subst (IsKeyOf text) (sym c.ok.ensures.value) (key_parsed text c.parse.result
+    (c.starts_a_number.ensures.0 c.if-not-starts_a_number.false) parses)

@@ -6,7 +6,8 @@ pub loop-letter-preserved : goal.loop-letter-preserved
 loop-letter-preserved g c =
     let l = c.loop-letter in
     record {
-      read = rw c.push_reserved.ensures.items (letters_on c.args.text.now l.letter-index l.word.items c.in-Some.end c.loop-letter-test.true c.in-Some.ensures l.invariant.read);
+      read = rw c.push_reserved.ensures.items (letters_on c.args.text.now l.letter-index l.word.items c.in-Some.end c.loop-letter-test.true
+          c.in-Some.ensures l.invariant.read);
       count = omega (arith, l.invariant.count, c.push_reserved.ensures.len);
       room = omega (arith, l.invariant.room, c.push_reserved.ensures.capacity);
     }

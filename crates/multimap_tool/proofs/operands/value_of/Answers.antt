@@ -6,7 +6,8 @@ use Rattle.multimap_tool.proofs.NumberLemmas.{no_value, no_value_text, value_par
 use Rattle.multimap_tool.proofs.operands.value_of.Goals as goal
 
 pub returns-then-not-starts_a_value : goal.returns-then-not-starts_a_value
-returns-then-not-starts_a_value c = no_value c.args.text.now (λ starts. true≢false (sym (c.starts_a_value.ensures.1 starts) ∙ c.if-not-starts_a_value.true))
+returns-then-not-starts_a_value c = no_value c.args.text.now
+    (λ starts. true≢false (sym (c.starts_a_value.ensures.1 starts) ∙ c.if-not-starts_a_value.true))
 
 pub returns-in_default : goal.returns-in_default
 returns-in_default c = no_value_text c.args.text.now c.in_default.ensures.cases.0
@@ -15,4 +16,5 @@ pub returns : goal.returns
 returns c =
     let text = c.args.text.now in
     let parses = subst (λ t. ParsesSigned w64 10 t c.parse.result) c.in-Ok.ensures.cases.0 c.parse.ensures.value.0 in
-    subst (IsValueOf text) (sym c.ok.ensures.value) (value_parsed text c.parse.result (c.starts_a_value.ensures.0 c.if-not-starts_a_value.false) parses)
+    subst (IsValueOf text) (sym c.ok.ensures.value)
+    (value_parsed text c.parse.result (c.starts_a_value.ensures.0 c.if-not-starts_a_value.false) parses)

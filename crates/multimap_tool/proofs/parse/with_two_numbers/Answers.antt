@@ -14,8 +14,10 @@ returns-in-Some g c =
     let key = c.args.key in
     let value = c.args.value in
     let found : IsCommandOf name (key_operand key ∷ value_operand value ∷ []) c.in-Some.command =
-    subst (λ v. IsCommandOf name (key_operand key ∷ value_operand v ∷ []) c.in-Some.command) (to_z-of_z w64 value c.ranges.value) c.in-Some.ensures in
-    spelled name (name ++ 32 ∷ (c.args.first.now ++ 32 ∷ c.args.second.now)) (key_operand key ∷ value_operand value ∷ []) c.in-Some.command (omega arith, (c.ranges.value, tt))
+    subst (λ v. IsCommandOf name (key_operand key ∷ value_operand v ∷ []) c.in-Some.command)
+    (to_z-of_z w64 value c.ranges.value) c.in-Some.ensures in
+    spelled name (name ++ 32 ∷ (c.args.first.now ++ 32 ∷ c.args.second.now)) (key_operand key ∷ value_operand value ∷ []) c.in-Some.command
+    (omega arith, (c.ranges.value, tt))
     (λ i. name ++ 32 ∷ (sym c.requires.key i ++ 32 ∷ (sym c.requires.value ∙ sym (append-nil (signed_decimal value))) i)) found
 
 pub returns-in_default-key_of : goal.returns-in_default-key_of
@@ -24,7 +26,8 @@ returns-in_default-key_of g c =
     let second = c.args.second.now in
     let number : IsValueText second = (c.args.value, c.ranges.value, c.requires.value) in
     bad_with_two c.args.name.now first second c.requires.name c.requires.first
-    (λ listed _ _. c.in_default.ensures listed) (λ _ _ key. c.in_default-key_of.ensures key.0 key.1 key.2) (λ _ _ word. word_is_no_value second word number)
+    (λ listed _ _. c.in_default.ensures listed) (λ _ _ key. c.in_default-key_of.ensures key.0 key.1 key.2)
+    (λ _ _ word. word_is_no_value second word number)
 
 pub returns : goal.returns
 returns g c =
@@ -34,8 +37,10 @@ returns g c =
     let keys = c.args.key in
     let values = c.in-Some-key_of.number in
     let number : IsValueText second = (c.args.value, c.ranges.value, c.requires.value) in
-    reading name (name ++ 32 ∷ (first ++ 32 ∷ second)) (key_operand keys ∷ key_operand values ∷ []) c.number_command.result (omega arith, (omega arith, tt))
+    reading name (name ++ 32 ∷ (first ++ 32 ∷ second)) (key_operand keys ∷ key_operand values ∷ []) c.number_command.result
+    (omega arith, (omega arith, tt))
     (λ i. name ++ 32 ∷ (sym c.requires.key i ++ 32 ∷ (sym c.in-Some-key_of.ensures ∙ sym (append-nil (decimal values))) i))
-    (λ none. bad_with_two name first second c.requires.name c.requires.first (λ listed _ _. c.in_default.ensures listed) (λ listed _ _. none listed)
+    (λ none. bad_with_two name first second c.requires.name c.requires.first (λ listed _ _. c.in_default.ensures listed)
+    (λ listed _ _. none listed)
     (λ _ _ word. word_is_no_value second word number))
     c.number_command.ensures

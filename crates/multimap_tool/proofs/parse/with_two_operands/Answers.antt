@@ -7,7 +7,8 @@ use Rattle.multimap_tool.proofs.parse.with_two_operands.Goals as goal
 pub returns-in_default : goal.returns-in_default
 returns-in_default g c =
     bad_with_two c.args.name.now c.args.first.now c.args.second.now c.requires.name c.requires.first
-    (λ _ key _. c.in_default.ensures key.0 key.1 key.2) (λ _ key _. c.in_default.ensures key.0 key.1 key.2) (λ _ key _. c.in_default.ensures key.0 key.1 key.2)
+    (λ _ key _. c.in_default.ensures key.0 key.1 key.2) (λ _ key _. c.in_default.ensures key.0 key.1 key.2)
+    (λ _ key _. c.in_default.ensures key.0 key.1 key.2)
 
 pub returns-in_default-2 : goal.returns-in_default-2
 returns-in_default-2 g c =
@@ -26,7 +27,8 @@ returns g c =
     let word = c.in-Some-2.word in
     let no_value = c.in_default-value_of.ensures in
     let letters = rw c.in-Some-2.is at c.in_ok-word.ensures in
-    reading name (name ++ 32 ∷ (first ++ 32 ∷ second)) (key_operand key ∷ word_operand word.items ∷ []) c.key_walk_command.result (omega arith, (letters.some, tt))
+    reading name (name ++ 32 ∷ (first ++ 32 ∷ second)) (key_operand key ∷ word_operand word.items ∷ []) c.key_walk_command.result
+    (omega arith, (letters.some, tt))
     (λ i. name ++ 32 ∷ (sym c.in-Some.ensures i ++ 32 ∷ (sym letters.spelled ∙ sym (append-nil _)) i))
     (λ none. bad_with_two name first second c.requires.name c.requires.first (λ _ _ value. no_value value.0 value.1 value.2)
     (λ _ _ key. let value = key_is_value second key in no_value value.0 value.1 value.2) (λ listed _ _. none listed))

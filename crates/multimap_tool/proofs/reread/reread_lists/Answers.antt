@@ -10,11 +10,17 @@ returns-in-Ok-from_value-clause-step g c =
     let n = c.in-Ok-from_value.copy.lists in
     let key = g.K.JsonPart in
     let value = g.V.JsonPart in
-    let read = subst (λ d. IsRead key.json value.json key.is_part value.is_part g.K.PartialEq.eq d n) c.in-Ok.ensures.written c.in-Ok-from_value.ensures.read in
-    inl (tt, read_lists_back key.json value.json c.requires.key_parts c.requires.value_parts key.is_part value.is_part g.met.K.Eq.laws m n c.keys_len-keys.ensures.well_formed read)
+    let read = subst (λ d. IsRead key.json value.json key.is_part value.is_part g.K.PartialEq.eq d n) c.in-Ok.ensures.written
+    c.in-Ok-from_value.ensures.read in
+    inl (
+      tt,
+      read_lists_back key.json value.json c.requires.key_parts c.requires.value_parts key.is_part value.is_part g.met.K.Eq.laws m n
+          c.keys_len-keys.ensures.well_formed read,
+    )
 
 pub returns-in-Ok-from_value-clause-hasher : goal.returns-in-Ok-from_value-clause-hasher
-returns-in-Ok-from_value-clause-hasher g c same = c.in-Ok-from_value.ensures.hasher ∙ same _ _ c.in-Ok-clone.ensures.cases ∙ c.hasher.ensures
+returns-in-Ok-from_value-clause-hasher g c same = c.in-Ok-from_value.ensures.hasher ∙ same _ _ c.in-Ok-clone.ensures.cases
+    ∙ c.hasher.ensures
 
 pub unreachable-requires : goal.unreachable-requires
 unreachable-requires g c =
@@ -23,6 +29,9 @@ unreachable-requires g c =
     let value = g.V.JsonPart in
     let eq = g.K.PartialEq.eq in
     let fault = c.in-Err.fault in
-    let accepted = subst (λ d. IfSome (both_arrays d) (AreAccepted key.is_part value.is_part)) c.in-Ok.ensures.written c.in-Ok.ensures.accepted in
-    let found = subst (λ d. UnlessMemory (IsFaultIn key.json value.json key.is_part value.is_part eq d) fault) c.in-Ok.ensures.written c.in-Err.ensures.fault in
-    no_fault_in_lists key.json value.json c.requires.key_parts c.requires.value_parts key.is_part value.is_part g.met.K.Eq.laws m fault c.keys_len-keys.ensures.well_formed accepted c.in_default-fault.not-OutOfMemory found
+    let accepted = subst (λ d. IfSome (both_arrays d) (AreAccepted key.is_part value.is_part)) c.in-Ok.ensures.written
+    c.in-Ok.ensures.accepted in
+    let found = subst (λ d. UnlessMemory (IsFaultIn key.json value.json key.is_part value.is_part eq d) fault) c.in-Ok.ensures.written
+    c.in-Err.ensures.fault in
+    no_fault_in_lists key.json value.json c.requires.key_parts c.requires.value_parts key.is_part value.is_part g.met.K.Eq.laws m fault
+    c.keys_len-keys.ensures.well_formed accepted c.in_default-fault.not-OutOfMemory found

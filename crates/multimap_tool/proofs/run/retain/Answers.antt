@@ -9,6 +9,7 @@ returns-clause-step g c =
       tt,
       record {
         keys = r.keys;
-        pairs = Retains-same _ (g.F.Keep.answers c.args.keep.now c.args.operand) _ (λ k v b w f' t. (search rules, search rules)) _ _ _ r.retained.1;
+        pairs = Retains-same _ (g.F.Keep.answers c.args.keep.now c.args.operand) _
+            (λ k v b w f' t. (search rules, search rules)) _ _ _ r.retained.1;
       },
     )

@@ -9,7 +9,8 @@ use Rattle.multimap_tool.proofs.run.run_all.Goals as goal
 
 pub loop-command-init : goal.loop-command-init
 loop-command-init g c = record {
-  ran = subst (λ replies. IsRun (g.F.Keep.answers c.args.keep.now) g.K.PartialEq.eq [] c.args.map.now.lists replies c.args.map.now.lists) (sym c.requires.empty) refl;
+  ran = subst (λ replies. IsRun (g.F.Keep.answers c.args.keep.now) g.K.PartialEq.eq [] c.args.map.now.lists replies c.args.map.now.lists)
+      (sym c.requires.empty) refl;
   hasher = λ same. refl;
   keys = λ room. omega (arith, room.keys);
   values = λ room. omega (arith, room.values);
@@ -21,7 +22,12 @@ loop-command-init g c = record {
 pub step-requires-clause-callable : goal.step-requires-clause-callable
 step-requires-clause-callable g c =
     let l = c.loop-command in
-    λ operand is. c.requires.callable operand (l.command-index, c.loop-command-test.true, subst (λ r. slice_index_or c.args.commands.now l.command-index r ≡ r) is (sym c.command-item.is))
+    λ operand is. c.requires.callable operand (
+      l.command-index,
+      c.loop-command-test.true,
+      subst
+          (λ r. slice_index_or c.args.commands.now l.command-index r ≡ r) is (sym c.command-item.is),
+    )
 
 pub step-requires-clause-key_parts : goal.step-requires-clause-key_parts
 step-requires-clause-key_parts g c =
@@ -38,18 +44,25 @@ loop-command-preserved g c =
     let l = c.loop-command in
     let done = take l.command-index c.args.commands.now in
     let command = c.command-item.result in
-    let more = take_more c.args.commands.now l.command-index command c.loop-command-test.true ∙ ap (λ x. done ++ x ∷ []) (sym c.command-item.is) in
+    let more = take_more c.args.commands.now l.command-index command c.loop-command-test.true
+    ∙ ap (λ x. done ++ x ∷ []) (sym c.command-item.is) in
     let here : Contains c.args.commands.now command = (l.command-index, c.loop-command-test.true, sym c.command-item.is) in
     let keeps = g.F.Keep.answers c.args.keep.now in
     let longer = ap length c.push_reserved.ensures.items ∙ length-append l.replies.items (c.step.result ∷ []) in
-    let grows : HasRunRoom c.args.commands.now c.args.map.now → GrowsByOne l.map.lists c.step.new.map.lists = λ room. step_grows keeps g.K.PartialEq.eq command l.map.lists c.step.result c.step.new.map.lists (room.keep command here) c.step.ensures.step in
+    let grows : HasRunRoom c.args.commands.now c.args.map.now
+    → GrowsByOne l.map.lists c.step.new.map.lists = λ room. step_grows keeps g.K.PartialEq.eq command l.map.lists c.step.result
+    c.step.new.map.lists (room.keep command here) c.step.ensures.step in
     record {
-      ran = rw (more, c.push_reserved.ensures.items) (IsRun-push keeps g.K.PartialEq.eq done c.args.map.now.lists l.replies.items l.map.lists command c.step.result c.step.new.map.lists l.invariant.ran c.step.ensures.step);
+      ran = rw (more, c.push_reserved.ensures.items)
+          (IsRun-push keeps g.K.PartialEq.eq done c.args.map.now.lists l.replies.items l.map.lists command c.step.result
+          c.step.new.map.lists l.invariant.ran c.step.ensures.step);
       hasher = λ same. c.step.ensures.hasher same ∙ l.invariant.hasher same;
       keys = λ room. omega (arith, (grows room).keys, l.invariant.keys room, (c.step.ensures.rooms (room.keep command here)).keys);
       values = λ room. omega (arith, (grows room).pairs, l.invariant.values room, (c.step.ensures.rooms (room.keep command here)).values);
-      found = λ room. rw (more, c.push_reserved.ensures.items) (FindsRoom-push done l.replies.items command c.step.result (l.invariant.found room)
-          (λ adds. c.step.ensures.finds_room adds (omega (arith, l.invariant.keys room, c.loop-command-test.true)) (omega (arith, l.invariant.values room, c.loop-command-test.true))));
+      found = λ room. rw (more, c.push_reserved.ensures.items)
+          (FindsRoom-push done l.replies.items command c.step.result (l.invariant.found room)
+          (λ adds. c.step.ensures.finds_room adds (omega (arith, l.invariant.keys room, c.loop-command-test.true))
+          (omega (arith, l.invariant.values room, c.loop-command-test.true))));
       count = omega (arith, l.invariant.count, longer);
       room = omega (arith, l.invariant.room, c.push_reserved.ensures.capacity);
     }
@@ -63,4 +76,5 @@ returns-clause-ok g c =
 pub returns-clause-room : goal.returns-clause-room
 returns-clause-room g c =
     let l = c.loop-command in
-    λ room. subst (λ done. FindsRoom done l.replies.items) (take_all l.command-index c.args.commands.now c.loop-command-test.false) (l.invariant.found room)
+    λ room. subst (λ done. FindsRoom done l.replies.items) (take_all l.command-index c.args.commands.now c.loop-command-test.false)
+    (l.invariant.found room)

@@ -9,7 +9,8 @@ loop-end-preserved g c =
     let l = c.loop-end in
     record {
       taken = rw (c.push_reserved.ensures.items, c.take.ensures.item, c.take.ensures.rest)
-          (word_on (g.W.Copied.left l.rest) c.args.word.now l.taken.items (answers_of_walk (g.W.Copied.left c.args.walk) c.args.word.now) l.end-index _ c.loop-end-test.true l.invariant.taken);
+          (word_on (g.W.Copied.left l.rest) c.args.word.now l.taken.items
+          (answers_of_walk (g.W.Copied.left c.args.walk) c.args.word.now) l.end-index _ c.loop-end-test.true l.invariant.taken);
       count = omega (arith, l.invariant.count, c.push_reserved.ensures.len);
       room = omega (arith, l.invariant.room, c.push_reserved.ensures.capacity);
     }
@@ -17,7 +18,8 @@ loop-end-preserved g c =
 pub returns-clause-ok : goal.returns-clause-ok
 returns-clause-ok g c =
     let l = c.loop-end in
-    word_done (g.W.Copied.left l.rest) c.args.word.now l.taken.items (answers_of_walk (g.W.Copied.left c.args.walk) c.args.word.now) l.end-index c.loop-end-test.false l.invariant.taken
+    word_done (g.W.Copied.left l.rest) c.args.word.now l.taken.items
+    (answers_of_walk (g.W.Copied.left c.args.walk) c.args.word.now) l.end-index c.loop-end-test.false l.invariant.taken
 
 pub returns-in_err-taken-clause-lists_item : goal.returns-in_err-taken-clause-lists_item
 returns-in_err-taken-clause-lists_item g c =

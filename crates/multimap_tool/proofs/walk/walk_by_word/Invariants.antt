@@ -4,7 +4,8 @@ use Rattle.multimap_tool.proofs.walk.walk_by_word.Given as goal
 
 abbrev pub invariant-loop-end : goal.invariant-loop-end
 invariant-loop-end g l = record {
-  taken : l.taken.items ++ answers_of_walk (g.W.Copied.left l.rest) (drop l.end-index l.word) ≡ answers_of_walk (g.W.Copied.left l.fn.walk) l.word;
+  taken : l.taken.items ++ answers_of_walk (g.W.Copied.left l.rest) (drop l.end-index l.word) ≡ answers_of_walk
+      (g.W.Copied.left l.fn.walk) l.word;
   count : vec_len l.taken ≡ l.end-index;
   room : length l.word ≤ vec_capacity l.taken;
 }

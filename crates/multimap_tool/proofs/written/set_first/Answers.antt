@@ -9,7 +9,8 @@ pub returns-in-Some : goal.returns-in-Some
 returns-in-Some g c =
     let m = c.args.map.now in let eq = g.K.PartialEq.eq in let k = c.args.key.now in let w = c.replace.new.dest in
     let written : IsWritten m (c.get_mut.follows.lender w) (first_written eq m.lists k w) =
-    subst (λ o. OnSome o (IsWritten m (c.get_mut.follows.lender w) (first_written eq m.lists k w))) c.in-Some.is (c.get_mut.follows.holds w) in
+    subst (λ o. OnSome o (IsWritten m (c.get_mut.follows.lender w) (first_written eq m.lists k w))) c.in-Some.is
+    (c.get_mut.follows.holds w) in
     let value : Some c.in-Some.first.now ≡ slice_get (values_of eq m.lists.pairs k) 0 = (c.in-Some.ensures {u = tt}).value in
     record {
       step = inl (ap Some c.replace.ensures.value ∙ value, written.lists ∙ ap (first_written eq m.lists k) c.replace.ensures.after);

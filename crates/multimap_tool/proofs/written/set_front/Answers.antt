@@ -7,4 +7,8 @@ pub returns-clause-step : goal.returns-clause-step
 returns-clause-step g c =
     let m = c.args.map.now in let key = c.first_mut-first.result.0.now in
     let old = c.replace.result in let new = c.replace.new.dest in
-    inl (ap (λ v. Some (key, v)) {x = old} c.replace.ensures.value ∙ sym c.first_mut-first.ensures.pair, ap (end_written Front m.lists) {x = new} c.replace.ensures.after)
+    inl (
+      ap (λ v. Some (key, v)) {x = old} c.replace.ensures.value
+          ∙ sym c.first_mut-first.ensures.pair,
+      ap (end_written Front m.lists) {x = new} c.replace.ensures.after,
+    )

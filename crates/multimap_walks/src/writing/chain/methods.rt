@@ -1,14 +1,15 @@
 //! The calls of the walk over one key's values for writing.
-ghost use Rattle.std.specs.Prelude.{◌≡◌, [], length, Some, IfSome, MatchOption, ⊤};
-ghost use Rattle.std.specs.Iterator.{at_most, UpTo};
-ghost use Rattle.std.specs.Iterator.SizeHint.{IsWithinCount};
+ghost use Rattle.std.specs.Prelude.{◌≡◌, [], length, MatchOption, ⊤};
+ghost use Rattle.std.specs.Iterator.{at_most};
 ghost use Rattle.multimap_slots.specs.Slots.{HasLink, IsSound};
 ghost use Rattle.multimap_slots.specs.SlotCells.{cells_name, lent_slots};
 ghost use Rattle.multimap_walks.specs.Chained.{IsChained, chain_of, positions_at, values_at};
 ghost use Rattle.multimap_walks.specs.Lending.{AllAreLeft};
-ghost use Rattle.multimap_walks.specs.WritingWalk.{entry_values_mut_cells, entry_values_mut_name, entry_values_mut_positions, entry_values_mut_rest, entry_values_mut_values, LendsFirstOfKey, LendsLastOfKey};
+ghost use Rattle.multimap_walks.specs.WritingWalk.{entry_values_mut_cells, entry_values_mut_name, entry_values_mut_positions, entry_values_mut_rest, entry_values_mut_values, LendsFirstOfKey, LendsLastOfKey, LendsOfKey};
+ghost use Rattle.multimap_walks.specs.Walk.{TellsLength};
 
-use super::{EntryValuesMut, chain_before, chain_behind};
+use super::{EntryValuesMut, chain_after};
+use crate::End;
 use crate::links::{ChainEnds, KeyLink, NO_ENDS, ValueLink};
 use crate::show::show_left;
 use crate::writing::rest::chain::EntryValuesRest;
@@ -78,6 +79,19 @@ impl<'map, K, V, A: Allocator> EntryValuesMut<'map, K, V, A> {
     {
         EntryValuesRest::new(&self.values, self.left)
     }
+
+    /// Lends the value at an end of what is left.
+    #[inline(always)]
+    fn step(&mut self, end: End) -> Option<&'map mut V>
+        ensures { LendsOfKey end self.old result self.new }
+    {
+        if self.left.length == 0 {
+            return None;
+        }
+        let place = self.left.place_at(end);
+        self.left = chain_after(end, &self.values, self.left);
+        Some(self.values.take(place))
+    }
 }
 
 impl<'map, K, V, A: Allocator> Iterator for EntryValuesMut<'map, K, V, A> {
@@ -88,23 +102,12 @@ impl<'map, K, V, A: Allocator> Iterator for EntryValuesMut<'map, K, V, A> {
     ghost remaining = { λ s. at_most (length (entry_values_mut_rest s)) };
 
     fn next(&mut self) -> Option<&'map mut V> {
-        if self.left.length == 0 {
-            return None;
-        }
-        let place = self.left.first;
-        self.left = chain_behind(&self.values, self.left);
-        Some(self.values.take(place))
+        self.step(End::Front)
     }
 
-    #[tactic(auto, using(crate::proofs::RestLemmas::entry_values_mut_counted))]
+    #[tactic(auto, using(crate::proofs::CountLemmas::entry_values_mut_counted))]
     fn size_hint(&self) -> (usize, Option<usize>)
-        ensures lower { IsWithinCount result.0 (at_most (length (entry_values_mut_rest self.now))) }
-        ensures upper { IfSome result.1
-            (UpTo (at_most (length (entry_values_mut_rest self.now)))) }
-
-        // Both numbers are that of the values left.
-        ensures least { result.0 ≡ length (entry_values_mut_rest self.now) }
-        ensures greatest { result.1 ≡ Some result.0 }
+        ensures { TellsLength result (entry_values_mut_rest self.now) }
     {
         (self.left.length, Some(self.left.length))
     }
@@ -114,17 +117,12 @@ impl<'map, K, V, A: Allocator> DoubleEndedIterator for EntryValuesMut<'map, K, V
     ghost next_back_gives = { LendsLastOfKey };
 
     fn next_back(&mut self) -> Option<&'map mut V> {
-        if self.left.length == 0 {
-            return None;
-        }
-        let place = self.left.last;
-        self.left = chain_before(&self.values, self.left);
-        Some(self.values.take(place))
+        self.step(End::Back)
     }
 }
 
 impl<'map, K, V, A: Allocator> ExactSizeIterator for EntryValuesMut<'map, K, V, A> {
-    #[tactic(auto, using(crate::proofs::RestLemmas::entry_values_mut_counted))]
+    #[tactic(auto, using(crate::proofs::CountLemmas::entry_values_mut_counted))]
     fn len(&self) -> usize {
         self.left.length
     }

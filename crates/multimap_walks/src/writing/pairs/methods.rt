@@ -1,19 +1,20 @@
 //! The calls of the walk over all pairs with their values for writing.
-ghost use Rattle.std.specs.Prelude.{◌≡◌, length, Some, IfSome};
-ghost use Rattle.std.specs.Iterator.{at_most, UpTo};
-ghost use Rattle.std.specs.Iterator.SizeHint.{IsWithinCount};
+ghost use Rattle.std.specs.Prelude.{◌≡◌, length};
+ghost use Rattle.std.specs.Iterator.{at_most};
 ghost use Rattle.multimap_slots.specs.Slots.{IsSound};
 ghost use Rattle.multimap_slots.specs.SlotCells.{cells_name, lent_slots};
 ghost use Rattle.multimap_walks.specs.Chained.{AreOwned, pairs_of, positions_at};
 ghost use Rattle.multimap_walks.specs.Lending.{AllAreLeft};
-ghost use Rattle.multimap_walks.specs.WritingWalk.{iter_mut_cells, iter_mut_name, iter_mut_positions, iter_mut_rest, iter_mut_values, LendsFirstPair, LendsLastPair};
+ghost use Rattle.multimap_walks.specs.WritingWalk.{iter_mut_cells, iter_mut_name, iter_mut_positions, iter_mut_rest, iter_mut_values, LendsFirstPair, LendsLastPair, LendsPair};
+ghost use Rattle.multimap_walks.specs.Walk.{TellsLength};
 
 use super::IterMut;
+use crate::End;
 use crate::links::{KeyLink, ValueLink};
 use crate::show::show_left;
 use crate::slots::key_at;
 use crate::writing::rest::pairs::IterRest;
-use crate::writing::{all_of, lend_first, lend_last};
+use crate::writing::{all_of, lend};
 use multimap_slots::{Cells, Reads, SlotCells, SlotList};
 use std::alloc::Allocator;
 use std::fmt;
@@ -67,6 +68,15 @@ impl<'map, K, V, A: Allocator> IterMut<'map, K, V, A> {
     {
         IterRest::new(self.keys, &self.values, self.left)
     }
+
+    /// Lends the value at an end of what is left, with its key.
+    #[inline(always)]
+    fn step(&mut self, end: End) -> Option<(&'map K, &'map mut V)>
+        ensures { LendsPair end self.old result self.new }
+    {
+        let (value, link) = lend(end, &mut self.values, &mut self.left)?;
+        Some((key_at(self.keys, link.key, &mut self.reads), value))
+    }
 }
 
 impl<'map, K, V, A: Allocator> Iterator for IterMut<'map, K, V, A> {
@@ -77,18 +87,12 @@ impl<'map, K, V, A: Allocator> Iterator for IterMut<'map, K, V, A> {
     ghost remaining = { λ s. at_most (length (iter_mut_rest s)) };
 
     fn next(&mut self) -> Option<(&'map K, &'map mut V)> {
-        let (value, link) = lend_first(&mut self.values, &mut self.left)?;
-        Some((key_at(self.keys, link.key, &mut self.reads), value))
+        self.step(End::Front)
     }
 
-    #[tactic(auto, using(crate::proofs::RestLemmas::iter_mut_counted))]
+    #[tactic(auto, using(crate::proofs::CountLemmas::iter_mut_counted))]
     fn size_hint(&self) -> (usize, Option<usize>)
-        ensures lower { IsWithinCount result.0 (at_most (length (iter_mut_rest self.now))) }
-        ensures upper { IfSome result.1 (UpTo (at_most (length (iter_mut_rest self.now)))) }
-
-        // Both numbers are that of the pairs left.
-        ensures least { result.0 ≡ length (iter_mut_rest self.now) }
-        ensures greatest { result.1 ≡ Some result.0 }
+        ensures { TellsLength result (iter_mut_rest self.now) }
     {
         (self.left.length, Some(self.left.length))
     }
@@ -98,13 +102,12 @@ impl<'map, K, V, A: Allocator> DoubleEndedIterator for IterMut<'map, K, V, A> {
     ghost next_back_gives = { LendsLastPair };
 
     fn next_back(&mut self) -> Option<(&'map K, &'map mut V)> {
-        let (value, link) = lend_last(&mut self.values, &mut self.left)?;
-        Some((key_at(self.keys, link.key, &mut self.reads), value))
+        self.step(End::Back)
     }
 }
 
 impl<'map, K, V, A: Allocator> ExactSizeIterator for IterMut<'map, K, V, A> {
-    #[tactic(auto, using(crate::proofs::RestLemmas::iter_mut_counted))]
+    #[tactic(auto, using(crate::proofs::CountLemmas::iter_mut_counted))]
     fn len(&self) -> usize {
         self.left.length
     }

@@ -1,13 +1,14 @@
 //! The walk over the values that an `EntryValuesMut` has left, for reading.
-ghost use Rattle.std.specs.Prelude.{◌≡◌, length, Some, IfSome, ⊤};
-ghost use Rattle.std.specs.Iterator.{at_most, UpTo};
-ghost use Rattle.std.specs.Iterator.SizeHint.{IsWithinCount};
+ghost use Rattle.std.specs.Prelude.{◌≡◌, length, ⊤};
+ghost use Rattle.std.specs.Iterator.{at_most};
 ghost use Rattle.std.specs.Map.Iter.{TakesFirst, TakesLast, deref};
 ghost use Rattle.multimap_walks.specs.RestWalk.{entry_rest, CanReadChain};
+ghost use Rattle.multimap_walks.specs.Walk.{TakesEnd, TellsLength};
 
+use crate::End;
 use crate::links::{ChainEnds, ValueLink};
 use crate::show::show_left;
-use crate::writing::chain::{chain_before, chain_behind};
+use crate::writing::chain::chain_after;
 use multimap_slots::SlotCells;
 use std::alloc::{AllocError, Allocator, Global};
 use std::fmt;
@@ -47,6 +48,19 @@ impl<'walk, 'map, K, V, A: Allocator> EntryValuesRest<'walk, 'map, K, V, A> {
             left,
         }
     }
+
+    /// Takes the item at an end of what is left.
+    #[inline(always)]
+    fn step(&mut self, end: End) -> Option<&'walk V>
+        ensures { TakesEnd end deref self.old result self.new }
+    {
+        if self.left.length == 0 {
+            return None;
+        }
+        let place = self.left.place_at(end);
+        self.left = chain_after(end, self.values, self.left);
+        Some(self.values.read(place))
+    }
 }
 
 impl<'walk, 'map, K, V, A: Allocator> Iterator for EntryValuesRest<'walk, 'map, K, V, A> {
@@ -57,22 +71,12 @@ impl<'walk, 'map, K, V, A: Allocator> Iterator for EntryValuesRest<'walk, 'map, 
     ghost remaining = { λ s. at_most (length s) };
 
     fn next(&mut self) -> Option<&'walk V> {
-        if self.left.length == 0 {
-            return None;
-        }
-        let place = self.left.first;
-        self.left = chain_behind(self.values, self.left);
-        Some(self.values.read(place))
+        self.step(End::Front)
     }
 
-    #[tactic(auto, using(crate::proofs::RestLemmas::entry_rest_counted))]
+    #[tactic(auto, using(crate::proofs::CountLemmas::entry_rest_counted))]
     fn size_hint(&self) -> (usize, Option<usize>)
-        ensures lower { IsWithinCount result.0 (at_most (length self.now)) }
-        ensures upper { IfSome result.1 (UpTo (at_most (length self.now))) }
-
-        // Both numbers are that of the items left.
-        ensures least { result.0 ≡ length self.now }
-        ensures greatest { result.1 ≡ Some (length self.now) }
+        ensures { TellsLength result self.now }
     {
         (self.left.length, Some(self.left.length))
     }
@@ -83,17 +87,12 @@ impl<'walk, 'map, K, V, A: Allocator> DoubleEndedIterator
     ghost next_back_gives = { TakesLast deref };
 
     fn next_back(&mut self) -> Option<&'walk V> {
-        if self.left.length == 0 {
-            return None;
-        }
-        let place = self.left.last;
-        self.left = chain_before(self.values, self.left);
-        Some(self.values.read(place))
+        self.step(End::Back)
     }
 }
 
 impl<'walk, 'map, K, V, A: Allocator> ExactSizeIterator for EntryValuesRest<'walk, 'map, K, V, A> {
-    #[tactic(auto, using(crate::proofs::RestLemmas::entry_rest_counted))]
+    #[tactic(auto, using(crate::proofs::CountLemmas::entry_rest_counted))]
     fn len(&self) -> usize {
         self.left.length
     }

@@ -1,14 +1,15 @@
 //! The walk over the pairs that an `IterMut` has left, for reading.
-ghost use Rattle.std.specs.Prelude.{◌≡◌, length, Some, IfSome, ⊤};
-ghost use Rattle.std.specs.Iterator.{at_most, UpTo};
-ghost use Rattle.std.specs.Iterator.SizeHint.{IsWithinCount};
+ghost use Rattle.std.specs.Prelude.{◌≡◌, length, ⊤};
+ghost use Rattle.std.specs.Iterator.{at_most};
 ghost use Rattle.std.specs.Map.Iter.{TakesFirst, TakesLast, deref_pair};
 ghost use Rattle.multimap_slots.specs.SlotCells.{lent_slots};
 ghost use Rattle.multimap_walks.specs.Chained.{AreOwned};
 ghost use Rattle.multimap_walks.specs.Lending.{CanLend};
 ghost use Rattle.multimap_walks.specs.RestWalk.{pairs_rest};
+ghost use Rattle.multimap_walks.specs.Walk.{TakesEnd, TellsLength};
 
-use super::{read_first, read_last};
+use super::read;
+use crate::End;
 use crate::links::{ChainEnds, KeyLink, ValueLink};
 use crate::show::show_left;
 use crate::slots::key_at;
@@ -60,6 +61,15 @@ impl<'walk, 'map, K, V, A: Allocator> IterRest<'walk, 'map, K, V, A> {
             reads: Reads::new(),
         }
     }
+
+    /// Takes the item at an end of what is left.
+    #[inline(always)]
+    fn step(&mut self, end: End) -> Option<(&'walk K, &'walk V)>
+        ensures { TakesEnd end deref_pair self.old result self.new }
+    {
+        let (value, link) = read(end, self.values, &mut self.left)?;
+        Some((key_at(self.keys, link.key, &mut self.reads), value))
+    }
 }
 
 impl<'walk, 'map, K, V, A: Allocator> Iterator for IterRest<'walk, 'map, K, V, A> {
@@ -70,17 +80,11 @@ impl<'walk, 'map, K, V, A: Allocator> Iterator for IterRest<'walk, 'map, K, V, A
     ghost remaining = { λ s. at_most (length s) };
 
     fn next(&mut self) -> Option<(&'walk K, &'walk V)> {
-        let (value, link) = read_first(self.values, &mut self.left)?;
-        Some((key_at(self.keys, link.key, &mut self.reads), value))
+        self.step(End::Front)
     }
 
     fn size_hint(&self) -> (usize, Option<usize>)
-        ensures lower { IsWithinCount result.0 (at_most (length self.now)) }
-        ensures upper { IfSome result.1 (UpTo (at_most (length self.now))) }
-
-        // Both numbers are that of the items left.
-        ensures least { result.0 ≡ length self.now }
-        ensures greatest { result.1 ≡ Some (length self.now) }
+        ensures { TellsLength result self.now }
     {
         (self.left.length, Some(self.left.length))
     }
@@ -90,8 +94,7 @@ impl<'walk, 'map, K, V, A: Allocator> DoubleEndedIterator for IterRest<'walk, 'm
     ghost next_back_gives = { TakesLast deref_pair };
 
     fn next_back(&mut self) -> Option<(&'walk K, &'walk V)> {
-        let (value, link) = read_last(self.values, &mut self.left)?;
-        Some((key_at(self.keys, link.key, &mut self.reads), value))
+        self.step(End::Back)
     }
 }
 

@@ -1,12 +1,13 @@
 //! The walk over the values that a `ValuesMut` has left, for reading.
-ghost use Rattle.std.specs.Prelude.{◌≡◌, length, Some, IfSome, ⊤};
-ghost use Rattle.std.specs.Iterator.{at_most, UpTo};
-ghost use Rattle.std.specs.Iterator.SizeHint.{IsWithinCount};
+ghost use Rattle.std.specs.Prelude.{◌≡◌, length, ⊤};
+ghost use Rattle.std.specs.Iterator.{at_most};
 ghost use Rattle.std.specs.Map.Iter.{TakesFirst, TakesLast, deref};
 ghost use Rattle.multimap_walks.specs.Lending.{CanLend};
 ghost use Rattle.multimap_walks.specs.RestWalk.{values_rest};
+ghost use Rattle.multimap_walks.specs.Walk.{TakesEnd, TellsLength};
 
-use super::{read_first, read_last};
+use super::read;
+use crate::End;
 use crate::links::{ChainEnds, ValueLink};
 use crate::show::show_left;
 use multimap_slots::SlotCells;
@@ -48,6 +49,15 @@ impl<'walk, 'map, K, V, A: Allocator> ValuesRest<'walk, 'map, K, V, A> {
             left,
         }
     }
+
+    /// Takes the item at an end of what is left.
+    #[inline(always)]
+    fn step(&mut self, end: End) -> Option<&'walk V>
+        ensures { TakesEnd end deref self.old result self.new }
+    {
+        let (value, _) = read(end, self.values, &mut self.left)?;
+        Some(value)
+    }
 }
 
 impl<'walk, 'map, K, V, A: Allocator> Iterator for ValuesRest<'walk, 'map, K, V, A> {
@@ -58,18 +68,12 @@ impl<'walk, 'map, K, V, A: Allocator> Iterator for ValuesRest<'walk, 'map, K, V,
     ghost remaining = { λ s. at_most (length s) };
 
     fn next(&mut self) -> Option<&'walk V> {
-        let (value, _) = read_first(self.values, &mut self.left)?;
-        Some(value)
+        self.step(End::Front)
     }
 
-    #[tactic(auto, using(crate::proofs::WritingLemmas::values_counted))]
+    #[tactic(auto, using(crate::proofs::CountLemmas::values_counted))]
     fn size_hint(&self) -> (usize, Option<usize>)
-        ensures lower { IsWithinCount result.0 (at_most (length self.now)) }
-        ensures upper { IfSome result.1 (UpTo (at_most (length self.now))) }
-
-        // Both numbers are that of the items left.
-        ensures least { result.0 ≡ length self.now }
-        ensures greatest { result.1 ≡ Some (length self.now) }
+        ensures { TellsLength result self.now }
     {
         (self.left.length, Some(self.left.length))
     }
@@ -79,13 +83,12 @@ impl<'walk, 'map, K, V, A: Allocator> DoubleEndedIterator for ValuesRest<'walk, 
     ghost next_back_gives = { TakesLast deref };
 
     fn next_back(&mut self) -> Option<&'walk V> {
-        let (value, _) = read_last(self.values, &mut self.left)?;
-        Some(value)
+        self.step(End::Back)
     }
 }
 
 impl<'walk, 'map, K, V, A: Allocator> ExactSizeIterator for ValuesRest<'walk, 'map, K, V, A> {
-    #[tactic(auto, using(crate::proofs::WritingLemmas::values_counted))]
+    #[tactic(auto, using(crate::proofs::CountLemmas::values_counted))]
     fn len(&self) -> usize {
         self.left.length
     }

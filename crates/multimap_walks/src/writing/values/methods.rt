@@ -1,18 +1,19 @@
 //! The calls of the walk over all values for writing.
-ghost use Rattle.std.specs.Prelude.{◌≡◌, length, Some, IfSome};
-ghost use Rattle.std.specs.Iterator.{at_most, UpTo};
-ghost use Rattle.std.specs.Iterator.SizeHint.{IsWithinCount};
+ghost use Rattle.std.specs.Prelude.{◌≡◌, length};
+ghost use Rattle.std.specs.Iterator.{at_most};
 ghost use Rattle.multimap_slots.specs.Slots.{IsSound};
 ghost use Rattle.multimap_slots.specs.SlotCells.{cells_name, lent_slots};
 ghost use Rattle.multimap_walks.specs.Chained.{positions_at, values_at};
 ghost use Rattle.multimap_walks.specs.Lending.{AllAreLeft};
-ghost use Rattle.multimap_walks.specs.WritingWalk.{values_mut_cells, values_mut_name, values_mut_positions, values_mut_rest, values_mut_values, LendsFirstValue, LendsLastValue};
+ghost use Rattle.multimap_walks.specs.WritingWalk.{values_mut_cells, values_mut_name, values_mut_positions, values_mut_rest, values_mut_values, LendsFirstValue, LendsLastValue, LendsValue};
+ghost use Rattle.multimap_walks.specs.Walk.{TellsLength};
 
 use super::ValuesMut;
+use crate::End;
 use crate::links::ValueLink;
 use crate::show::show_left;
 use crate::writing::rest::values::ValuesRest;
-use crate::writing::{all_of, lend_first, lend_last};
+use crate::writing::{all_of, lend};
 use multimap_slots::{Cells, SlotCells};
 use std::alloc::Allocator;
 use std::fmt;
@@ -59,6 +60,15 @@ impl<'map, K, V, A: Allocator> ValuesMut<'map, K, V, A> {
     {
         ValuesRest::new(&self.values, self.left)
     }
+
+    /// Lends the value at an end of what is left.
+    #[inline(always)]
+    fn step(&mut self, end: End) -> Option<&'map mut V>
+        ensures { LendsValue end self.old result self.new }
+    {
+        let (value, _) = lend(end, &mut self.values, &mut self.left)?;
+        Some(value)
+    }
 }
 
 impl<'map, K, V, A: Allocator> Iterator for ValuesMut<'map, K, V, A> {
@@ -69,18 +79,12 @@ impl<'map, K, V, A: Allocator> Iterator for ValuesMut<'map, K, V, A> {
     ghost remaining = { λ s. at_most (length (values_mut_rest s)) };
 
     fn next(&mut self) -> Option<&'map mut V> {
-        let (value, _) = lend_first(&mut self.values, &mut self.left)?;
-        Some(value)
+        self.step(End::Front)
     }
 
-    #[tactic(auto, using(crate::proofs::RestLemmas::values_mut_counted))]
+    #[tactic(auto, using(crate::proofs::CountLemmas::values_mut_counted))]
     fn size_hint(&self) -> (usize, Option<usize>)
-        ensures lower { IsWithinCount result.0 (at_most (length (values_mut_rest self.now))) }
-        ensures upper { IfSome result.1 (UpTo (at_most (length (values_mut_rest self.now)))) }
-
-        // Both numbers are that of the values left.
-        ensures least { result.0 ≡ length (values_mut_rest self.now) }
-        ensures greatest { result.1 ≡ Some result.0 }
+        ensures { TellsLength result (values_mut_rest self.now) }
     {
         (self.left.length, Some(self.left.length))
     }
@@ -90,13 +94,12 @@ impl<'map, K, V, A: Allocator> DoubleEndedIterator for ValuesMut<'map, K, V, A> 
     ghost next_back_gives = { LendsLastValue };
 
     fn next_back(&mut self) -> Option<&'map mut V> {
-        let (value, _) = lend_last(&mut self.values, &mut self.left)?;
-        Some(value)
+        self.step(End::Back)
     }
 }
 
 impl<'map, K, V, A: Allocator> ExactSizeIterator for ValuesMut<'map, K, V, A> {
-    #[tactic(auto, using(crate::proofs::RestLemmas::values_mut_counted))]
+    #[tactic(auto, using(crate::proofs::CountLemmas::values_mut_counted))]
     fn len(&self) -> usize {
         self.left.length
     }

@@ -25,16 +25,20 @@ use Rattle.ordered_multimap.proofs.laws.walks_are_exact.Code as code
 pub walks_are_exact_spec : {M : Type 1} → statement M
 walks_are_exact_spec 𝓤 𝓛 𝓜 𝓡 wired X₀ X₁ X₂ X₃ X₄ L₀ L₁ L₂ L₃ L₄ ge de gp dp gk dk gb db gj dj ga da dA dJ m₁ m₂ m₃ m₄ m₅ m₆ m₇ m₈ =
     let H = 𝓛.H in let 𝓣 = tables 𝓤 H 𝓜 𝓡 𝓡.env in
-    let K : RattleType = param 0 X₀ in let V : RattleType = param 1 X₁ in let S : RattleType = param 2 X₂ in let A : RattleType = param 3 X₃ in let J : RattleType = param 4 X₄ in
+    let K : RattleType = param 0 X₀ in let V : RattleType = param 1 X₁ in let S : RattleType = param 2 X₂ in
+    let A : RattleType = param 3 X₃ in let J : RattleType = param 4 X₄ in
     let En = F.ended X₀ X₁ X₂ X₃ X₄ ge de gp dp gk dk gb db gj dj ga da dA dJ in
-    let inst = bounded (a_type ∷ a_type ∷ a_type ∷ a_type ∷ a_type ∷ []) (X₀, (X₁, (X₂, (X₃, (X₄, tt))))) (dcons de (dcons dp (dcons dk (dcons db (dcons dj (dcons da (dcons dA (dcons dJ dnil)))))))) in
+    let inst = bounded (a_type ∷ a_type ∷ a_type ∷ a_type ∷ a_type ∷ []) (X₀, (X₁, (X₂, (X₃, (X₄, tt)))))
+    (dcons de (dcons dp (dcons dk (dcons db (dcons dj (dcons da (dcons dA (dcons dJ dnil)))))))) in
     let fn = inst_fn inst code.function in let c = F.clauses X₀ X₁ X₂ X₃ X₄ ge de gp dp gk dk gb db gj dj ga da dA dJ 𝓛 𝓜.mem 𝓡.returns in
     let hs : Stays En.signature.params En.kept = tt in
-    proved_at 𝓛 En hs c 𝓜 𝓡 tt (#self inst) fn (code.unfolded 𝓤 H 𝓜 𝓡 wired (X₀, (X₁, (X₂, (X₃, (X₄, tt))))) de dp dk db dj da dA dJ) (λ y are.
+    proved_at 𝓛 En hs c 𝓜 𝓡 tt (#self inst) fn (code.unfolded 𝓤 H 𝓜 𝓡 wired (X₀, (X₁, (X₂, (X₃, (X₄, tt))))) de dp dk db dj da dA dJ)
+    (λ y are.
     let κs = y.0.0 in let qs = y.0.1 in
     let z : (walk_of 𝓛 En hs c).Ghost = y in let Post : Val → SProp 𝓤 = (walk_of 𝓛 En hs c).post z in
     let law = WalksAreExact K V S A J (record { eq = gp.eq; hash_input = gk.hash_input }) gb gj ga in
-    qed 𝓛 (((‵ (flft κs.0 qs.0) ⊛ ‵ (flft κs.1.0 qs.1.0) ⊛ ‵ (flft κs.1.1.0 qs.1.1.0) ⊛ ‵ (flft κs.1.1.1.0 qs.1.1.1.0) ⊛ ‵ (flft κs.1.1.1.1.0 qs.1.1.1.1.0) ⊛ ‵ ftrue) ⊛ ‵ ftrue) ∷ raw ((c κs y.0.3).requires y.1) ∷ []) ∵
+    qed 𝓛 (((‵ (flft κs.0 qs.0) ⊛ ‵ (flft κs.1.0 qs.1.0) ⊛ ‵ (flft κs.1.1.0 qs.1.1.0) ⊛ ‵ (flft κs.1.1.1.0 qs.1.1.1.0) ⊛ ‵
+    (flft κs.1.1.1.1.0 qs.1.1.1.1.0) ⊛ ‵ ftrue) ⊛ ‵ ftrue) ∷ raw ((c κs y.0.3).requires y.1) ∷ []) ∵
     split ! $ move ! (2 ∷ []) $ drop ! $ move ! (1 ∷ []) $ drop ! $
     -- [the tokens]
     enter ! 𝓣.C 𝓣.Λ fn [] Post $ alloc_all ! (λ l. pass_all ! refl tt $

@@ -4,14 +4,15 @@
 ghost use Rattle.std.specs.Prelude.{◌≡◌, ◌<◌, Some, length, slice_get};
 ghost use Rattle.std.specs.Prelude.{OnOk, OnErr, IfOk, IfErr, IsOk};
 ghost use Rattle.std.specs.Borrow.{sem};
-ghost use Rattle.ordered_multimap.specs.Changes.{appended, first_written, inserted, removed};
+ghost use Rattle.ordered_multimap.specs.Additions.{IsAppendedAt, RefusesValue};
+ghost use Rattle.ordered_multimap.specs.Changes.{first_written, inserted, removed};
 ghost use Rattle.ordered_multimap.specs.Drains.{DrainsEntry, DrainsInserted};
 ghost use Rattle.ordered_multimap.specs.Entries.{IsOccupiedBy, IsSameEntry};
 ghost use Rattle.multimap_walks.specs.WritingWalk.{entry_values_mut_values, entry_values_mut_name, entry_values_mut_rest, entry_values_mut_positions};
 ghost use Rattle.ordered_multimap.specs.EntryLends.{lends_first, lends_to_entry, EndsEntry, lends_values_to_entry, rests_with_drain};
 ghost use Rattle.ordered_multimap.specs.Keys.{stored_key};
 ghost use Rattle.ordered_multimap.specs.Pairs.{positions_of, values_of};
-ghost use Rattle.ordered_multimap.specs.Rooms.{HasValueRoom, KeepsRooms, RaisesNoRoom, SameRooms};
+ghost use Rattle.ordered_multimap.specs.Rooms.{HasValueRoom, SameRooms};
 ghost use Rattle.ordered_multimap.specs.TapeNumbers.{TakesOut};
 ghost use Rattle.ordered_multimap.specs.Writes.{IsWritten, with_first};
 
@@ -144,15 +145,11 @@ impl<'map, K: Eq + Hash, V, S: BuildHasher, A: Allocator> OccupiedEntry<'map, K,
         V: Drop,
         A: Copy,
         ensures same_entry { IsSameEntry self.old self.new }
-        ensures ok { OnOk result ((k : K) → IsOccupiedBy self.old k
-            → self.new.map.now.lists ≡ appended K.eq self.old.map.now.lists k value) }
-        ensures unchanged { OnErr result (self.new.map.now.lists ≡ self.old.map.now.lists) }
+        ensures ok { OnOk result (IsAppendedAt K.eq self.old.place value
+            self.old.map.now self.new.map.now) }
+        ensures unchanged { OnErr result (RefusesValue self.old.map.now self.new.map.now) }
         ensures refused { IfErr result (λ r. r.value ≡ value) }
         ensures succeeds { HasValueRoom self.old.map.now → IsOk result }
-        ensures rooms { KeepsRooms self.old.map.now self.new.map.now }
-        ensures had_room { (k : K) → IsOccupiedBy self.old k
-            → RaisesNoRoom K.eq k self.old.map.now self.new.map.now }
-        ensures taken { TakesOut 0 self.old.map.now.tape self.new.map.now.tape }
     {
         let place = self.place;
         self.map.append_at(place, value)

@@ -1,7 +1,8 @@
 //! The calls of an entry of a key that is absent.
 ghost use Rattle.std.specs.Prelude.{◌≡◌, IfOk, IfErr, IsOk};
 ghost use Rattle.std.specs.Borrow.{sem};
-ghost use Rattle.ordered_multimap.specs.Entries.{IsAppended, IsOccupiedBy, Vacant};
+ghost use Rattle.ordered_multimap.specs.Additions.{IsAppended};
+ghost use Rattle.ordered_multimap.specs.Entries.{IsOccupiedBy, Vacant};
 ghost use Rattle.ordered_multimap.specs.EntryLends.{lends_entered, rests_with_entry};
 ghost use Rattle.ordered_multimap.specs.Rooms.{HasPairRoom};
 

@@ -16,7 +16,7 @@ ghost use Rattle.ordered_multimap.specs.WalkLends.{EndsStepped, EndsWalk, lends_
 
 use super::KeyValuesMut;
 use crate::list_ordered_multimap::ListOrderedMultimap;
-use multimap_walks::{ChainEnds, End, EntryValuesMut, KeyValues, Ordered, take_first, take_last};
+use multimap_walks::{ChainEnds, End, EntryValuesMut, KeyValues, Ordered, take};
 use std::alloc::Allocator;
 use std::fmt;
 use std::hash::{BuildHasher, Hash};
@@ -39,6 +39,7 @@ impl<K: Eq + Hash, V, S: BuildHasher, A: Allocator> ListOrderedMultimap<K, V, S,
     }
 
     /// Takes the place at an end from those that are left of the keys.
+    #[inline(always)]
     fn take_key(&self, end: End, left: &mut ChainEnds) -> Option<usize>
         requires { AreLeft self.now.slots.keys.order left.old }
         ensures are_left { AreLeft self.now.slots.keys.order left.new }
@@ -52,10 +53,7 @@ impl<K: Eq + Hash, V, S: BuildHasher, A: Allocator> ListOrderedMultimap<K, V, S,
     {
         // The length tells the proof that the list of keys is sound.
         let _keys = self.keys.len();
-        match end {
-            End::Front => take_first(&self.keys, left),
-            End::Back => take_last(&self.keys, left),
-        }
+        take(end, &self.keys, left)
     }
 
     /// How many keys there are from one place to another.
@@ -130,6 +128,7 @@ impl<'map, K: Eq + Hash, V, S: BuildHasher, A: Allocator> KeyValuesMut<'map, K, 
     }
 
     /// Takes the place of the key at the end, if one is left, and hands the walk back.
+    #[inline(always)]
     fn step(&mut self, end: End) -> (Option<usize>, &mut Self)
         ensures same { result.1.ghost_name ≡ self.entry.ghost_name }
         ensures map { result.1.now.map ≡ self.old.map }
@@ -166,6 +165,7 @@ impl<'map, K: Eq + Hash, V, S: BuildHasher, A: Allocator> KeyValuesMut<'map, K, 
     }
 
     /// The key at the end, with a walk over its values, if one is left.
+    #[inline(always)]
     fn step_mut(&mut self, end: End) -> Option<(&K, EntryValuesMut<'_, K, V, A>)>
         ensures* writes_back { sem 𝓛 (lends_key_values K.row V.row S.row A.row S.Hasher.row
             A.Allocator end self.entry result) }

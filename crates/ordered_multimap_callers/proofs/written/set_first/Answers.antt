@@ -10,7 +10,8 @@ pub returns-in-Some-clause-lists : goal.returns-in-Some-clause-lists
 returns-in-Some-clause-lists g c =
     let m = c.args.map.now in let eq = g.K.PartialEq.eq in let k = c.args.key.now in let w = c.replace.new.dest in
     let written : IsWritten m (c.get_mut.follows.lender w) (first_written eq m.lists k w) =
-    subst (λ o. OnSome o (IsWritten m (c.get_mut.follows.lender w) (first_written eq m.lists k w))) c.in-Some.is (c.get_mut.follows.holds w) in
+    subst (λ o. OnSome o (IsWritten m (c.get_mut.follows.lender w) (first_written eq m.lists k w))) c.in-Some.is
+    (c.get_mut.follows.holds w) in
     written.lists ∙ ap (first_written eq m.lists k) c.replace.ensures.after
 
 pub returns-in-None-clause-lists : goal.returns-in-None-clause-lists

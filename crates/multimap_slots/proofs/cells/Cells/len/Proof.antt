@@ -8,7 +8,8 @@ use mir.Val.{Val, vptr, vint}
 use base.Logic.{SProp, never, id⊢}
 use base.Fml.{Lft, ftrue, flft, fhide}
 use contract.Running.{tables}
-use types.Kit.{‵, raw, ◌⊛◌, ◌$◌, ◌∵◌, !, qed, move, keep, drop, use1, split, join, rewrite, fsplit, fjoin, feq_i, feq_l, flt_i, suffices, frame, done}
+use types.Kit.{‵, raw, ◌⊛◌, ◌$◌, ◌∵◌, !, qed, move, keep, drop, use1, split, join, rewrite, fsplit, fjoin, feq_i, feq_l, flt_i, suffices}
+use types.Kit.{frame, done}
 use types.Part.{whole, sub, look_in}
 use types.Run.{stop, fld, load, of_opd, returns, enter}
 use types.ByLocal.{alloc_all, pass_all, free_all, look_at, through, sets}
@@ -46,19 +47,25 @@ len_spec 𝓤 𝓛 𝓜 𝓡 wired Y LY =
     let d = a.0.now in let rb : ℕ = a.0.ref_ptr.0 in let ro : ℕ = a.0.ref_ptr.1 in
     let κ : Lft = κs.0 in let κ' : Lft = κs.1.0 in let q = qs.0 in let n : NamedLft = named_lft 3 1 tt κs in
     let It : RattleType = C.the_row n R in let W : RattleType = Words n R in let ws : W.Denot = (d.at, (d.length, (tt, tt))) in
-    let y : (walk_of 𝓛 En hs c).Ghost = ((κs, qs, bounds, a, (shr_vals a.0, tt)), g) in let Post : Val → SProp 𝓤 = (walk_of 𝓛 En hs c).post y in
-    qed 𝓛 (((‵ (flft κ q) ⊛ ‵ (flft κ' qs.1.0) ⊛ ‵ (flft κs.1.1.0 qs.1.1.0) ⊛ ‵ ftrue) ⊛ ‵ (owns (ShrRef (named 0) κ It ∷ []) a (shr_vals a.0, tt))) ∷ raw ((c κs a).requires g) ∷ []) ∵
-    move ! (1 ∷ []) $ drop ! $ split ! $ move ! (1 ∷ []) $ fsplit ! $ move ! (1 ∷ []) $ drop ! $ fsplit ! $ drop ! $ move ! (1 ∷ []) $ split ! $ move ! (2 ∷ 0 ∷ 1 ∷ []) $
+    let y : (walk_of 𝓛 En hs c).Ghost = ((κs, qs, bounds, a, (shr_vals a.0, tt)), g) in let Post : Val
+    → SProp 𝓤 = (walk_of 𝓛 En hs c).post y in
+    qed 𝓛 (((‵ (flft κ q) ⊛ ‵ (flft κ' qs.1.0) ⊛ ‵ (flft κs.1.1.0 qs.1.1.0) ⊛ ‵ ftrue) ⊛ ‵
+    (owns (ShrRef (named 0) κ It ∷ []) a (shr_vals a.0, tt))) ∷ raw ((c κs a).requires g) ∷ []) ∵
+    move ! (1 ∷ []) $ drop ! $ split ! $ move ! (1 ∷ []) $ fsplit ! $ move ! (1 ∷ []) $ drop ! $ fsplit ! $ drop ! $ move ! (1 ∷ []) $
+    split ! $ move ! (2 ∷ 0 ∷ 1 ∷ []) $
     -- [the cells; the token of the `&`; the other tokens]
     enter ! 𝓣.C 𝓣.Λ fn (vptr rb ro ∷ []) Post $ alloc_all ! (λ l. pass_all ! refl ((tt, tt), tt) $
     use1 𝓛 (‵ (hidden_shr W κ ws rb ro) ⊛ ‵ (fhide (cells_lent κ' R d.length d.at d.items d.left κ)))
-    (lent_out 𝓛 (C.struct n R) (C.the_codes R.Denot R.coded (Mark.the_row (MutRef n.mir n.lft R)).coded) (C.the_heap n.lft R) (C.the_lent n.lft R) κ d rb ro) $ split ! $
-    move ! (1 ∷ []) $ unhide ! $ in_a_block ! d.at (λ p. cells_lent κ' R d.length p d.items d.left κ) (id⊢ 𝓤 (never 𝓤)) (λ b o e. fsplit ! $ fsplit ! $ feq_l ! (λ counted. drop ! $ drop ! $
+    (lent_out 𝓛 (C.struct n R) (C.the_codes R.Denot R.coded (Mark.the_row (MutRef n.mir n.lft R)).coded) (C.the_heap n.lft R)
+    (C.the_lent n.lft R) κ d rb ro) $ split ! $
+    move ! (1 ∷ []) $ unhide ! $ in_a_block ! d.at (λ p. cells_lent κ' R d.length p d.items d.left κ) (id⊢ 𝓤 (never 𝓤))
+    (λ b o e. fsplit ! $ fsplit ! $ feq_l ! (λ counted. drop ! $ drop ! $
     looks ! tt W (words_open n R 𝓛) ws rb ro (λ r vs. move ! (1 ∷ []) $ peeks ! W (Is W) (shows 𝓛 W) ws vs (λ p.
     let word : vs ≡ cells_val d.at d.length ∷ [] = told n R d.at d.length vs p in let fits : d.length < 2 ^ 64 = p.1.1.1.0.1 in
     -- [the fields; their cell; its way back; the fields again; the other tokens]
     rewrite ! 1 (λ (us : List Val). ‵ (cell_at r W.mir us rb ro)) word refl $
-    sets ! (of_opd ! (load ! (through ! refl (fld ! refl (stop !))) (look_in ! 1 (sub ! 1 refl (whole !))))) refl (tt, record { fits = fits }) $
+    sets ! (of_opd ! (load ! (through ! refl (fld ! refl (stop !))) (look_in ! 1 (sub ! 1 refl (whole !))))) refl
+    (tt, record { fits = fits }) $
     rewrite ! 1 (λ (us : List Val). ‵ (cell_at r W.mir us rb ro)) (sym word) refl $ move ! (1 ∷ 0 ∷ 2 ∷ []) $ shuts ! tt W r ws vs rb ro $
     returns ! (look_at ! 0 refl) $ free_all ! refl $ keep ! (0 ∷ 2 ∷ []) $
     -- [the token of the `&`; the other tokens]

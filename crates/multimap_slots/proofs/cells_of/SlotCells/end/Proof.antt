@@ -31,20 +31,28 @@ use Rattle.multimap_slots.proofs.cells_of.SlotCells.end.Code as code
 
 pub end_spec : {M : Type 1} → statement M
 end_spec 𝓤 𝓛 𝓜 𝓡 wired X Y Z LX LY LZ ga da dd m₁ m₂ =
-    let H = 𝓛.H in let 𝓣 = tables 𝓤 H 𝓜 𝓡 𝓡.env in let R : RattleType = param 0 X in let L : RattleType = param 1 Y in let A : RattleType = param 2 Z in
+    let H = 𝓛.H in let 𝓣 = tables 𝓤 H 𝓜 𝓡 𝓡.env in let R : RattleType = param 0 X in let L : RattleType = param 1 Y in
+    let A : RattleType = param 2 Z in
     let En = F.ended X Y Z ga da dd in
-    let inst = bounded (a_type ∷ a_type ∷ a_type ∷ []) (X, (Y, (Z, tt))) (dcons da (dcons dd dnil)) in let fn = inst_fn inst code.function in let c = F.clauses X Y Z ga da dd 𝓛 𝓜.mem 𝓡.returns in
+    let inst = bounded (a_type ∷ a_type ∷ a_type ∷ []) (X, (Y, (Z, tt))) (dcons da (dcons dd dnil)) in
+    let fn = inst_fn inst code.function in let c = F.clauses X Y Z ga da dd 𝓛 𝓜.mem 𝓡.returns in
     let hs : Stays En.signature.params En.kept = (stay_dropped (plain (λ κs. S.the_row (named_lft 4 0 tt κs) R L A ga)) no, tt) in
-    proved_at 𝓛 En hs c 𝓜 𝓡 ((λ κs x f vs ok. qed 𝓛 (‵ ftrue ∷ []) ∵ updating ! $ nothing ! $ fjoin ! $ nothing ! $ fjoin ! $ now ! $ done !), tt) (#self inst) fn (code.unfolded 𝓤 H 𝓜 𝓡 wired (X, (Y, (Z, tt))) da dd) (λ y are.
+    proved_at 𝓛 En hs c 𝓜 𝓡 (
+      (λ κs x f vs ok. qed 𝓛 (‵ ftrue ∷ []) ∵ updating ! $ nothing ! $ fjoin ! $ nothing ! $ fjoin ! $ now ! $
+          done !),
+      tt,
+    ) (#self inst) fn (code.unfolded 𝓤 H 𝓜 𝓡 wired (X, (Y, (Z, tt))) da dd) (λ y are.
     let κs = y.0.0 in let qs = y.0.1 in let d = y.0.3.0 in let a = named_lft 4 0 tt κs in
     let It : RattleType = S.the_row a R L A ga in
     let laws = S-laws.the_row_laws a R L A ga (param_laws 0 X LX) (param_laws 1 Y LY) (param_laws 2 Z LZ) in
     let At : List Val → (walk_of 𝓛 En hs c).Ghost = λ us. ((κs, qs, y.0.2, y.0.3, (us, tt)), y.1) in
     let got = one_of (layout It) y.0.4.0 ((laws.lawful 𝓛).typed d y.0.4.0 are.0) in
     let v : Val = got.0 in
-    subst (λ (us : List Val). ent 𝓤 ((walk_of 𝓛 En hs c).pre (At us)) (WpFn 𝓤 H 𝓣.C 𝓣.Λ fn (us ++ []) ((walk_of 𝓛 En hs c).post (At us)))) (sym got.1) (
+    subst (λ (us : List Val). ent 𝓤 ((walk_of 𝓛 En hs c).pre (At us)) (WpFn 𝓤 H 𝓣.C 𝓣.Λ fn (us ++ []) ((walk_of 𝓛 En hs c).post (At us))))
+    (sym got.1) (
     let z : (walk_of 𝓛 En hs c).Ghost = At (v ∷ []) in let Post : Val → SProp 𝓤 = (walk_of 𝓛 En hs c).post z in
-    qed 𝓛 (((‵ (flft κs.0 qs.0) ⊛ ‵ (flft κs.1.0 qs.1.0) ⊛ ‵ (flft κs.1.1.0 qs.1.1.0) ⊛ ‵ (flft κs.1.1.1.0 qs.1.1.1.0) ⊛ ‵ ftrue) ⊛ ‵ (It.own_val d (v ∷ [])) ⊛ ‵ ftrue) ∷ raw ((c κs y.0.3).requires y.1) ∷ []) ∵
+    qed 𝓛 (((‵ (flft κs.0 qs.0) ⊛ ‵ (flft κs.1.0 qs.1.0) ⊛ ‵ (flft κs.1.1.0 qs.1.1.0) ⊛ ‵ (flft κs.1.1.1.0 qs.1.1.1.0) ⊛ ‵ ftrue) ⊛ ‵
+    (It.own_val d (v ∷ [])) ⊛ ‵ ftrue) ∷ raw ((c κs y.0.3).requires y.1) ∷ []) ∵
     split ! $ move ! (2 ∷ []) $ drop ! $ move ! (1 ∷ []) $ split ! $ move ! (1 ∷ []) $ drop ! $
     -- [the cells; the tokens]
     enter ! 𝓣.C 𝓣.Λ fn (v ∷ []) Post $ alloc_all ! (λ l. pass_all ! refl (got.2, tt) $

@@ -10,4 +10,5 @@ index-requires g c =
 pub returns : goal.returns
 returns g c =
     let within = c.len-len.ensures.sound.within c.args.place (rw (← c.self.view_is) at c.requires) in
-    rw (← c.self.view_is) (slice_get-get_or c.self.inside.links.now.items c.args.place c.index.result.now (omega (arith, within, c.self.invariant)) ∙ ap Some (sym c.index.ensures))
+    rw (← c.self.view_is) (slice_get-get_or c.self.inside.links.now.items c.args.place c.index.result.now
+    (omega (arith, within, c.self.invariant)) ∙ ap Some (sym c.index.ensures))

@@ -11,4 +11,5 @@ returns-clause-pushed g c =
     let adds = c.push_back-place.ensures.adds in
     let empty = c.self.invariant.empty c.push_back-place.result adds.was_free in
     rw (← c.self.view_is)
-    (PushesBack-put _ _ _ _ _ empty (empty_absent c.self.invariant _ empty) (omega (arith, adds.within, c.self.invariant.same_length)) adds.within_links adds.order c.put_item.ensures.items adds.links)
+    (PushesBack-put _ _ _ _ _ empty (empty_absent c.self.invariant _ empty)
+    (omega (arith, adds.within, c.self.invariant.same_length)) adds.within_links adds.order c.put_item.ensures.items adds.links)

@@ -1,4 +1,4 @@
-use Rattle.std.proofs.Common.{◌∷◌, [], ◌++◌, ap, sym, ◌∙◌, arith}
+use Rattle.std.proofs.Common.{◌∷◌, [], ◌++◌, ap, sym, ◌∙◌, arith, rules}
 use Rattle.multimap_slots.specs.ListLayout.{states}
 use Rattle.multimap_slots.proofs.DetachedLemmas.{count_detached-some}
 use Rattle.multimap_slots.proofs.OrderLemmas.{apart-is, back-is, last-within, taken-within, walk-order}
@@ -13,30 +13,44 @@ some-end-requires g c =
 
 pub set_next-requires : goal.set_next-requires
 set_next-requires g c =
-    within_more _ _ _ (omega (arith, length-listed _ _ _ _ c.set_listed.ensures.written)) (last-within c.self.invariant _ _ (back-is c.self.invariant) (λ x i. i))
+    within_more _ _ _ (omega (arith, length-listed _ _ _ _ c.set_listed.ensures.written))
+    (last-within c.self.invariant _ _ (back-is c.self.invariant) (λ x i. i))
 
 pub overflow_sub-self : goal.overflow_sub-self
 overflow_sub-self g c =
     let apart = rw (← c.self.view_is) at c.requires in
-    omega (arith, c.self.invariant.apart, count_detached-some (states c.self.inside.nodes.items) c.args.place (apart-is c.self.invariant _ apart.not_listed apart.not_free))
+    omega (
+      arith,
+      c.self.invariant.apart,
+      count_detached-some (states c.self.inside.nodes.items) c.args.place
+          (apart-is c.self.invariant _ apart.not_listed apart.not_free),
+    )
 
 pub invariant_of-self : goal.invariant_of-self
 invariant_of-self g c =
     let apart = rw (← c.self.view_is) at c.requires in
     rw c.some-end.ensures
-    (IsOrdered-attach c.self.invariant (apart-is c.self.invariant _ apart.not_listed apart.not_free) (taken-within c.self.invariant _ apart.not_free)
+    (IsOrdered-attach c.self.invariant (apart-is c.self.invariant _ apart.not_listed apart.not_free)
+    (taken-within c.self.invariant _ apart.not_free)
     c.set_listed.ensures.written (rw c.some-end.ensures at c.set_next.ensures.written)).ordered
 
-pub returns-clause-order : goal.returns-clause-order
-returns-clause-order g c =
+pub returns-clause-relists : goal.returns-clause-relists
+returns-clause-relists g c =
     let apart = rw (← c.self.view_is) at c.requires in
     let attached =
-    IsOrdered-attach c.self.invariant (apart-is c.self.invariant _ apart.not_listed apart.not_free) (taken-within c.self.invariant _ apart.not_free)
+    IsOrdered-attach c.self.invariant (apart-is c.self.invariant _ apart.not_listed apart.not_free)
+    (taken-within c.self.invariant _ apart.not_free)
     c.set_listed.ensures.written (rw c.some-end.ensures at c.set_next.ensures.written) in
-    rw (← c.self.view_is) (walk-order attached.ordered ∙ attached.order_is ∙ ap (λ ps. ps ++ c.args.place ∷ []) (sym (walk-order c.self.invariant)))
+    rw (← c.self.view_is) (record {
+      order_is = walk-order attached.ordered ∙ attached.order_is ∙ ap (λ ps. ps ++ c.args.place ∷ []) (sym (walk-order c.self.invariant));
+      states_are = search rules;
+      links = search rules;
+      capacity = search rules;
+    })
 
 pub returns-clause-detached : goal.returns-clause-detached
 returns-clause-detached g c =
     let apart = rw (← c.self.view_is) at c.requires in
-    let some = count_detached-some (states c.self.inside.nodes.items) c.args.place (apart-is c.self.invariant _ apart.not_listed apart.not_free) in
+    let some = count_detached-some (states c.self.inside.nodes.items) c.args.place
+    (apart-is c.self.invariant _ apart.not_listed apart.not_free) in
     rw (← c.self.view_is) (omega (arith, c.self.invariant.apart, some))

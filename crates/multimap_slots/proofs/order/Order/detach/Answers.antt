@@ -1,4 +1,4 @@
-use Rattle.std.proofs.Common.{None, ◌∙◌, arith, length}
+use Rattle.std.proofs.Common.{None, ◌∙◌, arith, length, rules}
 use Rattle.multimap_slots.proofs.NodeLemmas.{field_read, length-states, within_more}
 use Rattle.multimap_slots.proofs.OrderLemmas.{split_at, split_within, neighbours, first-within, last-within}
 use Rattle.multimap_slots.proofs.LeaveLemmas.{IsOrdered-detach, walk-removed, length-walk_removed, was_before, was_behind}
@@ -30,23 +30,37 @@ set_previous-requires g c =
 pub set_detached-requires : goal.set_detached-requires
 set_detached-requires g c =
     let s = split_at c.self.invariant c.args.place (rw (← c.self.view_is) at c.requires) in
-    omega (arith, split_within c.self.invariant s, length-states _ _ c.set_next.ensures.written.states, length-states _ _ c.set_previous.ensures.written.states)
+    omega (
+      arith,
+      split_within c.self.invariant s,
+      length-states _ _ c.set_next.ensures.written.states,
+      length-states _ _
+          c.set_previous.ensures.written.states,
+    )
 
 pub invariant_of-self : goal.invariant_of-self
 invariant_of-self g c =
     let s = split_at c.self.invariant c.args.place (rw (← c.self.view_is) at c.requires) in
     let within = split_within c.self.invariant s in
     (IsOrdered-detach c.self.invariant s c.set_next.ensures.written c.set_previous.ensures.written
-    (field_read (λ n. n.previous) _ _ _ None within c.index.ensures) (field_read (λ n. n.next) _ _ _ None within c.index-2.ensures) c.set_detached.ensures.written).ordered
+    (field_read (λ n. n.previous) _ _ _ None within c.index.ensures)
+    (field_read (λ n. n.next) _ _ _ None within c.index-2.ensures) c.set_detached.ensures.written).ordered
 
-pub returns-clause-order : goal.returns-clause-order
-returns-clause-order g c =
+pub returns-clause-relists : goal.returns-clause-relists
+returns-clause-relists g c =
     let s = split_at c.self.invariant c.args.place (rw (← c.self.view_is) at c.requires) in
     let within = split_within c.self.invariant s in
     let removed =
     IsOrdered-detach c.self.invariant s c.set_next.ensures.written c.set_previous.ensures.written
-    (field_read (λ n. n.previous) _ _ _ None within c.index.ensures) (field_read (λ n. n.next) _ _ _ None within c.index-2.ensures) c.set_detached.ensures.written in
-    rw (← c.self.view_is) (walk-removed c.self.invariant s removed)
+    (field_read (λ n. n.previous) _ _ _ None within c.index.ensures)
+    (field_read (λ n. n.next) _ _ _ None within c.index-2.ensures) c.set_detached.ensures.written in
+    rw (← c.self.view_is) (record {
+      order_is = walk-removed c.self.invariant s removed;
+      states_are = search rules;
+      links = search
+          rules;
+      capacity = search rules;
+    })
 
 pub returns-clause-shorter : goal.returns-clause-shorter
 returns-clause-shorter g c =
@@ -54,5 +68,6 @@ returns-clause-shorter g c =
     let within = split_within c.self.invariant s in
     let removed =
     IsOrdered-detach c.self.invariant s c.set_next.ensures.written c.set_previous.ensures.written
-    (field_read (λ n. n.previous) _ _ _ None within c.index.ensures) (field_read (λ n. n.next) _ _ _ None within c.index-2.ensures) c.set_detached.ensures.written in
+    (field_read (λ n. n.previous) _ _ _ None within c.index.ensures)
+    (field_read (λ n. n.next) _ _ _ None within c.index-2.ensures) c.set_detached.ensures.written in
     rw (← c.self.view_is) (length-walk_removed c.self.invariant s removed)

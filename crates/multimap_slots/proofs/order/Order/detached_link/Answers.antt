@@ -14,4 +14,5 @@ pub returns : goal.returns
 returns g c =
     let apart = rw (← c.self.view_is) at c.requires in
     let within = taken-within c.self.invariant _ apart.not_free in
-    rw (← c.self.view_is) (slice_get-get_or _ c.args.place c.index.result.now.link (rw length-map within) ∙ ap Some (sym (field_read (λ n. n.link) _ _ _ _ within c.index.ensures)))
+    rw (← c.self.view_is) (slice_get-get_or _ c.args.place c.index.result.now.link (rw length-map within)
+    ∙ ap Some (sym (field_read (λ n. n.link) _ _ _ _ within c.index.ensures)))

@@ -14,4 +14,5 @@ pub returns : goal.returns
 returns g c =
     let s = split_at c.self.invariant c.args.place (rw (← c.self.view_is) at c.requires) in
     let within = split_within c.self.invariant s in
-    rw (← c.self.view_is) (slice_get-get_or _ c.args.place c.index.result.now.link (rw length-map within) ∙ ap Some (sym (field_read (λ n. n.link) _ _ _ _ within c.index.ensures)))
+    rw (← c.self.view_is) (slice_get-get_or _ c.args.place c.index.result.now.link (rw length-map within)
+    ∙ ap Some (sym (field_read (λ n. n.link) _ _ _ _ within c.index.ensures)))

@@ -19,6 +19,20 @@ returns g c =
     let s = split_at c.self.invariant c.args.place (rw (← c.self.view_is) at c.requires) in
     let within = split_within c.self.invariant s in
     let read = c.index_mut.ensures.value in (
-      (refl, λ w. rw (← c.self.view_is, nexts-relink c.self.inside.nodes.items c.args.place c.index_mut.result.now w read, states-relink c.self.inside.nodes.items c.args.place c.index_mut.result.now w read, map-set)),
-      record { lends = tt; value = rw (← c.self.view_is) (slice_get-get_or _ c.args.place c.index_mut.result.now.link (rw length-map within) ∙ ap Some (sym (field_read (λ n. n.link) _ _ _ _ within read))) },
+      (
+        refl,
+        λ w. rw (
+          ← c.self.view_is,
+          nexts-relink c.self.inside.nodes.items c.args.place c.index_mut.result.now w read,
+          states-relink
+              c.self.inside.nodes.items c.args.place c.index_mut.result.now w read,
+          map-set,
+        ),
+      ),
+      record {
+        lends = tt;
+        value = rw (← c.self.view_is)
+            (slice_get-get_or _ c.args.place c.index_mut.result.now.link (rw length-map within)
+            ∙ ap Some (sym (field_read (λ n. n.link) _ _ _ _ within read)));
+      },
     )

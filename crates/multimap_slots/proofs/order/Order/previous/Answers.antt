@@ -13,4 +13,5 @@ pub returns : goal.returns
 returns g c =
     let s = split_at c.self.invariant c.args.place (rw (← c.self.view_is) at c.requires) in
     let read = field_read (λ n. n.previous) _ _ _ None (split_within c.self.invariant s) c.index.ensures in
-    rw (← c.self.view_is) (c.get.ensures ∙ read ∙ previous-is c.self.invariant s ∙ ap (λ ps. previous_of ps c.args.place) (sym (walk-order c.self.invariant)))
+    rw (← c.self.view_is) (c.get.ensures ∙ read ∙ previous-is c.self.invariant s
+    ∙ ap (λ ps. previous_of ps c.args.place) (sym (walk-order c.self.invariant)))

@@ -21,12 +21,14 @@ some-end-requires g c = omega (arith, c.claim-place.ensures.within, c.claim-plac
 
 pub set_next-requires : goal.set_next-requires
 set_next-requires g c =
-    within_more _ _ _ (rw c.claim-place.ensures.claims.written (length-put _ _ _)) (last-within c.self.invariant _ _ (back-is c.self.invariant) (λ x i. i))
+    within_more _ _ _ (rw c.claim-place.ensures.claims.written (length-put _ _ _))
+    (last-within c.self.invariant _ _ (back-is c.self.invariant) (λ x i. i))
 
 pub invariant_of-self : goal.invariant_of-self
 invariant_of-self g c =
     rw c.some-end.ensures
-    (IsOrdered-push c.self.invariant c.claim-place.ensures.claims c.none.ensures refl refl (rw c.some-end.ensures at c.set_next.ensures.written)).ordered
+    (IsOrdered-push c.self.invariant c.claim-place.ensures.claims c.none.ensures refl refl
+    (rw c.some-end.ensures at c.set_next.ensures.written)).ordered
 
 pub returns-clause-adds : goal.returns-clause-adds
 returns-clause-adds g c =
@@ -37,7 +39,13 @@ returns-clause-adds g c =
       was_free = claims.was_free;
       within = rw length-map claims.within;
       within_links = rw length-map claims.within;
-      fills = λ at_end. rw length-map (omega (arith, claims.fills (rw length-map at at_end) c.self.invariant.vacant c.self.invariant.frees, c.self.invariant.total, walk-length c.self.invariant));
+      fills = λ at_end. rw length-map (omega (
+        arith,
+        claims.fills
+            (rw length-map at at_end) c.self.invariant.vacant c.self.invariant.frees,
+        c.self.invariant.total,
+        walk-length c.self.invariant,
+      ));
       order = walk-order pushed.ordered ∙ pushed.order_is ∙ ap (λ ps. ps ++ c.claim-place.result ∷ []) (sym (walk-order c.self.invariant));
       states = tied.states ∙ ap states claims.written ∙ map-put _ _ _ _;
       links = tied.links ∙ ap links claims.written ∙ map-put _ _ _ _;

@@ -5,7 +5,16 @@ use Rattle.multimap_slots.proofs.DetachedLemmas.{detached-apart}
 use Rattle.multimap_slots.proofs.order.Order.remove.Goals as goal
 
 pub free_detached-requires : goal.free_detached-requires
-free_detached-requires g c = detached-apart c.len-len.ensures.sound c.args.place c.requires c.detach.ensures.order c.detach.ensures.states
+free_detached-requires g c = detached-apart c.len-len.ensures.sound c.args.place c.requires c.detach.ensures.relists.order_is
+    c.detach.ensures.relists.states_are
 
-pub returns-clause-states : goal.returns-clause-states
-returns-clause-states g c = c.free_detached.ensures.states ∙ ap (λ ss. set ss c.args.place Free) c.detach.ensures.states ∙ set-set _ c.args.place _ Free
+pub returns-clause-relists : goal.returns-clause-relists
+returns-clause-relists g c =
+    let d = c.detach.ensures.relists in
+    let f = c.free_detached.ensures.relists in
+    record {
+      order_is = f.order_is ∙ d.order_is;
+      states_are = f.states_are ∙ ap (λ ss. set ss c.args.place Free) d.states_are ∙ set-set _ c.args.place _ Free;
+      links = f.links ∙ d.links;
+      capacity = f.capacity ∙ d.capacity;
+    }

@@ -7,8 +7,10 @@ pub returns-clause-taken : goal.returns-clause-taken
 returns-clause-taken g c =
     let some = rw (← c.self.view_is) at c.requires.has_item in
     let within = IsSome-within c.self.inside.items.items c.args.place some in
-    let read = get_or_default c.self.inside.items.items c.args.place None c.index_mut.result.now within ∙ sym c.index_mut.ensures.value ∙ sym c.take.ensures.value in
-    rw (← c.self.view_is) (TakesDetached-set _ _ c.args.place c.in-Some.item (rw (← c.self.view_is) at c.requires.not_listed) (read ∙ c.in-Some.is)
+    let read = get_or_default c.self.inside.items.items c.args.place None c.index_mut.result.now within ∙ sym c.index_mut.ensures.value
+    ∙ sym c.take.ensures.value in
+    rw (← c.self.view_is) (TakesDetached-set _ _ c.args.place c.in-Some.item (rw (← c.self.view_is) at c.requires.not_listed)
+    (read ∙ c.in-Some.is)
     refl (ap (set c.self.inside.items.items c.args.place) c.take.ensures.after) refl)
 
 pub returns-clause-counts : goal.returns-clause-counts

@@ -4,7 +4,8 @@ use Rattle.multimap_table.proofs.TableLemmas.{entries_of_empty, laid_out_of}
 use Rattle.multimap_table.proofs.table.KeyTable.grow_to.Goals as goal
 
 pub insert_all-requires-clause-empty : goal.insert_all-requires-clause-empty
-insert_all-requires-clause-empty g c = entries_of_empty _ _ _ c.grown.invariant (ap (λ (t : Table). t.rows) c.grown.view_is ∙ (c.in_ok-grown.ensures {u = tt}).empty)
+insert_all-requires-clause-empty g c = entries_of_empty _ _ _ c.grown.invariant
+    (ap (λ (t : Table). t.rows) c.grown.view_is ∙ (c.in_ok-grown.ensures {u = tt}).empty)
 
 pub returns-clause-room : goal.returns-clause-room
 returns-clause-room g c =

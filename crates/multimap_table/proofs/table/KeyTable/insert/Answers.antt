@@ -8,16 +8,22 @@ use Rattle.multimap_table.proofs.TableLemmas.{len_of, laid_out_of, room_of, tabl
 use Rattle.multimap_table.proofs.table.KeyTable.insert.Goals as goal
 
 -- fewer rows than the lanes have room for
-few : (tags : List ℕ) (rows : List Row) (n : ℕ) (table : Table) → IsTable tags rows n → ◌≡◌ {A = Table} (record { rows = rows_of tags rows; capacity = 12 * group_count tags }) table
+few : (tags : List ℕ) (rows : List Row) (n : ℕ) (table : Table) → IsTable tags rows n
+    → ◌≡◌ {A = Table} (record { rows = rows_of tags rows; capacity = 12 * group_count tags }) table
     → map.len table.rows < table.capacity → n < 12 * group_count tags
 few tags rows n table valid is room =
-    let len = len_of tags rows n valid ∙ ap (λ (t : Table). map.len t.rows) is in let capacity = ap (λ (t : Table). t.capacity) is in omega (arith, len, capacity, room)
+    let len = len_of tags rows n valid ∙ ap (λ (t : Table). map.len t.rows) is in let capacity = ap (λ (t : Table). t.capacity) is in
+    omega (arith, len, capacity, room)
 
 pub insert_row-requires-clause-room : goal.insert_row-requires-clause-room
-insert_row-requires-clause-room g c = room_of _ _ _ c.self.invariant (omega (arith, few _ _ _ _ c.self.invariant c.self.view_is c.requires.room))
+insert_row-requires-clause-room g c = room_of _ _ _ c.self.invariant
+    (omega (arith, few _ _ _ _ c.self.invariant c.self.view_is c.requires.room))
 
 pub insert_row-requires-clause-laid_out : goal.insert_row-requires-clause-laid_out
-insert_row-requires-clause-laid_out g c = laid_out_of _ _ _ c.self.invariant (omega (arith, few _ _ _ _ c.self.invariant c.self.view_is c.requires.room))
+insert_row-requires-clause-laid_out g c = laid_out_of _ _ _ c.self.invariant
+    (omega (arith, few _ _ _ _ c.self.invariant c.self.view_is c.requires.room))
 
 pub invariant_of-self : goal.invariant_of-self
-invariant_of-self g c = let new = c.insert_row.ensures in table_put c.self.inside.tags.items _ c.self.inside.rows.items _ _ c.self.invariant new.laid_out new.counted new.lanes (few _ _ _ _ c.self.invariant c.self.view_is c.requires.room)
+invariant_of-self g c = let new = c.insert_row.ensures in
+    table_put c.self.inside.tags.items _ c.self.inside.rows.items _ _ c.self.invariant new.laid_out new.counted new.lanes
+    (few _ _ _ _ c.self.invariant c.self.view_is c.requires.room)

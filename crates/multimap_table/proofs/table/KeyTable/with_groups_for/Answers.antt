@@ -7,7 +7,9 @@ pub invariant_of-result : goal.invariant_of-result
 invariant_of-result g c =
     let rows = c.in_ok-from_elem-2.field-0 in
     subst (λ (tags : List ℕ). IsTable tags rows.items 0) (sym ((c.in_ok-from_elem.ensures {u = tt}).items_if_clones_equal (λ y e. e)))
-    (table-empty c.groups_for-lanes.result rows.items (sym rows.ok.0 ∙ (c.in_ok-from_elem-2.ensures {u = tt}).len) c.groups_for-lanes.ensures.count)
+    (table-empty c.groups_for-lanes.result rows.items
+    (sym rows.ok.0 ∙ (c.in_ok-from_elem-2.ensures {u = tt}).len) c.groups_for-lanes.ensures.count)
 
 pub returns-clause-empty : goal.returns-clause-empty
-returns-clause-empty g c = rows_of-replicate c.in_ok-from_elem.field-0.items c.in_ok-from_elem-2.field-0.items _ ((c.in_ok-from_elem.ensures {u = tt}).items_if_clones_equal (λ y e. e))
+returns-clause-empty g c = rows_of-replicate c.in_ok-from_elem.field-0.items c.in_ok-from_elem-2.field-0.items _
+    ((c.in_ok-from_elem.ensures {u = tt}).items_if_clones_equal (λ y e. e))

@@ -7,4 +7,5 @@ use Rattle.multimap_table_tests.proofs.compared.Compared.insert.Goals as goal
 pub invariant_of-self : goal.invariant_of-self
 invariant_of-self g c = λ q.
     ap (λ (m : map.FinMap nat_cmp ℕ). map.get m q) c.insert.ensures.rows
-    ∙ agree_after_insert c.self.inside.table.rows c.self.inside.hashes.items c.args.hash c.args.place (omega (arith, c.self.inside.hashes.ok.0)) c.self.invariant q
+    ∙ agree_after_insert c.self.inside.table.rows c.self.inside.hashes.items c.args.hash c.args.place
+    (omega (arith, c.self.inside.hashes.ok.0)) c.self.invariant q

@@ -8,27 +8,30 @@ pub returns-then-present-clause-fault : goal.returns-then-present-clause-fault
 returns-then-present-clause-fault g c =
     let m = c.args.map.now.lists in
     let k = c.in-Ok.key in
-    let listed : is_listed g.K.PartialEq.eq m.keys k ≡ true = sym (listed_if_named g.met.K.Eq.laws m k c.requires.stand_ins) ∙ sym c.in-Ok-append.ensures.present ∙ c.if-present.true in
+    let listed : is_listed g.K.PartialEq.eq m.keys k ≡ true = sym (listed_if_named g.met.K.Eq.laws m k c.requires.stand_ins)
+    ∙ sym c.in-Ok-append.ensures.present ∙ c.if-present.true in
     inr (k, record { json = c.in-Ok.ensures.read; accepted = c.in-Ok.ensures.accepted }, listed, refl)
 
 pub returns-clause-read : goal.returns-clause-read
 returns-clause-read g c =
     let m = c.args.map.now.lists in
     let k = c.in-Ok.key in
-    let absent : is_listed g.K.PartialEq.eq m.keys k ≡ false = sym (listed_if_named g.met.K.Eq.laws m k c.requires.stand_ins) ∙ sym c.in-Ok-append.ensures.present ∙ c.if-present.false in
-    let is = c.in-Ok-append.ensures.ok ∙ appended_new g.met.K.Eq.laws m k c.in-Ok-from_part.value absent in
+    let absent : is_listed g.K.PartialEq.eq m.keys k ≡ false = sym (listed_if_named g.met.K.Eq.laws m k c.requires.stand_ins)
+    ∙ sym c.in-Ok-append.ensures.present ∙ c.if-present.false in
+    let is = c.in-Ok-append.ensures.ok.lists ∙ appended_new g.met.K.Eq.laws m k c.in-Ok-from_part.value absent in
     (k, record { json = c.in-Ok.ensures.read; accepted = c.in-Ok.ensures.accepted }, absent, ap (λ l. l.keys) is)
 
 pub returns-clause-stand_ins : goal.returns-clause-stand_ins
 returns-clause-stand_ins g c =
     let m = c.args.map.now.lists in
     let k = c.in-Ok.key in
-    let absent : is_listed g.K.PartialEq.eq m.keys k ≡ false = sym (listed_if_named g.met.K.Eq.laws m k c.requires.stand_ins) ∙ sym c.in-Ok-append.ensures.present ∙ c.if-present.false in
-    let is = c.in-Ok-append.ensures.ok ∙ appended_new g.met.K.Eq.laws m k c.in-Ok-from_part.value absent in
+    let absent : is_listed g.K.PartialEq.eq m.keys k ≡ false = sym (listed_if_named g.met.K.Eq.laws m k c.requires.stand_ins)
+    ∙ sym c.in-Ok-append.ensures.present ∙ c.if-present.false in
+    let is = c.in-Ok-append.ensures.ok.lists ∙ appended_new g.met.K.Eq.laws m k c.in-Ok-from_part.value absent in
     one_stands_in g.met.K.Eq.laws m c.append.new.self.lists k c.in-Ok-from_part.value c.requires.stand_ins is
 
 pub returns-clause-unused : goal.returns-clause-unused
-returns-clause-unused g c unused = still_unused unused c.append.ensures.taken
+returns-clause-unused g c unused = still_unused unused c.in-Ok-append.ensures.ok.taken
 
 pub returns-then-present-clause-unused : goal.returns-then-present-clause-unused
-returns-then-present-clause-unused g c unused = still_unused unused c.append.ensures.taken
+returns-then-present-clause-unused g c unused = still_unused unused c.in-Ok-append.ensures.ok.taken

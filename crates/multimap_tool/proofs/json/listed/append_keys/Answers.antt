@@ -22,8 +22,10 @@ returns-in_err-append_key-clause-fault g c =
     let rest = drop (l.index + 1) xs in
     let item = c.index-items-index.result in
     let left = drop_more xs l.index item c.loop-index-test.true ∙ ap (λ x. x ∷ rest) (sym c.index-items-index.is) in
-    let all = unless_other (IsListedKeyFault json is_key eq l.index l.map.lists.keys (view item)) (IsKeysFault json is_key eq 0 [] (items_view xs))
-    (λ f is. l.invariant.fault f (keys_fault_here json is_key is_key eq l.index l.map.lists.keys (drop l.index xs) rest item f left is)) fault c.in_err-append_key.ensures.fault in
+    let all = unless_other (IsListedKeyFault json is_key eq l.index l.map.lists.keys (view item))
+    (IsKeysFault json is_key eq 0 [] (items_view xs))
+    (λ f is. l.invariant.fault f (keys_fault_here json is_key is_key eq l.index l.map.lists.keys (drop l.index xs) rest item f left is))
+    fault c.in_err-append_key.ensures.fault in
     passed_on c.from_residual.result _ fault c.from_residual.ensures.1 all
 
 pub loop-index-preserved : goal.loop-index-preserved
@@ -40,11 +42,15 @@ loop-index-preserved g c =
     let more = c.in_ok-append_key.ensures.read in
     let k : g.row.K.Denot = more.0 in
     record {
-      json = ap (map view) seen ∙ one_read json (take l.index xs) item l.map.lists.keys k more.1.json l.invariant.json ∙ ap (map json) (sym more.3);
-      accepted = l.invariant.accepted ∙ ap (λ vs. each_item is_key (items_view vs)) left ∙ each_item-behind is_key (view item) (items_view rest) more.1.accepted;
+      json = ap (map view) seen ∙ one_read json (take l.index xs) item l.map.lists.keys k more.1.json l.invariant.json
+          ∙ ap (map json) (sym more.3);
+      accepted = l.invariant.accepted ∙ ap (λ vs. each_item is_key (items_view vs)) left
+          ∙ each_item-behind is_key (view item) (items_view rest) more.1.accepted;
       distinct = subst (IsDistinct eq) (sym more.3) (IsDistinct-push g.met.K.Eq.laws l.map.lists.keys k l.invariant.distinct more.2);
       stand_ins = c.in_ok-append_key.ensures.stand_ins;
-      fault = λ f is. l.invariant.fault f (keys_fault_later json is_key is_key eq l.index (l.index + 1) l.map.lists.keys c.append_key.new.map.lists.keys (drop l.index xs) rest item k f left (omega arith) more.3 more.1 more.2 is);
+      fault = λ f is. l.invariant.fault f (keys_fault_later json is_key is_key eq l.index
+          (l.index + 1) l.map.lists.keys c.append_key.new.map.lists.keys (drop l.index xs) rest item k f left
+          (omega arith) more.3 more.1 more.2 is);
       hasher = c.append_key.ensures.hasher ∙ l.invariant.hasher;
       unused = λ unused. c.append_key.ensures.unused (l.invariant.unused unused);
     }

@@ -23,10 +23,12 @@ returns-clause-read g c =
     let json : d ≡ pair_json key.json value.json (k, v) = c.in-Ok.ensures.read ∙ ap (of_two (key.json k)) read in
     let good = pair_is_good key.json value.json key.is_part value.is_part eq in
     on_both (is_listed eq m.keys k ≡ true) (n ≡ lists m.keys (m.pairs ++ (stored_key eq m.keys k, v) ∷ []))
-    (AppendsPair key.json value.json key.is_part value.is_part eq d m n) c.append_under.result c.append_under.ensures.listed c.append_under.ensures.appended (λ listed appended. record {
+    (AppendsPair key.json value.json key.is_part value.is_part eq d m n) c.append_under.result c.append_under.ensures.listed
+    c.append_under.ensures.appended (λ listed appended. record {
       pair = (k, v);
       json = json;
-      accepted = λ i. ap (item_fault key.is_part value.is_part i) json ∙ good i (k, v) c.in-Ok.ensures.accepted (ap value.is_part (sym read) ∙ c.in-Ok-from_part.ensures.accepted);
+      accepted = λ i. ap (item_fault key.is_part value.is_part i) json
+          ∙ good i (k, v) c.in-Ok.ensures.accepted (ap value.is_part (sym read) ∙ c.in-Ok-from_part.ensures.accepted);
       listed = listed;
       appended = appended;
     })

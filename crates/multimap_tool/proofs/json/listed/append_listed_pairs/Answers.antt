@@ -24,8 +24,11 @@ returns-in_err-append_listed_pair-clause-fault g c =
     let item = c.index-items-index.result in
     let left = drop_more xs l.index item c.loop-index-test.true ∙ ap (λ x. x ∷ rest) (sym c.index-items-index.is) in
     let same = ap (λ m. m.keys) l.invariant.read.2 in
-    let all = unless_other (IsPairFault json is_key is_value eq l.index l.map.lists.keys (view item)) (IsPairsFault json is_key is_value eq 0 keys (items_view xs))
-    (λ f is. l.invariant.fault f (pairs_fault_here json is_key is_value eq l.index keys (drop l.index xs) rest item f left (subst (λ js. IsPairFault json is_key is_value eq l.index js (view item) f) same is))) fault c.in_err-append_listed_pair.ensures.fault in
+    let all = unless_other (IsPairFault json is_key is_value eq l.index l.map.lists.keys (view item))
+    (IsPairsFault json is_key is_value eq 0 keys (items_view xs))
+    (λ f is. l.invariant.fault f (pairs_fault_here json is_key is_value eq l.index keys (drop l.index xs) rest item f left
+    (subst (λ js. IsPairFault json is_key is_value eq l.index js (view item) f) same is))) fault
+    c.in_err-append_listed_pair.ensures.fault in
     passed_on c.from_residual.result _ fault c.from_residual.ensures.1 all
 
 pub loop-index-preserved : goal.loop-index-preserved
@@ -54,8 +57,10 @@ loop-index-preserved g c =
         one_under eq first.keys first.pairs read.0 p l.map.lists c.append_listed_pair.new.map.lists read.2 more.appended,
         each_listed-push eq first.keys read.0 p read.3 listed,
       );
-      accepted = l.invariant.accepted ∙ ap (λ ys. first_fault is_key is_value l.index (items_view ys)) left ∙ fault_behind is_key is_value l.index item rest (more.accepted l.index);
-      fault = λ f is. l.invariant.fault f (pairs_fault_later json is_key is_value eq value_json l.index (l.index + 1) first.keys (drop l.index xs) rest item p f left (omega arith) more.json more.accepted listed is);
+      accepted = l.invariant.accepted ∙ ap (λ ys. first_fault is_key is_value l.index (items_view ys)) left
+          ∙ fault_behind is_key is_value l.index item rest (more.accepted l.index);
+      fault = λ f is. l.invariant.fault f (pairs_fault_later json is_key is_value eq value_json l.index (l.index + 1) first.keys
+          (drop l.index xs) rest item p f left (omega arith) more.json more.accepted listed is);
       hasher = c.append_listed_pair.ensures.hasher ∙ l.invariant.hasher;
       unused = λ unused. c.append_listed_pair.ensures.unused (l.invariant.unused unused);
     }
@@ -64,7 +69,13 @@ pub loop-index-init : goal.loop-index-init
 loop-index-init g c =
     let first = c.args.map.now.lists in
     record {
-      read = ([], refl, c.reserve_values-reserved.ensures.unchanged ∙ ap (lists first.keys) (sym (append-nil first.pairs)), λ k never. absurd never);
+      read = (
+        [],
+        refl,
+        c.reserve_values-reserved.ensures.unchanged
+            ∙ ap (lists first.keys) (sym (append-nil first.pairs)),
+        λ k never. absurd never,
+      );
       accepted = refl;
       fault = λ f is. is;
       hasher = c.reserve_values-reserved.ensures.rooms.hasher;

@@ -10,7 +10,8 @@ returns-then-is_last_of_its_key-clause-used g c =
     let l = c.loop-index in
     let m = c.args.map.now.lists in
     let within : l.index < length m.keys = omega (arith, c.loop-index-test.true, c.keys_len-index-end.ensures.len) in
-    let goes = stand_in_goes g.met.K.Eq.laws l.map.lists m.keys m.pairs l.index c.requires.stand_ins within l.invariant.left c.is_last_of_its_key.ensures.well_formed in
+    let goes = stand_in_goes g.met.K.Eq.laws l.map.lists m.keys m.pairs l.index c.requires.stand_ins within l.invariant.left
+    c.is_last_of_its_key.ensures.well_formed in
     sym (l.invariant.used ∙ goes.unused (sym c.is_last_of_its_key.ensures.last ∙ c.if-is_last_of_its_key.true))
 
 pub loop-index-preserved : goal.loop-index-preserved
@@ -20,7 +21,8 @@ loop-index-preserved g c =
     let eq = g.K.PartialEq.eq in
     let named = keys_of (drop (length m.keys) m.pairs) in
     let within : l.index < length m.keys = omega (arith, c.loop-index-test.true, c.keys_len-index-end.ensures.len) in
-    let goes = stand_in_goes g.met.K.Eq.laws l.map.lists m.keys m.pairs l.index c.requires.stand_ins within l.invariant.left c.is_last_of_its_key.ensures.well_formed in
+    let goes = stand_in_goes g.met.K.Eq.laws l.map.lists m.keys m.pairs l.index c.requires.stand_ins within l.invariant.left
+    c.is_last_of_its_key.ensures.well_formed in
     let stays = sym c.is_last_of_its_key.ensures.last ∙ c.if-is_last_of_its_key.false in
     let popped = c.is_last_of_its_key.ensures.popped in
     let more : suc l.index ≡ l.index + 1 = omega arith in

@@ -5,13 +5,15 @@ use Rattle.multimap_tool.specs.JsonLists.{IsListsFault, IsPairsFault}
 use Rattle.multimap_tool.specs.declared.json.faults.ReadFault.TheVariants.{UnusedKey}
 use Rattle.multimap_tool.proofs.JsonFaultLemmas.{nothing_read, fault_of_none}
 use Rattle.multimap_tool.proofs.json.lists.read_without_value.Goals as goal
-use Rattle.multimap_tool.proofs.json.lists.read_without_value.Goals.{else-is_empty-via-then-is_empty+else-is_empty-2, else-is_empty-via-else-is_empty}
+use Rattle.multimap_tool.proofs.json.lists.read_without_value.Goals.{else-is_empty-via-then-is_empty+else-is_empty-2}
+use Rattle.multimap_tool.proofs.json.lists.read_without_value.Goals.{else-is_empty-via-else-is_empty}
 
 pub returns-then-is_empty-2-clause-read : goal.returns-then-is_empty-2-clause-read
 returns-then-is_empty-2-clause-read g c =
     let keys : (length c.args.keys.now == 0) ≡ true = sym c.is_empty.ensures ∙ c.if-is_empty.true in
     let pairs : (length c.args.pairs.now == 0) ≡ true = sym c.is_empty-then-is_empty.ensures ∙ c.if-is_empty-2.true in
-    nothing_read g.K.JsonPart.json g.V.JsonPart.json g.K.JsonPart.is_part g.V.JsonPart.is_part g.K.PartialEq.eq c.args.keys.now c.args.pairs.now c.with_hasher.result.lists keys pairs c.with_hasher.ensures.empty
+    nothing_read g.K.JsonPart.json g.V.JsonPart.json g.K.JsonPart.is_part g.V.JsonPart.is_part g.K.PartialEq.eq c.args.keys.now
+    c.args.pairs.now c.with_hasher.result.lists keys pairs c.with_hasher.ensures.empty
 
 pub returns-in-Ok-clause-fault : goal.returns-in-Ok-clause-fault
 returns-in-Ok-clause-fault g c =
@@ -22,7 +24,8 @@ returns-in-Ok-clause-fault g c =
     let ys = c.args.pairs.now in
     let keys = c.append_keys.new.map.lists.keys in
     let some : length xs ≡ 0 → length ys ≡ 0 → ⊥ = λ no_keys no_pairs. elim c.else-is_empty.branch [
-      | else-is_empty-via-then-is_empty+else-is_empty-2 w ↦ true≢false (sym (w.is_empty-then-is_empty.ensures ∙ ap (λ n. n == 0) no_pairs) ∙ w.if-is_empty-2.false)
+      | else-is_empty-via-then-is_empty+else-is_empty-2 w ↦ true≢false
+          (sym (w.is_empty-then-is_empty.ensures ∙ ap (λ n. n == 0) no_pairs) ∙ w.if-is_empty-2.false)
       | else-is_empty-via-else-is_empty w ↦ true≢false (sym (c.is_empty.ensures ∙ ap (λ n. n == 0) no_keys) ∙ w.if-is_empty.false)
     ] in
     unless_other (λ f. IsPairsFault key.json key.is_part value.is_part eq 0 keys (items_view ys) f ⊎ ((ys ≡ []) × (f ≡ UnusedKey 0)))

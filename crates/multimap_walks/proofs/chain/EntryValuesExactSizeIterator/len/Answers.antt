@@ -5,4 +5,5 @@ use Rattle.multimap_walks.proofs.chain.EntryValuesExactSizeIterator.len.Goals as
 pub returns-clause-value : goal.returns-clause-value
 returns-clause-value g c =
     let i = c.self.inside in
-    sym (length-left i.values.now.list i.detached i.front i.back i.length c.self.invariant) ∙ ap (λ w. length w.left) c.self.view_is
+    sym (length-left i.values.now.list i.detached i.left.first i.left.last i.left.length c.self.invariant)
+    ∙ ap (λ w. length w.left) c.self.view_is

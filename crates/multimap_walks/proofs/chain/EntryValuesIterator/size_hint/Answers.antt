@@ -1,21 +1,11 @@
-use Rattle.std.proofs.Common.{◌≡◌, ◌∙◌, length, sym, ap, arith, Some}
+use Rattle.std.proofs.Common.{◌∙◌, length, sym, ap}
 use Rattle.multimap_walks.proofs.ChainLemmas.{length-left}
+use Rattle.multimap_walks.proofs.CountLemmas.{tells_length}
 use Rattle.multimap_walks.proofs.chain.EntryValuesIterator.size_hint.Goals as goal
 
-pub returns-clause-lower : goal.returns-clause-lower
-returns-clause-lower g c =
+pub returns : goal.returns
+returns g c =
     let i = c.self.inside in
-    let count : i.length ≡ length c.args.self.now.left = sym (length-left i.values.now.list i.detached i.front i.back i.length c.self.invariant) ∙ ap (λ w. length w.left) c.self.view_is in
-    λ _. omega (arith, count)
-
-pub returns-clause-upper : goal.returns-clause-upper
-returns-clause-upper g c =
-    let i = c.self.inside in
-    let count : i.length ≡ length c.args.self.now.left = sym (length-left i.values.now.list i.detached i.front i.back i.length c.self.invariant) ∙ ap (λ w. length w.left) c.self.view_is in
-    (tt, omega (arith, count))
-
-pub returns-clause-least : goal.returns-clause-least
-returns-clause-least g c = let i = c.self.inside in sym (length-left i.values.now.list i.detached i.front i.back i.length c.self.invariant) ∙ ap (λ w. length w.left) c.self.view_is
-
-pub returns-clause-greatest : goal.returns-clause-greatest
-returns-clause-greatest g c = let i = c.self.inside in ap (λ n. Some n) (sym (length-left i.values.now.list i.detached i.front i.back i.length c.self.invariant) ∙ ap (λ w. length w.left) c.self.view_is)
+    tells_length c.args.self.now.left i.left.length
+    (sym (length-left i.values.now.list i.detached i.left.first i.left.last i.left.length c.self.invariant)
+    ∙ ap (λ w. length w.left) c.self.view_is)

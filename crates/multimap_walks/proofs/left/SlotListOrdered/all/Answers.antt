@@ -7,4 +7,5 @@ returns-clause-are_left g c =
     (all_left c.args.self.now.order c.len.ensures.sound.distinct)
 
 pub returns-clause-whole : goal.returns-clause-whole
-returns-clause-whole g c = rw (c.unwrap_or.ensures, c.front_place.ensures, c.len.ensures.len) (left_all c.args.self.now.order c.len.ensures.sound.distinct)
+returns-clause-whole g c =
+    rw (c.unwrap_or.ensures, c.front_place.ensures, c.len.ensures.len) (left_all c.args.self.now.order c.len.ensures.sound.distinct)

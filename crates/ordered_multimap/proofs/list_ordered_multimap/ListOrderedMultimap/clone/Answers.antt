@@ -45,14 +45,17 @@ returns-in_err-append_clones-clause-succeeds g c =
 
 pub put_in_order-requires : goal.put_in_order-requires
 put_in_order-requires g c =
-    let built = subst (λ ps. AreClones g.K.PartialEq.eq g.K.Clone.is_clone g.V.Clone.is_clone (built_from g.K.PartialEq.eq ps) c.append_clones.new.copy.lists) c.iter-pairs.ensures c.in_ok-append_clones.ensures.ok in
-    λ k member. present_in g.met.K.Eq.laws g.K.Clone.is_clone g.V.Clone.is_clone c.args.self.now.lists c.keys_len.ensures.well_formed c.append_clones.new.copy.lists built k (subst (IsIn k) c.keys.ensures member)
+    let built = subst (λ ps. AreClones g.K.PartialEq.eq g.K.Clone.is_clone g.V.Clone.is_clone
+    (built_from g.K.PartialEq.eq ps) c.append_clones.new.copy.lists) c.iter-pairs.ensures c.in_ok-append_clones.ensures.ok in
+    λ k member. present_in g.met.K.Eq.laws g.K.Clone.is_clone g.V.Clone.is_clone c.args.self.now.lists c.keys_len.ensures.well_formed
+    c.append_clones.new.copy.lists built k (subst (IsIn k) c.keys.ensures member)
 
 pub returns-clause-clones : goal.returns-clause-clones
 returns-clause-clones g c =
     let eq = g.K.PartialEq.eq in
     let copy = c.append_clones.new.copy.lists in
-    let built = subst (λ ps. AreClones eq g.K.Clone.is_clone g.V.Clone.is_clone (built_from eq ps) copy) c.iter-pairs.ensures c.in_ok-append_clones.ensures.ok in
+    let built = subst (λ ps. AreClones eq g.K.Clone.is_clone g.V.Clone.is_clone (built_from eq ps) copy) c.iter-pairs.ensures
+    c.in_ok-append_clones.ensures.ok in
     subst (AreClones eq g.K.Clone.is_clone g.V.Clone.is_clone c.args.self.now.lists)
     (sym (c.put_in_order.ensures.lists ∙ ap (λ keys. lists (all_moved eq copy.keys keys) copy.pairs) c.keys.ensures))
     (clone_lists g.met.K.Eq.laws g.K.Clone.is_clone g.V.Clone.is_clone c.args.self.now.lists c.keys_len.ensures.well_formed copy built)
@@ -60,4 +63,5 @@ returns-clause-clones g c =
 pub returns-clause-lists : goal.returns-clause-lists
 returns-clause-lists g c =
     λ keys_same values_same.
-    same_lists g.met.K.Eq.laws g.K.Clone.is_clone g.V.Clone.is_clone c.args.self.now.lists c.keys_len.ensures.well_formed keys_same values_same c.put_in_order.new.copy.lists (returns-clause-clones g c)
+    same_lists g.met.K.Eq.laws g.K.Clone.is_clone g.V.Clone.is_clone c.args.self.now.lists c.keys_len.ensures.well_formed keys_same
+    values_same c.put_in_order.new.copy.lists (returns-clause-clones g c)

@@ -6,4 +6,5 @@ use Rattle.ordered_multimap.proofs.list_ordered_multimap.ListOrderedMultimap.cou
 pub returns : goal.returns
 returns g c =
     let i = c.self.inside in
-    sym (length-drained i.values.list i.left (subst HoldsDrain (sym c.self.view_is) c.requires)) ∙ ap (λ m. length (left_of m)) c.self.view_is
+    sym (length-drained i.values.list i.left (subst HoldsDrain (sym c.self.view_is) c.requires))
+    ∙ ap (λ m. length (left_of m)) c.self.view_is

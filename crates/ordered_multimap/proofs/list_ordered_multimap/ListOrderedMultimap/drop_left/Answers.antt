@@ -22,4 +22,5 @@ returns-clause-kept g c =
     let t = c.drop_chain.ensures in
     let left : ChainEnds = record { first = i.left.first; last = i.left.last; length = 0 } in
     subst (λ m. KeepsListed m (map_of i.keys i.table.capacity c.drop_chain.new.values i.state left)) c.self.view_is
-    (keeps_listed i.keys i.table.rows i.values c.self.invariant.agrees i.table.capacity i.state i.left left c.drop_chain.new.values t.kept t.counts t.capacity)
+    (keeps_listed i.keys i.table.rows i.values c.self.invariant.agrees i.table.capacity i.state i.left left c.drop_chain.new.values t.kept
+    t.counts t.capacity)

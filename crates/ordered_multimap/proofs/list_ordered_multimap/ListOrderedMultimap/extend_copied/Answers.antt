@@ -5,13 +5,14 @@ use Rattle.std.proofs.lemmas.List.{map-append, length-map}
 use Rattle.ordered_multimap.specs.Changes.{appended, all_appended}
 use Rattle.ordered_multimap.specs.Extends.{HasRoomForGiven, HasRoomForMost, lent_pair}
 use Rattle.ordered_multimap.specs.Rooms.{HasRoomForPairs}
-use Rattle.ordered_multimap.proofs.ExtendLemmas.{all_appended-push, doubles_rooms-then, has_key_room, has_pair_room, keeps_rooms-then, room-fewer, same_rooms-then, takes_none-then}
+use Rattle.ordered_multimap.proofs.ExtendLemmas.{all_appended-push, grows_on, has_pair_room, room-fewer}
 use Rattle.ordered_multimap.proofs.list_ordered_multimap.ListOrderedMultimap.extend_copied.Given.{Over}
 use Rattle.ordered_multimap.proofs.list_ordered_multimap.ListOrderedMultimap.extend_copied.Goals.{In-Some, In-Err}
 use Rattle.ordered_multimap.proofs.list_ordered_multimap.ListOrderedMultimap.extend_copied.Goals as goal
 
 became : (g : Over) (c : In-Some g) → g.I.IntoIterator.into_iter_gives c.args.iter c.into_iter-key-iterator.result
-became g c = subst (g.I.IntoIterator.into_iter_gives c.args.iter) (sym c.into_iter-key-iterator.ensures.into_iter_gives) c.into_iter-pairs.ensures.into_iter_gives
+became g c = subst (g.I.IntoIterator.into_iter_gives c.args.iter)
+    (sym c.into_iter-key-iterator.ensures.into_iter_gives) c.into_iter-pairs.ensures.into_iter_gives
 
 -- the iterator has given these and one more
 abbrev items : (g : Over) (c : In-Some g) → List (Bor g.row.K.Denot × Bor g.row.V.Denot)
@@ -19,32 +20,48 @@ items g c = c.loop-key.yielded ++ (c.in-Some.key, c.in-Some.value) ∷ []
 
 given : (g : Over) (c : In-Some g) → Yields g.I.IntoIter.Iterator.next_gives c.into_iter-key-iterator.result (items g c) c.next.new.self
 given g c =
-    Yields-more g.I.IntoIter.Iterator.next_gives c.into_iter-key-iterator.result c.loop-key.yielded c.loop-key.key-iterator (c.in-Some.key, c.in-Some.value) c.next.new.self
+    Yields-more g.I.IntoIter.Iterator.next_gives c.into_iter-key-iterator.result c.loop-key.yielded c.loop-key.key-iterator
+    (c.in-Some.key, c.in-Some.value) c.next.new.self
     c.loop-key.yielded_by c.in-Some.ensures.steps
 
 -- they are no more than it may have given
-counted : (g : Over) (c : In-Some g) → length (items g c) + size (g.I.IntoIter.Iterator.remaining c.next.new.self) ≤ size (g.I.IntoIter.Iterator.remaining c.into_iter-key-iterator.result)
+counted : (g : Over) (c : In-Some g) → length (items g c) + size (g.I.IntoIter.Iterator.remaining c.next.new.self) ≤ size
+    (g.I.IntoIter.Iterator.remaining c.into_iter-key-iterator.result)
 counted g c =
     let nearer = on (c.in-Some.key, c.in-Some.value) refl c.in-Some.ensures.goes c.loop-key.iterator.1 in
-    omega (arith, c.loop-key.invariant.5, nearer.2, length-append c.loop-key.yielded ((c.in-Some.key, c.in-Some.value) ∷ []))
+    omega (arith, c.loop-key.invariant.2, nearer.2, length-append c.loop-key.yielded ((c.in-Some.key, c.in-Some.value) ∷ []))
 
 -- so there was room for one more pair than were appended
-room_for_given : (g : Over) (c : In-Some g) → HasRoomForGiven g.I.IntoIterator.into_iter_gives g.I.IntoIter.Iterator.next_gives c.args.iter c.args.self.now
+room_for_given : (g : Over) (c : In-Some g) → HasRoomForGiven g.I.IntoIterator.into_iter_gives g.I.IntoIter.Iterator.next_gives c.args.iter
+    c.args.self.now
     → HasRoomForPairs c.args.self.now (length (map lent_pair c.loop-key.yielded) + 1)
 room_for_given g c room =
-    room-fewer (omega (arith, length-map c.loop-key.yielded lent_pair, length-append c.loop-key.yielded ((c.in-Some.key, c.in-Some.value) ∷ [])))
+    room-fewer (omega (
+      arith,
+      length-map c.loop-key.yielded lent_pair,
+      length-append c.loop-key.yielded
+          ((c.in-Some.key, c.in-Some.value) ∷ []),
+    ))
     (room c.into_iter-key-iterator.result (became g c) (items g c) c.next.new.self (given g c))
 
-room_for_most : (g : Over) (c : In-Some g) → HasRoomForMost g.I.IntoIterator.into_iter_gives g.I.IntoIter.Iterator.remaining c.args.iter c.args.self.now
+room_for_most : (g : Over) (c : In-Some g) → HasRoomForMost g.I.IntoIterator.into_iter_gives g.I.IntoIter.Iterator.remaining c.args.iter
+    c.args.self.now
     → HasRoomForPairs c.args.self.now (length (map lent_pair c.loop-key.yielded) + 1)
 room_for_most g c room =
-    room-fewer (omega (arith, length-map c.loop-key.yielded lent_pair, counted g c, length-append c.loop-key.yielded ((c.in-Some.key, c.in-Some.value) ∷ [])))
+    room-fewer (omega (
+      arith,
+      length-map c.loop-key.yielded lent_pair,
+      counted g c,
+      length-append c.loop-key.yielded
+          ((c.in-Some.key, c.in-Some.value) ∷ []),
+    ))
     (room c.into_iter-key-iterator.result (became g c))
 
 -- and then the pair is not refused
 not_refused : (g : Over) (c : In-Err g) → HasRoomForPairs c.args.self.now (length (map lent_pair c.loop-key.yielded) + 1) → ⊥
 not_refused g c room =
-    true≢false (sym (c.in-Err.ensures.succeeds (has_pair_room g.K.PartialEq.eq (map lent_pair c.loop-key.yielded) room c.loop-key.invariant.0 c.loop-key.invariant.1 c.in-Some.key.now)))
+    true≢false (sym (c.in-Err.ensures.succeeds (has_pair_room g.K.PartialEq.eq
+    (map lent_pair c.loop-key.yielded) room c.loop-key.invariant.0 c.loop-key.invariant.1.rooms c.in-Some.key.now)))
 
 pub returns-in-Err-clause-extends : goal.returns-in-Err-clause-extends
 returns-in-Err-clause-extends g c =
@@ -52,62 +69,59 @@ returns-in-Err-clause-extends g c =
       c.into_iter-key-iterator.result,
       c.loop-key.yielded,
       became g at,
-      c.in-Err.ensures.unchanged ∙ c.loop-key.invariant.0,
+      c.in-Err.ensures.unchanged.lists ∙ c.loop-key.invariant.0,
       ((c.in-Some.key, c.in-Some.value), c.next.new.self, given g at, ap (λ r. (r.key, r.value)) (sym c.in-Err.ensures.refused)),
     )
 
 pub returns-in-Err-clause-succeeds : goal.returns-in-Err-clause-succeeds
 returns-in-Err-clause-succeeds g c = λ room.
-    absurd (not_refused g (goal.at.returns-in-Err-clause-succeeds g c).In-Err (room_for_given g (goal.at.returns-in-Err-clause-succeeds g c).In-Some room))
-
-pub returns-in-Err-clause-had_key_room : goal.returns-in-Err-clause-had_key_room
-returns-in-Err-clause-had_key_room g c = λ room.
-    absurd (not_refused g (goal.at.returns-in-Err-clause-had_key_room g c).In-Err (room_for_given g (goal.at.returns-in-Err-clause-had_key_room g c).In-Some room))
+    absurd (not_refused g (goal.at.returns-in-Err-clause-succeeds g c).In-Err
+    (room_for_given g (goal.at.returns-in-Err-clause-succeeds g c).In-Some room))
 
 pub returns-in-Err-clause-succeeds_for_most : goal.returns-in-Err-clause-succeeds_for_most
 returns-in-Err-clause-succeeds_for_most g c = λ room.
-    absurd (not_refused g (goal.at.returns-in-Err-clause-succeeds_for_most g c).In-Err (room_for_most g (goal.at.returns-in-Err-clause-succeeds_for_most g c).In-Some room))
+    absurd (not_refused g (goal.at.returns-in-Err-clause-succeeds_for_most g c).In-Err
+    (room_for_most g (goal.at.returns-in-Err-clause-succeeds_for_most g c).In-Some room))
 
-pub returns-in-Err-clause-had_room : goal.returns-in-Err-clause-had_room
-returns-in-Err-clause-had_room g c = λ room.
-    absurd (not_refused g (goal.at.returns-in-Err-clause-had_room g c).In-Err (room_for_most g (goal.at.returns-in-Err-clause-had_room g c).In-Some room))
-
-pub returns-in-Err-clause-doubles : goal.returns-in-Err-clause-doubles
-returns-in-Err-clause-doubles g c =
-    doubles_rooms-then c.loop-key.invariant.1 c.append.ensures.rooms c.loop-key.invariant.6 c.append.ensures.had_room.doubles
+pub returns-in-Err-clause-grows : goal.returns-in-Err-clause-grows
+returns-in-Err-clause-grows g c =
+    let at = (goal.at.returns-in-Err-clause-grows g c).In-Some in
+    let e = c.in-Err.ensures.unchanged in
+    grows_on g.K.PartialEq.eq (map lent_pair c.loop-key.yielded) (room_for_given g at)
+    (room_for_most g at) c.loop-key.invariant.0 c.loop-key.invariant.1
+    e.rooms e.had_room e.taken
 
 pub loop-key-init : goal.loop-key-init
 loop-key-init g c =
     let pairs = c.into_iter-pairs in
     let reserved = c.reserve_values-reserved.ensures in (
       reserved.unchanged,
-      reserved.rooms,
-      reserved.taken,
-      λ room. reserved.keys,
-      λ room.
-          let hinted = c.size_hint.ensures.lower (c.requires pairs.result pairs.ensures.into_iter_gives).1 in
-          reserved.had_room (omega (arith, (room pairs.result pairs.ensures.into_iter_gives).values, hinted)),
+      record {
+        rooms = reserved.rooms;
+        doubles = reserved.doubles;
+        taken = reserved.taken;
+        key_room = λ room. reserved.keys;
+        had_room = λ room.
+            let hinted = c.size_hint.ensures.lower (c.requires pairs.result pairs.ensures.into_iter_gives).1 in
+            reserved.had_room (omega (arith, (room pairs.result pairs.ensures.into_iter_gives).values, hinted));
+      },
       omega arith,
-      reserved.doubles,
     )
 
 pub loop-key-preserved : goal.loop-key-preserved
 loop-key-preserved g c =
-    let at = (goal.at.loop-key-preserved g c).In-Some in (
-      c.in_default.ensures.ok
+    let at = (goal.at.loop-key-preserved g c).In-Some in
+    let e = c.in_default.ensures.ok in (
+      e.lists
           ∙ ap (λ m. appended g.K.PartialEq.eq m c.in-Some.key.now c.in-Some.value.now) c.loop-key.invariant.0
-          ∙ sym (all_appended-push g.K.PartialEq.eq c.args.self.now.lists (map lent_pair c.loop-key.yielded) c.in-Some.key.now c.in-Some.value.now)
-          ∙ ap (all_appended g.K.PartialEq.eq c.args.self.now.lists) (sym (map-append lent_pair c.loop-key.yielded ((c.in-Some.key, c.in-Some.value) ∷ []))),
-      keeps_rooms-then c.loop-key.invariant.1 c.append.ensures.rooms,
-      takes_none-then c.loop-key.invariant.2 c.append.ensures.taken,
-      λ room.
-          let one_more = has_key_room g.K.PartialEq.eq (map lent_pair c.loop-key.yielded) (room_for_given g at room) c.loop-key.invariant.0 c.loop-key.invariant.1 in
-          c.append.ensures.had_room.keys one_more ∙ c.loop-key.invariant.3 room,
-      λ room.
-          same_rooms-then g.K.PartialEq.eq (map lent_pair c.loop-key.yielded) (room_for_most g at room) c.loop-key.invariant.0 c.loop-key.invariant.1
-          (c.loop-key.invariant.4 room) c.append.ensures.had_room c.append.ensures.rooms,
+          ∙ sym (all_appended-push g.K.PartialEq.eq c.args.self.now.lists
+          (map lent_pair c.loop-key.yielded) c.in-Some.key.now c.in-Some.value.now)
+          ∙ ap (all_appended g.K.PartialEq.eq c.args.self.now.lists)
+          (sym (map-append lent_pair c.loop-key.yielded ((c.in-Some.key, c.in-Some.value) ∷ []))),
+      grows_on g.K.PartialEq.eq (map lent_pair c.loop-key.yielded) (room_for_given g at)
+          (room_for_most g at) c.loop-key.invariant.0 c.loop-key.invariant.1
+          e.rooms e.had_room e.taken,
       counted g at,
-      doubles_rooms-then c.loop-key.invariant.1 c.append.ensures.rooms c.loop-key.invariant.6 c.append.ensures.had_room.doubles,
     )
 
 pub returns-clause-extends : goal.returns-clause-extends

@@ -1,8 +1,6 @@
 use Rattle.std.proofs.Common.{◌≡◌, ◌≤◌, ◌+◌, length, map}
 use Rattle.ordered_multimap.specs.Changes.{all_appended}
-use Rattle.ordered_multimap.specs.Extends.{HasRoomForGiven, HasRoomForMost, lent_pair}
-use Rattle.ordered_multimap.specs.Rooms.{DoublesRooms, KeepsRooms, SameRooms}
-use Rattle.ordered_multimap.specs.TapeNumbers.{TakesOut}
+use Rattle.ordered_multimap.specs.Extends.{GrowsForPairs, HasRoomForGiven, HasRoomForMost, lent_pair}
 use Rattle.ordered_multimap.proofs.list_ordered_multimap.ListOrderedMultimap.extend_copied.Given as goal
 
 -- copies of the pairs that the iterator has lent were appended, and no room grew where there was
@@ -10,8 +8,6 @@ use Rattle.ordered_multimap.proofs.list_ordered_multimap.ListOrderedMultimap.ext
 abbrev pub invariant-loop-key : goal.invariant-loop-key
 invariant-loop-key g l =
     (l.self.lists ≡ all_appended g.K.PartialEq.eq l.fn.self.lists (map lent_pair l.yielded))
-    × KeepsRooms l.fn.self l.self × TakesOut 0 l.fn.self.tape l.self.tape
-    × (HasRoomForGiven g.I.IntoIterator.into_iter_gives g.I.IntoIter.Iterator.next_gives l.fn.iter l.fn.self → l.self.key_room ≡ l.fn.self.key_room)
-    × (HasRoomForMost g.I.IntoIterator.into_iter_gives g.I.IntoIter.Iterator.remaining l.fn.iter l.fn.self → SameRooms l.fn.self l.self)
+    × GrowsForPairs (HasRoomForGiven g.I.IntoIterator.into_iter_gives g.I.IntoIter.Iterator.next_gives l.fn.iter l.fn.self)
+    (HasRoomForMost g.I.IntoIterator.into_iter_gives g.I.IntoIter.Iterator.remaining l.fn.iter l.fn.self) l.fn.self l.self
     × (length l.yielded + (goal.iterator-loop-key g).remaining l.key-iterator ≤ (goal.iterator-loop-key g).remaining l.initial.key-iterator)
-    × DoublesRooms l.fn.self l.self

@@ -10,5 +10,7 @@ value_at-requires g c =
 
 pub returns : goal.returns
 returns g c =
-    subst (λ m. (k : g.row.K.Denot) → HasKey g.K.PartialEq.eq m.slots.keys k c.args.place → slice_get (values_of g.K.PartialEq.eq m.lists.pairs k) 0 ≡ Some c.value_at.result.0.now) c.self.view_is
-    (λ k has. first_value g.met.K.Eq.laws c.self.invariant.agrees k c.args.place c.slot_at.result.1 c.value_at.result.0.now has c.slot_at.ensures.link_is c.value_at.ensures.item_is)
+    subst (λ m. (k : g.row.K.Denot) → HasKey g.K.PartialEq.eq m.slots.keys k c.args.place
+    → slice_get (values_of g.K.PartialEq.eq m.lists.pairs k) 0 ≡ Some c.value_at.result.0.now) c.self.view_is
+    (λ k has. first_value g.met.K.Eq.laws c.self.invariant.agrees k c.args.place c.slot_at.result.1 c.value_at.result.0.now has
+    c.slot_at.ensures.link_is c.value_at.ensures.item_is)

@@ -20,14 +20,22 @@ pub returns : goal.returns
 returns g c =
     let i = c.self.inside in let m = c.args.self.now in let place = c.args.place in let link = c.slot_at.result.1 in
     let eq = g.K.PartialEq.eq in let laws = g.met.K.Eq.laws in let agrees = c.self.invariant.agrees in
-    let link_is : link_at m.slots.keys place ≡ Some link = ap (λ n. link_at n.slots.keys place) (sym c.self.view_is) ∙ c.slot_at.ensures.link_is in
-    let item_is : item_at i.values.list link.head ≡ Some c.value_mut_at.result.now = ap (λ n. item_at n.slots.values link.head) c.self.view_is ∙ c.value_mut_at.ensures.value in (
-      (refl {a = c.value_mut_at.result.ghost_name}, λ w. ap (λ head. with_value m head w) (sym (head_at-is m.slots.keys place link link_is))),
+    let link_is : link_at m.slots.keys place ≡ Some link = ap (λ n. link_at n.slots.keys place) (sym c.self.view_is)
+    ∙ c.slot_at.ensures.link_is in
+    let item_is : item_at i.values.list link.head ≡ Some c.value_mut_at.result.now = ap
+    (λ n. item_at n.slots.values link.head) c.self.view_is ∙ c.value_mut_at.ensures.value in (
+      (
+        refl {a = c.value_mut_at.result.ghost_name},
+        λ w. ap (λ head. with_value m head w)
+            (sym (head_at-is m.slots.keys place link link_is)),
+      ),
       record {
         writes_back = tt;
-        value = λ k. subst (λ n. HasKey eq n.slots.keys k place → slice_get (values_of eq n.lists.pairs k) 0 ≡ Some c.value_mut_at.result.now) c.self.view_is
+        value = λ k. subst (λ n. HasKey eq n.slots.keys k place
+            → slice_get (values_of eq n.lists.pairs k) 0 ≡ Some c.value_mut_at.result.now) c.self.view_is
             (λ has. first_value laws agrees k place link c.value_mut_at.result.now has c.slot_at.ensures.link_is item_is);
-        written = λ k. subst (λ n. HasKey eq n.slots.keys k place → (v : g.row.V.Denot) → IsWritten n (with_first n place v) (first_written eq n.lists k v)) c.self.view_is
+        written = λ k. subst (λ n. HasKey eq n.slots.keys k place → (v : g.row.V.Denot)
+            → IsWritten n (with_first n place v) (first_written eq n.lists k v)) c.self.view_is
             (λ has v. record {
               lists = ap (lists _) (with_first_value-head_at laws agrees k place link has c.slot_at.ensures.link_is v);
               rooms = record { keys = refl; values = refl; slots = refl; hasher = refl };

@@ -4,5 +4,5 @@ use Rattle.ordered_multimap.proofs.list_ordered_multimap.ListOrderedMultimap.ins
 
 pub returns-in_default-clause-ok : goal.returns-in_default-clause-ok
 returns-in_default-clause-ok g c =
-    (c.in_ok-append_new.ensures {u = tt}).ok
+    (c.in_ok-append_new.ensures {u = tt}).ok.lists
     ∙ inserted_lacking g.met.K.Eq.laws c.args.self.now.lists c.args.key (rw c.in_default.is at c.look_up-hash.ensures.absent) c.args.value

@@ -1,47 +1,60 @@
-use Rattle.std.proofs.Common.{◌≡◌, Some, length, slice_get, sym, subst}
+use Rattle.std.proofs.Common.{◌≡◌, Some, slice_get, sym, subst}
 use Rattle.multimap_slots.specs.Lists.{IsIn}
 use Rattle.ordered_multimap.specs.Pairs.{values_of}
 use Rattle.ordered_multimap.specs.Changes.{inserted}
 use Rattle.ordered_multimap.specs.TapeNumbers.{TakesOut, numbers_of}
-use Rattle.ordered_multimap.specs.Agrees.{HasKey, lists_of}
+use Rattle.ordered_multimap.specs.Agrees.{HasKey}
+use Rattle.ordered_multimap.specs.KeySteps.{KeepsPlace, LosesValues}
+use Rattle.ordered_multimap.proofs.LeavesLemmas.{has_chain}
+use Rattle.ordered_multimap.proofs.RoomLemmas.{map_of}
 use Rattle.ordered_multimap.proofs.LookupLemmas.{own_key}
 use Rattle.ordered_multimap.proofs.StayLemmas.{inserted_stays}
 use Rattle.ordered_multimap.proofs.AppendedLemmas.{stays_paid}
-use Rattle.ordered_multimap.proofs.InsertLemmas.{agrees-inserted, lists_of-inserted, first_of-inserted, count_of-inserted}
+use Rattle.ordered_multimap.proofs.InsertLemmas.{agrees-inserted, lists_of-inserted, first_of-inserted}
+use Rattle.ordered_multimap.proofs.TakeLemmas.{entry_count}
 use Rattle.ordered_multimap.proofs.list_ordered_multimap.ListOrderedMultimap.insert_at.Goals as goal
+
+pub insert_behind-requires-clause-stands : goal.insert_behind-requires-clause-stands
+insert_behind-requires-clause-stands g c =
+    has_chain c.self.invariant.agrees c.args.place (subst (λ m. IsIn c.args.place m.slots.keys.order) (sym c.self.view_is) c.requires)
 
 pub invariant_of-self : goal.invariant_of-self
 invariant_of-self g c =
-    let i = c.insert_behind.ensures in
-    let own = own_key g.met.K.Eq.laws c.self.invariant.agrees c.args.place (subst (λ m. IsIn c.args.place m.slots.keys.order) (sym c.self.view_is) c.requires) in
+    let i = c.insert_behind.ensures.inserted.1 in
+    let own = own_key g.met.K.Eq.laws c.self.invariant.agrees c.args.place
+    (subst (λ m. IsIn c.args.place m.slots.keys.order) (sym c.self.view_is) c.requires) in
     record {
-      agrees = agrees-inserted g.met.K.Eq.laws c.self.invariant.agrees own.0 c.args.value c.args.place own.1 i.inserted;
+      agrees = agrees-inserted g.met.K.Eq.laws c.self.invariant.agrees own.0 c.args.value c.args.place own.1 i.done;
       fits = i.fits;
       paid = stays_paid i.counts c.self.invariant.paid;
     }
 
-pub returns-clause-listed : goal.returns-clause-listed
-returns-clause-listed g c =
-    let own = own_key g.met.K.Eq.laws c.self.invariant.agrees c.args.place (subst (λ m. IsIn c.args.place m.slots.keys.order) (sym c.self.view_is) c.requires) in
-    (inserted_stays own.0 c.args.place c.insert_behind.ensures.inserted own.1).listed
-
-pub returns-clause-stays : goal.returns-clause-stays
-returns-clause-stays g c =
-    subst (λ m. (k : g.row.K.Denot) → HasKey g.K.PartialEq.eq m.slots.keys k c.args.place → HasKey g.K.PartialEq.eq c.insert_behind.new.keys k c.args.place) c.self.view_is
-    (λ k has. inserted_stays k c.args.place c.insert_behind.ensures.inserted has)
+pub returns-clause-keeps : goal.returns-clause-keeps
+returns-clause-keeps g c =
+    let i = c.insert_behind.ensures.inserted.1.done in
+    let n = c.insert_behind.new in
+    let own = own_key g.met.K.Eq.laws c.self.invariant.agrees c.args.place
+    (subst (λ m. IsIn c.args.place m.slots.keys.order) (sym c.self.view_is) c.requires) in
+    subst (λ m. KeepsPlace g.K.PartialEq.eq m (map_of n.keys c.self.inside.table.capacity n.values c.self.inside.state c.self.inside.left)
+    c.args.place) c.self.view_is
+    (record { listed = (inserted_stays own.0 c.args.place i own.1).listed; stays = λ k has. inserted_stays k c.args.place i has })
 
 pub returns-clause-value : goal.returns-clause-value
 returns-clause-value g c =
-    subst (λ m. (k : g.row.K.Denot) → HasKey g.K.PartialEq.eq m.slots.keys k c.args.place → slice_get (values_of g.K.PartialEq.eq m.lists.pairs k) 0 ≡ Some c.insert_behind.result) c.self.view_is
-    (λ k has. first_of-inserted g.met.K.Eq.laws c.self.invariant.agrees k c.args.value c.args.place has c.insert_behind.ensures.inserted)
+    subst (λ m. (k : g.row.K.Denot) → HasKey g.K.PartialEq.eq m.slots.keys k c.args.place
+    → slice_get (values_of g.K.PartialEq.eq m.lists.pairs k) 0 ≡ Some c.insert_behind.result) c.self.view_is
+    (λ k has. first_of-inserted g.met.K.Eq.laws c.self.invariant.agrees k c.args.value c.args.place has
+    c.insert_behind.ensures.inserted.1.done c.insert_behind.result c.insert_behind.ensures.inserted.1.first)
 
-pub returns-clause-lists : goal.returns-clause-lists
-returns-clause-lists g c =
-    subst (λ m. (k : g.row.K.Denot) → HasKey g.K.PartialEq.eq m.slots.keys k c.args.place → lists_of c.insert_behind.new.keys c.insert_behind.new.values.list ≡ inserted g.K.PartialEq.eq m.lists k c.args.value) c.self.view_is
-    (λ k has. lists_of-inserted g.met.K.Eq.laws c.self.invariant.agrees k c.args.value c.args.place has c.insert_behind.ensures.inserted)
-
-pub returns-clause-taken : goal.returns-clause-taken
-returns-clause-taken g c =
-    subst (λ m. (k : g.row.K.Denot) → HasKey g.K.PartialEq.eq m.slots.keys k c.args.place → TakesOut (length (values_of g.K.PartialEq.eq m.lists.pairs k)) m.tape (numbers_of c.insert_behind.new.values)) c.self.view_is
-    (λ k has. subst (λ n. TakesOut n (numbers_of c.self.inside.values) (numbers_of c.insert_behind.new.values))
-    (sym (count_of-inserted g.met.K.Eq.laws c.self.invariant.agrees k c.args.value c.args.place has c.insert_behind.ensures.inserted)) c.insert_behind.ensures.counts)
+pub returns-clause-inserted : goal.returns-clause-inserted
+returns-clause-inserted g c =
+    let i = c.insert_behind.ensures.inserted.1 in
+    let n = c.insert_behind.new in
+    subst (λ m. (k : g.row.K.Denot) → HasKey g.K.PartialEq.eq m.slots.keys k c.args.place
+    → LosesValues g.K.PartialEq.eq m (map_of n.keys c.self.inside.table.capacity n.values c.self.inside.state c.self.inside.left) k
+    (inserted g.K.PartialEq.eq m.lists k c.args.value)) c.self.view_is
+    (λ k has. record {
+      lists = lists_of-inserted g.met.K.Eq.laws c.self.invariant.agrees k c.args.value c.args.place has i.done;
+      taken = subst (λ m. TakesOut m (numbers_of c.self.inside.values) (numbers_of n.values))
+          (sym (entry_count g.met.K.Eq.laws c.self.invariant.agrees k c.args.place has)) i.counts;
+    })

@@ -1,18 +1,23 @@
-use Rattle.std.proofs.Common.{◌≡◌, length, sym, ap, ◌∙◌, subst, true≢false, refl}
+use Rattle.std.proofs.Common.{sym, subst, true≢false, refl}
 use Rattle.multimap_slots.specs.Lists.{IsIn}
-use Rattle.ordered_multimap.specs.Pairs.{values_of}
 use Rattle.ordered_multimap.specs.Changes.{inserted}
 use Rattle.ordered_multimap.specs.TapeNumbers.{TakesOut, numbers_of}
 use Rattle.ordered_multimap.specs.Rooms.{HasValueRoom, RaisesNoRoom}
-use Rattle.ordered_multimap.specs.Agrees.{HasKey, lists_of}
-use Rattle.ordered_multimap.specs.Detaches.{drained}
+use Rattle.ordered_multimap.specs.Agrees.{HasKey}
+use Rattle.ordered_multimap.specs.KeySteps.{DetachesValues, KeepsPairs}
+use Rattle.ordered_multimap.proofs.LeavesLemmas.{has_chain}
 use Rattle.ordered_multimap.proofs.LookupLemmas.{own_key}
 use Rattle.ordered_multimap.proofs.StayLemmas.{inserted_stays, renamed_stays}
 use Rattle.ordered_multimap.proofs.AppendedLemmas.{agrees_reserved, lists_reserved, stays_paid}
-use Rattle.ordered_multimap.proofs.RoomLemmas.{map_of, fits_value, on_err, raises_none_there}
-use Rattle.ordered_multimap.proofs.InsertLemmas.{agrees-inserted, lists_of-inserted, count_of-inserted}
+use Rattle.ordered_multimap.proofs.RoomLemmas.{map_of, fits_value, grows_there, on_err, raises_none}
+use Rattle.ordered_multimap.proofs.InsertLemmas.{agrees-inserted, lists_of-inserted}
+use Rattle.ordered_multimap.proofs.TakeLemmas.{entry_count}
 use Rattle.ordered_multimap.proofs.DetachedLemmas.{left-inserted}
 use Rattle.ordered_multimap.proofs.list_ordered_multimap.ListOrderedMultimap.insert_detaching_at.Goals as goal
+
+pub insert_behind_all-requires-clause-stands : goal.insert_behind_all-requires-clause-stands
+insert_behind_all-requires-clause-stands g c =
+    has_chain c.self.invariant.agrees c.args.place (subst (λ m. IsIn c.args.place m.slots.keys.order) (sym c.self.view_is) c.requires)
 
 -- refused
 
@@ -20,71 +25,90 @@ pub invariant_of-self : goal.invariant_of-self
 invariant_of-self g c =
     let u = c.in_err-left.ensures {u = tt} in
     record {
-      agrees = agrees_reserved g.met.K.Eq.laws c.self.invariant.agrees u.unchanged;
-      fits = u.fits;
-      paid = stays_paid u.no_counts c.self.invariant.paid;
+      agrees = agrees_reserved g.met.K.Eq.laws c.self.invariant.agrees u.unchanged.renamed;
+      fits = u.unchanged.fits;
+      paid = stays_paid u.unchanged.counts c.self.invariant.paid;
     }
 
 pub returns-in_err-left-clause-stays : goal.returns-in_err-left-clause-stays
 returns-in_err-left-clause-stays g c =
-    subst (λ m. (k : g.row.K.Denot) → HasKey g.K.PartialEq.eq m.slots.keys k c.args.place → HasKey g.K.PartialEq.eq c.insert_behind_all.new.keys k c.args.place) c.self.view_is
-    (λ k has. renamed_stays k c.args.place (c.in_err-left.ensures {u = tt}).unchanged has)
+    subst (λ m. (k : g.row.K.Denot) → HasKey g.K.PartialEq.eq m.slots.keys k c.args.place
+    → HasKey g.K.PartialEq.eq c.insert_behind_all.new.keys k c.args.place) c.self.view_is
+    (λ k has. renamed_stays k c.args.place (c.in_err-left.ensures {u = tt}).unchanged.renamed has)
 
 pub returns-in_err-left-clause-unchanged : goal.returns-in_err-left-clause-unchanged
 returns-in_err-left-clause-unchanged g c =
+    let u = (c.in_err-left.ensures {u = tt}).unchanged in
+    let n = c.insert_behind_all.new in
     on_err c.from_residual.result
-    (lists_reserved g.met.K.Eq.laws c.self.invariant.agrees (c.in_err-left.ensures {u = tt}).unchanged ∙ ap (λ m. m.lists) c.self.view_is)
+    (subst (λ m. KeepsPairs m (map_of n.keys c.self.inside.table.capacity n.values c.self.inside.state c.self.inside.left)) c.self.view_is
+    (record { lists = lists_reserved g.met.K.Eq.laws c.self.invariant.agrees u.renamed; taken = u.counts }))
 
 pub returns-in_err-left-clause-succeeds : goal.returns-in_err-left-clause-succeeds
 returns-in_err-left-clause-succeeds g c = λ room. absurd (true≢false (sym ((c.in_err-left.ensures {u = tt}).succeeds
-    (fits_value g.met.K.Eq.laws c.self.inside.keys c.self.inside.table.rows c.self.inside.values c.self.invariant.agrees c.self.inside.table.capacity c.self.inside.state c.self.inside.left (own_key g.met.K.Eq.laws c.self.invariant.agrees c.args.place (subst (λ m. IsIn c.args.place m.slots.keys.order) (sym c.self.view_is) c.requires)).0
+    (fits_value g.met.K.Eq.laws c.self.inside.keys c.self.inside.table.rows c.self.inside.values c.self.invariant.agrees
+    c.self.inside.table.capacity c.self.inside.state c.self.inside.left
+    (own_key g.met.K.Eq.laws c.self.invariant.agrees c.args.place
+    (subst (λ m. IsIn c.args.place m.slots.keys.order) (sym c.self.view_is) c.requires)).0
     (subst (λ m. HasValueRoom m) (sym c.self.view_is) room)))))
 
 pub returns-in_err-left-clause-had_room : goal.returns-in_err-left-clause-had_room
 returns-in_err-left-clause-had_room g c =
-    let e = c.insert_behind_all.ensures in
-    subst (λ m. (k : g.row.K.Denot) → HasKey g.K.PartialEq.eq m.slots.keys k c.args.place → RaisesNoRoom g.K.PartialEq.eq k m (map_of c.insert_behind_all.new.keys c.self.inside.table.capacity c.insert_behind_all.new.values c.self.inside.state c.self.inside.left)) c.self.view_is
-    (λ k has. raises_none_there g.met.K.Eq.laws c.self.inside.keys c.self.inside.table.rows c.self.inside.values c.self.invariant.agrees c.self.inside.table.capacity c.self.inside.state c.self.inside.left k
-    c.insert_behind_all.new.keys c.self.inside.table.capacity c.insert_behind_all.new.values c.self.inside.left e.had_room e.doubles e.keys_capacity refl)
+    let e = c.insert_behind_all.ensures.grows in
+    subst (λ m. (k : g.row.K.Denot) → HasKey g.K.PartialEq.eq m.slots.keys k c.args.place
+    → RaisesNoRoom g.K.PartialEq.eq k m (map_of c.insert_behind_all.new.keys c.self.inside.table.capacity c.insert_behind_all.new.values
+    c.self.inside.state c.self.inside.left)) c.self.view_is
+    (λ k has. raises_none (grows_there c.self.inside.keys c.self.inside.table.rows c.self.inside.values c.self.invariant.agrees
+    c.self.inside.table.capacity c.self.inside.state c.self.inside.left
+    c.insert_behind_all.new.keys c.self.inside.table.capacity c.insert_behind_all.new.values c.self.inside.left e.no_less e.had_room
+    e.doubles e.keys_capacity refl))
 
 -- stored
+
+pub returns-clause-holds : goal.returns-clause-holds
+returns-clause-holds g c = (c.in_ok-left.ensures.ok.drain refl).chain
 
 pub invariant_of-self-2 : goal.invariant_of-self-2
 invariant_of-self-2 g c =
     let e = c.in_ok-left.ensures in
-    let own = own_key g.met.K.Eq.laws c.self.invariant.agrees c.args.place (subst (λ m. IsIn c.args.place m.slots.keys.order) (sym c.self.view_is) c.requires) in
+    let own = own_key g.met.K.Eq.laws c.self.invariant.agrees c.args.place
+    (subst (λ m. IsIn c.args.place m.slots.keys.order) (sym c.self.view_is) c.requires) in
     record {
       agrees = agrees-inserted g.met.K.Eq.laws c.self.invariant.agrees own.0 c.args.value c.args.place own.1 e.ok.done;
-      fits = e.fits;
-      paid = stays_paid e.counts c.self.invariant.paid;
+      fits = e.ok.fits;
+      paid = stays_paid e.ok.counts c.self.invariant.paid;
     }
 
 pub returns-clause-stays : goal.returns-clause-stays
 returns-clause-stays g c =
-    subst (λ m. (k : g.row.K.Denot) → HasKey g.K.PartialEq.eq m.slots.keys k c.args.place → HasKey g.K.PartialEq.eq c.insert_behind_all.new.keys k c.args.place) c.self.view_is
+    subst (λ m. (k : g.row.K.Denot) → HasKey g.K.PartialEq.eq m.slots.keys k c.args.place
+    → HasKey g.K.PartialEq.eq c.insert_behind_all.new.keys k c.args.place) c.self.view_is
     (λ k has. inserted_stays k c.args.place c.in_ok-left.ensures.ok.done has)
-
-pub returns-clause-left : goal.returns-clause-left
-returns-clause-left g c =
-    subst (λ m. (k : g.row.K.Denot) → HasKey g.K.PartialEq.eq m.slots.keys k c.args.place → drained c.insert_behind_all.new.values.list c.in_ok-left.left ≡ values_of g.K.PartialEq.eq m.lists.pairs k) c.self.view_is
-    (λ k has. left-inserted g.met.K.Eq.laws c.self.invariant.agrees k c.args.value c.args.place has c.in_ok-left.ensures.ok)
 
 pub returns-clause-ok : goal.returns-clause-ok
 returns-clause-ok g c =
-    subst (λ m. (k : g.row.K.Denot) → HasKey g.K.PartialEq.eq m.slots.keys k c.args.place → lists_of c.insert_behind_all.new.keys c.insert_behind_all.new.values.list ≡ inserted g.K.PartialEq.eq m.lists k c.args.value) c.self.view_is
-    (λ k has. lists_of-inserted g.met.K.Eq.laws c.self.invariant.agrees k c.args.value c.args.place has c.in_ok-left.ensures.ok.done)
-
-pub returns-clause-taken : goal.returns-clause-taken
-returns-clause-taken g c =
-    let e = c.in_ok-left.ensures in
-    subst (λ m. (k : g.row.K.Denot) → HasKey g.K.PartialEq.eq m.slots.keys k c.args.place → TakesOut (length (values_of g.K.PartialEq.eq m.lists.pairs k)) m.tape (numbers_of c.insert_behind_all.new.values)) c.self.view_is
-    (λ k has. subst (λ n. TakesOut n (numbers_of c.self.inside.values) (numbers_of c.insert_behind_all.new.values))
-    (sym (count_of-inserted g.met.K.Eq.laws c.self.invariant.agrees k c.args.value c.args.place has e.ok.done)) e.counts)
+    let o = c.in_ok-left.ensures.ok in
+    let n = c.insert_behind_all.new in
+    subst (λ m. (k : g.row.K.Denot) → HasKey g.K.PartialEq.eq m.slots.keys k c.args.place
+    → DetachesValues g.K.PartialEq.eq m (map_of n.keys c.self.inside.table.capacity n.values c.self.inside.state c.in_ok-left.left) k
+    (inserted g.K.PartialEq.eq m.lists k c.args.value)) c.self.view_is
+    (λ k has. record {
+      left = left-inserted g.met.K.Eq.laws c.self.invariant.agrees k c.args.value c.args.place has c.in_ok-left.left o.done
+          (o.drain refl).left;
+      loses = record {
+        lists = lists_of-inserted g.met.K.Eq.laws c.self.invariant.agrees k c.args.value c.args.place has o.done;
+        taken = subst (λ m. TakesOut m (numbers_of c.self.inside.values) (numbers_of n.values))
+            (sym (entry_count g.met.K.Eq.laws c.self.invariant.agrees k c.args.place has)) o.counts;
+      };
+    })
 
 pub returns-clause-had_room : goal.returns-clause-had_room
 returns-clause-had_room g c =
-    let e = c.in_ok-left.ensures in
+    let e = c.insert_behind_all.ensures.grows in
     let n = c.insert_behind_all.new in
-    subst (λ m. (k : g.row.K.Denot) → HasKey g.K.PartialEq.eq m.slots.keys k c.args.place → RaisesNoRoom g.K.PartialEq.eq k m (map_of n.keys c.self.inside.table.capacity n.values c.self.inside.state c.in_ok-left.left)) c.self.view_is
-    (λ k has. raises_none_there g.met.K.Eq.laws c.self.inside.keys c.self.inside.table.rows c.self.inside.values c.self.invariant.agrees c.self.inside.table.capacity c.self.inside.state c.self.inside.left k
-    n.keys c.self.inside.table.capacity n.values c.in_ok-left.left e.had_room e.doubles e.keys_capacity refl)
+    subst (λ m. (k : g.row.K.Denot) → HasKey g.K.PartialEq.eq m.slots.keys k c.args.place
+    → RaisesNoRoom g.K.PartialEq.eq k m (map_of n.keys c.self.inside.table.capacity n.values c.self.inside.state c.in_ok-left.left))
+    c.self.view_is
+    (λ k has. raises_none (grows_there c.self.inside.keys c.self.inside.table.rows c.self.inside.values c.self.invariant.agrees
+    c.self.inside.table.capacity c.self.inside.state c.self.inside.left
+    n.keys c.self.inside.table.capacity n.values c.in_ok-left.left e.no_less e.had_room e.doubles e.keys_capacity refl))

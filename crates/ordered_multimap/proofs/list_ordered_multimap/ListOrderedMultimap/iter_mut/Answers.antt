@@ -11,7 +11,8 @@ returns g c = (
   record {
     writes_back = tt;
     pairs = c.new.ensures.pairs ∙ ap (λ h. h.pairs) c.lend-cells.ensures.lent.shown;
-    positions = c.new.ensures.positions ∙ positions_at-all g.met.K.Eq.laws c.lend-cells.ensures.lent.agrees ∙ ap (λ h. all_positions h.pairs) c.lend-cells.ensures.lent.shown;
+    positions = c.new.ensures.positions ∙ positions_at-all g.met.K.Eq.laws c.lend-cells.ensures.lent.agrees
+        ∙ ap (λ h. all_positions h.pairs) c.lend-cells.ensures.lent.shown;
     ends = ends_walk c.args.self.now (final g.row.V) c.new.ensures.lent c.lend-cells.ensures.ends;
   },
 )

@@ -11,5 +11,6 @@ returns-clause-own g c =
 
 pub returns-clause-stored : goal.returns-clause-stored
 returns-clause-stored g c =
-    subst (λ m. (k : g.row.K.Denot) → HasKey g.K.PartialEq.eq m.slots.keys k c.args.place → c.slot_at.result.0.now ≡ stored_key g.K.PartialEq.eq m.lists.keys k) c.self.view_is
+    subst (λ m. (k : g.row.K.Denot) → HasKey g.K.PartialEq.eq m.slots.keys k c.args.place
+    → c.slot_at.result.0.now ≡ stored_key g.K.PartialEq.eq m.lists.keys k) c.self.view_is
     (λ k has. stored_at g.met.K.Eq.laws c.self.invariant.agrees k c.args.place c.slot_at.result.0.now has c.slot_at.ensures.item_is)

@@ -16,8 +16,10 @@ returns g c =
       record {
         writes_back = tt;
         key = subst (λ keys. item_at keys place ≡ Some c.slot_at.result.0.now) lent.keys_are c.slot_at.ensures.item_is;
-        values = λ k has. c.new.ensures.values ∙ sym (values_of-chain g.met.K.Eq.laws lent.agrees k place (at k has)) ∙ ap (λ h. values_of eq h.pairs k) lent.shown;
-        positions = λ k has. c.new.ensures.positions ∙ sym (positions_of-chain g.met.K.Eq.laws lent.agrees k place (at k has)) ∙ ap (λ h. positions_of eq h.pairs k) lent.shown;
+        values = λ k has. c.new.ensures.values ∙ sym (values_of-chain g.met.K.Eq.laws lent.agrees k place (at k has))
+            ∙ ap (λ h. values_of eq h.pairs k) lent.shown;
+        positions = λ k has. c.new.ensures.positions ∙ sym (positions_of-chain g.met.K.Eq.laws lent.agrees k place (at k has))
+            ∙ ap (λ h. positions_of eq h.pairs k) lent.shown;
         ends = ends_walk c.args.self.now (final g.row.V) c.new.ensures.lent c.lend-cells.ensures.ends;
       },
     )

@@ -9,4 +9,5 @@ returns g c =
     let keys = c.self.inside.keys in
     let are_left = subst (λ m. AreLeft m.slots.keys.order c.args.ends) (sym c.self.view_is) c.requires in
     subst (λ m. c.args.ends.length ≡ length (items_left m.slots.keys.order (item_at m.slots.keys) c.args.ends)) c.self.view_is
-    (sym (length_along keys.order (item_at keys) c.args.ends (record { shown = c.self.invariant.agrees.keys_sound.filled; are_left = are_left })))
+    (sym (length_along keys.order (item_at keys) c.args.ends
+    (record { shown = c.self.invariant.agrees.keys_sound.filled; are_left = are_left })))

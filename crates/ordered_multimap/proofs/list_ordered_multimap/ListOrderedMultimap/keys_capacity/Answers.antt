@@ -5,4 +5,11 @@ use Rattle.ordered_multimap.proofs.list_ordered_multimap.ListOrderedMultimap.key
 pub returns-clause-fits : goal.returns-clause-fits
 returns-clause-fits g c =
     subst (λ m. length m.lists.keys ≤ m.key_room) c.self.view_is
-    (omega (arith, length-keys c.self.invariant.agrees, c.self.invariant.agrees.keys_sound.fits, c.self.invariant.agrees.counted, c.capacity-2.ensures.fits))
+    (omega (
+      arith,
+      length-keys
+          c.self.invariant.agrees,
+      c.self.invariant.agrees.keys_sound.fits,
+      c.self.invariant.agrees.counted,
+      c.capacity-2.ensures.fits,
+    ))

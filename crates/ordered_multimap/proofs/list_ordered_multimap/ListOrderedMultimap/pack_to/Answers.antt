@@ -5,15 +5,36 @@ use Rattle.ordered_multimap.proofs.list_ordered_multimap.ListOrderedMultimap.pac
 
 pub pack-requires-clause-key_room : goal.pack-requires-clause-key_room
 pack-requires-clause-key_room g c =
-    omega (arith, c.requires.keys, ap (λ m. length m.lists.keys) c.self.view_is, length-keys c.self.invariant.agrees, c.in_ok-storage.ensures.key_room)
+    omega (
+      arith,
+      c.requires.keys,
+      ap (λ m. length m.lists.keys) c.self.view_is,
+      length-keys
+          c.self.invariant.agrees,
+      c.in_ok-storage.ensures.key_room,
+    )
 
 pub pack-requires-clause-row_room : goal.pack-requires-clause-row_room
 pack-requires-clause-row_room g c =
-    omega (arith, c.requires.keys, ap (λ m. length m.lists.keys) c.self.view_is, length-keys c.self.invariant.agrees, c.in_ok-storage.ensures.row_room)
+    omega (
+      arith,
+      c.requires.keys,
+      ap (λ m. length m.lists.keys) c.self.view_is,
+      length-keys
+          c.self.invariant.agrees,
+      c.in_ok-storage.ensures.row_room,
+    )
 
 pub pack-requires-clause-value_room : goal.pack-requires-clause-value_room
 pack-requires-clause-value_room g c =
-    omega (arith, c.requires.values, ap (λ m. length m.lists.pairs) c.self.view_is, length-pairs c.self.invariant.agrees, c.in_ok-storage.ensures.value_room)
+    omega (
+      arith,
+      c.requires.values,
+      ap (λ m. length m.lists.pairs) c.self.view_is,
+      length-pairs
+          c.self.invariant.agrees,
+      c.in_ok-storage.ensures.value_room,
+    )
 
 pub pack-requires-clause-names : goal.pack-requires-clause-names
 pack-requires-clause-names g c =

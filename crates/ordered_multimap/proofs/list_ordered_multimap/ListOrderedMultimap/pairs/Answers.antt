@@ -4,4 +4,5 @@ use Rattle.ordered_multimap.proofs.WalkLemmas.{keys_with_values-listed}
 use Rattle.ordered_multimap.proofs.list_ordered_multimap.ListOrderedMultimap.pairs.Goals as goal
 
 pub returns : goal.returns
-returns g c = c.new.ensures.keys ∙ keys_with_values-listed c.self.invariant.agrees g.met.K.Eq.laws ∙ ap (λ m. keys_with_values g.K.PartialEq.eq m.lists) c.self.view_is
+returns g c = c.new.ensures.keys ∙ keys_with_values-listed c.self.invariant.agrees g.met.K.Eq.laws
+    ∙ ap (λ m. keys_with_values g.K.PartialEq.eq m.lists) c.self.view_is

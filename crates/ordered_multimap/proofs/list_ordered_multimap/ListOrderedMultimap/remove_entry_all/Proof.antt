@@ -6,7 +6,8 @@ use mir.MapTy.{inst_fn}
 use base.Logic.{SProp, emp, id⊢}
 use base.Fml.{Fml, GName, ftrue, fres, flft}
 use prog.Wp.{Wp, after_seq, at_return}
-use types.Kit.{‵, raw, ◌⊛◌, some, later, at_ret, any_q, ◌$◌, ◌∵◌, !, qed, by, move, keep, drop, split, join, fsplit3, fjoin, use0, use1, use2, pick, await, rewrite}
+use types.Kit.{‵, raw, ◌⊛◌, some, later, at_ret, any_q, ◌$◌, ◌∵◌, !, qed, by, move, keep, drop, split, join, fsplit3, fjoin, use0, use1}
+use types.Kit.{use2, pick, await, rewrite}
 use types.Run.{enter, of_opd, addr, stop, fld, lit, no_more, and_then, first, switches_on, exec, returns}
 use types.ByLocal.{alloc_all, pass_all, free_all, look_at, get, get_in, get_tag, through, sets, sets_last, lands_as, env}
 use types.Match.{live, vrt, in_variant}
@@ -65,93 +66,164 @@ use Rattle.ordered_multimap.specs.contracts.list_ordered_multimap.ListOrderedMul
 use Rattle.ordered_multimap.proofs.list_ordered_multimap.ListOrderedMultimap.drain.Met.{met as met₂}
 
 pub remove_entry_all_spec : {M : Type 1} → statement M
-remove_entry_all_spec 𝓤 𝓛 𝓜 𝓡 wired K V S A B LK LV LS LA LB eqs dEq pe dPe ha dHa bh dBh hg dHg al dAl dropV dropA dropB dropK mEq mPe mHa mBh mHg mAl mDropV mDropA mDropB mDropK =
+remove_entry_all_spec 𝓤 𝓛 𝓜 𝓡 wired K V S A B LK LV LS LA LB eqs dEq pe dPe ha dHa bh dBh hg dHg al dAl dropV dropA dropB dropK mEq mPe mHa
+    mBh mHg mAl mDropV mDropA mDropB mDropK =
     let H = 𝓛.H in let 𝓣 = tables 𝓤 H 𝓜 𝓡 𝓡.env in
     let Kr = param 0 K in let Vr = param 1 V in
     let R : RattleType = Map.the_row Kr Vr (param 2 S) (param 3 A) (param 4 B) pe ha bh hg al in
-    let En = f.ended K V S A B eqs dEq pe dPe ha dHa bh dBh hg dHg al dAl dropV dropA dropB dropK in let c = f.clauses K V S A B eqs dEq pe dPe ha dHa bh dBh hg dHg al dAl dropV dropA dropB dropK 𝓛 𝓜.mem 𝓡.returns in
-    let inst = bounded (a_type ∷ a_type ∷ a_type ∷ a_type ∷ a_type ∷ []) (K, (V, (S, (A, (B, tt))))) (dcons dEq (dcons dPe (dcons dHa (dcons dBh (dcons dHg (dcons dAl (dcons dropV (dcons dropA (dcons dropB (dcons dropK dnil)))))))))) in let fn = inst_fn inst code.function in
-    let hs : Stays En.signature.params En.kept = (stay_dropped (mut_ref_to (0 ∷ []) tt (plain (λ _. R))) no, (stay_dropped (RefOf (1 ∷ []) tt (plain (λ _. Kr)) (λ _. tt)) yes, tt)) in
-    proved 𝓛 En hs c 𝓜 𝓡 (Goes-spent_ref 𝓛 7 (0 ∷ []) tt (plain (λ _. R)), (Goes-dropped 𝓛 7 (RefOf (1 ∷ []) tt (plain (λ _. Kr)) (λ _. tt)) yes (λ κs x w. refl), tt)) (#self inst) fn (code.unfolded 𝓤 H 𝓜 𝓡 wired (K, (V, (S, (A, (B, tt))))) dEq dPe dHa dBh dHg dAl dropV dropA dropB dropK)
+    let En = f.ended K V S A B eqs dEq pe dPe ha dHa bh dBh hg dHg al dAl dropV dropA dropB dropK in
+    let c = f.clauses K V S A B eqs dEq pe dPe ha dHa bh dBh hg dHg al dAl dropV dropA dropB dropK 𝓛 𝓜.mem 𝓡.returns in
+    let inst = bounded (a_type ∷ a_type ∷ a_type ∷ a_type ∷ a_type ∷ []) (K, (V, (S, (A, (B, tt)))))
+    (dcons dEq (dcons dPe (dcons dHa (dcons dBh (dcons dHg
+    (dcons dAl (dcons dropV (dcons dropA (dcons dropB (dcons dropK dnil)))))))))) in let fn = inst_fn inst code.function in
+    let hs : Stays En.signature.params En.kept = (
+      stay_dropped (mut_ref_to (0 ∷ []) tt (plain (λ _. R))) no,
+      (stay_dropped (RefOf (1 ∷ []) tt (plain (λ _. Kr)) (λ _. tt)) yes, tt),
+    ) in
+    proved 𝓛 En hs c 𝓜 𝓡 (
+      Goes-spent_ref 𝓛 7 (0 ∷ []) tt (plain (λ _. R)),
+      (Goes-dropped 𝓛 7 (RefOf (1 ∷ []) tt (plain (λ _. Kr)) (λ _. tt)) yes (λ κs x w. refl), tt),
+    ) (#self inst) fn
+    (code.unfolded 𝓤 H 𝓜 𝓡 wired (K, (V, (S, (A, (B, tt))))) dEq dPe dHa dBh dHg dAl dropV dropA dropB dropK)
     (λ κs. (mut_vals, (shr_vals, tt))) (λ κs. (mut_Tells (named 0) κs.0 R, (shr_Tells (named 1) κs.1.0 Kr, tt))) (λ κs qs bounds a gh are.
-    let y : (walk_of 𝓛 En hs c).Ghost = ((κs, qs, bounds, a, (mut_vals a.0, (shr_vals a.1.0, tt))), gh) in let Post : Val → SProp 𝓤 = (walk_of 𝓛 En hs c).post y in
-    let ℓ = named_lft 7 0 tt κs in let γ = a.0.ghost_name in let m₀ = a.0.now in let key = a.1.0.now in let values = values_of pe.eq m₀.lists.pairs key in
+    let y : (walk_of 𝓛 En hs c).Ghost = ((κs, qs, bounds, a, (mut_vals a.0, (shr_vals a.1.0, tt))), gh) in let Post : Val
+    → SProp 𝓤 = (walk_of 𝓛 En hs c).post y in
+    let ℓ = named_lft 7 0 tt κs in let γ = a.0.ghost_name in let m₀ = a.0.now in let key = a.1.0.now in
+    let values = values_of pe.eq m₀.lists.pairs key in
     let stored = option_map (λ _. stored_key pe.eq m₀.lists.keys key) (slice_get values 0) in
-    let LKr : Laws Kr = param_laws 0 K LK in let O : RattleType = Opt Kr in let LO : Laws O = Opt-laws Kr LKr in let Me : RattleType = MutRef (named 0) κs.0 R in let Q : RattleType = Tuple (O ∷ Me ∷ []) in
-    let Dr : RattleType = Drain.the_row ℓ Kr Vr (param 2 S) (param 3 A) (param 4 B) pe ha bh hg al in let LDr : Laws Dr = Drain-laws.the_row_laws ℓ Kr Vr (param 2 S) (param 3 A) (param 4 B) pe ha bh hg al LKr (param_laws 1 V LV) (param_laws 2 S LS) (param_laws 3 A LA) (param_laws 4 B LB) in
+    let LKr : Laws Kr = param_laws 0 K LK in let O : RattleType = Opt Kr in let LO : Laws O = Opt-laws Kr LKr in
+    let Me : RattleType = MutRef (named 0) κs.0 R in let Q : RattleType = Tuple (O ∷ Me ∷ []) in
+    let Dr : RattleType = Drain.the_row ℓ Kr Vr (param 2 S) (param 3 A) (param 4 B) pe ha bh hg al in
+    let LDr : Laws Dr = Drain-laws.the_row_laws ℓ Kr Vr (param 2 S) (param 3 A) (param 4 B) pe ha bh hg al LKr (param_laws 1 V LV)
+    (param_laws 2 S LS) (param_laws 3 A LA) (param_laws 4 B LB) in
     let Tw : RattleType = Tuple (Kr ∷ Dr ∷ []) in let Out : RattleType = Opt Tw in
-    let inK : Type 0 = κs.1.1.0 ⊑ K.lives in let inV : Type 0 = κs.1.1.1.0 ⊑ V.lives in let inS : Type 0 = κs.1.1.1.1.0 ⊑ S.lives in let inA : Type 0 = κs.1.1.1.1.1.0 ⊑ A.lives in let inB : Type 0 = κs.1.1.1.1.1.1.0 ⊑ B.lives in
+    let inK : Type 0 = κs.1.1.0 ⊑ K.lives in let inV : Type 0 = κs.1.1.1.0 ⊑ V.lives in let inS : Type 0 = κs.1.1.1.1.0 ⊑ S.lives in
+    let inA : Type 0 = κs.1.1.1.1.1.0 ⊑ A.lives in let inB : Type 0 = κs.1.1.1.1.1.1.0 ⊑ B.lives in
     let others = raw (toks 𝓛 5 κs.1.1 qs.1.1) in let alive = ‵ (flft κs.0 qs.0) ⊛ ‵ (flft κs.1.0 qs.1.0) ⊛ others in
     let Rest : Out.Denot → Fml = λ out. ends_removed Kr Vr (param 2 S) (param 3 A) (param 4 B) pe ha bh hg al a.0 out in
-    let HasKey : Out.Denot → Type 0 = λ out. option_map (λ x. x.0) out ≡ stored in let Drains : Out.Denot → Type 0 = λ out. IfSome out (λ x. DrainsEntry pe.eq m₀ key x.1) in let Same : Out.Denot → Type 0 = λ out. IfSome out (λ x. x.1.map.ghost_name ≡ γ) in
-    let Shows : Out.Denot → R.Denot → R.Denot → Type 0 = λ out w n. OnSome out (n ≡ w) in let Keeps : Out.Denot → R.Denot → Type 0 = λ out n. IfNone out (KeepsListed m₀ n) in
-    let G₁ = triple_of 𝓛 (g₁.signature K V S A B eqs dEq pe dPe ha dHa bh dBh hg dHg al dAl dropA dropB) (g₁.spec K V S A B eqs dEq pe dPe ha dHa bh dBh hg dHg al dAl dropA dropB 𝓛 𝓜.mem 𝓡.returns) in
+    let HasKey : Out.Denot → Type 0 = λ out. option_map (λ x. x.0) out ≡ stored in let Drains : Out.Denot
+    → Type 0 = λ out. IfSome out (λ x. DrainsEntry pe.eq m₀ key x.1) in let Same : Out.Denot
+    → Type 0 = λ out. IfSome out (λ x. x.1.map.ghost_name ≡ γ) in
+    let Shows : Out.Denot → R.Denot → R.Denot → Type 0 = λ out w n. OnSome out (n ≡ w) in let Keeps : Out.Denot → R.Denot
+    → Type 0 = λ out n. IfNone out (KeepsListed m₀ n) in
+    let G₁ = triple_of 𝓛 (g₁.signature K V S A B eqs dEq pe dPe ha dHa bh dBh hg dHg al dAl dropA dropB)
+    (g₁.spec K V S A B eqs dEq pe dPe ha dHa bh dBh hg dHg al dAl dropA dropB 𝓛 𝓜.mem 𝓡.returns) in
     let z₁ : G₁.Ghost = ((κs, qs, bounds, a, (mut_vals a.0, (shr_vals a.1.0, tt))), gh) in
-    qed 𝓛 (raw (on_entry 𝓛 En.signature κs qs a (mut_vals a.0, (shr_vals a.1.0, tt))) ∷ (raw (fact 𝓤 inK) ⊛ raw (fact 𝓤 inV) ⊛ raw (fact 𝓤 inS) ⊛ raw (fact 𝓤 inA) ⊛ raw (fact 𝓤 inB) ⊛ ‵ ftrue) ∷ []) ∵
-    move ! (1 ∷ []) $ split ! $ heard ! inK (λ k. split ! $ heard ! inV (λ w. split ! $ heard ! inS (λ st. split ! $ heard ! inA (λ ap'. split ! $ heard ! inB (λ bo. drop ! $
-    nothing ! $ use0 𝓛 (raw (fact 𝓤 inB)) (fact_i 𝓤 inB (emp 𝓤) bo) $ join ! $ use0 𝓛 (raw (fact 𝓤 inA)) (fact_i 𝓤 inA (emp 𝓤) ap') $ join ! $ use0 𝓛 (raw (fact 𝓤 inS)) (fact_i 𝓤 inS (emp 𝓤) st) $ join ! $ use0 𝓛 (raw (fact 𝓤 inV)) (fact_i 𝓤 inV (emp 𝓤) w) $ join ! $ use0 𝓛 (raw (fact 𝓤 inK)) (fact_i 𝓤 inK (emp 𝓤) k) $ join ! $
+    qed 𝓛 (raw (on_entry 𝓛 En.signature κs qs a (mut_vals a.0, (shr_vals a.1.0, tt))) ∷
+    (raw (fact 𝓤 inK) ⊛ raw (fact 𝓤 inV) ⊛ raw (fact 𝓤 inS) ⊛ raw (fact 𝓤 inA) ⊛ raw (fact 𝓤 inB) ⊛ ‵ ftrue) ∷ []) ∵
+    move ! (1 ∷ []) $ split ! $ heard ! inK (λ k. split ! $
+    heard ! inV (λ w. split ! $ heard ! inS (λ st. split ! $ heard ! inA (λ ap'. split ! $ heard ! inB (λ bo. drop ! $
+    nothing ! $ use0 𝓛 (raw (fact 𝓤 inB)) (fact_i 𝓤 inB (emp 𝓤) bo) $ join ! $ use0 𝓛 (raw (fact 𝓤 inA)) (fact_i 𝓤 inA (emp 𝓤) ap') $
+    join ! $ use0 𝓛 (raw (fact 𝓤 inS)) (fact_i 𝓤 inS (emp 𝓤) st) $ join ! $ use0 𝓛 (raw (fact 𝓤 inV)) (fact_i 𝓤 inV (emp 𝓤) w) $
+    join ! $ use0 𝓛 (raw (fact 𝓤 inK)) (fact_i 𝓤 inK (emp 𝓤) k) $ join ! $
     move ! (1 ∷ 0 ∷ []) $ use2 𝓛 (raw (G₁.pre z₁)) (id⊢ 𝓤 _) $
-    enter ! 𝓣.C 𝓣.Λ fn (vptr a.0.ref_ptr.0 a.0.ref_ptr.1 ∷ vptr a.1.0.ref_ptr.0 a.1.0.ref_ptr.1 ∷ []) Post $ alloc_all ! (λ l. pass_all ! refl ((tt, tt), ((tt, tt), tt)) $ let Ev = env fn.locals l in
-    let arms : Body = head (after 4 fn.body) in let Then = any_q (after_seq 𝓤 H (Wp 𝓤 H 𝓣.C 𝓣.Λ Ev (after 5 fn.body) (at_return 𝓤 H Ev Post)) (at_return 𝓤 H Ev Post)) in
+    enter ! 𝓣.C 𝓣.Λ fn (vptr a.0.ref_ptr.0 a.0.ref_ptr.1 ∷ vptr a.1.0.ref_ptr.0 a.1.0.ref_ptr.1 ∷ []) Post $
+    alloc_all ! (λ l. pass_all ! refl ((tt, tt), ((tt, tt), tt)) $ let Ev = env fn.locals l in
+    let arms : Body = head (after 4 fn.body) in let Then = any_q
+    (after_seq 𝓤 H (Wp 𝓤 H 𝓣.C 𝓣.Λ Ev (after 5 fn.body) (at_return 𝓤 H Ev Post)) (at_return 𝓤 H Ev Post)) in
     sets ! (addr ! (through ! refl (stop !))) refl (tt, tt) $
-    calls_at ! (framed 𝓤 H 𝓜 𝓣) G₁ (met₁ 𝓤 𝓛 𝓜 𝓡 (code.calls-ordered_multimap::list_ordered_multimap::ListOrderedMultimap::detach_all_on 𝓡.env wired) K V S A B LK LV LS LA LB eqs dEq pe dPe ha dHa bh dBh hg dHg al dAl dropA dropB mEq mPe mHa mBh mHg mAl mDropA mDropB) z₁
+    calls_at ! (framed 𝓤 H 𝓜 𝓣) G₁ (met₁ 𝓤 𝓛 𝓜 𝓡 (code.calls-ordered_multimap::list_ordered_multimap::ListOrderedMultimap::detach_all_on
+    𝓡.env wired) K V S A B LK LV LS LA LB eqs dEq pe dPe ha dHa bh dBh hg dHg al dAl dropA dropB mEq mPe mHa mBh mHg mAl mDropA mDropB)
+    z₁
     (and_then ! (get ! refl) (and_then ! (get ! refl) (no_more !))) (λ v.
     use1 𝓛 (later (some (λ (r : Q.Denot). (alive ⊛ ‵ (Q.own_val r (v ∷ []))) ⊛
-    some (λ (ws : Lasts (g₁.ended K V S A B eqs dEq pe dPe ha dHa bh dBh hg dHg al dAl dropA dropB) κs a). ‵ (lasts (g₁.ended K V S A B eqs dEq pe dPe ha dHa bh dBh hg dHg al dAl dropA dropB) κs a ws) ⊛
-    raw (fact 𝓤 (r.1.ghost_name ≡ γ)) ⊛ raw (fact 𝓤 (HoldsDrain r.1.now)) ⊛ raw (fact 𝓤 (left_of r.1.now ≡ values)) ⊛ raw (fact 𝓤 (r.0 ≡ stored)) ⊛ raw (fact 𝓤 (r.1.now.lists ≡ removed pe.eq m₀.lists key)) ⊛
-    raw (fact 𝓤 (SameRooms m₀ r.1.now)) ⊛ raw (fact 𝓤 (TakesOut (length values) m₀.tape r.1.now.tape)) ⊛ raw (fact 𝓤 (IfNone r.0 (KeepsListed m₀ r.1.now))))))) (id⊢ 𝓤 _) $
+    some (λ (ws : Lasts (g₁.ended K V S A B eqs dEq pe dPe ha dHa bh dBh hg dHg al dAl dropA dropB) κs a). ‵
+    (lasts (g₁.ended K V S A B eqs dEq pe dPe ha dHa bh dBh hg dHg al dAl dropA dropB) κs a ws) ⊛
+    raw (fact 𝓤 (r.1.ghost_name ≡ γ)) ⊛ raw (fact 𝓤 (HoldsDrain r.1.now)) ⊛ raw (fact 𝓤 (left_of r.1.now ≡ values)) ⊛ raw
+    (fact 𝓤 (r.0 ≡ stored)) ⊛ raw (fact 𝓤 (r.1.now.lists ≡ removed pe.eq m₀.lists key)) ⊛
+    raw (fact 𝓤 (SameRooms m₀ r.1.now)) ⊛ raw (fact 𝓤 (TakesOut (length values) m₀.tape r.1.now.tape)) ⊛ raw
+    (fact 𝓤 (IfNone r.0 (KeepsListed m₀ r.1.now))))))) (id⊢ 𝓤 _) $
     await ! tt $ pick ! (λ r. split ! $ split ! $ move ! (2 ∷ []) $ pick ! (λ ws. split ! $ drop ! $
-    split ! $ heard ! (r.1.ghost_name ≡ γ) (λ same. split ! $ heard ! (HoldsDrain r.1.now) (λ holds. split ! $ heard ! (left_of r.1.now ≡ values) (λ left. split ! $ heard ! (r.0 ≡ stored) (λ key_is. split ! $ heard ! (r.1.now.lists ≡ removed pe.eq m₀.lists key) (λ lists.
-    split ! $ heard ! (SameRooms m₀ r.1.now) (λ rooms. split ! $ heard ! (TakesOut (length values) m₀.tape r.1.now.tape) (λ taken. heard ! (IfNone r.0 (KeepsListed m₀ r.1.now)) (λ absent.
+    split ! $ heard ! (r.1.ghost_name ≡ γ) (λ same. split ! $
+    heard ! (HoldsDrain r.1.now) (λ holds. split ! $
+    heard ! (left_of r.1.now ≡ values) (λ left. split ! $
+    heard ! (r.0 ≡ stored) (λ key_is. split ! $ heard ! (r.1.now.lists ≡ removed pe.eq m₀.lists key) (λ lists.
+    split ! $ heard ! (SameRooms m₀ r.1.now) (λ rooms. split ! $
+    heard ! (TakesOut (length values) m₀.tape r.1.now.tape) (λ taken. heard ! (IfNone r.0 (KeepsListed m₀ r.1.now)) (λ absent.
     -- [the tokens; the stored key, with the map]
-    move ! (1 ∷ []) $ pair_out O Me ! LO.one (LO.lawful 𝓛) refl (mut_Lawful 𝓛 (named 0) κs.0 R) r.0 r.1 (v ∷ []) (λ x m gx gm is. move ! (1 ∷ []) $ peeks ! Me (Is Me) (shows 𝓛 Me) r.1 (m ∷ []) (λ im.
+    move ! (1 ∷ []) $ pair_out O Me ! LO.one (LO.lawful 𝓛) refl (mut_Lawful 𝓛 (named 0) κs.0 R) r.0 r.1 (v ∷ [])
+    (λ x m gx gm is. move ! (1 ∷ []) $ peeks ! Me (Is Me) (shows 𝓛 Me) r.1 (m ∷ []) (λ im.
     let em : m ∷ [] ≡ mut_vals r.1 = mut_Tells (named 0) κs.0 R r.1 (m ∷ []) im in
     rewrite ! 0 (λ (us : List Val). ‵ (Me.own_val r.1 us)) em refl $ move ! (1 ∷ []) $
     option_out Kr ! LKr.one (LKr.lawful 𝓛) r.0 (x ∷ [])
     (λ no_key no_val.
     -- [the map; the tokens]
     let kept : KeepsListed m₀ r.1.now = subst (λ o. IfNone o (KeepsListed m₀ r.1.now)) no_key absent in
-    let out : Out.Denot = None in let none : Val = live 0 vnil in let good : Good (layout Out) none = (tt, (record { fits = lit< tt }, tt)) in
-    lands_as ! (ap only is ∙ ap (λ u. both u m) (ap only no_val) ∙ ap (both none) (ap only em)) refl (both_typed (layout O) (layout Me) none (vptr r.1.ref_ptr.0 r.1.ref_ptr.1) (tt, (record { fits = lit< tt }, tt)) (tt, tt)) $
-    sets ! (of_opd ! (get_in ! (fld ! refl (stop !)) (sub ! 0 refl (whole !)))) refl (tt, (record { fits = lit< tt }, tt)) $ sets ! (of_opd ! (get_in ! (fld ! refl (stop !)) (sub ! 1 refl (whole !)))) refl (tt, tt) $
+    let out : Out.Denot = None in let none : Val = live 0 vnil in
+    let good : Good (layout Out) none = (tt, (record { fits = lit< tt }, tt)) in
+    lands_as ! (ap only is ∙ ap (λ u. both u m) (ap only no_val) ∙ ap (both none) (ap only em)) refl
+    (both_typed (layout O) (layout Me) none (vptr r.1.ref_ptr.0 r.1.ref_ptr.1) (tt, (record { fits = lit< tt }, tt)) (tt, tt)) $
+    sets ! (of_opd ! (get_in ! (fld ! refl (stop !)) (sub ! 0 refl (whole !)))) refl (tt, (record { fits = lit< tt }, tt)) $
+    sets ! (of_opd ! (get_in ! (fld ! refl (stop !)) (sub ! 1 refl (whole !)))) refl (tt, tt) $
     first ! $ switches_on ! (get_tag ! (vrt ! refl (fld ! refl (stop !))) (whole !)) $ exec ! 𝓣.C 𝓣.Λ Ev (arm_body 1 arms) Then $
-    sets_last ! (agg ! (and_then ! (lit ! tt) (no_more !))) refl good $ exec ! 𝓣.C 𝓣.Λ Ev (after 5 fn.body) (at_ret Ev Post) $ sets ! (of_opd ! (get ! refl)) refl good $
+    sets_last ! (agg ! (and_then ! (lit ! tt) (no_more !))) refl good $ exec ! 𝓣.C 𝓣.Λ Ev (after 5 fn.body) (at_ret Ev Post) $
+    sets ! (of_opd ! (get ! refl)) refl good $
     fsplit3 ! $ drop ! $ name_done ! tt $ rewrite ! 0 (λ (δ : GName). ‵ (fres δ (R.coded.code r.1.now))) same refl $
     use1 𝓛 (‵ (Rest out)) (so_none 𝓛 R R γ γ (Shows out) (Keeps out) (λ w. w) r.1.now (λ w. tt) kept) $
     -- [the map rests; its borrow; the tokens]
-    use0 𝓛 (raw (fact 𝓤 (Same out))) (fact_i 𝓤 (Same out) (emp 𝓤) tt) $ use0 𝓛 (raw (fact 𝓤 (Drains out))) (fact_i 𝓤 (Drains out) (emp 𝓤) tt) $ join ! $ use0 𝓛 (raw (fact 𝓤 (HasKey out))) (fact_i 𝓤 (HasKey out) (emp 𝓤) (sym no_key ∙ key_is)) $ join ! $
-    move ! (1 ∷ 0 ∷ []) $ join ! $ use0 𝓛 (‵ (Out.own_val out (none ∷ []))) (none_of 𝓛 Tw) $ nothing ! $ nothing ! $ fjoin ! $ nothing ! $ fjoin ! $
-    returns ! (look_at ! 0 refl) $ free_all ! refl $ keep ! (4 ∷ 0 ∷ 1 ∷ 2 ∷ []) $ by ! (leaves 𝓛 En hs c y none out (tt, (tt, tt)) (tt, (tt, tt))))
+    use0 𝓛 (raw (fact 𝓤 (Same out))) (fact_i 𝓤 (Same out) (emp 𝓤) tt) $
+    use0 𝓛 (raw (fact 𝓤 (Drains out))) (fact_i 𝓤 (Drains out) (emp 𝓤) tt) $ join ! $
+    use0 𝓛 (raw (fact 𝓤 (HasKey out))) (fact_i 𝓤 (HasKey out) (emp 𝓤) (sym no_key ∙ key_is)) $ join ! $
+    move ! (1 ∷ 0 ∷ []) $ join ! $ use0 𝓛 (‵ (Out.own_val out (none ∷ []))) (none_of 𝓛 Tw) $ nothing ! $ nothing ! $ fjoin ! $ nothing ! $
+    fjoin ! $
+    returns ! (look_at ! 0 refl) $ free_all ! refl $ keep ! (4 ∷ 0 ∷ 1 ∷ 2 ∷ []) $
+    by ! (leaves 𝓛 En hs c y none out (tt, (tt, tt)) (tt, (tt, tt))))
     (λ k₀ i some_key gi some_val.
     -- [the stored key; the map; the tokens]
     let held : Val = live 1 (vcons i vnil) in let good : Good (layout O) held = (and_tt _ gi.0, (record { fits = lit< tt }, (gi.1, tt))) in
-    lands_as ! (ap only is ∙ ap (λ u. both u m) (ap only some_val) ∙ ap (both held) (ap only em)) refl (both_typed (layout O) (layout Me) held (vptr r.1.ref_ptr.0 r.1.ref_ptr.1) good (tt, tt)) $
-    sets ! (of_opd ! (get_in ! (fld ! refl (stop !)) (sub ! 0 refl (whole !)))) refl good $ sets ! (of_opd ! (get_in ! (fld ! refl (stop !)) (sub ! 1 refl (whole !)))) refl (tt, tt) $
+    lands_as ! (ap only is ∙ ap (λ u. both u m) (ap only some_val) ∙ ap (both held) (ap only em)) refl
+    (both_typed (layout O) (layout Me) held (vptr r.1.ref_ptr.0 r.1.ref_ptr.1) good (tt, tt)) $
+    sets ! (of_opd ! (get_in ! (fld ! refl (stop !)) (sub ! 0 refl (whole !)))) refl good $
+    sets ! (of_opd ! (get_in ! (fld ! refl (stop !)) (sub ! 1 refl (whole !)))) refl (tt, tt) $
     first ! $ switches_on ! (get_tag ! (vrt ! refl (fld ! refl (stop !))) (whole !)) $ exec ! 𝓣.C 𝓣.Λ Ev (arm_body 0 arms) Then $
-    sets ! (of_opd ! (get_in ! (vrt ! refl (fld ! refl (stop !))) (in_variant ! 1 0 refl refl (whole !)))) refl gi $ sets ! (of_opd ! (get ! refl)) refl gi $ sets ! (addr ! (through ! refl (stop !))) refl (tt, tt) $
-    let G₂ = triple_of 𝓛 (g₂.signature K V S A B eqs dEq pe dPe ha dHa bh dBh hg dHg al dAl dropV dropA dropB) (g₂.spec K V S A B eqs dEq pe dPe ha dHa bh dBh hg dHg al dAl dropV dropA dropB 𝓛 𝓜.mem 𝓡.returns) in
-    let z₂ : G₂.Ghost = (((κs.0, κs.1.1), (qs.0, qs.1.1), (bounds.0, (bounds.1.0, (bounds.1.1.0, (bounds.1.1.1.0, tt)))), (r.1, tt), (mut_vals r.1, tt)), tt) in
+    sets ! (of_opd ! (get_in ! (vrt ! refl (fld ! refl (stop !))) (in_variant ! 1 0 refl refl (whole !)))) refl gi $
+    sets ! (of_opd ! (get ! refl)) refl gi $ sets ! (addr ! (through ! refl (stop !))) refl (tt, tt) $
+    let G₂ = triple_of 𝓛 (g₂.signature K V S A B eqs dEq pe dPe ha dHa bh dBh hg dHg al dAl dropV dropA dropB)
+    (g₂.spec K V S A B eqs dEq pe dPe ha dHa bh dBh hg dHg al dAl dropV dropA dropB 𝓛 𝓜.mem 𝓡.returns) in
+    let z₂ : G₂.Ghost = (
+      (
+        (κs.0, κs.1.1),
+        (qs.0, qs.1.1),
+        (bounds.0, (bounds.1.0, (bounds.1.1.0, (bounds.1.1.1.0, tt)))),
+        (r.1, tt),
+        (mut_vals r.1, tt),
+      ),
+      tt,
+    ) in
     let alive₂ = ‵ (flft κs.0 qs.0) ⊛ others in
-    move ! (2 ∷ []) $ split ! $ move ! (1 ∷ []) $ split ! $ move ! (2 ∷ 1 ∷ []) $ join ! $ nothing ! $ move ! (4 ∷ 0 ∷ []) $ fjoin ! $ move ! (1 ∷ 0 ∷ []) $ join ! $
-    use0 𝓛 (raw (fact 𝓤 (HoldsDrain r.1.now))) (fact_i 𝓤 (HoldsDrain r.1.now) (emp 𝓤) holds) $ use0 𝓛 (raw (fact 𝓤 inB)) (fact_i 𝓤 inB (emp 𝓤) bo) $ join ! $ use0 𝓛 (raw (fact 𝓤 inA)) (fact_i 𝓤 inA (emp 𝓤) ap') $ join ! $ use0 𝓛 (raw (fact 𝓤 inS)) (fact_i 𝓤 inS (emp 𝓤) st) $ join ! $ use0 𝓛 (raw (fact 𝓤 inV)) (fact_i 𝓤 inV (emp 𝓤) w) $ join ! $ use0 𝓛 (raw (fact 𝓤 inK)) (fact_i 𝓤 inK (emp 𝓤) k) $ join ! $
+    move ! (2 ∷ []) $ split ! $ move ! (1 ∷ []) $ split ! $ move ! (2 ∷ 1 ∷ []) $ join ! $ nothing ! $ move ! (4 ∷ 0 ∷ []) $ fjoin ! $
+    move ! (1 ∷ 0 ∷ []) $ join ! $
+    use0 𝓛 (raw (fact 𝓤 (HoldsDrain r.1.now))) (fact_i 𝓤 (HoldsDrain r.1.now) (emp 𝓤) holds) $
+    use0 𝓛 (raw (fact 𝓤 inB)) (fact_i 𝓤 inB (emp 𝓤) bo) $ join ! $ use0 𝓛 (raw (fact 𝓤 inA)) (fact_i 𝓤 inA (emp 𝓤) ap') $ join ! $
+    use0 𝓛 (raw (fact 𝓤 inS)) (fact_i 𝓤 inS (emp 𝓤) st) $ join ! $ use0 𝓛 (raw (fact 𝓤 inV)) (fact_i 𝓤 inV (emp 𝓤) w) $ join ! $
+    use0 𝓛 (raw (fact 𝓤 inK)) (fact_i 𝓤 inK (emp 𝓤) k) $ join ! $
     move ! (1 ∷ 0 ∷ []) $ use2 𝓛 (raw (G₂.pre z₂)) (id⊢ 𝓤 _) $
-    calls_at ! (framed 𝓤 H 𝓜 𝓣) G₂ (met₂ 𝓤 𝓛 𝓜 𝓡 (code.calls-ordered_multimap::list_ordered_multimap::ListOrderedMultimap::drain 𝓡.env wired) K V S A B LK LV LS LA LB eqs dEq pe dPe ha dHa bh dBh hg dHg al dAl dropV dropA dropB mEq mPe mHa mBh mHg mAl mDropV mDropA mDropB) z₂
+    calls_at ! (framed 𝓤 H 𝓜 𝓣) G₂ (met₂ 𝓤 𝓛 𝓜 𝓡 (code.calls-ordered_multimap::list_ordered_multimap::ListOrderedMultimap::drain 𝓡.env
+    wired) K V S A B LK LV LS LA LB eqs dEq pe dPe ha dHa bh dBh hg dHg al dAl dropV dropA dropB mEq mPe mHa mBh mHg mAl mDropV mDropA
+    mDropB) z₂
     (and_then ! (get ! refl) (no_more !)) (λ v₂.
     use1 𝓛 (later (some (λ (d : Dr.Denot). (alive₂ ⊛ ‵ (Dr.own_val d (v₂ ∷ []))) ⊛
-    some (λ (ws₂ : Lasts (g₂.ended K V S A B eqs dEq pe dPe ha dHa bh dBh hg dHg al dAl dropV dropA dropB) (κs.0, κs.1.1) (r.1, tt)). ‵ (lasts (g₂.ended K V S A B eqs dEq pe dPe ha dHa bh dBh hg dHg al dAl dropV dropA dropB) (κs.0, κs.1.1) (r.1, tt) ws₂) ⊛
+    some (λ (ws₂ : Lasts (g₂.ended K V S A B eqs dEq pe dPe ha dHa bh dBh hg dHg al dAl dropV dropA dropB) (κs.0, κs.1.1) (r.1, tt)). ‵
+    (lasts (g₂.ended K V S A B eqs dEq pe dPe ha dHa bh dBh hg dHg al dAl dropV dropA dropB) (κs.0, κs.1.1) (r.1, tt) ws₂) ⊛
     raw (fact 𝓤 (d.map.ghost_name ≡ r.1.ghost_name)) ⊛ raw (fact 𝓤 (d.map.now ≡ r.1.now)))))) (id⊢ 𝓤 _) $
-    await ! tt $ pick ! (λ d. split ! $ split ! $ move ! (2 ∷ []) $ pick ! (λ ws₂. split ! $ drop ! $ split ! $ heard ! (d.map.ghost_name ≡ r.1.ghost_name) (λ again. heard ! (d.map.now ≡ r.1.now) (λ now.
+    await ! tt $ pick ! (λ d. split ! $ split ! $ move ! (2 ∷ []) $
+    pick ! (λ ws₂. split ! $ drop ! $ split ! $ heard ! (d.map.ghost_name ≡ r.1.ghost_name)
+    (λ again. heard ! (d.map.now ≡ r.1.now) (λ now.
     -- [the tokens but the key's; the drain; the key's token; the stored key]
     split ! $ move ! (3 ∷ 1 ∷ []) $ join ! $ move ! (1 ∷ 0 ∷ []) $ join ! $
-    move ! (1 ∷ []) $ peeks ! Dr (Is Dr) (shows 𝓛 Dr) d (v₂ ∷ []) (λ id. let gd = ((LDr.lawful 𝓛).typed d (v₂ ∷ []) id).0 in lands_as ! refl refl gd $
+    move ! (1 ∷ []) $ peeks ! Dr (Is Dr) (shows 𝓛 Dr) d (v₂ ∷ [])
+    (λ id. let gd = ((LDr.lawful 𝓛).typed d (v₂ ∷ []) id).0 in lands_as ! refl refl gd $
     -- [the drain; the tokens; the stored key]
     move ! (2 ∷ 0 ∷ []) $ pair_in Kr Dr ! k₀ d i v₂ $ let u : Val = both i v₂ in let gu = both_typed (layout Kr) (layout Dr) i v₂ gi gd in
-    let out : Out.Denot = Some (k₀, d) in let made : Val = live 1 (vcons u vnil) in let fits : Good (layout Out) made = (and_tt _ gu.0, (record { fits = lit< tt }, (gu.1, tt))) in
+    let out : Out.Denot = Some (k₀, d) in let made : Val = live 1 (vcons u vnil) in
+    let fits : Good (layout Out) made = (and_tt _ gu.0, (record { fits = lit< tt }, (gu.1, tt))) in
     sets ! (agg ! (and_then ! (get ! refl) (and_then ! (get ! refl) (no_more !)))) refl gu $
-    sets_last ! (agg ! (and_then ! (lit ! tt) (and_then ! (get ! refl) (no_more !)))) refl fits $ exec ! 𝓣.C 𝓣.Λ Ev (after 5 fn.body) (at_ret Ev Post) $ sets ! (of_opd ! (get ! refl)) refl fits $
+    sets_last ! (agg ! (and_then ! (lit ! tt) (and_then ! (get ! refl) (no_more !)))) refl fits $
+    exec ! 𝓣.C 𝓣.Λ Ev (after 5 fn.body) (at_ret Ev Post) $ sets ! (of_opd ! (get ! refl)) refl fits $
     use1 𝓛 (‵ (Out.own_val out (made ∷ []))) (Some-of 𝓛 Tw (k₀, d) u) $
     -- [the result; the tokens]
-    use0 𝓛 (‵ (follows R R γ γ (λ n. n))) (follows_itself 𝓛 R γ) $ rewrite ! 0 (λ (δ : GName). ‵ (follows R R γ δ (λ n. n))) (sym (again ∙ same)) refl $
+    use0 𝓛 (‵ (follows R R γ γ (λ n. n))) (follows_itself 𝓛 R γ) $
+    rewrite ! 0 (λ (δ : GName). ‵ (follows R R γ δ (λ n. n))) (sym (again ∙ same)) refl $
     use1 𝓛 (‵ (Rest out)) (so_some 𝓛 R R γ d.map.ghost_name (Shows out) (Keeps out) (λ n. n) m₀ (λ n. refl) tt) $
     let drains : DrainsEntry pe.eq m₀ key d = record {
       left = ap left_of now ∙ left;
@@ -159,7 +231,10 @@ remove_entry_all_spec 𝓤 𝓛 𝓜 𝓡 wired K V S A B LK LV LS LA LB eqs dEq
       rooms = subst (λ n. SameRooms m₀ n) (sym now) rooms;
       taken = subst (λ n. TakesOut (length values) m₀.tape n.tape) (sym now) taken;
     } in
-    use0 𝓛 (raw (fact 𝓤 (Same out))) (fact_i 𝓤 (Same out) (emp 𝓤) (again ∙ same)) $ use0 𝓛 (raw (fact 𝓤 (Drains out))) (fact_i 𝓤 (Drains out) (emp 𝓤) drains) $ join ! $ use0 𝓛 (raw (fact 𝓤 (HasKey out))) (fact_i 𝓤 (HasKey out) (emp 𝓤) (sym some_key ∙ key_is)) $ join ! $
+    use0 𝓛 (raw (fact 𝓤 (Same out))) (fact_i 𝓤 (Same out) (emp 𝓤) (again ∙ same)) $
+    use0 𝓛 (raw (fact 𝓤 (Drains out))) (fact_i 𝓤 (Drains out) (emp 𝓤) drains) $ join ! $
+    use0 𝓛 (raw (fact 𝓤 (HasKey out))) (fact_i 𝓤 (HasKey out) (emp 𝓤) (sym some_key ∙ key_is)) $ join ! $
     -- [the facts; the map follows; the result; the tokens]
     move ! (1 ∷ 0 ∷ []) $ join ! $ nothing ! $ nothing ! $ fjoin ! $ nothing ! $ fjoin ! $
-    returns ! (look_at ! 0 refl) $ free_all ! refl $ keep ! (3 ∷ 0 ∷ 2 ∷ 1 ∷ []) $ by ! (leaves 𝓛 En hs c y made out (tt, (tt, tt)) (tt, (tt, tt))))))))))))))))))))))))))))))
+    returns ! (look_at ! 0 refl) $ free_all ! refl $ keep ! (3 ∷ 0 ∷ 2 ∷ 1 ∷ []) $
+    by ! (leaves 𝓛 En hs c y made out (tt, (tt, tt)) (tt, (tt, tt))))))))))))))))))))))))))))))

@@ -7,20 +7,29 @@ use Rattle.ordered_multimap.proofs.list_ordered_multimap.ListOrderedMultimap.res
 
 pub returns-clause-room : goal.returns-clause-room
 returns-clause-room g c =
-    subst (λ m. OnOk c.make_key_room.result (length m.lists.keys + c.args.additional ≤ (map_of c.make_key_room.new.keys c.make_key_room.new.table.capacity c.self.inside.values c.self.inside.state c.self.inside.left).key_room)) c.self.view_is
-    (on_ok_weaker c.make_key_room.result (keys_fit c.self.inside.keys c.self.inside.values c.self.invariant.agrees c.self.inside.table.capacity c.self.inside.state c.self.inside.left c.args.additional c.make_key_room.ensures.same_keys) c.make_key_room.ensures.room)
+    subst (λ m. OnOk c.make_key_room.result (length m.lists.keys + c.args.additional ≤
+    (map_of c.make_key_room.new.keys c.make_key_room.new.table.capacity c.self.inside.values c.self.inside.state
+    c.self.inside.left).key_room)) c.self.view_is
+    (on_ok_weaker c.make_key_room.result (keys_fit c.self.inside.keys c.self.inside.values c.self.invariant.agrees
+    c.self.inside.table.capacity c.self.inside.state c.self.inside.left c.args.additional c.make_key_room.ensures.same_keys)
+    c.make_key_room.ensures.room)
 
 pub returns-clause-succeeds : goal.returns-clause-succeeds
 returns-clause-succeeds g c =
     subst (λ m. length m.lists.keys + c.args.additional ≤ m.key_room → IsOk c.make_key_room.result) c.self.view_is
-    (λ few. c.make_key_room.ensures.succeeds (fits_keys c.self.inside.keys c.self.inside.values c.self.invariant.agrees c.self.inside.table.capacity c.self.inside.state c.self.inside.left c.args.additional few))
+    (λ few. c.make_key_room.ensures.succeeds (fits_keys c.self.inside.keys c.self.inside.values c.self.invariant.agrees
+    c.self.inside.table.capacity c.self.inside.state c.self.inside.left c.args.additional few))
 
 pub returns-clause-had_room : goal.returns-clause-had_room
 returns-clause-had_room g c =
-    subst (λ m. length m.lists.keys + c.args.additional ≤ m.key_room → SameRooms m (map_of c.make_key_room.new.keys c.make_key_room.new.table.capacity c.self.inside.values c.self.inside.state c.self.inside.left)) c.self.view_is
-    (same_key_rooms c.self.inside.keys c.self.inside.values c.self.invariant.agrees c.self.inside.table.capacity c.self.inside.state c.self.inside.left c.args.additional c.make_key_room.ensures.grows)
+    subst (λ m. length m.lists.keys + c.args.additional ≤ m.key_room
+    → SameRooms m (map_of c.make_key_room.new.keys c.make_key_room.new.table.capacity c.self.inside.values c.self.inside.state
+    c.self.inside.left)) c.self.view_is
+    (same_key_rooms c.self.inside.keys c.self.inside.values c.self.invariant.agrees c.self.inside.table.capacity c.self.inside.state
+    c.self.inside.left c.args.additional c.make_key_room.ensures.grows)
 
 pub returns-clause-doubles : goal.returns-clause-doubles
 returns-clause-doubles g c =
-    subst (λ m. DoublesRooms m (map_of c.make_key_room.new.keys c.make_key_room.new.table.capacity c.self.inside.values c.self.inside.state c.self.inside.left)) c.self.view_is
+    subst (λ m. DoublesRooms m (map_of c.make_key_room.new.keys c.make_key_room.new.table.capacity c.self.inside.values c.self.inside.state
+    c.self.inside.left)) c.self.view_is
     (record { keys = c.make_key_room.ensures.grows.doubles; values = λ more. absurd (omega (arith, more)) })

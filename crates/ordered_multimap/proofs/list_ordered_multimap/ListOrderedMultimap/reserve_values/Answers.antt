@@ -16,20 +16,28 @@ invariant_of-self g c =
 
 pub returns-clause-room : goal.returns-clause-room
 returns-clause-room g c =
-    subst (λ m. OnOk c.reserve.result (length m.lists.pairs + c.args.additional ≤ (map_of c.self.inside.keys c.self.inside.table.capacity c.reserve.new.self c.self.inside.state c.self.inside.left).value_room)) c.self.view_is
-    (on_ok_weaker c.reserve.result (values_fit c.self.inside.keys c.self.inside.values c.self.invariant.agrees c.self.inside.table.capacity c.self.inside.state c.self.inside.left c.args.additional c.reserve.ensures.unchanged) c.reserve.ensures.room)
+    subst (λ m. OnOk c.reserve.result (length m.lists.pairs + c.args.additional ≤
+    (map_of c.self.inside.keys c.self.inside.table.capacity c.reserve.new.self c.self.inside.state c.self.inside.left).value_room))
+    c.self.view_is
+    (on_ok_weaker c.reserve.result (values_fit c.self.inside.keys c.self.inside.values c.self.invariant.agrees c.self.inside.table.capacity
+    c.self.inside.state c.self.inside.left c.args.additional c.reserve.ensures.unchanged) c.reserve.ensures.room)
 
 pub returns-clause-succeeds : goal.returns-clause-succeeds
 returns-clause-succeeds g c =
     subst (λ m. length m.lists.pairs + c.args.additional ≤ m.value_room → IsOk c.reserve.result) c.self.view_is
-    (λ few. c.reserve.ensures.succeeds (fits_values c.self.inside.keys c.self.inside.values c.self.invariant.agrees c.self.inside.table.capacity c.self.inside.state c.self.inside.left c.args.additional few))
+    (λ few. c.reserve.ensures.succeeds (fits_values c.self.inside.keys c.self.inside.values c.self.invariant.agrees
+    c.self.inside.table.capacity c.self.inside.state c.self.inside.left c.args.additional few))
 
 pub returns-clause-had_room : goal.returns-clause-had_room
 returns-clause-had_room g c =
-    subst (λ m. length m.lists.pairs + c.args.additional ≤ m.value_room → SameRooms m (map_of c.self.inside.keys c.self.inside.table.capacity c.reserve.new.self c.self.inside.state c.self.inside.left)) c.self.view_is
-    (same_value_rooms c.self.inside.keys c.self.inside.values c.self.invariant.agrees c.self.inside.table.capacity c.self.inside.state c.self.inside.left c.args.additional c.reserve.ensures.had_room)
+    subst (λ m. length m.lists.pairs + c.args.additional ≤ m.value_room
+    → SameRooms m (map_of c.self.inside.keys c.self.inside.table.capacity c.reserve.new.self c.self.inside.state c.self.inside.left))
+    c.self.view_is
+    (same_value_rooms c.self.inside.keys c.self.inside.values c.self.invariant.agrees c.self.inside.table.capacity c.self.inside.state
+    c.self.inside.left c.args.additional c.reserve.ensures.had_room)
 
 pub returns-clause-doubles : goal.returns-clause-doubles
 returns-clause-doubles g c =
-    subst (λ m. DoublesRooms m (map_of c.self.inside.keys c.self.inside.table.capacity c.reserve.new.self c.self.inside.state c.self.inside.left)) c.self.view_is
+    subst (λ m. DoublesRooms m (map_of c.self.inside.keys c.self.inside.table.capacity c.reserve.new.self c.self.inside.state
+    c.self.inside.left)) c.self.view_is
     (record { keys = λ more. absurd (omega (arith, more)); values = half_doubles _ _ c.reserve.ensures.doubles })

@@ -10,7 +10,7 @@ invariant_of-self g c =
     let t = c.retain_pairs.ensures in
     record {
       agrees = t.agrees _ c.self.invariant.agrees;
-      fits = omega (arith, t.fewer, c.self.invariant.fits, ap (λ n. n / 2) t.values_capacity);
+      fits = omega (arith, t.fewer, c.self.invariant.fits, ap (λ n. n / 2) t.room.value_room);
       paid = stays_paid t.counts c.self.invariant.paid;
     }
 
@@ -19,7 +19,8 @@ returns-clause-taken g c =
     let t = c.retain_pairs.ensures in
     let after = length-pairs (t.agrees _ c.self.invariant.agrees) in
     let before = length-pairs c.self.invariant.agrees in
-    subst (λ m. TakesOut (length m.lists.pairs - length (pairs_of c.retain_pairs.new.keys c.retain_pairs.new.values.list)) m.tape (numbers_of c.retain_pairs.new.values)) c.self.view_is
+    subst (λ m. TakesOut (length m.lists.pairs - length (pairs_of c.retain_pairs.new.keys c.retain_pairs.new.values.list)) m.tape
+    (numbers_of c.retain_pairs.new.values)) c.self.view_is
     (record { freed = omega (arith, t.counts.freed, after, before); paid = omega (arith, t.counts.paid, after, before) })
 
 pub returns-clause-fewer : goal.returns-clause-fewer

@@ -7,58 +7,64 @@ use Rattle.ordered_multimap.specs.TapeNumbers.{numbers_of}
 use Rattle.ordered_multimap.specs.Agrees.{lists_of}
 use Rattle.ordered_multimap.proofs.AppendedLemmas.{stays_paid}
 use Rattle.ordered_multimap.proofs.RoomLemmas.{map_of}
-use Rattle.ordered_multimap.proofs.PopLemmas.{end_listed, none_at_end, popped-none, popped_pair-none, leaves, takes_one_out, takes_none_out, fits-pair}
+use Rattle.ordered_multimap.proofs.LeavesLemmas.{has_pair}
+use Rattle.ordered_multimap.proofs.PopLemmas.{end_listed, none_at_end, popped-none, popped_pair-none, leaves, takes_one_out, takes_none_out}
+use Rattle.ordered_multimap.proofs.PopLemmas.{fits-pair}
 use Rattle.ordered_multimap.proofs.list_ordered_multimap.ListOrderedMultimap.take_end.Goals as goal
 
-pub take_pair-requires-clause-listed : goal.take_pair-requires-clause-listed
-take_pair-requires-clause-listed g c =
-    end_listed c.args.end c.self.inside.values.list.order c.in-Some.place (sym c.end_place.ensures ∙ c.in-Some.is)
-
-pub take_pair-requires-clause-row : goal.take_pair-requires-clause-row
-take_pair-requires-clause-row g c =
-    λ l k is key_is.
-    let listed = end_listed c.args.end c.self.inside.values.list.order c.in-Some.place (sym c.end_place.ensures ∙ c.in-Some.is) in
-    c.self.invariant.agrees.in_table l.key k (c.self.invariant.agrees.chained.owned c.in-Some.place l listed is) key_is
+pub take_pair_at-requires : goal.take_pair_at-requires
+take_pair_at-requires g c =
+    has_pair c.self.invariant.agrees c.in-Some.place
+    (end_listed c.args.end c.self.inside.values.list.order c.in-Some.place (sym c.end_place.ensures ∙ c.in-Some.is))
 
 -- a pair at the end
 
 pub invariant_of-self : goal.invariant_of-self
 invariant_of-self g c =
-    let t = c.take_pair.ensures in
-    let left = leaves g.met.K.Eq.laws c.self.invariant.agrees c.args.end c.in-Some.place (sym c.end_place.ensures ∙ c.in-Some.is) t.keys_capacity t.values_capacity c.take_pair.result t.taken in
+    let t = c.take_pair_at.ensures in
+    let left = leaves g.met.K.Eq.laws c.self.invariant.agrees c.args.end c.in-Some.place
+    (sym c.end_place.ensures ∙ c.in-Some.is) c.take_pair_at.result t.takes in
     record {
       agrees = left.agrees;
-      fits = fits-pair c.self.inside.keys c.take_pair.new.keys c.self.inside.table.rows c.take_pair.new.table.rows c.self.inside.values c.take_pair.new.values c.in-Some.place c.take_pair.result t.taken t.values_capacity c.self.invariant.fits;
-      paid = stays_paid (takes_one_out c.self.inside.values c.take_pair.new.values t.frees _ left.some) c.self.invariant.paid;
+      fits = fits-pair c.self.inside.keys c.take_pair_at.new.keys c.self.inside.table.rows c.take_pair_at.new.table.rows
+          c.self.inside.values c.take_pair_at.new.values c.in-Some.place c.take_pair_at.result t.takes t.room.value_room
+          c.self.invariant.fits;
+      paid = stays_paid (takes_one_out c.self.inside.values c.take_pair_at.new.values t.frees _ left.some) c.self.invariant.paid;
     }
 
 pub returns-in-Some-clause-popped : goal.returns-in-Some-clause-popped
 returns-in-Some-clause-popped g c =
-    let t = c.take_pair.ensures in
-    let left = leaves g.met.K.Eq.laws c.self.invariant.agrees c.args.end c.in-Some.place (sym c.end_place.ensures ∙ c.in-Some.is) t.keys_capacity t.values_capacity c.take_pair.result t.taken in
-    subst (λ m. IsPopped g.K.PartialEq.eq c.args.end m (map_of c.take_pair.new.keys c.take_pair.new.table.capacity c.take_pair.new.values c.self.inside.state c.self.inside.left)) c.self.view_is
+    let t = c.take_pair_at.ensures in
+    let left = leaves g.met.K.Eq.laws c.self.invariant.agrees c.args.end c.in-Some.place
+    (sym c.end_place.ensures ∙ c.in-Some.is) c.take_pair_at.result t.takes in
+    subst (λ m. IsPopped g.K.PartialEq.eq c.args.end m
+    (map_of c.take_pair_at.new.keys c.take_pair_at.new.table.capacity c.take_pair_at.new.values c.self.inside.state c.self.inside.left))
+    c.self.view_is
     (record {
       lists = left.lists_are;
       rooms = record {
-        keys = λ i. min (t.keys_capacity i) (t.rows_capacity i);
-        values = ap (λ n. n / 2) t.values_capacity;
-        slots = t.values_capacity;
+        keys = λ i. min (t.room.key_room i) (t.room.row_room i);
+        values = ap (λ n. n / 2) t.room.value_room;
+        slots = t.room.value_room;
         hasher = refl;
       };
-      taken = takes_one_out c.self.inside.values c.take_pair.new.values t.frees _ left.some;
+      taken = takes_one_out c.self.inside.values c.take_pair_at.new.values t.frees _ left.some;
     })
 
 pub returns-in-Some-clause-taken : goal.returns-in-Some-clause-taken
 returns-in-Some-clause-taken g c =
-    let t = c.take_pair.ensures in
-    let left = leaves g.met.K.Eq.laws c.self.invariant.agrees c.args.end c.in-Some.place (sym c.end_place.ensures ∙ c.in-Some.is) t.keys_capacity t.values_capacity c.take_pair.result t.taken in
-    subst (λ m. IsTaken c.take_pair.new.keys (popped_pair g.K.PartialEq.eq c.args.end m.lists.pairs) (Some c.take_pair.result)) c.self.view_is left.is_taken
+    let t = c.take_pair_at.ensures in
+    let left = leaves g.met.K.Eq.laws c.self.invariant.agrees c.args.end c.in-Some.place
+    (sym c.end_place.ensures ∙ c.in-Some.is) c.take_pair_at.result t.takes in
+    subst (λ m. IsTaken c.take_pair_at.new.keys (popped_pair g.K.PartialEq.eq c.args.end m.lists.pairs) (Some c.take_pair_at.result))
+    c.self.view_is left.is_taken
 
 -- no pair
 
 pub returns-in-None-clause-popped : goal.returns-in-None-clause-popped
 returns-in-None-clause-popped g c =
-    let none = none_at_end (pair_at c.self.inside.keys c.self.inside.values.list) c.args.end c.self.inside.values.list.order (sym c.end_place.ensures ∙ c.in-None.is) in
+    let none = none_at_end (pair_at c.self.inside.keys c.self.inside.values.list) c.args.end c.self.inside.values.list.order
+    (sym c.end_place.ensures ∙ c.in-None.is) in
     subst (λ m. IsPopped g.K.PartialEq.eq c.args.end m m) c.self.view_is
     (record {
       lists = sym (popped-none g.K.PartialEq.eq c.args.end (lists_of c.self.inside.keys c.self.inside.values.list) none);
@@ -68,6 +74,8 @@ returns-in-None-clause-popped g c =
 
 pub returns-in-None-clause-taken : goal.returns-in-None-clause-taken
 returns-in-None-clause-taken g c =
-    let none = none_at_end (pair_at c.self.inside.keys c.self.inside.values.list) c.args.end c.self.inside.values.list.order (sym c.end_place.ensures ∙ c.in-None.is) in
+    let none = none_at_end (pair_at c.self.inside.keys c.self.inside.values.list) c.args.end c.self.inside.values.list.order
+    (sym c.end_place.ensures ∙ c.in-None.is) in
     subst (λ m. IsTaken m.slots.keys (popped_pair g.K.PartialEq.eq c.args.end m.lists.pairs) None) c.self.view_is
-    (subst (λ p. IsTaken c.self.inside.keys p None) (sym (popped_pair-none g.K.PartialEq.eq c.args.end (pairs_of c.self.inside.keys c.self.inside.values.list) none)) tt)
+    (subst (λ p. IsTaken c.self.inside.keys p None)
+    (sym (popped_pair-none g.K.PartialEq.eq c.args.end (pairs_of c.self.inside.keys c.self.inside.values.list) none)) tt)

@@ -27,14 +27,16 @@ pub returns-clause-holds : goal.returns-clause-holds
 returns-clause-holds g c =
     let i = c.self.inside in
     first_rest i.left ∣ subst HoldsDrain (sym c.self.view_is) c.requires ∣₁ (i.left.length - 1) (omega arith)
-    c.get_detached.result.1 c.unwrap_or-self-inside.result c.get_detached.ensures.link_is c.unwrap_or-self-inside.ensures c.take_detached.ensures.taken
+    c.get_detached.result.1 c.unwrap_or-self-inside.result c.get_detached.ensures.link_is c.unwrap_or-self-inside.ensures
+    c.take_detached.ensures.taken
 
 pub returns-clause-first : goal.returns-clause-first
 returns-clause-first g c =
     let i = c.self.inside in
     ap left_of (sym c.self.view_is)
     ∙ first_given i.left ∣ subst HoldsDrain (sym c.self.view_is) c.requires ∣₁ (i.left.length - 1) (omega arith)
-    c.get_detached.result.1 c.unwrap_or-self-inside.result c.get_detached.ensures.link_is c.unwrap_or-self-inside.ensures c.take_detached.ensures.taken
+    c.get_detached.result.1 c.unwrap_or-self-inside.result c.get_detached.ensures.link_is c.unwrap_or-self-inside.ensures
+    c.take_detached.ensures.taken
 
 pub returns-clause-kept : goal.returns-clause-kept
 returns-clause-kept g c =

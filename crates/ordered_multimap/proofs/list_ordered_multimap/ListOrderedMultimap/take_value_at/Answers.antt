@@ -1,5 +1,9 @@
-use Rattle.std.proofs.Common.{◌≡◌, subst}
+use Rattle.std.proofs.Common.{◌≡◌, sym, subst}
+use Rattle.multimap_slots.specs.Lists.{IsIn}
 use Rattle.ordered_multimap.specs.Agrees.{HasKey, lists_of}
+use Rattle.ordered_multimap.specs.KeySteps.{KeepsPlace}
+use Rattle.ordered_multimap.proofs.LookupLemmas.{own_key}
+use Rattle.ordered_multimap.proofs.RoomLemmas.{map_of}
 use Rattle.ordered_multimap.specs.RemovedAt.{removed_at, value_beside}
 use Rattle.ordered_multimap.proofs.AppendedLemmas.{stays_paid}
 use Rattle.ordered_multimap.proofs.TakeAtLemmas.{agrees-at, fits-at, lists_of-at, stays-at, value_is-at}
@@ -9,22 +13,34 @@ pub invariant_of-self : goal.invariant_of-self
 invariant_of-self g c =
     let t = c.take_at.ensures in
     record {
-      agrees = agrees-at c.self.invariant.agrees c.args.place c.args.index c.take_at.new.keys c.take_at.new.values.list c.take_at.result t.taken t.values_capacity;
-      fits = fits-at c.self.inside.keys c.take_at.new.keys c.args.place c.args.index c.self.inside.values c.take_at.new.values c.take_at.result t.taken t.values_capacity c.self.invariant.fits;
+      agrees = agrees-at c.self.invariant.agrees c.args.place c.args.index c.take_at.new.keys c.take_at.new.values.list c.take_at.result
+          t.taken;
+      fits = fits-at c.self.inside.keys c.take_at.new.keys c.args.place c.args.index c.self.inside.values c.take_at.new.values
+          c.take_at.result t.taken c.self.invariant.fits;
       paid = stays_paid t.counts c.self.invariant.paid;
     }
 
-pub returns-clause-stays : goal.returns-clause-stays
-returns-clause-stays g c =
-    subst (λ m. (k : g.row.K.Denot) → HasKey g.K.PartialEq.eq m.slots.keys k c.args.place → HasKey g.K.PartialEq.eq c.take_at.new.keys k c.args.place) c.self.view_is
-    (λ k has. stays-at c.self.inside.keys c.take_at.new.keys c.args.place c.args.index c.self.inside.values.list c.take_at.new.values.list c.take_at.result c.take_at.ensures.taken k c.args.place has)
+pub returns-clause-keeps : goal.returns-clause-keeps
+returns-clause-keeps g c =
+    let n = c.take_at.new in
+    let stays = stays-at c.self.inside.keys n.keys c.args.place c.args.index c.self.inside.values.list n.values.list c.take_at.result
+    c.take_at.ensures.taken in
+    let own = own_key g.met.K.Eq.laws c.self.invariant.agrees c.args.place
+    (subst (λ m. IsIn c.args.place m.slots.keys.order) (sym c.self.view_is) c.requires) in
+    subst (λ m. KeepsPlace g.K.PartialEq.eq m (map_of n.keys c.self.inside.table.capacity n.values c.self.inside.state c.self.inside.left)
+    c.args.place) c.self.view_is
+    (record { listed = (stays own.0 c.args.place own.1).listed; stays = λ k has. stays k c.args.place has })
 
 pub returns-clause-value : goal.returns-clause-value
 returns-clause-value g c =
-    subst (λ m. (k : g.row.K.Denot) → HasKey g.K.PartialEq.eq m.slots.keys k c.args.place → c.take_at.result ≡ value_beside g.K.PartialEq.eq m.lists.pairs k c.args.index) c.self.view_is
-    (λ k has. value_is-at c.self.invariant.agrees c.args.place c.args.index c.take_at.new.keys c.take_at.new.values.list g.met.K.Eq.laws k has c.take_at.result c.take_at.ensures.taken)
+    subst (λ m. (k : g.row.K.Denot) → HasKey g.K.PartialEq.eq m.slots.keys k c.args.place
+    → c.take_at.result ≡ value_beside g.K.PartialEq.eq m.lists.pairs k c.args.index) c.self.view_is
+    (λ k has. value_is-at c.self.invariant.agrees c.args.place c.args.index c.take_at.new.keys c.take_at.new.values.list g.met.K.Eq.laws k
+    has c.take_at.result c.take_at.ensures.taken)
 
 pub returns-clause-lists : goal.returns-clause-lists
 returns-clause-lists g c =
-    subst (λ m. (k : g.row.K.Denot) → HasKey g.K.PartialEq.eq m.slots.keys k c.args.place → lists_of c.take_at.new.keys c.take_at.new.values.list ≡ removed_at g.K.PartialEq.eq m.lists k c.args.index) c.self.view_is
-    (λ k has. lists_of-at c.self.invariant.agrees c.args.place c.args.index c.take_at.new.keys c.take_at.new.values.list g.met.K.Eq.laws k has c.take_at.result c.take_at.ensures.taken)
+    subst (λ m. (k : g.row.K.Denot) → HasKey g.K.PartialEq.eq m.slots.keys k c.args.place
+    → lists_of c.take_at.new.keys c.take_at.new.values.list ≡ removed_at g.K.PartialEq.eq m.lists k c.args.index) c.self.view_is
+    (λ k has. lists_of-at c.self.invariant.agrees c.args.place c.args.index c.take_at.new.keys c.take_at.new.values.list g.met.K.Eq.laws k
+    has c.take_at.result c.take_at.ensures.taken)

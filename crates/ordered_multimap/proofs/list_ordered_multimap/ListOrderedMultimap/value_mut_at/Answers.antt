@@ -17,8 +17,13 @@ returns g c =
       (
         refl {a = c.get_listed_mut.result.ghost_name},
         λ w.
-            multimap-with_item c.self.invariant.agrees at listed (min i.keys.capacity i.table.capacity) (i.values.list.capacity / 2) i.state (numbers_of i.values) i.left w
+            multimap-with_item c.self.invariant.agrees at listed (min i.keys.capacity i.table.capacity) (i.values.list.capacity / 2) i.state
+            (numbers_of i.values) i.left w
             ∙ ap (λ m. with_value m at w) c.self.view_is,
       ),
-      record { writes_back = tt; value = ap (λ m. item_at m.slots.values at) (sym c.self.view_is) ∙ c.get_listed_mut.ensures.value.item_is },
+      record {
+        writes_back = tt;
+        value = ap (λ m. item_at m.slots.values at) (sym c.self.view_is)
+            ∙ c.get_listed_mut.ensures.value.item_is;
+      },
     )

@@ -4,4 +4,5 @@ use Rattle.ordered_multimap.proofs.DrainLemmas.{chain_of-drained}
 use Rattle.ordered_multimap.proofs.list_ordered_multimap.ListOrderedMultimap.values_left.Goals as goal
 
 pub new_detached-requires : goal.new_detached-requires
-new_detached-requires g c = let i = c.self.inside in chain_of-drained i.values.list i.left (subst HoldsDrain (sym c.self.view_is) c.requires)
+new_detached-requires g c = let i = c.self.inside in
+    chain_of-drained i.values.list i.left (subst HoldsDrain (sym c.self.view_is) c.requires)

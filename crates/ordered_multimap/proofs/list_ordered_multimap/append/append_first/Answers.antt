@@ -9,7 +9,8 @@ push_only-requires-clause-listed g c = new_listed c.push_row-place.ensures.pushe
 pub returns-clause-found : goal.returns-clause-found
 returns-clause-found g c =
     let p = c.push_row-place.ensures.pushed.key_pushed in
-    subst (λ s. HasItem s c.push_row-place.result c.args.key) (sym c.push_only.ensures.pushed.keys_are) (record { listed = new_listed p; item_is = p.item_is })
+    subst (λ s. HasItem s c.push_row-place.result c.args.key) (sym c.push_only.ensures.pushed.keys_are)
+    (record { listed = new_listed p; item_is = p.item_is })
 
 pub returns-clause-ok : goal.returns-clause-ok
 returns-clause-ok g c = record {

@@ -9,7 +9,8 @@ use Rattle.ordered_multimap.proofs.list_ordered_multimap.clone.append_clones.Giv
 
 abbrev pub invariant-loop-key : goal.invariant-loop-key
 invariant-loop-key g l = record {
-  cloning : IsCloning g.met.K.Eq.laws g.K.Clone.is_clone g.V.Clone.is_clone (built_from g.K.PartialEq.eq l.fn.left) l.key-iterator l.copy.lists;
+  cloning : IsCloning g.met.K.Eq.laws g.K.Clone.is_clone g.V.Clone.is_clone
+      (built_from g.K.PartialEq.eq l.fn.left) l.key-iterator l.copy.lists;
   keys : (k c : g.row.K.Denot) → IsIn k (keys_of l.key-iterator) → g.K.Clone.is_clone k c → g.K.PartialEq.eq k c ≡ true;
   none : l.fn.left ≡ [] → l.key-iterator ≡ [];
   rooms : KeepsRooms l.fn.copy l.copy;

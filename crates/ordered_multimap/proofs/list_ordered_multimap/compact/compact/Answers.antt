@@ -2,7 +2,8 @@ use Rattle.std.proofs.Common.{◌≡◌, map, length, refl, sym, ap, ◌∙◌, 
 use Rattle.multimap_slots.specs.Lists.{IsIn, next_of}
 use Rattle.ordered_multimap.specs.Renames.{places_below, renamed}
 use Rattle.ordered_multimap.proofs.RenameLemmas.{keys_sound-renamed, chained-renamed}
-use Rattle.ordered_multimap.proofs.CompactLemmas.{settled-start, settled-next, next-listed, next-holes, settled-stay, settled-move, settled-end, settled-all, renamed-room, renames-then, renames-cut}
+use Rattle.ordered_multimap.proofs.CompactLemmas.{settled-start, settled-next, next-listed, next-holes, settled-stay, settled-move}
+use Rattle.ordered_multimap.proofs.CompactLemmas.{settled-end, settled-all, renamed-room, renames-then, renames-cut}
 use Rattle.std.proofs.lemmas.List.{length-map}
 use Rattle.ordered_multimap.proofs.list_ordered_multimap.compact.compact.Goals as goal
 use Rattle.ordered_multimap.proofs.list_ordered_multimap.compact.compact.Goals.{then-to-from, else-to-from}
@@ -32,14 +33,17 @@ move_value-requires-clause-chained g c =
 pub move_value-requires-clause-listed : goal.move_value-requires-clause-listed
 move_value-requires-clause-listed g c =
     let w = c.loop-to.invariant in
-    let x = settled-next c.loop-to.values.list.order c.loop-to.to c.loop-to.following w.settled (omega (arith, w.same_length, c.loop-to-test.true)) c.len-len.ensures.rises in
+    let x = settled-next c.loop-to.values.list.order c.loop-to.to c.loop-to.following w.settled
+    (omega (arith, w.same_length, c.loop-to-test.true)) c.len-len.ensures.rises in
     let from_is : c.unwrap_or-from.result ≡ x.from = c.unwrap_or-from.ensures ∙ ap (λ o. unwrap_or o c.loop-to.to) x.is in
-    subst (λ p. IsIn p c.loop-to.values.list.order) (sym from_is) (next-listed c.loop-to.values.list.order c.loop-to.to c.loop-to.following x)
+    subst (λ p. IsIn p c.loop-to.values.list.order) (sym from_is)
+    (next-listed c.loop-to.values.list.order c.loop-to.to c.loop-to.following x)
 
 pub move_value-requires-clause-holes : goal.move_value-requires-clause-holes
 move_value-requires-clause-holes g c =
     let w = c.loop-to.invariant in
-    let x = settled-next c.loop-to.values.list.order c.loop-to.to c.loop-to.following w.settled (omega (arith, w.same_length, c.loop-to-test.true)) c.len-len.ensures.rises in
+    let x = settled-next c.loop-to.values.list.order c.loop-to.to c.loop-to.following w.settled
+    (omega (arith, w.same_length, c.loop-to-test.true)) c.len-len.ensures.rises in
     let from_is : c.unwrap_or-from.result ≡ x.from = c.unwrap_or-from.ensures ∙ ap (λ o. unwrap_or o c.loop-to.to) x.is in
     λ q above below. next-holes c.loop-to.values.list.order c.loop-to.to c.loop-to.following x q above (omega (arith, below, from_is))
 
@@ -47,7 +51,8 @@ pub loop-to-preserved : goal.loop-to-preserved
 loop-to-preserved g c =
     let w = c.loop-to.invariant in
     let order = c.loop-to.values.list.order in
-    let x = settled-next order c.loop-to.to c.loop-to.following w.settled (omega (arith, w.same_length, c.loop-to-test.true)) c.len-len.ensures.rises in
+    let x = settled-next order c.loop-to.to c.loop-to.following w.settled
+    (omega (arith, w.same_length, c.loop-to-test.true)) c.len-len.ensures.rises in
     let from_is : c.unwrap_or-from.result ≡ x.from = c.unwrap_or-from.ensures ∙ ap (λ o. unwrap_or o c.loop-to.to) x.is in
     elim c.if-to-from.branch [
       | then-to-from b ↦
@@ -58,7 +63,8 @@ loop-to-preserved g c =
               name = λ p. renamed c.unwrap_or-from.result c.loop-to.to (w.renamed.name p);
               renames = renames-then w.renamed.name (renamed c.unwrap_or-from.result c.loop-to.to) w.renamed.renames m.renames;
             };
-            settled = settled-move order c.loop-to.to c.loop-to.following x _ (m.renames.order ∙ ap (λ p. map (renamed p c.loop-to.to) order) from_is) _ next;
+            settled = settled-move order c.loop-to.to c.loop-to.following x _
+                (m.renames.order ∙ ap (λ p. map (renamed p c.loop-to.to) order) from_is) _ next;
             same_length = ap length m.renames.order ∙ length-map order (renamed c.unwrap_or-from.result c.loop-to.to) ∙ w.same_length;
             moved = omega (arith, m.counts.moved, w.moved);
             freed = m.counts.freed ∙ w.freed;
@@ -88,14 +94,17 @@ returns-clause-renamed g c =
 pub returns-clause-settled : goal.returns-clause-settled
 returns-clause-settled g c =
     let w = c.loop-to.invariant in
-    let all : c.loop-to.to ≡ length c.args.values.now.list.order = omega (arith, c.len-count.ensures.len, c.loop-to.auto.to-end, c.loop-to-test.false) in
+    let all : c.loop-to.to ≡ length c.args.values.now.list.order = omega
+    (arith, c.len-count.ensures.len, c.loop-to.auto.to-end, c.loop-to-test.false) in
     c.cut_end.ensures.order
-    ∙ settled-all c.loop-to.values.list.order c.loop-to.to c.loop-to.following w.settled (omega (arith, w.same_length, all, c.len-count.ensures.len))
+    ∙ settled-all c.loop-to.values.list.order c.loop-to.to c.loop-to.following w.settled
+    (omega (arith, w.same_length, all, c.len-count.ensures.len))
     ∙ ap places_below all
 
 pub returns-clause-no_hole : goal.returns-clause-no_hole
 returns-clause-no_hole g c =
     let w = c.loop-to.invariant in
     let cut = c.cut_end.ensures in
-    let all = settled-end c.loop-to.values.list.order c.loop-to.to c.loop-to.following w.settled (omega (arith, w.same_length, c.loop-to.auto.to-end, c.loop-to-test.false)) in
+    let all = settled-end c.loop-to.values.list.order c.loop-to.to c.loop-to.following w.settled
+    (omega (arith, w.same_length, c.loop-to.auto.to-end, c.loop-to-test.false)) in
     omega (arith, cut.used, ap length cut.order, w.same_length, all, c.loop-to.auto.to-end, c.loop-to-test.false)

@@ -28,9 +28,11 @@ loop-preserved g c =
     record {
       left =
           first_rest (record { first = c.loop.place; last = e.last; length = e.length - c.loop.counter }) ∣ w.left ∣₁
-          (e.length - (c.loop.counter + 1)) (omega (arith, c.loop-test.true)) c.get_detached.result.1 c.unwrap_or-place.result c.get_detached.ensures.link_is c.unwrap_or-place.ensures t.taken;
+          (e.length - (c.loop.counter + 1)) (omega (arith, c.loop-test.true)) c.get_detached.result.1 c.unwrap_or-place.result
+          c.get_detached.ensures.link_is c.unwrap_or-place.ensures t.taken;
       kept = keeps_more w.kept (keeps_slots c.len-len.ensures.sound
-          (first_detached (record { first = c.loop.place; last = e.last; length = e.length - c.loop.counter }) ∣ w.left ∣₁ (e.length - (c.loop.counter + 1)) (omega (arith, c.loop-test.true))) t.taken);
+          (first_detached (record { first = c.loop.place; last = e.last; length = e.length - c.loop.counter }) ∣ w.left ∣₁
+          (e.length - (c.loop.counter + 1)) (omega (arith, c.loop-test.true))) t.taken);
       moved = t.counts.moved ∙ w.moved;
       freed = t.counts.freed ∙ w.freed;
       holes = t.counts.holes ∙ w.holes;

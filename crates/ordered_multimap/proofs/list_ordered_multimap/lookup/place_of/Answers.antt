@@ -9,7 +9,8 @@ pub returns-clause-found : goal.returns-clause-found
 returns-clause-found g c =
     let eq = g.K.PartialEq.eq in
     let keys = c.args.keys.now in
-    let P : Option ℕ → Type 0 = λ o. IfSome o (λ place. (get c.args.table.now.rows place ≡ Some c.args.hash) × HasKey eq keys c.args.key.now place) → IfSome o (HasKey eq keys c.args.key.now) in
+    let P : Option ℕ → Type 0 = λ o. IfSome o (λ place. (get c.args.table.now.rows place ≡ Some c.args.hash)
+    × HasKey eq keys c.args.key.now place) → IfSome o (HasKey eq keys c.args.key.now) in
     elim c.find.result as P [ None ↦ λ none. none | Some place ↦ λ found. found.1 ] c.find.ensures.found
 
 pub returns-clause-absent : goal.returns-clause-absent
@@ -17,7 +18,8 @@ returns-clause-absent g c =
     let eq = g.K.PartialEq.eq in
     let keys = c.args.keys.now in
     let k = c.args.key.now in
-    let P : Option ℕ → Type 0 = λ o. IfNone o ((place : ℕ) → get c.args.table.now.rows place ≡ Some c.args.hash → SaysWhetherEqual eq keys k place false) → IfNone o (is_listed eq (items_of keys) k ≡ false) in
+    let P : Option ℕ → Type 0 = λ o. IfNone o ((place : ℕ) → get c.args.table.now.rows place ≡ Some c.args.hash
+    → SaysWhetherEqual eq keys k place false) → IfNone o (is_listed eq (items_of keys) k ≡ false) in
     elim c.find.result as P [
       | None ↦ λ none. unlisted g.met.K.Eq.laws keys k (λ place j listed item.
           let Q : Bool → Type 0 = λ b. eq k j ≡ b → b ≡ false in

@@ -11,4 +11,9 @@ pub move_values-requires-clause-within : goal.move_values-requires-clause-within
 move_values-requires-clause-within g c =
     let r = c.compact.ensures.renamed in
     let chained = chained-renamed r.name c.requires.keys_sound c.len-len.ensures.sound c.requires.chained r.renames in
-    λ q l i is. omega (arith, c.move_keys.ensures.names, c.requires.names l.key (subst (IsIn l.key) r.renames.key_order (chained.owned q l i is)))
+    λ q l i is. omega (
+      arith,
+      c.move_keys.ensures.names,
+      c.requires.names l.key
+          (subst (IsIn l.key) r.renames.key_order (chained.owned q l i is)),
+    )

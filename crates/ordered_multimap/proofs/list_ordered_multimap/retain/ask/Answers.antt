@@ -2,8 +2,8 @@ use Rattle.std.proofs.Common.{refl}
 use Rattle.ordered_multimap.proofs.AgreesLemmas.{pair_at-is}
 use Rattle.ordered_multimap.proofs.list_ordered_multimap.retain.ask.Goals as goal
 
-pub returns : goal.returns
-returns g c = record {
+pub returns-clause-asked : goal.returns-clause-asked
+returns-clause-asked g c = record {
   key = c.slot_at.result.0.now;
   was = c.get_listed_mut.result.now;
   left = c.f.new.arg3;

@@ -1,21 +1,31 @@
-use Rattle.std.proofs.Common.{sym, ap, subst}
-use Rattle.multimap_walks.specs.Chained.{IsChained}
-use Rattle.ordered_multimap.proofs.WriteLemmas.{IsChained-with_item}
+use Rattle.std.proofs.Common.{◌≡◌, Some, sym, ap, subst}
+use Rattle.multimap_slots.specs.Slots.{Slots, link_at}
+use Rattle.multimap_walks.specs.declared.links.ValueLink.{ValueLink}
+use Rattle.ordered_multimap.specs.TakesOne.{HasLinks}
+use Rattle.ordered_multimap.proofs.WriteLemmas.{IsChained-with_item, IsSound-with_item}
 use Rattle.ordered_multimap.proofs.list_ordered_multimap.retain.retain_at.Goals as goal
 
-pub take_pair-requires-clause-chained : goal.take_pair-requires-clause-chained
-take_pair-requires-clause-chained g c =
-    let asked = c.ask.ensures in
-    subst (IsChained c.args.keys.now) (sym (ap (λ t. t.list) asked.written)) (IsChained-with_item c.requires.chained c.args.place asked.left)
+pub take_pair-requires-clause-stands : goal.take_pair-requires-clause-stands
+take_pair-requires-clause-stands g c =
+    let s = c.requires.stands in
+    let asked = c.ask-stays.ensures.asked in
+    subst (λ vs. HasLinks c.args.keys.now vs c.args.place c.ask-stays.result.1 c.ask-stays.result.2) (sym (ap (λ t. t.list) asked.written))
+    (record {
+      listed = s.listed;
+      link_is = c.ask-stays.ensures.link;
+      key_link_is = c.ask-stays.ensures.key_link;
+      sound = IsSound-with_item s.sound c.args.place s.listed asked.left;
+      chained = IsChained-with_item s.chained c.args.place asked.left;
+    })
 
-pub returns-then-not-ask-clause-retained : goal.returns-then-not-ask-clause-retained
-returns-then-not-ask-clause-retained g c = record {
-  answer = c.ask.result;
-  asked = c.ask.new.values;
-  asks = c.ask.ensures;
-  rest = rw c.if-not-ask.true (record {
-    pair = c.take_pair.result;
-    takes = c.take_pair.ensures.taken;
-    frees = c.take_pair.ensures.frees;
-  });
+pub take_pair-requires-clause-row : goal.take_pair-requires-clause-row
+take_pair-requires-clause-row g c = c.requires.stands.row c.ask-stays.result.1 c.ask-stays.result.2 c.ask-stays.ensures.link
+    c.ask-stays.ensures.key_link
+
+pub returns-then-not-stays : goal.returns-then-not-stays
+returns-then-not-stays g c = record {
+  answer = c.ask-stays.result.0;
+  asked = c.ask-stays.new.values;
+  asks = c.ask-stays.ensures.asked;
+  rest = rw c.if-not-stays.true (c.take_pair.result, c.take_pair.ensures);
 }

@@ -1,32 +1,29 @@
 use Rattle.std.proofs.Common.{◌<◌, refl, sym, ◌∙◌, subst, arith}
+use Rattle.ordered_multimap.proofs.LeavesLemmas.{has_pair, retains_room}
 use Rattle.ordered_multimap.proofs.PlaceLemmas.{places_from}
-use Rattle.ordered_multimap.proofs.RetainLemmas.{retaining-at, retaining-start, retaining-end, retaining-step, retaining-counts, retaining-smaller, listed_place, may_ask}
+use Rattle.ordered_multimap.proofs.RetainLemmas.{retaining-at, retaining-start, retaining-end, retaining-step, retaining-counts}
+use Rattle.ordered_multimap.proofs.RetainLemmas.{retaining-smaller, listed_place, may_ask}
 use Rattle.ordered_multimap.proofs.list_ordered_multimap.retain.retain_pairs.Goals as goal
 
 pub loop-following-init : goal.loop-following-init
 loop-following-init g c = record {
-  retaining = retaining-start g.met.K.Eq.laws c.requires.agrees.1 c.front_place-following.result c.front_place-following.ensures c.requires.callable;
+  retaining = retaining-start g.met.K.Eq.laws c.requires.agrees.1 c.front_place-following.result c.front_place-following.ensures
+      c.requires.callable;
   moved = refl;
   freed = refl;
   holes = refl;
   fewer = omega arith;
-  keys_capacity = refl;
-  rows_capacity = refl;
-  values_capacity = refl;
+  room = record { key_room = refl; row_room = refl; value_room = refl };
 }
 
-pub retain_at-requires-clause-listed : goal.retain_at-requires-clause-listed
-retain_at-requires-clause-listed g c = listed_place g.met.K.Eq.laws c.requires.agrees.1 (retaining-at c.in-Some.is c.loop-following.invariant.retaining)
+pub next_listed_place-following-requires : goal.next_listed_place-following-requires
+next_listed_place-following-requires g c = listed_place g.met.K.Eq.laws c.requires.agrees.1
+    (retaining-at c.in-Some.is c.loop-following.invariant.retaining)
 
-pub retain_at-requires-clause-chained : goal.retain_at-requires-clause-chained
-retain_at-requires-clause-chained g c = (c.loop-following.invariant.retaining.agrees c.requires.agrees.0 c.requires.agrees.1).chained
-
-pub retain_at-requires-clause-row : goal.retain_at-requires-clause-row
-retain_at-requires-clause-row g c =
-    let agrees = c.loop-following.invariant.retaining.agrees c.requires.agrees.0 c.requires.agrees.1 in
-    λ l k is key_is.
-    let listed = listed_place g.met.K.Eq.laws c.requires.agrees.1 (retaining-at c.in-Some.is c.loop-following.invariant.retaining) in
-    agrees.in_table l.key k (agrees.chained.owned c.in-Some.place l listed is) key_is
+pub retain_at-requires-clause-stands : goal.retain_at-requires-clause-stands
+retain_at-requires-clause-stands g c =
+    has_pair (c.loop-following.invariant.retaining.agrees c.requires.agrees.0 c.requires.agrees.1) c.in-Some.place
+    (listed_place g.met.K.Eq.laws c.requires.agrees.1 (retaining-at c.in-Some.is c.loop-following.invariant.retaining))
 
 pub retain_at-requires-clause-callable : goal.retain_at-requires-clause-callable
 retain_at-requires-clause-callable g c =
@@ -35,27 +32,31 @@ retain_at-requires-clause-callable g c =
 pub loop-following-smaller : goal.loop-following-smaller
 loop-following-smaller g c =
     let s = c.retain_at.ensures in
-    subst (λ o. places_from c.retain_at.new.values.list.order c.next_place_after-following.result < places_from c.loop-following.values.list.order o) (sym c.in-Some.is)
-    (retaining-smaller g.met.K.Eq.laws c.requires.agrees.1 (retaining-at c.in-Some.is c.loop-following.invariant.retaining) s.retained s.keys_capacity s.values_capacity
-    c.next_place_after-following.result c.next_place_after-following.ensures)
+    subst (λ o. places_from c.retain_at.new.values.list.order c.next_listed_place-following.result < places_from
+    c.loop-following.values.list.order o) (sym c.in-Some.is)
+    (retaining-smaller g.met.K.Eq.laws c.requires.agrees.1 (retaining-at c.in-Some.is c.loop-following.invariant.retaining) s
+    c.next_listed_place-following.result c.next_listed_place-following.ensures)
 
 pub loop-following-preserved : goal.loop-following-preserved
 loop-following-preserved g c =
     let w = c.loop-following.invariant in
     let r = retaining-at c.in-Some.is w.retaining in
     let s = c.retain_at.ensures in
-    let n = retaining-counts g.met.K.Eq.laws c.requires.agrees.1 r s.retained s.keys_capacity s.values_capacity in
+    let o = retains_room s in
+    let n = retaining-counts g.met.K.Eq.laws c.requires.agrees.1 r s in
     record {
       retaining =
-          (retaining-step g.met.K.Eq.laws c.requires.agrees.1 r s.retained s.keys_capacity s.values_capacity
-          c.next_place_after-following.result c.next_place_after-following.ensures).retaining;
+          (retaining-step g.met.K.Eq.laws c.requires.agrees.1 r s
+          c.next_listed_place-following.result c.next_listed_place-following.ensures).retaining;
       moved = n.moved ∙ w.moved;
       freed = n.freed ∙ w.freed;
       holes = n.holes ∙ w.holes;
       fewer = omega (arith, n.fewer, w.fewer);
-      keys_capacity = s.keys_capacity ∙ w.keys_capacity;
-      rows_capacity = s.rows_capacity ∙ w.rows_capacity;
-      values_capacity = s.values_capacity ∙ w.values_capacity;
+      room = record {
+        key_room = o.key_room ∙ w.room.key_room;
+        row_room = o.row_room ∙ w.room.row_room;
+        value_room = o.value_room ∙ w.room.value_room;
+      };
     }
 
 pub returns-clause-agrees : goal.returns-clause-agrees

@@ -1,5 +1,6 @@
 use Rattle.std.proofs.Common.{◌≡◌, ◌+◌, ◌≤◌, length}
 use Rattle.std.specs.Map.Calls.{CalledAtPair, TakesPair}
+use Rattle.ordered_multimap.specs.Takes.{KeepsRoom}
 use Rattle.ordered_multimap.proofs.PlaceLemmas.{places_from}
 use Rattle.ordered_multimap.proofs.RetainLemmas.{IsRetaining}
 use Rattle.ordered_multimap.proofs.list_ordered_multimap.retain.retain_pairs.Given as goal
@@ -12,9 +13,7 @@ invariant-loop-following g l = record {
   freed : l.values.freed + length l.values.list.order ≡ l.fn.values.freed + length l.fn.values.list.order;
   holes : l.values.holes + length l.values.list.order ≡ l.fn.values.holes + length l.fn.values.list.order;
   fewer : length l.values.list.order ≤ length l.fn.values.list.order;
-  keys_capacity : l.keys.capacity ≡ l.fn.keys.capacity;
-  rows_capacity : l.table.capacity ≡ l.fn.table.capacity;
-  values_capacity : l.values.list.capacity ≡ l.fn.values.list.capacity;
+  room : KeepsRoom l.fn.keys l.keys l.fn.table l.table l.fn.values l.values;
 }
 
 abbrev pub decreases-loop-following : goal.decreases-loop-following

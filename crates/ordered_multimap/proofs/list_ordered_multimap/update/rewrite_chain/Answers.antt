@@ -1,6 +1,7 @@
 use Rattle.std.proofs.Common.{◌<◌, refl, sym, ap, ◌∙◌, subst}
 use Rattle.multimap_walks.specs.Chained.{chain_of}
-use Rattle.ordered_multimap.proofs.RewriteLemmas.{may_rewrite, rewriting-at, rewriting-end, rewriting-listed, rewriting-smaller, rewriting-start, rewriting-step}
+use Rattle.ordered_multimap.proofs.RewriteLemmas.{may_rewrite, rewriting-at, rewriting-end, rewriting-listed, rewriting-smaller}
+use Rattle.ordered_multimap.proofs.RewriteLemmas.{rewriting-start, rewriting-step}
 use Rattle.ordered_multimap.proofs.PlaceLemmas.{places_from}
 use Rattle.ordered_multimap.proofs.list_ordered_multimap.update.rewrite_chain.Goals as goal
 
@@ -14,7 +15,8 @@ loop-following-init g c = record {
 }
 
 pub rewrite_at-following-requires-clause-listed : goal.rewrite_at-following-requires-clause-listed
-rewrite_at-following-requires-clause-listed g c = rewriting-listed c.requires.agrees.1 (rewriting-at c.in-Some.is c.loop-following.invariant.rewriting)
+rewrite_at-following-requires-clause-listed g c = rewriting-listed c.requires.agrees.1
+    (rewriting-at c.in-Some.is c.loop-following.invariant.rewriting)
 
 pub rewrite_at-following-requires-clause-callable : goal.rewrite_at-following-requires-clause-callable
 rewrite_at-following-requires-clause-callable g c =
@@ -22,7 +24,8 @@ rewrite_at-following-requires-clause-callable g c =
 
 pub loop-following-smaller : goal.loop-following-smaller
 loop-following-smaller g c =
-    subst (λ o. places_from (chain_of c.args.values.now.list c.args.key_place) c.rewrite_at-following.result < places_from (chain_of c.args.values.now.list c.args.key_place) o) (sym c.in-Some.is)
+    subst (λ o. places_from (chain_of c.args.values.now.list c.args.key_place) c.rewrite_at-following.result < places_from
+    (chain_of c.args.values.now.list c.args.key_place) o) (sym c.in-Some.is)
     (rewriting-smaller c.requires.agrees.1 (rewriting-at c.in-Some.is c.loop-following.invariant.rewriting) c.rewrite_at-following.ensures)
 
 pub loop-following-preserved : goal.loop-following-preserved

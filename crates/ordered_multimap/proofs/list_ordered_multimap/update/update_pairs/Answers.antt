@@ -2,12 +2,14 @@ use Rattle.std.proofs.Common.{◌<◌, true, refl, sym, ap, ◌∙◌, subst}
 use Rattle.ordered_multimap.specs.RetainSteps.{RetainsAt}
 use Rattle.ordered_multimap.specs.Updates.{Updates}
 use Rattle.ordered_multimap.proofs.PlaceLemmas.{places_from}
-use Rattle.ordered_multimap.proofs.RetainLemmas.{retaining-at, retaining-start, retaining-end, retaining-step, retaining-smaller, listed_place, may_ask}
+use Rattle.ordered_multimap.proofs.RetainLemmas.{retaining-at, retaining-start, retaining-end, retaining-step, retaining-smaller}
+use Rattle.ordered_multimap.proofs.RetainLemmas.{listed_place, may_ask}
 use Rattle.ordered_multimap.proofs.list_ordered_multimap.update.update_pairs.Goals as goal
 
 pub loop-following-init : goal.loop-following-init
 loop-following-init g c = record {
-  retaining = retaining-start g.met.K.Eq.laws c.requires.agrees.1 c.front_place-following.result c.front_place-following.ensures c.requires.callable;
+  retaining = retaining-start g.met.K.Eq.laws c.requires.agrees.1 c.front_place-following.result c.front_place-following.ensures
+      c.requires.callable;
   order = refl;
   capacity = refl;
   moved = refl;
@@ -15,8 +17,13 @@ loop-following-init g c = record {
   holes = refl;
 }
 
+pub next_listed_place-following-requires : goal.next_listed_place-following-requires
+next_listed_place-following-requires g c =
+    listed_place g.met.K.Eq.laws c.requires.agrees.1 (retaining-at c.in-Some.is c.loop-following.invariant.retaining)
+
 pub update_at-requires-clause-listed : goal.update_at-requires-clause-listed
-update_at-requires-clause-listed g c = listed_place g.met.K.Eq.laws c.requires.agrees.1 (retaining-at c.in-Some.is c.loop-following.invariant.retaining)
+update_at-requires-clause-listed g c = listed_place g.met.K.Eq.laws c.requires.agrees.1
+    (retaining-at c.in-Some.is c.loop-following.invariant.retaining)
 
 pub update_at-requires-clause-owned : goal.update_at-requires-clause-owned
 update_at-requires-clause-owned g c = (c.loop-following.invariant.retaining.agrees c.requires.agrees.0 c.requires.agrees.1).chained.owned
@@ -28,22 +35,25 @@ update_at-requires-clause-callable g c =
 pub loop-following-smaller : goal.loop-following-smaller
 loop-following-smaller g c =
     let asks = c.update_at.ensures in
-    let at : RetainsAt (Updates g.F.FnMut) c.args.keys.now c.args.keys.now c.args.table.now.rows c.args.table.now.rows c.loop-following.values c.update_at.new.values c.in-Some.place c.loop-following.f c.update_at.new.f
-    = record { answer = true; asked = c.update_at.new.values; asks = asks; rest = record { keys_are = refl; rows_are = refl; values_are = refl } } in
-    subst (λ o. places_from c.update_at.new.values.list.order c.next_place_after-following.result < places_from c.loop-following.values.list.order o) (sym c.in-Some.is)
-    (retaining-smaller g.met.K.Eq.laws c.requires.agrees.1 (retaining-at c.in-Some.is c.loop-following.invariant.retaining) at refl (ap (λ t. t.list.capacity) asks.written)
-    c.next_place_after-following.result c.next_place_after-following.ensures)
+    let at : RetainsAt (Updates g.F.FnMut) c.args.keys.now c.args.keys.now c.args.table.now c.args.table.now c.loop-following.values
+    c.update_at.new.values c.in-Some.place c.loop-following.f c.update_at.new.f
+    = record { answer = true; asked = c.update_at.new.values; asks = asks; rest = record { keys_are = refl; table_is = refl; values_are = refl } } in
+    subst (λ o. places_from c.update_at.new.values.list.order c.next_listed_place-following.result < places_from
+    c.loop-following.values.list.order o) (sym c.in-Some.is)
+    (retaining-smaller g.met.K.Eq.laws c.requires.agrees.1 (retaining-at c.in-Some.is c.loop-following.invariant.retaining) at
+    c.next_listed_place-following.result c.next_listed_place-following.ensures)
 
 pub loop-following-preserved : goal.loop-following-preserved
 loop-following-preserved g c =
     let w = c.loop-following.invariant in
     let asks = c.update_at.ensures in
-    let at : RetainsAt (Updates g.F.FnMut) c.args.keys.now c.args.keys.now c.args.table.now.rows c.args.table.now.rows c.loop-following.values c.update_at.new.values c.in-Some.place c.loop-following.f c.update_at.new.f
-    = record { answer = true; asked = c.update_at.new.values; asks = asks; rest = record { keys_are = refl; rows_are = refl; values_are = refl } } in
+    let at : RetainsAt (Updates g.F.FnMut) c.args.keys.now c.args.keys.now c.args.table.now c.args.table.now c.loop-following.values
+    c.update_at.new.values c.in-Some.place c.loop-following.f c.update_at.new.f
+    = record { answer = true; asked = c.update_at.new.values; asks = asks; rest = record { keys_are = refl; table_is = refl; values_are = refl } } in
     record {
       retaining =
-          (retaining-step g.met.K.Eq.laws c.requires.agrees.1 (retaining-at c.in-Some.is w.retaining) at refl (ap (λ t. t.list.capacity) asks.written)
-          c.next_place_after-following.result c.next_place_after-following.ensures).retaining;
+          (retaining-step g.met.K.Eq.laws c.requires.agrees.1 (retaining-at c.in-Some.is w.retaining) at
+          c.next_listed_place-following.result c.next_listed_place-following.ensures).retaining;
       order = ap (λ t. t.list.order) asks.written ∙ w.order;
       capacity = ap (λ t. t.list.capacity) asks.written ∙ w.capacity;
       moved = ap (λ t. t.moved) asks.written ∙ w.moved;

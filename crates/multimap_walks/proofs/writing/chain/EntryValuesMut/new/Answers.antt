@@ -21,5 +21,6 @@ returns-clause-positions g c =
 
 pub invariant_of-result-2 : goal.invariant_of-result-2
 invariant_of-result-2 g c =
-    let has = rw c.in-Some.is at c.requires.listed in
-    record { readable = ∣ chain_left c.args.keys.now c.args.values c.in-Some.field-0-0 c.in-Some.link c.requires.sound c.requires.chained has c.requires.left ∣₁ }
+    let r = c.requires in
+    let has = rw c.in-Some.is at r.listed in
+    record { readable = ∣ chain_left c.args.keys.now c.args.values c.in-Some.field-0-0 c.in-Some.link r.sound r.chained has r.left ∣₁ }

@@ -16,11 +16,12 @@ returns-in-Ok g c =
       record {
         rest = tt;
         drain = λ k is. record {
-          left = ap left_of same ∙ ok.left k is;
-          lists = ap (λ n. n.lists) same ∙ ok.ok k is;
+          left = ap left_of same ∙ (ok.ok k is).left;
+          lists = ap (λ n. n.lists) same ∙ (ok.ok k is).loses.lists;
           rooms = subst (KeepsRooms m) (sym same) d.rooms;
           had_room = subst (RaisesNoRoom g.K.PartialEq.eq k m) (sym same) (d.had_room k is);
-          taken = subst (λ n. TakesOut (length (values_of g.K.PartialEq.eq m.lists.pairs k)) m.tape n.tape) (sym same) (ok.taken k is);
+          taken = subst (λ n. TakesOut (length (values_of g.K.PartialEq.eq m.lists.pairs k)) m.tape n.tape) (sym same)
+              (ok.ok k is).loses.taken;
         };
         same_map = c.drain.ensures.same_map;
         refused = tt;
@@ -32,6 +33,6 @@ pub returns-in-Err : goal.returns-in-Err
 returns-in-Err g c =
     let d = c.insert_detaching_at.ensures in
     let e = c.in-Err.ensures in (
-      (refl, (λ w. tt), record { lists = e.unchanged; rooms = d.rooms; had_room = d.had_room; taken = e.none_taken }),
+      (refl, (λ w. tt), record { lists = e.unchanged.lists; rooms = d.rooms; had_room = d.had_room; taken = e.unchanged.taken }),
       record { rest = tt; drain = tt; same_map = tt; refused = e.refused; succeeds = e.succeeds },
     )

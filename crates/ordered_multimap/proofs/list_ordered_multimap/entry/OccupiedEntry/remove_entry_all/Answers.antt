@@ -10,8 +10,9 @@ returns-clause-drain g c = λ k is.
     let d = c.detach_at-stored.ensures in
     let same = c.drain.ensures.same in
     record {
-      left = ap left_of same ∙ d.left k is;
-      lists = ap (λ m. m.lists) same ∙ d.lists k is;
+      left = ap left_of same ∙ (d.detached k is).left;
+      lists = ap (λ m. m.lists) same ∙ (d.detached k is).loses.lists;
       rooms = subst (SameRooms c.args.self.map.now) (sym same) d.rooms;
-      taken = subst (λ m. TakesOut (length (values_of g.K.PartialEq.eq c.args.self.map.now.lists.pairs k)) c.args.self.map.now.tape m.tape) (sym same) (d.taken k is);
+      taken = subst (λ m. TakesOut (length (values_of g.K.PartialEq.eq c.args.self.map.now.lists.pairs k)) c.args.self.map.now.tape m.tape)
+          (sym same) (d.detached k is).loses.taken;
     }

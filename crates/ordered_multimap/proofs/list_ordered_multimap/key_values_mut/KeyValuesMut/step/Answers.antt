@@ -22,7 +22,8 @@ always (Some x) p = tt
 always None p = p
 
 -- whatever shows that places are left, the walk is the same
-same_walk : {K V S A H : Type 0} {e : equality.Ghosts K} {k : hash.Ghosts K} {b : builder.Ghosts S H} {h : hasher.Ghosts H} (w : KeyValuesMut K V S A H e k b h) (are : ∥ AreLeft w.map.now.slots.keys.order w.left ∥₁)
+same_walk : {K V S A H : Type 0} {e : equality.Ghosts K} {k : hash.Ghosts K} {b : builder.Ghosts S H} {h : hasher.Ghosts H}
+    (w : KeyValuesMut K V S A H e k b h) (are : ∥ AreLeft w.map.now.slots.keys.order w.left ∥₁)
     → record w { are_left = are } ≡ w
 same_walk w are = λ i. record w { are_left = squash₁ are w.are_left i }
 

@@ -1,5 +1,5 @@
 use Rattle.std.proofs.Common.{◌∙◌, length, ap}
-use Rattle.multimap_walks.proofs.RestLemmas.{pairs_rest_counted}
+use Rattle.multimap_walks.proofs.CountLemmas.{pairs_rest_counted}
 use Rattle.multimap_walks.proofs.writing.rest.pairs.IterRestExactSizeIterator.len.Goals as goal
 
 pub returns-clause-value : goal.returns-clause-value

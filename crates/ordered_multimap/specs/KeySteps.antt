@@ -1,0 +1,30 @@
+-- What a step at the place of a key leaves of the map. No public clause cites this module.
+use Rattle.std.specs.Prelude.{◌≡◌, ℕ, Bool, length}
+use Rattle.multimap_slots.specs.Lists.{IsIn}
+use Rattle.ordered_multimap.specs.Agrees.{HasKey}
+use Rattle.ordered_multimap.specs.Detaches.{left_of}
+use Rattle.ordered_multimap.specs.Lists.{Lists}
+use Rattle.ordered_multimap.specs.Multimap.{Multimap}
+use Rattle.ordered_multimap.specs.Pairs.{values_of}
+use Rattle.ordered_multimap.specs.TapeNumbers.{TakesOut}
+
+module _ {K V S : Type 0} (eq : K → K → Bool) (old new : Multimap K V S) where
+  -- a key stands at the place as before, and each key that is equal to it
+  pub record KeepsPlace (place : ℕ) : Type 0 where
+    pub listed : IsIn place new.slots.keys.order
+    pub stays : (k : K) → HasKey eq old.slots.keys k place → HasKey eq new.slots.keys k place
+
+  -- the values that the key had have left, and these are the lists then
+  pub record LosesValues (k : K) (after : Lists K V) : Type 0 where
+    pub lists : new.lists ≡ after
+    pub taken : TakesOut (length (values_of eq old.lists.pairs k)) old.tape new.tape
+
+  -- and they are left for a drain
+  pub record DetachesValues (k : K) (after : Lists K V) : Type 0 where
+    pub left : left_of new ≡ values_of eq old.lists.pairs k
+    pub loses : LosesValues k after
+
+-- the lists are as they were, and no pair was taken out
+pub record KeepsPairs {K V S : Type 0} (old new : Multimap K V S) : Type 0 where
+  pub lists : new.lists ≡ old.lists
+  pub taken : TakesOut 0 old.tape new.tape
