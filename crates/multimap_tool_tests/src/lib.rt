@@ -5,18 +5,4 @@
 #![tactic(auto)]
 
 #[cfg(test)]
-mod answers;
-#[cfg(test)]
-mod compared;
-#[cfg(test)]
-mod letters;
-#[cfg(test)]
-mod lines;
-#[cfg(test)]
-mod plain;
-#[cfg(test)]
-mod refused;
-#[cfg(test)]
-mod runs;
-#[cfg(test)]
-mod streams;
+mod tests;

@@ -2,14 +2,4 @@
 #![tactic(auto)]
 
 #[cfg(test)]
-mod called;
-#[cfg(test)]
-mod entries;
-#[cfg(test)]
-mod examples;
-#[cfg(test)]
-mod taken;
-#[cfg(test)]
 mod tests;
-#[cfg(test)]
-mod texts;

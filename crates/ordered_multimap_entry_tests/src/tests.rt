@@ -1,10 +1,16 @@
 //! The tests: each makes one map and lends it to all comparisons of its type, since a map that is
 //! owned costs its proof more than all that it is lent to.
-use crate::called::callers_answer;
-use crate::entries::{entries_are_filled, functions_are_called_once, values_are_replaced};
-use crate::examples::{examples_of_numbers_hold, examples_of_texts_hold};
-use crate::taken::{one_of_many_is_taken, values_are_taken};
-use crate::texts::{Counts, keys_are_entered, values_are_counted};
+mod called;
+mod entries;
+mod examples;
+mod taken;
+mod texts;
+
+use crate::tests::called::callers_answer;
+use crate::tests::entries::{entries_are_filled, functions_are_called_once, values_are_replaced};
+use crate::tests::examples::{examples_of_numbers_hold, examples_of_texts_hold};
+use crate::tests::taken::{one_of_many_is_taken, values_are_taken};
+use crate::tests::texts::{Counts, keys_are_entered, values_are_counted};
 use ordered_multimap::ListOrderedMultimap;
 use ordered_multimap_callers::maps::{Numbers, Refusing};
 use refusing_allocator::RefusingAllocator;

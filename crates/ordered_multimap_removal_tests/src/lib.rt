@@ -2,22 +2,4 @@
 #![tactic(auto)]
 
 #[cfg(test)]
-mod drain_steps;
-#[cfg(test)]
-mod drained;
-#[cfg(test)]
-mod examples;
-#[cfg(test)]
-mod memory;
-#[cfg(test)]
-mod popped;
-#[cfg(test)]
-mod removed;
-#[cfg(test)]
-mod retained;
-#[cfg(test)]
-mod shares;
-#[cfg(test)]
 mod tests;
-#[cfg(test)]
-mod wrappers;

@@ -1,10 +1,20 @@
 //! The tests: each makes one map and lends it to all comparisons of its type, since a map that is
 //! owned costs its proof more than all that it is lent to.
-use crate::drain_steps::{keys_are_drained, values_are_given};
-use crate::drained::lists_are_final;
-use crate::popped::{Alike, collided_keys_leave, key_is_lent_and_handed_out, pairs_leave};
-use crate::removed::keys_leave;
-use crate::retained::pairs_stay;
+mod drain_steps;
+mod drained;
+mod examples;
+mod memory;
+mod popped;
+mod removed;
+mod retained;
+mod shares;
+mod wrappers;
+
+use crate::tests::drain_steps::{keys_are_drained, values_are_given};
+use crate::tests::drained::lists_are_final;
+use crate::tests::popped::{Alike, collided_keys_leave, key_is_lent_and_handed_out, pairs_leave};
+use crate::tests::removed::keys_leave;
+use crate::tests::retained::pairs_stay;
 use ordered_multimap::ListOrderedMultimap;
 use ordered_multimap_callers::maps::{Numbers, Texts};
 use test_helpers::{Failed, Test, ZERO};

@@ -3,30 +3,4 @@
 #![tactic(auto)]
 
 #[cfg(test)]
-mod additions;
-#[cfg(test)]
-mod examples;
-#[cfg(test)]
-mod extend;
-#[cfg(test)]
-mod iterators;
-#[cfg(test)]
-mod made;
-#[cfg(test)]
-mod pack;
-#[cfg(test)]
-mod refused;
-#[cfg(test)]
-mod refused_additions;
-#[cfg(test)]
-mod refused_clones;
-#[cfg(test)]
-mod refused_pairs;
-#[cfg(test)]
-mod refused_room;
-#[cfg(test)]
-mod reserve;
-#[cfg(test)]
-mod shares;
-#[cfg(test)]
 mod tests;

@@ -1,12 +1,26 @@
 //! The tests: each makes one map and lends it to all comparisons of its type, since a map that is
 //! owned costs its proof more than all that it is lent to.
-use crate::extend::{
+mod additions;
+mod examples;
+mod extend;
+mod iterators;
+mod made;
+mod pack;
+mod refused;
+mod refused_additions;
+mod refused_clones;
+mod refused_pairs;
+mod refused_room;
+mod reserve;
+mod shares;
+
+use crate::tests::extend::{
     copies_are_appended, map_is_made_without_hint, maps_are_made, texts_are_appended,
     wish_is_ignored,
 };
-use crate::made::room_is_refused;
-use crate::pack::texts_are_packed;
-use crate::reserve::{room_grows, room_is_used};
+use crate::tests::made::room_is_refused;
+use crate::tests::pack::texts_are_packed;
+use crate::tests::reserve::{room_grows, room_is_used};
 use ordered_multimap::ListOrderedMultimap;
 use ordered_multimap_callers::maps::{Numbers, Texts, map_of};
 use refusing_allocator::RefusingAllocator;

@@ -6,26 +6,4 @@
 #![tactic(auto)]
 
 #[cfg(test)]
-mod caseless;
-#[cfg(test)]
-mod derives;
-#[cfg(test)]
-mod equal;
-#[cfg(test)]
-mod examples;
-#[cfg(test)]
-mod hashes;
-#[cfg(test)]
-mod into_iter;
-#[cfg(test)]
-mod key_values;
-#[cfg(test)]
-mod shown;
-#[cfg(test)]
 mod tests;
-#[cfg(test)]
-mod texts;
-#[cfg(test)]
-mod uncloned;
-#[cfg(test)]
-mod walks;

@@ -1,8 +1,22 @@
 //! The tests: each makes one map and lends it to all comparisons of its type, since a map that is
 //! owned costs its proof more than all that it is lent to.
-use crate::hashes::{collided_keys_are_inserted, collided_values_are_appended, keys_are_found};
-use crate::into_iter::{pairs_are_handed_out, rest_is_walked, sum_of};
-use crate::shown::is_shown_apart;
+mod caseless;
+mod derives;
+mod equal;
+mod examples;
+mod hashes;
+mod into_iter;
+mod key_values;
+mod shown;
+mod texts;
+mod uncloned;
+mod walks;
+
+use crate::tests::hashes::{
+    collided_keys_are_inserted, collided_values_are_appended, keys_are_found,
+};
+use crate::tests::into_iter::{pairs_are_handed_out, rest_is_walked, sum_of};
+use crate::tests::shown::is_shown_apart;
 use crate::{equal, key_values, shown, texts, walks};
 use ordered_multimap::ListOrderedMultimap;
 use ordered_multimap::list_ordered_multimap::RandomState;

@@ -1,12 +1,22 @@
 //! The tests: each makes one map and lends it to all comparisons of its type, since a map that is
 //! owned costs its proof more than all that it is lent to.
-use crate::ended::walks_leave_values;
-use crate::keys::keys_lend_their_values;
-use crate::rest::walks_have_left;
-use crate::shown::walks_are_shown;
-use crate::unread::one_key_is_written;
-use crate::updated::values_are_updated;
-use crate::walks::values_are_lent_once;
+mod ended;
+mod examples;
+mod keys;
+mod rest;
+mod shown;
+mod steps;
+mod unread;
+mod updated;
+mod walks;
+
+use crate::tests::ended::walks_leave_values;
+use crate::tests::keys::keys_lend_their_values;
+use crate::tests::rest::walks_have_left;
+use crate::tests::shown::walks_are_shown;
+use crate::tests::unread::one_key_is_written;
+use crate::tests::updated::values_are_updated;
+use crate::tests::walks::values_are_lent_once;
 use ordered_multimap::ListOrderedMultimap;
 use ordered_multimap_callers::maps::Numbers;
 use test_helpers::{Failed, Test};

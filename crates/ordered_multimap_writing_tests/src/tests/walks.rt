@@ -1,6 +1,6 @@
 //! Walks over all pairs, all values and one key's values for writing, from both ends, and what they
 //! leave.
-use crate::steps::{PairStep, Step, key_walk, pair_walk, value_walk};
+use crate::tests::steps::{PairStep, Step, key_walk, pair_walk, value_walk};
 use ordered_multimap::list_ordered_multimap::EntryValuesMut;
 use ordered_multimap_callers::filled::{
     fill_all, fill_by_reference, fill_ends, fill_first_key, fill_key, fill_values,

@@ -1,8 +1,8 @@
 //! Each request for memory of each call is refused in turn.
-use crate::additions::{Call, Occupied, Vacant};
-use crate::refused_additions::{OTHERS, OWN, fill_up, puts};
-use crate::refused_pairs::{PAIRS, extend, extend_copied, from_iter_with};
-use crate::refused_room::{Room, is_made, keep_three};
+use crate::tests::additions::{Call, Occupied, Vacant};
+use crate::tests::refused_additions::{OTHERS, OWN, fill_up, puts};
+use crate::tests::refused_pairs::{PAIRS, extend, extend_copied, from_iter_with};
+use crate::tests::refused_room::{Room, is_made, keep_three};
 use ordered_multimap::ListOrderedMultimap;
 use ordered_multimap_callers::maps::{Numbers, Refusing, map_of};
 use refusing_allocator::RefusingAllocator;

@@ -1,6 +1,6 @@
 //! What an addition of a pair with refused memory leaves: the pair comes back, and both lists are as
 //! before.
-use crate::additions::{Answer, Call, Occupied, put};
+use crate::tests::additions::{Answer, Call, Occupied, put};
 use ordered_multimap::list_ordered_multimap::Refused;
 use ordered_multimap_callers::lists::{copied, has_lists};
 use ordered_multimap_callers::maps::Refusing;

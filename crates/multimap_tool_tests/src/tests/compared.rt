@@ -1,8 +1,8 @@
 //! Runs of random lines, compared with a plain map.
-use crate::answers::answer;
-use crate::lines::push_lines;
-use crate::plain::PlainMap;
-use crate::runs::{Map, Run, run_lines};
+use crate::tests::answers::answer;
+use crate::tests::lines::push_lines;
+use crate::tests::plain::PlainMap;
+use crate::tests::runs::{Map, Run, run_lines};
 use multimap_tool::execute::execute;
 use ordered_multimap::ListOrderedMultimap;
 use refusing_allocator::RefusingAllocator;

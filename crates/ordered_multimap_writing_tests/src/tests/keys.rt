@@ -1,5 +1,5 @@
 //! The walk over keys with their values for writing.
-use crate::steps::{Step, lending_difference};
+use crate::tests::steps::{Step, lending_difference};
 use ordered_multimap::list_ordered_multimap::KeyValuesMut;
 use ordered_multimap_callers::lists::has_pairs;
 use ordered_multimap_callers::maps::{MIXED, Numbers, refill};

@@ -1,6 +1,6 @@
 //! Maps that are written as JSON values with both lists, and read of JSON texts of that form.
-use crate::maps::{has_keys, is_read_as};
-use crate::parts::has_text;
+use crate::tests::maps::{has_keys, is_read_as};
+use crate::tests::parts::has_text;
 use multimap_tool::json::{ReadFault, from_value, to_value, to_value_2};
 use ordered_multimap::ListOrderedMultimap;
 use ordered_multimap::list_ordered_multimap::DefaultState;

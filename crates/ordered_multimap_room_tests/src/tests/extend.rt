@@ -1,5 +1,5 @@
 //! Pairs of an iterator that are appended in turn.
-use crate::iterators::Hinted;
+use crate::tests::iterators::Hinted;
 use ordered_multimap::ListOrderedMultimap;
 use ordered_multimap::list_ordered_multimap::DefaultState;
 use ordered_multimap_callers::lists::has_pairs;

@@ -1,6 +1,6 @@
 //! Lines that are run with so many requests for memory granted, and compared with a plain map.
-use crate::answers::{answer, may_lack};
-use crate::plain::PlainMap;
+use crate::tests::answers::{answer, may_lack};
+use crate::tests::plain::PlainMap;
 use multimap_tool::commands::Command;
 use multimap_tool::format::format_replies;
 use multimap_tool::parse::parse_commands;

@@ -1,6 +1,6 @@
 //! Requests for memory that are refused, one after the other.
-use crate::plain::PlainMap;
-use crate::runs::{Map, Run, lines_answer, run_lines};
+use crate::tests::plain::PlainMap;
+use crate::tests::runs::{Map, Run, lines_answer, run_lines};
 use multimap_tool::execute::execute;
 use multimap_tool::faults::{TextFault, ToolFault};
 use multimap_tool::format::format_replies;

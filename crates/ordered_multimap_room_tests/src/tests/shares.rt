@@ -1,5 +1,5 @@
 //! What a forgotten drain has left is dropped once, where the map is packed.
-use crate::pack::pack_to;
+use crate::tests::pack::pack_to;
 use ordered_multimap::ListOrderedMultimap;
 use std::mem;
 use std::rc::Rc;

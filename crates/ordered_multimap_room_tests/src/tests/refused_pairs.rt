@@ -1,6 +1,6 @@
 //! Pairs of an iterator that find no memory: those before the refused one stay, it comes back, and
 //! those behind it are left.
-use crate::refused_additions::first;
+use crate::tests::refused_additions::first;
 use ordered_multimap::ListOrderedMultimap;
 use ordered_multimap::list_ordered_multimap::{DefaultState, Refused};
 use ordered_multimap_callers::lists::has_lists;

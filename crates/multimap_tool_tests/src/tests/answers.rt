@@ -1,6 +1,6 @@
 //! How the plain map answers lines, by the definitions of the commands.
-use crate::lines::{Kind, Line, line_of};
-use crate::plain::{Pair, PlainMap, number};
+use crate::tests::lines::{Kind, Line, line_of};
+use crate::tests::plain::{Pair, PlainMap, number};
 use std::alloc::{AllocError, Global};
 
 type Pushed = Result<(), AllocError>;

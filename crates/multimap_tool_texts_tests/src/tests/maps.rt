@@ -1,5 +1,5 @@
 //! Maps that are written as JSON values and read of JSON texts.
-use crate::parts::has_text;
+use crate::tests::parts::has_text;
 use multimap_tool::json::{JsonPart, ReadFault, from_value, to_value};
 use ordered_multimap::ListOrderedMultimap;
 use ordered_multimap::list_ordered_multimap::DefaultState;

@@ -1,5 +1,5 @@
 //! What a call that makes room leaves where memory is refused: both lists are as before.
-use crate::pack::pack_to;
+use crate::tests::pack::pack_to;
 use ordered_multimap_callers::lists::{appends, has_lists, has_room};
 use ordered_multimap_callers::maps::Refusing;
 use test_helpers::Test;

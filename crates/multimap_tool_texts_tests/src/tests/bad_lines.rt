@@ -1,5 +1,5 @@
 //! Lines that are no command, and bytes that are no text.
-use crate::lines::expect_answer;
+use crate::tests::lines::expect_answer;
 use multimap_tool::faults::ToolFault;
 use test_helpers::{Failed, Test};
 

@@ -1,0 +1,9 @@
+//! The tests, by what they are of.
+mod bad_lines;
+mod faults;
+mod lines;
+mod lists;
+mod maps;
+mod memory;
+mod parts;
+mod shown;
