@@ -1,7 +1,8 @@
 //! The order of a slot list or of a tape while its items are lent for writing.
 ghost use Rattle.std.specs.Prelude.{◌≡◌, Some, length, slice_get};
-ghost use Rattle.multimap_slots.specs.Lists.{IsIn, first_of, last_of, next_of, previous_of};
+ghost use Rattle.multimap_slots.specs.Lists.{IsIn};
 
+use crate::in_order::InOrder;
 use crate::order::Order;
 use crate::tape::runs::Runs;
 use std::alloc::Allocator;
@@ -36,38 +37,32 @@ impl<'a, L: Copy, A: Allocator> TapeOrder<'a, L, A> {
         self.links[place]
     }
 
-    #[inline(always)]
-    fn next(&self, place: usize) -> Option<usize>
-        requires { IsIn place self.now.order }
-        ensures { result ≡ next_of self.now.order place }
-    {
-        self.runs.next(place)
-    }
-
-    #[inline(always)]
-    fn previous(&self, place: usize) -> Option<usize>
-        requires { IsIn place self.now.order }
-        ensures { result ≡ previous_of self.now.order place }
-    {
-        self.runs.previous(place)
-    }
-
     fn len(&self) -> usize
         ensures { result ≡ length self.now.order }
     {
         self.runs.len()
     }
+}
 
-    fn front(&self) -> Option<usize>
-        ensures { result ≡ first_of self.now.order }
-    {
+impl<'a, L: Copy, A: Allocator> InOrder for TapeOrder<'a, L, A> {
+    ghost places = { λ o. o.order };
+
+    fn front(&self) -> Option<usize> {
         self.runs.front()
     }
 
-    fn back(&self) -> Option<usize>
-        ensures { result ≡ last_of self.now.order }
-    {
+    fn back(&self) -> Option<usize> {
         self.runs.back()
+    }
+
+    #[inline(always)]
+    fn next(&self, place: usize) -> Option<usize> {
+        self.runs.next(place)
+    }
+
+    #[inline(always)]
+    fn previous(&self, place: usize) -> Option<usize> {
+        self.runs.previous(place)
     }
 }
 
@@ -105,28 +100,6 @@ impl<'a, L: Copy, A: Allocator> LentOrder<'a, L, A> {
         }
     }
 
-    #[inline(always)]
-    pub(crate) fn next(&self, place: usize) -> Option<usize>
-        requires { IsIn place self.now.order }
-        ensures { result ≡ next_of self.now.order place }
-    {
-        match &self.lender {
-            Lender::List(order) => order.next(place),
-            Lender::Tape(tape) => tape.next(place),
-        }
-    }
-
-    #[inline(always)]
-    pub(crate) fn previous(&self, place: usize) -> Option<usize>
-        requires { IsIn place self.now.order }
-        ensures { result ≡ previous_of self.now.order place }
-    {
-        match &self.lender {
-            Lender::List(order) => order.previous(place),
-            Lender::Tape(tape) => tape.previous(place),
-        }
-    }
-
     pub(crate) fn len(&self) -> usize
         ensures { result ≡ length self.now.order }
     {
@@ -135,22 +108,38 @@ impl<'a, L: Copy, A: Allocator> LentOrder<'a, L, A> {
             Lender::Tape(tape) => tape.len(),
         }
     }
+}
 
-    pub(crate) fn front(&self) -> Option<usize>
-        ensures { result ≡ first_of self.now.order }
-    {
+impl<'a, L: Copy, A: Allocator> InOrder for LentOrder<'a, L, A> {
+    ghost places = { λ o. o.order };
+
+    fn front(&self) -> Option<usize> {
         match &self.lender {
             Lender::List(order) => order.front(),
             Lender::Tape(tape) => tape.front(),
         }
     }
 
-    pub(crate) fn back(&self) -> Option<usize>
-        ensures { result ≡ last_of self.now.order }
-    {
+    fn back(&self) -> Option<usize> {
         match &self.lender {
             Lender::List(order) => order.back(),
             Lender::Tape(tape) => tape.back(),
+        }
+    }
+
+    #[inline(always)]
+    fn next(&self, place: usize) -> Option<usize> {
+        match &self.lender {
+            Lender::List(order) => order.next(place),
+            Lender::Tape(tape) => tape.next(place),
+        }
+    }
+
+    #[inline(always)]
+    fn previous(&self, place: usize) -> Option<usize> {
+        match &self.lender {
+            Lender::List(order) => order.previous(place),
+            Lender::Tape(tape) => tape.previous(place),
         }
     }
 }

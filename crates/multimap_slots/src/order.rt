@@ -1,6 +1,6 @@
 //! Places in an order, each with a link, over one vector of nodes that also lists the free places.
 ghost use Rattle.std.specs.Prelude.{◌≡◌, ◌+◌, ◌<◌, ◌≤◌, ◌↔◌, [], length, Some, IsTrue, IfOk, OnOk, OnErr, IsOk, slice_get, slice_set};
-ghost use Rattle.multimap_slots.specs.Lists.{IsIn, first_of, last_of, next_of, previous_of, without};
+ghost use Rattle.multimap_slots.specs.Lists.{IsIn, without};
 
 mod attached;
 mod detached;
@@ -9,6 +9,7 @@ mod optional_place;
 mod write;
 
 use crate::grow::grow_to;
+use crate::in_order::InOrder;
 use node::{Node, State};
 use optional_place::OptionalPlace;
 use std::alloc::{AllocError, Allocator};
@@ -187,30 +188,24 @@ impl<L: Copy, A: Allocator> Order<L, A> {
     {
         &mut self.nodes[place].link
     }
+}
 
-    pub(crate) fn front(&self) -> Option<usize>
-        ensures { result ≡ first_of self.now.order }
-    {
+impl<L: Copy, A: Allocator> InOrder for Order<L, A> {
+    ghost places = { λ o. o.order };
+
+    fn front(&self) -> Option<usize> {
         self.front.get()
     }
 
-    pub(crate) fn back(&self) -> Option<usize>
-        ensures { result ≡ last_of self.now.order }
-    {
+    fn back(&self) -> Option<usize> {
         self.back.get()
     }
 
-    pub(crate) fn next(&self, place: usize) -> Option<usize>
-        requires { IsIn place self.now.order }
-        ensures { result ≡ next_of self.now.order place }
-    {
+    fn next(&self, place: usize) -> Option<usize> {
         self.nodes[place].next.get()
     }
 
-    pub(crate) fn previous(&self, place: usize) -> Option<usize>
-        requires { IsIn place self.now.order }
-        ensures { result ≡ previous_of self.now.order place }
-    {
+    fn previous(&self, place: usize) -> Option<usize> {
         self.nodes[place].previous.get()
     }
 }

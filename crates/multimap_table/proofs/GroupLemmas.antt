@@ -44,14 +44,17 @@ module _ (Missed : ℕ → Type 0) (tags : List ℕ) (rows : List Row) (hash sta
     (reachable : IsReachable tags rows)
     (in_start : start < group_count tags) (in_group : group < group_count tags) (at : distance (group_count tags) start group ≡ step)
     (before : (lane : ℕ) → HoldsHash tags rows hash lane → distance (group_count tags) start (lane / 16) < step → Missed lane)
-    (here : (lane : ℕ) → lane / 16 ≡ group → get_or tags lane 0 ≡ hash_tag hash → (row_at rows lane).hash ≡ hash → Missed lane) where
+    (here : (lane : ℕ) → (lane / 16 ≡ group) × (get_or tags lane 0 ≡ hash_tag hash) × ((row_at rows lane).hash ≡ hash) → Missed lane) where
   pub missed_one_more : (lane : ℕ) → HoldsHash tags rows hash lane → distance (group_count tags) start (lane / 16) < step + 1 → Missed lane
   missed_one_more lane holds near =
       elim (dec_lt (distance (group_count tags) start (lane / 16)) step) [
         | yes s ↦ before lane holds s
-        | no s ↦ here lane (distance_injective (group_count tags) start (lane / 16) group in_start
-            (group_of-lt tags lane sized.whole_groups holds.in_range) in_group (omega arith))
-            (reachable.tagged lane holds.in_range holds.full ∙ ap hash_tag holds.same_hash) holds.same_hash
+        | no s ↦ here lane (
+          distance_injective (group_count tags) start (lane / 16) group in_start
+              (group_of-lt tags lane sized.whole_groups holds.in_range) in_group (omega arith),
+          reachable.tagged lane holds.in_range holds.full ∙ ap hash_tag holds.same_hash,
+          holds.same_hash,
+        )
       ]
 
   -- a group with an empty lane ends the look-up

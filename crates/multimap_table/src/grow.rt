@@ -1,7 +1,7 @@
 //! Lanes for more rows.
-ghost use Rattle.std.specs.Prelude.{◌≡◌, ◌+◌, ◌*◌, ◌/◌, ◌^◌, ◌<◌, ◌≤◌, [], length, replicate, IfOk};
-ghost use Rattle.multimap_table.specs.Layout.{group_count, IsGroupCount, IsLaidOut};
-ghost use Rattle.multimap_table.specs.Entries.{entries, rows_of, IsUnique, no_row};
+ghost use Rattle.std.specs.Prelude.{◌≡◌, ◌*◌, ◌/◌, ◌^◌, ◌<◌, ◌≤◌, [], length};
+ghost use Rattle.multimap_table.specs.Layout.{group_count, IsGroupCount, IsLaidOut, HoldRows};
+ghost use Rattle.multimap_table.specs.Entries.{entries, rows_of, IsUnique};
 
 use crate::group::{LANES, Row};
 use crate::insert::insert_row;
@@ -39,11 +39,10 @@ pub(crate) fn insert_all<A: Allocator>(
     requires old_rows { length old_rows.now ≡ length old_tags.now }
     requires unique { IsUnique (entries old_tags.now old_rows.now) }
     requires room { length (entries old_tags.now old_rows.now) ≤ 12 * group_count tags.old.items }
-    ensures laid_out { IsLaidOut tags.new.items rows.new.items }
-    ensures rows { rows_of tags.new.items rows.new.items ≡ rows_of old_tags.now old_rows.now }
+    ensures rows { HoldRows (length tags.old.items) (rows_of old_tags.now old_rows.now)
+        tags.new.items rows.new.items }
     ensures counted { length (entries tags.new.items rows.new.items)
         ≡ length (entries old_tags.now old_rows.now) }
-    ensures lanes { length tags.new.items ≡ length tags.old.items }
 {
     for lane in 0..old_tags.len() {
         if old_tags[lane] != 0 {

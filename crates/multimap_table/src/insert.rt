@@ -1,7 +1,7 @@
 //! Puts rows into empty lanes.
-ghost use Rattle.std.specs.Prelude.{◌≡◌, ℕ, ◌+◌, ◌<◌, None, length, [], ◌++◌};
+ghost use Rattle.std.specs.Prelude.{◌≡◌, ◌+◌, length};
 ghost use Rattle.std.specs.FinMap as map;
-ghost use Rattle.multimap_table.specs.Layout.{IsLaidOut, HasRoom};
+ghost use Rattle.multimap_table.specs.Layout.{CanTake, HoldRows};
 ghost use Rattle.multimap_table.specs.Entries.{entries, rows_of};
 
 use crate::group::{LANES, Row, tag_of};
@@ -10,15 +10,12 @@ use std::alloc::Allocator;
 
 /// Puts the row into the first empty lane that a probe for its hash finds.
 pub(crate) fn insert_row<A: Allocator>(tags: &mut Vec<u8, A>, rows: &mut Vec<Row, A>, row: Row)
-    requires laid_out { IsLaidOut tags.old.items rows.old.items }
-    requires room { HasRoom tags.old.items }
-    requires absent { map.get (rows_of tags.old.items rows.old.items) row.place ≡ None }
-    ensures laid_out { IsLaidOut tags.new.items rows.new.items }
-    ensures rows { rows_of tags.new.items rows.new.items
-        ≡ map.insert (rows_of tags.old.items rows.old.items) row.place row.hash }
+    requires { CanTake tags.old.items rows.old.items row.place }
+    ensures rows { HoldRows (length tags.old.items)
+        (map.insert (rows_of tags.old.items rows.old.items) row.place row.hash)
+        tags.new.items rows.new.items }
     ensures counted { length (entries tags.new.items rows.new.items)
         ≡ length (entries tags.old.items rows.old.items) + 1 }
-    ensures lanes { length tags.new.items ≡ length tags.old.items }
 {
     let count = tags.len() / LANES;
     let lane = lane_with_room(tags, probe_start(row.hash, count));

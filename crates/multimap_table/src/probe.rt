@@ -1,6 +1,6 @@
 //! Looks through the groups, one after another, from the group that a hash names.
-ghost use Rattle.std.specs.Prelude.{◌≡◌, ◌≢◌, ℕ, ◌+◌, ◌*◌, ◌/◌, ◌^◌, ◌<◌, ◌≤◌, true, false, length, slice_index, IfSome, IfNone};
-ghost use Rattle.multimap_table.specs.Layout.{hash_tag, probe_start, distance, group_count, IsGroupCount, IsSized, IsReachable, Reaches, HoldsHash, HasRoom};
+ghost use Rattle.std.specs.Prelude.{◌≡◌, ℕ, ◌+◌, ◌*◌, ◌/◌, ◌^◌, ◌<◌, ◌≤◌, length, slice_index};
+ghost use Rattle.multimap_table.specs.Layout.{hash_tag, probe_start, distance, group_count, IsGroupCount, IsGroupAfter, Reaches, HoldsHash, CanFind, FindsLane, HasRoom};
 ghost use Rattle.multimap_table.specs.Entries.{row_at};
 
 use crate::group::{LANES, Row, lowest_set_bit, match_tag, remove_lowest_bit, tag_of};
@@ -20,8 +20,7 @@ pub(crate) fn probe(start: usize, step: usize, count: usize) -> usize
     requires fits { 16 * count < 2 ^ 64 }
     requires start { start < count }
     requires step { step < count }
-    ensures in_range { result < count }
-    ensures value { distance count start result ≡ step }
+    ensures { IsGroupAfter count start step result }
 {
     (start + step) & (count - 1)
 }
@@ -30,13 +29,12 @@ pub(crate) fn probe(start: usize, step: usize, count: usize) -> usize
 pub(crate) fn distance(from: usize, to: usize, count: usize) -> usize
     requires from { from < count }
     requires to { to < count }
-    requires fits { 16 * count < 2 ^ 64 }
     ensures { result ≡ distance count from to }
 {
     if from <= to {
         to - from
     } else {
-        to + count - from
+        count - (from - to)
     }
 }
 
@@ -53,11 +51,9 @@ fn find_in_group<F: Fn(usize) -> bool>(
     requires rows { length rows.now ≡ length tags.now }
     requires callable { (lane : ℕ) → HoldsHash tags.now rows.now hash lane
         → F.pre test.now (row_at rows.now lane).place }
-    ensures found { IfSome result (λ lane. HoldsHash tags.now rows.now hash lane
-        × F.post test.now (row_at rows.now lane).place true) }
-    ensures absent { IfNone result ((lane : ℕ) → lane / 16 ≡ group
-        → slice_index tags.now lane ≡ hash_tag hash → (row_at rows.now lane).hash ≡ hash
-        → F.post test.now (row_at rows.now lane).place false) }
+    ensures { FindsLane tags.now rows.now hash (λ lane. (lane / 16 ≡ group)
+        × (slice_index tags.now lane ≡ hash_tag hash) × ((row_at rows.now lane).hash ≡ hash))
+        (F.post test.now) result }
 {
     let mut matches = match_tag(tags, group, tag_of(hash));
     while matches != 0 {
@@ -81,14 +77,9 @@ pub(crate) fn find_lane<F: Fn(usize) -> bool>(
     hash: u64,
     test: &F,
 ) -> Option<usize>
-    requires sized { IsSized tags.now rows.now }
-    requires reachable { IsReachable tags.now rows.now }
-    requires callable { (lane : ℕ) → HoldsHash tags.now rows.now hash lane
-        → F.pre test.now (row_at rows.now lane).place }
-    ensures found { IfSome result (λ lane. HoldsHash tags.now rows.now hash lane
-        × F.post test.now (row_at rows.now lane).place true) }
-    ensures absent { IfNone result ((lane : ℕ) → HoldsHash tags.now rows.now hash lane
-        → F.post test.now (row_at rows.now lane).place false) }
+    requires { CanFind tags.now rows.now hash (F.pre test.now) }
+    ensures { FindsLane tags.now rows.now hash (HoldsHash tags.now rows.now hash) (F.post test.now)
+        result }
 {
     let count = tags.len() / LANES;
     let start = probe_start(hash, count);

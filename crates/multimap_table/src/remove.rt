@@ -1,7 +1,7 @@
 //! Takes rows out of their lanes, and lets later rows move back into the gap.
-ghost use Rattle.std.specs.Prelude.{◌≡◌, ℕ, ◌+◌, ◌*◌, ◌/◌, ◌<◌, ◌≤◌, length, slice_index, slice_set, IfSome, IfNone};
+ghost use Rattle.std.specs.Prelude.{◌≡◌, ℕ, ◌+◌, ◌/◌, ◌<◌, length, slice_index, slice_set, IfSome, IfNone};
 ghost use Rattle.std.specs.FinMap as map;
-ghost use Rattle.multimap_table.specs.Layout.{group_count, probe_start, distance, IsGroupCount, IsSized, IsLaidOut, HasRoom, Passes};
+ghost use Rattle.multimap_table.specs.Layout.{group_count, IsSized, Passes, CanLose, HoldRows};
 ghost use Rattle.multimap_table.specs.Entries.{entries, rows_of, row_at};
 
 use crate::group::{LANES, Row};
@@ -35,16 +35,12 @@ fn row_that_passes(tags: &[u8], rows: &[Row], group: usize, earlier: usize) -> O
 /// Only behind a full group does a row lie that was put past it. So the gap moves on from group to
 /// group, by each row that passes it, up to the first group that had an empty lane anyway.
 pub(crate) fn remove_row<A: Allocator>(tags: &mut Vec<u8, A>, rows: &mut Vec<Row, A>, lane: usize)
-    requires laid_out { IsLaidOut tags.old.items rows.old.items }
-    requires room { HasRoom tags.old.items }
-    requires in_range { lane < length tags.old.items }
-    requires full { 0 < slice_index tags.old.items lane }
-    ensures laid_out { IsLaidOut tags.new.items rows.new.items }
-    ensures rows { rows_of tags.new.items rows.new.items
-        ≡ map.remove (rows_of tags.old.items rows.old.items) (row_at rows.old.items lane).place }
+    requires { CanLose tags.old.items rows.old.items lane }
+    ensures rows { HoldRows (length tags.old.items)
+        (map.remove (rows_of tags.old.items rows.old.items) (row_at rows.old.items lane).place)
+        tags.new.items rows.new.items }
     ensures counted { length (entries tags.new.items rows.new.items) + 1
         ≡ length (entries tags.old.items rows.old.items) }
-    ensures lanes { length tags.new.items ≡ length tags.old.items }
 {
     let count = tags.len() / LANES;
     let last = lane_with_room(tags, lane / LANES) / LANES;

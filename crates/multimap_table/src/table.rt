@@ -2,6 +2,7 @@
 ghost use Rattle.std.specs.Prelude.{◌≡◌, ℕ, ◌+◌, ◌*◌, ◌<◌, ◌≤◌, ◌↔◌, true, false, None, Some, IfSome, IfNone, IfOk, OnOk, OnErr, IsOk, IsTrue};
 ghost use Rattle.std.specs.FinMap as map;
 ghost use Rattle.multimap_table.specs.Table.{HasRow};
+ghost use Rattle.multimap_table.specs.Layout.{Grows, IsEmptyFor};
 
 use crate::group::{LANES, Row};
 use crate::grow::{GROUP_LOAD, MAX_GROUPS, groups_for, insert_all};
@@ -183,10 +184,7 @@ impl<A: Allocator + Copy> KeyTable<A> {
     #[inline(never)]
     fn grow_to(&mut self, capacity: usize) -> Result<(), AllocError>
         requires { self.old.capacity < capacity }
-        ensures unchanged { self.new.rows ≡ self.old.rows }
-        ensures room { OnOk result (capacity ≤ self.new.capacity) }
-        ensures doubles { OnOk result (self.old.capacity * 2 ≤ self.new.capacity) }
-        ensures refused { OnErr result (self.new.capacity ≡ self.old.capacity) }
+        ensures { Grows capacity self.old self.new result }
     {
         // The capacity tells the proof that all rows fit.
         let Some(doubled) = self.capacity().checked_mul(2) else {
@@ -209,8 +207,7 @@ impl<A: Allocator + Copy> KeyTable<A> {
     #[inline(never)]
     fn with_groups_for(alloc: A, capacity: usize) -> Result<KeyTable<A>, AllocError>
         requires { 0 < capacity }
-        ensures empty { IfOk result (λ table. table.rows ≡ map.empty) }
-        ensures room { IfOk result (λ table. capacity ≤ table.capacity) }
+        ensures { IfOk result (IsEmptyFor capacity) }
     {
         if GROUP_LOAD * MAX_GROUPS < capacity {
             return Err(AllocError);

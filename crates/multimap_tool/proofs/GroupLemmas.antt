@@ -1,9 +1,15 @@
--- A command that is none of those that a function of a run answers is one of the next function's.
-use Rattle.std.proofs.Common.{◌≢◌, ℕ, refl}
+-- A command that is none of those that a function of a run answers is one of the next function's;
+-- and what a command's group says of the room that it finds.
+use Rattle.std.proofs.Common.{◌≢◌, ℕ, Bool, refl}
+use Rattle.ordered_multimap.specs.Multimap.{Multimap}
+use Rattle.ordered_multimap.specs.Rooms.{HasKeyRoom, HasValueRoom}
 use Rattle.multimap_tool.specs.declared.commands.Command.{Command}
 use Rattle.multimap_tool.specs.declared.commands.Command.TheVariants.{Append, Insert, InsertAll, SetFirst, SetFront, SetBack, OrInsert}
 use Rattle.multimap_tool.specs.declared.commands.Command.TheVariants.{Remove, RemoveAll, RemoveEntry, RemoveEntryAll, RemoveAt, PopFront}
 use Rattle.multimap_tool.specs.declared.commands.Command.TheVariants.{PopBack, Retain, Clear, Reserve, PackToFit, Swap, Json, Json2}
+use Rattle.multimap_tool.specs.declared.replies.Reply.{Reply}
+use Rattle.multimap_tool.specs.declared.replies.Reply.TheVariants.{NoMemory}
+use Rattle.multimap_tool.specs.MapSteps.{FindsItsRoom, MakesUnused}
 use Rattle.multimap_tool.specs.Step.{IsLookUp}
 use Rattle.multimap_tool.specs.RunRooms.{IsAddition}
 use Rattle.multimap_tool.specs.Groups.{IsInPlace, WritesOrRemoves, RemovesOrLooksUp}
@@ -27,12 +33,6 @@ module _ {K V A : Type 0} where
   WritesOrRemoves-else (OrInsert k v) is append insert all or = or k v refl
   WritesOrRemoves-else command is append insert all or = is
 
-  pub no_addition : (command : Command K V A) → WritesOrRemoves command → IsAddition command → ⊥
-  no_addition (Append k v) is adds = is
-  no_addition (Insert k v) is adds = is
-  no_addition (OrInsert k v) is adds = is
-  no_addition command is adds = adds
-
   pub RemovesOrLooksUp-else : (command : Command K V A) → WritesOrRemoves command → ((k : K) (v : V) → command ≢ SetFirst k v)
       → ((v : V) → command ≢ SetFront v)
       → ((v : V) → command ≢ SetBack v) → command ≢ Clear → ((a b : ℕ) → command ≢ Reserve a b) → RemovesOrLooksUp command
@@ -55,3 +55,26 @@ module _ {K V A : Type 0} where
   IsLookUp-else PopFront is remove all entry entry_all at front back = front refl
   IsLookUp-else PopBack is remove all entry entry_all at front back = back refl
   IsLookUp-else command is remove all entry entry_all at front back = is
+
+  -- a command that leaves the map in its place puts it on no other tape
+  pub makes_no_unused : (command : Command K V A) → IsInPlace command → MakesUnused command → ⊥
+  makes_no_unused PackToFit is makes = is
+  makes_no_unused Swap is makes = is
+  makes_no_unused command is makes = makes
+
+module _ {K V A S : Type 0} (eq : K → K → Bool) (m : Multimap K V S) (reply : Reply K V A) where
+  -- an addition finds the room that is there, and a look-up asks for none
+  pub addition_finds : (command : Command K V A) → FindsItsRoom eq command m reply → IsAddition command → HasKeyRoom m → HasValueRoom m
+      → reply ≢ NoMemory
+  addition_finds (Append k v) finds adds = finds
+  addition_finds (Insert k v) finds adds = finds
+  addition_finds (OrInsert k v) finds adds = finds
+  addition_finds command finds adds = absurd adds
+
+  pub look_up_finds : (command : Command K V A) → IsLookUp command → FindsItsRoom eq command m reply
+  look_up_finds (Append k v) is = absurd is
+  look_up_finds (Insert k v) is = absurd is
+  look_up_finds (InsertAll k v) is = absurd is
+  look_up_finds (OrInsert k v) is = absurd is
+  look_up_finds (Reserve a b) is = absurd is
+  look_up_finds command is = tt

@@ -1,5 +1,5 @@
 -- Arrays of two, objects of two members, and items that pass.
-use Rattle.std.proofs.Common.{◌≡◌, ℕ, ◌&&◌, Bool, true, false, cond, List, [], ◌∷◌, ◌++◌, length, Option, Some, None, Result, Ok, Err, OnOk}
+use Rattle.std.proofs.Common.{◌≡◌, ℕ, ◌&&◌, Bool, true, false, cond, List, [], ◌∷◌, ◌++◌, length, Option, Some, None}
 use Rattle.std.proofs.Common.{codes, option_map, option_and_then, refl, sym, ap, ap₂, ◌∙◌, arith}
 use Rattle.std.proofs.lemmas.Bool.{eq-eqb, ne_eqb}
 use Rattle.serde_json.specs.Data.{Data, null, boolean, number, string, array, object, Items, item, no_items, Members}
@@ -71,8 +71,3 @@ each_item-push test [] v each passes = ap (λ b. b && true) passes
 each_item-push test (w ∷ vs) v each passes =
     let P : Bool → Type 0 = λ b. (b && each_item test (items_view vs)) ≡ true → (b && each_item test (items_view (vs ++ v ∷ []))) ≡ true in
     elim (test (view w)) as P [ true ↦ λ rest. each_item-push test vs v rest passes | false ↦ λ never. never ] each
-
--- where two things hold of an Ok, so does what follows from both
-pub on_both : {T E : Type 0} (A B C : Type 0) (r : Result T E) → OnOk r A → OnOk r B → (A → B → C) → OnOk r C
-on_both A B C (Ok x) a b follows = follows a b
-on_both A B C (Err e) a b follows = a

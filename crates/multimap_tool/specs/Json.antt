@@ -49,6 +49,11 @@ module _ {K V : Type 0} (key_json : K → Data) (value_json : V → Data) where
   abbrev pub pairs_json : List (K × V) → Data
   pairs_json pairs = array (items_of (map pair_json pairs))
 
+  -- different keys have different JSON values, and different values too
+  pub record DifferAsJson : Type 0 where
+    pub keys : (k j : K) → key_json k ≡ key_json j → k ≡ j
+    pub values : (v w : V) → value_json v ≡ value_json w → v ≡ w
+
   -- the lists are built of the pairs of this JSON value, in order
   abbrev pub IsReadFrom : (K → K → Bool) → Data → Lists K V → Type 0
   IsReadFrom eq d m = (pairs : List (K × V)) × (d ≡ pairs_json pairs) × (m ≡ built_from eq pairs)

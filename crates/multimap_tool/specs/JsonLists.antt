@@ -17,7 +17,6 @@ use Rattle.multimap_tool.specs.declared.json.faults.ReadFault.TheVariants.{NotVe
 use Rattle.multimap_tool.specs.declared.json.faults.ReadFault.TheVariants.{BadListedKey}
 use Rattle.multimap_tool.specs.declared.json.faults.ReadFault.TheVariants.{RepeatedKey}
 use Rattle.multimap_tool.specs.declared.json.faults.ReadFault.TheVariants.{UnlistedKey, UnusedKey}
-use Rattle.multimap_tool.specs.declared.json.faults.ReadFault.TheVariants.{OutOfMemory}
 
 -- the items of the array that an object has at a name
 abbrev pub array_at : List ℕ → Data → Option Items

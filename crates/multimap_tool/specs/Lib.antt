@@ -2,6 +2,7 @@ pub mod Step
 pub mod Parts
 pub mod Runs
 pub mod RunRooms
+pub mod MapSteps
 pub mod Groups
 pub mod Spelling
 pub mod Texts

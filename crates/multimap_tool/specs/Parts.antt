@@ -1,7 +1,7 @@
 -- Words of the parser's own functions. No public clause cites this module.
 use Rattle.std.specs.Prelude.{◌≡◌, ◌≢◌, ◌⊎◌, ℕ, ◌<◌, ◌≤◌, ◌^◌, ℤ, nat_eq, FitsSigned, false, IsTrue}
 use Rattle.std.specs.Prelude.{List, [], ◌∷◌, ◌++◌, length, slice_index, map, codes}
-use Rattle.std.specs.Prelude.{Option, MatchOption}
+use Rattle.std.specs.Prelude.{Option, Some, MatchOption}
 use Rattle.std.specs.List.{list_any}
 use Rattle.std.specs.Int.{w64}
 use Rattle.std.specs.Fmt.{decimal, signed_decimal}
@@ -132,3 +132,17 @@ pub record AreLettersOf (text : List ℕ) (word : List End) : Type 0 where
 -- no letters spell the text
 abbrev pub IsNoWord : List ℕ → Type 0
 IsNoWord text = (word : List End) → ¬ (AreLettersOf text word)
+
+-- a word, and a text that spells this value; no space is in them
+pub record AreWordAndNumber (word text : List ℕ) (number : ℤ) : Type 0 where
+  pub name : IsWithout 32 word
+  pub operand : IsWithout 32 text
+  pub value : IsValueOf text (Some number)
+
+-- a word, a text that spells this key, and one that spells this value; no space is in the first two
+pub record AreWordAndNumbers (word text : List ℕ) (number : ℕ) (last : List ℕ) (other : ℤ)
+    : Type 0 where
+  pub name : IsWithout 32 word
+  pub first : IsWithout 32 text
+  pub key : IsKeyOf text (Some number)
+  pub value : IsValueOf last (Some other)

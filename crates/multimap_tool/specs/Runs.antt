@@ -14,3 +14,9 @@ module _ {K V : Type 0} (keeps : V → K → V → Bool → V → Type 0) (eq : 
       (next : Lists K V) × IsStep keeps eq command m reply next × IsRun commands next replies n
   IsRun [] m (reply ∷ replies) n = ⊥
   IsRun (command ∷ commands) m [] n = ⊥
+
+-- a clone of a key is the very key, and a clone of a value the very value
+pub record ClonesAreSame {K V : Type 0} (key_clone : K → K → Type 0)
+    (value_clone : V → V → Type 0) : Type 0 where
+  pub keys : (k c : K) → key_clone k c → c ≡ k
+  pub values : (v c : V) → value_clone v c → c ≡ v

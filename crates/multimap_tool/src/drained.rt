@@ -1,10 +1,8 @@
 //! Commands whose replies list the values that leave. The room for them is taken before the map is
 //! changed.
-ghost use Rattle.std.specs.Prelude.{◌≡◌, ◌≢◌, ◌+◌, ◌≤◌, ◌++◌, Some, false, length, map, vec_capacity};
+ghost use Rattle.std.specs.Prelude.{◌≡◌, ◌+◌, ◌≤◌, ◌++◌, Some, length, map, vec_capacity};
 ghost use Rattle.ordered_multimap.specs.Drains.{drain_left, KeepsMap};
-ghost use Rattle.ordered_multimap.specs.Pairs.{is_present};
-ghost use Rattle.ordered_multimap.specs.Rooms.{HasKeyRoom, HasValueRoom, KeepsRooms};
-ghost use Rattle.multimap_tool.specs.Step.{IsOwnStep};
+ghost use Rattle.multimap_tool.specs.MapSteps.{IsOwnStepInPlace};
 
 use crate::commands::Command;
 use crate::replies::Reply;
@@ -20,12 +18,7 @@ pub(crate) fn insert_all<K: Eq + Hash + Copy, V: Copy, S: BuildHasher, A: Alloca
     key: K,
     value: V,
 ) -> Reply<K, V, A>
-    ensures step { IsOwnStep K.eq (Command.InsertAll key value) map.old.lists result map.new.lists }
-    ensures rooms { KeepsRooms map.old map.new }
-
-    // The list of no value takes no memory.
-    ensures had_room { is_present K.eq map.old.lists.pairs key ≡ false → HasKeyRoom map.old
-        → HasValueRoom map.old → result ≢ Reply.NoMemory }
+    ensures { IsOwnStepInPlace K.eq (Command.InsertAll key value) map.old map.new result }
 {
     let Ok(mut values) = Vec::with_capacity(alloc, map.entry_len(&key)) else {
         return Reply::NoMemory;
@@ -43,8 +36,7 @@ pub(crate) fn remove_all<K: Eq + Hash + Copy, V: Copy, S: BuildHasher, A: Alloca
     map: &mut ListOrderedMultimap<K, V, S, A>,
     key: &K,
 ) -> Reply<K, V, A>
-    ensures step { IsOwnStep K.eq (Command.RemoveAll key.now) map.old.lists result map.new.lists }
-    ensures rooms { KeepsRooms map.old map.new }
+    ensures { IsOwnStepInPlace K.eq (Command.RemoveAll key.now) map.old map.new result }
 {
     let Ok(mut values) = Vec::with_capacity(alloc, map.entry_len(key)) else {
         return Reply::NoMemory;
@@ -61,9 +53,7 @@ pub(crate) fn remove_entry_all<K: Eq + Hash + Copy, V: Copy, S: BuildHasher, A: 
     map: &mut ListOrderedMultimap<K, V, S, A>,
     key: &K,
 ) -> Reply<K, V, A>
-    ensures step { IsOwnStep K.eq (Command.RemoveEntryAll key.now)
-        map.old.lists result map.new.lists }
-    ensures rooms { KeepsRooms map.old map.new }
+    ensures { IsOwnStepInPlace K.eq (Command.RemoveEntryAll key.now) map.old map.new result }
 {
     let Ok(mut values) = Vec::with_capacity(alloc, map.entry_len(key)) else {
         return Reply::NoMemory;

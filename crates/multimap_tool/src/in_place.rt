@@ -1,12 +1,11 @@
 //! Commands that keep the map in its place and its room, and ask no function.
-ghost use Rattle.std.specs.Prelude.{◌≡◌, ◌≢◌, ℕ, false, option_map};
-ghost use Rattle.ordered_multimap.specs.Pairs.{is_present};
+ghost use Rattle.std.specs.Prelude.{◌≡◌, option_map};
 ghost use Rattle.ordered_multimap.specs.Pop.{popped, popped_pair};
 ghost use Rattle.ordered_multimap.specs.Pops.{popped_of};
-ghost use Rattle.ordered_multimap.specs.Rooms.{HasKeyRoom, HasValueRoom, KeepsRooms};
+ghost use Rattle.ordered_multimap.specs.Rooms.{KeepsRooms};
 ghost use Rattle.multimap_tool.specs.Groups.{IsInPlace, WritesOrRemoves, RemovesOrLooksUp};
-ghost use Rattle.multimap_tool.specs.RunRooms.{HasRoomsFor, IsAddition};
-ghost use Rattle.multimap_tool.specs.Step.{IsOwnStep, told_pop};
+ghost use Rattle.multimap_tool.specs.MapSteps.{IsOwnStepInPlace};
+ghost use Rattle.multimap_tool.specs.Step.{told_pop};
 
 use crate::commands::Command;
 use crate::drained::{insert_all, remove_all, remove_entry_all};
@@ -26,15 +25,7 @@ pub(crate) fn step_in_place<K: Eq + Hash + Copy, V: Copy, S: BuildHasher, A: All
     command: &Command<K, V, A>,
 ) -> Reply<K, V, A>
     requires { IsInPlace command.now }
-    ensures step { IsOwnStep K.eq command.now map.old.lists result map.new.lists }
-    ensures rooms { KeepsRooms map.old map.new }
-    ensures finds_room { IsAddition command.now → HasKeyRoom map.old → HasValueRoom map.old
-        → result ≢ Reply.NoMemory }
-    ensures inserts_all { (k : K) (v : V) → command.now ≡ Command.InsertAll k v
-        → is_present K.eq map.old.lists.pairs k ≡ false → HasKeyRoom map.old
-        → HasValueRoom map.old → result ≢ Reply.NoMemory }
-    ensures reserves { (a b : ℕ) → command.now ≡ Command.Reserve a b → HasRoomsFor map.old a b
-        → result ≡ Reply.Done }
+    ensures { IsOwnStepInPlace K.eq command.now map.old map.new result }
 {
     match command {
         Command::Append(key, value) => append(map, *key, *value),
@@ -52,10 +43,7 @@ fn write_or_remove<K: Eq + Hash + Copy, V: Copy, S: BuildHasher, A: Allocator + 
     command: &Command<K, V, A>,
 ) -> Reply<K, V, A>
     requires { WritesOrRemoves command.now }
-    ensures step { IsOwnStep K.eq command.now map.old.lists result map.new.lists }
-    ensures rooms { KeepsRooms map.old map.new }
-    ensures reserves { (a b : ℕ) → command.now ≡ Command.Reserve a b → HasRoomsFor map.old a b
-        → result ≡ Reply.Done }
+    ensures { IsOwnStepInPlace K.eq command.now map.old map.new result }
 {
     match command {
         Command::SetFirst(key, value) => set_first(map, key, *value),
@@ -74,8 +62,7 @@ fn remove_or_look_up<K: Eq + Hash + Copy, V: Copy, S: BuildHasher, A: Allocator 
     command: &Command<K, V, A>,
 ) -> Reply<K, V, A>
     requires { RemovesOrLooksUp command.now }
-    ensures step { IsOwnStep K.eq command.now map.old.lists result map.new.lists }
-    ensures rooms { KeepsRooms map.old map.new }
+    ensures { IsOwnStepInPlace K.eq command.now map.old map.new result }
 {
     match command {
         Command::Remove(key) => Reply::Value(map.remove(key)),
@@ -95,10 +82,7 @@ fn append<K: Eq + Hash + Copy, V: Copy, S: BuildHasher, A: Allocator + Copy>(
     key: K,
     value: V,
 ) -> Reply<K, V, A>
-    ensures step { IsOwnStep K.eq (Command.Append key value) map.old.lists result map.new.lists }
-    ensures rooms { KeepsRooms map.old map.new }
-    ensures finds_room { HasKeyRoom map.old → HasValueRoom map.old
-        → result ≢ Reply.NoMemory }
+    ensures { IsOwnStepInPlace K.eq (Command.Append key value) map.old map.new result }
 {
     match map.append(key, value) {
         Ok(present) => Reply::Appended(present),
@@ -112,10 +96,7 @@ fn insert<K: Eq + Hash + Copy, V: Copy, S: BuildHasher, A: Allocator + Copy>(
     key: K,
     value: V,
 ) -> Reply<K, V, A>
-    ensures step { IsOwnStep K.eq (Command.Insert key value) map.old.lists result map.new.lists }
-    ensures rooms { KeepsRooms map.old map.new }
-    ensures finds_room { HasKeyRoom map.old → HasValueRoom map.old
-        → result ≢ Reply.NoMemory }
+    ensures { IsOwnStepInPlace K.eq (Command.Insert key value) map.old map.new result }
 {
     match map.insert(key, value) {
         Ok(old) => Reply::Old(old),
@@ -129,8 +110,7 @@ fn remove_at<K: Eq + Hash + Copy, V: Copy, S: BuildHasher, A: Allocator + Copy>(
     key: K,
     index: usize,
 ) -> Reply<K, V, A>
-    ensures step { IsOwnStep K.eq (Command.RemoveAt key index) map.old.lists result map.new.lists }
-    ensures rooms { KeepsRooms map.old map.new }
+    ensures { IsOwnStepInPlace K.eq (Command.RemoveAt key index) map.old map.new result }
 {
     match map.entry(key) {
         Entry::Occupied(mut entry) => Reply::Value(entry.remove_at(index)),
@@ -179,8 +159,7 @@ fn told<K: Copy, V>(pair: Option<(KeyWrapper<'_, K>, V)>) -> Option<Popped<K, V>
 fn clear<K: Eq + Hash + Copy, V: Copy, S: BuildHasher, A: Allocator + Copy>(
     map: &mut ListOrderedMultimap<K, V, S, A>,
 ) -> Reply<K, V, A>
-    ensures step { IsOwnStep K.eq Command.Clear map.old.lists result map.new.lists }
-    ensures rooms { KeepsRooms map.old map.new }
+    ensures { IsOwnStepInPlace K.eq Command.Clear map.old map.new result }
 {
     map.clear();
     Reply::Done

@@ -10,6 +10,7 @@ ghost use Rattle.multimap_tool.specs.Json.{AppendsRead, IsFound, IsReadFrom, fau
 ghost use Rattle.multimap_tool.specs.Json.{pair_json, pairs_json};
 ghost use Rattle.multimap_tool.specs.JsonLists.{IsRead, IsFaultIn, has_form};
 ghost use Rattle.multimap_tool.specs.JsonLists.{both_arrays};
+ghost use Rattle.multimap_tool.specs.JsonSteps.{IsReadOfPairs, ReadsInto};
 
 mod faults;
 mod items;
@@ -129,14 +130,10 @@ fn read_items<
     state: S,
     items: &[Value],
 ) -> Result<ListOrderedMultimap<K, V, S, A>, ReadFault>
-    ensures read { IfOk result (λ map.
-        IsReadFrom K.json V.json K.eq (array (items_view items.now)) map.lists) }
-    ensures accepted { OnOk result
-        (fault_in K.is_part V.is_part (array (items_view items.now)) ≡ None) }
+    ensures read { IfOk result (IsReadOfPairs K.json V.json K.is_part V.is_part K.eq
+        (items_view items.now) state) }
     ensures fault { IfErr result
         (IsFound (fault_in K.is_part V.is_part (array (items_view items.now)))) }
-    ensures hasher { IfOk result (λ map. map.hasher ≡ state) }
-    ensures unused { IfOk result (λ map. AreUnused map.tape) }
 {
     let mut map = ListOrderedMultimap::with_hasher(alloc, state);
     match append_items(memory, items, &mut map) {
@@ -157,14 +154,12 @@ fn append_items<
     map: &mut ListOrderedMultimap<K, V, S, A>,
 ) -> Result<(), ReadFault>
     requires { map.old.lists ≡ empty_lists }
-    ensures read { OnOk result
-        (IsReadFrom K.json V.json K.eq (array (items_view items.now)) map.new.lists) }
+    ensures read { ReadsInto map.old map.new
+        (IsReadFrom K.json V.json K.eq (array (items_view items.now)) map.new.lists) result }
     ensures accepted { OnOk result
         (fault_in K.is_part V.is_part (array (items_view items.now)) ≡ None) }
     ensures fault { IfErr result
         (IsFound (fault_in K.is_part V.is_part (array (items_view items.now)))) }
-    ensures hasher { map.new.hasher ≡ map.old.hasher }
-    ensures unused { AreUnused map.old.tape → AreUnused map.new.tape }
 {
     // A wish: each append makes the room that it needs.
     let _reserved = map.reserve_values(items.len());
@@ -186,14 +181,12 @@ fn append_item<
     item: &Value,
     map: &mut ListOrderedMultimap<K, V, S, A>,
 ) -> Result<(), ReadFault>
-    ensures read { OnOk result
-        (AppendsRead K.json V.json K.eq (view item.now) map.old.lists map.new.lists) }
+    ensures read { ReadsInto map.old map.new
+        (AppendsRead K.json V.json K.eq (view item.now) map.old.lists map.new.lists) result }
     ensures accepted { OnOk result
         (item_fault K.is_part V.is_part index (view item.now) ≡ None) }
     ensures fault { IfErr result
         (IsFound (item_fault K.is_part V.is_part index (view item.now))) }
-    ensures hasher { map.new.hasher ≡ map.old.hasher }
-    ensures unused { AreUnused map.old.tape → AreUnused map.new.tape }
 {
     let (key, value) = read_pair(memory, index, item)?;
     let Ok(_) = map.append(key, value) else {

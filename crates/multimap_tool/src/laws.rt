@@ -8,7 +8,7 @@ ghost use Rattle.multimap_tool.specs.declared.replies.Reply.{Reply};
 ghost use Rattle.multimap_tool.specs.Step.{IsStep, MayKeep};
 ghost use Rattle.multimap_tool.specs.Runs.{IsRun};
 ghost use Rattle.multimap_tool.specs.Laws.{IsOrderly};
-ghost use Rattle.multimap_tool.specs.Json.{IsReadFrom, pairs_json};
+ghost use Rattle.multimap_tool.specs.Json.{DifferAsJson, IsReadFrom, pairs_json};
 ghost use Rattle.multimap_tool.specs.JsonLists.{IsRead, lists_json};
 
 use crate::json::JsonPart;
@@ -33,8 +33,7 @@ pub fn run_is_well_formed<K: Eq, V, A: Allocator, F: Fn(V, &K, &mut V) -> bool>(
 /// first occur in the pairs. Different keys have to have different JSON values, and different values
 /// too, as those of numbers have.
 pub fn what_is_written_is_read<K: JsonPart + Eq, V: JsonPart>()
-    requires keys { (k j : K) → K.json k ≡ K.json j → k ≡ j }
-    requires values { (v w : V) → V.json v ≡ V.json w → v ≡ w }
+    requires { DifferAsJson K.json V.json }
     ensures { (m n : Lists K V) → IsWellFormed K.eq m
         → IsReadFrom K.json V.json K.eq (pairs_json K.json V.json m.pairs) n
         → (n.keys ≡ first_occurrences K.eq m.pairs) × (n.pairs ≡ m.pairs) }
@@ -43,8 +42,7 @@ pub fn what_is_written_is_read<K: JsonPart + Eq, V: JsonPart>()
 /// What is read of the JSON value of both lists of a map are the very lists. Different keys have to
 /// have different JSON values, and different values too.
 pub fn json_two_lists<K: JsonPart + Eq, V: JsonPart>()
-    requires keys { (k j : K) → K.json k ≡ K.json j → k ≡ j }
-    requires values { (v w : V) → V.json v ≡ V.json w → v ≡ w }
+    requires { DifferAsJson K.json V.json }
     ensures { (m n : Lists K V) → IsWellFormed K.eq m
         → IsRead K.json V.json K.is_part V.is_part K.eq (lists_json K.json V.json m) n → n ≡ m }
 {}

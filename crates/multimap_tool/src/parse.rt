@@ -1,8 +1,8 @@
 //! Commands read from the lines of a text.
-ghost use Rattle.std.specs.Prelude.{◌≡◌, ◌<◌, ◌++◌, ◌∷◌, length, Some, IfOk, IfErr, MatchOption};
+ghost use Rattle.std.specs.Prelude.{◌≡◌, ◌<◌, ◌++◌, ◌∷◌, length, IfOk, IfErr, MatchOption};
 ghost use Rattle.multimap_tool.specs.Spelling.{lines_of, SpellEach};
 ghost use Rattle.multimap_tool.specs.Execute.{IsTextFaultOf};
-ghost use Rattle.multimap_tool.specs.Parts.{IsWithout, IsReadingOf, IsKeyOf, IsValueOf};
+ghost use Rattle.multimap_tool.specs.Parts.{IsWithout, IsReadingOf, AreWordAndNumber, AreWordAndNumbers};
 
 use crate::commands::Command;
 use crate::faults::TextFault;
@@ -108,9 +108,7 @@ fn with_one_number<A: Allocator>(
     operand: &[u8],
     value: i64,
 ) -> Option<Command<u32, i64, A>>
-    requires name { IsWithout 32 name.now }
-    requires operand { IsWithout 32 operand.now }
-    requires value { IsValueOf operand.now (Some value) }
+    requires { AreWordAndNumber name.now operand.now value }
     ensures { IsReadingOf (name.now ++ 32 ∷ operand.now) result }
 {
     if let Some(command) = value_command(name, value) {
@@ -154,10 +152,7 @@ fn with_two_numbers<A: Allocator>(
     second: &[u8],
     value: i64,
 ) -> Option<Command<u32, i64, A>>
-    requires name { IsWithout 32 name.now }
-    requires first { IsWithout 32 first.now }
-    requires key { IsKeyOf first.now (Some key) }
-    requires value { IsValueOf second.now (Some value) }
+    requires { AreWordAndNumbers name.now first.now key second.now value }
     ensures { IsReadingOf (name.now ++ 32 ∷ (first.now ++ 32 ∷ second.now)) result }
 {
     if let Some(command) = pair_command(name, key, value) {

@@ -1,6 +1,6 @@
 //! The commands that read the map anew from its JSON value.
-ghost use Rattle.std.specs.Prelude.{◌≡◌};
-ghost use Rattle.multimap_tool.specs.Step.{IsOwnStep};
+ghost use Rattle.multimap_tool.specs.Json.{DifferAsJson};
+ghost use Rattle.multimap_tool.specs.MapSteps.{IsOwnMapStep};
 
 use crate::commands::Command;
 use crate::json::{JsonPart, ReadFault, from_value, to_value, to_value_2};
@@ -16,10 +16,8 @@ pub(crate) fn reread<
     S: BuildHasher + Clone,
     A: Allocator + Copy,
 >(alloc: A, memory: Global, map: &mut ListOrderedMultimap<K, V, S, A>) -> Reply<K, V, A>
-    requires key_parts { (k j : K) → K.json k ≡ K.json j → k ≡ j }
-    requires value_parts { (v w : V) → V.json v ≡ V.json w → v ≡ w }
-    ensures step { IsOwnStep K.eq Command.Json map.old.lists result map.new.lists }
-    ensures hasher { ((s c : S) → S.is_clone s c → c ≡ s) → map.new.hasher ≡ map.old.hasher }
+    requires { DifferAsJson K.json V.json }
+    ensures { IsOwnMapStep K.eq S.is_clone Command.Json map.old map.new result }
 {
     // The number of keys tells the proof that the lists are well formed.
     let _keys = map.keys_len();
@@ -46,10 +44,8 @@ pub(crate) fn reread_lists<
     S: BuildHasher + Clone,
     A: Allocator + Copy,
 >(alloc: A, memory: Global, map: &mut ListOrderedMultimap<K, V, S, A>) -> Reply<K, V, A>
-    requires key_parts { (k j : K) → K.json k ≡ K.json j → k ≡ j }
-    requires value_parts { (v w : V) → V.json v ≡ V.json w → v ≡ w }
-    ensures step { IsOwnStep K.eq Command.Json2 map.old.lists result map.new.lists }
-    ensures hasher { ((s c : S) → S.is_clone s c → c ≡ s) → map.new.hasher ≡ map.old.hasher }
+    requires { DifferAsJson K.json V.json }
+    ensures { IsOwnMapStep K.eq S.is_clone Command.Json2 map.old map.new result }
 {
     let _keys = map.keys_len();
     let Ok(value) = to_value_2(memory, map) else {

@@ -1,8 +1,7 @@
 //! Commands that ask for room, or give it back.
 ghost use Rattle.std.specs.Prelude.{◌≡◌, ◌≤◌, ◌+◌, length};
-ghost use Rattle.ordered_multimap.specs.Rooms.{KeepsRooms};
 ghost use Rattle.ordered_multimap.specs.TapeNumbers.{AreUnused};
-ghost use Rattle.multimap_tool.specs.RunRooms.{HasRoomsFor};
+ghost use Rattle.multimap_tool.specs.MapSteps.{IsOwnStepInPlace};
 ghost use Rattle.multimap_tool.specs.Step.{IsOwnStep};
 
 use crate::commands::Command;
@@ -18,14 +17,11 @@ pub(crate) fn reserve<K: Eq + Hash + Copy, V: Copy, S: BuildHasher, A: Allocator
     keys: usize,
     values: usize,
 ) -> Reply<K, V, A>
-    ensures step { IsOwnStep K.eq (Command.Reserve keys values)
-        map.old.lists result map.new.lists }
-    ensures rooms { KeepsRooms map.old map.new }
+    ensures step { IsOwnStepInPlace K.eq (Command.Reserve keys values) map.old map.new result }
     ensures key_room { result ≡ Reply.Done
         → length map.old.lists.keys + keys ≤ map.new.key_room }
     ensures value_room { result ≡ Reply.Done
         → length map.old.lists.pairs + values ≤ map.new.value_room }
-    ensures had_room { HasRoomsFor map.old keys values → result ≡ Reply.Done }
 {
     // Both rooms tell the proof that they hold what is there.
     let _rooms = (map.keys_capacity(), map.values_capacity());

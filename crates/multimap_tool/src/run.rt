@@ -1,13 +1,12 @@
 //! Commands run in order, with one reply for each.
 ghost use Rattle.std.specs.Borrow.{Bor, MutBor};
-ghost use Rattle.std.specs.Prelude.{◌≡◌, ◌≢◌, ◌≤◌, ℕ, [], Contains, false, IfOk, OnErr, length, vec_capacity};
+ghost use Rattle.std.specs.Prelude.{◌≡◌, ◌≤◌, [], Contains, IfOk, OnErr, length, vec_capacity};
 ghost use Rattle.multimap_tool.specs.declared.commands.Command.{Command};
-ghost use Rattle.multimap_tool.specs.Step.{IsOwnStep, IsStep, MayKeep, Rereads};
-ghost use Rattle.ordered_multimap.specs.Pairs.{is_present};
-ghost use Rattle.ordered_multimap.specs.Rooms.{HasKeyRoom, HasValueRoom, KeepsRooms};
-ghost use Rattle.ordered_multimap.specs.TapeNumbers.{AreUnused};
-ghost use Rattle.multimap_tool.specs.Runs.{IsRun};
-ghost use Rattle.multimap_tool.specs.RunRooms.{HasRoomsFor, IsAddition, KeepsRoom, HasRunRoom, FindsRoom};
+ghost use Rattle.multimap_tool.specs.Step.{MayKeep, Rereads};
+ghost use Rattle.multimap_tool.specs.Json.{DifferAsJson};
+ghost use Rattle.multimap_tool.specs.Runs.{ClonesAreSame, IsRun};
+ghost use Rattle.multimap_tool.specs.RunRooms.{HasRunRoom, FindsRoom};
+ghost use Rattle.multimap_tool.specs.MapSteps.{CanStep, IsMapStep, IsOwnMapStep, IsStepInPlace};
 
 use crate::commands::Command;
 use crate::in_place::step_in_place;
@@ -49,12 +48,9 @@ pub fn run<
 ) -> Result<Vec<Reply<K, V, A>, A>, AllocError>
     requires callable { (operand : V) → Contains commands.now (Command.Retain operand)
         → (key : Bor K) (value : MutBor V) → F.pre keep operand key value }
-    requires keys { (k c : K) → K.is_clone k c → c ≡ k }
-    requires values { (v c : V) → V.is_clone v c → c ≡ v }
-    requires key_parts { (command : Command K V A) → Contains commands.now command
-        → Rereads command → (k j : K) → K.json k ≡ K.json j → k ≡ j }
-    requires value_parts { (command : Command K V A) → Contains commands.now command
-        → Rereads command → (v w : V) → V.json v ≡ V.json w → v ≡ w }
+    requires clones { ClonesAreSame K.is_clone V.is_clone }
+    requires parts { (command : Command K V A) → Contains commands.now command → Rereads command
+        → DifferAsJson K.json V.json }
     ensures ok { IfOk result (λ replies. IsRun (MayKeep F.Fn keep) K.eq
         commands.now map.old.lists replies.items map.new.lists) }
     ensures hasher { ((s c : S) → S.is_clone s c → c ≡ s) → map.new.hasher ≡ map.old.hasher }
@@ -83,14 +79,8 @@ fn run_all<
     keep: &F,
     replies: &mut Vec<Reply<K, V, A>, A>,
 )
-    requires callable { (operand : V) → Contains commands.now (Command.Retain operand)
-        → F.accepts keep.now operand }
-    requires keys { (k c : K) → K.is_clone k c → c ≡ k }
-    requires values { (v c : V) → V.is_clone v c → c ≡ v }
-    requires key_parts { (command : Command K V A) → Contains commands.now command
-        → Rereads command → (k j : K) → K.json k ≡ K.json j → k ≡ j }
-    requires value_parts { (command : Command K V A) → Contains commands.now command
-        → Rereads command → (v w : V) → V.json v ≡ V.json w → v ≡ w }
+    requires steps { (command : Command K V A) → Contains commands.now command
+        → CanStep (F.accepts keep.now) K.is_clone V.is_clone K.json V.json command }
     requires empty { replies.old.items ≡ [] }
     requires capacity { length commands.now ≤ vec_capacity replies.old }
     ensures ok { IsRun (F.answers keep.now) K.eq
@@ -117,27 +107,8 @@ fn step<
     command: &Command<K, V, A>,
     keep: &F,
 ) -> Reply<K, V, A>
-    requires callable { (operand : V) → command.now ≡ Command.Retain operand
-        → F.accepts keep.now operand }
-    requires keys { (k c : K) → K.is_clone k c → c ≡ k }
-    requires values { (v c : V) → V.is_clone v c → c ≡ v }
-    requires key_parts { Rereads command.now → (k j : K) → K.json k ≡ K.json j → k ≡ j }
-    requires value_parts { Rereads command.now → (v w : V) → V.json v ≡ V.json w → v ≡ w }
-    ensures step { IsStep (F.answers keep.now) K.eq
-        command.now map.old.lists result map.new.lists }
-    ensures hasher { ((s c : S) → S.is_clone s c → c ≡ s) → map.new.hasher ≡ map.old.hasher }
-    ensures rooms { KeepsRoom command.now → KeepsRooms map.old map.new }
-    ensures finds_room { IsAddition command.now → HasKeyRoom map.old → HasValueRoom map.old
-        → result ≢ Reply.NoMemory }
-    ensures inserts_all { (k : K) (v : V) → command.now ≡ Command.InsertAll k v
-        → is_present K.eq map.old.lists.pairs k ≡ false → HasKeyRoom map.old
-        → HasValueRoom map.old → result ≢ Reply.NoMemory }
-    ensures reserves { (a b : ℕ) → command.now ≡ Command.Reserve a b → HasRoomsFor map.old a b
-        → result ≡ Reply.Done }
-    ensures packed { command.now ≡ Command.PackToFit → result ≡ Reply.Done
-        → AreUnused map.new.tape }
-    ensures swapped { command.now ≡ Command.Swap → result ≡ Reply.Done
-        → AreUnused map.new.tape }
+    requires { CanStep (F.accepts keep.now) K.is_clone V.is_clone K.json V.json command.now }
+    ensures { IsMapStep (F.answers keep.now) K.eq S.is_clone command.now map.old map.new result }
 {
     match command {
         Command::Retain(operand) => retain(map, *operand, keep),
@@ -156,9 +127,8 @@ fn retain<K: Eq + Hash + Copy, V: Copy, S: BuildHasher, A: Allocator + Copy, F: 
     keep: &F,
 ) -> Reply<K, V, A>
     requires { F.accepts keep.now operand }
-    ensures step { IsStep (F.answers keep.now) K.eq (Command.Retain operand)
-        map.old.lists result map.new.lists }
-    ensures rooms { KeepsRooms map.old map.new }
+    ensures { IsStepInPlace (F.answers keep.now) K.eq (Command.Retain operand)
+        map.old map.new result }
 {
     map.retain(|key, value| keep.keeps(operand, key, value));
     Reply::Done
@@ -168,11 +138,8 @@ fn retain<K: Eq + Hash + Copy, V: Copy, S: BuildHasher, A: Allocator + Copy, F: 
 fn swap<K: Eq + Hash + Copy, V: Copy, S: BuildHasher + Clone, A: Allocator + Copy>(
     map: &mut ListOrderedMultimap<K, V, S, A>,
 ) -> Reply<K, V, A>
-    requires keys { (k c : K) → K.is_clone k c → c ≡ k }
-    requires values { (v c : V) → V.is_clone v c → c ≡ v }
-    ensures step { IsOwnStep K.eq Command.Swap map.old.lists result map.new.lists }
-    ensures swapped { result ≡ Reply.Done → AreUnused map.new.tape }
-    ensures hasher { ((s c : S) → S.is_clone s c → c ≡ s) → map.new.hasher ≡ map.old.hasher }
+    requires { ClonesAreSame K.is_clone V.is_clone }
+    ensures { IsOwnMapStep K.eq S.is_clone Command.Swap map.old map.new result }
 {
     match map.clone() {
         Ok(copy) => {

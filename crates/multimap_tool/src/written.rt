@@ -1,7 +1,5 @@
 //! Commands that write a value in its place, or a pair where its key is absent.
-ghost use Rattle.std.specs.Prelude.{◌≢◌};
-ghost use Rattle.ordered_multimap.specs.Rooms.{HasKeyRoom, HasValueRoom, KeepsRooms};
-ghost use Rattle.multimap_tool.specs.Step.{IsOwnStep};
+ghost use Rattle.multimap_tool.specs.MapSteps.{IsOwnStepInPlace};
 
 use crate::commands::Command;
 use crate::replies::Reply;
@@ -16,9 +14,7 @@ pub(crate) fn set_first<K: Eq + Hash + Copy, V: Copy, S: BuildHasher, A: Allocat
     key: &K,
     value: V,
 ) -> Reply<K, V, A>
-    ensures step { IsOwnStep K.eq (Command.SetFirst key.now value)
-        map.old.lists result map.new.lists }
-    ensures rooms { KeepsRooms map.old map.new }
+    ensures { IsOwnStepInPlace K.eq (Command.SetFirst key.now value) map.old map.new result }
 {
     match map.get_mut(key) {
         Some(first) => Reply::Old(Some(replace(first, value))),
@@ -31,8 +27,7 @@ pub(crate) fn set_front<K: Eq + Hash + Copy, V: Copy, S: BuildHasher, A: Allocat
     map: &mut ListOrderedMultimap<K, V, S, A>,
     value: V,
 ) -> Reply<K, V, A>
-    ensures step { IsOwnStep K.eq (Command.SetFront value) map.old.lists result map.new.lists }
-    ensures rooms { KeepsRooms map.old map.new }
+    ensures { IsOwnStepInPlace K.eq (Command.SetFront value) map.old map.new result }
 {
     if map.is_empty() {
         return Reply::Pair(None);
@@ -46,8 +41,7 @@ pub(crate) fn set_back<K: Eq + Hash + Copy, V: Copy, S: BuildHasher, A: Allocato
     map: &mut ListOrderedMultimap<K, V, S, A>,
     value: V,
 ) -> Reply<K, V, A>
-    ensures step { IsOwnStep K.eq (Command.SetBack value) map.old.lists result map.new.lists }
-    ensures rooms { KeepsRooms map.old map.new }
+    ensures { IsOwnStepInPlace K.eq (Command.SetBack value) map.old map.new result }
 {
     if map.is_empty() {
         return Reply::Pair(None);
@@ -62,10 +56,7 @@ pub(crate) fn or_insert<K: Eq + Hash + Copy, V: Copy, S: BuildHasher, A: Allocat
     key: K,
     value: V,
 ) -> Reply<K, V, A>
-    ensures step { IsOwnStep K.eq (Command.OrInsert key value) map.old.lists result map.new.lists }
-    ensures rooms { KeepsRooms map.old map.new }
-    ensures finds_room { HasKeyRoom map.old → HasValueRoom map.old
-        → result ≢ Reply.NoMemory }
+    ensures { IsOwnStepInPlace K.eq (Command.OrInsert key value) map.old map.new result }
 {
     match map.entry(key).or_insert(value) {
         Ok(first) => Reply::Value(Some(*first)),

@@ -1,6 +1,7 @@
 pub mod AlongLemmas
 pub mod ChainLemmas
 pub mod CountLemmas
+pub mod Dropped
 pub mod EndLemmas
 pub mod PairLemmas
 pub mod PathLemmas

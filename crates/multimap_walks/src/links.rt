@@ -31,7 +31,7 @@ pub struct ValueLink {
 impl ValueLink {
     /// The place that a step from an end reaches, if the value isn't the last one there.
     #[inline(always)]
-    pub(crate) fn step_from(&self, end: End) -> Option<usize>
+    pub fn step_from(&self, end: End) -> Option<usize>
         ensures { result ≡ step_from end self.now.next self.now.previous }
     {
         match end {
@@ -56,7 +56,7 @@ pub struct ChainEnds {
 impl ChainEnds {
     /// The place at an end.
     #[inline(always)]
-    pub(crate) fn place_at(&self, end: End) -> usize
+    pub fn place_at(&self, end: End) -> usize
         ensures { result ≡ end_place end self.now }
     {
         match end {
@@ -67,7 +67,7 @@ impl ChainEnds {
 
     /// What is left once the place at an end has gone, where `place` is at that end then.
     #[inline(always)]
-    pub(crate) fn after(&self, end: End, place: usize) -> ChainEnds
+    pub fn after(&self, end: End, place: usize) -> ChainEnds
         requires more { ¬ (self.now.length ≡ 0) }
         ensures { result ≡ ends_after end self.now place }
     {

@@ -6,6 +6,8 @@
 #[cfg(test)]
 mod chains;
 #[cfg(test)]
+mod ends;
+#[cfg(test)]
 mod two_keys;
 #[cfg(test)]
 mod walks;

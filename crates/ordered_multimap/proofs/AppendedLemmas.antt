@@ -17,7 +17,7 @@ use Rattle.ordered_multimap.specs.Lists.{lists}
 use Rattle.ordered_multimap.specs.Keys.{is_listed, stored_key}
 use Rattle.ordered_multimap.specs.Changes.{appended}
 use Rattle.ordered_multimap.specs.Agrees.{Agrees, HasKey, items_of, lists_of}
-use Rattle.ordered_multimap.specs.Appends.{PushesValue, PushesBehind, HasListedRows, PushesRow, PushesOnly, AppendsBehind, AppendsFirst}
+use Rattle.ordered_multimap.specs.Appends.{PushesValue, PushesBehind, HasListedRows, PushesRow, AppendsBehind, AppendsFirst, link_of_one}
 use Rattle.ordered_multimap.proofs.Members.{IsIn-kept, filter-none}
 use Rattle.ordered_multimap.proofs.PlaceLemmas.{held, IsIn-filter_map, filter_map-agree, filter_shorter, last_of-member}
 use Rattle.ordered_multimap.proofs.KeyLemmas.{is_listed-member, stored_key_only, stored_key_absent}
@@ -94,21 +94,19 @@ module _ {K V : Type 0} {eq : K → K → Bool} (laws : IsEquivalence eq) {hash 
       subst (λ s. Appends eq hash keys values key v s rows values_after) (sym sets_is) all
 
   -- the table has no row of a place that was not listed
-  pub row_absent : {keys_pushed : Slots K KeyLink} {unset : KeyLink} → PushesBack keys keys_pushed place key unset → get rows place ≡ None
+  pub row_absent : {after : Slots K KeyLink} {link : KeyLink} → PushesBack keys after place key link → get rows place ≡ None
   row_absent pushed =
       let P : Option ℕ → Type 0 = λ o. get rows place ≡ o → o ≡ None in
       elim (get rows place) as P [ None ↦ λ _. refl | Some h ↦ λ is. absurd (pushed.was_absent (agrees.listed place h is)) ] refl
 
   -- a first value of a key that was absent
-  pub append_absent : (h : ℕ) (unset : KeyLink) (keys_pushed keys_after : Slots K KeyLink) (rows_after : FinMap nat_cmp ℕ)
+  pub append_absent : (h : ℕ) (after : Slots K KeyLink) (rows_after : FinMap nat_cmp ℕ)
       → is_listed eq (items_of keys) key ≡ false → h ≡ hash key → HasRoomFor keys 1
-      → PushesBack keys keys_pushed place key unset → keys_pushed.capacity ≡ keys.capacity
-      → rows_after ≡ insert rows place h → PushesValue values values_after last v place None → n ≡ 0 + 1
-      → keys_after ≡ with_link keys_pushed place (record { hash = h; head = last; tail = last; length = n })
-      → Appends eq hash keys values key v keys_after rows_after values_after
-  append_absent h unset keys_pushed keys_after rows_after unlisted hash_is room pushed same_room rows_is pushes one sets_is =
-      let link : KeyLink = record { hash = h; head = last; tail = last; length = n } in
-      let after : Slots K KeyLink = with_link keys_pushed place link in
+      → PushesRow keys after rows rows_after place key (link_of_one h last)
+      → PushesValue values values_after last v place None → Appends eq hash keys values key v after rows_after values_after
+  append_absent h after rows_after unlisted hash_is room row pushes =
+      let link : KeyLink = link_of_one h last in
+      let pushed : PushesBack keys after place key link = row.key_pushed in
       let chain : List ℕ = chain_of values place in
       let ks : List K = items_of keys in
       let ps : List (K × V) = pairs_of keys values in
@@ -118,12 +116,12 @@ module _ {K V : Type 0} {eq : K → K → Bool} (laws : IsEquivalence eq) {hash 
       ∙ ne_eqb l.value.key place (old_other pushed l.value.key (agrees.chained.owned q l.value listed l.is))) in
       let first : PushesValue values values_after last v place (last_of chain) = subst (PushesValue values values_after last v place)
       (sym (ap last_of none)) pushes in
-      let sets : SetsKey keys after place key link = sets_pushed keys keys_pushed place key unset link pushed in
+      let sets : SetsKey keys after place key link = sets_pushed pushed in
       let items : items_of after ≡ ks ++ key ∷ [] =
-      ap (filter_map (item_at keys_pushed)) pushed.order
-      ∙ filter_map-append (item_at keys_pushed) keys.order (place ∷ [])
-      ∙ ap (λ js. js ++ filter_map (item_at keys_pushed) (place ∷ []))
-      (filter_map-agree (item_at keys_pushed) (item_at keys) keys.order (λ q i. pushed.others.items q (old_other pushed q i)))
+      ap (filter_map (item_at after)) pushed.order
+      ∙ filter_map-append (item_at after) keys.order (place ∷ [])
+      ∙ ap (λ js. js ++ filter_map (item_at after) (place ∷ []))
+      (filter_map-agree (item_at after) (item_at keys) keys.order (λ q i. pushed.others.items q (old_other pushed q i)))
       ∙ ap (λ o. ks ++ cons_option o []) pushed.item_is in
       let inserted = λ (p : ℕ). get-insert nat_cmp_total rows place h p ∙ ap (λ b. cond b (Some h) (get rows p)) (unsigned_tied p place) in
       let at_place = λ (p : ℕ) (same : p ≡ place). inserted p ∙ ap (λ b. cond b (Some h) (get rows p)) (eq-eqb p place same) in
@@ -131,10 +129,10 @@ module _ {K V : Type 0} {eq : K → K → Bool} (laws : IsEquivalence eq) {hash 
       let own : stored_key eq ks key ≡ key = stored_key_absent laws key ks unlisted in
       let all : Appends eq hash keys values key v after (insert rows place h) values_after = record {
         agrees = record {
-          keys_sound = IsSound-with_link keys_pushed place link (new_listed pushed) (IsSound-push pushed agrees.keys_sound room same_room);
+          keys_sound = IsSound-push pushed agrees.keys_sound room row.same_room;
           values_sound = sound;
           chained = chained-append agrees.keys_sound agrees.values_sound agrees.chained sets first
-              (ap (λ qs. first_of (qs ++ last ∷ [])) none) refl (one ∙ ap (λ qs. length qs + 1) (sym none));
+              (ap (λ qs. first_of (qs ++ last ∷ [])) none) refl (ap (λ qs. length qs + 1) (sym none));
           distinct = subst (IsDistinct eq) (sym items) (IsDistinct-push laws ks key agrees.distinct unlisted);
           hashed = λ p k m listed item is. elim (listed_cases pushed p listed) [
             | inl before ↦ agrees.hashed p k m before (sym (pushed.others.items p (old_other pushed p before)) ∙ item)
@@ -142,7 +140,7 @@ module _ {K V : Type 0} {eq : K → K → Bool} (laws : IsEquivalence eq) {hash 
             | inr here ↦
                 let both : Some link ≡ Some m = sym sets.link_is ∙ ap (link_at after) (sym here) ∙ is in
                 let is_link : link ≡ m = cc in
-                let both_keys : Some key ≡ Some k = sym pushed.item_is ∙ ap (item_at keys_pushed) (sym here) ∙ item in
+                let both_keys : Some key ≡ Some k = sym pushed.item_is ∙ ap (item_at after) (sym here) ∙ item in
                 let is_key : key ≡ k = cc in
                 ap (λ (x : KeyLink). x.hash) (sym is_link) ∙ hash_is ∙ ap hash is_key
           ];
@@ -155,7 +153,7 @@ module _ {K V : Type 0} {eq : K → K → Bool} (laws : IsEquivalence eq) {hash 
                 at_place p here ∙ ap (λ (x : KeyLink). Some x.hash) is_link
           ];
           listed = λ p x is. elim (cases_eq p place) [
-            | inl same ↦ subst (λ q. IsIn q keys_pushed.order) (sym same) (new_listed pushed)
+            | inl same ↦ subst (λ q. IsIn q after.order) (sym same) (new_listed pushed)
             | inr differs ↦ old_listed pushed p (agrees.listed p x (sym (elsewhere p differs) ∙ is))
           ];
           counted =
@@ -169,8 +167,7 @@ module _ {K V : Type 0} {eq : K → K → Bool} (laws : IsEquivalence eq) {hash 
             ∙ sym (ap (λ b. lists (cond b ks (ks ++ key ∷ [])) (ps ++ (stored_key eq ks key, v) ∷ [])) unlisted
             ∙ ap (λ s. lists (ks ++ key ∷ []) (ps ++ (s, v) ∷ [])) own);
       } in
-      subst (λ s. Appends eq hash keys values key v s rows_after values_after) (sym sets_is)
-      (subst (λ r. Appends eq hash keys values key v after r values_after) (sym rows_is) all)
+      subst (λ r. Appends eq hash keys values key v after r values_after) (sym row.rows_are) all
     where
       no_row : (o : Option ℕ) → o ≡ None → is_some o ≡ false
       no_row o e = ap is_some e
@@ -217,19 +214,17 @@ module _ {K V : Type 0} {eq : K → K → Bool} (laws : IsEquivalence eq) {hash 
       (p.link.length + 1) values_after p.sound p.link keys_after there p.link_is p.pushed refl p.keys_are in
       record { agrees = done.agrees; lists = done.lists ∙ ap (λ m. appended eq m key v) lists_reserved }
 
-  absent_step : (keys_pushed : Slots K KeyLink) (rows_reserved : FinMap nat_cmp ℕ) → rows_reserved ≡ rows
-      → (key : K) (v : V) (place h : ℕ) {values_after : Slots V ValueLink} {keys_after : Slots K KeyLink} {rows_after : FinMap nat_cmp ℕ}
+  absent_step : (rows_reserved : FinMap nat_cmp ℕ) → rows_reserved ≡ rows
+      → (key : K) (v : V) (place last h : ℕ) {values_after : Slots V ValueLink} {keys_after : Slots K KeyLink} {rows_after : FinMap nat_cmp ℕ}
       → is_listed eq (items_of keys) key ≡ false → h ≡ hash key → HasRoomFor keys_reserved 1
-      → PushesRow keys_reserved keys_pushed rows_reserved rows_after place key h → keys_pushed.capacity ≡ keys_reserved.capacity
-      → PushesOnly keys_pushed keys_after reserved values_after place h v
+      → PushesRow keys_reserved keys_after rows_reserved rows_after place key (link_of_one h last)
+      → PushesValue reserved values_after last v place None → IsSound values_after
       → Appends eq hash keys values key v keys_after rows_after values_after
-  absent_step keys_pushed rows_reserved same_rows key v place h {values_after} {keys_after} {rows_after} unlisted hash_is fits row same_room
-      only =
+  absent_step rows_reserved same_rows key v place last h {values_after} {keys_after} {rows_after} unlisted hash_is fits row pushes sound =
       let a : Agrees eq hash keys_reserved rows_reserved reserved = subst (λ m. Agrees eq hash keys_reserved m reserved)
       (sym same_rows) agrees_reserved in
-      let done = append_absent laws a key v place only.last (0 + 1) values_after only.sound h row.link keys_pushed keys_after rows_after
-      (ap (λ m. is_listed eq m.keys key) lists_reserved ∙ unlisted) hash_is fits row.key_pushed same_room row.rows_are only.value_pushed
-      refl only.keys_are in
+      let done = append_absent laws a key v place last 1 values_after sound h keys_after rows_after
+      (ap (λ m. is_listed eq m.keys key) lists_reserved ∙ unlisted) hash_is fits row pushes in
       record { agrees = done.agrees; lists = done.lists ∙ ap (λ m. appended eq m key v) lists_reserved }
 
 -- the table of reserved rows has listed places alone
@@ -263,8 +258,8 @@ module _ {K V : Type 0} {eq : K → K → Bool} (laws : IsEquivalence eq) {hash 
     pub first : AppendsFirst keys keys_after rows rows_after values values_after h key v
         → Appends eq hash keys values key v keys_after rows_after values_after
     first done =
-        absent_step laws agrees done.renamed done.keys_pushed done.rows_reserved done.same_rows
-        key v done.place h unlisted hash_is done.fits done.row done.same_room done.only
+        absent_step laws agrees done.renamed done.rows_reserved done.same_rows
+        key v done.place done.last h unlisted hash_is done.fits done.row done.value_pushed done.sound
 
     pub first_agrees : {X E : Type 0} (r : Result X E) → OnOk r (AppendsFirst keys keys_after rows rows_after values values_after h key v)
         → OnErr r (AreRenamed keys keys_after values values_after × (rows_after ≡ rows)) → Agrees eq hash keys_after rows_after values_after

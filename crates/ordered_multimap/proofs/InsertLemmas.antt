@@ -27,7 +27,7 @@ use Rattle.ordered_multimap.proofs.PlaceLemmas.{held, begins, filter_shorter}
 use Rattle.ordered_multimap.proofs.ChainLemmas.{first_of-push}
 use Rattle.ordered_multimap.proofs.StepLemmas.{sets_link, SetsKey}
 use Rattle.ordered_multimap.proofs.NeighbourLemmas.{first_of-member}
-use Rattle.ordered_multimap.proofs.RenameLemmas.{chain_of-renamed, chained-renamed, keys_sound-renamed, values_sound-renamed}
+use Rattle.ordered_multimap.proofs.RenameLemmas.{chain_of-renamed, chains-renamed}
 use Rattle.ordered_multimap.proofs.AppendLemmas.{chained-append}
 use Rattle.ordered_multimap.proofs.AppendedLemmas.{Appends, present_step, agrees_reserved}
 use Rattle.ordered_multimap.proofs.LookupLemmas.{first_value, present_if_found}
@@ -102,15 +102,14 @@ module _ {K V : Type 0} {keeps : Bool} {gives : V → Type 0} {keys keys_after :
       ∙ ap (λ (s : Slots K KeyLink). s.capacity) over.pushed.keys_are
 
   pub over_values : values_after.list.capacity ≡ values.list.capacity
-  over_values = ap (λ (s : Slots V ValueLink). s.capacity) over.older.older.rest ∙ over.older.older.taking.taken.capacity ∙ over.capacity
+  over_values = ap (λ (s : Slots V ValueLink). s.capacity) over.older.older.rest ∙ over.older.older.taking.taken.capacity ∙ over.room.capacity
 
-module _ {K V : Type 0} {keys keys_reserved : Slots K KeyLink} {place : ℕ} (keys_sound : IsSound keys) where
+module _ {K V : Type 0} {keys keys_reserved : Slots K KeyLink} {place : ℕ} where
   pub chain-renamed : {values reserved : Slots V ValueLink} → HasChain keys values place → AreRenamed keys keys_reserved values reserved
       → HasChain keys_reserved reserved place
   chain-renamed s r = record {
     listed = subst (IsIn place) (sym r.renames.key_order) s.listed;
-    sound = values_sound-renamed r.name keys_sound s.sound s.chained r.renames;
-    chained = chained-renamed r.name keys_sound s.sound s.chained r.renames;
+    chains = chains-renamed s.chains r;
   }
 
   -- room was made before
@@ -122,11 +121,11 @@ module _ {K V : Type 0} {keys keys_reserved : Slots K KeyLink} {place : ℕ} (ke
       → Inserts keeps gives keys keys_after values values_after place v ends
   inserts-over {values = values} {reserved = reserved} {values_after = values_after} s r taken fits over =
       let t = chain-renamed s r in
-      let sound = keys_sound-renamed r.name keys_sound s.sound s.chained r.renames in
+      let m = t.chains in
       let o = over.older.older in
-      let n = longer sound t.chained place t.listed t.sound over.pushed o.link o.link_is in
-      let some = chain_some sound t.chained place t.listed in
-      let same = same_count keys_sound s.chained place s.listed s.sound r in
+      let n = longer m.keys_sound m.chained place t.listed m.sound over.pushed o.link o.link_is in
+      let some = chain_some m.keys_sound m.chained place t.listed in
+      let same = same_count s.chains.keys_sound s.chains.chained place s.listed s.chains.sound r in
       record {
         done = record {
           keys_reserved = keys_reserved;
@@ -139,8 +138,8 @@ module _ {K V : Type 0} {keys keys_reserved : Slots K KeyLink} {place : ℕ} (ke
         };
         first = over.older.first;
         counts = record {
-          freed = omega (arith, over.older.counts.freed, taken.freed, over.counts.freed, o.older, n, same);
-          paid = omega (arith, over.older.counts.paid, taken.paid, over.counts.moved, over.counts.holes, o.older, n, same);
+          freed = omega (arith, over.older.counts.freed, taken.freed, over.room.counts.freed, o.older, n, same);
+          paid = omega (arith, over.older.counts.paid, taken.paid, over.room.counts.moved, over.room.counts.holes, o.older, n, same);
         };
         fits = omega (
           arith,

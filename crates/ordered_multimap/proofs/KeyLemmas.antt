@@ -1,6 +1,6 @@
 -- Listed keys, where the keys' equality is an equivalence.
 use Rattle.std.proofs.Common.{◌≡◌, ◌⊎◌, Bool, true, false, cond, ◌||◌, List, [], ◌∷◌, ◌++◌, filter, find, unwrap_or, Some, refl, sym, ap}
-use Rattle.std.proofs.Common.{◌∙◌, subst, inl, inr, true≢false}
+use Rattle.std.proofs.Common.{◌∙◌, inl, inr, true≢false}
 use Rattle.std.specs.List.{IsDistinct, AllByRecursion}
 use Rattle.std.specs.Map.{keys_of, values_of as values_in}
 use Rattle.std.specs.Cmp.{IsEquivalence}

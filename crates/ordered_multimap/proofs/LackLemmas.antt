@@ -5,10 +5,13 @@ use Rattle.std.specs.Cmp.{IsEquivalence}
 use Rattle.ordered_multimap.specs.Agrees.{LacksKey}
 use Rattle.ordered_multimap.specs.Changes.{appended, inserted, removed}
 use Rattle.ordered_multimap.specs.Detaches.{left_of}
+use Rattle.ordered_multimap.specs.Additions.{IsAppended, IsInserted}
 use Rattle.ordered_multimap.specs.KeySteps.{DetachesValues}
+use Rattle.ordered_multimap.specs.Removals.{IsRemoved, LosesValues}
 use Rattle.ordered_multimap.specs.Lists.{Lists}
 use Rattle.ordered_multimap.specs.Multimap.{Multimap}
 use Rattle.ordered_multimap.specs.Pairs.{has_items, is_present, positions_of, values_of}
+use Rattle.ordered_multimap.specs.Rooms.{RaisesNoRoom, SameRooms}
 use Rattle.ordered_multimap.specs.TapeNumbers.{TakesOut}
 use Rattle.ordered_multimap.proofs.InsertLemmas.{inserted-absent}
 use Rattle.ordered_multimap.proofs.LookupLemmas.{length-positions_of}
@@ -47,4 +50,48 @@ pub detaches_none : {K V S : Type 0} {eq : K → K → Bool} {old new : Multimap
 detaches_none {old = old} {new = new} k lacks left lists taken = record {
   left = left ∙ sym lacks.no_value;
   loses = record { lists = lists; taken = subst (λ vs. TakesOut (length vs) old.tape new.tape) (sym lacks.no_value) taken };
+}
+
+-- a key and a value of the map were asked for room, and the room is as it was
+pub same_raises_none : {K V S : Type 0} {eq : K → K → Bool} {old new : Multimap K V S} {k : K} → SameRooms old new → RaisesNoRoom eq k old new
+same_raises_none same = record {
+  keys = λ few. same.keys;
+  present = λ there. same.keys;
+  values = λ few. same.values;
+  slots = λ few. same.slots;
+  doubles = record { keys = λ more. absurd (omega (arith, more, same.keys)); values = λ more. absurd (omega (arith, more, same.values)) };
+}
+
+-- an insertion at the place of a present key
+pub inserted_there : {K V S : Type 0} {eq : K → K → Bool} {old new : Multimap K V S} {k : K} {v : V}
+    → LosesValues eq old new k (inserted eq old.lists k v) → SameRooms old new → IsInserted eq k v old new
+inserted_there lost same = record {
+  lists = lost.lists;
+  rooms = record { keys = omega (arith, same.keys); values = omega (arith, same.values); hasher = same.hasher };
+  had_room = record { had_room = same_raises_none same; present = λ there. same };
+  taken = lost.taken;
+}
+
+-- one of an absent key is an append
+pub inserted_new : {K V S : Type 0} {eq : K → K → Bool} (laws : IsEquivalence eq) {old new : Multimap K V S} {k : K} {v : V}
+    → LacksKey eq old.lists k → IsAppended eq k v old new → IsInserted eq k v old new
+inserted_new {eq = eq} laws {old} {new} {k} {v} lacks came = record {
+  lists = came.lists ∙ inserted_lacking laws old.lists k lacks v;
+  rooms = came.rooms;
+  had_room = record {
+    had_room = came.had_room;
+    present = λ there. absurd (true≢false (sym there ∙ ap (λ vs. has_items vs) lacks.no_value));
+  };
+  taken = subst (λ vs. TakesOut (length vs) old.tape new.tape) (sym lacks.no_value) came.taken;
+}
+
+-- a removal of an absent key
+pub removes_none : {K V S : Type 0} {eq : K → K → Bool} (laws : IsEquivalence eq) {m : Multimap K V S} {k : K} → LacksKey eq m.lists k
+    → IsRemoved eq m m k
+removes_none laws {m} {k} lacks = record {
+  loses = record {
+    lists = sym (removed_lacking laws m.lists k lacks);
+    taken = subst (λ vs. TakesOut (length vs) m.tape m.tape) (sym lacks.no_value) (record { freed = omega arith; paid = omega arith });
+  };
+  rooms = record { keys = refl; values = refl; slots = refl; hasher = refl };
 }

@@ -8,26 +8,29 @@ use Rattle.multimap_slots.specs.Lists.{IsIn, without}
 use Rattle.multimap_slots.specs.Slots.{Slots, item_at}
 use Rattle.multimap_slots.specs.Tapes.{Taped}
 use Rattle.multimap_table.specs.Table.{Table}
+use Rattle.multimap_walks.specs.declared.links.ChainEnds.{ChainEnds}
 use Rattle.multimap_walks.specs.declared.links.KeyLink.{KeyLink}
 use Rattle.multimap_walks.specs.declared.links.ValueLink.{ValueLink}
 use Rattle.multimap_walks.specs.Chained.{pair_at, pairs_of}
-use Rattle.ordered_multimap.specs.Agrees.{Agrees, HasKey, items_of, lists_of}
+use Rattle.ordered_multimap.specs.Agrees.{Agrees, HasKey, IsMap, items_of, lists_of}
 use Rattle.ordered_multimap.specs.Keys.{is_listed, stored_key, keys_named_by}
 use Rattle.ordered_multimap.specs.Lists.{Lists, lists, IsWellFormed}
 use Rattle.ordered_multimap.specs.Changes.{kept}
+use Rattle.ordered_multimap.specs.Renames.{AreChained}
 use Rattle.ordered_multimap.specs.RetainSteps.{RetainsAt, StaysIf}
-use Rattle.ordered_multimap.specs.Takes.{HasChain, KeepsRoom}
+use Rattle.ordered_multimap.specs.Takes.{HasChain, KeepsRoom, LeavesEntry}
 use Rattle.ordered_multimap.specs.TakesOne.{HasPair, TakesOne, TakesLast, TakesPair, TakesByKey, TakesBeside}
 use Rattle.ordered_multimap.specs.declared.list_ordered_multimap.take_one.Taken.{Taken}
 use Rattle.ordered_multimap.specs.declared.list_ordered_multimap.take_one.TakenKey.{TakenKey}
 use Rattle.ordered_multimap.specs.declared.list_ordered_multimap.take_one.TakenKey.TheVariants.{Kept, Gone}
 use Rattle.ordered_multimap.proofs.AgreesLemmas.{pair_in, well_formed}
+use Rattle.ordered_multimap.proofs.AppendedLemmas.{stays_paid}
 use Rattle.ordered_multimap.proofs.KeptLemmas.{filter-among, keys_of-without, is_listed-equal}
 use Rattle.ordered_multimap.proofs.KeyLemmas.{is_listed-self, is_listed-member, stored_key_member}
 use Rattle.ordered_multimap.proofs.Members.{filter-all}
 use Rattle.ordered_multimap.proofs.OneLemmas.{agrees-one, items_of-one, has_item-one, pair_at-one}
 use Rattle.ordered_multimap.proofs.PlaceLemmas.{IsIn-filter_map}
-use Rattle.ordered_multimap.proofs.TakeLemmas.{agrees-taken, lists_of-taken, pair_at-taken}
+use Rattle.ordered_multimap.proofs.TakeLemmas.{agrees-taken, fits-taken, lists_of-taken, pair_at-taken}
 use Rattle.ordered_multimap.proofs.WellFormedLemmas.{same_keys}
 
 -- a listed value is that of a pair
@@ -41,11 +44,28 @@ has_pair agrees place listed = record {
   row = λ l k is key_is. agrees.in_table l.key k (agrees.chained.owned place l listed is) key_is;
 }
 
+-- the lists of a map are chained
+pub are_chained : {K V : Type 0} {eq : K → K → Bool} {hash : K → ℕ} {keys : Slots K KeyLink} {rows : FinMap nat_cmp ℕ}
+    {values : Slots V ValueLink} → Agrees eq hash keys rows values → AreChained keys values
+are_chained agrees = record { keys_sound = agrees.keys_sound; sound = agrees.values_sound; chained = agrees.chained }
+
 -- a listed key has a chain
 pub has_chain : {K V : Type 0} {eq : K → K → Bool} {hash : K → ℕ} {keys : Slots K KeyLink} {rows : FinMap nat_cmp ℕ}
     {values : Slots V ValueLink}
     → Agrees eq hash keys rows values → (place : ℕ) → IsIn place keys.order → HasChain keys values place
-has_chain agrees place listed = record { listed = listed; sound = agrees.values_sound; chained = agrees.chained }
+has_chain agrees place listed = record { listed = listed; chains = are_chained agrees }
+
+-- a map stays one where a key has left with its values
+pub map_left : {K V : Type 0} {eq : K → K → Bool} (laws : IsEquivalence eq) {hash : K → ℕ} {keys keys_after : Slots K KeyLink}
+    {table table_after : Table} {values values_after : Taped V ValueLink} {keeps : Bool} {gives : V → Type 0} {key : K} {ends : ChainEnds}
+    → IsMap eq hash keys table.rows values → (k : K) (place : ℕ) → HasKey eq keys k place
+    → LeavesEntry keeps gives keys keys_after table table_after values values_after place key ends
+    → IsMap eq hash keys_after table_after.rows values_after
+map_left laws {table_after = table_after} {values = values} {values_after = values_after} m k place has t = record {
+  agrees = agrees-taken laws m.agrees k place has t.entry.taken t.entry.removed table_after.rows t.entry.rows_are;
+  fits = fits-taken values values_after t.entry.taken m.fits;
+  paid = stays_paid t.counts m.paid;
+}
 
 -- a step of `retain` changes no room
 module _ {F K V : Type 0} {calls : F → K → V → Bool → V → F → Type 0} {keys keys_after : Slots K KeyLink} {table table_after : Table}

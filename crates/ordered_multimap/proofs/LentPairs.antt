@@ -1,4 +1,4 @@
--- The laws of a key with a value to write, where there are some.
+-- The laws of a key with a value to write, of one with a value that left, and of one with a walk, where there are some.
 use mathlib.Core.Path.{refl}
 use mathlib.Core.List.{[], ◌∷◌}
 use denote.RattleType.{RattleType}
@@ -10,6 +10,11 @@ use denote.Struct.Laws.{shr_ref_laws, shr_ref_copy, mut_ref_laws}
 use denote.Struct.Tuple.{Tuple, tuple_laws}
 use Rattle.std.specs.contracts.option.Option.{the_row as Opt}
 use Rattle.std.proofs.option.Option.TheLaws.{the_row_laws as Opt-laws}
+use Rattle.std.specs.declared.alloc.Allocator.{Ghosts}
+use Rattle.multimap_walks.specs.contracts.writing.chain.EntryValuesMut as W-type
+use Rattle.multimap_walks.proofs.writing.chain.EntryValuesMut.TheLaws as W-laws
+use Rattle.ordered_multimap.specs.contracts.list_ordered_multimap.key_wrapper.KeyWrapper as Key
+use Rattle.ordered_multimap.proofs.list_ordered_multimap.key_wrapper.KeyWrapper.TheLaws as Key-laws
 
 module _ (ℓ : NamedLft) (K V : RattleType) where
   abbrev pub LentPair : RattleType
@@ -24,6 +29,14 @@ module _ (ℓ : NamedLft) (K V : RattleType) where
         (of_field (mut_ref_field ℓ V value) (mut_ref_laws ℓ V value) refl (mut_ref_shared ℓ V value (row_shared V LV)), tt),
       ))
 
+  -- a key with a value that left
+  abbrev pub PoppedPair : RattleType
+  PoppedPair = Tuple (Key.the_row ℓ K ∷ V ∷ [])
+
+  pub popped_pair_laws : Laws K → Laws V → Laws (Opt PoppedPair)
+  popped_pair_laws LK LV =
+      Opt-laws PoppedPair (tuple_laws (Key.the_row ℓ K ∷ V ∷ []) (Key-laws.the_row_laws ℓ K LK, (LV, tt)))
+
 module _ (ℓ : NamedLft) (K W : RattleType) where
   -- a key with what is made of its values
   abbrev pub LentKey : RattleType
@@ -37,3 +50,8 @@ module _ (ℓ : NamedLft) (K W : RattleType) where
             (copy_shared (shr_ref_field ℓ K key) (shr_ref_copy ℓ K key LK.shr_laws)),
         (LW, tt),
       ))
+
+-- a key with its values
+module _ (ℓ : NamedLft) (K V A : RattleType) (al : Ghosts A.Denot) where
+  pub lent_values_laws : Laws K → Laws V → Laws A → Laws (Opt (LentKey ℓ K (W-type.the_row ℓ K V A al)))
+  lent_values_laws LK LV LA = lent_key_laws ℓ K (W-type.the_row ℓ K V A al) LK (W-laws.the_row_laws ℓ K V A al LK LV LA)

@@ -1,5 +1,5 @@
 -- What an append makes of the rooms of a map.
-use Rattle.std.proofs.Common.{◌≡◌, ℕ, ◌≤◌, ◌<◌, ◌*◌, ◌/◌, min, Bool, false, length, Result, OnOk, OnErr, Ok, Err, refl, sym, ap, ◌∙◌, arith}
+use Rattle.std.proofs.Common.{◌≡◌, ℕ, ◌≤◌, ◌<◌, ◌*◌, ◌/◌, min, Bool, false, length, Result, OnOk, OnErr, IfErr, Ok, Err, refl, sym, ap, ◌∙◌, arith}
 use Rattle.std.proofs.Common.{true≢false}
 use Rattle.std.specs.Cmp.{IsEquivalence}
 use Rattle.std.specs.Ordering.{nat_cmp}
@@ -17,6 +17,7 @@ use Rattle.ordered_multimap.specs.Multimap.{Multimap, multimap}
 use Rattle.ordered_multimap.specs.Agrees.{Agrees, HasKey, items_of, lists_of}
 use Rattle.ordered_multimap.specs.Appends.{FitsKeys, FitsOneMore, GrowsFor, MakesRoom}
 use Rattle.ordered_multimap.specs.TapeNumbers.{TapeNumbers, numbers_of}
+use Rattle.ordered_multimap.specs.declared.list_ordered_multimap.refused.RefusedValue.{RefusedValue}
 use Rattle.ordered_multimap.specs.Additions.{IsAppended, IsAppendedAt, IsRefused, RefusesValue}
 use Rattle.ordered_multimap.specs.Rooms.{GrowsForValue, HasPairRoom, KeepsRooms, RaisesNoRoom}
 use Rattle.ordered_multimap.proofs.AgreesLemmas.{value_room, key_room, row_room}
@@ -66,8 +67,15 @@ module _ {K V S : Type 0} {eq : K → K → Bool} {old new : Multimap K V S} {k 
     taken = came.taken;
   }
 
-  pub refused_there : RefusesValue old new → IsRefused eq k old new
-  refused_there came = record { lists = came.lists; rooms = came.grows.rooms; had_room = raises_none came.grows; taken = came.taken }
+  pub refused_there : {value : V} {r : RefusedValue V} → RefusesValue value old new r
+      → IsRefused eq k value old new (record { key = k; value = r.value })
+  refused_there came = record {
+    returned = ap (λ v. record { key = k; value = v }) came.returned;
+    lists = came.lists;
+    rooms = came.grows.rooms;
+    had_room = raises_none came.grows;
+    taken = came.taken;
+  }
 
 module _ {K V S : Type 0} {eq : K → K → Bool} {hash : K → ℕ} (keys : Slots K KeyLink) (rows : FinMap nat_cmp ℕ) (values : Taped V ValueLink)
     (agrees : Agrees eq hash keys rows values.list) (row_capacity : ℕ) (state : S) (left : ChainEnds) where
@@ -135,6 +143,11 @@ on_ok-map f (Err e) p = tt
 pub on_err-map : {X E P Q : Type 0} → (P → Q) → (r : Result X E) → OnErr r P → OnErr r Q
 on_err-map f (Ok x) p = tt
 on_err-map f (Err e) p = f p
+
+-- what is said on a refusal, and what of the error
+pub if_err-map : {X E P : Type 0} {Q R : E → Type 0} → ((e : E) → P → Q e → R e) → (r : Result X E) → OnErr r P → IfErr r Q → IfErr r R
+if_err-map f (Ok x) p q = tt
+if_err-map f (Err e) p q = f e p q
 
 -- what holds on success and on a refusal holds
 pub either : {X E P : Type 0} → (r : Result X E) → OnOk r P → OnErr r P → P

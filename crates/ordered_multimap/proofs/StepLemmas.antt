@@ -3,13 +3,13 @@ use Rattle.std.proofs.Common.{◌≡◌, ◌≢◌, ◌⊎◌, ℕ, false, [], �
 use Rattle.std.proofs.Common.{inr, true≢false, Result, Ok, Err, is_err, OnOk, arith, length-append}
 use Rattle.std.proofs.lemmas.Bool.{cases_eq}
 use Rattle.multimap_slots.specs.Lists.{IsIn, AreDistinct}
-use Rattle.multimap_slots.specs.Slots.{Slots, IsSound, HasRoomFor, PushesBack, item_at, link_at, with_link}
-use Rattle.multimap_slots.specs.Tapes.{Taped}
+use Rattle.multimap_slots.specs.Slots.{Slots, IsSound, HasRoomFor, PushesBack, item_at, link_at, with_item, with_link}
+use Rattle.multimap_slots.specs.Tapes.{Taped, KeepsCounts, with_list}
 use Rattle.multimap_slots.proofs.ListsLemmas.{IsIn-append, IsIn-left, IsIn-right, AreDistinct-push}
 use Rattle.multimap_slots.proofs.SlotsLemmas.{link_at-with_link, KeepsOthers-with_link}
 use Rattle.multimap_walks.specs.declared.links.KeyLink.{KeyLink}
 use Rattle.multimap_walks.specs.declared.links.ValueLink.{ValueLink}
-use Rattle.ordered_multimap.specs.Appends.{PushesValue}
+use Rattle.ordered_multimap.specs.Appends.{KeepsTapeRoom, PushesValue}
 use Rattle.ordered_multimap.specs.Renames.{MendsLink}
 
 -- the key is listed at the place with this link, and each other key as before
@@ -104,17 +104,17 @@ sets_link keys place k link listed item_is linked = record {
   links = λ q differs. (KeepsOthers-with_link keys place link).links q differs;
 }
 
--- a key that came, and then another link of it
-pub sets_pushed : {K : Type 0} (old mid : Slots K KeyLink) (place : ℕ) (k : K) (first link : KeyLink) → PushesBack old mid place k first
-    → SetsKey old (with_link mid place link) place k link
-sets_pushed old mid place k first link pushed = record {
+-- a key that came
+pub sets_pushed : {K : Type 0} {old new : Slots K KeyLink} {place : ℕ} {k : K} {link : KeyLink} → PushesBack old new place k link
+    → SetsKey old new place k link
+sets_pushed pushed = record {
   listed = new_listed pushed;
   item_is = pushed.item_is;
-  link_is = link_at-with_link mid place link (subst IsSome (sym pushed.link_is) refl);
+  link_is = pushed.link_is;
   kept = λ q i. old_listed pushed q i;
   came = λ q differs i. elim (listed_cases pushed q i) [ inl before ↦ before | inr here ↦ absurd (differs here) ];
   items = λ q i. pushed.others.items q (old_other pushed q i);
-  links = λ q differs. (KeepsOthers-with_link mid place link).links q differs ∙ pushed.others.links q differs;
+  links = λ q differs. pushed.others.links q differs;
 }
 
 -- whether a call was refused
@@ -122,3 +122,27 @@ module _ {X Y : Type 0} where
   pub ok_if : {P : Type 0} (r : Result X Y) → is_err r ≡ false → OnOk r P → P
   ok_if (Ok x) e p = p
   ok_if (Err y) e p = absurd (true≢false e)
+
+-- nothing has happened to the tape
+pub room_same : {V : Type 0} {tape : Taped V ValueLink} → KeepsTapeRoom tape tape
+room_same = record { counts = record { moved = refl; freed = refl; holes = refl }; capacity = refl }
+
+-- room that was kept so far, and is kept by one step more
+module _ {V : Type 0} {first last : Taped V ValueLink} where
+  pub room_on : {next : Taped V ValueLink} → KeepsTapeRoom first last → KeepsCounts last next → next.list.capacity ≡ last.list.capacity
+      → KeepsTapeRoom first next
+  room_on was counts capacity = record {
+    counts = record {
+      moved = counts.moved ∙ was.counts.moved;
+      freed = counts.freed ∙ was.counts.freed;
+      holes = counts.holes ∙ was.counts.holes;
+    };
+    capacity = capacity ∙ was.capacity;
+  }
+
+  -- by a step that writes one item
+  pub room_written : {next : Taped V ValueLink} (place : ℕ) (v : V) → KeepsTapeRoom first last
+      → next ≡ with_list last (with_item last.list place v) → KeepsTapeRoom first next
+  room_written place v was written = room_on was
+      (record { moved = ap (λ t. t.moved) written; freed = ap (λ t. t.freed) written; holes = ap (λ t. t.holes) written })
+      (ap (λ t. t.list.capacity) written)

@@ -1,13 +1,20 @@
 -- What a pass that updates values leaves, where each call leaves a value that its pair determines.
-use Rattle.std.proofs.Common.{◌≡◌, ℕ, ◌+◌, Bool, true, false, cond, if◌then◌else◌, List, [], ◌∷◌, ◌++◌, length, length-append, filter, map}
+use Rattle.std.proofs.Common.{◌≡◌, ℕ, ◌+◌, ◌/◌, Bool, true, false, cond, if◌then◌else◌, List, [], ◌∷◌, ◌++◌, length, length-append, filter, map}
 use Rattle.std.proofs.Common.{refl, sym, ap, ◌∙◌, subst, arith, append_assoc}
 use Rattle.std.specs.Borrow.{Bor, MutBor}
 use Rattle.std.specs.Fn.{Mut}
 use Rattle.std.specs.List.{enumerate_from}
-use Rattle.ordered_multimap.specs.Agrees.{LacksKey}
+use Rattle.std.specs.Ordering.{nat_cmp}
+use Rattle.std.specs.FinMap.{FinMap}
+use Rattle.multimap_slots.specs.Slots.{Slots}
+use Rattle.multimap_slots.specs.Tapes.{Taped}
+use Rattle.multimap_walks.specs.declared.links.KeyLink.{KeyLink}
+use Rattle.multimap_walks.specs.declared.links.ValueLink.{ValueLink}
+use Rattle.ordered_multimap.specs.Agrees.{IsMap, LacksKey}
 use Rattle.ordered_multimap.specs.Lists.{Lists}
 use Rattle.ordered_multimap.specs.Pairs.{positions_of, values_of, with_value_at}
 use Rattle.ordered_multimap.specs.Retain.{Retains}
+use Rattle.ordered_multimap.specs.UpdateSteps.{KeepsAgreed}
 use Rattle.ordered_multimap.proofs.LackLemmas.{lacks_position}
 use Rattle.ordered_multimap.specs.Updates.{AlwaysLeaves, AlwaysRewrites, RewritesEach, Updates, UpdatesKey, with_values_at}
 
@@ -87,4 +94,13 @@ absent_updated g eq m key f lacks = record {
   values = [];
   each = subst (λ vs. RewritesEach g f vs [] f) (sym lacks.no_value) (refl, refl);
   pairs = ap (λ ps. with_values_at m.pairs ps []) (sym (lacks_position key lacks));
+}
+
+-- a map stays one where values were written
+pub map_kept : {K V : Type 0} {eq : K → K → Bool} {hash : K → ℕ} {keys : Slots K KeyLink} {rows : FinMap nat_cmp ℕ}
+    {old new : Taped V ValueLink} → IsMap eq hash keys rows old → KeepsAgreed eq keys rows old new → IsMap eq hash keys rows new
+map_kept {hash = hash} m kept = record {
+  agrees = kept.agrees hash m.agrees;
+  fits = omega (arith, ap length kept.order, m.fits, ap (λ n. n / 2) kept.room.capacity);
+  paid = omega (arith, m.paid, kept.room.counts.moved, kept.room.counts.freed, kept.room.counts.holes);
 }

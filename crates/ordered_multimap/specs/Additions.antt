@@ -1,10 +1,14 @@
 -- What an addition leaves of a map. What is said of the key at a place is said for every key that
 -- is equal to the one there.
-use Rattle.std.specs.Prelude.{◌≡◌, ℕ, Bool}
+use Rattle.std.specs.Prelude.{◌≡◌, ℕ, Bool, length}
+use Rattle.ordered_multimap.specs.declared.list_ordered_multimap.refused.Refused.{Refused}
+use Rattle.ordered_multimap.specs.declared.list_ordered_multimap.refused.RefusedValue.{RefusedValue}
 use Rattle.ordered_multimap.specs.Agrees.{HasKey}
-use Rattle.ordered_multimap.specs.Changes.{appended}
+use Rattle.ordered_multimap.specs.Changes.{appended, inserted}
 use Rattle.ordered_multimap.specs.Multimap.{Multimap}
-use Rattle.ordered_multimap.specs.Rooms.{GrowsForValue, KeepsRooms, RaisesNoRoom}
+use Rattle.ordered_multimap.specs.Pairs.{values_of}
+use Rattle.ordered_multimap.specs.Rooms.{GrowsForValue, InsertRaisesNoRoom, KeepsRooms}
+use Rattle.ordered_multimap.specs.Rooms.{RaisesNoRoom}
 use Rattle.ordered_multimap.specs.TapeNumbers.{TakesOut}
 
 module _ {K V S : Type 0} where
@@ -16,8 +20,19 @@ module _ {K V S : Type 0} where
     pub had_room : RaisesNoRoom eq key old new
     pub taken : TakesOut 0 old.tape new.tape
 
-  -- a pair of the key was refused: both lists are as they were, and no value was taken out
-  pub record IsRefused (eq : K → K → Bool) (key : K) (old new : Multimap K V S) : Type 0 where
+  -- all pairs of the key went, and one was put last
+  pub record IsInserted (eq : K → K → Bool) (key : K) (value : V) (old new : Multimap K V S)
+      : Type 0 where
+    pub lists : new.lists ≡ inserted eq old.lists key value
+    pub rooms : KeepsRooms old new
+    pub had_room : InsertRaisesNoRoom eq key old new
+    pub taken : TakesOut (length (values_of eq old.lists.pairs key)) old.tape new.tape
+
+  -- a pair of the key was refused and handed back: both lists are as they were, and no value was
+  -- taken out
+  pub record IsRefused (eq : K → K → Bool) (key : K) (value : V) (old new : Multimap K V S)
+      (pair : Refused K V) : Type 0 where
+    pub returned : pair ≡ record { key = key; value = value }
     pub lists : new.lists ≡ old.lists
     pub rooms : KeepsRooms old new
     pub had_room : RaisesNoRoom eq key old new
@@ -31,9 +46,10 @@ module _ {K V S : Type 0} where
     pub grows : GrowsForValue old new
     pub taken : TakesOut 0 old.tape new.tape
 
-  -- a value of a key that is there was refused: both lists are as they were, and no value was taken
-  -- out
-  pub record RefusesValue (old new : Multimap K V S) : Type 0 where
+  -- a value of a key that is there was refused and handed back: both lists are as they were, and no
+  -- value was taken out
+  pub record RefusesValue (value : V) (old new : Multimap K V S) (r : RefusedValue V) : Type 0 where
+    pub returned : r.value ≡ value
     pub lists : new.lists ≡ old.lists
     pub grows : GrowsForValue old new
     pub taken : TakesOut 0 old.tape new.tape

@@ -1,5 +1,6 @@
 -- What an append does to the slots. No public clause cites this module.
-use Rattle.std.specs.Prelude.{◌≡◌, ◌≢◌, ◌+◌, ◌≤◌, ℕ, min, [], ◌∷◌, ◌++◌, Option, Some, None}
+use Rattle.std.specs.Prelude.{◌≡◌, ◌≢◌, ◌+◌, ◌^◌, ◌≤◌, ◌<◌, ℕ, min, [], ◌∷◌, ◌++◌, length}
+use Rattle.std.specs.Prelude.{Option, Some, None}
 use Rattle.std.specs.Ordering.{nat_cmp}
 use Rattle.std.specs.FinMap.{FinMap, get, insert, len}
 use Rattle.multimap_slots.specs.Lists.{IsIn}
@@ -7,7 +8,7 @@ use Rattle.multimap_slots.specs.Slots.{Slots, DoublesIfGrown, HasRoomFor, IsSoun
 use Rattle.multimap_slots.specs.Slots.{item_at, link_at, with_link}
 use Rattle.multimap_walks.specs.declared.links.KeyLink.{KeyLink}
 use Rattle.multimap_walks.specs.declared.links.ValueLink.{ValueLink}
-use Rattle.multimap_slots.specs.Tapes.{Taped, HasTapeRoomFor}
+use Rattle.multimap_slots.specs.Tapes.{Taped, HasTapeRoomFor, KeepsCounts}
 use Rattle.ordered_multimap.specs.Renames.{AreRenamed}
 use Rattle.ordered_multimap.specs.TapeNumbers.{TakesOut, numbers_of}
 
@@ -44,6 +45,18 @@ pub record FitsOneMore {K V : Type 0} (keys : Slots K KeyLink) (rows : FinMap na
   pub row : len rows + 1 ≤ row_capacity
   pub value : HasTapeRoomFor values 1
 
+-- the tape has as many slots as before, and its counts are as they were
+pub record KeepsTapeRoom {V : Type 0} (old new : Taped V ValueLink) : Type 0 where
+  pub counts : KeepsCounts old new
+  pub capacity : new.list.capacity ≡ old.list.capacity
+
+-- a value came to the slot behind those in use, for which there was room
+pub record ComesLast {V : Type 0} (old new : Taped V ValueLink) (place : ℕ) : Type 0 where
+  pub behind : place ≡ length old.list.order + old.holes
+  pub sound : IsSound new.list
+  pub counted : length new.list.order < 2 ^ 64
+  pub room : KeepsTapeRoom old new
+
 -- the value stands last in the list, behind the value at the tail in the chain of its key
 pub record PushesValue {V : Type 0} (old new : Slots V ValueLink) (place : ℕ) (value : V) (key : ℕ)
     (tail : Option ℕ) : Type 0 where
@@ -71,21 +84,16 @@ pub record PushesBehind {K V : Type 0} (keys keys_after : Slots K KeyLink)
 abbrev pub HasListedRows : {K : Type 0} → Slots K KeyLink → FinMap nat_cmp ℕ → Type 0
 HasListedRows keys rows = (place hash : ℕ) → get rows place ≡ Some hash → IsIn place keys.order
 
--- the key stands last, with a row of its hash
-pub record PushesRow {K : Type 0} (keys keys_after : Slots K KeyLink)
-    (rows rows_after : FinMap nat_cmp ℕ) (place : ℕ) (key : K) (hash : ℕ) : Type 0 where
-  pub link : KeyLink
-  pub key_pushed : PushesBack keys keys_after place key link
-  pub rows_are : rows_after ≡ insert rows place hash
+-- the link of a key with one value
+abbrev pub link_of_one : ℕ → ℕ → KeyLink
+link_of_one hash place = record { hash = hash; head = place; tail = place; length = 1 }
 
--- the value stands last, as the only one of the key at the place
-pub record PushesOnly {K V : Type 0} (keys keys_after : Slots K KeyLink)
-    (values values_after : Slots V ValueLink) (place hash : ℕ) (value : V) : Type 0 where
-  pub last : ℕ
-  pub value_pushed : PushesValue values values_after last value place None
-  pub sound : IsSound values_after
-  pub keys_are : keys_after
-      ≡ with_link keys place (record { hash = hash; head = last; tail = last; length = 0 + 1 })
+-- the key stands last, with this link and a row of its hash
+pub record PushesRow {K : Type 0} (keys keys_after : Slots K KeyLink)
+    (rows rows_after : FinMap nat_cmp ℕ) (place : ℕ) (key : K) (link : KeyLink) : Type 0 where
+  pub key_pushed : PushesBack keys keys_after place key link
+  pub rows_are : rows_after ≡ insert rows place link.hash
+  pub same_room : keys_after.capacity ≡ keys.capacity
 
 -- room was made for a value, and then it was put behind the others of the key at the place
 pub record AppendsBehind {K V : Type 0} (keys keys_after : Slots K KeyLink)
@@ -106,7 +114,8 @@ pub record AppendsFirst {K V : Type 0} (keys keys_after : Slots K KeyLink)
   pub same_rows : rows_reserved ≡ rows
   pub fits : HasRoomFor keys_reserved 1
   pub place : ℕ
-  pub keys_pushed : Slots K KeyLink
-  pub row : PushesRow keys_reserved keys_pushed rows_reserved rows_after place key hash
-  pub same_room : keys_pushed.capacity ≡ keys_reserved.capacity
-  pub only : PushesOnly keys_pushed keys_after reserved values_after place hash value
+  pub last : ℕ
+  pub row : PushesRow keys_reserved keys_after rows_reserved rows_after place key
+      (link_of_one hash last)
+  pub value_pushed : PushesValue reserved values_after last value place None
+  pub sound : IsSound values_after

@@ -44,6 +44,11 @@ pub record KeepsListed {K V S : Type 0} (old new : Multimap K V S) : Type 0 wher
   pub hasher : new.hasher ≡ old.hasher
   pub tape : new.tape ≡ old.tape
 
+-- the map still keeps where the values stand that are left of a drain, and only these may differ
+pub record LeavesDrain {K V S : Type 0} (old new : Multimap K V S) : Type 0 where
+  pub holds : HoldsDrain new
+  pub kept : KeepsListed old new
+
 -- the list is the same, with each item and each link of it; what is detached may differ
 pub record KeepsSlots {V : Type 0} (old new : Slots V ValueLink) : Type 0 where
   pub order : new.order ≡ old.order

@@ -2,12 +2,24 @@
 -- clause cites this module.
 use Rattle.std.specs.Prelude.{◌≡◌, ℕ, ◌≤◌, List, map, length, get_or, set, Some}
 use Rattle.std.specs.Ordering.{nat_cmp}
-use Rattle.std.specs.FinMap.{FinMap, get, insert, len}
+use Rattle.std.specs.FinMap.{FinMap, empty, get, insert, len}
 use Rattle.multimap_slots.specs.Lists.{IsIn}
-use Rattle.multimap_slots.specs.Slots.{Slots, IsSound, PushesBack, Removes, item_at, link_at}
+use Rattle.multimap_slots.specs.Slots.{Slots, IsEmpty, IsSound, PushesBack, Removes, item_at}
+use Rattle.multimap_slots.specs.Slots.{link_at}
+use Rattle.multimap_slots.specs.Tapes.{Taped}
+use Rattle.multimap_table.specs.Table.{Table}
 use Rattle.multimap_walks.specs.declared.links.KeyLink.{KeyLink}
 use Rattle.multimap_walks.specs.declared.links.ValueLink.{ValueLink}
 use Rattle.ordered_multimap.specs.Renames.{AreRenamed}
+use Rattle.ordered_multimap.specs.TapeNumbers.{AreUnused, numbers_of}
+
+-- neither a key nor a row nor a value, on a tape that was not used
+pub record IsNewStorage {K V : Type 0} (keys : Slots K KeyLink) (table : Table)
+    (values : Taped V ValueLink) : Type 0 where
+  pub no_key : IsEmpty keys
+  pub no_row : table.rows ≡ empty
+  pub no_value : IsEmpty values.list
+  pub unused : AreUnused (numbers_of values)
 
 -- the new place of the key at a place, where a list has the new places by the old ones
 abbrev pub name_in : List ℕ → ℕ → ℕ

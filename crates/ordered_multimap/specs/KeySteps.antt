@@ -1,11 +1,12 @@
 -- What a step at the place of a key leaves of the map. No public clause cites this module.
-use Rattle.std.specs.Prelude.{◌≡◌, ℕ, Bool, length}
+use Rattle.std.specs.Prelude.{◌≡◌, ℕ, Bool}
 use Rattle.multimap_slots.specs.Lists.{IsIn}
 use Rattle.ordered_multimap.specs.Agrees.{HasKey}
 use Rattle.ordered_multimap.specs.Detaches.{left_of}
 use Rattle.ordered_multimap.specs.Lists.{Lists}
 use Rattle.ordered_multimap.specs.Multimap.{Multimap}
 use Rattle.ordered_multimap.specs.Pairs.{values_of}
+use Rattle.ordered_multimap.specs.Removals.{LosesValues}
 use Rattle.ordered_multimap.specs.TapeNumbers.{TakesOut}
 
 module _ {K V S : Type 0} (eq : K → K → Bool) (old new : Multimap K V S) where
@@ -14,15 +15,10 @@ module _ {K V S : Type 0} (eq : K → K → Bool) (old new : Multimap K V S) whe
     pub listed : IsIn place new.slots.keys.order
     pub stays : (k : K) → HasKey eq old.slots.keys k place → HasKey eq new.slots.keys k place
 
-  -- the values that the key had have left, and these are the lists then
-  pub record LosesValues (k : K) (after : Lists K V) : Type 0 where
-    pub lists : new.lists ≡ after
-    pub taken : TakesOut (length (values_of eq old.lists.pairs k)) old.tape new.tape
-
-  -- and they are left for a drain
+  -- the values that the key had have left for a drain, and these are the lists then
   pub record DetachesValues (k : K) (after : Lists K V) : Type 0 where
     pub left : left_of new ≡ values_of eq old.lists.pairs k
-    pub loses : LosesValues k after
+    pub loses : LosesValues eq old new k after
 
 -- the lists are as they were, and no pair was taken out
 pub record KeepsPairs {K V S : Type 0} (old new : Multimap K V S) : Type 0 where

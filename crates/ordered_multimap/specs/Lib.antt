@@ -24,6 +24,7 @@ pub mod Multimap
 pub mod Pairs
 pub mod Pop
 pub mod Pops
+pub mod Removals
 pub mod RemovedAt
 pub mod Renames
 pub mod Retain

@@ -1,10 +1,23 @@
 -- Room in a map, and what the changing calls keep of it.
 use Rattle.std.specs.Prelude.{◌≡◌, ℕ, ◌+◌, ◌≤◌, ◌<◌, Bool, true, false, length}
 use Rattle.multimap_slots.specs.Slots.{DoublesIfGrown}
+use Rattle.ordered_multimap.specs.Lists.{empty_lists}
 use Rattle.ordered_multimap.specs.Pairs.{is_present}
 use Rattle.ordered_multimap.specs.Multimap.{Multimap}
+use Rattle.ordered_multimap.specs.TapeNumbers.{AreUnused, TakesOut}
 
 module _ {K V S : Type 0} where
+  -- no pair, on a tape that was not used
+  pub record IsNewMap (m : Multimap K V S) : Type 0 where
+    pub empty : m.lists ≡ empty_lists
+    pub unused : AreUnused m.tape
+
+  -- the same, with room for so many keys and values
+  pub record IsNewMapFor (keys values : ℕ) (m : Multimap K V S) : Type 0 where
+    pub new : IsNewMap m
+    pub key_room : keys ≤ m.key_room
+    pub value_room : values ≤ m.value_room
+
   -- one more key fits
   abbrev pub HasKeyRoom : Multimap K V S → Type 0
   HasKeyRoom m = length m.lists.keys < m.key_room
@@ -28,6 +41,11 @@ module _ {K V S : Type 0} where
     pub keys : old.key_room ≤ new.key_room
     pub values : old.value_room ≤ new.value_room
     pub hasher : new.hasher ≡ old.hasher
+
+  -- and no value was taken out
+  pub record KeepsRoomsAndPairs (old new : Multimap K V S) : Type 0 where
+    pub rooms : KeepsRooms old new
+    pub taken : TakesOut 0 old.tape new.tape
 
   -- a room that grows at least doubles
   pub record DoublesRooms (old new : Multimap K V S) : Type 0 where
@@ -57,6 +75,25 @@ module _ {K V S : Type 0} where
     pub values : new.value_room ≡ old.value_room
     pub slots : new.tape.slots ≡ old.tape.slots
     pub hasher : new.hasher ≡ old.hasher
+
+  -- the same, and all numbers of the tape
+  pub record SameNumbers (old new : Multimap K V S) : Type 0 where
+    pub rooms : SameRooms old new
+    pub tape : new.tape ≡ old.tape
+
+  -- both lists are the same, no room is lower, and one that grows at least doubles
+  pub record OnlyGrows (old new : Multimap K V S) : Type 0 where
+    pub lists : new.lists ≡ old.lists
+    pub rooms : KeepsRooms old new
+    pub doubles : DoublesRooms old new
+
+  -- the lists are the same, with room for so many keys and values, on a tape that is new
+  pub record IsPacked (keys values : ℕ) (old new : Multimap K V S) : Type 0 where
+    pub lists : new.lists ≡ old.lists
+    pub hasher : new.hasher ≡ old.hasher
+    pub key_room : keys ≤ new.key_room
+    pub value_room : values ≤ new.value_room
+    pub unused : AreUnused new.tape
 
   -- an insertion wants room for a key and a value where the key is absent, and else none
   pub record HasInsertRoom (eq : K → K → Bool) (m : Multimap K V S) (k : K) : Type 0 where

@@ -6,17 +6,17 @@ use Rattle.std.specs.List.{list_any}
 use Rattle.std.specs.Ordering.{nat_cmp}
 use Rattle.std.specs.FinMap.{FinMap, remove}
 use Rattle.multimap_slots.specs.Lists.{AreDistinct, IsIn, first_of, last_of, next_of, without}
-use Rattle.multimap_slots.specs.Slots.{Slots, IsSound, KeepsOthers, Removes, item_at, link_at}
+use Rattle.multimap_slots.specs.Slots.{Slots, KeepsOthers, Removes, item_at, link_at}
 use Rattle.multimap_slots.specs.Slots.{DoublesIfGrown, with_link}
-use Rattle.multimap_slots.specs.Tapes.{Taped, Frees, KeepsCounts, HasTapeRoomFor}
+use Rattle.multimap_slots.specs.Tapes.{Taped, Frees, HasTapeRoomFor}
 use Rattle.multimap_table.specs.Table.{Table}
 use Rattle.multimap_walks.specs.declared.links.ChainEnds.{ChainEnds}
 use Rattle.multimap_walks.specs.declared.links.KeyLink.{KeyLink}
 use Rattle.multimap_walks.specs.declared.links.ValueLink.{ValueLink}
-use Rattle.multimap_walks.specs.Chained.{IsChained, is_value_of, chain_of, values_at}
-use Rattle.ordered_multimap.specs.Appends.{PushesBehind}
+use Rattle.multimap_walks.specs.Chained.{is_value_of, chain_of, values_at}
+use Rattle.ordered_multimap.specs.Appends.{KeepsTapeRoom, PushesBehind}
 use Rattle.ordered_multimap.specs.Detaches.{IsDrained, drained}
-use Rattle.ordered_multimap.specs.Renames.{AreRenamed}
+use Rattle.ordered_multimap.specs.Renames.{AreChained, AreRenamed}
 use Rattle.ordered_multimap.specs.TapeNumbers.{TakesOut, numbers_of}
 
 -- the values at these places have left the list, what stands at the others is as it was, and as
@@ -84,6 +84,12 @@ pub record TakesRow (old new : Table) (place : ℕ) : Type 0 where
   pub rows : new.rows ≡ remove old.rows place
   pub capacity : new.capacity ≡ old.capacity
 
+-- keys and rows have the room that they had
+pub record KeepsKeyRoom {K : Type 0} (keys keys_after : Slots K KeyLink) (table table_after : Table)
+    : Type 0 where
+  pub key_room : keys_after.capacity ≡ keys.capacity
+  pub row_room : table_after.capacity ≡ table.capacity
+
 -- keys, rows and values have the room that they had
 pub record KeepsRoom {K V : Type 0} (keys keys_after : Slots K KeyLink) (table table_after : Table)
     (values values_after : Taped V ValueLink) : Type 0 where
@@ -105,12 +111,11 @@ pub record HoldsValues {V : Type 0} (values : Slots V ValueLink) (ends : ChainEn
   pub chain : IsDrained values ends
   pub left : drained values ends ≡ items
 
--- the key at the place is listed, and links are chained
+-- the key at the place is listed, and both lists are chained
 pub record HasChain {K V : Type 0} (keys : Slots K KeyLink) (values : Slots V ValueLink) (place : ℕ)
     : Type 0 where
   pub listed : IsIn place keys.order
-  pub sound : IsSound values
-  pub chained : IsChained keys values
+  pub chains : AreChained keys values
 
 -- all values of the key at the place have left but its last one, whose link and that of the key
 -- name no other
@@ -184,8 +189,7 @@ pub record PushesOver {K V : Type 0} (keeps : Bool) (gives : V → Type 0)
   pub keys_pushed : Slots K KeyLink
   pub pushed_values : Taped V ValueLink
   pub pushed : PushesBehind keys keys_pushed values.list pushed_values.list place value
-  pub counts : KeepsCounts values pushed_values
-  pub capacity : pushed_values.list.capacity ≡ values.list.capacity
+  pub room : KeepsTapeRoom values pushed_values
   pub older : LeavesOlder keeps gives keys_pushed keys_after pushed_values values_after place ends
 
 -- keys and values have other names at most, the values fit, and none was taken out

@@ -4,6 +4,7 @@ ghost use Rattle.multimap_slots.specs.Lists.{IsIn, first_of, last_of, next_of, p
 ghost use Rattle.multimap_slots.specs.Slots.{MovesToBack};
 
 use super::SlotList;
+use crate::in_order::InOrder;
 use std::alloc::Allocator;
 
 impl<T, L: Copy, A: Allocator> SlotList<T, L, A> {

@@ -7,15 +7,14 @@ ghost use Rattle.std.specs.Map.{keys_of};
 ghost use Rattle.serde_json.specs.View.{view, items_view};
 ghost use Rattle.ordered_multimap.specs.End.TheVariants.{Front};
 ghost use Rattle.ordered_multimap.specs.Lists.{IsWellFormed, empty_lists, lists};
-ghost use Rattle.ordered_multimap.specs.Keys.{is_listed, stored_key};
+ghost use Rattle.ordered_multimap.specs.Keys.{is_listed};
 ghost use Rattle.ordered_multimap.specs.Pop.{popped_pair};
 ghost use Rattle.ordered_multimap.specs.Pops.{IsPopped, popped_of};
-ghost use Rattle.ordered_multimap.specs.TapeNumbers.{AreUnused};
 ghost use Rattle.multimap_tool.specs.JsonLists.{AreReadKeys, IsReadKey, IsKeysFault};
 ghost use Rattle.multimap_tool.specs.JsonLists.{IsListedKeyFault, IsPairFault, IsPairsFault};
 ghost use Rattle.multimap_tool.specs.Json.{UnlessMemory};
 ghost use Rattle.multimap_tool.specs.JsonLists.{first_unused};
-ghost use Rattle.multimap_tool.specs.JsonSteps.{AppendsPair, AppendsPairs, is_owned_pop};
+ghost use Rattle.multimap_tool.specs.JsonSteps.{AppendsPair, AppendsPairs, AppendsUnder, ReadsInto, is_owned_pop};
 
 use super::faults::{PartFault, ReadFault};
 use super::items::read_key;
@@ -40,13 +39,11 @@ pub(super) fn append_keys<
 ) -> Result<(), ReadFault>
     requires value { V.is_part (view value.now) ≡ true }
     requires empty { map.old.lists ≡ empty_lists }
-    ensures read { OnOk result (AreReadKeys K.json K.is_part K.eq (items_view items.now)
-        map.new.lists.keys) }
+    ensures read { ReadsInto map.old map.new
+        (AreReadKeys K.json K.is_part K.eq (items_view items.now) map.new.lists.keys) result }
     ensures stand_ins { OnOk result (keys_of map.new.lists.pairs ≡ map.new.lists.keys) }
     ensures fault { IfErr result (UnlessMemory (IsKeysFault K.json K.is_part K.eq 0 []
         (items_view items.now))) }
-    ensures hasher { map.new.hasher ≡ map.old.hasher }
-    ensures unused { AreUnused map.old.tape → AreUnused map.new.tape }
 {
     // A wish: each append makes the room that it needs.
     let _reserved = map.reserve_keys(items.len());
@@ -71,14 +68,13 @@ fn append_key<
 ) -> Result<(), ReadFault>
     requires value { V.is_part (view value.now) ≡ true }
     requires stand_ins { keys_of map.old.lists.pairs ≡ map.old.lists.keys }
-    ensures read { OnOk result ((k : K) × IsReadKey K.json K.is_part K.eq (view item.now) k
+    ensures read { ReadsInto map.old map.new
+        ((k : K) × IsReadKey K.json K.is_part K.eq (view item.now) k
         × (is_listed K.eq map.old.lists.keys k ≡ false)
-        × (map.new.lists.keys ≡ map.old.lists.keys ++ k ∷ [])) }
+        × (map.new.lists.keys ≡ map.old.lists.keys ++ k ∷ [])) result }
     ensures stand_ins { OnOk result (keys_of map.new.lists.pairs ≡ map.new.lists.keys) }
     ensures fault { IfErr result (UnlessMemory (IsListedKeyFault K.json K.is_part K.eq index
         map.old.lists.keys (view item.now))) }
-    ensures hasher { map.new.hasher ≡ map.old.hasher }
-    ensures unused { AreUnused map.old.tape → AreUnused map.new.tape }
 {
     let key = match K::from_part(memory, item) {
         Ok(key) => key,
@@ -109,12 +105,10 @@ pub(super) fn append_listed_pairs<
     items: &[Value],
     map: &mut ListOrderedMultimap<K, V, S, A>,
 ) -> Result<(), ReadFault>
-    ensures read { OnOk result (AppendsPairs K.json V.json K.is_part V.is_part K.eq
-        (items_view items.now) map.old.lists map.new.lists) }
+    ensures read { ReadsInto map.old map.new (AppendsPairs K.json V.json K.is_part V.is_part K.eq
+        (items_view items.now) map.old.lists map.new.lists) result }
     ensures fault { IfErr result (UnlessMemory (IsPairsFault K.json K.is_part V.is_part K.eq
         0 map.old.lists.keys (items_view items.now))) }
-    ensures hasher { map.new.hasher ≡ map.old.hasher }
-    ensures unused { AreUnused map.old.tape → AreUnused map.new.tape }
 {
     // A wish, as for the keys.
     let _reserved = map.reserve_values(items.len());
@@ -136,12 +130,10 @@ fn append_listed_pair<
     item: &Value,
     map: &mut ListOrderedMultimap<K, V, S, A>,
 ) -> Result<(), ReadFault>
-    ensures read { OnOk result (AppendsPair K.json V.json K.is_part V.is_part K.eq
-        (view item.now) map.old.lists map.new.lists) }
+    ensures read { ReadsInto map.old map.new (AppendsPair K.json V.json K.is_part V.is_part K.eq
+        (view item.now) map.old.lists map.new.lists) result }
     ensures fault { IfErr result (UnlessMemory (IsPairFault K.json K.is_part V.is_part K.eq
         index map.old.lists.keys (view item.now))) }
-    ensures hasher { map.new.hasher ≡ map.old.hasher }
-    ensures unused { AreUnused map.old.tape → AreUnused map.new.tape }
 {
     let (key, part) = match read_key(memory, index, item) {
         Ok(read) => read,
@@ -180,13 +172,10 @@ fn append_under<K: Eq + Hash + Drop, V: Drop, S: BuildHasher, A: Allocator + Cop
     value: V,
     map: &mut ListOrderedMultimap<K, V, S, A>,
 ) -> Result<(), ReadFault>
-    ensures listed { OnOk result (is_listed K.eq map.old.lists.keys key ≡ true) }
-    ensures appended { let keys = map.old.lists.keys in OnOk result (map.new.lists
-        ≡ lists keys (map.old.lists.pairs ++ (stored_key K.eq keys key, value) ∷ [])) }
+    ensures read { ReadsInto map.old map.new
+        (AppendsUnder K.eq key value map.old.lists map.new.lists) result }
     ensures fault { IfErr result (UnlessMemory (λ fault. (fault ≡ ReadFault.UnlistedKey index)
         × (is_listed K.eq map.old.lists.keys key ≡ false))) }
-    ensures hasher { map.new.hasher ≡ map.old.hasher }
-    ensures unused { AreUnused map.old.tape → AreUnused map.new.tape }
 {
     let _keys = map.keys_len();
     let Ok(present) = map.append(key, value) else {

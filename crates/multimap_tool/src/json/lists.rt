@@ -8,6 +8,7 @@ ghost use Rattle.ordered_multimap.specs.TapeNumbers.{AreUnused};
 ghost use Rattle.multimap_tool.specs.JsonLists.{array_at, both_arrays, has_value};
 ghost use Rattle.multimap_tool.specs.Json.{UnlessMemory};
 ghost use Rattle.multimap_tool.specs.JsonLists.{AreReadLists, IsListsFault, IsPairsFault};
+ghost use Rattle.multimap_tool.specs.JsonSteps.{AnswersLists};
 
 use super::faults::{PartFault, ReadFault};
 use super::items::{read_key, two_parts};
@@ -59,12 +60,8 @@ pub(super) fn read_lists<
     keys: &[Value],
     pairs: &[Value],
 ) -> Result<ListOrderedMultimap<K, V, S, A>, ReadFault>
-    ensures read { IfOk result (λ map. AreReadLists K.json V.json K.is_part V.is_part K.eq
-        (items_view keys.now) (items_view pairs.now) map.lists) }
-    ensures fault { IfErr result (UnlessMemory (IsListsFault K.json V.json K.is_part V.is_part K.eq
-        (items_view keys.now) (items_view pairs.now))) }
-    ensures hasher { IfOk result (λ map. map.hasher ≡ state) }
-    ensures freed { IfOk result (λ map. map.tape.freed ≡ length map.lists.keys) }
+    ensures { AnswersLists K.json V.json K.is_part V.is_part K.eq
+        (items_view keys.now) (items_view pairs.now) state result }
 {
     match first_value::<V>(memory, pairs) {
         Ok(Some(value)) => read_with_value(alloc, memory, state, keys, pairs, value),
@@ -111,12 +108,8 @@ fn read_with_value<
     value: &Value,
 ) -> Result<ListOrderedMultimap<K, V, S, A>, ReadFault>
     requires value { V.is_part (view value.now) ≡ true }
-    ensures read { IfOk result (λ map. AreReadLists K.json V.json K.is_part V.is_part K.eq
-        (items_view keys.now) (items_view pairs.now) map.lists) }
-    ensures fault { IfErr result (UnlessMemory (IsListsFault K.json V.json K.is_part V.is_part K.eq
-        (items_view keys.now) (items_view pairs.now))) }
-    ensures hasher { IfOk result (λ map. map.hasher ≡ state) }
-    ensures freed { IfOk result (λ map. map.tape.freed ≡ length map.lists.keys) }
+    ensures { AnswersLists K.json V.json K.is_part V.is_part K.eq
+        (items_view keys.now) (items_view pairs.now) state result }
 {
     let mut map = ListOrderedMultimap::with_hasher(alloc, state);
     match append_lists(memory, keys, pairs, value, &mut map) {
@@ -169,12 +162,8 @@ fn read_without_value<
     pairs: &[Value],
 ) -> Result<ListOrderedMultimap<K, V, S, A>, ReadFault>
     requires none { has_value V.is_part (items_view pairs.now) ≡ false }
-    ensures read { IfOk result (λ map. AreReadLists K.json V.json K.is_part V.is_part K.eq
-        (items_view keys.now) (items_view pairs.now) map.lists) }
-    ensures fault { IfErr result (UnlessMemory (IsListsFault K.json V.json K.is_part V.is_part K.eq
-        (items_view keys.now) (items_view pairs.now))) }
-    ensures hasher { IfOk result (λ map. map.hasher ≡ state) }
-    ensures freed { IfOk result (λ map. map.tape.freed ≡ length map.lists.keys) }
+    ensures { AnswersLists K.json V.json K.is_part V.is_part K.eq
+        (items_view keys.now) (items_view pairs.now) state result }
 {
     if keys.is_empty() && pairs.is_empty() {
         return Ok(ListOrderedMultimap::with_hasher(alloc, state));

@@ -2,20 +2,20 @@
 ghost use Rattle.std.specs.Prelude.{◌≡◌, false, length, IfOk, IfErr, OnOk, OnErr, IsOk};
 ghost use Rattle.std.specs.FinMap.{len};
 ghost use Rattle.multimap_slots.specs.Lists.{IsIn};
-ghost use Rattle.multimap_slots.specs.Slots.{HasItem, IsSound};
+ghost use Rattle.multimap_slots.specs.Slots.{HasItem};
 ghost use Rattle.multimap_slots.specs.Tapes.{HasTapeRoomFor};
-ghost use Rattle.multimap_walks.specs.Chained.{IsChained};
 ghost use Rattle.ordered_multimap.specs.Appends.{AppendsBehind, AppendsFirst, FitsOneMore, GrowsFor, HasListedRows, MakesRoom};
 ghost use Rattle.ordered_multimap.specs.Additions.{IsAppended, IsAppendedAt, IsRefused, RefusesValue};
 ghost use Rattle.ordered_multimap.specs.KeySteps.{KeepsPlace};
 ghost use Rattle.ordered_multimap.specs.Agrees.{HasKey, hash_of};
-ghost use Rattle.ordered_multimap.specs.Renames.{AreRenamed};
+ghost use Rattle.ordered_multimap.specs.Renames.{AreChained, AreRenamed};
+ghost use Rattle.ordered_multimap.specs.Takes.{HasChain};
 ghost use Rattle.ordered_multimap.specs.Keys.{is_listed};
 ghost use Rattle.ordered_multimap.specs.Pairs.{is_present};
 ghost use Rattle.ordered_multimap.specs.Rooms.{HasPairRoom, HasValueRoom};
 
 use super::room::{make_room, make_value_room};
-use super::steps::{push_behind, push_only, push_row};
+use super::steps::{new_link, push_behind, push_row, push_value};
 use super::{ListOrderedMultimap, Refused, RefusedValue};
 use multimap_slots::{SlotList, Tape};
 use multimap_table::KeyTable;
@@ -44,8 +44,7 @@ impl<K: Eq + Hash, V, S: BuildHasher, A: Allocator + Copy> ListOrderedMultimap<K
         ensures present { IfOk result (λ present.
             present ≡ is_present K.eq self.old.lists.pairs key) }
         ensures ok { OnOk result (IsAppended K.eq key value self.old self.new) }
-        ensures unchanged { OnErr result (IsRefused K.eq key self.old self.new) }
-        ensures refused { IfErr result (λ pair. pair ≡ record { key = key; value = value }) }
+        ensures refused { IfErr result (IsRefused K.eq key value self.old self.new) }
         ensures succeeds { HasPairRoom K.eq self.old key → IsOk result }
     {
         let (hash, place) = self.look_up(&key);
@@ -68,8 +67,7 @@ impl<K: Eq + Hash, V, S: BuildHasher, A: Allocator + Copy> ListOrderedMultimap<K
         requires absent { is_listed K.eq self.old.lists.keys key ≡ false }
         ensures found { IfOk result (HasKey K.eq self.new.slots.keys key) }
         ensures ok { OnOk result (IsAppended K.eq key value self.old self.new) }
-        ensures unchanged { OnErr result (IsRefused K.eq key self.old self.new) }
-        ensures refused { IfErr result (λ pair. pair ≡ record { key = key; value = value }) }
+        ensures refused { IfErr result (IsRefused K.eq key value self.old self.new) }
         ensures succeeds { HasPairRoom K.eq self.old key → IsOk result }
     {
         append_first(
@@ -90,8 +88,7 @@ impl<K: Eq + Hash, V, S: BuildHasher, A: Allocator + Copy> ListOrderedMultimap<K
         requires { IsIn place self.old.slots.keys.order }
         ensures stays { KeepsPlace K.eq self.old self.new place }
         ensures ok { OnOk result (IsAppendedAt K.eq place value self.old self.new) }
-        ensures unchanged { OnErr result (RefusesValue self.old self.new) }
-        ensures refused { IfErr result (λ r. r.value ≡ value) }
+        ensures refused { IfErr result (RefusesValue value self.old self.new) }
         ensures succeeds { HasValueRoom self.old → IsOk result }
     {
         append_behind(&mut self.keys, &mut self.values, place, value)
@@ -106,9 +103,7 @@ fn append_behind<K, V: Drop, A: Allocator + Copy>(
     place: usize,
     value: V,
 ) -> Result<(), RefusedValue<V>>
-    requires listed { IsIn place keys.old.order }
-    requires keys_sound { IsSound keys.old }
-    requires chained { IsChained keys.old values.old.list }
+    requires stands { HasChain keys.old values.old.list place }
     ensures ok { OnOk result (AppendsBehind keys.old keys.new
         values.old.list values.new.list place value) }
     ensures unchanged { OnErr result (AreRenamed keys.old keys.new
@@ -138,8 +133,7 @@ fn append_first<K, V: Drop, A: Allocator + Copy>(
 ) -> Result<usize, Refused<K, V>>
     requires rows { HasListedRows keys.old table.old.rows }
     requires counted { len table.old.rows ≡ length keys.old.order }
-    requires keys_sound { IsSound keys.old }
-    requires chained { IsChained keys.old values.old.list }
+    requires chains { AreChained keys.old values.old.list }
     ensures found { IfOk result (λ place. HasItem keys.new place key) }
     ensures ok { OnOk result (AppendsFirst keys.old keys.new table.old.rows table.new.rows
         values.old.list values.new.list hash key value) }
@@ -155,7 +149,8 @@ fn append_first<K, V: Drop, A: Allocator + Copy>(
     if make_room(keys, table, values).is_err() {
         return Err(Refused { key, value });
     }
-    let place = push_row(keys, table, hash, key);
-    push_only(keys, values, place, hash, value);
+    let link = new_link(hash, values.end_place());
+    let place = push_row(keys, table, key, link);
+    push_value(values, value, place, None);
     Ok(place)
 }

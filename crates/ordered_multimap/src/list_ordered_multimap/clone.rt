@@ -8,8 +8,8 @@ ghost use Rattle.ordered_multimap.specs.Clones.{AreClones};
 ghost use Rattle.ordered_multimap.specs.Keys.{is_listed, moved_to_back, all_moved};
 ghost use Rattle.ordered_multimap.specs.Lists.{Lists, lists, empty_lists};
 ghost use Rattle.ordered_multimap.specs.Pairs.{all_values, is_present};
-ghost use Rattle.ordered_multimap.specs.Rooms.{HasKeyRoom, HasValueRoom, KeepsRooms, SameRooms};
-ghost use Rattle.ordered_multimap.specs.TapeNumbers.{AreUnused, TakesOut};
+ghost use Rattle.ordered_multimap.specs.Rooms.{HasKeyRoom, HasValueRoom, KeepsRoomsAndPairs, SameNumbers};
+ghost use Rattle.ordered_multimap.specs.TapeNumbers.{AreUnused};
 
 use super::ListOrderedMultimap;
 use multimap_walks::{Iter, Keys};
@@ -72,8 +72,7 @@ impl<K: Eq + Hash, V, S: BuildHasher, A: Allocator> ListOrderedMultimap<K, V, S,
         ensures lists { (k : K) → HasKey K.eq self.old.slots.keys k place
             → self.new.lists
             ≡ lists (moved_to_back K.eq self.old.lists.keys k) self.old.lists.pairs }
-        ensures rooms { SameRooms self.old self.new }
-        ensures tape { self.new.tape ≡ self.old.tape }
+        ensures numbers { SameNumbers self.old self.new }
     {
         self.keys.move_to_back(place);
     }
@@ -87,8 +86,7 @@ fn put_last<K: Eq + Hash, V, S: BuildHasher, A: Allocator>(
     requires { is_present K.eq copy.old.lists.pairs key.now ≡ true }
     ensures lists { copy.new.lists
         ≡ lists (moved_to_back K.eq copy.old.lists.keys key.now) copy.old.lists.pairs }
-    ensures rooms { SameRooms copy.old copy.new }
-    ensures tape { copy.new.tape ≡ copy.old.tape }
+    ensures numbers { SameNumbers copy.old copy.new }
 {
     match copy.look_up(key).1 {
         Some(place) => copy.move_key_to_back(place),
@@ -104,8 +102,7 @@ fn put_in_order<K: Eq + Hash, V, S: BuildHasher, A: Allocator>(
     requires { (k : K) → IsIn k left → is_present K.eq copy.old.lists.pairs k ≡ true }
     ensures lists { copy.new.lists
         ≡ lists (all_moved K.eq copy.old.lists.keys left.entry) copy.old.lists.pairs }
-    ensures rooms { SameRooms copy.old copy.new }
-    ensures tape { copy.new.tape ≡ copy.old.tape }
+    ensures numbers { SameNumbers copy.old copy.new }
 {
     for key in left {
         put_last(copy, key);
@@ -124,8 +121,7 @@ fn append_under_clone<K: Eq + Hash + Clone, V: Clone, S: BuildHasher, A: Allocat
     ensures ok { OnOk result ((m : Lists K V) → (v : V) → V.is_clone v value
         → AreClones K.eq K.is_clone V.is_clone m copy.old.lists
         → AreClones K.eq K.is_clone V.is_clone (appended K.eq m key.now v) copy.new.lists) }
-    ensures rooms { KeepsRooms copy.old copy.new }
-    ensures taken { TakesOut 0 copy.old.tape copy.new.tape }
+    ensures keeps { KeepsRoomsAndPairs copy.old copy.new }
 {
     // The length tells the proof that the lists are well formed.
     let _len = copy.keys_len();
@@ -156,8 +152,7 @@ fn append_clone<K: Eq + Hash + Clone, V: Clone, S: BuildHasher, A: Allocator + C
         → AreClones K.eq K.is_clone V.is_clone m copy.old.lists
         → AreClones K.eq K.is_clone V.is_clone (appended K.eq m key.now value.now)
         copy.new.lists) }
-    ensures rooms { KeepsRooms copy.old copy.new }
-    ensures taken { TakesOut 0 copy.old.tape copy.new.tape }
+    ensures keeps { KeepsRoomsAndPairs copy.old copy.new }
 {
     let value = value.clone()?;
     append_under_clone(copy, key, value)
@@ -175,8 +170,7 @@ fn append_clones<K: Eq + Hash + Clone, V: Clone, S: BuildHasher, A: Allocator + 
     requires value_room { length (built_from K.eq left).pairs ≤ copy.old.value_room }
     ensures ok { OnOk result
         (AreClones K.eq K.is_clone V.is_clone (built_from K.eq left.entry) copy.new.lists) }
-    ensures rooms { KeepsRooms copy.old copy.new }
-    ensures taken { TakesOut 0 copy.old.tape copy.new.tape }
+    ensures keeps { KeepsRoomsAndPairs copy.old copy.new }
     ensures succeeds { left.entry ≡ [] → IsOk result }
 {
     for (key, value) in left {

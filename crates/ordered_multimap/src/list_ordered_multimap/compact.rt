@@ -1,10 +1,9 @@
 //! Compaction: values go down to the holes before them, and the links that name them are mended.
 ghost use Rattle.std.specs.Prelude.{◌≡◌, ◌≤◌, ◌<◌, ◌+◌, ℕ, Some, IsSome, length};
 ghost use Rattle.multimap_slots.specs.Lists.{IsIn};
-ghost use Rattle.multimap_slots.specs.Slots.{IsSound, link_at, with_link};
+ghost use Rattle.multimap_slots.specs.Slots.{link_at, with_link};
 ghost use Rattle.multimap_slots.specs.Tapes.{CountsMove};
-ghost use Rattle.multimap_walks.specs.Chained.{IsChained};
-ghost use Rattle.ordered_multimap.specs.Renames.{AreRenamed, Renames, places_below, renamed, renamed_key};
+ghost use Rattle.ordered_multimap.specs.Renames.{AreChained, AreRenamed, Renames, places_below, renamed, renamed_key};
 
 use super::links::{link_of, set_link, set_next, set_previous};
 use super::lookup::slot_at;
@@ -68,8 +67,7 @@ fn move_value<K, V: Drop, A: Allocator>(
     from: usize,
     to: usize,
 )
-    requires keys_sound { IsSound keys.old }
-    requires chained { IsChained keys.old values.old.list }
+    requires chains { AreChained keys.old values.old.list }
     requires listed { IsIn from values.old.list.order }
     requires down { to < from }
     requires holes { (q : ℕ) → to ≤ q → q < from → ¬ IsIn q values.old.list.order }
@@ -91,8 +89,7 @@ pub(super) fn compact<K, V: Drop, A: Allocator>(
     keys: &mut SlotList<K, KeyLink, A>,
     values: &mut Tape<V, ValueLink, A>,
 )
-    requires keys_sound { IsSound keys.old }
-    requires chained { IsChained keys.old values.old.list }
+    requires chains { AreChained keys.old values.old.list }
     ensures renamed { AreRenamed keys.old keys.new values.old.list values.new.list }
     ensures settled { values.new.list.order ≡ places_below (length values.old.list.order) }
     ensures no_hole { values.new.holes ≡ 0 }
@@ -104,7 +101,7 @@ pub(super) fn compact<K, V: Drop, A: Allocator>(
     let count = values.len();
     let mut following = values.front_place();
     for to in 0..count {
-        // The length tells the proof that the list is sound, and that its places rise.
+        // The length tells the proof that the places rise.
         let _len = values.len();
         let from = following.unwrap_or(to);
         if to < from {

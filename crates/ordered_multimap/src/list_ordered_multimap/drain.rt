@@ -5,6 +5,7 @@ ghost use Rattle.std.specs.Iterator.SizeHint.{IsWithinCount};
 ghost use Rattle.ordered_multimap.specs.Detaches.{HoldsDrain};
 
 use super::{DefaultState, EntryValues, ListOrderedMultimap, Refused};
+use multimap_walks::End;
 use std::alloc::{Allocator, Global};
 use std::fmt;
 use std::hash::{BuildHasher, Hash};
@@ -26,13 +27,10 @@ pub struct EntryValuesDrain<
 impl<K: Eq + Hash, V: Drop, S: BuildHasher, A: Allocator> ListOrderedMultimap<K, V, S, A> {
     ghost use Rattle.std.specs.Borrow.{sem};
     ghost use Rattle.std.specs.Prelude.{option_map, slice_get};
-    ghost use Rattle.ordered_multimap.specs.Changes.{removed};
     ghost use Rattle.ordered_multimap.specs.DrainLends.{ends_removed};
-    ghost use Rattle.ordered_multimap.specs.Drains.{DrainsEntry, drain_left};
+    ghost use Rattle.ordered_multimap.specs.Drains.{DrainsEntry};
     ghost use Rattle.ordered_multimap.specs.Keys.{stored_key};
     ghost use Rattle.ordered_multimap.specs.Pairs.{values_of};
-    ghost use Rattle.ordered_multimap.specs.Rooms.{SameRooms};
-    ghost use Rattle.ordered_multimap.specs.TapeNumbers.{TakesOut};
 
     /// Takes the key out with all its values, and hands these out one by one. The pairs leave at
     /// the call, whatever becomes of the drain, and the stored key is dropped. The drain of an
@@ -47,11 +45,7 @@ impl<K: Eq + Hash, V: Drop, S: BuildHasher, A: Allocator> ListOrderedMultimap<K,
     pub fn remove_all(&mut self, key: &K) -> EntryValuesDrain<'_, K, V, S, A>
     where
         K: Drop,
-        ensures left { drain_left result ≡ values_of K.eq self.old.lists.pairs key.now }
-        ensures lists { result.map.now.lists ≡ removed K.eq self.old.lists key.now }
-        ensures rooms { SameRooms self.old result.map.now }
-        ensures taken { TakesOut (length (values_of K.eq self.old.lists.pairs key.now))
-            self.old.tape result.map.now.tape }
+        ensures drain { DrainsEntry K.eq self.old key.now result }
         ensures same_map { result.map.ghost_name ≡ self.entry.ghost_name }
     {
         drop(self.detach_all(key));
@@ -77,11 +71,7 @@ impl<K: Eq + Hash, V: Drop, S: BuildHasher, A: Allocator> ListOrderedMultimap<K,
         K: Drop,
         ensures key { stored.new ≡ option_map (λ _. stored_key K.eq self.old.lists.keys key.now)
             (slice_get (values_of K.eq self.old.lists.pairs key.now) 0) }
-        ensures left { drain_left result ≡ values_of K.eq self.old.lists.pairs key.now }
-        ensures lists { result.map.now.lists ≡ removed K.eq self.old.lists key.now }
-        ensures rooms { SameRooms self.old result.map.now }
-        ensures taken { TakesOut (length (values_of K.eq self.old.lists.pairs key.now))
-            self.old.tape result.map.now.tape }
+        ensures drain { DrainsEntry K.eq self.old key.now result }
         ensures same_map { result.map.ghost_name ≡ self.entry.ghost_name }
     {
         *stored = self.detach_all(key);
@@ -183,7 +173,7 @@ impl<'map, K: Eq + Hash, V: Drop, S: BuildHasher, A: Allocator> Iterator
     ghost remaining = { λ s. at_most (length (drain_left s)) };
 
     fn next(&mut self) -> Option<V> {
-        self.map.take_first_left()
+        self.map.take_left(End::Front)
     }
 
     fn size_hint(&self) -> (usize, Option<usize>)
@@ -206,7 +196,7 @@ impl<'map, K: Eq + Hash, V: Drop, S: BuildHasher, A: Allocator> DoubleEndedItera
     ghost next_back_gives = { DrainsLast };
 
     fn next_back(&mut self) -> Option<V> {
-        self.map.take_last_left()
+        self.map.take_left(End::Back)
     }
 }
 

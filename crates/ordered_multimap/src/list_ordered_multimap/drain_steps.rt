@@ -1,9 +1,8 @@
 //! What a drain does with the map that it borrows: it reads, takes and drops detached values.
 ghost use Rattle.std.specs.Prelude.{◌≡◌, [], length, option_map, slice_get};
 ghost use Rattle.std.specs.Prelude.{IfErr, IfNone, OnErr, OnOk, IsOk};
-ghost use Rattle.std.specs.Map.Iter.{TakesFirst, TakesLast};
 ghost use Rattle.multimap_slots.specs.Lists.{IsIn};
-ghost use Rattle.multimap_slots.specs.Tapes.{KeepsCounts};
+ghost use Rattle.ordered_multimap.specs.Appends.{KeepsTapeRoom};
 ghost use Rattle.ordered_multimap.specs.Agrees.{HasKey};
 ghost use Rattle.ordered_multimap.specs.Changes.{inserted, removed};
 ghost use Rattle.ordered_multimap.specs.Keys.{stored_key};
@@ -11,14 +10,15 @@ ghost use Rattle.ordered_multimap.specs.KeySteps.{DetachesValues, KeepsPairs};
 ghost use Rattle.ordered_multimap.specs.Pairs.{values_of};
 ghost use Rattle.ordered_multimap.specs.Rooms.{HasPairRoom, HasValueRoom, KeepsRooms, RaisesNoRoom, SameRooms};
 ghost use Rattle.ordered_multimap.specs.TapeNumbers.{TakesOut};
-ghost use Rattle.ordered_multimap.specs.Detaches.{HoldsDrain, IsDrained, KeepsListed, KeepsSlots, left_of};
+ghost use Rattle.multimap_walks.specs.Walk.{TakesEnd};
+ghost use Rattle.ordered_multimap.specs.Detaches.{HoldsDrain, IsDrained, KeepsListed, KeepsSlots, LeavesDrain, left_of};
 
 use super::insert::insert_behind_all;
 use super::leaving::KeptInPlace;
 use super::takes::leave_entry;
 use super::{EntryValues, ListOrderedMultimap, NO_CHAIN, Refused, RefusedValue};
 use multimap_slots::Tape;
-use multimap_walks::{ChainEnds, ValueLink};
+use multimap_walks::{ChainEnds, End, ValueLink};
 use std::alloc::Allocator;
 use std::hash::{BuildHasher, Hash};
 
@@ -64,9 +64,8 @@ impl<K: Eq + Hash, V, S: BuildHasher, A: Allocator> ListOrderedMultimap<K, V, S,
 
     /// Nothing is left for a drain.
     fn detach_none(&mut self)
-        ensures holds { HoldsDrain self.new }
-        ensures left { left_of self.new ≡ [] }
-        ensures kept { KeepsListed self.old self.new }
+        ensures drain { LeavesDrain self.old self.new }
+        ensures none { left_of self.new ≡ [] }
     {
         self.left = NO_CHAIN;
     }
@@ -104,37 +103,19 @@ impl<K: Eq + Hash, V, S: BuildHasher, A: Allocator> ListOrderedMultimap<K, V, S,
         EntryValues::new_detached(&self.values, Some(self.left))
     }
 
-    /// Takes the first value that is left of the drain.
-    pub(super) fn take_first_left(&mut self) -> Option<V>
+    /// Takes the value at an end of what is left of the drain.
+    #[inline(always)]
+    pub(super) fn take_left(&mut self, end: End) -> Option<V>
         requires { HoldsDrain self.old }
-        ensures holds { HoldsDrain self.new }
-        ensures first { TakesFirst (λ v. v) (left_of self.old) result (left_of self.new) }
-        ensures kept { KeepsListed self.old self.new }
+        ensures drain { LeavesDrain self.old self.new }
+        ensures taken { TakesEnd end (λ v. v) (left_of self.old) result (left_of self.new) }
     {
         if self.left.length == 0 {
             return None;
         }
-        let place = self.left.first;
+        let place = self.left.place_at(end);
         let (_, link) = self.values.get_detached(place);
-        self.left.first = link.next.unwrap_or(place);
-        self.left.length -= 1;
-        Some(self.values.take_detached(place))
-    }
-
-    /// Takes the last value that is left of the drain.
-    pub(super) fn take_last_left(&mut self) -> Option<V>
-        requires { HoldsDrain self.old }
-        ensures holds { HoldsDrain self.new }
-        ensures last { TakesLast (λ v. v) (left_of self.old) result (left_of self.new) }
-        ensures kept { KeepsListed self.old self.new }
-    {
-        if self.left.length == 0 {
-            return None;
-        }
-        let place = self.left.last;
-        let (_, link) = self.values.get_detached(place);
-        self.left.last = link.previous.unwrap_or(place);
-        self.left.length -= 1;
+        self.left = self.left.after(end, link.step_from(end).unwrap_or(place));
         Some(self.values.take_detached(place))
     }
 
@@ -143,9 +124,8 @@ impl<K: Eq + Hash, V, S: BuildHasher, A: Allocator> ListOrderedMultimap<K, V, S,
     where
         V: Drop,
         requires { HoldsDrain self.old }
-        ensures holds { HoldsDrain self.new }
+        ensures drain { LeavesDrain self.old self.new }
         ensures none { left_of self.new ≡ [] }
-        ensures kept { KeepsListed self.old self.new }
     {
         let left = self.left;
         self.left.length = 0;
@@ -211,8 +191,7 @@ impl<K: Eq + Hash, V, S: BuildHasher, A: Allocator + Copy> ListOrderedMultimap<K
 fn drop_chain<V: Drop, A: Allocator>(values: &mut Tape<V, ValueLink, A>, ends: ChainEnds)
     requires { IsDrained values.old.list ends }
     ensures kept { KeepsSlots values.old.list values.new.list }
-    ensures counts { KeepsCounts values.old values.new }
-    ensures capacity { values.new.list.capacity ≡ values.old.list.capacity }
+    ensures room { KeepsTapeRoom values.old values.new }
 {
     let mut place = ends.first;
     for _ in 0..ends.length {

@@ -1,15 +1,15 @@
 //! Pairs that come last and take the place of all others of their key.
-ghost use Rattle.std.specs.Prelude.{◌≡◌, true, false, Some, length, slice_get, IfOk, IfErr, OnOk, OnErr, IsOk, ⊤};
+ghost use Rattle.std.specs.Prelude.{◌≡◌, true, false, Some, slice_get, IfOk, IfErr, OnOk, OnErr, IsOk, ⊤};
 ghost use Rattle.multimap_slots.specs.Lists.{IsIn};
-ghost use Rattle.multimap_slots.specs.Slots.{IsSound};
 ghost use Rattle.multimap_slots.specs.Tapes.{HasTapeRoomFor};
 ghost use Rattle.ordered_multimap.specs.Agrees.{HasKey};
-ghost use Rattle.ordered_multimap.specs.KeySteps.{KeepsPlace, LosesValues};
+ghost use Rattle.ordered_multimap.specs.KeySteps.{KeepsPlace};
+ghost use Rattle.ordered_multimap.specs.Removals.{LosesValues};
 ghost use Rattle.ordered_multimap.specs.Takes.{GrowsForOne, HasChain, Inserts, KeepsNames};
-ghost use Rattle.ordered_multimap.specs.TapeNumbers.{TakesOut};
 ghost use Rattle.ordered_multimap.specs.Pairs.{values_of};
 ghost use Rattle.ordered_multimap.specs.Changes.{inserted};
-ghost use Rattle.ordered_multimap.specs.Rooms.{HasInsertRoom, KeepsRooms, InsertRaisesNoRoom, SameRooms};
+ghost use Rattle.ordered_multimap.specs.Rooms.{HasInsertRoom, SameRooms};
+ghost use Rattle.ordered_multimap.specs.Additions.{IsInserted, IsRefused};
 
 use super::leaving::{KeptInPlace, TakenOut};
 use super::room::{make_end_room, make_value_room};
@@ -33,20 +33,16 @@ impl<K: Eq + Hash, V, S: BuildHasher, A: Allocator + Copy> ListOrderedMultimap<K
     /// ```
     /// map.insert("page", 9) == Ok(Some(8))
     /// ```
+    #[tactic(auto, using(crate::proofs::LackLemmas::inserted_there))]
     pub fn insert(&mut self, key: K, value: V) -> Result<Option<V>, Refused<K, V>>
     where
         K: Drop,
         V: Drop,
         ensures value { IfOk result (λ old.
             old ≡ slice_get (values_of K.eq self.old.lists.pairs key) 0) }
-        ensures ok { OnOk result (self.new.lists ≡ inserted K.eq self.old.lists key value) }
-        ensures unchanged { OnErr result (self.new.lists ≡ self.old.lists) }
-        ensures refused { IfErr result (λ pair. pair ≡ record { key = key; value = value }) }
+        ensures ok { OnOk result (IsInserted K.eq key value self.old self.new) }
+        ensures refused { IfErr result (IsRefused K.eq key value self.old self.new) }
         ensures succeeds { HasInsertRoom K.eq self.old key → IsOk result }
-        ensures rooms { KeepsRooms self.old self.new }
-        ensures had_room { InsertRaisesNoRoom K.eq key self.old self.new }
-        ensures taken { TakesOut (length (values_of K.eq self.old.lists.pairs key))
-            self.old.tape self.new.tape }
     {
         let (hash, place) = self.look_up(&key);
         let Some(place) = place else {
@@ -85,7 +81,6 @@ fn insert_behind<K, V: Drop, A: Allocator>(
     value: V,
 ) -> V
     requires stands { HasChain keys.old values.old.list place }
-    requires keys_sound { IsSound keys.old }
     requires fits { HasTapeRoomFor values.old 0 }
     ensures inserted { (ends : _) × Inserts false (λ v. result ≡ v) keys.old keys.new
         values.old values.new place value ends }
@@ -106,7 +101,6 @@ pub(super) fn insert_behind_all<K, V: Drop, A: Allocator + Copy>(
     value: V,
 ) -> Result<ChainEnds, RefusedValue<V>>
     requires stands { HasChain keys.old values.old.list place }
-    requires keys_sound { IsSound keys.old }
     requires fits { HasTapeRoomFor values.old 0 }
     ensures ok { IfOk result (Inserts true (λ _. ⊤) keys.old keys.new values.old values.new
         place value) }

@@ -4,11 +4,11 @@ ghost use Rattle.std.specs.Prelude.{◌≡◌, ◌≤◌, ◌<◌, ◌/◌, ℕ,
 ghost use Rattle.std.specs.FinMap.{empty, len};
 ghost use Rattle.multimap_slots.specs.Lists.{IsIn};
 ghost use Rattle.multimap_slots.specs.Slots.{HasRoomFor, IsEmpty, IsSound, link_at};
-ghost use Rattle.multimap_slots.specs.Tapes.{KeepsCounts};
-ghost use Rattle.multimap_walks.specs.Chained.{IsChained};
-ghost use Rattle.ordered_multimap.specs.Appends.{HasListedRows};
-ghost use Rattle.ordered_multimap.specs.KeyRenames.{ArePacked, HasRows, HaveCome, HaveGone, MovesKey, name_in};
-ghost use Rattle.ordered_multimap.specs.Renames.{places_below};
+ghost use Rattle.ordered_multimap.specs.Appends.{HasListedRows, KeepsTapeRoom};
+ghost use Rattle.ordered_multimap.specs.KeyRenames.{ArePacked, HasRows, HaveCome, HaveGone, IsNewStorage, MovesKey, name_in};
+ghost use Rattle.ordered_multimap.specs.Renames.{AreChained, places_below};
+ghost use Rattle.ordered_multimap.specs.Rooms.{IsPacked};
+ghost use Rattle.ordered_multimap.specs.Takes.{KeepsKeyRoom, KeepsRoom};
 ghost use Rattle.ordered_multimap.specs.TapeNumbers.{AreUnused, numbers_of};
 
 use super::ListOrderedMultimap;
@@ -36,10 +36,7 @@ fn new_storage<K: Drop, V: Drop, A: Allocator + Copy>(
     value_capacity: usize,
     places: usize,
 ) -> Result<Storage<K, V, A>, AllocError>
-    ensures no_key { IfOk result (λ s. IsEmpty s.keys) }
-    ensures no_row { IfOk result (λ s. s.table.rows ≡ empty) }
-    ensures no_value { IfOk result (λ s. IsEmpty s.values.list) }
-    ensures unused { IfOk result (λ s. AreUnused (numbers_of s.values)) }
+    ensures empty { IfOk result (λ s. IsNewStorage s.keys s.table s.values) }
     ensures key_room { IfOk result (λ s. key_capacity ≤ s.keys.capacity) }
     ensures row_room { IfOk result (λ s. key_capacity ≤ s.table.capacity) }
     ensures value_room { IfOk result (λ s. value_capacity ≤ s.values.list.capacity / 2) }
@@ -73,8 +70,7 @@ fn move_key<K, A: Allocator>(
     requires within { place < length names.old.items }
     ensures moved { MovesKey keys.old keys.new packed.old packed.new table.old.rows table.new.rows
         names.old.items names.new.items place }
-    ensures keys_capacity { packed.new.capacity ≡ packed.old.capacity }
-    ensures rows_capacity { table.new.capacity ≡ table.old.capacity }
+    ensures rooms { KeepsKeyRoom packed.old packed.new table.old table.new }
 {
     let (key, link) = keys.take_listed(place);
     let to = packed.push_reserved(key, link);
@@ -98,8 +94,7 @@ fn move_keys<K, A: Allocator>(
     ensures rows { HasRows packed.new table.new.rows }
     ensures sound { IsSound packed.new }
     ensures names { length names.new.items ≡ length names.old.items }
-    ensures keys_capacity { packed.new.capacity ≡ packed.old.capacity }
-    ensures rows_capacity { table.new.capacity ≡ table.old.capacity }
+    ensures rooms { KeepsKeyRoom packed.old packed.new table.old table.new }
 {
     // The lengths tell the proof that the lists are sound.
     let _len = keys.len();
@@ -124,8 +119,7 @@ fn move_values<V, A: Allocator>(
         → link_at values.old.list q ≡ Some l → l.key < length names.now.items }
     ensures come { HaveCome (name_in names.now.items) values.old.list.order
         values.old.list packed.new.list }
-    ensures counts { KeepsCounts packed.old packed.new }
-    ensures capacity { packed.new.list.capacity ≡ packed.old.list.capacity }
+    ensures room { KeepsTapeRoom packed.old packed.new }
 {
     for place in 0..values.len() {
         let (value, link) = values.take_listed(place);
@@ -142,24 +136,17 @@ fn pack<K: Drop, V: Drop, A: Allocator>(
     values: &mut Tape<V, ValueLink, A>,
     mut storage: Storage<K, V, A>,
 )
-    requires keys_sound { IsSound keys.old }
-    requires chained { IsChained keys.old values.old.list }
-    requires no_key { IsEmpty storage.keys }
-    requires no_row { storage.table.rows ≡ empty }
-    requires no_value { IsEmpty storage.values.list }
-    requires unused { AreUnused (numbers_of storage.values) }
+    requires chains { AreChained keys.old values.old.list }
+    requires empty { IsNewStorage storage.keys storage.table storage.values }
     requires key_room { length keys.old.order ≤ storage.keys.capacity }
     requires row_room { length keys.old.order ≤ storage.table.capacity }
     requires value_room { length values.old.list.order ≤ storage.values.list.capacity }
     requires names { (q : ℕ) → IsIn q keys.old.order → q < length storage.names.items }
     ensures packed { ArePacked keys.old keys.new table.new.rows values.old.list values.new.list }
     ensures unused { AreUnused (numbers_of values.new) }
-    ensures keys_capacity { keys.new.capacity ≡ storage.keys.capacity }
-    ensures rows_capacity { table.new.capacity ≡ storage.table.capacity }
-    ensures values_capacity { values.new.list.capacity ≡ storage.values.list.capacity }
+    ensures rooms { KeepsRoom storage.keys keys.new storage.table table.new
+        storage.values values.new }
 {
-    // The length tells the proof that the list of values is sound.
-    let _len = values.len();
     compact(keys, values);
     move_keys(
         keys,
@@ -196,13 +183,8 @@ impl<K: Eq + Hash, V, S: BuildHasher, A: Allocator + Copy> ListOrderedMultimap<K
         V: Drop,
         requires keys { length self.old.lists.keys ≤ keys_minimum_capacity }
         requires values { length self.old.lists.pairs ≤ values_minimum_capacity }
-        ensures key_room { OnOk result (keys_minimum_capacity ≤ self.new.key_room) }
-        ensures value_room { OnOk result (values_minimum_capacity ≤ self.new.value_room) }
-        ensures unused { OnOk result (AreUnused self.new.tape) }
-
-        // Both lists stay in any case, and where memory is refused all of the map does.
-        ensures unchanged { self.new.lists ≡ self.old.lists }
-        ensures hasher { self.new.hasher ≡ self.old.hasher }
+        ensures ok { OnOk result
+            (IsPacked keys_minimum_capacity values_minimum_capacity self.old self.new) }
         ensures refused { OnErr result (self.new ≡ self.old) }
     {
         let alloc = *self.keys.allocator();
@@ -226,13 +208,9 @@ impl<K: Eq + Hash, V, S: BuildHasher, A: Allocator + Copy> ListOrderedMultimap<K
     where
         K: Drop,
         V: Drop,
-        ensures key_room { OnOk result (length self.old.lists.keys ≤ self.new.key_room) }
-        ensures value_room { OnOk result (length self.old.lists.pairs ≤ self.new.value_room) }
-        ensures unused { OnOk result (AreUnused self.new.tape) }
-
-        // Both lists stay in any case, and where memory is refused all of the map does.
-        ensures unchanged { self.new.lists ≡ self.old.lists }
-        ensures hasher { self.new.hasher ≡ self.old.hasher }
+        ensures ok { OnOk result
+            (IsPacked (length self.old.lists.keys) (length self.old.lists.pairs)
+            self.old self.new) }
         ensures refused { OnErr result (self.new ≡ self.old) }
     {
         let keys = self.keys_len();

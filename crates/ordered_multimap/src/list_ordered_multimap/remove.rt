@@ -2,7 +2,7 @@
 ghost use Rattle.std.specs.Prelude.{◌≡◌, Some, length, slice_get, option_map};
 ghost use Rattle.multimap_slots.specs.Lists.{IsIn};
 ghost use Rattle.ordered_multimap.specs.Agrees.{HasKey};
-ghost use Rattle.ordered_multimap.specs.KeySteps.{LosesValues};
+ghost use Rattle.ordered_multimap.specs.Removals.{IsRemoved, LosesValues};
 ghost use Rattle.ordered_multimap.specs.Lists.{empty_lists};
 ghost use Rattle.ordered_multimap.specs.Pairs.{values_of};
 ghost use Rattle.ordered_multimap.specs.Keys.{stored_key};
@@ -31,10 +31,7 @@ impl<K: Eq + Hash, V, S: BuildHasher, A: Allocator> ListOrderedMultimap<K, V, S,
         K: Drop,
         V: Drop,
         ensures value { result ≡ slice_get (values_of K.eq self.old.lists.pairs key.now) 0 }
-        ensures lists { self.new.lists ≡ removed K.eq self.old.lists key.now }
-        ensures rooms { SameRooms self.old self.new }
-        ensures taken { TakesOut (length (values_of K.eq self.old.lists.pairs key.now))
-            self.old.tape self.new.tape }
+        ensures removed { IsRemoved K.eq self.old self.new key.now }
     {
         match self.remove_entry(key) {
             Some((_key, value)) => Some(value),
@@ -52,10 +49,7 @@ impl<K: Eq + Hash, V, S: BuildHasher, A: Allocator> ListOrderedMultimap<K, V, S,
         V: Drop,
         ensures entry { result ≡ option_map (λ v. (stored_key K.eq self.old.lists.keys key.now, v))
             (slice_get (values_of K.eq self.old.lists.pairs key.now) 0) }
-        ensures lists { self.new.lists ≡ removed K.eq self.old.lists key.now }
-        ensures rooms { SameRooms self.old self.new }
-        ensures taken { TakesOut (length (values_of K.eq self.old.lists.pairs key.now))
-            self.old.tape self.new.tape }
+        ensures removed { IsRemoved K.eq self.old self.new key.now }
     {
         match self.look_up(key).1 {
             Some(place) => Some(self.take_entry_at(place)),

@@ -1,6 +1,6 @@
 //! Room that is asked for ahead.
 ghost use Rattle.std.specs.Prelude.{◌≡◌, ◌≤◌, ◌+◌, OnOk, IsOk, length};
-ghost use Rattle.ordered_multimap.specs.Rooms.{DoublesRooms, KeepsRooms, SameRooms};
+ghost use Rattle.ordered_multimap.specs.Rooms.{OnlyGrows, SameRooms};
 ghost use Rattle.ordered_multimap.specs.TapeNumbers.{TakesOut};
 
 use super::ListOrderedMultimap;
@@ -22,11 +22,9 @@ impl<K: Eq + Hash, V, S: BuildHasher, A: Allocator + Copy> ListOrderedMultimap<K
     pub fn reserve_keys(&mut self, additional: usize) -> Result<(), AllocError>
         ensures room { OnOk result
             (length self.old.lists.keys + additional ≤ self.new.key_room) }
-        ensures unchanged { self.new.lists ≡ self.old.lists }
+        ensures grows { OnlyGrows self.old self.new }
         ensures values { self.new.value_room ≡ self.old.value_room }
         ensures tape { self.new.tape ≡ self.old.tape }
-        ensures rooms { KeepsRooms self.old self.new }
-        ensures doubles { DoublesRooms self.old self.new }
 
         // Where there is room already, nothing grows and nothing is refused.
         ensures succeeds { length self.old.lists.keys + additional ≤ self.old.key_room
@@ -50,11 +48,9 @@ impl<K: Eq + Hash, V, S: BuildHasher, A: Allocator + Copy> ListOrderedMultimap<K
     pub fn reserve_values(&mut self, additional: usize) -> Result<(), AllocError>
         ensures room { OnOk result
             (length self.old.lists.pairs + additional ≤ self.new.value_room) }
-        ensures unchanged { self.new.lists ≡ self.old.lists }
+        ensures grows { OnlyGrows self.old self.new }
         ensures keys { self.new.key_room ≡ self.old.key_room }
         ensures taken { TakesOut 0 self.old.tape self.new.tape }
-        ensures rooms { KeepsRooms self.old self.new }
-        ensures doubles { DoublesRooms self.old self.new }
 
         // Where there is room already, nothing grows and nothing is refused.
         ensures succeeds { length self.old.lists.pairs + additional ≤ self.old.value_room

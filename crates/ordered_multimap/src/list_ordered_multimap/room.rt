@@ -1,11 +1,10 @@
 //! Room for one more key and one more value.
 ghost use Rattle.std.specs.Prelude.{◌≡◌, ◌<◌, OnOk, IsOk, length};
 ghost use Rattle.std.specs.FinMap.{len};
-ghost use Rattle.multimap_slots.specs.Slots.{IsSound, KeepsItems};
+ghost use Rattle.multimap_slots.specs.Slots.{KeepsItems};
 ghost use Rattle.multimap_slots.specs.Tapes.{HasEndRoom, HasTapeRoomFor};
-ghost use Rattle.multimap_walks.specs.Chained.{IsChained};
 ghost use Rattle.ordered_multimap.specs.Appends.{FitsKeys, FitsOneMore, GrowsFor, MakesRoom};
-ghost use Rattle.ordered_multimap.specs.Renames.{AreRenamed};
+ghost use Rattle.ordered_multimap.specs.Renames.{AreChained, AreRenamed};
 ghost use Rattle.ordered_multimap.specs.TapeNumbers.{TakesOut, numbers_of};
 
 use super::compact::compact;
@@ -22,19 +21,17 @@ pub(super) fn make_end_room<K, V: Drop, A: Allocator>(
     keys: &mut SlotList<K, KeyLink, A>,
     values: &mut Tape<V, ValueLink, A>,
 )
-    requires keys_sound { IsSound keys.old }
-    requires chained { IsChained keys.old values.old.list }
+    requires chains { AreChained keys.old values.old.list }
     requires fits { HasTapeRoomFor values.old 0 }
     requires slots { 0 < values.old.list.capacity }
     ensures renamed { AreRenamed keys.old keys.new values.old.list values.new.list }
-    ensures sound { IsSound values.old.list }
     ensures same_length { length values.new.list.order ≡ length values.old.list.order }
     ensures taken { TakesOut 0 (numbers_of values.old) (numbers_of values.new) }
     ensures end_room { HasEndRoom values.new }
     ensures capacity { values.new.list.capacity ≡ values.old.list.capacity }
     ensures keys_capacity { keys.new.capacity ≡ keys.old.capacity }
 {
-    // The length tells the proof that the list is sound, and how many slots are in use.
+    // The length tells the proof how many slots are in use.
     let _len = values.len();
     if !values.has_end_room() {
         compact(keys, values);
@@ -49,10 +46,8 @@ pub(super) fn make_value_room<K, V: Drop, A: Allocator + Copy>(
     keys: &mut SlotList<K, KeyLink, A>,
     values: &mut Tape<V, ValueLink, A>,
 ) -> Result<(), AllocError>
-    requires keys_sound { IsSound keys.old }
-    requires chained { IsChained keys.old values.old.list }
+    requires chains { AreChained keys.old values.old.list }
     ensures renamed { AreRenamed keys.old keys.new values.old.list values.new.list }
-    ensures sound { IsSound values.old.list }
     ensures values { MakesRoom values.old values.new }
     ensures room { OnOk result (HasTapeRoomFor values.new 1) }
     ensures end_room { OnOk result (HasEndRoom values.new) }
@@ -107,8 +102,7 @@ pub(super) fn make_room<K, V: Drop, A: Allocator + Copy>(
     values: &mut Tape<V, ValueLink, A>,
 ) -> Result<(), AllocError>
     requires counted { len table.old.rows ≡ length keys.old.order }
-    requires keys_sound { IsSound keys.old }
-    requires chained { IsChained keys.old values.old.list }
+    requires chains { AreChained keys.old values.old.list }
     ensures renamed { AreRenamed keys.old keys.new values.old.list values.new.list }
     ensures same_rows { table.new.rows ≡ table.old.rows }
     ensures room { OnOk result (FitsOneMore keys.new table.new.rows table.new.capacity values.new) }
@@ -119,8 +113,6 @@ pub(super) fn make_room<K, V: Drop, A: Allocator + Copy>(
         table.old.capacity table.new.capacity 1 }
     ensures values { MakesRoom values.old values.new }
 {
-    // The length tells the proof that the list of values is sound.
-    let _values = values.len();
     make_key_room(keys, table, 1)?;
     make_value_room(keys, values)
 }

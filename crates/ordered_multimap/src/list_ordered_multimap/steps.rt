@@ -1,11 +1,12 @@
 //! Steps of a change: each one writes one of key list, table and values, and the calls join them.
-ghost use Rattle.std.specs.Prelude.{◌≡◌, ◌≤◌, ◌<◌, ◌+◌, ℕ, Some, length};
+ghost use Rattle.std.specs.Prelude.{◌≡◌, ◌≤◌, ◌+◌, ℕ, Some};
 ghost use Rattle.std.specs.FinMap.{len};
 ghost use Rattle.multimap_slots.specs.Lists.{IsIn};
-ghost use Rattle.multimap_slots.specs.Slots.{IsSound, HasRoomFor, PushesBack};
-ghost use Rattle.multimap_slots.specs.Tapes.{HasEndRoom, KeepsCounts};
-ghost use Rattle.multimap_walks.specs.Chained.{IsChained};
-ghost use Rattle.ordered_multimap.specs.Appends.{PushesValue, PushesBehind, HasListedRows, PushesRow, PushesOnly};
+ghost use Rattle.multimap_slots.specs.Slots.{HasRoomFor, PushesBack};
+ghost use Rattle.multimap_slots.specs.Tapes.{HasEndRoom};
+ghost use Rattle.ordered_multimap.specs.Appends.{ComesLast, HasListedRows, KeepsTapeRoom, link_of_one};
+ghost use Rattle.ordered_multimap.specs.Appends.{PushesBehind, PushesRow, PushesValue};
+ghost use Rattle.ordered_multimap.specs.Takes.{HasChain};
 
 use super::links::{set_link, set_next};
 use super::lookup::slot_at;
@@ -24,15 +25,15 @@ fn push_key<K, A: Allocator>(keys: &mut SlotList<K, KeyLink, A>, key: K, link: K
     keys.push_reserved(key, link)
 }
 
-/// The link of a key whose chain has so many values, all at one place.
-pub(super) fn new_link(hash: u64, place: usize, length: usize) -> KeyLink
-    ensures { result ≡ record { hash = hash; head = place; tail = place; length = length } }
+/// The link of a key with one value, at the place.
+pub(super) fn new_link(hash: u64, place: usize) -> KeyLink
+    ensures { result ≡ link_of_one hash place }
 {
     KeyLink {
         hash,
         head: place,
         tail: place,
-        length,
+        length: 1,
     }
 }
 
@@ -45,8 +46,7 @@ fn push_slot<V, A: Allocator>(
 ) -> usize
     requires { HasEndRoom values.old }
     ensures pushed { PushesBack values.old.list values.new.list result value link }
-    ensures counts { KeepsCounts values.old values.new }
-    ensures capacity { values.new.list.capacity ≡ values.old.list.capacity }
+    ensures last { ComesLast values.old values.new result }
 {
     values.push_reserved(value, link)
 }
@@ -54,7 +54,7 @@ fn push_slot<V, A: Allocator>(
 /// Puts the value last, behind the value at the tail in the chain of its key, and answers its
 /// place.
 #[inline(always)]
-fn push_value<V, A: Allocator>(
+pub(super) fn push_value<V, A: Allocator>(
     values: &mut Tape<V, ValueLink, A>,
     value: V,
     key: usize,
@@ -63,8 +63,7 @@ fn push_value<V, A: Allocator>(
     requires room { HasEndRoom values.old }
     requires tail { (q : ℕ) → tail ≡ Some q → IsIn q values.old.list.order }
     ensures pushed { PushesValue values.old.list values.new.list result value key tail }
-    ensures counts { KeepsCounts values.old values.new }
-    ensures capacity { values.new.list.capacity ≡ values.old.list.capacity }
+    ensures last { ComesLast values.old values.new result }
 {
     let link = ValueLink {
         key,
@@ -76,16 +75,6 @@ fn push_value<V, A: Allocator>(
     place
 }
 
-/// One more than the length of a chain. The list has more values than that, so it is a `usize`.
-fn one_more<V, A: Allocator>(values: &Tape<V, ValueLink, A>, count: usize) -> usize
-    requires { count < length values.now.list.order }
-    ensures more { result ≡ count + 1 }
-    ensures sound { IsSound values.now.list }
-{
-    let _ = values.len();
-    count + 1
-}
-
 /// Puts the value last, behind the others of the key at the place.
 #[inline(always)]
 pub(super) fn push_behind<K, V, A: Allocator>(
@@ -94,61 +83,36 @@ pub(super) fn push_behind<K, V, A: Allocator>(
     place: usize,
     value: V,
 )
-    requires listed { IsIn place keys.old.order }
-    requires chained { IsChained keys.old values.old.list }
+    requires stands { HasChain keys.old values.old.list place }
     requires room { HasEndRoom values.old }
     ensures pushed { PushesBehind keys.old keys.new values.old.list values.new.list place value }
-    ensures counts { KeepsCounts values.old values.new }
-    ensures capacity { values.new.list.capacity ≡ values.old.list.capacity }
+    ensures room { KeepsTapeRoom values.old values.new }
 {
     let (_, link) = slot_at(keys, place);
     let tail = push_value(values, value, place, Some(link.tail));
-    let length = one_more(values, link.length);
     let longer = KeyLink {
         tail,
-        length,
+        length: link.length + 1,
         ..link
     };
     set_link(keys, place, longer);
 }
 
-/// Puts the key last, with a row of its hash, and answers its place. Its link names no value yet:
-/// the places in it are 0 until the first value is pushed.
+/// Puts the key last, with this link and a row of its hash, and answers its place.
 #[inline(always)]
 pub(super) fn push_row<K, A: Allocator + Copy>(
     keys: &mut SlotList<K, KeyLink, A>,
     table: &mut KeyTable<A>,
-    hash: u64,
     key: K,
+    link: KeyLink,
 ) -> usize
     requires listed { HasListedRows keys.old table.old.rows }
     requires key_room { HasRoomFor keys.old 1 }
     requires row_room { len table.old.rows + 1 ≤ table.old.capacity }
-    ensures pushed { PushesRow keys.old keys.new table.old.rows table.new.rows result key hash }
-    ensures keys_capacity { keys.new.capacity ≡ keys.old.capacity }
+    ensures pushed { PushesRow keys.old keys.new table.old.rows table.new.rows result key link }
     ensures rows_capacity { table.new.capacity ≡ table.old.capacity }
 {
-    let place = push_key(keys, key, new_link(hash, 0, 0));
-    table.insert(hash, place);
+    let place = push_key(keys, key, link);
+    table.insert(link.hash, place);
     place
-}
-
-/// Puts the value last, as the only one of the key at the place.
-#[inline(always)]
-pub(super) fn push_only<K, V, A: Allocator>(
-    keys: &mut SlotList<K, KeyLink, A>,
-    values: &mut Tape<V, ValueLink, A>,
-    place: usize,
-    hash: u64,
-    value: V,
-)
-    requires listed { IsIn place keys.old.order }
-    requires room { HasEndRoom values.old }
-    ensures pushed { PushesOnly keys.old keys.new values.old.list values.new.list place hash value }
-    ensures counts { KeepsCounts values.old values.new }
-    ensures capacity { values.new.list.capacity ≡ values.old.list.capacity }
-{
-    let head = push_value(values, value, place, None);
-    let length = one_more(values, 0);
-    set_link(keys, place, new_link(hash, head, length));
 }

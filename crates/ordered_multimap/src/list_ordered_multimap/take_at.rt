@@ -2,11 +2,12 @@
 ghost use Rattle.std.specs.Prelude.{◌≡◌, ◌<◌, Some, cond, is_some, slice_get};
 ghost use Rattle.multimap_slots.specs.Lists.{IsIn};
 ghost use Rattle.multimap_slots.specs.Slots.{link_at};
-ghost use Rattle.multimap_walks.specs.Chained.{IsChained, chain_of};
+ghost use Rattle.multimap_walks.specs.Chained.{chain_of};
 ghost use Rattle.ordered_multimap.specs.Agrees.{HasKey};
 ghost use Rattle.ordered_multimap.specs.KeySteps.{KeepsPlace};
 ghost use Rattle.ordered_multimap.specs.RemovedAt.{removed_at, value_beside};
 ghost use Rattle.ordered_multimap.specs.Rooms.{SameRooms};
+ghost use Rattle.ordered_multimap.specs.Takes.{HasChain};
 ghost use Rattle.ordered_multimap.specs.TakesAt.{TakesAt};
 ghost use Rattle.ordered_multimap.specs.TapeNumbers.{TakesOut, numbers_of};
 
@@ -27,13 +28,10 @@ fn place_at<K, V, A: Allocator>(
     place: usize,
     index: usize,
 ) -> usize
-    requires listed { IsIn place keys.now.order }
-    requires chained { IsChained keys.now values.now.list }
+    requires stands { HasChain keys.now values.now.list place }
     requires among { (l : KeyLink) → link_at keys.now place ≡ Some l → index < l.length }
     ensures { slice_get (chain_of values.now.list place) index ≡ Some result }
 {
-    // The length tells the proof that the list is sound.
-    let _len = values.len();
     let (_, link) = slot_at(keys, place);
     let behind = link.length - index - 1;
     if index <= behind {
@@ -57,8 +55,7 @@ fn take_at<K, V, A: Allocator>(
     place: usize,
     index: usize,
 ) -> Option<V>
-    requires listed { IsIn place keys.old.order }
-    requires chained { IsChained keys.old values.old.list }
+    requires stands { HasChain keys.old values.old.list place }
     ensures taken { TakesAt keys.old keys.new values.old.list values.new.list place index result }
     ensures counts { TakesOut (cond (is_some result) 1 0)
         (numbers_of values.old) (numbers_of values.new) }

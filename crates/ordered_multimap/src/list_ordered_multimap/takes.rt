@@ -2,7 +2,7 @@
 ghost use Rattle.std.specs.Prelude.{◌≡◌, ◌<◌, ℕ, List, Some};
 ghost use Rattle.std.specs.FinMap.{get};
 ghost use Rattle.multimap_slots.specs.Lists.{IsIn};
-ghost use Rattle.multimap_slots.specs.Slots.{IsSound, Removes, item_at, link_at};
+ghost use Rattle.multimap_slots.specs.Slots.{Removes, item_at, link_at};
 ghost use Rattle.multimap_slots.specs.Tapes.{HasEndRoom};
 ghost use Rattle.ordered_multimap.specs.Takes.{AreLeaving, HasChain, IsRow, LeavesEntry, LeavesOlder};
 ghost use Rattle.ordered_multimap.specs.Takes.{PushesOver, TakesRow};
@@ -105,7 +105,7 @@ fn leave_older<K, V, W: Leaving<V>, A: Allocator>(
     let (_, link) = slot_at(keys, place);
     let left = leave_values(values, link.head, link.length - 1);
     set_previous(values, Some(link.tail), None);
-    set_link(keys, place, new_link(link.hash, link.tail, 1));
+    set_link(keys, place, new_link(link.hash, link.tail));
     left
 }
 
@@ -118,13 +118,10 @@ pub(super) fn push_over<K, V, W: Leaving<V>, A: Allocator>(
     value: V,
 ) -> (W, ChainEnds)
     requires stands { HasChain keys.old values.old.list place }
-    requires keys_sound { IsSound keys.old }
     requires room { HasEndRoom values.old }
     ensures { PushesOver W.keeps (W.gives result.0) keys.old keys.new values.old values.new
         place value result.1 }
 {
     push_behind(keys, values, place, value);
-    // The length tells the proof that the list is sound.
-    let _len = values.len();
     leave_older(keys, values, place)
 }

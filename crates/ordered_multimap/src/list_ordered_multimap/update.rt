@@ -8,8 +8,8 @@ ghost use Rattle.ordered_multimap.specs.Agrees.{Agrees};
 ghost use Rattle.ordered_multimap.specs.Pairs.{values_of};
 ghost use Rattle.ordered_multimap.specs.Retain.{Retains};
 ghost use Rattle.ordered_multimap.specs.RetainSteps.{Asks};
-ghost use Rattle.ordered_multimap.specs.Rooms.{SameRooms};
-ghost use Rattle.ordered_multimap.specs.UpdateSteps.{RewritesAt, RewritesOne};
+ghost use Rattle.ordered_multimap.specs.Rooms.{SameNumbers};
+ghost use Rattle.ordered_multimap.specs.UpdateSteps.{KeepsAgreed, RewritesAt, RewritesOne};
 ghost use Rattle.ordered_multimap.specs.Updates.{AlwaysLeaves, MayUpdate, Updates};
 ghost use Rattle.ordered_multimap.specs.Updates.{AlwaysRewrites, CallableOnEach, MayRewrite};
 ghost use Rattle.ordered_multimap.specs.Updates.{UpdatesKey};
@@ -51,15 +51,9 @@ fn update_pairs<K: Eq, V, A: Allocator, F: FnMut(&K, &mut V)>(
         × Agrees K.eq hash keys.now table.now.rows values.old.list }
     requires callable { CallableOnEachPair (Updates F.FnMut) (MayUpdate F.FnMut) f
         (pairs_of keys.now values.old.list) }
-    ensures agrees { (hash : K → ℕ) → Agrees K.eq hash keys.now table.now.rows values.old.list
-        → Agrees K.eq hash keys.now table.now.rows values.new.list }
+    ensures kept { KeepsAgreed K.eq keys.now table.now.rows values.old values.new }
     ensures updated { (last : F) × Retains (Updates F.FnMut) f
         (pairs_of keys.now values.old.list) (pairs_of keys.now values.new.list) last }
-    ensures order { values.new.list.order ≡ values.old.list.order }
-    ensures capacity { values.new.list.capacity ≡ values.old.list.capacity }
-    ensures moved { values.new.moved ≡ values.old.moved }
-    ensures freed { values.new.freed ≡ values.old.freed }
-    ensures holes { values.new.holes ≡ values.old.holes }
 {
     let mut following = values.front_place();
     while let Some(place) = following {
@@ -98,15 +92,9 @@ fn rewrite_chain<K: Eq, V, A: Allocator, F: FnMut(&mut V)>(
         × Agrees K.eq hash keys.now table.now.rows values.old.list }
     requires callable { CallableOnEach F.FnMut f
         (values_at values.old.list (chain_of values.old.list key_place)) }
-    ensures agrees { (hash : K → ℕ) → Agrees K.eq hash keys.now table.now.rows values.old.list
-        → Agrees K.eq hash keys.now table.now.rows values.new.list }
+    ensures kept { KeepsAgreed K.eq keys.now table.now.rows values.old values.new }
     ensures rewritten { (last : F) × RewritesAt F.FnMut keys.now values.old.list key_place f
         (pairs_of keys.now values.new.list) last }
-    ensures order { values.new.list.order ≡ values.old.list.order }
-    ensures capacity { values.new.list.capacity ≡ values.old.list.capacity }
-    ensures moved { values.new.moved ≡ values.old.moved }
-    ensures freed { values.new.freed ≡ values.old.freed }
-    ensures holes { values.new.holes ≡ values.old.holes }
 {
     let (_, link) = slot_at(keys, key_place);
     let mut following = Some(link.head);
@@ -138,8 +126,7 @@ impl<K: Eq + Hash, V, S: BuildHasher, A: Allocator> ListOrderedMultimap<K, V, S,
         ensures stepwise { (step : K → V → V) → AlwaysLeaves F.FnMut f step
             → self.new.lists.pairs ≡ each (λ p. (p.0, step p.0 p.1)) self.old.lists.pairs }
         ensures keys { self.new.lists.keys ≡ self.old.lists.keys }
-        ensures rooms { SameRooms self.old self.new }
-        ensures tape { self.new.tape ≡ self.old.tape }
+        ensures numbers { SameNumbers self.old self.new }
     {
         update_pairs(&self.keys, &self.table, &mut self.values, f);
     }
@@ -165,8 +152,7 @@ impl<K: Eq + Hash, V, S: BuildHasher, A: Allocator> ListOrderedMultimap<K, V, S,
             → self.new.lists.pairs
             ≡ each (λ p. (p.0, if K.eq key.now p.0 then step p.1 else p.1)) self.old.lists.pairs }
         ensures keys { self.new.lists.keys ≡ self.old.lists.keys }
-        ensures rooms { SameRooms self.old self.new }
-        ensures tape { self.new.tape ≡ self.old.tape }
+        ensures numbers { SameNumbers self.old self.new }
     {
         if let Some(place) = self.look_up(key).1 {
             rewrite_chain(&self.keys, &self.table, &mut self.values, place, f);

@@ -17,20 +17,21 @@ loop-lane-init g c = record {
   lanes = refl;
 }
 
-pub insert_row-requires-clause-room : goal.insert_row-requires-clause-room
-insert_row-requires-clause-room g c =
+pub insert_row-requires : goal.insert_row-requires
+insert_row-requires g c =
     let w = c.loop-lane.invariant in
     let tags = c.loop-lane.tags.items in
     let fewer = take_fewer c.args.old_tags.now c.args.old_rows.now c.loop-lane.lane c.requires.old_rows (omega arith) (omega arith) in
     let whole = c.requires.laid_out.sized.whole_groups in
-    room_from_count tags c.loop-lane.rows.items w.laid_out.sized.row_each (omega (arith, w.counted, fewer, c.requires.room, w.lanes, whole))
-
-pub insert_row-requires-clause-absent : goal.insert_row-requires-clause-absent
-insert_row-requires-clause-absent g c =
     let place = (row_at c.args.old_rows.now c.loop-lane.lane).place in
-    ap (λ (m : FinMap nat_cmp ℕ). get m place) c.loop-lane.invariant.map
-    ∙ get_before c.args.old_tags.now c.args.old_rows.now c.loop-lane.lane c.requires.unique c.requires.old_rows (omega arith)
-    (omega arith)
+    record {
+      laid_out = w.laid_out;
+      room = room_from_count tags c.loop-lane.rows.items w.laid_out.sized.row_each
+          (omega (arith, w.counted, fewer, c.requires.room, w.lanes, whole));
+      absent = ap (λ (m : FinMap nat_cmp ℕ). get m place) w.map
+          ∙ get_before c.args.old_tags.now c.args.old_rows.now c.loop-lane.lane c.requires.unique c.requires.old_rows (omega arith)
+          (omega arith);
+    }
 
 pub loop-lane-preserved : goal.loop-lane-preserved
 loop-lane-preserved g c =
@@ -45,13 +46,13 @@ loop-lane-preserved g c =
           let full : 0 < get_or tags lane 0 = omega (arith, b.if-old_tags-lane-ne0.true) in
           let put = b.insert_row.ensures in
           rw (add-one, b.tags-is, b.rows-is) (record {
-            laid_out = put.laid_out;
-            map = put.rows ∙ ap (λ (m : FinMap nat_cmp ℕ). insert m row.place row.hash) w.map
+            laid_out = put.rows.laid_out;
+            map = put.rows.rows_are ∙ ap (λ (m : FinMap nat_cmp ℕ). insert m row.place row.hash) w.map
                 ∙ sym (rows_of-take_full tags rows lane c.requires.unique c.requires.old_rows in_range full);
             counted = put.counted ∙ ap (λ n. n + 1) w.counted
                 ∙ sym (ap length (take_full tags rows lane c.requires.old_rows in_range full)
                 ∙ length-append (entries (take lane tags) (take lane rows)) _);
-            lanes = put.lanes ∙ w.lanes;
+            lanes = put.rows.lanes ∙ w.lanes;
           })
       | else-old_tags-lane-ne0 b ↦
           let free : get_or tags lane 0 ≡ 0 = b.if-old_tags-lane-ne0.false in
@@ -72,8 +73,6 @@ returns g c =
     let tags_whole = take_whole tags c.loop-lane.lane all in
     let rows_whole = take_whole rows c.loop-lane.lane (let same = c.requires.old_rows in omega arith) in
     record {
-      laid_out = w.laid_out;
-      rows = w.map ∙ (λ i. rows_of (tags_whole i) (rows_whole i));
+      rows = record { laid_out = w.laid_out; rows_are = w.map ∙ (λ i. rows_of (tags_whole i) (rows_whole i)); lanes = w.lanes };
       counted = w.counted ∙ (λ i. length (entries (tags_whole i) (rows_whole i)));
-      lanes = w.lanes;
     }

@@ -1,5 +1,5 @@
-use Rattle.std.proofs.Common.{◌≡◌, ℕ, ◌/◌, ◌<◌, List, length, get_or, set, subst, sym, ap, ◌∙◌}
-use Rattle.multimap_table.specs.Layout.{Reaches, probe_start}
+use Rattle.std.proofs.Common.{rules, ◌≡◌, ℕ, ◌/◌, ◌<◌, List, length, get_or, set, subst, sym, ap, ◌∙◌}
+use Rattle.multimap_table.specs.Layout.{IsLaidOut, Reaches, probe_start}
 use Rattle.multimap_table.proofs.RowLemmas.{IsPut, put_row}
 use Rattle.multimap_table.proofs.LayoutLemmas.{laid_out_put}
 use Rattle.multimap_table.proofs.insert.insert_row.Goals.{After-rows-1}
@@ -22,8 +22,9 @@ put g c =
     put_row c.args.tags.now.items c.args.rows.now.items c.lane_with_room-lane.result c.tag_of.result c.args.row old.sized.row_each new.0
     new.1 c.tag_of.ensures.full c.requires.absent old.unique
 
-pub returns-clause-laid_out : goal.returns-clause-laid_out
-returns-clause-laid_out g c =
+laid_out : (g : Over) (c : After-rows-1 g) → IsLaidOut (set c.args.tags.now.items c.lane_with_room-lane.result c.tag_of.result)
+    (set c.args.rows.now.items c.lane_with_room-lane.result c.args.row)
+laid_out g c =
     let old = c.requires.laid_out in let new = room g c in
     laid_out_put c.args.tags.now.items c.args.rows.now.items c.lane_with_room-lane.result c.tag_of.result c.args.row old.sized new.0
     c.tag_of.ensures.value c.tag_of.ensures.full new.1 c.requires.absent
@@ -32,7 +33,7 @@ returns-clause-laid_out g c =
     (c.len-count.ensures ∙ sym c.deref.ensures.len ∙ ap length c.deref.ensures.value)) new.2) old
 
 pub returns-clause-rows : goal.returns-clause-rows
-returns-clause-rows g c = (put g c).map
+returns-clause-rows g c = record { laid_out = laid_out g c; rows_are = (put g c).map; lanes = search rules }
 
 pub returns-clause-counted : goal.returns-clause-counted
 returns-clause-counted g c = (put g c).counted

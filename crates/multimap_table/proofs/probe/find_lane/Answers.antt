@@ -1,19 +1,26 @@
-use Rattle.std.proofs.Common.{◌/◌, false, length, arith}
+use Rattle.std.proofs.Common.{ℕ, ◌/◌, false, length, arith}
 use Rattle.multimap_table.specs.Entries.{row_at}
 use Rattle.multimap_table.proofs.CycleLemmas.{distance-lt}
 use Rattle.multimap_table.proofs.GroupLemmas.{not_full_from_mask, group_of-lt, missed_one_more, missed_at_stop}
+use Rattle.multimap_table.specs.Layout.{HoldsHash}
+use Rattle.multimap_table.proofs.probe.find_lane.Given.{Over}
+use Rattle.multimap_table.proofs.probe.find_lane.Goals.{After-loop-step}
 use Rattle.multimap_table.proofs.probe.find_lane.Goals as goal
 
-pub returns-then-match_tag-ne0-clause-absent : goal.returns-then-match_tag-ne0-clause-absent
-returns-then-match_tag-ne0-clause-absent g c =
+pub returns-then-match_tag-ne0 : goal.returns-then-match_tag-ne0
+returns-then-match_tag-ne0 g c =
     let tags = c.args.tags.now in
+    let rows = c.args.rows.now in
     let group = c.probe-group.result in
-    missed_at_stop (λ lane. goal.F-post g c.args.test.now (row_at c.args.rows.now lane).place false) tags c.args.rows.now c.args.hash
-    c.probe_start-start.result c.loop-step.step group
-    c.requires.sized c.requires.reachable c.probe_start-start.ensures.in_range c.probe-group.ensures.in_range c.probe-group.ensures.value
-    c.loop-step.invariant (c.in_default.ensures {u = tt}).absent
-    c.probe_start-start.ensures.value (not_full_from_mask tags group c.match_tag.result c.if-match_tag-ne0.true c.match_tag.type_inv
-    c.match_tag.ensures.only)
+    let start = c.probe_start-start in
+    record {
+      found = tt;
+      absent = missed_at_stop (λ lane. goal.F-post g c.args.test.now (row_at rows lane).place false) tags rows c.args.hash
+          start.result c.loop-step.step group c.requires.sized c.requires.reachable start.ensures.in_range
+          c.probe-group.ensures.in_range c.probe-group.ensures.value c.loop-step.invariant (c.in_default.ensures {u = tt}).absent
+          start.ensures.value (not_full_from_mask tags group c.match_tag.result c.if-match_tag-ne0.true c.match_tag.type_inv
+          c.match_tag.ensures.only);
+    }
 
 pub loop-step-preserved : goal.loop-step-preserved
 loop-step-preserved g c =
@@ -22,11 +29,15 @@ loop-step-preserved g c =
     c.requires.sized c.requires.reachable c.probe_start-start.ensures.in_range c.probe-group.ensures.in_range c.probe-group.ensures.value
     c.loop-step.invariant (c.in_default.ensures {u = tt}).absent
 
-pub returns-clause-absent : goal.returns-clause-absent
-returns-clause-absent g c = λ lane holds.
+absent : (g : Over) (c : After-loop-step g) → (lane : ℕ) → HoldsHash c.args.tags.now c.args.rows.now c.args.hash lane
+    → goal.F-post g c.args.test.now (row_at c.args.rows.now lane).place false
+absent g c = λ lane holds.
     let in_range = group_of-lt c.args.tags.now lane c.requires.sized.whole_groups holds.in_range in
     c.loop-step.invariant lane holds (omega (
       arith,
       distance-lt (length c.args.tags.now / 16) c.probe_start-start.result
           (lane / 16) c.probe_start-start.ensures.in_range in_range,
     ))
+
+pub returns : goal.returns
+returns g c = record { found = tt; absent = absent g c }

@@ -1,6 +1,6 @@
-use Rattle.std.proofs.Common.{◌≡◌, ℕ, ◌/◌, ◌<◌, List, length, get_or, set, subst, sym, ap, ◌∙◌, arith, refl}
+use Rattle.std.proofs.Common.{rules, ◌≡◌, ℕ, ◌/◌, ◌<◌, List, length, get_or, set, subst, sym, ap, ◌∙◌, arith, refl}
 use Rattle.multimap_table.specs.declared.group.Row.{Row}
-use Rattle.multimap_table.specs.Layout.{Reaches, Passes}
+use Rattle.multimap_table.specs.Layout.{IsLaidOut, Reaches, Passes}
 use Rattle.multimap_table.specs.Entries.{row_at}
 use Rattle.multimap_table.proofs.RowLemmas.{IsErased, erase_row, move_row}
 use Rattle.multimap_table.proofs.GapLemmas.{IsClosing, opened, closed, falls, passed_by}
@@ -90,8 +90,8 @@ loop-group-preserved g c =
       lanes = c.loop-group.invariant.lanes;
     }
 
-pub returns-clause-laid_out : goal.returns-clause-laid_out
-returns-clause-laid_out g c =
+laid_out : (g : Over) (c : After-loop-group g) → IsLaidOut c.loop-group.tags.items c.loop-group.rows.items
+laid_out g c =
     let last = c.lane_with_room-last.result / 16 in
     closed (c.len-count.result / 16) c.loop-group.tags.items c.loop-group.rows.items c.loop-group.gap last
     (subst (λ n. IsClosing (c.len-count.result / 16) c.loop-group.tags.items c.loop-group.rows.items c.loop-group.gap n last)
@@ -103,7 +103,11 @@ out g c = let old = c.requires.laid_out in erase_row c.args.tags.now.items c.arg
     c.requires.in_range c.requires.full
 
 pub returns-clause-rows : goal.returns-clause-rows
-returns-clause-rows g c = c.loop-group.invariant.map ∙ (out g c).map
+returns-clause-rows g c = record {
+  laid_out = laid_out g c;
+  rows_are = c.loop-group.invariant.map ∙ (out g c).map;
+  lanes = c.loop-group.invariant.lanes ∙ search rules;
+}
 
 pub returns-clause-counted : goal.returns-clause-counted
 returns-clause-counted g c = omega (arith, c.loop-group.invariant.counted, (out g c).counted)

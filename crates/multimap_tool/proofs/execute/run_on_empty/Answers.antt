@@ -9,6 +9,6 @@ returns g c =
     let last = c.run.new.map.lists in
     if_ok c.run.result (λ replies ran. (
       last,
-      subst (λ m. IsRun keeps_at_least nat_eq c.args.commands.now m replies.items last) c.new-map.ensures.empty
+      subst (λ m. IsRun keeps_at_least nat_eq c.args.commands.now m replies.items last) c.new-map.ensures.new.empty
           (IsRun-more _ keeps_at_least nat_eq (λ x k v b w t. (search rules, search rules)) c.args.commands.now _ replies.items last ran),
     )) c.run.ensures.ok

@@ -1,5 +1,9 @@
-use Rattle.std.proofs.Common.{inl}
+use Rattle.std.proofs.Common.{inl, rules}
 use Rattle.multimap_tool.proofs.in_place.append.Goals as goal
 
-pub returns-in-Ok-clause-step : goal.returns-in-Ok-clause-step
-returns-in-Ok-clause-step g c = inl (c.in-Ok.ensures.present, c.in-Ok.ensures.ok.lists)
+pub returns-in-Ok : goal.returns-in-Ok
+returns-in-Ok g c = record {
+  step = inl (c.in-Ok.ensures.present, c.in-Ok.ensures.ok.lists);
+  rooms = search rules;
+  finds_room = search rules;
+}

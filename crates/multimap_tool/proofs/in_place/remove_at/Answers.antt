@@ -12,6 +12,9 @@ absent_step : {K V A : Type 0} (eq : K → K → Bool) (k : K) (i : ℕ) (m n : 
     → IsOwnStep eq {A = A} (RemoveAt k i) m (Value None) n
 absent_step eq k i m n same absent = inl (sym (value_beside-absent eq k m.pairs i absent), same ∙ sym (removed_at-absent eq k m i absent))
 
-pub returns-in-Vacant-clause-step : goal.returns-in-Vacant-clause-step
-returns-in-Vacant-clause-step g c = absent_step g.K.PartialEq.eq c.args.key c.args.index c.args.map.now.lists _ (search rules)
-    (sym c.in-Vacant.ensures.occupied)
+pub returns-in-Vacant : goal.returns-in-Vacant
+returns-in-Vacant g c = record {
+  step = absent_step g.K.PartialEq.eq c.args.key c.args.index c.args.map.now.lists _ (search rules) (sym c.in-Vacant.ensures.occupied);
+  rooms = search rules;
+  finds_room = tt;
+}

@@ -28,7 +28,7 @@ loop-index-preserved g c =
     let item = c.index-items-index.result in
     let pair = pair_json g.K.JsonPart.json g.V.JsonPart.json in
     let read = l.invariant.read in
-    let more = c.in_ok-append_item.ensures.read in
+    let more = c.in_ok-append_item.ensures.read.read in
     let p : g.row.K.Denot × g.row.V.Denot = more.0 in
     let seen = take_more xs l.index item c.loop-index-test.true ∙ ap (λ x. take l.index xs ++ x ∷ []) (sym c.index-items-index.is) in
     let left = drop_more xs l.index item c.loop-index-test.true ∙ ap (λ x. x ∷ drop (l.index + 1) xs) (sym c.index-items-index.is) in
@@ -41,6 +41,6 @@ loop-index-preserved g c =
       accepted = l.invariant.accepted ∙ ap (λ ys. first_fault g.K.JsonPart.is_part g.V.JsonPart.is_part l.index (items_view ys)) left
           ∙ fault_behind g.K.JsonPart.is_part g.V.JsonPart.is_part l.index item
           (drop (l.index + 1) xs) c.in_ok-append_item.ensures.accepted;
-      hasher = c.append_item.ensures.hasher ∙ l.invariant.hasher;
-      unused = λ unused. c.append_item.ensures.unused (l.invariant.unused unused);
+      hasher = c.append_item.ensures.read.hasher ∙ l.invariant.hasher;
+      unused = λ unused. c.append_item.ensures.read.unused (l.invariant.unused unused);
     }

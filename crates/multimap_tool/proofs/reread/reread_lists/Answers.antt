@@ -4,23 +4,25 @@ use Rattle.multimap_tool.specs.JsonLists.{both_arrays, AreAccepted, IsRead, IsFa
 use Rattle.multimap_tool.proofs.JsonListsLemmas.{read_lists_back, no_fault_in_lists}
 use Rattle.multimap_tool.proofs.reread.reread_lists.Goals as goal
 
-pub returns-in-Ok-from_value-clause-step : goal.returns-in-Ok-from_value-clause-step
-returns-in-Ok-from_value-clause-step g c =
+pub returns-in-Ok-from_value : goal.returns-in-Ok-from_value
+returns-in-Ok-from_value g c =
     let m = c.args.map.now.lists in
     let n = c.in-Ok-from_value.copy.lists in
     let key = g.K.JsonPart in
     let value = g.V.JsonPart in
     let read = subst (λ d. IsRead key.json value.json key.is_part value.is_part g.K.PartialEq.eq d n) c.in-Ok.ensures.written
     c.in-Ok-from_value.ensures.read in
-    inl (
-      tt,
-      read_lists_back key.json value.json c.requires.key_parts c.requires.value_parts key.is_part value.is_part g.met.K.Eq.laws m n
-          c.keys_len-keys.ensures.well_formed read,
-    )
-
-pub returns-in-Ok-from_value-clause-hasher : goal.returns-in-Ok-from_value-clause-hasher
-returns-in-Ok-from_value-clause-hasher g c same = c.in-Ok-from_value.ensures.hasher ∙ same _ _ c.in-Ok-clone.ensures.cases
-    ∙ c.hasher.ensures
+    record {
+      step = inl (
+        tt,
+        read_lists_back key.json value.json c.requires.keys c.requires.values key.is_part value.is_part g.met.K.Eq.laws m n
+            c.keys_len-keys.ensures.well_formed read,
+      );
+      hasher = λ same. c.in-Ok-from_value.ensures.hasher ∙ same _ _ c.in-Ok-clone.ensures.cases ∙ c.hasher.ensures;
+      rooms = λ never. absurd never;
+      finds_room = tt;
+      unused = λ never. absurd never;
+    }
 
 pub unreachable-requires : goal.unreachable-requires
 unreachable-requires g c =
@@ -33,5 +35,5 @@ unreachable-requires g c =
     c.in-Ok.ensures.accepted in
     let found = subst (λ d. UnlessMemory (IsFaultIn key.json value.json key.is_part value.is_part eq d) fault) c.in-Ok.ensures.written
     c.in-Err.ensures.fault in
-    no_fault_in_lists key.json value.json c.requires.key_parts c.requires.value_parts key.is_part value.is_part g.met.K.Eq.laws m fault
+    no_fault_in_lists key.json value.json c.requires.keys c.requires.values key.is_part value.is_part g.met.K.Eq.laws m fault
     c.keys_len-keys.ensures.well_formed accepted c.in_default-fault.not-OutOfMemory found

@@ -2,14 +2,18 @@ use Rattle.std.proofs.Common.{inl, rules}
 use Rattle.ordered_multimap.proofs.RetainedLemmas.{Retains-same}
 use Rattle.multimap_tool.proofs.run.retain.Goals as goal
 
-pub returns-clause-step : goal.returns-clause-step
-returns-clause-step g c =
+pub returns : goal.returns
+returns g c =
     let r = c.retain.ensures in
-    inl (
-      tt,
-      record {
-        keys = r.keys;
-        pairs = Retains-same _ (g.F.Keep.answers c.args.keep.now c.args.operand) _
-            (λ k v b w f' t. (search rules, search rules)) _ _ _ r.retained.1;
-      },
-    )
+    record {
+      step = inl (
+        tt,
+        record {
+          keys = r.keys;
+          pairs = Retains-same _ (g.F.Keep.answers c.args.keep.now c.args.operand) _
+              (λ k v b w f' t. (search rules, search rules)) _ _ _ r.retained.1;
+        },
+      );
+      rooms = search rules;
+      finds_room = tt;
+    }

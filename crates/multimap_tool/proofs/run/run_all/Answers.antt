@@ -1,9 +1,10 @@
-use Rattle.std.proofs.Common.{◌≡◌, slice_index_or, [], ◌∷◌, ◌++◌, length, length-append, take, refl, sym, ◌∙◌, ap, subst, arith}
+use Rattle.std.proofs.Common.{[], ◌∷◌, ◌++◌, length, length-append, take, refl, sym, ◌∙◌, ap, subst, arith}
 use Rattle.std.specs.Prelude.{Contains}
 use Rattle.std.proofs.lemmas.List.{take_more, take_all}
 use Rattle.multimap_tool.specs.Runs.{IsRun}
 use Rattle.multimap_tool.specs.RunRooms.{FindsRoom, HasRunRoom}
 use Rattle.multimap_tool.proofs.RoomLemmas.{GrowsByOne, step_grows, FindsRoom-push}
+use Rattle.multimap_tool.proofs.GroupLemmas.{addition_finds}
 use Rattle.multimap_tool.proofs.RunLemmas.{IsRun-push}
 use Rattle.multimap_tool.proofs.run.run_all.Goals as goal
 
@@ -19,25 +20,10 @@ loop-command-init g c = record {
   room = c.requires.capacity;
 }
 
-pub step-requires-clause-callable : goal.step-requires-clause-callable
-step-requires-clause-callable g c =
+pub step-requires : goal.step-requires
+step-requires g c =
     let l = c.loop-command in
-    λ operand is. c.requires.callable operand (
-      l.command-index,
-      c.loop-command-test.true,
-      subst
-          (λ r. slice_index_or c.args.commands.now l.command-index r ≡ r) is (sym c.command-item.is),
-    )
-
-pub step-requires-clause-key_parts : goal.step-requires-clause-key_parts
-step-requires-clause-key_parts g c =
-    let l = c.loop-command in
-    λ rereads. c.requires.key_parts c.command-item.result (l.command-index, c.loop-command-test.true, sym c.command-item.is) rereads
-
-pub step-requires-clause-value_parts : goal.step-requires-clause-value_parts
-step-requires-clause-value_parts g c =
-    let l = c.loop-command in
-    λ rereads. c.requires.value_parts c.command-item.result (l.command-index, c.loop-command-test.true, sym c.command-item.is) rereads
+    c.requires.steps c.command-item.result (l.command-index, c.loop-command-test.true, sym c.command-item.is)
 
 pub loop-command-preserved : goal.loop-command-preserved
 loop-command-preserved g c =
@@ -61,7 +47,8 @@ loop-command-preserved g c =
       values = λ room. omega (arith, (grows room).pairs, l.invariant.values room, (c.step.ensures.rooms (room.keep command here)).values);
       found = λ room. rw (more, c.push_reserved.ensures.items)
           (FindsRoom-push done l.replies.items command c.step.result (l.invariant.found room)
-          (λ adds. c.step.ensures.finds_room adds (omega (arith, l.invariant.keys room, c.loop-command-test.true))
+          (λ adds. addition_finds g.K.PartialEq.eq l.map c.step.result command c.step.ensures.finds_room adds
+          (omega (arith, l.invariant.keys room, c.loop-command-test.true))
           (omega (arith, l.invariant.values room, c.loop-command-test.true))));
       count = omega (arith, l.invariant.count, longer);
       room = omega (arith, l.invariant.room, c.push_reserved.ensures.capacity);

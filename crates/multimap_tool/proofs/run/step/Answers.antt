@@ -1,4 +1,4 @@
-use Rattle.multimap_tool.proofs.GroupLemmas.{IsInPlace-else}
+use Rattle.multimap_tool.proofs.GroupLemmas.{IsInPlace-else, makes_no_unused}
 use Rattle.multimap_tool.proofs.RunLemmas.{IsStep-own}
 use Rattle.multimap_tool.proofs.run.step.Goals as goal
 
@@ -6,8 +6,17 @@ pub step_in_place-requires : goal.step_in_place-requires
 step_in_place-requires g c = let d = c.in_default in
     IsInPlace-else c.args.command.now d.not-Retain d.not-PackToFit d.not-Swap d.not-Json d.not-Json2
 
-pub returns-in_default-clause-step : goal.returns-in_default-clause-step
-returns-in_default-clause-step g c =
+pub returns-in_default : goal.returns-in_default
+returns-in_default g c =
+    let d = c.in_default in
     let made = c.step_in_place in
-    IsStep-own (g.F.Keep.answers c.args.keep.now) g.K.PartialEq.eq c.args.command.now c.args.map.now.lists made.result made.new.map.lists
-    made.ensures.step
+    let command = c.args.command.now in
+    let in_place = IsInPlace-else command d.not-Retain d.not-PackToFit d.not-Swap d.not-Json d.not-Json2 in
+    record {
+      step = IsStep-own (g.F.Keep.answers c.args.keep.now) g.K.PartialEq.eq command c.args.map.now.lists made.result made.new.map.lists
+          made.ensures.step;
+      hasher = λ same. made.ensures.rooms.hasher;
+      rooms = λ keeps. made.ensures.rooms;
+      finds_room = made.ensures.finds_room;
+      unused = λ makes done. absurd (makes_no_unused command in_place makes);
+    }

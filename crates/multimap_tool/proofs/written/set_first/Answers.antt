@@ -15,10 +15,18 @@ returns-in-Some g c =
     record {
       step = inl (ap Some c.replace.ensures.value ∙ value, written.lists ∙ ap (first_written eq m.lists k) c.replace.ensures.after);
       rooms = search (rules);
+      finds_room = tt;
     }
 
-pub returns-in-None-clause-step : goal.returns-in-None-clause-step
-returns-in-None-clause-step g c =
+pub returns-in-None : goal.returns-in-None
+returns-in-None g c =
     let m = c.args.map.now in let eq = g.K.PartialEq.eq in let k = c.args.key.now in
     let none : None ≡ slice_get (values_of eq m.lists.pairs k) 0 = (c.in-None.ensures {u = tt}).value in
-    inl (none, ap (λ n. n.lists) c.get_mut.follows.holds-at-none ∙ sym (first_written-absent eq m.lists k c.args.value (sym none)))
+    record {
+      step = inl (
+        none,
+        ap (λ n. n.lists) c.get_mut.follows.holds-at-none ∙ sym (first_written-absent eq m.lists k c.args.value (sym none)),
+      );
+      rooms = search rules;
+      finds_room = tt;
+    }

@@ -1,12 +1,11 @@
 //! `entry`, and the calls of an entry that is occupied or vacant.
-ghost use Rattle.std.specs.Prelude.{◌≡◌, Some, None, true, false, IfOk, IfErr, IsOk, unwrap_or};
+ghost use Rattle.std.specs.Prelude.{◌≡◌, Some, None, true, false, IfOk, IfErr, unwrap_or};
 ghost use Rattle.std.specs.Borrow.{MutBor, sem};
 ghost use Rattle.std.specs.Option.{UnwrapsOrElse};
-ghost use Rattle.ordered_multimap.specs.Entries.{IsEnteredBy, IsEnteredWith, IsEntryOf, IsModified, IsOccupiedBy};
+ghost use Rattle.ordered_multimap.specs.Entries.{FindsRoom, IsEnteredBy, IsEnteredWith, IsEntryOf, IsEntryThere, IsModified};
 ghost use Rattle.ordered_multimap.specs.Entries.{entry_map, entry_map_ref, first_value, is_occupied};
 ghost use Rattle.ordered_multimap.specs.EntryLends.{lends_entered, rests_with_entry};
 ghost use Rattle.ordered_multimap.specs.Pairs.{is_present};
-ghost use Rattle.ordered_multimap.specs.Rooms.{HasPairRoom};
 
 use super::{Entry, OccupiedEntry, VacantEntry};
 use crate::list_ordered_multimap::{ListOrderedMultimap, Refused};
@@ -83,9 +82,7 @@ impl<'map, K: Eq + Hash, V: Drop, S: BuildHasher, A: Allocator + Copy> Entry<'ma
             → v.now ≡ unwrap_or (first_value self.entry k) value) }
         ensures refused { IfErr result (λ pair. (k : K) → IsEntryOf self.entry k
             → pair ≡ record { key = k; value = value }) }
-        ensures occupied { is_occupied self.entry ≡ true → IsOk result }
-        ensures succeeds { (k : K) → IsEntryOf self.entry k
-            → HasPairRoom K.eq (entry_map self.entry) k → IsOk result }
+        ensures succeeds { FindsRoom self.entry result }
     {
         match self {
             Entry::Occupied(entry) => Ok(entry.into_mut()),
@@ -106,9 +103,7 @@ impl<'map, K: Eq + Hash, V: Drop, S: BuildHasher, A: Allocator + Copy> Entry<'ma
             → UnwrapsOrElse (first_value self.entry k) (F.post f) v.now) }
         ensures refused { IfErr result (λ pair. (k : K) → IsEntryOf self.entry k
             → (pair.key ≡ k) × F.post f pair.value) }
-        ensures occupied { is_occupied self.entry ≡ true → IsOk result }
-        ensures succeeds { (k : K) → IsEntryOf self.entry k
-            → HasPairRoom K.eq (entry_map self.entry) k → IsOk result }
+        ensures succeeds { FindsRoom self.entry result }
     {
         match self {
             Entry::Occupied(occupied) => Ok(occupied.into_mut()),
@@ -127,15 +122,10 @@ impl<'map, K: Eq + Hash, V: Drop, S: BuildHasher, A: Allocator + Copy> Entry<'ma
         ensures* rest { sem 𝓛 (rests_with_entry K.row V.row S.row A.row S.Hasher.row A.Allocator
             self.entry result) }
         ensures ok { IfOk result (λ o. IsEnteredBy self.entry value o.map.now) }
-        ensures same_map { IfOk result (λ o. o.map.ghost_name
-            ≡ (entry_map_ref self.entry).ghost_name) }
-        ensures same_key { IfOk result (λ o. (k : K) → IsEntryOf self.entry k
-            → IsOccupiedBy o k) }
+        ensures entry { IfOk result (IsEntryThere self.entry) }
         ensures refused { IfErr result (λ pair. (k : K) → IsEntryOf self.entry k
             → pair ≡ record { key = k; value = value }) }
-        ensures occupied { is_occupied self.entry ≡ true → IsOk result }
-        ensures succeeds { (k : K) → IsEntryOf self.entry k
-            → HasPairRoom K.eq (entry_map self.entry) k → IsOk result }
+        ensures succeeds { FindsRoom self.entry result }
     {
         self.or_insert_with_entry(|| value)
     }
@@ -153,15 +143,10 @@ impl<'map, K: Eq + Hash, V: Drop, S: BuildHasher, A: Allocator + Copy> Entry<'ma
         ensures* rest { sem 𝓛 (rests_with_entry K.row V.row S.row A.row S.Hasher.row A.Allocator
             self.entry result) }
         ensures ok { IfOk result (λ o. IsEnteredWith (F.post f) self.entry o.map.now) }
-        ensures same_map { IfOk result (λ o. o.map.ghost_name
-            ≡ (entry_map_ref self.entry).ghost_name) }
-        ensures same_key { IfOk result (λ o. (k : K) → IsEntryOf self.entry k
-            → IsOccupiedBy o k) }
+        ensures entry { IfOk result (IsEntryThere self.entry) }
         ensures refused { IfErr result (λ pair. (k : K) → IsEntryOf self.entry k
             → (pair.key ≡ k) × F.post f pair.value) }
-        ensures occupied { is_occupied self.entry ≡ true → IsOk result }
-        ensures succeeds { (k : K) → IsEntryOf self.entry k
-            → HasPairRoom K.eq (entry_map self.entry) k → IsOk result }
+        ensures succeeds { FindsRoom self.entry result }
     {
         match self {
             Entry::Occupied(entry) => {

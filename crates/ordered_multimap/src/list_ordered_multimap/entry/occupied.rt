@@ -2,7 +2,7 @@
 #![tactic(auto, using(crate::proofs::TakingLemmas::among_in, crate::proofs::TakingLemmas::in_among))]
 
 ghost use Rattle.std.specs.Prelude.{◌≡◌, ◌<◌, Some, length, slice_get};
-ghost use Rattle.std.specs.Prelude.{OnOk, OnErr, IfOk, IfErr, IsOk};
+ghost use Rattle.std.specs.Prelude.{OnOk, IfOk, IfErr, IsOk};
 ghost use Rattle.std.specs.Borrow.{sem};
 ghost use Rattle.ordered_multimap.specs.Additions.{IsAppendedAt, RefusesValue};
 ghost use Rattle.ordered_multimap.specs.Changes.{first_written, inserted, removed};
@@ -12,8 +12,8 @@ ghost use Rattle.multimap_walks.specs.WritingWalk.{entry_values_mut_values, entr
 ghost use Rattle.ordered_multimap.specs.EntryLends.{lends_first, lends_to_entry, EndsEntry, lends_values_to_entry, rests_with_drain};
 ghost use Rattle.ordered_multimap.specs.Keys.{stored_key};
 ghost use Rattle.ordered_multimap.specs.Pairs.{positions_of, values_of};
+ghost use Rattle.ordered_multimap.specs.Removals.{LosesValues};
 ghost use Rattle.ordered_multimap.specs.Rooms.{HasValueRoom, SameRooms};
-ghost use Rattle.ordered_multimap.specs.TapeNumbers.{TakesOut};
 ghost use Rattle.ordered_multimap.specs.Writes.{IsWritten, with_first};
 
 use super::OccupiedEntry;
@@ -147,8 +147,7 @@ impl<'map, K: Eq + Hash, V, S: BuildHasher, A: Allocator> OccupiedEntry<'map, K,
         ensures same_entry { IsSameEntry self.old self.new }
         ensures ok { OnOk result (IsAppendedAt K.eq self.old.place value
             self.old.map.now self.new.map.now) }
-        ensures unchanged { OnErr result (RefusesValue self.old.map.now self.new.map.now) }
-        ensures refused { IfErr result (λ r. r.value ≡ value) }
+        ensures refused { IfErr result (RefusesValue value self.old.map.now self.new.map.now) }
         ensures succeeds { HasValueRoom self.old.map.now → IsOk result }
     {
         let place = self.place;
@@ -168,12 +167,9 @@ impl<'map, K: Eq + Hash, V, S: BuildHasher, A: Allocator> OccupiedEntry<'map, K,
         ensures same_entry { IsSameEntry self.old self.new }
         ensures value { (k : K) → IsOccupiedBy self.old k
             → slice_get (values_of K.eq self.old.map.now.lists.pairs k) 0 ≡ Some result }
-        ensures lists { (k : K) → IsOccupiedBy self.old k
-            → self.new.map.now.lists ≡ inserted K.eq self.old.map.now.lists k value }
+        ensures inserted { (k : K) → IsOccupiedBy self.old k → LosesValues K.eq
+            self.old.map.now self.new.map.now k (inserted K.eq self.old.map.now.lists k value) }
         ensures rooms { SameRooms self.old.map.now self.new.map.now }
-        ensures taken { (k : K) → IsOccupiedBy self.old k
-            → TakesOut (length (values_of K.eq self.old.map.now.lists.pairs k))
-            self.old.map.now.tape self.new.map.now.tape }
     {
         let place = self.place;
         self.map.insert_at(place, value)
@@ -191,12 +187,9 @@ impl<'map, K: Eq + Hash, V, S: BuildHasher, A: Allocator> OccupiedEntry<'map, K,
             → result.0 ≡ stored_key K.eq self.entry.map.now.lists.keys k }
         ensures value { (k : K) → IsOccupiedBy self.entry k
             → slice_get (values_of K.eq self.entry.map.now.lists.pairs k) 0 ≡ Some result.1 }
-        ensures lists { (k : K) → IsOccupiedBy self.entry k
-            → self.exit.0.now.lists ≡ removed K.eq self.entry.map.now.lists k }
+        ensures removed { (k : K) → IsOccupiedBy self.entry k → LosesValues K.eq
+            self.entry.map.now self.exit.0.now k (removed K.eq self.entry.map.now.lists k) }
         ensures rooms { SameRooms self.entry.map.now self.exit.0.now }
-        ensures taken { (k : K) → IsOccupiedBy self.entry k
-            → TakesOut (length (values_of K.eq self.entry.map.now.lists.pairs k))
-            self.entry.map.now.tape self.exit.0.now.tape }
     {
         let place = self.place;
         self.map.take_entry_at(place)
@@ -213,12 +206,9 @@ impl<'map, K: Eq + Hash, V, S: BuildHasher, A: Allocator> OccupiedEntry<'map, K,
         V: Drop,
         ensures value { (k : K) → IsOccupiedBy self.entry k
             → slice_get (values_of K.eq self.entry.map.now.lists.pairs k) 0 ≡ Some result }
-        ensures lists { (k : K) → IsOccupiedBy self.entry k
-            → self.exit.0.now.lists ≡ removed K.eq self.entry.map.now.lists k }
+        ensures removed { (k : K) → IsOccupiedBy self.entry k → LosesValues K.eq
+            self.entry.map.now self.exit.0.now k (removed K.eq self.entry.map.now.lists k) }
         ensures rooms { SameRooms self.entry.map.now self.exit.0.now }
-        ensures taken { (k : K) → IsOccupiedBy self.entry k
-            → TakesOut (length (values_of K.eq self.entry.map.now.lists.pairs k))
-            self.entry.map.now.tape self.exit.0.now.tape }
     {
         let place = self.place;
         let (_stored, value) = self.map.take_entry_at(place);

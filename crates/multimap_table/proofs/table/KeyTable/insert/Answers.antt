@@ -15,15 +15,16 @@ few tags rows n table valid is room =
     let len = len_of tags rows n valid ∙ ap (λ (t : Table). map.len t.rows) is in let capacity = ap (λ (t : Table). t.capacity) is in
     omega (arith, len, capacity, room)
 
-pub insert_row-requires-clause-room : goal.insert_row-requires-clause-room
-insert_row-requires-clause-room g c = room_of _ _ _ c.self.invariant
-    (omega (arith, few _ _ _ _ c.self.invariant c.self.view_is c.requires.room))
-
-pub insert_row-requires-clause-laid_out : goal.insert_row-requires-clause-laid_out
-insert_row-requires-clause-laid_out g c = laid_out_of _ _ _ c.self.invariant
-    (omega (arith, few _ _ _ _ c.self.invariant c.self.view_is c.requires.room))
+pub insert_row-requires : goal.insert_row-requires
+insert_row-requires g c =
+    let fits = few _ _ _ _ c.self.invariant c.self.view_is c.requires.room in
+    record {
+      laid_out = laid_out_of _ _ _ c.self.invariant (omega (arith, fits));
+      room = room_of _ _ _ c.self.invariant (omega (arith, fits));
+      absent = ap (λ (t : Table). map.get t.rows c.args.place) c.self.view_is ∙ c.requires.absent;
+    }
 
 pub invariant_of-self : goal.invariant_of-self
 invariant_of-self g c = let new = c.insert_row.ensures in
-    table_put c.self.inside.tags.items _ c.self.inside.rows.items _ _ c.self.invariant new.laid_out new.counted new.lanes
+    table_put c.self.inside.tags.items _ c.self.inside.rows.items _ _ c.self.invariant new.rows.laid_out new.counted new.rows.lanes
     (few _ _ _ _ c.self.invariant c.self.view_is c.requires.room)

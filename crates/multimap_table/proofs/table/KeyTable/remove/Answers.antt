@@ -12,16 +12,23 @@ sized_along : (tags tags' : List ℕ) (rows rows' : List Row) → tags' ≡ tags
 sized_along tags tags' rows rows' same_tags same_rows laid = subst (λ ts. IsLaidOut ts rows') (sym same_tags)
     (subst (λ rs. IsLaidOut tags rs) (sym same_rows) laid)
 
-pub find_lane-found-requires-clause-sized : goal.find_lane-found-requires-clause-sized
-find_lane-found-requires-clause-sized g c =
+pub find_lane-found-requires : goal.find_lane-found-requires
+find_lane-found-requires g c =
     let there = ap (λ (t : Table). map.get t.rows c.args.place) c.self.view_is ∙ c.requires in
-    (sized_along _ _ _ _ c.as_slice.ensures.value c.as_slice-2.ensures.value
-    (laid_out_of _ _ _ c.self.invariant (lanes_of_get _ _ _ _ there))).sized
+    let laid = sized_along _ _ _ _ c.as_slice.ensures.value c.as_slice-2.ensures.value
+    (laid_out_of _ _ _ c.self.invariant (lanes_of_get _ _ _ _ there)) in
+    record { sized = laid.sized; reachable = laid.reachable; callable = search rules }
 
-pub remove_row-requires-clause-room : goal.remove_row-requires-clause-room
-remove_row-requires-clause-room g c =
+pub remove_row-requires : goal.remove_row-requires
+remove_row-requires g c =
     let there = ap (λ (t : Table). map.get t.rows c.args.place) c.self.view_is ∙ c.requires in
-    room_of _ _ _ c.self.invariant (lanes_of_get _ _ _ _ there)
+    let some = lanes_of_get _ _ _ _ there in
+    record {
+      laid_out = laid_out_of _ _ _ c.self.invariant some;
+      room = room_of _ _ _ c.self.invariant some;
+      in_range = search rules;
+      full = search rules;
+    }
 
 pub unreachable-requires : goal.unreachable-requires
 unreachable-requires g c =

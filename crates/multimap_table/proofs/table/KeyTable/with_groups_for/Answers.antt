@@ -1,4 +1,4 @@
-use Rattle.std.proofs.Common.{◌∙◌, sym, subst, List, ℕ}
+use Rattle.std.proofs.Common.{◌∙◌, sym, subst, arith, List, ℕ}
 use Rattle.multimap_table.specs.Layout.{IsTable}
 use Rattle.multimap_table.proofs.TableLemmas.{table-empty, rows_of-replicate}
 use Rattle.multimap_table.proofs.table.KeyTable.with_groups_for.Goals as goal
@@ -10,6 +10,9 @@ invariant_of-result g c =
     (table-empty c.groups_for-lanes.result rows.items
     (sym rows.ok.0 ∙ (c.in_ok-from_elem-2.ensures {u = tt}).len) c.groups_for-lanes.ensures.count)
 
-pub returns-clause-empty : goal.returns-clause-empty
-returns-clause-empty g c = rows_of-replicate c.in_ok-from_elem.field-0.items c.in_ok-from_elem-2.field-0.items _
-    ((c.in_ok-from_elem.ensures {u = tt}).items_if_clones_equal (λ y e. e))
+pub returns : goal.returns
+returns g c = record {
+  empty = rows_of-replicate c.in_ok-from_elem.field-0.items c.in_ok-from_elem-2.field-0.items _
+      ((c.in_ok-from_elem.ensures {u = tt}).items_if_clones_equal (λ y e. e));
+  room = omega (arith, c.in_ok-from_elem.field-0.ok.0, (c.in_ok-from_elem.ensures {u = tt}).len, c.groups_for-lanes.ensures.enough);
+}

@@ -1,4 +1,4 @@
-use Rattle.std.proofs.Common.{◌≡◌, false, true, sym, ◌∙◌, ap, inr, refl}
+use Rattle.std.proofs.Common.{◌≡◌, false, true, sym, ◌∙◌, ap, inr, refl, rules}
 use Rattle.ordered_multimap.specs.Keys.{is_listed}
 use Rattle.multimap_tool.proofs.JsonLemmas.{still_unused}
 use Rattle.multimap_tool.proofs.JsonListsLemmas.{appended_new, one_stands_in, listed_if_named}
@@ -19,7 +19,11 @@ returns-clause-read g c =
     let absent : is_listed g.K.PartialEq.eq m.keys k ≡ false = sym (listed_if_named g.met.K.Eq.laws m k c.requires.stand_ins)
     ∙ sym c.in-Ok-append.ensures.present ∙ c.if-present.false in
     let is = c.in-Ok-append.ensures.ok.lists ∙ appended_new g.met.K.Eq.laws m k c.in-Ok-from_part.value absent in
-    (k, record { json = c.in-Ok.ensures.read; accepted = c.in-Ok.ensures.accepted }, absent, ap (λ l. l.keys) is)
+    record {
+      read = (k, record { json = c.in-Ok.ensures.read; accepted = c.in-Ok.ensures.accepted }, absent, ap (λ l. l.keys) is);
+      hasher = search rules;
+      unused = λ unused. still_unused unused c.in-Ok-append.ensures.ok.taken;
+    }
 
 pub returns-clause-stand_ins : goal.returns-clause-stand_ins
 returns-clause-stand_ins g c =
@@ -30,8 +34,9 @@ returns-clause-stand_ins g c =
     let is = c.in-Ok-append.ensures.ok.lists ∙ appended_new g.met.K.Eq.laws m k c.in-Ok-from_part.value absent in
     one_stands_in g.met.K.Eq.laws m c.append.new.self.lists k c.in-Ok-from_part.value c.requires.stand_ins is
 
-pub returns-clause-unused : goal.returns-clause-unused
-returns-clause-unused g c unused = still_unused unused c.in-Ok-append.ensures.ok.taken
-
-pub returns-then-present-clause-unused : goal.returns-then-present-clause-unused
-returns-then-present-clause-unused g c unused = still_unused unused c.in-Ok-append.ensures.ok.taken
+pub returns-then-present-clause-read : goal.returns-then-present-clause-read
+returns-then-present-clause-read g c = record {
+  read = tt;
+  hasher = search rules;
+  unused = λ unused. still_unused unused c.in-Ok-append.ensures.ok.taken;
+}

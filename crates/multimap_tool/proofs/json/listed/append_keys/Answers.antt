@@ -39,7 +39,7 @@ loop-index-preserved g c =
     let item = c.index-items-index.result in
     let seen = take_more xs l.index item c.loop-index-test.true ∙ ap (λ x. take l.index xs ++ x ∷ []) (sym c.index-items-index.is) in
     let left = drop_more xs l.index item c.loop-index-test.true ∙ ap (λ x. x ∷ rest) (sym c.index-items-index.is) in
-    let more = c.in_ok-append_key.ensures.read in
+    let more = c.in_ok-append_key.ensures.read.read in
     let k : g.row.K.Denot = more.0 in
     record {
       json = ap (map view) seen ∙ one_read json (take l.index xs) item l.map.lists.keys k more.1.json l.invariant.json
@@ -51,8 +51,8 @@ loop-index-preserved g c =
       fault = λ f is. l.invariant.fault f (keys_fault_later json is_key is_key eq l.index
           (l.index + 1) l.map.lists.keys c.append_key.new.map.lists.keys (drop l.index xs) rest item k f left
           (omega arith) more.3 more.1 more.2 is);
-      hasher = c.append_key.ensures.hasher ∙ l.invariant.hasher;
-      unused = λ unused. c.append_key.ensures.unused (l.invariant.unused unused);
+      hasher = c.append_key.ensures.read.hasher ∙ l.invariant.hasher;
+      unused = λ unused. c.append_key.ensures.read.unused (l.invariant.unused unused);
     }
 
 pub loop-index-init : goal.loop-index-init
@@ -61,13 +61,13 @@ loop-index-init g c =
     let json = g.K.JsonPart.json in
     let is_key = g.K.JsonPart.is_part in
     let eq = g.K.PartialEq.eq in
-    let empty = c.reserve_keys-reserved.ensures.unchanged ∙ c.requires.empty in
+    let empty = c.reserve_keys-reserved.ensures.grows.lists ∙ c.requires.empty in
     record {
       json = sym (ap (λ m. map json m.keys) empty);
       accepted = refl;
       distinct = subst (λ ks. IsDistinct eq ks) (sym (ap (λ m. m.keys) empty)) tt;
       stand_ins = ap (λ m. keys_of m.pairs) empty ∙ sym (ap (λ m. m.keys) empty);
       fault = λ f is. subst (λ ks. IsKeysFault json is_key eq 0 ks (items_view c.args.items.now) f) (ap (λ m. m.keys) empty) is;
-      hasher = c.reserve_keys-reserved.ensures.rooms.hasher;
+      hasher = c.reserve_keys-reserved.ensures.grows.rooms.hasher;
       unused = λ unused. subst AreUnused (sym c.reserve_keys-reserved.ensures.tape) unused;
     }

@@ -47,22 +47,22 @@ loop-index-preserved g c =
     let left = drop_more xs l.index item c.loop-index-test.true ∙ ap (λ x. x ∷ rest) (sym c.index-items-index.is) in
     let read = l.invariant.read in
     let same = ap (λ m. m.keys) read.2 in
-    let more = c.in_ok-append_listed_pair.ensures.read in
+    let more = c.in_ok-append_listed_pair.ensures.read.read in
     let p : g.row.K.Denot × g.row.V.Denot = more.pair in
-    let listed = ap (λ js. is_listed eq js p.0) (sym same) ∙ more.listed in
+    let listed = ap (λ js. is_listed eq js p.0) (sym same) ∙ more.under.listed in
     record {
       read = (
         read.0 ++ p ∷ [],
         ap (map view) seen ∙ one_read (pair_json json value_json) (take l.index xs) item read.0 p more.json read.1,
-        one_under eq first.keys first.pairs read.0 p l.map.lists c.append_listed_pair.new.map.lists read.2 more.appended,
+        one_under eq first.keys first.pairs read.0 p l.map.lists c.append_listed_pair.new.map.lists read.2 more.under.appended,
         each_listed-push eq first.keys read.0 p read.3 listed,
       );
       accepted = l.invariant.accepted ∙ ap (λ ys. first_fault is_key is_value l.index (items_view ys)) left
           ∙ fault_behind is_key is_value l.index item rest (more.accepted l.index);
       fault = λ f is. l.invariant.fault f (pairs_fault_later json is_key is_value eq value_json l.index (l.index + 1) first.keys
           (drop l.index xs) rest item p f left (omega arith) more.json more.accepted listed is);
-      hasher = c.append_listed_pair.ensures.hasher ∙ l.invariant.hasher;
-      unused = λ unused. c.append_listed_pair.ensures.unused (l.invariant.unused unused);
+      hasher = c.append_listed_pair.ensures.read.hasher ∙ l.invariant.hasher;
+      unused = λ unused. c.append_listed_pair.ensures.read.unused (l.invariant.unused unused);
     }
 
 pub loop-index-init : goal.loop-index-init
@@ -72,12 +72,12 @@ loop-index-init g c =
       read = (
         [],
         refl,
-        c.reserve_values-reserved.ensures.unchanged
+        c.reserve_values-reserved.ensures.grows.lists
             ∙ ap (lists first.keys) (sym (append-nil first.pairs)),
         λ k never. absurd never,
       );
       accepted = refl;
       fault = λ f is. is;
-      hasher = c.reserve_values-reserved.ensures.rooms.hasher;
+      hasher = c.reserve_values-reserved.ensures.grows.rooms.hasher;
       unused = λ unused. still_unused unused c.reserve_values-reserved.ensures.taken;
     }

@@ -1,4 +1,5 @@
-use Rattle.std.proofs.Common.{sym, ◌∙◌, refl}
+use Rattle.std.proofs.Common.{◌≡◌, true, sym, ◌∙◌, refl, rules}
+use Rattle.ordered_multimap.specs.Keys.{is_listed}
 use Rattle.ordered_multimap.proofs.WellFormedLemmas.{is_present-keys}
 use Rattle.multimap_tool.proofs.JsonLemmas.{still_unused}
 use Rattle.multimap_tool.proofs.JsonListsLemmas.{appended_old}
@@ -12,24 +13,31 @@ returns-then-not-present-clause-fault g c =
           ∙ c.if-not-present.true,
     )
 
-pub returns-clause-listed : goal.returns-clause-listed
-returns-clause-listed g c =
+pub returns-clause-read : goal.returns-clause-read
+returns-clause-read g c =
     let m = c.args.map.now.lists in
-    sym (is_present-keys g.met.K.Eq.laws m c.args.key c.keys_len-keys.ensures.well_formed) ∙ sym c.in-Ok.ensures.present
-    ∙ c.if-not-present.false
+    let listed : is_listed g.K.PartialEq.eq m.keys c.args.key ≡ true = sym
+    (is_present-keys g.met.K.Eq.laws m c.args.key c.keys_len-keys.ensures.well_formed) ∙ sym c.in-Ok.ensures.present
+    ∙ c.if-not-present.false in
+    record {
+      read = record {
+        listed = listed;
+        appended = c.in-Ok.ensures.ok.lists ∙ appended_old g.met.K.Eq.laws m c.args.key c.args.value listed;
+      };
+      hasher = search rules;
+      unused = λ unused. still_unused unused c.in-Ok.ensures.ok.taken;
+    }
 
-pub returns-clause-appended : goal.returns-clause-appended
-returns-clause-appended g c =
-    let m = c.args.map.now.lists in
-    c.in-Ok.ensures.ok.lists ∙ appended_old g.met.K.Eq.laws m c.args.key c.args.value
-    (sym (is_present-keys g.met.K.Eq.laws m c.args.key c.keys_len-keys.ensures.well_formed) ∙ sym c.in-Ok.ensures.present
-    ∙ c.if-not-present.false)
+pub returns-then-not-present-clause-read : goal.returns-then-not-present-clause-read
+returns-then-not-present-clause-read g c = record {
+  read = tt;
+  hasher = search rules;
+  unused = λ unused. still_unused unused c.in-Ok.ensures.ok.taken;
+}
 
-pub returns-clause-unused : goal.returns-clause-unused
-returns-clause-unused g c unused = still_unused unused c.in-Ok.ensures.ok.taken
-
-pub returns-then-not-present-clause-unused : goal.returns-then-not-present-clause-unused
-returns-then-not-present-clause-unused g c unused = still_unused unused c.in-Ok.ensures.ok.taken
-
-pub returns-in_default-clause-unused : goal.returns-in_default-clause-unused
-returns-in_default-clause-unused g c unused = still_unused unused c.in_default.ensures.unchanged.taken
+pub returns-in_default-clause-read : goal.returns-in_default-clause-read
+returns-in_default-clause-read g c = record {
+  read = tt;
+  hasher = search rules;
+  unused = λ unused. still_unused unused c.in_default.ensures.refused.taken;
+}

@@ -1,17 +1,20 @@
-use Rattle.std.proofs.Common.{OnErr, OnOk, IsOk, arith, refl, sym, subst}
+use Rattle.std.proofs.Common.{IfErr, OnOk, IsOk, refl, sym, subst}
 use Rattle.multimap_slots.specs.Lists.{IsIn}
 use Rattle.ordered_multimap.specs.Additions.{IsAppendedAt, RefusesValue}
 use Rattle.ordered_multimap.specs.KeySteps.{KeepsPlace}
-use Rattle.ordered_multimap.specs.Multimap.{Multimap}
-use Rattle.ordered_multimap.specs.Rooms.{GrowsForValue, HasValueRoom}
+use Rattle.ordered_multimap.specs.Rooms.{HasValueRoom}
+use Rattle.ordered_multimap.proofs.LeavesLemmas.{has_chain}
 use Rattle.ordered_multimap.proofs.LookupLemmas.{own_key}
 use Rattle.ordered_multimap.proofs.AppendedLemmas.{behind_agrees, behind_lists, refused_lists, stays_paid}
 use Rattle.ordered_multimap.proofs.StayLemmas.{behind_stays}
-use Rattle.ordered_multimap.proofs.RoomLemmas.{fits_value, grows_there, map_of, on_err-map, on_ok-map}
+use Rattle.ordered_multimap.proofs.RoomLemmas.{fits_value, grows_there, if_err-map, map_of, on_ok-map}
 use Rattle.ordered_multimap.proofs.list_ordered_multimap.ListOrderedMultimap.append_at.Goals as goal
 
-pub append_behind-requires-clause-chained : goal.append_behind-requires-clause-chained
-append_behind-requires-clause-chained g c = c.self.invariant.agrees.chained
+pub append_behind-requires : goal.append_behind-requires
+append_behind-requires g c = record {
+  stands = has_chain c.self.invariant.agrees c.args.place
+      (subst (λ m. IsIn c.args.place m.slots.keys.order) (sym c.self.view_is) c.requires);
+}
 
 pub invariant_of-self : goal.invariant_of-self
 invariant_of-self g c =
@@ -54,22 +57,24 @@ returns-clause-ok g c =
       taken = e.values.taken;
     }) c.append_behind.result (behind_lists g.met.K.Eq.laws agrees _ _ c.args.value c.args.place c.append_behind.result e.ok))
 
-pub returns-clause-unchanged : goal.returns-clause-unchanged
-returns-clause-unchanged g c =
+pub returns-clause-refused : goal.returns-clause-refused
+returns-clause-refused g c =
     let i = c.self.inside in
     let n = c.append_behind.new in
     let e = c.append_behind.ensures in
     let agrees = c.self.invariant.agrees in
     let own = own_key g.met.K.Eq.laws agrees c.args.place
     (subst (λ m. IsIn c.args.place m.slots.keys.order) (sym c.self.view_is) c.requires) in
-    subst (λ m. OnErr c.append_behind.result (RefusesValue m (map_of n.keys i.table.capacity n.values i.state i.left))) c.self.view_is
-    (on_err-map (λ lists. record {
+    subst (λ m. IfErr c.append_behind.result (RefusesValue c.args.value m
+    (map_of n.keys i.table.capacity n.values i.state i.left))) c.self.view_is
+    (if_err-map (λ r lists returned. record {
+      returned = returned;
       lists = lists;
       grows =
           grows_there i.keys i.table.rows i.values agrees i.table.capacity i.state i.left n.keys i.table.capacity n.values i.left
           e.values.no_less e.values.had_room e.values.doubles e.keys_capacity refl;
       taken = e.values.taken;
-    }) c.append_behind.result (refused_lists g.met.K.Eq.laws agrees own.0 c.args.value _ _ c.append_behind.result e.unchanged))
+    }) c.append_behind.result (refused_lists g.met.K.Eq.laws agrees own.0 c.args.value _ _ c.append_behind.result e.unchanged) e.refused)
 
 pub returns-clause-succeeds : goal.returns-clause-succeeds
 returns-clause-succeeds g c =

@@ -1,11 +1,11 @@
-use Rattle.std.proofs.Common.{IsOk, OnErr, OnOk, ap, sym, ◌∙◌, subst}
+use Rattle.std.proofs.Common.{IsOk, IfErr, OnOk, ap, sym, ◌∙◌, subst}
 use Rattle.ordered_multimap.specs.Additions.{IsAppended, IsRefused}
 use Rattle.ordered_multimap.specs.Keys.{is_listed}
 use Rattle.ordered_multimap.specs.Rooms.{HasPairRoom}
 use Rattle.ordered_multimap.specs.Agrees.{hash_of}
 use Rattle.ordered_multimap.proofs.AppendedLemmas.{first_agrees, first_lists, refused_lists, stays_paid}
 use Rattle.ordered_multimap.proofs.LookupLemmas.{new_key}
-use Rattle.ordered_multimap.proofs.RoomLemmas.{keeps_rooms, fits_pair, raises_none_absent, first_on_err, map_of, on_err-map, on_ok-map}
+use Rattle.ordered_multimap.proofs.RoomLemmas.{keeps_rooms, fits_pair, raises_none_absent, first_on_err, if_err-map, map_of, on_ok-map}
 use Rattle.ordered_multimap.proofs.list_ordered_multimap.ListOrderedMultimap.append_new.Goals as goal
 
 pub invariant_of-self : goal.invariant_of-self
@@ -45,16 +45,18 @@ returns-clause-ok g c =
     (c.requires.hash ∙ ap (λ m. hash_of g.S.BuildHasher g.S.Hasher.Hasher m.hasher (g.K.Hash.hash_input c.args.key)) (sym c.self.view_is)) r
     e.ok))
 
-pub returns-clause-unchanged : goal.returns-clause-unchanged
-returns-clause-unchanged g c =
+pub returns-clause-refused : goal.returns-clause-refused
+returns-clause-refused g c =
     let i = c.self.inside in
     let n = c.append_first.new in
     let e = c.append_first.ensures in
     let r = c.append_first.result in
     let agrees = c.self.invariant.agrees in
     let absent = ap (λ m. is_listed g.K.PartialEq.eq m.lists.keys c.args.key) c.self.view_is ∙ c.requires.absent in
-    subst (λ m. OnErr r (IsRefused g.K.PartialEq.eq c.args.key m (map_of n.keys n.table.capacity n.values i.state i.left))) c.self.view_is
-    (on_err-map (λ lists. record {
+    subst (λ m. IfErr r (IsRefused g.K.PartialEq.eq c.args.key c.args.value m
+    (map_of n.keys n.table.capacity n.values i.state i.left))) c.self.view_is
+    (if_err-map (λ pair lists returned. record {
+      returned = returned;
       lists = lists;
       rooms = keeps_rooms _ _ _ _ _ _ _ _ _ _ _ _ _ e.grows.more_keys e.grows.more_rows e.values.no_less;
       had_room =
@@ -62,7 +64,7 @@ returns-clause-unchanged g c =
           n.keys n.table.capacity n.values e.values absent e.grows;
       taken = e.values.taken;
     }) r
-    (refused_lists g.met.K.Eq.laws agrees c.args.key c.args.value _ _ r (first_on_err _ _ r e.unchanged)))
+    (refused_lists g.met.K.Eq.laws agrees c.args.key c.args.value _ _ r (first_on_err _ _ r e.unchanged)) e.refused)
 
 pub returns-clause-succeeds : goal.returns-clause-succeeds
 returns-clause-succeeds g c =

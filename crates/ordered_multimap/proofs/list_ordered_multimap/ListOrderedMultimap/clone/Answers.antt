@@ -26,7 +26,7 @@ append_clones-requires-clause-key_room g c =
       ap (λ ps. length (built_from g.K.PartialEq.eq ps).keys) c.iter-pairs.ensures,
       built_keys g.met.K.Eq.laws c.args.self.now.lists c.keys_len.ensures.well_formed,
       c.keys_len.ensures.len,
-      c.in_ok-copy.ensures.key_room,
+      c.in_ok-copy.ensures.new.key_room,
     )
 
 pub append_clones-requires-clause-value_room : goal.append_clones-requires-clause-value_room
@@ -36,7 +36,7 @@ append_clones-requires-clause-value_room g c =
       ap (λ ps. length (built_from g.K.PartialEq.eq ps).pairs) c.iter-pairs.ensures,
       ap length (built_pairs g.met.K.Eq.laws c.args.self.now.lists c.keys_len.ensures.well_formed),
       c.values_len.ensures,
-      c.in_ok-copy.ensures.value_room,
+      c.in_ok-copy.ensures.new.value_room,
     )
 
 pub returns-in_err-append_clones-clause-succeeds : goal.returns-in_err-append_clones-clause-succeeds

@@ -13,6 +13,6 @@ pub returns-in-None-clause-detached : goal.returns-in-None-clause-detached
 returns-in-None-clause-detached g c =
     let n = c.detach_none.ensures in
     let lacks = rw c.in-None.is at c.look_up.ensures.absent in
-    detaches_none c.args.key.now lacks n.left
-    (n.kept.lists ∙ sym (removed_lacking g.met.K.Eq.laws c.args.self.now.lists c.args.key.now lacks))
-    (subst (TakesOut 0 c.args.self.now.tape) (sym n.kept.tape) (record { freed = omega arith; paid = omega arith }))
+    detaches_none c.args.key.now lacks n.none
+    (n.drain.kept.lists ∙ sym (removed_lacking g.met.K.Eq.laws c.args.self.now.lists c.args.key.now lacks))
+    (subst (TakesOut 0 c.args.self.now.tape) (sym n.drain.kept.tape) (record { freed = omega arith; paid = omega arith }))

@@ -1,4 +1,4 @@
-use Rattle.std.proofs.Common.{subst}
+use Rattle.std.proofs.Common.{subst, rules}
 use Rattle.multimap_walks.specs.declared.links.ChainEnds.{ChainEnds}
 use Rattle.ordered_multimap.specs.Detaches.{KeepsListed}
 use Rattle.ordered_multimap.proofs.DrainLemmas.{agrees-listed}
@@ -11,16 +11,19 @@ invariant_of-self g c =
     let i = c.self.inside in
     let t = c.drop_chain.ensures in
     record {
-      agrees = agrees-listed c.self.invariant.agrees t.kept t.capacity;
-      fits = fits-listed i.values c.drop_chain.new.values t.kept t.capacity c.self.invariant.fits;
-      paid = paid-listed i.values c.drop_chain.new.values t.counts c.self.invariant.paid;
+      agrees = agrees-listed c.self.invariant.agrees t.kept t.room.capacity;
+      fits = fits-listed i.values c.drop_chain.new.values t.kept t.room.capacity c.self.invariant.fits;
+      paid = paid-listed i.values c.drop_chain.new.values t.room.counts c.self.invariant.paid;
     }
 
-pub returns-clause-kept : goal.returns-clause-kept
-returns-clause-kept g c =
+pub returns-clause-drain : goal.returns-clause-drain
+returns-clause-drain g c =
     let i = c.self.inside in
     let t = c.drop_chain.ensures in
     let left : ChainEnds = record { first = i.left.first; last = i.left.last; length = 0 } in
-    subst (λ m. KeepsListed m (map_of i.keys i.table.capacity c.drop_chain.new.values i.state left)) c.self.view_is
-    (keeps_listed i.keys i.table.rows i.values c.self.invariant.agrees i.table.capacity i.state i.left left c.drop_chain.new.values t.kept
-    t.counts t.capacity)
+    record {
+      holds = search rules;
+      kept = subst (λ m. KeepsListed m (map_of i.keys i.table.capacity c.drop_chain.new.values i.state left)) c.self.view_is
+          (keeps_listed i.keys i.table.rows i.values c.self.invariant.agrees i.table.capacity i.state i.left left c.drop_chain.new.values
+          t.kept t.room.counts t.room.capacity);
+    }

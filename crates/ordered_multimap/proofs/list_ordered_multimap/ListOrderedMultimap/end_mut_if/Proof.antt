@@ -1,4 +1,6 @@
--- `end_mut_if` lends the value of the pair at an end, or gives the map up. Assumes `Logic`.
+-- `end_mut_if` holds the map for writing, and an end. Assumes `Logic`.
+-- It calls `checked`, which tells whether there is a pair, and where there is one `end_mut`, which lends its value.
+-- It gives back that value and how the map then ends, or nothing, and that the map ends as it is.
 use Rattle.std.proofs.Common.{◌≡◌, ◌<◌, Bool, true, false, not, List, [], ◌∷◌, refl, sym, ap, ◌∙◌, subst, length, nat_lt, option_map, lit<}
 use Rattle.std.proofs.Common.{arith}
 use Rattle.std.specs.Prelude.{Some, None, OnSome, IfNone}
@@ -6,7 +8,7 @@ use lib.Dec.{T, ltb→lt, lt→ltb}
 use mir.Syntax.{a_type, dcons, dnil, named, ty_bool}
 use mir.Val.{Val, vptr, vbool, vcons, vnil}
 use mir.MapTy.{inst_fn}
-use base.Logic.{SProp, emp, id⊢}
+use base.Logic.{SProp, id⊢}
 use base.Fml.{Fml, GName, ftrue, fsep, fres}
 use types.Kit.{‵, raw, ◌⊛◌, some, later, at_ret, ◌$◌, ◌∵◌, !, qed, by, move, keep, drop, split, join, fsplit, fsplit3, fjoin, use0, use1}
 use types.Kit.{use2, pick, await, rewrite}
@@ -15,20 +17,17 @@ use types.ByLocal.{alloc_all, pass_all, free_all, look_at, get, get_in, through,
 use types.Match.{live}
 use types.Part.{agg, whole, sub}
 use types.Tokens.{name_done}
-use contract.BorrowLft.{◌⊑◌}
 use contract.Running.{tables}
-use contract.Monad.{fact, fact_i}
+use contract.Monad.{fact}
 use denote.Builtin.{bool}
 use denote.Enum.Laws as Enum-laws
 use denote.Enum.Loose.{loose_lawful}
-use denote.Exit.{no, yes}
 use denote.Follow.{follows}
 use denote.RattleType.{RattleType}
 use denote.Laws.{Is, shows}
 use denote.Ref.{MutRef, ShrRef, mut_vals, mut_Tells, mut_Lawful, shr_Lawful}
 use denote.Param.{param, layout, bounded}
 use denote.Plain.{bool_Tells, bool_Lawful}
-use denote.Signature.{plain, mut_ref_to}
 use denote.Steps.{nothing, only, heard, peeks}
 use denote.Struct.Tuple.{Tuple}
 use denote.Triple.Clauses.{lasts, Lasts}
@@ -36,7 +35,7 @@ use denote.Triple.Entry.{alive}
 use denote.Triple.Spec.{triple_of}
 use denote.Triple.Call.{calls_at}
 use denote.Triple.Table.{framed}
-use denote.Triple.Walked.{Stays, stay_dropped, walk_of, Goes-spent_ref, Goes-dropped}
+use denote.Triple.Walked.{Stays, walk_of}
 use Rattle.std.specs.contracts.option.Option.{the_row as Opt}
 use Rattle.std.proofs.cell.Inside.{Good}
 use Rattle.std.proofs.option.Made.{Some-of, none_of}
@@ -51,6 +50,8 @@ use Rattle.std.proofs.ResultValues.{and_tt}
 use Rattle.ordered_multimap.specs.Changes.{end_written}
 use Rattle.ordered_multimap.specs.WriteLends.{lends_end_if}
 use Rattle.ordered_multimap.specs.Writes.{with_end, IsWritten}
+use Rattle.ordered_multimap.proofs.HandsOn.{end_row as Er, end_vals as at_end, stays_with_end, goes_with_end}
+use Rattle.ordered_multimap.proofs.Outlived.{told, hears, tells, states}
 use Rattle.ordered_multimap.proofs.Pairs.{both, both_typed, pair_out, pair_in}
 use Rattle.ordered_multimap.proofs.Rested.{so_some, so_none}
 use Rattle.ordered_multimap.specs.contracts.list_ordered_multimap.ListOrderedMultimap as Map
@@ -84,13 +85,9 @@ end_mut_if_spec 𝓤 𝓛 𝓜 𝓡 wired K V S A B LK LV LS LA LB eqs dEq pe dP
     let inst = bounded (a_type ∷ a_type ∷ a_type ∷ a_type ∷ a_type ∷ []) (K, (V, (S, (A, (B, tt)))))
     (dcons dEq (dcons dPe (dcons dHa (dcons dBh (dcons dHg (dcons dAl (dcons dropA (dcons dropB dnil)))))))) in
     let fn = inst_fn inst code.function in
-    let Er : RattleType = EndType.the_row in let at_end : End → List Val = Enum-laws.vals EndType.the_type End-laws.the_laws in
-    let hs : Stays En.signature.params En.kept = (
-      stay_dropped (mut_ref_to (0 ∷ []) tt (plain (λ _. R))) no,
-      (stay_dropped (plain (λ _. Er)) yes, tt),
-    ) in
-    proved 𝓛 En hs c 𝓜 𝓡 (Goes-spent_ref 𝓛 6 (0 ∷ []) tt (plain (λ _. R)), (Goes-dropped 𝓛 6 (plain (λ _. Er)) yes (λ κs x w. refl), tt))
-    (#self inst) fn (code.unfolded 𝓤 H 𝓜 𝓡 wired (K, (V, (S, (A, (B, tt))))) dEq dPe dHa dBh dHg dAl dropA dropB)
+    let hs : Stays En.signature.params En.kept = stays_with_end 5 (λ _. R) in
+    proved 𝓛 En hs c 𝓜 𝓡 (goes_with_end 5 (λ _. R) 𝓛) (#self inst) fn
+    (code.unfolded 𝓤 H 𝓜 𝓡 wired (K, (V, (S, (A, (B, tt))))) dEq dPe dHa dBh dHg dAl dropA dropB)
     (λ κs. (mut_vals, (at_end, tt))) (λ κs. (mut_Tells (named 0) κs.0 R, (Enum-laws.tells EndType.the_type End-laws.the_laws, tt)))
     (λ κs qs bounds a gh are.
     let y : (walk_of 𝓛 En hs c).Ghost = ((κs, qs, bounds, a, (mut_vals a.0, (at_end a.1.0, tt))), gh) in let Post : Val
@@ -99,8 +96,6 @@ end_mut_if_spec 𝓤 𝓛 𝓜 𝓡 wired K V S A B LK LV LS LA LB eqs dEq pe dP
     let Me : RattleType = MutRef (named 0) κs.0 R in let Q : RattleType = Tuple (bool ∷ Me ∷ []) in
     let Sk : RattleType = ShrRef (named 0) κs.0 Kr in let Mv : RattleType = MutRef (named 0) κs.0 Vr in
     let Tw : RattleType = Tuple (Sk ∷ Mv ∷ []) in let Out : RattleType = Opt Tw in
-    let inK : Type 0 = κs.1.0 ⊑ K.lives in let inV : Type 0 = κs.1.1.0 ⊑ V.lives in let inS : Type 0 = κs.1.1.1.0 ⊑ S.lives in
-    let inA : Type 0 = κs.1.1.1.1.0 ⊑ A.lives in let inB : Type 0 = κs.1.1.1.1.1.0 ⊑ B.lives in
     let toks = raw (alive 𝓛 En.signature κs qs) in
     let Any : Bool → Type 0 = λ b. b ≡ nat_lt 0 (length m.lists.pairs) in let Pair : Out.Denot
     → Type 0 = λ out. option_map (λ x. (x.0.now, x.1.now)) out ≡ end_item end m.lists.pairs in
@@ -113,15 +108,12 @@ end_mut_if_spec 𝓤 𝓛 𝓜 𝓡 wired K V S A B LK LV LS LA LB eqs dEq pe dP
     (g₁.spec K V S A B eqs dEq pe dPe ha dHa bh dBh hg dHg al dAl dropA dropB 𝓛 𝓜.mem 𝓡.returns) in
     let z₁ : G₁.Ghost = ((κs, qs, bounds, (a.0, tt), (mut_vals a.0, tt)), tt) in
     qed 𝓛 ((toks ⊛ ‵ (fsep (Me.own_val a.0 (mut_vals a.0)) (fsep (Er.own_val end (at_end end)) ftrue))) ∷
-    (raw (fact 𝓤 inK) ⊛ raw (fact 𝓤 inV) ⊛ raw (fact 𝓤 inS) ⊛ raw (fact 𝓤 inA) ⊛ raw (fact 𝓤 inB) ⊛ ‵ ftrue) ∷ []) ∵
-    move ! (1 ∷ []) $ split ! $ heard ! inK (λ k. split ! $
-    heard ! inV (λ w. split ! $ heard ! inS (λ st. split ! $ heard ! inA (λ ap'. split ! $ heard ! inB (λ bo. drop ! $
+    told κs.1 K V S A B (‵ ftrue) ∷ []) ∵
+    move ! (1 ∷ []) $ hears κs.1 K V S A B ! (λ five.
     -- [the map; the end; the tokens]
     split ! $ move ! (1 ∷ []) $ fsplit ! $ move ! (1 ∷ []) $ fsplit ! $ keep ! (2 ∷ 0 ∷ 3 ∷ []) $
     nothing ! $ move ! (1 ∷ 0 ∷ []) $ fjoin ! $ move ! (2 ∷ 0 ∷ []) $ join ! $
-    nothing ! $ use0 𝓛 (raw (fact 𝓤 inB)) (fact_i 𝓤 inB (emp 𝓤) bo) $ join ! $ use0 𝓛 (raw (fact 𝓤 inA)) (fact_i 𝓤 inA (emp 𝓤) ap') $
-    join ! $ use0 𝓛 (raw (fact 𝓤 inS)) (fact_i 𝓤 inS (emp 𝓤) st) $ join ! $ use0 𝓛 (raw (fact 𝓤 inV)) (fact_i 𝓤 inV (emp 𝓤) w) $
-    join ! $ use0 𝓛 (raw (fact 𝓤 inK)) (fact_i 𝓤 inK (emp 𝓤) k) $ join ! $ move ! (1 ∷ 0 ∷ []) $ use2 𝓛 (raw (G₁.pre z₁)) (id⊢ 𝓤 _) $
+    nothing ! $ tells κs.1 K V S A B ! five $ move ! (1 ∷ 0 ∷ []) $ use2 𝓛 (raw (G₁.pre z₁)) (id⊢ 𝓤 _) $
     enter ! 𝓣.C 𝓣.Λ fn (vptr a.0.ref_ptr.0 a.0.ref_ptr.1 ∷ at_end end) Post $
     alloc_all ! (λ l. pass_all ! refl ((tt, tt), (end_good, tt)) $ let Ev = env fn.locals l in
     sets ! (addr ! (through ! refl (stop !))) refl (tt, tt) $
@@ -156,9 +148,7 @@ end_mut_if_spec 𝓤 𝓛 𝓜 𝓡 wired K V S A B LK LV LS LA LB eqs dEq pe dP
     (ltb→lt 0 (length m.lists.pairs) (subst T any yes)) in let Long : Type 0 = 0 < length r.1.now.lists.pairs in
     sets ! (addr ! (through ! refl (stop !))) refl (tt, tt) $
     nothing ! $ move ! (3 ∷ 0 ∷ []) $ fjoin ! $ move ! (1 ∷ 0 ∷ []) $ fjoin ! $ move ! (1 ∷ 0 ∷ []) $ join ! $
-    use0 𝓛 (raw (fact 𝓤 Long)) (fact_i 𝓤 Long (emp 𝓤) long) $ use0 𝓛 (raw (fact 𝓤 inB)) (fact_i 𝓤 inB (emp 𝓤) bo) $ join ! $
-    use0 𝓛 (raw (fact 𝓤 inA)) (fact_i 𝓤 inA (emp 𝓤) ap') $ join ! $ use0 𝓛 (raw (fact 𝓤 inS)) (fact_i 𝓤 inS (emp 𝓤) st) $ join ! $
-    use0 𝓛 (raw (fact 𝓤 inV)) (fact_i 𝓤 inV (emp 𝓤) w) $ join ! $ use0 𝓛 (raw (fact 𝓤 inK)) (fact_i 𝓤 inK (emp 𝓤) k) $ join ! $
+    states ! Long long $ tells κs.1 K V S A B ! five $
     move ! (1 ∷ 0 ∷ []) $ use2 𝓛 (raw (G₂.pre z₂)) (id⊢ 𝓤 _) $
     calls_at ! (framed 𝓤 H 𝓜 𝓣) G₂ (met₂ 𝓤 𝓛 𝓜 𝓡 (code.calls-ordered_multimap::list_ordered_multimap::ListOrderedMultimap::end_mut 𝓡.env
     wired) K V S A B LK LV LS LA LB eqs dEq pe dPe ha dHa bh dBh hg dHg al dAl dropA dropB mEq mPe mHa mBh mHg mAl mDropA mDropB) z₂
@@ -186,7 +176,7 @@ end_mut_if_spec 𝓤 𝓛 𝓜 𝓡 wired K V S A B LK LV LS LA LB eqs dEq pe dP
     exec ! 𝓣.C 𝓣.Λ Ev (after 6 fn.body) (at_ret Ev Post) $ sets ! (of_opd ! (get ! refl)) refl good $
     use1 𝓛 (‵ (Out.own_val out (made ∷ []))) (Some-of 𝓛 Tw q u) $
     -- [the result; the map follows; the tokens]
-    use0 𝓛 (raw (fact 𝓤 (Pair out))) (fact_i 𝓤 (Pair out) (emp 𝓤) (sym gives ∙ ap (λ n. end_item end n.lists.pairs) now)) $
+    states ! (Pair out) (sym gives ∙ ap (λ n. end_item end n.lists.pairs) now) $
     move ! (2 ∷ 0 ∷ []) $ join ! $ nothing ! $ nothing ! $ fjoin ! $ nothing ! $ fjoin ! $
     returns ! (look_at ! 0 refl) $ free_all ! refl $ keep ! (3 ∷ 0 ∷ 2 ∷ 1 ∷ []) $
     by ! (leaves 𝓛 En hs c y made out (tt, (tt, tt)) (tt, (tt, tt)))))))))
@@ -199,8 +189,8 @@ end_mut_if_spec 𝓤 𝓛 𝓜 𝓡 wired K V S A B LK LV LS LA LB eqs dEq pe dP
     rewrite ! 0 (λ (δ : GName). ‵ (fres δ (R.coded.code m))) same refl $
     use1 𝓛 (‵ (Rest gone)) (so_none 𝓛 R Vr γ γ (Shows gone) (Keeps gone) (with_end end m) m (λ u. tt) refl) $
     -- [the map rests; its borrow; the tokens; the end]
-    use0 𝓛 (raw (fact 𝓤 (Pair gone))) (fact_i 𝓤 (Pair gone) (emp 𝓤) (no_item end m.lists.pairs (subst (λ b. T (not b)) any nope))) $
+    states ! (Pair gone) (no_item end m.lists.pairs (subst (λ b. T (not b)) any nope)) $
     move ! (1 ∷ 0 ∷ []) $ join ! $ use0 𝓛 (‵ (Out.own_val gone (made ∷ []))) (none_of 𝓛 Tw) $ nothing ! $ nothing ! $ fjoin ! $
     nothing ! $ fjoin ! $
     returns ! (look_at ! 0 refl) $ free_all ! refl $ keep ! (4 ∷ 0 ∷ 1 ∷ 2 ∷ []) $
-    by ! (leaves 𝓛 En hs c y made gone (tt, (tt, tt)) (tt, (tt, tt))))))))))))))))))))
+    by ! (leaves 𝓛 En hs c y made gone (tt, (tt, tt)) (tt, (tt, tt))))))))))))))))

@@ -69,8 +69,8 @@ returns-in-Err-clause-extends g c =
       c.into_iter-key-iterator.result,
       c.loop-key.yielded,
       became g at,
-      c.in-Err.ensures.unchanged.lists ∙ c.loop-key.invariant.0,
-      ((c.in-Some.key, c.in-Some.value), c.next.new.self, given g at, ap (λ r. (r.key, r.value)) (sym c.in-Err.ensures.refused)),
+      c.in-Err.ensures.refused.lists ∙ c.loop-key.invariant.0,
+      ((c.in-Some.key, c.in-Some.value), c.next.new.self, given g at, ap (λ r. (r.key, r.value)) (sym c.in-Err.ensures.refused.returned)),
     )
 
 pub returns-in-Err-clause-succeeds : goal.returns-in-Err-clause-succeeds
@@ -86,7 +86,7 @@ returns-in-Err-clause-succeeds_for_most g c = λ room.
 pub returns-in-Err-clause-grows : goal.returns-in-Err-clause-grows
 returns-in-Err-clause-grows g c =
     let at = (goal.at.returns-in-Err-clause-grows g c).In-Some in
-    let e = c.in-Err.ensures.unchanged in
+    let e = c.in-Err.ensures.refused in
     grows_on g.K.PartialEq.eq (map lent_pair c.loop-key.yielded) (room_for_given g at)
     (room_for_most g at) c.loop-key.invariant.0 c.loop-key.invariant.1
     e.rooms e.had_room e.taken
@@ -95,10 +95,10 @@ pub loop-key-init : goal.loop-key-init
 loop-key-init g c =
     let pairs = c.into_iter-pairs in
     let reserved = c.reserve_values-reserved.ensures in (
-      reserved.unchanged,
+      reserved.grows.lists,
       record {
-        rooms = reserved.rooms;
-        doubles = reserved.doubles;
+        rooms = reserved.grows.rooms;
+        doubles = reserved.grows.doubles;
         taken = reserved.taken;
         key_room = λ room. reserved.keys;
         had_room = λ room.

@@ -1,8 +1,14 @@
-use Rattle.std.proofs.Common.{◌∙◌}
-use Rattle.ordered_multimap.proofs.LackLemmas.{inserted_lacking}
+use Rattle.std.proofs.Common.{IfSome, subst}
+use Rattle.ordered_multimap.specs.Agrees.{HasKey}
+use Rattle.ordered_multimap.proofs.LackLemmas.{inserted_new, inserted_there}
 use Rattle.ordered_multimap.proofs.list_ordered_multimap.ListOrderedMultimap.insert.Goals as goal
 
 pub returns-in_default-clause-ok : goal.returns-in_default-clause-ok
 returns-in_default-clause-ok g c =
-    (c.in_ok-append_new.ensures {u = tt}).ok.lists
-    ∙ inserted_lacking g.met.K.Eq.laws c.args.self.now.lists c.args.key (rw c.in_default.is at c.look_up-hash.ensures.absent) c.args.value
+    inserted_new g.met.K.Eq.laws (rw c.in_default.is at c.look_up-hash.ensures.absent) (c.in_ok-append_new.ensures {u = tt}).ok
+
+pub returns-clause-ok : goal.returns-clause-ok
+returns-clause-ok g c =
+    let has = subst (λ o. IfSome o (HasKey g.K.PartialEq.eq c.args.self.now.slots.keys c.args.key)) c.in-Some.is
+    c.look_up-hash.ensures.found in
+    inserted_there (c.insert_at.ensures.inserted c.args.key has) c.insert_at.ensures.rooms

@@ -4,7 +4,8 @@ use Rattle.ordered_multimap.specs.Pairs.{values_of}
 use Rattle.ordered_multimap.specs.Changes.{inserted}
 use Rattle.ordered_multimap.specs.TapeNumbers.{TakesOut, numbers_of}
 use Rattle.ordered_multimap.specs.Agrees.{HasKey}
-use Rattle.ordered_multimap.specs.KeySteps.{KeepsPlace, LosesValues}
+use Rattle.ordered_multimap.specs.KeySteps.{KeepsPlace}
+use Rattle.ordered_multimap.specs.Removals.{LosesValues}
 use Rattle.ordered_multimap.proofs.LeavesLemmas.{has_chain}
 use Rattle.ordered_multimap.proofs.RoomLemmas.{map_of}
 use Rattle.ordered_multimap.proofs.LookupLemmas.{own_key}

@@ -1,4 +1,6 @@
--- `lend` shares the keys and lends the cells of the values; the map is closed late. Assumes `Logic`.
+-- `lend` holds the map for writing, and opens it. Assumes `Logic`.
+-- It shares the keys, and calls `cells_of` with the loan of the values, which lends each of their cells.
+-- It gives back the keys to read and these cells; the map is closed late, with what the cells end as.
 use mathlib.Core.Path.{◌≡◌, refl, sym, ap, subst, ◌∙◌}
 use Prim.Native.Nat.{ℕ, ◌+◌}
 use mathlib.Core.List.{List, [], ◌∷◌}
@@ -12,8 +14,8 @@ use base.Fml.{Lft, GName, Fml, ftrue, fsep, flft, fobs, fbor, Incl-trans, Incl-r
 use ghost.Rules.{aged}
 use prog.Memory.{size, align, up}
 use types.Logic.{sem}
-use types.Kit.{‵, raw, ◌⊛◌, some, later, given, ◌$◌, ◌∵◌, !, qed, by, move, drop, group, learn, use0, use1, use2, use3, split, split3, join}
-use types.Kit.{fsplit, fsplit3, fjoin, fjoin3, fpack, feq_i, pick, await, suffices, frame, done}
+use types.Kit.{‵, raw, ◌⊛◌, some, later, ◌$◌, ◌∵◌, !, qed, by, move, drop, group, use0, use1, use2, use3, split, split3, join}
+use types.Kit.{fsplit, fsplit3, fjoin, fjoin3, fpack, feq_i, pick, await, suffices, frame}
 use types.Mut.{open_ref}
 use types.SemTy.{Body}
 use types.Run.{stop, fld, of_opd, addr, no_more, and_then, returns, enter}
@@ -21,7 +23,6 @@ use types.Part.{agg}
 use types.ByLocal.{alloc_all, pass_all, free_all, look_at, get, sets, lands_as, through}
 use contract.Running.{tables}
 use contract.Monad.{fact, fact_i}
-use contract.BorrowLft.{◌⊑◌}
 use denote.Exit.{no}
 use denote.RattleType.{RattleType, Valss}
 use denote.Laws.{Is, shows}
@@ -73,6 +74,7 @@ use Rattle.ordered_multimap.specs.Agrees.{Agrees, hash_of}
 use Rattle.ordered_multimap.specs.ValuesLent.{with_values_of, with_values, with_items, EndsTapeOfValues}
 use Rattle.ordered_multimap.specs.contracts.list_ordered_multimap.ListOrderedMultimap as M-type
 use Rattle.ordered_multimap.specs.contracts.list_ordered_multimap.ListOrderedMultimap.TheInside as I-type
+use Rattle.ordered_multimap.proofs.Outlived.{told, hears, tells}
 use Rattle.ordered_multimap.proofs.LentLemmas.{map-ended, revalued_refilled, Agrees-refilled, AreLent-made, around_values}
 use Rattle.ordered_multimap.specs.contracts.list_ordered_multimap.lend.cells_of as g
 use Rattle.ordered_multimap.proofs.list_ordered_multimap.lend.cells_of.Met.{met}
@@ -150,10 +152,8 @@ lend_spec 𝓤 𝓛 𝓜 𝓡 wired X₀ X₁ X₂ X₃ X₄ L₀ L₁ L₂ L₃
     qed 𝓛 (((‵ (flft κ q) ⊛ ‵ (flft κs.1.0 qs.1.0) ⊛ ‵ (flft κs.1.1.0 qs.1.1.0) ⊛ ‵ (flft κs.1.1.1.0 qs.1.1.1.0) ⊛ ‵
     (flft κs.1.1.1.1.0 qs.1.1.1.1.0) ⊛ ‵ (flft κs.1.1.1.1.1.0 qs.1.1.1.1.1.0) ⊛ ‵ ftrue) ⊛ ‵
     ((MutRef (named 0) κ R).own_val a.0 (mut_vals a.0)) ⊛ ‵ ftrue)
-    ∷ (given (κs.1.0 ⊑ K.lives) (‵ ftrue) ⊛ given (κs.1.1.0 ⊑ V.lives) (‵ ftrue) ⊛ given (κs.1.1.1.0 ⊑ S.lives) (‵ ftrue) ⊛ given
-    (κs.1.1.1.1.0 ⊑ A.lives) (‵ ftrue) ⊛ given (κs.1.1.1.1.1.0 ⊑ J.lives) (‵ ftrue) ⊛ ‵ ftrue) ∷ []) ∵
-    move ! (1 ∷ []) $ split3 ! $ learn ! (λ i₀. drop ! $
-    learn ! (λ i₁. drop ! $ split3 ! $ learn ! (λ i₂. drop ! $ learn ! (λ i₃. drop ! $ split ! $ learn ! (λ i₄. drop ! $ drop ! $
+    ∷ told κs.1 K V S A J (‵ ftrue) ∷ []) ∵
+    move ! (1 ∷ []) $ hears κs.1 K V S A J ! (λ five.
     split3 ! $ move ! (2 ∷ []) $ drop ! $ split ! $ move ! (2 ∷ []) $ fsplit3 ! $ drop ! $
     -- [obs; the borrow; the token of 'a; the other tokens]
     move ! (2 ∷ []) $ use1 𝓛 (‵ (flft κ l) ⊛ ‵ (flft κ r)) (𝓛.lfts.lft_split κ q) $ split ! $ move ! (2 ∷ 3 ∷ 0 ∷ []) $
@@ -180,8 +180,8 @@ lend_spec 𝓤 𝓛 𝓜 𝓡 wired X₀ X₁ X₂ X₃ X₄ L₀ L₁ L₂ L₃
     split3 ! $ move ! (2 ∷ []) $ split3 ! $
     -- [obs δ; the values' borrow; the keys'; the open borrow; the rights; the rest; obs; auth; half the token; the other tokens]
     move ! (2 ∷ 8 ∷ []) $ use2 𝓛 (later (‵ (KS.shr_at t.keys b ko κ) ⊛ ‵ (flft κ r)))
-    (KS-is.shares 𝓛 t.keys κ ((κ, r) ∷ []) b ko (L-laws.the_within K KL-type.the_row A ga κ (Incl-trans bounds.0 i₀) (KL-laws.the_within κ)
-    (Incl-trans bounds.1.1.1.0 i₃)) (Incl-refl κ)) $ await ! tt $ split ! $
+    (KS-is.shares 𝓛 t.keys κ ((κ, r) ∷ []) b ko (L-laws.the_within K KL-type.the_row A ga κ (Incl-trans bounds.0 five.keys)
+    (KL-laws.the_within κ) (Incl-trans bounds.1.1.1.0 five.memory)) (Incl-refl κ)) $ await ! tt $ split ! $
     let keys : Bor KS.Denot = record { ref_ptr = (b, ko); now = t.keys } in let KR : RattleType = ShrRef (named 0) κ KS in
     hide ! $ feq_i ! (List Val) (vptr b ko ∷ []) (vptr b ko ∷ []) refl $ fjoin ! $ use1 𝓛 (‵ (KR.own_val keys (vptr b ko ∷ []))) (id⊢ 𝓤 _) $
     -- [the keys; half the token; obs δ; the values' borrow; the open borrow; the rights; the rest; obs; auth; the other tokens]
@@ -192,13 +192,7 @@ lend_spec 𝓤 𝓛 𝓜 𝓡 wired X₀ X₁ X₂ X₃ X₄ L₀ L₁ L₂ L₃
     let z : G.Ghost = ((κs, (r, qs.1), (bounds.1.0, (bounds.1.1.1.0, tt)), (rv, tt), (mut_vals rv, tt)), tt) in
     -- [the values; the keys; half the token; the open borrow; the rights; the rest; obs; auth; the other tokens]
     nothing ! $ move ! (1 ∷ 0 ∷ []) $ fjoin ! $ move ! (2 ∷ 8 ∷ []) $ join ! $ join ! $
-    use0 𝓛 (given (κs.1.0 ⊑ K.lives) (‵ ftrue) ⊛ given (κs.1.1.0 ⊑ V.lives) (‵ ftrue) ⊛ given (κs.1.1.1.0 ⊑ S.lives) (‵ ftrue) ⊛ given
-    (κs.1.1.1.1.0 ⊑ A.lives) (‵ ftrue) ⊛ given (κs.1.1.1.1.1.0 ⊑ J.lives) (‵ ftrue) ⊛ ‵ ftrue)
-    (qed 𝓛 [] ∵ use0 𝓛 (‵ ftrue) (id⊢ 𝓤 (emp 𝓤)) $ use0 𝓛 (given (κs.1.1.1.1.1.0 ⊑ J.lives) (‵ ftrue)) (fact_i 𝓤 _ (emp 𝓤) i₄) $ join ! $
-    use0 𝓛 (given (κs.1.1.1.1.0 ⊑ A.lives) (‵ ftrue)) (fact_i 𝓤 _ (emp 𝓤) i₃) $ join ! $
-    use0 𝓛 (given (κs.1.1.1.0 ⊑ S.lives) (‵ ftrue)) (fact_i 𝓤 _ (emp 𝓤) i₂) $ join ! $
-    use0 𝓛 (given (κs.1.1.0 ⊑ V.lives) (‵ ftrue)) (fact_i 𝓤 _ (emp 𝓤) i₁) $ join ! $
-    use0 𝓛 (given (κs.1.0 ⊑ K.lives) (‵ ftrue)) (fact_i 𝓤 _ (emp 𝓤) i₀) $ join ! $ done !) $
+    nothing ! $ tells κs.1 K V S A J ! five $
     move ! (1 ∷ 0 ∷ []) $ join ! $ use1 𝓛 (raw (G.pre z)) (id⊢ 𝓤 _) $
     sets ! (addr ! (through ! refl (fld ! refl (stop !)))) refl (tt, tt) $
     let a' = named_lft 6 0 tt κs in let CR : RattleType = C-type.the_row a' V VL-type.the_row A ga in
@@ -256,5 +250,4 @@ lend_spec 𝓤 𝓛 𝓜 𝓡 wired X₀ X₁ X₂ X₃ X₄ L₀ L₁ L₂ L₃
     (ap (λ h. h.hasher) x.1.0) x.1.1.agrees) (ap (λ h. h.lists) x.1.0) (ap (λ h. h.slots.keys) x.1.0) (ap (λ h. h.slots.values) x.1.0)
     (LendsSlots-renamed ε rim lent)))
     ))))))))
-    )))))))
-    )
+    ))))

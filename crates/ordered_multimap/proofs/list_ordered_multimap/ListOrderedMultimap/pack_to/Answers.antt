@@ -1,4 +1,4 @@
-use Rattle.std.proofs.Common.{length, ap, ◌∙◌, arith}
+use Rattle.std.proofs.Common.{◌/◌, length, ap, ◌∙◌, arith}
 use Rattle.ordered_multimap.proofs.AgreesLemmas.{length-keys, length-pairs}
 use Rattle.ordered_multimap.proofs.KeyRenameLemmas.{agrees-packed, lists_of-packed, packed_length}
 use Rattle.ordered_multimap.proofs.list_ordered_multimap.ListOrderedMultimap.pack_to.Goals as goal
@@ -49,7 +49,7 @@ invariant_of-self g c =
           omega (
             arith,
             packed_length c.self.invariant.agrees p.packed,
-            p.values_capacity,
+            p.rooms.value_room,
             c.in_ok-storage.ensures.value_room,
             c.requires.values,
             ap (λ m. length m.lists.pairs) c.self.view_is,
@@ -58,6 +58,13 @@ invariant_of-self g c =
       paid = omega (arith, p.unused.moved, p.unused.holes);
     }
 
-pub returns-clause-unchanged : goal.returns-clause-unchanged
-returns-clause-unchanged g c =
-    lists_of-packed c.self.invariant.agrees c.pack.ensures.packed ∙ ap (λ m. m.lists) c.self.view_is
+pub returns-clause-ok : goal.returns-clause-ok
+returns-clause-ok g c =
+    let r = c.pack.ensures.rooms in let s = c.in_ok-storage.ensures in
+    record {
+      lists = lists_of-packed c.self.invariant.agrees c.pack.ensures.packed ∙ ap (λ m. m.lists) c.self.view_is;
+      hasher = ap (λ m. m.hasher) c.self.view_is;
+      key_room = omega (arith, r.key_room, r.row_room, s.key_room, s.row_room);
+      value_room = omega (arith, ap (λ n. n / 2) r.value_room, s.value_room);
+      unused = c.pack.ensures.unused;
+    }

@@ -1,28 +1,28 @@
--- `pop_end` takes the pair out, settles the map, and hands out the key. Assumes `Logic`.
+-- `pop_end` holds the map for writing, and an end. Assumes `Logic`.
+-- It calls `take_end_on`, which takes the pair out, `settle`, which makes the map one to read, and `wrapped`, which hands out the key.
+-- It gives back that pair, and that the map ends without it.
 use Rattle.std.proofs.Common.{◌≡◌, List, [], ◌∷◌, refl, sym, ap, ◌∙◌, subst, Option, option_map}
 use mathlib.Core.Option.{none}
 use mir.Syntax.{a_type, dcons, dnil, named}
 use mir.Val.{Val, vptr}
 use mir.MapTy.{inst_fn}
-use base.Logic.{SProp, emp, id⊢}
+use base.Logic.{SProp, id⊢}
 use base.Fml.{GName, ftrue}
-use types.Kit.{‵, raw, ◌⊛◌, some, later, ◌$◌, ◌∵◌, !, qed, by, move, keep, drop, split, join, fjoin, use0, use1, use2, pick, await, rewrite}
+use types.Kit.{‵, raw, ◌⊛◌, some, later, ◌$◌, ◌∵◌, !, qed, by, move, keep, drop, split, join, fjoin, use1, use2, pick, await, rewrite}
 use types.Run.{enter, of_opd, addr, stop, fld, no_more, and_then, returns}
 use types.ByLocal.{alloc_all, pass_all, free_all, look_at, get, get_in, through, sets, lands_as}
 use types.Part.{whole, sub}
-use contract.BorrowLft.{◌⊑◌}
 use contract.Running.{tables}
-use contract.Monad.{fact, fact_i}
+use contract.Monad.{fact}
 use denote.Enum.Laws as Enum-laws
 use denote.Enum.Loose.{loose_lawful}
-use denote.Exit.{no, yes}
 use denote.Follow.{follows_so}
 use denote.RattleType.{RattleType}
 use denote.Laws.{Is, shows}
 use denote.Ref.{NamedLft, Bor, MutRef, ShrRef, mut_vals, mut_Tells, mut_Lawful, shr_Lawful}
 use denote.Param.{param, layout, bounded}
 use denote.Param.Laws.{Laws, param_laws}
-use denote.Signature.{plain, mut_ref_to, named_lft}
+use denote.Signature.{named_lft}
 use denote.Steps.{nothing, only, heard, peeks}
 use denote.Struct.Tuple.{Tuple, tuple_laws}
 use denote.Triple.Clauses.{lasts, Lasts}
@@ -30,7 +30,7 @@ use denote.Triple.Entry.{on_entry, alive}
 use denote.Triple.Spec.{triple_of}
 use denote.Triple.Call.{calls_at}
 use denote.Triple.Table.{framed}
-use denote.Triple.Walked.{Stays, stay_dropped, walk_of, Goes-spent_ref, Goes-dropped}
+use denote.Triple.Walked.{Stays, walk_of}
 use Rattle.std.specs.Prelude.{⊤}
 use Rattle.std.specs.contracts.option.Option.{the_row as Opt}
 use Rattle.std.proofs.option.Option.TheLaws.{the_row_laws as Opt-laws}
@@ -40,6 +40,8 @@ use Rattle.multimap_walks.specs.contracts.End as EndType
 use Rattle.multimap_walks.proofs.End.TheLaws as End-laws
 use Rattle.ordered_multimap.specs.Pop.{Popped, popped_pair}
 use Rattle.ordered_multimap.specs.Pops.{IsPopped, IsTaken, popped_of}
+use Rattle.ordered_multimap.proofs.HandsOn.{end_vals as at_end, stays_with_end, goes_with_end}
+use Rattle.ordered_multimap.proofs.Outlived.{told, hears, tells, states}
 use Rattle.ordered_multimap.proofs.Pairs.{both, both_typed, pair_out}
 use Rattle.ordered_multimap.proofs.Rested.{ends_weaker}
 use Rattle.ordered_multimap.specs.contracts.list_ordered_multimap.ListOrderedMultimap as Map
@@ -69,13 +71,9 @@ pop_end_spec 𝓤 𝓛 𝓜 𝓡 wired K V S A B LK LV LS LA LB eqs dEq pe dPe h
     let inst = bounded (a_type ∷ a_type ∷ a_type ∷ a_type ∷ a_type ∷ []) (K, (V, (S, (A, (B, tt)))))
     (dcons dEq (dcons dPe (dcons dHa (dcons dBh (dcons dHg (dcons dAl (dcons dropA (dcons dropB dnil)))))))) in
     let fn = inst_fn inst code.function in
-    let Er : RattleType = EndType.the_row in let at_end : End → List Val = Enum-laws.vals EndType.the_type End-laws.the_laws in
-    let hs : Stays En.signature.params En.kept = (
-      stay_dropped (mut_ref_to (0 ∷ []) tt (plain (λ _. R))) no,
-      (stay_dropped (plain (λ _. Er)) yes, tt),
-    ) in
-    proved 𝓛 En hs c 𝓜 𝓡 (Goes-spent_ref 𝓛 6 (0 ∷ []) tt (plain (λ _. R)), (Goes-dropped 𝓛 6 (plain (λ _. Er)) yes (λ κs x w. refl), tt))
-    (#self inst) fn (code.unfolded 𝓤 H 𝓜 𝓡 wired (K, (V, (S, (A, (B, tt))))) dEq dPe dHa dBh dHg dAl dropA dropB)
+    let hs : Stays En.signature.params En.kept = stays_with_end 5 (λ _. R) in
+    proved 𝓛 En hs c 𝓜 𝓡 (goes_with_end 5 (λ _. R) 𝓛) (#self inst) fn
+    (code.unfolded 𝓤 H 𝓜 𝓡 wired (K, (V, (S, (A, (B, tt))))) dEq dPe dHa dBh dHg dAl dropA dropB)
     (λ κs. (mut_vals, (at_end, tt))) (λ κs. (mut_Tells (named 0) κs.0 R, (Enum-laws.tells EndType.the_type End-laws.the_laws, tt)))
     (λ κs qs bounds a gh are.
     let y : (walk_of 𝓛 En hs c).Ghost = ((κs, qs, bounds, a, (mut_vals a.0, (at_end a.1.0, tt))), gh) in let Post : Val
@@ -88,8 +86,6 @@ pop_end_spec 𝓤 𝓛 𝓜 𝓡 wired K V S A B LK LV LS LA LB eqs dEq pe dPe h
     let P : RattleType = Tuple (Key.the_row ℓ Kr ∷ Vr ∷ []) in let Out : RattleType = Opt P in
     let LOut : Laws Out = Opt-laws P (tuple_laws (Key.the_row ℓ Kr ∷ Vr ∷ [])
     (Key-laws.the_row_laws ℓ Kr (param_laws 0 K LK), (param_laws 1 V LV, tt))) in
-    let inK : Type 0 = κs.1.0 ⊑ K.lives in let inV : Type 0 = κs.1.1.0 ⊑ V.lives in let inS : Type 0 = κs.1.1.1.0 ⊑ S.lives in
-    let inA : Type 0 = κs.1.1.1.1.0 ⊑ A.lives in let inB : Type 0 = κs.1.1.1.1.1.0 ⊑ B.lives in
     let toks = raw (alive 𝓛 En.signature κs qs) in
     let end : End = a.1.0 in let Ends : R.Denot → Type 0 = λ n. IsPopped pe.eq end a.0.now n in
     let p = popped_pair pe.eq end a.0.now.lists.pairs in
@@ -100,12 +96,9 @@ pop_end_spec 𝓤 𝓛 𝓜 𝓡 wired K V S A B LK LV LS LA LB eqs dEq pe dPe h
     let G₁ = triple_of 𝓛 (g₁.signature K V S A B eqs dEq pe dPe ha dHa bh dBh hg dHg al dAl dropA dropB)
     (g₁.spec K V S A B eqs dEq pe dPe ha dHa bh dBh hg dHg al dAl dropA dropB 𝓛 𝓜.mem 𝓡.returns) in
     qed 𝓛 (raw (on_entry 𝓛 En.signature κs qs a (mut_vals a.0, (at_end a.1.0, tt))) ∷
-    (raw (fact 𝓤 inK) ⊛ raw (fact 𝓤 inV) ⊛ raw (fact 𝓤 inS) ⊛ raw (fact 𝓤 inA) ⊛ raw (fact 𝓤 inB) ⊛ ‵ ftrue) ∷ []) ∵
-    move ! (1 ∷ []) $ split ! $ heard ! inK (λ k. split ! $
-    heard ! inV (λ w. split ! $ heard ! inS (λ st. split ! $ heard ! inA (λ ap'. split ! $ heard ! inB (λ bo. drop ! $
-    nothing ! $ use0 𝓛 (raw (fact 𝓤 inB)) (fact_i 𝓤 inB (emp 𝓤) bo) $ join ! $ use0 𝓛 (raw (fact 𝓤 inA)) (fact_i 𝓤 inA (emp 𝓤) ap') $
-    join ! $ use0 𝓛 (raw (fact 𝓤 inS)) (fact_i 𝓤 inS (emp 𝓤) st) $ join ! $ use0 𝓛 (raw (fact 𝓤 inV)) (fact_i 𝓤 inV (emp 𝓤) w) $
-    join ! $ use0 𝓛 (raw (fact 𝓤 inK)) (fact_i 𝓤 inK (emp 𝓤) k) $ join ! $ move ! (1 ∷ 0 ∷ []) $ use2 𝓛 (raw (G₁.pre z)) (id⊢ 𝓤 _) $
+    told κs.1 K V S A B (‵ ftrue) ∷ []) ∵
+    move ! (1 ∷ []) $ hears κs.1 K V S A B ! (λ five.
+    nothing ! $ tells κs.1 K V S A B ! five $ move ! (1 ∷ 0 ∷ []) $ use2 𝓛 (raw (G₁.pre z)) (id⊢ 𝓤 _) $
     enter ! 𝓣.C 𝓣.Λ fn (vptr a.0.ref_ptr.0 a.0.ref_ptr.1 ∷ at_end end) Post $ alloc_all ! (λ l. pass_all ! refl ((tt, tt), (end_good, tt)) $
     sets ! (addr ! (through ! refl (stop !))) refl (tt, tt) $
     calls_at ! (framed 𝓤 H 𝓜 𝓣) G₁ (met₁ 𝓤 𝓛 𝓜 𝓡 (code.calls-ordered_multimap::list_ordered_multimap::ListOrderedMultimap::take_end_on 𝓡.env
@@ -133,9 +126,7 @@ pop_end_spec 𝓤 𝓛 𝓜 𝓡 wired K V S A B LK LV LS LA LB eqs dEq pe dPe h
     (g₂.spec K V S A B eqs dEq pe dPe ha dHa bh dBh hg dHg al dAl dropA dropB 𝓛 𝓜.mem 𝓡.returns) in
     let z₂ : G₂.Ghost = ((κs, qs, bounds, (r.1, tt), (mut_vals r.1, tt)), tt) in
     nothing ! $ move ! (1 ∷ 0 ∷ []) $ fjoin ! $ move ! (2 ∷ 0 ∷ []) $ join ! $ nothing ! $
-    use0 𝓛 (raw (fact 𝓤 inB)) (fact_i 𝓤 inB (emp 𝓤) bo) $ join ! $ use0 𝓛 (raw (fact 𝓤 inA)) (fact_i 𝓤 inA (emp 𝓤) ap') $ join ! $
-    use0 𝓛 (raw (fact 𝓤 inS)) (fact_i 𝓤 inS (emp 𝓤) st) $ join ! $ use0 𝓛 (raw (fact 𝓤 inV)) (fact_i 𝓤 inV (emp 𝓤) w) $ join ! $
-    use0 𝓛 (raw (fact 𝓤 inK)) (fact_i 𝓤 inK (emp 𝓤) k) $ join ! $ move ! (1 ∷ 0 ∷ []) $ use2 𝓛 (raw (G₂.pre z₂)) (id⊢ 𝓤 _) $
+    tells κs.1 K V S A B ! five $ move ! (1 ∷ 0 ∷ []) $ use2 𝓛 (raw (G₂.pre z₂)) (id⊢ 𝓤 _) $
     calls_at ! (framed 𝓤 H 𝓜 𝓣) G₂ (met₂ 𝓤 𝓛 𝓜 𝓡 (code.calls-ordered_multimap::list_ordered_multimap::ListOrderedMultimap::settle 𝓡.env
     wired) K V S A B LK LV LS LA LB eqs dEq pe dPe ha dHa bh dBh hg dHg al dAl dropA dropB mEq mPe mHa mBh mHg mAl mDropA mDropB) z₂
     (and_then ! (get ! refl) (no_more !)) (λ v₂.
@@ -157,9 +148,7 @@ pop_end_spec 𝓤 𝓛 𝓜 𝓡 wired K V S A B LK LV LS LA LB eqs dEq pe dPe h
     let there : IsTaken s.now.slots.keys p r.0 = subst (λ n. IsTaken n.slots.keys p r.0) (sym seen) taken in
     let Asked : Type 0 = (p' : Option (Popped K.Denot V.Denot)) × IsTaken s.now.slots.keys p' r.0 in
     nothing ! $ move ! (4 ∷ 0 ∷ []) $ fjoin ! $ move ! (1 ∷ 0 ∷ []) $ fjoin ! $ move ! (2 ∷ 0 ∷ []) $ join ! $
-    use0 𝓛 (raw (fact 𝓤 Asked)) (fact_i 𝓤 Asked (emp 𝓤) (p, there)) $ use0 𝓛 (raw (fact 𝓤 inB)) (fact_i 𝓤 inB (emp 𝓤) bo) $ join ! $
-    use0 𝓛 (raw (fact 𝓤 inA)) (fact_i 𝓤 inA (emp 𝓤) ap') $ join ! $ use0 𝓛 (raw (fact 𝓤 inS)) (fact_i 𝓤 inS (emp 𝓤) st) $ join ! $
-    use0 𝓛 (raw (fact 𝓤 inV)) (fact_i 𝓤 inV (emp 𝓤) w) $ join ! $ use0 𝓛 (raw (fact 𝓤 inK)) (fact_i 𝓤 inK (emp 𝓤) k) $ join ! $
+    states ! Asked (p, there) $ tells κs.1 K V S A B ! five $
     move ! (1 ∷ 0 ∷ []) $ use2 𝓛 (raw (G₃.pre z₃)) (id⊢ 𝓤 _) $
     calls_at ! (framed 𝓤 H 𝓜 𝓣) G₃ (met₃ 𝓤 𝓛 𝓜 𝓡 (code.calls-ordered_multimap::list_ordered_multimap::ListOrderedMultimap::wrapped 𝓡.env
     wired) K V S A B LK LV LS LA LB eqs dEq pe dPe ha dHa bh dBh hg dHg al dAl dropA dropB mEq mPe mHa mBh mHg mAl mDropA mDropB) z₃
@@ -174,7 +163,7 @@ pop_end_spec 𝓤 𝓛 𝓜 𝓡 wired K V S A B LK LV LS LA LB eqs dEq pe dPe h
     -- [the tokens; the result; the map rests]
     move ! (1 ∷ []) $ peeks ! Out (Is Out) (shows 𝓛 Out) o (v₃ ∷ [])
     (λ is₃. lands_as ! refl refl (((LOut.lawful 𝓛).typed o (v₃ ∷ []) is₃).0) $
-    use0 𝓛 (raw (fact 𝓤 (option_map popped_of o ≡ p))) (fact_i 𝓤 (option_map popped_of o ≡ p) (emp 𝓤) (wraps p there)) $
+    states ! (option_map popped_of o ≡ p) (wraps p there) $
     move ! (3 ∷ 0 ∷ []) $ join ! $ nothing ! $ nothing ! $ fjoin ! $ nothing ! $ fjoin ! $
     returns ! (look_at ! 0 refl) $ free_all ! refl $ keep ! (3 ∷ 0 ∷ 2 ∷ 1 ∷ []) $
-    by ! (leaves 𝓛 En hs c y v₃ o (tt, (tt, tt)) (tt, (tt, tt))))))))))))))))))))))))))))
+    by ! (leaves 𝓛 En hs c y v₃ o (tt, (tt, tt)) (tt, (tt, tt))))))))))))))))))))))))

@@ -1,7 +1,11 @@
-use Rattle.std.proofs.Common.{sym}
-use Rattle.ordered_multimap.proofs.LackLemmas.{removed_lacking}
+use Rattle.ordered_multimap.proofs.LackLemmas.{removes_none}
 use Rattle.ordered_multimap.proofs.list_ordered_multimap.ListOrderedMultimap.remove_entry.Goals as goal
 
-pub returns-in-None-clause-lists : goal.returns-in-None-clause-lists
-returns-in-None-clause-lists g c = sym (removed_lacking g.met.K.Eq.laws c.args.self.now.lists c.args.key.now
-    (rw c.in-None.is at c.look_up.ensures.absent))
+pub returns-in-Some-clause-removed : goal.returns-in-Some-clause-removed
+returns-in-Some-clause-removed g c = record {
+  loses = c.take_entry_at.ensures.removed c.args.key.now (rw c.in-Some.is at c.look_up.ensures.found);
+  rooms = c.take_entry_at.ensures.rooms;
+}
+
+pub returns-in-None-clause-removed : goal.returns-in-None-clause-removed
+returns-in-None-clause-removed g c = removes_none g.met.K.Eq.laws (rw c.in-None.is at c.look_up.ensures.absent)

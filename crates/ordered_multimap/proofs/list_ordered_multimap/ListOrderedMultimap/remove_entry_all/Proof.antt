@@ -1,9 +1,11 @@
--- `remove_entry_all` detaches the values and lends the map to a drain, or gives the map up. Assumes `Logic`.
+-- `remove_entry_all` holds the map for writing, and a key to read. Assumes `Logic`.
+-- It calls `detach_all_on`, which detaches the values of the key, and where there are some `drain`, which lends the map to a drain of them.
+-- It gives back the stored key with that drain and how the map then ends, or nothing, and that the map ends as it is.
 use Rattle.std.proofs.Common.{◌≡◌, List, [], ◌∷◌, refl, sym, ap, ◌∙◌, subst, length, slice_get, option_map, lit<}
 use mir.Syntax.{a_type, dcons, dnil, named, Body}
 use mir.Val.{Val, vptr, vcons, vnil}
 use mir.MapTy.{inst_fn}
-use base.Logic.{SProp, emp, id⊢}
+use base.Logic.{SProp, id⊢}
 use base.Fml.{Fml, GName, ftrue, fres, flft}
 use prog.Wp.{Wp, after_seq, at_return}
 use types.Kit.{‵, raw, ◌⊛◌, some, later, at_ret, any_q, ◌$◌, ◌∵◌, !, qed, by, move, keep, drop, split, join, fsplit3, fjoin, use0, use1}
@@ -13,10 +15,9 @@ use types.ByLocal.{alloc_all, pass_all, free_all, look_at, get, get_in, get_tag,
 use types.Match.{live, vrt, in_variant}
 use types.Part.{agg, whole, sub}
 use types.Tokens.{name_done}
-use contract.BorrowLft.{◌⊑◌}
 use contract.Lifetimes.{toks}
 use contract.Running.{tables}
-use contract.Monad.{fact, fact_i}
+use contract.Monad.{fact}
 use denote.Builtin.{RefOf}
 use denote.Exit.{no, yes}
 use denote.Follow.{follows}
@@ -51,6 +52,7 @@ use Rattle.ordered_multimap.specs.Pairs.{values_of}
 use Rattle.ordered_multimap.specs.Rooms.{SameRooms}
 use Rattle.ordered_multimap.specs.TapeNumbers.{TakesOut}
 use Rattle.ordered_multimap.proofs.Options.{option_out}
+use Rattle.ordered_multimap.proofs.Outlived.{told, hears, tells, states}
 use Rattle.ordered_multimap.proofs.Pairs.{both, both_typed, pair_in, pair_out}
 use Rattle.ordered_multimap.proofs.Rested.{follows_itself, so_some, so_none}
 use Rattle.ordered_multimap.specs.contracts.list_ordered_multimap.ListOrderedMultimap as Map
@@ -97,8 +99,6 @@ remove_entry_all_spec 𝓤 𝓛 𝓜 𝓡 wired K V S A B LK LV LS LA LB eqs dEq
     let LDr : Laws Dr = Drain-laws.the_row_laws ℓ Kr Vr (param 2 S) (param 3 A) (param 4 B) pe ha bh hg al LKr (param_laws 1 V LV)
     (param_laws 2 S LS) (param_laws 3 A LA) (param_laws 4 B LB) in
     let Tw : RattleType = Tuple (Kr ∷ Dr ∷ []) in let Out : RattleType = Opt Tw in
-    let inK : Type 0 = κs.1.1.0 ⊑ K.lives in let inV : Type 0 = κs.1.1.1.0 ⊑ V.lives in let inS : Type 0 = κs.1.1.1.1.0 ⊑ S.lives in
-    let inA : Type 0 = κs.1.1.1.1.1.0 ⊑ A.lives in let inB : Type 0 = κs.1.1.1.1.1.1.0 ⊑ B.lives in
     let others = raw (toks 𝓛 5 κs.1.1 qs.1.1) in let alive = ‵ (flft κs.0 qs.0) ⊛ ‵ (flft κs.1.0 qs.1.0) ⊛ others in
     let Rest : Out.Denot → Fml = λ out. ends_removed Kr Vr (param 2 S) (param 3 A) (param 4 B) pe ha bh hg al a.0 out in
     let HasKey : Out.Denot → Type 0 = λ out. option_map (λ x. x.0) out ≡ stored in let Drains : Out.Denot
@@ -110,12 +110,9 @@ remove_entry_all_spec 𝓤 𝓛 𝓜 𝓡 wired K V S A B LK LV LS LA LB eqs dEq
     (g₁.spec K V S A B eqs dEq pe dPe ha dHa bh dBh hg dHg al dAl dropA dropB 𝓛 𝓜.mem 𝓡.returns) in
     let z₁ : G₁.Ghost = ((κs, qs, bounds, a, (mut_vals a.0, (shr_vals a.1.0, tt))), gh) in
     qed 𝓛 (raw (on_entry 𝓛 En.signature κs qs a (mut_vals a.0, (shr_vals a.1.0, tt))) ∷
-    (raw (fact 𝓤 inK) ⊛ raw (fact 𝓤 inV) ⊛ raw (fact 𝓤 inS) ⊛ raw (fact 𝓤 inA) ⊛ raw (fact 𝓤 inB) ⊛ ‵ ftrue) ∷ []) ∵
-    move ! (1 ∷ []) $ split ! $ heard ! inK (λ k. split ! $
-    heard ! inV (λ w. split ! $ heard ! inS (λ st. split ! $ heard ! inA (λ ap'. split ! $ heard ! inB (λ bo. drop ! $
-    nothing ! $ use0 𝓛 (raw (fact 𝓤 inB)) (fact_i 𝓤 inB (emp 𝓤) bo) $ join ! $ use0 𝓛 (raw (fact 𝓤 inA)) (fact_i 𝓤 inA (emp 𝓤) ap') $
-    join ! $ use0 𝓛 (raw (fact 𝓤 inS)) (fact_i 𝓤 inS (emp 𝓤) st) $ join ! $ use0 𝓛 (raw (fact 𝓤 inV)) (fact_i 𝓤 inV (emp 𝓤) w) $
-    join ! $ use0 𝓛 (raw (fact 𝓤 inK)) (fact_i 𝓤 inK (emp 𝓤) k) $ join ! $
+    told κs.1.1 K V S A B (‵ ftrue) ∷ []) ∵
+    move ! (1 ∷ []) $ hears κs.1.1 K V S A B ! (λ five.
+    nothing ! $ tells κs.1.1 K V S A B ! five $
     move ! (1 ∷ 0 ∷ []) $ use2 𝓛 (raw (G₁.pre z₁)) (id⊢ 𝓤 _) $
     enter ! 𝓣.C 𝓣.Λ fn (vptr a.0.ref_ptr.0 a.0.ref_ptr.1 ∷ vptr a.1.0.ref_ptr.0 a.1.0.ref_ptr.1 ∷ []) Post $
     alloc_all ! (λ l. pass_all ! refl ((tt, tt), ((tt, tt), tt)) $ let Ev = env fn.locals l in
@@ -161,9 +158,9 @@ remove_entry_all_spec 𝓤 𝓛 𝓜 𝓡 wired K V S A B LK LV LS LA LB eqs dEq
     fsplit3 ! $ drop ! $ name_done ! tt $ rewrite ! 0 (λ (δ : GName). ‵ (fres δ (R.coded.code r.1.now))) same refl $
     use1 𝓛 (‵ (Rest out)) (so_none 𝓛 R R γ γ (Shows out) (Keeps out) (λ w. w) r.1.now (λ w. tt) kept) $
     -- [the map rests; its borrow; the tokens]
-    use0 𝓛 (raw (fact 𝓤 (Same out))) (fact_i 𝓤 (Same out) (emp 𝓤) tt) $
-    use0 𝓛 (raw (fact 𝓤 (Drains out))) (fact_i 𝓤 (Drains out) (emp 𝓤) tt) $ join ! $
-    use0 𝓛 (raw (fact 𝓤 (HasKey out))) (fact_i 𝓤 (HasKey out) (emp 𝓤) (sym no_key ∙ key_is)) $ join ! $
+    states ! (Same out) tt $
+    states ! (Drains out) tt $ join ! $
+    states ! (HasKey out) (sym no_key ∙ key_is) $ join ! $
     move ! (1 ∷ 0 ∷ []) $ join ! $ use0 𝓛 (‵ (Out.own_val out (none ∷ []))) (none_of 𝓛 Tw) $ nothing ! $ nothing ! $ fjoin ! $ nothing ! $
     fjoin ! $
     returns ! (look_at ! 0 refl) $ free_all ! refl $ keep ! (4 ∷ 0 ∷ 1 ∷ 2 ∷ []) $
@@ -193,10 +190,8 @@ remove_entry_all_spec 𝓤 𝓛 𝓜 𝓡 wired K V S A B LK LV LS LA LB eqs dEq
     let alive₂ = ‵ (flft κs.0 qs.0) ⊛ others in
     move ! (2 ∷ []) $ split ! $ move ! (1 ∷ []) $ split ! $ move ! (2 ∷ 1 ∷ []) $ join ! $ nothing ! $ move ! (4 ∷ 0 ∷ []) $ fjoin ! $
     move ! (1 ∷ 0 ∷ []) $ join ! $
-    use0 𝓛 (raw (fact 𝓤 (HoldsDrain r.1.now))) (fact_i 𝓤 (HoldsDrain r.1.now) (emp 𝓤) holds) $
-    use0 𝓛 (raw (fact 𝓤 inB)) (fact_i 𝓤 inB (emp 𝓤) bo) $ join ! $ use0 𝓛 (raw (fact 𝓤 inA)) (fact_i 𝓤 inA (emp 𝓤) ap') $ join ! $
-    use0 𝓛 (raw (fact 𝓤 inS)) (fact_i 𝓤 inS (emp 𝓤) st) $ join ! $ use0 𝓛 (raw (fact 𝓤 inV)) (fact_i 𝓤 inV (emp 𝓤) w) $ join ! $
-    use0 𝓛 (raw (fact 𝓤 inK)) (fact_i 𝓤 inK (emp 𝓤) k) $ join ! $
+    states ! (HoldsDrain r.1.now) holds $
+    tells κs.1.1 K V S A B ! five $
     move ! (1 ∷ 0 ∷ []) $ use2 𝓛 (raw (G₂.pre z₂)) (id⊢ 𝓤 _) $
     calls_at ! (framed 𝓤 H 𝓜 𝓣) G₂ (met₂ 𝓤 𝓛 𝓜 𝓡 (code.calls-ordered_multimap::list_ordered_multimap::ListOrderedMultimap::drain 𝓡.env
     wired) K V S A B LK LV LS LA LB eqs dEq pe dPe ha dHa bh dBh hg dHg al dAl dropV dropA dropB mEq mPe mHa mBh mHg mAl mDropV mDropA
@@ -231,10 +226,10 @@ remove_entry_all_spec 𝓤 𝓛 𝓜 𝓡 wired K V S A B LK LV LS LA LB eqs dEq
       rooms = subst (λ n. SameRooms m₀ n) (sym now) rooms;
       taken = subst (λ n. TakesOut (length values) m₀.tape n.tape) (sym now) taken;
     } in
-    use0 𝓛 (raw (fact 𝓤 (Same out))) (fact_i 𝓤 (Same out) (emp 𝓤) (again ∙ same)) $
-    use0 𝓛 (raw (fact 𝓤 (Drains out))) (fact_i 𝓤 (Drains out) (emp 𝓤) drains) $ join ! $
-    use0 𝓛 (raw (fact 𝓤 (HasKey out))) (fact_i 𝓤 (HasKey out) (emp 𝓤) (sym some_key ∙ key_is)) $ join ! $
+    states ! (Same out) (again ∙ same) $
+    states ! (Drains out) drains $ join ! $
+    states ! (HasKey out) (sym some_key ∙ key_is) $ join ! $
     -- [the facts; the map follows; the result; the tokens]
     move ! (1 ∷ 0 ∷ []) $ join ! $ nothing ! $ nothing ! $ fjoin ! $ nothing ! $ fjoin ! $
     returns ! (look_at ! 0 refl) $ free_all ! refl $ keep ! (3 ∷ 0 ∷ 2 ∷ 1 ∷ []) $
-    by ! (leaves 𝓛 En hs c y made out (tt, (tt, tt)) (tt, (tt, tt))))))))))))))))))))))))))))))
+    by ! (leaves 𝓛 En hs c y made out (tt, (tt, tt)) (tt, (tt, tt))))))))))))))))))))))))))

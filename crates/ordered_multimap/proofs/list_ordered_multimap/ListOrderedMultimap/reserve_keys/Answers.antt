@@ -1,8 +1,9 @@
-use Rattle.std.proofs.Common.{◌≤◌, ◌+◌, IsOk, OnOk, arith, length, subst}
+use Rattle.std.proofs.Common.{◌≤◌, ◌+◌, IsOk, OnOk, ap, arith, length, subst}
 use Rattle.std.proofs.lemmas.Result.{on_ok_weaker}
-use Rattle.ordered_multimap.specs.Rooms.{DoublesRooms, SameRooms}
+use Rattle.ordered_multimap.specs.Agrees.{lists_of}
+use Rattle.ordered_multimap.specs.Rooms.{OnlyGrows, SameRooms}
 use Rattle.ordered_multimap.proofs.ReserveLemmas.{fits_keys, keys_fit, same_key_rooms}
-use Rattle.ordered_multimap.proofs.RoomLemmas.{map_of}
+use Rattle.ordered_multimap.proofs.RoomLemmas.{keeps_rooms, map_of}
 use Rattle.ordered_multimap.proofs.list_ordered_multimap.ListOrderedMultimap.reserve_keys.Goals as goal
 
 pub returns-clause-room : goal.returns-clause-room
@@ -28,8 +29,13 @@ returns-clause-had_room g c =
     (same_key_rooms c.self.inside.keys c.self.inside.values c.self.invariant.agrees c.self.inside.table.capacity c.self.inside.state
     c.self.inside.left c.args.additional c.make_key_room.ensures.grows)
 
-pub returns-clause-doubles : goal.returns-clause-doubles
-returns-clause-doubles g c =
-    subst (λ m. DoublesRooms m (map_of c.make_key_room.new.keys c.make_key_room.new.table.capacity c.self.inside.values c.self.inside.state
+pub returns-clause-grows : goal.returns-clause-grows
+returns-clause-grows g c =
+    subst (λ m. OnlyGrows m (map_of c.make_key_room.new.keys c.make_key_room.new.table.capacity c.self.inside.values c.self.inside.state
     c.self.inside.left)) c.self.view_is
-    (record { keys = c.make_key_room.ensures.grows.doubles; values = λ more. absurd (omega (arith, more)) })
+    (record {
+      lists = ap (λ s. lists_of s c.self.inside.values.list) c.make_key_room.ensures.same_keys;
+      rooms = keeps_rooms _ _ _ _ _ _ _ _ _ _ _ _ _ c.make_key_room.ensures.grows.more_keys c.make_key_room.ensures.grows.more_rows
+          (omega arith);
+      doubles = record { keys = c.make_key_room.ensures.grows.doubles; values = λ more. absurd (omega (arith, more)) };
+    })

@@ -1,8 +1,9 @@
 use Rattle.std.proofs.Common.{◌≤◌, ◌+◌, IsOk, OnOk, ap, length, refl, arith, subst}
 use Rattle.std.proofs.lemmas.Result.{on_ok_weaker}
-use Rattle.ordered_multimap.specs.Rooms.{DoublesRooms, SameRooms}
+use Rattle.ordered_multimap.specs.Agrees.{lists_of}
+use Rattle.ordered_multimap.specs.Rooms.{OnlyGrows, SameRooms}
 use Rattle.ordered_multimap.proofs.ReserveLemmas.{agrees-widened, fits_values, values_fit, same_value_rooms}
-use Rattle.ordered_multimap.proofs.RoomLemmas.{half_doubles, map_of}
+use Rattle.ordered_multimap.proofs.RoomLemmas.{half_doubles, keeps_rooms, map_of}
 use Rattle.ordered_multimap.proofs.list_ordered_multimap.ListOrderedMultimap.reserve_values.Goals as goal
 
 pub invariant_of-self : goal.invariant_of-self
@@ -36,8 +37,12 @@ returns-clause-had_room g c =
     (same_value_rooms c.self.inside.keys c.self.inside.values c.self.invariant.agrees c.self.inside.table.capacity c.self.inside.state
     c.self.inside.left c.args.additional c.reserve.ensures.had_room)
 
-pub returns-clause-doubles : goal.returns-clause-doubles
-returns-clause-doubles g c =
-    subst (λ m. DoublesRooms m (map_of c.self.inside.keys c.self.inside.table.capacity c.reserve.new.self c.self.inside.state
+pub returns-clause-grows : goal.returns-clause-grows
+returns-clause-grows g c =
+    subst (λ m. OnlyGrows m (map_of c.self.inside.keys c.self.inside.table.capacity c.reserve.new.self c.self.inside.state
     c.self.inside.left)) c.self.view_is
-    (record { keys = λ more. absurd (omega (arith, more)); values = half_doubles _ _ c.reserve.ensures.doubles })
+    (record {
+      lists = ap (λ t. lists_of c.self.inside.keys t.list) c.reserve.ensures.unchanged;
+      rooms = keeps_rooms _ _ _ _ _ _ _ _ _ _ _ _ _ (omega arith) (omega arith) c.reserve.ensures.capacity;
+      doubles = record { keys = λ more. absurd (omega (arith, more)); values = half_doubles _ _ c.reserve.ensures.doubles };
+    })

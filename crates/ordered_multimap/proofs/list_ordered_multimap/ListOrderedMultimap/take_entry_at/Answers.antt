@@ -5,12 +5,11 @@ use Rattle.ordered_multimap.specs.Keys.{stored_key}
 use Rattle.ordered_multimap.specs.Changes.{removed}
 use Rattle.ordered_multimap.specs.TapeNumbers.{TakesOut, numbers_of}
 use Rattle.ordered_multimap.specs.Agrees.{HasKey}
-use Rattle.ordered_multimap.specs.KeySteps.{LosesValues}
-use Rattle.ordered_multimap.proofs.LeavesLemmas.{has_chain}
+use Rattle.ordered_multimap.specs.Removals.{LosesValues}
+use Rattle.ordered_multimap.proofs.LeavesLemmas.{has_chain, map_left}
 use Rattle.ordered_multimap.proofs.RoomLemmas.{map_of}
 use Rattle.ordered_multimap.proofs.LookupLemmas.{own_key}
-use Rattle.ordered_multimap.proofs.AppendedLemmas.{stays_paid}
-use Rattle.ordered_multimap.proofs.TakeLemmas.{agrees-taken, lists_of-taken, entry_is, entry_count, fits-taken}
+use Rattle.ordered_multimap.proofs.TakeLemmas.{lists_of-taken, entry_is, entry_count}
 use Rattle.ordered_multimap.proofs.list_ordered_multimap.ListOrderedMultimap.take_entry_at.Goals as goal
 
 pub leave_entry-key-requires-clause-stands : goal.leave_entry-key-requires-clause-stands
@@ -23,16 +22,9 @@ leave_entry-key-requires-clause-row g c = λ l is. c.self.invariant.agrees.in_ta
 
 pub invariant_of-self : goal.invariant_of-self
 invariant_of-self g c =
-    let t = c.leave_entry-key.ensures in
     let own = own_key g.met.K.Eq.laws c.self.invariant.agrees c.args.place
     (subst (λ m. IsIn c.args.place m.slots.keys.order) (sym c.self.view_is) c.requires) in
-    record {
-      agrees =
-          agrees-taken g.met.K.Eq.laws c.self.invariant.agrees own.0 c.args.place own.1
-          t.entry.taken t.entry.removed c.leave_entry-key.new.table.rows t.entry.rows_are;
-      fits = fits-taken c.self.inside.values c.leave_entry-key.new.values t.entry.taken c.self.invariant.fits;
-      paid = stays_paid t.counts c.self.invariant.paid;
-    }
+    map_left g.met.K.Eq.laws c.self.invariant own.0 c.args.place own.1 c.leave_entry-key.ensures
 
 pub returns-clause-entry : goal.returns-clause-entry
 returns-clause-entry g c =

@@ -1,10 +1,10 @@
-use Rattle.std.proofs.Common.{◌/◌, length, sym, ap, subst, arith}
+use Rattle.std.proofs.Common.{sym, subst}
 use Rattle.multimap_walks.specs.Chained.{pairs_of}
 use Rattle.ordered_multimap.specs.Agrees.{HasKey}
 use Rattle.ordered_multimap.specs.Pairs.{values_of}
 use Rattle.ordered_multimap.specs.Updates.{CallableOnEach, UpdatesKey}
 use Rattle.ordered_multimap.proofs.RewriteLemmas.{chain_callable, chain_updated}
-use Rattle.ordered_multimap.proofs.UpdatesLemmas.{absent_updated, key_stepwise}
+use Rattle.ordered_multimap.proofs.UpdatesLemmas.{map_kept, absent_updated, key_stepwise}
 use Rattle.ordered_multimap.proofs.list_ordered_multimap.ListOrderedMultimap.update_all.Goals as goal
 
 pub rewrite_chain-requires-clause-callable : goal.rewrite_chain-requires-clause-callable
@@ -15,13 +15,7 @@ rewrite_chain-requires-clause-callable g c =
     (subst (λ m. CallableOnEach g.F.FnMut c.args.f (values_of eq m.lists.pairs k)) (sym c.self.view_is) c.requires)
 
 pub invariant_of-self : goal.invariant_of-self
-invariant_of-self g c =
-    let t = c.rewrite_chain.ensures in
-    record {
-      agrees = t.agrees _ c.self.invariant.agrees;
-      fits = omega (arith, ap length t.order, c.self.invariant.fits, ap (λ n. n / 2) t.capacity);
-      paid = omega (arith, c.self.invariant.paid, t.moved, t.freed, t.holes);
-    }
+invariant_of-self g c = map_kept c.self.invariant c.rewrite_chain.ensures.kept
 
 pub returns-in-Some-clause-updated : goal.returns-in-Some-clause-updated
 returns-in-Some-clause-updated g c =

@@ -10,7 +10,7 @@ append_clone-requires-clause-value_room g c =
       value_fits g.met.K.Eq.laws g.K.Clone.is_clone g.V.Clone.is_clone _ _ _ _ _ c.in-Some.ensures.steps
           w.cloning,
       c.requires.value_room,
-      w.rooms.values,
+      w.keeps.rooms.values,
     )
 
 pub append_clone-requires-clause-key_room : goal.append_clone-requires-clause-key_room
@@ -21,7 +21,7 @@ append_clone-requires-clause-key_room g c =
       key_fits g.met.K.Eq.laws g.K.Clone.is_clone g.V.Clone.is_clone _ _ _ _ _ c.in-Some.ensures.steps w.cloning
           absent,
       c.requires.key_room,
-      w.rooms.keys,
+      w.keeps.rooms.keys,
     )
 
 pub returns-in_err-append_clone-clause-succeeds : goal.returns-in_err-append_clone-clause-succeeds

@@ -2,8 +2,7 @@ use Rattle.std.proofs.Common.{◌≡◌, [], true}
 use Rattle.std.specs.Map.{keys_of}
 use Rattle.multimap_slots.specs.Lists.{IsIn}
 use Rattle.ordered_multimap.specs.Changes.{built_from}
-use Rattle.ordered_multimap.specs.Rooms.{KeepsRooms}
-use Rattle.ordered_multimap.specs.TapeNumbers.{TakesOut}
+use Rattle.ordered_multimap.specs.Rooms.{KeepsRoomsAndPairs}
 use Rattle.ordered_multimap.proofs.CloneLemmas.{IsCloning}
 use Rattle.ordered_multimap.proofs.list_ordered_multimap.clone.append_clones.Given as goal
 
@@ -13,6 +12,5 @@ invariant-loop-key g l = record {
       (built_from g.K.PartialEq.eq l.fn.left) l.key-iterator l.copy.lists;
   keys : (k c : g.row.K.Denot) → IsIn k (keys_of l.key-iterator) → g.K.Clone.is_clone k c → g.K.PartialEq.eq k c ≡ true;
   none : l.fn.left ≡ [] → l.key-iterator ≡ [];
-  rooms : KeepsRooms l.fn.copy l.copy;
-  taken : TakesOut 0 l.fn.copy.tape l.copy.tape;
+  keeps : KeepsRoomsAndPairs l.fn.copy l.copy;
 }

@@ -1,7 +1,7 @@
 use Rattle.std.proofs.Common.{◌≡◌, map, length, refl, sym, ap, ◌∙◌, subst, arith, add-one, unwrap_or}
 use Rattle.multimap_slots.specs.Lists.{IsIn, next_of}
 use Rattle.ordered_multimap.specs.Renames.{places_below, renamed}
-use Rattle.ordered_multimap.proofs.RenameLemmas.{keys_sound-renamed, chained-renamed}
+use Rattle.ordered_multimap.proofs.RenameLemmas.{chains-renamed}
 use Rattle.ordered_multimap.proofs.CompactLemmas.{settled-start, settled-next, next-listed, next-holes, settled-stay, settled-move}
 use Rattle.ordered_multimap.proofs.CompactLemmas.{settled-end, settled-all, renamed-room, renames-then, renames-cut}
 use Rattle.std.proofs.lemmas.List.{length-map}
@@ -10,7 +10,7 @@ use Rattle.ordered_multimap.proofs.list_ordered_multimap.compact.compact.Goals.{
 
 pub loop-to-init : goal.loop-to-init
 loop-to-init g c = record {
-  renamed = renamed-room _ _ _ _ c.requires.keys_sound c.len-count.ensures.sound refl refl (omega arith) (omega arith);
+  renamed = renamed-room _ _ _ _ c.requires.chains.keys_sound c.requires.chains.sound refl refl (omega arith) (omega arith);
   settled = settled-start _ _ c.front_place-following.ensures;
   same_length = sym c.len-count.ensures.len;
   moved = omega arith;
@@ -20,15 +20,8 @@ loop-to-init g c = record {
   keys_capacity = refl;
 }
 
-pub move_value-requires-clause-keys_sound : goal.move_value-requires-clause-keys_sound
-move_value-requires-clause-keys_sound g c =
-    let r = c.loop-to.invariant.renamed in
-    keys_sound-renamed r.name c.requires.keys_sound c.len-count.ensures.sound c.requires.chained r.renames
-
-pub move_value-requires-clause-chained : goal.move_value-requires-clause-chained
-move_value-requires-clause-chained g c =
-    let r = c.loop-to.invariant.renamed in
-    chained-renamed r.name c.requires.keys_sound c.len-count.ensures.sound c.requires.chained r.renames
+pub move_value-requires-clause-chains : goal.move_value-requires-clause-chains
+move_value-requires-clause-chains g c = chains-renamed c.requires.chains c.loop-to.invariant.renamed
 
 pub move_value-requires-clause-listed : goal.move_value-requires-clause-listed
 move_value-requires-clause-listed g c =

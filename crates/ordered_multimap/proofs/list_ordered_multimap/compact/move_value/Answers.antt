@@ -6,29 +6,29 @@ use Rattle.ordered_multimap.proofs.list_ordered_multimap.compact.move_value.Goal
 
 pub set_next-requires : goal.set_next-requires
 set_next-requires g c =
-    before_listed c.requires.keys_sound c.link_of-link.ensures.sound c.requires.chained c.args.from c.link_of-link.result c.requires.listed
+    before_listed c.requires.chains.keys_sound c.requires.chains.sound c.requires.chains.chained c.args.from c.link_of-link.result c.requires.listed
     c.link_of-link.ensures.link c.args.to _ c.move_down.ensures.moved
 
 pub set_previous-requires : goal.set_previous-requires
 set_previous-requires g c =
     subst (λ ps. IfSome c.link_of-link.result.next (λ p. IsIn p ps)) (sym (ap (λ t. t.list.order) c.set_next.ensures.rest))
-    (behind_listed c.requires.keys_sound c.link_of-link.ensures.sound c.requires.chained c.args.from c.link_of-link.result c.requires.listed
+    (behind_listed c.requires.chains.keys_sound c.requires.chains.sound c.requires.chains.chained c.args.from c.link_of-link.result c.requires.listed
     c.link_of-link.ensures.link c.args.to _ c.move_down.ensures.moved)
 
 pub returns-clause-renames : goal.returns-clause-renames
 returns-clause-renames g c =
-    let sound = c.link_of-link.ensures.sound in
-    renames-moved c.requires.keys_sound sound c.requires.chained
-    (moves-value c.requires.keys_sound sound c.requires.chained c.args.from c.link_of-link.result c.requires.listed
+    let h = c.requires.chains in
+    renames-moved h.keys_sound h.sound h.chained
+    (moves-value h.keys_sound h.sound h.chained c.args.from c.link_of-link.result c.requires.listed
     c.link_of-link.ensures.link c.args.to _ _ _
     c.move_down.ensures.moved c.move_down.ensures.capacity c.set_next.ensures c.set_previous.ensures _ c.mend_ends.ensures.mended)
 
 pub mend_ends-requires-clause-listed : goal.mend_ends-requires-clause-listed
 mend_ends-requires-clause-listed g c =
-    owner_listed c.requires.keys_sound c.link_of-link.ensures.sound c.requires.chained c.args.from c.link_of-link.result c.requires.listed
+    owner_listed c.requires.chains.keys_sound c.requires.chains.sound c.requires.chains.chained c.args.from c.link_of-link.result c.requires.listed
     c.link_of-link.ensures.link
 
 pub mend_ends-requires-clause-between : goal.mend_ends-requires-clause-between
 mend_ends-requires-clause-between g c =
-    ends-kept c.requires.keys_sound c.link_of-link.ensures.sound c.requires.chained c.args.from c.link_of-link.result c.requires.listed
+    ends-kept c.requires.chains.keys_sound c.requires.chains.sound c.requires.chains.chained c.args.from c.link_of-link.result c.requires.listed
     c.link_of-link.ensures.link c.args.to

@@ -1,5 +1,6 @@
-use Rattle.std.proofs.Common.{◌-◌, ◌+◌, refl, ◌∙◌, arith}
+use Rattle.std.proofs.Common.{◌-◌, ◌+◌, arith}
 use Rattle.ordered_multimap.proofs.DrainLemmas.{drained-length, first_detached, first_rest, keeps_slots, keeps_all, keeps_more}
+use Rattle.ordered_multimap.proofs.StepLemmas.{room_on, room_same}
 use Rattle.ordered_multimap.proofs.list_ordered_multimap.drain_steps.drop_chain.Goals as goal
 
 pub loop-init : goal.loop-init
@@ -8,10 +9,7 @@ loop-init g c =
     record {
       left = drained-length e.first e.last e.length (e.length - 0) (omega arith) c.requires;
       kept = keeps_all;
-      moved = refl;
-      freed = refl;
-      holes = refl;
-      capacity = refl;
+      room = room_same;
     }
 
 pub get_detached-requires : goal.get_detached-requires
@@ -33,8 +31,5 @@ loop-preserved g c =
       kept = keeps_more w.kept (keeps_slots c.len-len.ensures.sound
           (first_detached (record { first = c.loop.place; last = e.last; length = e.length - c.loop.counter }) ∣ w.left ∣₁
           (e.length - (c.loop.counter + 1)) (omega (arith, c.loop-test.true))) t.taken);
-      moved = t.counts.moved ∙ w.moved;
-      freed = t.counts.freed ∙ w.freed;
-      holes = t.counts.holes ∙ w.holes;
-      capacity = t.capacity ∙ w.capacity;
+      room = room_on w.room t.counts t.capacity;
     }

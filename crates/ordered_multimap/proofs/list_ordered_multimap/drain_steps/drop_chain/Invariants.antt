@@ -1,4 +1,5 @@
-use Rattle.std.proofs.Common.{◌≡◌, ◌-◌}
+use Rattle.std.proofs.Common.{◌-◌}
+use Rattle.ordered_multimap.specs.Appends.{KeepsTapeRoom}
 use Rattle.ordered_multimap.specs.Detaches.{IsDrained, KeepsSlots}
 use Rattle.ordered_multimap.proofs.list_ordered_multimap.drain_steps.drop_chain.Given as goal
 
@@ -6,8 +7,5 @@ abbrev pub invariant-loop : goal.invariant-loop
 invariant-loop g l = record {
   left : IsDrained l.values.list (record { first = l.place; last = l.fn.ends.last; length = l.fn.ends.length - l.counter });
   kept : KeepsSlots l.fn.values.list l.values.list;
-  moved : l.values.moved ≡ l.fn.values.moved;
-  freed : l.values.freed ≡ l.fn.values.freed;
-  holes : l.values.holes ≡ l.fn.values.holes;
-  capacity : l.values.list.capacity ≡ l.fn.values.list.capacity;
+  room : KeepsTapeRoom l.fn.values l.values;
 }

@@ -1,21 +1,15 @@
 use Rattle.std.proofs.Common.{◌∙◌, sym, subst, arith}
 use Rattle.multimap_slots.specs.Slots.{DoublesIfGrown}
-use Rattle.ordered_multimap.proofs.RenameLemmas.{keys_sound-renamed}
 use Rattle.ordered_multimap.proofs.InsertLemmas.{chain-renamed, inserts-over, over_keys, over_values}
 use Rattle.ordered_multimap.proofs.list_ordered_multimap.insert.insert_behind_all.Goals as goal
 
 pub push_over-requires-clause-stands : goal.push_over-requires-clause-stands
-push_over-requires-clause-stands g c = chain-renamed c.requires.keys_sound c.requires.stands c.make_value_room.ensures.renamed
-
-pub push_over-requires-clause-keys_sound : goal.push_over-requires-clause-keys_sound
-push_over-requires-clause-keys_sound g c =
-    let s = c.requires.stands in let r = c.make_value_room.ensures.renamed in
-    keys_sound-renamed r.name c.requires.keys_sound s.sound s.chained r.renames
+push_over-requires-clause-stands g c = chain-renamed c.requires.stands c.make_value_room.ensures.renamed
 
 pub returns-clause-ok : goal.returns-clause-ok
 returns-clause-ok g c =
     let e = c.make_value_room.ensures in
-    inserts-over c.requires.keys_sound c.requires.stands e.renamed e.values.taken (e.values.fits c.requires.fits) c.push_over.ensures
+    inserts-over c.requires.stands e.renamed e.values.taken (e.values.fits c.requires.fits) c.push_over.ensures
 
 pub returns-clause-grows : goal.returns-clause-grows
 returns-clause-grows g c =

@@ -9,8 +9,7 @@ loop-place-init g c = record {
   going = going-start _ _ _ c.requires.no_key;
   rows = rows-start _ _ c.requires.no_key c.requires.no_row;
   names = refl;
-  keys_capacity = refl;
-  rows_capacity = refl;
+  rooms = record { key_room = refl; row_room = refl };
 }
 
 pub move_key-requires-clause-within : goal.move_key-requires-clause-within
@@ -29,6 +28,5 @@ loop-place-preserved g c =
           (omega (arith, w.names, c.requires.within c.in-Some.place (going-listed w.going first)));
       rows = rows-step m.moved w.rows;
       names = ap length m.moved.names_are ∙ length-set _ _ _ ∙ w.names;
-      keys_capacity = m.keys_capacity ∙ w.keys_capacity;
-      rows_capacity = m.rows_capacity ∙ w.rows_capacity;
+      rooms = record { key_room = m.rooms.key_room ∙ w.rooms.key_room; row_room = m.rooms.row_room ∙ w.rooms.row_room };
     }

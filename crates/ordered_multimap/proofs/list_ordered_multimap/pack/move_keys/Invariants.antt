@@ -1,5 +1,6 @@
 use Rattle.std.proofs.Common.{◌≡◌, length}
 use Rattle.ordered_multimap.specs.KeyRenames.{HasRows}
+use Rattle.ordered_multimap.specs.Takes.{KeepsKeyRoom}
 use Rattle.ordered_multimap.proofs.PackLemmas.{AreGoing}
 use Rattle.ordered_multimap.proofs.list_ordered_multimap.pack.move_keys.Given as goal
 
@@ -8,8 +9,7 @@ invariant-loop-place g l = record {
   going : AreGoing l.names.items l.fn.keys l.keys l.packed;
   rows : HasRows l.packed l.table.rows;
   names : length l.names.items ≡ length l.fn.names.items;
-  keys_capacity : l.packed.capacity ≡ l.fn.packed.capacity;
-  rows_capacity : l.table.capacity ≡ l.fn.table.capacity;
+  rooms : KeepsKeyRoom l.fn.packed l.packed l.fn.table l.table;
 }
 
 abbrev pub decreases-loop-place : goal.decreases-loop-place

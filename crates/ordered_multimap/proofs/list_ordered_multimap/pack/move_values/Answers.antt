@@ -1,15 +1,15 @@
-use Rattle.std.proofs.Common.{◌≡◌, ◌<◌, length, get_or, add-one, sym, ◌∙◌, subst, refl, arith}
+use Rattle.std.proofs.Common.{◌≡◌, ◌<◌, length, get_or, add-one, sym, ◌∙◌, subst, arith}
 use Rattle.std.proofs.lemmas.List.{get_or_default}
 use Rattle.multimap_slots.specs.Slots.{PushesBack}
 use Rattle.multimap_walks.specs.declared.links.ValueLink.{ValueLink}
 use Rattle.ordered_multimap.proofs.PackLemmas.{coming-start, coming-step, come_length, coming-end, next_there, was_there}
+use Rattle.ordered_multimap.proofs.StepLemmas.{room_on, room_same}
 use Rattle.ordered_multimap.proofs.list_ordered_multimap.pack.move_values.Goals as goal
 
 pub loop-place-init : goal.loop-place-init
 loop-place-init g c = record {
   coming = coming-start _ _ _ c.requires.no_value;
-  counts = record { moved = refl; freed = refl; holes = refl };
-  capacity = refl;
+  room = room_same;
 }
 
 pub take_listed-value-requires : goal.take_listed-value-requires
@@ -38,9 +38,9 @@ push_reserved-requires g c =
       arith,
       come_length w.coming
           c.requires.settled,
-      w.counts.holes,
+      w.room.counts.holes,
       c.requires.no_hole,
-      w.capacity,
+      w.room.capacity,
       c.requires.room,
       c.loop-place-test.true,
       c.loop-place.auto.place-end,
@@ -65,13 +65,8 @@ loop-place-preserved g c =
           coming-step w.coming c.requires.settled t.removed t.link
           (subst (λ k. PushesBack c.loop-place.packed.list c.push_reserved.new.self.list c.push_reserved.result c.take_listed-value.result.0
           (record link { key = k })) key_is p.pushed)
-          (omega (arith, p.behind, come_length w.coming c.requires.settled, w.counts.holes, c.requires.no_hole));
-      counts = record {
-        moved = p.counts.moved ∙ w.counts.moved;
-        freed = p.counts.freed ∙ w.counts.freed;
-        holes = p.counts.holes ∙ w.counts.holes;
-      };
-      capacity = p.capacity ∙ w.capacity;
+          (omega (arith, p.behind, come_length w.coming c.requires.settled, w.room.counts.holes, c.requires.no_hole));
+      room = room_on w.room p.counts p.capacity;
     })
 
 pub returns-clause-come : goal.returns-clause-come

@@ -1,5 +1,4 @@
-use Rattle.std.proofs.Common.{◌≡◌}
-use Rattle.multimap_slots.specs.Tapes.{KeepsCounts}
+use Rattle.ordered_multimap.specs.Appends.{KeepsTapeRoom}
 use Rattle.ordered_multimap.specs.KeyRenames.{name_in}
 use Rattle.ordered_multimap.proofs.PackLemmas.{AreComing}
 use Rattle.ordered_multimap.proofs.list_ordered_multimap.pack.move_values.Given as goal
@@ -7,6 +6,5 @@ use Rattle.ordered_multimap.proofs.list_ordered_multimap.pack.move_values.Given 
 abbrev pub invariant-loop-place : goal.invariant-loop-place
 invariant-loop-place g l = record {
   coming : AreComing (name_in l.fn.names.items) l.place l.fn.values.list l.values.list l.packed.list;
-  counts : KeepsCounts l.fn.packed l.packed;
-  capacity : l.packed.list.capacity ≡ l.fn.packed.list.capacity;
+  room : KeepsTapeRoom l.fn.packed l.packed;
 }

@@ -1,6 +1,6 @@
 use Rattle.std.proofs.Common.{subst, arith}
 use Rattle.multimap_slots.specs.Lists.{IsIn}
-use Rattle.ordered_multimap.proofs.RenameLemmas.{chained-renamed}
+use Rattle.ordered_multimap.proofs.RenameLemmas.{chains-renamed}
 use Rattle.ordered_multimap.proofs.list_ordered_multimap.pack.pack.Goals as goal
 
 pub move_keys-requires-clause-within : goal.move_keys-requires-clause-within
@@ -10,7 +10,7 @@ move_keys-requires-clause-within g c =
 pub move_values-requires-clause-within : goal.move_values-requires-clause-within
 move_values-requires-clause-within g c =
     let r = c.compact.ensures.renamed in
-    let chained = chained-renamed r.name c.requires.keys_sound c.len-len.ensures.sound c.requires.chained r.renames in
+    let chained = (chains-renamed c.requires.chains r).chained in
     λ q l i is. omega (
       arith,
       c.move_keys.ensures.names,

@@ -1,6 +1,4 @@
-use Rattle.std.proofs.Common.{◌≡◌, Some, sym, ap, subst}
-use Rattle.multimap_slots.specs.Slots.{Slots, link_at}
-use Rattle.multimap_walks.specs.declared.links.ValueLink.{ValueLink}
+use Rattle.std.proofs.Common.{sym, ap, subst}
 use Rattle.ordered_multimap.specs.TakesOne.{HasLinks}
 use Rattle.ordered_multimap.proofs.WriteLemmas.{IsChained-with_item, IsSound-with_item}
 use Rattle.ordered_multimap.proofs.list_ordered_multimap.retain.retain_at.Goals as goal

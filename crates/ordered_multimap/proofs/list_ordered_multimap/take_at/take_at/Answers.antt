@@ -19,13 +19,13 @@ take_one-requires-clause-stands g c =
           c.args.keys.now l.result l.ensures.link)
           ∙ c.slot_at.ensures.link_is;
       sound = l.ensures.sound;
-      chained = c.requires.chained;
+      chained = c.requires.stands.chains.chained;
     }
 
 pub returns-clause-taken : goal.returns-clause-taken
 returns-clause-taken g c =
     let chain = chain_of c.args.values.now.list c.args.place in
-    let count = c.requires.chained.length c.args.place c.slot_at.result.1 c.requires.listed c.slot_at.ensures.link_is in
+    let count = c.requires.stands.chains.chained.length c.args.place c.slot_at.result.1 c.requires.stands.listed c.slot_at.ensures.link_is in
     record {
       place = c.place_at-found.result;
       place_is = ap (λ ps. slice_get ps c.args.index) (several_all chain (omega (arith, count, c.if-link-lt2.false)))

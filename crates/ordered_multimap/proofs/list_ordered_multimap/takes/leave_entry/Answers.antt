@@ -10,12 +10,12 @@ use Rattle.ordered_multimap.proofs.list_ordered_multimap.takes.leave_entry.Goals
 pub leave_values-first-requires-clause-some : goal.leave_values-first-requires-clause-some
 leave_values-first-requires-clause-some g c =
     let s = c.requires.stands in
-    taking-some s.sound s.chained c.args.place c.slot_at.result.1 s.listed c.slot_at.ensures.link_is
+    taking-some s.chains.sound s.chains.chained c.args.place c.slot_at.result.1 s.listed c.slot_at.ensures.link_is
 
 pub leave_values-first-requires-clause-row : goal.leave_values-first-requires-clause-row
 leave_values-first-requires-clause-row g c =
     let s = c.requires.stands in let l = c.slot_at.result.1 in
-    (_, chain_row s.sound s.chained c.args.place l s.listed c.slot_at.ensures.link_is l.length (omega arith))
+    (_, chain_row s.chains.sound s.chains.chained c.args.place l s.listed c.slot_at.ensures.link_is l.length (omega arith))
 
 pub returns : goal.returns
 returns g c =
@@ -23,11 +23,11 @@ returns g c =
     let l = c.slot_at.result.1 in
     let is = c.slot_at.ensures.link_is in
     let t = c.leave_values-first.ensures in
-    let left = t.left _ (chain_row s.sound s.chained c.args.place l s.listed is l.length (omega arith)) in
-    let all = sym (s.chained.length c.args.place l s.listed is) in
+    let left = t.left _ (chain_row s.chains.sound s.chains.chained c.args.place l s.listed is l.length (omega arith)) in
+    let all = sym (s.chains.chained.length c.args.place l s.listed is) in
     record {
       entry = record {
-        taken = taking-end s.sound s.chained c.args.place l.length left.0 c.leave_values-first.new.values.list left.1.taking all;
+        taken = taking-end s.chains.sound s.chains.chained c.args.place l.length left.0 c.leave_values-first.new.values.list left.1.taking all;
         removed = c.take_key.ensures.removed;
         rows_are = c.take_key.ensures.row.rows;
       };
@@ -38,7 +38,7 @@ returns g c =
       counts = subst (λ n. TakesOut n (numbers_of c.args.values.now) (numbers_of c.leave_values-first.new.values)) all
           (leaving-counts left.1);
       row_room = c.take_key.ensures.row.capacity;
-      drain = λ keeps. holds_whole s.sound s.chained c.args.place l s.listed is l.length left.0 c.leave_values-first.new.values.list
+      drain = λ keeps. holds_whole s.chains.sound s.chains.chained c.args.place l s.listed is l.length left.0 c.leave_values-first.new.values.list
           c.leave_values-first.result.1
           (ap (λ e. e.first) t.ends) (ap (λ e. e.length) t.ends) left.1.taking left.1.last_is (left.1.kept keeps) all;
     }

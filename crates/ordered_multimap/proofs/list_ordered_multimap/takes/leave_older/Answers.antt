@@ -13,7 +13,7 @@ use Rattle.ordered_multimap.proofs.list_ordered_multimap.takes.leave_older.Goals
 pub leave_values-left-requires-clause-row : goal.leave_values-left-requires-clause-row
 leave_values-left-requires-clause-row g c =
     let s = c.requires.stands in let l = c.slot_at.result.1 in
-    (_, chain_row s.sound s.chained c.args.place l s.listed c.slot_at.ensures.link_is (l.length - 1) (omega arith))
+    (_, chain_row s.chains.sound s.chains.chained c.args.place l s.listed c.slot_at.ensures.link_is (l.length - 1) (omega arith))
 
 pub set_previous-requires : goal.set_previous-requires
 set_previous-requires g c =
@@ -21,9 +21,9 @@ set_previous-requires g c =
     let l = c.slot_at.result.1 in
     let is = c.slot_at.ensures.link_is in
     let more = c.requires.more l is in
-    let row = chain_row s.sound s.chained c.args.place l s.listed is (l.length - 1) (omega arith) in
+    let row = chain_row s.chains.sound s.chains.chained c.args.place l s.listed is (l.length - 1) (omega arith) in
     let left = c.leave_values-left.ensures.left _ row in
-    let last_is = taking-last s.sound s.chained c.args.place
+    let last_is = taking-last s.chains.sound s.chains.chained c.args.place
     (l.length - 1) left.0 c.leave_values-left.new.values.list left.1.taking l s.listed is (omega (arith, more)) in
     taking-listed row (l.length - 1) l.tail c.leave_values-left.new.values.list
     (subst (λ o. IsTaking (chain_of c.args.values.now.list c.args.place)
@@ -35,11 +35,11 @@ returns g c =
     let l = c.slot_at.result.1 in
     let is = c.slot_at.ensures.link_is in
     let more = c.requires.more l is in
-    let row = chain_row s.sound s.chained c.args.place l s.listed is (l.length - 1) (omega arith) in
+    let row = chain_row s.chains.sound s.chains.chained c.args.place l s.listed is (l.length - 1) (omega arith) in
     let t = c.leave_values-left in
     let left = t.ensures.left _ row in
     let a = left.1.taking in
-    let last_is = taking-last s.sound s.chained c.args.place (l.length - 1) left.0 t.new.values.list a l s.listed is
+    let last_is = taking-last s.chains.sound s.chains.chained c.args.place (l.length - 1) left.0 t.new.values.list a l s.listed is
     (omega (arith, more)) in
     let took : IsTaking (chain_of c.args.values.now.list c.args.place) (l.length - 1)
     (Some l.tail) c.args.values.now.list t.new.values.list =
@@ -74,7 +74,7 @@ returns g c =
           (sym m.rest) (leaving-counts left.1);
       shorter = omega (arith, left.1.shorter, ap (λ (v : Taped g.row.V.Denot ValueLink). length v.list.order) m.rest);
       drain = λ keeps.
-          let holds = holds_gone s.sound s.chained c.args.place l s.listed is (l.length - 1) left.0 t.new.values.list t.result.1
+          let holds = holds_gone s.chains.sound s.chains.chained c.args.place l s.listed is (l.length - 1) left.0 t.new.values.list t.result.1
           (ap (λ e. e.first) t.ensures.ends) (ap (λ e. e.length) t.ensures.ends) a left.1.last_is (left.1.kept keeps) in
           mended_drain t.new.values.list c.set_previous.new.values.list t.result.1 l.tail tail_listed rest links holds.chain holds.left;
     }

@@ -1,17 +1,15 @@
-use Rattle.std.proofs.Common.{◌<◌, refl, sym, ap, ◌∙◌, subst}
+use Rattle.std.proofs.Common.{◌<◌, sym, subst}
 use Rattle.multimap_walks.specs.Chained.{chain_of}
 use Rattle.ordered_multimap.proofs.RewriteLemmas.{may_rewrite, rewriting-at, rewriting-end, rewriting-listed, rewriting-smaller}
 use Rattle.ordered_multimap.proofs.RewriteLemmas.{rewriting-start, rewriting-step}
 use Rattle.ordered_multimap.proofs.PlaceLemmas.{places_from}
+use Rattle.ordered_multimap.proofs.StepLemmas.{room_same, room_written}
 use Rattle.ordered_multimap.proofs.list_ordered_multimap.update.rewrite_chain.Goals as goal
 
 pub loop-following-init : goal.loop-following-init
 loop-following-init g c = record {
   rewriting = rewriting-start c.requires.agrees.1 c.slot_at.result.1 c.requires.listed c.slot_at.ensures.link_is c.requires.callable;
-  capacity = refl;
-  moved = refl;
-  freed = refl;
-  holes = refl;
+  room = room_same;
 }
 
 pub rewrite_at-following-requires-clause-listed : goal.rewrite_at-following-requires-clause-listed
@@ -34,17 +32,12 @@ loop-following-preserved g c =
     let one = c.rewrite_at-following.ensures in
     record {
       rewriting = rewriting-step c.requires.agrees.1 (rewriting-at c.in-Some.is w.rewriting) one;
-      capacity = ap (λ t. t.list.capacity) one.written ∙ w.capacity;
-      moved = ap (λ t. t.moved) one.written ∙ w.moved;
-      freed = ap (λ t. t.freed) one.written ∙ w.freed;
-      holes = ap (λ t. t.holes) one.written ∙ w.holes;
+      room = room_written _ _ w.room one.written;
     }
 
-pub returns-clause-agrees : goal.returns-clause-agrees
-returns-clause-agrees g c = c.loop-following.invariant.rewriting.agrees
+pub returns-clause-kept : goal.returns-clause-kept
+returns-clause-kept g c =
+    let w = c.loop-following.invariant in record { agrees = w.rewriting.agrees; order = w.rewriting.order; room = w.room }
 
 pub returns-clause-rewritten : goal.returns-clause-rewritten
 returns-clause-rewritten g c = (c.loop-following.f, rewriting-end c.in_default.is c.loop-following.invariant.rewriting)
-
-pub returns-clause-order : goal.returns-clause-order
-returns-clause-order g c = c.loop-following.invariant.rewriting.order

@@ -1,16 +1,13 @@
-use Rattle.std.proofs.Common.{◌≡◌}
 use Rattle.multimap_walks.specs.Chained.{chain_of}
 use Rattle.ordered_multimap.proofs.Rewriting.{IsRewriting}
+use Rattle.ordered_multimap.specs.Appends.{KeepsTapeRoom}
 use Rattle.ordered_multimap.proofs.PlaceLemmas.{places_from}
 use Rattle.ordered_multimap.proofs.list_ordered_multimap.update.rewrite_chain.Given as goal
 
 abbrev pub invariant-loop-following : goal.invariant-loop-following
 invariant-loop-following g l = record {
   rewriting : IsRewriting g.F.FnMut l.keys l.fn.values.list l.key_place g.K.PartialEq.eq l.table.rows l.values.list l.fn.f l.f l.following;
-  capacity : l.values.list.capacity ≡ l.fn.values.list.capacity;
-  moved : l.values.moved ≡ l.fn.values.moved;
-  freed : l.values.freed ≡ l.fn.values.freed;
-  holes : l.values.holes ≡ l.fn.values.holes;
+  room : KeepsTapeRoom l.fn.values l.values;
 }
 
 abbrev pub decreases-loop-following : goal.decreases-loop-following

@@ -2,6 +2,7 @@ use Rattle.std.proofs.Common.{◌<◌, true, refl, sym, ap, ◌∙◌, subst}
 use Rattle.ordered_multimap.specs.RetainSteps.{RetainsAt}
 use Rattle.ordered_multimap.specs.Updates.{Updates}
 use Rattle.ordered_multimap.proofs.PlaceLemmas.{places_from}
+use Rattle.ordered_multimap.proofs.StepLemmas.{room_same, room_written}
 use Rattle.ordered_multimap.proofs.RetainLemmas.{retaining-at, retaining-start, retaining-end, retaining-step, retaining-smaller}
 use Rattle.ordered_multimap.proofs.RetainLemmas.{listed_place, may_ask}
 use Rattle.ordered_multimap.proofs.list_ordered_multimap.update.update_pairs.Goals as goal
@@ -11,10 +12,7 @@ loop-following-init g c = record {
   retaining = retaining-start g.met.K.Eq.laws c.requires.agrees.1 c.front_place-following.result c.front_place-following.ensures
       c.requires.callable;
   order = refl;
-  capacity = refl;
-  moved = refl;
-  freed = refl;
-  holes = refl;
+  room = room_same;
 }
 
 pub next_listed_place-following-requires : goal.next_listed_place-following-requires
@@ -55,14 +53,12 @@ loop-following-preserved g c =
           (retaining-step g.met.K.Eq.laws c.requires.agrees.1 (retaining-at c.in-Some.is w.retaining) at
           c.next_listed_place-following.result c.next_listed_place-following.ensures).retaining;
       order = ap (λ t. t.list.order) asks.written ∙ w.order;
-      capacity = ap (λ t. t.list.capacity) asks.written ∙ w.capacity;
-      moved = ap (λ t. t.moved) asks.written ∙ w.moved;
-      freed = ap (λ t. t.freed) asks.written ∙ w.freed;
-      holes = ap (λ t. t.holes) asks.written ∙ w.holes;
+      room = room_written _ _ w.room asks.written;
     }
 
-pub returns-clause-agrees : goal.returns-clause-agrees
-returns-clause-agrees g c = c.loop-following.invariant.retaining.agrees
+pub returns-clause-kept : goal.returns-clause-kept
+returns-clause-kept g c =
+    let w = c.loop-following.invariant in record { agrees = w.retaining.agrees; order = w.order; room = w.room }
 
 pub returns-clause-updated : goal.returns-clause-updated
 returns-clause-updated g c =

@@ -1,70 +1,16 @@
--- The drop of a `ValuesMut`: the loans of the values that were not given end. Assumes `Logic`.
--- Of the walk's parts the marker and the places own nothing, and `slot_cells_end` tells what the cells end as.
--- The body returns at once, and `leaves` gives the tokens of the lifetimes back with that ending.
-use mathlib.Core.Path.{refl, sym, subst}
-use mathlib.Core.List.{List, [], ◌∷◌, ◌++◌}
-use mir.Syntax.{a_type, dcons, dnil}
-use mir.MapTy.{inst_fn}
-use mir.Val.{Val, vunit}
-use base.Logic.{SProp, ent}
-use base.Fml.{ftrue, flft}
-use prog.Wp.{WpFn}
-use types.Kit.{updating, now, done, ‵, raw, ◌⊛◌, later, ◌$◌, ◌∵◌, !, qed, by, move, drop, use1, split}
-use types.Kit.{fsplit, fsplit3, fjoin, fpick, feq_i, await}
-use types.Run.{of_opd, unit_lit, returns, enter}
-use types.ByLocal.{alloc_all, pass_all, free_all, look_at, sets}
-use contract.Running.{tables}
-use denote.Exit.{no}
-use denote.RattleType.{RattleType}
-use denote.Param.{param, layout, bounded}
-use denote.Param.Laws.{param_laws}
-use denote.Signature.{plain, named_lft}
-use denote.Steps.{nothing}
-use denote.Triple.Walked.{Stays, stay_dropped, walk_of}
-use Rattle.std.proofs.raw_atomic.Walks.{proved_at, leaves}
-use Rattle.multimap_slots.specs.Ended.{ends_with}
-use Rattle.multimap_walks.specs.contracts.links.ValueLink as VL-type
+-- The drop of a `ValuesMut` holds the walk whole. Assumes `Logic`.
+-- Its body calls nothing and returns, so `drops` proves it.
+-- It gives back that the loans of the values that were not given end.
+use mathlib.Core.Path.{refl}
+use Rattle.multimap_walks.proofs.Dropped.{drops, has_cells, nothing_left}
 use Rattle.multimap_walks.specs.contracts.writing.values.ValuesMut as S
-use Rattle.multimap_walks.proofs.writing.values.ValuesMut.TheLaws as S-laws
-use Rattle.multimap_slots.proofs.Ended.{one_of}
-use Rattle.multimap_slots.proofs.Renamed.{slot_cells_end}
 use Rattle.multimap_walks.specs.contracts.writing.values.ValuesMut.drop as F
-use Rattle.multimap_walks.specs.contracts.writing.values.ValuesMut.drop.Key.{name as #self}
+use Rattle.multimap_walks.proofs.writing.values.ValuesMut.TheLaws.{the_row_laws as laws}
 use Rattle.multimap_walks.proofs.writing.values.ValuesMut.drop.Statement.{statement}
 use Rattle.multimap_walks.proofs.writing.values.ValuesMut.drop.Code as code
 
 pub drop_spec : {M : Type 1} → statement M
 drop_spec 𝓤 𝓛 𝓜 𝓡 wired X Y Z LX LY LZ ga da de df dg m₁ m₂ m₃ m₄ =
-    let H = 𝓛.H in let 𝓣 = tables 𝓤 H 𝓜 𝓡 𝓡.env in
-    let K : RattleType = param 0 X in let V : RattleType = param 1 Y in let A : RattleType = param 2 Z in
-    let En = F.ended X Y Z ga da de df dg in
-    let inst = bounded (a_type ∷ a_type ∷ a_type ∷ []) (X, (Y, (Z, tt))) (dcons da (dcons de (dcons df (dcons dg dnil)))) in
-    let fn = inst_fn inst code.function in let c = F.clauses X Y Z ga da de df dg 𝓛 𝓜.mem 𝓡.returns in
-    let hs : Stays En.signature.params En.kept = (stay_dropped (plain (λ κs. S.the_row (named_lft 4 0 tt κs) K V A ga)) no, tt) in
-    proved_at 𝓛 En hs c 𝓜 𝓡 (
-      (λ κs x f vs ok. qed 𝓛 (‵ ftrue ∷ [])
-          ∵ updating ! $ nothing ! $ nothing ! $ fjoin ! $ nothing ! $ fjoin ! $ fjoin ! $ nothing ! $ fjoin ! $ now ! $ done !),
-      tt,
-    )
-    (#self inst) fn (code.unfolded 𝓤 H 𝓜 𝓡 wired (X, (Y, (Z, tt))) da de df dg) (λ y are.
-    let κs = y.0.0 in let qs = y.0.1 in let d = y.0.3.0 in let a = named_lft 4 0 tt κs in
-    let It : RattleType = S.the_row a K V A ga in
-    let laws = S-laws.the_row_laws a K V A ga (param_laws 0 X LX) (param_laws 1 Y LY) (param_laws 2 Z LZ) in
-    let At : List Val → (walk_of 𝓛 En hs c).Ghost = λ us. ((κs, qs, y.0.2, y.0.3, (us, tt)), y.1) in
-    let got = one_of (layout It) y.0.4.0 ((laws.lawful 𝓛).typed d y.0.4.0 are.0) in
-    let v : Val = got.0 in
-    subst (λ (us : List Val). ent 𝓤 ((walk_of 𝓛 En hs c).pre (At us))
-    (WpFn 𝓤 H 𝓣.C 𝓣.Λ fn (us ++ []) ((walk_of 𝓛 En hs c).post (At us)))) (sym got.1) (
-    let z : (walk_of 𝓛 En hs c).Ghost = At (v ∷ []) in let Post : Val → SProp 𝓤 = (walk_of 𝓛 En hs c).post z in
-    qed 𝓛 (((‵ (flft κs.0 qs.0) ⊛ ‵ (flft κs.1.0 qs.1.0)
-    ⊛ ‵ (flft κs.1.1.0 qs.1.1.0) ⊛ ‵ (flft κs.1.1.1.0 qs.1.1.1.0) ⊛ ‵ ftrue)
-    ⊛ ‵ (It.own_val d (v ∷ [])) ⊛ ‵ ftrue) ∷ raw ((c κs y.0.3).requires y.1) ∷ []) ∵
-    split ! $ move ! (2 ∷ []) $ drop ! $ move ! (1 ∷ []) $ split ! $ move ! (1 ∷ []) $ drop ! $
-    -- [the cells; the tokens]
-    enter ! 𝓣.C 𝓣.Λ fn (v ∷ []) Post $ alloc_all ! (λ l. pass_all ! refl (got.2, tt) $
-    fpick ! (λ us. fsplit3 ! $ drop ! $ drop ! $ fsplit ! $
-    use1 𝓛 (later (‵ (ends_with V d.values.cells))) (slot_cells_end 𝓛 a V VL-type.the_row A ga d.values us.1.0) $
-    await ! tt $ move ! (1 ∷ []) $ drop ! $
-    sets ! (of_opd ! (unit_lit !)) refl (tt, tt) $ returns ! (look_at ! 0 refl) $ free_all ! refl $
-    feq_i ! (List Val) (vunit ∷ []) (vunit ∷ []) refl $ nothing ! $ nothing ! $ fjoin ! $ move ! (3 ∷ 0 ∷ 1 ∷ 2 ∷ []) $
-    by ! (leaves 𝓛 En hs c z vunit tt ((tt, ((tt, (tt, tt)), tt)), tt) (tt, tt))))))
+    drops 𝓛 𝓜 𝓡 X Y Z LX LY LZ ga _ S.the_row laws (λ κs x f vs ok. nothing_left 𝓛) (F.clauses X Y Z ga da de df dg 𝓛 𝓜.mem 𝓡.returns)
+    (λ κs d. d.values) (λ κs d gh e. refl) (λ κs d v. has_cells _ _ _ _ _ _ _ _ _ _ refl) _ _ _ (λ κs. refl)
+    (code.unfolded 𝓤 𝓛.H 𝓜 𝓡 wired (X, (Y, (Z, tt))) da de df dg)

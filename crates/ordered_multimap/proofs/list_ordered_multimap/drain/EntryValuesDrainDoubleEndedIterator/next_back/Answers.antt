@@ -1,5 +1,5 @@
 use Rattle.ordered_multimap.proofs.DrainLemmas.{drains}
 use Rattle.ordered_multimap.proofs.list_ordered_multimap.drain.EntryValuesDrainDoubleEndedIterator.next_back.Goals as goal
 
-pub take_last_left-requires : goal.take_last_left-requires
-take_last_left-requires g c = let m = c.args.self.now.map.now in drains m.slots.values m.slots.left c.args.self.now.chain
+pub take_left-requires : goal.take_left-requires
+take_left-requires g c = let m = c.args.self.now.map.now in drains m.slots.values m.slots.left c.args.self.now.chain

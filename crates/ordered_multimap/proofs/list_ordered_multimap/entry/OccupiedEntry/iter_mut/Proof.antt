@@ -1,4 +1,6 @@
--- `iter_mut` lends the map through the entry's reference, and the entry is closed late. Assumes `Logic`.
+-- `iter_mut` holds the entry for writing. Assumes `Logic`.
+-- It calls `values_mut_at`, with the map lent through the entry's reference.
+-- It gives back the values of the key that this call lends; the entry is closed late, with what the map ends as.
 use mathlib.Core.Path.{◌≡◌, refl, sym, ap}
 use Prim.Native.Nat.{ℕ, ◌+◌}
 use native.Mathlib.Omega.{arith}
@@ -16,7 +18,7 @@ use mathlib.Core.Bool.{Bool, true, false}
 use denote.Struct.Struct.{codeds}
 use prog.Memory.{size, align, up}
 use types.Logic.{sem}
-use types.Kit.{‵, raw, ◌⊛◌, some, later, given, ◌$◌, ◌∵◌, !, qed, by, move, drop, group, learn, use0, use1, use2, split, split3, join}
+use types.Kit.{‵, raw, ◌⊛◌, some, later, ◌$◌, ◌∵◌, !, qed, by, move, drop, group, use0, use1, use2, split, split3, join}
 use types.Kit.{fsplit, fsplit3, fjoin, fjoin3, feq_i, feq_l, rewrite, pick, await, suffices, frame, done}
 use types.Follow.{after}
 use types.Late.{deep, ages, aged_up, bor_new_deep}
@@ -27,7 +29,6 @@ use types.Run.{stop, fld, hop, look, load, of_opd, addr, no_more, and_then, retu
 use types.ByLocal.{alloc_all, pass_all, free_all, look_at, get, sets, lands_as, through}
 use contract.Running.{tables}
 use contract.Monad.{fact, fact_i}
-use contract.BorrowLft.{◌⊑◌}
 use contract.Lifetimes.{Lfts}
 use borrow.Table.OneValue.{part_out_at, part_in_at}
 use denote.Builtin.{usize}
@@ -70,6 +71,7 @@ use Rattle.ordered_multimap.specs.Pairs.{positions_of, values_of}
 use Rattle.ordered_multimap.specs.ValuesLent.{with_items, with_values_of, EndsMap}
 use Rattle.ordered_multimap.specs.contracts.list_ordered_multimap.ListOrderedMultimap as M-type
 use Rattle.ordered_multimap.specs.contracts.list_ordered_multimap.entry.OccupiedEntry as E-type
+use Rattle.ordered_multimap.proofs.Outlived.{told, hears, tells, states}
 use Rattle.ordered_multimap.proofs.WalkRenamed.{entry_values_renamed}
 use Rattle.ordered_multimap.proofs.TakingLemmas.{in_among}
 use Rattle.ordered_multimap.specs.contracts.list_ordered_multimap.ListOrderedMultimap.values_mut_at as g
@@ -135,10 +137,8 @@ iter_mut_spec 𝓤 𝓛 𝓜 𝓡 wired X₀ X₁ X₂ X₃ X₄ L₀ L₁ L₂ 
     qed 𝓛 (((‵ (flft κ q) ⊛ ‵ (flft κ' q') ⊛ ‵ (flft κs.1.1.0 qs.1.1.0) ⊛ ‵ (flft κs.1.1.1.0 qs.1.1.1.0) ⊛ ‵
     (flft κs.1.1.1.1.0 qs.1.1.1.1.0) ⊛ ‵ (flft κs.1.1.1.1.1.0 qs.1.1.1.1.1.0) ⊛ ‵ (flft κs.1.1.1.1.1.1.0 qs.1.1.1.1.1.1.0) ⊛ ‵ ftrue) ⊛
     ‵ ((MutRef (named 0) κ E).own_val a.0 (mut_vals a.0)) ⊛ ‵ ftrue)
-    ∷ (given (κs.1.1.0 ⊑ K.lives) (‵ ftrue) ⊛ given (κs.1.1.1.0 ⊑ V.lives) (‵ ftrue) ⊛ given (κs.1.1.1.1.0 ⊑ S.lives) (‵ ftrue) ⊛ given
-    (κs.1.1.1.1.1.0 ⊑ B.lives) (‵ ftrue) ⊛ given (κs.1.1.1.1.1.1.0 ⊑ J.lives) (‵ ftrue) ⊛ ‵ ftrue) ∷ []) ∵
-    move ! (1 ∷ []) $ split3 ! $ learn ! (λ i₀. drop ! $
-    learn ! (λ i₁. drop ! $ split3 ! $ learn ! (λ i₂. drop ! $ learn ! (λ i₃. drop ! $ split ! $ learn ! (λ i₄. drop ! $ drop ! $
+    ∷ told κs.1.1 K V S B J (‵ ftrue) ∷ []) ∵
+    move ! (1 ∷ []) $ hears κs.1.1 K V S B J ! (λ five.
     split3 ! $ move ! (2 ∷ []) $ drop ! $ split ! $ move ! (2 ∷ []) $ fsplit3 ! $ drop ! $
     -- [obs; the borrow; the token of 'a; the other tokens]
     move ! (2 ∷ []) $ use1 𝓛 (‵ (flft κ l) ⊛ ‵ (flft κ r)) (𝓛.lfts.lft_split κ q) $ split ! $ move ! (2 ∷ 3 ∷ 0 ∷ []) $
@@ -190,15 +190,7 @@ iter_mut_spec 𝓤 𝓛 𝓜 𝓡 wired X₀ X₁ X₂ X₃ X₄ L₀ L₁ L₂ 
     move ! (1 ∷ 0 ∷ []) $ fjoin ! $
     -- [the arguments; the tokens of the types; ..]
     move ! (10 ∷ 1 ∷ []) $ join ! $ join ! $
-    use0 𝓛 (given (κs.1.1.0 ⊑ K.lives) (‵ ftrue) ⊛ given (κs.1.1.1.0 ⊑ V.lives) (‵ ftrue) ⊛ given (κs.1.1.1.1.0 ⊑ S.lives) (‵ ftrue) ⊛ given
-    (κs.1.1.1.1.1.0 ⊑ B.lives) (‵ ftrue) ⊛ given (κs.1.1.1.1.1.1.0 ⊑ J.lives) (‵ ftrue) ⊛ raw
-    (fact 𝓤 (IsIn s.place m.now.slots.keys.order)))
-    (qed 𝓛 [] ∵ use0 𝓛 (raw (fact 𝓤 (IsIn s.place m.now.slots.keys.order))) (fact_i 𝓤 _ (emp 𝓤) listed) $
-    use0 𝓛 (given (κs.1.1.1.1.1.1.0 ⊑ J.lives) (‵ ftrue)) (fact_i 𝓤 _ (emp 𝓤) i₄) $ join ! $
-    use0 𝓛 (given (κs.1.1.1.1.1.0 ⊑ B.lives) (‵ ftrue)) (fact_i 𝓤 _ (emp 𝓤) i₃) $ join ! $
-    use0 𝓛 (given (κs.1.1.1.1.0 ⊑ S.lives) (‵ ftrue)) (fact_i 𝓤 _ (emp 𝓤) i₂) $ join ! $
-    use0 𝓛 (given (κs.1.1.1.0 ⊑ V.lives) (‵ ftrue)) (fact_i 𝓤 _ (emp 𝓤) i₁) $ join ! $
-    use0 𝓛 (given (κs.1.1.0 ⊑ K.lives) (‵ ftrue)) (fact_i 𝓤 _ (emp 𝓤) i₀) $ join ! $ done !) $
+    states ! (IsIn s.place m.now.slots.keys.order) listed $ tells κs.1.1 K V S B J ! five $
     move ! (1 ∷ 0 ∷ []) $ join ! $ use1 𝓛 (raw (G.pre zc)) (id⊢ 𝓤 _) $
     let a' = named_lft 6 0 tt κt in let CR : RattleType = W-type.the_row a' K V B ga in
     let CR-is : Laws CR = W-laws.the_row_laws a' K V B ga (param_laws 0 X₀ L₀) (param_laws 1 X₁ L₁) (param_laws 3 X₃ L₃) in
@@ -273,4 +265,4 @@ iter_mut_spec 𝓤 𝓛 𝓜 𝓡 wired X₀ X₁ X₂ X₃ X₄ L₀ L₁ L₂ 
     use0 𝓛 (raw (fact 𝓤 (Values e))) (fact_i 𝓤 (Values e) (emp 𝓤) values) $ join ! $ move ! (1 ∷ 0 ∷ []) $ done !
     )))))))
     )))))))
-    ))))))
+    ))

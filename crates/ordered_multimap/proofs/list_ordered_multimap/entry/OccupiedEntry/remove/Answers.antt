@@ -3,6 +3,3 @@ use Rattle.ordered_multimap.proofs.list_ordered_multimap.entry.OccupiedEntry.rem
 
 pub returns-clause-value : goal.returns-clause-value
 returns-clause-value g c = λ k is. (entry_parts _ _ _ (c.take_entry_at-stored.ensures.entry k is)).1
-
-pub returns-clause-lists : goal.returns-clause-lists
-returns-clause-lists g c = λ k is. (c.take_entry_at-stored.ensures.removed k is).lists

@@ -6,6 +6,3 @@ returns-clause-key g c = λ k is. (entry_parts _ _ _ (c.take_entry_at.ensures.en
 
 pub returns-clause-value : goal.returns-clause-value
 returns-clause-value g c = λ k is. (entry_parts _ _ _ (c.take_entry_at.ensures.entry k is)).1
-
-pub returns-clause-lists : goal.returns-clause-lists
-returns-clause-lists g c = λ k is. (c.take_entry_at.ensures.removed k is).lists

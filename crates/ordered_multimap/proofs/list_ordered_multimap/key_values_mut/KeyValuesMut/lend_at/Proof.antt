@@ -1,4 +1,6 @@
--- `lend_at` lends the map through the walk's reference, and the walk is closed late. Assumes `Logic`.
+-- `lend_at` holds the walk for writing, and the place of a key. Assumes `Logic`.
+-- It calls `key_values_mut_at`, with the map lent through the walk's reference.
+-- It gives back what that call lends of the key and its values; the walk is closed late, with what the map ends as.
 use mathlib.Core.Path.{◌≡◌, refl, sym, ap}
 use Prim.Native.Nat.{ℕ, ◌+◌}
 use native.Mathlib.Omega.{arith}
@@ -16,8 +18,8 @@ use mathlib.Core.Bool.{Bool, true, false}
 use denote.Struct.Struct.{codeds}
 use prog.Memory.{size, align, up}
 use types.Logic.{sem}
-use types.Kit.{‵, raw, ◌⊛◌, some, later, given, ◌$◌, ◌∵◌, !, qed, by, move, keep, drop, group, learn, use0, use1, use2, split, split3, join}
-use types.Kit.{fsplit, fsplit3, fjoin, fjoin3, feq_i, feq_l, rewrite, pick, await, done}
+use types.Kit.{‵, raw, ◌⊛◌, some, later, ◌$◌, ◌∵◌, !, qed, by, move, keep, drop, group, use0, use1, use2, split, split3, join}
+use types.Kit.{fsplit, fsplit3, fjoin, fjoin3, feq_i, feq_l, rewrite, pick, await}
 use types.Follow.{after}
 use types.Late.{deep, ages, aged_up, bor_new_deep}
 use types.Mut.{open_ref}
@@ -27,7 +29,6 @@ use types.Run.{stop, fld, hop, look, addr, no_more, and_then, returns, enter}
 use types.ByLocal.{alloc_all, pass_all, free_all, look_at, get, sets, lands_as, through}
 use contract.Running.{tables}
 use contract.Monad.{fact, fact_i}
-use contract.BorrowLft.{◌⊑◌}
 use contract.Lifetimes.{Lfts}
 use borrow.Table.OneValue.{part_out_at, part_in_at}
 use denote.Builtin.{usize}
@@ -68,6 +69,7 @@ use Rattle.multimap_walks.proofs.links.ChainEnds.TheLaws as C-laws
 use Rattle.multimap_walks.specs.contracts.writing.chain.EntryValuesMut as W-type
 use Rattle.multimap_walks.proofs.writing.chain.EntryValuesMut.TheLaws as W-laws
 use Rattle.ordered_multimap.specs.Agrees.{HasKey}
+use Rattle.ordered_multimap.proofs.Outlived.{told, hears_with, tells, states}
 use Rattle.ordered_multimap.proofs.Pairs.{both, both_typed, pair_out, pair_in}
 use Rattle.ordered_multimap.specs.WalkLends.{EndsWalk, with_walk_items, with_walk_values}
 use Rattle.ordered_multimap.specs.Pairs.{positions_of, values_of}
@@ -145,11 +147,8 @@ lend_at_spec 𝓤 𝓛 𝓜 𝓡 wired X₀ X₁ X₂ X₃ X₄ L₀ L₁ L₂ L
     qed 𝓛 (((‵ (flft κ q) ⊛ ‵ (flft κ' q') ⊛ ‵ (flft κs.1.1.0 qs.1.1.0) ⊛ ‵ (flft κs.1.1.1.0 qs.1.1.1.0) ⊛ ‵
     (flft κs.1.1.1.1.0 qs.1.1.1.1.0) ⊛ ‵ (flft κs.1.1.1.1.1.0 qs.1.1.1.1.1.0) ⊛ ‵ (flft κs.1.1.1.1.1.1.0 qs.1.1.1.1.1.1.0) ⊛ ‵ ftrue) ⊛
     ‵ ((MutRef (named 0) κ E).own_val a.0 (mut_vals a.0)) ⊛ ‵ (usize.own_val place at_place) ⊛ ‵ ftrue)
-    ∷ (given (κs.1.1.0 ⊑ K.lives) (‵ ftrue) ⊛ given (κs.1.1.1.0 ⊑ V.lives) (‵ ftrue) ⊛ given (κs.1.1.1.1.0 ⊑ S.lives) (‵ ftrue) ⊛ given
-    (κs.1.1.1.1.1.0 ⊑ B.lives) (‵ ftrue) ⊛ given (κs.1.1.1.1.1.1.0 ⊑ J.lives) (‵ ftrue) ⊛ raw (fact 𝓤 Listed)) ∷ []) ∵
-    move ! (1 ∷ []) $ split3 ! $ learn ! (λ i₀. drop ! $
-    learn ! (λ i₁. drop ! $ split3 ! $ learn ! (λ i₂. drop ! $
-    learn ! (λ i₃. drop ! $ split ! $ learn ! (λ i₄. drop ! $ heard ! Listed (λ listed.
+    ∷ told κs.1.1 K V S B J (raw (fact 𝓤 Listed)) ∷ []) ∵
+    move ! (1 ∷ []) $ hears_with κs.1.1 K V S B J ! (λ five. heard ! Listed (λ listed.
     split3 ! $ move ! (2 ∷ []) $ split ! $ drop ! $ drop ! $ split ! $ move ! (2 ∷ []) $ fsplit3 ! $ drop ! $
     -- [obs; the borrow; the token of 'a; the other tokens]
     move ! (2 ∷ []) $ use1 𝓛 (‵ (flft κ l) ⊛ ‵ (flft κ r)) (𝓛.lfts.lft_split κ q) $ split ! $ move ! (2 ∷ 3 ∷ 0 ∷ []) $
@@ -198,14 +197,7 @@ lend_at_spec 𝓤 𝓛 𝓜 𝓡 wired X₀ X₁ X₂ X₃ X₄ L₀ L₁ L₂ L
     move ! (1 ∷ 0 ∷ []) $ fjoin ! $
     -- [the arguments; the tokens of the types; ..]
     move ! (10 ∷ 1 ∷ []) $ join ! $ join ! $
-    use0 𝓛 (given (κs.1.1.0 ⊑ K.lives) (‵ ftrue) ⊛ given (κs.1.1.1.0 ⊑ V.lives) (‵ ftrue) ⊛ given (κs.1.1.1.1.0 ⊑ S.lives) (‵ ftrue) ⊛ given
-    (κs.1.1.1.1.1.0 ⊑ B.lives) (‵ ftrue) ⊛ given (κs.1.1.1.1.1.1.0 ⊑ J.lives) (‵ ftrue) ⊛ raw (fact 𝓤 Listed))
-    (qed 𝓛 [] ∵ use0 𝓛 (raw (fact 𝓤 Listed)) (fact_i 𝓤 _ (emp 𝓤) listed) $
-    use0 𝓛 (given (κs.1.1.1.1.1.1.0 ⊑ J.lives) (‵ ftrue)) (fact_i 𝓤 _ (emp 𝓤) i₄) $ join ! $
-    use0 𝓛 (given (κs.1.1.1.1.1.0 ⊑ B.lives) (‵ ftrue)) (fact_i 𝓤 _ (emp 𝓤) i₃) $ join ! $
-    use0 𝓛 (given (κs.1.1.1.1.0 ⊑ S.lives) (‵ ftrue)) (fact_i 𝓤 _ (emp 𝓤) i₂) $ join ! $
-    use0 𝓛 (given (κs.1.1.1.0 ⊑ V.lives) (‵ ftrue)) (fact_i 𝓤 _ (emp 𝓤) i₁) $ join ! $
-    use0 𝓛 (given (κs.1.1.0 ⊑ K.lives) (‵ ftrue)) (fact_i 𝓤 _ (emp 𝓤) i₀) $ join ! $ done !) $
+    states ! Listed listed $ tells κs.1.1 K V S B J ! five $
     move ! (1 ∷ 0 ∷ []) $ join ! $ use1 𝓛 (raw (G.pre zc)) (id⊢ 𝓤 _) $
     let a' = named_lft 6 0 tt κt in let CR : RattleType = W-type.the_row a' K V B ga in
     let CR-is : Laws CR = W-laws.the_row_laws a' K V B ga (param_laws 0 X₀ L₀) (param_laws 1 X₁ L₁) (param_laws 3 X₃ L₃) in
@@ -285,4 +277,4 @@ lend_at_spec 𝓤 𝓛 𝓜 𝓡 wired X₀ X₁ X₂ X₃ X₄ L₀ L₁ L₂ L
     use0 𝓛 (raw (fact 𝓤 (Key out))) (fact_i 𝓤 (Key out) (emp 𝓤) key) $ join ! $ move ! (3 ∷ 0 ∷ []) $ join ! $ nothing ! $ nothing ! $
     fjoin ! $ nothing ! $ fjoin ! $
     keep ! (2 ∷ 0 ∷ 3 ∷ 1 ∷ []) $ by ! (leaves 𝓛 En hs c y v out (tt, (tt, tt)) (tt, (tt, tt)))
-    )))))))))))))))))))))
+    )))))))))))))))))

@@ -1,9 +1,11 @@
--- `step_mut` lends the values of the key at an end, or gives the walk up. Assumes `Logic`.
+-- `step_mut` holds the walk for writing, and an end. Assumes `Logic`.
+-- It calls `step`, which tells the place of the key at that end, and where there is one `lend_at`, which lends the values of that key.
+-- It gives back the key with its values and how the walk then ends, or nothing, and that the walk ends as it is.
 use Rattle.std.proofs.Common.{◌≡◌, List, [], ◌∷◌, refl, sym, ap, ◌∙◌, subst, option_map, lit<}
 use mir.Syntax.{a_type, dcons, dnil, named, w64, Body}
 use mir.Val.{Val, vptr, vcons, vnil}
 use mir.MapTy.{inst_fn}
-use base.Logic.{SProp, emp, id⊢}
+use base.Logic.{SProp, id⊢}
 use base.Fml.{Fml, GName, ftrue, fres}
 use prog.Wp.{Wp, after_seq, at_return}
 use types.Kit.{‵, raw, ◌⊛◌, some, later, at_ret, any_q, ◌$◌, ◌∵◌, !, qed, by, move, keep, drop, split, join, fsplit3, fjoin, use0, use1}
@@ -13,13 +15,11 @@ use types.ByLocal.{alloc_all, pass_all, free_all, look_at, get, get_in, get_tag,
 use types.Match.{live, vrt, in_variant}
 use types.Part.{agg, whole, sub}
 use types.Tokens.{name_done}
-use contract.BorrowLft.{◌⊑◌}
 use contract.Running.{tables}
-use contract.Monad.{fact, fact_i}
+use contract.Monad.{fact}
 use denote.Builtin.{usize}
 use denote.Enum.Laws as Enum-laws
 use denote.Enum.Loose.{loose_lawful}
-use denote.Exit.{no, yes}
 use denote.Follow.{follows}
 use denote.RattleType.{RattleType}
 use denote.Laws.{Is, shows}
@@ -30,7 +30,7 @@ use denote.Param.Laws.{Laws, param_laws, of_field}
 use denote.Struct.Laws.{usize-laws, usize-copy}
 use denote.Param.Shared.{copy_shared}
 use denote.Struct.Field.{usize-field}
-use denote.Signature.{plain, mut_ref_to, named_lft}
+use denote.Signature.{named_lft}
 use denote.Steps.{nothing, only, heard, peeks}
 use denote.Struct.Tuple.{Tuple}
 use denote.Triple.Clauses.{lasts, Lasts}
@@ -38,7 +38,7 @@ use denote.Triple.Entry.{on_entry, alive}
 use denote.Triple.Spec.{triple_of}
 use denote.Triple.Call.{calls_at}
 use denote.Triple.Table.{framed}
-use denote.Triple.Walked.{Stays, stay_dropped, walk_of, Goes-spent_ref, Goes-dropped}
+use denote.Triple.Walked.{Stays, walk_of}
 use Rattle.std.proofs.alloc.Shapes.{after, head, arm_body}
 use Rattle.std.specs.Prelude.{Some, None, IfSome, IfNone, OnSome, option_and_then}
 use Rattle.std.specs.contracts.option.Option.{the_row as Opt}
@@ -63,6 +63,8 @@ use Rattle.ordered_multimap.specs.Pairs.{positions_of, values_of}
 use Rattle.ordered_multimap.specs.ValuesLent.{with_values_of}
 use Rattle.ordered_multimap.specs.WalkLends.{EndsStepped, EndsWalk, IsStepped, lends_key_values, with_walk_values}
 use Rattle.ordered_multimap.proofs.Options.{option_out}
+use Rattle.ordered_multimap.proofs.HandsOn.{end_vals as at_end, stays_with_end, goes_with_end}
+use Rattle.ordered_multimap.proofs.Outlived.{told, hears, tells, states}
 use Rattle.ordered_multimap.proofs.Pairs.{both, both_typed, pair_in, pair_out}
 use Rattle.ordered_multimap.proofs.Rested.{so_some, so_none}
 use Rattle.ordered_multimap.specs.contracts.list_ordered_multimap.ListOrderedMultimap as M-type
@@ -91,16 +93,9 @@ step_mut_spec 𝓤 𝓛 𝓜 𝓡 wired K V S A B LK LV LS LA LB eqs dEq pe dPe 
     let inst = bounded (a_type ∷ a_type ∷ a_type ∷ a_type ∷ a_type ∷ []) (K, (V, (S, (A, (B, tt)))))
     (dcons dEq (dcons dPe (dcons dHa (dcons dBh (dcons dHg (dcons dAl (dcons dropA (dcons dropB dnil)))))))) in
     let fn = inst_fn inst code.function in
-    let Er : RattleType = EndType.the_row in let at_end : End → List Val = Enum-laws.vals EndType.the_type End-laws.the_laws in
-    let hs : Stays En.signature.params En.kept = (
-      stay_dropped
-          (mut_ref_to (0 ∷ []) tt (plain (λ κs. E-type.the_row (named_lft 7 1 tt κs) Kr Vr Sr Ar Br pe ha bh hg al))) no,
-      (stay_dropped (plain (λ _. Er)) yes, tt),
-    ) in
-    proved 𝓛 En hs c 𝓜 𝓡 (
-      Goes-spent_ref 𝓛 7 (0 ∷ []) tt (plain (λ κs. E-type.the_row (named_lft 7 1 tt κs) Kr Vr Sr Ar Br pe ha bh hg al)),
-      (Goes-dropped 𝓛 7 (plain (λ _. Er)) yes (λ κs x w. refl), tt),
-    ) (#self inst) fn
+    let hs : Stays En.signature.params En.kept = stays_with_end 6
+    (λ κs. E-type.the_row (named_lft 7 1 tt κs) Kr Vr Sr Ar Br pe ha bh hg al) in
+    proved 𝓛 En hs c 𝓜 𝓡 (goes_with_end 6 (λ κs. E-type.the_row (named_lft 7 1 tt κs) Kr Vr Sr Ar Br pe ha bh hg al) 𝓛) (#self inst) fn
     (code.unfolded 𝓤 H 𝓜 𝓡 wired (K, (V, (S, (A, (B, tt))))) dEq dPe dHa dBh dHg dAl dropA dropB)
     (λ κs. (mut_vals, (at_end, tt))) (λ κs. (
       mut_Tells (named 0) κs.0 (E-type.the_row (named_lft 7 1 tt κs) Kr Vr Sr Ar Br pe ha bh hg al),
@@ -115,8 +110,6 @@ step_mut_spec 𝓤 𝓛 𝓜 𝓡 wired K V S A B LK LV LS LA LB eqs dEq pe dPe 
     let ℓ = named_lft 7 0 tt κs in let CR : RattleType = W-type.the_row ℓ Kr Vr Ar al in
     let CR-is : Laws CR = W-laws.the_row_laws ℓ Kr Vr Ar al (param_laws 0 K LK) (param_laws 1 V LV) (param_laws 3 A LA) in
     let Sk : RattleType = ShrRef (named 0) κs.0 Kr in let Tw : RattleType = Tuple (Sk ∷ CR ∷ []) in let Out : RattleType = Opt Tw in
-    let inK : Type 0 = κs.1.1.0 ⊑ K.lives in let inV : Type 0 = κs.1.1.1.0 ⊑ V.lives in let inS : Type 0 = κs.1.1.1.1.0 ⊑ S.lives in
-    let inA : Type 0 = κs.1.1.1.1.1.0 ⊑ A.lives in let inB : Type 0 = κs.1.1.1.1.1.1.0 ⊑ B.lives in
     let toks = raw (alive 𝓛 En.signature κs qs) in
     let Rest : Out.Denot → Fml = λ out. lends_key_values Kr Vr Sr Ar Br al end a.0 out in
     let Key : Out.Denot → Type 0 = λ out. option_map (λ x. x.0.now) out ≡ end_item end (keys_left w₀) in
@@ -131,12 +124,9 @@ step_mut_spec 𝓤 𝓛 𝓜 𝓡 wired K V S A B LK LV LS LA LB eqs dEq pe dPe 
     (g₁.spec K V S A B eqs dEq pe dPe ha dHa bh dBh hg dHg al dAl dropA dropB 𝓛 𝓜.mem 𝓡.returns) in
     let z₁ : G₁.Ghost = ((κs, qs, bounds, a, (mut_vals a.0, (at_end end, tt))), gh) in
     qed 𝓛 (raw (on_entry 𝓛 En.signature κs qs a (mut_vals a.0, (at_end end, tt))) ∷
-    (raw (fact 𝓤 inK) ⊛ raw (fact 𝓤 inV) ⊛ raw (fact 𝓤 inS) ⊛ raw (fact 𝓤 inA) ⊛ raw (fact 𝓤 inB) ⊛ ‵ ftrue) ∷ []) ∵
-    move ! (1 ∷ []) $ split ! $ heard ! inK (λ k. split ! $
-    heard ! inV (λ w. split ! $ heard ! inS (λ st. split ! $ heard ! inA (λ ap'. split ! $ heard ! inB (λ bo. drop ! $
-    nothing ! $ use0 𝓛 (raw (fact 𝓤 inB)) (fact_i 𝓤 inB (emp 𝓤) bo) $ join ! $ use0 𝓛 (raw (fact 𝓤 inA)) (fact_i 𝓤 inA (emp 𝓤) ap') $
-    join ! $ use0 𝓛 (raw (fact 𝓤 inS)) (fact_i 𝓤 inS (emp 𝓤) st) $ join ! $ use0 𝓛 (raw (fact 𝓤 inV)) (fact_i 𝓤 inV (emp 𝓤) w) $
-    join ! $ use0 𝓛 (raw (fact 𝓤 inK)) (fact_i 𝓤 inK (emp 𝓤) k) $ join ! $ move ! (1 ∷ 0 ∷ []) $ use2 𝓛 (raw (G₁.pre z₁)) (id⊢ 𝓤 _) $
+    told κs.1.1 K V S A B (‵ ftrue) ∷ []) ∵
+    move ! (1 ∷ []) $ hears κs.1.1 K V S A B ! (λ five.
+    nothing ! $ tells κs.1.1 K V S A B ! five $ move ! (1 ∷ 0 ∷ []) $ use2 𝓛 (raw (G₁.pre z₁)) (id⊢ 𝓤 _) $
     enter ! 𝓣.C 𝓣.Λ fn (vptr a.0.ref_ptr.0 a.0.ref_ptr.1 ∷ at_end end) Post $
     alloc_all ! (λ l. pass_all ! refl ((tt, tt), (end_good, tt)) $ let Ev = env fn.locals l in
     let arms : Body = head (after 4 fn.body) in let Then = any_q
@@ -182,10 +172,10 @@ step_mut_spec 𝓤 𝓛 𝓜 𝓡 wired K V S A B LK LV LS LA LB eqs dEq pe dPe 
     use1 𝓛 (‵ (Rest out)) (so_none 𝓛 R R γ γ (Shows out) (Keeps out) (λ h. h) r.1.now (λ h. tt) still) $
     -- [the walk rests; its borrow; the tokens]
     let shown₀ : Key out = subst (λ o. option_and_then (item_at m₀.slots.keys) o ≡ end_item end (keys_left w₀)) no_place shown in
-    use0 𝓛 (raw (fact 𝓤 (Ends out))) (fact_i 𝓤 (Ends out) (emp 𝓤) tt) $
-    use0 𝓛 (raw (fact 𝓤 (Positions out))) (fact_i 𝓤 (Positions out) (emp 𝓤) tt) $ join ! $
-    use0 𝓛 (raw (fact 𝓤 (Values out))) (fact_i 𝓤 (Values out) (emp 𝓤) tt) $ join ! $
-    use0 𝓛 (raw (fact 𝓤 (Key out))) (fact_i 𝓤 (Key out) (emp 𝓤) shown₀) $ join ! $
+    states ! (Ends out) tt $
+    states ! (Positions out) tt $ join ! $
+    states ! (Values out) tt $ join ! $
+    states ! (Key out) shown₀ $ join ! $
     move ! (1 ∷ 0 ∷ []) $ join ! $ use0 𝓛 (‵ (Out.own_val out (none ∷ []))) (none_of 𝓛 Tw) $ nothing ! $ nothing ! $ fjoin ! $ nothing ! $
     fjoin ! $
     returns ! (look_at ! 0 refl) $ free_all ! refl $ keep ! (4 ∷ 0 ∷ 1 ∷ 2 ∷ []) $
@@ -207,9 +197,7 @@ step_mut_spec 𝓤 𝓛 𝓜 𝓡 wired K V S A B LK LV LS LA LB eqs dEq pe dPe 
     (g₂.spec K V S A B eqs dEq pe dPe ha dHa bh dBh hg dHg al dAl dropA dropB 𝓛 𝓜.mem 𝓡.returns) in
     let z₂ : G₂.Ghost = ((κs, qs, bounds, (r.1, (p, tt)), (mut_vals r.1, (i ∷ [], tt))), tt) in
     nothing ! $ move ! (1 ∷ 0 ∷ []) $ fjoin ! $ move ! (1 ∷ 0 ∷ []) $ fjoin ! $ move ! (1 ∷ 0 ∷ []) $ join ! $
-    use0 𝓛 (raw (fact 𝓤 Asked)) (fact_i 𝓤 Asked (emp 𝓤) listed₁) $ use0 𝓛 (raw (fact 𝓤 inB)) (fact_i 𝓤 inB (emp 𝓤) bo) $ join ! $
-    use0 𝓛 (raw (fact 𝓤 inA)) (fact_i 𝓤 inA (emp 𝓤) ap') $ join ! $ use0 𝓛 (raw (fact 𝓤 inS)) (fact_i 𝓤 inS (emp 𝓤) st) $ join ! $
-    use0 𝓛 (raw (fact 𝓤 inV)) (fact_i 𝓤 inV (emp 𝓤) w) $ join ! $ use0 𝓛 (raw (fact 𝓤 inK)) (fact_i 𝓤 inK (emp 𝓤) k) $ join ! $
+    states ! Asked listed₁ $ tells κs.1.1 K V S A B ! five $
     move ! (1 ∷ 0 ∷ []) $ use2 𝓛 (raw (G₂.pre z₂)) (id⊢ 𝓤 _) $
     calls_at ! (framed 𝓤 H 𝓜 𝓣) G₂ (met₂ 𝓤 𝓛 𝓜 𝓡 (code.calls-ordered_multimap::list_ordered_multimap::key_values_mut::KeyValuesMut::lend_at
     𝓡.env wired) K V S A B LK LV LS LA LB eqs dEq pe dPe ha dHa bh dBh hg dHg al dAl dropA dropB mEq mPe mHa mBh mHg mAl mDropA mDropB)
@@ -266,11 +254,10 @@ step_mut_spec 𝓤 𝓛 𝓜 𝓡 wired K V S A B LK LV LS LA LB eqs dEq pe dPe 
     } in
     let values : Values out = gives q.0.now here ∙ ap (λ n. values_of pe.eq n.now.lists.pairs q.0.now) same_map in
     let positions : Positions out = places q.0.now here ∙ ap (λ n. positions_of pe.eq n.now.lists.pairs q.0.now) same_map in
-    use0 𝓛 (raw (fact 𝓤 (Ends out))) (fact_i 𝓤 (Ends out) (emp 𝓤)
-    (record { walk = r.1.now; same_map = same_map; keys = left₁; ends = ended })) $
-    use0 𝓛 (raw (fact 𝓤 (Positions out))) (fact_i 𝓤 (Positions out) (emp 𝓤) positions) $ join ! $
-    use0 𝓛 (raw (fact 𝓤 (Values out))) (fact_i 𝓤 (Values out) (emp 𝓤) values) $ join ! $
-    use0 𝓛 (raw (fact 𝓤 (Key out))) (fact_i 𝓤 (Key out) (emp 𝓤) key) $ join ! $
+    states ! (Ends out) (record { walk = r.1.now; same_map = same_map; keys = left₁; ends = ended }) $
+    states ! (Positions out) positions $ join ! $
+    states ! (Values out) values $ join ! $
+    states ! (Key out) key $ join ! $
     move ! (2 ∷ 0 ∷ []) $ join ! $ nothing ! $ nothing ! $ fjoin ! $ nothing ! $ fjoin ! $
     returns ! (look_at ! 0 refl) $ free_all ! refl $ keep ! (3 ∷ 0 ∷ 2 ∷ 1 ∷ []) $
-    by ! (leaves 𝓛 En hs c y made out (tt, (tt, tt)) (tt, (tt, tt))))))))))))))))))))))))))))))
+    by ! (leaves 𝓛 En hs c y made out (tt, (tt, tt)) (tt, (tt, tt))))))))))))))))))))))))))

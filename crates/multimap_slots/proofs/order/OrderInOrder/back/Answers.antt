@@ -1,7 +1,7 @@
 use Rattle.std.proofs.Common.{ap, sym, ◌∙◌}
 use Rattle.multimap_slots.specs.Lists.{last_of}
 use Rattle.multimap_slots.proofs.OrderLemmas.{back-is, walk-order}
-use Rattle.multimap_slots.proofs.order.Order.back.Goals as goal
+use Rattle.multimap_slots.proofs.order.OrderInOrder.back.Goals as goal
 
 pub returns : goal.returns
 returns g c =

@@ -2,7 +2,7 @@ use Rattle.std.proofs.Common.{None, ap, arith, sym, ◌∙◌}
 use Rattle.multimap_slots.specs.Lists.{previous_of}
 use Rattle.multimap_slots.proofs.NodeLemmas.{field_read}
 use Rattle.multimap_slots.proofs.OrderLemmas.{split_at, split_within, previous-is, walk-order}
-use Rattle.multimap_slots.proofs.order.Order.previous.Goals as goal
+use Rattle.multimap_slots.proofs.order.OrderInOrder.previous.Goals as goal
 
 pub index-requires : goal.index-requires
 index-requires g c =

@@ -2,7 +2,7 @@ use Rattle.std.proofs.Common.{None, ap, arith, sym, ◌∙◌}
 use Rattle.multimap_slots.specs.Lists.{next_of}
 use Rattle.multimap_slots.proofs.NodeLemmas.{field_read}
 use Rattle.multimap_slots.proofs.OrderLemmas.{split_at, split_within, next-is, walk-order}
-use Rattle.multimap_slots.proofs.order.Order.next.Goals as goal
+use Rattle.multimap_slots.proofs.order.OrderInOrder.next.Goals as goal
 
 pub index-requires : goal.index-requires
 index-requires g c =
