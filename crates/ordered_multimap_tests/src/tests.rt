@@ -17,7 +17,6 @@ use crate::tests::hashes::{
 };
 use crate::tests::into_iter::{pairs_are_handed_out, rest_is_walked, sum_of};
 use crate::tests::shown::is_shown_apart;
-use crate::{equal, key_values, shown, texts, walks};
 use ordered_multimap::ListOrderedMultimap;
 use ordered_multimap::list_ordered_multimap::RandomState;
 use ordered_multimap_callers::maps::{MIXED, MIXED_TEXTS, Numbers, Texts, map_of, refill};
