@@ -4,8 +4,8 @@ use Rattle.multimap_slots.proofs.tape.Tape.has_end_room.Goals as goal
 
 pub returns : goal.returns
 returns g c = (
-  λ below. let less = ltb-true c.used.result c.slots.result below in
-      rw (← c.self.view_is) (omega (arith, less, c.used.ensures, rw (← c.self.view_is) at c.slots.ensures)),
-  λ room. lt-ltb c.used.result c.slots.result (omega
-      (arith, rw (← c.self.view_is) at room, c.used.ensures, rw (← c.self.view_is) at c.slots.ensures)),
+  λ below. let less = ltb-true c.end_place.result c.slots.result below in
+      omega (arith, less, c.end_place.ensures, c.slots.ensures),
+  λ room. lt-ltb c.end_place.result c.slots.result
+      (omega (arith, room, c.end_place.ensures, c.slots.ensures)),
 )
