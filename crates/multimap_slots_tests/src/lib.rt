@@ -5,26 +5,4 @@
 #![tactic(auto)]
 
 #[cfg(test)]
-mod ample;
-#[cfg(test)]
-mod both;
-#[cfg(test)]
-mod cell_uses;
-#[cfg(test)]
-mod cells;
-#[cfg(test)]
-mod dropped;
-#[cfg(test)]
-mod holes;
-#[cfg(test)]
-mod listed_uses;
-#[cfg(test)]
-mod random;
-#[cfg(test)]
-mod refused;
-#[cfg(test)]
-mod slots;
-#[cfg(test)]
-mod tape_uses;
-#[cfg(test)]
-mod uses;
+mod tests;

@@ -4,12 +4,4 @@
 #![tactic(auto)]
 
 #[cfg(test)]
-mod chains;
-#[cfg(test)]
-mod ends;
-#[cfg(test)]
-mod two_keys;
-#[cfg(test)]
-mod walks;
-#[cfg(test)]
-mod writing;
+mod tests;

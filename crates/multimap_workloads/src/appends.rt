@@ -1,5 +1,5 @@
 //! Appends to a map, in the orders of the workloads. Each answers none where memory was refused.
-use crate::numbers::{choice, key, mix, value};
+use crate::numbers::{Run, mix};
 use ordered_multimap::ListOrderedMultimap;
 use std::hash::BuildHasher;
 
@@ -24,64 +24,44 @@ pub(crate) fn ends<S: BuildHasher>(map: &Map<S>, checksum: u64) -> u64 {
 }
 
 /// A new key for each pair.
-pub(crate) fn distinct<S: BuildHasher>(
-    map: &mut Map<S>,
-    pairs: u64,
-    seed: u64,
-    start: u64,
-) -> Option<u64> {
+pub(crate) fn distinct<S: BuildHasher>(map: &mut Map<S>, run: Run, start: u64) -> Option<u64> {
     let mut checksum = start;
-    for i in 0..pairs {
-        checksum = append(map, key(seed, i), value(seed, i), checksum)?;
+    for i in 0..run.pairs {
+        checksum = append(map, run.key(i), run.value(i), checksum)?;
     }
     Some(ends(map, checksum))
 }
 
 /// A random one of a thousand keys for each pair.
-pub(crate) fn few<S: BuildHasher>(
-    map: &mut Map<S>,
-    pairs: u64,
-    seed: u64,
-    start: u64,
-) -> Option<u64> {
+pub(crate) fn few<S: BuildHasher>(map: &mut Map<S>, run: Run, start: u64) -> Option<u64> {
     let mut checksum = start;
-    for i in 0..pairs {
-        let chosen = key(seed, choice(seed, i, 1000));
-        checksum = append(map, chosen, value(seed, i), checksum)?;
+    for i in 0..run.pairs {
+        let chosen = run.key(run.choice(i, 1000));
+        checksum = append(map, chosen, run.value(i), checksum)?;
     }
     Some(ends(map, checksum))
 }
 
 /// Eight pairs a key, one after another.
-pub(crate) fn grouped<S: BuildHasher>(
-    map: &mut Map<S>,
-    pairs: u64,
-    seed: u64,
-    start: u64,
-) -> Option<u64> {
+pub(crate) fn grouped<S: BuildHasher>(map: &mut Map<S>, run: Run, start: u64) -> Option<u64> {
     let mut checksum = start;
-    for group in 0..pairs / 8 {
+    for group in 0..run.pairs / 8 {
         for round in 0..8u64 {
             let number = group.wrapping_mul(8).wrapping_add(round);
-            checksum = append(map, key(seed, group), value(seed, number), checksum)?;
+            checksum = append(map, run.key(group), run.value(number), checksum)?;
         }
     }
     Some(ends(map, checksum))
 }
 
 /// Eight pairs a key, one in each of eight rounds over all keys.
-pub(crate) fn scattered<S: BuildHasher>(
-    map: &mut Map<S>,
-    pairs: u64,
-    seed: u64,
-    start: u64,
-) -> Option<u64> {
+pub(crate) fn scattered<S: BuildHasher>(map: &mut Map<S>, run: Run, start: u64) -> Option<u64> {
     let mut checksum = start;
-    let groups = pairs / 8;
+    let groups = run.pairs / 8;
     for round in 0..8u64 {
         for group in 0..groups {
             let number = round.wrapping_mul(groups).wrapping_add(group);
-            checksum = append(map, key(seed, group), value(seed, number), checksum)?;
+            checksum = append(map, run.key(group), run.value(number), checksum)?;
         }
     }
     Some(ends(map, checksum))
@@ -91,13 +71,13 @@ pub(crate) fn scattered<S: BuildHasher>(
 pub(crate) fn spread_over_twelve<S: BuildHasher>(
     map: &mut Map<S>,
     first: u64,
-    seed: u64,
+    run: Run,
     start: u64,
 ) -> Option<u64> {
     let mut checksum = start;
     for i in first..first.wrapping_add(16) {
-        let chosen = key(seed, first.wrapping_add(choice(seed, i, 12)));
-        checksum = append(map, chosen, value(seed, i), checksum)?;
+        let chosen = run.key(first.wrapping_add(run.choice(i, 12)));
+        checksum = append(map, chosen, run.value(i), checksum)?;
     }
     Some(checksum)
 }

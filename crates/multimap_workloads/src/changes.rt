@@ -1,7 +1,7 @@
 //! Pairs that come and go, that are replaced, and that leave with their key, on a map that was filled
 //! by appends; and keys that are counted. Each answers none where memory was refused.
 use crate::appends::{Map, distinct, ends};
-use crate::numbers::{choice, key, mix, spread, value};
+use crate::numbers::{Run, mix, spread};
 use std::hash::BuildHasher;
 
 /// Appends a pair and pops the first one. Mixes in the value that left, whether the key that came
@@ -23,56 +23,40 @@ fn churn<S: BuildHasher>(map: &mut Map<S>, key: u64, value: u64, checksum: u64) 
 pub(crate) fn fifo<S: BuildHasher>(
     map: &mut Map<S>,
     filled: u64,
-    pairs: u64,
-    seed: u64,
+    run: Run,
     start: u64,
 ) -> Option<u64> {
     let mut checksum = start;
-    for j in 0..pairs.wrapping_mul(4) {
+    for j in 0..run.pairs.wrapping_mul(4) {
         let number = filled.wrapping_add(j);
-        checksum = churn(map, key(seed, number), value(seed, number), checksum)?;
+        checksum = churn(map, run.key(number), run.value(number), checksum)?;
     }
     Some(ends(map, checksum))
 }
 
 /// Pairs of a thousand keys come and go, four times a pair.
-pub(crate) fn fifo_few<S: BuildHasher>(
-    map: &mut Map<S>,
-    pairs: u64,
-    seed: u64,
-    start: u64,
-) -> Option<u64> {
+pub(crate) fn fifo_few<S: BuildHasher>(map: &mut Map<S>, run: Run, start: u64) -> Option<u64> {
     let mut checksum = start;
-    for j in 0..pairs.wrapping_mul(4) {
-        let number = pairs.wrapping_add(j);
-        let chosen = key(seed, choice(seed, number, 1000));
-        checksum = churn(map, chosen, value(seed, number), checksum)?;
+    for j in 0..run.pairs.wrapping_mul(4) {
+        let number = run.pairs.wrapping_add(j);
+        let chosen = run.key(run.choice(number, 1000));
+        checksum = churn(map, chosen, run.value(number), checksum)?;
     }
     Some(ends(map, checksum))
 }
 
 /// The same as `fifo` on a map of 64 pairs, however many come and go.
-pub(crate) fn fifo_small<S: BuildHasher>(
-    map: &mut Map<S>,
-    pairs: u64,
-    seed: u64,
-    start: u64,
-) -> Option<u64> {
-    let checksum = distinct(map, 64, seed, start)?;
-    fifo(map, 64, pairs, seed, checksum)
+pub(crate) fn fifo_small<S: BuildHasher>(map: &mut Map<S>, run: Run, start: u64) -> Option<u64> {
+    let checksum = distinct(map, Run { pairs: 64, ..run }, start)?;
+    fifo(map, 64, run, checksum)
 }
 
 /// Puts a new pair in the place of those of a random key, four times a pair.
-pub(crate) fn replaces<S: BuildHasher>(
-    map: &mut Map<S>,
-    pairs: u64,
-    seed: u64,
-    start: u64,
-) -> Option<u64> {
+pub(crate) fn replaces<S: BuildHasher>(map: &mut Map<S>, run: Run, start: u64) -> Option<u64> {
     let mut checksum = start;
-    for j in 0..pairs.wrapping_mul(4) {
-        let chosen = key(seed, choice(seed, j, pairs));
-        let old = match map.insert(chosen, value(seed, pairs.wrapping_add(j))) {
+    for j in 0..run.pairs.wrapping_mul(4) {
+        let chosen = run.key(run.choice(j, run.pairs));
+        let old = match map.insert(chosen, run.value(run.pairs.wrapping_add(j))) {
             Ok(old) => old,
             Err(_) => return None,
         };
@@ -82,11 +66,11 @@ pub(crate) fn replaces<S: BuildHasher>(
 }
 
 /// Takes out every other key with its eight values.
-pub(crate) fn removes<S: BuildHasher>(map: &mut Map<S>, pairs: u64, seed: u64, start: u64) -> u64 {
+pub(crate) fn removes<S: BuildHasher>(map: &mut Map<S>, run: Run, start: u64) -> u64 {
     let mut checksum = start;
-    let groups = pairs / 8;
+    let groups = run.pairs / 8;
     for half in 0..groups.wrapping_add(1) / 2 {
-        for old in map.remove_all(&key(seed, half.wrapping_mul(2))) {
+        for old in map.remove_all(&run.key(half.wrapping_mul(2))) {
             checksum = mix(checksum, old);
         }
     }
@@ -105,15 +89,10 @@ pub(crate) fn retains<S: BuildHasher>(map: &mut Map<S>, start: u64) -> u64 {
 }
 
 /// Counts how often each of an eighth as many keys is chosen, four times a pair.
-pub(crate) fn counts<S: BuildHasher>(
-    map: &mut Map<S>,
-    pairs: u64,
-    seed: u64,
-    start: u64,
-) -> Option<u64> {
+pub(crate) fn counts<S: BuildHasher>(map: &mut Map<S>, run: Run, start: u64) -> Option<u64> {
     let mut checksum = start;
-    for j in 0..pairs.wrapping_mul(4) {
-        let chosen = key(seed, choice(seed, j, pairs / 8));
+    for j in 0..run.pairs.wrapping_mul(4) {
+        let chosen = run.key(run.choice(j, run.pairs / 8));
         let entry = map
             .entry(chosen)
             .and_modify(|count| *count = count.wrapping_add(1));

@@ -13,10 +13,11 @@ mod workloads;
 mod writes;
 
 use fast::FastHasher;
+use numbers::Run;
 use ordered_multimap::list_ordered_multimap::DefaultState;
 use std::alloc::Global;
 use std::hash::BuildHasherDefault;
-use workloads::{REFUSED, WORKLOADS, run};
+use workloads::{REFUSED, WORKLOADS, run_workload};
 
 /// The number of the map's default hash builder. Every other number is that of the fast hasher of
 /// `fast.rt`.
@@ -32,15 +33,13 @@ pub fn bench(alloc: Global, workload: u64, hasher: u64, n: u64, seed: u64) -> u6
     let named = usize::try_from(workload)
         .ok()
         .and_then(|place| WORKLOADS.get(place));
+    let run = Run { pairs: n, seed };
     match named {
-        Some(found) if hasher == DEFAULT => run(alloc, DefaultState::new(), *found, n, seed),
-        Some(found) => run(
-            alloc,
-            BuildHasherDefault::<FastHasher>::new(),
-            *found,
-            n,
-            seed,
-        ),
+        Some(found) if hasher == DEFAULT => run_workload(alloc, DefaultState::new(), *found, run),
+        Some(found) => {
+            let fast = BuildHasherDefault::<FastHasher>::new();
+            run_workload(alloc, fast, *found, run)
+        }
         None => REFUSED,
     }
 }

@@ -1,33 +1,33 @@
 //! Look-ups, walks and clones, on a map that was filled by appends.
 use crate::appends::{Map, ends};
-use crate::numbers::{choice, key, mix};
+use crate::numbers::{Run, mix};
 use std::hash::BuildHasher;
 
 /// The first value of a random key among those of the pairs, four times a pair.
-pub(crate) fn hits<S: BuildHasher>(map: &Map<S>, pairs: u64, seed: u64, start: u64) -> u64 {
+pub(crate) fn hits<S: BuildHasher>(map: &Map<S>, run: Run, start: u64) -> u64 {
     let mut checksum = start;
-    for j in 0..pairs.wrapping_mul(4) {
-        let found = map.get(&key(seed, choice(seed, j, pairs)));
+    for j in 0..run.pairs.wrapping_mul(4) {
+        let found = map.get(&run.key(run.choice(j, run.pairs)));
         checksum = mix(checksum, found.copied().unwrap_or(0));
     }
     checksum
 }
 
 /// Looks for keys that are absent, four times a pair.
-pub(crate) fn misses<S: BuildHasher>(map: &Map<S>, pairs: u64, seed: u64, start: u64) -> u64 {
+pub(crate) fn misses<S: BuildHasher>(map: &Map<S>, run: Run, start: u64) -> u64 {
     let mut checksum = start;
-    for j in 0..pairs.wrapping_mul(4) {
-        let found = map.get(&key(seed, pairs.wrapping_add(j)));
+    for j in 0..run.pairs.wrapping_mul(4) {
+        let found = map.get(&run.key(run.pairs.wrapping_add(j)));
         checksum = mix(checksum, found.copied().unwrap_or(1));
     }
     checksum
 }
 
 /// Goes over the eight values of a random key, once for every two pairs.
-pub(crate) fn walks<S: BuildHasher>(map: &Map<S>, pairs: u64, seed: u64, start: u64) -> u64 {
+pub(crate) fn walks<S: BuildHasher>(map: &Map<S>, run: Run, start: u64) -> u64 {
     let mut checksum = start;
-    for j in 0..pairs / 2 {
-        for value in map.get_all(&key(seed, choice(seed, j, pairs / 8))) {
+    for j in 0..run.pairs / 2 {
+        for value in map.get_all(&run.key(run.choice(j, run.pairs / 8))) {
             checksum = mix(checksum, *value);
         }
     }
@@ -86,10 +86,10 @@ pub(crate) fn clones<S: BuildHasher + Clone>(map: &Map<S>, start: u64) -> Option
 }
 
 /// Looks for the sixteen keys from `first` on.
-pub(crate) fn sixteen_keys<S: BuildHasher>(map: &Map<S>, first: u64, seed: u64, start: u64) -> u64 {
+pub(crate) fn sixteen_keys<S: BuildHasher>(map: &Map<S>, first: u64, run: Run, start: u64) -> u64 {
     let mut checksum = start;
     for i in first..first.wrapping_add(16) {
-        let found = map.get(&key(seed, i));
+        let found = map.get(&run.key(i));
         checksum = mix(checksum, found.copied().unwrap_or(1));
     }
     checksum

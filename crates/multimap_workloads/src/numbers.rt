@@ -28,20 +28,29 @@ fn random(seed: u64, index: u64) -> u64 {
     spread(seed.wrapping_add(index.wrapping_add(1).wrapping_mul(GOLDEN)))
 }
 
-/// Key number `index`. All keys of a seed are distinct.
-#[inline(always)]
-pub(crate) fn key(seed: u64, index: u64) -> u64 {
-    random(seed, index)
+/// A run of a workload: how many pairs it has, and the seed of its numbers.
+#[derive(Clone, Copy)]
+pub(crate) struct Run {
+    pub(crate) pairs: u64,
+    pub(crate) seed: u64,
 }
 
-/// Value number `index`.
-#[inline(always)]
-pub(crate) fn value(seed: u64, index: u64) -> u64 {
-    seed.wrapping_add(index.wrapping_mul(GOLDEN))
-}
+impl Run {
+    /// Key number `index`. All keys of a seed are distinct.
+    #[inline(always)]
+    pub(crate) fn key(self, index: u64) -> u64 {
+        random(self.seed, index)
+    }
 
-/// Choice number `index` of a number below `limit`, which is below 2^32.
-#[inline(always)]
-pub(crate) fn choice(seed: u64, index: u64, limit: u64) -> u64 {
-    (random(seed.wrapping_add(SECOND), index) >> 32).wrapping_mul(limit) >> 32
+    /// Value number `index`.
+    #[inline(always)]
+    pub(crate) fn value(self, index: u64) -> u64 {
+        self.seed.wrapping_add(index.wrapping_mul(GOLDEN))
+    }
+
+    /// Choice number `index` of a number below `limit`, which is below 2^32.
+    #[inline(always)]
+    pub(crate) fn choice(self, index: u64, limit: u64) -> u64 {
+        (random(self.seed.wrapping_add(SECOND), index) >> 32).wrapping_mul(limit) >> 32
+    }
 }

@@ -4,7 +4,7 @@ use crate::changes::{counts, fifo, fifo_few, fifo_small, removes, replaces, reta
 use crate::lookups::{
     all_keys, all_lists, all_pairs, clones, hits, misses, sixteen_keys, sum_of_pairs, walks,
 };
-use crate::numbers::{START, mix};
+use crate::numbers::{Run, START, mix};
 use crate::writes::{adds_keys, adds_keys_by_calls, adds_numbers, adds_numbers_by_calls};
 use ordered_multimap::ListOrderedMultimap;
 use std::alloc::Global;
@@ -97,45 +97,44 @@ pub(crate) const WORKLOADS: [Workload; 25] = [
     Workload::UpdateAll,
 ];
 
-/// Makes a map, runs a workload of `n` pairs on it, and lets the map go. Answers the checksum.
-pub(crate) fn run<S: BuildHasher + Clone + Default + Drop>(
+/// Makes a map, runs a workload on it, and lets the map go. Answers the checksum.
+pub(crate) fn run_workload<S: BuildHasher + Clone + Default + Drop>(
     alloc: Global,
     state: S,
     workload: Workload,
-    n: u64,
-    seed: u64,
+    run: Run,
 ) -> u64 {
     if matches!(workload, Workload::SmallMaps) {
-        return run_small::<S>(alloc, n, seed);
+        return run_small::<S>(alloc, run);
     }
     let mut map = ListOrderedMultimap::with_hasher(alloc, state);
-    run_on(&mut map, workload, n, seed)
+    run_on(&mut map, workload, run)
 }
 
-fn run_on<S: BuildHasher + Clone>(map: &mut Map<S>, workload: Workload, n: u64, seed: u64) -> u64 {
-    let Some(filled) = fill(map, workload, n, seed) else {
+fn run_on<S: BuildHasher + Clone>(map: &mut Map<S>, workload: Workload, run: Run) -> u64 {
+    let Some(filled) = fill(map, workload, run) else {
         return REFUSED;
     };
-    match change(map, workload, n, seed, filled) {
-        Some(checksum) => look_up(map, workload, n, seed, checksum),
+    match change(map, workload, run, filled) {
+        Some(checksum) => look_up(map, workload, run, checksum),
         None => REFUSED,
     }
 }
 
 /// The appends of a workload.
-fn fill<S: BuildHasher>(map: &mut Map<S>, workload: Workload, n: u64, seed: u64) -> Option<u64> {
+fn fill<S: BuildHasher>(map: &mut Map<S>, workload: Workload, run: Run) -> Option<u64> {
     match workload {
         Workload::AppendDistinct
         | Workload::GetHit
         | Workload::GetMiss
         | Workload::FifoChurn
         | Workload::InsertReplace
-        | Workload::RetainHalf => distinct(map, n, seed, START),
-        Workload::AppendFew | Workload::FifoChurnFew => few(map, n, seed, START),
+        | Workload::RetainHalf => distinct(map, run, START),
+        Workload::AppendFew | Workload::FifoChurnFew => few(map, run, START),
         Workload::AppendGrouped
         | Workload::GetAllWalk
         | Workload::GetAllMutWalk
-        | Workload::UpdateAll => grouped(map, n, seed, START),
+        | Workload::UpdateAll => grouped(map, run, START),
         Workload::AppendScattered
         | Workload::GetAllWalkScattered
         | Workload::IterAll
@@ -145,7 +144,7 @@ fn fill<S: BuildHasher>(map: &mut Map<S>, workload: Workload, n: u64, seed: u64)
         | Workload::RetainHalfMulti
         | Workload::Clone
         | Workload::IterMutAll
-        | Workload::UpdateValues => scattered(map, n, seed, START),
+        | Workload::UpdateValues => scattered(map, run, START),
         Workload::FifoSmall | Workload::EntryCount | Workload::SmallMaps => Some(START),
     }
 }
@@ -154,22 +153,21 @@ fn fill<S: BuildHasher>(map: &mut Map<S>, workload: Workload, n: u64, seed: u64)
 fn change<S: BuildHasher>(
     map: &mut Map<S>,
     workload: Workload,
-    n: u64,
-    seed: u64,
+    run: Run,
     checksum: u64,
 ) -> Option<u64> {
     match workload {
-        Workload::FifoChurn => fifo(map, n, n, seed, checksum),
-        Workload::FifoChurnFew => fifo_few(map, n, seed, checksum),
-        Workload::FifoSmall => fifo_small(map, n, seed, checksum),
-        Workload::InsertReplace => replaces(map, n, seed, checksum),
-        Workload::RemoveAllHalf => Some(removes(map, n, seed, checksum)),
+        Workload::FifoChurn => fifo(map, run.pairs, run, checksum),
+        Workload::FifoChurnFew => fifo_few(map, run, checksum),
+        Workload::FifoSmall => fifo_small(map, run, checksum),
+        Workload::InsertReplace => replaces(map, run, checksum),
+        Workload::RemoveAllHalf => Some(removes(map, run, checksum)),
         Workload::RetainHalf | Workload::RetainHalfMulti => Some(retains(map, checksum)),
-        Workload::EntryCount => counts(map, n, seed, checksum),
+        Workload::EntryCount => counts(map, run, checksum),
         Workload::IterMutAll => Some(adds_keys(map, checksum)),
-        Workload::GetAllMutWalk => Some(adds_numbers(map, n, seed, checksum)),
+        Workload::GetAllMutWalk => Some(adds_numbers(map, run, checksum)),
         Workload::UpdateValues => Some(adds_keys_by_calls(map, checksum)),
-        Workload::UpdateAll => Some(adds_numbers_by_calls(map, n, seed, checksum)),
+        Workload::UpdateAll => Some(adds_numbers_by_calls(map, run, checksum)),
         _ => Some(checksum),
     }
 }
@@ -178,14 +176,13 @@ fn change<S: BuildHasher>(
 fn look_up<S: BuildHasher + Clone>(
     map: &Map<S>,
     workload: Workload,
-    n: u64,
-    seed: u64,
+    run: Run,
     checksum: u64,
 ) -> u64 {
     match workload {
-        Workload::GetHit => hits(map, n, seed, checksum),
-        Workload::GetMiss => misses(map, n, seed, checksum),
-        Workload::GetAllWalk | Workload::GetAllWalkScattered => walks(map, n, seed, checksum),
+        Workload::GetHit => hits(map, run, checksum),
+        Workload::GetMiss => misses(map, run, checksum),
+        Workload::GetAllWalk | Workload::GetAllWalkScattered => walks(map, run, checksum),
         Workload::IterAll => all_pairs(map, checksum),
         Workload::KeysAll => all_keys(map, checksum),
         Workload::PairsAll => all_lists(map, checksum),
@@ -195,11 +192,11 @@ fn look_up<S: BuildHasher + Clone>(
 }
 
 /// Makes, fills, asks and drops a map of sixteen pairs for every sixteen pairs. Answers the checksum.
-fn run_small<S: BuildHasher + Default + Drop>(alloc: Global, n: u64, seed: u64) -> u64 {
+fn run_small<S: BuildHasher + Default + Drop>(alloc: Global, run: Run) -> u64 {
     let mut checksum = START;
-    for round in 0..n / 16 {
+    for round in 0..run.pairs / 16 {
         let map = ListOrderedMultimap::with_hasher(alloc, S::default());
-        match small_map(map, round.wrapping_mul(16), seed, checksum) {
+        match small_map(map, round.wrapping_mul(16), run, checksum) {
             Some(seen) => checksum = seen,
             None => return REFUSED,
         }
@@ -211,11 +208,11 @@ fn run_small<S: BuildHasher + Default + Drop>(alloc: Global, n: u64, seed: u64) 
 fn small_map<S: BuildHasher + Drop>(
     empty: Map<S>,
     first: u64,
-    seed: u64,
+    run: Run,
     start: u64,
 ) -> Option<u64> {
     let mut map = empty;
-    let filled = spread_over_twelve(&mut map, first, seed, start)?;
-    let found = sixteen_keys(&map, first, seed, filled);
+    let filled = spread_over_twelve(&mut map, first, run, start)?;
+    let found = sixteen_keys(&map, first, run, filled);
     Some(ends(&map, mix(found, sum_of_pairs(&map))))
 }

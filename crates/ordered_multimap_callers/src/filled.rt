@@ -1,8 +1,8 @@
 //! Callers of the walks for writing that are proved for every key and value type: each but
 //! `fill_first_key` knows afterwards that keys, order, lengths and the key of each pair stay. Which
 //! values a walk left no caller knows, and of a step of `pairs_mut` none knows what it leaves.
-ghost use Rattle.std.specs.Prelude.{◌≡◌, length};
-ghost use Rattle.std.specs.Map.{keys_of};
+ghost use Rattle.std.specs.Prelude.{◌≡◌};
+ghost use Rattle.ordered_multimap_callers.specs.Filled.{KeepsKeys};
 
 use ordered_multimap::ListOrderedMultimap;
 use std::alloc::Allocator;
@@ -14,9 +14,7 @@ pub fn fill_all<K: Eq + Hash, V: Copy, S: BuildHasher, A: Allocator>(
     map: &mut ListOrderedMultimap<K, V, S, A>,
     value: V,
 )
-    ensures keys { map.new.lists.keys ≡ map.old.lists.keys }
-    ensures pairs { length map.new.lists.pairs ≡ length map.old.lists.pairs }
-    ensures pair_keys { keys_of map.new.lists.pairs ≡ keys_of map.old.lists.pairs }
+    ensures keeps { KeepsKeys map.old.lists map.new.lists }
     ensures key_room { map.new.key_room ≡ map.old.key_room }
     ensures value_room { map.new.value_room ≡ map.old.value_room }
     ensures tape { map.new.tape ≡ map.old.tape }
@@ -32,9 +30,7 @@ pub fn fill_values<K: Eq + Hash, V: Copy, S: BuildHasher, A: Allocator>(
     map: &mut ListOrderedMultimap<K, V, S, A>,
     value: V,
 )
-    ensures keys { map.new.lists.keys ≡ map.old.lists.keys }
-    ensures pairs { length map.new.lists.pairs ≡ length map.old.lists.pairs }
-    ensures pair_keys { keys_of map.new.lists.pairs ≡ keys_of map.old.lists.pairs }
+    ensures keeps { KeepsKeys map.old.lists map.new.lists }
 {
     for slot in map.values_mut() {
         *slot = value;
@@ -48,9 +44,7 @@ pub fn fill_key<K: Eq + Hash, V: Copy, S: BuildHasher, A: Allocator>(
     key: &K,
     value: V,
 )
-    ensures keys { map.new.lists.keys ≡ map.old.lists.keys }
-    ensures pairs { length map.new.lists.pairs ≡ length map.old.lists.pairs }
-    ensures pair_keys { keys_of map.new.lists.pairs ≡ keys_of map.old.lists.pairs }
+    ensures keeps { KeepsKeys map.old.lists map.new.lists }
 {
     for slot in map.get_all_mut(key) {
         *slot = value;
@@ -63,9 +57,7 @@ pub fn fill_ends<K: Eq + Hash, V: Copy, S: BuildHasher, A: Allocator>(
     map: &mut ListOrderedMultimap<K, V, S, A>,
     value: V,
 )
-    ensures keys { map.new.lists.keys ≡ map.old.lists.keys }
-    ensures pairs { length map.new.lists.pairs ≡ length map.old.lists.pairs }
-    ensures pair_keys { keys_of map.new.lists.pairs ≡ keys_of map.old.lists.pairs }
+    ensures keeps { KeepsKeys map.old.lists map.new.lists }
 {
     let mut walk = map.iter_mut();
     let last = walk.next_back();
@@ -84,9 +76,7 @@ pub fn fill_by_reference<K: Eq + Hash, V: Copy, S: BuildHasher, A: Allocator>(
     map: &mut ListOrderedMultimap<K, V, S, A>,
     value: V,
 )
-    ensures keys { map.new.lists.keys ≡ map.old.lists.keys }
-    ensures pairs { length map.new.lists.pairs ≡ length map.old.lists.pairs }
-    ensures pair_keys { keys_of map.new.lists.pairs ≡ keys_of map.old.lists.pairs }
+    ensures keeps { KeepsKeys map.old.lists map.new.lists }
 {
     for (_, slot) in map {
         *slot = value;

@@ -14,6 +14,7 @@ pub mod lists;
 pub mod maps;
 pub mod retained;
 pub mod stopped;
+pub mod tested;
 pub mod undone;
 pub mod updated;
 pub mod written;

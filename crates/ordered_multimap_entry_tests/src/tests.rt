@@ -13,14 +13,13 @@ use crate::tests::taken::{one_of_many_is_taken, values_are_taken};
 use crate::tests::texts::{Counts, keys_are_entered, values_are_counted};
 use ordered_multimap::ListOrderedMultimap;
 use ordered_multimap_callers::maps::{Numbers, Refusing};
+use ordered_multimap_callers::tested::test_on_empty;
 use refusing_allocator::RefusingAllocator;
 use test_helpers::{Failed, Test};
 
 #[test]
 fn texts_are_entered(rt: HostRuntime) -> Result<(), Failed> {
-    let test = Test::new(rt.alloc());
-    keys_are_entered(&test, &mut ListOrderedMultimap::new(test.alloc()));
-    test.end()
+    test_on_empty(rt.alloc(), keys_are_entered)
 }
 
 fn counts(test: &Test, map: &mut Counts) {
@@ -30,9 +29,7 @@ fn counts(test: &Test, map: &mut Counts) {
 
 #[test]
 fn counts_are_entered(rt: HostRuntime) -> Result<(), Failed> {
-    let test = Test::new(rt.alloc());
-    counts(&test, &mut ListOrderedMultimap::new(test.alloc()));
-    test.end()
+    test_on_empty(rt.alloc(), counts)
 }
 
 fn numbers(test: &Test, map: &mut Numbers) {
@@ -45,9 +42,7 @@ fn numbers(test: &Test, map: &mut Numbers) {
 
 #[test]
 fn numbers_are_entered(rt: HostRuntime) -> Result<(), Failed> {
-    let test = Test::new(rt.alloc());
-    numbers(&test, &mut ListOrderedMultimap::new(test.alloc()));
-    test.end()
+    test_on_empty(rt.alloc(), numbers)
 }
 
 fn without_memory(test: &Test, allocator: &RefusingAllocator, map: &mut Refusing<'_>) {

@@ -17,6 +17,7 @@ use crate::tests::removed::keys_leave;
 use crate::tests::retained::pairs_stay;
 use ordered_multimap::ListOrderedMultimap;
 use ordered_multimap_callers::maps::{Numbers, Texts};
+use ordered_multimap_callers::tested::test_on_empty;
 use test_helpers::{Failed, Test, ZERO};
 
 fn texts_leave(test: &Test, map: &mut Texts) {
@@ -27,9 +28,7 @@ fn texts_leave(test: &Test, map: &mut Texts) {
 
 #[test]
 fn pairs_of_texts_leave(rt: HostRuntime) -> Result<(), Failed> {
-    let test = Test::new(rt.alloc());
-    texts_leave(&test, &mut ListOrderedMultimap::new(test.alloc()));
-    test.end()
+    test_on_empty(rt.alloc(), texts_leave)
 }
 
 fn numbers_leave(test: &Test, map: &mut Numbers) {
@@ -41,9 +40,7 @@ fn numbers_leave(test: &Test, map: &mut Numbers) {
 
 #[test]
 fn pairs_of_numbers_leave(rt: HostRuntime) -> Result<(), Failed> {
-    let test = Test::new(rt.alloc());
-    numbers_leave(&test, &mut ListOrderedMultimap::new(test.alloc()));
-    test.end()
+    test_on_empty(rt.alloc(), numbers_leave)
 }
 
 #[test]

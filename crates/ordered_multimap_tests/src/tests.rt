@@ -20,6 +20,7 @@ use crate::tests::shown::is_shown_apart;
 use ordered_multimap::ListOrderedMultimap;
 use ordered_multimap::list_ordered_multimap::RandomState;
 use ordered_multimap_callers::maps::{MIXED, MIXED_TEXTS, Numbers, Texts, map_of, refill};
+use ordered_multimap_callers::tested::test_on_empty;
 use test_helpers::{Constant, Failed, Test, ZERO};
 
 fn texts_answer(test: &Test, map: &mut Texts) {
@@ -32,9 +33,7 @@ fn texts_answer(test: &Test, map: &mut Texts) {
 
 #[test]
 fn maps_of_texts_answer(rt: HostRuntime) -> Result<(), Failed> {
-    let test = Test::new(rt.alloc());
-    texts_answer(&test, &mut ListOrderedMultimap::new(test.alloc()));
-    test.end()
+    test_on_empty(rt.alloc(), texts_answer)
 }
 
 fn collided_keys_are_apart(

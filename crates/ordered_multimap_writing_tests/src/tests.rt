@@ -5,7 +5,6 @@ mod examples;
 mod keys;
 mod rest;
 mod shown;
-mod steps;
 mod unread;
 mod updated;
 mod walks;
@@ -17,8 +16,8 @@ use crate::tests::shown::walks_are_shown;
 use crate::tests::unread::one_key_is_written;
 use crate::tests::updated::values_are_updated;
 use crate::tests::walks::values_are_lent_once;
-use ordered_multimap::ListOrderedMultimap;
 use ordered_multimap_callers::maps::Numbers;
+use ordered_multimap_callers::tested::test_on_empty;
 use test_helpers::{Failed, Test};
 
 fn numbers_are_lent(test: &Test, map: &mut Numbers) {
@@ -32,14 +31,10 @@ fn numbers_are_lent(test: &Test, map: &mut Numbers) {
 
 #[test]
 fn values_are_written_by_walks(rt: HostRuntime) -> Result<(), Failed> {
-    let test = Test::new(rt.alloc());
-    numbers_are_lent(&test, &mut ListOrderedMultimap::new(test.alloc()));
-    test.end()
+    test_on_empty(rt.alloc(), numbers_are_lent)
 }
 
 #[test]
 fn walks_over_texts_are_shown(rt: HostRuntime) -> Result<(), Failed> {
-    let test = Test::new(rt.alloc());
-    walks_are_shown(&test, &mut ListOrderedMultimap::new(test.alloc()));
-    test.end()
+    test_on_empty(rt.alloc(), walks_are_shown)
 }

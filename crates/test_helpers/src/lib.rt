@@ -13,6 +13,6 @@ mod walks;
 
 pub use requests::requests_until_enough;
 pub use samples::{Constant, Sample, Token, ZERO};
-pub use steps::{Failed, Test, expect_text};
+pub use steps::{Checked, Failed, Test, expect_text};
 pub use values::{is_compared, is_copied, is_shown};
-pub use walks::{End, Plain, walk_difference};
+pub use walks::{End, Plain, taken, walk_difference};

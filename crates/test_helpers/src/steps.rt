@@ -75,6 +75,25 @@ impl Test {
     }
 }
 
+/// What a test begins with, lends to its checks, and ends with.
+pub trait Checked {
+    /// One of which no step failed. `alloc` gives the memory of what it makes.
+    fn begin(alloc: Global) -> Self;
+
+    /// Ends it: an error tells the first step that failed.
+    fn finish(self) -> Result<(), Failed>;
+}
+
+impl Checked for Test {
+    fn begin(alloc: Global) -> Test {
+        Test::new(alloc)
+    }
+
+    fn finish(self) -> Result<(), Failed> {
+        self.end()
+    }
+}
+
 /// Expects that a value was shown by this text.
 pub fn expect_text<E: Drop>(
     test: &Test,

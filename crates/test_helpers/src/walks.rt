@@ -14,8 +14,16 @@ pub trait Plain: Drop {
     /// The values themselves, where the item holds references.
     type Value: PartialEq + Copy;
 
-    /// The item's values.
+    /// The item's values. A number that is lent for writing is raised by 100, so that a test sees
+    /// afterwards which ones were lent.
     fn plain(self) -> Self::Value;
+}
+
+/// Raises a number by 100, and answers what it was.
+fn raise(number: &mut u32) -> u32 {
+    let was = *number;
+    *number = was.saturating_add(100);
+    was
 }
 
 impl<T: PartialEq + Copy> Plain for &T {
@@ -31,6 +39,31 @@ impl<K: PartialEq + Copy, V: PartialEq + Copy> Plain for (&K, &V) {
 
     fn plain(self) -> (K, V) {
         (*self.0, *self.1)
+    }
+}
+
+impl Plain for &mut u32 {
+    type Value = u32;
+
+    fn plain(self) -> u32 {
+        raise(self)
+    }
+}
+
+impl<K: PartialEq + Copy> Plain for (&K, &mut u32) {
+    type Value = (K, u32);
+
+    fn plain(self) -> (K, u32) {
+        (*self.0, raise(self.1))
+    }
+}
+
+/// The item of a walk whose items may be refused.
+impl<T: PartialEq + Copy, E: Drop> Plain for Result<T, E> {
+    type Value = Option<T>;
+
+    fn plain(self) -> Option<T> {
+        self.ok()
     }
 }
 
@@ -64,7 +97,7 @@ where
 }
 
 /// The values of the item that a walk takes at an end.
-fn taken<W: DoubleEndedIterator>(walk: &mut W, end: End) -> Option<<W::Item as Plain>::Value>
+pub fn taken<W: DoubleEndedIterator>(walk: &mut W, end: End) -> Option<<W::Item as Plain>::Value>
 where
     W::Item: Plain,
     requires next { (state : W) → W.can_next state }

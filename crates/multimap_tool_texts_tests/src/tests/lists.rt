@@ -1,6 +1,9 @@
 //! Maps that are written as JSON values with both lists, and read of JSON texts of that form.
 use crate::tests::maps::{has_keys, is_read_as};
 use crate::tests::parts::has_text;
+use multimap_tool::json::ReadFault::{
+    BadKey, BadListedKey, BadValue, NotPair, NotVersion2, RepeatedKey, UnlistedKey, UnusedKey,
+};
 use multimap_tool::json::{ReadFault, from_value, to_value, to_value_2};
 use ordered_multimap::ListOrderedMultimap;
 use ordered_multimap::list_ordered_multimap::DefaultState;
@@ -37,100 +40,54 @@ fn read(alloc: Global, text: &str, keys: &[u32], written: &str) -> Result<bool, 
 
 /// Texts of maps with the keys, and the text as which each is written.
 const MAPS: &[(&str, &[u32], &str)] = &[
-    (
-        "{\"keys\":[],\"pairs\":[]}",
-        &[],
-        "{\"keys\":[],\"pairs\":[]}",
-    ),
-    (
-        "{\"keys\":[2,1],\"pairs\":[[1,5],[2,6],[1,7]]}",
-        &[2, 1],
-        "{\"keys\":[2,1],\"pairs\":[[1,5],[2,6],[1,7]]}",
-    ),
+    (EMPTY, &[], EMPTY),
+    (MIXED, &[2, 1], MIXED),
     // A file of the first version, and one of the second, as they are stored.
     (
         "[\n  [7, -1],\n  [3, 0],\n  [7, 2]\n]\n",
         &[7, 3],
-        "{\"keys\":[7,3],\"pairs\":[[7,-1],[3,0],[7,2]]}",
+        r#"{"keys":[7,3],"pairs":[[7,-1],[3,0],[7,2]]}"#,
     ),
     (
         "{\n  \"pairs\": [\n    [7, -1],\n    [3, 0],\n    [7, 2]\n  ],\n  \"keys\": [3, 7]\n}\n",
         &[3, 7],
-        "{\"keys\":[3,7],\"pairs\":[[7,-1],[3,0],[7,2]]}",
+        r#"{"keys":[3,7],"pairs":[[7,-1],[3,0],[7,2]]}"#,
     ),
 ];
 
+const EMPTY: &str = r#"{"keys":[],"pairs":[]}"#;
+
+const MIXED: &str = r#"{"keys":[2,1],"pairs":[[1,5],[2,6],[1,7]]}"#;
+
 /// Texts of no map, with the fault.
 const BAD: &[(&str, ReadFault)] = &[
-    ("{}", ReadFault::NotVersion2),
-    ("{\"keys\":[1]}", ReadFault::NotVersion2),
-    (
-        "{\"keys\":[1],\"pairs\":[[1,2]],\"v\":2}",
-        ReadFault::NotVersion2,
-    ),
-    ("{\"keys\":[\"x\"],\"pairs\":7}", ReadFault::NotVersion2),
-    ("{\"keys\":{},\"pairs\":[]}", ReadFault::NotVersion2),
-    ("{\"keys\":[1],\"values\":[[1,2]]}", ReadFault::NotVersion2),
-    (
-        "{\"keys\":[\"x\"],\"pairs\":[[1]]}",
-        ReadFault::BadListedKey(0),
-    ),
-    (
-        "{\"keys\":[1,1,\"x\"],\"pairs\":[[1,2]]}",
-        ReadFault::RepeatedKey(1),
-    ),
-    (
-        "{\"keys\":[1,1],\"pairs\":[[1,2]]}",
-        ReadFault::RepeatedKey(1),
-    ),
-    (
-        "{\"keys\":[1],\"pairs\":[[1,5],[3]]}",
-        ReadFault::NotPair(1),
-    ),
-    (
-        "{\"keys\":[1],\"pairs\":[[2,2.5]]}",
-        ReadFault::UnlistedKey(0),
-    ),
-    (
-        "{\"keys\":[1,2],\"pairs\":[[1,5]]}",
-        ReadFault::UnusedKey(1),
-    ),
-    ("{\"keys\":[1],\"pairs\":[]}", ReadFault::UnusedKey(0)),
-    ("{\"keys\":[],\"pairs\":[[1,5]]}", ReadFault::UnlistedKey(0)),
+    ("{}", NotVersion2),
+    (r#"{"keys":[1]}"#, NotVersion2),
+    (r#"{"keys":[1],"pairs":[[1,2]],"v":2}"#, NotVersion2),
+    (r#"{"keys":["x"],"pairs":7}"#, NotVersion2),
+    (r#"{"keys":{},"pairs":[]}"#, NotVersion2),
+    (r#"{"keys":[1],"values":[[1,2]]}"#, NotVersion2),
+    (r#"{"keys":["x"],"pairs":[[1]]}"#, BadListedKey(0)),
+    (r#"{"keys":[1,1,"x"],"pairs":[[1,2]]}"#, RepeatedKey(1)),
+    (r#"{"keys":[1,1],"pairs":[[1,2]]}"#, RepeatedKey(1)),
+    (r#"{"keys":[1],"pairs":[[1,5],[3]]}"#, NotPair(1)),
+    (r#"{"keys":[1],"pairs":[[2,2.5]]}"#, UnlistedKey(0)),
+    (r#"{"keys":[1,2],"pairs":[[1,5]]}"#, UnusedKey(1)),
+    (r#"{"keys":[1],"pairs":[]}"#, UnusedKey(0)),
+    (r#"{"keys":[],"pairs":[[1,5]]}"#, UnlistedKey(0)),
 ];
 
 /// The same where the first pair has no value, and where a later pair is bad.
 const BAD_PAIRS: &[(&str, ReadFault)] = &[
-    ("{\"keys\":[1,1],\"pairs\":[]}", ReadFault::RepeatedKey(1)),
-    (
-        "{\"keys\":[2,1,2],\"pairs\":[[1]]}",
-        ReadFault::RepeatedKey(2),
-    ),
-    ("{\"keys\":[1],\"pairs\":[7]}", ReadFault::NotPair(0)),
-    (
-        "{\"keys\":[1],\"pairs\":[[\"x\",2.5]]}",
-        ReadFault::BadKey(0),
-    ),
-    (
-        "{\"keys\":[1,2],\"pairs\":[[1,2.5],7]}",
-        ReadFault::BadValue(0),
-    ),
-    (
-        "{\"keys\":[1],\"pairs\":[[1,5],[-1,6]]}",
-        ReadFault::BadKey(1),
-    ),
-    (
-        "{\"keys\":[1],\"pairs\":[[1,5],[2,true]]}",
-        ReadFault::UnlistedKey(1),
-    ),
-    (
-        "{\"keys\":[1],\"pairs\":[[1,5],[2,6],[3]]}",
-        ReadFault::UnlistedKey(1),
-    ),
-    (
-        "{\"keys\":[1,2],\"pairs\":[[1,5],[1,true]]}",
-        ReadFault::BadValue(1),
-    ),
+    (r#"{"keys":[1,1],"pairs":[]}"#, RepeatedKey(1)),
+    (r#"{"keys":[2,1,2],"pairs":[[1]]}"#, RepeatedKey(2)),
+    (r#"{"keys":[1],"pairs":[7]}"#, NotPair(0)),
+    (r#"{"keys":[1],"pairs":[["x",2.5]]}"#, BadKey(0)),
+    (r#"{"keys":[1,2],"pairs":[[1,2.5],7]}"#, BadValue(0)),
+    (r#"{"keys":[1],"pairs":[[1,5],[-1,6]]}"#, BadKey(1)),
+    (r#"{"keys":[1],"pairs":[[1,5],[2,true]]}"#, UnlistedKey(1)),
+    (r#"{"keys":[1],"pairs":[[1,5],[2,6],[3]]}"#, UnlistedKey(1)),
+    (r#"{"keys":[1,2],"pairs":[[1,5],[1,true]]}"#, BadValue(1)),
 ];
 
 fn maps_are_read(test: &Test) {
@@ -153,12 +110,12 @@ fn has_pairs(alloc: Global, map: &Numbers, text: &str) -> bool {
 }
 
 fn a_map_is_written(test: &Test, map: &mut Numbers) {
-    let empty = is_written(test.alloc(), map, "{\"keys\":[],\"pairs\":[]}");
+    let empty = is_written(test.alloc(), map, EMPTY);
     test.expect("an empty map", empty);
     for (key, value) in [(1, 10), (2, 20), (1, 30)] {
         test.expect("insert", map.insert(key, value).is_ok());
     }
-    let wanted = "{\"keys\":[1,2],\"pairs\":[[2,20],[1,30]]}";
+    let wanted = r#"{"keys":[1,2],"pairs":[[2,20],[1,30]]}"#;
     test.expect("a map", is_written(test.alloc(), map, wanted));
     let pairs = has_pairs(test.alloc(), map, "[[2,20],[1,30]]");
     test.expect("its pairs alone", pairs);

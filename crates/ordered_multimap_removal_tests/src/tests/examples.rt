@@ -3,6 +3,7 @@
 use ordered_multimap::ListOrderedMultimap;
 use ordered_multimap_callers::lists::{appends, has_lists, has_pairs, inserts};
 use ordered_multimap_callers::maps::fill;
+use ordered_multimap_callers::tested::test_on_empty;
 use test_helpers::{Failed, Test};
 
 type Texts = ListOrderedMultimap<&'static str, i64>;
@@ -50,7 +51,5 @@ fn some_stay(test: &Test, map: &mut Texts) {
 
 #[test]
 fn texts_stay_by_their_values(rt: HostRuntime) -> Result<(), Failed> {
-    let test = Test::new(rt.alloc());
-    some_stay(&test, &mut ListOrderedMultimap::new(test.alloc()));
-    test.end()
+    test_on_empty(rt.alloc(), some_stay)
 }

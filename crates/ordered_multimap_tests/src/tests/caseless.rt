@@ -7,6 +7,7 @@ ghost use Rattle.std.specs.Prelude.{nat_eq};
 
 use ordered_multimap::ListOrderedMultimap;
 use ordered_multimap::list_ordered_multimap::KeyWrapper;
+use ordered_multimap_callers::tested::test_on_empty;
 use std::hash::{Hash, Hasher};
 use test_helpers::{Failed, Test};
 
@@ -115,7 +116,5 @@ fn keys_stay(test: &Test, map: &mut Words) {
 
 #[test]
 fn of_equal_keys_the_first_stays(rt: HostRuntime) -> Result<(), Failed> {
-    let test = Test::new(rt.alloc());
-    keys_stay(&test, &mut ListOrderedMultimap::new(test.alloc()));
-    test.end()
+    test_on_empty(rt.alloc(), keys_stay)
 }

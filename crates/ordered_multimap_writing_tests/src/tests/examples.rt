@@ -3,6 +3,7 @@
 use ordered_multimap::ListOrderedMultimap;
 use ordered_multimap::list_ordered_multimap::Entry;
 use ordered_multimap_callers::lists::has_pairs;
+use ordered_multimap_callers::tested::test_on_empty;
 use test_helpers::{Failed, Test};
 
 type Numbers = ListOrderedMultimap<&'static str, u32>;
@@ -66,7 +67,5 @@ fn examples(test: &Test, map: &mut Numbers) {
 
 #[test]
 fn examples_hold(rt: HostRuntime) -> Result<(), Failed> {
-    let test = Test::new(rt.alloc());
-    examples(&test, &mut ListOrderedMultimap::new(test.alloc()));
-    test.end()
+    test_on_empty(rt.alloc(), examples)
 }

@@ -1,6 +1,5 @@
 //! Walks over all pairs, all values and one key's values for writing, from both ends, and what they
 //! leave.
-use crate::tests::steps::{PairStep, Step, key_walk, pair_walk, value_walk};
 use ordered_multimap::list_ordered_multimap::EntryValuesMut;
 use ordered_multimap_callers::filled::{
     fill_all, fill_by_reference, fill_ends, fill_first_key, fill_key, fill_values,
@@ -9,104 +8,92 @@ use ordered_multimap_callers::lists::{has_lists, has_pairs};
 use ordered_multimap_callers::maps::{MIXED, Numbers, refill};
 use test_helpers::{End, Test, walk_difference};
 
-const VALUES: &[Step] = &[
-    (End::Front, 4, Some(11)),
-    (End::Back, 3, Some(14)),
-    (End::Front, 2, Some(12)),
-    (End::Back, 1, Some(13)),
-    (End::Front, 0, None),
+const VALUES: &[(End, u32)] = &[
+    (End::Front, 11),
+    (End::Back, 14),
+    (End::Front, 12),
+    (End::Back, 13),
 ];
 
-const VALUES_FORTH: &[Step] = &[
-    (End::Front, 4, Some(11)),
-    (End::Front, 3, Some(12)),
-    (End::Front, 2, Some(13)),
-    (End::Front, 1, Some(14)),
-    (End::Front, 0, None),
+const VALUES_FORTH: &[(End, u32)] = &[
+    (End::Front, 11),
+    (End::Front, 12),
+    (End::Front, 13),
+    (End::Front, 14),
 ];
 
-const ONE_VALUE: &[Step] = &[
-    (End::Front, 1, Some(11)),
-    (End::Front, 0, None),
-    (End::Back, 0, None),
-    (End::Front, 0, None),
-    (End::Back, 0, None),
-    (End::Front, 0, None),
-];
-
-const NO_VALUE: &[Step] = &[(End::Back, 0, None), (End::Front, 0, None)];
+const ONE_VALUE: &[(End, u32)] = &[(End::Front, 11)];
 
 const ONE_KEY: &[(u32, u32)] = &[(1, 11), (1, 12), (1, 13), (1, 14)];
 
-// The pairs of a map, the steps of a walk, each of which adds 100 to what it is lent, and the pairs
-// then.
-type Row<S> = (&'static [(u32, u32)], &'static [S], &'static [(u32, u32)]);
+// The pairs of a map, the items of a walk, each of which is raised by 100, and the pairs then.
+type Row<T> = (
+    &'static [(u32, u32)],
+    &'static [(End, T)],
+    &'static [(u32, u32)],
+);
 
 const MIXED_RAISED: &[(u32, u32)] = &[(1, 111), (2, 112), (2, 113), (1, 114)];
 
 const ONE_KEY_RAISED: &[(u32, u32)] = &[(1, 111), (1, 112), (1, 113), (1, 114)];
 
-const OF_PAIRS: &[Row<PairStep>] = &[
-    (&[], &[(End::Back, 0, None), (End::Front, 0, None)], &[]),
-    (
-        &[(1, 11)],
-        &[
-            (End::Front, 1, Some((1, 11))),
-            (End::Front, 0, None),
-            (End::Back, 0, None),
-            (End::Front, 0, None),
-            (End::Back, 0, None),
-            (End::Front, 0, None),
-        ],
-        &[(1, 111)],
-    ),
+const OF_PAIRS: &[Row<(u32, u32)>] = &[
+    (&[], &[], &[]),
+    (&[(1, 11)], &[(End::Front, (1, 11))], &[(1, 111)]),
     (
         MIXED,
         &[
-            (End::Front, 4, Some((1, 11))),
-            (End::Back, 3, Some((1, 14))),
-            (End::Front, 2, Some((2, 12))),
-            (End::Back, 1, Some((2, 13))),
-            (End::Front, 0, None),
+            (End::Front, (1, 11)),
+            (End::Back, (1, 14)),
+            (End::Front, (2, 12)),
+            (End::Back, (2, 13)),
         ],
         MIXED_RAISED,
     ),
     (
         MIXED,
         &[
-            (End::Front, 4, Some((1, 11))),
-            (End::Front, 3, Some((2, 12))),
-            (End::Front, 2, Some((2, 13))),
-            (End::Front, 1, Some((1, 14))),
-            (End::Front, 0, None),
+            (End::Front, (1, 11)),
+            (End::Front, (2, 12)),
+            (End::Front, (2, 13)),
+            (End::Front, (1, 14)),
         ],
         MIXED_RAISED,
     ),
 ];
 
-const OF_VALUES: &[Row<Step>] = &[
-    (&[], NO_VALUE, &[]),
+const OF_VALUES: &[Row<u32>] = &[
+    (&[], &[], &[]),
     (&[(1, 11)], ONE_VALUE, &[(1, 111)]),
     (MIXED, VALUES, MIXED_RAISED),
     (MIXED, VALUES_FORTH, MIXED_RAISED),
 ];
 
 // Of the values of the key 1.
-const OF_KEY: &[Row<Step>] = &[
-    (&[], NO_VALUE, &[]),
+const OF_KEY: &[Row<u32>] = &[
+    (&[], &[], &[]),
     (&[(1, 11)], ONE_VALUE, &[(1, 111)]),
     (ONE_KEY, VALUES, ONE_KEY_RAISED),
     (ONE_KEY, VALUES_FORTH, ONE_KEY_RAISED),
     (
         MIXED,
-        &[
-            (End::Back, 2, Some(14)),
-            (End::Front, 1, Some(11)),
-            (End::Back, 0, None),
-        ],
+        &[(End::Back, 14), (End::Front, 11)],
         &[(1, 111), (2, 12), (2, 13), (1, 114)],
     ),
 ];
+
+fn pair_walk(test: &Test, map: &mut Numbers, wanted: &[(End, (u32, u32))]) {
+    test.expect_same("pairs", walk_difference(&mut map.iter_mut(), wanted));
+}
+
+fn value_walk(test: &Test, map: &mut Numbers, wanted: &[(End, u32)]) {
+    test.expect_same("values", walk_difference(&mut map.values_mut(), wanted));
+}
+
+fn key_walk(test: &Test, map: &mut Numbers, wanted: &[(End, u32)]) {
+    let difference = walk_difference(&mut map.get_all_mut(&1), wanted);
+    test.expect_same("values of a key", difference);
+}
 
 fn pairs_are_raised(test: &Test, map: &mut Numbers) {
     for (at, row) in OF_PAIRS.iter().enumerate() {
@@ -127,7 +114,7 @@ fn values_are_raised(test: &Test, map: &mut Numbers) {
 fn values_of_a_key_are_raised(test: &Test, map: &mut Numbers) {
     for (at, row) in OF_KEY.iter().enumerate() {
         refill(test, map, row.0);
-        key_walk(test, map, 1, row.1);
+        key_walk(test, map, row.1);
         test.expect_at("get_all_mut", at, has_pairs(map, row.2));
     }
 }

@@ -1,0 +1,97 @@
+//! Tests of items that leave the order and stay at their places, and of the right to write the
+//! others, each once.
+ghost use Rattle.std.specs.Prelude.{ℕ};
+ghost use Rattle.multimap_slots.specs.Slots.{IsDetached};
+
+use crate::tests::cell_uses::{Lending, write_last, write_list_ends, write_slots, write_tape_ends};
+use crate::tests::slots::{Items, List, expect_on, expect_slots};
+use crate::tests::{tape_uses, uses};
+use multimap_slots::{SlotList, Tape};
+use test_helpers::{Failed, Test};
+
+// The second item is detached: it is no item of the list, and stays at its place.
+fn it_has_left_the_list(test: &Test, list: &mut List, detached: usize)
+    requires { IsDetached list.old detached }
+    ensures { IsDetached list.new detached }
+{
+    test.expect("remove", uses::remove_none(list, detached));
+    let (item, link) = list.get_detached(detached);
+    test.expect("get_detached", (*item, link) == (20, 2));
+    let place = uses::push_beside(list, 40, detached);
+    test.expect("another place", place == Some(3));
+    expect_slots(test, list, &[(0, 10, 1), (2, 30, 3), (3, 40, 4)]);
+}
+
+// Of three items that are lent: the ends, the second one's link and neighbours, and both ends
+// before they were written.
+fn expect_lent(test: &Test, lending: Lending) {
+    let (lent, second, read, were) = lending;
+    test.expect("the ends", lent == (3, Some(0), Some(3)));
+    test.expect("the second", second == Some((3, Some(0), Some(3))));
+    test.expect("read", read == Some((10, 40)));
+    test.expect("both ends", were == Some((10, 40)));
+}
+
+fn both_ends_are_written(test: &Test, list: &mut List, detached: usize)
+    requires { IsDetached list.old detached }
+    ensures { IsDetached list.new detached }
+{
+    expect_lent(test, write_list_ends(list, 11, 41));
+    test.expect("the last", write_last(list, 42) == Some(41));
+    expect_slots(test, list, &[(0, 11, 1), (2, 30, 3), (3, 42, 4)]);
+}
+
+// Items 10, 20 and 30: the second is detached, 40 comes, and the ends of the others are written.
+fn items_leave_and_are_written(test: &Test, list: &mut List) {
+    let _first = list.push_back(10, 1);
+    let detached = list.push_back(20, 2).unwrap_or(9);
+    let _third = list.push_back(30, 3);
+    if !uses::detach_listed(list, detached) {
+        return test.expect("detach", false);
+    }
+    it_has_left_the_list(test, list, detached);
+    both_ends_are_written(test, list, detached);
+    test.expect("take_detached", list.take_detached(detached) == 20);
+}
+
+fn it_has_left_the_tape(test: &Test, tape: &mut Items, detached: usize)
+    requires { IsDetached tape.old.list detached }
+    ensures { IsDetached tape.new.list detached }
+{
+    test.expect("remove", tape_uses::removes_nothing(tape, detached));
+    let (item, link) = tape.get_detached(detached);
+    test.expect("get_detached", (*item, link) == (20, 2));
+    let place = tape_uses::push_beside(tape, detached, 40);
+    test.expect("another place", place == Some(3));
+}
+
+fn items_of_a_tape_leave_and_are_written(test: &Test, tape: &mut Items) {
+    let _first = tape.push_back(10, 1);
+    let detached = tape.push_back(20, 2).unwrap_or(9);
+    let _third = tape.push_back(30, 3);
+    if !tape_uses::detach_listed(tape, detached) {
+        return test.expect("detach", false);
+    }
+    it_has_left_the_tape(test, tape, detached);
+    expect_lent(test, write_tape_ends(tape, 11, 41));
+    expect_on(test, tape, &[(0, 11, 1), (2, 30, 3), (3, 41, 4)]);
+    test.expect("take_detached", tape.take_detached(detached) == 20);
+}
+
+fn a_slice_of_slots_is_written(test: &Test) {
+    let mut slots = [Some(10), None, Some(30), Some(40)];
+    let (length, read, were) = write_slots(&mut slots, 11, 31);
+    test.expect("length", length == 4);
+    test.expect("read", read == (10, 30) && were == (10, 30));
+    let wanted = [Some(11), None, Some(31), Some(40)];
+    test.expect("written", slots == wanted);
+}
+
+#[test]
+fn items_leave_the_order_and_the_others_are_written(rt: HostRuntime) -> Result<(), Failed> {
+    let test = Test::new(rt.alloc());
+    items_leave_and_are_written(&test, &mut SlotList::new(test.alloc()));
+    items_of_a_tape_leave_and_are_written(&test, &mut Tape::new(test.alloc()));
+    a_slice_of_slots_is_written(&test);
+    test.end()
+}

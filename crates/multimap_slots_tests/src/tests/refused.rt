@@ -1,0 +1,141 @@
+//! Tests with refused memory: the nth request is refused, for each n until none is.
+use crate::tests::both::{Both, Kind, push};
+use crate::tests::slots::Slot;
+use refusing_allocator::RefusingAllocator;
+use test_helpers::{Failed, Test, requests_until_enough};
+
+// More slots than any list of these tests has free.
+const MANY: usize = 40;
+
+/// A call that may find no memory.
+#[derive(Clone, Copy)]
+enum Call {
+    PushBack,
+    Reserve,
+}
+
+// Pushes items until the next one would take memory.
+fn fill_up(test: &Test, list: &mut Both<'_>) {
+    for item in 0..MANY {
+        if list.has_room() {
+            let _place = push(test, list, item, 7);
+        }
+    }
+    test.expect("no room", !list.has_room());
+}
+
+// Items of which one goes and others come, so that places don't rise along a slot list, and a tape
+// has a hole.
+fn make_full(test: &Test, list: &mut Both<'_>) {
+    for item in 0..4usize {
+        let place = push(test, list, item, 7);
+        if item == 1 {
+            test.expect("remove", list.remove(place) == Some(1));
+        }
+    }
+    fill_up(test, list);
+}
+
+// Whether the call has memory enough. A refused push hands its item back.
+fn is_enough(test: &Test, list: &mut Both<'_>, call: Call) -> bool {
+    match call {
+        Call::PushBack => match list.push_back(50, 9) {
+            Ok(_) => true,
+            Err(returned) => {
+                test.expect("the item comes back", returned == 50);
+                false
+            }
+        },
+        Call::Reserve => list.reserve(20).is_ok(),
+    }
+}
+
+// After a refusal the list is as before.
+fn call_and_compare(test: &Test, list: &mut Both<'_>, call: Call, before: &Vec<Slot>) -> bool {
+    let capacity = list.capacity();
+    let enough = is_enough(test, list, call);
+    test.expect("capacity", list.capacity() >= capacity);
+    test.expect("slots", enough || list.slots(test) == *before);
+    enough
+}
+
+fn call_with(
+    test: &Test,
+    allocator: &RefusingAllocator,
+    list: &mut Both<'_>,
+    call: Call,
+    granted: u64,
+) -> bool {
+    make_full(test, list);
+    let before = list.slots(test);
+    allocator.grant(granted);
+    let enough = call_and_compare(test, list, call, &before);
+    test.expect("want of memory alone", enough != allocator.refused());
+    enough
+}
+
+fn call_on(test: &Test, kind: Kind, call: Call, granted: u64) -> bool {
+    let allocator = RefusingAllocator::unlimited(test.alloc());
+    let list = &mut Both::new(kind, &allocator);
+    call_with(test, &allocator, list, call, granted)
+}
+
+fn refusals_change_nothing(test: &Test, kind: Kind, call: Call) {
+    let enough = requests_until_enough(|granted| call_on(test, kind, call, granted));
+    test.expect("a request", enough.unwrap_or(0) > 0);
+}
+
+fn is_made(kind: Kind, allocator: &RefusingAllocator, room: usize) -> bool {
+    match Both::with_capacity(kind, allocator, room) {
+        Ok(list) => list.capacity() >= room,
+        Err(_) => false,
+    }
+}
+
+fn make_with(test: &Test, kind: Kind, granted: u64) -> bool {
+    let allocator = RefusingAllocator::new(test.alloc(), granted);
+    test.expect("room for none", is_made(kind, &allocator, 0));
+    test.expect("no request", allocator.granted() == granted);
+    let enough = is_made(kind, &allocator, 5);
+    test.expect("want of memory alone", enough != allocator.refused());
+    enough
+}
+
+fn lists_are_made(test: &Test, kind: Kind) {
+    let enough = requests_until_enough(|granted| make_with(test, kind, granted));
+    test.expect("a request", enough.unwrap_or(0) > 0);
+}
+
+// Three come, one goes, and others come.
+fn room_is_used(test: &Test, list: &mut Both<'_>) {
+    for item in 0..3usize {
+        let _place = push(test, list, item, 7);
+    }
+    test.expect("remove", list.remove(0) == Some(0));
+    fill_up(test, list);
+}
+
+fn room_is_filled(test: &Test, allocator: &RefusingAllocator, list: &mut Both<'_>) {
+    test.expect("reserve", list.reserve(3).is_ok());
+    allocator.refuse_all();
+    room_is_used(test, list);
+    test.expect("no request", !allocator.refused());
+    test.expect("no memory", !is_enough(test, list, Call::PushBack));
+}
+
+fn room_of(test: &Test, kind: Kind) {
+    let allocator = RefusingAllocator::unlimited(test.alloc());
+    room_is_filled(test, &allocator, &mut Both::new(kind, &allocator));
+}
+
+#[test]
+fn refusals_change_nothing_and_room_is_used(rt: HostRuntime) -> Result<(), Failed> {
+    let test = Test::new(rt.alloc());
+    for kind in [Kind::List, Kind::Tape] {
+        refusals_change_nothing(&test, kind, Call::PushBack);
+        refusals_change_nothing(&test, kind, Call::Reserve);
+        lists_are_made(&test, kind);
+        room_of(&test, kind);
+    }
+    test.end()
+}

@@ -1,0 +1,118 @@
+//! Callers of the tape, proved from its public contracts alone.
+ghost use Rattle.std.specs.Prelude.{◌≡◌, ◌≢◌, ◌+◌, ◌≤◌, ◌<◌, ℕ, false, Some, IfSome, IfNone, IsTrue};
+ghost use Rattle.multimap_slots.specs.Lists.{IsIn};
+ghost use Rattle.multimap_slots.specs.Slots.{IsDetached, item_at};
+ghost use Rattle.multimap_slots.specs.Tapes.{Frees};
+
+use crate::tests::slots::Items;
+use multimap_slots::{Reads, Tape};
+
+/// Whether an item of the list stands at a place.
+pub fn is_listed<T>(tape: &Tape<T, u8>, place: usize) -> bool
+    ensures { IsTrue result → IsIn place tape.now.list.order }
+{
+    tape.get(place, &mut Reads::new()).is_some()
+}
+
+/// Whether the item at `from` may go down to `to`: there are holes alone on its way.
+pub fn can_move_down(tape: &Items, from: usize, to: usize) -> bool
+    ensures listed { IsTrue result → IsIn from tape.now.list.order }
+    ensures down { IsTrue result → to < from }
+    ensures holes { IsTrue result → (q : ℕ) → to ≤ q → q < from → ¬ IsIn q tape.now.list.order }
+{
+    // The length tells the proof that places rise along the list.
+    let _len = tape.len();
+    if !is_listed(tape, from) || from <= to {
+        return false;
+    }
+    match tape.previous_place_before(from) {
+        Some(before) => before < to,
+        None => true,
+    }
+}
+
+/// Detaches the item at a place, if one of the list is there, and answers whether there was.
+pub fn detach_listed<T>(tape: &mut Tape<T, u8>, place: usize) -> bool
+    ensures detached { IsTrue result → IsDetached tape.new.list place }
+    ensures item { IsTrue result → item_at tape.new.list place ≡ item_at tape.old.list place }
+    ensures freed { IsTrue result → Frees tape.old tape.new }
+    ensures kept { result ≡ false → tape.new ≡ tape.old }
+{
+    // The length tells the proof that each listed place has an item.
+    let _len = tape.len();
+    let is_there = is_listed(tape, place);
+    if is_there {
+        tape.detach(place);
+    }
+    is_there
+}
+
+/// Takes an item out of the list and then out of its slot, if one is there. It is freed once.
+pub fn detach_and_take(tape: &mut Items, place: usize) -> Option<usize>
+    ensures item { IfSome result (λ item. item_at tape.old.list place ≡ Some item) }
+    ensures freed { IfSome result (λ _. Frees tape.old tape.new) }
+    ensures kept { IfNone result (tape.new ≡ tape.old) }
+{
+    if detach_listed(tape, place) {
+        Some(tape.take_detached(place))
+    } else {
+        None
+    }
+}
+
+/// Tries to remove what is detached already, and answers whether nothing was there.
+pub fn removes_nothing(tape: &mut Items, place: usize) -> bool
+    requires { IsDetached tape.old.list place }
+    ensures none { IsTrue result }
+    ensures unchanged { tape.new ≡ tape.old }
+{
+    tape.remove(place).is_none()
+}
+
+/// Pushes an item, and answers its place, which is another than a detached item's.
+pub fn push_beside(tape: &mut Items, place: usize, item: usize) -> Option<usize>
+    requires { IsDetached tape.old.list place }
+    ensures kept { IsDetached tape.new.list place }
+    ensures apart { IfSome result (λ at. place ≢ at) }
+{
+    let Ok(at) = tape.push_back(item, 4) else {
+        return None;
+    };
+    Some(at)
+}
+
+/// Takes both items out, and answers whether both were there.
+pub fn remove_both(tape: &mut Items, first: usize, second: usize) -> bool
+    ensures moved { tape.new.moved ≡ tape.old.moved }
+    ensures freed { IsTrue result → tape.new.freed ≡ tape.old.freed + 2 }
+{
+    let first = tape.remove(first);
+    let second = tape.remove(second);
+    first.is_some() && second.is_some()
+}
+
+/// Moves an item down, if it may go, and answers whether it went.
+pub fn move_if_free(tape: &mut Items, from: usize, to: usize) -> bool
+    ensures moved { IsTrue result → tape.new.moved ≡ tape.old.moved + 1 }
+    ensures freed { tape.new.freed ≡ tape.old.freed }
+    ensures kept { result ≡ false → tape.new ≡ tape.old }
+{
+    let is_free = can_move_down(tape, from, to);
+    if is_free {
+        tape.move_down(from, to);
+    }
+    is_free
+}
+
+/// Cuts the end, and answers whether the list has no hole then.
+pub fn cut_to_no_hole(tape: &mut Items) -> bool
+    ensures holes { IsTrue result → tape.new.holes ≡ 0 }
+    ensures moved { tape.new.moved ≡ tape.old.moved }
+    ensures freed { tape.new.freed ≡ tape.old.freed }
+{
+    tape.cut_end();
+    match tape.back_place() {
+        Some(last) => last < tape.len(),
+        None => true,
+    }
+}
