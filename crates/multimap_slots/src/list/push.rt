@@ -2,6 +2,7 @@
 ghost use Rattle.std.specs.Prelude.{◌≡◌, ◌<◌, ◌≤◌, ◌+◌, length, IfOk, IfErr, OnOk, OnErr, IsOk, Some, None, get_or, vec_capacity};
 ghost use Rattle.multimap_slots.specs.Slots.{DoublesIfGrown, HasRoomFor, KeepsItems, PushesBack};
 ghost use Rattle.multimap_slots.specs.ListLayout.{put};
+ghost use Rattle.multimap_slots.specs.Vectors.{Rewrites};
 
 use super::SlotList;
 use crate::grow::grow_to;
@@ -19,8 +20,7 @@ fn put_item<T, A: Allocator>(items: &mut Vec<Option<T>, A>, place: usize, item: 
     requires within { place ≤ length items.old.items }
     requires empty { get_or items.old.items place None ≡ None }
     requires room { place ≡ length items.old.items → place < vec_capacity items.old }
-    ensures items { items.new.items ≡ put items.old.items place (Some item) }
-    ensures capacity { vec_capacity items.new ≡ vec_capacity items.old }
+    ensures { Rewrites items.old items.new (λ old new. new ≡ put old place (Some item)) }
 {
     if place == items.len() {
         items.push_reserved(Some(item));

@@ -1,6 +1,7 @@
 //! Writes of single nodes. Each leaves the fields that it doesn't name as they were.
-ghost use Rattle.std.specs.Prelude.{◌≡◌, ◌<◌, length, IfSome, vec_capacity};
+ghost use Rattle.std.specs.Prelude.{◌<◌, length, IfSome, vec_capacity};
 ghost use Rattle.multimap_slots.specs.ListLayout.{SetsNext, SetsPrevious, SetsDetached, SetsListed, Releases, CanClaim, Claims};
+ghost use Rattle.multimap_slots.specs.Vectors.{Rewrites};
 
 use super::node::{Node, State};
 use super::optional_place::OptionalPlace;
@@ -14,8 +15,8 @@ pub(super) fn set_next<L, A: Allocator>(
     to: OptionalPlace,
 )
     requires { IfSome from (λ p. p < length nodes.old.items) }
-    ensures written { SetsNext nodes.old.items nodes.new.items front.old front.new from to }
-    ensures capacity { vec_capacity nodes.new ≡ vec_capacity nodes.old }
+    ensures { Rewrites nodes.old nodes.new
+        (λ old new. SetsNext old new front.old front.new from to) }
 {
     match from.get() {
         Some(place) => {
@@ -34,8 +35,8 @@ pub(super) fn set_previous<L, A: Allocator>(
     to: OptionalPlace,
 )
     requires { IfSome from (λ p. p < length nodes.old.items) }
-    ensures written { SetsPrevious nodes.old.items nodes.new.items back.old back.new from to }
-    ensures capacity { vec_capacity nodes.new ≡ vec_capacity nodes.old }
+    ensures { Rewrites nodes.old nodes.new
+        (λ old new. SetsPrevious old new back.old back.new from to) }
 {
     match from.get() {
         Some(place) => {
@@ -49,8 +50,7 @@ pub(super) fn set_previous<L, A: Allocator>(
 /// Marks the place as detached.
 pub(super) fn set_detached<L, A: Allocator>(nodes: &mut Vec<Node<L>, A>, place: usize)
     requires { place < length nodes.old.items }
-    ensures written { SetsDetached nodes.old.items nodes.new.items place }
-    ensures capacity { vec_capacity nodes.new ≡ vec_capacity nodes.old }
+    ensures { Rewrites nodes.old nodes.new (λ old new. SetsDetached old new place) }
 {
     let node = &mut nodes[place];
     node.state = State::Detached;
@@ -63,8 +63,7 @@ pub(super) fn set_listed<L, A: Allocator>(
     previous: OptionalPlace,
 )
     requires { place < length nodes.old.items }
-    ensures written { SetsListed nodes.old.items nodes.new.items place previous }
-    ensures capacity { vec_capacity nodes.new ≡ vec_capacity nodes.old }
+    ensures { Rewrites nodes.old nodes.new (λ old new. SetsListed old new place previous) }
 {
     let node = &mut nodes[place];
     node.next = OptionalPlace::none();
@@ -79,8 +78,7 @@ pub(super) fn release<L, A: Allocator>(
     free: OptionalPlace,
 )
     requires { place < length nodes.old.items }
-    ensures written { Releases nodes.old.items nodes.new.items place free }
-    ensures capacity { vec_capacity nodes.new ≡ vec_capacity nodes.old }
+    ensures { Rewrites nodes.old nodes.new (λ old new. Releases old new place free) }
 {
     let node = &mut nodes[place];
     node.next = free;
@@ -94,9 +92,9 @@ pub(super) fn claim<L: Copy, A: Allocator>(
     node: Node<L>,
 ) -> usize
     requires { CanClaim nodes.old.items free.old (vec_capacity nodes.old) }
-    ensures claims { Claims nodes.old.items nodes.new.items free.old free.new node result }
+    ensures claims { Rewrites nodes.old nodes.new
+        (λ old new. Claims old new free.old free.new node result) }
     ensures within { result < length nodes.new.items }
-    ensures capacity { vec_capacity nodes.new ≡ vec_capacity nodes.old }
 {
     match free.get() {
         Some(place) => {

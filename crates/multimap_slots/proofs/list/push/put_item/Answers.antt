@@ -1,11 +1,14 @@
-use Rattle.std.proofs.Common.{arith, sym, ◌∙◌}
+use Rattle.std.proofs.Common.{arith, refl, sym, ◌∙◌}
 use Rattle.multimap_slots.proofs.PutLemmas.{put-set, put-push}
 use Rattle.multimap_slots.proofs.list.push.put_item.Goals as goal
 
-pub returns-then-place-len-clause-items : goal.returns-then-place-len-clause-items
-returns-then-place-len-clause-items g c =
-    c.push_reserved.ensures.items ∙ sym (put-push _ _ _ (omega (arith, c.args.items.now.ok)))
+pub returns-then-place-len : goal.returns-then-place-len
+returns-then-place-len g c =
+    record {
+      items = c.push_reserved.ensures.items ∙ sym (put-push _ _ _ (omega (arith, c.args.items.now.ok)));
+      capacity = c.push_reserved.ensures.capacity;
+    }
 
-pub returns-clause-items : goal.returns-clause-items
-returns-clause-items g c =
-    rw c.replace.ensures.after (sym (put-set _ _ _ (omega (arith, c.args.items.now.ok))))
+pub returns : goal.returns
+returns g c =
+    record { items = rw c.replace.ensures.after (sym (put-set _ _ _ (omega (arith, c.args.items.now.ok)))); capacity = refl }

@@ -13,7 +13,7 @@ some-end-requires g c =
 
 pub set_next-requires : goal.set_next-requires
 set_next-requires g c =
-    within_more _ _ _ (omega (arith, length-listed _ _ _ _ c.set_listed.ensures.written))
+    within_more _ _ _ (omega (arith, length-listed _ _ _ _ c.set_listed.ensures.items))
     (last-within c.self.invariant _ _ (back-is c.self.invariant) (λ x i. i))
 
 pub overflow_sub-self : goal.overflow_sub-self
@@ -32,7 +32,7 @@ invariant_of-self g c =
     rw c.some-end.ensures
     (IsOrdered-attach c.self.invariant (apart-is c.self.invariant _ apart.not_listed apart.not_free)
     (taken-within c.self.invariant _ apart.not_free)
-    c.set_listed.ensures.written (rw c.some-end.ensures at c.set_next.ensures.written)).ordered
+    c.set_listed.ensures.items (rw c.some-end.ensures at c.set_next.ensures.items)).ordered
 
 pub returns-clause-relists : goal.returns-clause-relists
 returns-clause-relists g c =
@@ -40,7 +40,7 @@ returns-clause-relists g c =
     let attached =
     IsOrdered-attach c.self.invariant (apart-is c.self.invariant _ apart.not_listed apart.not_free)
     (taken-within c.self.invariant _ apart.not_free)
-    c.set_listed.ensures.written (rw c.some-end.ensures at c.set_next.ensures.written) in
+    c.set_listed.ensures.items (rw c.some-end.ensures at c.set_next.ensures.items) in
     rw (← c.self.view_is) (record {
       order_is = walk-order attached.ordered ∙ attached.order_is ∙ ap (λ ps. ps ++ c.args.place ∷ []) (sym (walk-order c.self.invariant));
       states_are = search rules;

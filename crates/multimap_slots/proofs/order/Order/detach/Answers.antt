@@ -24,7 +24,7 @@ pub set_previous-requires : goal.set_previous-requires
 set_previous-requires g c =
     let s = split_at c.self.invariant c.args.place (rw (← c.self.view_is) at c.requires) in
     let read = field_read (λ n. n.next) _ _ _ None (split_within c.self.invariant s) c.index-2.ensures in
-    within_more _ (length c.self.inside.nodes.items) _ (omega (arith, length-states _ _ c.set_next.ensures.written.states))
+    within_more _ (length c.self.inside.nodes.items) _ (omega (arith, length-states _ _ c.set_next.ensures.items.states))
     (first-within c.self.invariant _ s.back (read ∙ (neighbours c.self.invariant s).1) (was_behind s))
 
 pub set_detached-requires : goal.set_detached-requires
@@ -33,27 +33,27 @@ set_detached-requires g c =
     omega (
       arith,
       split_within c.self.invariant s,
-      length-states _ _ c.set_next.ensures.written.states,
+      length-states _ _ c.set_next.ensures.items.states,
       length-states _ _
-          c.set_previous.ensures.written.states,
+          c.set_previous.ensures.items.states,
     )
 
 pub invariant_of-self : goal.invariant_of-self
 invariant_of-self g c =
     let s = split_at c.self.invariant c.args.place (rw (← c.self.view_is) at c.requires) in
     let within = split_within c.self.invariant s in
-    (IsOrdered-detach c.self.invariant s c.set_next.ensures.written c.set_previous.ensures.written
+    (IsOrdered-detach c.self.invariant s c.set_next.ensures.items c.set_previous.ensures.items
     (field_read (λ n. n.previous) _ _ _ None within c.index.ensures)
-    (field_read (λ n. n.next) _ _ _ None within c.index-2.ensures) c.set_detached.ensures.written).ordered
+    (field_read (λ n. n.next) _ _ _ None within c.index-2.ensures) c.set_detached.ensures.items).ordered
 
 pub returns-clause-relists : goal.returns-clause-relists
 returns-clause-relists g c =
     let s = split_at c.self.invariant c.args.place (rw (← c.self.view_is) at c.requires) in
     let within = split_within c.self.invariant s in
     let removed =
-    IsOrdered-detach c.self.invariant s c.set_next.ensures.written c.set_previous.ensures.written
+    IsOrdered-detach c.self.invariant s c.set_next.ensures.items c.set_previous.ensures.items
     (field_read (λ n. n.previous) _ _ _ None within c.index.ensures)
-    (field_read (λ n. n.next) _ _ _ None within c.index-2.ensures) c.set_detached.ensures.written in
+    (field_read (λ n. n.next) _ _ _ None within c.index-2.ensures) c.set_detached.ensures.items in
     rw (← c.self.view_is) (record {
       order_is = walk-removed c.self.invariant s removed;
       states_are = search rules;
@@ -67,7 +67,7 @@ returns-clause-shorter g c =
     let s = split_at c.self.invariant c.args.place (rw (← c.self.view_is) at c.requires) in
     let within = split_within c.self.invariant s in
     let removed =
-    IsOrdered-detach c.self.invariant s c.set_next.ensures.written c.set_previous.ensures.written
+    IsOrdered-detach c.self.invariant s c.set_next.ensures.items c.set_previous.ensures.items
     (field_read (λ n. n.previous) _ _ _ None within c.index.ensures)
-    (field_read (λ n. n.next) _ _ _ None within c.index-2.ensures) c.set_detached.ensures.written in
+    (field_read (λ n. n.next) _ _ _ None within c.index-2.ensures) c.set_detached.ensures.items in
     rw (← c.self.view_is) (length-walk_removed c.self.invariant s removed)

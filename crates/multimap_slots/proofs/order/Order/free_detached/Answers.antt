@@ -20,13 +20,13 @@ invariant_of-self g c =
     let apart = rw (← c.self.view_is) at c.requires in
     rw c.some-self-inside.ensures
     (IsOrdered-free c.self.invariant (apart-is c.self.invariant _ apart.not_listed apart.not_free)
-    (taken-within c.self.invariant _ apart.not_free) c.release.ensures.written).ordered
+    (taken-within c.self.invariant _ apart.not_free) c.release.ensures.items).ordered
 
 pub returns-clause-relists : goal.returns-clause-relists
 returns-clause-relists g c =
     let apart = rw (← c.self.view_is) at c.requires in
     let freed = IsOrdered-free c.self.invariant (apart-is c.self.invariant _ apart.not_listed apart.not_free)
-    (taken-within c.self.invariant _ apart.not_free) c.release.ensures.written in
+    (taken-within c.self.invariant _ apart.not_free) c.release.ensures.items in
     rw (← c.self.view_is) (record {
       order_is = walk-kept c.self.invariant freed;
       states_are = search rules;

@@ -21,19 +21,19 @@ some-end-requires g c = omega (arith, c.claim-place.ensures.within, c.claim-plac
 
 pub set_next-requires : goal.set_next-requires
 set_next-requires g c =
-    within_more _ _ _ (rw c.claim-place.ensures.claims.written (length-put _ _ _))
+    within_more _ _ _ (rw c.claim-place.ensures.claims.items.written (length-put _ _ _))
     (last-within c.self.invariant _ _ (back-is c.self.invariant) (λ x i. i))
 
 pub invariant_of-self : goal.invariant_of-self
 invariant_of-self g c =
     rw c.some-end.ensures
-    (IsOrdered-push c.self.invariant c.claim-place.ensures.claims c.none.ensures refl refl
-    (rw c.some-end.ensures at c.set_next.ensures.written)).ordered
+    (IsOrdered-push c.self.invariant c.claim-place.ensures.claims.items c.none.ensures refl refl
+    (rw c.some-end.ensures at c.set_next.ensures.items)).ordered
 
 pub returns-clause-adds : goal.returns-clause-adds
 returns-clause-adds g c =
-    let claims = c.claim-place.ensures.claims in
-    let tied = c.set_next.ensures.written in
+    let claims = c.claim-place.ensures.claims.items in
+    let tied = c.set_next.ensures.items in
     let pushed = IsOrdered-push c.self.invariant claims c.none.ensures refl refl (rw c.some-end.ensures at tied) in
     rw (← c.self.view_is) (record {
       was_free = claims.was_free;

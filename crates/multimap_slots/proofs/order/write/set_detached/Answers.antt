@@ -1,12 +1,15 @@
-use Rattle.std.proofs.Common.{ap}
+use Rattle.std.proofs.Common.{ap, refl}
 use Rattle.std.proofs.lemmas.List.{map-set}
 use Rattle.std.proofs.Math.Seq.{map-set_same}
 use Rattle.multimap_slots.proofs.order.write.set_detached.Goals as goal
 
-pub returns-clause-written : goal.returns-clause-written
-returns-clause-written g c = record {
-  nexts = map-set_same _ _ _ _ _ (ap (λ n. n.next) c.index_mut-node.ensures.value);
-  previouses = map-set_same _ _ _ _ _ (ap (λ n. n.previous) c.index_mut-node.ensures.value);
-  states = map-set _ _ _ _;
-  links = map-set_same _ _ _ _ _ (ap (λ n. n.link) c.index_mut-node.ensures.value);
+pub returns : goal.returns
+returns g c = record {
+  items = record {
+    nexts = map-set_same _ _ _ _ _ (ap (λ n. n.next) c.index_mut-node.ensures.value);
+    previouses = map-set_same _ _ _ _ _ (ap (λ n. n.previous) c.index_mut-node.ensures.value);
+    states = map-set _ _ _ _;
+    links = map-set_same _ _ _ _ _ (ap (λ n. n.link) c.index_mut-node.ensures.value);
+  };
+  capacity = refl;
 }

@@ -3,16 +3,19 @@ use Rattle.std.proofs.Math.Seq.{map-set_same}
 use Rattle.multimap_slots.proofs.NodeLemmas.{IsMoved-field, IsMoved-first}
 use Rattle.multimap_slots.proofs.order.write.set_previous.Goals as goal
 
-pub returns-in-Some-clause-written : goal.returns-in-Some-clause-written
-returns-in-Some-clause-written g c =
+pub returns-in-Some : goal.returns-in-Some
+returns-in-Some g c =
     let within = rw (← c.in-Some.ensures) at c.requires in
     record {
-      previouses = rw (← c.in-Some.ensures) (IsMoved-field (λ n. n.previous) _ _ _ _ within);
-      nexts = map-set_same _ _ _ _ _ (ap (λ n. n.next) c.index_mut-node.ensures.value);
-      states = map-set_same _ _ _ _ _ (ap (λ n. n.state) c.index_mut-node.ensures.value);
-      links = map-set_same _ _ _ _ _ (ap (λ n. n.link) c.index_mut-node.ensures.value);
+      items = record {
+        previouses = rw (← c.in-Some.ensures) (IsMoved-field (λ n. n.previous) _ _ _ _ within);
+        nexts = map-set_same _ _ _ _ _ (ap (λ n. n.next) c.index_mut-node.ensures.value);
+        states = map-set_same _ _ _ _ _ (ap (λ n. n.state) c.index_mut-node.ensures.value);
+        links = map-set_same _ _ _ _ _ (ap (λ n. n.link) c.index_mut-node.ensures.value);
+      };
+      capacity = refl;
     }
 
-pub returns-in-None-clause-written : goal.returns-in-None-clause-written
-returns-in-None-clause-written g c =
-    rw (← c.in-None.ensures) (record { previouses = IsMoved-first _ _ _; nexts = refl; states = refl; links = refl })
+pub returns-in-None : goal.returns-in-None
+returns-in-None g c =
+    record { items = rw (← c.in-None.ensures) (record { previouses = IsMoved-first _ _ _; nexts = refl; states = refl; links = refl }); capacity = refl }
