@@ -1,12 +1,14 @@
 -- How the nodes of a slot list lie. No public clause cites this module.
 use Rattle.std.specs.Prelude.{◌≡◌, ◌≢◌, ℕ, zero, suc, ◌+◌, ◌<◌, ◌≤◌, Option, Some, None, IsSome}
 use Rattle.std.specs.Prelude.{List, [], ◌∷◌, ◌++◌, map, get_or, slice_get, slice_set, length}
+use Rattle.std.specs.Prelude.{Result, OnOk}
 use Rattle.std.specs.List.{sum_by}
 use Rattle.multimap_slots.specs.declared.order.node.Node.{Node}
 use Rattle.multimap_slots.specs.declared.order.node.State.{State}
 use Rattle.multimap_slots.specs.declared.order.node.State.TheVariants.{Listed, Free, Detached}
 use Rattle.multimap_slots.specs.Lists.{IsIn, AreDistinct}
 use Rattle.multimap_slots.specs.Paths.{after, IsMoved, IsPath}
+use Rattle.multimap_slots.specs.Slots.{Slots, DoublesIfGrown, HasRoomFor, KeepsItems}
 
 -- the listed places in order, the state and the link of each place, how many places fit, and how
 -- many of them are detached
@@ -177,6 +179,15 @@ module _ {L : Type 0} where
     pub frees : (n : ℕ) → IsFreeList (nexts old) (states old) n free
         → (m : ℕ) × (m + length old + 1 ≡ n + length new)
         × IsFreeList (nexts new) (states new) m free'
+
+-- so many more items fit, or they were refused; only the capacity may differ, and where it rises it
+-- at least doubles
+pub record GrowsFor {T L X E : Type 0} (more : ℕ) (old new : Slots T L) (result : Result X E)
+    : Type 0 where
+  pub room : OnOk result (HasRoomFor new more)
+  pub unchanged : KeepsItems old new
+  pub rises : old.capacity ≤ new.capacity
+  pub doubles : DoublesIfGrown old.capacity new.capacity
 
 -- each place has an item exactly if it is not free
 pub record IsFilled {T : Type 0} (items : List (Option T)) (order : List ℕ) (states : List State)

@@ -1,5 +1,6 @@
 //! Growth of a vector, to memory of its own.
-ghost use Rattle.std.specs.Prelude.{◌≡◌, ◌≤◌, OnOk, OnErr, vec_capacity};
+ghost use Rattle.std.specs.Prelude.{◌≡◌, vec_capacity};
+ghost use Rattle.multimap_slots.specs.Vectors.{GrowsTo};
 
 use std::alloc::{AllocError, Allocator};
 use std::mem;
@@ -12,9 +13,7 @@ pub(crate) fn grow_to<T, A: Allocator + Copy>(
     slots: usize,
 ) -> Result<(), AllocError>
     ensures items { items.new.items ≡ items.old.items }
-    ensures room { OnOk result (slots ≤ vec_capacity items.new) }
-    ensures refused { OnErr result (vec_capacity items.new ≡ vec_capacity items.old) }
-    ensures capacity { vec_capacity items.old ≤ vec_capacity items.new }
+    ensures capacity { GrowsTo slots (vec_capacity items.old) (vec_capacity items.new) result }
 {
     // The capacity tells the proof that the items fit into more slots.
     if slots <= items.capacity() {

@@ -1,6 +1,7 @@
 //! Places in an order, each with a link, over one vector of nodes that also lists the free places.
-ghost use Rattle.std.specs.Prelude.{◌≡◌, ◌+◌, ◌<◌, ◌≤◌, ◌↔◌, [], length, Some, IsTrue, IfOk, OnOk, OnErr, IsOk, slice_get, slice_set};
+ghost use Rattle.std.specs.Prelude.{◌≡◌, ◌+◌, ◌<◌, ◌≤◌, ◌↔◌, [], length, Some, IsTrue, IfOk, IsOk, slice_get, slice_set};
 ghost use Rattle.multimap_slots.specs.Lists.{IsIn, without};
+ghost use Rattle.multimap_slots.specs.Vectors.{GrowsTo};
 
 mod attached;
 mod detached;
@@ -107,10 +108,8 @@ impl<L: Copy, A: Allocator> Order<L, A> {
     pub(crate) fn grow_to(&mut self, slots: usize) -> Result<(), AllocError>
     where
         A: Copy,
-        ensures ok { OnOk result (slots ≤ self.new.capacity) }
-        ensures refused { OnErr result (self.new.capacity ≡ self.old.capacity) }
+        ensures capacity { GrowsTo slots self.old.capacity self.new.capacity result }
         ensures rest { KeepsPlaces self.old self.new }
-        ensures capacity { self.old.capacity ≤ self.new.capacity }
     {
         grow_to(&mut self.nodes, slots)
     }

@@ -1,7 +1,7 @@
 //! Room, and items that come into the list.
 ghost use Rattle.std.specs.Prelude.{◌≡◌, ◌<◌, ◌≤◌, ◌+◌, length, IfOk, IfErr, OnOk, OnErr, IsOk, Some, None, get_or, vec_capacity};
 ghost use Rattle.multimap_slots.specs.Slots.{DoublesIfGrown, HasRoomFor, KeepsItems, PushesBack};
-ghost use Rattle.multimap_slots.specs.ListLayout.{put};
+ghost use Rattle.multimap_slots.specs.ListLayout.{GrowsFor, put};
 ghost use Rattle.multimap_slots.specs.Vectors.{Rewrites};
 
 use super::SlotList;
@@ -66,10 +66,7 @@ impl<T, L: Copy, A: Allocator> SlotList<T, L, A> {
     where
         A: Copy,
         requires { self.old.capacity < length self.old.order + additional }
-        ensures room { OnOk result (HasRoomFor self.new additional) }
-        ensures unchanged { KeepsItems self.old self.new }
-        ensures capacity { self.old.capacity ≤ self.new.capacity }
-        ensures doubles { DoublesIfGrown self.old.capacity self.new.capacity }
+        ensures { GrowsFor additional self.old self.new result }
     {
         let Some(doubled) = self.capacity().checked_mul(2) else {
             return Err(AllocError);
