@@ -6,7 +6,7 @@ use Rattle.std.specs.List.{sum_by}
 use Rattle.multimap_slots.specs.declared.order.node.Node.{Node}
 use Rattle.multimap_slots.specs.declared.order.node.State.{State}
 use Rattle.multimap_slots.specs.declared.order.node.State.TheVariants.{Listed, Free, Detached}
-use Rattle.multimap_slots.specs.Lists.{IsIn, AreDistinct}
+use Rattle.multimap_slots.specs.Lists.{IsIn, AreDistinct, without}
 use Rattle.multimap_slots.specs.Paths.{after, IsMoved, IsPath}
 use Rattle.multimap_slots.specs.Slots.{Slots, DoublesIfGrown, HasRoomFor, KeepsItems}
 
@@ -66,9 +66,10 @@ module _ {L : Type 0} where
     pub distinct : AreDistinct places
     pub each : (p : ℕ) → IsIn p places → get_or o.states p Free ≡ Detached
 
-  -- so many places are neither listed nor detached
-  abbrev pub HasFree : Places L → ℕ → Type 0
-  HasFree o vacant = length o.order + vacant + o.detached ≡ length o.states
+  -- so many places are neither listed nor detached, and there is room for all places
+  pub record HasFree (o : Places L) (free : ℕ) : Type 0 where
+    pub vacant : length o.order + free + o.detached ≡ length o.states
+    pub fits : length o.states ≤ o.capacity
 
   -- the place is neither listed nor free
   pub record IsApart (o : Places L) (place : ℕ) : Type 0 where
@@ -85,6 +86,32 @@ module _ {L : Type 0} where
     pub states_are : new.states ≡ states
     pub links : new.links ≡ old.links
     pub capacity : new.capacity ≡ old.capacity
+
+  -- the listed place is detached, and there is room for all places
+  pub record Detaches (old new : Places L) (place : ℕ) : Type 0 where
+    pub relists : Relists (without old.order place) (slice_set old.states place Detached) old new
+    pub shorter : length new.order + 1 ≡ length old.order
+    pub detached : new.detached ≡ old.detached + 1
+    pub among : new.detached ≤ length old.states
+    pub fits : length old.states ≤ old.capacity
+
+  -- the detached place is listed last
+  pub record Attaches (old new : Places L) (place : ℕ) : Type 0 where
+    pub relists : Relists (old.order ++ place ∷ []) (slice_set old.states place Listed) old new
+    pub detached : new.detached + 1 ≡ old.detached
+
+  -- the detached place is free, and there is room for all places
+  pub record FreesDetached (old new : Places L) (place : ℕ) : Type 0 where
+    pub relists : Relists old.order (slice_set old.states place Free) old new
+    pub detached : new.detached + 1 ≡ old.detached
+    pub among : old.detached ≤ length old.states
+    pub fits : length old.states ≤ old.capacity
+
+  -- the listed place is free
+  pub record Removes (old new : Places L) (place : ℕ) : Type 0 where
+    pub relists : Relists (without old.order place) (slice_set old.states place Free) old new
+    pub shorter : length new.order + 1 ≡ length old.order
+    pub detached : new.detached ≡ old.detached
 
   -- the place behind each node
   abbrev pub nexts : List (Node L) → List (Option ℕ)

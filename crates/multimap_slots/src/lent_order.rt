@@ -1,8 +1,7 @@
 //! The order of a slot list or of a tape while its items are lent for writing.
-ghost use Rattle.std.specs.Prelude.{◌≡◌, Some, length, slice_get};
-ghost use Rattle.multimap_slots.specs.Lists.{IsIn};
+ghost use Rattle.std.specs.Prelude.{⊤};
 
-use crate::in_order::InOrder;
+use crate::in_order::{InOrder, Linked};
 use crate::order::Order;
 use crate::tape::runs::Runs;
 use std::alloc::Allocator;
@@ -26,26 +25,14 @@ impl<'a, L, A: Allocator> Model for TapeOrder<'a, L, A> {
     ghost invariant = { λ t. length t.links.now.items ≡ t.runs.now.used };
 }
 
-impl<'a, L: Copy, A: Allocator> TapeOrder<'a, L, A> {
-    #[inline(always)]
-    fn link(&self, place: usize) -> L
-        requires { IsIn place self.now.order }
-        ensures { slice_get self.now.links place ≡ Some result }
-    {
-        // The length tells the proof that each listed place is in use.
-        let _len = self.runs.len();
-        self.links[place]
-    }
-
-    fn len(&self) -> usize
-        ensures { result ≡ length self.now.order }
-    {
-        self.runs.len()
-    }
-}
-
 impl<'a, L: Copy, A: Allocator> InOrder for TapeOrder<'a, L, A> {
     ghost places = { λ o. o.order };
+
+    ghost sound = { λ _. ⊤ };
+
+    fn len(&self) -> usize {
+        self.runs.len()
+    }
 
     fn front(&self) -> Option<usize> {
         self.runs.front()
@@ -63,6 +50,17 @@ impl<'a, L: Copy, A: Allocator> InOrder for TapeOrder<'a, L, A> {
     #[inline(always)]
     fn previous(&self, place: usize) -> Option<usize> {
         self.runs.previous(place)
+    }
+}
+
+impl<'a, L: Copy, A: Allocator> Linked<L> for TapeOrder<'a, L, A> {
+    ghost links = { λ o. o.links };
+
+    #[inline(always)]
+    fn link(&self, place: usize) -> L {
+        // The length tells the proof that each listed place is in use.
+        let _len = self.runs.len();
+        self.links[place]
     }
 }
 
@@ -88,30 +86,17 @@ impl<'a, L, A: Allocator> Model for LentOrder<'a, L, A> {
     ghost view = { λ o. places_lent o.lender };
 }
 
-impl<'a, L: Copy, A: Allocator> LentOrder<'a, L, A> {
-    #[inline(always)]
-    pub(crate) fn link(&self, place: usize) -> L
-        requires { IsIn place self.now.order }
-        ensures { slice_get self.now.links place ≡ Some result }
-    {
-        match &self.lender {
-            Lender::List(order) => order.link(place),
-            Lender::Tape(tape) => tape.link(place),
-        }
-    }
+impl<'a, L: Copy, A: Allocator> InOrder for LentOrder<'a, L, A> {
+    ghost places = { λ o. o.order };
 
-    pub(crate) fn len(&self) -> usize
-        ensures { result ≡ length self.now.order }
-    {
+    ghost sound = { λ _. ⊤ };
+
+    fn len(&self) -> usize {
         match &self.lender {
             Lender::List(order) => order.len(),
             Lender::Tape(tape) => tape.len(),
         }
     }
-}
-
-impl<'a, L: Copy, A: Allocator> InOrder for LentOrder<'a, L, A> {
-    ghost places = { λ o. o.order };
 
     fn front(&self) -> Option<usize> {
         match &self.lender {
@@ -140,6 +125,18 @@ impl<'a, L: Copy, A: Allocator> InOrder for LentOrder<'a, L, A> {
         match &self.lender {
             Lender::List(order) => order.previous(place),
             Lender::Tape(tape) => tape.previous(place),
+        }
+    }
+}
+
+impl<'a, L: Copy, A: Allocator> Linked<L> for LentOrder<'a, L, A> {
+    ghost links = { λ o. o.links };
+
+    #[inline(always)]
+    fn link(&self, place: usize) -> L {
+        match &self.lender {
+            Lender::List(order) => order.link(place),
+            Lender::Tape(tape) => tape.link(place),
         }
     }
 }

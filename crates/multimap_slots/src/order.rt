@@ -1,6 +1,6 @@
 //! Places in an order, each with a link, over one vector of nodes that also lists the free places.
-ghost use Rattle.std.specs.Prelude.{◌≡◌, ◌+◌, ◌<◌, ◌≤◌, ◌↔◌, [], length, Some, IsTrue, IfOk, IsOk, slice_get, slice_set};
-ghost use Rattle.multimap_slots.specs.Lists.{IsIn, without};
+ghost use Rattle.std.specs.Prelude.{◌≡◌, ◌+◌, ◌<◌, [], length, Some, slice_get, vec_capacity};
+ghost use Rattle.multimap_slots.specs.Lists.{IsIn};
 ghost use Rattle.multimap_slots.specs.Vectors.{GrowsTo};
 
 mod attached;
@@ -10,7 +10,7 @@ mod optional_place;
 mod write;
 
 use crate::grow::grow_to;
-use crate::in_order::InOrder;
+use crate::in_order::{InOrder, Linked, Stored};
 use node::{Node, State};
 use optional_place::OptionalPlace;
 use std::alloc::{AllocError, Allocator};
@@ -50,16 +50,17 @@ impl<L, A: Allocator> Model for Order<L, A> {
 
 impl<L: Copy, A: Allocator> Order<L, A> {
     ghost use Rattle.std.specs.Borrow.{sem};
-    ghost use Rattle.multimap_slots.specs.ListLayout.{HasNoPlaces, HasFree, AreSound, AddsLast, KeepsPlaces, Relists};
+    ghost use Rattle.multimap_slots.specs.ListLayout.{HasNoPlaces, HasFree, AddsLast, KeepsPlaces, Removes};
     ghost use Rattle.multimap_slots.specs.OrderLends.{lends_place_link};
-    ghost use Rattle.multimap_slots.specs.declared.order.node.State.TheVariants.{Free};
 
-    pub(crate) fn new(alloc: A) -> Self
+    /// No places, over nodes of which there are none.
+    pub(crate) fn over(nodes: Vec<Node<L>, A>) -> Self
+        requires { nodes.items ≡ [] }
         ensures empty { HasNoPlaces result }
-        ensures capacity { result.capacity ≡ 0 }
+        ensures capacity { result.capacity ≡ vec_capacity nodes }
     {
         Order {
-            nodes: Vec::new(alloc),
+            nodes,
             front: OptionalPlace::none(),
             back: OptionalPlace::none(),
             free: OptionalPlace::none(),
@@ -68,40 +69,11 @@ impl<L: Copy, A: Allocator> Order<L, A> {
         }
     }
 
-    pub(crate) fn with_capacity(alloc: A, capacity: usize) -> Result<Self, AllocError>
-        ensures empty { IfOk result HasNoPlaces }
-        ensures capacity { IfOk result (λ o. capacity ≤ o.capacity) }
-        ensures succeeds { capacity ≡ 0 → IsOk result }
-    {
-        Ok(Order {
-            nodes: Vec::with_capacity(alloc, capacity)?,
-            front: OptionalPlace::none(),
-            back: OptionalPlace::none(),
-            free: OptionalPlace::none(),
-            len: 0,
-            detached: 0,
-        })
-    }
-
-    pub(crate) fn len(&self) -> usize
-        ensures len { result ≡ length self.now.order }
-        ensures sound { AreSound self.now }
-    {
-        self.len
-    }
-
     /// How many places are free among the nodes.
     pub(crate) fn vacant(&self) -> usize
-        ensures vacant { HasFree self.now result }
-        ensures fits { length self.now.states ≤ self.now.capacity }
+        ensures { HasFree self.now result }
     {
         self.nodes.len() - self.len - self.detached
-    }
-
-    pub(crate) fn capacity(&self) -> usize
-        ensures { result ≡ self.now.capacity }
-    {
-        self.nodes.capacity()
     }
 
     /// Makes room for so many nodes in all.
@@ -137,10 +109,7 @@ impl<L: Copy, A: Allocator> Order<L, A> {
     /// Takes the place out of the order. It is free then, and the next to be given.
     pub(crate) fn remove(&mut self, place: usize)
         requires { IsIn place self.old.order }
-        ensures relists { Relists (without self.old.order place)
-            (slice_set self.old.states place Free) self.old self.new }
-        ensures shorter { length self.new.order + 1 ≡ length self.old.order }
-        ensures detached { self.new.detached ≡ self.old.detached }
+        ensures { Removes self.old self.new place }
     {
         // The length tells the proof that each listed place is marked so.
         let _len = self.len();
@@ -161,25 +130,6 @@ impl<L: Copy, A: Allocator> Order<L, A> {
         self.detached = 0;
     }
 
-    pub(crate) fn is_listed(&self, place: usize) -> bool
-        ensures { IsTrue result ↔ IsIn place self.now.order }
-    {
-        if place >= self.nodes.len() {
-            return false;
-        }
-        match self.nodes[place].state {
-            State::Listed => true,
-            State::Detached | State::Free => false,
-        }
-    }
-
-    pub(crate) fn link(&self, place: usize) -> L
-        requires { IsIn place self.now.order }
-        ensures { slice_get self.now.links place ≡ Some result }
-    {
-        self.nodes[place].link
-    }
-
     pub(crate) fn link_mut(&mut self, place: usize) -> &mut L
         requires { IsIn place self.old.order }
         ensures* lends { sem 𝓛 (lends_place_link L.row A.row A.Allocator self.entry place result) }
@@ -190,7 +140,15 @@ impl<L: Copy, A: Allocator> Order<L, A> {
 }
 
 impl<L: Copy, A: Allocator> InOrder for Order<L, A> {
+    ghost use Rattle.multimap_slots.specs.ListLayout.{AreSound};
+
     ghost places = { λ o. o.order };
+
+    ghost sound = { AreSound };
+
+    fn len(&self) -> usize {
+        self.len
+    }
 
     fn front(&self) -> Option<usize> {
         self.front.get()
@@ -206,5 +164,31 @@ impl<L: Copy, A: Allocator> InOrder for Order<L, A> {
 
     fn previous(&self, place: usize) -> Option<usize> {
         self.nodes[place].previous.get()
+    }
+}
+
+impl<L: Copy, A: Allocator> Linked<L> for Order<L, A> {
+    ghost links = { λ o. o.links };
+
+    fn link(&self, place: usize) -> L {
+        self.nodes[place].link
+    }
+}
+
+impl<L: Copy, A: Allocator> Stored for Order<L, A> {
+    ghost room = { λ o. o.capacity };
+
+    fn capacity(&self) -> usize {
+        self.nodes.capacity()
+    }
+
+    fn is_listed(&self, place: usize) -> bool {
+        if place >= self.nodes.len() {
+            return false;
+        }
+        match self.nodes[place].state {
+            State::Listed => true,
+            State::Detached | State::Free => false,
+        }
     }
 }

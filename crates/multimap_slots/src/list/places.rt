@@ -4,7 +4,7 @@ ghost use Rattle.multimap_slots.specs.Lists.{IsIn, first_of, last_of, next_of, p
 ghost use Rattle.multimap_slots.specs.Slots.{MovesToBack};
 
 use super::SlotList;
-use crate::in_order::InOrder;
+use crate::in_order::{InOrder, Stored};
 use std::alloc::Allocator;
 
 impl<T, L: Copy, A: Allocator> SlotList<T, L, A> {

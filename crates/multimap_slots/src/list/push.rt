@@ -6,6 +6,7 @@ ghost use Rattle.multimap_slots.specs.Vectors.{Rewrites};
 
 use super::SlotList;
 use crate::grow::grow_to;
+use crate::in_order::Stored;
 use std::alloc::{AllocError, Allocator};
 use std::mem;
 

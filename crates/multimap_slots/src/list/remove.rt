@@ -4,6 +4,7 @@ ghost use Rattle.multimap_slots.specs.Lists.{IsIn};
 ghost use Rattle.multimap_slots.specs.Slots.{AreDetached, IsEmpty, Removes, link_at};
 
 use super::SlotList;
+use crate::in_order::{InOrder, Linked, Stored};
 use std::alloc::Allocator;
 
 impl<T, L: Copy, A: Allocator> SlotList<T, L, A> {

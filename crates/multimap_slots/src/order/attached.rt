@@ -1,22 +1,20 @@
 //! Places that come last in the order: detached ones, and listed ones that move there.
-ghost use Rattle.std.specs.Prelude.{◌≡◌, ◌+◌, ◌∷◌, ◌++◌, [], slice_set};
+ghost use Rattle.std.specs.Prelude.{◌≡◌, ◌∷◌, ◌++◌, []};
 ghost use Rattle.multimap_slots.specs.Lists.{IsIn, without};
 
 use super::Order;
 use super::optional_place::OptionalPlace;
 use super::write::{set_listed, set_next};
+use crate::in_order::InOrder;
 use std::alloc::Allocator;
 
 impl<L: Copy, A: Allocator> Order<L, A> {
-    ghost use Rattle.multimap_slots.specs.ListLayout.{IsApart, Relists};
-    ghost use Rattle.multimap_slots.specs.declared.order.node.State.TheVariants.{Listed};
+    ghost use Rattle.multimap_slots.specs.ListLayout.{Attaches, IsApart, Relists};
 
     /// Lists the detached place last.
     pub(crate) fn attach(&mut self, place: usize)
         requires { IsApart self.old place }
-        ensures relists { Relists (self.old.order ++ place ∷ [])
-            (slice_set self.old.states place Listed) self.old self.new }
-        ensures detached { self.new.detached + 1 ≡ self.old.detached }
+        ensures { Attaches self.old self.new place }
     {
         set_listed(&mut self.nodes, place, self.back);
         let end = OptionalPlace::some(place);

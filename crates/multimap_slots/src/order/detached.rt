@@ -1,6 +1,6 @@
 //! Places that have left the order and aren't free.
-ghost use Rattle.std.specs.Prelude.{◌≡◌, ◌+◌, ◌≤◌, ◌↔◌, ℕ, List, length, Some, IsTrue, get_or, slice_get, slice_set};
-ghost use Rattle.multimap_slots.specs.Lists.{IsIn, without};
+ghost use Rattle.std.specs.Prelude.{◌≡◌, ◌≤◌, ◌↔◌, ℕ, List, length, Some, IsTrue, get_or, slice_get};
+ghost use Rattle.multimap_slots.specs.Lists.{IsIn};
 
 use super::Order;
 use super::node::State;
@@ -9,7 +9,7 @@ use super::write::{release, set_detached, set_next, set_previous};
 use std::alloc::Allocator;
 
 impl<L: Copy, A: Allocator> Order<L, A> {
-    ghost use Rattle.multimap_slots.specs.ListLayout.{AreAllDetached, IsApart, Relists};
+    ghost use Rattle.multimap_slots.specs.ListLayout.{AreAllDetached, Detaches, FreesDetached, IsApart};
     ghost use Rattle.multimap_slots.specs.declared.order.node.State.TheVariants.{Detached, Free};
 
     /// How many places are detached.
@@ -46,12 +46,7 @@ impl<L: Copy, A: Allocator> Order<L, A> {
     /// Takes the place out of the order, and keeps it from being given.
     pub(crate) fn detach(&mut self, place: usize)
         requires { IsIn place self.old.order }
-        ensures relists { Relists (without self.old.order place)
-            (slice_set self.old.states place Detached) self.old self.new }
-        ensures shorter { length self.new.order + 1 ≡ length self.old.order }
-        ensures detached { self.new.detached ≡ self.old.detached + 1 }
-        ensures among { self.new.detached ≤ length self.old.states }
-        ensures fits { length self.old.states ≤ self.old.capacity }
+        ensures { Detaches self.old self.new place }
     {
         let previous = self.nodes[place].previous;
         let next = self.nodes[place].next;
@@ -65,11 +60,7 @@ impl<L: Copy, A: Allocator> Order<L, A> {
     /// Makes the detached place free, and the next to be given.
     pub(crate) fn free_detached(&mut self, place: usize)
         requires { IsApart self.old place }
-        ensures relists { Relists self.old.order (slice_set self.old.states place Free)
-            self.old self.new }
-        ensures detached { self.new.detached + 1 ≡ self.old.detached }
-        ensures among { self.old.detached ≤ length self.old.states }
-        ensures fits { length self.old.states ≤ self.old.capacity }
+        ensures { FreesDetached self.old self.new place }
     {
         release(&mut self.nodes, place, self.free);
         self.free = OptionalPlace::some(place);

@@ -5,6 +5,7 @@ ghost use Rattle.multimap_slots.specs.Slots.{IsDetached, HasDetached, Detaches, 
 ghost use Rattle.multimap_slots.specs.Tapes.{KeepsCounts, Frees};
 
 use super::Tape;
+use crate::in_order::InOrder;
 use std::alloc::Allocator;
 
 impl<T, L: Copy, A: Allocator> Tape<T, L, A> {

@@ -34,23 +34,21 @@ invariant_of-self g c =
     (taken-within c.self.invariant _ apart.not_free)
     c.set_listed.ensures.items (rw c.some-end.ensures at c.set_next.ensures.items)).ordered
 
-pub returns-clause-relists : goal.returns-clause-relists
-returns-clause-relists g c =
+pub returns : goal.returns
+returns g c =
     let apart = rw (← c.self.view_is) at c.requires in
+    let is = apart-is c.self.invariant _ apart.not_listed apart.not_free in
+    let some = count_detached-some (states c.self.inside.nodes.items) c.args.place is in
     let attached =
-    IsOrdered-attach c.self.invariant (apart-is c.self.invariant _ apart.not_listed apart.not_free)
-    (taken-within c.self.invariant _ apart.not_free)
+    IsOrdered-attach c.self.invariant is (taken-within c.self.invariant _ apart.not_free)
     c.set_listed.ensures.items (rw c.some-end.ensures at c.set_next.ensures.items) in
     rw (← c.self.view_is) (record {
-      order_is = walk-order attached.ordered ∙ attached.order_is ∙ ap (λ ps. ps ++ c.args.place ∷ []) (sym (walk-order c.self.invariant));
-      states_are = search rules;
-      links = search rules;
-      capacity = search rules;
+      relists = record {
+        order_is = walk-order attached.ordered ∙ attached.order_is
+            ∙ ap (λ ps. ps ++ c.args.place ∷ []) (sym (walk-order c.self.invariant));
+        states_are = search rules;
+        links = search rules;
+        capacity = search rules;
+      };
+      detached = omega (arith, c.self.invariant.apart, some);
     })
-
-pub returns-clause-detached : goal.returns-clause-detached
-returns-clause-detached g c =
-    let apart = rw (← c.self.view_is) at c.requires in
-    let some = count_detached-some (states c.self.inside.nodes.items) c.args.place
-    (apart-is c.self.invariant _ apart.not_listed apart.not_free) in
-    rw (← c.self.view_is) (omega (arith, c.self.invariant.apart, some))

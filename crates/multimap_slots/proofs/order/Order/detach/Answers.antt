@@ -1,6 +1,7 @@
 use Rattle.std.proofs.Common.{None, ◌∙◌, arith, length, rules}
+use Rattle.std.proofs.lemmas.List.{length-map}
 use Rattle.multimap_slots.proofs.NodeLemmas.{field_read, length-states, within_more}
-use Rattle.multimap_slots.proofs.OrderLemmas.{split_at, split_within, neighbours, first-within, last-within}
+use Rattle.multimap_slots.proofs.OrderLemmas.{split_at, split_within, neighbours, first-within, last-within, walk-length}
 use Rattle.multimap_slots.proofs.LeaveLemmas.{IsOrdered-detach, walk-removed, length-walk_removed, was_before, was_behind}
 use Rattle.multimap_slots.proofs.order.Order.detach.Goals as goal
 
@@ -46,8 +47,8 @@ invariant_of-self g c =
     (field_read (λ n. n.previous) _ _ _ None within c.index.ensures)
     (field_read (λ n. n.next) _ _ _ None within c.index-2.ensures) c.set_detached.ensures.items).ordered
 
-pub returns-clause-relists : goal.returns-clause-relists
-returns-clause-relists g c =
+pub returns : goal.returns
+returns g c =
     let s = split_at c.self.invariant c.args.place (rw (← c.self.view_is) at c.requires) in
     let within = split_within c.self.invariant s in
     let removed =
@@ -55,19 +56,14 @@ returns-clause-relists g c =
     (field_read (λ n. n.previous) _ _ _ None within c.index.ensures)
     (field_read (λ n. n.next) _ _ _ None within c.index-2.ensures) c.set_detached.ensures.items in
     rw (← c.self.view_is) (record {
-      order_is = walk-removed c.self.invariant s removed;
-      states_are = search rules;
-      links = search
-          rules;
-      capacity = search rules;
+      relists = record {
+        order_is = walk-removed c.self.invariant s removed;
+        states_are = search rules;
+        links = search rules;
+        capacity = search rules;
+      };
+      shorter = length-walk_removed c.self.invariant s removed;
+      detached = omega arith;
+      among = rw length-map (omega (arith, c.self.invariant.total, walk-length c.self.invariant, length-walk_removed c.self.invariant s removed));
+      fits = rw length-map (omega (arith, c.self.inside.nodes.ok));
     })
-
-pub returns-clause-shorter : goal.returns-clause-shorter
-returns-clause-shorter g c =
-    let s = split_at c.self.invariant c.args.place (rw (← c.self.view_is) at c.requires) in
-    let within = split_within c.self.invariant s in
-    let removed =
-    IsOrdered-detach c.self.invariant s c.set_next.ensures.items c.set_previous.ensures.items
-    (field_read (λ n. n.previous) _ _ _ None within c.index.ensures)
-    (field_read (λ n. n.next) _ _ _ None within c.index-2.ensures) c.set_detached.ensures.items in
-    rw (← c.self.view_is) (length-walk_removed c.self.invariant s removed)

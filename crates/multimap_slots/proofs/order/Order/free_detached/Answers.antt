@@ -1,4 +1,5 @@
 use Rattle.std.proofs.Common.{arith, rules}
+use Rattle.std.proofs.lemmas.List.{length-map}
 use Rattle.multimap_slots.specs.ListLayout.{states}
 use Rattle.multimap_slots.proofs.OrderLemmas.{taken-within, apart-is}
 use Rattle.multimap_slots.proofs.DetachedLemmas.{count_detached-some}
@@ -22,22 +23,21 @@ invariant_of-self g c =
     (IsOrdered-free c.self.invariant (apart-is c.self.invariant _ apart.not_listed apart.not_free)
     (taken-within c.self.invariant _ apart.not_free) c.release.ensures.items).ordered
 
-pub returns-clause-relists : goal.returns-clause-relists
-returns-clause-relists g c =
+pub returns : goal.returns
+returns g c =
     let apart = rw (← c.self.view_is) at c.requires in
-    let freed = IsOrdered-free c.self.invariant (apart-is c.self.invariant _ apart.not_listed apart.not_free)
-    (taken-within c.self.invariant _ apart.not_free) c.release.ensures.items in
+    let is = apart-is c.self.invariant _ apart.not_listed apart.not_free in
+    let some = count_detached-some (states c.self.inside.nodes.items) c.args.place is in
+    let freed =
+    IsOrdered-free c.self.invariant is (taken-within c.self.invariant _ apart.not_free) c.release.ensures.items in
     rw (← c.self.view_is) (record {
-      order_is = walk-kept c.self.invariant freed;
-      states_are = search rules;
-      links = search
-          rules;
-      capacity = search rules;
+      relists = record {
+        order_is = walk-kept c.self.invariant freed;
+        states_are = search rules;
+        links = search rules;
+        capacity = search rules;
+      };
+      detached = omega (arith, c.self.invariant.apart, some);
+      among = rw length-map (omega (arith, c.self.invariant.total));
+      fits = rw length-map (omega (arith, c.self.inside.nodes.ok));
     })
-
-pub returns-clause-detached : goal.returns-clause-detached
-returns-clause-detached g c =
-    let apart = rw (← c.self.view_is) at c.requires in
-    let some = count_detached-some (states c.self.inside.nodes.items) c.args.place
-    (apart-is c.self.invariant _ apart.not_listed apart.not_free) in
-    rw (← c.self.view_is) (omega (arith, c.self.invariant.apart, some))

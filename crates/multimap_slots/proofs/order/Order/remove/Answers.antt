@@ -1,4 +1,4 @@
-use Rattle.std.proofs.Common.{set, ap, ◌∙◌}
+use Rattle.std.proofs.Common.{set, ap, arith, ◌∙◌}
 use Rattle.std.proofs.lemmas.List.{set-set}
 use Rattle.multimap_slots.specs.declared.order.node.State.TheVariants.{Free}
 use Rattle.multimap_slots.proofs.DetachedLemmas.{detached-apart}
@@ -8,13 +8,17 @@ pub free_detached-requires : goal.free_detached-requires
 free_detached-requires g c = detached-apart c.len-len.ensures.sound c.args.place c.requires c.detach.ensures.relists.order_is
     c.detach.ensures.relists.states_are
 
-pub returns-clause-relists : goal.returns-clause-relists
-returns-clause-relists g c =
-    let d = c.detach.ensures.relists in
-    let f = c.free_detached.ensures.relists in
+pub returns : goal.returns
+returns g c =
+    let d = c.detach.ensures in
+    let f = c.free_detached.ensures in
     record {
-      order_is = f.order_is ∙ d.order_is;
-      states_are = f.states_are ∙ ap (λ ss. set ss c.args.place Free) d.states_are ∙ set-set _ c.args.place _ Free;
-      links = f.links ∙ d.links;
-      capacity = f.capacity ∙ d.capacity;
+      relists = record {
+        order_is = f.relists.order_is ∙ d.relists.order_is;
+        states_are = f.relists.states_are ∙ ap (λ ss. set ss c.args.place Free) d.relists.states_are ∙ set-set _ c.args.place _ Free;
+        links = f.relists.links ∙ d.relists.links;
+        capacity = f.relists.capacity ∙ d.relists.capacity;
+      };
+      shorter = rw f.relists.order_is d.shorter;
+      detached = omega (arith, f.detached, d.detached);
     }

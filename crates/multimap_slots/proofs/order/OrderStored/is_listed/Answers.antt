@@ -1,6 +1,6 @@
 use Rattle.std.proofs.Common.{arith, inl, inr, refl, sym, ◌∙◌}
 use Rattle.multimap_slots.proofs.OrderLemmas.{split_at, split_within, state_tells}
-use Rattle.multimap_slots.proofs.order.Order.is_listed.Goals as goal
+use Rattle.multimap_slots.proofs.order.OrderStored.is_listed.Goals as goal
 
 pub returns-then-place-len : goal.returns-then-place-len
 returns-then-place-len g c = (

@@ -1,6 +1,6 @@
 use Rattle.std.proofs.Common.{Some, ap, arith, sym, ◌∙◌}
 use Rattle.std.proofs.lemmas.Option.{slice_get-get_or}
-use Rattle.multimap_slots.proofs.lent_order.TapeOrder.link.Goals as goal
+use Rattle.multimap_slots.proofs.lent_order.TapeOrderLinked.link.Goals as goal
 
 pub index-requires : goal.index-requires
 index-requires g c =

@@ -4,7 +4,7 @@ use Rattle.multimap_slots.specs.Lists.{IsIn, AreDistinct}
 use Rattle.multimap_slots.proofs.DetachedLemmas.{count_detached-none}
 use Rattle.multimap_slots.proofs.OrderLemmas.{split_at, split_within, walk-length, walk-order}
 use Rattle.multimap_slots.proofs.PutLemmas.{slice_get-IsSome}
-use Rattle.multimap_slots.proofs.order.Order.len.Goals as goal
+use Rattle.multimap_slots.proofs.order.OrderInOrder.len.Goals as goal
 
 pub returns-clause-len : goal.returns-clause-len
 returns-clause-len g c = rw (← c.self.view_is) (sym (walk-length c.self.invariant))

@@ -3,7 +3,7 @@ use Rattle.std.proofs.lemmas.List.{length-map}
 use Rattle.std.proofs.lemmas.Option.{slice_get-get_or}
 use Rattle.multimap_slots.proofs.NodeLemmas.{field_read}
 use Rattle.multimap_slots.proofs.OrderLemmas.{split_at, split_within}
-use Rattle.multimap_slots.proofs.order.Order.link.Goals as goal
+use Rattle.multimap_slots.proofs.order.OrderLinked.link.Goals as goal
 
 pub index-requires : goal.index-requires
 index-requires g c =

@@ -1,5 +1,0 @@
-use Rattle.multimap_slots.proofs.OrderLemmas.{IsOrdered-empty}
-use Rattle.multimap_slots.proofs.order.Order.new.Goals as goal
-
-pub invariant_of-result : goal.invariant_of-result
-invariant_of-result g c = rw (c.new.ensures.items, c.none.ensures, c.none-2.ensures, c.none-3.ensures) IsOrdered-empty
