@@ -14,7 +14,7 @@ use Rattle.multimap_walks.specs.declared.links.ValueLink.{ValueLink}
 use Rattle.multimap_walks.specs.Along.{all_places, places_left, neighbour_of, AreLeft}
 use Rattle.multimap_walks.specs.Ends.{end_place, ends_after}
 use Rattle.multimap_walks.specs.Walk.{with_end}
-use Rattle.multimap_walks.specs.Lending.{AllAreLeft, AreUntaken, CanLend, HandsOutSlot}
+use Rattle.multimap_walks.specs.Lending.{AllAreLeft, AreUntaken, CanLend, HandsOutSlot, NoneIsTaken}
 use Rattle.multimap_walks.specs.Chained.{IsChain, IsChained, Stands, next_place, places_along, previous_place}
 use Rattle.multimap_walks.specs.RestWalk.{CanReadChain}
 use Rattle.multimap_walks.proofs.AlongLemmas.{all_left, left_all, left_after, takes_end}
@@ -40,14 +40,14 @@ module _ {T L A : Type 0} where
     }
 
   -- all of the list are left at first
-  pub all_untaken : (cells : SlotCells T L A) → IsSound (lent_slots cells) → AllAreLeft cells
-      → CanLend cells (all_places (lent_slots cells).order)
-  all_untaken cells sound left =
+  pub all_untaken : (cells : SlotCells T L A) → NoneIsTaken cells → CanLend cells (all_places (lent_slots cells).order)
+  all_untaken cells none =
       let order = (lent_slots cells).order in
+      let distinct = none.sound.distinct in
       record {
-        sound = sound;
-        are_left = all_left order sound.distinct;
-        untaken = subst (AreUntaken cells) (sym (left_all order sound.distinct)) (record { distinct = sound.distinct; each = left });
+        sound = none.sound;
+        are_left = all_left order distinct;
+        untaken = subst (AreUntaken cells) (sym (left_all order distinct)) (record { distinct = distinct; each = none.left });
       }
 
   module _ (cells : SlotCells T L A) (left : ChainEnds) (more : left.length ≡ left.length - 1 + 1) (can : CanLend cells left)

@@ -6,16 +6,30 @@ use Rattle.multimap_slots.specs.Slots.{IsSound, link_at}
 use Rattle.multimap_slots.specs.SlotCells.{lent_slots, IsLeft, TakesItem}
 use Rattle.multimap_slots.specs.declared.cells_of.SlotCells.{SlotCells}
 use Rattle.multimap_walks.specs.declared.links.ChainEnds.{ChainEnds}
+use Rattle.multimap_walks.specs.declared.End.{End}
 use Rattle.multimap_walks.specs.Along.{AreLeft, places_left}
+use Rattle.multimap_walks.specs.Ends.{end_place}
+use Rattle.multimap_walks.specs.Walk.{with_end}
 
 -- where an item is handed out, one place goes, and else none
 abbrev pub OneGoes : {X : Type 0} → ChainEnds → Option X → ChainEnds → Type 0
 OneGoes old given new = MatchOption given (new ≡ old) (λ _. old.length ≡ new.length + 1)
 
+-- the place at that end goes, of the places that the ends stand for
+pub record PassesEnd (end : End) (places : ChainEnds → List ℕ) (left rest : ChainEnds)
+    : Type 0 where
+  pub places_are : places left ≡ with_end end (end_place end left) (places rest)
+  pub count : left.length ≡ rest.length + 1
+
 module _ {T L A : Type 0} where
   -- every item of the list is left
   abbrev pub AllAreLeft : SlotCells T L A → Type 0
   AllAreLeft cells = (p : ℕ) → IsIn p (lent_slots cells).order → IsLeft cells p
+
+  -- the list is sound, and every item of it is left
+  pub record NoneIsTaken (cells : SlotCells T L A) : Type 0 where
+    pub sound : IsSound (lent_slots cells)
+    pub left : AllAreLeft cells
 
   -- the item of each of the places is left, and no place is there twice
   pub record AreUntaken (cells : SlotCells T L A) (places : List ℕ) : Type 0 where

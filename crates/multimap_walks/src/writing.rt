@@ -1,11 +1,10 @@
 //! Walks that lend values for writing, and the step of those along the order of a list.
-ghost use Rattle.std.specs.Prelude.{◌≡◌, ◌+◌, IfSome};
+ghost use Rattle.std.specs.Prelude.{◌≡◌, IfSome};
 ghost use Rattle.multimap_slots.specs.SlotCells.{lent_slots, IsLeft};
-ghost use Rattle.multimap_slots.specs.Slots.{IsSound};
 ghost use Rattle.multimap_walks.specs.Along.{AreLeft, neighbour_of, places_left};
 ghost use Rattle.multimap_walks.specs.Ends.{end_place};
-ghost use Rattle.multimap_walks.specs.Lending.{AllAreLeft, CanLend, HandsOutSlot, OneGoes};
-ghost use Rattle.multimap_walks.specs.Walk.{TakesEnd, with_end};
+ghost use Rattle.multimap_walks.specs.Lending.{CanLend, HandsOutSlot, NoneIsTaken, OneGoes, PassesEnd};
+ghost use Rattle.multimap_walks.specs.Walk.{TakesEnd};
 
 pub(crate) mod chain;
 pub(crate) mod pairs;
@@ -19,8 +18,7 @@ use std::alloc::Allocator;
 
 /// All places of lent values.
 fn all_of<V, A: Allocator>(cells: &SlotCells<'_, V, ValueLink, A>) -> ChainEnds
-    requires sound { IsSound (lent_slots cells.now) }
-    requires left { AllAreLeft cells.now }
+    requires { NoneIsTaken cells.now }
     ensures can { CanLend cells.now result }
     ensures whole { places_left (lent_slots cells.now).order result ≡ (lent_slots cells.now).order }
 {
@@ -60,9 +58,7 @@ fn rest_after<V, A: Allocator>(
     requires can { CanLend cells.now left }
     requires more { ¬ (left.length ≡ 0) }
     ensures are_left { AreLeft (lent_slots cells.now).order result }
-    ensures taken { places_left (lent_slots cells.now).order left
-        ≡ with_end end (end_place end left) (places_left (lent_slots cells.now).order result) }
-    ensures count { left.length ≡ result.length + 1 }
+    ensures taken { PassesEnd end (places_left (lent_slots cells.now).order) left result }
 {
     let place = left.place_at(end);
     if left.length > 1 {

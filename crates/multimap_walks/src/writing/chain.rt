@@ -1,10 +1,9 @@
 //! The walk over one key's values, for writing, and where it goes on.
-ghost use Rattle.std.specs.Prelude.{◌≡◌, ◌+◌};
+ghost use Rattle.std.specs.Prelude.{◌≡◌};
 ghost use Rattle.multimap_slots.specs.SlotCells.{lent_slots};
 ghost use Rattle.multimap_walks.specs.Chained.{places_along};
-ghost use Rattle.multimap_walks.specs.Ends.{end_place};
+ghost use Rattle.multimap_walks.specs.Lending.{PassesEnd};
 ghost use Rattle.multimap_walks.specs.RestWalk.{CanReadChain};
-ghost use Rattle.multimap_walks.specs.Walk.{with_end};
 
 mod methods;
 
@@ -33,10 +32,8 @@ pub(crate) fn chain_after<V, A: Allocator>(
     requires can { CanReadChain cells.now left }
     requires more { ¬ (left.length ≡ 0) }
     ensures can { CanReadChain cells.now result }
-    ensures taken { places_along (lent_slots cells.now) left.first left.length
-        ≡ with_end end (end_place end left)
-        (places_along (lent_slots cells.now) result.first result.length) }
-    ensures count { left.length ≡ result.length + 1 }
+    ensures taken { PassesEnd end
+        (λ ends. places_along (lent_slots cells.now) ends.first ends.length) left result }
 {
     let place = left.place_at(end);
     left.after(end, cells.link(place).step_from(end).unwrap_or(place))

@@ -6,7 +6,7 @@ use Rattle.multimap_walks.proofs.writing.all_of.Goals as goal
 pub returns-clause-can : goal.returns-clause-can
 returns-clause-can g c =
     rw (c.unwrap_or.ensures, c.unwrap_or-2.ensures, c.front_place.ensures, c.back_place.ensures, c.len.ensures)
-    (all_untaken c.args.cells.now c.requires.sound c.requires.left)
+    (all_untaken c.args.cells.now c.requires)
 
 pub returns-clause-whole : goal.returns-clause-whole
 returns-clause-whole g c =

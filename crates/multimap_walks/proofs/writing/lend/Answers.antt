@@ -25,5 +25,5 @@ returns-clause-can g c =
     let takes = rw c.place_at-place.ensures at c.take.ensures in
     let untaken =
     untaken_on old new place c.take.result takes c.args.end (places_left order left)
-    (places_left order rest) c.requires.untaken step.taken in
+    (places_left order rest) c.requires.untaken step.taken.places_are in
     lends_on old new place c.take.result takes rest c.requires.sound step.are_left untaken

@@ -1,4 +1,4 @@
-use Rattle.std.proofs.Common.{arith, refl}
+use Rattle.std.proofs.Common.{arith, refl, rules}
 use Rattle.multimap_slots.specs.SlotCells.{lent_slots}
 use Rattle.multimap_walks.proofs.AlongLemmas.{left_after, takes_end}
 use Rattle.multimap_walks.proofs.WritingLemmas.{end_is_left, neighbour_is_left}
@@ -24,4 +24,7 @@ pub returns-then-left-gt1-clause-taken : goal.returns-then-left-gt1-clause-taken
 returns-then-left-gt1-clause-taken g c =
     let order = (lent_slots c.args.cells.now).order in
     rw (c.after.ensures, c.unwrap_or.ensures, c.neighbour.ensures, c.place_at-place.ensures)
-    (takes_end order c.args.left (omega (arith, c.requires.more)) c.requires.can.are_left c.args.end _ refl)
+    (record {
+      places_are = takes_end order c.args.left (omega (arith, c.requires.more)) c.requires.can.are_left c.args.end _ refl;
+      count = search rules;
+    })

@@ -1,10 +1,10 @@
 //! The calls of the walk over one key's values for writing.
 ghost use Rattle.std.specs.Prelude.{◌≡◌, [], length, MatchOption, ⊤};
 ghost use Rattle.std.specs.Iterator.{at_most};
-ghost use Rattle.multimap_slots.specs.Slots.{HasLink, IsSound};
+ghost use Rattle.multimap_slots.specs.Slots.{HasLink};
 ghost use Rattle.multimap_slots.specs.SlotCells.{cells_name, lent_slots};
 ghost use Rattle.multimap_walks.specs.Chained.{IsChained, chain_of, positions_at, values_at};
-ghost use Rattle.multimap_walks.specs.Lending.{AllAreLeft};
+ghost use Rattle.multimap_walks.specs.Lending.{NoneIsTaken};
 ghost use Rattle.multimap_walks.specs.WritingWalk.{entry_values_mut_cells, entry_values_mut_name, entry_values_mut_positions, entry_values_mut_rest, entry_values_mut_values, LendsFirstOfKey, LendsLastOfKey, LendsOfKey};
 ghost use Rattle.multimap_walks.specs.Walk.{TellsLength};
 
@@ -28,8 +28,7 @@ impl<'map, K, V, A: Allocator> EntryValuesMut<'map, K, V, A> {
         key: Option<(usize, KeyLink)>,
     ) -> Self
         requires chained { IsChained keys.now (lent_slots values) }
-        requires sound { IsSound (lent_slots values) }
-        requires left { AllAreLeft values }
+        requires untaken { NoneIsTaken values }
         requires listed { MatchOption key ⊤ (λ k. HasLink keys.now k.0 k.1) }
         ensures values { MatchOption key (entry_values_mut_rest result ≡ [])
             (λ k. entry_values_mut_rest result

@@ -1,10 +1,9 @@
 //! The calls of the walk over all pairs with their values for writing.
 ghost use Rattle.std.specs.Prelude.{◌≡◌, length};
 ghost use Rattle.std.specs.Iterator.{at_most};
-ghost use Rattle.multimap_slots.specs.Slots.{IsSound};
 ghost use Rattle.multimap_slots.specs.SlotCells.{cells_name, lent_slots};
 ghost use Rattle.multimap_walks.specs.Chained.{AreOwned, pairs_of, positions_at};
-ghost use Rattle.multimap_walks.specs.Lending.{AllAreLeft};
+ghost use Rattle.multimap_walks.specs.Lending.{NoneIsTaken};
 ghost use Rattle.multimap_walks.specs.WritingWalk.{iter_mut_cells, iter_mut_name, iter_mut_positions, iter_mut_rest, iter_mut_values, LendsFirstPair, LendsLastPair, LendsPair};
 ghost use Rattle.multimap_walks.specs.Walk.{TellsLength};
 
@@ -28,8 +27,7 @@ impl<'map, K, V, A: Allocator> IterMut<'map, K, V, A> {
         values: SlotCells<'map, V, ValueLink, A>,
     ) -> Self
         requires owned { AreOwned keys.now (lent_slots values) }
-        requires sound { IsSound (lent_slots values) }
-        requires left { AllAreLeft values }
+        requires untaken { NoneIsTaken values }
         ensures pairs { iter_mut_rest result ≡ pairs_of keys.now (lent_slots values.entry) }
         ensures name { iter_mut_name result ≡ cells_name values.entry }
         ensures positions { iter_mut_positions result

@@ -1,10 +1,9 @@
 //! The calls of the walk over all values for writing.
 ghost use Rattle.std.specs.Prelude.{◌≡◌, length};
 ghost use Rattle.std.specs.Iterator.{at_most};
-ghost use Rattle.multimap_slots.specs.Slots.{IsSound};
 ghost use Rattle.multimap_slots.specs.SlotCells.{cells_name, lent_slots};
 ghost use Rattle.multimap_walks.specs.Chained.{positions_at, values_at};
-ghost use Rattle.multimap_walks.specs.Lending.{AllAreLeft};
+ghost use Rattle.multimap_walks.specs.Lending.{NoneIsTaken};
 ghost use Rattle.multimap_walks.specs.WritingWalk.{values_mut_cells, values_mut_name, values_mut_positions, values_mut_rest, values_mut_values, LendsFirstValue, LendsLastValue, LendsValue};
 ghost use Rattle.multimap_walks.specs.Walk.{TellsLength};
 
@@ -23,8 +22,7 @@ use std::marker::PhantomData;
 impl<'map, K, V, A: Allocator> ValuesMut<'map, K, V, A> {
     /// The walk over all values that are lent, none of which was taken. No slot is read.
     pub fn new(values: SlotCells<'map, V, ValueLink, A>) -> Self
-        requires sound { IsSound (lent_slots values) }
-        requires left { AllAreLeft values }
+        requires untaken { NoneIsTaken values }
         ensures values { values_mut_rest result
             ≡ values_at (lent_slots values.entry) (lent_slots values.entry).order }
         ensures name { values_mut_name result ≡ cells_name values.entry }

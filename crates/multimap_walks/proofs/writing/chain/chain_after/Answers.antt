@@ -1,4 +1,4 @@
-use Rattle.std.proofs.Common.{arith, false, refl}
+use Rattle.std.proofs.Common.{arith, false, refl, rules}
 use Rattle.multimap_slots.specs.SlotCells.{lent_slots}
 use Rattle.multimap_walks.specs.Chained.{places_along}
 use Rattle.multimap_walks.proofs.ChainLemmas.{chain_leaves, chain_taken}
@@ -15,8 +15,11 @@ pub returns-clause-taken : goal.returns-clause-taken
 returns-clause-taken g c =
     let link = rw c.place_at-place.ensures at c.link.ensures in
     rw (c.after.ensures, c.unwrap_or.ensures, c.step_from.ensures, c.place_at-place.ensures)
-    (chain_taken (lent_slots c.args.cells.now) false c.args.left (omega (arith, c.requires.more)) c.requires.can.chain c.args.end _
-    c.link.result link refl)
+    (record {
+      places_are = chain_taken (lent_slots c.args.cells.now) false c.args.left (omega (arith, c.requires.more)) c.requires.can.chain
+          c.args.end _ c.link.result link refl;
+      count = search rules;
+    })
 
 pub returns-clause-can : goal.returns-clause-can
 returns-clause-can g c =
@@ -29,5 +32,5 @@ returns-clause-can g c =
           (chain_leaves values false left (omega (arith, c.requires.more)) c.requires.can.chain c.args.end _ c.link.result link refl);
       untaken =
           passed_over c.args.cells.now (places_along values left.first left.length) c.requires.can.untaken c.args.end _ _
-          (returns-clause-taken g c);
+          (returns-clause-taken g c).places_are;
     }

@@ -25,7 +25,7 @@ returns-clause-can g c =
       untaken =
           passed_over cells (places_left order left) c.requires.untaken c.args.end (end_place c.args.end left)
           (places_left order c.rest_after.result)
-          step.taken;
+          step.taken.places_are;
     }
 
 pub returns-clause-slot : goal.returns-clause-slot

@@ -27,7 +27,7 @@ returns g c =
     let rest = c.chain_after-self.result in
     let places = places_along values w.left.first w.left.length in
     let others = places_along values rest.first rest.length in
-    let taken = c.chain_after-self.ensures.taken in
+    let taken = c.chain_after-self.ensures.taken.places_are in
     let takes = rw c.place_at-place.ensures at c.take.ensures in
     let value = c.take.result.now in
     record {
@@ -51,5 +51,5 @@ invariant_of-self g c =
     let can = read_chain w.values w.left w.readable in
     let untaken =
     untaken_on w.values c.take.new.self place c.take.result takes c.args.end (places_along values w.left.first w.left.length)
-    (places_along values rest.first rest.length) can.untaken step.taken in
+    (places_along values rest.first rest.length) can.untaken step.taken.places_are in
     record { readable = ∣ reads_on w.values c.take.new.self place c.take.result takes rest step.can.chain untaken ∣₁ }

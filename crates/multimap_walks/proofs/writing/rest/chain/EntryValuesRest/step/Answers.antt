@@ -17,4 +17,4 @@ returns g c =
     let item = rw c.place_at-place.ensures at c.read.ensures in
     sym c.self.view_is
     ∙ shows_end (item_at (lent_slots i.values.now)) c.args.end _ (end_place c.args.end i.left) _ c.read.result.now
-    c.chain_after-self-inside.ensures.taken item
+    c.chain_after-self-inside.ensures.taken.places_are item
