@@ -7,7 +7,7 @@ use Rattle.std.proofs.lemmas.List.Sums.{sum_by-cons}
 use Rattle.multimap_slots.specs.declared.order.node.State.{State}
 use Rattle.multimap_slots.specs.declared.order.node.State.TheVariants.{Listed, Free, Detached}
 use Rattle.multimap_slots.specs.Lists.{IsIn, AreDistinct, without}
-use Rattle.multimap_slots.specs.ListLayout.{Places, AreSound, IsApart, one_if_detached, count_detached, put}
+use Rattle.multimap_slots.specs.ListLayout.{one_if_detached, count_detached, put}
 use Rattle.multimap_slots.proofs.ListsLemmas.{IsIn-without}
 use Rattle.multimap_slots.proofs.PutLemmas.{get_or-put_other}
 
@@ -35,19 +35,18 @@ apart-detached Listed unlisted taken = absurd (unlisted refl)
 apart-detached Free unlisted taken = absurd (taken refl)
 apart-detached Detached unlisted taken = refl
 
--- a place that has just been detached is neither listed nor free
-pub detached-apart : {L : Type 0} {old new : Places L} → AreSound old → (place : ℕ) → IsIn place old.order
-    → new.order ≡ without old.order place
-    → new.states ≡ set old.states place Detached → IsApart new place
-detached-apart {old = old} {new} sound place listed order states = record {
-  not_listed = λ i. (IsIn-without place old.order place (subst (IsIn place) order i)).1 refl;
-  not_free = λ e. let bad = sym (ap (λ ss. get_or ss place Free) states ∙ get_or-set_same old.states place Detached Free within) ∙ e in cc;
-}
+-- a listed place that has just been detached is neither listed nor free
+pub detached-apart : (order : List ℕ) (ss : List State) {new : List ℕ} {new_ss : List State} (place : ℕ) → get_or ss place Free ≡ Listed
+    → new ≡ without order place → new_ss ≡ set ss place Detached → (IsIn place new → ⊥) × (get_or new_ss place Free ≢ Free)
+detached-apart order ss place listed order_is states_are = (
+  λ i. (IsIn-without place order place (subst (IsIn place) order_is i)).1 refl,
+  λ e. let bad = sym (ap (λ ss. get_or ss place Free) states_are ∙ get_or-set_same ss place Detached Free within) ∙ e in cc,
+)
   where
-    within : place < length old.states
-    within = elim (cases_lt place (length old.states)) [
+    within : place < length ss
+    within = elim (cases_lt place (length ss)) [
       | inl below ↦ below
-      | inr past ↦ absurd (let bad = sym (sound.listed place listed) ∙ get_or_past old.states place Free past in cc)
+      | inr past ↦ absurd (let bad = sym listed ∙ get_or_past ss place Free past in cc)
     ]
 
 -- detached places that differ are no more than the detached ones

@@ -1,9 +1,11 @@
 -- A write or a read of one field of one node.
 use Rattle.std.proofs.Common.{◌≡◌, ◌≢◌, ℕ, ◌<◌, ◌≤◌, IfSome, List, map, length, get_or, set, Option, Some, None, refl, sym, ap, ◌∙◌, arith}
 use Rattle.std.proofs.lemmas.List.{map-set, length-map, get_or-map, get_or-set_same, get_or-set_other}
+use Rattle.std.proofs.lemmas.Option.{slice_get-get_or}
 use Rattle.std.proofs.Math.Seq.{map-set_same}
+use Rattle.std.specs.Prelude.{slice_get}
 use Rattle.multimap_slots.specs.Paths.{after, IsMoved}
-use Rattle.multimap_slots.specs.ListLayout.{nexts, previouses, states}
+use Rattle.multimap_slots.specs.ListLayout.{nexts, previouses, states, links}
 use Rattle.multimap_slots.specs.declared.order.node.Node.{Node}
 
 -- one field is written, of those that say where to go
@@ -29,6 +31,13 @@ IsMoved-first first to ns =
 pub field_read : {A B : Type 0} (f : A → B) (xs : List A) (p : ℕ) (read : A) (d : B) → p < length xs → read ≡ get_or xs p read
     → f read ≡ get_or (map f xs) p d
 field_read f xs p read d within reading = ap f reading ∙ sym (get_or-map f xs p read d within)
+
+-- the link of a node that was read
+pub link_read : {L : Type 0} (nodes : List (Node L)) (p : ℕ) (read : Node L) → p < length nodes → read ≡ get_or nodes p read
+    → slice_get (links nodes) p ≡ Some read.link
+link_read {L} nodes p read within reading =
+    slice_get-get_or (links nodes) p read.link (Prim.rw length-map within)
+    ∙ ap Some (sym (field_read (λ (n : Node L). n.link) nodes p read read.link within reading))
 
 -- as many states, as many nodes
 pub length-states : {L : Type 0} (xs ys : List (Node L)) → states xs ≡ states ys → length xs ≡ length ys

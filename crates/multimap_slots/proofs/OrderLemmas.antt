@@ -1,5 +1,5 @@
 -- What linked nodes tell of their order, and how a push and a removal keep it.
-use Rattle.std.proofs.Common.{◌≡◌, ◌≢◌, ℕ, ◌<◌, List, [], ◌∷◌, ◌++◌, length, get_or, set, IfSome, Option, None, refl, sym, ap, subst, ◌∙◌}
+use Rattle.std.proofs.Common.{◌≡◌, ◌≢◌, ℕ, ◌<◌, ◌≤◌, List, [], ◌∷◌, ◌++◌, length, get_or, set, IfSome, Option, None, refl, sym, ap, subst, ◌∙◌}
 use Rattle.std.proofs.Common.{inl, inr}
 use Rattle.std.proofs.lemmas.Bool.{cases_lt}
 use Rattle.std.proofs.lemmas.List.{length-map, get_or_past}
@@ -10,7 +10,7 @@ use Rattle.multimap_slots.specs.Paths.{after, IsPath, walk}
 use Rattle.multimap_slots.specs.ListLayout.{nexts, previouses, states, IsOrdered}
 use Rattle.multimap_slots.proofs.ListsLemmas.{Split, IsIn-left, IsIn-right, IsIn-split, AreDistinct-gone, next_of-split, previous_of-split}
 use Rattle.multimap_slots.proofs.PathsLemmas.{last_or_in, walk-path, path-last, path-neighbours}
-use Rattle.multimap_slots.proofs.DetachedLemmas.{apart-detached}
+use Rattle.multimap_slots.proofs.DetachedLemmas.{apart-detached, count_detached-some}
 use Rattle.multimap_slots.proofs.NodeLemmas.{field_read, length-states, nexts-relink, previouses-relink, states-relink}
 
 module _ {L : Type 0} where
@@ -59,6 +59,11 @@ module _ {L : Type 0} where
     apart-is p absent taken =
         apart-detached (get_or (states nodes) p Free) (λ e. absent (rw walk-order (o.all_in p e))) taken
 
+    -- so one is counted
+    pub apart-some : (p : ℕ) → (IsIn p (walk (after front (nexts nodes)) None len) → ⊥) → get_or (states nodes) p Free ≢ Free
+        → 1 ≤ detached
+    apart-some p absent taken = rw o.apart (count_detached-some (states nodes) p (apart-is p absent taken))
+
     -- where a place stands in the order
     pub split_at : (p : ℕ) → IsIn p (walk (after front (nexts nodes)) None len) → Split p o.order
     split_at p i = IsIn-split p o.order (rw walk-order at i)
@@ -90,6 +95,22 @@ module _ {L : Type 0} where
       previous-is =
           neighbours.0 ∙ sym (previous_of-split s.front p s.back (λ i. split_gone (IsIn-right p s.front s.back i)))
           ∙ ap (λ ps. previous_of ps p) (sym s.is)
+
+    -- a listed place is within the nodes
+    pub listed-within : (p : ℕ) → IsIn p (walk (after front (nexts nodes)) None len) → p < length nodes
+    listed-within p i = IsIn-within p (rw walk-order at i)
+
+    -- what the node of a listed place, which was read, tells of the places around it
+    module _ (p : ℕ) (i : IsIn p (walk (after front (nexts nodes)) None len)) (read : Node L) (reading : read ≡ get_or nodes p read) where
+      pub next-read : read.next ≡ next_of (walk (after front (nexts nodes)) None len) p
+      next-read =
+          field_read (λ n. n.next) nodes p read None (listed-within p i) reading ∙ next-is (split_at p i)
+          ∙ ap (λ ps. next_of ps p) (sym walk-order)
+
+      pub previous-read : read.previous ≡ previous_of (walk (after front (nexts nodes)) None len) p
+      previous-read =
+          field_read (λ n. n.previous) nodes p read None (listed-within p i) reading ∙ previous-is (split_at p i)
+          ∙ ap (λ ps. previous_of ps p) (sym walk-order)
 
     -- the last of some listed places is within the nodes
     pub last-within : (a : Option ℕ) (ps : List ℕ) → a ≡ last_of ps → ((x : ℕ) → IsIn x ps → IsIn x o.order)

@@ -20,32 +20,27 @@ same_refilled {X} (None ∷ xs) (y ∷ ys) = ap (λ t. is_some {T = X} None ∷ 
 same_refilled (Some x ∷ xs) (None ∷ ys) = ap (λ t. is_some (Some x) ∷ t) (same_refilled xs ys)
 same_refilled (Some x ∷ xs) (Some y ∷ ys) = ap (λ t. is_some (Some y) ∷ t) (same_refilled xs ys)
 
--- an item stands where one stood
+-- an item stands where one stood, and none where there was none
+is_some-refilled : {X : Type 0} (xs ys : List (Option X)) (p : ℕ) → is_some (get_or (refilled xs ys) p None) ≡ is_some (get_or xs p None)
+is_some-refilled [] ys p = refl
+is_some-refilled (x ∷ xs) [] zero = refl
+is_some-refilled (x ∷ xs) [] (suc p) = is_some-refilled xs [] p
+is_some-refilled (None ∷ xs) (y ∷ ys) zero = refl
+is_some-refilled (None ∷ xs) (y ∷ ys) (suc p) = is_some-refilled xs ys p
+is_some-refilled (Some x ∷ xs) (None ∷ ys) zero = refl
+is_some-refilled (Some x ∷ xs) (None ∷ ys) (suc p) = is_some-refilled xs ys p
+is_some-refilled (Some x ∷ xs) (Some y ∷ ys) zero = refl
+is_some-refilled (Some x ∷ xs) (Some y ∷ ys) (suc p) = is_some-refilled xs ys p
+
 pub some-refilled : {X : Type 0} (xs ys : List (Option X)) (p : ℕ) → IsSome (get_or xs p None) → IsSome (get_or (refilled xs ys) p None)
-some-refilled [] ys p s = s
-some-refilled (x ∷ xs) [] zero s = s
-some-refilled (x ∷ xs) [] (suc p) s = some-refilled xs [] p s
-some-refilled (None ∷ xs) (y ∷ ys) zero s = s
-some-refilled (None ∷ xs) (y ∷ ys) (suc p) s = some-refilled xs ys p s
-some-refilled (Some x ∷ xs) (None ∷ ys) zero s = s
-some-refilled (Some x ∷ xs) (None ∷ ys) (suc p) s = some-refilled xs ys p s
-some-refilled (Some x ∷ xs) (Some y ∷ ys) zero s = refl
-some-refilled (Some x ∷ xs) (Some y ∷ ys) (suc p) s = some-refilled xs ys p s
+some-refilled xs ys p some = is_some-refilled xs ys p ∙ some
 
-none_some : {A : Type 0} {X : Type 0} (x : X) → Some x ≡ None → A
-none_some x e = absurd (let e' = e in cc)
+not_some : {X : Type 0} (o : Option X) → is_some o ≡ false → o ≡ None
+not_some None e = refl
+not_some (Some x) e = absurd (let e' = e in cc)
 
--- and none where there was none
 pub none-refilled : {X : Type 0} (xs ys : List (Option X)) (p : ℕ) → get_or xs p None ≡ None → get_or (refilled xs ys) p None ≡ None
-none-refilled [] ys p e = e
-none-refilled (x ∷ xs) [] zero e = e
-none-refilled (x ∷ xs) [] (suc p) e = none-refilled xs [] p e
-none-refilled (None ∷ xs) (y ∷ ys) zero e = e
-none-refilled (None ∷ xs) (y ∷ ys) (suc p) e = none-refilled xs ys p e
-none-refilled (Some x ∷ xs) (None ∷ ys) zero e = e
-none-refilled (Some x ∷ xs) (None ∷ ys) (suc p) e = none-refilled xs ys p e
-none-refilled (Some x ∷ xs) (Some y ∷ ys) zero e = none_some x e
-none-refilled (Some x ∷ xs) (Some y ∷ ys) (suc p) e = none-refilled xs ys p e
+none-refilled xs ys p none = not_some (get_or (refilled xs ys) p None) (is_some-refilled xs ys p ∙ ap is_some none)
 
 pub IsFilled-refilled : {X : Type 0} (xs ys : List (Option X)) (order : List ℕ) (states : List State) → IsFilled xs order states
     → IsFilled (refilled xs ys) order states

@@ -43,12 +43,13 @@ put (y ∷ ys) zero x = x ∷ ys
 put (y ∷ ys) (suc i) x = y ∷ put ys i x
 
 module _ {L : Type 0} where
-  -- there is no place, whatever its state
-  pub record HasNoPlaces (o : Places L) : Type 0 where
+  -- there is no place, whatever its state, and so many fit
+  pub record HasNoPlaces (o : Places L) (capacity : ℕ) : Type 0 where
     pub order : o.order ≡ []
     pub states : o.states ≡ []
     pub links : o.links ≡ []
     pub detached : o.detached ≡ 0
+    pub capacity_is : o.capacity ≡ capacity
 
   -- no place is listed twice, just those that are marked so are listed, each has a link, none is
   -- detached where their number is 0, and there is room for all
@@ -89,6 +90,8 @@ module _ {L : Type 0} where
 
   -- the listed place is detached, and there is room for all places
   pub record Detaches (old new : Places L) (place : ℕ) : Type 0 where
+    pub was_listed : get_or old.states place Free ≡ Listed
+    pub apart : IsApart new place
     pub relists : Relists (without old.order place) (slice_set old.states place Detached) old new
     pub shorter : length new.order + 1 ≡ length old.order
     pub detached : new.detached ≡ old.detached + 1
@@ -178,7 +181,7 @@ module _ {L : Type 0} where
     pub frees : IsFreeList (nexts nodes) (states nodes) vacant free
     pub apart : detached ≡ count_detached (states nodes)
 
-  -- a free place is listed last, with this link
+  -- a free place is listed last, with this link, and as many places fit
   pub record AddsLast (old new : Places L) (place : ℕ) (link : L) : Type 0 where
     pub was_free : get_or old.states place Free ≡ Free
     pub within : place ≤ length old.states
@@ -189,6 +192,7 @@ module _ {L : Type 0} where
     pub states : new.states ≡ put old.states place Listed
     pub links : new.links ≡ put old.links place link
     pub detached : new.detached ≡ old.detached
+    pub capacity : new.capacity ≡ old.capacity
 
   -- a free place can be found, on the list of them or behind the nodes
   pub record CanClaim (nodes : List (Node L)) (free : Option ℕ) (capacity : ℕ) : Type 0 where

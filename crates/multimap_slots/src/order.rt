@@ -56,8 +56,7 @@ impl<L: Copy, A: Allocator> Order<L, A> {
     /// No places, over nodes of which there are none.
     pub(crate) fn over(nodes: Vec<Node<L>, A>) -> Self
         requires { nodes.items ≡ [] }
-        ensures empty { HasNoPlaces result }
-        ensures capacity { result.capacity ≡ vec_capacity nodes }
+        ensures { HasNoPlaces result (vec_capacity nodes) }
     {
         Order {
             nodes,
@@ -89,8 +88,7 @@ impl<L: Copy, A: Allocator> Order<L, A> {
     /// Lists a free place last, and answers it.
     pub(crate) fn push_back(&mut self, link: L) -> usize
         requires { length self.old.order + self.old.detached < self.old.capacity }
-        ensures adds { AddsLast self.old self.new result link }
-        ensures capacity { self.new.capacity ≡ self.old.capacity }
+        ensures { AddsLast self.old self.new result link }
     {
         let node = Node {
             next: OptionalPlace::none(),
@@ -111,16 +109,13 @@ impl<L: Copy, A: Allocator> Order<L, A> {
         requires { IsIn place self.old.order }
         ensures { Removes self.old self.new place }
     {
-        // The length tells the proof that each listed place is marked so.
-        let _len = self.len();
         self.detach(place);
         self.free_detached(place);
     }
 
     /// Gives up every place, and keeps the capacity.
     pub(crate) fn clear(&mut self)
-        ensures empty { HasNoPlaces self.new }
-        ensures capacity { self.new.capacity ≡ self.old.capacity }
+        ensures { HasNoPlaces self.new self.old.capacity }
     {
         self.nodes.clear();
         self.front = OptionalPlace::none();

@@ -36,6 +36,11 @@ module _ {V : Type 0} (values : Slots V ValueLink) where
       let at = position_in values.order in
       sym (ap (end_rest end) (ap (positions_at values) taken ∙ map-with at end p new) ∙ end_rest-with end (at p) (positions_at values new))
 
+  -- the same where what is left is told of the values after the step
+  pub positions_on : (new : Slots V ValueLink) → new ≡ values → (end : End) (p : ℕ) (old : List ℕ) (left : Slots V ValueLink → List ℕ)
+      → old ≡ with_end end p (left values) → positions_at new (left new) ≡ end_rest end (positions_at values old)
+  positions_on new same end p old left taken = ap (λ s. positions_at s (left s)) same ∙ position_goes end p old (left values) taken
+
   -- the position of a listed value goes, and that of a detached one isn't there
   positions_go : (end : End) (detached : Bool) (p : ℕ) (old new : List ℕ) → old ≡ with_end end p new
       → positions_left values detached new ≡ end_rest end (positions_left values detached old)

@@ -5,7 +5,6 @@ ghost use Rattle.multimap_slots.specs.Lists.{IsIn, without};
 use super::Order;
 use super::optional_place::OptionalPlace;
 use super::write::{set_listed, set_next};
-use crate::in_order::InOrder;
 use std::alloc::Allocator;
 
 impl<L: Copy, A: Allocator> Order<L, A> {
@@ -31,8 +30,6 @@ impl<L: Copy, A: Allocator> Order<L, A> {
             (self.old.states) self.old self.new }
         ensures detached { self.new.detached ≡ self.old.detached }
     {
-        // The length tells the proof that each listed place is marked so.
-        let _len = self.len();
         self.detach(place);
         self.attach(place);
     }

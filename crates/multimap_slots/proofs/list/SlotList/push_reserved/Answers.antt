@@ -4,11 +4,11 @@ use Rattle.multimap_slots.proofs.FilledLemmas.{IsFilled-push, empty_absent}
 use Rattle.multimap_slots.proofs.list.SlotList.push_reserved.Goals as goal
 
 pub invariant_of-self : goal.invariant_of-self
-invariant_of-self g c = rw c.put_item.ensures.items (IsFilled-push c.args.item c.self.invariant c.push_back-place.ensures.adds)
+invariant_of-self g c = rw c.put_item.ensures.items (IsFilled-push c.args.item c.self.invariant c.push_back-place.ensures)
 
 pub returns-clause-pushed : goal.returns-clause-pushed
 returns-clause-pushed g c =
-    let adds = c.push_back-place.ensures.adds in
+    let adds = c.push_back-place.ensures in
     let empty = c.self.invariant.empty c.push_back-place.result adds.was_free in
     rw (← c.self.view_is)
     (PushesBack-put _ _ _ _ _ empty (empty_absent c.self.invariant _ empty)

@@ -1,7 +1,5 @@
 use Rattle.std.proofs.Common.{◌∷◌, [], ◌++◌, ap, sym, ◌∙◌, arith, rules}
-use Rattle.multimap_slots.specs.ListLayout.{states}
-use Rattle.multimap_slots.proofs.DetachedLemmas.{count_detached-some}
-use Rattle.multimap_slots.proofs.OrderLemmas.{apart-is, back-is, last-within, taken-within, walk-order}
+use Rattle.multimap_slots.proofs.OrderLemmas.{apart-is, apart-some, back-is, last-within, taken-within, walk-order}
 use Rattle.multimap_slots.proofs.PushLemmas.{IsOrdered-attach, length-listed}
 use Rattle.multimap_slots.proofs.NodeLemmas.{within_more}
 use Rattle.multimap_slots.proofs.order.Order.attach.Goals as goal
@@ -19,12 +17,7 @@ set_next-requires g c =
 pub overflow_sub-self : goal.overflow_sub-self
 overflow_sub-self g c =
     let apart = rw (← c.self.view_is) at c.requires in
-    omega (
-      arith,
-      c.self.invariant.apart,
-      count_detached-some (states c.self.inside.nodes.items) c.args.place
-          (apart-is c.self.invariant _ apart.not_listed apart.not_free),
-    )
+    omega (arith, apart-some c.self.invariant _ apart.not_listed apart.not_free)
 
 pub invariant_of-self : goal.invariant_of-self
 invariant_of-self g c =
@@ -38,7 +31,6 @@ pub returns : goal.returns
 returns g c =
     let apart = rw (← c.self.view_is) at c.requires in
     let is = apart-is c.self.invariant _ apart.not_listed apart.not_free in
-    let some = count_detached-some (states c.self.inside.nodes.items) c.args.place is in
     let attached =
     IsOrdered-attach c.self.invariant is (taken-within c.self.invariant _ apart.not_free)
     c.set_listed.ensures.items (rw c.some-end.ensures at c.set_next.ensures.items) in
@@ -50,5 +42,5 @@ returns g c =
         links = search rules;
         capacity = search rules;
       };
-      detached = omega (arith, c.self.invariant.apart, some);
+      detached = omega (arith, apart-some c.self.invariant _ apart.not_listed apart.not_free);
     })

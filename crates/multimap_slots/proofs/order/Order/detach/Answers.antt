@@ -1,19 +1,19 @@
-use Rattle.std.proofs.Common.{None, ◌∙◌, arith, length, rules}
+use Rattle.std.proofs.Common.{None, ap, set, ◌∙◌, arith, length, rules}
 use Rattle.std.proofs.lemmas.List.{length-map}
+use Rattle.multimap_slots.specs.declared.order.node.State.TheVariants.{Detached}
+use Rattle.multimap_slots.proofs.DetachedLemmas.{detached-apart}
 use Rattle.multimap_slots.proofs.NodeLemmas.{field_read, length-states, within_more}
-use Rattle.multimap_slots.proofs.OrderLemmas.{split_at, split_within, neighbours, first-within, last-within, walk-length}
+use Rattle.multimap_slots.proofs.OrderLemmas.{split_at, split_in, split_within, neighbours, first-within, last-within, listed-within, walk-length}
 use Rattle.multimap_slots.proofs.LeaveLemmas.{IsOrdered-detach, walk-removed, length-walk_removed, was_before, was_behind}
 use Rattle.multimap_slots.proofs.order.Order.detach.Goals as goal
 
 pub index-requires : goal.index-requires
 index-requires g c =
-    let s = split_at c.self.invariant c.args.place (rw (← c.self.view_is) at c.requires) in
-    omega (arith, c.self.inside.nodes.ok, split_within c.self.invariant s)
+    omega (arith, c.self.inside.nodes.ok, listed-within c.self.invariant c.args.place (rw (← c.self.view_is) at c.requires))
 
 pub index-requires-2 : goal.index-requires-2
 index-requires-2 g c =
-    let s = split_at c.self.invariant c.args.place (rw (← c.self.view_is) at c.requires) in
-    omega (arith, c.self.inside.nodes.ok, split_within c.self.invariant s)
+    omega (arith, c.self.inside.nodes.ok, listed-within c.self.invariant c.args.place (rw (← c.self.view_is) at c.requires))
 
 pub set_next-requires : goal.set_next-requires
 set_next-requires g c =
@@ -55,10 +55,17 @@ returns g c =
     IsOrdered-detach c.self.invariant s c.set_next.ensures.items c.set_previous.ensures.items
     (field_read (λ n. n.previous) _ _ _ None within c.index.ensures)
     (field_read (λ n. n.next) _ _ _ None within c.index-2.ensures) c.set_detached.ensures.items in
+    let was = c.self.invariant.listed c.args.place (split_in c.self.invariant s) in
+    let order_is = walk-removed c.self.invariant s removed in
+    let states_are = c.set_detached.ensures.items.states
+    ∙ ap (λ ss. set ss c.args.place Detached) (c.set_previous.ensures.items.states ∙ c.set_next.ensures.items.states) in
+    let apart = detached-apart _ _ c.args.place was order_is states_are in
     rw (← c.self.view_is) (record {
+      was_listed = was;
+      apart = record { not_listed = apart.0; not_free = apart.1 };
       relists = record {
-        order_is = walk-removed c.self.invariant s removed;
-        states_are = search rules;
+        order_is = order_is;
+        states_are = states_are;
         links = search rules;
         capacity = search rules;
       };

@@ -30,8 +30,8 @@ invariant_of-self g c =
     (IsOrdered-push c.self.invariant c.claim-place.ensures.claims.items c.none.ensures refl refl
     (rw c.some-end.ensures at c.set_next.ensures.items)).ordered
 
-pub returns-clause-adds : goal.returns-clause-adds
-returns-clause-adds g c =
+pub returns : goal.returns
+returns g c =
     let claims = c.claim-place.ensures.claims.items in
     let tied = c.set_next.ensures.items in
     let pushed = IsOrdered-push c.self.invariant claims c.none.ensures refl refl (rw c.some-end.ensures at tied) in
@@ -50,4 +50,5 @@ returns-clause-adds g c =
       states = tied.states ∙ ap states claims.written ∙ map-put _ _ _ _;
       links = tied.links ∙ ap links claims.written ∙ map-put _ _ _ _;
       detached = refl;
+      capacity = c.set_next.ensures.capacity ∙ c.claim-place.ensures.claims.capacity;
     })

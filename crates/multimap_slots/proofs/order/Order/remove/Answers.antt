@@ -1,12 +1,7 @@
 use Rattle.std.proofs.Common.{set, ap, arith, ◌∙◌}
 use Rattle.std.proofs.lemmas.List.{set-set}
 use Rattle.multimap_slots.specs.declared.order.node.State.TheVariants.{Free}
-use Rattle.multimap_slots.proofs.DetachedLemmas.{detached-apart}
 use Rattle.multimap_slots.proofs.order.Order.remove.Goals as goal
-
-pub free_detached-requires : goal.free_detached-requires
-free_detached-requires g c = detached-apart c.len-len.ensures.sound c.args.place c.requires c.detach.ensures.relists.order_is
-    c.detach.ensures.relists.states_are
 
 pub returns : goal.returns
 returns g c =

@@ -1,17 +1,12 @@
-use Rattle.std.proofs.Common.{None, ap, arith, sym, ◌∙◌}
-use Rattle.multimap_slots.specs.Lists.{next_of}
-use Rattle.multimap_slots.proofs.NodeLemmas.{field_read}
-use Rattle.multimap_slots.proofs.OrderLemmas.{split_at, split_within, next-is, walk-order}
+use Rattle.std.proofs.Common.{arith, ◌∙◌}
+use Rattle.multimap_slots.proofs.OrderLemmas.{listed-within, next-read}
 use Rattle.multimap_slots.proofs.order.OrderInOrder.next.Goals as goal
 
 pub index-requires : goal.index-requires
 index-requires g c =
-    let s = split_at c.self.invariant c.args.place (rw (← c.self.view_is) at c.requires) in
-    omega (arith, c.self.inside.nodes.ok, split_within c.self.invariant s)
+    omega (arith, c.self.inside.nodes.ok, listed-within c.self.invariant c.args.place (rw (← c.self.view_is) at c.requires))
 
 pub returns : goal.returns
 returns g c =
-    let s = split_at c.self.invariant c.args.place (rw (← c.self.view_is) at c.requires) in
-    let read = field_read (λ n. n.next) _ _ _ None (split_within c.self.invariant s) c.index.ensures in
-    rw (← c.self.view_is) (c.get.ensures ∙ read ∙ next-is c.self.invariant s
-    ∙ ap (λ ps. next_of ps c.args.place) (sym (walk-order c.self.invariant)))
+    let listed = rw (← c.self.view_is) at c.requires in
+    rw (← c.self.view_is) (c.get.ensures ∙ next-read c.self.invariant c.args.place listed c.index.result.now c.index.ensures)

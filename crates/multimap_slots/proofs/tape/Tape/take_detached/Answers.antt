@@ -1,6 +1,7 @@
 use Rattle.std.proofs.Common.{None, ap, set, refl, sym, ◌∙◌}
 use Rattle.std.proofs.lemmas.List.{get_or_default}
-use Rattle.multimap_slots.proofs.TapeLemmas.{IsSome-within, TakesDetached-set}
+use Rattle.multimap_slots.proofs.ChangesLemmas.{TakesDetached-set}
+use Rattle.multimap_slots.proofs.TapeLemmas.{IsSome-within}
 use Rattle.multimap_slots.proofs.tape.Tape.take_detached.Goals as goal
 
 pub returns-clause-taken : goal.returns-clause-taken
@@ -10,7 +11,7 @@ returns-clause-taken g c =
     let read = get_or_default c.self.inside.items.items c.args.place None c.index_mut.result.now within ∙ sym c.index_mut.ensures.value
     ∙ sym c.take.ensures.value in
     rw (← c.self.view_is) (TakesDetached-set _ _ c.args.place c.in-Some.item (rw (← c.self.view_is) at c.requires.not_listed)
-    (read ∙ c.in-Some.is)
+    (read ∙ c.in-Some.is) within
     refl (ap (set c.self.inside.items.items c.args.place) c.take.ensures.after) refl)
 
 pub returns-clause-counts : goal.returns-clause-counts

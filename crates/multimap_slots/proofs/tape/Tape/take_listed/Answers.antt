@@ -2,17 +2,17 @@ use Rattle.std.proofs.Common.{None, Some, ap, arith, refl, length, min, vec_capa
 use Rattle.std.proofs.lemmas.List.{get_or_default}
 use Rattle.std.proofs.lemmas.Option.{slice_get-get_or}
 use Rattle.multimap_slots.proofs.ChangesLemmas.{Removes-set}
-use Rattle.multimap_slots.proofs.TapeLemmas.{IsTape-remove}
+use Rattle.multimap_slots.proofs.TapeLemmas.{IsTape-remove, listed_used}
 use Rattle.multimap_slots.proofs.tape.Tape.take_listed.Goals as goal
 
 pub index-link-requires : goal.index-link-requires
 index-link-requires g c =
-    let within = c.len-len.ensures.sound.within c.args.place (rw (← c.self.view_is) at c.requires) in
+    let within = listed_used c.self.invariant c.args.place (rw (← c.self.view_is) at c.requires) in
     omega (arith, within, c.self.invariant.links_used, c.self.inside.links.ok)
 
 pub index_mut-requires : goal.index_mut-requires
 index_mut-requires g c =
-    let within = c.len-len.ensures.sound.within c.args.place (rw (← c.self.view_is) at c.requires) in
+    let within = listed_used c.self.invariant c.args.place (rw (← c.self.view_is) at c.requires) in
     omega (arith, within, c.self.invariant.items_used, c.self.inside.items.ok)
 
 pub invariant_of-self : goal.invariant_of-self
@@ -23,7 +23,7 @@ invariant_of-self g c =
 pub returns-clause-removed : goal.returns-clause-removed
 returns-clause-removed g c =
     let listed = rw (← c.self.view_is) at c.requires in
-    let within = c.len-len.ensures.sound.within c.args.place listed in
+    let within = listed_used c.self.invariant c.args.place listed in
     let in_items : c.args.place < length c.self.inside.items.items = omega (arith, within, c.self.invariant.items_used) in
     let read = get_or_default c.self.inside.items.items c.args.place None c.index_mut.result.now in_items
     ∙ sym c.index_mut.ensures.value ∙ sym c.take.ensures.value in
@@ -34,6 +34,6 @@ returns-clause-removed g c =
 
 pub returns-clause-link : goal.returns-clause-link
 returns-clause-link g c =
-    let within = c.len-len.ensures.sound.within c.args.place (rw (← c.self.view_is) at c.requires) in
+    let within = listed_used c.self.invariant c.args.place (rw (← c.self.view_is) at c.requires) in
     rw (← c.self.view_is) (slice_get-get_or c.self.inside.links.items c.args.place c.index-link.result.now
     (omega (arith, within, c.self.invariant.links_used)) ∙ ap Some (sym c.index-link.ensures))

@@ -1,10 +1,10 @@
 use Rattle.std.proofs.Common.{◌∙◌, ap, arith, sym}
 use Rattle.multimap_slots.specs.Slots.{item_at}
 use Rattle.multimap_slots.specs.SlotCells.{lent_slots}
-use Rattle.multimap_walks.specs.Chained.{places_along, positions_at, values_at}
+use Rattle.multimap_walks.specs.Chained.{places_along, values_at}
 use Rattle.multimap_walks.specs.Ends.{end_place}
 use Rattle.multimap_walks.specs.Walk.{with_end}
-use Rattle.multimap_walks.proofs.ChainLemmas.{position_goes}
+use Rattle.multimap_walks.proofs.ChainLemmas.{positions_on}
 use Rattle.multimap_walks.proofs.EndLemmas.{shows_end}
 use Rattle.multimap_walks.proofs.SquashLemmas.{read_chain}
 use Rattle.multimap_walks.proofs.WritingLemmas.{chain_end_left, reads_on, untaken_on}
@@ -34,9 +34,7 @@ returns g c =
       steps =
           shows_end (item_at values) c.args.end places place others value taken takes.item_is
           ∙ ap (λ s. with_end c.args.end value (values_at s (places_along s rest.first rest.length))) (sym takes.slots);
-      positions =
-          ap (λ s. positions_at s (places_along s rest.first rest.length)) takes.slots
-          ∙ position_goes values c.args.end place places others taken;
+      positions = positions_on values _ takes.slots c.args.end place places (λ s. places_along s rest.first rest.length) taken;
       taken = takes;
     }
 

@@ -1,11 +1,11 @@
 use Rattle.std.proofs.Common.{◌∙◌, ap, arith, subst, sym}
 use Rattle.multimap_slots.specs.SlotCells.{lent_slots}
 use Rattle.multimap_walks.specs.Along.{places_left}
-use Rattle.multimap_walks.specs.Chained.{AreOwned, pair_at, positions_at}
+use Rattle.multimap_walks.specs.Chained.{AreOwned, pair_at}
 use Rattle.multimap_walks.specs.Ends.{end_place}
 use Rattle.multimap_walks.specs.PairWalk.{pairs_left}
 use Rattle.multimap_walks.specs.Walk.{with_end}
-use Rattle.multimap_walks.proofs.ChainLemmas.{position_goes}
+use Rattle.multimap_walks.proofs.ChainLemmas.{positions_on}
 use Rattle.multimap_walks.proofs.EndLemmas.{shows_end}
 use Rattle.multimap_walks.proofs.PairLemmas.{pair_is}
 use Rattle.multimap_walks.proofs.SquashLemmas.{read_pairs}
@@ -37,9 +37,7 @@ returns g c =
           shows_end (pair_at w.keys.now values) c.args.end _ place _ pair step.taken
           (pair_is w.keys.now values place value.link pair.0 pair.1 step.slot.1 c.key_at.ensures.item step.slot.0.item_is)
           ∙ ap (λ s. with_end c.args.end pair (pairs_left w.keys.now s rest)) (sym step.slot.0.slots);
-      positions =
-          ap (λ s. positions_at s (places_left s.order rest)) step.slot.0.slots
-          ∙ position_goes values c.args.end place (places_left values.order w.left) (places_left values.order rest) step.taken;
+      positions = positions_on values _ step.slot.0.slots c.args.end place _ (λ s. places_left s.order rest) step.taken;
       taken = step.slot.0;
     }
 

@@ -2,10 +2,9 @@ use Rattle.std.proofs.Common.{◌∙◌, ap, sym}
 use Rattle.multimap_slots.specs.Slots.{item_at}
 use Rattle.multimap_slots.specs.SlotCells.{lent_slots}
 use Rattle.multimap_walks.specs.Along.{items_left, places_left}
-use Rattle.multimap_walks.specs.Chained.{positions_at}
 use Rattle.multimap_walks.specs.Ends.{end_place}
 use Rattle.multimap_walks.specs.Walk.{with_end}
-use Rattle.multimap_walks.proofs.ChainLemmas.{position_goes}
+use Rattle.multimap_walks.proofs.ChainLemmas.{positions_on}
 use Rattle.multimap_walks.proofs.EndLemmas.{shows_end}
 use Rattle.multimap_walks.proofs.SquashLemmas.{read_lends}
 use Rattle.multimap_walks.proofs.writing.values.ValuesMut.step.Goals as goal
@@ -25,8 +24,6 @@ returns g c =
       steps =
           shows_end (item_at values) c.args.end _ place _ value.value.now step.taken step.slot.0.item_is
           ∙ ap (λ s. with_end c.args.end value.value.now (items_left s.order (item_at s) rest)) (sym step.slot.0.slots);
-      positions =
-          ap (λ s. positions_at s (places_left s.order rest)) step.slot.0.slots
-          ∙ position_goes values c.args.end place (places_left values.order w.left) (places_left values.order rest) step.taken;
+      positions = positions_on values _ step.slot.0.slots c.args.end place _ (λ s. places_left s.order rest) step.taken;
       taken = step.slot.0;
     }
