@@ -60,8 +60,8 @@ FN = re.compile(r'^( *)(?:pub(?:\([a-z]+\))? )?(?:const )?(?:unsafe )?(?:extern 
 
 def function_at(crate, file, before):
     """The function that a file is in after a part of its text, by the prover's name without the crate's: a
-    method is named after its type, in the type's module, or after type and trait, in its own module. The one
-    of `Drop` counts as the type's own."""
+    method is named after its type, in the type's module, or after type and trait, in its own module, without
+    type parameters. The one of `Drop` counts as the type's own."""
     heads = list(FN.finditer(before))
     if not heads:
         return None
@@ -70,7 +70,7 @@ def function_at(crate, file, before):
         impl = re.findall(r"^impl\b([^{]*)\{", before[: heads[-1].start()], re.M)[-1]
         named = re.sub(r"\w+::|\bwhere\b.*", "", without_first_parameters(impl), flags=re.S)
         trait, _, kind = named.rpartition(" for ")
-        trait = "" if trait.strip() == "Drop" else trait
+        trait = "" if trait.strip() == "Drop" else re.sub(r"\b[A-Z]\b", "", trait)
         kind = re.sub(r"&(?:'\w+ )?", "Ref", re.sub(r"<.*", "", kind, flags=re.S)).strip()
         if not trait:
             path = module_of(file_of(crate, kind) or file)
