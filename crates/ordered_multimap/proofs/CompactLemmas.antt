@@ -228,3 +228,9 @@ pub same_places : {K V : Type 0} {keys : Slots K KeyLink} {values : Slots V Valu
     → AreRenamed keys keys values values
 same_places {keys = keys} {values} keys_sound values_sound = renamed-room keys keys values values keys_sound values_sound refl refl
     (omega arith) (omega arith)
+
+-- nor where only the keys' slots grew
+pub grown_keys : {K V : Type 0} {keys keys_after : Slots K KeyLink} {values : Slots V ValueLink} → IsSound keys → IsSound values
+    → KeepsItems keys keys_after → keys.capacity ≤ keys_after.capacity → AreRenamed keys keys_after values values
+grown_keys {keys = keys} {keys_after} {values} keys_sound values_sound same room =
+    renamed-room keys keys_after values values keys_sound values_sound same refl room (omega arith)

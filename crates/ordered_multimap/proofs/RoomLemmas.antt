@@ -16,10 +16,11 @@ use Rattle.ordered_multimap.specs.MapSlots.{MapSlots}
 use Rattle.ordered_multimap.specs.Multimap.{Multimap, multimap}
 use Rattle.ordered_multimap.specs.Agrees.{Agrees, HasKey, items_of, lists_of}
 use Rattle.ordered_multimap.specs.Appends.{FitsKeys, FitsOneMore, GrowsFor, MakesRoom}
+use Rattle.ordered_multimap.specs.Renames.{KeepsCapacities}
 use Rattle.ordered_multimap.specs.TapeNumbers.{TapeNumbers, numbers_of}
 use Rattle.ordered_multimap.specs.declared.list_ordered_multimap.refused.RefusedValue.{RefusedValue}
 use Rattle.ordered_multimap.specs.Additions.{IsAppended, IsAppendedAt, IsRefused, RefusesValue}
-use Rattle.ordered_multimap.specs.Rooms.{GrowsForValue, HasPairRoom, KeepsRooms, RaisesNoRoom}
+use Rattle.ordered_multimap.specs.Rooms.{GrowsForValue, HasPairRoom, KeepsRooms, RaisesNoRoom, SameRooms}
 use Rattle.ordered_multimap.proofs.AgreesLemmas.{value_room, key_room, row_room}
 use Rattle.ordered_multimap.proofs.LookupLemmas.{absent_if_unlisted}
 
@@ -45,6 +46,17 @@ abbrev pub map_of : {K V S : Type 0} → Slots K KeyLink → ℕ → Taped V Val
 map_of keys row_capacity values state left =
     multimap (lists_of keys values.list) (min keys.capacity row_capacity) (values.list.capacity / 2) state (numbers_of values)
     (record { keys = keys; values = values.list; left = left })
+
+-- rooms of parts that are as large
+pub same_rooms : {K V S : Type 0} (keys keys_after : Slots K KeyLink) (rows rows_after : ℕ) (values values_after : Taped V ValueLink) (state : S)
+    (left left_after : ChainEnds) → KeepsCapacities keys keys_after values values_after → rows_after ≡ rows
+    → SameRooms (map_of keys rows values state left) (map_of keys_after rows_after values_after state left_after)
+same_rooms keys keys_after rows rows_after values values_after state left left_after same same_rows = record {
+  keys = (λ i. min (same.keys_capacity i) (same_rows i));
+  values = ap (λ n. n / 2) same.capacity;
+  slots = same.capacity;
+  hasher = refl;
+}
 
 module _ {K V S : Type 0} {eq : K → K → Bool} {old new : Multimap K V S} {k : K} where
   -- what grows for a value of a key that is there grows no more for a pair of it

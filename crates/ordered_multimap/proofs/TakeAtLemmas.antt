@@ -16,6 +16,7 @@ use Rattle.multimap_walks.specs.Chained.{position_in, chain_of, pair_at, pairs_o
 use Rattle.ordered_multimap.specs.Agrees.{Agrees, HasKey, items_of, lists_of}
 use Rattle.ordered_multimap.specs.Lists.{Lists, lists}
 use Rattle.ordered_multimap.specs.RemovedAt.{several, position_beside, removed_at, value_beside}
+use Rattle.ordered_multimap.specs.Renames.{KeepsCapacities}
 use Rattle.ordered_multimap.specs.TakesAt.{TakesAt, TakesIndexed}
 use Rattle.ordered_multimap.proofs.AgreesLemmas.{pair_in}
 use Rattle.ordered_multimap.proofs.IndexLemmas.{indexed_listed, of_several, several-map, several_shown, shown_without}
@@ -99,3 +100,15 @@ module _ {K V : Type 0} (keys keys_after : Slots K KeyLink) (key index : ℕ) wh
   stays-at values values_after (Some v) takes {eq} k place has =
       subst (λ s. HasKey eq s k place) (sym takes.one.keys_are)
       (record { listed = has.listed; stored = has.stored; item_is = has.item_is; equal = has.equal })
+
+  -- keys and values have as many slots as before
+  pub capacities-at : (values values_after : Taped V ValueLink) (o : Option V)
+      → TakesAt keys keys_after values.list values_after.list key index o → KeepsCapacities keys keys_after values values_after
+  capacities-at values values_after None lacks = record {
+    keys_capacity = ap (λ (s : Slots K KeyLink). s.capacity) lacks.keys_are;
+    capacity = ap (λ (s : Slots V ValueLink). s.capacity) lacks.values_are;
+  }
+  capacities-at values values_after (Some v) takes = record {
+    keys_capacity = ap (λ (s : Slots K KeyLink). s.capacity) takes.one.keys_are;
+    capacity = takes.one.capacity;
+  }

@@ -1,13 +1,13 @@
 -- What an addition leaves of a map. What is said of the key at a place is said for every key that
 -- is equal to the one there.
-use Rattle.std.specs.Prelude.{◌≡◌, ℕ, Bool, length}
+use Rattle.std.specs.Prelude.{◌≡◌, ℕ, Bool, length, Result, IfErr, IsOk, OnOk}
 use Rattle.ordered_multimap.specs.declared.list_ordered_multimap.refused.Refused.{Refused}
 use Rattle.ordered_multimap.specs.declared.list_ordered_multimap.refused.RefusedValue.{RefusedValue}
 use Rattle.ordered_multimap.specs.Agrees.{HasKey}
 use Rattle.ordered_multimap.specs.Changes.{appended, inserted}
 use Rattle.ordered_multimap.specs.Multimap.{Multimap}
 use Rattle.ordered_multimap.specs.Pairs.{values_of}
-use Rattle.ordered_multimap.specs.Rooms.{GrowsForValue, InsertRaisesNoRoom, KeepsRooms}
+use Rattle.ordered_multimap.specs.Rooms.{GrowsForValue, HasPairRoom, InsertRaisesNoRoom, KeepsRooms}
 use Rattle.ordered_multimap.specs.Rooms.{RaisesNoRoom}
 use Rattle.ordered_multimap.specs.TapeNumbers.{TakesOut}
 
@@ -53,3 +53,16 @@ module _ {K V S : Type 0} where
     pub lists : new.lists ≡ old.lists
     pub grows : GrowsForValue old new
     pub taken : TakesOut 0 old.tape new.tape
+
+  -- a pair of the key was put last or refused, and it is refused only where there was no room
+  pub record Appends (eq : K → K → Bool) (key : K) (value : V) (old new : Multimap K V S)
+      {X : Type 0} (r : Result X (Refused K V)) : Type 0 where
+    pub ok : OnOk r (IsAppended eq key value old new)
+    pub refused : IfErr r (IsRefused eq key value old new)
+    pub succeeds : HasPairRoom eq old key → IsOk r
+
+  -- a pair that is refused is handed back, and it is refused only where there was no room
+  pub record HandsBack (eq : K → K → Bool) (key : K) (value : V) (old : Multimap K V S)
+      {X : Type 0} (r : Result X (Refused K V)) : Type 0 where
+    pub refused : IfErr r (λ pair. pair ≡ record { key = key; value = value })
+    pub succeeds : HasPairRoom eq old key → IsOk r

@@ -1,16 +1,18 @@
 -- What an append does to the slots. No public clause cites this module.
 use Rattle.std.specs.Prelude.{◌≡◌, ◌≢◌, ◌+◌, ◌^◌, ◌≤◌, ◌<◌, ℕ, min, [], ◌∷◌, ◌++◌, length}
-use Rattle.std.specs.Prelude.{Option, Some, None}
+use Rattle.std.specs.Prelude.{Option, Some, None, Result, IfErr, IsOk, OnOk}
 use Rattle.std.specs.Ordering.{nat_cmp}
 use Rattle.std.specs.FinMap.{FinMap, get, insert, len}
 use Rattle.multimap_slots.specs.Lists.{IsIn}
-use Rattle.multimap_slots.specs.Slots.{Slots, DoublesIfGrown, HasRoomFor, IsSound, PushesBack}
-use Rattle.multimap_slots.specs.Slots.{item_at, link_at, with_link}
+use Rattle.multimap_slots.specs.Slots.{Slots, DoublesIfGrown, HasRoomFor, IsSound, KeepsItems}
+use Rattle.multimap_slots.specs.Slots.{PushesBack, item_at, link_at, with_link}
 use Rattle.multimap_walks.specs.declared.links.KeyLink.{KeyLink}
 use Rattle.multimap_walks.specs.declared.links.ValueLink.{ValueLink}
-use Rattle.multimap_slots.specs.Tapes.{Taped, HasTapeRoomFor, KeepsCounts}
-use Rattle.ordered_multimap.specs.Renames.{AreRenamed}
+use Rattle.multimap_slots.specs.Tapes.{Taped, HasEndRoom, HasTapeRoomFor, KeepsCounts}
+use Rattle.multimap_table.specs.Table.{Table}
+use Rattle.ordered_multimap.specs.Renames.{AreChained, AreRenamed, KeepsCapacities}
 use Rattle.ordered_multimap.specs.TapeNumbers.{TakesOut, numbers_of}
+use Rattle.ordered_multimap.specs.declared.list_ordered_multimap.refused.RefusedValue.{RefusedValue}
 
 -- the tape has no fewer slots than before, and as many where one more value fits; no value left it
 pub record MakesRoom {V : Type 0} (old new : Taped V ValueLink) : Type 0 where
@@ -44,6 +46,59 @@ pub record FitsOneMore {K V : Type 0} (keys : Slots K KeyLink) (rows : FinMap na
   pub key : HasRoomFor keys 1
   pub row : len rows + 1 ≤ row_capacity
   pub value : HasTapeRoomFor values 1
+
+-- there is a slot behind the values, which are as many as before, and none was taken out; no memory
+-- was taken
+pub record MakesEndRoom {K V : Type 0} (keys keys_after : Slots K KeyLink)
+    (values values_after : Taped V ValueLink) : Type 0 where
+  pub renamed : AreRenamed keys keys_after values.list values_after.list
+  pub same_length : length values_after.list.order ≡ length values.list.order
+  pub taken : TakesOut 0 (numbers_of values) (numbers_of values_after)
+  pub end_room : HasEndRoom values_after
+  pub capacities : KeepsCapacities keys keys_after values values_after
+
+-- room for one more value was asked for, and is there if it was not refused
+pub record MakesValueRoom {K V X E : Type 0} (keys keys_after : Slots K KeyLink)
+    (values values_after : Taped V ValueLink) (r : Result X E) : Type 0 where
+  pub renamed : AreRenamed keys keys_after values.list values_after.list
+  pub tape : MakesRoom values values_after
+  pub room : OnOk r (HasTapeRoomFor values_after 1)
+  pub end_room : OnOk r (HasEndRoom values_after)
+  pub succeeds : HasTapeRoomFor values 1 → IsOk r
+  pub keys_capacity : keys_after.capacity ≡ keys.capacity
+
+-- a value that is refused is handed back, and it is refused only where half of the slots are full
+pub record HandsBackAt {V X : Type 0} (value : V) (values : Taped V ValueLink)
+    (r : Result X (RefusedValue V)) : Type 0 where
+  pub refused : IfErr r (λ back. back.value ≡ value)
+  pub succeeds : HasTapeRoomFor values 1 → IsOk r
+
+-- room for so many more keys was asked for, and is there if it was not refused
+pub record MakesKeyRoom {K X E : Type 0} (keys keys_after : Slots K KeyLink)
+    (table table_after : Table) (additional : ℕ) (r : Result X E) : Type 0 where
+  pub same_keys : KeepsItems keys keys_after
+  pub same_rows : table_after.rows ≡ table.rows
+  pub room : OnOk r (FitsKeys keys_after table.rows table_after.capacity additional)
+  pub succeeds : FitsKeys keys table.rows table.capacity additional → IsOk r
+  pub grows : GrowsFor keys keys_after table.rows table.capacity table_after.capacity additional
+
+-- each key has a row, and no row is more; both lists are chained
+pub record HasCountedChains {K V : Type 0} (keys : Slots K KeyLink) (table : Table)
+    (values : Slots V ValueLink) : Type 0 where
+  pub counted : len table.rows ≡ length keys.order
+  pub chains : AreChained keys values
+
+-- room for one more key and its first value was asked for, and is there if it was not refused
+pub record MakesPairRoom {K V X E : Type 0} (keys keys_after : Slots K KeyLink)
+    (table table_after : Table) (values values_after : Taped V ValueLink) (r : Result X E) : Type 0
+  where
+    pub renamed : AreRenamed keys keys_after values.list values_after.list
+    pub same_rows : table_after.rows ≡ table.rows
+    pub room : OnOk r (FitsOneMore keys_after table_after.rows table_after.capacity values_after)
+    pub end_room : OnOk r (HasEndRoom values_after)
+    pub succeeds : FitsOneMore keys table.rows table.capacity values → IsOk r
+    pub grows : GrowsFor keys keys_after table.rows table.capacity table_after.capacity 1
+    pub tape : MakesRoom values values_after
 
 -- the tape has as many slots as before, and its counts are as they were
 pub record KeepsTapeRoom {V : Type 0} (old new : Taped V ValueLink) : Type 0 where

@@ -1,6 +1,6 @@
 -- Values that leave the list together and are kept in their slots, for a drain to take. Of the
 -- slots that a drain names, clauses on contents show the values alone.
-use Rattle.std.specs.Prelude.{◌≡◌, ℕ, List, reverse, IfSome}
+use Rattle.std.specs.Prelude.{◌≡◌, ℕ, List, [], reverse, IfSome}
 use Rattle.multimap_slots.specs.Lists.{AreDistinct, IsIn, last_of}
 use Rattle.multimap_slots.specs.Slots.{IsDetached, Slots, item_at, link_at}
 use Rattle.multimap_walks.specs.declared.links.ChainEnds.{ChainEnds}
@@ -48,6 +48,11 @@ pub record KeepsListed {K V S : Type 0} (old new : Multimap K V S) : Type 0 wher
 pub record LeavesDrain {K V S : Type 0} (old new : Multimap K V S) : Type 0 where
   pub holds : HoldsDrain new
   pub kept : KeepsListed old new
+
+-- the same, and nothing is left of the drain
+pub record EndsDrain {K V S : Type 0} (old new : Multimap K V S) : Type 0 where
+  pub drain : LeavesDrain old new
+  pub none : left_of new ≡ []
 
 -- the list is the same, with each item and each link of it; what is detached may differ
 pub record KeepsSlots {V : Type 0} (old new : Slots V ValueLink) : Type 0 where

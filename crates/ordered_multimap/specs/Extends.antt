@@ -1,6 +1,6 @@
 -- What a call makes of a map that appends the pairs of an iterator.
 use Rattle.std.specs.Prelude.{◌≡◌, Bool, List, [], ◌∷◌, ◌++◌, length, map, Option, Result}
-use Rattle.std.specs.Prelude.{MatchResult}
+use Rattle.std.specs.Prelude.{IsOk, MatchResult}
 use Rattle.std.specs.Borrow.{Bor}
 use Rattle.std.specs.Iterator.{Count, Drains, HoldsAlong, Yields, size}
 use Rattle.ordered_multimap.specs.Lists.{Lists}
@@ -68,3 +68,13 @@ pub record GrowsForPairs {K V S : Type 0} (given most : Type 0) (old new : Multi
     pub taken : TakesOut 0 old.tape new.tape
     pub key_room : given → new.key_room ≡ old.key_room
     pub had_room : most → SameRooms old new
+
+-- no pair is refused where there is room for all that come, or for as many as may come, and the map
+-- has grown for them alone
+pub record GrowsForAll {K V S I T X Y E : Type 0} (becomes : I → T → Type 0)
+    (steps : T → Option X → T → Type 0) (left : T → Count) (iter : I) (old new : Multimap K V S)
+    (r : Result Y E) : Type 0 where
+  pub grows : GrowsForPairs (HasRoomForGiven becomes steps iter old)
+      (HasRoomForMost becomes left iter old) old new
+  pub succeeds : HasRoomForGiven becomes steps iter old → IsOk r
+  pub succeeds_for_most : HasRoomForMost becomes left iter old → IsOk r

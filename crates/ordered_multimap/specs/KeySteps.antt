@@ -2,11 +2,12 @@
 use Rattle.std.specs.Prelude.{◌≡◌, ℕ, Bool}
 use Rattle.multimap_slots.specs.Lists.{IsIn}
 use Rattle.ordered_multimap.specs.Agrees.{HasKey}
-use Rattle.ordered_multimap.specs.Detaches.{left_of}
+use Rattle.ordered_multimap.specs.Detaches.{HoldsDrain, left_of}
 use Rattle.ordered_multimap.specs.Lists.{Lists}
 use Rattle.ordered_multimap.specs.Multimap.{Multimap}
 use Rattle.ordered_multimap.specs.Pairs.{values_of}
 use Rattle.ordered_multimap.specs.Removals.{LosesValues}
+use Rattle.ordered_multimap.specs.Rooms.{SameRooms}
 use Rattle.ordered_multimap.specs.TapeNumbers.{TakesOut}
 
 module _ {K V S : Type 0} (eq : K → K → Bool) (old new : Multimap K V S) where
@@ -15,10 +16,20 @@ module _ {K V S : Type 0} (eq : K → K → Bool) (old new : Multimap K V S) whe
     pub listed : IsIn place new.slots.keys.order
     pub stays : (k : K) → HasKey eq old.slots.keys k place → HasKey eq new.slots.keys k place
 
+  -- the same, and no room has changed
+  pub record StaysInRoom (place : ℕ) : Type 0 where
+    pub place_stays : KeepsPlace place
+    pub rooms : SameRooms old new
+
   -- the values that the key had have left for a drain, and these are the lists then
   pub record DetachesValues (k : K) (after : Lists K V) : Type 0 where
     pub left : left_of new ≡ values_of eq old.lists.pairs k
     pub loses : LosesValues eq old new k after
+
+-- the map keeps where the values of a drain stand, and no room has changed
+pub record HoldsInRoom {K V S : Type 0} (old new : Multimap K V S) : Type 0 where
+  pub drain : HoldsDrain new
+  pub rooms : SameRooms old new
 
 -- the lists are as they were, and no pair was taken out
 pub record KeepsPairs {K V S : Type 0} (old new : Multimap K V S) : Type 0 where

@@ -1,14 +1,21 @@
 -- One pass of `retain`, step by step. No public clause cites this module.
 use Rattle.std.specs.Prelude.{◌≡◌, ℕ, Bool, true, false}
 use Rattle.std.specs.Prelude.{Some}
+use Rattle.multimap_slots.specs.Lists.{IsIn}
 use Rattle.multimap_slots.specs.Slots.{Slots, with_item}
 use Rattle.multimap_slots.specs.Tapes.{Taped, with_list}
 use Rattle.multimap_table.specs.Table.{Table}
 use Rattle.multimap_walks.specs.declared.links.KeyLink.{KeyLink}
 use Rattle.multimap_walks.specs.declared.links.ValueLink.{ValueLink}
-use Rattle.multimap_walks.specs.Chained.{pair_at}
+use Rattle.multimap_walks.specs.Chained.{AreOwned, pair_at}
 use Rattle.ordered_multimap.specs.TakesOne.{LeavesPair}
 use Rattle.ordered_multimap.specs.declared.list_ordered_multimap.take_one.Taken.{Taken}
+
+-- a value is listed at the place, and the key that the link of each value names is there
+pub record IsOwnedAt {K V : Type 0} (keys : Slots K KeyLink) (values : Slots V ValueLink)
+    (place : ℕ) : Type 0 where
+  pub listed : IsIn place values.order
+  pub owned : AreOwned keys values
 
 module _ {F K V : Type 0} (calls : F → K → V → Bool → V → F → Type 0) where
   -- a call on the pair at the place answers b, and its value is the one that the call left

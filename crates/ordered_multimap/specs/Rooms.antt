@@ -1,5 +1,6 @@
 -- Room in a map, and what the changing calls keep of it.
-use Rattle.std.specs.Prelude.{◌≡◌, ℕ, ◌+◌, ◌≤◌, ◌<◌, Bool, true, false, length}
+use Rattle.std.specs.Prelude.{◌≡◌, ℕ, ◌+◌, ◌≤◌, ◌<◌, Bool, true, false, length, Result, IfOk, IsOk}
+use Rattle.std.specs.Prelude.{OnErr, OnOk}
 use Rattle.multimap_slots.specs.Slots.{DoublesIfGrown}
 use Rattle.ordered_multimap.specs.Lists.{empty_lists}
 use Rattle.ordered_multimap.specs.Pairs.{is_present}
@@ -17,6 +18,12 @@ module _ {K V S : Type 0} where
     pub new : IsNewMap m
     pub key_room : keys ≤ m.key_room
     pub value_room : values ≤ m.value_room
+
+  -- a new map with such room was made, and it is refused only where room was asked for
+  pub record StartsWithRoom (keys values : ℕ) {E : Type 0} (r : Result (Multimap K V S) E) : Type 0
+    where
+      pub new : IfOk r (IsNewMapFor keys values)
+      pub succeeds : keys ≡ 0 → values ≡ 0 → IsOk r
 
   -- one more key fits
   abbrev pub HasKeyRoom : Multimap K V S → Type 0
@@ -94,6 +101,12 @@ module _ {K V S : Type 0} where
     pub key_room : keys ≤ new.key_room
     pub value_room : values ≤ new.value_room
     pub unused : AreUnused new.tape
+
+  -- it was packed, or refused and left as it was
+  pub record Packs (keys values : ℕ) (old new : Multimap K V S) {X E : Type 0} (r : Result X E)
+      : Type 0 where
+    pub ok : OnOk r (IsPacked keys values old new)
+    pub refused : OnErr r (new ≡ old)
 
   -- an insertion wants room for a key and a value where the key is absent, and else none
   pub record HasInsertRoom (eq : K → K → Bool) (m : Multimap K V S) (k : K) : Type 0 where

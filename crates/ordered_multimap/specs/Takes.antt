@@ -8,7 +8,7 @@ use Rattle.std.specs.FinMap.{FinMap, remove}
 use Rattle.multimap_slots.specs.Lists.{AreDistinct, IsIn, first_of, last_of, next_of, without}
 use Rattle.multimap_slots.specs.Slots.{Slots, KeepsOthers, Removes, item_at, link_at}
 use Rattle.multimap_slots.specs.Slots.{DoublesIfGrown, with_link}
-use Rattle.multimap_slots.specs.Tapes.{Taped, Frees, HasTapeRoomFor}
+use Rattle.multimap_slots.specs.Tapes.{Taped, Frees, HasEndRoom, HasTapeRoomFor}
 use Rattle.multimap_table.specs.Table.{Table}
 use Rattle.multimap_walks.specs.declared.links.ChainEnds.{ChainEnds}
 use Rattle.multimap_walks.specs.declared.links.KeyLink.{KeyLink}
@@ -116,6 +116,18 @@ pub record HasChain {K V : Type 0} (keys : Slots K KeyLink) (values : Slots V Va
     : Type 0 where
   pub listed : IsIn place keys.order
   pub chains : AreChained keys values
+
+-- the same, and the values fill no more than half of the slots
+pub record HasFittingChain {K V : Type 0} (keys : Slots K KeyLink) (values : Taped V ValueLink)
+    (place : ℕ) : Type 0 where
+  pub stands : HasChain keys values.list place
+  pub fits : HasTapeRoomFor values 0
+
+-- the same, and there is a slot behind the values
+pub record HasChainBeforeRoom {K V : Type 0} (keys : Slots K KeyLink) (values : Taped V ValueLink)
+    (place : ℕ) : Type 0 where
+  pub stands : HasChain keys values.list place
+  pub room : HasEndRoom values
 
 -- all values of the key at the place have left but its last one, whose link and that of the key
 -- name no other

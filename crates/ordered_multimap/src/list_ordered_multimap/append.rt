@@ -1,18 +1,17 @@
 //! Pairs that come last.
 ghost use Rattle.std.specs.Prelude.{◌≡◌, false, length, IfOk, IfErr, OnOk, OnErr, IsOk};
-ghost use Rattle.std.specs.FinMap.{len};
 ghost use Rattle.multimap_slots.specs.Lists.{IsIn};
 ghost use Rattle.multimap_slots.specs.Slots.{HasItem};
-ghost use Rattle.multimap_slots.specs.Tapes.{HasTapeRoomFor};
-ghost use Rattle.ordered_multimap.specs.Appends.{AppendsBehind, AppendsFirst, FitsOneMore, GrowsFor, HasListedRows, MakesRoom};
-ghost use Rattle.ordered_multimap.specs.Additions.{IsAppended, IsAppendedAt, IsRefused, RefusesValue};
+ghost use Rattle.ordered_multimap.specs.Appends.{AppendsBehind, AppendsFirst, FitsOneMore, GrowsFor};
+ghost use Rattle.ordered_multimap.specs.Appends.{HandsBackAt, HasCountedChains, HasListedRows, MakesRoom};
+ghost use Rattle.ordered_multimap.specs.Additions.{Appends, IsAppendedAt, RefusesValue};
 ghost use Rattle.ordered_multimap.specs.KeySteps.{KeepsPlace};
 ghost use Rattle.ordered_multimap.specs.Agrees.{HasKey, hash_of};
-ghost use Rattle.ordered_multimap.specs.Renames.{AreChained, AreRenamed};
+ghost use Rattle.ordered_multimap.specs.Renames.{AreRenamed};
 ghost use Rattle.ordered_multimap.specs.Takes.{HasChain};
 ghost use Rattle.ordered_multimap.specs.Keys.{is_listed};
 ghost use Rattle.ordered_multimap.specs.Pairs.{is_present};
-ghost use Rattle.ordered_multimap.specs.Rooms.{HasPairRoom, HasValueRoom};
+ghost use Rattle.ordered_multimap.specs.Rooms.{HasValueRoom};
 
 use super::room::{make_room, make_value_room};
 use super::steps::{new_link, push_behind, push_row, push_value};
@@ -43,9 +42,7 @@ impl<K: Eq + Hash, V, S: BuildHasher, A: Allocator + Copy> ListOrderedMultimap<K
         V: Drop,
         ensures present { IfOk result (λ present.
             present ≡ is_present K.eq self.old.lists.pairs key) }
-        ensures ok { OnOk result (IsAppended K.eq key value self.old self.new) }
-        ensures refused { IfErr result (IsRefused K.eq key value self.old self.new) }
-        ensures succeeds { HasPairRoom K.eq self.old key → IsOk result }
+        ensures appends { Appends K.eq key value self.old self.new result }
     {
         let (hash, place) = self.look_up(&key);
         let Some(place) = place else {
@@ -66,9 +63,7 @@ impl<K: Eq + Hash, V, S: BuildHasher, A: Allocator + Copy> ListOrderedMultimap<K
             (K.hash_input key) }
         requires absent { is_listed K.eq self.old.lists.keys key ≡ false }
         ensures found { IfOk result (HasKey K.eq self.new.slots.keys key) }
-        ensures ok { OnOk result (IsAppended K.eq key value self.old self.new) }
-        ensures refused { IfErr result (IsRefused K.eq key value self.old self.new) }
-        ensures succeeds { HasPairRoom K.eq self.old key → IsOk result }
+        ensures appends { Appends K.eq key value self.old self.new result }
     {
         append_first(
             &mut self.keys,
@@ -108,8 +103,7 @@ fn append_behind<K, V: Drop, A: Allocator + Copy>(
         values.old.list values.new.list place value) }
     ensures unchanged { OnErr result (AreRenamed keys.old keys.new
         values.old.list values.new.list) }
-    ensures refused { IfErr result (λ r. r.value ≡ value) }
-    ensures succeeds { HasTapeRoomFor values.old 1 → IsOk result }
+    ensures hands_back { HandsBackAt value values.old result }
     ensures keys_capacity { keys.new.capacity ≡ keys.old.capacity }
     ensures values { MakesRoom values.old values.new }
 {
@@ -132,8 +126,7 @@ fn append_first<K, V: Drop, A: Allocator + Copy>(
     value: V,
 ) -> Result<usize, Refused<K, V>>
     requires rows { HasListedRows keys.old table.old.rows }
-    requires counted { len table.old.rows ≡ length keys.old.order }
-    requires chains { AreChained keys.old values.old.list }
+    requires chains { HasCountedChains keys.old table.old values.old.list }
     ensures found { IfOk result (λ place. HasItem keys.new place key) }
     ensures ok { OnOk result (AppendsFirst keys.old keys.new table.old.rows table.new.rows
         values.old.list values.new.list hash key value) }

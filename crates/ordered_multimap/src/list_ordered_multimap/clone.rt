@@ -109,36 +109,6 @@ fn put_in_order<K: Eq + Hash, V, S: BuildHasher, A: Allocator>(
     }
 }
 
-/// Appends the value, which is a clone, under a clone of the key, where there is room.
-fn append_under_clone<K: Eq + Hash + Clone, V: Clone, S: BuildHasher, A: Allocator + Copy>(
-    copy: &mut ListOrderedMultimap<K, V, S, A>,
-    key: &K,
-    value: V,
-) -> Result<(), AllocError>
-    requires key { (c : K) → K.is_clone key.now c → K.eq key.now c ≡ true }
-    requires value_room { HasValueRoom copy.old }
-    requires key_room { is_listed K.eq copy.old.lists.keys key.now ≡ false → HasKeyRoom copy.old }
-    ensures ok { OnOk result ((m : Lists K V) → (v : V) → V.is_clone v value
-        → AreClones K.eq K.is_clone V.is_clone m copy.old.lists
-        → AreClones K.eq K.is_clone V.is_clone (appended K.eq m key.now v) copy.new.lists) }
-    ensures keeps { KeepsRoomsAndPairs copy.old copy.new }
-{
-    // The length tells the proof that the lists are well formed.
-    let _len = copy.keys_len();
-    let (hash, place) = copy.look_up(key);
-    let Some(place) = place else {
-        let key = key.clone()?;
-        return match copy.append_new(hash, key, value) {
-            Ok(_) => Ok(()),
-            Err(_) => unreachable!(),
-        };
-    };
-    match copy.append_at(place, value) {
-        Ok(()) => Ok(()),
-        Err(_) => unreachable!(),
-    }
-}
-
 /// Appends clones of the key and the value, where there is room.
 fn append_clone<K: Eq + Hash + Clone, V: Clone, S: BuildHasher, A: Allocator + Copy>(
     copy: &mut ListOrderedMultimap<K, V, S, A>,
@@ -155,7 +125,20 @@ fn append_clone<K: Eq + Hash + Clone, V: Clone, S: BuildHasher, A: Allocator + C
     ensures keeps { KeepsRoomsAndPairs copy.old copy.new }
 {
     let value = value.clone()?;
-    append_under_clone(copy, key, value)
+    // The length tells the proof that the lists are well formed.
+    let _len = copy.keys_len();
+    let (hash, place) = copy.look_up(key);
+    let Some(place) = place else {
+        let key = key.clone()?;
+        return match copy.append_new(hash, key, value) {
+            Ok(_) => Ok(()),
+            Err(_) => unreachable!(),
+        };
+    };
+    match copy.append_at(place, value) {
+        Ok(()) => Ok(()),
+        Err(_) => unreachable!(),
+    }
 }
 
 /// Appends clones of the pairs that are left to an empty map, in their order, where there is room

@@ -1,9 +1,9 @@
 //! Compaction: values go down to the holes before them, and the links that name them are mended.
-ghost use Rattle.std.specs.Prelude.{◌≡◌, ◌≤◌, ◌<◌, ◌+◌, ℕ, Some, IsSome, length};
+ghost use Rattle.std.specs.Prelude.{◌≡◌, ◌≤◌, ◌<◌, ℕ, Some, IsSome};
 ghost use Rattle.multimap_slots.specs.Lists.{IsIn};
-ghost use Rattle.multimap_slots.specs.Slots.{link_at, with_link};
+ghost use Rattle.multimap_slots.specs.Slots.{link_at};
 ghost use Rattle.multimap_slots.specs.Tapes.{CountsMove};
-ghost use Rattle.ordered_multimap.specs.Renames.{AreChained, AreRenamed, Renames, places_below, renamed, renamed_key};
+ghost use Rattle.ordered_multimap.specs.Renames.{AreChained, Compacts, KeepsCapacities, MendsKey, Renames, renamed, renamed_key};
 
 use super::links::{link_of, set_link, set_next, set_previous};
 use super::lookup::slot_at;
@@ -26,9 +26,7 @@ fn mend_key<K, A: Allocator>(
     to: usize,
 )
     requires { IsIn place keys.old.order }
-    ensures mended { (l : KeyLink) → link_at keys.old place ≡ Some l
-        → keys.new ≡ with_link keys.old place (renamed_key (renamed from to) l) }
-    ensures capacity { keys.new.capacity ≡ keys.old.capacity }
+    ensures { MendsKey keys.old keys.new place from to }
 {
     let (_, link) = slot_at(keys, place);
     let mended = KeyLink {
@@ -50,9 +48,7 @@ fn mend_ends<K, A: Allocator>(
     requires listed { IsIn link.key keys.old.order }
     requires between { IsSome link.previous → IsSome link.next
         → (l : KeyLink) → link_at keys.old link.key ≡ Some l → renamed_key (renamed from to) l ≡ l }
-    ensures mended { (l : KeyLink) → link_at keys.old link.key ≡ Some l
-        → keys.new ≡ with_link keys.old link.key (renamed_key (renamed from to) l) }
-    ensures capacity { keys.new.capacity ≡ keys.old.capacity }
+    ensures { MendsKey keys.old keys.new link.key from to }
 {
     if link.previous.is_some() && link.next.is_some() {
         return;
@@ -73,8 +69,7 @@ fn move_value<K, V: Drop, A: Allocator>(
     requires holes { (q : ℕ) → to ≤ q → q < from → ¬ IsIn q values.old.list.order }
     ensures renames { Renames (renamed from to) keys.old keys.new values.old.list values.new.list }
     ensures counts { CountsMove values.old values.new }
-    ensures capacity { values.new.list.capacity ≡ values.old.list.capacity }
-    ensures keys_capacity { keys.new.capacity ≡ keys.old.capacity }
+    ensures capacities { KeepsCapacities keys.old keys.new values.old values.new }
 {
     let link = link_of(values, from);
     values.move_down(from, to);
@@ -90,13 +85,7 @@ pub(super) fn compact<K, V: Drop, A: Allocator>(
     values: &mut Tape<V, ValueLink, A>,
 )
     requires chains { AreChained keys.old values.old.list }
-    ensures renamed { AreRenamed keys.old keys.new values.old.list values.new.list }
-    ensures settled { values.new.list.order ≡ places_below (length values.old.list.order) }
-    ensures no_hole { values.new.holes ≡ 0 }
-    ensures moved { values.new.moved ≤ values.old.moved + length values.old.list.order }
-    ensures freed { values.new.freed ≡ values.old.freed }
-    ensures capacity { values.new.list.capacity ≡ values.old.list.capacity }
-    ensures keys_capacity { keys.new.capacity ≡ keys.old.capacity }
+    ensures { Compacts keys.old keys.new values.old values.new }
 {
     let count = values.len();
     let mut following = values.front_place();

@@ -1,17 +1,18 @@
 //! What a drain does with the map that it borrows: it reads, takes and drops detached values.
-ghost use Rattle.std.specs.Prelude.{◌≡◌, [], length, option_map, slice_get};
+ghost use Rattle.std.specs.Prelude.{◌≡◌, length, option_map, slice_get};
 ghost use Rattle.std.specs.Prelude.{IfErr, IfNone, OnErr, OnOk, IsOk};
 ghost use Rattle.multimap_slots.specs.Lists.{IsIn};
+ghost use Rattle.ordered_multimap.specs.Additions.{HandsBack};
 ghost use Rattle.ordered_multimap.specs.Appends.{KeepsTapeRoom};
 ghost use Rattle.ordered_multimap.specs.Agrees.{HasKey};
 ghost use Rattle.ordered_multimap.specs.Changes.{inserted, removed};
 ghost use Rattle.ordered_multimap.specs.Keys.{stored_key};
-ghost use Rattle.ordered_multimap.specs.KeySteps.{DetachesValues, KeepsPairs};
+ghost use Rattle.ordered_multimap.specs.KeySteps.{DetachesValues, HoldsInRoom, KeepsPairs};
 ghost use Rattle.ordered_multimap.specs.Pairs.{values_of};
-ghost use Rattle.ordered_multimap.specs.Rooms.{HasPairRoom, HasValueRoom, KeepsRooms, RaisesNoRoom, SameRooms};
+ghost use Rattle.ordered_multimap.specs.Rooms.{HasValueRoom, KeepsRooms, RaisesNoRoom, SameRooms};
 ghost use Rattle.ordered_multimap.specs.TapeNumbers.{TakesOut};
 ghost use Rattle.multimap_walks.specs.Walk.{TakesEnd};
-ghost use Rattle.ordered_multimap.specs.Detaches.{HoldsDrain, IsDrained, KeepsListed, KeepsSlots, LeavesDrain, left_of};
+ghost use Rattle.ordered_multimap.specs.Detaches.{EndsDrain, HoldsDrain, IsDrained, KeepsListed, KeepsSlots, LeavesDrain, left_of};
 
 use super::insert::insert_behind_all;
 use super::leaving::KeptInPlace;
@@ -25,12 +26,11 @@ use std::hash::{BuildHasher, Hash};
 impl<K: Eq + Hash, V, S: BuildHasher, A: Allocator> ListOrderedMultimap<K, V, S, A> {
     /// Takes the key out, detaches all its values for a drain, and answers the stored key.
     pub(super) fn detach_all(&mut self, key: &K) -> Option<K>
-        ensures holds { HoldsDrain self.new }
+        ensures holds { HoldsInRoom self.old self.new }
         ensures detached { DetachesValues K.eq self.old self.new key.now
             (removed K.eq self.old.lists key.now) }
         ensures key { result ≡ option_map (λ _. stored_key K.eq self.old.lists.keys key.now)
             (slice_get (values_of K.eq self.old.lists.pairs key.now) 0) }
-        ensures rooms { SameRooms self.old self.new }
         ensures absent { IfNone result (KeepsListed self.old self.new) }
     {
         match self.look_up(key).1 {
@@ -45,12 +45,11 @@ impl<K: Eq + Hash, V, S: BuildHasher, A: Allocator> ListOrderedMultimap<K, V, S,
     /// Takes the key at the place out, detaches all its values for a drain, and answers the key.
     pub(super) fn detach_at(&mut self, place: usize) -> K
         requires { IsIn place self.old.slots.keys.order }
-        ensures holds { HoldsDrain self.new }
+        ensures holds { HoldsInRoom self.old self.new }
         ensures detached { (k : K) → HasKey K.eq self.old.slots.keys k place
             → DetachesValues K.eq self.old self.new k (removed K.eq self.old.lists k) }
         ensures key { (k : K) → HasKey K.eq self.old.slots.keys k place
             → result ≡ stored_key K.eq self.old.lists.keys k }
-        ensures rooms { SameRooms self.old self.new }
     {
         let (key, _, left) = leave_entry::<K, V, KeptInPlace, A>(
             &mut self.keys,
@@ -64,8 +63,7 @@ impl<K: Eq + Hash, V, S: BuildHasher, A: Allocator> ListOrderedMultimap<K, V, S,
 
     /// Nothing is left for a drain.
     fn detach_none(&mut self)
-        ensures drain { LeavesDrain self.old self.new }
-        ensures none { left_of self.new ≡ [] }
+        ensures { EndsDrain self.old self.new }
     {
         self.left = NO_CHAIN;
     }
@@ -124,8 +122,7 @@ impl<K: Eq + Hash, V, S: BuildHasher, A: Allocator> ListOrderedMultimap<K, V, S,
     where
         V: Drop,
         requires { HoldsDrain self.old }
-        ensures drain { LeavesDrain self.old self.new }
-        ensures none { left_of self.new ≡ [] }
+        ensures { EndsDrain self.old self.new }
     {
         let left = self.left;
         self.left.length = 0;
@@ -143,8 +140,7 @@ impl<K: Eq + Hash, V, S: BuildHasher, A: Allocator + Copy> ListOrderedMultimap<K
         ensures ok { OnOk result (DetachesValues K.eq self.old self.new key
             (inserted K.eq self.old.lists key value)) }
         ensures unchanged { OnErr result (KeepsPairs self.old self.new) }
-        ensures refused { IfErr result (λ pair. pair ≡ record { key = key; value = value }) }
-        ensures succeeds { HasPairRoom K.eq self.old key → IsOk result }
+        ensures hands_back { HandsBack K.eq key value self.old result }
         ensures rooms { KeepsRooms self.old self.new }
         ensures had_room { RaisesNoRoom K.eq key self.old self.new }
     {

@@ -1,8 +1,8 @@
 //! Many pairs that come last.
-ghost use Rattle.std.specs.Prelude.{◌≡◌, IfOk, IfErr, IsOk};
+ghost use Rattle.std.specs.Prelude.{◌≡◌, IfOk, IfErr};
 ghost use Rattle.std.specs.Iterator.{IsFinite};
 ghost use Rattle.ordered_multimap.specs.Extends.{Extends, ExtendsCopied, IsBuilt, IsItem};
-ghost use Rattle.ordered_multimap.specs.Extends.{GrowsForPairs, HasRoomForGiven, HasRoomForMost};
+ghost use Rattle.ordered_multimap.specs.Extends.{GrowsForAll};
 ghost use Rattle.ordered_multimap.specs.TapeNumbers.{AreUnused};
 
 use super::{ListOrderedMultimap, Refused};
@@ -31,17 +31,10 @@ impl<K: Eq + Hash + Drop, V: Drop, S: BuildHasher, A: Allocator + Copy> ListOrde
             → I.IntoIter.can_next it × IsFinite (I.IntoIter.remaining it) }
         ensures extends { Extends K.eq I.into_iter_gives I.IntoIter.next_gives iter
             self.old.lists self.new.lists result }
-        ensures grows { GrowsForPairs
-            (HasRoomForGiven I.into_iter_gives I.IntoIter.next_gives iter self.old)
-            (HasRoomForMost I.into_iter_gives I.IntoIter.remaining iter self.old)
-            self.old self.new }
 
-        // Where there is room for all pairs that come, or for as many as may come, none is refused.
         // The room for values may grow beyond the pairs that come: an iterator may tell of more.
-        ensures succeeds { HasRoomForGiven I.into_iter_gives I.IntoIter.next_gives iter self.old
-            → IsOk result }
-        ensures succeeds_for_most { HasRoomForMost I.into_iter_gives I.IntoIter.remaining iter
-            self.old → IsOk result }
+        ensures grows { GrowsForAll I.into_iter_gives I.IntoIter.next_gives I.IntoIter.remaining
+            iter self.old self.new result }
     {
         let pairs = iter.into_iter();
         // That this is refused is ignored: each append makes the room that it needs.
@@ -70,17 +63,10 @@ impl<K: Eq + Hash + Drop, V: Drop, S: BuildHasher, A: Allocator + Copy> ListOrde
             → I.IntoIter.can_next it × IsFinite (I.IntoIter.remaining it) }
         ensures extends { ExtendsCopied K.eq I.into_iter_gives I.IntoIter.next_gives iter
             self.old.lists self.new.lists result }
-        ensures grows { GrowsForPairs
-            (HasRoomForGiven I.into_iter_gives I.IntoIter.next_gives iter self.old)
-            (HasRoomForMost I.into_iter_gives I.IntoIter.remaining iter self.old)
-            self.old self.new }
 
-        // Where there is room for all pairs that come, or for as many as may come, none is refused.
         // The room for values may grow beyond the pairs that come: an iterator may tell of more.
-        ensures succeeds { HasRoomForGiven I.into_iter_gives I.IntoIter.next_gives iter self.old
-            → IsOk result }
-        ensures succeeds_for_most { HasRoomForMost I.into_iter_gives I.IntoIter.remaining iter
-            self.old → IsOk result }
+        ensures grows { GrowsForAll I.into_iter_gives I.IntoIter.next_gives I.IntoIter.remaining
+            iter self.old self.new result }
     {
         let pairs = iter.into_iter();
         // Its refusal is ignored, as in `extend`.

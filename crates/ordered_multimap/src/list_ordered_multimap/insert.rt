@@ -1,14 +1,15 @@
 //! Pairs that come last and take the place of all others of their key.
 ghost use Rattle.std.specs.Prelude.{◌≡◌, true, false, Some, slice_get, IfOk, IfErr, OnOk, OnErr, IsOk, ⊤};
 ghost use Rattle.multimap_slots.specs.Lists.{IsIn};
-ghost use Rattle.multimap_slots.specs.Tapes.{HasTapeRoomFor};
+ghost use Rattle.ordered_multimap.specs.Appends.{HandsBackAt};
 ghost use Rattle.ordered_multimap.specs.Agrees.{HasKey};
-ghost use Rattle.ordered_multimap.specs.KeySteps.{KeepsPlace};
+ghost use Rattle.ordered_multimap.specs.KeySteps.{StaysInRoom};
 ghost use Rattle.ordered_multimap.specs.Removals.{LosesValues};
-ghost use Rattle.ordered_multimap.specs.Takes.{GrowsForOne, HasChain, Inserts, KeepsNames};
+ghost use Rattle.ordered_multimap.specs.Takes.{GrowsForOne, HasFittingChain, Inserts, KeepsNames};
+ghost use Rattle.ordered_multimap.specs.Renames.{KeepsCapacities};
 ghost use Rattle.ordered_multimap.specs.Pairs.{values_of};
 ghost use Rattle.ordered_multimap.specs.Changes.{inserted};
-ghost use Rattle.ordered_multimap.specs.Rooms.{HasInsertRoom, SameRooms};
+ghost use Rattle.ordered_multimap.specs.Rooms.{HasInsertRoom};
 ghost use Rattle.ordered_multimap.specs.Additions.{IsInserted, IsRefused};
 
 use super::leaving::{KeptInPlace, TakenOut};
@@ -60,12 +61,11 @@ impl<K: Eq + Hash, V, S: BuildHasher, A: Allocator> ListOrderedMultimap<K, V, S,
     where
         V: Drop,
         requires { IsIn place self.old.slots.keys.order }
-        ensures keeps { KeepsPlace K.eq self.old self.new place }
+        ensures stays { StaysInRoom K.eq self.old self.new place }
         ensures value { (k : K) → HasKey K.eq self.old.slots.keys k place
             → slice_get (values_of K.eq self.old.lists.pairs k) 0 ≡ Some result }
         ensures inserted { (k : K) → HasKey K.eq self.old.slots.keys k place
             → LosesValues K.eq self.old self.new k (inserted K.eq self.old.lists k value) }
-        ensures rooms { SameRooms self.old self.new }
     {
         insert_behind(&mut self.keys, &mut self.values, place, value)
     }
@@ -80,12 +80,10 @@ fn insert_behind<K, V: Drop, A: Allocator>(
     place: usize,
     value: V,
 ) -> V
-    requires stands { HasChain keys.old values.old.list place }
-    requires fits { HasTapeRoomFor values.old 0 }
+    requires { HasFittingChain keys.old values.old place }
     ensures inserted { (ends : _) × Inserts false (λ v. result ≡ v) keys.old keys.new
         values.old values.new place value ends }
-    ensures keys_capacity { keys.new.capacity ≡ keys.old.capacity }
-    ensures values_capacity { values.new.list.capacity ≡ values.old.list.capacity }
+    ensures capacities { KeepsCapacities keys.old keys.new values.old values.new }
 {
     make_end_room(keys, values);
     let (first, _) = push_over::<K, V, TakenOut<V>, A>(keys, values, place, value);
@@ -100,13 +98,11 @@ pub(super) fn insert_behind_all<K, V: Drop, A: Allocator + Copy>(
     place: usize,
     value: V,
 ) -> Result<ChainEnds, RefusedValue<V>>
-    requires stands { HasChain keys.old values.old.list place }
-    requires fits { HasTapeRoomFor values.old 0 }
+    requires { HasFittingChain keys.old values.old place }
     ensures ok { IfOk result (Inserts true (λ _. ⊤) keys.old keys.new values.old values.new
         place value) }
     ensures unchanged { OnErr result (KeepsNames keys.old keys.new values.old values.new) }
-    ensures refused { IfErr result (λ r. r.value ≡ value) }
-    ensures succeeds { HasTapeRoomFor values.old 1 → IsOk result }
+    ensures hands_back { HandsBackAt value values.old result }
     ensures grows { GrowsForOne keys.old keys.new values.old values.new }
 {
     if make_value_room(keys, values).is_err() {

@@ -1,9 +1,10 @@
 //! The pairs of a map that is given up, handed out one by one.
 ghost use Rattle.std.specs.Prelude.{◌≡◌, length, MatchOption};
 ghost use Rattle.std.specs.Iterator.{at_most};
-ghost use Rattle.multimap_slots.specs.Lists.{IsIn, without};
+ghost use Rattle.multimap_slots.specs.Lists.{without};
 ghost use Rattle.multimap_slots.specs.Slots.{KeepsOthers};
-ghost use Rattle.multimap_walks.specs.Chained.{AreOwned, pair_at};
+ghost use Rattle.multimap_walks.specs.Chained.{pair_at};
+ghost use Rattle.ordered_multimap.specs.RetainSteps.{IsOwnedAt};
 ghost use Rattle.multimap_walks.specs.Walk.{TellsLength};
 ghost use Rattle.ordered_multimap.specs.IntoIters.{HandsFirst, HandsLast, IsHanded};
 
@@ -78,8 +79,7 @@ fn take_cloning<K: Clone, V, A: Allocator>(
     values: &mut Tape<V, ValueLink, A>,
     place: usize,
 ) -> Result<(K, V), UnclonedKey<V>>
-    requires owned { AreOwned keys.now values.old.list }
-    requires listed { IsIn place values.old.list.order }
+    requires { IsOwnedAt keys.now values.old.list place }
     ensures handed { MatchOption (pair_at keys.now values.old.list place) ⊥
         (IsHanded K.is_clone K.is_infallible result) }
     ensures order { values.new.list.order ≡ without values.old.list.order place }

@@ -1,13 +1,13 @@
 //! Packing: keys and values go to new storage in their order, and what is left of the old is
 //! dropped.
-ghost use Rattle.std.specs.Prelude.{◌≡◌, ◌≤◌, ◌<◌, ◌/◌, ℕ, Some, length, IfOk, OnOk, OnErr};
+ghost use Rattle.std.specs.Prelude.{◌≡◌, ◌≤◌, ◌<◌, ◌/◌, ℕ, Some, length, IfOk};
 ghost use Rattle.std.specs.FinMap.{empty, len};
 ghost use Rattle.multimap_slots.specs.Lists.{IsIn};
 ghost use Rattle.multimap_slots.specs.Slots.{HasRoomFor, IsEmpty, IsSound, link_at};
 ghost use Rattle.ordered_multimap.specs.Appends.{HasListedRows, KeepsTapeRoom};
 ghost use Rattle.ordered_multimap.specs.KeyRenames.{ArePacked, HasRows, HaveCome, HaveGone, IsNewStorage, MovesKey, name_in};
 ghost use Rattle.ordered_multimap.specs.Renames.{AreChained, places_below};
-ghost use Rattle.ordered_multimap.specs.Rooms.{IsPacked};
+ghost use Rattle.ordered_multimap.specs.Rooms.{Packs};
 ghost use Rattle.ordered_multimap.specs.Takes.{KeepsKeyRoom, KeepsRoom};
 ghost use Rattle.ordered_multimap.specs.TapeNumbers.{AreUnused, numbers_of};
 
@@ -183,9 +183,7 @@ impl<K: Eq + Hash, V, S: BuildHasher, A: Allocator + Copy> ListOrderedMultimap<K
         V: Drop,
         requires keys { length self.old.lists.keys ≤ keys_minimum_capacity }
         requires values { length self.old.lists.pairs ≤ values_minimum_capacity }
-        ensures ok { OnOk result
-            (IsPacked keys_minimum_capacity values_minimum_capacity self.old self.new) }
-        ensures refused { OnErr result (self.new ≡ self.old) }
+        ensures { Packs keys_minimum_capacity values_minimum_capacity self.old self.new result }
     {
         let alloc = *self.keys.allocator();
         let places = self.keys.used_slots();
@@ -208,10 +206,8 @@ impl<K: Eq + Hash, V, S: BuildHasher, A: Allocator + Copy> ListOrderedMultimap<K
     where
         K: Drop,
         V: Drop,
-        ensures ok { OnOk result
-            (IsPacked (length self.old.lists.keys) (length self.old.lists.pairs)
-            self.old self.new) }
-        ensures refused { OnErr result (self.new ≡ self.old) }
+        ensures { Packs (length self.old.lists.keys) (length self.old.lists.pairs)
+            self.old self.new result }
     {
         let keys = self.keys_len();
         let values = self.values_len();

@@ -1,13 +1,12 @@
 //! One pass over all pairs that keeps those for which a function answers yes.
 ghost use Rattle.std.specs.Prelude.{◌≡◌, ◌≤◌, ◌-◌, ℕ, Some, length};
 ghost use Rattle.std.specs.Map.Calls.{CallableOnEachPair, CalledAtPair, TakesPair as MayCall};
-ghost use Rattle.multimap_slots.specs.Lists.{IsIn};
 ghost use Rattle.multimap_slots.specs.Slots.{link_at};
-ghost use Rattle.multimap_walks.specs.Chained.{AreOwned, pair_at, pairs_of};
+ghost use Rattle.multimap_walks.specs.Chained.{pair_at, pairs_of};
 ghost use Rattle.ordered_multimap.specs.Agrees.{Agrees, items_of};
 ghost use Rattle.ordered_multimap.specs.Keys.{keys_named_by};
 ghost use Rattle.ordered_multimap.specs.Retain.{Retains};
-ghost use Rattle.ordered_multimap.specs.RetainSteps.{Asks, RetainsAt};
+ghost use Rattle.ordered_multimap.specs.RetainSteps.{Asks, IsOwnedAt, RetainsAt};
 ghost use Rattle.ordered_multimap.specs.Rooms.{SameRooms};
 ghost use Rattle.ordered_multimap.specs.Takes.{KeepsRoom};
 ghost use Rattle.ordered_multimap.specs.TakesOne.{HasPair};
@@ -30,8 +29,7 @@ fn ask<K, V, A: Allocator, F: FnMut(&K, &mut V) -> bool>(
     f: &mut F,
     place: usize,
 ) -> (bool, ValueLink, KeyLink)
-    requires listed { IsIn place values.old.list.order }
-    requires owned { AreOwned keys.now values.old.list }
+    requires stands { IsOwnedAt keys.now values.old.list place }
     requires callable { (k : K) (v : V) → pair_at keys.now values.old.list place ≡ Some (k, v)
         → MayCall F.FnMut f.old k v }
     ensures asked { Asks (CalledAtPair F.FnMut) keys.now values.old values.new place

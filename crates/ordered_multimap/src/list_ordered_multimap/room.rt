@@ -1,11 +1,9 @@
 //! Room for one more key and one more value.
-ghost use Rattle.std.specs.Prelude.{◌≡◌, ◌<◌, OnOk, IsOk, length};
+ghost use Rattle.std.specs.Prelude.{◌≡◌, ◌<◌, length};
 ghost use Rattle.std.specs.FinMap.{len};
-ghost use Rattle.multimap_slots.specs.Slots.{KeepsItems};
-ghost use Rattle.multimap_slots.specs.Tapes.{HasEndRoom, HasTapeRoomFor};
-ghost use Rattle.ordered_multimap.specs.Appends.{FitsKeys, FitsOneMore, GrowsFor, MakesRoom};
-ghost use Rattle.ordered_multimap.specs.Renames.{AreChained, AreRenamed};
-ghost use Rattle.ordered_multimap.specs.TapeNumbers.{TakesOut, numbers_of};
+ghost use Rattle.multimap_slots.specs.Tapes.{HasTapeRoomFor};
+ghost use Rattle.ordered_multimap.specs.Appends.{HasCountedChains, MakesEndRoom, MakesKeyRoom, MakesPairRoom, MakesValueRoom};
+ghost use Rattle.ordered_multimap.specs.Renames.{AreChained};
 
 use super::compact::compact;
 use multimap_slots::{SlotList, Tape};
@@ -24,12 +22,7 @@ pub(super) fn make_end_room<K, V: Drop, A: Allocator>(
     requires chains { AreChained keys.old values.old.list }
     requires fits { HasTapeRoomFor values.old 0 }
     requires slots { 0 < values.old.list.capacity }
-    ensures renamed { AreRenamed keys.old keys.new values.old.list values.new.list }
-    ensures same_length { length values.new.list.order ≡ length values.old.list.order }
-    ensures taken { TakesOut 0 (numbers_of values.old) (numbers_of values.new) }
-    ensures end_room { HasEndRoom values.new }
-    ensures capacity { values.new.list.capacity ≡ values.old.list.capacity }
-    ensures keys_capacity { keys.new.capacity ≡ keys.old.capacity }
+    ensures { MakesEndRoom keys.old keys.new values.old values.new }
 {
     // The length tells the proof how many slots are in use.
     let _len = values.len();
@@ -47,12 +40,7 @@ pub(super) fn make_value_room<K, V: Drop, A: Allocator + Copy>(
     values: &mut Tape<V, ValueLink, A>,
 ) -> Result<(), AllocError>
     requires chains { AreChained keys.old values.old.list }
-    ensures renamed { AreRenamed keys.old keys.new values.old.list values.new.list }
-    ensures values { MakesRoom values.old values.new }
-    ensures room { OnOk result (HasTapeRoomFor values.new 1) }
-    ensures end_room { OnOk result (HasEndRoom values.new) }
-    ensures succeeds { HasTapeRoomFor values.old 1 → IsOk result }
-    ensures keys_capacity { keys.new.capacity ≡ keys.old.capacity }
+    ensures { MakesValueRoom keys.old keys.new values.old values.new result }
 {
     if values.len() >= values.capacity() {
         return values.reserve(1);
@@ -70,13 +58,7 @@ pub(super) fn make_key_room<K, A: Allocator + Copy>(
     additional: usize,
 ) -> Result<(), AllocError>
     requires counted { len table.old.rows ≡ length keys.old.order }
-    ensures same_keys { KeepsItems keys.old keys.new }
-    ensures same_rows { table.new.rows ≡ table.old.rows }
-    ensures room { OnOk result (FitsKeys keys.new table.old.rows table.new.capacity additional) }
-    ensures succeeds { FitsKeys keys.old table.old.rows table.old.capacity additional
-        → IsOk result }
-    ensures grows { GrowsFor keys.old keys.new table.old.rows
-        table.old.capacity table.new.capacity additional }
+    ensures { MakesKeyRoom keys.old keys.new table.old table.new additional result }
 {
     let room = keys.capacity().min(table.capacity());
     if additional <= room - keys.len() {
@@ -96,22 +78,14 @@ pub(super) fn make_key_room<K, A: Allocator + Copy>(
 }
 
 /// Makes room for one more key and one more value.
+#[tactic(auto, using(crate::proofs::CompactLemmas::grown_keys))]
 pub(super) fn make_room<K, V: Drop, A: Allocator + Copy>(
     keys: &mut SlotList<K, KeyLink, A>,
     table: &mut KeyTable<A>,
     values: &mut Tape<V, ValueLink, A>,
 ) -> Result<(), AllocError>
-    requires counted { len table.old.rows ≡ length keys.old.order }
-    requires chains { AreChained keys.old values.old.list }
-    ensures renamed { AreRenamed keys.old keys.new values.old.list values.new.list }
-    ensures same_rows { table.new.rows ≡ table.old.rows }
-    ensures room { OnOk result (FitsOneMore keys.new table.new.rows table.new.capacity values.new) }
-    ensures end_room { OnOk result (HasEndRoom values.new) }
-    ensures succeeds { FitsOneMore keys.old table.old.rows table.old.capacity values.old
-        → IsOk result }
-    ensures grows { GrowsFor keys.old keys.new table.old.rows
-        table.old.capacity table.new.capacity 1 }
-    ensures values { MakesRoom values.old values.new }
+    requires { HasCountedChains keys.old table.old values.old.list }
+    ensures { MakesPairRoom keys.old keys.new table.old table.new values.old values.new result }
 {
     make_key_room(keys, table, 1)?;
     make_value_room(keys, values)

@@ -6,7 +6,7 @@ ghost use Rattle.multimap_slots.specs.Slots.{HasRoomFor, PushesBack};
 ghost use Rattle.multimap_slots.specs.Tapes.{HasEndRoom};
 ghost use Rattle.ordered_multimap.specs.Appends.{ComesLast, HasListedRows, KeepsTapeRoom, link_of_one};
 ghost use Rattle.ordered_multimap.specs.Appends.{PushesBehind, PushesRow, PushesValue};
-ghost use Rattle.ordered_multimap.specs.Takes.{HasChain};
+ghost use Rattle.ordered_multimap.specs.Takes.{HasChainBeforeRoom};
 
 use super::links::{set_link, set_next};
 use super::lookup::slot_at;
@@ -14,16 +14,6 @@ use multimap_slots::{SlotList, Tape};
 use multimap_table::KeyTable;
 use multimap_walks::{KeyLink, ValueLink};
 use std::alloc::Allocator;
-
-/// Puts the key last, and answers its place.
-#[inline(always)]
-fn push_key<K, A: Allocator>(keys: &mut SlotList<K, KeyLink, A>, key: K, link: KeyLink) -> usize
-    requires { HasRoomFor keys.old 1 }
-    ensures pushed { PushesBack keys.old keys.new result key link }
-    ensures capacity { keys.new.capacity ≡ keys.old.capacity }
-{
-    keys.push_reserved(key, link)
-}
 
 /// The link of a key with one value, at the place.
 pub(super) fn new_link(hash: u64, place: usize) -> KeyLink
@@ -83,8 +73,7 @@ pub(super) fn push_behind<K, V, A: Allocator>(
     place: usize,
     value: V,
 )
-    requires stands { HasChain keys.old values.old.list place }
-    requires room { HasEndRoom values.old }
+    requires { HasChainBeforeRoom keys.old values.old place }
     ensures pushed { PushesBehind keys.old keys.new values.old.list values.new.list place value }
     ensures room { KeepsTapeRoom values.old values.new }
 {
@@ -112,7 +101,7 @@ pub(super) fn push_row<K, A: Allocator + Copy>(
     ensures pushed { PushesRow keys.old keys.new table.old.rows table.new.rows result key link }
     ensures rows_capacity { table.new.capacity ≡ table.old.capacity }
 {
-    let place = push_key(keys, key, link);
+    let place = keys.push_reserved(key, link);
     table.insert(link.hash, place);
     place
 }

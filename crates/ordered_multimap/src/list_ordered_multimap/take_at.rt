@@ -4,9 +4,8 @@ ghost use Rattle.multimap_slots.specs.Lists.{IsIn};
 ghost use Rattle.multimap_slots.specs.Slots.{link_at};
 ghost use Rattle.multimap_walks.specs.Chained.{chain_of};
 ghost use Rattle.ordered_multimap.specs.Agrees.{HasKey};
-ghost use Rattle.ordered_multimap.specs.KeySteps.{KeepsPlace};
+ghost use Rattle.ordered_multimap.specs.KeySteps.{StaysInRoom};
 ghost use Rattle.ordered_multimap.specs.RemovedAt.{removed_at, value_beside};
-ghost use Rattle.ordered_multimap.specs.Rooms.{SameRooms};
 ghost use Rattle.ordered_multimap.specs.Takes.{HasChain};
 ghost use Rattle.ordered_multimap.specs.TakesAt.{TakesAt};
 ghost use Rattle.ordered_multimap.specs.TapeNumbers.{TakesOut, numbers_of};
@@ -74,12 +73,11 @@ impl<K: Eq + Hash, V, S: BuildHasher, A: Allocator> ListOrderedMultimap<K, V, S,
     /// others.
     pub(super) fn take_value_at(&mut self, place: usize, index: usize) -> Option<V>
         requires { IsIn place self.old.slots.keys.order }
-        ensures keeps { KeepsPlace K.eq self.old self.new place }
+        ensures stays { StaysInRoom K.eq self.old self.new place }
         ensures value { (k : K) → HasKey K.eq self.old.slots.keys k place
             → result ≡ value_beside K.eq self.old.lists.pairs k index }
         ensures lists { (k : K) → HasKey K.eq self.old.slots.keys k place
             → self.new.lists ≡ removed_at K.eq self.old.lists k index }
-        ensures rooms { SameRooms self.old self.new }
         ensures taken { TakesOut (cond (is_some result) 1 0) self.old.tape self.new.tape }
     {
         take_at(&mut self.keys, &mut self.values, place, index)

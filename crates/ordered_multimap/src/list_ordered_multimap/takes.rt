@@ -3,8 +3,7 @@ ghost use Rattle.std.specs.Prelude.{◌≡◌, ◌<◌, ℕ, List, Some};
 ghost use Rattle.std.specs.FinMap.{get};
 ghost use Rattle.multimap_slots.specs.Lists.{IsIn};
 ghost use Rattle.multimap_slots.specs.Slots.{Removes, item_at, link_at};
-ghost use Rattle.multimap_slots.specs.Tapes.{HasEndRoom};
-ghost use Rattle.ordered_multimap.specs.Takes.{AreLeaving, HasChain, IsRow, LeavesEntry, LeavesOlder};
+ghost use Rattle.ordered_multimap.specs.Takes.{AreLeaving, HasChain, HasChainBeforeRoom, IsRow, LeavesEntry, LeavesOlder};
 ghost use Rattle.ordered_multimap.specs.Takes.{PushesOver, TakesRow};
 
 use super::leaving::Leaving;
@@ -117,8 +116,7 @@ pub(super) fn push_over<K, V, W: Leaving<V>, A: Allocator>(
     place: usize,
     value: V,
 ) -> (W, ChainEnds)
-    requires stands { HasChain keys.old values.old.list place }
-    requires room { HasEndRoom values.old }
+    requires { HasChainBeforeRoom keys.old values.old place }
     ensures { PushesOver W.keeps (W.gives result.0) keys.old keys.new values.old values.new
         place value result.1 }
 {

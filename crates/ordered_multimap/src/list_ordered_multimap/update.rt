@@ -3,11 +3,11 @@ ghost use Rattle.std.specs.Prelude.{◌≡◌, ℕ, if◌then◌else◌, true, S
 ghost use Rattle.std.specs.Map.Calls.{CallableOnEachPair};
 ghost use Rattle.multimap_slots.specs.Lists.{IsIn};
 ghost use Rattle.multimap_slots.specs.Slots.{item_at};
-ghost use Rattle.multimap_walks.specs.Chained.{AreOwned, chain_of, pair_at, pairs_of, values_at};
+ghost use Rattle.multimap_walks.specs.Chained.{chain_of, pair_at, pairs_of, values_at};
 ghost use Rattle.ordered_multimap.specs.Agrees.{Agrees};
 ghost use Rattle.ordered_multimap.specs.Pairs.{values_of};
 ghost use Rattle.ordered_multimap.specs.Retain.{Retains};
-ghost use Rattle.ordered_multimap.specs.RetainSteps.{Asks};
+ghost use Rattle.ordered_multimap.specs.RetainSteps.{Asks, IsOwnedAt};
 ghost use Rattle.ordered_multimap.specs.Rooms.{SameNumbers};
 ghost use Rattle.ordered_multimap.specs.UpdateSteps.{KeepsAgreed, RewritesAt, RewritesOne};
 ghost use Rattle.ordered_multimap.specs.Updates.{AlwaysLeaves, MayUpdate, Updates};
@@ -29,8 +29,7 @@ fn update_at<K, V, A: Allocator, F: FnMut(&K, &mut V)>(
     f: &mut F,
     place: usize,
 )
-    requires listed { IsIn place values.old.list.order }
-    requires owned { AreOwned keys.now values.old.list }
+    requires stands { IsOwnedAt keys.now values.old.list place }
     requires callable { (k : K) (v : V) → pair_at keys.now values.old.list place ≡ Some (k, v)
         → MayUpdate F.FnMut f.old k v }
     ensures { Asks (Updates F.FnMut) keys.now values.old values.new place f.old true f.new }

@@ -5,15 +5,15 @@ ghost use Rattle.std.specs.Prelude.{◌≡◌, ◌<◌, Some, length, slice_get}
 ghost use Rattle.std.specs.Prelude.{OnOk, IfOk, IfErr, IsOk};
 ghost use Rattle.std.specs.Borrow.{sem};
 ghost use Rattle.ordered_multimap.specs.Additions.{IsAppendedAt, RefusesValue};
-ghost use Rattle.ordered_multimap.specs.Changes.{first_written, inserted, removed};
+ghost use Rattle.ordered_multimap.specs.Changes.{first_written, inserted};
 ghost use Rattle.ordered_multimap.specs.Drains.{DrainsEntry, DrainsInserted};
-ghost use Rattle.ordered_multimap.specs.Entries.{IsOccupiedBy, IsSameEntry};
+ghost use Rattle.ordered_multimap.specs.Entries.{IsOccupiedBy, IsSameEntry, IsSameEntryInRoom, RemovesEntry};
 ghost use Rattle.multimap_walks.specs.WritingWalk.{entry_values_mut_values, entry_values_mut_name, entry_values_mut_rest, entry_values_mut_positions};
 ghost use Rattle.ordered_multimap.specs.EntryLends.{lends_first, lends_to_entry, EndsEntry, lends_values_to_entry, rests_with_drain};
 ghost use Rattle.ordered_multimap.specs.Keys.{stored_key};
 ghost use Rattle.ordered_multimap.specs.Pairs.{positions_of, values_of};
 ghost use Rattle.ordered_multimap.specs.Removals.{LosesValues};
-ghost use Rattle.ordered_multimap.specs.Rooms.{HasValueRoom, SameRooms};
+ghost use Rattle.ordered_multimap.specs.Rooms.{HasValueRoom};
 ghost use Rattle.ordered_multimap.specs.Writes.{IsWritten, with_first};
 
 use super::OccupiedEntry;
@@ -164,12 +164,11 @@ impl<'map, K: Eq + Hash, V, S: BuildHasher, A: Allocator> OccupiedEntry<'map, K,
     pub fn insert(&mut self, value: V) -> V
     where
         V: Drop,
-        ensures same_entry { IsSameEntry self.old self.new }
+        ensures same_entry { IsSameEntryInRoom self.old self.new }
         ensures value { (k : K) → IsOccupiedBy self.old k
             → slice_get (values_of K.eq self.old.map.now.lists.pairs k) 0 ≡ Some result }
         ensures inserted { (k : K) → IsOccupiedBy self.old k → LosesValues K.eq
             self.old.map.now self.new.map.now k (inserted K.eq self.old.map.now.lists k value) }
-        ensures rooms { SameRooms self.old.map.now self.new.map.now }
     {
         let place = self.place;
         self.map.insert_at(place, value)
@@ -187,9 +186,7 @@ impl<'map, K: Eq + Hash, V, S: BuildHasher, A: Allocator> OccupiedEntry<'map, K,
             → result.0 ≡ stored_key K.eq self.entry.map.now.lists.keys k }
         ensures value { (k : K) → IsOccupiedBy self.entry k
             → slice_get (values_of K.eq self.entry.map.now.lists.pairs k) 0 ≡ Some result.1 }
-        ensures removed { (k : K) → IsOccupiedBy self.entry k → LosesValues K.eq
-            self.entry.map.now self.exit.0.now k (removed K.eq self.entry.map.now.lists k) }
-        ensures rooms { SameRooms self.entry.map.now self.exit.0.now }
+        ensures removed { RemovesEntry self.entry self.exit.0.now }
     {
         let place = self.place;
         self.map.take_entry_at(place)
@@ -206,9 +203,7 @@ impl<'map, K: Eq + Hash, V, S: BuildHasher, A: Allocator> OccupiedEntry<'map, K,
         V: Drop,
         ensures value { (k : K) → IsOccupiedBy self.entry k
             → slice_get (values_of K.eq self.entry.map.now.lists.pairs k) 0 ≡ Some result }
-        ensures removed { (k : K) → IsOccupiedBy self.entry k → LosesValues K.eq
-            self.entry.map.now self.exit.0.now k (removed K.eq self.entry.map.now.lists k) }
-        ensures rooms { SameRooms self.entry.map.now self.exit.0.now }
+        ensures removed { RemovesEntry self.entry self.exit.0.now }
     {
         let place = self.place;
         let (_stored, value) = self.map.take_entry_at(place);

@@ -2,9 +2,8 @@
 #![tactic(auto, using(crate::proofs::TakingLemmas::among_in, crate::proofs::TakingLemmas::in_among))]
 
 ghost use Rattle.std.specs.Prelude.{◌≡◌, cond, is_some};
-ghost use Rattle.ordered_multimap.specs.Entries.{IsOccupiedBy, IsSameEntry};
+ghost use Rattle.ordered_multimap.specs.Entries.{IsOccupiedBy, IsSameEntryInRoom};
 ghost use Rattle.ordered_multimap.specs.RemovedAt.{removed_at, value_beside};
-ghost use Rattle.ordered_multimap.specs.Rooms.{SameRooms};
 ghost use Rattle.ordered_multimap.specs.TapeNumbers.{TakesOut};
 
 use super::OccupiedEntry;
@@ -24,12 +23,11 @@ impl<'map, K: Eq + Hash, V, S: BuildHasher, A: Allocator> OccupiedEntry<'map, K,
     /// entry.remove_at(1) == Some(2)
     /// ```
     pub fn remove_at(&mut self, index: usize) -> Option<V>
-        ensures same_entry { IsSameEntry self.old self.new }
+        ensures same_entry { IsSameEntryInRoom self.old self.new }
         ensures value { (k : K) → IsOccupiedBy self.old k
             → result ≡ value_beside K.eq self.old.map.now.lists.pairs k index }
         ensures lists { (k : K) → IsOccupiedBy self.old k
             → self.new.map.now.lists ≡ removed_at K.eq self.old.map.now.lists k index }
-        ensures rooms { SameRooms self.old.map.now self.new.map.now }
         ensures taken { TakesOut (cond (is_some result) 1 0)
             self.old.map.now.tape self.new.map.now.tape }
     {

@@ -18,11 +18,11 @@ returns-clause-read g c =
     let k = c.in-Ok.key in
     let absent : is_listed g.K.PartialEq.eq m.keys k ≡ false = sym (listed_if_named g.met.K.Eq.laws m k c.requires.stand_ins)
     ∙ sym c.in-Ok-append.ensures.present ∙ c.if-present.false in
-    let is = c.in-Ok-append.ensures.ok.lists ∙ appended_new g.met.K.Eq.laws m k c.in-Ok-from_part.value absent in
+    let is = c.in-Ok-append.ensures.appends.ok.lists ∙ appended_new g.met.K.Eq.laws m k c.in-Ok-from_part.value absent in
     record {
       read = (k, record { json = c.in-Ok.ensures.read; accepted = c.in-Ok.ensures.accepted }, absent, ap (λ l. l.keys) is);
       hasher = search rules;
-      unused = λ unused. still_unused unused c.in-Ok-append.ensures.ok.taken;
+      unused = λ unused. still_unused unused c.in-Ok-append.ensures.appends.ok.taken;
     }
 
 pub returns-clause-stand_ins : goal.returns-clause-stand_ins
@@ -31,12 +31,12 @@ returns-clause-stand_ins g c =
     let k = c.in-Ok.key in
     let absent : is_listed g.K.PartialEq.eq m.keys k ≡ false = sym (listed_if_named g.met.K.Eq.laws m k c.requires.stand_ins)
     ∙ sym c.in-Ok-append.ensures.present ∙ c.if-present.false in
-    let is = c.in-Ok-append.ensures.ok.lists ∙ appended_new g.met.K.Eq.laws m k c.in-Ok-from_part.value absent in
+    let is = c.in-Ok-append.ensures.appends.ok.lists ∙ appended_new g.met.K.Eq.laws m k c.in-Ok-from_part.value absent in
     one_stands_in g.met.K.Eq.laws m c.append.new.self.lists k c.in-Ok-from_part.value c.requires.stand_ins is
 
 pub returns-then-present-clause-read : goal.returns-then-present-clause-read
 returns-then-present-clause-read g c = record {
   read = tt;
   hasher = search rules;
-  unused = λ unused. still_unused unused c.in-Ok-append.ensures.ok.taken;
+  unused = λ unused. still_unused unused c.in-Ok-append.ensures.appends.ok.taken;
 }

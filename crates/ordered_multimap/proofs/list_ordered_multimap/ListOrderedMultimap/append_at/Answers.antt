@@ -74,7 +74,7 @@ returns-clause-refused g c =
           grows_there i.keys i.table.rows i.values agrees i.table.capacity i.state i.left n.keys i.table.capacity n.values i.left
           e.values.no_less e.values.had_room e.values.doubles e.keys_capacity refl;
       taken = e.values.taken;
-    }) c.append_behind.result (refused_lists g.met.K.Eq.laws agrees own.0 c.args.value _ _ c.append_behind.result e.unchanged) e.refused)
+    }) c.append_behind.result (refused_lists g.met.K.Eq.laws agrees own.0 c.args.value _ _ c.append_behind.result e.unchanged) e.hands_back.refused)
 
 pub returns-clause-succeeds : goal.returns-clause-succeeds
 returns-clause-succeeds g c =
@@ -83,5 +83,5 @@ returns-clause-succeeds g c =
     let own = own_key g.met.K.Eq.laws agrees c.args.place
     (subst (λ m. IsIn c.args.place m.slots.keys.order) (sym c.self.view_is) c.requires) in
     subst (λ m. HasValueRoom m → IsOk c.append_behind.result) c.self.view_is
-    (λ room. c.append_behind.ensures.succeeds
+    (λ room. c.append_behind.ensures.hands_back.succeeds
     (fits_value g.met.K.Eq.laws i.keys i.table.rows i.values agrees i.table.capacity i.state i.left own.0 room))

@@ -1,7 +1,6 @@
-use Rattle.std.proofs.Common.{IsOk, IfErr, OnOk, ap, sym, ◌∙◌, subst}
-use Rattle.ordered_multimap.specs.Additions.{IsAppended, IsRefused}
+use Rattle.std.proofs.Common.{ap, sym, ◌∙◌, subst}
+use Rattle.ordered_multimap.specs.Additions.{Appends}
 use Rattle.ordered_multimap.specs.Keys.{is_listed}
-use Rattle.ordered_multimap.specs.Rooms.{HasPairRoom}
 use Rattle.ordered_multimap.specs.Agrees.{hash_of}
 use Rattle.ordered_multimap.proofs.AppendedLemmas.{first_agrees, first_lists, refused_lists, stays_paid}
 use Rattle.ordered_multimap.proofs.LookupLemmas.{new_key}
@@ -23,52 +22,30 @@ invariant_of-self g c = record {
 pub returns-clause-found : goal.returns-clause-found
 returns-clause-found g c = new_key g.met.K.Eq.laws _ c.args.key c.append_first.result c.append_first.ensures.found
 
-pub returns-clause-ok : goal.returns-clause-ok
-returns-clause-ok g c =
+pub returns-clause-appends : goal.returns-clause-appends
+returns-clause-appends g c =
     let i = c.self.inside in
     let n = c.append_first.new in
     let e = c.append_first.ensures in
     let r = c.append_first.result in
     let agrees = c.self.invariant.agrees in
     let absent = ap (λ m. is_listed g.K.PartialEq.eq m.lists.keys c.args.key) c.self.view_is ∙ c.requires.absent in
-    subst (λ m. OnOk r (IsAppended g.K.PartialEq.eq c.args.key c.args.value m (map_of n.keys n.table.capacity n.values i.state i.left)))
-    c.self.view_is
-    (on_ok-map (λ lists. record {
-      lists = lists;
-      rooms = keeps_rooms _ _ _ _ _ _ _ _ _ _ _ _ _ e.grows.more_keys e.grows.more_rows e.values.no_less;
-      had_room =
-          raises_none_absent g.met.K.Eq.laws i.keys i.table.rows i.values agrees i.table.capacity i.state i.left c.args.key
-          n.keys n.table.capacity n.values e.values absent e.grows;
-      taken = e.values.taken;
-    }) r
-    (first_lists g.met.K.Eq.laws agrees c.args.key c.args.value _ _ _ c.args.hash absent
-    (c.requires.hash ∙ ap (λ m. hash_of g.S.BuildHasher g.S.Hasher.Hasher m.hasher (g.K.Hash.hash_input c.args.key)) (sym c.self.view_is)) r
-    e.ok))
-
-pub returns-clause-refused : goal.returns-clause-refused
-returns-clause-refused g c =
-    let i = c.self.inside in
-    let n = c.append_first.new in
-    let e = c.append_first.ensures in
-    let r = c.append_first.result in
-    let agrees = c.self.invariant.agrees in
-    let absent = ap (λ m. is_listed g.K.PartialEq.eq m.lists.keys c.args.key) c.self.view_is ∙ c.requires.absent in
-    subst (λ m. IfErr r (IsRefused g.K.PartialEq.eq c.args.key c.args.value m
-    (map_of n.keys n.table.capacity n.values i.state i.left))) c.self.view_is
-    (if_err-map (λ pair lists returned. record {
-      returned = returned;
-      lists = lists;
-      rooms = keeps_rooms _ _ _ _ _ _ _ _ _ _ _ _ _ e.grows.more_keys e.grows.more_rows e.values.no_less;
-      had_room =
-          raises_none_absent g.met.K.Eq.laws i.keys i.table.rows i.values agrees i.table.capacity i.state i.left c.args.key
-          n.keys n.table.capacity n.values e.values absent e.grows;
-      taken = e.values.taken;
-    }) r
-    (refused_lists g.met.K.Eq.laws agrees c.args.key c.args.value _ _ r (first_on_err _ _ r e.unchanged)) e.refused)
-
-pub returns-clause-succeeds : goal.returns-clause-succeeds
-returns-clause-succeeds g c =
-    subst (λ m. HasPairRoom g.K.PartialEq.eq m c.args.key → IsOk c.append_first.result) c.self.view_is
-    (λ room. c.append_first.ensures.succeeds (fits_pair g.met.K.Eq.laws c.self.inside.keys c.self.inside.table.rows c.self.inside.values
-    c.self.invariant.agrees c.self.inside.table.capacity c.self.inside.state c.self.inside.left c.args.key
-    (ap (λ m. is_listed g.K.PartialEq.eq m.lists.keys c.args.key) c.self.view_is ∙ c.requires.absent) room))
+    let rooms = keeps_rooms _ _ _ _ _ _ _ _ _ _ _ _ _ e.grows.more_keys e.grows.more_rows e.values.no_less in
+    let had_room = raises_none_absent g.met.K.Eq.laws i.keys i.table.rows i.values agrees i.table.capacity i.state i.left c.args.key
+    n.keys n.table.capacity n.values e.values absent e.grows in
+    subst (λ m. Appends g.K.PartialEq.eq c.args.key c.args.value m (map_of n.keys n.table.capacity n.values i.state i.left) r)
+    c.self.view_is (record {
+      ok = on_ok-map (λ lists. record { lists = lists; rooms = rooms; had_room = had_room; taken = e.values.taken }) r
+          (first_lists g.met.K.Eq.laws agrees c.args.key c.args.value _ _ _ c.args.hash absent
+          (c.requires.hash ∙ ap (λ m. hash_of g.S.BuildHasher g.S.Hasher.Hasher m.hasher (g.K.Hash.hash_input c.args.key))
+          (sym c.self.view_is)) r e.ok);
+      refused = if_err-map (λ pair lists returned. record {
+        returned = returned;
+        lists = lists;
+        rooms = rooms;
+        had_room = had_room;
+        taken = e.values.taken;
+      }) r (refused_lists g.met.K.Eq.laws agrees c.args.key c.args.value _ _ r (first_on_err _ _ r e.unchanged)) e.refused;
+      succeeds = λ room. e.succeeds
+          (fits_pair g.met.K.Eq.laws i.keys i.table.rows i.values agrees i.table.capacity i.state i.left c.args.key absent room);
+    })

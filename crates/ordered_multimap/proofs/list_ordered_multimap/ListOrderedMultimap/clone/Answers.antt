@@ -13,7 +13,7 @@ returns-in_err-copy-clause-succeeds g c =
     λ none sure.
     let no_key = c.keys_len.ensures.len ∙ ap length (no_keys g.K.PartialEq.eq c.args.self.now.lists c.keys_len.ensures.well_formed none) in
     let no_value = c.values_len.ensures ∙ ap length none in
-    absurd (let bad = c.in_err-copy.ensures.succeeds no_key no_value in cc)
+    absurd (let bad = c.in_err-copy.ensures.starts.succeeds no_key no_value in cc)
 
 pub append_clones-requires-clause-keys : goal.append_clones-requires-clause-keys
 append_clones-requires-clause-keys g c =
@@ -26,7 +26,7 @@ append_clones-requires-clause-key_room g c =
       ap (λ ps. length (built_from g.K.PartialEq.eq ps).keys) c.iter-pairs.ensures,
       built_keys g.met.K.Eq.laws c.args.self.now.lists c.keys_len.ensures.well_formed,
       c.keys_len.ensures.len,
-      c.in_ok-copy.ensures.new.key_room,
+      c.in_ok-copy.ensures.starts.new.key_room,
     )
 
 pub append_clones-requires-clause-value_room : goal.append_clones-requires-clause-value_room
@@ -36,7 +36,7 @@ append_clones-requires-clause-value_room g c =
       ap (λ ps. length (built_from g.K.PartialEq.eq ps).pairs) c.iter-pairs.ensures,
       ap length (built_pairs g.met.K.Eq.laws c.args.self.now.lists c.keys_len.ensures.well_formed),
       c.values_len.ensures,
-      c.in_ok-copy.ensures.new.value_room,
+      c.in_ok-copy.ensures.starts.new.value_room,
     )
 
 pub returns-in_err-append_clones-clause-succeeds : goal.returns-in_err-append_clones-clause-succeeds

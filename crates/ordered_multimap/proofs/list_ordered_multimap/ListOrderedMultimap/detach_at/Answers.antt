@@ -4,9 +4,9 @@ use Rattle.ordered_multimap.specs.Keys.{stored_key}
 use Rattle.ordered_multimap.specs.Changes.{removed}
 use Rattle.ordered_multimap.specs.TapeNumbers.{TakesOut, numbers_of}
 use Rattle.ordered_multimap.specs.Agrees.{HasKey}
-use Rattle.ordered_multimap.specs.KeySteps.{DetachesValues}
+use Rattle.ordered_multimap.specs.KeySteps.{DetachesValues, HoldsInRoom}
 use Rattle.ordered_multimap.proofs.LeavesLemmas.{has_chain, map_left}
-use Rattle.ordered_multimap.proofs.RoomLemmas.{map_of}
+use Rattle.ordered_multimap.proofs.RoomLemmas.{map_of, same_rooms}
 use Rattle.ordered_multimap.proofs.LookupLemmas.{own_key, values_of-chain}
 use Rattle.ordered_multimap.proofs.TakeLemmas.{entry_count, lists_of-taken, removed_key}
 use Rattle.ordered_multimap.proofs.list_ordered_multimap.ListOrderedMultimap.detach_at.Goals as goal
@@ -49,4 +49,13 @@ returns-clause-key g c =
     (λ k has. sym (removed_key g.met.K.Eq.laws c.self.invariant.agrees k c.args.place has c.leave_entry-key.ensures.entry.removed))
 
 pub returns-clause-holds : goal.returns-clause-holds
-returns-clause-holds g c = (c.leave_entry-key.ensures.drain refl).chain
+returns-clause-holds g c =
+    let t = c.leave_entry-key.ensures in
+    let n = c.leave_entry-key.new in
+    let i = c.self.inside in
+    subst (λ m. HoldsInRoom m (map_of n.keys n.table.capacity n.values i.state c.leave_entry-key.result.2)) c.self.view_is
+    (record {
+      drain = (t.drain refl).chain;
+      rooms = same_rooms i.keys n.keys i.table.capacity n.table.capacity i.values n.values i.state i.left c.leave_entry-key.result.2
+          (record { keys_capacity = t.entry.removed.capacity; capacity = t.entry.taken.capacity }) t.row_room;
+    })

@@ -1,4 +1,4 @@
-use Rattle.std.proofs.Common.{subst, rules}
+use Rattle.std.proofs.Common.{refl, subst, rules}
 use Rattle.multimap_walks.specs.declared.links.ChainEnds.{ChainEnds}
 use Rattle.ordered_multimap.specs.Detaches.{KeepsListed}
 use Rattle.ordered_multimap.proofs.DrainLemmas.{agrees-listed}
@@ -16,14 +16,17 @@ invariant_of-self g c =
       paid = paid-listed i.values c.drop_chain.new.values t.room.counts c.self.invariant.paid;
     }
 
-pub returns-clause-drain : goal.returns-clause-drain
-returns-clause-drain g c =
+pub returns : goal.returns
+returns g c =
     let i = c.self.inside in
     let t = c.drop_chain.ensures in
     let left : ChainEnds = record { first = i.left.first; last = i.left.last; length = 0 } in
     record {
-      holds = search rules;
-      kept = subst (λ m. KeepsListed m (map_of i.keys i.table.capacity c.drop_chain.new.values i.state left)) c.self.view_is
-          (keeps_listed i.keys i.table.rows i.values c.self.invariant.agrees i.table.capacity i.state i.left left c.drop_chain.new.values
-          t.kept t.room.counts t.room.capacity);
+      drain = record {
+        holds = search rules;
+        kept = subst (λ m. KeepsListed m (map_of i.keys i.table.capacity c.drop_chain.new.values i.state left)) c.self.view_is
+            (keeps_listed i.keys i.table.rows i.values c.self.invariant.agrees i.table.capacity i.state i.left left c.drop_chain.new.values
+            t.kept t.room.counts t.room.capacity);
+      };
+      none = refl;
     }

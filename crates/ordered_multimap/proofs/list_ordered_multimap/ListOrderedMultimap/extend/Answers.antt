@@ -48,7 +48,7 @@ room_for_most g c room =
 -- and then the pair is not refused
 not_refused : (g : Over) (c : In-Err g) → HasRoomForPairs c.args.self.now (length c.loop-key.yielded + 1) → ⊥
 not_refused g c room =
-    true≢false (sym (c.in-Err.ensures.succeeds (has_pair_room g.K.PartialEq.eq c.loop-key.yielded room c.loop-key.invariant.0
+    true≢false (sym (c.in-Err.ensures.appends.succeeds (has_pair_room g.K.PartialEq.eq c.loop-key.yielded room c.loop-key.invariant.0
     c.loop-key.invariant.1.rooms c.in-Some.key)))
 
 pub returns-in-Err-clause-extends : goal.returns-in-Err-clause-extends
@@ -59,30 +59,26 @@ returns-in-Err-clause-extends g c =
       start,
       pairs,
       became g at,
-      c.in-Err.ensures.refused.lists ∙ c.loop-key.invariant.0,
+      c.in-Err.ensures.appends.refused.lists ∙ c.loop-key.invariant.0,
       (
         c.next.new.self,
         subst (λ r. Yields g.I.IntoIter.Iterator.next_gives start (pairs ++ (r.key, r.value) ∷ []) c.next.new.self)
-            (sym c.in-Err.ensures.refused.returned) (given g at),
+            (sym c.in-Err.ensures.appends.refused.returned) (given g at),
       ),
     )
-
-pub returns-in-Err-clause-succeeds : goal.returns-in-Err-clause-succeeds
-returns-in-Err-clause-succeeds g c = λ room.
-    absurd (not_refused g (goal.at.returns-in-Err-clause-succeeds g c).In-Err
-    (room_for_given g (goal.at.returns-in-Err-clause-succeeds g c).In-Some room))
-
-pub returns-in-Err-clause-succeeds_for_most : goal.returns-in-Err-clause-succeeds_for_most
-returns-in-Err-clause-succeeds_for_most g c = λ room.
-    absurd (not_refused g (goal.at.returns-in-Err-clause-succeeds_for_most g c).In-Err
-    (room_for_most g (goal.at.returns-in-Err-clause-succeeds_for_most g c).In-Some room))
 
 pub returns-in-Err-clause-grows : goal.returns-in-Err-clause-grows
 returns-in-Err-clause-grows g c =
     let at = (goal.at.returns-in-Err-clause-grows g c).In-Some in
-    let e = c.in-Err.ensures.refused in
-    grows_on g.K.PartialEq.eq c.loop-key.yielded (room_for_given g at) (room_for_most g at) c.loop-key.invariant.0 c.loop-key.invariant.1
-    e.rooms e.had_room e.taken
+    let err = (goal.at.returns-in-Err-clause-grows g c).In-Err in
+    let e = c.in-Err.ensures.appends.refused in
+    record {
+      grows =
+          grows_on g.K.PartialEq.eq c.loop-key.yielded (room_for_given g at) (room_for_most g at) c.loop-key.invariant.0 c.loop-key.invariant.1
+          e.rooms e.had_room e.taken;
+      succeeds = λ room. absurd (not_refused g err (room_for_given g at room));
+      succeeds_for_most = λ room. absurd (not_refused g err (room_for_most g at room));
+    }
 
 pub loop-key-init : goal.loop-key-init
 loop-key-init g c =
@@ -104,7 +100,7 @@ loop-key-init g c =
 pub loop-key-preserved : goal.loop-key-preserved
 loop-key-preserved g c =
     let at = (goal.at.loop-key-preserved g c).In-Some in
-    let e = c.in_default.ensures.ok in (
+    let e = c.in_default.ensures.appends.ok in (
       e.lists
           ∙ ap (λ m. appended g.K.PartialEq.eq m c.in-Some.key c.in-Some.value) c.loop-key.invariant.0
           ∙ sym (all_appended-push g.K.PartialEq.eq c.args.self.now.lists c.loop-key.yielded c.in-Some.key c.in-Some.value),

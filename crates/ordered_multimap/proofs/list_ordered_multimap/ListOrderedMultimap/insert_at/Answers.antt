@@ -1,13 +1,13 @@
-use Rattle.std.proofs.Common.{◌≡◌, Some, slice_get, sym, subst}
+use Rattle.std.proofs.Common.{◌≡◌, Some, slice_get, refl, sym, subst}
 use Rattle.multimap_slots.specs.Lists.{IsIn}
 use Rattle.ordered_multimap.specs.Pairs.{values_of}
 use Rattle.ordered_multimap.specs.Changes.{inserted}
 use Rattle.ordered_multimap.specs.TapeNumbers.{TakesOut, numbers_of}
 use Rattle.ordered_multimap.specs.Agrees.{HasKey}
-use Rattle.ordered_multimap.specs.KeySteps.{KeepsPlace}
+use Rattle.ordered_multimap.specs.KeySteps.{StaysInRoom}
 use Rattle.ordered_multimap.specs.Removals.{LosesValues}
 use Rattle.ordered_multimap.proofs.LeavesLemmas.{has_chain}
-use Rattle.ordered_multimap.proofs.RoomLemmas.{map_of}
+use Rattle.ordered_multimap.proofs.RoomLemmas.{map_of, same_rooms}
 use Rattle.ordered_multimap.proofs.LookupLemmas.{own_key}
 use Rattle.ordered_multimap.proofs.StayLemmas.{inserted_stays}
 use Rattle.ordered_multimap.proofs.AppendedLemmas.{stays_paid}
@@ -15,9 +15,12 @@ use Rattle.ordered_multimap.proofs.InsertLemmas.{agrees-inserted, lists_of-inser
 use Rattle.ordered_multimap.proofs.TakeLemmas.{entry_count}
 use Rattle.ordered_multimap.proofs.list_ordered_multimap.ListOrderedMultimap.insert_at.Goals as goal
 
-pub insert_behind-requires-clause-stands : goal.insert_behind-requires-clause-stands
-insert_behind-requires-clause-stands g c =
-    has_chain c.self.invariant.agrees c.args.place (subst (λ m. IsIn c.args.place m.slots.keys.order) (sym c.self.view_is) c.requires)
+pub insert_behind-requires : goal.insert_behind-requires
+insert_behind-requires g c = record {
+  stands = has_chain c.self.invariant.agrees c.args.place
+      (subst (λ m. IsIn c.args.place m.slots.keys.order) (sym c.self.view_is) c.requires);
+  fits = c.self.invariant.fits;
+}
 
 pub invariant_of-self : goal.invariant_of-self
 invariant_of-self g c =
@@ -30,15 +33,21 @@ invariant_of-self g c =
       paid = stays_paid i.counts c.self.invariant.paid;
     }
 
-pub returns-clause-keeps : goal.returns-clause-keeps
-returns-clause-keeps g c =
-    let i = c.insert_behind.ensures.inserted.1.done in
+pub returns-clause-stays : goal.returns-clause-stays
+returns-clause-stays g c =
+    let e = c.insert_behind.ensures in
     let n = c.insert_behind.new in
+    let i = c.self.inside in
     let own = own_key g.met.K.Eq.laws c.self.invariant.agrees c.args.place
     (subst (λ m. IsIn c.args.place m.slots.keys.order) (sym c.self.view_is) c.requires) in
-    subst (λ m. KeepsPlace g.K.PartialEq.eq m (map_of n.keys c.self.inside.table.capacity n.values c.self.inside.state c.self.inside.left)
-    c.args.place) c.self.view_is
-    (record { listed = (inserted_stays own.0 c.args.place i own.1).listed; stays = λ k has. inserted_stays k c.args.place i has })
+    subst (λ m. StaysInRoom g.K.PartialEq.eq m (map_of n.keys i.table.capacity n.values i.state i.left) c.args.place) c.self.view_is
+    (record {
+      place_stays = record {
+        listed = (inserted_stays own.0 c.args.place e.inserted.1.done own.1).listed;
+        stays = λ k has. inserted_stays k c.args.place e.inserted.1.done has;
+      };
+      rooms = same_rooms i.keys n.keys i.table.capacity i.table.capacity i.values n.values i.state i.left i.left e.capacities refl;
+    })
 
 pub returns-clause-value : goal.returns-clause-value
 returns-clause-value g c =

@@ -15,9 +15,12 @@ use Rattle.ordered_multimap.proofs.TakeLemmas.{entry_count}
 use Rattle.ordered_multimap.proofs.DetachedLemmas.{left-inserted}
 use Rattle.ordered_multimap.proofs.list_ordered_multimap.ListOrderedMultimap.insert_detaching_at.Goals as goal
 
-pub insert_behind_all-requires-clause-stands : goal.insert_behind_all-requires-clause-stands
-insert_behind_all-requires-clause-stands g c =
-    has_chain c.self.invariant.agrees c.args.place (subst (λ m. IsIn c.args.place m.slots.keys.order) (sym c.self.view_is) c.requires)
+pub insert_behind_all-requires : goal.insert_behind_all-requires
+insert_behind_all-requires g c = record {
+  stands = has_chain c.self.invariant.agrees c.args.place
+      (subst (λ m. IsIn c.args.place m.slots.keys.order) (sym c.self.view_is) c.requires);
+  fits = c.self.invariant.fits;
+}
 
 -- refused
 
@@ -45,7 +48,7 @@ returns-in_err-left-clause-unchanged g c =
     (record { lists = lists_reserved g.met.K.Eq.laws c.self.invariant.agrees u.renamed; taken = u.counts }))
 
 pub returns-in_err-left-clause-succeeds : goal.returns-in_err-left-clause-succeeds
-returns-in_err-left-clause-succeeds g c = λ room. absurd (true≢false (sym ((c.in_err-left.ensures {u = tt}).succeeds
+returns-in_err-left-clause-succeeds g c = λ room. absurd (true≢false (sym ((c.in_err-left.ensures {u = tt}).hands_back.succeeds
     (fits_value g.met.K.Eq.laws c.self.inside.keys c.self.inside.table.rows c.self.inside.values c.self.invariant.agrees
     c.self.inside.table.capacity c.self.inside.state c.self.inside.left
     (own_key g.met.K.Eq.laws c.self.invariant.agrees c.args.place

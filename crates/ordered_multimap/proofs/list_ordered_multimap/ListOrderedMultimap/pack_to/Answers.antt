@@ -58,13 +58,16 @@ invariant_of-self g c =
       paid = omega (arith, p.unused.moved, p.unused.holes);
     }
 
-pub returns-clause-ok : goal.returns-clause-ok
-returns-clause-ok g c =
+pub returns : goal.returns
+returns g c =
     let r = c.pack.ensures.rooms in let s = c.in_ok-storage.ensures in
     record {
-      lists = lists_of-packed c.self.invariant.agrees c.pack.ensures.packed ∙ ap (λ m. m.lists) c.self.view_is;
-      hasher = ap (λ m. m.hasher) c.self.view_is;
-      key_room = omega (arith, r.key_room, r.row_room, s.key_room, s.row_room);
-      value_room = omega (arith, ap (λ n. n / 2) r.value_room, s.value_room);
-      unused = c.pack.ensures.unused;
+      ok = record {
+        lists = lists_of-packed c.self.invariant.agrees c.pack.ensures.packed ∙ ap (λ m. m.lists) c.self.view_is;
+        hasher = ap (λ m. m.hasher) c.self.view_is;
+        key_room = omega (arith, r.key_room, r.row_room, s.key_room, s.row_room);
+        value_room = omega (arith, ap (λ n. n / 2) r.value_room, s.value_room);
+        unused = c.pack.ensures.unused;
+      };
+      refused = tt;
     }

@@ -3,4 +3,4 @@ use Rattle.ordered_multimap.proofs.DrainsLemmas.{drains_entry}
 use Rattle.ordered_multimap.proofs.list_ordered_multimap.ListOrderedMultimap.remove_all.Goals as goal
 
 pub returns-clause-drain : goal.returns-clause-drain
-returns-clause-drain g c = drains_entry _ c.detach_all.ensures.detached c.detach_all.ensures.rooms refl
+returns-clause-drain g c = drains_entry _ c.detach_all.ensures.detached c.detach_all.ensures.holds.rooms refl

@@ -1,12 +1,12 @@
-use Rattle.std.proofs.Common.{◌≡◌, sym, subst}
+use Rattle.std.proofs.Common.{◌≡◌, refl, sym, subst}
 use Rattle.multimap_slots.specs.Lists.{IsIn}
 use Rattle.ordered_multimap.specs.Agrees.{HasKey, lists_of}
-use Rattle.ordered_multimap.specs.KeySteps.{KeepsPlace}
+use Rattle.ordered_multimap.specs.KeySteps.{StaysInRoom}
 use Rattle.ordered_multimap.proofs.LookupLemmas.{own_key}
-use Rattle.ordered_multimap.proofs.RoomLemmas.{map_of}
+use Rattle.ordered_multimap.proofs.RoomLemmas.{map_of, same_rooms}
 use Rattle.ordered_multimap.specs.RemovedAt.{removed_at, value_beside}
 use Rattle.ordered_multimap.proofs.AppendedLemmas.{stays_paid}
-use Rattle.ordered_multimap.proofs.TakeAtLemmas.{agrees-at, fits-at, lists_of-at, stays-at, value_is-at}
+use Rattle.ordered_multimap.proofs.TakeAtLemmas.{agrees-at, capacities-at, fits-at, lists_of-at, stays-at, value_is-at}
 use Rattle.ordered_multimap.proofs.list_ordered_multimap.ListOrderedMultimap.take_value_at.Goals as goal
 
 pub invariant_of-self : goal.invariant_of-self
@@ -20,16 +20,19 @@ invariant_of-self g c =
       paid = stays_paid t.counts c.self.invariant.paid;
     }
 
-pub returns-clause-keeps : goal.returns-clause-keeps
-returns-clause-keeps g c =
+pub returns-clause-stays : goal.returns-clause-stays
+returns-clause-stays g c =
     let n = c.take_at.new in
-    let stays = stays-at c.self.inside.keys n.keys c.args.place c.args.index c.self.inside.values.list n.values.list c.take_at.result
-    c.take_at.ensures.taken in
+    let i = c.self.inside in
+    let stays = stays-at i.keys n.keys c.args.place c.args.index i.values.list n.values.list c.take_at.result c.take_at.ensures.taken in
     let own = own_key g.met.K.Eq.laws c.self.invariant.agrees c.args.place
     (subst (λ m. IsIn c.args.place m.slots.keys.order) (sym c.self.view_is) c.requires) in
-    subst (λ m. KeepsPlace g.K.PartialEq.eq m (map_of n.keys c.self.inside.table.capacity n.values c.self.inside.state c.self.inside.left)
-    c.args.place) c.self.view_is
-    (record { listed = (stays own.0 c.args.place own.1).listed; stays = λ k has. stays k c.args.place has })
+    subst (λ m. StaysInRoom g.K.PartialEq.eq m (map_of n.keys i.table.capacity n.values i.state i.left) c.args.place) c.self.view_is
+    (record {
+      place_stays = record { listed = (stays own.0 c.args.place own.1).listed; stays = λ k has. stays k c.args.place has };
+      rooms = same_rooms i.keys n.keys i.table.capacity i.table.capacity i.values n.values i.state i.left i.left
+          (capacities-at i.keys n.keys c.args.place c.args.index i.values n.values c.take_at.result c.take_at.ensures.taken) refl;
+    })
 
 pub returns-clause-value : goal.returns-clause-value
 returns-clause-value g c =

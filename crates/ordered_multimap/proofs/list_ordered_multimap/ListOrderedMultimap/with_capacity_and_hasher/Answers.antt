@@ -1,4 +1,4 @@
-use Rattle.std.proofs.Common.{arith}
+use Rattle.std.proofs.Common.{refl, arith}
 use Rattle.ordered_multimap.proofs.AgreesLemmas.{empty_map, lists_of-empty}
 use Rattle.ordered_multimap.proofs.list_ordered_multimap.ListOrderedMultimap.with_capacity_and_hasher.Goals as goal
 
@@ -7,14 +7,17 @@ invariant_of-result g c =
     empty_map _ _ _ _ _ c.in_ok-keys.ensures.empty c.in_ok-values.ensures.empty c.in_ok-table.ensures.empty c.in_ok-values.ensures.moved
     c.in_ok-values.ensures.holes
 
-pub returns-clause-new : goal.returns-clause-new
-returns-clause-new g c =
+pub returns-clause-starts : goal.returns-clause-starts
+returns-clause-starts g c =
     let v = c.in_ok-values.ensures in
     record {
       new = record {
-        empty = lists_of-empty _ _ c.in_ok-keys.ensures.empty v.empty;
-        unused = record { moved = v.moved; freed = v.freed; holes = v.holes };
+        new = record {
+          empty = lists_of-empty _ _ c.in_ok-keys.ensures.empty v.empty;
+          unused = record { moved = v.moved; freed = v.freed; holes = v.holes };
+        };
+        key_room = omega (arith, c.in_ok-keys.ensures.room, c.in_ok-table.ensures.room);
+        value_room = v.room;
       };
-      key_room = omega (arith, c.in_ok-keys.ensures.room, c.in_ok-table.ensures.room);
-      value_room = v.room;
+      succeeds = λ no_key no_value. refl;
     }

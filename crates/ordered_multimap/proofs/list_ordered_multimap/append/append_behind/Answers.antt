@@ -1,5 +1,10 @@
+use Rattle.std.proofs.Common.{sym, ◌∙◌}
 use Rattle.ordered_multimap.proofs.InsertLemmas.{chain-renamed}
+use Rattle.ordered_multimap.proofs.StepLemmas.{ok_if}
 use Rattle.ordered_multimap.proofs.list_ordered_multimap.append.append_behind.Goals as goal
 
-pub push_behind-requires-clause-stands : goal.push_behind-requires-clause-stands
-push_behind-requires-clause-stands g c = chain-renamed c.requires.stands c.make_value_room.ensures.renamed
+pub push_behind-requires : goal.push_behind-requires
+push_behind-requires g c = let e = c.make_value_room.ensures in record {
+  stands = chain-renamed c.requires.stands e.renamed;
+  room = ok_if c.make_value_room.result (sym c.is_err.ensures.value ∙ c.if-is_err.false) e.end_room;
+}

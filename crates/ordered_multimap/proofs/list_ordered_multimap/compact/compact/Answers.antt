@@ -16,8 +16,7 @@ loop-to-init g c = record {
   moved = omega arith;
   freed = refl;
   holes = refl;
-  capacity = refl;
-  keys_capacity = refl;
+  capacities = record { keys_capacity = refl; capacity = refl };
 }
 
 pub move_value-requires-clause-chains : goal.move_value-requires-clause-chains
@@ -62,8 +61,10 @@ loop-to-preserved g c =
             moved = omega (arith, m.counts.moved, w.moved);
             freed = m.counts.freed ∙ w.freed;
             holes = m.counts.holes ∙ w.holes;
-            capacity = m.capacity ∙ w.capacity;
-            keys_capacity = m.keys_capacity ∙ w.keys_capacity;
+            capacities = record {
+              keys_capacity = m.capacities.keys_capacity ∙ w.capacities.keys_capacity;
+              capacity = m.capacities.capacity ∙ w.capacities.capacity;
+            };
           })
       | else-to-from b ↦
           let next = c.next_place_after-following.ensures ∙ ap (λ t. next_of t.list.order c.loop-to.to) b.values-is in
@@ -74,30 +75,28 @@ loop-to-preserved g c =
             moved = omega (arith, w.moved);
             freed = w.freed;
             holes = w.holes;
-            capacity = w.capacity;
-            keys_capacity = w.keys_capacity;
+            capacities = w.capacities;
           })
     ]
 
-pub returns-clause-renamed : goal.returns-clause-renamed
-returns-clause-renamed g c =
-    let w = c.loop-to.invariant in
-    record { name = w.renamed.name; renames = renames-cut w.renamed.name c.loop-to.values _ w.renamed.renames c.cut_end.ensures }
-
-pub returns-clause-settled : goal.returns-clause-settled
-returns-clause-settled g c =
-    let w = c.loop-to.invariant in
-    let all : c.loop-to.to ≡ length c.args.values.now.list.order = omega
-    (arith, c.len-count.ensures.len, c.loop-to.auto.to-end, c.loop-to-test.false) in
-    c.cut_end.ensures.order
-    ∙ settled-all c.loop-to.values.list.order c.loop-to.to c.loop-to.following w.settled
-    (omega (arith, w.same_length, all, c.len-count.ensures.len))
-    ∙ ap places_below all
-
-pub returns-clause-no_hole : goal.returns-clause-no_hole
-returns-clause-no_hole g c =
+pub returns : goal.returns
+returns g c =
     let w = c.loop-to.invariant in
     let cut = c.cut_end.ensures in
-    let all = settled-end c.loop-to.values.list.order c.loop-to.to c.loop-to.following w.settled
-    (omega (arith, w.same_length, c.loop-to.auto.to-end, c.loop-to-test.false)) in
-    omega (arith, cut.used, ap length cut.order, w.same_length, all, c.loop-to.auto.to-end, c.loop-to-test.false)
+    let all : c.loop-to.to ≡ length c.args.values.now.list.order = omega
+    (arith, c.len-count.ensures.len, c.loop-to.auto.to-end, c.loop-to-test.false) in
+    let same : length c.loop-to.values.list.order ≡ c.loop-to.to = omega (arith, w.same_length, all, c.len-count.ensures.len) in
+    record {
+      renamed = record { name = w.renamed.name; renames = renames-cut w.renamed.name c.loop-to.values _ w.renamed.renames cut };
+      settled = cut.order ∙ settled-all c.loop-to.values.list.order c.loop-to.to c.loop-to.following w.settled same
+          ∙ ap places_below all;
+      no_hole =
+          let end = settled-end c.loop-to.values.list.order c.loop-to.to c.loop-to.following w.settled same in
+          omega (arith, cut.used, ap length cut.order, same, end);
+      moved = omega (arith, cut.moved, w.moved, all);
+      freed = cut.freed ∙ w.freed;
+      capacities = record {
+        keys_capacity = w.capacities.keys_capacity;
+        capacity = cut.capacity ∙ w.capacities.capacity;
+      };
+    }

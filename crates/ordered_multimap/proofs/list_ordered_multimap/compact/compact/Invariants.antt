@@ -1,5 +1,5 @@
 use Rattle.std.proofs.Common.{◌≡◌, ◌≤◌, ◌+◌, length}
-use Rattle.ordered_multimap.specs.Renames.{AreRenamed}
+use Rattle.ordered_multimap.specs.Renames.{AreRenamed, KeepsCapacities}
 use Rattle.ordered_multimap.proofs.CompactLemmas.{AreSettled}
 use Rattle.ordered_multimap.proofs.list_ordered_multimap.compact.compact.Given as goal
 
@@ -11,6 +11,5 @@ invariant-loop-to g l = record {
   moved : l.values.moved ≤ l.fn.values.moved + l.to;
   freed : l.values.freed ≡ l.fn.values.freed;
   holes : l.values.holes ≡ l.fn.values.holes;
-  capacity : l.values.list.capacity ≡ l.fn.values.list.capacity;
-  keys_capacity : l.keys.capacity ≡ l.fn.keys.capacity;
+  capacities : KeepsCapacities l.fn.keys l.keys l.fn.values l.values;
 }

@@ -7,19 +7,20 @@ make_end_room-requires-clause-slots g c =
     let s = c.requires.stands in
     omega (arith, c.requires.fits, has_value s.chains.keys_sound s.chains.chained c.args.place s.listed)
 
-pub push_over-first-requires-clause-stands : goal.push_over-first-requires-clause-stands
-push_over-first-requires-clause-stands g c = chain-renamed c.requires.stands c.make_end_room.ensures.renamed
+pub push_over-first-requires : goal.push_over-first-requires
+push_over-first-requires g c = let e = c.make_end_room.ensures in
+    record { stands = chain-renamed c.requires.stands e.renamed; room = e.end_room }
 
 pub returns-clause-inserted : goal.returns-clause-inserted
 returns-clause-inserted g c =
     let e = c.make_end_room.ensures in (
       c.push_over-first.result.1,
       inserts-over c.requires.stands e.renamed e.taken
-          (omega (arith, c.requires.fits, e.same_length, ap (λ n. n / 2) e.capacity)) c.push_over-first.ensures,
+          (omega (arith, c.requires.fits, e.same_length, ap (λ n. n / 2) e.capacities.capacity)) c.push_over-first.ensures,
     )
 
-pub returns-clause-keys_capacity : goal.returns-clause-keys_capacity
-returns-clause-keys_capacity g c = over_keys c.push_over-first.ensures ∙ c.make_end_room.ensures.keys_capacity
-
-pub returns-clause-values_capacity : goal.returns-clause-values_capacity
-returns-clause-values_capacity g c = over_values c.push_over-first.ensures ∙ c.make_end_room.ensures.capacity
+pub returns-clause-capacities : goal.returns-clause-capacities
+returns-clause-capacities g c = record {
+  keys_capacity = over_keys c.push_over-first.ensures ∙ c.make_end_room.ensures.capacities.keys_capacity;
+  capacity = over_values c.push_over-first.ensures ∙ c.make_end_room.ensures.capacities.capacity;
+}

@@ -1,15 +1,19 @@
 use Rattle.std.proofs.Common.{◌∙◌, sym, subst, arith}
 use Rattle.multimap_slots.specs.Slots.{DoublesIfGrown}
 use Rattle.ordered_multimap.proofs.InsertLemmas.{chain-renamed, inserts-over, over_keys, over_values}
+use Rattle.ordered_multimap.proofs.StepLemmas.{ok_if}
 use Rattle.ordered_multimap.proofs.list_ordered_multimap.insert.insert_behind_all.Goals as goal
 
-pub push_over-requires-clause-stands : goal.push_over-requires-clause-stands
-push_over-requires-clause-stands g c = chain-renamed c.requires.stands c.make_value_room.ensures.renamed
+pub push_over-requires : goal.push_over-requires
+push_over-requires g c = let e = c.make_value_room.ensures in record {
+  stands = chain-renamed c.requires.stands e.renamed;
+  room = ok_if c.make_value_room.result (sym c.is_err.ensures.value ∙ c.if-is_err.false) e.end_room;
+}
 
 pub returns-clause-ok : goal.returns-clause-ok
 returns-clause-ok g c =
     let e = c.make_value_room.ensures in
-    inserts-over c.requires.stands e.renamed e.values.taken (e.values.fits c.requires.fits) c.push_over.ensures
+    inserts-over c.requires.stands e.renamed e.tape.taken (e.tape.fits c.requires.fits) c.push_over.ensures
 
 pub returns-clause-grows : goal.returns-clause-grows
 returns-clause-grows g c =
@@ -17,7 +21,7 @@ returns-clause-grows g c =
     let same = over_values c.push_over.ensures in
     record {
       keys_capacity = over_keys c.push_over.ensures ∙ e.keys_capacity;
-      no_less = omega (arith, e.values.no_less, same);
-      had_room = λ room. same ∙ e.values.had_room room;
-      doubles = subst (DoublesIfGrown c.args.values.now.list.capacity) (sym same) e.values.doubles;
+      no_less = omega (arith, e.tape.no_less, same);
+      had_room = λ room. same ∙ e.tape.had_room room;
+      doubles = subst (DoublesIfGrown c.args.values.now.list.capacity) (sym same) e.tape.doubles;
     }

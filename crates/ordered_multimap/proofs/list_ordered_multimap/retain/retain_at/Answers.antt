@@ -3,6 +3,9 @@ use Rattle.ordered_multimap.specs.TakesOne.{HasLinks}
 use Rattle.ordered_multimap.proofs.WriteLemmas.{IsChained-with_item, IsSound-with_item}
 use Rattle.ordered_multimap.proofs.list_ordered_multimap.retain.retain_at.Goals as goal
 
+pub ask-stays-requires-clause-stands : goal.ask-stays-requires-clause-stands
+ask-stays-requires-clause-stands g c = record { listed = c.requires.stands.listed; owned = c.requires.stands.chained.owned }
+
 pub take_pair-requires-clause-stands : goal.take_pair-requires-clause-stands
 take_pair-requires-clause-stands g c =
     let s = c.requires.stands in

@@ -10,14 +10,13 @@ returns-in-Ok g c =
       (
         refl,
         (λ w ok. written_last g.met.K.Eq.laws x.map.now new
-            (with_first new c.in-Ok.place w) x.key c.args.value w x.unlisted x.absent c.in-Ok.ensures.ok (f.written x.key has w)),
+            (with_first new c.in-Ok.place w) x.key c.args.value w x.unlisted x.absent c.in-Ok.ensures.appends.ok (f.written x.key has w)),
         tt,
       ),
       record {
         writes_back = tt;
         value = new_first g.met.K.Eq.laws x.map.now.lists new.lists x.key c.args.value _ x.unlisted x.absent
-            c.in-Ok.ensures.ok.lists (f.value x.key has);
-        refused = tt;
-        succeeds = λ room. refl;
+            c.in-Ok.ensures.appends.ok.lists (f.value x.key has);
+        hands_back = record { refused = tt; succeeds = λ room. refl };
       },
     )

@@ -6,8 +6,11 @@ use Rattle.ordered_multimap.proofs.HandedLemmas.{fewer_left, hands_out, owned_le
 use Rattle.ordered_multimap.proofs.PopLemmas.{end_listed}
 use Rattle.ordered_multimap.proofs.list_ordered_multimap.into_iter.IntoIterIterator.next.Goals as goal
 
-pub take_cloning-requires-clause-listed : goal.take_cloning-requires-clause-listed
-take_cloning-requires-clause-listed g c = end_listed Front c.self.inside.values.list.order _ (sym c.front_place.ensures ∙ c.in-Some.is)
+pub take_cloning-requires : goal.take_cloning-requires
+take_cloning-requires g c = record {
+  listed = end_listed Front c.self.inside.values.list.order _ (sym c.front_place.ensures ∙ c.in-Some.is);
+  owned = c.self.invariant;
+}
 
 pub invariant_of-self : goal.invariant_of-self
 invariant_of-self g c = let i = c.self.inside in
