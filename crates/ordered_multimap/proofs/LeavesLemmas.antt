@@ -18,7 +18,7 @@ use Rattle.ordered_multimap.specs.Lists.{Lists, lists, IsWellFormed}
 use Rattle.ordered_multimap.specs.Changes.{kept}
 use Rattle.ordered_multimap.specs.Renames.{AreChained}
 use Rattle.ordered_multimap.specs.RetainSteps.{RetainsAt, StaysIf}
-use Rattle.ordered_multimap.specs.Takes.{HasChain, KeepsRoom, LeavesEntry}
+use Rattle.ordered_multimap.specs.Takes.{HasEntry, HasFittingChain, HasChain, KeepsRoom, LeavesEntry}
 use Rattle.ordered_multimap.specs.TakesOne.{HasPair, TakesOne, TakesLast, TakesPair, TakesByKey, TakesBeside}
 use Rattle.ordered_multimap.specs.declared.list_ordered_multimap.take_one.Taken.{Taken}
 use Rattle.ordered_multimap.specs.declared.list_ordered_multimap.take_one.TakenKey.{TakenKey}
@@ -54,6 +54,21 @@ pub has_chain : {K V : Type 0} {eq : K → K → Bool} {hash : K → ℕ} {keys 
     {values : Slots V ValueLink}
     → Agrees eq hash keys rows values → (place : ℕ) → IsIn place keys.order → HasChain keys values place
 has_chain agrees place listed = record { listed = listed; chains = are_chained agrees }
+
+-- in a map its values fit, too
+pub has_fitting_chain : {K V : Type 0} {eq : K → K → Bool} {hash : K → ℕ} {keys : Slots K KeyLink} {rows : FinMap nat_cmp ℕ}
+    {values : Taped V ValueLink}
+    → IsMap eq hash keys rows values → (place : ℕ) → IsIn place keys.order → HasFittingChain keys values place
+has_fitting_chain m place listed = record { stands = has_chain m.agrees place listed; fits = m.fits }
+
+-- and it has a row
+pub has_entry : {K V : Type 0} {eq : K → K → Bool} {hash : K → ℕ} {keys : Slots K KeyLink} {rows : FinMap nat_cmp ℕ}
+    {values : Slots V ValueLink}
+    → Agrees eq hash keys rows values → (place : ℕ) → IsIn place keys.order → HasEntry keys rows values place
+has_entry agrees place listed = record {
+  stands = has_chain agrees place listed;
+  row = λ l is. agrees.in_table place l listed is;
+}
 
 -- a map stays one where a key has left with its values
 pub map_left : {K V : Type 0} {eq : K → K → Bool} (laws : IsEquivalence eq) {hash : K → ℕ} {keys keys_after : Slots K KeyLink}

@@ -12,7 +12,7 @@ use Rattle.std.specs.List.{filter_map, cons_option}
 use Rattle.std.specs.Ordering.{nat_cmp}
 use Rattle.std.specs.FinMap.{FinMap}
 use Rattle.multimap_slots.specs.Lists.{IsIn}
-use Rattle.multimap_slots.specs.Slots.{Slots, item_at}
+use Rattle.multimap_slots.specs.Slots.{Slots, IsSound, item_at}
 use Rattle.multimap_slots.specs.CellsLends.{with_refilled}
 use Rattle.multimap_slots.specs.SlotCells.{LendsSlots}
 use Rattle.multimap_slots.specs.declared.cells_of.SlotCells.{SlotCells}
@@ -85,19 +85,21 @@ module _ {K V : Type 0} where
   length_revalued (p ∷ ps) [] = ap suc (length_revalued ps [])
   length_revalued (p ∷ ps) (q ∷ qs) = ap suc (length_revalued ps qs)
 
-  pub Agrees-refilled : (eq : K → K → Bool) (hash : K → ℕ) (keys : Slots K KeyLink) (rows : FinMap nat_cmp ℕ) (values : Slots V ValueLink)
-      (items : List (Option V))
-      → Agrees eq hash keys rows values → Agrees eq hash keys rows (with_refilled values items)
-  Agrees-refilled eq hash keys rows values items a = record {
+  -- keys, rows and values agree with other items, and with another capacity, where the list is sound then
+  Agrees-in : (eq : K → K → Bool) (hash : K → ℕ) (keys : Slots K KeyLink) (rows : FinMap nat_cmp ℕ) (values : Slots V ValueLink)
+      (items : List (Option V)) (capacity : ℕ) → IsSound (record values { items = items; capacity = capacity })
+      → Agrees eq hash keys rows values → Agrees eq hash keys rows (record values { items = items; capacity = capacity })
+  Agrees-in eq hash keys rows values items capacity sound a = record {
     keys_sound = a.keys_sound;
-    values_sound = record {
-      distinct = a.values_sound.distinct;
-      filled = λ p i. some-refilled values.items items p
-          (a.values_sound.filled p i);
-      linked = a.values_sound.linked;
-      fits = a.values_sound.fits;
+    values_sound = sound;
+    chained = record {
+      owned = a.chained.owned;
+      head = a.chained.head;
+      tail = a.chained.tail;
+      length = a.chained.length;
+      previous = a.chained.previous;
+      next = a.chained.next;
     };
-    chained = record { owned = a.chained.owned; head = a.chained.head; tail = a.chained.tail; length = a.chained.length; previous = a.chained.previous; next = a.chained.next };
     distinct = a.distinct;
     hashed = a.hashed;
     in_table = a.in_table;
@@ -105,24 +107,26 @@ module _ {K V : Type 0} where
     counted = a.counted;
   }
 
+  pub Agrees-refilled : (eq : K → K → Bool) (hash : K → ℕ) (keys : Slots K KeyLink) (rows : FinMap nat_cmp ℕ) (values : Slots V ValueLink)
+      (items : List (Option V))
+      → Agrees eq hash keys rows values → Agrees eq hash keys rows (with_refilled values items)
+  Agrees-refilled eq hash keys rows values items a = Agrees-in eq hash keys rows values (with_refilled values items).items values.capacity
+      (record {
+        distinct = a.values_sound.distinct;
+        filled = λ p i. some-refilled values.items items p (a.values_sound.filled p i);
+        linked = a.values_sound.linked;
+        fits = a.values_sound.fits;
+      }) a
+
   Agrees-bare : (eq : K → K → Bool) (hash : K → ℕ) (keys : Slots K KeyLink) (rows : FinMap nat_cmp ℕ) (values : Slots V ValueLink)
       → Agrees eq hash keys rows values → Agrees eq hash keys rows (record values { capacity = length values.order })
-  Agrees-bare eq hash keys rows values a = record {
-    keys_sound = a.keys_sound;
-    values_sound = record {
-      distinct = a.values_sound.distinct;
-      filled = a.values_sound.filled;
-      linked = a.values_sound.linked;
-      fits = omega
-          arith;
-    };
-    chained = record { owned = a.chained.owned; head = a.chained.head; tail = a.chained.tail; length = a.chained.length; previous = a.chained.previous; next = a.chained.next };
-    distinct = a.distinct;
-    hashed = a.hashed;
-    in_table = a.in_table;
-    listed = a.listed;
-    counted = a.counted;
-  }
+  Agrees-bare eq hash keys rows values a = Agrees-in eq hash keys rows values values.items (length values.order)
+      (record {
+        distinct = a.values_sound.distinct;
+        filled = a.values_sound.filled;
+        linked = a.values_sound.linked;
+        fits = omega arith;
+      }) a
 
   -- the cells of the map's values agree with its keys
   pub AreLent-made : {S A : Type 0} (eq : K → K → Bool) (hash : S → K → ℕ) (m : Multimap K V S) (keys : Slots K KeyLink)

@@ -4,7 +4,7 @@ use Rattle.std.specs.Prelude.{◌≡◌, ◌==◌, ℕ, Bool, true, false, not, 
 use Rattle.std.specs.Prelude.{◌≢◌, ◌+◌, ◌≤◌, Option, Some, None}
 use Rattle.std.specs.List.{list_any}
 use Rattle.std.specs.Ordering.{nat_cmp}
-use Rattle.std.specs.FinMap.{FinMap, remove}
+use Rattle.std.specs.FinMap.{FinMap, get, remove}
 use Rattle.multimap_slots.specs.Lists.{AreDistinct, IsIn, first_of, last_of, next_of, without}
 use Rattle.multimap_slots.specs.Slots.{Slots, KeepsOthers, Removes, item_at, link_at}
 use Rattle.multimap_slots.specs.Slots.{DoublesIfGrown, with_link}
@@ -117,13 +117,20 @@ pub record HasChain {K V : Type 0} (keys : Slots K KeyLink) (values : Slots V Va
   pub listed : IsIn place keys.order
   pub chains : AreChained keys values
 
--- the same, and the values fill no more than half of the slots
+-- the same, and the key has a row, with the hash of its link
+pub record HasEntry {K V : Type 0} (keys : Slots K KeyLink) (rows : FinMap nat_cmp ℕ)
+    (values : Slots V ValueLink) (place : ℕ) : Type 0 where
+  pub stands : HasChain keys values place
+  pub row : (l : KeyLink) → link_at keys place ≡ Some l → get rows place ≡ Some l.hash
+
+-- the key at the place is listed and both lists are chained, and the values fill no more than half
+-- of the slots
 pub record HasFittingChain {K V : Type 0} (keys : Slots K KeyLink) (values : Taped V ValueLink)
     (place : ℕ) : Type 0 where
   pub stands : HasChain keys values.list place
   pub fits : HasTapeRoomFor values 0
 
--- the same, and there is a slot behind the values
+-- or there is a slot behind the values
 pub record HasChainBeforeRoom {K V : Type 0} (keys : Slots K KeyLink) (values : Taped V ValueLink)
     (place : ℕ) : Type 0 where
   pub stands : HasChain keys values.list place

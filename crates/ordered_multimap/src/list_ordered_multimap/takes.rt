@@ -3,8 +3,8 @@ ghost use Rattle.std.specs.Prelude.{◌≡◌, ◌<◌, ℕ, List, Some};
 ghost use Rattle.std.specs.FinMap.{get};
 ghost use Rattle.multimap_slots.specs.Lists.{IsIn};
 ghost use Rattle.multimap_slots.specs.Slots.{Removes, item_at, link_at};
-ghost use Rattle.ordered_multimap.specs.Takes.{AreLeaving, HasChain, HasChainBeforeRoom, IsRow, LeavesEntry, LeavesOlder};
-ghost use Rattle.ordered_multimap.specs.Takes.{PushesOver, TakesRow};
+ghost use Rattle.ordered_multimap.specs.Takes.{AreLeaving, HasChain, HasChainBeforeRoom, HasEntry};
+ghost use Rattle.ordered_multimap.specs.Takes.{IsRow, LeavesEntry, LeavesOlder, PushesOver, TakesRow};
 
 use super::leaving::Leaving;
 use super::links::{set_link, set_previous};
@@ -78,9 +78,7 @@ pub(super) fn leave_entry<K, V, W: Leaving<V>, A: Allocator>(
     values: &mut Tape<V, ValueLink, A>,
     place: usize,
 ) -> (K, W, ChainEnds)
-    requires stands { HasChain keys.old values.old.list place }
-    requires row { (l : KeyLink) → link_at keys.old place ≡ Some l
-        → get table.old.rows place ≡ Some l.hash }
+    requires { HasEntry keys.old table.old.rows values.old.list place }
     ensures { LeavesEntry W.keeps (W.gives result.1) keys.old keys.new table.old table.new
         values.old values.new place result.0 result.2 }
 {

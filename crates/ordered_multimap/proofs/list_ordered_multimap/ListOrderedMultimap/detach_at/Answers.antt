@@ -5,19 +5,15 @@ use Rattle.ordered_multimap.specs.Changes.{removed}
 use Rattle.ordered_multimap.specs.TapeNumbers.{TakesOut, numbers_of}
 use Rattle.ordered_multimap.specs.Agrees.{HasKey}
 use Rattle.ordered_multimap.specs.KeySteps.{DetachesValues, HoldsInRoom}
-use Rattle.ordered_multimap.proofs.LeavesLemmas.{has_chain, map_left}
+use Rattle.ordered_multimap.proofs.LeavesLemmas.{has_entry, map_left}
 use Rattle.ordered_multimap.proofs.RoomLemmas.{map_of, same_rooms}
 use Rattle.ordered_multimap.proofs.LookupLemmas.{own_key, values_of-chain}
 use Rattle.ordered_multimap.proofs.TakeLemmas.{entry_count, lists_of-taken, removed_key}
 use Rattle.ordered_multimap.proofs.list_ordered_multimap.ListOrderedMultimap.detach_at.Goals as goal
 
-pub leave_entry-key-requires-clause-stands : goal.leave_entry-key-requires-clause-stands
-leave_entry-key-requires-clause-stands g c =
-    has_chain c.self.invariant.agrees c.args.place (subst (λ m. IsIn c.args.place m.slots.keys.order) (sym c.self.view_is) c.requires)
-
-pub leave_entry-key-requires-clause-row : goal.leave_entry-key-requires-clause-row
-leave_entry-key-requires-clause-row g c = λ l is. c.self.invariant.agrees.in_table c.args.place l
-    (subst (λ m. IsIn c.args.place m.slots.keys.order) (sym c.self.view_is) c.requires) is
+pub leave_entry-key-requires : goal.leave_entry-key-requires
+leave_entry-key-requires g c =
+    has_entry c.self.invariant.agrees c.args.place (subst (λ m. IsIn c.args.place m.slots.keys.order) (sym c.self.view_is) c.requires)
 
 pub invariant_of-self : goal.invariant_of-self
 invariant_of-self g c =

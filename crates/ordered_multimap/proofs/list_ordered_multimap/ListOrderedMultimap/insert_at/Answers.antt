@@ -6,7 +6,7 @@ use Rattle.ordered_multimap.specs.TapeNumbers.{TakesOut, numbers_of}
 use Rattle.ordered_multimap.specs.Agrees.{HasKey}
 use Rattle.ordered_multimap.specs.KeySteps.{StaysInRoom}
 use Rattle.ordered_multimap.specs.Removals.{LosesValues}
-use Rattle.ordered_multimap.proofs.LeavesLemmas.{has_chain}
+use Rattle.ordered_multimap.proofs.LeavesLemmas.{has_fitting_chain}
 use Rattle.ordered_multimap.proofs.RoomLemmas.{map_of, same_rooms}
 use Rattle.ordered_multimap.proofs.LookupLemmas.{own_key}
 use Rattle.ordered_multimap.proofs.StayLemmas.{inserted_stays}
@@ -16,11 +16,8 @@ use Rattle.ordered_multimap.proofs.TakeLemmas.{entry_count}
 use Rattle.ordered_multimap.proofs.list_ordered_multimap.ListOrderedMultimap.insert_at.Goals as goal
 
 pub insert_behind-requires : goal.insert_behind-requires
-insert_behind-requires g c = record {
-  stands = has_chain c.self.invariant.agrees c.args.place
-      (subst (λ m. IsIn c.args.place m.slots.keys.order) (sym c.self.view_is) c.requires);
-  fits = c.self.invariant.fits;
-}
+insert_behind-requires g c = has_fitting_chain c.self.invariant c.args.place
+    (subst (λ m. IsIn c.args.place m.slots.keys.order) (sym c.self.view_is) c.requires)
 
 pub invariant_of-self : goal.invariant_of-self
 invariant_of-self g c =

@@ -5,7 +5,7 @@ use Rattle.ordered_multimap.specs.TapeNumbers.{TakesOut, numbers_of}
 use Rattle.ordered_multimap.specs.Rooms.{HasValueRoom, RaisesNoRoom}
 use Rattle.ordered_multimap.specs.Agrees.{HasKey}
 use Rattle.ordered_multimap.specs.KeySteps.{DetachesValues, KeepsPairs}
-use Rattle.ordered_multimap.proofs.LeavesLemmas.{has_chain}
+use Rattle.ordered_multimap.proofs.LeavesLemmas.{has_fitting_chain}
 use Rattle.ordered_multimap.proofs.LookupLemmas.{own_key}
 use Rattle.ordered_multimap.proofs.StayLemmas.{inserted_stays, renamed_stays}
 use Rattle.ordered_multimap.proofs.AppendedLemmas.{agrees_reserved, lists_reserved, stays_paid}
@@ -16,11 +16,8 @@ use Rattle.ordered_multimap.proofs.DetachedLemmas.{left-inserted}
 use Rattle.ordered_multimap.proofs.list_ordered_multimap.ListOrderedMultimap.insert_detaching_at.Goals as goal
 
 pub insert_behind_all-requires : goal.insert_behind_all-requires
-insert_behind_all-requires g c = record {
-  stands = has_chain c.self.invariant.agrees c.args.place
-      (subst (λ m. IsIn c.args.place m.slots.keys.order) (sym c.self.view_is) c.requires);
-  fits = c.self.invariant.fits;
-}
+insert_behind_all-requires g c = has_fitting_chain c.self.invariant c.args.place
+    (subst (λ m. IsIn c.args.place m.slots.keys.order) (sym c.self.view_is) c.requires)
 
 -- refused
 
