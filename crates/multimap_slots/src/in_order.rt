@@ -1,5 +1,5 @@
 //! What every order of places tells: its ends, the neighbours of a place, and how many there are.
-ghost use Rattle.std.specs.Prelude.{◌≡◌, ◌↔◌, ℕ, List, Some, IsTrue, length, slice_get};
+ghost use Rattle.std.specs.Prelude.{◌≡◌, ◌↔◌, ℕ, List, Some, IsSome, IsTrue, length, slice_get};
 ghost use Rattle.multimap_slots.specs.Lists.{IsIn, first_of, last_of, next_of, previous_of};
 
 /// Places in an order.
@@ -32,6 +32,18 @@ pub(crate) trait InOrder {
     fn previous(&self, place: usize) -> Option<usize>
         requires { IsIn place (places self.now) }
         ensures { result ≡ previous_of (places self.now) place };
+
+    /// The place behind a listed one that isn't the last.
+    fn following(&self, place: usize) -> usize
+        requires listed { IsIn place (places self.now) }
+        requires more { IsSome (next_of (places self.now) place) }
+        ensures { next_of (places self.now) place ≡ Some result };
+
+    /// The place before a listed one that isn't the first.
+    fn preceding(&self, place: usize) -> usize
+        requires listed { IsIn place (places self.now) }
+        requires more { IsSome (previous_of (places self.now) place) }
+        ensures { previous_of (places self.now) place ≡ Some result };
 }
 
 /// Places in an order, each with a link.

@@ -51,6 +51,16 @@ impl<'a, L: Copy, A: Allocator> InOrder for TapeOrder<'a, L, A> {
     fn previous(&self, place: usize) -> Option<usize> {
         self.runs.previous(place)
     }
+
+    #[inline(always)]
+    fn following(&self, place: usize) -> usize {
+        self.runs.following(place)
+    }
+
+    #[inline(always)]
+    fn preceding(&self, place: usize) -> usize {
+        self.runs.preceding(place)
+    }
 }
 
 impl<'a, L: Copy, A: Allocator> Linked<L> for TapeOrder<'a, L, A> {
@@ -125,6 +135,22 @@ impl<'a, L: Copy, A: Allocator> InOrder for LentOrder<'a, L, A> {
         match &self.lender {
             Lender::List(order) => order.previous(place),
             Lender::Tape(tape) => tape.previous(place),
+        }
+    }
+
+    #[inline(always)]
+    fn following(&self, place: usize) -> usize {
+        match &self.lender {
+            Lender::List(order) => order.following(place),
+            Lender::Tape(tape) => tape.following(place),
+        }
+    }
+
+    #[inline(always)]
+    fn preceding(&self, place: usize) -> usize {
+        match &self.lender {
+            Lender::List(order) => order.preceding(place),
+            Lender::Tape(tape) => tape.preceding(place),
         }
     }
 }

@@ -160,6 +160,20 @@ impl<L: Copy, A: Allocator> InOrder for Order<L, A> {
     fn previous(&self, place: usize) -> Option<usize> {
         self.nodes[place].previous.get()
     }
+
+    fn following(&self, place: usize) -> usize {
+        match self.next(place) {
+            Some(following) => following,
+            None => unreachable!(),
+        }
+    }
+
+    fn preceding(&self, place: usize) -> usize {
+        match self.previous(place) {
+            Some(preceding) => preceding,
+            None => unreachable!(),
+        }
+    }
 }
 
 impl<L: Copy, A: Allocator> Linked<L> for Order<L, A> {

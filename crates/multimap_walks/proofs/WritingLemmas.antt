@@ -1,6 +1,6 @@
 -- What is left to be taken, and what a step of a walk for writing leaves of it.
 use Rattle.std.proofs.Common.{◌≡◌, ℕ, ◌+◌, ◌-◌, List, false, Option, Some, None, unwrap_or, refl, sym, ap, subst}
-use Rattle.std.specs.Prelude.{IfSome}
+use Rattle.std.specs.Prelude.{IfSome, IsSome}
 use Rattle.std.specs.Borrow.{MutBor}
 use Rattle.multimap_slots.specs.Lists.{IsIn, AreDistinct}
 use Rattle.multimap_slots.specs.Slots.{Slots, HasLink, IsSound}
@@ -24,6 +24,10 @@ use Rattle.multimap_walks.proofs.EndLemmas.{AreDistinct-end, AreDistinct-rest, I
 each_some : {P : ℕ → Type 0} (o : Option ℕ) → ((x : ℕ) → o ≡ Some x → P x) → IfSome o P
 each_some None each = tt
 each_some (Some x) each = each x refl
+
+some_or : (o : Option ℕ) → (o ≡ None → ⊥) → IsSome o
+some_or None never = absurd (never refl)
+some_or (Some x) never = refl
 
 module _ {T L A : Type 0} where
   -- what is left with one more at an end
@@ -60,20 +64,35 @@ module _ {T L A : Type 0} where
         left_at_end cells (places_left order left) can.untaken end (end_place end left) _
         (takes_end order left more can.are_left end _ refl)
 
-    -- where another place is left besides that at the end, so is the one next to it
-    pub neighbour_is_left : left.length - 1 ≡ left.length - 1 - 1 + 1 → IfSome (neighbour_of order end (end_place end left)) (IsLeft cells)
-    neighbour_is_left two =
-        each_some (neighbour_of order end (end_place end left)) (λ x is.
-        let told : x ≡ unwrap_or (neighbour_of order end (end_place end left)) (end_place end left) =
-        ap (λ o. unwrap_or o (end_place end left)) (sym is) in
-        let rest = ends_after end left x in
-        let some : rest.length ≡ rest.length - 1 + 1 = subst (λ k. k ≡ k - 1 + 1) (sym (length_after end left x)) two in
-        let takes = takes_end order rest some (left_after order left more can.are_left end x told) end _ refl in
-        let first : IsIn (end_place end rest) (places_left order rest) =
-        subst (IsIn (end_place end rest)) (sym takes) (IsIn-end end (end_place end rest) _) in
-        let among : IsIn x (places_left order rest) = subst (λ q. IsIn q (places_left order rest)) (place_after end left x) first in
-        let all = takes_end order left more can.are_left end x told in
-        can.untaken.each x (subst (IsIn x) (sym all) (IsIn-rest end (end_place end left) x (places_left order rest) among)))
+    -- where another place is left besides that at the end, the one that a step reaches is among the rest
+    module _ (two : left.length - 1 ≡ left.length - 1 - 1 + 1) where
+      reached : (x : ℕ) → x ≡ unwrap_or (neighbour_of order end (end_place end left)) (end_place end left)
+          → IsIn x (places_left order (ends_after end left x))
+      reached x told =
+          let rest = ends_after end left x in
+          let some : rest.length ≡ rest.length - 1 + 1 = subst (λ k. k ≡ k - 1 + 1) (sym (length_after end left x)) two in
+          let takes = takes_end order rest some (left_after order left more can.are_left end x told) end _ refl in
+          let first : IsIn (end_place end rest) (places_left order rest) =
+          subst (IsIn (end_place end rest)) (sym takes) (IsIn-end end (end_place end rest) _) in
+          subst (λ q. IsIn q (places_left order rest)) (place_after end left x) first
+
+      -- so its item is left
+      pub neighbour_is_left : IfSome (neighbour_of order end (end_place end left)) (IsLeft cells)
+      neighbour_is_left =
+          each_some (neighbour_of order end (end_place end left)) (λ x is.
+          let told : x ≡ unwrap_or (neighbour_of order end (end_place end left)) (end_place end left) =
+          ap (λ o. unwrap_or o (end_place end left)) (sym is) in
+          let all = takes_end order left more can.are_left end x told in
+          can.untaken.each x (subst (IsIn x) (sym all) (IsIn-rest end (end_place end left) x _ (reached x told))))
+
+      -- and there is one, since no place is left twice
+      pub neighbour_stands : IsSome (neighbour_of order end (end_place end left))
+      neighbour_stands =
+          some_or (neighbour_of order end (end_place end left)) (λ none.
+          let place = end_place end left in
+          let told : place ≡ unwrap_or (neighbour_of order end place) place = ap (λ o. unwrap_or o place) (sym none) in
+          let all = takes_end order left more can.are_left end place told in
+          AreDistinct-end end place _ (subst AreDistinct all can.untaken.distinct) (reached place told))
 
   module _ (old new : SlotCells T L A) (place : ℕ) (item : MutBor T) (takes : TakesItem old place item new) where
     -- each other item is left as before

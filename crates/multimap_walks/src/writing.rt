@@ -1,5 +1,5 @@
 //! Walks that lend values for writing, and the step of those along the order of a list.
-ghost use Rattle.std.specs.Prelude.{◌≡◌, IfSome};
+ghost use Rattle.std.specs.Prelude.{◌≡◌, IfSome, IsSome, Some};
 ghost use Rattle.multimap_slots.specs.SlotCells.{lent_slots, IsLeft};
 ghost use Rattle.multimap_walks.specs.Along.{AreLeft, neighbour_of, places_left};
 ghost use Rattle.multimap_walks.specs.Ends.{end_place};
@@ -29,21 +29,22 @@ fn all_of<V, A: Allocator>(cells: &SlotCells<'_, V, ValueLink, A>) -> ChainEnds
     }
 }
 
-/// The place that a step from an end reaches, where the items of both places are left.
+/// The place that a step from an end reaches, where there is one and the items of both are left.
 #[inline(always)]
 fn neighbour<V, A: Allocator>(
     end: End,
     cells: &SlotCells<'_, V, ValueLink, A>,
     place: usize,
-) -> Option<usize>
+) -> usize
     requires left { IsLeft cells.now place }
+    requires more { IsSome (neighbour_of (lent_slots cells.now).order end place) }
     requires neighbour { IfSome (neighbour_of (lent_slots cells.now).order end place)
         (IsLeft cells.now) }
-    ensures { result ≡ neighbour_of (lent_slots cells.now).order end place }
+    ensures { neighbour_of (lent_slots cells.now).order end place ≡ Some result }
 {
     match end {
-        End::Front => cells.next_place(place),
-        End::Back => cells.previous_place(place),
+        End::Front => cells.following_place(place),
+        End::Back => cells.preceding_place(place),
     }
 }
 
@@ -62,7 +63,7 @@ fn rest_after<V, A: Allocator>(
 {
     let place = left.place_at(end);
     if left.length > 1 {
-        left.after(end, neighbour(end, cells, place).unwrap_or(place))
+        left.after(end, neighbour(end, cells, place))
     } else {
         left.after(end, place)
     }

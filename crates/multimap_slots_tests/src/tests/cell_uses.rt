@@ -11,8 +11,9 @@ use multimap_slots::{Cells, SlotCells};
 /// How many items are lent, and the places of the first and of the last.
 pub type Lent = (usize, Option<usize>, Option<usize>);
 
-/// Of the second item the link and the places beside it.
-pub type Second = (u8, Option<usize>, Option<usize>);
+/// Of the second item the link and the places beside it, and those that the calls tell that ask for
+/// a neighbour.
+pub type Second = (u8, Option<usize>, Option<usize>, (usize, usize));
 
 /// What stood at both ends.
 pub type Ends = (usize, usize);
@@ -33,7 +34,12 @@ fn second_of(cells: &SlotCells<'_, usize, u8>) -> Option<Second>
     let second = cells.next_place(first)?;
     let link = cells.link(second);
     let before = cells.previous_place(second);
-    Some((link, before, cells.next_place(second)))
+    let behind = cells.next_place(second);
+    if before.is_none() || behind.is_none() {
+        return None;
+    }
+    let beside = (cells.preceding_place(second), cells.following_place(second));
+    Some((link, before, behind, beside))
 }
 
 fn read_ends(cells: &SlotCells<'_, usize, u8>) -> Option<Ends>

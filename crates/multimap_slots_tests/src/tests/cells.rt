@@ -27,7 +27,7 @@ fn it_has_left_the_list(test: &Test, list: &mut List, detached: usize)
 fn expect_lent(test: &Test, lending: Lending) {
     let (lent, second, read, were) = lending;
     test.expect("the ends", lent == (3, Some(0), Some(3)));
-    test.expect("the second", second == Some((3, Some(0), Some(3))));
+    test.expect("the second", second == Some((3, Some(0), Some(3), (0, 3))));
     test.expect("read", read == Some((10, 40)));
     test.expect("both ends", were == Some((10, 40)));
 }

@@ -1,7 +1,8 @@
-use Rattle.std.proofs.Common.{arith, refl, rules}
+use Rattle.std.proofs.Common.{arith, ap, rules, sym, unwrap_or}
 use Rattle.multimap_slots.specs.SlotCells.{lent_slots}
+use Rattle.multimap_walks.specs.Ends.{end_place}
 use Rattle.multimap_walks.proofs.AlongLemmas.{left_after, takes_end}
-use Rattle.multimap_walks.proofs.WritingLemmas.{end_is_left, neighbour_is_left}
+use Rattle.multimap_walks.proofs.WritingLemmas.{end_is_left, neighbour_is_left, neighbour_stands}
 use Rattle.multimap_walks.proofs.writing.rest_after.Goals as goal
 
 pub neighbour-requires-clause-left : goal.neighbour-requires-clause-left
@@ -14,17 +15,28 @@ neighbour-requires-clause-neighbour g c =
     (neighbour_is_left c.args.cells.now c.args.left (omega (arith, c.requires.more)) c.requires.can c.args.end
     (omega (arith, c.if-left-gt1.true)))
 
+pub neighbour-requires-clause-more : goal.neighbour-requires-clause-more
+neighbour-requires-clause-more g c =
+    rw c.place_at-place.ensures
+    (neighbour_stands c.args.cells.now c.args.left (omega (arith, c.requires.more)) c.requires.can c.args.end
+    (omega (arith, c.if-left-gt1.true)))
+
 pub returns-then-left-gt1-clause-are_left : goal.returns-then-left-gt1-clause-are_left
 returns-then-left-gt1-clause-are_left g c =
     let order = (lent_slots c.args.cells.now).order in
-    rw (c.after.ensures, c.unwrap_or.ensures, c.neighbour.ensures, c.place_at-place.ensures)
-    (left_after order c.args.left (omega (arith, c.requires.more)) c.requires.can.are_left c.args.end _ refl)
+    let told = rw c.place_at-place.ensures at c.neighbour.ensures in
+    rw c.after.ensures
+    (left_after order c.args.left (omega (arith, c.requires.more)) c.requires.can.are_left c.args.end _
+    (ap (λ o. unwrap_or o (end_place c.args.end c.args.left)) (sym told)))
 
 pub returns-then-left-gt1-clause-taken : goal.returns-then-left-gt1-clause-taken
 returns-then-left-gt1-clause-taken g c =
     let order = (lent_slots c.args.cells.now).order in
-    rw (c.after.ensures, c.unwrap_or.ensures, c.neighbour.ensures, c.place_at-place.ensures)
+    let told = rw c.place_at-place.ensures at c.neighbour.ensures in
+    rw c.after.ensures
     (record {
-      places_are = takes_end order c.args.left (omega (arith, c.requires.more)) c.requires.can.are_left c.args.end _ refl;
+      places_are =
+          takes_end order c.args.left (omega (arith, c.requires.more)) c.requires.can.are_left c.args.end _
+          (ap (λ o. unwrap_or o (end_place c.args.end c.args.left)) (sym told));
       count = search rules;
     })

@@ -22,9 +22,12 @@ previous_place-before-requires-clause-left c = c.requires.left c.in_ok-second.se
 pub previous_place-before-requires-clause-neighbour : goal.previous_place-before-requires-clause-neighbour
 previous_place-before-requires-clause-neighbour c = previous_left c.args.cells.now c.requires.left c.in_ok-second.second
 
-pub next_place-requires-2-clause-left : goal.next_place-requires-2-clause-left
-next_place-requires-2-clause-left c = c.requires.left c.in_ok-second.second
+pub next_place-behind-requires-clause-left : goal.next_place-behind-requires-clause-left
+next_place-behind-requires-clause-left c = c.requires.left c.in_ok-second.second
     (next_in c.args.cells.now.order.order c.in_ok-first.first c.in_ok-second.second (sym c.in_ok-second.ensures))
 
-pub next_place-requires-2-clause-neighbour : goal.next_place-requires-2-clause-neighbour
-next_place-requires-2-clause-neighbour c = next_left c.args.cells.now c.requires.left c.in_ok-second.second
+pub next_place-behind-requires-clause-neighbour : goal.next_place-behind-requires-clause-neighbour
+next_place-behind-requires-clause-neighbour c = next_left c.args.cells.now c.requires.left c.in_ok-second.second
+
+pub preceding_place-requires-clause-neighbour : goal.preceding_place-requires-clause-neighbour
+preceding_place-requires-clause-neighbour c = previous_left c.args.cells.now c.requires.left c.in_ok-second.second
