@@ -4,7 +4,7 @@ use Rattle.multimap_slots.specs.Slots.{Slots, IsSound}
 use Rattle.multimap_slots.specs.SlotCells.{LendsSlots}
 use Rattle.multimap_slots.specs.Taken.{Makes}
 use Rattle.multimap_slots.specs.declared.cells_of.SlotCells.{SlotCells}
-use Rattle.multimap_slots.proofs.Refilled.{all_left}
+use Rattle.multimap_slots.proofs.Lending.Refilled.{all_left}
 
 -- a sound list is lent whole, with its order and its links
 pub lends_slots : {T L A : Type 0} (s : Slots T L) (c : SlotCells T L A) → Makes s.items c.cells → c.order.order ≡ s.order

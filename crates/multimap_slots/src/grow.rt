@@ -1,6 +1,6 @@
 //! Growth of a vector, to memory of its own.
 ghost use Rattle.std.specs.Prelude.{◌≡◌, vec_capacity};
-ghost use Rattle.multimap_slots.specs.Vectors.{GrowsTo};
+ghost use Rattle.multimap_slots.specs.Private.Vectors.{GrowsTo};
 
 use std::alloc::{AllocError, Allocator};
 use std::mem;

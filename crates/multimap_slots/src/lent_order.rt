@@ -16,7 +16,7 @@ pub(crate) struct TapeOrder<'a, L, A: Allocator> {
 
 impl<'a, L, A: Allocator> Model for TapeOrder<'a, L, A> {
     ghost use Rattle.std.specs.Prelude.{◌≡◌, length};
-    ghost use Rattle.multimap_slots.specs.LentOrder.{LentPlaces};
+    ghost use Rattle.multimap_slots.specs.Private.LentOrder.{LentPlaces};
 
     ghost Value = { LentPlaces L };
 
@@ -88,8 +88,8 @@ pub(crate) struct LentOrder<'a, L, A: Allocator> {
 }
 
 impl<'a, L, A: Allocator> Model for LentOrder<'a, L, A> {
-    ghost use Rattle.multimap_slots.specs.LentOrder.{LentPlaces};
-    ghost use Rattle.multimap_slots.specs.Lenders.{places_lent};
+    ghost use Rattle.multimap_slots.specs.Private.LentOrder.{LentPlaces};
+    ghost use Rattle.multimap_slots.specs.Private.Lenders.{places_lent};
 
     ghost Value = { LentPlaces L };
 

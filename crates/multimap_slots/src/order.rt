@@ -1,7 +1,7 @@
 //! Places in an order, each with a link, over one vector of nodes that also lists the free places.
 ghost use Rattle.std.specs.Prelude.{◌≡◌, ◌+◌, ◌<◌, [], length, Some, slice_get, vec_capacity};
 ghost use Rattle.multimap_slots.specs.Lists.{IsIn};
-ghost use Rattle.multimap_slots.specs.Vectors.{GrowsTo};
+ghost use Rattle.multimap_slots.specs.Private.Vectors.{GrowsTo};
 
 mod attached;
 mod detached;
@@ -32,8 +32,8 @@ pub(crate) struct Order<L, A: Allocator> {
 
 impl<L, A: Allocator> Model for Order<L, A> {
     ghost use Rattle.std.specs.Prelude.{vec_capacity, None};
-    ghost use Rattle.multimap_slots.specs.Paths.{after, walk};
-    ghost use Rattle.multimap_slots.specs.ListLayout.{Places, nexts, states, links, IsOrdered};
+    ghost use Rattle.multimap_slots.specs.Private.Paths.{after, walk};
+    ghost use Rattle.multimap_slots.specs.Private.ListLayout.{Places, nexts, states, links, IsOrdered};
 
     ghost Value = { Places L };
 
@@ -50,8 +50,8 @@ impl<L, A: Allocator> Model for Order<L, A> {
 
 impl<L: Copy, A: Allocator> Order<L, A> {
     ghost use Rattle.std.specs.Borrow.{sem};
-    ghost use Rattle.multimap_slots.specs.ListLayout.{HasNoPlaces, HasFree, AddsLast, KeepsPlaces, Removes};
-    ghost use Rattle.multimap_slots.specs.OrderLends.{lends_place_link};
+    ghost use Rattle.multimap_slots.specs.Private.ListLayout.{HasNoPlaces, HasFree, AddsLast, KeepsPlaces, Removes};
+    ghost use Rattle.multimap_slots.specs.Private.OrderLends.{lends_place_link};
 
     /// No places, over nodes of which there are none.
     pub(crate) fn over(nodes: Vec<Node<L>, A>) -> Self
@@ -135,7 +135,7 @@ impl<L: Copy, A: Allocator> Order<L, A> {
 }
 
 impl<L: Copy, A: Allocator> InOrder for Order<L, A> {
-    ghost use Rattle.multimap_slots.specs.ListLayout.{AreSound};
+    ghost use Rattle.multimap_slots.specs.Private.ListLayout.{AreSound};
 
     ghost places = { λ o. o.order };
 

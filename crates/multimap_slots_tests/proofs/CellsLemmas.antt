@@ -6,7 +6,7 @@ use Rattle.multimap_slots.specs.Lists.{IsIn, first_of, last_of, next_of, previou
 use Rattle.multimap_slots.specs.SlotCells.{lent_slots, IsLeft}
 use Rattle.multimap_slots.specs.Taken.{CanTake}
 use Rattle.multimap_slots.specs.declared.cells_of.SlotCells.{SlotCells}
-use Rattle.multimap_slots.proofs.ListsLemmas.{first_of-reverse, IsIn-reverse}
+use Rattle.multimap_slots.proofs.Callers.PlaceLists.{first_of-reverse, IsIn-reverse}
 
 pub first_in : (ps : List ℕ) (p : ℕ) → first_of ps ≡ Some p → IsIn p ps
 first_in [] p e = absurd (let bad = e in cc)

@@ -4,7 +4,7 @@ use Rattle.std.proofs.Common.{arith}
 use Rattle.std.specs.List.{last_or}
 use Rattle.multimap_slots.specs.Lists.{IsIn, Rises, last_of, previous_of}
 use Rattle.multimap_slots.specs.Slots.{Slots, item_at, IsDetached, Detaches, PushesBack}
-use Rattle.multimap_slots.proofs.ListsLemmas.{Split, IsIn-append, IsIn-split, IsIn-without, previous_of-split}
+use Rattle.multimap_slots.proofs.Callers.PlaceLists.{Split, IsIn-append, IsIn-split, IsIn-without, previous_of-split}
 
 -- each place of the front of a rising order is at most its last one
 below-last : (o : Option ℕ) (xs : List ℕ) (b q : ℕ) → Rises xs → IsIn q xs → last_or o xs ≡ Some b → q ≤ b

@@ -3,7 +3,7 @@ use Rattle.std.proofs.Common.{◌≡◌, ℕ, ◌+◌, List, [], ◌∷◌, ◌+
 use Rattle.std.proofs.Common.{◌∙◌, inl, arith}
 use Rattle.std.proofs.lemmas.List.{append-nil, append_assoc, length-append}
 use Rattle.multimap_slots.specs.Lists.{IsIn, AreDistinct, first_of, next_of}
-use Rattle.multimap_slots.proofs.ListsLemmas.{IsIn-left, IsIn-right, AreDistinct-gone, next_of-split}
+use Rattle.multimap_slots.proofs.Callers.PlaceLists.{IsIn-left, IsIn-right, AreDistinct-gone, next_of-split}
 
 -- so many places were passed, and this is the next one
 pub record IsWalked (order : List ℕ) (following : Option ℕ) (count : ℕ) : Type 0 where

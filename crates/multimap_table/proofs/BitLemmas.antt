@@ -9,7 +9,7 @@ use lib.Count.{count_trailing_zeros, under}
 use lib.Lanes.{zip2, mask_l, top, chunk}
 use borrow.Author.Tests.{eqb-true, eq-eqb}
 use Rattle.std.proofs.lemmas.Simd.{bit_mask_l, bitmask_splat, length-chunk, get_or-chunk}
-use Rattle.multimap_table.specs.Layout.{IsBitSet}
+use Rattle.multimap_table.specs.Private.Layout.{IsBitSet}
 
 abbrev digit : ℕ → ℕ → ℕ
 digit n k = n / 2 ^ k % 2

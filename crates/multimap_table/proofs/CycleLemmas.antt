@@ -7,7 +7,7 @@ use native.Mathlib.Nat.{mod-eq_of_lt, add-mod_right}
 use native.Mathlib.Decide.{dec_lt}
 use lib.Pow.{pow_mono}
 use borrow.Author.Tests.{leb-true, leb-false}
-use Rattle.multimap_table.specs.Layout.{IsGroupCount, probe_start, distance}
+use Rattle.multimap_table.specs.Private.Layout.{IsGroupCount, probe_start, distance}
 
 -- a distance is the way up, or the way round
 abbrev pub DistanceCases : ℕ → ℕ → ℕ → ℕ → Type 0

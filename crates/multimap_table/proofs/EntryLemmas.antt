@@ -5,8 +5,8 @@ use Rattle.std.specs.Ordering.{nat_cmp, eq_by_cmp}
 use Rattle.std.specs.Cmp.{unsigned_tied}
 use Rattle.std.specs.FinMap.{find}
 use Rattle.multimap_table.specs.declared.group.Row.{Row}
-use Rattle.multimap_table.specs.Entries.{entries, IsUnique, row_at}
-use Rattle.multimap_table.specs.Layout.{HasRoom}
+use Rattle.multimap_table.specs.Private.Entries.{entries, IsUnique, row_at}
+use Rattle.multimap_table.specs.Private.Layout.{HasRoom}
 
 abbrev pub tied : ℕ → ℕ → Bool
 tied x y = eq_by_cmp nat_cmp x y

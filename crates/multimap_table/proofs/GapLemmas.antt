@@ -3,8 +3,9 @@ use Rattle.std.proofs.Common.{◌≡◌, ℕ, ◌+◌, ◌*◌, ◌/◌, ◌%◌
 use Rattle.std.proofs.Common.{length-set, get_or-set_same, get_or-set_other}
 use native.Mathlib.Decide.{dec_lt}
 use Rattle.multimap_table.specs.declared.group.Row.{Row}
-use Rattle.multimap_table.specs.Entries.{entries, IsUnique, row_at}
-use Rattle.multimap_table.specs.Layout.{IsGroupCount, IsFull, Reaches, Passes, IsLaidOut, distance, group_count, hash_tag, probe_start}
+use Rattle.multimap_table.specs.Private.Entries.{entries, IsUnique, row_at}
+use Rattle.multimap_table.specs.Private.Layout.{IsGroupCount, IsFull, Reaches, Passes, IsLaidOut, distance, group_count, hash_tag}
+use Rattle.multimap_table.specs.Private.Layout.{probe_start}
 use Rattle.multimap_table.proofs.CycleLemmas.{distance_cases, distance_injective, probe_start-lt}
 use Rattle.multimap_table.proofs.LayoutLemmas.{same_or_not, get_set_same}
 

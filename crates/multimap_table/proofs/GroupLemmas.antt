@@ -3,8 +3,9 @@ use Rattle.std.proofs.Common.{◌≡◌, ℕ, ◌+◌, ◌*◌, ◌/◌, ◌^◌
 use native.Mathlib.Decide.{dec_lt}
 use lib.Count.{count_trailing_zeros}
 use Rattle.multimap_table.specs.declared.group.Row.{Row}
-use Rattle.multimap_table.specs.Entries.{row_at}
-use Rattle.multimap_table.specs.Layout.{IsBitSet, IsFull, IsSized, IsReachable, HoldsHash, distance, group_count, hash_tag, probe_start}
+use Rattle.multimap_table.specs.Private.Entries.{row_at}
+use Rattle.multimap_table.specs.Private.Layout.{IsBitSet, IsFull, IsSized, IsReachable, HoldsHash, distance, group_count, hash_tag}
+use Rattle.multimap_table.specs.Private.Layout.{probe_start}
 use Rattle.multimap_table.proofs.BitLemmas.{no_bit_zero, bit_trailing_zeros}
 use Rattle.multimap_table.proofs.CycleLemmas.{distance_injective}
 

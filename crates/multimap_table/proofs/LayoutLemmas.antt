@@ -4,9 +4,10 @@ use Rattle.std.proofs.Common.{length-set, get_or-set_same, get_or-set_other}
 use native.Mathlib.Decide.{dec_lt}
 use Rattle.std.specs.FinMap.{get}
 use Rattle.multimap_table.specs.declared.group.Row.{Row}
-use Rattle.multimap_table.specs.Entries.{rows_of, no_row, row_at}
-use Rattle.multimap_table.specs.Layout.{IsGroupCount, IsFull, Reaches, IsSized, IsReachable, IsLaidOut, distance, group_count, hash_tag}
-use Rattle.multimap_table.specs.Layout.{probe_start}
+use Rattle.multimap_table.specs.Private.Entries.{rows_of, no_row, row_at}
+use Rattle.multimap_table.specs.Private.Layout.{IsGroupCount, IsFull, Reaches, IsSized, IsReachable, IsLaidOut, distance, group_count}
+use Rattle.multimap_table.specs.Private.Layout.{hash_tag}
+use Rattle.multimap_table.specs.Private.Layout.{probe_start}
 use Rattle.multimap_table.proofs.RowLemmas.{put_row}
 
 pub same_or_not : (i j : ℕ) → (i ≡ j) ⊎ (i ≡ j → ⊥)

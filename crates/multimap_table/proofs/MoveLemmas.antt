@@ -2,8 +2,8 @@
 use Rattle.std.proofs.Common.{◌≡◌, ℕ, ◌+◌, ◌*◌, ◌/◌, ◌<◌, ◌≤◌, ◌⊎◌, inl, inr, List, length, get_or, set, sym, ap, subst, ◌∙◌, arith}
 use Rattle.std.proofs.Common.{length-set, get_or-set_same, get_or-set_other}
 use Rattle.multimap_table.specs.declared.group.Row.{Row}
-use Rattle.multimap_table.specs.Entries.{entries, IsUnique, no_row, row_at}
-use Rattle.multimap_table.specs.Layout.{Passes, distance, group_count, hash_tag, probe_start}
+use Rattle.multimap_table.specs.Private.Entries.{entries, IsUnique, no_row, row_at}
+use Rattle.multimap_table.specs.Private.Layout.{Passes, distance, group_count, hash_tag, probe_start}
 use Rattle.multimap_table.proofs.LayoutLemmas.{same_or_not}
 use Rattle.multimap_table.proofs.GapLemmas.{IsClosing, next_between, further, distance_self, apart_distance}
 

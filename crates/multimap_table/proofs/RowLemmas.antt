@@ -6,7 +6,7 @@ use Rattle.std.specs.Cmp.{unsigned_tied, nat_cmp_total}
 use Rattle.std.specs.FinMap.{FinMap, find, from_entries, empty, get, insert, remove, len, get-from_entries, get-insert, get-remove}
 use Rattle.std.specs.FinMap.{same_map, nat_cmp-IsAntisymmetric, from_entries_push, len-insert, len-empty, get-empty}
 use Rattle.multimap_table.specs.declared.group.Row.{Row}
-use Rattle.multimap_table.specs.Entries.{entries, IsUnique, rows_of, row_at}
+use Rattle.multimap_table.specs.Private.Entries.{entries, IsUnique, rows_of, row_at}
 use Rattle.multimap_table.proofs.EntryLemmas.{tied, same_from_tied, tied_from_same, find_full, find_put, unique_put, length_put, find_erase}
 use Rattle.multimap_table.proofs.EntryLemmas.{unique_erase, length_erase}
 

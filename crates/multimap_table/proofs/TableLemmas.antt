@@ -5,8 +5,8 @@ use Rattle.std.proofs.lemmas.Simd.{length-replicate, get_or-replicate}
 use Rattle.std.specs.Ordering.{nat_cmp}
 use Rattle.std.specs.FinMap.{FinMap, get, len, empty, len-empty}
 use Rattle.multimap_table.specs.declared.group.Row.{Row}
-use Rattle.multimap_table.specs.Entries.{entries, IsUnique, rows_of, row_at}
-use Rattle.multimap_table.specs.Layout.{IsGroupCount, HoldsHash, HasRoom, IsLaidOut, IsTable, group_count}
+use Rattle.multimap_table.specs.Private.Entries.{entries, IsUnique, rows_of, row_at}
+use Rattle.multimap_table.specs.Private.Layout.{IsGroupCount, HoldsHash, HasRoom, IsLaidOut, IsTable, group_count}
 use Rattle.multimap_table.proofs.EntryLemmas.{lane_of, LaneOf, find_full, room_from_count, entries-replicate}
 use Rattle.multimap_table.proofs.RowLemmas.{len-rows_of, get-rows_of, rows_of-nil}
 

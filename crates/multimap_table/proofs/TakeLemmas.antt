@@ -5,7 +5,7 @@ use Rattle.std.specs.Ordering.{nat_cmp}
 use Rattle.std.specs.Cmp.{nat_cmp_total}
 use Rattle.std.specs.FinMap.{find, from_entries, get, insert, nat_cmp-IsAntisymmetric, from_entries_push}
 use Rattle.multimap_table.specs.declared.group.Row.{Row}
-use Rattle.multimap_table.specs.Entries.{entries, IsUnique, rows_of, row_at}
+use Rattle.multimap_table.specs.Private.Entries.{entries, IsUnique, rows_of, row_at}
 use Rattle.multimap_table.proofs.EntryLemmas.{not_tied, apart, find_full}
 use Rattle.multimap_table.proofs.RowLemmas.{get-rows_of}
 

@@ -1,3 +1,2 @@
-pub mod Entries
-pub mod Layout
+pub mod Private
 pub mod Table

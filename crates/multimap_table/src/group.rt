@@ -1,7 +1,7 @@
 //! One group of sixteen lanes, whose tags are compared at once.
 ghost use Rattle.std.specs.Prelude.{◌≡◌, ◌≢◌, ℕ, ◌+◌, ◌*◌, ◌<◌, ◌≤◌, length, slice_index};
 ghost use Rattle.std.specs.Int.{w64, trailing_zeros};
-ghost use Rattle.multimap_table.specs.Layout.{hash_tag, IsBitSet};
+ghost use Rattle.multimap_table.specs.Private.Layout.{hash_tag, IsBitSet};
 
 use std::simd::prelude::*;
 

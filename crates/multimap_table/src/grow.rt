@@ -1,7 +1,7 @@
 //! Lanes for more rows.
 ghost use Rattle.std.specs.Prelude.{◌≡◌, ◌*◌, ◌/◌, ◌^◌, ◌<◌, ◌≤◌, [], length};
-ghost use Rattle.multimap_table.specs.Layout.{group_count, IsGroupCount, IsLaidOut, HoldRows};
-ghost use Rattle.multimap_table.specs.Entries.{entries, rows_of, IsUnique};
+ghost use Rattle.multimap_table.specs.Private.Layout.{group_count, IsGroupCount, IsLaidOut, HoldRows};
+ghost use Rattle.multimap_table.specs.Private.Entries.{entries, rows_of, IsUnique};
 
 use crate::group::{LANES, Row};
 use crate::insert::insert_row;

@@ -1,8 +1,8 @@
 //! Puts rows into empty lanes.
 ghost use Rattle.std.specs.Prelude.{◌≡◌, ◌+◌, length};
 ghost use Rattle.std.specs.FinMap as map;
-ghost use Rattle.multimap_table.specs.Layout.{CanTake, HoldRows};
-ghost use Rattle.multimap_table.specs.Entries.{entries, rows_of};
+ghost use Rattle.multimap_table.specs.Private.Layout.{CanTake, HoldRows};
+ghost use Rattle.multimap_table.specs.Private.Entries.{entries, rows_of};
 
 use crate::group::{LANES, Row, tag_of};
 use crate::probe::{lane_with_room, probe_start};

@@ -1,7 +1,7 @@
 //! Looks through the groups, one after another, from the group that a hash names.
 ghost use Rattle.std.specs.Prelude.{◌≡◌, ℕ, ◌+◌, ◌*◌, ◌/◌, ◌^◌, ◌<◌, ◌≤◌, length, slice_index};
-ghost use Rattle.multimap_table.specs.Layout.{hash_tag, probe_start, distance, group_count, IsGroupCount, IsGroupAfter, Reaches, HoldsHash, CanFind, FindsLane, HasRoom};
-ghost use Rattle.multimap_table.specs.Entries.{row_at};
+ghost use Rattle.multimap_table.specs.Private.Layout.{hash_tag, probe_start, distance, group_count, IsGroupCount, IsGroupAfter, Reaches, HoldsHash, CanFind, FindsLane, HasRoom};
+ghost use Rattle.multimap_table.specs.Private.Entries.{row_at};
 
 use crate::group::{LANES, Row, lowest_set_bit, match_tag, remove_lowest_bit, tag_of};
 

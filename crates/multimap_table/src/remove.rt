@@ -1,8 +1,8 @@
 //! Takes rows out of their lanes, and lets later rows move back into the gap.
 ghost use Rattle.std.specs.Prelude.{◌≡◌, ℕ, ◌+◌, ◌/◌, ◌<◌, length, slice_index, slice_set, IfSome, IfNone};
 ghost use Rattle.std.specs.FinMap as map;
-ghost use Rattle.multimap_table.specs.Layout.{group_count, IsSized, Passes, CanLose, HoldRows};
-ghost use Rattle.multimap_table.specs.Entries.{entries, rows_of, row_at};
+ghost use Rattle.multimap_table.specs.Private.Layout.{group_count, IsSized, Passes, CanLose, HoldRows};
+ghost use Rattle.multimap_table.specs.Private.Entries.{entries, rows_of, row_at};
 
 use crate::group::{LANES, Row};
 use crate::probe::{distance, lane_with_room, probe, probe_start};

@@ -2,7 +2,7 @@
 ghost use Rattle.std.specs.Prelude.{◌≡◌, ℕ, ◌+◌, ◌*◌, ◌<◌, ◌≤◌, ◌↔◌, true, false, None, Some, IfSome, IfNone, IfOk, OnOk, OnErr, IsOk, IsTrue};
 ghost use Rattle.std.specs.FinMap as map;
 ghost use Rattle.multimap_table.specs.Table.{HasRow};
-ghost use Rattle.multimap_table.specs.Layout.{Grows, IsEmptyFor};
+ghost use Rattle.multimap_table.specs.Private.Layout.{Grows, IsEmptyFor};
 
 use crate::group::{LANES, Row};
 use crate::grow::{GROUP_LOAD, MAX_GROUPS, groups_for, insert_all};
@@ -35,7 +35,7 @@ impl<A: Allocator> Model for KeyTable<A> {
 
     ghost coded = { table_code };
 
-    ghost use Rattle.multimap_table.specs.Layout.{IsTable, table_of};
+    ghost use Rattle.multimap_table.specs.Private.Layout.{IsTable, table_of};
 
     ghost view = { λ t. table_of t.tags.items t.rows.items };
 

@@ -1,17 +1,4 @@
-mod WalkLemmas
-mod RunLemmas
-mod GroupLemmas
-mod RoomLemmas
-mod OrInsertLemmas
-mod FormatLemmas
-mod CharacterLemmas
-mod CutLemmas
-mod NumberLemmas
-mod FieldLemmas
-mod ReadingLemmas
-mod LineLemmas
-mod ReadLemmas
-mod JsonLemmas
-mod JsonFaultLemmas
-mod JsonListsLemmas
-mod JsonShapeLemmas
+pub mod Callers
+pub mod JsonValues
+pub mod Running
+pub mod Texts

@@ -14,10 +14,10 @@ use Rattle.ordered_multimap.specs.Pairs.{all_values, has_items, values_of, is_pr
 use Rattle.ordered_multimap.specs.Keys.{stored_key, keys_named_by}
 use Rattle.ordered_multimap.specs.Changes.{appended, inserted, removed, first_written, end_written}
 use Rattle.ordered_multimap.specs.Changes.{first_occurrences}
-use Rattle.ordered_multimap.specs.Pop.{popped, popped_pair}
+use Rattle.ordered_multimap.specs.Popped.{popped, popped_pair}
 use Rattle.ordered_multimap.specs.RemovedAt.{removed_at, value_beside}
 use Rattle.ordered_multimap.specs.Retain.{Retains}
-use Rattle.ordered_multimap.specs.Pop as pops
+use Rattle.ordered_multimap.specs.Popped as pops
 use Rattle.multimap_tool.specs.declared.commands.Ends.{Ends}
 use Rattle.multimap_tool.specs.declared.commands.Ends.TheVariants.{Forward, Word}
 use Rattle.multimap_tool.specs.declared.commands.Command.{Command}

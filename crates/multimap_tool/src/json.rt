@@ -10,7 +10,7 @@ ghost use Rattle.multimap_tool.specs.Json.{AppendsRead, IsFound, IsReadFrom, fau
 ghost use Rattle.multimap_tool.specs.Json.{pair_json, pairs_json};
 ghost use Rattle.multimap_tool.specs.JsonLists.{IsRead, IsFaultIn, has_form};
 ghost use Rattle.multimap_tool.specs.JsonLists.{both_arrays};
-ghost use Rattle.multimap_tool.specs.JsonSteps.{IsReadOfPairs, ReadsInto};
+ghost use Rattle.multimap_tool.specs.Private.JsonSteps.{IsReadOfPairs, ReadsInto};
 
 mod faults;
 mod items;

@@ -2,12 +2,15 @@
 ghost use Rattle.std.specs.Prelude.{◌≡◌, ◌<◌, ◌++◌, ◌∷◌, length, IfOk, IfErr, MatchOption};
 ghost use Rattle.multimap_tool.specs.Spelling.{lines_of, SpellEach};
 ghost use Rattle.multimap_tool.specs.Execute.{IsTextFaultOf};
-ghost use Rattle.multimap_tool.specs.Parts.{IsWithout, IsReadingOf, AreWordAndNumber, AreWordAndNumbers};
+ghost use Rattle.multimap_tool.specs.Private.Parts.{IsWithout, IsReadingOf, AreWordAndNumber, AreWordAndNumbers};
+
+mod operands;
+mod words;
 
 use crate::commands::Command;
 use crate::faults::TextFault;
-use crate::operands::{key_of, value_of, word_of};
-use crate::words::{
+use crate::parse::operands::{key_of, value_of, word_of};
+use crate::parse::words::{
     key_command, key_walk_command, lone_command, number_command, pair_command, value_command,
     walk_command,
 };

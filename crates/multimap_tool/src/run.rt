@@ -6,15 +6,21 @@ ghost use Rattle.multimap_tool.specs.Step.{MayKeep, Rereads};
 ghost use Rattle.multimap_tool.specs.Json.{DifferAsJson};
 ghost use Rattle.multimap_tool.specs.Runs.{ClonesAreSame, IsRun};
 ghost use Rattle.multimap_tool.specs.RunRooms.{HasRunRoom, FindsRoom};
-ghost use Rattle.multimap_tool.specs.MapSteps.{CanStep, IsMapStep, IsOwnMapStep, IsStepInPlace};
+ghost use Rattle.multimap_tool.specs.Private.MapSteps.{CanStep, IsMapStep, IsOwnMapStep, IsStepInPlace};
+
+mod ask;
+mod change;
+mod json;
+mod keep;
+mod room;
 
 use crate::commands::Command;
-use crate::in_place::step_in_place;
 use crate::json::JsonPart;
-use crate::keep::{Keep, KeepBy};
 use crate::replies::Reply;
-use crate::reread::{reread, reread_lists};
-use crate::rooms::pack_to_fit;
+use crate::run::change::step_in_place;
+use crate::run::json::{reread, reread_lists};
+use crate::run::keep::{Keep, KeepBy};
+use crate::run::room::pack_to_fit;
 use ordered_multimap::ListOrderedMultimap;
 use std::alloc::{AllocError, Allocator, Global};
 use std::hash::{BuildHasher, Hash};

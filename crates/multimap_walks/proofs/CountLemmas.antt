@@ -14,10 +14,10 @@ use Rattle.multimap_walks.specs.Lending.{CanLend}
 use Rattle.multimap_walks.specs.RestWalk.{CanReadChain, CanReadPairs, entry_rest, pairs_rest, values_rest}
 use Rattle.multimap_walks.specs.Walk.{TellsLength}
 use Rattle.multimap_walks.specs.WritingWalk.{entry_values_mut_rest, iter_mut_rest, values_mut_rest}
-use Rattle.multimap_walks.proofs.AlongLemmas.{length_along}
-use Rattle.multimap_walks.proofs.ChainLemmas.{length-left}
+use Rattle.multimap_walks.proofs.Callers.Along.{length_along}
+use Rattle.multimap_walks.proofs.Callers.Chains.{length-left}
 use Rattle.multimap_walks.proofs.PairLemmas.{pair_some}
-use Rattle.multimap_walks.proofs.SquashLemmas.{read_chain, read_lends, read_pairs}
+use Rattle.multimap_walks.proofs.Callers.Squashed.{read_chain, read_lends, read_pairs}
 
 -- what `size_hint` answers where the number is that of the items
 pub tells_length : {X : Type 0} (items : List X) (n : ℕ) → n ≡ length items → TellsLength (n, Some n) items

@@ -36,8 +36,8 @@ use Rattle.std.specs.declared.alloc.Allocator.{Ghosts}
 use Rattle.multimap_slots.specs.Ended.{ends_with}
 use Rattle.multimap_slots.specs.declared.cells_of.SlotCells.{SlotCells}
 use Rattle.multimap_slots.specs.contracts.cells_of.SlotCells as S-type
-use Rattle.multimap_slots.proofs.Ended.{one_of}
-use Rattle.multimap_slots.proofs.Renamed.{slot_cells_end}
+use Rattle.multimap_slots.proofs.Lending.Ended.{one_of}
+use Rattle.multimap_slots.proofs.Lending.Renamed.{slot_cells_end}
 use Rattle.multimap_walks.specs.declared.links.ValueLink.{ValueLink}
 use Rattle.multimap_walks.specs.contracts.links.ValueLink as VL-type
 

@@ -1,9 +1,5 @@
-pub mod AlongLemmas
-pub mod ChainLemmas
+pub mod Callers
 pub mod CountLemmas
 pub mod Dropped
-pub mod EndLemmas
 pub mod PairLemmas
-pub mod PathLemmas
-pub mod SquashLemmas
 pub mod WritingLemmas

@@ -6,7 +6,7 @@ use Rattle.multimap_slots.specs.Lists.{IsIn, AreDistinct}
 use Rattle.multimap_slots.specs.Slots.{Slots, HasLink, IsSound}
 use Rattle.multimap_slots.specs.SlotCells.{lent_slots, IsLeft, TakesItem}
 use Rattle.multimap_slots.specs.declared.cells_of.SlotCells.{SlotCells}
-use Rattle.multimap_slots.proofs.CellsLemmas.{IsLeft-other}
+use Rattle.multimap_slots.proofs.Callers.TakenItems.{IsLeft-other}
 use Rattle.multimap_walks.specs.declared.End.{End}
 use Rattle.multimap_walks.specs.declared.links.ChainEnds.{ChainEnds}
 use Rattle.multimap_walks.specs.declared.links.KeyLink.{KeyLink}
@@ -17,9 +17,9 @@ use Rattle.multimap_walks.specs.Walk.{with_end}
 use Rattle.multimap_walks.specs.Lending.{AllAreLeft, AreUntaken, CanLend, HandsOutSlot, NoneIsTaken}
 use Rattle.multimap_walks.specs.Chained.{IsChain, IsChained, Stands, next_place, places_along, previous_place}
 use Rattle.multimap_walks.specs.RestWalk.{CanReadChain}
-use Rattle.multimap_walks.proofs.AlongLemmas.{all_left, left_all, left_after, takes_end}
-use Rattle.multimap_walks.proofs.ChainLemmas.{along_whole, chain_distinct, chain_listed, chain_whole}
-use Rattle.multimap_walks.proofs.EndLemmas.{AreDistinct-end, AreDistinct-rest, IsIn-end, IsIn-rest, end_taken, length_after, place_after}
+use Rattle.multimap_walks.proofs.Callers.Along.{all_left, left_all, left_after, takes_end}
+use Rattle.multimap_walks.proofs.Callers.Chains.{along_whole, chain_distinct, chain_listed, chain_whole}
+use Rattle.multimap_walks.proofs.Callers.Ends.{AreDistinct-end, AreDistinct-rest, IsIn-end, IsIn-rest, end_taken, length_after, place_after}
 
 each_some : {P : ℕ → Type 0} (o : Option ℕ) → ((x : ℕ) → o ≡ Some x → P x) → IfSome o P
 each_some None each = tt

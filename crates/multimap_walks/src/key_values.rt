@@ -111,7 +111,7 @@ impl<'map, K, V, A: Allocator> Iterator for KeyValues<'map, K, V, A> {
         self.step(End::Front)
     }
 
-    #[tactic(auto, using(crate::proofs::AlongLemmas::length_along))]
+    #[tactic(auto, using(crate::proofs::Callers::Along::length_along))]
     fn size_hint(&self) -> (usize, Option<usize>)
         ensures { TellsLength result self.now }
     {
@@ -128,7 +128,7 @@ impl<'map, K, V, A: Allocator> DoubleEndedIterator for KeyValues<'map, K, V, A> 
 }
 
 impl<'map, K, V, A: Allocator> ExactSizeIterator for KeyValues<'map, K, V, A> {
-    #[tactic(auto, using(crate::proofs::AlongLemmas::length_along))]
+    #[tactic(auto, using(crate::proofs::Callers::Along::length_along))]
     fn len(&self) -> usize {
         self.left.length
     }

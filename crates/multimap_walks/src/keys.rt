@@ -70,7 +70,7 @@ impl<'map, K, A: Allocator> Iterator for Keys<'map, K, A> {
         self.step(End::Front)
     }
 
-    #[tactic(auto, using(crate::proofs::AlongLemmas::length_along))]
+    #[tactic(auto, using(crate::proofs::Callers::Along::length_along))]
     fn size_hint(&self) -> (usize, Option<usize>)
         ensures { TellsLength result self.now }
     {
@@ -87,7 +87,7 @@ impl<'map, K, A: Allocator> DoubleEndedIterator for Keys<'map, K, A> {
 }
 
 impl<'map, K, A: Allocator> ExactSizeIterator for Keys<'map, K, A> {
-    #[tactic(auto, using(crate::proofs::AlongLemmas::length_along))]
+    #[tactic(auto, using(crate::proofs::Callers::Along::length_along))]
     fn len(&self) -> usize {
         self.left.length
     }

@@ -72,7 +72,7 @@ impl<'map, K, V, A: Allocator> Iterator for Values<'map, K, V, A> {
         self.step(End::Front)
     }
 
-    #[tactic(auto, using(crate::proofs::AlongLemmas::length_along))]
+    #[tactic(auto, using(crate::proofs::Callers::Along::length_along))]
     fn size_hint(&self) -> (usize, Option<usize>)
         ensures { TellsLength result self.now }
     {
@@ -89,7 +89,7 @@ impl<'map, K, V, A: Allocator> DoubleEndedIterator for Values<'map, K, V, A> {
 }
 
 impl<'map, K, V, A: Allocator> ExactSizeIterator for Values<'map, K, V, A> {
-    #[tactic(auto, using(crate::proofs::AlongLemmas::length_along))]
+    #[tactic(auto, using(crate::proofs::Callers::Along::length_along))]
     fn len(&self) -> usize {
         self.left.length
     }

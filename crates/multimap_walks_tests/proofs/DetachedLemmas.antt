@@ -1,7 +1,7 @@
 -- Values that were detached, and a chain of four.
 use Rattle.std.proofs.Common.{◌≡◌, ℕ, [], ◌∷◌, Some, refl, sym, subst, inl, inr}
 use Rattle.multimap_slots.specs.Slots.{Slots, IsDetached, Detaches}
-use Rattle.multimap_slots.proofs.ListsLemmas.{IsIn-without}
+use Rattle.multimap_slots.proofs.Callers.PlaceLists.{IsIn-without}
 use Rattle.multimap_walks.specs.declared.links.ValueLink.{ValueLink}
 use Rattle.multimap_walks.specs.Chained.{IsDetachedChain, next_place, previous_place}
 

@@ -9,7 +9,7 @@ use Rattle.ordered_multimap.specs.Pairs.{values_of, positions_of, is_present, sa
 use Rattle.ordered_multimap.specs.Keys.{KeepsKeyOrder}
 use Rattle.ordered_multimap.specs.Changes.{appended, inserted, kept, removed, all_appended, built_from, first_occurrences, first_written}
 use Rattle.ordered_multimap.specs.Changes.{end_written}
-use Rattle.ordered_multimap.specs.Pop.{Popped, popped_pair, popped}
+use Rattle.ordered_multimap.specs.Popped.{Popped, popped_pair, popped}
 use Rattle.ordered_multimap.specs.Retain.{Retains}
 use Rattle.ordered_multimap.specs.RemovedAt.{removed_at, value_beside}
 use Rattle.ordered_multimap.specs.Laws.{all_of, staying}

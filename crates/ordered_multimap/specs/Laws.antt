@@ -9,7 +9,7 @@ use Rattle.ordered_multimap.specs.Lists.{IsWellFormed, Lists, lists}
 use Rattle.ordered_multimap.specs.Pairs.{values_of, is_present, same_pairs}
 use Rattle.ordered_multimap.specs.Keys.{stored_key}
 use Rattle.ordered_multimap.specs.Changes.{appended, first_occurrences, built_from}
-use Rattle.ordered_multimap.specs.Pop.{popped_pair, popped}
+use Rattle.ordered_multimap.specs.Popped.{popped_pair, popped}
 
 module _ {K : Type 0} (eq : K → K → Bool) {V : Type 0} where
   -- a pop at the back takes away the pair that was appended, with an owned key where the key was

@@ -8,7 +8,7 @@ use Rattle.std.specs.declared.hash.BuildHasher as builder
 use Rattle.multimap_walks.specs.declared.End.{End}
 use Rattle.ordered_multimap.specs.Changes.{first_written, end_written}
 use Rattle.ordered_multimap.specs.Multimap.{Multimap}
-use Rattle.ordered_multimap.specs.Pops.{map_row}
+use Rattle.ordered_multimap.specs.PopAnswers.{map_row}
 use Rattle.ordered_multimap.specs.Writes.{with_value, with_first, with_end, IsWritten}
 
 module _ (K V S A H : RattleType) (key : HashMembers K.Denot)

@@ -5,7 +5,7 @@ use Rattle.std.specs.List.{enumerate_from}
 use Rattle.std.specs.Option.{UnwrapsOrElse}
 use Rattle.ordered_multimap.specs.Changes.{first_written}
 use Rattle.ordered_multimap.specs.Lists.{Lists, lists}
-use Rattle.ordered_multimap.proofs.WriteLemmas.{first_written-absent}
+use Rattle.ordered_multimap.proofs.Callers.Writes.{first_written-absent}
 use Rattle.ordered_multimap.specs.Pairs.{has_items, is_present, values_of, with_value_at}
 
 module _ {K V : Type 0} (eq : K → K → Bool) (k : K) (v : V) where

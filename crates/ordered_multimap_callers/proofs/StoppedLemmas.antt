@@ -24,7 +24,7 @@ use Rattle.multimap_slots.specs.declared.cells_of.SlotCells.{SlotCells}
 use Rattle.multimap_slots.specs.SlotCells.{lent_slots, LendsSlots}
 use Rattle.multimap_slots.specs.Slots.{Slots, item_at}
 use Rattle.multimap_slots.specs.Lists.{IsIn, AreDistinct, first_of, next_of, previous_of}
-use Rattle.multimap_slots.proofs.TapeLemmas.{IsSome-within}
+use Rattle.multimap_slots.proofs.Callers.Tapes.{IsSome-within}
 use Rattle.multimap_walks.specs.Along.{AreLeft, places_left}
 use Rattle.multimap_walks.specs.Chained.{position_in}
 use Rattle.multimap_walks.specs.Walk.{end_item}
@@ -33,15 +33,15 @@ use Rattle.multimap_walks.specs.declared.End.TheVariants.{Front}
 use Rattle.multimap_walks.specs.declared.links.ChainEnds.{ChainEnds}
 use Rattle.multimap_walks.specs.declared.links.ValueLink.{ValueLink}
 use Rattle.multimap_walks.specs.declared.writing.values.ValuesMut.{ValuesMut}
-use Rattle.multimap_walks.proofs.PathLemmas.{path-is}
-use Rattle.multimap_walks.proofs.SquashLemmas.{read_lends}
+use Rattle.multimap_walks.proofs.Callers.Paths.{path-is}
+use Rattle.multimap_walks.proofs.Callers.Squashed.{read_lends}
 use Rattle.ordered_multimap.specs.Multimap.{Multimap, multimap_code}
 use Rattle.ordered_multimap.specs.Pairs.{all_positions, all_values, with_value_at}
 use Rattle.ordered_multimap.specs.Changes.{end_written}
 use Rattle.ordered_multimap.specs.Exact.{ended_map, ends_exactly, WalksAreExact}
 use Rattle.ordered_multimap.specs.Lists.{Lists, lists}
 use Rattle.ordered_multimap.specs.ValuesLent.{EndsMap, map_row, pairs_ended, with_values_of}
-use Rattle.ordered_multimap.proofs.PlaceLemmas.{held}
+use Rattle.ordered_multimap.proofs.Callers.Places.{held}
 use Rattle.ordered_multimap_callers.specs.Ends.{ends_first_written, ends_with_lists}
 
 heads : {X : Type 0} (x y : X) (xs ys : List X) → x ∷ xs ≡ y ∷ ys → x ≡ y

@@ -9,7 +9,7 @@ use std::alloc::Allocator;
 use std::hash::{BuildHasher, Hash};
 
 /// Each value becomes a copy of this one.
-#[tactic(auto, using(ordered_multimap::proofs::LentLemmas::keys_revalued, ordered_multimap::proofs::LentLemmas::length_revalued))]
+#[tactic(auto, using(ordered_multimap::proofs::Callers::LentValues::keys_revalued, ordered_multimap::proofs::Callers::LentValues::length_revalued))]
 pub fn fill_all<K: Eq + Hash, V: Copy, S: BuildHasher, A: Allocator>(
     map: &mut ListOrderedMultimap<K, V, S, A>,
     value: V,
@@ -25,7 +25,7 @@ pub fn fill_all<K: Eq + Hash, V: Copy, S: BuildHasher, A: Allocator>(
 }
 
 /// The same by a walk over values alone.
-#[tactic(auto, using(ordered_multimap::proofs::LentLemmas::keys_revalued, ordered_multimap::proofs::LentLemmas::length_revalued))]
+#[tactic(auto, using(ordered_multimap::proofs::Callers::LentValues::keys_revalued, ordered_multimap::proofs::Callers::LentValues::length_revalued))]
 pub fn fill_values<K: Eq + Hash, V: Copy, S: BuildHasher, A: Allocator>(
     map: &mut ListOrderedMultimap<K, V, S, A>,
     value: V,
@@ -38,7 +38,7 @@ pub fn fill_values<K: Eq + Hash, V: Copy, S: BuildHasher, A: Allocator>(
 }
 
 /// Each value of the key becomes a copy of this one.
-#[tactic(auto, using(ordered_multimap::proofs::LentLemmas::keys_revalued, ordered_multimap::proofs::LentLemmas::length_revalued))]
+#[tactic(auto, using(ordered_multimap::proofs::Callers::LentValues::keys_revalued, ordered_multimap::proofs::Callers::LentValues::length_revalued))]
 pub fn fill_key<K: Eq + Hash, V: Copy, S: BuildHasher, A: Allocator>(
     map: &mut ListOrderedMultimap<K, V, S, A>,
     key: &K,
@@ -52,7 +52,7 @@ pub fn fill_key<K: Eq + Hash, V: Copy, S: BuildHasher, A: Allocator>(
 }
 
 /// The first and the last value become a copy of this one, while both references live.
-#[tactic(auto, using(ordered_multimap::proofs::LentLemmas::keys_revalued, ordered_multimap::proofs::LentLemmas::length_revalued))]
+#[tactic(auto, using(ordered_multimap::proofs::Callers::LentValues::keys_revalued, ordered_multimap::proofs::Callers::LentValues::length_revalued))]
 pub fn fill_ends<K: Eq + Hash, V: Copy, S: BuildHasher, A: Allocator>(
     map: &mut ListOrderedMultimap<K, V, S, A>,
     value: V,
@@ -71,7 +71,7 @@ pub fn fill_ends<K: Eq + Hash, V: Copy, S: BuildHasher, A: Allocator>(
 }
 
 /// Each value becomes a copy of this one, by a loop over the reference to the map itself.
-#[tactic(auto, using(ordered_multimap::proofs::LentLemmas::keys_revalued, ordered_multimap::proofs::LentLemmas::length_revalued))]
+#[tactic(auto, using(ordered_multimap::proofs::Callers::LentValues::keys_revalued, ordered_multimap::proofs::Callers::LentValues::length_revalued))]
 pub fn fill_by_reference<K: Eq + Hash, V: Copy, S: BuildHasher, A: Allocator>(
     map: &mut ListOrderedMultimap<K, V, S, A>,
     value: V,

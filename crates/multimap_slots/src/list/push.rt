@@ -1,8 +1,8 @@
 //! Room, and items that come into the list.
 ghost use Rattle.std.specs.Prelude.{◌≡◌, ◌<◌, ◌≤◌, ◌+◌, length, IfOk, IfErr, OnOk, OnErr, IsOk, Some, None, get_or, vec_capacity};
 ghost use Rattle.multimap_slots.specs.Slots.{DoublesIfGrown, HasRoomFor, KeepsItems, PushesBack};
-ghost use Rattle.multimap_slots.specs.ListLayout.{GrowsFor, put};
-ghost use Rattle.multimap_slots.specs.Vectors.{Rewrites};
+ghost use Rattle.multimap_slots.specs.Private.ListLayout.{GrowsFor, put};
+ghost use Rattle.multimap_slots.specs.Private.Vectors.{Rewrites};
 
 use super::SlotList;
 use crate::grow::grow_to;

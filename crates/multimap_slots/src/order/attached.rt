@@ -8,7 +8,7 @@ use super::write::{set_listed, set_next};
 use std::alloc::Allocator;
 
 impl<L: Copy, A: Allocator> Order<L, A> {
-    ghost use Rattle.multimap_slots.specs.ListLayout.{Attaches, IsApart, Relists};
+    ghost use Rattle.multimap_slots.specs.Private.ListLayout.{Attaches, IsApart, Relists};
 
     /// Lists the detached place last.
     pub(crate) fn attach(&mut self, place: usize)

@@ -9,7 +9,7 @@ use super::write::{release, set_detached, set_next, set_previous};
 use std::alloc::Allocator;
 
 impl<L: Copy, A: Allocator> Order<L, A> {
-    ghost use Rattle.multimap_slots.specs.ListLayout.{AreAllDetached, Detaches, FreesDetached, IsApart};
+    ghost use Rattle.multimap_slots.specs.Private.ListLayout.{AreAllDetached, Detaches, FreesDetached, IsApart};
     ghost use Rattle.multimap_slots.specs.declared.order.node.State.TheVariants.{Detached, Free};
 
     /// How many places are detached.

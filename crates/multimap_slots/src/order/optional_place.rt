@@ -11,7 +11,7 @@ pub(crate) struct OptionalPlace {
 
 impl Model for OptionalPlace {
     ghost use Rattle.std.specs.Prelude.{ℕ, Option};
-    ghost use Rattle.multimap_slots.specs.OptionalPlace.{place_below, number_above};
+    ghost use Rattle.multimap_slots.specs.Private.OptionalPlace.{place_below, number_above};
 
     ghost Value = { Option ℕ };
 

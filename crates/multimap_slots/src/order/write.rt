@@ -1,7 +1,7 @@
 //! Writes of single nodes. Each leaves the fields that it doesn't name as they were.
 ghost use Rattle.std.specs.Prelude.{◌<◌, length, IfSome, vec_capacity};
-ghost use Rattle.multimap_slots.specs.ListLayout.{SetsNext, SetsPrevious, SetsDetached, SetsListed, Releases, CanClaim, Claims};
-ghost use Rattle.multimap_slots.specs.Vectors.{Rewrites};
+ghost use Rattle.multimap_slots.specs.Private.ListLayout.{SetsNext, SetsPrevious, SetsDetached, SetsListed, Releases, CanClaim, Claims};
+ghost use Rattle.multimap_slots.specs.Private.Vectors.{Rewrites};
 
 use super::node::{Node, State};
 use super::optional_place::OptionalPlace;

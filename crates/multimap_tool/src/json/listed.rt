@@ -8,13 +8,13 @@ ghost use Rattle.serde_json.specs.View.{view, items_view};
 ghost use Rattle.ordered_multimap.specs.End.TheVariants.{Front};
 ghost use Rattle.ordered_multimap.specs.Lists.{IsWellFormed, empty_lists, lists};
 ghost use Rattle.ordered_multimap.specs.Keys.{is_listed};
-ghost use Rattle.ordered_multimap.specs.Pop.{popped_pair};
-ghost use Rattle.ordered_multimap.specs.Pops.{IsPopped, popped_of};
+ghost use Rattle.ordered_multimap.specs.Popped.{popped_pair};
+ghost use Rattle.ordered_multimap.specs.PopAnswers.{IsPopped, popped_of};
 ghost use Rattle.multimap_tool.specs.JsonLists.{AreReadKeys, IsReadKey, IsKeysFault};
 ghost use Rattle.multimap_tool.specs.JsonLists.{IsListedKeyFault, IsPairFault, IsPairsFault};
 ghost use Rattle.multimap_tool.specs.Json.{UnlessMemory};
 ghost use Rattle.multimap_tool.specs.JsonLists.{first_unused};
-ghost use Rattle.multimap_tool.specs.JsonSteps.{AppendsPair, AppendsPairs, AppendsUnder, ReadsInto, is_owned_pop};
+ghost use Rattle.multimap_tool.specs.Private.JsonSteps.{AppendsPair, AppendsPairs, AppendsUnder, ReadsInto, is_owned_pop};
 
 use super::faults::{PartFault, ReadFault};
 use super::items::read_key;

@@ -8,7 +8,7 @@ ghost use Rattle.ordered_multimap.specs.TapeNumbers.{AreUnused};
 ghost use Rattle.multimap_tool.specs.JsonLists.{array_at, both_arrays, has_value};
 ghost use Rattle.multimap_tool.specs.Json.{UnlessMemory};
 ghost use Rattle.multimap_tool.specs.JsonLists.{AreReadLists, IsListsFault, IsPairsFault};
-ghost use Rattle.multimap_tool.specs.JsonSteps.{AnswersLists};
+ghost use Rattle.multimap_tool.specs.Private.JsonSteps.{AnswersLists};
 
 use super::faults::{PartFault, ReadFault};
 use super::items::{read_key, two_parts};

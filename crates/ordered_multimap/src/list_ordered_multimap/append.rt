@@ -2,19 +2,21 @@
 ghost use Rattle.std.specs.Prelude.{◌≡◌, false, length, IfOk, IfErr, OnOk, OnErr, IsOk};
 ghost use Rattle.multimap_slots.specs.Lists.{IsIn};
 ghost use Rattle.multimap_slots.specs.Slots.{HasItem};
-ghost use Rattle.ordered_multimap.specs.Appends.{AppendsBehind, AppendsFirst, FitsOneMore, GrowsFor};
-ghost use Rattle.ordered_multimap.specs.Appends.{HandsBackAt, HasCountedChains, HasListedRows, MakesRoom};
+ghost use Rattle.ordered_multimap.specs.Private.Append.{AppendsBehind, AppendsFirst, FitsOneMore, GrowsFor};
+ghost use Rattle.ordered_multimap.specs.Private.Append.{HandsBackAt, HasCountedChains, HasListedRows, MakesRoom};
 ghost use Rattle.ordered_multimap.specs.Additions.{Appends, IsAppendedAt, RefusesValue};
-ghost use Rattle.ordered_multimap.specs.KeySteps.{KeepsPlace};
+ghost use Rattle.ordered_multimap.specs.Private.KeySteps.{KeepsPlace};
 ghost use Rattle.ordered_multimap.specs.Agrees.{HasKey, hash_of};
-ghost use Rattle.ordered_multimap.specs.Renames.{AreRenamed};
-ghost use Rattle.ordered_multimap.specs.Takes.{HasChain};
+ghost use Rattle.ordered_multimap.specs.Private.Renames.{AreRenamed};
+ghost use Rattle.ordered_multimap.specs.Private.Remove.{HasChain};
 ghost use Rattle.ordered_multimap.specs.Keys.{is_listed};
 ghost use Rattle.ordered_multimap.specs.Pairs.{is_present};
 ghost use Rattle.ordered_multimap.specs.Rooms.{HasValueRoom};
 
+pub(crate) mod steps;
+
+use super::append::steps::{new_link, push_behind, push_row, push_value};
 use super::room::{make_room, make_value_room};
-use super::steps::{new_link, push_behind, push_row, push_value};
 use super::{ListOrderedMultimap, Refused, RefusedValue};
 use multimap_slots::{SlotList, Tape};
 use multimap_table::KeyTable;
@@ -35,7 +37,7 @@ impl<K: Eq + Hash, V, S: BuildHasher, A: Allocator + Copy> ListOrderedMultimap<K
     /// ```
     /// map.append("page", 8)?;
     /// ```
-    #[tactic(auto, using(crate::proofs::RoomLemmas::appended_there, crate::proofs::RoomLemmas::refused_there))]
+    #[tactic(auto, using(crate::proofs::Append::Rooms::appended_there, crate::proofs::Append::Rooms::refused_there))]
     pub fn append(&mut self, key: K, value: V) -> Result<bool, Refused<K, V>>
     where
         K: Drop,
@@ -116,7 +118,7 @@ fn append_behind<K, V: Drop, A: Allocator + Copy>(
 
 /// Appends a key that isn't listed, whose hash is `hash`, with its first value, and answers its
 /// place.
-#[tactic(auto, using(crate::proofs::AppendedLemmas::rows_listed))]
+#[tactic(auto, using(crate::proofs::Append::Appended::rows_listed))]
 fn append_first<K, V: Drop, A: Allocator + Copy>(
     keys: &mut SlotList<K, KeyLink, A>,
     table: &mut KeyTable<A>,

@@ -3,7 +3,7 @@ ghost use Rattle.std.specs.Prelude.{◌≡◌, ◌≤◌, ◌<◌, ℕ, Some, Is
 ghost use Rattle.multimap_slots.specs.Lists.{IsIn};
 ghost use Rattle.multimap_slots.specs.Slots.{link_at};
 ghost use Rattle.multimap_slots.specs.Tapes.{CountsMove};
-ghost use Rattle.ordered_multimap.specs.Renames.{AreChained, Compacts, KeepsCapacities, MendsKey, Renames, renamed, renamed_key};
+ghost use Rattle.ordered_multimap.specs.Private.Renames.{AreChained, Compacts, KeepsCapacities, MendsKey, Renames, renamed, renamed_key};
 
 use super::links::{link_of, set_link, set_next, set_previous};
 use super::lookup::slot_at;

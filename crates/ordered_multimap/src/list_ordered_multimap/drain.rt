@@ -4,6 +4,8 @@ ghost use Rattle.std.specs.Iterator.{at_most, UpTo};
 ghost use Rattle.std.specs.Iterator.SizeHint.{IsWithinCount};
 ghost use Rattle.ordered_multimap.specs.Detaches.{HoldsDrain};
 
+pub(crate) mod steps;
+
 use super::{DefaultState, EntryValues, ListOrderedMultimap, Refused};
 use multimap_walks::End;
 use std::alloc::{Allocator, Global};

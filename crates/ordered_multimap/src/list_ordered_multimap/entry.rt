@@ -3,7 +3,7 @@ ghost use Rattle.std.specs.Prelude.{◌≡◌, true, false};
 ghost use Rattle.ordered_multimap.specs.Agrees.{hash_of};
 ghost use Rattle.ordered_multimap.specs.Keys.{is_listed};
 ghost use Rattle.ordered_multimap.specs.Pairs.{is_present};
-ghost use Rattle.ordered_multimap.specs.Takes.{among};
+ghost use Rattle.ordered_multimap.specs.Private.Remove.{among};
 
 mod methods;
 mod occupied;

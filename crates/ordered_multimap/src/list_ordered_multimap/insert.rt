@@ -1,20 +1,20 @@
 //! Pairs that come last and take the place of all others of their key.
 ghost use Rattle.std.specs.Prelude.{◌≡◌, true, false, Some, slice_get, IfOk, IfErr, OnOk, OnErr, IsOk, ⊤};
 ghost use Rattle.multimap_slots.specs.Lists.{IsIn};
-ghost use Rattle.ordered_multimap.specs.Appends.{HandsBackAt};
+ghost use Rattle.ordered_multimap.specs.Private.Append.{HandsBackAt};
 ghost use Rattle.ordered_multimap.specs.Agrees.{HasKey};
-ghost use Rattle.ordered_multimap.specs.KeySteps.{StaysInRoom};
+ghost use Rattle.ordered_multimap.specs.Private.KeySteps.{StaysInRoom};
 ghost use Rattle.ordered_multimap.specs.Removals.{LosesValues};
-ghost use Rattle.ordered_multimap.specs.Takes.{GrowsForOne, HasFittingChain, Inserts, KeepsNames};
-ghost use Rattle.ordered_multimap.specs.Renames.{KeepsCapacities};
+ghost use Rattle.ordered_multimap.specs.Private.Remove.{GrowsForOne, HasFittingChain, Inserts, KeepsNames};
+ghost use Rattle.ordered_multimap.specs.Private.Renames.{KeepsCapacities};
 ghost use Rattle.ordered_multimap.specs.Pairs.{values_of};
 ghost use Rattle.ordered_multimap.specs.Changes.{inserted};
 ghost use Rattle.ordered_multimap.specs.Rooms.{HasInsertRoom};
 ghost use Rattle.ordered_multimap.specs.Additions.{IsInserted, IsRefused};
 
-use super::leaving::{KeptInPlace, TakenOut};
+use super::remove::chain::push_over;
+use super::remove::leaving::{KeptInPlace, TakenOut};
 use super::room::{make_end_room, make_value_room};
-use super::takes::push_over;
 use super::{ListOrderedMultimap, Refused, RefusedValue};
 use multimap_slots::{SlotList, Tape};
 use multimap_walks::{ChainEnds, KeyLink, ValueLink};
@@ -34,7 +34,7 @@ impl<K: Eq + Hash, V, S: BuildHasher, A: Allocator + Copy> ListOrderedMultimap<K
     /// ```
     /// map.insert("page", 9) == Ok(Some(8))
     /// ```
-    #[tactic(auto, using(crate::proofs::LackLemmas::inserted_there))]
+    #[tactic(auto, using(crate::proofs::Agreement::AbsentKeys::inserted_there))]
     pub fn insert(&mut self, key: K, value: V) -> Result<Option<V>, Refused<K, V>>
     where
         K: Drop,

@@ -4,7 +4,7 @@ ghost use Rattle.std.specs.Iterator.{at_most};
 ghost use Rattle.multimap_slots.specs.Lists.{without};
 ghost use Rattle.multimap_slots.specs.Slots.{KeepsOthers};
 ghost use Rattle.multimap_walks.specs.Chained.{pair_at};
-ghost use Rattle.ordered_multimap.specs.RetainSteps.{IsOwnedAt};
+ghost use Rattle.ordered_multimap.specs.Private.Retain.{IsOwnedAt};
 ghost use Rattle.multimap_walks.specs.Walk.{TellsLength};
 ghost use Rattle.ordered_multimap.specs.IntoIters.{HandsFirst, HandsLast, IsHanded};
 

@@ -2,7 +2,7 @@
 ghost use Rattle.std.specs.Prelude.{◌≡◌, Some, IfSome};
 ghost use Rattle.multimap_slots.specs.Lists.{IsIn};
 ghost use Rattle.multimap_slots.specs.Slots.{IsSound, link_at, with_link};
-ghost use Rattle.ordered_multimap.specs.Renames.{MendsLink};
+ghost use Rattle.ordered_multimap.specs.Private.Renames.{MendsLink};
 
 use super::lookup::value_at;
 use multimap_slots::{SlotList, Tape};

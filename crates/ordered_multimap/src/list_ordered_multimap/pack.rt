@@ -4,11 +4,11 @@ ghost use Rattle.std.specs.Prelude.{◌≡◌, ◌≤◌, ◌<◌, ◌/◌, ℕ,
 ghost use Rattle.std.specs.FinMap.{empty, len};
 ghost use Rattle.multimap_slots.specs.Lists.{IsIn};
 ghost use Rattle.multimap_slots.specs.Slots.{HasRoomFor, IsEmpty, IsSound, link_at};
-ghost use Rattle.ordered_multimap.specs.Appends.{HasListedRows, KeepsTapeRoom};
-ghost use Rattle.ordered_multimap.specs.KeyRenames.{ArePacked, HasRows, HaveCome, HaveGone, IsNewStorage, MovesKey, name_in};
-ghost use Rattle.ordered_multimap.specs.Renames.{AreChained, places_below};
+ghost use Rattle.ordered_multimap.specs.Private.Append.{HasListedRows, KeepsTapeRoom};
+ghost use Rattle.ordered_multimap.specs.Private.KeyRenames.{ArePacked, HasRows, HaveCome, HaveGone, IsNewStorage, MovesKey, name_in};
+ghost use Rattle.ordered_multimap.specs.Private.Renames.{AreChained, places_below};
 ghost use Rattle.ordered_multimap.specs.Rooms.{Packs};
-ghost use Rattle.ordered_multimap.specs.Takes.{KeepsKeyRoom, KeepsRoom};
+ghost use Rattle.ordered_multimap.specs.Private.Remove.{KeepsKeyRoom, KeepsRoom};
 ghost use Rattle.ordered_multimap.specs.TapeNumbers.{AreUnused, numbers_of};
 
 use super::ListOrderedMultimap;

@@ -2,12 +2,12 @@
 ghost use Rattle.std.specs.Prelude.{◌≡◌, option_map};
 ghost use Rattle.std.specs.Borrow.{sem};
 ghost use Rattle.multimap_walks.specs.declared.End.TheVariants.{Front, Back};
-ghost use Rattle.ordered_multimap.specs.Pop.{popped_pair};
-ghost use Rattle.ordered_multimap.specs.Pops.{IsPopped, IsTaken, IsTakenKey, popped_of, ends_same, ends_popped};
-ghost use Rattle.ordered_multimap.specs.TakesOne.{end_of_list};
+ghost use Rattle.ordered_multimap.specs.Popped.{popped_pair};
+ghost use Rattle.ordered_multimap.specs.PopAnswers.{IsPopped, IsTaken, IsTakenKey, popped_of, ends_same, ends_popped};
+ghost use Rattle.ordered_multimap.specs.Private.RemoveOne.{end_of_list};
 
 use super::lookup::slot_at;
-use super::take_one::{Taken, TakenKey, take_pair_at};
+use super::remove::one::{Taken, TakenKey, take_pair_at};
 use super::{KeyWrapper, ListOrderedMultimap};
 use multimap_slots::Tape;
 use multimap_walks::{End, ValueLink};

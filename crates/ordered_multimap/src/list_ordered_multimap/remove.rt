@@ -10,9 +10,14 @@ ghost use Rattle.ordered_multimap.specs.Changes.{removed};
 ghost use Rattle.ordered_multimap.specs.Rooms.{KeepsRooms, SameRooms};
 ghost use Rattle.ordered_multimap.specs.TapeNumbers.{TakesOut};
 
+pub(crate) mod at;
+pub(crate) mod chain;
+pub(crate) mod leaving;
+pub(crate) mod one;
+
 use super::ListOrderedMultimap;
-use super::leaving::TakenOut;
-use super::takes::leave_entry;
+use super::remove::chain::leave_entry;
+use super::remove::leaving::TakenOut;
 use std::alloc::Allocator;
 use std::hash::{BuildHasher, Hash};
 

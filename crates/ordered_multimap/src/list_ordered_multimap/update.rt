@@ -7,9 +7,9 @@ ghost use Rattle.multimap_walks.specs.Chained.{chain_of, pair_at, pairs_of, valu
 ghost use Rattle.ordered_multimap.specs.Agrees.{Agrees};
 ghost use Rattle.ordered_multimap.specs.Pairs.{values_of};
 ghost use Rattle.ordered_multimap.specs.Retain.{Retains};
-ghost use Rattle.ordered_multimap.specs.RetainSteps.{Asks, IsOwnedAt};
+ghost use Rattle.ordered_multimap.specs.Private.Retain.{Asks, IsOwnedAt};
 ghost use Rattle.ordered_multimap.specs.Rooms.{SameNumbers};
-ghost use Rattle.ordered_multimap.specs.UpdateSteps.{KeepsAgreed, RewritesAt, RewritesOne};
+ghost use Rattle.ordered_multimap.specs.Private.Update.{KeepsAgreed, RewritesAt, RewritesOne};
 ghost use Rattle.ordered_multimap.specs.Updates.{AlwaysLeaves, MayUpdate, Updates};
 ghost use Rattle.ordered_multimap.specs.Updates.{AlwaysRewrites, CallableOnEach, MayRewrite};
 ghost use Rattle.ordered_multimap.specs.Updates.{UpdatesKey};

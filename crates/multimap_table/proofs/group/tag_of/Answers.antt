@@ -1,4 +1,4 @@
-use Rattle.multimap_table.specs.Layout.{hash_tag}
+use Rattle.multimap_table.specs.Private.Layout.{hash_tag}
 use Rattle.multimap_table.proofs.group.tag_of.Goals as goal
 
 pub returns-clause-value : goal.returns-clause-value

@@ -1,5 +1,5 @@
 use Rattle.std.proofs.Common.{◌-◌, ◌*◌, ◌≤◌, ◌^◌}
-use Rattle.multimap_table.specs.Layout.{IsGroupCount}
+use Rattle.multimap_table.specs.Private.Layout.{IsGroupCount}
 use Rattle.multimap_table.proofs.grow.groups_for.Given as goal
 
 abbrev pub invariant-loop-count : goal.invariant-loop-count

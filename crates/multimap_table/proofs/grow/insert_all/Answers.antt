@@ -1,7 +1,7 @@
 use Rattle.std.proofs.Common.{◌≡◌, ℕ, ◌+◌, ◌<◌, ◌≤◌, length, take, get_or, refl, sym, ap, ◌∙◌, arith, add-one, length-append, []}
 use Rattle.std.specs.Ordering.{nat_cmp}
 use Rattle.std.specs.FinMap.{FinMap, insert, get}
-use Rattle.multimap_table.specs.Entries.{entries, rows_of, row_at}
+use Rattle.multimap_table.specs.Private.Entries.{entries, rows_of, row_at}
 use Rattle.multimap_table.proofs.EntryLemmas.{room_from_count}
 use Rattle.multimap_table.proofs.RowLemmas.{rows_of-nil}
 use Rattle.multimap_table.proofs.TakeLemmas.{take_fewer, take_full, take_empty, take_whole, rows_of-take_full, rows_of-take_empty}

@@ -1,6 +1,6 @@
 use Rattle.std.proofs.Common.{◌≡◌, length, take}
-use Rattle.multimap_table.specs.Entries.{entries, rows_of}
-use Rattle.multimap_table.specs.Layout.{IsLaidOut}
+use Rattle.multimap_table.specs.Private.Entries.{entries, rows_of}
+use Rattle.multimap_table.specs.Private.Layout.{IsLaidOut}
 use Rattle.multimap_table.proofs.grow.insert_all.Given as goal
 
 abbrev pub invariant-loop-lane : goal.invariant-loop-lane

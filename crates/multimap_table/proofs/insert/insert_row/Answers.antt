@@ -1,5 +1,5 @@
 use Rattle.std.proofs.Common.{rules, ◌≡◌, ℕ, ◌/◌, ◌<◌, List, length, get_or, set, subst, sym, ap, ◌∙◌}
-use Rattle.multimap_table.specs.Layout.{IsLaidOut, Reaches, probe_start}
+use Rattle.multimap_table.specs.Private.Layout.{IsLaidOut, Reaches, probe_start}
 use Rattle.multimap_table.proofs.RowLemmas.{IsPut, put_row}
 use Rattle.multimap_table.proofs.LayoutLemmas.{laid_out_put}
 use Rattle.multimap_table.proofs.insert.insert_row.Goals.{After-rows-1}

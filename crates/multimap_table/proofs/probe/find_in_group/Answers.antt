@@ -1,6 +1,6 @@
 use Rattle.std.proofs.Common.{◌≡◌, ◌+◌, ◌*◌, ◌%◌, false, inl, inr, subst, arith}
-use Rattle.multimap_table.specs.Layout.{IsBitSet}
-use Rattle.multimap_table.specs.Entries.{row_at}
+use Rattle.multimap_table.specs.Private.Layout.{IsBitSet}
+use Rattle.multimap_table.specs.Private.Entries.{row_at}
 use Rattle.multimap_table.proofs.BitLemmas.{no_bit_zero}
 use Rattle.multimap_table.proofs.probe.find_in_group.Goals as goal
 

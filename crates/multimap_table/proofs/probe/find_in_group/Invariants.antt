@@ -1,6 +1,6 @@
 use Rattle.std.proofs.Common.{◌≡◌, ℕ, ◌+◌, ◌*◌, ◌<◌, ◌⊎◌, false, get_or}
-use Rattle.multimap_table.specs.Layout.{IsBitSet, hash_tag}
-use Rattle.multimap_table.specs.Entries.{row_at}
+use Rattle.multimap_table.specs.Private.Layout.{IsBitSet, hash_tag}
+use Rattle.multimap_table.specs.Private.Entries.{row_at}
 use Rattle.multimap_table.proofs.probe.find_in_group.Given as goal
 
 abbrev pub invariant-loop-matches : goal.invariant-loop-matches

@@ -1,8 +1,8 @@
 use Rattle.std.proofs.Common.{ℕ, ◌/◌, false, length, arith}
-use Rattle.multimap_table.specs.Entries.{row_at}
+use Rattle.multimap_table.specs.Private.Entries.{row_at}
 use Rattle.multimap_table.proofs.CycleLemmas.{distance-lt}
 use Rattle.multimap_table.proofs.GroupLemmas.{not_full_from_mask, group_of-lt, missed_one_more, missed_at_stop}
-use Rattle.multimap_table.specs.Layout.{HoldsHash}
+use Rattle.multimap_table.specs.Private.Layout.{HoldsHash}
 use Rattle.multimap_table.proofs.probe.find_lane.Given.{Over}
 use Rattle.multimap_table.proofs.probe.find_lane.Goals.{After-loop-step}
 use Rattle.multimap_table.proofs.probe.find_lane.Goals as goal

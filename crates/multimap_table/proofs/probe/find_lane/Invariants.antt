@@ -1,6 +1,6 @@
 use Rattle.std.proofs.Common.{ℕ, ◌/◌, ◌<◌, false}
-use Rattle.multimap_table.specs.Layout.{distance, group_count, HoldsHash}
-use Rattle.multimap_table.specs.Entries.{row_at}
+use Rattle.multimap_table.specs.Private.Layout.{distance, group_count, HoldsHash}
+use Rattle.multimap_table.specs.Private.Entries.{row_at}
 use Rattle.multimap_table.proofs.probe.find_lane.Given as goal
 
 abbrev pub invariant-loop-step : goal.invariant-loop-step

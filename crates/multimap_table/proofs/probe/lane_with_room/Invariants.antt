@@ -1,5 +1,5 @@
 use Rattle.std.proofs.Common.{ℕ, ◌<◌}
-use Rattle.multimap_table.specs.Layout.{distance, group_count, IsFull}
+use Rattle.multimap_table.specs.Private.Layout.{distance, group_count, IsFull}
 use Rattle.multimap_table.proofs.probe.lane_with_room.Given as goal
 
 abbrev pub invariant-loop-steps : goal.invariant-loop-steps

@@ -1,7 +1,7 @@
 use Rattle.std.proofs.Common.{rules, ◌≡◌, ℕ, ◌/◌, ◌<◌, List, length, get_or, set, subst, sym, ap, ◌∙◌, arith, refl}
 use Rattle.multimap_table.specs.declared.group.Row.{Row}
-use Rattle.multimap_table.specs.Layout.{IsLaidOut, Reaches, Passes}
-use Rattle.multimap_table.specs.Entries.{row_at}
+use Rattle.multimap_table.specs.Private.Layout.{IsLaidOut, Reaches, Passes}
+use Rattle.multimap_table.specs.Private.Entries.{row_at}
 use Rattle.multimap_table.proofs.RowLemmas.{IsErased, erase_row, move_row}
 use Rattle.multimap_table.proofs.GapLemmas.{IsClosing, opened, closed, falls, passed_by}
 use Rattle.multimap_table.proofs.MoveLemmas.{moved_in}

@@ -1,6 +1,6 @@
 use Rattle.std.proofs.Common.{◌≡◌, length}
-use Rattle.multimap_table.specs.Layout.{distance}
-use Rattle.multimap_table.specs.Entries.{entries, rows_of}
+use Rattle.multimap_table.specs.Private.Layout.{distance}
+use Rattle.multimap_table.specs.Private.Entries.{entries, rows_of}
 use Rattle.multimap_table.proofs.GapLemmas.{IsClosing}
 use Rattle.multimap_table.proofs.remove.remove_row.Given as goal
 

@@ -1,7 +1,7 @@
 use Rattle.std.proofs.Common.{◌≡◌, ◌/◌, ◌<◌, length, get_or, subst, ap, ◌∙◌, arith}
 use native.Mathlib.Decide.{dec_lt}
-use Rattle.multimap_table.specs.Entries.{row_at}
-use Rattle.multimap_table.specs.Layout.{Passes, distance, probe_start}
+use Rattle.multimap_table.specs.Private.Entries.{row_at}
+use Rattle.multimap_table.specs.Private.Layout.{Passes, distance, probe_start}
 use Rattle.multimap_table.proofs.remove.row_that_passes.Goals.{then-tags-lane-ne0+else-distance, else-tags-lane-ne0}
 use Rattle.multimap_table.proofs.remove.row_that_passes.Goals as goal
 

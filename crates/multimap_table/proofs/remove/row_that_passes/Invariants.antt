@@ -1,5 +1,5 @@
 use Rattle.std.proofs.Common.{ℕ, ◌*◌, ◌≤◌, ◌<◌, get_or}
-use Rattle.multimap_table.specs.Layout.{Passes}
+use Rattle.multimap_table.specs.Private.Layout.{Passes}
 use Rattle.multimap_table.proofs.remove.row_that_passes.Given as goal
 
 abbrev pub invariant-loop-lane : goal.invariant-loop-lane

@@ -1,6 +1,6 @@
 use Rattle.std.proofs.Common.{◌∙◌, ap}
 use Rattle.multimap_tool.specs.Texts.{text_of}
-use Rattle.multimap_tool.proofs.RunLemmas.{if_ok}
+use Rattle.multimap_tool.proofs.Running.Runs.{if_ok}
 use Rattle.multimap_tool.proofs.execute.answer_commands.Goals as goal
 
 pub returns : goal.returns

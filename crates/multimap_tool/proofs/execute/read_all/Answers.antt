@@ -1,4 +1,4 @@
-use Rattle.multimap_tool.proofs.ReadLemmas.{Consumes-append}
+use Rattle.multimap_tool.proofs.Texts.Reads.{Consumes-append}
 use Rattle.multimap_tool.proofs.execute.read_all.Goals as goal
 
 pub loop-preserved : goal.loop-preserved

@@ -1,7 +1,7 @@
 use Rattle.std.proofs.Common.{nat_eq, subst, rules}
 use Rattle.multimap_tool.specs.Answers.{keeps_at_least}
 use Rattle.multimap_tool.specs.Runs.{IsRun}
-use Rattle.multimap_tool.proofs.RunLemmas.{IsRun-more, if_ok}
+use Rattle.multimap_tool.proofs.Running.Runs.{IsRun-more, if_ok}
 use Rattle.multimap_tool.proofs.execute.run_on_empty.Goals as goal
 
 pub returns : goal.returns

@@ -1,6 +1,6 @@
 use Rattle.std.specs.String.{string_bytes}
 use Rattle.multimap_tool.specs.Texts.{text_of}
-use Rattle.multimap_tool.proofs.FormatLemmas.{replies_on, replies_done}
+use Rattle.multimap_tool.proofs.Texts.Formatted.{replies_on, replies_done}
 use Rattle.multimap_tool.proofs.format.format_replies.Goals as goal
 
 pub loop-reply-preserved : goal.loop-reply-preserved

@@ -1,5 +1,5 @@
 use Rattle.std.specs.String.{string_bytes}
-use Rattle.multimap_tool.proofs.FormatLemmas.{list_after, items_on, items_done}
+use Rattle.multimap_tool.proofs.Texts.Formatted.{list_after, items_on, items_done}
 use Rattle.multimap_tool.proofs.format.push_joined.Goals as goal
 
 pub loop-item-init : goal.loop-item-init

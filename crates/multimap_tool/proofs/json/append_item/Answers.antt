@@ -1,5 +1,5 @@
 use Rattle.std.proofs.Common.{rules}
-use Rattle.multimap_tool.proofs.JsonLemmas.{still_unused}
+use Rattle.multimap_tool.proofs.Callers.JsonParts.{still_unused}
 use Rattle.multimap_tool.proofs.json.append_item.Goals as goal
 
 pub returns-clause-read : goal.returns-clause-read

@@ -4,7 +4,7 @@ use Rattle.serde_json.specs.View.{view, items_view}
 use Rattle.ordered_multimap.specs.Lists.{empty_lists}
 use Rattle.ordered_multimap.specs.Changes.{appended}
 use Rattle.multimap_tool.specs.Json.{pair_json, item_fault, first_fault, IsFound}
-use Rattle.multimap_tool.proofs.JsonLemmas.{fault_behind, found_first, passed_on, one_read, appended_last}
+use Rattle.multimap_tool.proofs.Callers.JsonParts.{fault_behind, found_first, passed_on, one_read, appended_last}
 use Rattle.multimap_tool.proofs.json.append_items.Goals as goal
 
 pub returns-in_err-append_item-clause-fault : goal.returns-in_err-append_item-clause-fault

@@ -1,7 +1,7 @@
 use Rattle.std.proofs.Common.{◌≡◌, suc, ◌+◌, [], ◌∷◌, ◌++◌, map, length, length-append, ap, sym, ◌∙◌, arith}
 use Rattle.serde_json.specs.View.{view}
 use Rattle.multimap_tool.specs.Json.{pair_json}
-use Rattle.multimap_tool.proofs.JsonLemmas.{one_written, none_bad-push}
+use Rattle.multimap_tool.proofs.Callers.JsonParts.{one_written, none_bad-push}
 use Rattle.multimap_tool.proofs.json.to_value.Goals as goal
 
 pub loop-key-preserved : goal.loop-key-preserved

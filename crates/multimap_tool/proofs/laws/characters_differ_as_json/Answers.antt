@@ -1,4 +1,4 @@
-use Rattle.multimap_tool.proofs.CharacterLemmas.{same_character}
+use Rattle.multimap_tool.proofs.Texts.Characters.{same_character}
 use Rattle.multimap_tool.proofs.laws.characters_differ_as_json.Goals as goal
 
 pub returns : goal.returns

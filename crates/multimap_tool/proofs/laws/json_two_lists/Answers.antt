@@ -1,4 +1,4 @@
-use Rattle.multimap_tool.proofs.JsonListsLemmas.{read_lists_back}
+use Rattle.multimap_tool.proofs.JsonValues.BothLists.{read_lists_back}
 use Rattle.multimap_tool.proofs.laws.json_two_lists.Goals as goal
 
 pub returns : goal.returns

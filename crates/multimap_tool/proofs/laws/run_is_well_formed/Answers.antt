@@ -1,5 +1,5 @@
 use Rattle.multimap_tool.specs.Step.{MayKeep}
-use Rattle.multimap_tool.proofs.RunLemmas.{run_well_formed}
+use Rattle.multimap_tool.proofs.Running.Runs.{run_well_formed}
 use Rattle.multimap_tool.proofs.laws.run_is_well_formed.Goals as goal
 
 pub returns : goal.returns

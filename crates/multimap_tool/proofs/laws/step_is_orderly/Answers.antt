@@ -1,5 +1,5 @@
 use Rattle.multimap_tool.specs.Step.{MayKeep}
-use Rattle.multimap_tool.proofs.RunLemmas.{step_orderly}
+use Rattle.multimap_tool.proofs.Running.Runs.{step_orderly}
 use Rattle.multimap_tool.proofs.laws.step_is_orderly.Goals as goal
 
 pub returns : goal.returns

@@ -1,5 +1,5 @@
 use Rattle.std.proofs.Common.{ap}
-use Rattle.multimap_tool.proofs.JsonLemmas.{read_back}
+use Rattle.multimap_tool.proofs.Callers.JsonParts.{read_back}
 use Rattle.multimap_tool.proofs.laws.what_is_written_is_read.Goals as goal
 
 pub returns : goal.returns

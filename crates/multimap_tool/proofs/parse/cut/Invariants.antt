@@ -1,5 +1,5 @@
 use Rattle.std.proofs.Common.{take}
-use Rattle.multimap_tool.specs.Parts.{IsWithout}
+use Rattle.multimap_tool.specs.Private.Parts.{IsWithout}
 use Rattle.multimap_tool.proofs.parse.cut.Given as goal
 
 -- no separator so far

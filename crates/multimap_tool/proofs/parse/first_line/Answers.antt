@@ -1,6 +1,6 @@
 use Rattle.std.proofs.Common.{◌∙◌, ap, length, arith}
 use Rattle.multimap_tool.specs.Spelling.{lines_of}
-use Rattle.multimap_tool.proofs.LineLemmas.{lines_of-feed, lines_of-last}
+use Rattle.multimap_tool.proofs.Texts.Lines.{lines_of-feed, lines_of-last}
 use Rattle.multimap_tool.proofs.parse.first_line.Goals as goal
 
 pub returns-in-Some-clause-lines : goal.returns-in-Some-clause-lines

@@ -1,5 +1,5 @@
 use Rattle.std.proofs.Common.{arith}
-use Rattle.multimap_tool.proofs.LineLemmas.{read_more, read_bad}
+use Rattle.multimap_tool.proofs.Texts.Lines.{read_more, read_bad}
 use Rattle.multimap_tool.proofs.parse.parse_commands.Goals as goal
 
 pub returns-in-None-clause-fault : goal.returns-in-None-clause-fault

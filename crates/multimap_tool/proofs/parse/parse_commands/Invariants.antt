@@ -1,5 +1,5 @@
 use Rattle.std.proofs.Common.{◌≤◌, ◌+◌, length, vec_len}
-use Rattle.multimap_tool.proofs.LineLemmas.{IsReadTo}
+use Rattle.multimap_tool.proofs.Texts.Lines.{IsReadTo}
 use Rattle.multimap_tool.proofs.parse.parse_commands.Given as goal
 
 abbrev pub invariant-loop-rest : goal.invariant-loop-rest

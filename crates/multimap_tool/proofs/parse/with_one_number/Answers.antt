@@ -4,8 +4,8 @@ use Rattle.std.proofs.lemmas.Int.{to_z-of_z}
 use Rattle.std.proofs.lemmas.List.{append-nil}
 use Rattle.std.specs.Fmt.{decimal, signed_decimal}
 use Rattle.multimap_tool.specs.Spelling.{key_operand, value_operand}
-use Rattle.multimap_tool.specs.Parts.{IsCommandOf}
-use Rattle.multimap_tool.proofs.ReadingLemmas.{IsValueText, bad_with_one, reading, spelled, word_is_no_value}
+use Rattle.multimap_tool.specs.Private.Parts.{IsCommandOf}
+use Rattle.multimap_tool.proofs.Texts.Spelled.{IsValueText, bad_with_one, reading, spelled, word_is_no_value}
 use Rattle.multimap_tool.proofs.parse.with_one_number.Goals as goal
 
 pub returns-in-Some : goal.returns-in-Some

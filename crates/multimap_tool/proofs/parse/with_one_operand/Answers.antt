@@ -1,7 +1,7 @@
 use Rattle.std.proofs.Common.{◌++◌, ◌∷◌, [], sym, ap, ◌∙◌}
 use Rattle.std.proofs.lemmas.List.{append-nil}
 use Rattle.multimap_tool.specs.Spelling.{word_operand}
-use Rattle.multimap_tool.proofs.ReadingLemmas.{IsValueText, bad_with_one, reading, key_is_value}
+use Rattle.multimap_tool.proofs.Texts.Spelled.{IsValueText, bad_with_one, reading, key_is_value}
 use Rattle.multimap_tool.proofs.parse.with_one_operand.Goals as goal
 
 pub returns-in_default-2 : goal.returns-in_default-2

@@ -1,7 +1,7 @@
 use Rattle.std.proofs.Common.{◌++◌, ◌∷◌, [], sym, ◌∙◌, arith}
 use Rattle.std.proofs.lemmas.List.{append-nil}
 use Rattle.multimap_tool.specs.Spelling.{key_operand, word_operand}
-use Rattle.multimap_tool.proofs.ReadingLemmas.{bad_with_two, key_is_value, reading}
+use Rattle.multimap_tool.proofs.Texts.Spelled.{bad_with_two, key_is_value, reading}
 use Rattle.multimap_tool.proofs.parse.with_two_operands.Goals as goal
 
 pub returns-in_default : goal.returns-in_default

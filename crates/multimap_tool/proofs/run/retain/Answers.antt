@@ -1,5 +1,5 @@
 use Rattle.std.proofs.Common.{inl, rules}
-use Rattle.ordered_multimap.proofs.RetainedLemmas.{Retains-same}
+use Rattle.ordered_multimap.proofs.Callers.Retained.{Retains-same}
 use Rattle.multimap_tool.proofs.run.retain.Goals as goal
 
 pub returns : goal.returns

@@ -3,9 +3,9 @@ use Rattle.std.specs.Prelude.{Contains}
 use Rattle.std.proofs.lemmas.List.{take_more, take_all}
 use Rattle.multimap_tool.specs.Runs.{IsRun}
 use Rattle.multimap_tool.specs.RunRooms.{FindsRoom, HasRunRoom}
-use Rattle.multimap_tool.proofs.RoomLemmas.{GrowsByOne, step_grows, FindsRoom-push}
-use Rattle.multimap_tool.proofs.GroupLemmas.{addition_finds}
-use Rattle.multimap_tool.proofs.RunLemmas.{IsRun-push}
+use Rattle.multimap_tool.proofs.Running.Rooms.{GrowsByOne, step_grows, FindsRoom-push}
+use Rattle.multimap_tool.proofs.Running.Groups.{addition_finds}
+use Rattle.multimap_tool.proofs.Running.Runs.{IsRun-push}
 use Rattle.multimap_tool.proofs.run.run_all.Goals as goal
 
 pub loop-command-init : goal.loop-command-init

@@ -1,5 +1,5 @@
-use Rattle.multimap_tool.proofs.GroupLemmas.{IsInPlace-else, makes_no_unused}
-use Rattle.multimap_tool.proofs.RunLemmas.{IsStep-own}
+use Rattle.multimap_tool.proofs.Running.Groups.{IsInPlace-else, makes_no_unused}
+use Rattle.multimap_tool.proofs.Running.Runs.{IsStep-own}
 use Rattle.multimap_tool.proofs.run.step.Goals as goal
 
 pub step_in_place-requires : goal.step_in_place-requires

@@ -1,5 +1,5 @@
 use Rattle.std.proofs.Common.{arith, refl}
-use Rattle.multimap_walks.proofs.AlongLemmas.{end_listed, left_after, takes_end}
+use Rattle.multimap_walks.proofs.Callers.Along.{end_listed, left_after, takes_end}
 use Rattle.multimap_walks.proofs.left.take.Goals as goal
 
 pub neighbour-requires : goal.neighbour-requires

@@ -1,5 +1,5 @@
 use Rattle.multimap_slots.specs.SlotCells.{lent_slots}
-use Rattle.multimap_walks.proofs.AlongLemmas.{left_all}
+use Rattle.multimap_walks.proofs.Callers.Along.{left_all}
 use Rattle.multimap_walks.proofs.WritingLemmas.{all_untaken}
 use Rattle.multimap_walks.proofs.writing.all_of.Goals as goal
 

@@ -1,7 +1,7 @@
 use Rattle.std.proofs.Common.{arith, ap, rules, sym, unwrap_or}
 use Rattle.multimap_slots.specs.SlotCells.{lent_slots}
 use Rattle.multimap_walks.specs.Ends.{end_place}
-use Rattle.multimap_walks.proofs.AlongLemmas.{left_after, takes_end}
+use Rattle.multimap_walks.proofs.Callers.Along.{left_after, takes_end}
 use Rattle.multimap_walks.proofs.WritingLemmas.{end_is_left, neighbour_is_left, neighbour_stands}
 use Rattle.multimap_walks.proofs.writing.rest_after.Goals as goal
 

@@ -1,4 +1,4 @@
-use Rattle.ordered_multimap.proofs.DropLemmas.{filters_chains}
+use Rattle.ordered_multimap.proofs.Detach.Dropped.{filters_chains}
 use Rattle.ordered_multimap.proofs.laws.chain_is_filter.Goals as goal
 
 pub returns : goal.returns

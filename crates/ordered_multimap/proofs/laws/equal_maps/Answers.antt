@@ -1,4 +1,4 @@
-use Rattle.ordered_multimap.proofs.EqualLemmas.{compares_pairs}
+use Rattle.ordered_multimap.proofs.Walks.EqualPairs.{compares_pairs}
 use Rattle.ordered_multimap.proofs.laws.equal_maps.Goals as goal
 
 pub returns : goal.returns

@@ -1,4 +1,4 @@
-use Rattle.ordered_multimap.proofs.LawLemmas.{rebuilt}
+use Rattle.ordered_multimap.proofs.Callers.Laws.{rebuilt}
 use Rattle.ordered_multimap.proofs.laws.json_first_occurrence.Goals as goal
 
 pub returns : goal.returns

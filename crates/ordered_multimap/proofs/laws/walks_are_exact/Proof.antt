@@ -16,7 +16,7 @@ use denote.Steps.{nothing}
 use denote.Triple.Walked.{Stays, walk_of}
 use Rattle.std.proofs.raw_atomic.Walks.{proved_at, leaves}
 use Rattle.ordered_multimap.specs.Exact.{WalksAreExact}
-use Rattle.ordered_multimap.proofs.ExactLemmas.{walks_are_exact}
+use Rattle.ordered_multimap.proofs.Loans.Exact.{walks_are_exact}
 use Rattle.ordered_multimap.specs.contracts.laws.walks_are_exact as F
 use Rattle.ordered_multimap.specs.contracts.laws.walks_are_exact.Key.{name as #self}
 use Rattle.ordered_multimap.proofs.laws.walks_are_exact.Statement.{statement}

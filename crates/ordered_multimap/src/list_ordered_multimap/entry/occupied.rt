@@ -1,5 +1,5 @@
 //! The calls of an entry of a key that is present.
-#![tactic(auto, using(crate::proofs::TakingLemmas::among_in, crate::proofs::TakingLemmas::in_among))]
+#![tactic(auto, using(crate::proofs::Remove::ValueByValue::among_in, crate::proofs::Remove::ValueByValue::in_among))]
 
 ghost use Rattle.std.specs.Prelude.{◌≡◌, ◌<◌, Some, length, slice_get};
 ghost use Rattle.std.specs.Prelude.{OnOk, IfOk, IfErr, IsOk};

@@ -1,5 +1,5 @@
 //! The call of an entry of a key that is present which takes one of several values out.
-#![tactic(auto, using(crate::proofs::TakingLemmas::among_in, crate::proofs::TakingLemmas::in_among))]
+#![tactic(auto, using(crate::proofs::Remove::ValueByValue::among_in, crate::proofs::Remove::ValueByValue::in_among))]
 
 ghost use Rattle.std.specs.Prelude.{◌≡◌, cond, is_some};
 ghost use Rattle.ordered_multimap.specs.Entries.{IsOccupiedBy, IsSameEntryInRoom};

@@ -1,7 +1,7 @@
 use Rattle.std.proofs.Common.{false, ap, ◌∙◌, rules}
 use Rattle.std.proofs.lemmas.Map.Made.{filter_same_pairs}
 use Rattle.ordered_multimap.specs.Changes.{kept}
-use Rattle.ordered_multimap.proofs.RetainedLemmas.{RetainsPairs-retains, kept-named_by, kept-none}
+use Rattle.ordered_multimap.proofs.Callers.Retained.{RetainsPairs-retains, kept-named_by, kept-none}
 use Rattle.ordered_multimap_callers.proofs.retained.keep_none.Goals as goal
 
 pub returns : goal.returns

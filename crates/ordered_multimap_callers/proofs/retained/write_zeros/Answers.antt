@@ -1,6 +1,6 @@
 use Rattle.std.proofs.Common.{rules}
 use Rattle.std.proofs.lemmas.Map.Made.{map_same_pairs}
-use Rattle.ordered_multimap.proofs.RetainedLemmas.{RetainsPairs-retains}
+use Rattle.ordered_multimap.proofs.Callers.Retained.{RetainsPairs-retains}
 use Rattle.ordered_multimap_callers.proofs.retained.write_zeros.Goals as goal
 
 pub returns : goal.returns

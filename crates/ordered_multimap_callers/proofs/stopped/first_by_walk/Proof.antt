@@ -42,7 +42,7 @@ use Rattle.multimap_walks.proofs.writing.values.ValuesMut.TheLaws as W-laws
 use Rattle.ordered_multimap.specs.Exact.{ends_exactly, WalksAreExact}
 use Rattle.ordered_multimap.specs.Pairs.{all_positions, all_values}
 use Rattle.ordered_multimap.specs.ValuesLent.{EndsMap, with_values_of}
-use Rattle.ordered_multimap.proofs.Pairs.{both, both_typed, pair_out}
+use Rattle.ordered_multimap.proofs.Callers.PairsByValue.{both, both_typed, pair_out}
 use Rattle.ordered_multimap.specs.contracts.list_ordered_multimap.ListOrderedMultimap as Map
 use Rattle.ordered_multimap_callers.specs.Ends.{ends_first_written}
 use Rattle.ordered_multimap_callers.proofs.StoppedLemmas.{ends_first, front_value, law_at, some_left}

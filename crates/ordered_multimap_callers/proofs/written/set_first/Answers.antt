@@ -3,7 +3,7 @@ use Rattle.std.specs.Option.{option_copied_mut}
 use Rattle.ordered_multimap.specs.Changes.{first_written}
 use Rattle.ordered_multimap.specs.Pairs.{values_of}
 use Rattle.ordered_multimap.specs.Writes.{IsWritten}
-use Rattle.ordered_multimap.proofs.WriteLemmas.{first_written-absent}
+use Rattle.ordered_multimap.proofs.Callers.Writes.{first_written-absent}
 use Rattle.ordered_multimap_callers.proofs.written.set_first.Goals as goal
 
 pub returns-in-Some-clause-lists : goal.returns-in-Some-clause-lists

@@ -30,7 +30,7 @@ use Rattle.std.proofs.raw_atomic.Walks.{proved}
 use Rattle.std.specs.contracts.marker.PhantomData as Mark
 use Rattle.multimap_slots.specs.Ownership.{cells_lent}
 use Rattle.multimap_slots.specs.contracts.cells.Cells as C
-use Rattle.multimap_slots.proofs.CellsFields.{cells_val, Words, told, words_open}
+use Rattle.multimap_slots.proofs.Loans.CellsFields.{cells_val, Words, told, words_open}
 use Rattle.multimap_slots.specs.contracts.cells.Cells.len as F
 use Rattle.multimap_slots.specs.contracts.cells.Cells.len.Key.{name as #self}
 use Rattle.multimap_slots.proofs.cells.Cells.len.Statement.{statement}

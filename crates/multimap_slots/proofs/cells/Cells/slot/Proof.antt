@@ -42,9 +42,9 @@ use Rattle.std.proofs.option.Option.TheLaws as Opt-laws
 use Rattle.multimap_slots.specs.Ownership.{cells_lent}
 use Rattle.multimap_slots.specs.Taken.{CanTake}
 use Rattle.multimap_slots.specs.contracts.cells.Cells as C
-use Rattle.multimap_slots.proofs.Loans.{times_below, one_below}
-use Rattle.multimap_slots.proofs.Sharing.{slot_seen}
-use Rattle.multimap_slots.proofs.CellsFields.{cells_val, Words, told, words_open}
+use Rattle.multimap_slots.proofs.Loans.OneLoan.{times_below, one_below}
+use Rattle.multimap_slots.proofs.Loans.Sharing.{slot_seen}
+use Rattle.multimap_slots.proofs.Loans.CellsFields.{cells_val, Words, told, words_open}
 use Rattle.multimap_slots.specs.contracts.cells.Cells.slot as F
 use Rattle.multimap_slots.specs.contracts.cells.Cells.slot.Key.{name as #self}
 use Rattle.multimap_slots.proofs.cells.Cells.slot.Statement.{statement}

@@ -22,8 +22,8 @@ use Rattle.std.proofs.raw_atomic.Walks.{proved_at, leaves}
 use Rattle.multimap_slots.specs.Ended.{ends_with}
 use Rattle.multimap_slots.specs.contracts.cells_of.SlotCells as S
 use Rattle.multimap_slots.proofs.cells_of.SlotCells.TheLaws as S-laws
-use Rattle.multimap_slots.proofs.Ended.{one_of}
-use Rattle.multimap_slots.proofs.Renamed.{slot_cells_end}
+use Rattle.multimap_slots.proofs.Lending.Ended.{one_of}
+use Rattle.multimap_slots.proofs.Lending.Renamed.{slot_cells_end}
 use Rattle.multimap_slots.specs.contracts.cells_of.SlotCells.end as F
 use Rattle.multimap_slots.specs.contracts.cells_of.SlotCells.end.Key.{name as #self}
 use Rattle.multimap_slots.proofs.cells_of.SlotCells.end.Statement.{statement}

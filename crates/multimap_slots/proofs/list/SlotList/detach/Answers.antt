@@ -1,6 +1,6 @@
 use Rattle.std.proofs.Common.{refl}
-use Rattle.multimap_slots.proofs.ChangesLemmas.{Detaches-kept}
-use Rattle.multimap_slots.proofs.FilledLemmas.{IsFilled-detach}
+use Rattle.multimap_slots.proofs.Changes.SlotLists.{Detaches-kept}
+use Rattle.multimap_slots.proofs.Changes.Filled.{IsFilled-detach}
 use Rattle.multimap_slots.proofs.list.SlotList.detach.Goals as goal
 
 pub invariant_of-self : goal.invariant_of-self

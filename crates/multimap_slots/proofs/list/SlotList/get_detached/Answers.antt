@@ -1,6 +1,6 @@
 use Rattle.std.proofs.Common.{None, arith, sym, ◌∙◌}
 use Rattle.std.proofs.lemmas.List.{get_or_default}
-use Rattle.multimap_slots.proofs.FilledLemmas.{some_within, some_not_free}
+use Rattle.multimap_slots.proofs.Changes.Filled.{some_within, some_not_free}
 use Rattle.multimap_slots.proofs.list.SlotList.get_detached.Goals as goal
 
 pub index-requires : goal.index-requires

@@ -1,4 +1,4 @@
-use Rattle.multimap_slots.proofs.FilledLemmas.{IsFilled-moved}
+use Rattle.multimap_slots.proofs.Changes.Filled.{IsFilled-moved}
 use Rattle.multimap_slots.proofs.list.SlotList.move_to_back.Goals as goal
 
 pub invariant_of-self : goal.invariant_of-self

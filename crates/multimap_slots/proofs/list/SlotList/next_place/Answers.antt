@@ -1,5 +1,5 @@
 use Rattle.std.proofs.Common.{sym}
-use Rattle.multimap_slots.proofs.ListsLemmas.{next_of-absent}
+use Rattle.multimap_slots.proofs.Callers.PlaceLists.{next_of-absent}
 use Rattle.multimap_slots.proofs.list.SlotList.next_place.Goals as goal
 
 pub returns-else-is_listed : goal.returns-else-is_listed

@@ -1,5 +1,5 @@
 use Rattle.std.proofs.Common.{sym}
-use Rattle.multimap_slots.proofs.ListsLemmas.{previous_of-absent}
+use Rattle.multimap_slots.proofs.Callers.PlaceLists.{previous_of-absent}
 use Rattle.multimap_slots.proofs.list.SlotList.previous_place.Goals as goal
 
 pub returns-else-is_listed : goal.returns-else-is_listed

@@ -1,6 +1,6 @@
 use Rattle.std.proofs.Common.{arith}
-use Rattle.multimap_slots.proofs.ChangesLemmas.{PushesBack-put}
-use Rattle.multimap_slots.proofs.FilledLemmas.{IsFilled-push, empty_absent}
+use Rattle.multimap_slots.proofs.Changes.SlotLists.{PushesBack-put}
+use Rattle.multimap_slots.proofs.Changes.Filled.{IsFilled-push, empty_absent}
 use Rattle.multimap_slots.proofs.list.SlotList.push_reserved.Goals as goal
 
 pub invariant_of-self : goal.invariant_of-self

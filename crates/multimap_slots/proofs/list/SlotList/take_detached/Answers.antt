@@ -1,8 +1,8 @@
 use Rattle.std.proofs.Common.{None, ap, set, subst, sym, ◌∙◌}
 use Rattle.std.proofs.lemmas.List.{get_or_default}
 use Rattle.multimap_slots.specs.Lists.{IsIn}
-use Rattle.multimap_slots.proofs.ChangesLemmas.{TakesDetached-set}
-use Rattle.multimap_slots.proofs.FilledLemmas.{some_within, IsFilled-free}
+use Rattle.multimap_slots.proofs.Changes.SlotLists.{TakesDetached-set}
+use Rattle.multimap_slots.proofs.Changes.Filled.{some_within, IsFilled-free}
 use Rattle.multimap_slots.proofs.list.SlotList.take_detached.Goals as goal
 
 pub invariant_of-self : goal.invariant_of-self

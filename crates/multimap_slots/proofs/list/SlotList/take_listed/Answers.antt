@@ -1,7 +1,7 @@
 use Rattle.std.proofs.Common.{None, ap, arith, refl, set, sym, ◌∙◌}
 use Rattle.std.proofs.lemmas.List.{get_or_default}
-use Rattle.multimap_slots.proofs.ChangesLemmas.{Removes-set}
-use Rattle.multimap_slots.proofs.FilledLemmas.{filled_within, IsFilled-remove}
+use Rattle.multimap_slots.proofs.Changes.SlotLists.{Removes-set}
+use Rattle.multimap_slots.proofs.Changes.Filled.{filled_within, IsFilled-remove}
 use Rattle.multimap_slots.proofs.list.SlotList.take_listed.Goals as goal
 
 pub index_mut-requires : goal.index_mut-requires

@@ -1,5 +1,5 @@
 use Rattle.std.proofs.Common.{arith}
-use Rattle.multimap_slots.proofs.FilledLemmas.{filled_within}
+use Rattle.multimap_slots.proofs.Changes.Filled.{filled_within}
 use Rattle.multimap_slots.proofs.list.SlotList.used_slots.Goals as goal
 
 pub returns : goal.returns

@@ -1,5 +1,5 @@
 use Rattle.std.proofs.Common.{arith, refl, sym, ◌∙◌}
-use Rattle.multimap_slots.proofs.PutLemmas.{put-set, put-push}
+use Rattle.multimap_slots.proofs.Changes.Put.{put-set, put-push}
 use Rattle.multimap_slots.proofs.list.push.put_item.Goals as goal
 
 pub returns-then-place-len : goal.returns-then-place-len

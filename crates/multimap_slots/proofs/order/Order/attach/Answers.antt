@@ -1,7 +1,7 @@
 use Rattle.std.proofs.Common.{◌∷◌, [], ◌++◌, ap, sym, ◌∙◌, arith, rules}
-use Rattle.multimap_slots.proofs.OrderLemmas.{apart-is, apart-some, back-is, last-within, taken-within, walk-order}
-use Rattle.multimap_slots.proofs.PushLemmas.{IsOrdered-attach, length-listed}
-use Rattle.multimap_slots.proofs.NodeLemmas.{within_more}
+use Rattle.multimap_slots.proofs.Nodes.Linked.{apart-is, apart-some, back-is, last-within, taken-within, walk-order}
+use Rattle.multimap_slots.proofs.Nodes.Pushed.{IsOrdered-attach, length-listed}
+use Rattle.multimap_slots.proofs.Nodes.OneField.{within_more}
 use Rattle.multimap_slots.proofs.order.Order.attach.Goals as goal
 
 pub some-end-requires : goal.some-end-requires

@@ -1,10 +1,11 @@
 use Rattle.std.proofs.Common.{None, ap, set, ◌∙◌, arith, length, rules}
 use Rattle.std.proofs.lemmas.List.{length-map}
 use Rattle.multimap_slots.specs.declared.order.node.State.TheVariants.{Detached}
-use Rattle.multimap_slots.proofs.DetachedLemmas.{detached-apart}
-use Rattle.multimap_slots.proofs.NodeLemmas.{field_read, length-states, within_more}
-use Rattle.multimap_slots.proofs.OrderLemmas.{split_at, split_in, split_within, neighbours, first-within, last-within, listed-within, walk-length}
-use Rattle.multimap_slots.proofs.LeaveLemmas.{IsOrdered-detach, walk-removed, length-walk_removed, was_before, was_behind}
+use Rattle.multimap_slots.proofs.Nodes.Detached.{detached-apart}
+use Rattle.multimap_slots.proofs.Nodes.OneField.{field_read, length-states, within_more}
+use Rattle.multimap_slots.proofs.Nodes.Linked.{split_at, split_in, split_within, neighbours, first-within, last-within, listed-within}
+use Rattle.multimap_slots.proofs.Nodes.Linked.{walk-length}
+use Rattle.multimap_slots.proofs.Nodes.Left.{IsOrdered-detach, walk-removed, length-walk_removed, was_before, was_behind}
 use Rattle.multimap_slots.proofs.order.Order.detach.Goals as goal
 
 pub index-requires : goal.index-requires
@@ -71,6 +72,12 @@ returns g c =
       };
       shorter = length-walk_removed c.self.invariant s removed;
       detached = omega arith;
-      among = rw length-map (omega (arith, c.self.invariant.total, walk-length c.self.invariant, length-walk_removed c.self.invariant s removed));
+      among = rw length-map (omega (
+        arith,
+        c.self.invariant.total,
+        walk-length c.self.invariant,
+        length-walk_removed c.self.invariant s
+            removed,
+      ));
       fits = rw length-map (omega (arith, c.self.inside.nodes.ok));
     })

@@ -1,5 +1,5 @@
 use Rattle.std.proofs.Common.{arith}
-use Rattle.multimap_slots.proofs.DetachedLemmas.{detached_counted}
+use Rattle.multimap_slots.proofs.Nodes.Detached.{detached_counted}
 use Rattle.multimap_slots.proofs.order.Order.detached.Goals as goal
 
 pub returns-clause-counted : goal.returns-clause-counted

@@ -1,6 +1,6 @@
 use Rattle.std.proofs.Common.{arith}
-use Rattle.multimap_slots.proofs.NodeLemmas.{link_read}
-use Rattle.multimap_slots.proofs.OrderLemmas.{taken-within}
+use Rattle.multimap_slots.proofs.Nodes.OneField.{link_read}
+use Rattle.multimap_slots.proofs.Nodes.Linked.{taken-within}
 use Rattle.multimap_slots.proofs.order.Order.detached_link.Goals as goal
 
 pub index-requires : goal.index-requires

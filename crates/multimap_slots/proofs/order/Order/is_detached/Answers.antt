@@ -1,6 +1,6 @@
 use Rattle.std.proofs.Common.{arith, refl, sym, ◌∙◌}
 use Rattle.multimap_slots.specs.declared.order.node.State.TheVariants.{Free}
-use Rattle.multimap_slots.proofs.NodeLemmas.{field_read}
+use Rattle.multimap_slots.proofs.Nodes.OneField.{field_read}
 use Rattle.multimap_slots.proofs.order.Order.is_detached.Goals as goal
 
 pub returns-in-Detached : goal.returns-in-Detached

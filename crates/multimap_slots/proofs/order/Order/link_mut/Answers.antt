@@ -1,7 +1,7 @@
 use Rattle.std.proofs.Common.{refl, arith}
 use Rattle.std.proofs.lemmas.List.{map-set}
-use Rattle.multimap_slots.proofs.NodeLemmas.{link_read, nexts-relink, states-relink}
-use Rattle.multimap_slots.proofs.OrderLemmas.{listed-within, IsOrdered-relink}
+use Rattle.multimap_slots.proofs.Nodes.OneField.{link_read, nexts-relink, states-relink}
+use Rattle.multimap_slots.proofs.Nodes.Linked.{listed-within, IsOrdered-relink}
 use Rattle.multimap_slots.proofs.order.Order.link_mut.Goals as goal
 
 pub index_mut-requires : goal.index_mut-requires

@@ -1,4 +1,4 @@
-use Rattle.multimap_slots.proofs.OrderLemmas.{IsOrdered-empty}
+use Rattle.multimap_slots.proofs.Nodes.Linked.{IsOrdered-empty}
 use Rattle.multimap_slots.proofs.order.Order.over.Goals as goal
 
 pub invariant_of-result : goal.invariant_of-result

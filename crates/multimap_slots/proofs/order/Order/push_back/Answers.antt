@@ -1,10 +1,10 @@
 use Rattle.std.proofs.Common.{◌∷◌, [], ◌++◌, refl, ap, sym, ◌∙◌, arith}
 use Rattle.std.proofs.lemmas.List.{length-map}
-use Rattle.multimap_slots.specs.ListLayout.{states, links}
-use Rattle.multimap_slots.proofs.PutLemmas.{map-put, length-put}
-use Rattle.multimap_slots.proofs.NodeLemmas.{within_more}
-use Rattle.multimap_slots.proofs.OrderLemmas.{back-is, last-within, walk-length, walk-order}
-use Rattle.multimap_slots.proofs.PushLemmas.{IsOrdered-push}
+use Rattle.multimap_slots.specs.Private.ListLayout.{states, links}
+use Rattle.multimap_slots.proofs.Changes.Put.{map-put, length-put}
+use Rattle.multimap_slots.proofs.Nodes.OneField.{within_more}
+use Rattle.multimap_slots.proofs.Nodes.Linked.{back-is, last-within, walk-length, walk-order}
+use Rattle.multimap_slots.proofs.Nodes.Pushed.{IsOrdered-push}
 use Rattle.multimap_slots.proofs.order.Order.push_back.Goals as goal
 
 pub claim-place-requires : goal.claim-place-requires

@@ -1,6 +1,6 @@
 use Rattle.std.proofs.Common.{arith}
 use Rattle.std.proofs.lemmas.List.{length-map}
-use Rattle.multimap_slots.proofs.OrderLemmas.{walk-length}
+use Rattle.multimap_slots.proofs.Nodes.Linked.{walk-length}
 use Rattle.multimap_slots.proofs.order.Order.vacant.Goals as goal
 
 pub returns : goal.returns

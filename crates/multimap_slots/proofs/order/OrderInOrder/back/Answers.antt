@@ -1,6 +1,6 @@
 use Rattle.std.proofs.Common.{ap, sym, ◌∙◌}
 use Rattle.multimap_slots.specs.Lists.{last_of}
-use Rattle.multimap_slots.proofs.OrderLemmas.{back-is, walk-order}
+use Rattle.multimap_slots.proofs.Nodes.Linked.{back-is, walk-order}
 use Rattle.multimap_slots.proofs.order.OrderInOrder.back.Goals as goal
 
 pub returns : goal.returns

@@ -1,9 +1,9 @@
 use Rattle.std.proofs.Common.{arith, sym, subst, ◌∙◌}
 use Rattle.std.proofs.lemmas.List.{length-map}
 use Rattle.multimap_slots.specs.Lists.{IsIn, AreDistinct}
-use Rattle.multimap_slots.proofs.DetachedLemmas.{count_detached-none}
-use Rattle.multimap_slots.proofs.OrderLemmas.{split_at, split_within, walk-length, walk-order}
-use Rattle.multimap_slots.proofs.PutLemmas.{slice_get-IsSome}
+use Rattle.multimap_slots.proofs.Nodes.Detached.{count_detached-none}
+use Rattle.multimap_slots.proofs.Nodes.Linked.{split_at, split_within, walk-length, walk-order}
+use Rattle.multimap_slots.proofs.Changes.Put.{slice_get-IsSome}
 use Rattle.multimap_slots.proofs.order.OrderInOrder.len.Goals as goal
 
 pub returns-clause-len : goal.returns-clause-len

@@ -1,5 +1,5 @@
 use Rattle.std.proofs.Common.{arith, ◌∙◌}
-use Rattle.multimap_slots.proofs.OrderLemmas.{listed-within, next-read}
+use Rattle.multimap_slots.proofs.Nodes.Linked.{listed-within, next-read}
 use Rattle.multimap_slots.proofs.order.OrderInOrder.next.Goals as goal
 
 pub index-requires : goal.index-requires

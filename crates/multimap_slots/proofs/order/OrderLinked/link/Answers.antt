@@ -1,6 +1,6 @@
 use Rattle.std.proofs.Common.{arith}
-use Rattle.multimap_slots.proofs.NodeLemmas.{link_read}
-use Rattle.multimap_slots.proofs.OrderLemmas.{listed-within}
+use Rattle.multimap_slots.proofs.Nodes.OneField.{link_read}
+use Rattle.multimap_slots.proofs.Nodes.Linked.{listed-within}
 use Rattle.multimap_slots.proofs.order.OrderLinked.link.Goals as goal
 
 pub index-requires : goal.index-requires

@@ -1,5 +1,5 @@
 use Rattle.std.proofs.Common.{arith, inl, inr, refl, sym, ◌∙◌}
-use Rattle.multimap_slots.proofs.OrderLemmas.{split_at, split_within, state_tells}
+use Rattle.multimap_slots.proofs.Nodes.Linked.{split_at, split_within, state_tells}
 use Rattle.multimap_slots.proofs.order.OrderStored.is_listed.Goals as goal
 
 pub returns-then-place-len : goal.returns-then-place-len

@@ -1,5 +1,5 @@
 use Rattle.std.proofs.Common.{arith, refl, sym}
-use Rattle.multimap_slots.proofs.FreePlaces.{Claims-some, Claims-none}
+use Rattle.multimap_slots.proofs.Nodes.FreePlaces.{Claims-some, Claims-none}
 use Rattle.multimap_slots.proofs.order.write.claim.Goals as goal
 
 pub returns-in-Some-clause-claims : goal.returns-in-Some-clause-claims

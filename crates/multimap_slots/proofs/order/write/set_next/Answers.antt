@@ -1,6 +1,6 @@
 use Rattle.std.proofs.Common.{ap, refl}
 use Rattle.std.proofs.Math.Seq.{map-set_same}
-use Rattle.multimap_slots.proofs.NodeLemmas.{IsMoved-field, IsMoved-first}
+use Rattle.multimap_slots.proofs.Nodes.OneField.{IsMoved-field, IsMoved-first}
 use Rattle.multimap_slots.proofs.order.write.set_next.Goals as goal
 
 pub returns-in-Some : goal.returns-in-Some
@@ -18,4 +18,13 @@ returns-in-Some g c =
 
 pub returns-in-None : goal.returns-in-None
 returns-in-None g c =
-    record { items = rw (← c.in-None.ensures) (record { nexts = IsMoved-first _ _ _; previouses = refl; states = refl; links = refl }); capacity = refl }
+    record {
+      items = rw (← c.in-None.ensures) (record {
+        nexts = IsMoved-first _ _
+            _;
+        previouses = refl;
+        states = refl;
+        links = refl;
+      });
+      capacity = refl;
+    }

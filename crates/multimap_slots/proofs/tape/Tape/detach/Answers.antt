@@ -1,6 +1,6 @@
 use Rattle.std.proofs.Common.{ap, refl, arith}
-use Rattle.multimap_slots.proofs.ChangesLemmas.{Detaches-kept}
-use Rattle.multimap_slots.proofs.TapeLemmas.{IsTape-detach}
+use Rattle.multimap_slots.proofs.Changes.SlotLists.{Detaches-kept}
+use Rattle.multimap_slots.proofs.Callers.Tapes.{IsTape-detach}
 use Rattle.multimap_slots.proofs.tape.Tape.detach.Goals as goal
 
 pub invariant_of-self : goal.invariant_of-self

@@ -1,7 +1,7 @@
 use Rattle.std.proofs.Common.{None, Some, ap, arith, sym, ◌∙◌}
 use Rattle.std.proofs.lemmas.List.{get_or_default}
 use Rattle.std.proofs.lemmas.Option.{slice_get-get_or}
-use Rattle.multimap_slots.proofs.TapeLemmas.{IsSome-within}
+use Rattle.multimap_slots.proofs.Callers.Tapes.{IsSome-within}
 use Rattle.multimap_slots.proofs.tape.Tape.get_detached.Goals as goal
 
 pub returns : goal.returns

@@ -1,7 +1,7 @@
 use Rattle.std.proofs.Common.{None, ap, set, refl, sym, ◌∙◌}
 use Rattle.std.proofs.lemmas.List.{get_or_default}
-use Rattle.multimap_slots.proofs.ChangesLemmas.{TakesDetached-set}
-use Rattle.multimap_slots.proofs.TapeLemmas.{IsSome-within}
+use Rattle.multimap_slots.proofs.Changes.SlotLists.{TakesDetached-set}
+use Rattle.multimap_slots.proofs.Callers.Tapes.{IsSome-within}
 use Rattle.multimap_slots.proofs.tape.Tape.take_detached.Goals as goal
 
 pub returns-clause-taken : goal.returns-clause-taken

@@ -1,8 +1,8 @@
 use Rattle.std.proofs.Common.{None, Some, ap, arith, refl, length, min, vec_capacity, set, sym, ◌<◌, ◌∙◌}
 use Rattle.std.proofs.lemmas.List.{get_or_default}
 use Rattle.std.proofs.lemmas.Option.{slice_get-get_or}
-use Rattle.multimap_slots.proofs.ChangesLemmas.{Removes-set}
-use Rattle.multimap_slots.proofs.TapeLemmas.{IsTape-remove, listed_used}
+use Rattle.multimap_slots.proofs.Changes.SlotLists.{Removes-set}
+use Rattle.multimap_slots.proofs.Callers.Tapes.{IsTape-remove, listed_used}
 use Rattle.multimap_slots.proofs.tape.Tape.take_listed.Goals as goal
 
 pub index-link-requires : goal.index-link-requires

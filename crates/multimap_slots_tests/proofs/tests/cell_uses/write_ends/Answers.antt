@@ -1,5 +1,5 @@
 use Rattle.std.proofs.Common.{sym}
-use Rattle.multimap_slots.proofs.CellsLemmas.{IsSound-taken, IsLeft-other}
+use Rattle.multimap_slots.proofs.Callers.TakenItems.{IsLeft-other}
 use Rattle.multimap_slots_tests.proofs.CellsLemmas.{last_in}
 use Rattle.multimap_slots_tests.proofs.tests.cell_uses.write_ends.Goals as goal
 

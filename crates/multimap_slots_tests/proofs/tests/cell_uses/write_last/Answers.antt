@@ -1,4 +1,4 @@
-use Rattle.multimap_slots.proofs.CellsLemmas.{IsDetached-refilled}
+use Rattle.multimap_slots.proofs.Callers.TakenItems.{IsDetached-refilled}
 use Rattle.multimap_slots_tests.proofs.tests.cell_uses.write_last.Goals as goal
 
 pub returns-clause-detached : goal.returns-clause-detached

@@ -1,4 +1,4 @@
-use Rattle.multimap_slots.proofs.SlotsLemmas.{IsDetached-detach}
+use Rattle.multimap_slots.proofs.Callers.ListedSlots.{IsDetached-detach}
 use Rattle.multimap_slots_tests.proofs.tests.uses.detach_listed.Goals as goal
 
 pub returns : goal.returns

@@ -1,4 +1,4 @@
-use Rattle.multimap_slots.proofs.SlotsLemmas.{IsDetached-push}
+use Rattle.multimap_slots.proofs.Callers.ListedSlots.{IsDetached-push}
 use Rattle.multimap_slots_tests.proofs.tests.uses.push_beside.Goals as goal
 
 pub returns-clause-kept : goal.returns-clause-kept

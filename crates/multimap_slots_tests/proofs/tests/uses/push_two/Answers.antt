@@ -1,7 +1,7 @@
 use Rattle.std.proofs.Common.{[], ◌∷◌, ◌++◌, ap, ◌∙◌}
 use Rattle.std.proofs.lemmas.List.{append_assoc}
 use Rattle.multimap_slots.specs.Lists.{next_of}
-use Rattle.multimap_slots.proofs.ListsLemmas.{next_of-split}
+use Rattle.multimap_slots.proofs.Callers.PlaceLists.{next_of-split}
 use Rattle.multimap_slots_tests.proofs.tests.uses.push_two.Goals as goal
 
 pub returns : goal.returns

@@ -3,8 +3,8 @@ use Rattle.std.proofs.lemmas.Grind.{common_steps}
 use Rattle.std.specs.FinMap.{get}
 use Rattle.multimap_table.specs.declared.group.Row.{Row}
 use Rattle.multimap_table.specs.Table.{Table}
-use Rattle.multimap_table.specs.Entries.{rows_of, row_at}
-use Rattle.multimap_table.specs.Layout.{IsTable}
+use Rattle.multimap_table.specs.Private.Entries.{rows_of, row_at}
+use Rattle.multimap_table.specs.Private.Layout.{IsTable}
 use Rattle.multimap_table.proofs.TableLemmas.{laid_out_of, lanes_of_get, get_of, holds_of}
 use Rattle.multimap_table.proofs.table.KeyTable.find.Goals as goal
 

@@ -1,6 +1,6 @@
 use Rattle.std.proofs.Common.{ℕ, ◌/◌, ap, ◌∙◌, arith}
 use Rattle.multimap_table.specs.Table.{Table}
-use Rattle.multimap_table.specs.Entries.{rows_of}
+use Rattle.multimap_table.specs.Private.Entries.{rows_of}
 use Rattle.multimap_table.proofs.TableLemmas.{entries_of_empty, laid_out_of}
 use Rattle.multimap_table.proofs.table.KeyTable.grow_to.Goals as goal
 

@@ -2,8 +2,8 @@ use Rattle.std.proofs.Common.{◌≡◌, ℕ, ◌*◌, ◌<◌, List, ap, ◌∙
 use Rattle.std.specs.FinMap as map
 use Rattle.multimap_table.specs.Table.{Table}
 use Rattle.multimap_table.specs.declared.group.Row.{Row}
-use Rattle.multimap_table.specs.Entries.{rows_of}
-use Rattle.multimap_table.specs.Layout.{IsTable, group_count}
+use Rattle.multimap_table.specs.Private.Entries.{rows_of}
+use Rattle.multimap_table.specs.Private.Layout.{IsTable, group_count}
 use Rattle.multimap_table.proofs.TableLemmas.{len_of, laid_out_of, room_of, table_put}
 use Rattle.multimap_table.proofs.table.KeyTable.insert.Goals as goal
 

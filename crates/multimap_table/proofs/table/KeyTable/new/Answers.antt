@@ -1,5 +1,5 @@
 use Rattle.std.proofs.Common.{refl, ap, ◌∙◌, [], List, ℕ}
-use Rattle.multimap_table.specs.Entries.{rows_of}
+use Rattle.multimap_table.specs.Private.Entries.{rows_of}
 use Rattle.multimap_table.proofs.RowLemmas.{rows_of-nil}
 use Rattle.multimap_table.proofs.table.KeyTable.new.Goals as goal
 

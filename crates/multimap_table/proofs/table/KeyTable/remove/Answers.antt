@@ -3,8 +3,8 @@ use Rattle.std.specs.FinMap as map
 use Rattle.multimap_table.specs.declared.group.Row.{Row}
 use Rattle.multimap_table.specs.Table.{Table}
 use mathlib.Core.Bool.{true≢false}
-use Rattle.multimap_table.specs.Entries.{rows_of, row_at}
-use Rattle.multimap_table.specs.Layout.{IsLaidOut}
+use Rattle.multimap_table.specs.Private.Entries.{rows_of, row_at}
+use Rattle.multimap_table.specs.Private.Layout.{IsLaidOut}
 use Rattle.multimap_table.proofs.TableLemmas.{laid_out_of, room_of, lanes_of_get, holds_of}
 use Rattle.multimap_table.proofs.table.KeyTable.remove.Goals as goal
 

@@ -1,5 +1,5 @@
 use Rattle.std.proofs.Common.{◌∙◌, sym, subst, arith, List, ℕ}
-use Rattle.multimap_table.specs.Layout.{IsTable}
+use Rattle.multimap_table.specs.Private.Layout.{IsTable}
 use Rattle.multimap_table.proofs.TableLemmas.{table-empty, rows_of-replicate}
 use Rattle.multimap_table.proofs.table.KeyTable.with_groups_for.Goals as goal
 

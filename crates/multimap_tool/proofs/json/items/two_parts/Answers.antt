@@ -2,8 +2,8 @@ use Rattle.std.proofs.Common.{◌≡◌, length, ap, sym, ◌∙◌, arith}
 use Rattle.serde_json.specs.Data.{array}
 use Rattle.serde_json.specs.View.{view, items_view}
 use Rattle.multimap_tool.specs.JsonLists.{parts_of}
-use Rattle.multimap_tool.proofs.JsonLemmas.{array_is}
-use Rattle.multimap_tool.proofs.JsonShapeLemmas.{parts_of_others}
+use Rattle.multimap_tool.proofs.Callers.JsonParts.{array_is}
+use Rattle.multimap_tool.proofs.JsonValues.Shapes.{parts_of_others}
 use Rattle.multimap_tool.proofs.json.items.two_parts.Goals as goal
 
 pub returns-then-len-ne2 : goal.returns-then-len-ne2

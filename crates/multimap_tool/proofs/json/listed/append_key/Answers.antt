@@ -1,7 +1,7 @@
 use Rattle.std.proofs.Common.{◌≡◌, false, true, sym, ◌∙◌, ap, inr, refl, rules}
 use Rattle.ordered_multimap.specs.Keys.{is_listed}
-use Rattle.multimap_tool.proofs.JsonLemmas.{still_unused}
-use Rattle.multimap_tool.proofs.JsonListsLemmas.{appended_new, one_stands_in, listed_if_named}
+use Rattle.multimap_tool.proofs.Callers.JsonParts.{still_unused}
+use Rattle.multimap_tool.proofs.JsonValues.BothLists.{appended_new, one_stands_in, listed_if_named}
 use Rattle.multimap_tool.proofs.json.listed.append_key.Goals as goal
 
 pub returns-then-present-clause-fault : goal.returns-then-present-clause-fault

@@ -6,9 +6,9 @@ use Rattle.std.specs.Map.{keys_of}
 use Rattle.ordered_multimap.specs.TapeNumbers.{AreUnused}
 use Rattle.serde_json.specs.View.{view, items_view}
 use Rattle.multimap_tool.specs.JsonLists.{each_item, IsListedKeyFault, IsKeysFault}
-use Rattle.multimap_tool.proofs.JsonLemmas.{passed_on, one_read, unless_other}
-use Rattle.multimap_tool.proofs.JsonFaultLemmas.{keys_fault_here, keys_fault_later}
-use Rattle.multimap_tool.proofs.JsonShapeLemmas.{each_item-behind}
+use Rattle.multimap_tool.proofs.Callers.JsonParts.{passed_on, one_read, unless_other}
+use Rattle.multimap_tool.proofs.JsonValues.Faults.{keys_fault_here, keys_fault_later}
+use Rattle.multimap_tool.proofs.JsonValues.Shapes.{each_item-behind}
 use Rattle.multimap_tool.proofs.json.listed.append_keys.Goals as goal
 
 pub returns-in_err-append_key-clause-fault : goal.returns-in_err-append_key-clause-fault

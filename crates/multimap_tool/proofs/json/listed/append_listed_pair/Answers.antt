@@ -3,7 +3,7 @@ use Rattle.std.proofs.lemmas.Result.{on_ok_weaker}
 use Rattle.serde_json.specs.View.{view}
 use Rattle.multimap_tool.specs.Json.{item_fault, pair_json}
 use Rattle.multimap_tool.specs.JsonLists.{of_two}
-use Rattle.multimap_tool.proofs.JsonFaultLemmas.{pair_is_good}
+use Rattle.multimap_tool.proofs.JsonValues.Faults.{pair_is_good}
 use Rattle.multimap_tool.proofs.json.listed.append_listed_pair.Goals as goal
 
 pub returns-clause-read : goal.returns-clause-read

@@ -5,9 +5,9 @@ use Rattle.ordered_multimap.specs.Lists.{lists}
 use Rattle.ordered_multimap.specs.Keys.{is_listed}
 use Rattle.multimap_tool.specs.Json.{pair_json, first_fault}
 use Rattle.multimap_tool.specs.JsonLists.{IsPairFault, IsPairsFault}
-use Rattle.multimap_tool.proofs.JsonLemmas.{fault_behind, passed_on, one_read, still_unused, unless_other}
-use Rattle.multimap_tool.proofs.JsonFaultLemmas.{pairs_fault_here, pairs_fault_later}
-use Rattle.multimap_tool.proofs.JsonListsLemmas.{one_under, each_listed-push}
+use Rattle.multimap_tool.proofs.Callers.JsonParts.{fault_behind, passed_on, one_read, still_unused, unless_other}
+use Rattle.multimap_tool.proofs.JsonValues.Faults.{pairs_fault_here, pairs_fault_later}
+use Rattle.multimap_tool.proofs.JsonValues.BothLists.{one_under, each_listed-push}
 use Rattle.multimap_tool.proofs.json.listed.append_listed_pairs.Goals as goal
 
 pub returns-in_err-append_listed_pair-clause-fault : goal.returns-in_err-append_listed_pair-clause-fault

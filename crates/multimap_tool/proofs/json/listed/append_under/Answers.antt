@@ -1,8 +1,8 @@
 use Rattle.std.proofs.Common.{◌≡◌, true, sym, ◌∙◌, refl, rules}
 use Rattle.ordered_multimap.specs.Keys.{is_listed}
-use Rattle.ordered_multimap.proofs.WellFormedLemmas.{is_present-keys}
-use Rattle.multimap_tool.proofs.JsonLemmas.{still_unused}
-use Rattle.multimap_tool.proofs.JsonListsLemmas.{appended_old}
+use Rattle.ordered_multimap.proofs.Callers.WellFormed.{is_present-keys}
+use Rattle.multimap_tool.proofs.Callers.JsonParts.{still_unused}
+use Rattle.multimap_tool.proofs.JsonValues.BothLists.{appended_old}
 use Rattle.multimap_tool.proofs.json.listed.append_under.Goals as goal
 
 pub returns-then-not-present-clause-fault : goal.returns-then-not-present-clause-fault

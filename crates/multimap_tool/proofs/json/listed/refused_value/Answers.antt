@@ -1,6 +1,6 @@
 use Rattle.std.proofs.Common.{◌≡◌, true, false, cond, sym, ◌∙◌, ap}
 use Rattle.ordered_multimap.specs.Keys.{is_listed}
-use Rattle.ordered_multimap.proofs.WellFormedLemmas.{is_present-keys}
+use Rattle.ordered_multimap.proofs.Callers.WellFormed.{is_present-keys}
 use Rattle.multimap_tool.specs.declared.json.faults.ReadFault.TheVariants.{UnlistedKey, BadValue}
 use Rattle.multimap_tool.proofs.json.listed.refused_value.Goals as goal
 

@@ -2,7 +2,7 @@ use Rattle.std.proofs.Common.{◌≡◌, suc, ◌+◌, ◌<◌, cond, length, dr
 use Rattle.std.specs.Map.{keys_of}
 use Rattle.ordered_multimap.specs.Lists.{lists}
 use Rattle.multimap_tool.specs.JsonLists.{first_unused}
-use Rattle.multimap_tool.proofs.JsonListsLemmas.{stand_in_goes}
+use Rattle.multimap_tool.proofs.JsonValues.BothLists.{stand_in_goes}
 use Rattle.multimap_tool.proofs.json.listed.take_stand_ins.Goals as goal
 
 pub returns-then-is_last_of_its_key-clause-used : goal.returns-then-is_last_of_its_key-clause-used

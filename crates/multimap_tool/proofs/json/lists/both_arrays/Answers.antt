@@ -4,7 +4,7 @@ use Rattle.serde_json.specs.Events.{members_len}
 use Rattle.serde_json.specs.View.{view, members_view}
 use Rattle.serde_json.proofs.Views.{members_len-members_view}
 use Rattle.multimap_tool.specs.JsonLists.{both_arrays}
-use Rattle.multimap_tool.proofs.JsonShapeLemmas.{object_is, other_members, both_are}
+use Rattle.multimap_tool.proofs.JsonValues.Shapes.{object_is, other_members, both_are}
 use Rattle.multimap_tool.proofs.json.lists.both_arrays.Goals as goal
 
 pub returns-then-len-ne2 : goal.returns-then-len-ne2

@@ -1,9 +1,9 @@
 use Rattle.std.proofs.Common.{◌≡◌, ◌⊎◌, ◌==◌, [], true, length, sym, ◌∙◌, ap, rules, true≢false}
 use Rattle.serde_json.specs.View.{items_view}
-use Rattle.multimap_tool.proofs.JsonLemmas.{unless_other}
+use Rattle.multimap_tool.proofs.Callers.JsonParts.{unless_other}
 use Rattle.multimap_tool.specs.JsonLists.{IsListsFault, IsPairsFault}
 use Rattle.multimap_tool.specs.declared.json.faults.ReadFault.TheVariants.{UnusedKey}
-use Rattle.multimap_tool.proofs.JsonFaultLemmas.{nothing_read, fault_of_none}
+use Rattle.multimap_tool.proofs.JsonValues.Faults.{nothing_read, fault_of_none}
 use Rattle.multimap_tool.proofs.json.lists.read_without_value.Goals as goal
 use Rattle.multimap_tool.proofs.json.lists.read_without_value.Goals.{else-is_empty-via-then-is_empty+else-is_empty-2}
 use Rattle.multimap_tool.proofs.json.lists.read_without_value.Goals.{else-is_empty-via-else-is_empty}

@@ -1,6 +1,6 @@
 use Rattle.std.proofs.Common.{ap, ◌∙◌}
 use Rattle.multimap_walks.specs.Chained.{positions_at, values_at}
-use Rattle.multimap_walks.proofs.ChainLemmas.{chain_whole, along_whole}
+use Rattle.multimap_walks.proofs.Callers.Chains.{chain_whole, along_whole}
 use Rattle.multimap_walks.proofs.chain.EntryValues.new.Goals as goal
 
 pub along-requires-2 : goal.along-requires-2

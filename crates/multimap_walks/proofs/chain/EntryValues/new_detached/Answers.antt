@@ -1,5 +1,5 @@
 use Rattle.std.proofs.Common.{refl}
-use Rattle.multimap_walks.proofs.ChainLemmas.{chain_told}
+use Rattle.multimap_walks.proofs.Callers.Chains.{chain_told}
 use Rattle.multimap_walks.proofs.chain.EntryValues.new_detached.Goals as goal
 
 pub along-requires : goal.along-requires

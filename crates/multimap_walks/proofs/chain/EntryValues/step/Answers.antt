@@ -1,6 +1,6 @@
 use Rattle.std.proofs.Common.{Some, arith, refl, subst}
 use Rattle.multimap_walks.specs.ChainWalk.{ChainWalk, GivesEnd, chain_walk}
-use Rattle.multimap_walks.proofs.ChainLemmas.{end_stands, chain_leaves, gives_end}
+use Rattle.multimap_walks.proofs.Callers.Chains.{end_stands, chain_leaves, gives_end}
 use Rattle.multimap_walks.proofs.chain.EntryValues.step.Goals as goal
 
 pub chained_at-requires : goal.chained_at-requires

@@ -1,5 +1,5 @@
 use Rattle.std.proofs.Common.{◌∙◌, length, sym, ap}
-use Rattle.multimap_walks.proofs.ChainLemmas.{length-left}
+use Rattle.multimap_walks.proofs.Callers.Chains.{length-left}
 use Rattle.multimap_walks.proofs.chain.EntryValuesExactSizeIterator.len.Goals as goal
 
 pub returns-clause-value : goal.returns-clause-value

@@ -1,5 +1,5 @@
 use Rattle.std.proofs.Common.{◌∙◌, length, sym, ap}
-use Rattle.multimap_walks.proofs.ChainLemmas.{length-left}
+use Rattle.multimap_walks.proofs.Callers.Chains.{length-left}
 use Rattle.multimap_walks.proofs.CountLemmas.{tells_length}
 use Rattle.multimap_walks.proofs.chain.EntryValuesIterator.size_hint.Goals as goal
 

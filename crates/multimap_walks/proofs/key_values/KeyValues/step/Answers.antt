@@ -1,6 +1,6 @@
 use Rattle.std.proofs.Common.{◌∙◌, sym}
 use Rattle.multimap_walks.specs.KeyWalk.{deref_key, key_values_at}
-use Rattle.multimap_walks.proofs.EndLemmas.{shows_end}
+use Rattle.multimap_walks.proofs.Callers.Ends.{shows_end}
 use Rattle.multimap_walks.proofs.key_values.KeyValues.step.Goals as goal
 
 pub returns : goal.returns

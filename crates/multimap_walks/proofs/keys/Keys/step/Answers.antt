@@ -1,6 +1,6 @@
 use Rattle.std.proofs.Common.{◌∙◌, sym}
 use Rattle.multimap_slots.specs.Slots.{item_at}
-use Rattle.multimap_walks.proofs.EndLemmas.{shows_end}
+use Rattle.multimap_walks.proofs.Callers.Ends.{shows_end}
 use Rattle.multimap_walks.proofs.keys.Keys.step.Goals as goal
 
 pub returns : goal.returns

@@ -1,4 +1,4 @@
-use Rattle.multimap_walks.proofs.AlongLemmas.{all_left, left_all}
+use Rattle.multimap_walks.proofs.Callers.Along.{all_left, left_all}
 use Rattle.multimap_walks.proofs.left.SlotListOrdered.all.Goals as goal
 
 pub returns-clause-are_left : goal.returns-clause-are_left

@@ -1,7 +1,7 @@
 use Rattle.std.proofs.Common.{◌∙◌, sym}
 use Rattle.std.specs.Map.Iter.{deref_pair}
 use Rattle.multimap_walks.specs.Chained.{pair_at}
-use Rattle.multimap_walks.proofs.EndLemmas.{shows_end}
+use Rattle.multimap_walks.proofs.Callers.Ends.{shows_end}
 use Rattle.multimap_walks.proofs.pairs.Iter.step.Goals as goal
 
 pub returns : goal.returns

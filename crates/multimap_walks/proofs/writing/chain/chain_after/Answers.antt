@@ -1,7 +1,7 @@
 use Rattle.std.proofs.Common.{arith, false, refl, rules}
 use Rattle.multimap_slots.specs.SlotCells.{lent_slots}
 use Rattle.multimap_walks.specs.Chained.{places_along}
-use Rattle.multimap_walks.proofs.ChainLemmas.{chain_leaves, chain_taken}
+use Rattle.multimap_walks.proofs.Callers.Chains.{chain_leaves, chain_taken}
 use Rattle.multimap_walks.proofs.WritingLemmas.{chain_end_left, passed_over}
 use Rattle.multimap_walks.proofs.writing.chain.chain_after.Goals as goal
 

@@ -1,13 +1,13 @@
 use Rattle.std.proofs.Common.{IfErr, OnOk, IsOk, refl, sym, subst}
 use Rattle.multimap_slots.specs.Lists.{IsIn}
 use Rattle.ordered_multimap.specs.Additions.{IsAppendedAt, RefusesValue}
-use Rattle.ordered_multimap.specs.KeySteps.{KeepsPlace}
+use Rattle.ordered_multimap.specs.Private.KeySteps.{KeepsPlace}
 use Rattle.ordered_multimap.specs.Rooms.{HasValueRoom}
-use Rattle.ordered_multimap.proofs.LeavesLemmas.{has_chain}
-use Rattle.ordered_multimap.proofs.LookupLemmas.{own_key}
-use Rattle.ordered_multimap.proofs.AppendedLemmas.{behind_agrees, behind_lists, refused_lists, stays_paid}
-use Rattle.ordered_multimap.proofs.StayLemmas.{behind_stays}
-use Rattle.ordered_multimap.proofs.RoomLemmas.{fits_value, grows_there, if_err-map, map_of, on_ok-map}
+use Rattle.ordered_multimap.proofs.Remove.OnePair.{has_chain}
+use Rattle.ordered_multimap.proofs.Agreement.LookUps.{own_key}
+use Rattle.ordered_multimap.proofs.Append.Appended.{behind_agrees, behind_lists, refused_lists, stays_paid}
+use Rattle.ordered_multimap.proofs.Agreement.StayingKeys.{behind_stays}
+use Rattle.ordered_multimap.proofs.Append.Rooms.{fits_value, grows_there, if_err-map, map_of, on_ok-map}
 use Rattle.ordered_multimap.proofs.list_ordered_multimap.ListOrderedMultimap.append_at.Goals as goal
 
 pub append_behind-requires : goal.append_behind-requires
@@ -74,7 +74,8 @@ returns-clause-refused g c =
           grows_there i.keys i.table.rows i.values agrees i.table.capacity i.state i.left n.keys i.table.capacity n.values i.left
           e.values.no_less e.values.had_room e.values.doubles e.keys_capacity refl;
       taken = e.values.taken;
-    }) c.append_behind.result (refused_lists g.met.K.Eq.laws agrees own.0 c.args.value _ _ c.append_behind.result e.unchanged) e.hands_back.refused)
+    }) c.append_behind.result (refused_lists g.met.K.Eq.laws agrees own.0 c.args.value _ _ c.append_behind.result e.unchanged)
+    e.hands_back.refused)
 
 pub returns-clause-succeeds : goal.returns-clause-succeeds
 returns-clause-succeeds g c =

@@ -2,9 +2,9 @@ use Rattle.std.proofs.Common.{ap, sym, ◌∙◌, subst}
 use Rattle.ordered_multimap.specs.Additions.{Appends}
 use Rattle.ordered_multimap.specs.Keys.{is_listed}
 use Rattle.ordered_multimap.specs.Agrees.{hash_of}
-use Rattle.ordered_multimap.proofs.AppendedLemmas.{first_agrees, first_lists, refused_lists, stays_paid}
-use Rattle.ordered_multimap.proofs.LookupLemmas.{new_key}
-use Rattle.ordered_multimap.proofs.RoomLemmas.{keeps_rooms, fits_pair, raises_none_absent, first_on_err, if_err-map, map_of, on_ok-map}
+use Rattle.ordered_multimap.proofs.Append.Appended.{first_agrees, first_lists, refused_lists, stays_paid}
+use Rattle.ordered_multimap.proofs.Agreement.LookUps.{new_key}
+use Rattle.ordered_multimap.proofs.Append.Rooms.{keeps_rooms, fits_pair, raises_none_absent, first_on_err, if_err-map, map_of, on_ok-map}
 use Rattle.ordered_multimap.proofs.list_ordered_multimap.ListOrderedMultimap.append_new.Goals as goal
 
 pub invariant_of-self : goal.invariant_of-self

@@ -1,6 +1,6 @@
 use Rattle.std.proofs.Common.{length, ap, subst, arith}
 use Rattle.ordered_multimap.specs.TapeNumbers.{TakesOut, numbers_of}
-use Rattle.ordered_multimap.proofs.AgreesLemmas.{agrees_empty, length-pairs}
+use Rattle.ordered_multimap.proofs.Agreement.Agreed.{agrees_empty, length-pairs}
 use Rattle.ordered_multimap.proofs.list_ordered_multimap.ListOrderedMultimap.clear.Goals as goal
 
 pub invariant_of-self : goal.invariant_of-self

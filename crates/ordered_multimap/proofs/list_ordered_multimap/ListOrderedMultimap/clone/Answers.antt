@@ -5,7 +5,7 @@ use Rattle.ordered_multimap.specs.Changes.{built_from}
 use Rattle.ordered_multimap.specs.Clones.{AreClones}
 use Rattle.ordered_multimap.specs.Keys.{all_moved}
 use Rattle.ordered_multimap.specs.Lists.{lists}
-use Rattle.ordered_multimap.proofs.CloneLemmas.{no_keys, built_keys, built_pairs, clone_lists, present_in, same_lists}
+use Rattle.ordered_multimap.proofs.Pack.Clones.{no_keys, built_keys, built_pairs, clone_lists, present_in, same_lists}
 use Rattle.ordered_multimap.proofs.list_ordered_multimap.ListOrderedMultimap.clone.Goals as goal
 
 pub returns-in_err-copy-clause-succeeds : goal.returns-in_err-copy-clause-succeeds

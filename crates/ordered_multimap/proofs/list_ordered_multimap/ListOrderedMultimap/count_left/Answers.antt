@@ -1,6 +1,6 @@
 use Rattle.std.proofs.Common.{length, sym, ap, ◌∙◌, subst}
 use Rattle.ordered_multimap.specs.Detaches.{HoldsDrain, left_of}
-use Rattle.ordered_multimap.proofs.DrainLemmas.{length-drained}
+use Rattle.ordered_multimap.proofs.Detach.DrainSteps.{length-drained}
 use Rattle.ordered_multimap.proofs.list_ordered_multimap.ListOrderedMultimap.count_left.Goals as goal
 
 pub returns : goal.returns

@@ -1,6 +1,6 @@
 use Rattle.std.proofs.Common.{sym, ap, ◌∙◌, Some, subst, arith}
 use Rattle.ordered_multimap.specs.TapeNumbers.{TakesOut}
-use Rattle.ordered_multimap.proofs.LackLemmas.{detaches_none, has_first, removed_lacking}
+use Rattle.ordered_multimap.proofs.Agreement.AbsentKeys.{detaches_none, has_first, removed_lacking}
 use Rattle.ordered_multimap.proofs.list_ordered_multimap.ListOrderedMultimap.detach_all.Goals as goal
 
 pub returns-in-Some-clause-key : goal.returns-in-Some-clause-key

@@ -4,11 +4,11 @@ use Rattle.ordered_multimap.specs.Keys.{stored_key}
 use Rattle.ordered_multimap.specs.Changes.{removed}
 use Rattle.ordered_multimap.specs.TapeNumbers.{TakesOut, numbers_of}
 use Rattle.ordered_multimap.specs.Agrees.{HasKey}
-use Rattle.ordered_multimap.specs.KeySteps.{DetachesValues, HoldsInRoom}
-use Rattle.ordered_multimap.proofs.LeavesLemmas.{has_entry, map_left}
-use Rattle.ordered_multimap.proofs.RoomLemmas.{map_of, same_rooms}
-use Rattle.ordered_multimap.proofs.LookupLemmas.{own_key, values_of-chain}
-use Rattle.ordered_multimap.proofs.TakeLemmas.{entry_count, lists_of-taken, removed_key}
+use Rattle.ordered_multimap.specs.Private.KeySteps.{DetachesValues, HoldsInRoom}
+use Rattle.ordered_multimap.proofs.Remove.OnePair.{has_entry, map_left}
+use Rattle.ordered_multimap.proofs.Append.Rooms.{map_of, same_rooms}
+use Rattle.ordered_multimap.proofs.Agreement.LookUps.{own_key, values_of-chain}
+use Rattle.ordered_multimap.proofs.Remove.WholeKeys.{entry_count, lists_of-taken, removed_key}
 use Rattle.ordered_multimap.proofs.list_ordered_multimap.ListOrderedMultimap.detach_at.Goals as goal
 
 pub leave_entry-key-requires : goal.leave_entry-key-requires

@@ -1,9 +1,9 @@
 use Rattle.std.proofs.Common.{refl, subst, rules}
 use Rattle.multimap_walks.specs.declared.links.ChainEnds.{ChainEnds}
 use Rattle.ordered_multimap.specs.Detaches.{KeepsListed}
-use Rattle.ordered_multimap.proofs.DrainLemmas.{agrees-listed}
-use Rattle.ordered_multimap.proofs.DrainedLemmas.{fits-listed, paid-listed, keeps_listed}
-use Rattle.ordered_multimap.proofs.RoomLemmas.{map_of}
+use Rattle.ordered_multimap.proofs.Detach.DrainSteps.{agrees-listed}
+use Rattle.ordered_multimap.proofs.Detach.KeptByDrains.{fits-listed, paid-listed, keeps_listed}
+use Rattle.ordered_multimap.proofs.Append.Rooms.{map_of}
 use Rattle.ordered_multimap.proofs.list_ordered_multimap.ListOrderedMultimap.drop_left.Goals as goal
 
 pub invariant_of-self : goal.invariant_of-self

@@ -2,11 +2,11 @@ use Rattle.std.proofs.Common.{◌≡◌, sym, ap, ◌∙◌, subst, refl, length
 use Rattle.multimap_slots.specs.Lists.{IsIn}
 use Rattle.multimap_walks.specs.Chained.{pair_at, pairs_of}
 use Rattle.multimap_walks.specs.Walk.{end_item}
-use Rattle.ordered_multimap.specs.TakesOne.{end_of_list}
+use Rattle.ordered_multimap.specs.Private.RemoveOne.{end_of_list}
 use Rattle.ordered_multimap.specs.Writes.{with_value, with_end}
-use Rattle.ordered_multimap.proofs.AgreesLemmas.{length-pairs}
-use Rattle.ordered_multimap.proofs.PopLemmas.{end_listed, at_end, none_at_end}
-use Rattle.ordered_multimap.proofs.WriteLemmas.{with_value-end}
+use Rattle.ordered_multimap.proofs.Agreement.Agreed.{length-pairs}
+use Rattle.ordered_multimap.proofs.Remove.AtEnds.{end_listed, at_end, none_at_end}
+use Rattle.ordered_multimap.proofs.Callers.Writes.{with_value-end}
 use Rattle.ordered_multimap.proofs.list_ordered_multimap.ListOrderedMultimap.end_mut.Goals as goal
 
 pub pair_mut_at-requires : goal.pair_mut_at-requires

@@ -50,10 +50,10 @@ use Rattle.std.proofs.ResultValues.{and_tt}
 use Rattle.ordered_multimap.specs.Changes.{end_written}
 use Rattle.ordered_multimap.specs.WriteLends.{lends_end_if}
 use Rattle.ordered_multimap.specs.Writes.{with_end, IsWritten}
-use Rattle.ordered_multimap.proofs.HandsOn.{end_row as Er, end_vals as at_end, stays_with_end, goes_with_end}
-use Rattle.ordered_multimap.proofs.Outlived.{told, hears, tells, states}
-use Rattle.ordered_multimap.proofs.Pairs.{both, both_typed, pair_out, pair_in}
-use Rattle.ordered_multimap.proofs.Rested.{so_some, so_none}
+use Rattle.ordered_multimap.proofs.Loans.HandsOn.{end_row as Er, end_vals as at_end, stays_with_end, goes_with_end}
+use Rattle.ordered_multimap.proofs.Loans.Outlived.{told, hears, tells, states}
+use Rattle.ordered_multimap.proofs.Callers.PairsByValue.{both, both_typed, pair_out, pair_in}
+use Rattle.ordered_multimap.proofs.Loans.Rested.{so_some, so_none}
 use Rattle.ordered_multimap.specs.contracts.list_ordered_multimap.ListOrderedMultimap as Map
 use Rattle.ordered_multimap.specs.contracts.list_ordered_multimap.ListOrderedMultimap.end_mut_if as f
 use Rattle.ordered_multimap.specs.contracts.list_ordered_multimap.ListOrderedMultimap.end_mut_if.Key.{name as #self}

@@ -1,4 +1,4 @@
-use Rattle.ordered_multimap.proofs.TakingLemmas.{among_in}
+use Rattle.ordered_multimap.proofs.Remove.ValueByValue.{among_in}
 use Rattle.ordered_multimap.proofs.list_ordered_multimap.ListOrderedMultimap.entry.Goals as goal
 
 pub invariant_of-result : goal.invariant_of-result

@@ -4,7 +4,7 @@ use Rattle.std.proofs.iter.Next.{Yields-more, on}
 use Rattle.ordered_multimap.specs.Changes.{appended}
 use Rattle.ordered_multimap.specs.Extends.{HasRoomForGiven, HasRoomForMost}
 use Rattle.ordered_multimap.specs.Rooms.{HasRoomForPairs}
-use Rattle.ordered_multimap.proofs.ExtendLemmas.{all_appended-push, grows_on, has_pair_room, room-fewer}
+use Rattle.ordered_multimap.proofs.Append.Extended.{all_appended-push, grows_on, has_pair_room, room-fewer}
 use Rattle.ordered_multimap.proofs.list_ordered_multimap.ListOrderedMultimap.extend.Given.{Over}
 use Rattle.ordered_multimap.proofs.list_ordered_multimap.ListOrderedMultimap.extend.Goals.{In-Some, In-Err}
 use Rattle.ordered_multimap.proofs.list_ordered_multimap.ListOrderedMultimap.extend.Goals as goal
@@ -74,7 +74,8 @@ returns-in-Err-clause-grows g c =
     let e = c.in-Err.ensures.appends.refused in
     record {
       grows =
-          grows_on g.K.PartialEq.eq c.loop-key.yielded (room_for_given g at) (room_for_most g at) c.loop-key.invariant.0 c.loop-key.invariant.1
+          grows_on g.K.PartialEq.eq c.loop-key.yielded (room_for_given g at)
+          (room_for_most g at) c.loop-key.invariant.0 c.loop-key.invariant.1
           e.rooms e.had_room e.taken;
       succeeds = λ room. absurd (not_refused g err (room_for_given g at room));
       succeeds_for_most = λ room. absurd (not_refused g err (room_for_most g at room));

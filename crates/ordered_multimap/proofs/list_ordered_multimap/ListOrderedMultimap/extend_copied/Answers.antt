@@ -5,7 +5,7 @@ use Rattle.std.proofs.lemmas.List.{map-append, length-map}
 use Rattle.ordered_multimap.specs.Changes.{appended, all_appended}
 use Rattle.ordered_multimap.specs.Extends.{HasRoomForGiven, HasRoomForMost, lent_pair}
 use Rattle.ordered_multimap.specs.Rooms.{HasRoomForPairs}
-use Rattle.ordered_multimap.proofs.ExtendLemmas.{all_appended-push, grows_on, has_pair_room, room-fewer}
+use Rattle.ordered_multimap.proofs.Append.Extended.{all_appended-push, grows_on, has_pair_room, room-fewer}
 use Rattle.ordered_multimap.proofs.list_ordered_multimap.ListOrderedMultimap.extend_copied.Given.{Over}
 use Rattle.ordered_multimap.proofs.list_ordered_multimap.ListOrderedMultimap.extend_copied.Goals.{In-Some, In-Err}
 use Rattle.ordered_multimap.proofs.list_ordered_multimap.ListOrderedMultimap.extend_copied.Goals as goal
@@ -70,7 +70,13 @@ returns-in-Err-clause-extends g c =
       c.loop-key.yielded,
       became g at,
       c.in-Err.ensures.appends.refused.lists ∙ c.loop-key.invariant.0,
-      ((c.in-Some.key, c.in-Some.value), c.next.new.self, given g at, ap (λ r. (r.key, r.value)) (sym c.in-Err.ensures.appends.refused.returned)),
+      (
+        (c.in-Some.key, c.in-Some.value),
+        c.next.new.self,
+        given g at,
+        ap (λ r. (r.key, r.value))
+            (sym c.in-Err.ensures.appends.refused.returned),
+      ),
     )
 
 pub returns-in-Err-clause-grows : goal.returns-in-Err-clause-grows

@@ -1,7 +1,7 @@
 use Rattle.std.proofs.Common.{◌≡◌, Some, slice_get, subst}
 use Rattle.ordered_multimap.specs.Agrees.{HasKey}
 use Rattle.ordered_multimap.specs.Pairs.{values_of}
-use Rattle.ordered_multimap.proofs.LookupLemmas.{head_listed, first_value}
+use Rattle.ordered_multimap.proofs.Agreement.LookUps.{head_listed, first_value}
 use Rattle.ordered_multimap.proofs.list_ordered_multimap.ListOrderedMultimap.first_at.Goals as goal
 
 pub value_at-requires : goal.value_at-requires

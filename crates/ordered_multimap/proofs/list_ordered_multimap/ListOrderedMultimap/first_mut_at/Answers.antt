@@ -6,8 +6,8 @@ use Rattle.ordered_multimap.specs.Lists.{lists}
 use Rattle.ordered_multimap.specs.Pairs.{values_of}
 use Rattle.ordered_multimap.specs.Writes.{with_value, with_first, IsWritten}
 use Rattle.multimap_slots.specs.Lists.{IsIn}
-use Rattle.ordered_multimap.proofs.LookupLemmas.{head_listed, first_value}
-use Rattle.ordered_multimap.proofs.WriteLemmas.{head_at-is, with_first_value-head_at}
+use Rattle.ordered_multimap.proofs.Agreement.LookUps.{head_listed, first_value}
+use Rattle.ordered_multimap.proofs.Callers.Writes.{head_at-is, with_first_value-head_at}
 use Rattle.ordered_multimap.proofs.list_ordered_multimap.ListOrderedMultimap.first_mut_at.Goals as goal
 
 pub value_mut_at-requires : goal.value_mut_at-requires

@@ -5,8 +5,8 @@ use mathlib.Core.Path.{refl}
 use denote.Param.{param}
 use denote.Param.Laws.{param_laws}
 use denote.Signature.{named_lft}
-use Rattle.ordered_multimap.proofs.HandsOn.{front, hands_on}
-use Rattle.ordered_multimap.proofs.LentPairs.{lent_pair_laws}
+use Rattle.ordered_multimap.proofs.Loans.HandsOn.{front, hands_on}
+use Rattle.ordered_multimap.proofs.Loans.LentPairs.{lent_pair_laws}
 use Rattle.ordered_multimap.specs.contracts.list_ordered_multimap.ListOrderedMultimap as Held
 use Rattle.ordered_multimap.proofs.list_ordered_multimap.ListOrderedMultimap.front_mut.Statement.{statement}
 use Rattle.ordered_multimap.proofs.list_ordered_multimap.ListOrderedMultimap.front_mut.Code as code

@@ -1,5 +1,5 @@
 use Rattle.std.proofs.Common.{sym, ◌∙◌}
-use Rattle.ordered_multimap.proofs.LackLemmas.{lacks_position}
+use Rattle.ordered_multimap.proofs.Agreement.AbsentKeys.{lacks_position}
 use Rattle.ordered_multimap.proofs.list_ordered_multimap.ListOrderedMultimap.get_all.Goals as goal
 
 pub returns-in-None-clause-positions : goal.returns-in-None-clause-positions

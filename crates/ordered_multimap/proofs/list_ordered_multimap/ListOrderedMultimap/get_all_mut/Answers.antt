@@ -1,7 +1,7 @@
 use Rattle.std.proofs.Common.{refl, sym, ◌∙◌}
 use Rattle.multimap_slots.specs.Ownership.{final}
-use Rattle.ordered_multimap.proofs.LackLemmas.{lacks_position}
-use Rattle.ordered_multimap.proofs.LentLemmas.{ends_walk}
+use Rattle.ordered_multimap.proofs.Agreement.AbsentKeys.{lacks_position}
+use Rattle.ordered_multimap.proofs.Callers.LentValues.{ends_walk}
 use Rattle.ordered_multimap.proofs.list_ordered_multimap.ListOrderedMultimap.get_all_mut.Goals as goal
 
 pub returns-in-None : goal.returns-in-None

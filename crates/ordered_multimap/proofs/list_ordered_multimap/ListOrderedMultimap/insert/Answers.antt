@@ -1,6 +1,6 @@
 use Rattle.std.proofs.Common.{IfSome, subst}
 use Rattle.ordered_multimap.specs.Agrees.{HasKey}
-use Rattle.ordered_multimap.proofs.LackLemmas.{inserted_new, inserted_there}
+use Rattle.ordered_multimap.proofs.Agreement.AbsentKeys.{inserted_new, inserted_there}
 use Rattle.ordered_multimap.proofs.list_ordered_multimap.ListOrderedMultimap.insert.Goals as goal
 
 pub returns-in_default-clause-ok : goal.returns-in_default-clause-ok

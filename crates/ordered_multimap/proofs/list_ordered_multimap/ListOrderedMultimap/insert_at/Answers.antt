@@ -4,15 +4,15 @@ use Rattle.ordered_multimap.specs.Pairs.{values_of}
 use Rattle.ordered_multimap.specs.Changes.{inserted}
 use Rattle.ordered_multimap.specs.TapeNumbers.{TakesOut, numbers_of}
 use Rattle.ordered_multimap.specs.Agrees.{HasKey}
-use Rattle.ordered_multimap.specs.KeySteps.{StaysInRoom}
+use Rattle.ordered_multimap.specs.Private.KeySteps.{StaysInRoom}
 use Rattle.ordered_multimap.specs.Removals.{LosesValues}
-use Rattle.ordered_multimap.proofs.LeavesLemmas.{has_fitting_chain}
-use Rattle.ordered_multimap.proofs.RoomLemmas.{map_of, same_rooms}
-use Rattle.ordered_multimap.proofs.LookupLemmas.{own_key}
-use Rattle.ordered_multimap.proofs.StayLemmas.{inserted_stays}
-use Rattle.ordered_multimap.proofs.AppendedLemmas.{stays_paid}
-use Rattle.ordered_multimap.proofs.InsertLemmas.{agrees-inserted, lists_of-inserted, first_of-inserted}
-use Rattle.ordered_multimap.proofs.TakeLemmas.{entry_count}
+use Rattle.ordered_multimap.proofs.Remove.OnePair.{has_fitting_chain}
+use Rattle.ordered_multimap.proofs.Append.Rooms.{map_of, same_rooms}
+use Rattle.ordered_multimap.proofs.Agreement.LookUps.{own_key}
+use Rattle.ordered_multimap.proofs.Agreement.StayingKeys.{inserted_stays}
+use Rattle.ordered_multimap.proofs.Append.Appended.{stays_paid}
+use Rattle.ordered_multimap.proofs.Append.Inserted.{agrees-inserted, lists_of-inserted, first_of-inserted}
+use Rattle.ordered_multimap.proofs.Remove.WholeKeys.{entry_count}
 use Rattle.ordered_multimap.proofs.list_ordered_multimap.ListOrderedMultimap.insert_at.Goals as goal
 
 pub insert_behind-requires : goal.insert_behind-requires

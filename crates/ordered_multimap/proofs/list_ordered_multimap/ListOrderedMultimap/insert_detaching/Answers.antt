@@ -1,6 +1,6 @@
 use Rattle.std.proofs.Common.{sym, ◌∙◌, subst}
 use Rattle.ordered_multimap.specs.TapeNumbers.{TakesOut}
-use Rattle.ordered_multimap.proofs.LackLemmas.{detaches_none, inserted_lacking}
+use Rattle.ordered_multimap.proofs.Agreement.AbsentKeys.{detaches_none, inserted_lacking}
 use Rattle.ordered_multimap.proofs.list_ordered_multimap.ListOrderedMultimap.insert_detaching.Goals as goal
 
 pub returns-in_default-clause-ok : goal.returns-in_default-clause-ok

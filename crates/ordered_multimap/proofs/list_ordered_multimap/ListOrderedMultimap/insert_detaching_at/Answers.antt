@@ -4,15 +4,15 @@ use Rattle.ordered_multimap.specs.Changes.{inserted}
 use Rattle.ordered_multimap.specs.TapeNumbers.{TakesOut, numbers_of}
 use Rattle.ordered_multimap.specs.Rooms.{HasValueRoom, RaisesNoRoom}
 use Rattle.ordered_multimap.specs.Agrees.{HasKey}
-use Rattle.ordered_multimap.specs.KeySteps.{DetachesValues, KeepsPairs}
-use Rattle.ordered_multimap.proofs.LeavesLemmas.{has_fitting_chain}
-use Rattle.ordered_multimap.proofs.LookupLemmas.{own_key}
-use Rattle.ordered_multimap.proofs.StayLemmas.{inserted_stays, renamed_stays}
-use Rattle.ordered_multimap.proofs.AppendedLemmas.{agrees_reserved, lists_reserved, stays_paid}
-use Rattle.ordered_multimap.proofs.RoomLemmas.{map_of, fits_value, grows_there, on_err, raises_none}
-use Rattle.ordered_multimap.proofs.InsertLemmas.{agrees-inserted, lists_of-inserted}
-use Rattle.ordered_multimap.proofs.TakeLemmas.{entry_count}
-use Rattle.ordered_multimap.proofs.DetachedLemmas.{left-inserted}
+use Rattle.ordered_multimap.specs.Private.KeySteps.{DetachesValues, KeepsPairs}
+use Rattle.ordered_multimap.proofs.Remove.OnePair.{has_fitting_chain}
+use Rattle.ordered_multimap.proofs.Agreement.LookUps.{own_key}
+use Rattle.ordered_multimap.proofs.Agreement.StayingKeys.{inserted_stays, renamed_stays}
+use Rattle.ordered_multimap.proofs.Append.Appended.{agrees_reserved, lists_reserved, stays_paid}
+use Rattle.ordered_multimap.proofs.Append.Rooms.{map_of, fits_value, grows_there, on_err, raises_none}
+use Rattle.ordered_multimap.proofs.Append.Inserted.{agrees-inserted, lists_of-inserted}
+use Rattle.ordered_multimap.proofs.Remove.WholeKeys.{entry_count}
+use Rattle.ordered_multimap.proofs.Detach.Answers.{left-inserted}
 use Rattle.ordered_multimap.proofs.list_ordered_multimap.ListOrderedMultimap.insert_detaching_at.Goals as goal
 
 pub insert_behind_all-requires : goal.insert_behind_all-requires

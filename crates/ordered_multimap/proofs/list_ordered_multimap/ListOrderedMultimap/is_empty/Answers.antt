@@ -1,6 +1,6 @@
 use Rattle.std.proofs.Common.{◌≡◌, ◌↔◌, IsTrue, [], subst}
 use Rattle.ordered_multimap.specs.Lists.{IsWellFormed}
-use Rattle.ordered_multimap.proofs.AgreesLemmas.{no_pairs, well_formed}
+use Rattle.ordered_multimap.proofs.Agreement.Agreed.{no_pairs, well_formed}
 use Rattle.ordered_multimap.proofs.list_ordered_multimap.ListOrderedMultimap.is_empty.Goals as goal
 
 pub returns-clause-empty : goal.returns-clause-empty

@@ -1,7 +1,7 @@
 use Rattle.std.proofs.Common.{◌≡◌, subst}
 use Rattle.ordered_multimap.specs.Agrees.{HasKey}
 use Rattle.ordered_multimap.specs.Keys.{stored_key}
-use Rattle.ordered_multimap.proofs.LookupLemmas.{stored_at}
+use Rattle.ordered_multimap.proofs.Agreement.LookUps.{stored_at}
 use Rattle.ordered_multimap.proofs.list_ordered_multimap.ListOrderedMultimap.key_at.Goals as goal
 
 pub returns-clause-own : goal.returns-clause-own

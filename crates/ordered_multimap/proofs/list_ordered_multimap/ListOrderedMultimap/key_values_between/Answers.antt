@@ -2,7 +2,7 @@ use Rattle.std.proofs.Common.{◌≡◌, sym, subst, ◌∙◌}
 use Rattle.multimap_slots.specs.Slots.{item_at}
 use Rattle.multimap_walks.specs.Along.{AreLeft, items_left}
 use Rattle.ordered_multimap.specs.KeyLists.{each_with_values}
-use Rattle.ordered_multimap.proofs.WalkLemmas.{keys_with_values-left}
+use Rattle.ordered_multimap.proofs.Walks.WalkedLists.{keys_with_values-left}
 use Rattle.ordered_multimap.proofs.list_ordered_multimap.ListOrderedMultimap.key_values_between.Goals as goal
 
 pub returns : goal.returns

@@ -3,8 +3,8 @@ use Rattle.multimap_slots.specs.Slots.{item_at}
 use Rattle.multimap_slots.specs.Ownership.{final}
 use Rattle.ordered_multimap.specs.Agrees.{HasKey}
 use Rattle.ordered_multimap.specs.Pairs.{positions_of, values_of}
-use Rattle.ordered_multimap.proofs.LentLemmas.{ends_walk}
-use Rattle.ordered_multimap.proofs.LookupLemmas.{values_of-chain, positions_of-chain}
+use Rattle.ordered_multimap.proofs.Callers.LentValues.{ends_walk}
+use Rattle.ordered_multimap.proofs.Agreement.LookUps.{values_of-chain, positions_of-chain}
 use Rattle.ordered_multimap.proofs.list_ordered_multimap.ListOrderedMultimap.key_values_mut_at.Goals as goal
 
 pub returns : goal.returns

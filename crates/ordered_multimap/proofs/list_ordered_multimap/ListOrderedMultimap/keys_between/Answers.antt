@@ -1,7 +1,7 @@
 use Rattle.std.proofs.Common.{◌≡◌, length, sym, subst}
 use Rattle.multimap_slots.specs.Slots.{item_at}
 use Rattle.multimap_walks.specs.Along.{AreLeft, items_left}
-use Rattle.multimap_walks.proofs.AlongLemmas.{length_along}
+use Rattle.multimap_walks.proofs.Callers.Along.{length_along}
 use Rattle.ordered_multimap.proofs.list_ordered_multimap.ListOrderedMultimap.keys_between.Goals as goal
 
 pub returns : goal.returns

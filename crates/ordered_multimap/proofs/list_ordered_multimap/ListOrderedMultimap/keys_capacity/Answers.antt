@@ -1,5 +1,5 @@
 use Rattle.std.proofs.Common.{◌≤◌, length, subst, arith}
-use Rattle.ordered_multimap.proofs.AgreesLemmas.{length-keys}
+use Rattle.ordered_multimap.proofs.Agreement.Agreed.{length-keys}
 use Rattle.ordered_multimap.proofs.list_ordered_multimap.ListOrderedMultimap.keys_capacity.Goals as goal
 
 pub returns-clause-fits : goal.returns-clause-fits

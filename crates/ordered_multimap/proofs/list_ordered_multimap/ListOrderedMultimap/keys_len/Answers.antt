@@ -1,6 +1,6 @@
 use Rattle.std.proofs.Common.{length, sym, ap, ◌∙◌, subst}
 use Rattle.ordered_multimap.specs.Lists.{IsWellFormed}
-use Rattle.ordered_multimap.proofs.AgreesLemmas.{length-keys, well_formed}
+use Rattle.ordered_multimap.proofs.Agreement.Agreed.{length-keys, well_formed}
 use Rattle.ordered_multimap.proofs.list_ordered_multimap.ListOrderedMultimap.keys_len.Goals as goal
 
 pub returns-clause-len : goal.returns-clause-len

@@ -1,8 +1,8 @@
 use Rattle.std.proofs.Common.{◌≡◌, arith, length, sym, subst}
 use Rattle.ordered_multimap.specs.Agrees.{HasKey}
 use Rattle.ordered_multimap.specs.Pairs.{values_of}
-use Rattle.ordered_multimap.proofs.InsertLemmas.{chain_some}
-use Rattle.ordered_multimap.proofs.LookupLemmas.{count_of_values}
+use Rattle.ordered_multimap.proofs.Append.Inserted.{chain_some}
+use Rattle.ordered_multimap.proofs.Agreement.LookUps.{count_of_values}
 use Rattle.ordered_multimap.proofs.list_ordered_multimap.ListOrderedMultimap.len_at.Goals as goal
 
 pub returns-clause-len : goal.returns-clause-len

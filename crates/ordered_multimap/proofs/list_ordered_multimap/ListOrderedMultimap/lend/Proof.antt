@@ -48,8 +48,8 @@ use Rattle.std.proofs.raw_atomic.Walks.{proved}
 use Rattle.multimap_slots.specs.SlotCells.{cells_name, LendsSlots}
 use Rattle.multimap_slots.specs.CellsLends.{with_refilled, with_tape_refilled}
 use Rattle.multimap_slots.specs.Tapes.{with_list}
-use Rattle.multimap_slots.proofs.CellsLemmas.{LendsSlots-renamed}
-use Rattle.multimap_slots.proofs.Renamed.{slot_cells_renamed}
+use Rattle.multimap_slots.proofs.Callers.TakenItems.{LendsSlots-renamed}
+use Rattle.multimap_slots.proofs.Lending.Renamed.{slot_cells_renamed}
 use types.Follow.{after}
 use base.Stored.{Gv}
 use Rattle.multimap_slots.specs.contracts.cells_of.SlotCells as C-type
@@ -58,7 +58,7 @@ use Rattle.multimap_slots.specs.contracts.tape.Tape as P-type
 use Rattle.multimap_slots.proofs.cells_of.SlotCells.TheLaws as C-laws
 use Rattle.multimap_slots.proofs.list.SlotList.TheLaws as L-laws
 use Rattle.multimap_slots.proofs.tape.Tape.TheLaws as P-laws
-use Rattle.multimap_slots.proofs.Late.{Lents, lends_late, closes_named}
+use Rattle.multimap_slots.proofs.Lending.Late.{Lents, lends_late, closes_named}
 use Rattle.multimap_table.specs.contracts.table.KeyTable as T-type
 use Rattle.multimap_table.proofs.table.KeyTable.TheLaws as T-laws
 use Rattle.multimap_walks.specs.contracts.links.ChainEnds as E-type
@@ -74,8 +74,8 @@ use Rattle.ordered_multimap.specs.Agrees.{Agrees, hash_of}
 use Rattle.ordered_multimap.specs.ValuesLent.{with_values_of, with_values, with_items, EndsTapeOfValues}
 use Rattle.ordered_multimap.specs.contracts.list_ordered_multimap.ListOrderedMultimap as M-type
 use Rattle.ordered_multimap.specs.contracts.list_ordered_multimap.ListOrderedMultimap.TheInside as I-type
-use Rattle.ordered_multimap.proofs.Outlived.{told, hears, tells}
-use Rattle.ordered_multimap.proofs.LentLemmas.{map-ended, revalued_refilled, Agrees-refilled, AreLent-made, around_values}
+use Rattle.ordered_multimap.proofs.Loans.Outlived.{told, hears, tells}
+use Rattle.ordered_multimap.proofs.Callers.LentValues.{map-ended, revalued_refilled, Agrees-refilled, AreLent-made, around_values}
 use Rattle.ordered_multimap.specs.contracts.list_ordered_multimap.lend.cells_of as g
 use Rattle.ordered_multimap.proofs.list_ordered_multimap.lend.cells_of.Met.{met}
 use Rattle.ordered_multimap.specs.contracts.list_ordered_multimap.ListOrderedMultimap.lend as F

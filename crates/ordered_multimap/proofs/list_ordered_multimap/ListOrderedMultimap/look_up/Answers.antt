@@ -2,7 +2,7 @@ use Rattle.std.proofs.Common.{sym, ap, ◌∙◌, subst}
 use Rattle.std.specs.Prelude.{IfSome, IfNone}
 use Rattle.ordered_multimap.specs.Agrees.{HasKey, IsFoundBy, LacksKey, hash_of}
 use Rattle.ordered_multimap.specs.Pairs.{is_present}
-use Rattle.ordered_multimap.proofs.LookupLemmas.{keyed, found_by, lacks_key, present_as_found}
+use Rattle.ordered_multimap.proofs.Agreement.LookUps.{keyed, found_by, lacks_key, present_as_found}
 use Rattle.ordered_multimap.proofs.list_ordered_multimap.ListOrderedMultimap.look_up.Goals as goal
 
 pub place_of-requires : goal.place_of-requires

@@ -3,7 +3,7 @@ use Rattle.multimap_slots.specs.Lists.{IsIn}
 use Rattle.ordered_multimap.specs.Agrees.{HasKey, lists_of}
 use Rattle.ordered_multimap.specs.Keys.{moved_to_back}
 use Rattle.ordered_multimap.specs.Lists.{lists}
-use Rattle.ordered_multimap.proofs.KeyMoveLemmas.{agrees-moved, lists_of-moved}
+use Rattle.ordered_multimap.proofs.Pack.OneKeyMoved.{agrees-moved, lists_of-moved}
 use Rattle.ordered_multimap.proofs.list_ordered_multimap.ListOrderedMultimap.move_key_to_back.Goals as goal
 
 pub invariant_of-self : goal.invariant_of-self

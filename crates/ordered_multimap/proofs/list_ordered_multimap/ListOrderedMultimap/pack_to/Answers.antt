@@ -1,6 +1,6 @@
 use Rattle.std.proofs.Common.{◌/◌, length, ap, ◌∙◌, arith}
-use Rattle.ordered_multimap.proofs.AgreesLemmas.{length-keys, length-pairs}
-use Rattle.ordered_multimap.proofs.KeyRenameLemmas.{agrees-packed, lists_of-packed, packed_length}
+use Rattle.ordered_multimap.proofs.Agreement.Agreed.{length-keys, length-pairs}
+use Rattle.ordered_multimap.proofs.Pack.RenamedKeys.{agrees-packed, lists_of-packed, packed_length}
 use Rattle.ordered_multimap.proofs.list_ordered_multimap.ListOrderedMultimap.pack_to.Goals as goal
 
 pub pack-requires-clause-key_room : goal.pack-requires-clause-key_room

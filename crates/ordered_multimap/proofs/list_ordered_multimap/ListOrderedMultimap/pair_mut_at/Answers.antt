@@ -2,8 +2,8 @@ use Rattle.std.proofs.Common.{sym, ap, ◌∙◌, refl, min, ◌/◌}
 use Rattle.multimap_walks.specs.Chained.{pair_at}
 use Rattle.ordered_multimap.specs.TapeNumbers.{numbers_of}
 use Rattle.ordered_multimap.specs.Writes.{with_value}
-use Rattle.ordered_multimap.proofs.AgreesLemmas.{pair_at-is}
-use Rattle.ordered_multimap.proofs.WriteLemmas.{multimap-with_item, IsMap-with_item}
+use Rattle.ordered_multimap.proofs.Agreement.Agreed.{pair_at-is}
+use Rattle.ordered_multimap.proofs.Callers.Writes.{multimap-with_item, IsMap-with_item}
 use Rattle.ordered_multimap.proofs.list_ordered_multimap.ListOrderedMultimap.pair_mut_at.Goals as goal
 
 pub slot_at-requires : goal.slot_at-requires

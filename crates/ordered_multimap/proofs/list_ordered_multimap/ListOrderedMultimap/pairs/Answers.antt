@@ -1,6 +1,6 @@
 use Rattle.std.proofs.Common.{ap, ◌∙◌}
 use Rattle.ordered_multimap.specs.KeyLists.{keys_with_values}
-use Rattle.ordered_multimap.proofs.WalkLemmas.{keys_with_values-listed}
+use Rattle.ordered_multimap.proofs.Walks.WalkedLists.{keys_with_values-listed}
 use Rattle.ordered_multimap.proofs.list_ordered_multimap.ListOrderedMultimap.pairs.Goals as goal
 
 pub returns : goal.returns

@@ -38,15 +38,15 @@ use Rattle.std.proofs.raw_atomic.Walks.{proved, leaves}
 use Rattle.multimap_walks.specs.declared.End.{End}
 use Rattle.multimap_walks.specs.contracts.End as EndType
 use Rattle.multimap_walks.proofs.End.TheLaws as End-laws
-use Rattle.ordered_multimap.specs.Pop.{Popped, popped_pair}
-use Rattle.ordered_multimap.specs.Pops.{IsPopped, IsTaken, popped_of}
-use Rattle.ordered_multimap.proofs.HandsOn.{end_vals as at_end, stays_with_end, goes_with_end}
-use Rattle.ordered_multimap.proofs.Outlived.{told, hears, tells, states}
-use Rattle.ordered_multimap.proofs.Pairs.{both, both_typed, pair_out}
-use Rattle.ordered_multimap.proofs.Rested.{ends_weaker}
+use Rattle.ordered_multimap.specs.Popped.{Popped, popped_pair}
+use Rattle.ordered_multimap.specs.PopAnswers.{IsPopped, IsTaken, popped_of}
+use Rattle.ordered_multimap.proofs.Loans.HandsOn.{end_vals as at_end, stays_with_end, goes_with_end}
+use Rattle.ordered_multimap.proofs.Loans.Outlived.{told, hears, tells, states}
+use Rattle.ordered_multimap.proofs.Callers.PairsByValue.{both, both_typed, pair_out}
+use Rattle.ordered_multimap.proofs.Loans.Rested.{ends_weaker}
 use Rattle.ordered_multimap.specs.contracts.list_ordered_multimap.ListOrderedMultimap as Map
-use Rattle.ordered_multimap.specs.contracts.list_ordered_multimap.take_one.Taken as Taken
-use Rattle.ordered_multimap.proofs.list_ordered_multimap.take_one.Taken.TheLaws as Taken-laws
+use Rattle.ordered_multimap.specs.contracts.list_ordered_multimap.remove.one.Taken as Taken
+use Rattle.ordered_multimap.proofs.list_ordered_multimap.remove.one.Taken.TheLaws as Taken-laws
 use Rattle.ordered_multimap.specs.contracts.list_ordered_multimap.key_wrapper.KeyWrapper as Key
 use Rattle.ordered_multimap.proofs.list_ordered_multimap.key_wrapper.KeyWrapper.TheLaws as Key-laws
 use Rattle.ordered_multimap.specs.contracts.list_ordered_multimap.ListOrderedMultimap.pop_end as f

@@ -1,4 +1,4 @@
-use Rattle.ordered_multimap.proofs.LackLemmas.{removes_none}
+use Rattle.ordered_multimap.proofs.Agreement.AbsentKeys.{removes_none}
 use Rattle.ordered_multimap.proofs.list_ordered_multimap.ListOrderedMultimap.remove_entry.Goals as goal
 
 pub returns-in-Some-clause-removed : goal.returns-in-Some-clause-removed

@@ -51,10 +51,10 @@ use Rattle.ordered_multimap.specs.Keys.{stored_key}
 use Rattle.ordered_multimap.specs.Pairs.{values_of}
 use Rattle.ordered_multimap.specs.Rooms.{SameRooms}
 use Rattle.ordered_multimap.specs.TapeNumbers.{TakesOut}
-use Rattle.ordered_multimap.proofs.Options.{option_out}
-use Rattle.ordered_multimap.proofs.Outlived.{told, hears, tells, states}
-use Rattle.ordered_multimap.proofs.Pairs.{both, both_typed, pair_in, pair_out}
-use Rattle.ordered_multimap.proofs.Rested.{follows_itself, so_some, so_none}
+use Rattle.ordered_multimap.proofs.Loans.Options.{option_out}
+use Rattle.ordered_multimap.proofs.Loans.Outlived.{told, hears, tells, states}
+use Rattle.ordered_multimap.proofs.Callers.PairsByValue.{both, both_typed, pair_in, pair_out}
+use Rattle.ordered_multimap.proofs.Loans.Rested.{follows_itself, so_some, so_none}
 use Rattle.ordered_multimap.specs.contracts.list_ordered_multimap.ListOrderedMultimap as Map
 use Rattle.ordered_multimap.specs.contracts.list_ordered_multimap.drain.EntryValuesDrain as Drain
 use Rattle.ordered_multimap.proofs.list_ordered_multimap.drain.EntryValuesDrain.TheLaws as Drain-laws

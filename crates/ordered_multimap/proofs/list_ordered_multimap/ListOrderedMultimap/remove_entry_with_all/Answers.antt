@@ -1,5 +1,5 @@
 use Rattle.std.proofs.Common.{refl}
-use Rattle.ordered_multimap.proofs.DrainsLemmas.{drains_entry}
+use Rattle.ordered_multimap.proofs.Detach.Drains.{drains_entry}
 use Rattle.ordered_multimap.proofs.list_ordered_multimap.ListOrderedMultimap.remove_entry_with_all.Goals as goal
 
 pub returns-clause-drain : goal.returns-clause-drain

@@ -2,8 +2,8 @@ use Rattle.std.proofs.Common.{◌≤◌, ◌+◌, IsOk, OnOk, ap, arith, length,
 use Rattle.std.proofs.lemmas.Result.{on_ok_weaker}
 use Rattle.ordered_multimap.specs.Agrees.{lists_of}
 use Rattle.ordered_multimap.specs.Rooms.{OnlyGrows, SameRooms}
-use Rattle.ordered_multimap.proofs.ReserveLemmas.{fits_keys, keys_fit, same_key_rooms}
-use Rattle.ordered_multimap.proofs.RoomLemmas.{keeps_rooms, map_of}
+use Rattle.ordered_multimap.proofs.Pack.Capacities.{fits_keys, keys_fit, same_key_rooms}
+use Rattle.ordered_multimap.proofs.Append.Rooms.{keeps_rooms, map_of}
 use Rattle.ordered_multimap.proofs.list_ordered_multimap.ListOrderedMultimap.reserve_keys.Goals as goal
 
 pub returns-clause-room : goal.returns-clause-room

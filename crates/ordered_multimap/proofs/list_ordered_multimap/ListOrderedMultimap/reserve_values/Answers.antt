@@ -2,8 +2,8 @@ use Rattle.std.proofs.Common.{◌≤◌, ◌+◌, IsOk, OnOk, ap, length, refl, 
 use Rattle.std.proofs.lemmas.Result.{on_ok_weaker}
 use Rattle.ordered_multimap.specs.Agrees.{lists_of}
 use Rattle.ordered_multimap.specs.Rooms.{OnlyGrows, SameRooms}
-use Rattle.ordered_multimap.proofs.ReserveLemmas.{agrees-widened, fits_values, values_fit, same_value_rooms}
-use Rattle.ordered_multimap.proofs.RoomLemmas.{half_doubles, keeps_rooms, map_of}
+use Rattle.ordered_multimap.proofs.Pack.Capacities.{agrees-widened, fits_values, values_fit, same_value_rooms}
+use Rattle.ordered_multimap.proofs.Append.Rooms.{half_doubles, keeps_rooms, map_of}
 use Rattle.ordered_multimap.proofs.list_ordered_multimap.ListOrderedMultimap.reserve_values.Goals as goal
 
 pub invariant_of-self : goal.invariant_of-self

@@ -1,8 +1,8 @@
 use Rattle.std.proofs.Common.{◌-◌, ◌/◌, length, ap, subst, arith}
 use Rattle.multimap_walks.specs.Chained.{pairs_of}
 use Rattle.ordered_multimap.specs.TapeNumbers.{TakesOut, numbers_of}
-use Rattle.ordered_multimap.proofs.AgreesLemmas.{length-pairs}
-use Rattle.ordered_multimap.proofs.AppendedLemmas.{stays_paid}
+use Rattle.ordered_multimap.proofs.Agreement.Agreed.{length-pairs}
+use Rattle.ordered_multimap.proofs.Append.Appended.{stays_paid}
 use Rattle.ordered_multimap.proofs.list_ordered_multimap.ListOrderedMultimap.retain.Goals as goal
 
 pub invariant_of-self : goal.invariant_of-self

@@ -1,15 +1,16 @@
 use Rattle.std.proofs.Common.{◌/◌, Some, None, refl, sym, ap, ◌∙◌, subst, min}
 use Rattle.multimap_walks.specs.Chained.{pair_at, pairs_of}
 use Rattle.ordered_multimap.specs.Pairs.{has_items}
-use Rattle.ordered_multimap.specs.Pop.{popped_pair}
-use Rattle.ordered_multimap.specs.Pops.{IsPopped, IsTaken}
+use Rattle.ordered_multimap.specs.Popped.{popped_pair}
+use Rattle.ordered_multimap.specs.PopAnswers.{IsPopped, IsTaken}
 use Rattle.ordered_multimap.specs.TapeNumbers.{numbers_of}
 use Rattle.ordered_multimap.specs.Agrees.{lists_of}
-use Rattle.ordered_multimap.proofs.AppendedLemmas.{stays_paid}
-use Rattle.ordered_multimap.proofs.RoomLemmas.{map_of}
-use Rattle.ordered_multimap.proofs.LeavesLemmas.{has_pair}
-use Rattle.ordered_multimap.proofs.PopLemmas.{end_listed, none_at_end, popped-none, popped_pair-none, leaves, takes_one_out, takes_none_out}
-use Rattle.ordered_multimap.proofs.PopLemmas.{fits-pair}
+use Rattle.ordered_multimap.proofs.Append.Appended.{stays_paid}
+use Rattle.ordered_multimap.proofs.Append.Rooms.{map_of}
+use Rattle.ordered_multimap.proofs.Remove.OnePair.{has_pair}
+use Rattle.ordered_multimap.proofs.Remove.AtEnds.{end_listed, none_at_end, popped-none, popped_pair-none, leaves, takes_one_out}
+use Rattle.ordered_multimap.proofs.Remove.AtEnds.{takes_none_out}
+use Rattle.ordered_multimap.proofs.Remove.AtEnds.{fits-pair}
 use Rattle.ordered_multimap.proofs.list_ordered_multimap.ListOrderedMultimap.take_end.Goals as goal
 
 pub take_pair_at-requires : goal.take_pair_at-requires

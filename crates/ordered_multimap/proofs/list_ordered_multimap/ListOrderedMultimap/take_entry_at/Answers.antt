@@ -6,10 +6,10 @@ use Rattle.ordered_multimap.specs.Changes.{removed}
 use Rattle.ordered_multimap.specs.TapeNumbers.{TakesOut, numbers_of}
 use Rattle.ordered_multimap.specs.Agrees.{HasKey}
 use Rattle.ordered_multimap.specs.Removals.{LosesValues}
-use Rattle.ordered_multimap.proofs.LeavesLemmas.{has_entry, map_left}
-use Rattle.ordered_multimap.proofs.RoomLemmas.{map_of}
-use Rattle.ordered_multimap.proofs.LookupLemmas.{own_key}
-use Rattle.ordered_multimap.proofs.TakeLemmas.{lists_of-taken, entry_is, entry_count}
+use Rattle.ordered_multimap.proofs.Remove.OnePair.{has_entry, map_left}
+use Rattle.ordered_multimap.proofs.Append.Rooms.{map_of}
+use Rattle.ordered_multimap.proofs.Agreement.LookUps.{own_key}
+use Rattle.ordered_multimap.proofs.Remove.WholeKeys.{lists_of-taken, entry_is, entry_count}
 use Rattle.ordered_multimap.proofs.list_ordered_multimap.ListOrderedMultimap.take_entry_at.Goals as goal
 
 pub leave_entry-key-requires : goal.leave_entry-key-requires

@@ -3,7 +3,7 @@ use Rattle.std.proofs.lemmas.Option.{IfSome_then}
 use Rattle.multimap_slots.specs.Slots.{item_at}
 use Rattle.multimap_walks.specs.Along.{items_left, places_left}
 use Rattle.multimap_walks.specs.Walk.{end_item, end_rest}
-use Rattle.ordered_multimap.proofs.StepOverLemmas.{over_end}
+use Rattle.ordered_multimap.proofs.Chains.StepsOver.{over_end}
 use Rattle.ordered_multimap.proofs.list_ordered_multimap.ListOrderedMultimap.take_key.Goals as goal
 
 pub returns-clause-key : goal.returns-clause-key

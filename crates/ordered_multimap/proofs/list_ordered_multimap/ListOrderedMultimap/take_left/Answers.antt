@@ -2,9 +2,9 @@ use Rattle.std.proofs.Common.{◌≡◌, Some, unwrap_or, sym, subst, arith, ap,
 use Rattle.multimap_slots.specs.Slots.{IsDetached, TakesDetached, link_at}
 use Rattle.multimap_walks.specs.Walk.{with_end}
 use Rattle.ordered_multimap.specs.Detaches.{HoldsDrain, IsDrained, KeepsListed, drained, left_of}
-use Rattle.ordered_multimap.proofs.DrainLemmas.{keeps_slots, agrees-listed}
-use Rattle.ordered_multimap.proofs.DrainedLemmas.{end_detached, end_given, end_rest, fits-listed, paid-listed, keeps_listed}
-use Rattle.ordered_multimap.proofs.RoomLemmas.{map_of}
+use Rattle.ordered_multimap.proofs.Detach.DrainSteps.{keeps_slots, agrees-listed}
+use Rattle.ordered_multimap.proofs.Detach.KeptByDrains.{end_detached, end_given, end_rest, fits-listed, paid-listed, keeps_listed}
+use Rattle.ordered_multimap.proofs.Append.Rooms.{map_of}
 use Rattle.ordered_multimap.proofs.list_ordered_multimap.ListOrderedMultimap.take_left.Goals as goal
 
 pub get_detached-requires : goal.get_detached-requires

@@ -1,12 +1,12 @@
 use Rattle.std.proofs.Common.{◌≡◌, refl, sym, subst}
 use Rattle.multimap_slots.specs.Lists.{IsIn}
 use Rattle.ordered_multimap.specs.Agrees.{HasKey, lists_of}
-use Rattle.ordered_multimap.specs.KeySteps.{StaysInRoom}
-use Rattle.ordered_multimap.proofs.LookupLemmas.{own_key}
-use Rattle.ordered_multimap.proofs.RoomLemmas.{map_of, same_rooms}
+use Rattle.ordered_multimap.specs.Private.KeySteps.{StaysInRoom}
+use Rattle.ordered_multimap.proofs.Agreement.LookUps.{own_key}
+use Rattle.ordered_multimap.proofs.Append.Rooms.{map_of, same_rooms}
 use Rattle.ordered_multimap.specs.RemovedAt.{removed_at, value_beside}
-use Rattle.ordered_multimap.proofs.AppendedLemmas.{stays_paid}
-use Rattle.ordered_multimap.proofs.TakeAtLemmas.{agrees-at, capacities-at, fits-at, lists_of-at, stays-at, value_is-at}
+use Rattle.ordered_multimap.proofs.Append.Appended.{stays_paid}
+use Rattle.ordered_multimap.proofs.Remove.ByIndex.{agrees-at, capacities-at, fits-at, lists_of-at, stays-at, value_is-at}
 use Rattle.ordered_multimap.proofs.list_ordered_multimap.ListOrderedMultimap.take_value_at.Goals as goal
 
 pub invariant_of-self : goal.invariant_of-self

@@ -3,8 +3,8 @@ use Rattle.multimap_walks.specs.Chained.{pairs_of}
 use Rattle.ordered_multimap.specs.Agrees.{HasKey}
 use Rattle.ordered_multimap.specs.Pairs.{values_of}
 use Rattle.ordered_multimap.specs.Updates.{CallableOnEach, UpdatesKey}
-use Rattle.ordered_multimap.proofs.RewriteLemmas.{chain_callable, chain_updated}
-use Rattle.ordered_multimap.proofs.UpdatesLemmas.{map_kept, absent_updated, key_stepwise}
+use Rattle.ordered_multimap.proofs.Update.OneKey.{chain_callable, chain_updated}
+use Rattle.ordered_multimap.proofs.Update.Updates.{map_kept, absent_updated, key_stepwise}
 use Rattle.ordered_multimap.proofs.list_ordered_multimap.ListOrderedMultimap.update_all.Goals as goal
 
 pub rewrite_chain-requires-clause-callable : goal.rewrite_chain-requires-clause-callable

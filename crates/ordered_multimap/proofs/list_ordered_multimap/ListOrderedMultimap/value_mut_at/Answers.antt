@@ -3,7 +3,7 @@ use Rattle.multimap_slots.specs.Lists.{IsIn}
 use Rattle.multimap_slots.specs.Slots.{item_at}
 use Rattle.ordered_multimap.specs.TapeNumbers.{numbers_of}
 use Rattle.ordered_multimap.specs.Writes.{with_value}
-use Rattle.ordered_multimap.proofs.WriteLemmas.{multimap-with_item, IsMap-with_item}
+use Rattle.ordered_multimap.proofs.Callers.Writes.{multimap-with_item, IsMap-with_item}
 use Rattle.ordered_multimap.proofs.list_ordered_multimap.ListOrderedMultimap.value_mut_at.Goals as goal
 
 pub invariant_of-self-lent : goal.invariant_of-self-lent

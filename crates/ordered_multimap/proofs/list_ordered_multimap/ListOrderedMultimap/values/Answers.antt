@@ -1,6 +1,6 @@
 use Rattle.std.proofs.Common.{sym, ap, ◌∙◌}
 use Rattle.ordered_multimap.specs.Pairs.{all_values}
-use Rattle.ordered_multimap.proofs.WalkLemmas.{all_values-listed}
+use Rattle.ordered_multimap.proofs.Walks.WalkedLists.{all_values-listed}
 use Rattle.ordered_multimap.proofs.list_ordered_multimap.ListOrderedMultimap.values.Goals as goal
 
 pub returns : goal.returns

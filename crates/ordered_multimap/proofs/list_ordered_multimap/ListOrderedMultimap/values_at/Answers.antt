@@ -1,7 +1,7 @@
 use Rattle.std.proofs.Common.{◌≡◌, sym, ◌∙◌, subst}
 use Rattle.ordered_multimap.specs.Agrees.{HasKey}
 use Rattle.ordered_multimap.specs.Pairs.{positions_of, values_of}
-use Rattle.ordered_multimap.proofs.LookupLemmas.{values_of-chain, positions_of-chain}
+use Rattle.ordered_multimap.proofs.Agreement.LookUps.{values_of-chain, positions_of-chain}
 use Rattle.ordered_multimap.proofs.list_ordered_multimap.ListOrderedMultimap.values_at.Goals as goal
 
 pub returns-clause-values : goal.returns-clause-values

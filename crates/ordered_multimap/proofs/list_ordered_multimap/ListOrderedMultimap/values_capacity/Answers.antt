@@ -1,6 +1,6 @@
 use Rattle.std.proofs.Common.{◌≡◌, ◌≤◌, ◌/◌, length, subst, refl, arith}
 use Rattle.ordered_multimap.specs.TapeNumbers.{ArePaid}
-use Rattle.ordered_multimap.proofs.AgreesLemmas.{length-pairs}
+use Rattle.ordered_multimap.proofs.Agreement.Agreed.{length-pairs}
 use Rattle.ordered_multimap.proofs.list_ordered_multimap.ListOrderedMultimap.values_capacity.Goals as goal
 
 pub returns-clause-fits : goal.returns-clause-fits

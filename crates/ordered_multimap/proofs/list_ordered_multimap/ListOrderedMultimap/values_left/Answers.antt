@@ -1,6 +1,6 @@
 use Rattle.std.proofs.Common.{sym, subst}
 use Rattle.ordered_multimap.specs.Detaches.{HoldsDrain}
-use Rattle.ordered_multimap.proofs.DrainLemmas.{chain_of-drained}
+use Rattle.ordered_multimap.proofs.Detach.DrainSteps.{chain_of-drained}
 use Rattle.ordered_multimap.proofs.list_ordered_multimap.ListOrderedMultimap.values_left.Goals as goal
 
 pub new_detached-requires : goal.new_detached-requires

@@ -1,5 +1,5 @@
 use Rattle.std.proofs.Common.{length, sym, ap, ◌∙◌}
-use Rattle.ordered_multimap.proofs.AgreesLemmas.{length-pairs}
+use Rattle.ordered_multimap.proofs.Agreement.Agreed.{length-pairs}
 use Rattle.ordered_multimap.proofs.list_ordered_multimap.ListOrderedMultimap.values_len.Goals as goal
 
 pub returns : goal.returns

@@ -1,9 +1,9 @@
 use Rattle.std.proofs.Common.{refl, sym, ap, ◌∙◌}
 use Rattle.multimap_slots.specs.Ownership.{final}
 use Rattle.ordered_multimap.specs.Pairs.{all_positions, all_values}
-use Rattle.ordered_multimap.proofs.LentLemmas.{ends_walk}
-use Rattle.ordered_multimap.proofs.LookupLemmas.{positions_at-all}
-use Rattle.ordered_multimap.proofs.WalkLemmas.{all_values-listed}
+use Rattle.ordered_multimap.proofs.Callers.LentValues.{ends_walk}
+use Rattle.ordered_multimap.proofs.Agreement.LookUps.{positions_at-all}
+use Rattle.ordered_multimap.proofs.Walks.WalkedLists.{all_values-listed}
 use Rattle.ordered_multimap.proofs.list_ordered_multimap.ListOrderedMultimap.values_mut.Goals as goal
 
 pub returns : goal.returns

@@ -1,5 +1,5 @@
 use Rattle.std.proofs.Common.{refl, arith}
-use Rattle.ordered_multimap.proofs.AgreesLemmas.{empty_map, lists_of-empty}
+use Rattle.ordered_multimap.proofs.Agreement.Agreed.{empty_map, lists_of-empty}
 use Rattle.ordered_multimap.proofs.list_ordered_multimap.ListOrderedMultimap.with_capacity_and_hasher.Goals as goal
 
 pub invariant_of-result : goal.invariant_of-result

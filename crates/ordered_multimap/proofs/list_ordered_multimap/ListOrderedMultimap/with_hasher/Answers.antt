@@ -1,4 +1,4 @@
-use Rattle.ordered_multimap.proofs.AgreesLemmas.{empty_map, lists_of-empty}
+use Rattle.ordered_multimap.proofs.Agreement.Agreed.{empty_map, lists_of-empty}
 use Rattle.ordered_multimap.proofs.list_ordered_multimap.ListOrderedMultimap.with_hasher.Goals as goal
 
 pub invariant_of-result : goal.invariant_of-result

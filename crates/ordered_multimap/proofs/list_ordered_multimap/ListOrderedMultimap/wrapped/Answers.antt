@@ -1,6 +1,6 @@
 use Rattle.std.proofs.Common.{◌≡◌, Option, Some, None, ap, subst}
-use Rattle.ordered_multimap.specs.Pop.{Popped}
-use Rattle.ordered_multimap.specs.Pops.{IsTaken, IsTakenKey, popped_of}
+use Rattle.ordered_multimap.specs.Popped.{Popped}
+use Rattle.ordered_multimap.specs.PopAnswers.{IsTaken, IsTakenKey, popped_of}
 use Rattle.ordered_multimap.proofs.list_ordered_multimap.ListOrderedMultimap.wrapped.Goals as goal
 
 pub wrapped_one-requires : goal.wrapped_one-requires

@@ -1,6 +1,6 @@
 use Rattle.std.proofs.Common.{sym, ◌∙◌}
-use Rattle.ordered_multimap.proofs.InsertLemmas.{chain-renamed}
-use Rattle.ordered_multimap.proofs.StepLemmas.{ok_if}
+use Rattle.ordered_multimap.proofs.Append.Inserted.{chain-renamed}
+use Rattle.ordered_multimap.proofs.Append.Steps.{ok_if}
 use Rattle.ordered_multimap.proofs.list_ordered_multimap.append.append_behind.Goals as goal
 
 pub push_behind-requires : goal.push_behind-requires

@@ -1,6 +1,6 @@
 use Rattle.std.proofs.Common.{ap, sym, ◌∙◌, subst}
-use Rattle.ordered_multimap.specs.Appends.{PushesRow, link_of_one}
-use Rattle.ordered_multimap.proofs.StepLemmas.{ok_if, new_listed}
+use Rattle.ordered_multimap.specs.Private.Append.{PushesRow, link_of_one}
+use Rattle.ordered_multimap.proofs.Append.Steps.{ok_if, new_listed}
 use Rattle.ordered_multimap.proofs.list_ordered_multimap.append.append_first.Goals as goal
 
 pub returns-clause-found : goal.returns-clause-found

@@ -3,7 +3,7 @@ use Rattle.std.specs.Prelude.{IfSome}
 use Rattle.ordered_multimap.specs.Agrees.{HasKey, hash_of}
 use Rattle.ordered_multimap.specs.Changes.{appended}
 use Rattle.ordered_multimap.specs.Clones.{AreClones}
-use Rattle.ordered_multimap.proofs.CloneLemmas.{clones_behind, clones_first, listed_if_found, unlisted_if_none}
+use Rattle.ordered_multimap.proofs.Pack.Clones.{clones_behind, clones_first, listed_if_found, unlisted_if_none}
 use Rattle.ordered_multimap.proofs.list_ordered_multimap.clone.append_clone.Goals as goal
 
 pub append_new-requires-clause-hash : goal.append_new-requires-clause-hash

@@ -1,5 +1,5 @@
 use Rattle.std.proofs.Common.{length, ap, arith}
-use Rattle.ordered_multimap.proofs.CloneLemmas.{value_fits, key_fits}
+use Rattle.ordered_multimap.proofs.Pack.Clones.{value_fits, key_fits}
 use Rattle.ordered_multimap.proofs.list_ordered_multimap.clone.append_clones.Goals as goal
 
 pub append_clone-requires-clause-value_room : goal.append_clone-requires-clause-value_room

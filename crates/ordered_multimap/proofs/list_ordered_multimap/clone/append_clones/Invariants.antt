@@ -3,7 +3,7 @@ use Rattle.std.specs.Map.{keys_of}
 use Rattle.multimap_slots.specs.Lists.{IsIn}
 use Rattle.ordered_multimap.specs.Changes.{built_from}
 use Rattle.ordered_multimap.specs.Rooms.{KeepsRoomsAndPairs}
-use Rattle.ordered_multimap.proofs.CloneLemmas.{IsCloning}
+use Rattle.ordered_multimap.proofs.Pack.Clones.{IsCloning}
 use Rattle.ordered_multimap.proofs.list_ordered_multimap.clone.append_clones.Given as goal
 
 abbrev pub invariant-loop-key : goal.invariant-loop-key

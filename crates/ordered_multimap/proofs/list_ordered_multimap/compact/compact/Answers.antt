@@ -1,9 +1,9 @@
 use Rattle.std.proofs.Common.{◌≡◌, map, length, refl, sym, ap, ◌∙◌, subst, arith, add-one, unwrap_or}
 use Rattle.multimap_slots.specs.Lists.{IsIn, next_of}
-use Rattle.ordered_multimap.specs.Renames.{places_below, renamed}
-use Rattle.ordered_multimap.proofs.RenameLemmas.{chains-renamed}
-use Rattle.ordered_multimap.proofs.CompactLemmas.{settled-start, settled-next, next-listed, next-holes, settled-stay, settled-move}
-use Rattle.ordered_multimap.proofs.CompactLemmas.{settled-end, settled-all, renamed-room, renames-then, renames-cut}
+use Rattle.ordered_multimap.specs.Private.Renames.{places_below, renamed}
+use Rattle.ordered_multimap.proofs.Agreement.Renamed.{chains-renamed}
+use Rattle.ordered_multimap.proofs.Compact.Settled.{settled-start, settled-next, next-listed, next-holes, settled-stay, settled-move}
+use Rattle.ordered_multimap.proofs.Compact.Settled.{settled-end, settled-all, renamed-room, renames-then, renames-cut}
 use Rattle.std.proofs.lemmas.List.{length-map}
 use Rattle.ordered_multimap.proofs.list_ordered_multimap.compact.compact.Goals as goal
 use Rattle.ordered_multimap.proofs.list_ordered_multimap.compact.compact.Goals.{then-to-from, else-to-from}

@@ -1,6 +1,6 @@
 use Rattle.std.proofs.Common.{◌≡◌, ◌≤◌, ◌+◌, length}
-use Rattle.ordered_multimap.specs.Renames.{AreRenamed, KeepsCapacities}
-use Rattle.ordered_multimap.proofs.CompactLemmas.{AreSettled}
+use Rattle.ordered_multimap.specs.Private.Renames.{AreRenamed, KeepsCapacities}
+use Rattle.ordered_multimap.proofs.Compact.Settled.{AreSettled}
 use Rattle.ordered_multimap.proofs.list_ordered_multimap.compact.compact.Given as goal
 
 abbrev pub invariant-loop-to : goal.invariant-loop-to

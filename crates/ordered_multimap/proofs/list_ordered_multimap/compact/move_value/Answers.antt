@@ -1,18 +1,20 @@
-use Rattle.ordered_multimap.proofs.MendLemmas.{owner_listed, ends-kept, before_listed, behind_listed, moves-value}
-use Rattle.ordered_multimap.proofs.MoveLemmas.{renames-moved}
+use Rattle.ordered_multimap.proofs.Compact.Mended.{owner_listed, ends-kept, before_listed, behind_listed, moves-value}
+use Rattle.ordered_multimap.proofs.Compact.OneMove.{renames-moved}
 use Rattle.std.proofs.Common.{ap, subst, sym, IfSome}
 use Rattle.multimap_slots.specs.Lists.{IsIn}
 use Rattle.ordered_multimap.proofs.list_ordered_multimap.compact.move_value.Goals as goal
 
 pub set_next-requires : goal.set_next-requires
 set_next-requires g c =
-    before_listed c.requires.chains.keys_sound c.requires.chains.sound c.requires.chains.chained c.args.from c.link_of-link.result c.requires.listed
+    before_listed c.requires.chains.keys_sound c.requires.chains.sound c.requires.chains.chained c.args.from c.link_of-link.result
+    c.requires.listed
     c.link_of-link.ensures.link c.args.to _ c.move_down.ensures.moved
 
 pub set_previous-requires : goal.set_previous-requires
 set_previous-requires g c =
     subst (λ ps. IfSome c.link_of-link.result.next (λ p. IsIn p ps)) (sym (ap (λ t. t.list.order) c.set_next.ensures.rest))
-    (behind_listed c.requires.chains.keys_sound c.requires.chains.sound c.requires.chains.chained c.args.from c.link_of-link.result c.requires.listed
+    (behind_listed c.requires.chains.keys_sound c.requires.chains.sound c.requires.chains.chained c.args.from c.link_of-link.result
+    c.requires.listed
     c.link_of-link.ensures.link c.args.to _ c.move_down.ensures.moved)
 
 pub returns-clause-renames : goal.returns-clause-renames
@@ -25,10 +27,12 @@ returns-clause-renames g c =
 
 pub mend_ends-requires-clause-listed : goal.mend_ends-requires-clause-listed
 mend_ends-requires-clause-listed g c =
-    owner_listed c.requires.chains.keys_sound c.requires.chains.sound c.requires.chains.chained c.args.from c.link_of-link.result c.requires.listed
+    owner_listed c.requires.chains.keys_sound c.requires.chains.sound c.requires.chains.chained c.args.from c.link_of-link.result
+    c.requires.listed
     c.link_of-link.ensures.link
 
 pub mend_ends-requires-clause-between : goal.mend_ends-requires-clause-between
 mend_ends-requires-clause-between g c =
-    ends-kept c.requires.chains.keys_sound c.requires.chains.sound c.requires.chains.chained c.args.from c.link_of-link.result c.requires.listed
+    ends-kept c.requires.chains.keys_sound c.requires.chains.sound c.requires.chains.chained c.args.from c.link_of-link.result
+    c.requires.listed
     c.link_of-link.ensures.link c.args.to

@@ -1,6 +1,6 @@
 use Rattle.std.proofs.Common.{sym, ap, ◌∙◌}
 use Rattle.ordered_multimap.specs.Pairs.{same_pairs}
-use Rattle.ordered_multimap.proofs.EqualLemmas.{same_further, same_no_more}
+use Rattle.ordered_multimap.proofs.Walks.EqualPairs.{same_further, same_no_more}
 use Rattle.ordered_multimap.proofs.list_ordered_multimap.equal.are_same.Goals as goal
 
 pub loop-key-init : goal.loop-key-init

@@ -1,5 +1,5 @@
 use Rattle.std.proofs.Common.{◌/◌, ap, ◌∙◌, arith}
-use Rattle.ordered_multimap.proofs.InsertLemmas.{chain-renamed, has_value, inserts-over, over_keys, over_values}
+use Rattle.ordered_multimap.proofs.Append.Inserted.{chain-renamed, has_value, inserts-over, over_keys, over_values}
 use Rattle.ordered_multimap.proofs.list_ordered_multimap.insert.insert_behind.Goals as goal
 
 pub make_end_room-requires-clause-slots : goal.make_end_room-requires-clause-slots

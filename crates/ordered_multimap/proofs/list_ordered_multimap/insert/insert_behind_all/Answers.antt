@@ -1,7 +1,7 @@
 use Rattle.std.proofs.Common.{◌∙◌, sym, subst, arith}
 use Rattle.multimap_slots.specs.Slots.{DoublesIfGrown}
-use Rattle.ordered_multimap.proofs.InsertLemmas.{chain-renamed, inserts-over, over_keys, over_values}
-use Rattle.ordered_multimap.proofs.StepLemmas.{ok_if}
+use Rattle.ordered_multimap.proofs.Append.Inserted.{chain-renamed, inserts-over, over_keys, over_values}
+use Rattle.ordered_multimap.proofs.Append.Steps.{ok_if}
 use Rattle.ordered_multimap.proofs.list_ordered_multimap.insert.insert_behind_all.Goals as goal
 
 pub push_over-requires : goal.push_over-requires

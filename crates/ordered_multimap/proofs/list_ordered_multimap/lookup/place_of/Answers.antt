@@ -2,7 +2,7 @@ use Rattle.std.proofs.Common.{◌≡◌, ℕ, Bool, true, false, Option, Some, N
 use Rattle.std.specs.FinMap.{get}
 use Rattle.ordered_multimap.specs.Keys.{is_listed}
 use Rattle.ordered_multimap.specs.Agrees.{HasKey, SaysWhetherEqual, items_of}
-use Rattle.ordered_multimap.proofs.LookupLemmas.{unlisted}
+use Rattle.ordered_multimap.proofs.Agreement.LookUps.{unlisted}
 use Rattle.ordered_multimap.proofs.list_ordered_multimap.lookup.place_of.Goals as goal
 
 pub returns-clause-found : goal.returns-clause-found

@@ -1,7 +1,7 @@
 use Rattle.std.proofs.Common.{◌≡◌, length}
-use Rattle.ordered_multimap.specs.KeyRenames.{HasRows}
-use Rattle.ordered_multimap.specs.Takes.{KeepsKeyRoom}
-use Rattle.ordered_multimap.proofs.PackLemmas.{AreGoing}
+use Rattle.ordered_multimap.specs.Private.KeyRenames.{HasRows}
+use Rattle.ordered_multimap.specs.Private.Remove.{KeepsKeyRoom}
+use Rattle.ordered_multimap.proofs.Pack.Packing.{AreGoing}
 use Rattle.ordered_multimap.proofs.list_ordered_multimap.pack.move_keys.Given as goal
 
 abbrev pub invariant-loop-place : goal.invariant-loop-place

@@ -2,8 +2,8 @@ use Rattle.std.proofs.Common.{◌≡◌, ◌<◌, length, get_or, add-one, sym, 
 use Rattle.std.proofs.lemmas.List.{get_or_default}
 use Rattle.multimap_slots.specs.Slots.{PushesBack}
 use Rattle.multimap_walks.specs.declared.links.ValueLink.{ValueLink}
-use Rattle.ordered_multimap.proofs.PackLemmas.{coming-start, coming-step, come_length, coming-end, next_there, was_there}
-use Rattle.ordered_multimap.proofs.StepLemmas.{room_on, room_same}
+use Rattle.ordered_multimap.proofs.Pack.Packing.{coming-start, coming-step, come_length, coming-end, next_there, was_there}
+use Rattle.ordered_multimap.proofs.Append.Steps.{room_on, room_same}
 use Rattle.ordered_multimap.proofs.list_ordered_multimap.pack.move_values.Goals as goal
 
 pub loop-place-init : goal.loop-place-init

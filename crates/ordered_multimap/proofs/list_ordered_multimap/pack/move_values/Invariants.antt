@@ -1,6 +1,6 @@
-use Rattle.ordered_multimap.specs.Appends.{KeepsTapeRoom}
-use Rattle.ordered_multimap.specs.KeyRenames.{name_in}
-use Rattle.ordered_multimap.proofs.PackLemmas.{AreComing}
+use Rattle.ordered_multimap.specs.Private.Append.{KeepsTapeRoom}
+use Rattle.ordered_multimap.specs.Private.KeyRenames.{name_in}
+use Rattle.ordered_multimap.proofs.Pack.Packing.{AreComing}
 use Rattle.ordered_multimap.proofs.list_ordered_multimap.pack.move_values.Given as goal
 
 abbrev pub invariant-loop-place : goal.invariant-loop-place

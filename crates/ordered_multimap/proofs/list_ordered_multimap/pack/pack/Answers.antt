@@ -1,6 +1,6 @@
 use Rattle.std.proofs.Common.{subst, arith}
 use Rattle.multimap_slots.specs.Lists.{IsIn}
-use Rattle.ordered_multimap.proofs.RenameLemmas.{chains-renamed}
+use Rattle.ordered_multimap.proofs.Agreement.Renamed.{chains-renamed}
 use Rattle.ordered_multimap.proofs.list_ordered_multimap.pack.pack.Goals as goal
 
 pub move_keys-requires-clause-within : goal.move_keys-requires-clause-within

@@ -1,5 +1,5 @@
 use Rattle.std.proofs.Common.{refl}
-use Rattle.ordered_multimap.proofs.AgreesLemmas.{pair_at-is}
+use Rattle.ordered_multimap.proofs.Agreement.Agreed.{pair_at-is}
 use Rattle.ordered_multimap.proofs.list_ordered_multimap.retain.ask.Goals as goal
 
 pub returns-clause-asked : goal.returns-clause-asked

@@ -1,6 +1,6 @@
 use Rattle.std.proofs.Common.{sym, ap, subst}
-use Rattle.ordered_multimap.specs.TakesOne.{HasLinks}
-use Rattle.ordered_multimap.proofs.WriteLemmas.{IsChained-with_item, IsSound-with_item}
+use Rattle.ordered_multimap.specs.Private.RemoveOne.{HasLinks}
+use Rattle.ordered_multimap.proofs.Callers.Writes.{IsChained-with_item, IsSound-with_item}
 use Rattle.ordered_multimap.proofs.list_ordered_multimap.retain.retain_at.Goals as goal
 
 pub ask-stays-requires-clause-stands : goal.ask-stays-requires-clause-stands

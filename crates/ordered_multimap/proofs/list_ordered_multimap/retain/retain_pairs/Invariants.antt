@@ -1,8 +1,8 @@
 use Rattle.std.proofs.Common.{◌≡◌, ◌+◌, ◌≤◌, length}
 use Rattle.std.specs.Map.Calls.{CalledAtPair, TakesPair}
-use Rattle.ordered_multimap.specs.Takes.{KeepsRoom}
-use Rattle.ordered_multimap.proofs.PlaceLemmas.{places_from}
-use Rattle.ordered_multimap.proofs.RetainLemmas.{IsRetaining}
+use Rattle.ordered_multimap.specs.Private.Remove.{KeepsRoom}
+use Rattle.ordered_multimap.proofs.Callers.Places.{places_from}
+use Rattle.ordered_multimap.proofs.Remove.Retaining.{IsRetaining}
 use Rattle.ordered_multimap.proofs.list_ordered_multimap.retain.retain_pairs.Given as goal
 
 abbrev pub invariant-loop-following : goal.invariant-loop-following

@@ -1,9 +1,9 @@
 use Rattle.std.proofs.Common.{◌<◌, sym, subst}
 use Rattle.multimap_walks.specs.Chained.{chain_of}
-use Rattle.ordered_multimap.proofs.RewriteLemmas.{may_rewrite, rewriting-at, rewriting-end, rewriting-listed, rewriting-smaller}
-use Rattle.ordered_multimap.proofs.RewriteLemmas.{rewriting-start, rewriting-step}
-use Rattle.ordered_multimap.proofs.PlaceLemmas.{places_from}
-use Rattle.ordered_multimap.proofs.StepLemmas.{room_same, room_written}
+use Rattle.ordered_multimap.proofs.Update.OneKey.{may_rewrite, rewriting-at, rewriting-end, rewriting-listed, rewriting-smaller}
+use Rattle.ordered_multimap.proofs.Update.OneKey.{rewriting-start, rewriting-step}
+use Rattle.ordered_multimap.proofs.Callers.Places.{places_from}
+use Rattle.ordered_multimap.proofs.Append.Steps.{room_same, room_written}
 use Rattle.ordered_multimap.proofs.list_ordered_multimap.update.rewrite_chain.Goals as goal
 
 pub loop-following-init : goal.loop-following-init

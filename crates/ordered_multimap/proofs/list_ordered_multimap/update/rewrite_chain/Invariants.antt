@@ -1,7 +1,7 @@
 use Rattle.multimap_walks.specs.Chained.{chain_of}
-use Rattle.ordered_multimap.proofs.Rewriting.{IsRewriting}
-use Rattle.ordered_multimap.specs.Appends.{KeepsTapeRoom}
-use Rattle.ordered_multimap.proofs.PlaceLemmas.{places_from}
+use Rattle.ordered_multimap.proofs.Update.Rewriting.{IsRewriting}
+use Rattle.ordered_multimap.specs.Private.Append.{KeepsTapeRoom}
+use Rattle.ordered_multimap.proofs.Callers.Places.{places_from}
 use Rattle.ordered_multimap.proofs.list_ordered_multimap.update.rewrite_chain.Given as goal
 
 abbrev pub invariant-loop-following : goal.invariant-loop-following

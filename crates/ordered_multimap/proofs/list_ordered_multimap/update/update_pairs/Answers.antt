@@ -1,10 +1,10 @@
 use Rattle.std.proofs.Common.{◌<◌, true, refl, sym, ap, ◌∙◌, subst}
-use Rattle.ordered_multimap.specs.RetainSteps.{RetainsAt}
+use Rattle.ordered_multimap.specs.Private.Retain.{RetainsAt}
 use Rattle.ordered_multimap.specs.Updates.{Updates}
-use Rattle.ordered_multimap.proofs.PlaceLemmas.{places_from}
-use Rattle.ordered_multimap.proofs.StepLemmas.{room_same, room_written}
-use Rattle.ordered_multimap.proofs.RetainLemmas.{retaining-at, retaining-start, retaining-end, retaining-step, retaining-smaller}
-use Rattle.ordered_multimap.proofs.RetainLemmas.{listed_place, may_ask}
+use Rattle.ordered_multimap.proofs.Callers.Places.{places_from}
+use Rattle.ordered_multimap.proofs.Append.Steps.{room_same, room_written}
+use Rattle.ordered_multimap.proofs.Remove.Retaining.{retaining-at, retaining-start, retaining-end, retaining-step, retaining-smaller}
+use Rattle.ordered_multimap.proofs.Remove.Retaining.{listed_place, may_ask}
 use Rattle.ordered_multimap.proofs.list_ordered_multimap.update.update_pairs.Goals as goal
 
 pub loop-following-init : goal.loop-following-init

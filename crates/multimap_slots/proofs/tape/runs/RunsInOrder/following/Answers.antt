@@ -1,5 +1,5 @@
 use Rattle.std.proofs.Common.{arith, ap, Some, ◌∙◌}
-use Rattle.multimap_slots.proofs.HopsLemmas.{leads_on, item-listed}
+use Rattle.multimap_slots.proofs.RunLengths.Hops.{leads_on, item-listed}
 use Rattle.multimap_slots.proofs.tape.runs.RunsInOrder.following.Goals as goal
 
 pub overflow_add-result : goal.overflow_add-result

@@ -1,6 +1,6 @@
 use Rattle.std.proofs.Common.{arith, ap, Some, ◌∙◌}
-use Rattle.multimap_slots.proofs.HopsLemmas.{leads_back, item-listed}
-use Rattle.multimap_slots.proofs.RunsLemmas.{item_within}
+use Rattle.multimap_slots.proofs.RunLengths.Hops.{leads_back, item-listed}
+use Rattle.multimap_slots.proofs.RunLengths.Runs.{item_within}
 use Rattle.multimap_slots.proofs.tape.runs.RunsInOrder.preceding.Goals as goal
 
 pub overflow_sub-result : goal.overflow_sub-result

@@ -4,7 +4,7 @@ use Rattle.std.specs.Str.Iter.{chars_rest}
 use Rattle.serde_json.specs.Data.{string}
 use Rattle.serde_json.specs.View.{view}
 use Rattle.multimap_tool.specs.Json.{is_character}
-use Rattle.multimap_tool.proofs.JsonLemmas.{string_is, no_character, one_character, more_characters}
+use Rattle.multimap_tool.proofs.Callers.JsonParts.{string_is, no_character, one_character, more_characters}
 use Rattle.multimap_tool.proofs.json.parts.CharJsonPart.from_part.Goals as goal
 
 pub returns-in-Some-None-clause-accepted : goal.returns-in-Some-None-clause-accepted

@@ -4,7 +4,7 @@ use Rattle.serde_json.specs.Data.{string}
 use Rattle.std.specs.Char.{encode_utf8}
 use Rattle.serde_json.specs.View.{view}
 use Rattle.multimap_tool.specs.Json.{is_character}
-use Rattle.multimap_tool.proofs.JsonLemmas.{encoded_character}
+use Rattle.multimap_tool.proofs.Callers.JsonParts.{encoded_character}
 use Rattle.multimap_tool.proofs.json.parts.CharJsonPart.to_part.Goals as goal
 
 pub returns-clause-accepted : goal.returns-clause-accepted

@@ -1,4 +1,4 @@
-use Rattle.multimap_walks.proofs.SquashLemmas.{read_chain}
+use Rattle.multimap_walks.proofs.Callers.Squashed.{read_chain}
 use Rattle.multimap_walks.proofs.writing.chain.EntryValuesMut.iter.Goals as goal
 
 pub new-requires : goal.new-requires

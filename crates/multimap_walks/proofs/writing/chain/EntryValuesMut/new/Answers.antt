@@ -1,7 +1,7 @@
 use Rattle.std.proofs.Common.{ap}
 use Rattle.multimap_slots.specs.SlotCells.{lent_slots}
 use Rattle.multimap_walks.specs.Chained.{positions_at, values_at}
-use Rattle.multimap_walks.proofs.ChainLemmas.{along_whole}
+use Rattle.multimap_walks.proofs.Callers.Chains.{along_whole}
 use Rattle.multimap_walks.proofs.WritingLemmas.{chain_left}
 use Rattle.multimap_walks.proofs.writing.chain.EntryValuesMut.new.Goals as goal
 
@@ -23,4 +23,7 @@ pub invariant_of-result-2 : goal.invariant_of-result-2
 invariant_of-result-2 g c =
     let r = c.requires in
     let has = rw c.in-Some.is at r.listed in
-    record { readable = ∣ chain_left c.args.keys.now c.args.values c.in-Some.field-0-0 c.in-Some.link r.untaken.sound r.chained has r.untaken.left ∣₁ }
+    record {
+      readable = ∣ chain_left c.args.keys.now c.args.values c.in-Some.field-0-0 c.in-Some.link r.untaken.sound r.chained has
+          r.untaken.left ∣₁;
+    }

@@ -4,9 +4,9 @@ use Rattle.multimap_slots.specs.SlotCells.{lent_slots}
 use Rattle.multimap_walks.specs.Chained.{places_along, values_at}
 use Rattle.multimap_walks.specs.Ends.{end_place}
 use Rattle.multimap_walks.specs.Walk.{with_end}
-use Rattle.multimap_walks.proofs.ChainLemmas.{positions_on}
-use Rattle.multimap_walks.proofs.EndLemmas.{shows_end}
-use Rattle.multimap_walks.proofs.SquashLemmas.{read_chain}
+use Rattle.multimap_walks.proofs.Callers.Chains.{positions_on}
+use Rattle.multimap_walks.proofs.Callers.Ends.{shows_end}
+use Rattle.multimap_walks.proofs.Callers.Squashed.{read_chain}
 use Rattle.multimap_walks.proofs.WritingLemmas.{chain_end_left, reads_on, untaken_on}
 use Rattle.multimap_walks.proofs.writing.chain.EntryValuesMut.step.Goals as goal
 

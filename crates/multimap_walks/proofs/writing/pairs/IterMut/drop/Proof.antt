@@ -35,8 +35,8 @@ use Rattle.multimap_slots.proofs.reads.Reads.TheLaws as Rd-laws
 use denote.Laws.{Is, shows}
 use Rattle.multimap_walks.specs.contracts.writing.pairs.IterMut as S
 use Rattle.multimap_walks.proofs.writing.pairs.IterMut.TheLaws as S-laws
-use Rattle.multimap_slots.proofs.Ended.{one_of}
-use Rattle.multimap_slots.proofs.Renamed.{slot_cells_end}
+use Rattle.multimap_slots.proofs.Lending.Ended.{one_of}
+use Rattle.multimap_slots.proofs.Lending.Renamed.{slot_cells_end}
 use Rattle.multimap_walks.specs.contracts.writing.pairs.IterMut.drop as F
 use Rattle.multimap_walks.specs.contracts.slots.end_reads as g₁
 use Rattle.multimap_walks.proofs.slots.end_reads.Met.{met as met₁}

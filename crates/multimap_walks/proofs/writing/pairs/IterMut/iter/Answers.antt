@@ -1,4 +1,4 @@
-use Rattle.multimap_walks.proofs.SquashLemmas.{read_pairs}
+use Rattle.multimap_walks.proofs.Callers.Squashed.{read_pairs}
 use Rattle.multimap_walks.proofs.writing.pairs.IterMut.iter.Goals as goal
 
 pub new-requires-clause-owned : goal.new-requires-clause-owned

@@ -5,10 +5,10 @@ use Rattle.multimap_walks.specs.Chained.{AreOwned, pair_at}
 use Rattle.multimap_walks.specs.Ends.{end_place}
 use Rattle.multimap_walks.specs.PairWalk.{pairs_left}
 use Rattle.multimap_walks.specs.Walk.{with_end}
-use Rattle.multimap_walks.proofs.ChainLemmas.{positions_on}
-use Rattle.multimap_walks.proofs.EndLemmas.{shows_end}
+use Rattle.multimap_walks.proofs.Callers.Chains.{positions_on}
+use Rattle.multimap_walks.proofs.Callers.Ends.{shows_end}
 use Rattle.multimap_walks.proofs.PairLemmas.{pair_is}
-use Rattle.multimap_walks.proofs.SquashLemmas.{read_pairs}
+use Rattle.multimap_walks.proofs.Callers.Squashed.{read_pairs}
 use Rattle.multimap_walks.proofs.WritingLemmas.{end_is_left, step_keeps}
 use Rattle.multimap_walks.proofs.writing.pairs.IterMut.step.Goals as goal
 

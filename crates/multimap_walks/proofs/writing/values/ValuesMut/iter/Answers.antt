@@ -1,4 +1,4 @@
-use Rattle.multimap_walks.proofs.SquashLemmas.{read_lends}
+use Rattle.multimap_walks.proofs.Callers.Squashed.{read_lends}
 use Rattle.multimap_walks.proofs.writing.values.ValuesMut.iter.Goals as goal
 
 pub new-requires : goal.new-requires

@@ -1,4 +1,4 @@
-use Rattle.ordered_multimap.proofs.DrainLemmas.{drains}
+use Rattle.ordered_multimap.proofs.Detach.DrainSteps.{drains}
 use Rattle.ordered_multimap.proofs.list_ordered_multimap.drain.EntryValuesDrain.drop.Goals as goal
 
 pub drop_left-requires : goal.drop_left-requires

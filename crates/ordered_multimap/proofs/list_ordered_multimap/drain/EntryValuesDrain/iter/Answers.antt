@@ -1,4 +1,4 @@
-use Rattle.ordered_multimap.proofs.DrainLemmas.{drains}
+use Rattle.ordered_multimap.proofs.Detach.DrainSteps.{drains}
 use Rattle.ordered_multimap.proofs.list_ordered_multimap.drain.EntryValuesDrain.iter.Goals as goal
 
 pub values_left-requires : goal.values_left-requires

@@ -1,4 +1,4 @@
-use Rattle.ordered_multimap.proofs.DrainLemmas.{drains}
+use Rattle.ordered_multimap.proofs.Detach.DrainSteps.{drains}
 use Rattle.ordered_multimap.proofs.list_ordered_multimap.drain.EntryValuesDrainExactSizeIterator.len.Goals as goal
 
 pub count_left-requires : goal.count_left-requires

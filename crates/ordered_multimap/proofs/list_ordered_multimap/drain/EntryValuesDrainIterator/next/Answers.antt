@@ -1,4 +1,4 @@
-use Rattle.ordered_multimap.proofs.DrainLemmas.{drains}
+use Rattle.ordered_multimap.proofs.Detach.DrainSteps.{drains}
 use Rattle.ordered_multimap.proofs.list_ordered_multimap.drain.EntryValuesDrainIterator.next.Goals as goal
 
 pub take_left-requires : goal.take_left-requires

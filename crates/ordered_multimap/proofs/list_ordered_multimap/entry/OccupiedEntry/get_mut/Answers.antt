@@ -1,5 +1,5 @@
 use Rattle.std.proofs.Common.{refl}
-use Rattle.ordered_multimap.proofs.EnteredLemmas.{same_written}
+use Rattle.ordered_multimap.proofs.Append.Entered.{same_written}
 use Rattle.ordered_multimap.proofs.list_ordered_multimap.entry.OccupiedEntry.get_mut.Goals as goal
 
 pub returns : goal.returns

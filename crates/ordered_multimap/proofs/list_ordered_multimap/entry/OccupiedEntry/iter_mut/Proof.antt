@@ -56,8 +56,8 @@ use Rattle.std.proofs.Math.Logic.{∥∥₁_map}
 use Rattle.multimap_slots.specs.Lists.{IsIn}
 use Rattle.std.specs.Prelude.{Option, Some}
 use Rattle.multimap_slots.specs.declared.cells_of.SlotCells.{SlotCells}
-use Rattle.multimap_slots.proofs.CellsLemmas.{LendsSlots-renamed}
-use Rattle.multimap_slots.proofs.Late.{closes_named}
+use Rattle.multimap_slots.proofs.Callers.TakenItems.{LendsSlots-renamed}
+use Rattle.multimap_slots.proofs.Lending.Late.{closes_named}
 use Rattle.multimap_walks.specs.declared.links.ValueLink.{ValueLink}
 use Rattle.multimap_walks.specs.RestWalk.{CanReadChain}
 use Rattle.multimap_walks.specs.WritingWalk.{entry_values_mut_values, entry_values_mut_name, entry_values_mut_rest}
@@ -71,14 +71,14 @@ use Rattle.ordered_multimap.specs.Pairs.{positions_of, values_of}
 use Rattle.ordered_multimap.specs.ValuesLent.{with_items, with_values_of, EndsMap}
 use Rattle.ordered_multimap.specs.contracts.list_ordered_multimap.ListOrderedMultimap as M-type
 use Rattle.ordered_multimap.specs.contracts.list_ordered_multimap.entry.OccupiedEntry as E-type
-use Rattle.ordered_multimap.proofs.Outlived.{told, hears, tells, states}
-use Rattle.ordered_multimap.proofs.WalkRenamed.{entry_values_renamed}
-use Rattle.ordered_multimap.proofs.TakingLemmas.{in_among}
+use Rattle.ordered_multimap.proofs.Loans.Outlived.{told, hears, tells, states}
+use Rattle.ordered_multimap.proofs.Loans.WalkRenamed.{entry_values_renamed}
+use Rattle.ordered_multimap.proofs.Remove.ValueByValue.{in_among}
 use Rattle.ordered_multimap.specs.contracts.list_ordered_multimap.ListOrderedMultimap.values_mut_at as g
 use Rattle.ordered_multimap.proofs.list_ordered_multimap.ListOrderedMultimap.values_mut_at.Met.{met}
 use Rattle.ordered_multimap.specs.contracts.list_ordered_multimap.entry.OccupiedEntry.iter_mut as F
 use Rattle.ordered_multimap.specs.contracts.list_ordered_multimap.entry.OccupiedEntry.iter_mut.Key.{name as #self}
-use Rattle.ordered_multimap.proofs.LentLemmas.{around_values}
+use Rattle.ordered_multimap.proofs.Callers.LentValues.{around_values}
 use Rattle.ordered_multimap.proofs.list_ordered_multimap.entry.OccupiedEntry.iter_mut.Statement.{statement}
 use Rattle.ordered_multimap.proofs.list_ordered_multimap.entry.OccupiedEntry.iter_mut.Code as code
 

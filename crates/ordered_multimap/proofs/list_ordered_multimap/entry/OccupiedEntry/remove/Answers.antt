@@ -1,4 +1,4 @@
-use Rattle.ordered_multimap.proofs.EntryLemmas.{entry_parts}
+use Rattle.ordered_multimap.proofs.Append.Entries.{entry_parts}
 use Rattle.ordered_multimap.proofs.list_ordered_multimap.entry.OccupiedEntry.remove.Goals as goal
 
 pub returns-clause-value : goal.returns-clause-value

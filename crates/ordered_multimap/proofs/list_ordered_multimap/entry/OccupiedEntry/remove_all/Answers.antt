@@ -1,4 +1,4 @@
-use Rattle.ordered_multimap.proofs.DrainsLemmas.{drains_entry}
+use Rattle.ordered_multimap.proofs.Detach.Drains.{drains_entry}
 use Rattle.ordered_multimap.proofs.list_ordered_multimap.entry.OccupiedEntry.remove_all.Goals as goal
 
 pub returns-clause-drain : goal.returns-clause-drain

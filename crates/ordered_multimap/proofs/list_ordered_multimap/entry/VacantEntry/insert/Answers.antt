@@ -1,6 +1,6 @@
 use Rattle.std.proofs.Common.{refl}
 use Rattle.ordered_multimap.specs.Writes.{with_first}
-use Rattle.ordered_multimap.proofs.EntryLemmas.{new_first, written_last}
+use Rattle.ordered_multimap.proofs.Append.Entries.{new_first, written_last}
 use Rattle.ordered_multimap.proofs.list_ordered_multimap.entry.VacantEntry.insert.Goals as goal
 
 pub returns-in-Ok : goal.returns-in-Ok

@@ -1,4 +1,4 @@
-use Rattle.ordered_multimap.proofs.TakingLemmas.{among_in}
+use Rattle.ordered_multimap.proofs.Remove.ValueByValue.{among_in}
 use Rattle.ordered_multimap.proofs.list_ordered_multimap.entry.VacantEntry.insert_entry.Goals as goal
 
 pub invariant_of-self : goal.invariant_of-self

@@ -2,8 +2,8 @@ use Rattle.std.proofs.Common.{◌∙◌, Some, rules, sym, subst}
 use Rattle.multimap_walks.specs.Chained.{pair_at, pairs_of}
 use Rattle.multimap_walks.specs.declared.End.TheVariants.{Back}
 use Rattle.ordered_multimap.specs.IntoIters.{HandsOut}
-use Rattle.ordered_multimap.proofs.HandedLemmas.{fewer_left, hands_out, owned_left}
-use Rattle.ordered_multimap.proofs.PopLemmas.{end_listed, none_at_end}
+use Rattle.ordered_multimap.proofs.Walks.TakenApart.{fewer_left, hands_out, owned_left}
+use Rattle.ordered_multimap.proofs.Remove.AtEnds.{end_listed, none_at_end}
 use Rattle.ordered_multimap.proofs.list_ordered_multimap.into_iter.IntoIterDoubleEndedIterator.next_back.Goals as goal
 
 pub take_cloning-requires : goal.take_cloning-requires

@@ -1,4 +1,4 @@
-use Rattle.multimap_walks.proofs.SquashLemmas.{read_left}
+use Rattle.multimap_walks.proofs.Callers.Squashed.{read_left}
 use Rattle.ordered_multimap.proofs.list_ordered_multimap.key_values_mut.KeyValuesMut.iter.Goals as goal
 
 pub key_values_between-requires : goal.key_values_between-requires

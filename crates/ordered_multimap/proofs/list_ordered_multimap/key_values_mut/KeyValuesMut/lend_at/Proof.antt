@@ -58,8 +58,8 @@ use Rattle.std.specs.Prelude.{Option, Some}
 use Rattle.multimap_slots.specs.Lists.{IsIn}
 use Rattle.multimap_slots.specs.Slots.{item_at}
 use Rattle.multimap_slots.specs.declared.cells_of.SlotCells.{SlotCells}
-use Rattle.multimap_slots.proofs.CellsLemmas.{LendsSlots-renamed}
-use Rattle.multimap_slots.proofs.Late.{closes_named}
+use Rattle.multimap_slots.proofs.Callers.TakenItems.{LendsSlots-renamed}
+use Rattle.multimap_slots.proofs.Lending.Late.{closes_named}
 use Rattle.multimap_walks.specs.declared.links.ValueLink.{ValueLink}
 use Rattle.multimap_walks.specs.RestWalk.{CanReadChain}
 use Rattle.multimap_walks.specs.WritingWalk.{entry_values_mut_values, entry_values_mut_name, entry_values_mut_rest}
@@ -69,19 +69,19 @@ use Rattle.multimap_walks.proofs.links.ChainEnds.TheLaws as C-laws
 use Rattle.multimap_walks.specs.contracts.writing.chain.EntryValuesMut as W-type
 use Rattle.multimap_walks.proofs.writing.chain.EntryValuesMut.TheLaws as W-laws
 use Rattle.ordered_multimap.specs.Agrees.{HasKey}
-use Rattle.ordered_multimap.proofs.Outlived.{told, hears_with, tells, states}
-use Rattle.ordered_multimap.proofs.Pairs.{both, both_typed, pair_out, pair_in}
+use Rattle.ordered_multimap.proofs.Loans.Outlived.{told, hears_with, tells, states}
+use Rattle.ordered_multimap.proofs.Callers.PairsByValue.{both, both_typed, pair_out, pair_in}
 use Rattle.ordered_multimap.specs.WalkLends.{EndsWalk, with_walk_items, with_walk_values}
 use Rattle.ordered_multimap.specs.Pairs.{positions_of, values_of}
 use Rattle.ordered_multimap.specs.ValuesLent.{with_items, with_values_of, EndsMap}
 use Rattle.ordered_multimap.specs.contracts.list_ordered_multimap.ListOrderedMultimap as M-type
 use Rattle.ordered_multimap.specs.contracts.list_ordered_multimap.key_values_mut.KeyValuesMut as E-type
-use Rattle.ordered_multimap.proofs.WalkRenamed.{entry_values_renamed}
+use Rattle.ordered_multimap.proofs.Loans.WalkRenamed.{entry_values_renamed}
 use Rattle.ordered_multimap.specs.contracts.list_ordered_multimap.ListOrderedMultimap.key_values_mut_at as g
 use Rattle.ordered_multimap.proofs.list_ordered_multimap.ListOrderedMultimap.key_values_mut_at.Met.{met}
 use Rattle.ordered_multimap.specs.contracts.list_ordered_multimap.key_values_mut.KeyValuesMut.lend_at as F
 use Rattle.ordered_multimap.specs.contracts.list_ordered_multimap.key_values_mut.KeyValuesMut.lend_at.Key.{name as #self}
-use Rattle.ordered_multimap.proofs.LentLemmas.{around_values}
+use Rattle.ordered_multimap.proofs.Callers.LentValues.{around_values}
 use Rattle.ordered_multimap.proofs.list_ordered_multimap.key_values_mut.KeyValuesMut.lend_at.Statement.{statement}
 use Rattle.ordered_multimap.proofs.list_ordered_multimap.key_values_mut.KeyValuesMut.lend_at.Code as code
 

@@ -1,4 +1,4 @@
-use Rattle.multimap_walks.proofs.SquashLemmas.{read_left}
+use Rattle.multimap_walks.proofs.Callers.Squashed.{read_left}
 use Rattle.ordered_multimap.proofs.list_ordered_multimap.key_values_mut.KeyValuesMut.size_hint.Goals as goal
 
 pub keys_between-left-requires : goal.keys_between-left-requires

@@ -4,7 +4,7 @@ use Rattle.std.specs.declared.hash.Hash as hash
 use Rattle.std.specs.declared.hash.Hasher as hasher
 use Rattle.std.specs.declared.hash.BuildHasher as builder
 use Rattle.multimap_walks.specs.Along.{AreLeft}
-use Rattle.multimap_walks.proofs.SquashLemmas.{read_left}
+use Rattle.multimap_walks.proofs.Callers.Squashed.{read_left}
 use Rattle.ordered_multimap.specs.declared.list_ordered_multimap.key_values_mut.KeyValuesMut.{KeyValuesMut}
 use Rattle.ordered_multimap.proofs.list_ordered_multimap.key_values_mut.KeyValuesMut.step.Goals as goal
 use Rattle.ordered_multimap.proofs.list_ordered_multimap.key_values_mut.KeyValuesMut.step.Goals.{then-is_some, else-is_some}

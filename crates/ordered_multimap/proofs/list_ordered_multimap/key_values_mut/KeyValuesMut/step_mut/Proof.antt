@@ -62,11 +62,11 @@ use Rattle.ordered_multimap.specs.KeysLeft.{keys_left}
 use Rattle.ordered_multimap.specs.Pairs.{positions_of, values_of}
 use Rattle.ordered_multimap.specs.ValuesLent.{with_values_of}
 use Rattle.ordered_multimap.specs.WalkLends.{EndsStepped, EndsWalk, IsStepped, lends_key_values, with_walk_values}
-use Rattle.ordered_multimap.proofs.Options.{option_out}
-use Rattle.ordered_multimap.proofs.HandsOn.{end_vals as at_end, stays_with_end, goes_with_end}
-use Rattle.ordered_multimap.proofs.Outlived.{told, hears, tells, states}
-use Rattle.ordered_multimap.proofs.Pairs.{both, both_typed, pair_in, pair_out}
-use Rattle.ordered_multimap.proofs.Rested.{so_some, so_none}
+use Rattle.ordered_multimap.proofs.Loans.Options.{option_out}
+use Rattle.ordered_multimap.proofs.Loans.HandsOn.{end_vals as at_end, stays_with_end, goes_with_end}
+use Rattle.ordered_multimap.proofs.Loans.Outlived.{told, hears, tells, states}
+use Rattle.ordered_multimap.proofs.Callers.PairsByValue.{both, both_typed, pair_in, pair_out}
+use Rattle.ordered_multimap.proofs.Loans.Rested.{so_some, so_none}
 use Rattle.ordered_multimap.specs.contracts.list_ordered_multimap.ListOrderedMultimap as M-type
 use Rattle.ordered_multimap.specs.contracts.list_ordered_multimap.key_values_mut.KeyValuesMut as E-type
 use Rattle.ordered_multimap.specs.contracts.list_ordered_multimap.key_values_mut.KeyValuesMut.step_mut as f

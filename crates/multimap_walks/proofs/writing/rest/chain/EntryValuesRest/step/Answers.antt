@@ -2,7 +2,7 @@ use Rattle.std.proofs.Common.{◌∙◌, arith, sym}
 use Rattle.multimap_slots.specs.Slots.{item_at}
 use Rattle.multimap_slots.specs.SlotCells.{lent_slots}
 use Rattle.multimap_walks.specs.Ends.{end_place}
-use Rattle.multimap_walks.proofs.EndLemmas.{shows_end}
+use Rattle.multimap_walks.proofs.Callers.Ends.{shows_end}
 use Rattle.multimap_walks.proofs.WritingLemmas.{chain_end_left}
 use Rattle.multimap_walks.proofs.writing.rest.chain.EntryValuesRest.step.Goals as goal
 

@@ -2,7 +2,7 @@ use Rattle.std.proofs.Common.{◌∙◌, sym}
 use Rattle.multimap_slots.specs.SlotCells.{lent_slots}
 use Rattle.multimap_walks.specs.Chained.{pair_at}
 use Rattle.multimap_walks.specs.Ends.{end_place}
-use Rattle.multimap_walks.proofs.EndLemmas.{shows_end}
+use Rattle.multimap_walks.proofs.Callers.Ends.{shows_end}
 use Rattle.multimap_walks.proofs.PairLemmas.{pair_is}
 use Rattle.multimap_walks.proofs.writing.rest.pairs.IterRest.step.Goals as goal
 

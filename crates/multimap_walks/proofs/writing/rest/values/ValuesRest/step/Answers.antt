@@ -2,7 +2,7 @@ use Rattle.std.proofs.Common.{◌∙◌, sym}
 use Rattle.multimap_slots.specs.Slots.{item_at}
 use Rattle.multimap_slots.specs.SlotCells.{lent_slots}
 use Rattle.multimap_walks.specs.Ends.{end_place}
-use Rattle.multimap_walks.proofs.EndLemmas.{shows_end}
+use Rattle.multimap_walks.proofs.Callers.Ends.{shows_end}
 use Rattle.multimap_walks.proofs.writing.rest.values.ValuesRest.step.Goals as goal
 
 pub returns : goal.returns

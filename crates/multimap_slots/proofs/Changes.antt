@@ -1,0 +1,3 @@
+pub mod Filled
+pub mod Put
+pub mod SlotLists

@@ -1,0 +1,92 @@
+-- The changes of a slot list, from what its vectors and its order do.
+use Rattle.std.proofs.Common.{◌≡◌, ℕ, ◌+◌, ◌<◌, ◌≤◌, [], ◌∷◌, ◌++◌, length, get_or, set, slice_get, Option, Some, None, IfSome, refl, ap}
+use Rattle.std.proofs.Common.{◌∙◌}
+use Rattle.std.proofs.lemmas.List.{get_or-set_same, get_or-set_other}
+use Rattle.multimap_slots.specs.Lists.{IsIn, without}
+use Rattle.multimap_slots.specs.Private.ListLayout.{put}
+use Rattle.multimap_slots.specs.Slots.{Slots, item_at, link_at, KeepsOthers, PushesBack, Removes, Detaches, TakesDetached}
+use Rattle.multimap_slots.proofs.Changes.Put.{get_or-put_same, get_or-put_other, slice_get-put_same, slice_get-put_other}
+use Rattle.multimap_slots.proofs.Callers.ListedSlots.{listed_slots-kept, listed_slots-push, listed_slots-remove}
+
+module _ {T L : Type 0} (old new : Slots T L) (place : ℕ) (item : T) where
+  pub PushesBack-put : (link : L) → item_at old place ≡ None → (IsIn place old.order → ⊥) → place ≤ length old.items
+      → place ≤ length old.links
+      → new.order ≡ old.order ++ place ∷ [] → new.items ≡ put old.items place (Some item) → new.links ≡ put old.links place link
+      → PushesBack old new place item link
+  PushesBack-put link was_free absent within within_links order items links =
+      record {
+        was_absent = absent;
+        was_free = was_free;
+        order = order;
+        item_is = item_is;
+        link_is = link_is;
+        others = others;
+        slots = listed_slots-push old new place item link absent others order item_is link_is;
+      }
+    where
+      item_is : item_at new place ≡ Some item
+      item_is = ap (λ xs. get_or xs place None) items ∙ get_or-put_same old.items place (Some item) None within
+
+      link_is : link_at new place ≡ Some link
+      link_is = ap (λ xs. slice_get xs place) links ∙ slice_get-put_same old.links place link within_links
+
+      others : KeepsOthers old new place
+      others = record {
+        items = λ q differs. ap (λ xs. get_or xs q None) items ∙ get_or-put_other old.items place q (Some item) None within differs;
+        links = λ q differs. ap (λ xs. slice_get xs q) links ∙ slice_get-put_other old.links place q link within_links differs;
+      }
+
+  -- an item goes, and its place and its link stay
+  others-set : new.items ≡ set old.items place None → new.links ≡ old.links → KeepsOthers old new place
+  others-set items links = record {
+    items = λ q differs. ap (λ xs. get_or xs q None) items ∙ get_or-set_other old.items place q None None differs;
+    links = λ q differs. ap (λ xs. slice_get xs q) links;
+  }
+
+  pub Removes-set : IsIn place old.order → item_at old place ≡ Some item → place < length old.items
+      → new.order ≡ without old.order place → length new.order + 1 ≡ length old.order → new.items ≡ set old.items place None
+      → new.links ≡ old.links
+      → new.capacity ≡ old.capacity → Removes old new place item
+  Removes-set was_listed had within order shorter items links capacity =
+      record {
+        was_listed = was_listed;
+        had = had;
+        order = order;
+        shorter = shorter;
+        freed = ap (λ xs. get_or xs place None) items ∙ get_or-set_same old.items place None None within;
+        others = others-set items links;
+        slots = listed_slots-remove old new place (others-set items links) order;
+        capacity = capacity;
+      }
+
+  pub TakesDetached-set : (IsIn place old.order → ⊥) → item_at old place ≡ Some item → place < length old.items
+      → new.order ≡ old.order → new.items ≡ set old.items place None → new.links ≡ old.links
+      → TakesDetached old new place item
+  TakesDetached-set not_listed had within order items links =
+      record {
+        had = had;
+        order = order;
+        freed = ap (λ xs. get_or xs place None) items ∙ get_or-set_same old.items place None None within;
+        others = others-set items links;
+        slots = listed_slots-kept old new place not_listed (others-set items links) order;
+      }
+
+pub Detaches-kept : {T L : Type 0} (old new : Slots T L) (place : ℕ) → new.order ≡ without old.order place
+    → length new.order + 1 ≡ length old.order
+    → new.items ≡ old.items → new.links ≡ old.links → Detaches old new place
+Detaches-kept old new place order shorter items links =
+    record {
+      order = order;
+      shorter = shorter;
+      items = items;
+      links = links;
+      slots = listed_slots-remove old new place (record {
+        items = λ q differs. ap (λ xs. get_or xs q None) items;
+        links = λ q differs. ap (λ xs. slice_get xs q) links;
+      }) order;
+    }
+
+-- what holds of a value that an option holds
+pub IfSome-each : {X : Type 0} (o : Option X) (P : X → Type 0) → ((x : X) → o ≡ Some x → P x) → IfSome o P
+IfSome-each None P holds = tt
+IfSome-each (Some x) P holds = holds x refl

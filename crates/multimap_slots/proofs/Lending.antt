@@ -1,0 +1,5 @@
+pub mod Around
+pub mod Ended
+pub mod Late
+pub mod Refilled
+pub mod Renamed

@@ -1,0 +1,10 @@
+pub mod Lenders
+pub mod LentOrder
+pub mod ListLayout
+pub mod OptionalPlace
+pub mod OrderCells
+pub mod OrderLends
+pub mod Paths
+pub mod Runs
+pub mod TapeLayout
+pub mod Vectors

@@ -1,0 +1,3 @@
+pub mod BothLists
+pub mod Faults
+pub mod Shapes

@@ -1,5 +1,0 @@
-use Rattle.std.proofs.Common.{◌∙◌, inl, refl}
-use Rattle.multimap_tool.proofs.look_ups.first_value.Goals as goal
-
-pub returns : goal.returns
-returns g c = inl (c.copied.ensures ∙ c.get.ensures, refl)

@@ -1,9 +1,0 @@
-use Rattle.std.proofs.Common.{◌∙◌, ap, inl, inr, refl, subst}
-use Rattle.multimap_tool.specs.Step.{ListsItem, walked}
-use Rattle.multimap_tool.proofs.look_ups.walk_pairs.Goals as goal
-
-pub returns-in-Ok : goal.returns-in-Ok
-returns-in-Ok g c = inl (c.in-Ok.ensures.ok ∙ ap (λ pairs. walked pairs c.args.ends.now) c.iter.ensures, refl)
-
-pub returns-in-Err : goal.returns-in-Err
-returns-in-Err g c = inr (refl, subst (λ pairs. ListsItem (walked pairs c.args.ends.now)) c.iter.ensures c.in-Err.ensures.lists_item, refl)

@@ -1,5 +1,0 @@
-use Rattle.multimap_tool.proofs.FieldLemmas.{no_letters}
-use Rattle.multimap_tool.proofs.operands.word_of.Goals as goal
-
-pub returns-then-is_empty : goal.returns-then-is_empty
-returns-then-is_empty g c = no_letters c.args.text.now c.if-is_empty.ensures

@@ -1,0 +1,4 @@
+pub mod Groups
+pub mod JsonSteps
+pub mod MapSteps
+pub mod Parts

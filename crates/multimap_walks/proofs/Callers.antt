@@ -1,0 +1,5 @@
+pub mod Along
+pub mod Chains
+pub mod Ends
+pub mod Paths
+pub mod Squashed

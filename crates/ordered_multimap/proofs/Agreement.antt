@@ -1,0 +1,6 @@
+pub mod AbsentKeys
+pub mod Agreed
+pub mod Kept
+pub mod LookUps
+pub mod Renamed
+pub mod StayingKeys

@@ -1,0 +1,11 @@
+pub mod KeyOrder
+pub mod Laws
+pub mod LentValues
+pub mod ListedKeys
+pub mod Members
+pub mod PairsByValue
+pub mod Places
+pub mod RemovedAt
+pub mod Retained
+pub mod WellFormed
+pub mod Writes

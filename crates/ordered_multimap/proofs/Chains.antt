@@ -1,0 +1,5 @@
+pub mod Indexes
+pub mod LongerLists
+pub mod Neighbours
+pub mod Parts
+pub mod StepsOver

@@ -1,0 +1,3 @@
+pub mod Mended
+pub mod OneMove
+pub mod Settled

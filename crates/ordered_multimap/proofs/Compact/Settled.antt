@@ -1,0 +1,236 @@
+-- The values settle at the lowest places, one after the other, and renamings in a row are one renaming.
+use Rattle.std.proofs.Common.{◌≡◌, ℕ, zero, suc, ◌<◌, ◌≤◌, List, [], ◌∷◌, ◌++◌, map, length, Option, Some, None, option_map, refl, sym, ap}
+use Rattle.std.proofs.Common.{◌∙◌, subst, inl, inr, arith, length-append, append_assoc}
+use Rattle.std.proofs.lemmas.List.{length-map, map-append, append-nil}
+use Rattle.multimap_slots.specs.Lists.{IsIn, Rises, first_of, next_of, end_of}
+use Rattle.multimap_slots.specs.Slots.{Slots, IsSound, KeepsItems}
+use Rattle.multimap_slots.specs.Tapes.{Taped, CutsEnd, KeepsTape}
+use Rattle.multimap_slots.proofs.Callers.PlaceLists.{IsIn-append, next_of-split}
+use Rattle.multimap_walks.specs.declared.links.KeyLink.{KeyLink}
+use Rattle.multimap_walks.specs.declared.links.ValueLink.{ValueLink}
+use Rattle.ordered_multimap.specs.Private.Renames.{AreRenamed, Renames, places_below, renamed}
+use Rattle.ordered_multimap.proofs.Chains.LongerLists.{last_or-push}
+use Rattle.ordered_multimap.proofs.Compact.OneMove.{renamed-from, renamed-none}
+
+-- the first n places of the list are those below n, and the next one follows them
+pub record AreSettled (order : List ℕ) (n : ℕ) (following : Option ℕ) : Type 0 where
+  pub rest : List ℕ
+  pub parts : order ≡ places_below n ++ rest
+  pub following_is : following ≡ first_of rest
+
+pub below-less : (n q : ℕ) → IsIn q (places_below n) → q < n
+below-less zero q i = absurd i
+below-less (suc n) q i = elim (IsIn-append q (places_below n) (n ∷ []) i) [
+  | inl low ↦ omega (arith, below-less n q low)
+  | inr last ↦ elim last [ inl e ↦ omega (arith, e) | inr none ↦ absurd none ]
+]
+
+pub length-below : (n : ℕ) → length (places_below n) ≡ n
+length-below zero = refl
+length-below (suc n) = length-append (places_below n) (n ∷ []) ∙ omega (arith, length-below n)
+
+-- what rises around a place
+record Around (xs : List ℕ) (p : ℕ) (ys : List ℕ) : Type 0 where
+  low : (q : ℕ) → IsIn q xs → q < p
+  high : (q : ℕ) → IsIn q ys → p < q
+
+rises_around : (xs : List ℕ) (p : ℕ) (ys : List ℕ) → Rises (xs ++ p ∷ ys) → Around xs p ys
+rises_around [] p ys r = record { low = λ q i. absurd i; high = r.0 }
+rises_around (x ∷ xs) p ys r =
+    let rest = rises_around xs p ys r.1 in
+    record { low = λ q i. elim i [ inl e ↦ rw e (r.0 p (in_middle xs)) | inr later ↦ rest.low q later ]; high = rest.high }
+  where
+    in_middle : (zs : List ℕ) → IsIn p (zs ++ p ∷ ys)
+    in_middle [] = inl refl
+    in_middle (z ∷ zs) = inr (in_middle zs)
+
+-- the next place to settle
+pub record Next (order : List ℕ) (n : ℕ) (following : Option ℕ) : Type 0 where
+  pub from : ℕ
+  pub rest : List ℕ
+  pub is : following ≡ Some from
+  pub parts : order ≡ places_below n ++ from ∷ rest
+  pub above : n ≤ from
+  pub low : (q : ℕ) → IsIn q (places_below n) → q < from
+  pub high : (q : ℕ) → IsIn q rest → from < q
+
+pub settled-start : (order : List ℕ) (following : Option ℕ) → following ≡ first_of order → AreSettled order 0 following
+settled-start order following e = record { rest = order; parts = refl; following_is = e }
+
+pub settled-next : (order : List ℕ) (n : ℕ) (following : Option ℕ) → AreSettled order n following → n < length order → Rises order
+    → Next order n following
+settled-next order n following s more rises = go s.rest s.parts s.following_is
+  where
+    at_least : (m from : ℕ) → ((q : ℕ) → IsIn q (places_below m) → q < from) → m ≤ from
+    at_least zero from low = omega arith
+    at_least (suc m) from low = omega (arith, low m (last_in (places_below m) m))
+      where
+        last_in : (xs : List ℕ) (x : ℕ) → IsIn x (xs ++ x ∷ [])
+        last_in [] x = inl refl
+        last_in (y ∷ ys) x = inr (last_in ys x)
+
+    go : (rest : List ℕ) → order ≡ places_below n ++ rest → following ≡ first_of rest → Next order n following
+    go [] parts is = absurd (omega (arith, more, ap length parts, length-append (places_below n) [], length-below n))
+    go (p ∷ ps) parts is =
+        let a = rises_around (places_below n) p ps (subst Rises parts rises) in
+        record { from = p; rest = ps; is = is; parts = parts; above = at_least n p a.low; low = a.low; high = a.high }
+
+module _ (order : List ℕ) (n : ℕ) (following : Option ℕ) (x : Next order n following) where
+  pub next-listed : IsIn x.from order
+  next-listed = subst (IsIn x.from) (sym x.parts) (in_middle (places_below n))
+    where
+      in_middle : (zs : List ℕ) → IsIn x.from (zs ++ x.from ∷ x.rest)
+      in_middle [] = inl refl
+      in_middle (z ∷ zs) = inr (in_middle zs)
+
+  pub next-holes : (q : ℕ) → n ≤ q → q < x.from → ¬ IsIn q order
+  next-holes q above below i = elim (IsIn-append q (places_below n) (x.from ∷ x.rest) (subst (IsIn q) x.parts i)) [
+    | inl low ↦ omega (arith, below-less n q low, above)
+    | inr later ↦ elim later [ inl e ↦ omega (arith, e, below) | inr high ↦ omega (arith, x.high q high, below) ]
+  ]
+
+  settled : (now : List ℕ) → now ≡ places_below n ++ n ∷ x.rest → (f : Option ℕ) → f ≡ next_of now n → AreSettled now (suc n) f
+  settled now parts f e = record {
+    rest = x.rest;
+    parts = parts ∙ sym (append_assoc (places_below n) (n ∷ []) x.rest);
+    following_is = e ∙ ap (λ ps. next_of ps n) parts ∙ next_of-split (places_below n) n x.rest (λ i. omega (arith, below-less n n i));
+  }
+
+  pub settled-stay : x.from ≤ n → (f : Option ℕ) → f ≡ next_of order n → AreSettled order (suc n) f
+  settled-stay there = settled order (x.parts ∙ ap (λ p. places_below n ++ p ∷ x.rest) (omega (arith, there, x.above)))
+
+  pub settled-move : (now : List ℕ) → now ≡ map (renamed x.from n) order → (f : Option ℕ) → f ≡ next_of now n → AreSettled now (suc n) f
+  settled-move now is =
+      settled now (is ∙ ap (map (renamed x.from n)) x.parts ∙ map-append (renamed x.from n) (places_below n) (x.from ∷ x.rest)
+      ∙ (λ i. renamed-none x.from n (places_below n) (λ j. omega (arith, x.low x.from j)) i
+      ++ renamed-from x.from n x.from refl i ∷ renamed-none x.from n x.rest (λ j. omega (arith, x.high x.from j)) i))
+
+-- at the end the items stand without a hole
+pub settled-end : (order : List ℕ) (n : ℕ) (f : Option ℕ) → AreSettled order n f → length order ≡ n → end_of order ≡ n
+settled-end order n f s count = go s.rest s.parts
+  where
+    ends_below : (m : ℕ) → end_of (places_below m) ≡ m
+    ends_below zero = refl
+    ends_below (suc m) = rw (end_of, last_or-push None (places_below m) m) refl
+
+    go : (rest : List ℕ) → order ≡ places_below n ++ rest → end_of order ≡ n
+    go [] parts = ap end_of (parts ∙ append-nil (places_below n)) ∙ ends_below n
+    go (p ∷ ps) parts = absurd (omega (arith, count, ap length parts, length-append (places_below n) (p ∷ ps), length-below n))
+
+-- which are those below their number
+pub settled-all : (order : List ℕ) (n : ℕ) (f : Option ℕ) → AreSettled order n f → length order ≡ n → order ≡ places_below n
+settled-all order n f s count = go s.rest s.parts
+  where
+    go : (rest : List ℕ) → order ≡ places_below n ++ rest → order ≡ places_below n
+    go [] parts = parts ∙ append-nil (places_below n)
+    go (p ∷ ps) parts = absurd (omega (arith, count, ap length parts, length-append (places_below n) (p ∷ ps), length-below n))
+
+-- no place has another name, and only the capacities differ
+pub renamed-room : {K V : Type 0} (keys keys_after : Slots K KeyLink) (values values_after : Slots V ValueLink) → IsSound keys
+    → IsSound values
+    → KeepsItems keys keys_after → KeepsItems values values_after → keys.capacity ≤ keys_after.capacity
+    → values.capacity ≤ values_after.capacity
+    → AreRenamed keys keys_after values values_after
+renamed-room {K} {V} keys keys_after values values_after keys_sound values_sound same_keys same_values key_room value_room =
+    let k : Slots K KeyLink = record keys { capacity = keys_after.capacity } in
+    let v : Slots V ValueLink = record values { capacity = values_after.capacity } in
+    let base : Renames (λ p. p) keys k values v = record {
+      apart = λ p q i j e. e;
+      key_order = refl;
+      key_items = λ q. refl;
+      key_links = λ q l i e. e;
+      key_room = omega (arith, keys_sound.fits, key_room);
+      order = sym (same_map values.order);
+      items = λ q i. refl;
+      links = λ q l i e. e ∙ (λ i. Some (record l { previous = same_option l.previous i; next = same_option l.next i }));
+      room = omega (arith, values_sound.fits, value_room);
+    } in
+    record {
+      name = λ p. p;
+      renames = subst (λ s. Renames (λ p. p) keys s values values_after) (sym same_keys)
+          (subst (λ s. Renames (λ p. p) keys k values s) (sym same_values) base);
+    }
+  where
+    same_map : (ps : List ℕ) → map (λ p. p) ps ≡ ps
+    same_map [] = refl
+    same_map (p ∷ ps) = ap (λ qs. p ∷ qs) (same_map ps)
+
+    same_option : (o : Option ℕ) → o ≡ option_map (λ p. p) o
+    same_option None = refl
+    same_option (Some p) = refl
+
+-- one renaming after the other
+pub renames-then : {K V : Type 0} (f g : ℕ → ℕ) {keys keys_mid keys_end : Slots K KeyLink} {values values_mid values_end : Slots V
+    ValueLink}
+    → Renames f keys keys_mid values values_mid → Renames g keys_mid keys_end values_mid values_end
+    → Renames (λ p. g (f p)) keys keys_end values values_end
+renames-then f g {keys} {keys_mid} {keys_end} {values} {values_mid} {values_end} a b = record {
+  apart = λ p q i j e. a.apart p q i j (b.apart (f p) (f q) (there p i) (there q j) e);
+  key_order = b.key_order ∙ a.key_order;
+  key_items = λ q. b.key_items q ∙ a.key_items q;
+  key_links = λ q l i e. b.key_links q _ (subst (IsIn q) (sym a.key_order) i) (a.key_links q l i e);
+  key_room = omega (arith, b.key_room, ap length a.key_order);
+  order = b.order ∙ ap (map g) a.order ∙ map-twice values.order;
+  items = λ q i. b.items (f q) (there q i) ∙ a.items q i;
+  links = λ q l i e.
+      b.links (f q) _ (there q i) (a.links q l i e)
+      ∙ (λ i. Some (record l { previous = twice l.previous i; next = twice l.next i }));
+  room = omega (arith, b.room, ap length a.order, length-map values.order f);
+}
+  where
+    map-twice : (ps : List ℕ) → map g (map f ps) ≡ map (λ p. g (f p)) ps
+    map-twice [] = refl
+    map-twice (p ∷ ps) = ap (λ qs. g (f p) ∷ qs) (map-twice ps)
+
+    twice : (o : Option ℕ) → option_map g (option_map f o) ≡ option_map (λ p. g (f p)) o
+    twice None = refl
+    twice (Some p) = refl
+
+    in_map : (q : ℕ) (ps : List ℕ) → IsIn q ps → IsIn (f q) (map f ps)
+    in_map q [] i = absurd i
+    in_map q (p ∷ ps) (inl e) = inl (ap f e)
+    in_map q (p ∷ ps) (inr i) = inr (in_map q ps i)
+
+    there : (q : ℕ) → IsIn q values.order → IsIn (f q) values_mid.order
+    there q i = subst (IsIn (f q)) (sym a.order) (in_map q values.order i)
+
+-- the holes at the end are given up
+pub renames-cut : {K V : Type 0} (f : ℕ → ℕ) {keys keys_after : Slots K KeyLink} {values : Slots V ValueLink} (mid end : Taped V ValueLink)
+    → Renames f keys keys_after values mid.list → CutsEnd mid end → Renames f keys keys_after values end.list
+renames-cut f {keys} {keys_after} {values} mid end a cut = record {
+  apart = a.apart;
+  key_order = a.key_order;
+  key_items = a.key_items;
+  key_links = a.key_links;
+  key_room = a.key_room;
+  order = cut.order ∙ a.order;
+  items = λ q i. cut.items (f q) (there q i) ∙ a.items q i;
+  links = λ q l i e. cut.links (f q) (there q i) ∙ a.links q l i e;
+  room = omega (arith, a.room, cut.capacity);
+}
+  where
+    in_map : (q : ℕ) (ps : List ℕ) → IsIn q ps → IsIn (f q) (map f ps)
+    in_map q [] i = absurd i
+    in_map q (p ∷ ps) (inl e) = inl (ap f e)
+    in_map q (p ∷ ps) (inr i) = inr (in_map q ps i)
+
+    there : (q : ℕ) → IsIn q values.order → IsIn (f q) mid.list.order
+    there q i = subst (IsIn (f q)) (sym a.order) (in_map q values.order i)
+
+-- no place has another name where the tape only grew, or not even that
+pub grown_places : {K V : Type 0} {keys : Slots K KeyLink} {values values_after : Taped V ValueLink} → IsSound keys → IsSound values.list
+    → KeepsTape values values_after
+    → values.list.capacity ≤ values_after.list.capacity → AreRenamed keys keys values.list values_after.list
+grown_places {keys = keys} {values} {values_after} keys_sound values_sound same room =
+    renamed-room keys keys values.list values_after.list keys_sound values_sound refl (ap (λ t. t.list) same) (omega arith) room
+
+pub same_places : {K V : Type 0} {keys : Slots K KeyLink} {values : Slots V ValueLink} → IsSound keys → IsSound values
+    → AreRenamed keys keys values values
+same_places {keys = keys} {values} keys_sound values_sound = renamed-room keys keys values values keys_sound values_sound refl refl
+    (omega arith) (omega arith)
+
+-- nor where only the keys' slots grew
+pub grown_keys : {K V : Type 0} {keys keys_after : Slots K KeyLink} {values : Slots V ValueLink} → IsSound keys → IsSound values
+    → KeepsItems keys keys_after → keys.capacity ≤ keys_after.capacity → AreRenamed keys keys_after values values
+grown_keys {keys = keys} {keys_after} {values} keys_sound values_sound same room =
+    renamed-room keys keys_after values values keys_sound values_sound same refl room (omega arith)

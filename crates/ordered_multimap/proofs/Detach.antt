@@ -1,0 +1,6 @@
+pub mod Answers
+pub mod Chains
+pub mod DrainSteps
+pub mod Drains
+pub mod Dropped
+pub mod KeptByDrains

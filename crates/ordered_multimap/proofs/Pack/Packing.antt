@@ -1,0 +1,254 @@
+-- What the steps of a packing leave: each key goes to the end of the new list, and each value to its place on the new tape.
+use Rattle.std.proofs.Common.{◌≡◌, ◌≢◌, ◌==◌, ℕ, zero, suc, ◌+◌, ◌<◌, cond, not, List, [], ◌∷◌, ◌++◌, map, length, get_or, Option, Some}
+use Rattle.std.proofs.Common.{None, is_some, refl, sym, ap, ◌∙◌, subst, inl, inr, arith, length-append, append_assoc, ◌≤◌}
+use Rattle.std.proofs.lemmas.Bool.{cases_eq, eq-eqb, ne_eqb}
+use Rattle.std.proofs.lemmas.List.{get_or-set_same, get_or-set_other, map-append}
+use Rattle.std.specs.Cmp.{nat_cmp_total, unsigned_tied}
+use Rattle.std.specs.Ordering.{nat_cmp}
+use Rattle.std.specs.FinMap.{FinMap, empty, get, len, get-empty, get-insert, len-empty, len-insert}
+use Rattle.multimap_slots.specs.Lists.{IsIn, AreDistinct, first_of, without}
+use Rattle.multimap_slots.specs.Slots.{Slots, IsEmpty, IsSound, PushesBack, Removes, item_at, link_at}
+use Rattle.multimap_slots.proofs.Callers.PlaceLists.{AreDistinct-gone, IsIn-append, IsIn-left, IsIn-right, IsIn-without, without-split}
+use Rattle.multimap_walks.specs.declared.links.KeyLink.{KeyLink}
+use Rattle.multimap_walks.specs.declared.links.ValueLink.{ValueLink}
+use Rattle.ordered_multimap.specs.Private.KeyRenames.{HasRows, HaveCome, HaveGone, MovesKey, name_in, with_new_key}
+use Rattle.ordered_multimap.specs.Private.Renames.{places_below}
+use Rattle.ordered_multimap.proofs.Compact.Settled.{below-less, length-below}
+use Rattle.ordered_multimap.proofs.Callers.Members.{IsIn-filter}
+use Rattle.ordered_multimap.proofs.Callers.Places.{Begins, begins}
+use Rattle.ordered_multimap.proofs.Append.Steps.{listed_cases, new_listed, old_listed, old_other}
+
+-- a first part of the keys has gone, and the others are left as they were
+pub record AreGoing {K : Type 0} (names : List ℕ) (keys left packed : Slots K KeyLink)
+    : Type 0 where
+  pub part : List ℕ
+  pub parts : keys.order ≡ part ++ left.order
+  pub gone : HaveGone (name_in names) part keys packed
+  pub left_items : (q : ℕ) → IsIn q left.order → item_at left q ≡ item_at keys q
+  pub left_links : (q : ℕ) → IsIn q left.order → link_at left q ≡ link_at keys q
+
+-- the values at the first n places have come, and the others are left as they were
+pub record AreComing {V : Type 0} (name : ℕ → ℕ) (n : ℕ) (values left packed : Slots V ValueLink)
+    : Type 0 where
+  pub come : HaveCome name (places_below n) values packed
+  pub there : (q : ℕ) → n ≤ q → IsIn q values.order → IsIn q left.order
+  pub left_items : (q : ℕ) → IsIn q left.order → item_at left q ≡ item_at values q
+  pub left_links : (q : ℕ) → IsIn q left.order → link_at left q ≡ link_at values q
+
+-- names that agree on a list of places
+map-agree : (f g : ℕ → ℕ) (ps : List ℕ) → ((p : ℕ) → IsIn p ps → f p ≡ g p) → map f ps ≡ map g ps
+map-agree f g [] same = refl
+map-agree f g (p ∷ ps) same = λ i. same p (inl refl) i ∷ map-agree f g ps (λ q j. same q (inr j)) i
+
+IsIn-name : (name : ℕ → ℕ) (q : ℕ) (ps : List ℕ) → IsIn q ps → IsIn (name q) (map name ps)
+IsIn-name name q [] i = absurd i
+IsIn-name name q (p ∷ ps) (inl e) = inl (ap name e)
+IsIn-name name q (p ∷ ps) (inr i) = inr (IsIn-name name q ps i)
+
+pub going-start : {K : Type 0} (names : List ℕ) (keys packed : Slots K KeyLink) → IsEmpty packed → AreGoing names keys keys packed
+going-start names keys packed none = record {
+  part = [];
+  parts = refl;
+  gone = record {
+    apart = λ p q i. absurd i;
+    order = none.order;
+    items = λ q i. absurd i;
+    links = λ q i. absurd i;
+  };
+  left_items = λ q i. refl;
+  left_links = λ q i. refl;
+}
+
+pub rows-start : {K : Type 0} (packed : Slots K KeyLink) (rows : FinMap nat_cmp ℕ) → IsEmpty packed → rows ≡ empty → HasRows packed rows
+rows-start packed rows none no_row = record {
+  in_table = λ p l listed. absurd (subst (IsIn p) none.order listed);
+  listed = λ p h e. let bad : None ≡ Some h = sym (ap (λ m. get m p) no_row ∙ get-empty nat_cmp p) ∙ e in absurd (cc);
+  counted = ap len no_row ∙ len-empty nat_cmp ℕ ∙ sym (ap length none.order);
+}
+
+module _ {K : Type 0} {left left_after packed packed_after : Slots K KeyLink} {rows rows_after : FinMap nat_cmp ℕ} {names names_after : List
+    ℕ} {place : ℕ}
+    (moves : MovesKey left left_after packed packed_after rows rows_after names names_after place) where
+  -- the row of the key comes, and the others stay
+  pub rows-step : HasRows packed rows → HasRows packed_after rows_after
+  rows-step has = record {
+    in_table = λ p l listed is. elim (listed_cases moves.pushed p listed) [
+      | inl before ↦ elsewhere p (old_other moves.pushed p before)
+          ∙ has.in_table p l before (sym (moves.pushed.others.links p (old_other moves.pushed p before)) ∙ is)
+      | inr here ↦
+          let both : Some moves.link ≡ Some l = sym moves.pushed.link_is ∙ ap (link_at packed_after) (sym here) ∙ is in
+          let own : moves.link ≡ l = cc in
+          at_place p here ∙ ap (λ (x : KeyLink). Some x.hash) own
+    ];
+    listed = λ p h is. elim (cases_eq p moves.to) [
+      | inl same ↦ subst (λ q. IsIn q packed_after.order) (sym same) (new_listed moves.pushed)
+      | inr differs ↦ old_listed moves.pushed p (has.listed p h (sym (elsewhere p differs) ∙ is))
+    ];
+    counted =
+        ap len moves.rows_are ∙ len-insert nat_cmp_total rows moves.to moves.link.hash
+        ∙ ap (λ b. cond b (len rows) (len rows + 1)) (ap is_some absent)
+        ∙ ap (λ m. m + 1) has.counted
+        ∙ sym (ap length moves.pushed.order ∙ length-append packed.order (moves.to ∷ []));
+  }
+    where
+      inserted : (p : ℕ) → get rows_after p ≡ cond (p == moves.to) (Some moves.link.hash) (get rows p)
+      inserted p =
+          ap (λ m. get m p) moves.rows_are ∙ get-insert nat_cmp_total rows moves.to moves.link.hash p
+          ∙ ap (λ b. cond b (Some moves.link.hash) (get rows p)) (unsigned_tied p moves.to)
+
+      at_place : (p : ℕ) → p ≡ moves.to → get rows_after p ≡ Some moves.link.hash
+      at_place p same = inserted p ∙ ap (λ b. cond b (Some moves.link.hash) (get rows p)) (eq-eqb p moves.to same)
+
+      elsewhere : (p : ℕ) → p ≢ moves.to → get rows_after p ≡ get rows p
+      elsewhere p differs = inserted p ∙ ap (λ b. cond b (Some moves.link.hash) (get rows p)) (ne_eqb p moves.to differs)
+
+      absent : get rows moves.to ≡ None
+      absent =
+          let P : Option ℕ → Type 0 = λ o. get rows moves.to ≡ o → o ≡ None in
+          elim (get rows moves.to) as P [ None ↦ λ _. refl | Some h ↦ λ is. absurd (moves.pushed.was_absent (has.listed moves.to h is)) ]
+          refl
+
+  module _ {keys : Slots K KeyLink} (sound : IsSound keys) (going : AreGoing names keys left packed) (b : Begins left.order place)
+      (within : place < length names) where
+    -- the place is in neither part
+    not_in : IsIn place (going.part ++ b.rest) → ⊥
+    not_in = AreDistinct-gone going.part place b.rest (subst AreDistinct (going.parts ∙ ap (λ ps. going.part ++ ps) b.is) sound.distinct)
+
+    other : (q : ℕ) → IsIn q going.part → q ≢ place
+    other q i same = not_in (IsIn-left place going.part b.rest (subst (λ p. IsIn p going.part) same i))
+
+    left_after_is : left_after.order ≡ b.rest
+    left_after_is = moves.removed.order ∙ ap (λ ps. without ps place) b.is
+        ∙ without-split [] place b.rest (λ i. not_in (IsIn-right place going.part b.rest i))
+
+    old_name : (q : ℕ) → IsIn q going.part → name_in names_after q ≡ name_in names q
+    old_name q i = ap (λ ns. get_or ns q 0) moves.names_are ∙ get_or-set_other names place q moves.to 0 (other q i)
+
+    new_name : name_in names_after place ≡ moves.to
+    new_name = ap (λ ns. get_or ns place 0) moves.names_are ∙ get_or-set_same names place moves.to 0 within
+
+    -- no old name is the new one
+    taken : (q : ℕ) → IsIn q going.part → name_in names q ≢ moves.to
+    taken q i = old_other moves.pushed (name_in names q)
+        (subst (IsIn (name_in names q)) (sym going.gone.order) (IsIn-name (name_in names) q going.part i))
+
+    cases : {P : ℕ → Type 0} → ((q : ℕ) → IsIn q going.part → P q) → P place → (q : ℕ) → IsIn q (going.part ++ place ∷ []) → P q
+    cases {P} before here q i = elim (IsIn-append q going.part (place ∷ []) i) [
+      | inl old ↦ before q old
+      | inr last ↦ elim last [ inl same ↦ subst P (sym same) here | inr none ↦ absurd none ]
+    ]
+
+    pub going-step : AreGoing names_after keys left_after packed_after
+    going-step = record {
+      part = going.part ++ place ∷ [];
+      parts =
+          going.parts ∙ ap (λ ps. going.part ++ ps) (b.is ∙ ap (λ ps. place ∷ ps) (sym left_after_is))
+          ∙ sym (append_assoc going.part (place ∷ []) left_after.order);
+      gone = record {
+        apart = λ p q i j.
+            cases {P = λ x. name_in names_after x ≡ name_in names_after q → x ≡ q}
+            (λ x old. cases {P = λ y. name_in names_after x ≡ name_in names_after y → x ≡ y}
+            (λ y too e. going.gone.apart x y old too (sym (old_name x old) ∙ e ∙ old_name y too))
+            (λ e. absurd (taken x old (sym (old_name x old) ∙ e ∙ new_name))) q j)
+            (cases {P = λ y. name_in names_after place ≡ name_in names_after y → place ≡ y}
+            (λ y old e. absurd (taken y old (sym (old_name y old) ∙ sym e ∙ new_name)))
+            (λ e. refl) q j) p i;
+        order =
+            moves.pushed.order ∙ ap (λ ps. ps ++ moves.to ∷ [])
+            (going.gone.order ∙ sym (map-agree (name_in names_after) (name_in names) going.part old_name))
+            ∙ ap (λ p. map (name_in names_after) going.part ++ p ∷ []) (sym new_name)
+            ∙ sym (map-append (name_in names_after) going.part (place ∷ []));
+        items = cases {P = λ q. item_at packed_after (name_in names_after q) ≡ item_at keys q}
+            (λ q old. ap (item_at packed_after) (old_name q old) ∙ moves.pushed.others.items (name_in names q) (taken q old)
+            ∙ going.gone.items q old)
+            (ap (item_at packed_after) new_name ∙ moves.pushed.item_is ∙ sym moves.removed.had
+            ∙ going.left_items place moves.removed.was_listed);
+        links = cases {P = λ q. link_at packed_after (name_in names_after q) ≡ link_at keys q}
+            (λ q old. ap (link_at packed_after) (old_name q old) ∙ moves.pushed.others.links (name_in names q) (taken q old)
+            ∙ going.gone.links q old)
+            (ap (link_at packed_after) new_name ∙ moves.pushed.link_is ∙ sym moves.link_was
+            ∙ going.left_links place moves.removed.was_listed);
+      };
+      left_items = λ q i. let was = still q i in moves.removed.others.items q was.1 ∙ going.left_items q was.0;
+      left_links = λ q i. let was = still q i in moves.removed.others.links q was.1 ∙ going.left_links q was.0;
+    }
+      where
+        still : (q : ℕ) → IsIn q left_after.order → IsIn q left.order × (q ≢ place)
+        still q i = IsIn-without q left.order place (subst (IsIn q) moves.removed.order i)
+
+-- the next key is one of all
+pub going-listed : {K : Type 0} {names : List ℕ} {keys left packed : Slots K KeyLink} {place : ℕ} → AreGoing names keys left packed
+    → first_of left.order ≡ Some place → IsIn place keys.order
+going-listed {keys = keys} {left} {place = place} going first =
+    let b = begins left.order place first in
+    subst (IsIn place) (sym going.parts) (IsIn-right place going.part left.order (subst (IsIn place) (sym b.is) (inl refl)))
+
+in-below : (n q : ℕ) → q < n → IsIn q (places_below n)
+in-below zero q below = absurd (omega (arith, below))
+in-below (suc n) q below = elim (cases_eq q n) [
+  | inl same ↦ IsIn-right q (places_below n) (n ∷ []) (inl same)
+  | inr differs ↦ IsIn-left q (places_below n) (n ∷ []) (in-below n q (omega (arith, below, differs)))
+]
+
+pub coming-start : {V : Type 0} (name : ℕ → ℕ) (values packed : Slots V ValueLink) → IsEmpty packed → AreComing name 0 values values packed
+coming-start name values packed none = record {
+  come = record { order = none.order; items = λ q i. absurd i; links = λ q l i. absurd i };
+  there = λ q above i. i;
+  left_items = λ q i. refl;
+  left_links = λ q i. refl;
+}
+
+module _ {V : Type 0} {name : ℕ → ℕ} {n : ℕ} {values left packed : Slots V ValueLink} (coming : AreComing name n values left packed)
+    (settled : values.order ≡ places_below (length values.order)) where
+  -- the next place has a value, as it had before
+  pub was_there : n < length values.order → IsIn n values.order
+  was_there more = subst (IsIn n) (sym settled) (in-below (length values.order) n more)
+
+  pub next_there : n < length values.order → IsIn n left.order
+  next_there more = coming.there n (omega arith) (was_there more)
+
+  pub come_length : length packed.order ≡ n
+  come_length = ap length coming.come.order ∙ length-below n
+
+  pub coming-end : n ≡ length values.order → HaveCome name values.order values packed
+  coming-end all = subst (λ ps. HaveCome name ps values packed) (ap places_below all ∙ sym settled) coming.come
+
+  module _ {left_after packed_after : Slots V ValueLink} {value : V} {link : ValueLink} {to : ℕ} (removed : Removes left left_after n value)
+      (link_was : link_at left n ≡ Some link)
+      (pushed : PushesBack packed packed_after to value (with_new_key name link)) (to_is : to ≡ n) where
+    pub coming-step : AreComing name (suc n) values left_after packed_after
+    coming-step = record {
+      come = record {
+        order = pushed.order ∙ (λ i. coming.come.order i ++ to_is i ∷ []);
+        items = λ q i. elim (IsIn-append q (places_below n) (n ∷ []) i) [
+          | inl below ↦ pushed.others.items q (low q below) ∙ coming.come.items q below
+          | inr last ↦ elim last [
+            | inl same ↦ ap (item_at packed_after) (same ∙ sym to_is) ∙ pushed.item_is ∙ sym removed.had
+                ∙ coming.left_items n removed.was_listed ∙ ap (item_at values) (sym same)
+            | inr none ↦ absurd none
+          ]
+        ];
+        links = λ q l i is. elim (IsIn-append q (places_below n) (n ∷ []) i) [
+          | inl below ↦ pushed.others.links q (low q below) ∙ coming.come.links q l below is
+          | inr last ↦ elim last [
+            | inl same ↦
+                let both : Some link ≡ Some l = sym link_was ∙ coming.left_links n removed.was_listed ∙ ap (link_at values) (sym same)
+                ∙ is in
+                let own : link ≡ l = cc in
+                ap (link_at packed_after) (same ∙ sym to_is) ∙ pushed.link_is ∙ ap (λ m. Some (with_new_key name m)) own
+            | inr none ↦ absurd none
+          ]
+        ];
+      };
+      there = λ q above i.
+          subst (IsIn q) (sym removed.order) (IsIn-filter (λ p. not (p == n)) q left.order
+          (ap not (ne_eqb q n (λ e. omega (arith, above, e)))) (coming.there q (omega (arith, above)) i));
+      left_items = λ q i. let was = still q i in removed.others.items q was.1 ∙ coming.left_items q was.0;
+      left_links = λ q i. let was = still q i in removed.others.links q was.1 ∙ coming.left_links q was.0;
+    }
+      where
+        low : (q : ℕ) → IsIn q (places_below n) → q ≢ to
+        low q below same = omega (arith, below-less n q below, same, to_is)
+
+        still : (q : ℕ) → IsIn q left_after.order → IsIn q left.order × (q ≢ n)
+        still q i = IsIn-without q left.order n (subst (IsIn q) removed.order i)

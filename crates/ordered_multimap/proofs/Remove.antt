@@ -1,0 +1,9 @@
+pub mod AtEnds
+pub mod ByIndex
+pub mod OlderValues
+pub mod OnePair
+pub mod OneValue
+pub mod Retaining
+pub mod ValueByValue
+pub mod WaysOut
+pub mod WholeKeys

@@ -1,0 +1,3 @@
+pub mod EqualPairs
+pub mod TakenApart
+pub mod WalkedLists

@@ -1,0 +1,35 @@
+use Rattle.std.proofs.Common.{◌-◌, ◌+◌, arith}
+use Rattle.ordered_multimap.proofs.Detach.DrainSteps.{drained-length, first_detached, first_rest, keeps_slots, keeps_all, keeps_more}
+use Rattle.ordered_multimap.proofs.Append.Steps.{room_on, room_same}
+use Rattle.ordered_multimap.proofs.list_ordered_multimap.drain.steps.drop_chain.Goals as goal
+
+pub loop-init : goal.loop-init
+loop-init g c =
+    let e = c.args.ends in
+    record {
+      left = drained-length e.first e.last e.length (e.length - 0) (omega arith) c.requires;
+      kept = keeps_all;
+      room = room_same;
+    }
+
+pub get_detached-requires : goal.get_detached-requires
+get_detached-requires g c =
+    let e = c.args.ends in
+    first_detached (record { first = c.loop.place; last = e.last; length = e.length - c.loop.counter }) ∣ c.loop.invariant.left ∣₁
+    (e.length - (c.loop.counter + 1)) (omega (arith, c.loop-test.true))
+
+pub loop-preserved : goal.loop-preserved
+loop-preserved g c =
+    let e = c.args.ends in
+    let w = c.loop.invariant in
+    let t = c.take_detached.ensures in
+    record {
+      left =
+          first_rest (record { first = c.loop.place; last = e.last; length = e.length - c.loop.counter }) ∣ w.left ∣₁
+          (e.length - (c.loop.counter + 1)) (omega (arith, c.loop-test.true)) c.get_detached.result.1 c.unwrap_or-place.result
+          c.get_detached.ensures.link_is c.unwrap_or-place.ensures t.taken;
+      kept = keeps_more w.kept (keeps_slots c.len-len.ensures.sound
+          (first_detached (record { first = c.loop.place; last = e.last; length = e.length - c.loop.counter }) ∣ w.left ∣₁
+          (e.length - (c.loop.counter + 1)) (omega (arith, c.loop-test.true))) t.taken);
+      room = room_on w.room t.counts t.capacity;
+    }

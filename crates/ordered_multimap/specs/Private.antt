@@ -1,0 +1,9 @@
+pub mod Append
+pub mod KeyRenames
+pub mod KeySteps
+pub mod Remove
+pub mod RemoveAt
+pub mod RemoveOne
+pub mod Renames
+pub mod Retain
+pub mod Update

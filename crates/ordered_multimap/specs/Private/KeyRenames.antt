@@ -1,0 +1,81 @@
+-- Keys that go to other places, with their rows, and values whose links name these. No public
+-- clause cites this module.
+use Rattle.std.specs.Prelude.{◌≡◌, ℕ, ◌≤◌, List, map, length, get_or, set, Some}
+use Rattle.std.specs.Ordering.{nat_cmp}
+use Rattle.std.specs.FinMap.{FinMap, empty, get, insert, len}
+use Rattle.multimap_slots.specs.Lists.{IsIn}
+use Rattle.multimap_slots.specs.Slots.{Slots, IsEmpty, IsSound, PushesBack, Removes, item_at}
+use Rattle.multimap_slots.specs.Slots.{link_at}
+use Rattle.multimap_slots.specs.Tapes.{Taped}
+use Rattle.multimap_table.specs.Table.{Table}
+use Rattle.multimap_walks.specs.declared.links.KeyLink.{KeyLink}
+use Rattle.multimap_walks.specs.declared.links.ValueLink.{ValueLink}
+use Rattle.ordered_multimap.specs.Private.Renames.{AreRenamed}
+use Rattle.ordered_multimap.specs.TapeNumbers.{AreUnused, numbers_of}
+
+-- neither a key nor a row nor a value, on a tape that was not used
+pub record IsNewStorage {K V : Type 0} (keys : Slots K KeyLink) (table : Table)
+    (values : Taped V ValueLink) : Type 0 where
+  pub no_key : IsEmpty keys
+  pub no_row : table.rows ≡ empty
+  pub no_value : IsEmpty values.list
+  pub unused : AreUnused (numbers_of values)
+
+-- the new place of the key at a place, where a list has the new places by the old ones
+abbrev pub name_in : List ℕ → ℕ → ℕ
+name_in names place = get_or names place 0
+
+-- the table has the place of each key with the hash of its link, and no other
+pub record HasRows {K : Type 0} (keys : Slots K KeyLink) (rows : FinMap nat_cmp ℕ) : Type 0 where
+  pub in_table : (place : ℕ) (l : KeyLink) → IsIn place keys.order → link_at keys place ≡ Some l
+      → get rows place ≡ Some l.hash
+  pub listed : (place hash : ℕ) → get rows place ≡ Some hash → IsIn place keys.order
+  pub counted : len rows ≡ length keys.order
+
+module _ (name : ℕ → ℕ) where
+  -- the keys at these places, in this order, are those of the other list, at the new places, each
+  -- with its link
+  pub record HaveGone {K : Type 0} (places : List ℕ) (keys packed : Slots K KeyLink) : Type 0 where
+    pub apart : (p q : ℕ) → IsIn p places → IsIn q places → name p ≡ name q → p ≡ q
+    pub order : packed.order ≡ map name places
+    pub items : (q : ℕ) → IsIn q places → item_at packed (name q) ≡ item_at keys q
+    pub links : (q : ℕ) → IsIn q places → link_at packed (name q) ≡ link_at keys q
+
+  -- the link with the new place of the key
+  abbrev pub with_new_key : ValueLink → ValueLink
+  with_new_key l = record l { key = name l.key }
+
+  -- the values at these places are those of the other list, at the same places, and their links
+  -- name the new places of the keys
+  pub record HaveCome {V : Type 0} (places : List ℕ) (values packed : Slots V ValueLink)
+      : Type 0 where
+    pub order : packed.order ≡ places
+    pub items : (q : ℕ) → IsIn q places → item_at packed q ≡ item_at values q
+    pub links : (q : ℕ) (l : ValueLink) → IsIn q places → link_at values q ≡ Some l
+        → link_at packed q ≡ Some (with_new_key l)
+
+-- the key at the place has gone from one list to the end of the other, with its link and a row of
+-- its hash, and its new place is noted
+pub record MovesKey {K : Type 0} (keys keys_after packed packed_after : Slots K KeyLink)
+    (rows rows_after : FinMap nat_cmp ℕ) (names names_after : List ℕ) (place : ℕ) : Type 0 where
+  pub key : K
+  pub link : KeyLink
+  pub to : ℕ
+  pub removed : Removes keys keys_after place key
+  pub link_was : link_at keys place ≡ Some link
+  pub pushed : PushesBack packed packed_after to key link
+  pub rows_are : rows_after ≡ insert rows to link.hash
+  pub names_are : names_after ≡ set names place to
+
+-- the values were taken down over holes, and then keys and values went to new storage
+pub record ArePacked {K V : Type 0} (keys keys_after : Slots K KeyLink)
+    (rows_after : FinMap nat_cmp ℕ) (values values_after : Slots V ValueLink) : Type 0 where
+  pub keys_settled : Slots K KeyLink
+  pub values_settled : Slots V ValueLink
+  pub settled : AreRenamed keys keys_settled values values_settled
+  pub name : ℕ → ℕ
+  pub gone : HaveGone name keys_settled.order keys_settled keys_after
+  pub keys_sound : IsSound keys_after
+  pub rows : HasRows keys_after rows_after
+  pub come : HaveCome name values_settled.order values_settled values_after
+  pub fits : length values.order ≤ values_after.capacity

@@ -1,0 +1,202 @@
+//! What a drain does with the map that it borrows: it reads, takes and drops detached values.
+ghost use Rattle.std.specs.Prelude.{◌≡◌, length, option_map, slice_get};
+ghost use Rattle.std.specs.Prelude.{IfErr, IfNone, OnErr, OnOk, IsOk};
+ghost use Rattle.multimap_slots.specs.Lists.{IsIn};
+ghost use Rattle.ordered_multimap.specs.Additions.{HandsBack};
+ghost use Rattle.ordered_multimap.specs.Private.Append.{KeepsTapeRoom};
+ghost use Rattle.ordered_multimap.specs.Agrees.{HasKey};
+ghost use Rattle.ordered_multimap.specs.Changes.{inserted, removed};
+ghost use Rattle.ordered_multimap.specs.Keys.{stored_key};
+ghost use Rattle.ordered_multimap.specs.Private.KeySteps.{DetachesValues, HoldsInRoom, KeepsPairs};
+ghost use Rattle.ordered_multimap.specs.Pairs.{values_of};
+ghost use Rattle.ordered_multimap.specs.Rooms.{HasValueRoom, KeepsRooms, RaisesNoRoom, SameRooms};
+ghost use Rattle.ordered_multimap.specs.TapeNumbers.{TakesOut};
+ghost use Rattle.multimap_walks.specs.Walk.{TakesEnd};
+ghost use Rattle.ordered_multimap.specs.Detaches.{EndsDrain, HoldsDrain, IsDrained, KeepsListed, KeepsSlots, LeavesDrain, left_of};
+
+use crate::list_ordered_multimap::insert::insert_behind_all;
+use crate::list_ordered_multimap::remove::chain::leave_entry;
+use crate::list_ordered_multimap::remove::leaving::KeptInPlace;
+use crate::list_ordered_multimap::{
+    EntryValues, ListOrderedMultimap, NO_CHAIN, Refused, RefusedValue,
+};
+use multimap_slots::Tape;
+use multimap_walks::{ChainEnds, End, ValueLink};
+use std::alloc::Allocator;
+use std::hash::{BuildHasher, Hash};
+
+impl<K: Eq + Hash, V, S: BuildHasher, A: Allocator> ListOrderedMultimap<K, V, S, A> {
+    /// Takes the key out, detaches all its values for a drain, and answers the stored key.
+    pub(crate) fn detach_all(&mut self, key: &K) -> Option<K>
+        ensures holds { HoldsInRoom self.old self.new }
+        ensures detached { DetachesValues K.eq self.old self.new key.now
+            (removed K.eq self.old.lists key.now) }
+        ensures key { result ≡ option_map (λ _. stored_key K.eq self.old.lists.keys key.now)
+            (slice_get (values_of K.eq self.old.lists.pairs key.now) 0) }
+        ensures absent { IfNone result (KeepsListed self.old self.new) }
+    {
+        match self.look_up(key).1 {
+            Some(place) => Some(self.detach_at(place)),
+            None => {
+                self.detach_none();
+                None
+            }
+        }
+    }
+
+    /// Takes the key at the place out, detaches all its values for a drain, and answers the key.
+    pub(crate) fn detach_at(&mut self, place: usize) -> K
+        requires { IsIn place self.old.slots.keys.order }
+        ensures holds { HoldsInRoom self.old self.new }
+        ensures detached { (k : K) → HasKey K.eq self.old.slots.keys k place
+            → DetachesValues K.eq self.old self.new k (removed K.eq self.old.lists k) }
+        ensures key { (k : K) → HasKey K.eq self.old.slots.keys k place
+            → result ≡ stored_key K.eq self.old.lists.keys k }
+    {
+        let (key, _, left) = leave_entry::<K, V, KeptInPlace, A>(
+            &mut self.keys,
+            &mut self.table,
+            &mut self.values,
+            place,
+        );
+        self.left = left;
+        key
+    }
+
+    /// Nothing is left for a drain.
+    fn detach_none(&mut self)
+        ensures { EndsDrain self.old self.new }
+    {
+        self.left = NO_CHAIN;
+    }
+
+    /// The same, and the map is handed back.
+    pub(crate) fn detach_all_on(&mut self, key: &K) -> (Option<K>, &mut Self)
+        ensures same_map { result.1.ghost_name ≡ self.entry.ghost_name }
+        ensures holds { HoldsDrain result.1.now }
+        ensures left { left_of result.1.now ≡ values_of K.eq self.old.lists.pairs key.now }
+        ensures key { result.0 ≡ option_map (λ _. stored_key K.eq self.old.lists.keys key.now)
+            (slice_get (values_of K.eq self.old.lists.pairs key.now) 0) }
+        ensures lists { result.1.now.lists ≡ removed K.eq self.old.lists key.now }
+        ensures rooms { SameRooms self.old result.1.now }
+        ensures taken { TakesOut (length (values_of K.eq self.old.lists.pairs key.now))
+            self.old.tape result.1.now.tape }
+        ensures absent { IfNone result.0 (KeepsListed self.old result.1.now) }
+    {
+        let stored = self.detach_all(key);
+        (stored, self)
+    }
+
+    /// How many values are left of the drain.
+    pub(crate) fn count_left(&self) -> usize
+        requires { HoldsDrain self.now }
+        ensures { result ≡ length (left_of self.now) }
+    {
+        self.left.length
+    }
+
+    /// A walk over the values that are left of the drain.
+    pub(crate) fn values_left(&self) -> EntryValues<'_, K, V, A>
+        requires { HoldsDrain self.now }
+        ensures { result.left ≡ left_of self.now }
+    {
+        EntryValues::new_detached(&self.values, Some(self.left))
+    }
+
+    /// Takes the value at an end of what is left of the drain.
+    #[inline(always)]
+    pub(crate) fn take_left(&mut self, end: End) -> Option<V>
+        requires { HoldsDrain self.old }
+        ensures drain { LeavesDrain self.old self.new }
+        ensures taken { TakesEnd end (λ v. v) (left_of self.old) result (left_of self.new) }
+    {
+        if self.left.length == 0 {
+            return None;
+        }
+        let place = self.left.place_at(end);
+        let (_, link) = self.values.get_detached(place);
+        self.left = self.left.after(end, link.step_from(end).unwrap_or(place));
+        Some(self.values.take_detached(place))
+    }
+
+    /// Drops the values that are left of the drain.
+    pub(crate) fn drop_left(&mut self)
+    where
+        V: Drop,
+        requires { HoldsDrain self.old }
+        ensures { EndsDrain self.old self.new }
+    {
+        let left = self.left;
+        self.left.length = 0;
+        drop_chain(&mut self.values, left);
+    }
+}
+
+impl<K: Eq + Hash, V, S: BuildHasher, A: Allocator + Copy> ListOrderedMultimap<K, V, S, A> {
+    /// Puts the pair last, and detaches the older values of its key for a drain.
+    pub(crate) fn insert_detaching(&mut self, key: K, value: V) -> Result<(), Refused<K, V>>
+    where
+        K: Drop,
+        V: Drop,
+        ensures holds { OnOk result (HoldsDrain self.new) }
+        ensures ok { OnOk result (DetachesValues K.eq self.old self.new key
+            (inserted K.eq self.old.lists key value)) }
+        ensures unchanged { OnErr result (KeepsPairs self.old self.new) }
+        ensures hands_back { HandsBack K.eq key value self.old result }
+        ensures rooms { KeepsRooms self.old self.new }
+        ensures had_room { RaisesNoRoom K.eq key self.old self.new }
+    {
+        let (hash, place) = self.look_up(&key);
+        let Some(place) = place else {
+            self.append_new(hash, key, value)?;
+            self.detach_none();
+            return Ok(());
+        };
+        match self.insert_detaching_at(place, value) {
+            Ok(()) => Ok(()),
+            Err(RefusedValue { value }) => Err(Refused { key, value }),
+        }
+    }
+
+    /// Puts a value of the key at the place last, and detaches its older values for a drain.
+    pub(crate) fn insert_detaching_at(
+        &mut self,
+        place: usize,
+        value: V,
+    ) -> Result<(), RefusedValue<V>>
+    where
+        V: Drop,
+        requires { IsIn place self.old.slots.keys.order }
+        ensures stays { (k : K) → HasKey K.eq self.old.slots.keys k place
+            → HasKey K.eq self.new.slots.keys k place }
+        ensures holds { OnOk result (HoldsDrain self.new) }
+        ensures ok { OnOk result ((k : K) → HasKey K.eq self.old.slots.keys k place
+            → DetachesValues K.eq self.old self.new k (inserted K.eq self.old.lists k value)) }
+        ensures unchanged { OnErr result (KeepsPairs self.old self.new) }
+        ensures refused { IfErr result (λ r. r.value ≡ value) }
+        ensures succeeds { HasValueRoom self.old → IsOk result }
+        ensures rooms { KeepsRooms self.old self.new }
+        ensures had_room { (k : K) → HasKey K.eq self.old.slots.keys k place
+            → RaisesNoRoom K.eq k self.old self.new }
+    {
+        let left = insert_behind_all(&mut self.keys, &mut self.values, place, value)?;
+        self.left = left;
+        Ok(())
+    }
+}
+
+/// Takes detached values, and drops them.
+fn drop_chain<V: Drop, A: Allocator>(values: &mut Tape<V, ValueLink, A>, ends: ChainEnds)
+    requires { IsDrained values.old.list ends }
+    ensures kept { KeepsSlots values.old.list values.new.list }
+    ensures room { KeepsTapeRoom values.old values.new }
+{
+    let mut place = ends.first;
+    for _ in 0..ends.length {
+        // The length tells the proof that the list is sound.
+        let _len = values.len();
+        let (_, link) = values.get_detached(place);
+        drop(values.take_detached(place));
+        place = link.next.unwrap_or(place);
+    }
+}

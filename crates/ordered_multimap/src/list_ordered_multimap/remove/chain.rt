@@ -1,0 +1,123 @@
+//! Steps of a removal: how values leave the list, and the key with its last one.
+ghost use Rattle.std.specs.Prelude.{◌≡◌, ◌<◌, ℕ, List, Some};
+ghost use Rattle.std.specs.FinMap.{get};
+ghost use Rattle.multimap_slots.specs.Lists.{IsIn};
+ghost use Rattle.multimap_slots.specs.Slots.{Removes, item_at, link_at};
+ghost use Rattle.ordered_multimap.specs.Private.Remove.{AreLeaving, HasChain, HasChainBeforeRoom, HasEntry};
+ghost use Rattle.ordered_multimap.specs.Private.Remove.{IsRow, LeavesEntry, LeavesOlder, PushesOver, TakesRow};
+
+use crate::list_ordered_multimap::append::steps::{new_link, push_behind};
+use crate::list_ordered_multimap::links::{set_link, set_previous};
+use crate::list_ordered_multimap::lookup::slot_at;
+use crate::list_ordered_multimap::remove::leaving::Leaving;
+use multimap_slots::{SlotList, Tape};
+use multimap_table::KeyTable;
+use multimap_walks::{ChainEnds, KeyLink, ValueLink};
+use std::alloc::Allocator;
+
+/// Lets the first `count` values along the links from a place on leave, and answers what the first
+/// gives, and where they stood. No link is mended.
+#[inline(always)]
+fn leave_values<V, W: Leaving<V>, A: Allocator>(
+    values: &mut Tape<V, ValueLink, A>,
+    first: usize,
+    count: usize,
+) -> (W, ChainEnds)
+    requires some { 0 < count }
+    requires row { (row : List ℕ) × IsRow values.old.list first count row }
+    ensures left { (row : List ℕ) → IsRow values.old.list first count row → (following : _)
+        × AreLeaving W.keeps row count result.1.last following values.old values.new }
+    ensures given { (v : V) → item_at values.old.list first ≡ Some v → W.gives result.0 v }
+    ensures ends { result.1 ≡ record { first = first; last = result.1.last; length = count } }
+{
+    let (given, link) = W::leave(values, first);
+    let mut last = first;
+    let mut following = link.next;
+    for _ in 1..count {
+        match following {
+            Some(next) => {
+                let (_given, link) = W::leave(values, next);
+                last = next;
+                following = link.next;
+            }
+            None => unreachable!(),
+        }
+    }
+    let ends = ChainEnds {
+        first,
+        last,
+        length: count,
+    };
+    (given, ends)
+}
+
+/// Takes the key at the place out of list and table, where its row has this hash.
+#[inline(always)]
+pub(crate) fn take_key<K, A: Allocator>(
+    keys: &mut SlotList<K, KeyLink, A>,
+    table: &mut KeyTable<A>,
+    place: usize,
+    hash: u64,
+) -> K
+    requires listed { IsIn place keys.old.order }
+    requires row { get table.old.rows place ≡ Some hash }
+    ensures removed { Removes keys.old keys.new place result }
+    ensures row { TakesRow table.old table.new place }
+{
+    table.remove(hash, place);
+    let (key, _) = keys.take_listed(place);
+    key
+}
+
+/// Takes the key at the place out, and lets all its values leave. No link is mended, since those of
+/// a chain name each other alone.
+#[inline(always)]
+pub(crate) fn leave_entry<K, V, W: Leaving<V>, A: Allocator>(
+    keys: &mut SlotList<K, KeyLink, A>,
+    table: &mut KeyTable<A>,
+    values: &mut Tape<V, ValueLink, A>,
+    place: usize,
+) -> (K, W, ChainEnds)
+    requires { HasEntry keys.old table.old.rows values.old.list place }
+    ensures { LeavesEntry W.keeps (W.gives result.1) keys.old keys.new table.old table.new
+        values.old values.new place result.0 result.2 }
+{
+    let (_, link) = slot_at(keys, place);
+    let (first, ends) = leave_values(values, link.head, link.length);
+    (take_key(keys, table, place, link.hash), first, ends)
+}
+
+/// Lets all values of the key at the place leave but the last one.
+#[inline(always)]
+fn leave_older<K, V, W: Leaving<V>, A: Allocator>(
+    keys: &mut SlotList<K, KeyLink, A>,
+    values: &mut Tape<V, ValueLink, A>,
+    place: usize,
+) -> (W, ChainEnds)
+    requires stands { HasChain keys.old values.old.list place }
+    requires more { (l : KeyLink) → link_at keys.old place ≡ Some l → 1 < l.length }
+    ensures { LeavesOlder W.keeps (W.gives result.0) keys.old keys.new values.old values.new
+        place result.1 }
+{
+    let (_, link) = slot_at(keys, place);
+    let left = leave_values(values, link.head, link.length - 1);
+    set_previous(values, Some(link.tail), None);
+    set_link(keys, place, new_link(link.hash, link.tail));
+    left
+}
+
+/// Puts the value last, behind the others of the key at the place, and lets these leave.
+#[inline(always)]
+pub(crate) fn push_over<K, V, W: Leaving<V>, A: Allocator>(
+    keys: &mut SlotList<K, KeyLink, A>,
+    values: &mut Tape<V, ValueLink, A>,
+    place: usize,
+    value: V,
+) -> (W, ChainEnds)
+    requires { HasChainBeforeRoom keys.old values.old place }
+    ensures { PushesOver W.keeps (W.gives result.0) keys.old keys.new values.old values.new
+        place value result.1 }
+{
+    push_behind(keys, values, place, value);
+    leave_older(keys, values, place)
+}
