@@ -4,7 +4,7 @@ ghost use Rattle.std.specs.FinMap as map;
 ghost use Rattle.multimap_table.specs.Private.Layout.{group_count, IsSized, Passes, CanLose, HoldRows};
 ghost use Rattle.multimap_table.specs.Private.Entries.{entries, rows_of, row_at};
 
-use crate::group::{LANES, Row};
+use crate::group::{LANES, Row, match_tag};
 use crate::probe::{distance, lane_with_room, probe, probe_start};
 use std::alloc::Allocator;
 
@@ -30,11 +30,33 @@ fn row_that_passes(tags: &[u8], rows: &[Row], group: usize, earlier: usize) -> O
     None
 }
 
-/// Empties the lane, and moves later rows back so that no probe meets a gap before its row.
+/// Empties the lane, so that no probe meets a gap before its row.
 ///
-/// Only behind a full group does a row lie that was put past it. So the gap moves on from group to
-/// group, by each row that passes it, up to the first group that had an empty lane anyway.
+/// Only behind a full group does a row lie that was put past it. So where the lane's group has an
+/// empty lane already, no other row moves.
+#[inline(always)]
 pub(crate) fn remove_row<A: Allocator>(tags: &mut Vec<u8, A>, rows: &mut Vec<Row, A>, lane: usize)
+    requires { CanLose tags.old.items rows.old.items lane }
+    ensures rows { HoldRows (length tags.old.items)
+        (map.remove (rows_of tags.old.items rows.old.items) (row_at rows.old.items lane).place)
+        tags.new.items rows.new.items }
+    ensures counted { length (entries tags.new.items rows.new.items) + 1
+        ≡ length (entries tags.old.items rows.old.items) }
+{
+    let empty = match_tag(tags, lane / LANES, 0);
+    if empty == 0 {
+        close_gap(tags, rows, lane);
+        return;
+    }
+    tags[lane] = 0;
+}
+
+/// Empties the lane of a full group, and moves later rows back.
+///
+/// The gap moves on from group to group, by each row that passes it, up to the first group that had
+/// an empty lane anyway.
+#[inline(never)]
+fn close_gap<A: Allocator>(tags: &mut Vec<u8, A>, rows: &mut Vec<Row, A>, lane: usize)
     requires { CanLose tags.old.items rows.old.items lane }
     ensures rows { HoldRows (length tags.old.items)
         (map.remove (rows_of tags.old.items rows.old.items) (row_at rows.old.items lane).place)

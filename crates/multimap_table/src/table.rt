@@ -103,6 +103,7 @@ impl<A: Allocator> KeyTable<A> {
     ///
     /// Finds the row as `find` does. Where its group was full, rows of later groups may move back,
     /// each with the tags and rows between read once.
+    #[inline(always)]
     pub fn remove(&mut self, hash: u64, place: usize)
         requires { HasRow self.old place hash }
         ensures rows { self.new.rows ≡ map.remove self.old.rows place }

@@ -1,7 +1,7 @@
 //! Items that have left the list and are kept in their slots until they are taken.
-ghost use Rattle.std.specs.Prelude.{◌≡◌};
+ghost use Rattle.std.specs.Prelude.{◌≡◌, Some};
 ghost use Rattle.multimap_slots.specs.Lists.{IsIn};
-ghost use Rattle.multimap_slots.specs.Slots.{IsDetached, HasDetached, Detaches, TakesDetached};
+ghost use Rattle.multimap_slots.specs.Slots.{IsDetached, HasDetached, Detaches, TakesDetached, link_at};
 ghost use Rattle.multimap_slots.specs.Tapes.{KeepsCounts, Frees};
 
 use super::Tape;
@@ -26,6 +26,21 @@ impl<T, L: Copy, A: Allocator> Tape<T, L, A> {
         self.freed.count_one();
     }
 
+    /// Detaches the item at `place` as [`Tape::detach`] does, and answers its link. The item is not
+    /// read. The time is constant.
+    #[inline(always)]
+    pub fn detach_linked(&mut self, place: usize) -> L
+        requires { IsIn place self.old.list.order }
+        ensures link { link_at self.old.list place ≡ Some result }
+        ensures detached { Detaches self.old.list self.new.list place }
+        ensures freed { Frees self.old self.new }
+        ensures capacity { self.new.list.capacity ≡ self.old.list.capacity }
+    {
+        let link = self.links[place];
+        self.detach(place);
+        link
+    }
+
     /// The item that was detached at `place`, with its link. This is no counted read. The time is
     /// constant.
     pub fn get_detached(&self, place: usize) -> (&T, L)
@@ -46,8 +61,22 @@ impl<T, L: Copy, A: Allocator> Tape<T, L, A> {
         ensures counts { KeepsCounts self.old self.new }
         ensures capacity { self.new.list.capacity ≡ self.old.list.capacity }
     {
+        let (item, _) = self.take_detached_linked(place);
+        item
+    }
+
+    /// Takes the item that was detached at `place`, and answers it with its link. The time is
+    /// constant.
+    #[inline(always)]
+    pub fn take_detached_linked(&mut self, place: usize) -> (T, L)
+        requires { IsDetached self.old.list place }
+        ensures taken { TakesDetached self.old.list self.new.list place result.0 }
+        ensures link { link_at self.old.list place ≡ Some result.1 }
+        ensures counts { KeepsCounts self.old self.new }
+        ensures capacity { self.new.list.capacity ≡ self.old.list.capacity }
+    {
         match self.items[place].take() {
-            Some(item) => item,
+            Some(item) => (item, self.links[place]),
             None => unreachable!(),
         }
     }

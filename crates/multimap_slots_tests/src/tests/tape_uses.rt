@@ -60,6 +60,19 @@ pub fn detach_and_take(tape: &mut Items, place: usize) -> Option<usize>
     }
 }
 
+/// Takes the item at a place out of the list and then out of its slot, if one is there, and answers
+/// it with its link, as each of the two calls answers it.
+pub fn take_with_links(tape: &mut Items, place: usize) -> Option<(usize, u8, u8)> {
+    // The length tells the proof that each listed place has an item.
+    let _len = tape.len();
+    if !is_listed(tape, place) {
+        return None;
+    }
+    let link = tape.detach_linked(place);
+    let (item, same) = tape.take_detached_linked(place);
+    Some((item, link, same))
+}
+
 /// Tries to remove what is detached already, and answers whether nothing was there.
 pub fn removes_nothing(tape: &mut Items, place: usize) -> bool
     requires { IsDetached tape.old.list place }

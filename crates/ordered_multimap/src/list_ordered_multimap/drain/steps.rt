@@ -114,9 +114,9 @@ impl<K: Eq + Hash, V, S: BuildHasher, A: Allocator> ListOrderedMultimap<K, V, S,
             return None;
         }
         let place = self.left.place_at(end);
-        let (_, link) = self.values.get_detached(place);
+        let (value, link) = self.values.take_detached_linked(place);
         self.left = self.left.after(end, link.step_from(end).unwrap_or(place));
-        Some(self.values.take_detached(place))
+        Some(value)
     }
 
     /// Drops the values that are left of the drain.
@@ -195,8 +195,8 @@ fn drop_chain<V: Drop, A: Allocator>(values: &mut Tape<V, ValueLink, A>, ends: C
     for _ in 0..ends.length {
         // The length tells the proof that the list is sound.
         let _len = values.len();
-        let (_, link) = values.get_detached(place);
-        drop(values.take_detached(place));
+        let (value, link) = values.take_detached_linked(place);
+        drop(value);
         place = link.next.unwrap_or(place);
     }
 }

@@ -4,7 +4,6 @@ ghost use Rattle.multimap_slots.specs.Lists.{IsIn};
 ghost use Rattle.multimap_slots.specs.Slots.{item_at};
 ghost use Rattle.ordered_multimap.specs.Private.Remove.{LeavesList};
 
-use crate::list_ordered_multimap::links::link_of;
 use multimap_slots::Tape;
 use multimap_walks::ValueLink;
 use std::alloc::Allocator;
@@ -53,8 +52,7 @@ impl<V> Leaving<V> for KeptInPlace {
 
     #[inline(always)]
     fn leave<A: Allocator>(values: &mut Tape<V, ValueLink, A>, place: usize) -> (Self, ValueLink) {
-        let link = link_of(values, place);
-        values.detach(place);
+        let link = values.detach_linked(place);
         (KeptInPlace, link)
     }
 }

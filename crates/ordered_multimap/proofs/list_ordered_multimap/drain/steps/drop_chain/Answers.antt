@@ -12,8 +12,8 @@ loop-init g c =
       room = room_same;
     }
 
-pub get_detached-requires : goal.get_detached-requires
-get_detached-requires g c =
+pub take_detached_linked-value-requires : goal.take_detached_linked-value-requires
+take_detached_linked-value-requires g c =
     let e = c.args.ends in
     first_detached (record { first = c.loop.place; last = e.last; length = e.length - c.loop.counter }) ∣ c.loop.invariant.left ∣₁
     (e.length - (c.loop.counter + 1)) (omega (arith, c.loop-test.true))
@@ -22,12 +22,12 @@ pub loop-preserved : goal.loop-preserved
 loop-preserved g c =
     let e = c.args.ends in
     let w = c.loop.invariant in
-    let t = c.take_detached.ensures in
+    let t = c.take_detached_linked-value.ensures in
     record {
       left =
           first_rest (record { first = c.loop.place; last = e.last; length = e.length - c.loop.counter }) ∣ w.left ∣₁
-          (e.length - (c.loop.counter + 1)) (omega (arith, c.loop-test.true)) c.get_detached.result.1 c.unwrap_or-place.result
-          c.get_detached.ensures.link_is c.unwrap_or-place.ensures t.taken;
+          (e.length - (c.loop.counter + 1)) (omega (arith, c.loop-test.true)) c.take_detached_linked-value.result.1 c.unwrap_or-place.result
+          c.take_detached_linked-value.ensures.link c.unwrap_or-place.ensures t.taken;
       kept = keeps_more w.kept (keeps_slots c.len-len.ensures.sound
           (first_detached (record { first = c.loop.place; last = e.last; length = e.length - c.loop.counter }) ∣ w.left ∣₁
           (e.length - (c.loop.counter + 1)) (omega (arith, c.loop-test.true))) t.taken);

@@ -2,7 +2,7 @@ use Rattle.std.proofs.Common.{◌≡◌, length}
 use Rattle.multimap_table.specs.Private.Layout.{distance}
 use Rattle.multimap_table.specs.Private.Entries.{entries, rows_of}
 use Rattle.multimap_table.proofs.GapLemmas.{IsClosing}
-use Rattle.multimap_table.proofs.remove.remove_row.Given as goal
+use Rattle.multimap_table.proofs.remove.close_gap.Given as goal
 
 abbrev pub invariant-loop-group : goal.invariant-loop-group
 invariant-loop-group g l = record {
