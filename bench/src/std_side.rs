@@ -1,9 +1,11 @@
 //! The workloads on the standard library's map, with a vector of values for each key.
+mod many;
 mod queues;
 mod small;
 mod writing;
 
 use crate::numbers::{START, choice, key, mix, spread, value};
+pub use many::{extend, from_iter};
 pub use queues::{fifo_churn, fifo_churn_few, fifo_small};
 pub use small::small_maps;
 use std::collections::HashMap;

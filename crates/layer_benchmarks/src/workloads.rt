@@ -29,6 +29,8 @@ const NAMES: &[&str] = &[
     "get_all_mut_walk",
     "update_values",
     "update_all",
+    "from_iter",
+    "extend",
 ];
 
 /// A line for each workload: its name, and its checksums under the two hash builders.

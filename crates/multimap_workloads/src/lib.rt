@@ -8,6 +8,7 @@ mod appends;
 mod changes;
 mod fast;
 mod lookups;
+mod many;
 mod numbers;
 mod workloads;
 mod writes;

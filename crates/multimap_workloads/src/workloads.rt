@@ -4,6 +4,7 @@ use crate::changes::{counts, fifo, fifo_few, fifo_small, removes, replaces, reta
 use crate::lookups::{
     all_keys, all_lists, all_pairs, clones, hits, misses, sixteen_keys, sum_of_pairs, walks,
 };
+use crate::many::{extends, makes};
 use crate::numbers::{Run, START, mix};
 use crate::writes::{adds_keys, adds_keys_by_calls, adds_numbers, adds_numbers_by_calls};
 use ordered_multimap::ListOrderedMultimap;
@@ -66,10 +67,14 @@ pub(crate) enum Workload {
     UpdateValues,
     /// What `GetAllMutWalk` does, by a function that is called on each value of the key.
     UpdateAll,
+    /// Makes a map of a new key for each pair, from an iterator that tells its length.
+    FromIter,
+    /// Extends an empty map by eight pairs a key, from an iterator that tells its length.
+    Extend,
 }
 
 /// The workloads by their numbers.
-pub(crate) const WORKLOADS: [Workload; 25] = [
+pub(crate) const WORKLOADS: [Workload; 27] = [
     Workload::AppendDistinct,
     Workload::AppendFew,
     Workload::AppendGrouped,
@@ -95,6 +100,8 @@ pub(crate) const WORKLOADS: [Workload; 25] = [
     Workload::GetAllMutWalk,
     Workload::UpdateValues,
     Workload::UpdateAll,
+    Workload::FromIter,
+    Workload::Extend,
 ];
 
 /// Makes a map, runs a workload on it, and lets the map go. Answers the checksum.
@@ -106,6 +113,9 @@ pub(crate) fn run_workload<S: BuildHasher + Clone + Default + Drop>(
 ) -> u64 {
     if matches!(workload, Workload::SmallMaps) {
         return run_small::<S>(alloc, run);
+    }
+    if matches!(workload, Workload::FromIter) {
+        return makes(alloc, state, run).unwrap_or(REFUSED);
     }
     let mut map = ListOrderedMultimap::with_hasher(alloc, state);
     run_on(&mut map, workload, run)
@@ -145,7 +155,10 @@ fn fill<S: BuildHasher>(map: &mut Map<S>, workload: Workload, run: Run) -> Optio
         | Workload::Clone
         | Workload::IterMutAll
         | Workload::UpdateValues => scattered(map, run, START),
-        Workload::FifoSmall | Workload::EntryCount | Workload::SmallMaps => Some(START),
+        Workload::Extend => extends(map, run, START),
+        Workload::FifoSmall | Workload::EntryCount | Workload::SmallMaps | Workload::FromIter => {
+            Some(START)
+        }
     }
 }
 
