@@ -132,10 +132,6 @@ module _ {T L : Type 0} where
     pub links : new.links ≡ old.links
     pub slots : listed_slots new ≡ filter (λ e. not (e.place == place)) (listed_slots old)
 
-  -- the listed place stands last, and all else is as it was
-  abbrev pub MovesToBack : Slots T L → Slots T L → ℕ → Type 0
-  MovesToBack old new place = new ≡ record old { order = without old.order place ++ place ∷ [] }
-
   -- the item that was kept at the place has gone, and the list is as it was
   pub record TakesDetached (old new : Slots T L) (place : ℕ) (item : T) : Type 0 where
     pub had : item_at old place ≡ Some item

@@ -1,5 +1,5 @@
 -- How each change keeps an item at each place that is not free.
-use Rattle.std.proofs.Common.{◌≡◌, ◌≢◌, ◌⊎◌, ℕ, ◌<◌, ◌≤◌, List, [], ◌∷◌, ◌++◌, length, get_or, set, Option, Some, None, IsSome, refl, sym}
+use Rattle.std.proofs.Common.{◌≡◌, ◌≢◌, ◌⊎◌, ℕ, ◌<◌, ◌≤◌, List, [], ◌∷◌, length, get_or, set, Option, Some, None, IsSome, refl, sym}
 use Rattle.std.proofs.Common.{ap, ◌∙◌, inl, inr, arith}
 use Rattle.std.proofs.lemmas.Bool.{cases_eq, cases_lt}
 use Rattle.std.proofs.lemmas.List.{length-set, get_or-set_same, get_or-set_other, get_or_past}
@@ -81,19 +81,6 @@ module _ {T : Type 0} where
       where
         within_states : place < length states
         within_states = omega (arith, filled_within place i, f.same_length)
-
-    -- a listed place comes last
-    pub IsFilled-moved : (place : ℕ) → IsIn place order → IsFilled items (without order place ++ place ∷ []) states
-    IsFilled-moved place i =
-        record {
-          same_length = f.same_length;
-          filled = λ p j. elim (IsIn-append p (without order place) (place ∷ []) j) [
-            | inl other ↦ f.filled p (IsIn-without p order place other).0
-            | inr last ↦ elim last [ inl same ↦ rw same (f.filled place i) | inr none ↦ absurd none ]
-          ];
-          kept = f.kept;
-          empty = f.empty;
-        }
 
   pub IsFilled-push : {L : Type 0} {items : List (Option T)} {old new : Places L} {place : ℕ} {link : L} (item : T)
       → IsFilled items old.order old.states → AddsLast old new place link → IsFilled (put items place (Some item)) new.order new.states

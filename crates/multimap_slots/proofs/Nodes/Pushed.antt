@@ -1,32 +1,24 @@
--- How a place that comes into the order keeps the nodes linked: one that is claimed, and a detached one.
-use Rattle.std.proofs.Common.{◌≡◌, ◌≢◌, ◌⊎◌, ℕ, ◌+◌, ◌-◌, ◌<◌, ◌≤◌, List, [], ◌∷◌, ◌++◌, length, get_or, Option, Some, None, refl, sym, ap}
+-- How a place that comes into the order keeps the nodes linked.
+use Rattle.std.proofs.Common.{◌≡◌, ◌≢◌, ◌⊎◌, ℕ, ◌+◌, ◌≤◌, List, [], ◌∷◌, ◌++◌, length, get_or, Option, Some, None, refl, sym, ap}
 use Rattle.std.proofs.Common.{subst, ◌∙◌, inl, inr, arith}
 use Rattle.std.proofs.lemmas.Bool.{cases_eq}
-use Rattle.std.proofs.lemmas.List.{length-map, length-set, length_push, get_or-set_other}
-use Rattle.std.proofs.lemmas.List.Sums.{sum_by-set}
+use Rattle.std.proofs.lemmas.List.{length-map, length_push}
 use Rattle.multimap_slots.specs.declared.order.node.Node.{Node}
-use Rattle.multimap_slots.specs.declared.order.node.State.TheVariants.{Listed, Free, Detached}
+use Rattle.multimap_slots.specs.declared.order.node.State.TheVariants.{Listed, Free}
 use Rattle.multimap_slots.specs.Lists.{IsIn}
 use Rattle.multimap_slots.specs.Private.Paths.{after}
 use Rattle.multimap_slots.specs.Private.ListLayout.{one_if_detached, count_detached, nexts, previouses, states, put, IsFreeList, IsOrdered}
 use Rattle.multimap_slots.specs.Private.ListLayout.{Claims}
-use Rattle.multimap_slots.specs.Private.ListLayout.{SetsNext, SetsListed}
+use Rattle.multimap_slots.specs.Private.ListLayout.{SetsNext}
 use Rattle.multimap_slots.proofs.Callers.PlaceLists.{IsIn-append, IsIn-left, IsIn-right, AreDistinct-push}
 use Rattle.multimap_slots.proofs.Nodes.Paths.{last_or_in, path-push}
-use Rattle.multimap_slots.proofs.Changes.Put.{map-put, put-set, get_or-put_same, get_or-put_other}
+use Rattle.multimap_slots.proofs.Changes.Put.{map-put, get_or-put_same, get_or-put_other}
 use Rattle.multimap_slots.proofs.Nodes.OneField.{length-states}
 use Rattle.multimap_slots.proofs.Nodes.FreePlaces.{free-agree, free_here}
 use Rattle.multimap_slots.proofs.Nodes.Linked.{HasOrder, back-is}
 use Rattle.multimap_slots.proofs.Nodes.Detached.{count_detached-put}
 
 module _ {L : Type 0} where
-  -- where a place is listed again, the nodes are as many
-  pub length-listed : (old written : List (Node L)) (place : ℕ) (previous : Option ℕ) → SetsListed old written place previous
-      → length written ≡ length old
-  length-listed old written place previous sets =
-      sym (length-map written (λ (n : Node L). n.state)) ∙ ap length sets.states ∙ length-set (states old) place Listed
-      ∙ length-map old (λ (n : Node L). n.state)
-
   -- a place that wasn't listed is written as a listed one behind the last, with the free and the detached places that are left
   record Enters (old written : List (Node L)) (back free' : Option ℕ) (len detached' place : ℕ) : Type 0 where
     within : place ≤ length old
@@ -171,39 +163,3 @@ module _ {L : Type 0} where
 
       left : (m : ℕ) × (m + length old + 1 ≡ o.vacant + length claimed) × IsFreeList (nexts claimed) (states claimed) m free'
       left = cl.frees o.vacant o.frees
-
-  -- a detached place comes last
-  pub IsOrdered-attach : {old written new : List (Node L)} {front back free front' : Option ℕ} {len detached place : ℕ}
-      (o : IsOrdered old front back free len detached)
-      → get_or (states old) place Free ≡ Detached → place < length old → SetsListed old written place back
-      → SetsNext written new front front' back (Some place)
-      → HasOrder new front' (Some place) free (len + 1) (detached - 1) (o.order ++ place ∷ [])
-  IsOrdered-attach {old} {written} {front = front} {back} {free} {len = len} {detached} {place} o apart within sets tied =
-      IsOrdered-enter o (record {
-        within = omega (arith, within);
-        unlisted = λ e. let bad = sym apart ∙ e in cc;
-        vacant = o.vacant;
-        total = omega (arith, o.total, o.apart, fewer, length-listed old written place back sets);
-        frees = free-agree (nexts old) (nexts written) (states old) (states written) o.vacant free (λ q m below later.
-            let here = free_here (nexts old) (states old) m q later in
-            let differs : q ≢ place = λ e. let bad = sym apart ∙ ap (λ x. get_or (states old) x Free) (sym e) ∙ here.1 in cc in
-            record {
-              within = rw (sets.states, length-set) here.0;
-              state = ap (λ ss. get_or ss q Free) sets.states ∙ get_or-set_other (states old) place q Listed Free differs ∙ here.1;
-              next = ap (λ ns. get_or ns q None) sets.nexts ∙ get_or-set_other (nexts old) place q None None differs;
-            }) o.frees;
-        apart = omega (arith, o.apart, fewer);
-        nexts_are = sets.nexts ∙ sym (put-set (nexts old) place None (rw length-map within));
-        previouses_are = sets.previouses ∙ sym (put-set (previouses old) place back (rw length-map within));
-        states_are = sets.states ∙ sym (put-set (states old) place Listed (rw length-map within));
-      }) tied
-    where
-      fewer : count_detached (states written) + 1 ≡ count_detached (states old)
-      fewer =
-          omega (
-            arith,
-            ap count_detached sets.states,
-            sum_by-set one_if_detached (states old) place Listed Free
-                (rw length-map within),
-            ap one_if_detached apart,
-          )

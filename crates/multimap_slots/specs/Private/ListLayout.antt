@@ -98,11 +98,6 @@ module _ {L : Type 0} where
     pub among : new.detached ≤ length old.states
     pub fits : length old.states ≤ old.capacity
 
-  -- the detached place is listed last
-  pub record Attaches (old new : Places L) (place : ℕ) : Type 0 where
-    pub relists : Relists (old.order ++ place ∷ []) (slice_set old.states place Listed) old new
-    pub detached : new.detached + 1 ≡ old.detached
-
   -- the detached place is free, and there is room for all places
   pub record FreesDetached (old new : Places L) (place : ℕ) : Type 0 where
     pub relists : Relists old.order (slice_set old.states place Free) old new
@@ -158,13 +153,6 @@ module _ {L : Type 0} where
     pub nexts : nexts new ≡ nexts old
     pub previouses : previouses new ≡ previouses old
     pub states : states new ≡ slice_set (states old) place Detached
-    pub links : links new ≡ links old
-
-  -- the place is listed behind `previous`, with none behind it, and nothing else changes
-  pub record SetsListed (old new : List (Node L)) (place : ℕ) (previous : Option ℕ) : Type 0 where
-    pub nexts : nexts new ≡ slice_set (nexts old) place None
-    pub previouses : previouses new ≡ slice_set (previouses old) place previous
-    pub states : states new ≡ slice_set (states old) place Listed
     pub links : links new ≡ links old
 
   -- the nodes are linked in one order, and each other place is detached or on the list of free ones

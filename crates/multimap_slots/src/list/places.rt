@@ -1,7 +1,6 @@
 //! The order of the list: both ends, and the neighbours of a place. None of these counts as a read.
 ghost use Rattle.std.specs.Prelude.{◌≡◌};
 ghost use Rattle.multimap_slots.specs.Lists.{IsIn, first_of, last_of, next_of, previous_of};
-ghost use Rattle.multimap_slots.specs.Slots.{MovesToBack};
 
 use super::SlotList;
 use crate::in_order::{InOrder, Stored};
@@ -62,14 +61,5 @@ impl<T, L: Copy, A: Allocator> SlotList<T, L, A> {
         ensures { result ≡ previous_of self.now.order place }
     {
         self.order.previous(place)
-    }
-
-    /// Puts the item at `place` behind all others of the list. An item of the list must be there. It
-    /// stays at its place, with its link.
-    pub fn move_to_back(&mut self, place: usize)
-        requires { IsIn place self.old.order }
-        ensures { MovesToBack self.old self.new place }
-    {
-        self.order.move_to_back(place);
     }
 }

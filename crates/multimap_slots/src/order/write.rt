@@ -1,6 +1,6 @@
 //! Writes of single nodes. Each leaves the fields that it doesn't name as they were.
 ghost use Rattle.std.specs.Prelude.{◌<◌, length, IfSome, vec_capacity};
-ghost use Rattle.multimap_slots.specs.Private.ListLayout.{SetsNext, SetsPrevious, SetsDetached, SetsListed, Releases, CanClaim, Claims};
+ghost use Rattle.multimap_slots.specs.Private.ListLayout.{SetsNext, SetsPrevious, SetsDetached, Releases, CanClaim, Claims};
 ghost use Rattle.multimap_slots.specs.Private.Vectors.{Rewrites};
 
 use super::node::{Node, State};
@@ -54,21 +54,6 @@ pub(super) fn set_detached<L, A: Allocator>(nodes: &mut Vec<Node<L>, A>, place: 
 {
     let node = &mut nodes[place];
     node.state = State::Detached;
-}
-
-/// Marks the place as listed behind `previous`, with none behind it.
-pub(super) fn set_listed<L, A: Allocator>(
-    nodes: &mut Vec<Node<L>, A>,
-    place: usize,
-    previous: OptionalPlace,
-)
-    requires { place < length nodes.old.items }
-    ensures { Rewrites nodes.old nodes.new (λ old new. SetsListed old new place previous) }
-{
-    let node = &mut nodes[place];
-    node.next = OptionalPlace::none();
-    node.previous = previous;
-    node.state = State::Listed;
 }
 
 /// Makes the place free, ahead of the free places from `free` on.

@@ -1,6 +1,6 @@
 //! Packing: keys and values go to new storage in their order, and what is left of the old is
 //! dropped.
-ghost use Rattle.std.specs.Prelude.{◌≡◌, ◌≤◌, ◌<◌, ◌/◌, ℕ, Some, length, IfOk};
+ghost use Rattle.std.specs.Prelude.{◌≡◌, ◌≤◌, ◌<◌, ℕ, Some, length};
 ghost use Rattle.std.specs.FinMap.{empty, len};
 ghost use Rattle.multimap_slots.specs.Lists.{IsIn};
 ghost use Rattle.multimap_slots.specs.Slots.{HasRoomFor, IsEmpty, IsSound, link_at};
@@ -13,46 +13,12 @@ ghost use Rattle.ordered_multimap.specs.TapeNumbers.{AreUnused, numbers_of};
 
 use super::ListOrderedMultimap;
 use super::compact::compact;
+use super::storage::{Storage, new_storage};
 use multimap_slots::{SlotList, Tape};
 use multimap_table::KeyTable;
 use multimap_walks::{KeyLink, ValueLink};
 use std::alloc::{AllocError, Allocator};
 use std::hash::{BuildHasher, Hash};
-
-/// New storage for the keys and values of a map.
-#[derive(Drop)]
-struct Storage<K, V, A: Allocator> {
-    keys: SlotList<K, KeyLink, A>,
-    table: KeyTable<A>,
-    values: Tape<V, ValueLink, A>,
-    // At the old place of each key its new one.
-    names: Vec<usize, A>,
-}
-
-/// Empty storage with room for so many keys and values, and with a name for each of so many places.
-fn new_storage<K: Drop, V: Drop, A: Allocator + Copy>(
-    alloc: A,
-    key_capacity: usize,
-    value_capacity: usize,
-    places: usize,
-) -> Result<Storage<K, V, A>, AllocError>
-    ensures empty { IfOk result (λ s. IsNewStorage s.keys s.table s.values) }
-    ensures key_room { IfOk result (λ s. key_capacity ≤ s.keys.capacity) }
-    ensures row_room { IfOk result (λ s. key_capacity ≤ s.table.capacity) }
-    ensures value_room { IfOk result (λ s. value_capacity ≤ s.values.list.capacity / 2) }
-    ensures names { IfOk result (λ s. length s.names.items ≡ places) }
-{
-    let names = Vec::from_elem(alloc, 0, places)?;
-    let keys = SlotList::with_capacity(alloc, key_capacity)?;
-    let table = KeyTable::with_capacity(alloc, key_capacity)?;
-    let values = Tape::with_capacity(alloc, value_capacity)?;
-    Ok(Storage {
-        keys,
-        table,
-        values,
-        names,
-    })
-}
 
 /// Takes the key at the place to the end of the new list, with its link and a row of its hash, and
 /// notes its new place.

@@ -11,7 +11,7 @@ returns-clause-found g c =
 pub returns-clause-ok : goal.returns-clause-ok
 returns-clause-ok g c =
     let last = c.push_value.ensures.last in
-    let link_is = c.new_link-link.ensures ∙ ap (link_of_one c.args.hash) (c.end_place.ensures ∙ sym last.behind) in
+    let link_is = c.new_link-link.ensures ∙ ap (link_of_one c.args.hash) (c.end_place.ensures.end ∙ sym last.behind) in
     record {
       keys_reserved = c.make_room.new.keys;
       rows_reserved = c.make_room.new.table.rows;
