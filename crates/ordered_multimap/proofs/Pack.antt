@@ -1,6 +1,4 @@
 pub mod Capacities
-pub mod Clones
-pub mod KeysMoved
-pub mod OneKeyMoved
 pub mod Packing
 pub mod RenamedKeys
+pub mod Rows

@@ -16,15 +16,6 @@ module _ {K : Type 0} (eq : K → K → Bool) where
   abbrev pub keys_with : List K → K → List K
   keys_with keys k = cond (is_listed keys k) keys (keys ++ k ∷ [])
 
-  -- the listed key that is equal to k stands behind the others
-  abbrev pub moved_to_back : List K → K → List K
-  moved_to_back keys k = filter (λ j. not (eq k j)) keys ++ stored_key keys k ∷ []
-
-  -- these keys are moved behind the others, one after another
-  abbrev pub all_moved : List K → List K → List K
-  all_moved keys [] = keys
-  all_moved keys (k ∷ more) = all_moved (moved_to_back keys k) more
-
   -- the keys that the pairs still name, in their order
   abbrev pub keys_named_by : {V : Type 0} → List K → List (K × V) → List K
   keys_named_by keys pairs = filter (is_listed (keys_of pairs)) keys

@@ -1,4 +1,5 @@
 pub mod Append
+pub mod Copies
 pub mod KeyRenames
 pub mod KeySteps
 pub mod Remove

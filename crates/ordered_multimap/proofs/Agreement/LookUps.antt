@@ -91,7 +91,7 @@ found_by {keys = keys} keyed alike k = record {
 }
 
 -- functions that agree on a list
-map-agree : {X : Type 0} (f g : ℕ → X) (xs : List ℕ) → ((x : ℕ) → IsIn x xs → f x ≡ g x) → map f xs ≡ map g xs
+pub map-agree : {X : Type 0} (f g : ℕ → X) (xs : List ℕ) → ((x : ℕ) → IsIn x xs → f x ≡ g x) → map f xs ≡ map g xs
 map-agree f g [] same = refl
 map-agree f g (x ∷ xs) same = ap (λ y. y ∷ map f xs) (same x (inl refl))
     ∙ ap (λ ys. g x ∷ ys) (map-agree f g xs (λ y later. same y (inr later)))

@@ -21,11 +21,11 @@ use Rattle.ordered_multimap.proofs.Agreement.Agreed.{pair_of, pair_at-is, is_val
 
 -- a list of places under new names
 module _ (name : ℕ → ℕ) where
-  first_of-map : (ps : List ℕ) → first_of (map name ps) ≡ option_map name (first_of ps)
+  pub first_of-map : (ps : List ℕ) → first_of (map name ps) ≡ option_map name (first_of ps)
   first_of-map [] = refl
   first_of-map (p ∷ ps) = refl
 
-  last_or-map : (o : Option ℕ) (ps : List ℕ) → last_or (option_map name o) (map name ps) ≡ option_map name (last_or o ps)
+  pub last_or-map : (o : Option ℕ) (ps : List ℕ) → last_or (option_map name o) (map name ps) ≡ option_map name (last_or o ps)
   last_or-map o [] = refl
   last_or-map o (p ∷ ps) = last_or-map (Some p) ps
 
@@ -33,7 +33,7 @@ module _ (name : ℕ → ℕ) where
   abbrev pub IsTold : List ℕ → ℕ → Type 0
   IsTold ps q = (p : ℕ) → IsIn p ps → name p ≡ name q → p ≡ q
 
-  next_of-map : (ps : List ℕ) (q : ℕ) → IsTold ps q → next_of (map name ps) (name q) ≡ option_map name (next_of ps q)
+  pub next_of-map : (ps : List ℕ) (q : ℕ) → IsTold ps q → next_of (map name ps) (name q) ≡ option_map name (next_of ps q)
   next_of-map [] q told = refl
   next_of-map (p ∷ ps) q told = elim (cases_eq p q) [
     | inl same ↦ rw (eq-eqb (name p) (name q) (ap name same), eq-eqb p q same) (first_of-map ps)
@@ -47,7 +47,7 @@ module _ (name : ℕ → ℕ) where
       ap (map name) (reverse-append (p ∷ []) ps) ∙ map-append name (reverse ps) (p ∷ [])
       ∙ ap (λ qs. qs ++ name p ∷ []) (map-reverse ps) ∙ sym (reverse-append (name p ∷ []) (map name ps))
 
-  previous_of-map : (ps : List ℕ) (q : ℕ) → IsTold ps q → previous_of (map name ps) (name q) ≡ option_map name (previous_of ps q)
+  pub previous_of-map : (ps : List ℕ) (q : ℕ) → IsTold ps q → previous_of (map name ps) (name q) ≡ option_map name (previous_of ps q)
   previous_of-map ps q told =
       ap (λ qs. next_of qs (name q)) (sym (map-reverse ps)) ∙ next_of-map (reverse ps) q (λ p i. told p (IsIn-reverse p ps i))
 
@@ -61,6 +61,11 @@ module _ (name : ℕ → ℕ) where
   IsIn-map q (p ∷ ps) (inl e) = record { place = p; member = inl refl; is = e }
   IsIn-map q (p ∷ ps) (inr i) = let n = IsIn-map q ps i in record { place = n.place; member = inr n.member; is = n.is }
 
+  pub IsIn-name : (q : ℕ) (ps : List ℕ) → IsIn q ps → IsIn (name q) (map name ps)
+  IsIn-name q [] i = absurd i
+  IsIn-name q (p ∷ ps) (inl e) = inl (ap name e)
+  IsIn-name q (p ∷ ps) (inr i) = inr (IsIn-name q ps i)
+
   AreDistinct-map : (ps : List ℕ) → ((p q : ℕ) → IsIn p ps → IsIn q ps → name p ≡ name q → p ≡ q) → AreDistinct ps
       → AreDistinct (map name ps)
   AreDistinct-map [] apart distinct = tt
@@ -70,7 +75,7 @@ module _ (name : ℕ → ℕ) where
     AreDistinct-map ps (λ x y i j. apart x y (inr i) (inr j)) distinct.1,
   )
 
-  filter-map : (f g : ℕ → Bool) (ps : List ℕ) → ((p : ℕ) → IsIn p ps → f (name p) ≡ g p) → filter f (map name ps) ≡ map name (filter g ps)
+  pub filter-map : (f g : ℕ → Bool) (ps : List ℕ) → ((p : ℕ) → IsIn p ps → f (name p) ≡ g p) → filter f (map name ps) ≡ map name (filter g ps)
   filter-map f g [] same = refl
   filter-map f g (p ∷ ps) same =
       ap (λ b. cond b (name p ∷ filter f (map name ps)) (filter f (map name ps))) (same p (inl refl))

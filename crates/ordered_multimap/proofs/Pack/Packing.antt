@@ -5,7 +5,7 @@ use Rattle.std.proofs.lemmas.Bool.{cases_eq, eq-eqb, ne_eqb}
 use Rattle.std.proofs.lemmas.List.{get_or-set_same, get_or-set_other, map-append}
 use Rattle.std.specs.Cmp.{nat_cmp_total, unsigned_tied}
 use Rattle.std.specs.Ordering.{nat_cmp}
-use Rattle.std.specs.FinMap.{FinMap, empty, get, len, get-empty, get-insert, len-empty, len-insert}
+use Rattle.std.specs.FinMap.{FinMap}
 use Rattle.multimap_slots.specs.Lists.{IsIn, AreDistinct, first_of, without}
 use Rattle.multimap_slots.specs.Slots.{Slots, IsEmpty, IsSound, PushesBack, Removes, item_at, link_at}
 use Rattle.multimap_slots.proofs.Callers.PlaceLists.{AreDistinct-gone, IsIn-append, IsIn-left, IsIn-right, IsIn-without, without-split}
@@ -13,6 +13,8 @@ use Rattle.multimap_walks.specs.declared.links.KeyLink.{KeyLink}
 use Rattle.multimap_walks.specs.declared.links.ValueLink.{ValueLink}
 use Rattle.ordered_multimap.specs.Private.KeyRenames.{HasRows, HaveCome, HaveGone, MovesKey, name_in, with_new_key}
 use Rattle.ordered_multimap.specs.Private.Renames.{places_below}
+use Rattle.ordered_multimap.proofs.Agreement.LookUps.{map-agree}
+use Rattle.ordered_multimap.proofs.Agreement.Renamed.{IsIn-name}
 use Rattle.ordered_multimap.proofs.Compact.Settled.{below-less, length-below}
 use Rattle.ordered_multimap.proofs.Callers.Members.{IsIn-filter}
 use Rattle.ordered_multimap.proofs.Callers.Places.{Begins, begins}
@@ -35,16 +37,6 @@ pub record AreComing {V : Type 0} (name : ℕ → ℕ) (n : ℕ) (values left pa
   pub left_items : (q : ℕ) → IsIn q left.order → item_at left q ≡ item_at values q
   pub left_links : (q : ℕ) → IsIn q left.order → link_at left q ≡ link_at values q
 
--- names that agree on a list of places
-map-agree : (f g : ℕ → ℕ) (ps : List ℕ) → ((p : ℕ) → IsIn p ps → f p ≡ g p) → map f ps ≡ map g ps
-map-agree f g [] same = refl
-map-agree f g (p ∷ ps) same = λ i. same p (inl refl) i ∷ map-agree f g ps (λ q j. same q (inr j)) i
-
-IsIn-name : (name : ℕ → ℕ) (q : ℕ) (ps : List ℕ) → IsIn q ps → IsIn (name q) (map name ps)
-IsIn-name name q [] i = absurd i
-IsIn-name name q (p ∷ ps) (inl e) = inl (ap name e)
-IsIn-name name q (p ∷ ps) (inr i) = inr (IsIn-name name q ps i)
-
 pub going-start : {K : Type 0} (names : List ℕ) (keys packed : Slots K KeyLink) → IsEmpty packed → AreGoing names keys keys packed
 going-start names keys packed none = record {
   part = [];
@@ -59,55 +51,9 @@ going-start names keys packed none = record {
   left_links = λ q i. refl;
 }
 
-pub rows-start : {K : Type 0} (packed : Slots K KeyLink) (rows : FinMap nat_cmp ℕ) → IsEmpty packed → rows ≡ empty → HasRows packed rows
-rows-start packed rows none no_row = record {
-  in_table = λ p l listed. absurd (subst (IsIn p) none.order listed);
-  listed = λ p h e. let bad : None ≡ Some h = sym (ap (λ m. get m p) no_row ∙ get-empty nat_cmp p) ∙ e in absurd (cc);
-  counted = ap len no_row ∙ len-empty nat_cmp ℕ ∙ sym (ap length none.order);
-}
-
 module _ {K : Type 0} {left left_after packed packed_after : Slots K KeyLink} {rows rows_after : FinMap nat_cmp ℕ} {names names_after : List
     ℕ} {place : ℕ}
     (moves : MovesKey left left_after packed packed_after rows rows_after names names_after place) where
-  -- the row of the key comes, and the others stay
-  pub rows-step : HasRows packed rows → HasRows packed_after rows_after
-  rows-step has = record {
-    in_table = λ p l listed is. elim (listed_cases moves.pushed p listed) [
-      | inl before ↦ elsewhere p (old_other moves.pushed p before)
-          ∙ has.in_table p l before (sym (moves.pushed.others.links p (old_other moves.pushed p before)) ∙ is)
-      | inr here ↦
-          let both : Some moves.link ≡ Some l = sym moves.pushed.link_is ∙ ap (link_at packed_after) (sym here) ∙ is in
-          let own : moves.link ≡ l = cc in
-          at_place p here ∙ ap (λ (x : KeyLink). Some x.hash) own
-    ];
-    listed = λ p h is. elim (cases_eq p moves.to) [
-      | inl same ↦ subst (λ q. IsIn q packed_after.order) (sym same) (new_listed moves.pushed)
-      | inr differs ↦ old_listed moves.pushed p (has.listed p h (sym (elsewhere p differs) ∙ is))
-    ];
-    counted =
-        ap len moves.rows_are ∙ len-insert nat_cmp_total rows moves.to moves.link.hash
-        ∙ ap (λ b. cond b (len rows) (len rows + 1)) (ap is_some absent)
-        ∙ ap (λ m. m + 1) has.counted
-        ∙ sym (ap length moves.pushed.order ∙ length-append packed.order (moves.to ∷ []));
-  }
-    where
-      inserted : (p : ℕ) → get rows_after p ≡ cond (p == moves.to) (Some moves.link.hash) (get rows p)
-      inserted p =
-          ap (λ m. get m p) moves.rows_are ∙ get-insert nat_cmp_total rows moves.to moves.link.hash p
-          ∙ ap (λ b. cond b (Some moves.link.hash) (get rows p)) (unsigned_tied p moves.to)
-
-      at_place : (p : ℕ) → p ≡ moves.to → get rows_after p ≡ Some moves.link.hash
-      at_place p same = inserted p ∙ ap (λ b. cond b (Some moves.link.hash) (get rows p)) (eq-eqb p moves.to same)
-
-      elsewhere : (p : ℕ) → p ≢ moves.to → get rows_after p ≡ get rows p
-      elsewhere p differs = inserted p ∙ ap (λ b. cond b (Some moves.link.hash) (get rows p)) (ne_eqb p moves.to differs)
-
-      absent : get rows moves.to ≡ None
-      absent =
-          let P : Option ℕ → Type 0 = λ o. get rows moves.to ≡ o → o ≡ None in
-          elim (get rows moves.to) as P [ None ↦ λ _. refl | Some h ↦ λ is. absurd (moves.pushed.was_absent (has.listed moves.to h is)) ]
-          refl
-
   module _ {keys : Slots K KeyLink} (sound : IsSound keys) (going : AreGoing names keys left packed) (b : Begins left.order place)
       (within : place < length names) where
     -- the place is in neither part

@@ -16,7 +16,7 @@ use Rattle.ordered_multimap.specs.Private.KeyRenames.{ArePacked, HasRows, HaveCo
 use Rattle.ordered_multimap.specs.Lists.{lists}
 use Rattle.ordered_multimap.proofs.Agreement.Agreed.{pair_in, pair_at-is, is_value_of-is}
 use Rattle.ordered_multimap.proofs.Callers.Places.{held, filter-agree, filter_map-agree}
-use Rattle.ordered_multimap.proofs.Agreement.Renamed.{IsIn-map, filter_map-map, agrees-renamed, lists_of-renamed}
+use Rattle.ordered_multimap.proofs.Agreement.Renamed.{IsIn-map, IsIn-name, filter_map-map, agrees-renamed, lists_of-renamed}
 
 module _ {K V : Type 0} (name : ℕ → ℕ) {eq : K → K → Bool} {hash : K
     → ℕ} {keys keys_after : Slots K KeyLink} {rows rows_after : FinMap nat_cmp ℕ} {values values_after : Slots V ValueLink}
@@ -87,7 +87,7 @@ module _ {K V : Type 0} (name : ℕ → ℕ) {eq : K → K → Bool} {hash : K
         let b = before place l listed is in
         subst (λ q. IsIn q keys_after.order) (sym (ap (λ (x : ValueLink). x.key) b.link_is))
         (subst (IsIn (name b.link.key)) (sym gone.order)
-        (IsIn-name b.link.key keys.order (agrees.chained.owned place b.link b.old_listed b.link_was)));
+        (IsIn-name name b.link.key keys.order (agrees.chained.owned place b.link b.old_listed b.link_was)));
     head = λ key l listed is. let w = was_at key listed in
         ap first_of (chain_at key w) ∙ agrees.chained.head w.old l w.old_listed (link_was key l w is);
     tail = λ key l listed is. let w = was_at key listed in
@@ -103,11 +103,6 @@ module _ {K V : Type 0} (name : ℕ → ℕ) {eq : K → K → Bool} {hash : K
         ap (λ ps. next_of ps place) (chain_by place l b) ∙ agrees.chained.next place b.link b.old_listed b.link_was
         ∙ ap (λ (x : ValueLink). x.next) (sym b.link_is);
   }
-    where
-      IsIn-name : (q : ℕ) (ps : List ℕ) → IsIn q ps → IsIn (name q) (map name ps)
-      IsIn-name q [] i = absurd i
-      IsIn-name q (p ∷ ps) (inl e) = inl (ap name e)
-      IsIn-name q (p ∷ ps) (inr i) = inr (IsIn-name q ps i)
 
   items_of-gone : items_of keys_after ≡ items_of keys
   items_of-gone = ap (filter_map (item_at keys_after)) gone.order

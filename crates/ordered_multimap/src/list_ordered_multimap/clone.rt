@@ -1,20 +1,16 @@
 //! Clones of a map.
-ghost use Rattle.std.specs.Prelude.{◌≡◌, ◌≤◌, [], false, true, length, IfOk, OnOk, IsOk};
-ghost use Rattle.std.specs.Map.{keys_of};
+ghost use Rattle.std.specs.Prelude.{◌≡◌, ◌≤◌, [], true, length, IfOk, IsOk};
 ghost use Rattle.multimap_slots.specs.Lists.{IsIn};
-ghost use Rattle.ordered_multimap.specs.Agrees.{HasKey};
-ghost use Rattle.ordered_multimap.specs.Changes.{appended, built_from};
 ghost use Rattle.ordered_multimap.specs.Clones.{AreClones};
-ghost use Rattle.ordered_multimap.specs.Keys.{is_listed, moved_to_back, all_moved};
-ghost use Rattle.ordered_multimap.specs.Lists.{Lists, lists, empty_lists};
-ghost use Rattle.ordered_multimap.specs.Pairs.{all_values, is_present};
-ghost use Rattle.ordered_multimap.specs.Rooms.{HasKeyRoom, HasValueRoom, KeepsRoomsAndPairs, SameNumbers};
+ghost use Rattle.ordered_multimap.specs.Pairs.{all_values};
 ghost use Rattle.ordered_multimap.specs.TapeNumbers.{AreUnused};
 
-use super::ListOrderedMultimap;
-use multimap_walks::{Iter, Keys};
+mod steps;
+
+use super::{ListOrderedMultimap, NO_CHAIN};
 use std::alloc::{AllocError, Allocator};
 use std::hash::{BuildHasher, Hash};
+use steps::cloned_storage;
 
 impl<
     K: Eq + Hash + Clone,
@@ -29,7 +25,8 @@ impl<
     /// the room of the new map, which is made before any key is cloned, and for the clones of keys
     /// and values. Then what was made is dropped.
     ///
-    /// It reads each pair once, and looks a key up for each pair and for each key.
+    /// It reads each pair once, hashes each key once, and looks nothing up. For the time of the call
+    /// it takes a number for each slot of a key or of a value that is in use.
     ///
     /// ```
     /// map.clone()?.values_len() == 3
@@ -52,112 +49,17 @@ impl<
             → IsOk result }
     {
         let state = self.state.clone()?;
-        let mut copy = ListOrderedMultimap::with_capacity_and_hasher(
-            *self.keys.allocator(),
-            self.keys_len(),
-            self.values_len(),
+        if self.values.is_empty() {
+            let alloc = *self.keys.allocator();
+            return Ok(ListOrderedMultimap::with_hasher(alloc, state));
+        }
+        let storage = cloned_storage(&self.keys, &self.values, &state)?;
+        Ok(ListOrderedMultimap {
             state,
-        )?;
-        let pairs = self.iter();
-        append_clones(&mut copy, pairs)?;
-        put_in_order(&mut copy, self.keys());
-        Ok(copy)
+            keys: storage.keys,
+            table: storage.table,
+            values: storage.values,
+            left: NO_CHAIN,
+        })
     }
-}
-
-impl<K: Eq + Hash, V, S: BuildHasher, A: Allocator> ListOrderedMultimap<K, V, S, A> {
-    /// Puts the key at the place behind the other keys.
-    fn move_key_to_back(&mut self, place: usize)
-        requires { IsIn place self.old.slots.keys.order }
-        ensures lists { (k : K) → HasKey K.eq self.old.slots.keys k place
-            → self.new.lists
-            ≡ lists (moved_to_back K.eq self.old.lists.keys k) self.old.lists.pairs }
-        ensures numbers { SameNumbers self.old self.new }
-    {
-        self.keys.move_to_back(place);
-    }
-}
-
-/// Puts the key behind the other keys, where it is present.
-fn put_last<K: Eq + Hash, V, S: BuildHasher, A: Allocator>(
-    copy: &mut ListOrderedMultimap<K, V, S, A>,
-    key: &K,
-)
-    requires { is_present K.eq copy.old.lists.pairs key.now ≡ true }
-    ensures lists { copy.new.lists
-        ≡ lists (moved_to_back K.eq copy.old.lists.keys key.now) copy.old.lists.pairs }
-    ensures numbers { SameNumbers copy.old copy.new }
-{
-    match copy.look_up(key).1 {
-        Some(place) => copy.move_key_to_back(place),
-        None => unreachable!(),
-    }
-}
-
-/// Puts the keys that are left behind the other keys, one after another.
-fn put_in_order<K: Eq + Hash, V, S: BuildHasher, A: Allocator>(
-    copy: &mut ListOrderedMultimap<K, V, S, A>,
-    left: Keys<'_, K, A>,
-)
-    requires { (k : K) → IsIn k left → is_present K.eq copy.old.lists.pairs k ≡ true }
-    ensures lists { copy.new.lists
-        ≡ lists (all_moved K.eq copy.old.lists.keys left.entry) copy.old.lists.pairs }
-    ensures numbers { SameNumbers copy.old copy.new }
-{
-    for key in left {
-        put_last(copy, key);
-    }
-}
-
-/// Appends clones of the key and the value, where there is room.
-fn append_clone<K: Eq + Hash + Clone, V: Clone, S: BuildHasher, A: Allocator + Copy>(
-    copy: &mut ListOrderedMultimap<K, V, S, A>,
-    key: &K,
-    value: &V,
-) -> Result<(), AllocError>
-    requires key { (c : K) → K.is_clone key.now c → K.eq key.now c ≡ true }
-    requires value_room { HasValueRoom copy.old }
-    requires key_room { is_listed K.eq copy.old.lists.keys key.now ≡ false → HasKeyRoom copy.old }
-    ensures ok { OnOk result ((m : Lists K V)
-        → AreClones K.eq K.is_clone V.is_clone m copy.old.lists
-        → AreClones K.eq K.is_clone V.is_clone (appended K.eq m key.now value.now)
-        copy.new.lists) }
-    ensures keeps { KeepsRoomsAndPairs copy.old copy.new }
-{
-    let value = value.clone()?;
-    // The length tells the proof that the lists are well formed.
-    let _len = copy.keys_len();
-    let (hash, place) = copy.look_up(key);
-    let Some(place) = place else {
-        let key = key.clone()?;
-        return match copy.append_new(hash, key, value) {
-            Ok(_) => Ok(()),
-            Err(_) => unreachable!(),
-        };
-    };
-    match copy.append_at(place, value) {
-        Ok(()) => Ok(()),
-        Err(_) => unreachable!(),
-    }
-}
-
-/// Appends clones of the pairs that are left to an empty map, in their order, where there is room
-/// for all.
-fn append_clones<K: Eq + Hash + Clone, V: Clone, S: BuildHasher, A: Allocator + Copy>(
-    copy: &mut ListOrderedMultimap<K, V, S, A>,
-    left: Iter<'_, K, V, A>,
-) -> Result<(), AllocError>
-    requires empty { copy.old.lists ≡ empty_lists }
-    requires keys { (k c : K) → IsIn k (keys_of left) → K.is_clone k c → K.eq k c ≡ true }
-    requires key_room { length (built_from K.eq left).keys ≤ copy.old.key_room }
-    requires value_room { length (built_from K.eq left).pairs ≤ copy.old.value_room }
-    ensures ok { OnOk result
-        (AreClones K.eq K.is_clone V.is_clone (built_from K.eq left.entry) copy.new.lists) }
-    ensures keeps { KeepsRoomsAndPairs copy.old copy.new }
-    ensures succeeds { left.entry ≡ [] → IsOk result }
-{
-    for (key, value) in left {
-        append_clone(copy, key, value)?;
-    }
-    Ok(())
 }

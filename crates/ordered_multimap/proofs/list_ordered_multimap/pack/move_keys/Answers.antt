@@ -1,6 +1,7 @@
 use Rattle.std.proofs.Common.{length, refl, sym, ◌∙◌, ap, arith}
 use Rattle.std.proofs.lemmas.List.{length-set}
-use Rattle.ordered_multimap.proofs.Pack.Packing.{going-start, going-step, going-listed, rows-start, rows-step}
+use Rattle.ordered_multimap.proofs.Pack.Packing.{going-start, going-step, going-listed}
+use Rattle.ordered_multimap.proofs.Pack.Rows.{rows-start, rows-step}
 use Rattle.ordered_multimap.proofs.Callers.Places.{begins}
 use Rattle.ordered_multimap.proofs.list_ordered_multimap.pack.move_keys.Goals as goal
 
@@ -26,7 +27,7 @@ loop-place-preserved g c =
       going =
           going-step m.moved c.len-len.ensures.sound w.going (begins _ _ first)
           (omega (arith, w.names, c.requires.within c.in-Some.place (going-listed w.going first)));
-      rows = rows-step m.moved w.rows;
+      rows = rows-step m.moved.pushed m.moved.rows_are w.rows;
       names = ap length m.moved.names_are ∙ length-set _ _ _ ∙ w.names;
       rooms = record { key_room = m.rooms.key_room ∙ w.rooms.key_room; row_room = m.rooms.row_room ∙ w.rooms.row_room };
     }
