@@ -1,6 +1,7 @@
 //! The tests: each makes one map and lends it to all comparisons of its type, since a map that is
 //! owned costs its proof more than all that it is lent to.
 mod caseless;
+mod clones;
 mod derives;
 mod equal;
 mod examples;
@@ -29,6 +30,7 @@ fn texts_answer(test: &Test, map: &mut Texts) {
     key_values::are_taken(test, map);
     shown::are_shown(test, map);
     equal::are_compared(test, map);
+    clones::are_made(test, map);
 }
 
 #[test]

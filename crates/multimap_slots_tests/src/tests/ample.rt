@@ -3,7 +3,7 @@ use crate::tests::listed_uses::{
     push_at_end, push_with_room, take_from, take_from_tape, use_listed, use_listed_on_tape,
 };
 use crate::tests::slots::{Items, List, expect_on, expect_slots};
-use crate::tests::uses::{push_two, put_last, read_all, relink};
+use crate::tests::uses::{push_two, read_all, relink};
 use multimap_slots::{Reads, SlotList, Tape};
 use std::mem::size_of;
 use test_helpers::{Failed, Test, is_shown};
@@ -34,14 +34,6 @@ fn one_comes_and_the_first_goes(test: &Test, list: &mut List, a: usize, c: usize
     expect_slots(test, list, &[(a, 10, 1), (c, 30, 1), (d, 40, 1)]);
     test.expect("remove the first", list.remove(a) == Some(10));
     test.expect("front_place", list.front_place() == Some(c));
-}
-
-// The order doesn't follow the places then, and the last item stays where it is.
-fn an_item_is_put_last(test: &Test, list: &mut List) {
-    test.expect("the first", put_last(list, 0));
-    test.expect("the last", put_last(list, 0));
-    test.expect("no item", !put_last(list, NOWHERE));
-    expect_slots(test, list, &[(1, 20, 7), (0, 11, 0)]);
 }
 
 fn two_are_pushed_and_read(test: &Test, list: &mut List) {
@@ -86,7 +78,6 @@ fn calls_of_a_list_answer(test: &Test, list: &mut List) {
     a_list_is_cleared(test, list);
     two_are_pushed_and_read(test, list);
     an_item_is_written(test, list);
-    an_item_is_put_last(test, list);
     list.clear();
     items_keep_their_places(test, list);
 }

@@ -1,6 +1,6 @@
 //! Callers of the slot list, proved from its public contracts alone.
-ghost use Rattle.std.specs.Prelude.{◌≡◌, ◌≢◌, ◌+◌, ◌∷◌, ◌++◌, [], Some, IfSome, IfNone, IsTrue, false, length};
-ghost use Rattle.multimap_slots.specs.Lists.{next_of, without};
+ghost use Rattle.std.specs.Prelude.{◌≡◌, ◌≢◌, ◌+◌, Some, IfSome, IsTrue, length};
+ghost use Rattle.multimap_slots.specs.Lists.{next_of};
 ghost use Rattle.multimap_slots.specs.Slots.{link_at, IsDetached};
 
 use crate::tests::slots::List;
@@ -47,20 +47,6 @@ pub fn read_all(list: &List, reads: &mut Reads)
             None => {}
         }
     }
-}
-
-/// Puts the item at a place behind the others, and answers whether an item of the list is there.
-pub fn put_last(list: &mut List, place: usize) -> bool
-    ensures order { IsTrue result
-        → list.new.order ≡ without list.old.order place ++ place ∷ [] }
-    ensures items { list.new.items ≡ list.old.items }
-    ensures absent { result ≡ false → list.new ≡ list.old }
-{
-    let Some(_) = list.get(place, &mut Reads::new()) else {
-        return false;
-    };
-    list.move_to_back(place);
-    true
 }
 
 /// Detaches the item at a place, and answers whether an item of the list is there.

@@ -1,9 +1,8 @@
 -- What the steps of a packing leave: each key goes to the end of the new list, and each value to its place on the new tape.
-use Rattle.std.proofs.Common.{◌≡◌, ◌≢◌, ◌==◌, ℕ, zero, suc, ◌+◌, ◌<◌, cond, not, List, [], ◌∷◌, ◌++◌, map, length, get_or, Option, Some}
-use Rattle.std.proofs.Common.{None, is_some, refl, sym, ap, ◌∙◌, subst, inl, inr, arith, length-append, append_assoc, ◌≤◌}
-use Rattle.std.proofs.lemmas.Bool.{cases_eq, eq-eqb, ne_eqb}
+use Rattle.std.proofs.Common.{◌≡◌, ◌≢◌, ◌==◌, ℕ, zero, suc, ◌<◌, not, List, [], ◌∷◌, ◌++◌, map, length, get_or, Some}
+use Rattle.std.proofs.Common.{refl, sym, ap, ◌∙◌, subst, inl, inr, arith, append_assoc, ◌≤◌}
+use Rattle.std.proofs.lemmas.Bool.{cases_eq, ne_eqb}
 use Rattle.std.proofs.lemmas.List.{get_or-set_same, get_or-set_other, map-append}
-use Rattle.std.specs.Cmp.{nat_cmp_total, unsigned_tied}
 use Rattle.std.specs.Ordering.{nat_cmp}
 use Rattle.std.specs.FinMap.{FinMap}
 use Rattle.multimap_slots.specs.Lists.{IsIn, AreDistinct, first_of, without}
@@ -11,14 +10,14 @@ use Rattle.multimap_slots.specs.Slots.{Slots, IsEmpty, IsSound, PushesBack, Remo
 use Rattle.multimap_slots.proofs.Callers.PlaceLists.{AreDistinct-gone, IsIn-append, IsIn-left, IsIn-right, IsIn-without, without-split}
 use Rattle.multimap_walks.specs.declared.links.KeyLink.{KeyLink}
 use Rattle.multimap_walks.specs.declared.links.ValueLink.{ValueLink}
-use Rattle.ordered_multimap.specs.Private.KeyRenames.{HasRows, HaveCome, HaveGone, MovesKey, name_in, with_new_key}
+use Rattle.ordered_multimap.specs.Private.KeyRenames.{HaveCome, HaveGone, MovesKey, name_in, with_new_key}
 use Rattle.ordered_multimap.specs.Private.Renames.{places_below}
 use Rattle.ordered_multimap.proofs.Agreement.LookUps.{map-agree}
 use Rattle.ordered_multimap.proofs.Agreement.Renamed.{IsIn-name}
 use Rattle.ordered_multimap.proofs.Compact.Settled.{below-less, length-below}
 use Rattle.ordered_multimap.proofs.Callers.Members.{IsIn-filter}
 use Rattle.ordered_multimap.proofs.Callers.Places.{Begins, begins}
-use Rattle.ordered_multimap.proofs.Append.Steps.{listed_cases, new_listed, old_listed, old_other}
+use Rattle.ordered_multimap.proofs.Append.Steps.{old_other}
 
 -- a first part of the keys has gone, and the others are left as they were
 pub record AreGoing {K : Type 0} (names : List ℕ) (keys left packed : Slots K KeyLink)

@@ -1,4 +1,4 @@
-use Rattle.std.proofs.Common.{length, refl, sym, ◌∙◌, ap, arith}
+use Rattle.std.proofs.Common.{length, refl, ◌∙◌, ap, arith}
 use Rattle.std.proofs.lemmas.List.{length-set}
 use Rattle.ordered_multimap.proofs.Clone.Copying.{copies-length, copying-end, copying-start, keys-step}
 use Rattle.ordered_multimap.proofs.Clone.Passing.{passing-fewer, passing-listed, passing-smaller}

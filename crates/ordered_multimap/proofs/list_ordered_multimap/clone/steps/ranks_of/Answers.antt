@@ -1,5 +1,5 @@
 use Rattle.std.proofs.Common.{arith, refl}
-use Rattle.ordered_multimap.proofs.Clone.Passing.{passing-fewer, passing-listed, passing-smaller}
+use Rattle.ordered_multimap.proofs.Clone.Passing.{passing-listed, passing-smaller}
 use Rattle.ordered_multimap.proofs.Clone.Ranks.{ranks-end, ranks-start, ranks-step}
 use Rattle.ordered_multimap.proofs.list_ordered_multimap.clone.steps.ranks_of.Goals as goal
 
