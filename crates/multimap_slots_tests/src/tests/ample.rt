@@ -121,6 +121,8 @@ fn an_item_of_a_tape_is_written(test: &Test, tape: &mut Items) {
 fn an_item_of_a_tape_is_taken(test: &Test, tape: &mut Items) {
     test.expect("take_listed", take_from_tape(tape, 0) == Some((11, 9)));
     test.expect("a hole", take_from_tape(tape, 0).is_none());
+    test.expect("not listed", !tape.is_listed(0) && !tape.is_listed(NOWHERE));
+    test.expect("listed", tape.is_listed(1));
     expect_on(test, tape, &[(1, 21, 3)]);
 }
 

@@ -18,7 +18,8 @@ use Rattle.ordered_multimap.specs.Private.Copies.{AreCopied, IsKeyCopy, IsValueC
 use Rattle.ordered_multimap.specs.Private.KeyRenames.{with_new_key}
 use Rattle.ordered_multimap.specs.Private.Renames.{renamed_key, renamed_value}
 use Rattle.ordered_multimap.proofs.Agreement.Agreed.{is_value_of-is, pair_at-is}
-use Rattle.ordered_multimap.proofs.Agreement.Renamed.{IsIn-map, IsIn-name, IsTold, filter-map, first_of-map, last_or-map, next_of-map, previous_of-map}
+use Rattle.ordered_multimap.proofs.Agreement.Renamed.{IsIn-map, IsIn-name, IsTold, filter-map, first_of-map, last_or-map, next_of-map}
+use Rattle.ordered_multimap.proofs.Agreement.Renamed.{previous_of-map}
 use Rattle.ordered_multimap.proofs.Callers.Members.{IsIn-kept}
 use Rattle.ordered_multimap.proofs.Callers.Places.{IsIn-filter_map}
 
@@ -187,7 +188,8 @@ module _ {K V : Type 0} {key_clone : K → K → Type 0} {value_clone : V → V 
   }
 
   module _ (laws : IsEquivalence eq) (equal : (k d : K) → IsIn k (items_of keys) → key_clone k d → eq k d ≡ true) where
-    key_clone_at : (q : ℕ) → IsIn q keys.order → (s : IsKeyCopy key_clone hash_after c.rank keys q (item_at copies (c.name q)) (link_at copies (c.name q)))
+    key_clone_at : (q : ℕ) → IsIn q keys.order → (s : IsKeyCopy key_clone hash_after c.rank keys q (item_at copies (c.name q))
+        (link_at copies (c.name q)))
         → IsKeyClone eq key_clone s.key s.copy
     key_clone_at q listed s = (s.cloned, equal s.key s.copy (IsIn-filter_map (item_at keys) q s.key keys.order listed s.was) s.cloned)
 
@@ -201,7 +203,8 @@ module _ {K V : Type 0} {key_clone : K → K → Type 0} {value_clone : V → V 
     pair_clones = subst
         (λ ps. AllZip (IsPairClone eq key_clone value_clone) (pairs_of keys values) (filter_map (pair_at copies value_copies) ps))
         (sym c.values_copied.order)
-        (all_related (IsPairClone eq key_clone value_clone) (pair_at keys values) (pair_at copies value_copies) c.rank values.order (λ q listed.
+        (all_related (IsPairClone eq key_clone value_clone) (pair_at keys values) (pair_at copies value_copies) c.rank values.order
+        (λ q listed.
         let s = c.values_copied.slots q listed in
         let there = agrees.chained.owned q s.value_link listed s.link_was in
         let k = c.keys_copied.slots s.value_link.key there in

@@ -1,5 +1,6 @@
 -- What one step of a clone leaves of the copies: one more stands last.
-use Rattle.std.proofs.Common.{◌≡◌, ◌≢◌, ℕ, ◌<◌, List, [], ◌∷◌, ◌++◌, map, length, get_or, Option, None, Some, refl, sym, ap, ◌∙◌, subst, inl, inr}
+use Rattle.std.proofs.Common.{◌≡◌, ◌≢◌, ℕ, ◌<◌, List, [], ◌∷◌, ◌++◌, map, length, get_or, Option, None, Some, refl, sym, ap, ◌∙◌, subst}
+use Rattle.std.proofs.Common.{inl, inr}
 use Rattle.std.proofs.lemmas.List.{get_or-set_same, get_or-set_other, length-map, map-append}
 use Rattle.std.specs.Ordering.{nat_cmp}
 use Rattle.std.specs.FinMap.{FinMap}
@@ -80,7 +81,8 @@ module _ {T L : Type 0} {Stands : ℕ → Option T → Option L → Type 0} wher
           (subst (Stands place (Some item)) (sym (ap (link_at copies_after) new_name ∙ pushed.link_is)) stands));
     }
 
-module _ {order : List ℕ} {following : Option ℕ} (distinct : AreDistinct order) (place : ℕ) (here : following ≡ Some place) (next : Option ℕ)
+module _ {order : List ℕ} {following : Option ℕ} (distinct : AreDistinct order) (place : ℕ) (here : following ≡ Some place)
+    (next : Option ℕ)
     (next_is : next ≡ next_of order place) where
   -- one more key, whose new place is noted
   pub keys-step : {K : Type 0} {is_clone : K → K → Type 0} {hash : K → ℕ} {rank : ℕ → ℕ} {keys copies copies_after : Slots K KeyLink}
@@ -99,7 +101,8 @@ module _ {order : List ℕ} {following : Option ℕ} (distinct : AreDistinct ord
   }
 
   -- one more value, at the place of its rank
-  pub values-step : {V : Type 0} {is_clone : V → V → Type 0} {name : ℕ → ℕ} {values copies copies_after : Slots V ValueLink} {ranks : List ℕ}
+  pub values-step : {V : Type 0} {is_clone : V → V → Type 0} {name : ℕ
+      → ℕ} {values copies copies_after : Slots V ValueLink} {ranks : List ℕ}
       {to : ℕ} → AreRanks order ranks → AreCopying (IsValueCopy is_clone name (name_in ranks) values) (name_in ranks) order following copies
       → CopiesValue is_clone name (name_in ranks) values copies copies_after place to → to ≡ length copies.order
       → AreCopying (IsValueCopy is_clone name (name_in ranks) values) (name_in ranks) order next copies_after

@@ -1,10 +1,11 @@
 -- The ranks of places, noted one after another, and the ranks of the places that links name.
-use Rattle.std.proofs.Common.{◌≡◌, ℕ, ◌+◌, ◌<◌, List, [], ◌∷◌, ◌++◌, length, get_or, set, Option, Some, None, refl, sym, ap, ◌∙◌, subst, inl, inr, arith}
-use Rattle.std.proofs.Common.{length-append}
-use Rattle.std.proofs.lemmas.List.{get_or-set_same, get_or-set_other, length-set}
-use Rattle.multimap_slots.specs.Lists.{AreDistinct, IsIn, first_of, next_of}
+use Rattle.std.proofs.Common.{◌≡◌, ℕ, ◌+◌, ◌<◌, ◌≤◌, List, [], ◌∷◌, ◌++◌, length, Some, refl, sym, ap, ◌∙◌, subst, inl, inr, arith}
+use Rattle.std.proofs.Common.{append_assoc, length-append}
+use Rattle.std.proofs.lemmas.Bool.{cases_eq}
+use Rattle.std.proofs.lemmas.List.{get_or_append_left, get_or_push}
+use Rattle.multimap_slots.specs.Lists.{IsIn, Rises, first_of}
 use Rattle.multimap_slots.specs.Slots.{Slots, link_at}
-use Rattle.multimap_slots.proofs.Callers.PlaceLists.{IsIn-append}
+use Rattle.multimap_slots.proofs.Callers.PlaceLists.{IsIn-append, IsIn-right}
 use Rattle.multimap_walks.specs.declared.links.KeyLink.{KeyLink}
 use Rattle.multimap_walks.specs.declared.links.ValueLink.{ValueLink}
 use Rattle.multimap_walks.specs.Chained.{chain_of, is_value_of, position_in}
@@ -12,54 +13,108 @@ use Rattle.ordered_multimap.specs.Private.Copies.{AreRanks, HasRankedEnds, HasRa
 use Rattle.ordered_multimap.specs.Private.KeyRenames.{name_in}
 use Rattle.ordered_multimap.specs.Private.Renames.{AreChained}
 use Rattle.ordered_multimap.proofs.Callers.Members.{IsIn-kept}
-use Rattle.ordered_multimap.proofs.Callers.Places.{last_of-member}
+use Rattle.ordered_multimap.proofs.Callers.Places.{begins, last_of-member, position_in-split}
 use Rattle.ordered_multimap.proofs.Chains.Neighbours.{first_of-member, next_of-members, previous_of-members}
-use Rattle.ordered_multimap.proofs.Clone.Passing.{HasPassed, passing-end, passing-new, passing-position, passing-start, passing-step}
 
--- the ranks of the places that are passed are noted, and the next rank is this one
-pub record AreNoted (order ranks : List ℕ) (rank : ℕ) (following : Option ℕ) : Type 0 where
+-- the ranks of all places below this one are noted, and so many values stand before it
+pub record AreNoted (order ranks : List ℕ) (rank place : ℕ) : Type 0 where
   pub done : List ℕ
-  pub passed : HasPassed order done following
+  pub rest : List ℕ
+  pub order_is : order ≡ done ++ rest
+  pub below : (q : ℕ) → IsIn q done → q < place
+  pub above : (q : ℕ) → IsIn q rest → place ≤ q
   pub rank_is : rank ≡ length done
-  pub within : (q : ℕ) → IsIn q order → q < length ranks
+  pub length_is : length ranks ≡ place
   pub each : (q : ℕ) → IsIn q done → name_in ranks q ≡ position_in order q
 
-pub ranks-start : (order ranks : List ℕ) (following : Option ℕ) → following ≡ first_of order
-    → ((q : ℕ) → IsIn q order → q < length ranks) → AreNoted order ranks 0 following
-ranks-start order ranks following is within = record {
+pub ranks-start : (order : List ℕ) → AreNoted order [] 0 0
+ranks-start order = record {
   done = [];
-  passed = passing-start order following is;
+  rest = order;
+  order_is = refl;
+  below = λ q i. absurd i;
+  above = λ q i. omega arith;
   rank_is = refl;
-  within = within;
+  length_is = refl;
   each = λ q i. absurd i;
 }
 
-pub ranks-end : {order ranks : List ℕ} {rank : ℕ} {following : Option ℕ} → AreNoted order ranks rank following → following ≡ None
-    → AreRanks order ranks
-ranks-end {order} {ranks} noted none = record {
-  within = noted.within;
-  each = λ q i. noted.each q (subst (IsIn q) (sym (passing-end noted.passed none)) i);
-}
+rises-right : (front back : List ℕ) → Rises (front ++ back) → Rises back
+rises-right [] back rises = rises
+rises-right (p ∷ front) back rises = rises-right front back rises.1
 
-pub ranks-step : {order ranks ranks_after : List ℕ} {rank : ℕ} {following : Option ℕ} → AreDistinct order
-    → AreNoted order ranks rank following → (place : ℕ) → following ≡ Some place → (next : Option ℕ) → next ≡ next_of order place
-    → ranks_after ≡ set ranks place rank → place < length ranks → AreNoted order ranks_after (rank + 1) next
-ranks-step {order} {ranks} {ranks_after} {rank} distinct noted place here next next_is written within = record {
-  done = noted.done ++ place ∷ [];
-  passed = passing-step distinct noted.passed place here next next_is;
-  rank_is = omega (arith, noted.rank_is, length-append noted.done (place ∷ []));
-  within = λ q i. omega (arith, noted.within q i, ap length written, length-set ranks place rank);
-  each = λ q i. elim (IsIn-append q noted.done (place ∷ []) i) [
-    | inl old ↦ ap (λ rs. get_or rs q 0) written
-        ∙ get_or-set_other ranks place q rank 0
-        (λ same. passing-new distinct noted.passed place here (subst (λ p. IsIn p noted.done) same old))
-        ∙ noted.each q old
-    | inr last ↦ elim last [
-      | inl same ↦ ap (λ p. name_in ranks_after p) same ∙ ap (λ rs. get_or rs place 0) written
-          ∙ get_or-set_same ranks place rank 0 within ∙ noted.rank_is
-          ∙ sym (passing-position distinct noted.passed place here) ∙ ap (position_in order) (sym same)
-      | inr none ↦ absurd none
-    ]
+-- the lowest place of the rest, where it is in the rest, stands first
+lowest_first : (rest : List ℕ) (place : ℕ) → Rises rest → IsIn place rest → ((q : ℕ) → IsIn q rest → place ≤ q) → first_of rest ≡ Some place
+lowest_first [] place rises i above = absurd i
+lowest_first (p ∷ rest) place rises (inl same) above = ap Some (sym same)
+lowest_first (p ∷ rest) place rises (inr later) above = absurd (omega (arith, rises.0 place later, above p (inl refl)))
+
+module _ {order ranks : List ℕ} {rank place : ℕ} (rises : Rises order) (noted : AreNoted order ranks rank place) where
+  old_rank : (q : ℕ) → IsIn q noted.done → name_in (ranks ++ rank ∷ []) q ≡ position_in order q
+  old_rank q i = get_or_append_left ranks (rank ∷ []) 0 q (omega (arith, noted.below q i, noted.length_is)) ∙ noted.each q i
+
+  length_after : length (ranks ++ rank ∷ []) ≡ place + 1
+  length_after = omega (arith, length-append ranks (rank ∷ []), noted.length_is)
+
+  rest_rises : Rises noted.rest
+  rest_rises = rises-right noted.done noted.rest (subst Rises noted.order_is rises)
+
+  -- a value stands at the place
+  pub ranks-listed : IsIn place order → AreNoted order (ranks ++ rank ∷ []) (rank + 1) (place + 1)
+  ranks-listed listed =
+      let in_rest : IsIn place noted.rest = elim (IsIn-append place noted.done noted.rest (subst (IsIn place) noted.order_is listed)) [
+        | inl before ↦ absurd (omega (arith, noted.below place before))
+        | inr later ↦ later
+      ] in
+      let b = begins noted.rest place (lowest_first noted.rest place rest_rises in_rest noted.above) in
+      let split : order ≡ noted.done ++ place ∷ b.rest = noted.order_is ∙ ap (λ ps. noted.done ++ ps) b.is in
+      record {
+        done = noted.done ++ place ∷ [];
+        rest = b.rest;
+        order_is = split ∙ sym (append_assoc noted.done (place ∷ []) b.rest);
+        below = λ q i. elim (IsIn-append q noted.done (place ∷ []) i) [
+          | inl old ↦ omega (arith, noted.below q old)
+          | inr last ↦ elim last [ inl same ↦ omega (arith, same) | inr none ↦ absurd none ]
+        ];
+        above = λ q i. let higher : place < q = (subst Rises b.is rest_rises).0 q i in omega (arith, higher);
+        rank_is = omega (arith, noted.rank_is, length-append noted.done (place ∷ []));
+        length_is = length_after;
+        each = λ q i. elim (IsIn-append q noted.done (place ∷ []) i) [
+          | inl old ↦ old_rank q old
+          | inr last ↦ elim last [
+            | inl same ↦ ap (name_in (ranks ++ rank ∷ [])) same ∙ get_or_push ranks rank 0 place noted.length_is ∙ noted.rank_is
+                ∙ sym (position_in-split noted.done place b.rest (λ j. omega (arith, noted.below place j)))
+                ∙ sym (ap (λ ps. position_in ps place) split) ∙ ap (position_in order) (sym same)
+            | inr none ↦ absurd none
+          ]
+        ];
+      }
+
+  -- none stands there
+  pub ranks-hole : (IsIn place order → ⊥) → AreNoted order (ranks ++ rank ∷ []) rank (place + 1)
+  ranks-hole unlisted = record {
+    done = noted.done;
+    rest = noted.rest;
+    order_is = noted.order_is;
+    below = λ q i. omega (arith, noted.below q i);
+    above = λ q i. elim (cases_eq q place) [
+      | inl same ↦ absurd (unlisted (subst (IsIn place) (sym noted.order_is)
+          (IsIn-right place noted.done noted.rest (subst (λ p. IsIn p noted.rest) same i))))
+      | inr differs ↦ omega (arith, noted.above q i, differs)
+    ];
+    rank_is = noted.rank_is;
+    length_is = length_after;
+    each = old_rank;
+  }
+
+-- all places in use are behind
+pub ranks-end : {order ranks : List ℕ} {rank place : ℕ} → AreNoted order ranks rank place → ((q : ℕ) → IsIn q order → q < place)
+    → AreRanks order ranks
+ranks-end {order} {ranks} {place = place} noted within = record {
+  within = λ q i. omega (arith, within q i, noted.length_is);
+  each = λ q i. elim (IsIn-append q noted.done noted.rest (subst (IsIn q) noted.order_is i)) [
+    | inl before ↦ noted.each q before
+    | inr later ↦ absurd (omega (arith, within q i, noted.above q later))
   ];
 }
 

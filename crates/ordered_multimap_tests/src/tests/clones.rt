@@ -33,7 +33,10 @@ fn values_of_a_clone_leave(test: &Test, map: &Texts, copy: &mut Texts) {
     let walked = walk_difference(&mut copy.get_all(&"key2"), VALUES);
     test.expect("the values of a key", walked.is_none());
     test.expect("the first goes", copy.remove(&"key2") == Some("value2"));
-    test.expect("a key less", has_lists(copy, &[("key1", "value5")], &["key1"]));
+    test.expect(
+        "a key less",
+        has_lists(copy, &[("key1", "value5")], &["key1"]),
+    );
     test.expect("the original", has_lists(map, PAIRS, KEYS));
 }
 

@@ -20,22 +20,23 @@ use multimap_walks::{KeyLink, ValueLink};
 use std::alloc::{AllocError, Allocator};
 use std::hash::{BuildHasher, Hash};
 
-/// At each place of a value its rank: how many values stand before it.
+/// At each place in use its rank: how many values stand before it. No hole's rank is read.
 fn ranks_of<V, A: Allocator + Copy>(
     values: &Tape<V, ValueLink, A>,
     alloc: A,
 ) -> Result<Vec<usize, A>, AllocError>
     ensures { IfOk result (λ ranks. AreRanks values.now.list.order ranks.items) }
 {
-    // The length tells the proof that no place is listed twice.
+    // The length tells the proof that places rise.
     let _len = values.len();
-    let mut ranks = Vec::from_elem(alloc, 0, values.end_place())?;
+    let end = values.end_place();
+    let mut ranks = Vec::with_capacity(alloc, end)?;
     let mut rank = 0;
-    let mut following = values.front_place();
-    while let Some(place) = following {
-        following = values.next_listed_place(place);
-        ranks[place] = rank;
-        rank += 1;
+    for place in 0..end {
+        ranks.push_reserved(rank);
+        if values.is_listed(place) {
+            rank += 1;
+        }
     }
     Ok(ranks)
 }
@@ -83,7 +84,15 @@ fn clone_key<K: Hash + Clone, S: BuildHasher, A: Allocator>(
     let head = ranks[link.head];
     let tail = ranks[link.tail];
     let length = link.length;
-    let to = copies.push_reserved(copy, KeyLink { hash, head, tail, length });
+    let to = copies.push_reserved(
+        copy,
+        KeyLink {
+            hash,
+            head,
+            tail,
+            length,
+        },
+    );
     table.insert(hash, to);
     names[place] = to;
     Ok(())
@@ -147,7 +156,14 @@ fn clone_value<V: Clone, A: Allocator>(
     let key = names[link.key];
     let previous = rank_of(link.previous, ranks);
     let next = rank_of(link.next, ranks);
-    copies.push_reserved(copy, ValueLink { key, previous, next });
+    copies.push_reserved(
+        copy,
+        ValueLink {
+            key,
+            previous,
+            next,
+        },
+    );
     Ok(())
 }
 

@@ -73,7 +73,12 @@ loop-following-preserved g c =
       copying =
           keys-step distinct c.in-Some.place c.in-Some.is c.next_listed_place-following.result c.next_listed_place-following.ensures
           w.copying m
-          (omega (arith, w.names, c.requires.within c.in-Some.place (passing-listed distinct w.copying.passed c.in-Some.place c.in-Some.is)));
+          (omega (
+            arith,
+            w.names,
+            c.requires.within c.in-Some.place
+                (passing-listed distinct w.copying.passed c.in-Some.place c.in-Some.is),
+          ));
       rows = rows-step m.pushed m.rows_are w.rows;
       names = ap length m.names_are ∙ length-set _ _ _ ∙ w.names;
       rooms = record {

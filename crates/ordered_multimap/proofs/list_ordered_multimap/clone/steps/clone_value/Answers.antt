@@ -1,0 +1,30 @@
+use Rattle.std.proofs.Common.{◌≡◌, get_or, Some, refl, sym, subst, ◌∙◌}
+use Rattle.std.proofs.lemmas.List.{get_or_default}
+use Rattle.multimap_slots.specs.Slots.{PushesBack}
+use Rattle.multimap_walks.specs.declared.links.ValueLink.{ValueLink}
+use Rattle.ordered_multimap.proofs.list_ordered_multimap.clone.steps.clone_value.Goals as goal
+
+pub returns-clause-copied : goal.returns-clause-copied
+returns-clause-copied g c =
+    let v = c.value_at.ensures in
+    let p = c.push_reserved.ensures in
+    let old : ValueLink = c.value_at.result.1 in
+    let names = c.args.names.now.items in
+    let link : ValueLink = record { key = c.index-key.result.now; previous = c.rank_of-previous.result; next = c.rank_of-next.result } in
+    let key_is : c.index-key.result.now ≡ get_or names old.key 0 =
+    c.index-key.ensures ∙ sym (get_or_default names old.key 0 c.index-key.result.now (c.requires.ranked old v.link_is).key) in
+    record {
+      copy = c.in_ok-copy.copy;
+      link = link;
+      stands = record {
+        value = c.value_at.result.0.now;
+        value_link = old;
+        copy = c.in_ok-copy.copy;
+        was = v.item_is;
+        link_was = v.link_is;
+        cloned = c.in_ok-copy.ensures.cases;
+        item_is = refl;
+        link_is = λ i. Some (record { key = key_is i; previous = c.rank_of-previous.ensures i; next = c.rank_of-next.ensures i });
+      };
+      pushed = subst (λ to. PushesBack c.args.copies.now.list c.push_reserved.new.self.list to c.in_ok-copy.copy link) p.behind p.pushed;
+    }
