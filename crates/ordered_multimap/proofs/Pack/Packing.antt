@@ -1,8 +1,7 @@
 -- What the steps of a packing leave: each key goes to the end of the new list, and each value to its place on the new tape.
-use Rattle.std.proofs.Common.{◌≡◌, ◌≢◌, ◌==◌, ℕ, zero, suc, ◌<◌, not, List, [], ◌∷◌, ◌++◌, map, length, get_or, Some}
+use Rattle.std.proofs.Common.{◌≡◌, ◌≢◌, ◌==◌, ℕ, zero, suc, ◌<◌, not, List, [], ◌∷◌, ◌++◌, length, Some}
 use Rattle.std.proofs.Common.{refl, sym, ap, ◌∙◌, subst, inl, inr, arith, append_assoc, ◌≤◌}
 use Rattle.std.proofs.lemmas.Bool.{cases_eq, ne_eqb}
-use Rattle.std.proofs.lemmas.List.{get_or-set_same, get_or-set_other, map-append}
 use Rattle.std.specs.Ordering.{nat_cmp}
 use Rattle.std.specs.FinMap.{FinMap}
 use Rattle.multimap_slots.specs.Lists.{IsIn, AreDistinct, first_of, without}
@@ -10,21 +9,19 @@ use Rattle.multimap_slots.specs.Slots.{Slots, IsEmpty, IsSound, PushesBack, Remo
 use Rattle.multimap_slots.proofs.Callers.PlaceLists.{AreDistinct-gone, IsIn-append, IsIn-left, IsIn-right, IsIn-without, without-split}
 use Rattle.multimap_walks.specs.declared.links.KeyLink.{KeyLink}
 use Rattle.multimap_walks.specs.declared.links.ValueLink.{ValueLink}
-use Rattle.ordered_multimap.specs.Private.KeyRenames.{HaveCome, HaveGone, MovesKey, name_in, with_new_key}
+use Rattle.ordered_multimap.specs.Private.KeyRenames.{AreMoved, HaveCome, HaveNewPlaces, MovesKey, name_in, with_new_key}
 use Rattle.ordered_multimap.specs.Private.Renames.{places_below}
-use Rattle.ordered_multimap.proofs.Agreement.LookUps.{map-agree}
-use Rattle.ordered_multimap.proofs.Agreement.Renamed.{IsIn-name}
+use Rattle.ordered_multimap.proofs.Agreement.NewPlaces.{noted-step, places-start}
 use Rattle.ordered_multimap.proofs.Compact.Settled.{below-less, length-below}
 use Rattle.ordered_multimap.proofs.Callers.Members.{IsIn-filter}
 use Rattle.ordered_multimap.proofs.Callers.Places.{Begins, begins}
-use Rattle.ordered_multimap.proofs.Append.Steps.{old_other}
 
 -- a first part of the keys has gone, and the others are left as they were
 pub record AreGoing {K : Type 0} (names : List ℕ) (keys left packed : Slots K KeyLink)
     : Type 0 where
   pub part : List ℕ
   pub parts : keys.order ≡ part ++ left.order
-  pub gone : HaveGone (name_in names) part keys packed
+  pub gone : HaveNewPlaces (AreMoved keys) (name_in names) part packed
   pub left_items : (q : ℕ) → IsIn q left.order → item_at left q ≡ item_at keys q
   pub left_links : (q : ℕ) → IsIn q left.order → link_at left q ≡ link_at keys q
 
@@ -40,12 +37,7 @@ pub going-start : {K : Type 0} (names : List ℕ) (keys packed : Slots K KeyLink
 going-start names keys packed none = record {
   part = [];
   parts = refl;
-  gone = record {
-    apart = λ p q i. absurd i;
-    order = none.order;
-    items = λ q i. absurd i;
-    links = λ q i. absurd i;
-  };
+  gone = places-start (name_in names) packed none;
   left_items = λ q i. refl;
   left_links = λ q i. refl;
 }
@@ -59,29 +51,9 @@ module _ {K : Type 0} {left left_after packed packed_after : Slots K KeyLink} {r
     not_in : IsIn place (going.part ++ b.rest) → ⊥
     not_in = AreDistinct-gone going.part place b.rest (subst AreDistinct (going.parts ∙ ap (λ ps. going.part ++ ps) b.is) sound.distinct)
 
-    other : (q : ℕ) → IsIn q going.part → q ≢ place
-    other q i same = not_in (IsIn-left place going.part b.rest (subst (λ p. IsIn p going.part) same i))
-
     left_after_is : left_after.order ≡ b.rest
     left_after_is = moves.removed.order ∙ ap (λ ps. without ps place) b.is
         ∙ without-split [] place b.rest (λ i. not_in (IsIn-right place going.part b.rest i))
-
-    old_name : (q : ℕ) → IsIn q going.part → name_in names_after q ≡ name_in names q
-    old_name q i = ap (λ ns. get_or ns q 0) moves.names_are ∙ get_or-set_other names place q moves.to 0 (other q i)
-
-    new_name : name_in names_after place ≡ moves.to
-    new_name = ap (λ ns. get_or ns place 0) moves.names_are ∙ get_or-set_same names place moves.to 0 within
-
-    -- no old name is the new one
-    taken : (q : ℕ) → IsIn q going.part → name_in names q ≢ moves.to
-    taken q i = old_other moves.pushed (name_in names q)
-        (subst (IsIn (name_in names q)) (sym going.gone.order) (IsIn-name (name_in names) q going.part i))
-
-    cases : {P : ℕ → Type 0} → ((q : ℕ) → IsIn q going.part → P q) → P place → (q : ℕ) → IsIn q (going.part ++ place ∷ []) → P q
-    cases {P} before here q i = elim (IsIn-append q going.part (place ∷ []) i) [
-      | inl old ↦ before q old
-      | inr last ↦ elim last [ inl same ↦ subst P (sym same) here | inr none ↦ absurd none ]
-    ]
 
     pub going-step : AreGoing names_after keys left_after packed_after
     going-step = record {
@@ -89,31 +61,11 @@ module _ {K : Type 0} {left left_after packed packed_after : Slots K KeyLink} {r
       parts =
           going.parts ∙ ap (λ ps. going.part ++ ps) (b.is ∙ ap (λ ps. place ∷ ps) (sym left_after_is))
           ∙ sym (append_assoc going.part (place ∷ []) left_after.order);
-      gone = record {
-        apart = λ p q i j.
-            cases {P = λ x. name_in names_after x ≡ name_in names_after q → x ≡ q}
-            (λ x old. cases {P = λ y. name_in names_after x ≡ name_in names_after y → x ≡ y}
-            (λ y too e. going.gone.apart x y old too (sym (old_name x old) ∙ e ∙ old_name y too))
-            (λ e. absurd (taken x old (sym (old_name x old) ∙ e ∙ new_name))) q j)
-            (cases {P = λ y. name_in names_after place ≡ name_in names_after y → place ≡ y}
-            (λ y old e. absurd (taken y old (sym (old_name y old) ∙ sym e ∙ new_name)))
-            (λ e. refl) q j) p i;
-        order =
-            moves.pushed.order ∙ ap (λ ps. ps ++ moves.to ∷ [])
-            (going.gone.order ∙ sym (map-agree (name_in names_after) (name_in names) going.part old_name))
-            ∙ ap (λ p. map (name_in names_after) going.part ++ p ∷ []) (sym new_name)
-            ∙ sym (map-append (name_in names_after) going.part (place ∷ []));
-        items = cases {P = λ q. item_at packed_after (name_in names_after q) ≡ item_at keys q}
-            (λ q old. ap (item_at packed_after) (old_name q old) ∙ moves.pushed.others.items (name_in names q) (taken q old)
-            ∙ going.gone.items q old)
-            (ap (item_at packed_after) new_name ∙ moves.pushed.item_is ∙ sym moves.removed.had
-            ∙ going.left_items place moves.removed.was_listed);
-        links = cases {P = λ q. link_at packed_after (name_in names_after q) ≡ link_at keys q}
-            (λ q old. ap (link_at packed_after) (old_name q old) ∙ moves.pushed.others.links (name_in names q) (taken q old)
-            ∙ going.gone.links q old)
-            (ap (link_at packed_after) new_name ∙ moves.pushed.link_is ∙ sym moves.link_was
-            ∙ going.left_links place moves.removed.was_listed);
-      };
+      gone = noted-step names going.gone moves.pushed
+          (record {
+            item_is = sym moves.removed.had ∙ going.left_items place moves.removed.was_listed;
+            link_is = sym moves.link_was ∙ going.left_links place moves.removed.was_listed;
+          }) moves.names_are (λ i. not_in (IsIn-left place going.part b.rest i)) within;
       left_items = λ q i. let was = still q i in moves.removed.others.items q was.1 ∙ going.left_items q was.0;
       left_links = λ q i. let was = still q i in moves.removed.others.links q was.1 ∙ going.left_links q was.0;
     }

@@ -12,7 +12,7 @@ use Rattle.multimap_walks.specs.declared.links.KeyLink.{KeyLink}
 use Rattle.multimap_walks.specs.declared.links.ValueLink.{ValueLink}
 use Rattle.multimap_walks.specs.Chained.{IsChained, is_value_of, chain_of, pair_at, pairs_of}
 use Rattle.ordered_multimap.specs.Agrees.{Agrees, items_of, lists_of}
-use Rattle.ordered_multimap.specs.Private.KeyRenames.{ArePacked, HasRows, HaveCome, HaveGone, with_new_key}
+use Rattle.ordered_multimap.specs.Private.KeyRenames.{AreMoved, ArePacked, HasRows, HaveCome, HaveNewPlaces, with_new_key}
 use Rattle.ordered_multimap.specs.Lists.{lists}
 use Rattle.ordered_multimap.proofs.Agreement.Agreed.{pair_in, pair_at-is, is_value_of-is}
 use Rattle.ordered_multimap.proofs.Callers.Places.{held, filter-agree, filter_map-agree}
@@ -20,7 +20,7 @@ use Rattle.ordered_multimap.proofs.Agreement.Renamed.{IsIn-map, IsIn-name, filte
 
 module _ {K V : Type 0} (name : ℕ → ℕ) {eq : K → K → Bool} {hash : K
     → ℕ} {keys keys_after : Slots K KeyLink} {rows rows_after : FinMap nat_cmp ℕ} {values values_after : Slots V ValueLink}
-    (agrees : Agrees eq hash keys rows values) (gone : HaveGone name keys.order keys keys_after) (has_rows : HasRows keys_after rows_after)
+    (agrees : Agrees eq hash keys rows values) (gone : HaveNewPlaces (AreMoved keys) name keys.order keys_after) (has_rows : HasRows keys_after rows_after)
     (come : HaveCome name values.order values values_after) (keys_sound : IsSound keys_after)
     (fits : length values.order ≤ values_after.capacity) where
   -- the old place of a key
@@ -35,10 +35,10 @@ module _ {K V : Type 0} (name : ℕ → ℕ) {eq : K → K → Bool} {hash : K
       record { old = n.place; old_listed = n.member; place_is = n.is }
 
   link_was : (place : ℕ) (l : KeyLink) (w : WasAt place) → link_at keys_after place ≡ Some l → link_at keys w.old ≡ Some l
-  link_was place l w is = sym (gone.links w.old w.old_listed) ∙ sym (ap (link_at keys_after) w.place_is) ∙ is
+  link_was place l w is = sym (gone.slots w.old w.old_listed).link_is ∙ sym (ap (link_at keys_after) w.place_is) ∙ is
 
   item_was : (place : ℕ) (k : K) (w : WasAt place) → item_at keys_after place ≡ Some k → item_at keys w.old ≡ Some k
-  item_was place k w is = sym (gone.items w.old w.old_listed) ∙ sym (ap (item_at keys_after) w.place_is) ∙ is
+  item_was place k w is = sym (gone.slots w.old w.old_listed).item_is ∙ sym (ap (item_at keys_after) w.place_is) ∙ is
 
   -- the value's link before
   record Before (place : ℕ) (l : ValueLink) : Type 0 where
@@ -106,7 +106,7 @@ module _ {K V : Type 0} (name : ℕ → ℕ) {eq : K → K → Bool} {hash : K
 
   items_of-gone : items_of keys_after ≡ items_of keys
   items_of-gone = ap (filter_map (item_at keys_after)) gone.order
-      ∙ filter_map-map name (item_at keys_after) (item_at keys) keys.order gone.items
+      ∙ filter_map-map name (item_at keys_after) (item_at keys) keys.order (λ q i. (gone.slots q i).item_is)
 
   pairs_of-gone : pairs_of keys_after values_after ≡ pairs_of keys values
   pairs_of-gone =
@@ -114,7 +114,7 @@ module _ {K V : Type 0} (name : ℕ → ℕ) {eq : K → K → Bool} {hash : K
       ∙ filter_map-agree (pair_at keys_after values_after) (pair_at keys values) values.order (λ q listed.
       let p = pair_in agrees q listed in
       pair_at-is keys_after values_after q (with_new_key name p.link) p.key p.value (come.links q p.link listed p.link_is)
-      (gone.items p.link.key p.key_listed ∙ p.key_is) (come.items q listed ∙ p.value_is) ∙ sym p.pair_is)
+      ((gone.slots p.link.key p.key_listed).item_is ∙ p.key_is) (come.items q listed ∙ p.value_is) ∙ sym p.pair_is)
 
   pub agrees-gone : Agrees eq hash keys_after rows_after values_after
   agrees-gone = record {

@@ -1,6 +1,6 @@
 -- Clones of keys and values in new storage, in the order of the originals. No public clause cites
 -- this module.
-use Rattle.std.specs.Prelude.{◌≡◌, ℕ, ◌<◌, List, map, length, set, Option, Some}
+use Rattle.std.specs.Prelude.{◌≡◌, ℕ, ◌<◌, List, length, set, Option, Some}
 use Rattle.std.specs.Ordering.{nat_cmp}
 use Rattle.std.specs.FinMap.{FinMap, insert}
 use Rattle.multimap_slots.specs.Lists.{IsIn}
@@ -8,7 +8,7 @@ use Rattle.multimap_slots.specs.Slots.{Slots, IsSound, PushesBack, item_at, link
 use Rattle.multimap_walks.specs.declared.links.KeyLink.{KeyLink}
 use Rattle.multimap_walks.specs.declared.links.ValueLink.{ValueLink}
 use Rattle.multimap_walks.specs.Chained.{position_in}
-use Rattle.ordered_multimap.specs.Private.KeyRenames.{HasRows, name_in, with_new_key}
+use Rattle.ordered_multimap.specs.Private.KeyRenames.{HasRows, HaveNewPlaces, name_in, with_new_key}
 use Rattle.ordered_multimap.specs.Private.Renames.{renamed_key, renamed_value}
 
 -- at each place of the order its rank: how many places stand before it
@@ -26,15 +26,6 @@ pub record HasRankedNeighbours (names ranks : List ℕ) (link : ValueLink) : Typ
   pub key : link.key < length names
   pub previous : (q : ℕ) → link.previous ≡ Some q → q < length ranks
   pub next : (q : ℕ) → link.next ≡ Some q → q < length ranks
-
--- the list has a slot for each of these places, in their order, at its new place, and such an item
--- and link stand there
-pub record HaveCopies {T L : Type 0} (Stands : ℕ → Option T → Option L → Type 0) (name : ℕ → ℕ)
-    (places : List ℕ) (copies : Slots T L) : Type 0 where
-  pub apart : (p q : ℕ) → IsIn p places → IsIn q places → name p ≡ name q → p ≡ q
-  pub order : copies.order ≡ map name places
-  pub slots : (q : ℕ) → IsIn q places
-      → Stands q (item_at copies (name q)) (link_at copies (name q))
 
 module _ {K : Type 0} (is_clone : K → K → Type 0) (hash : K → ℕ) (rank : ℕ → ℕ)
     (keys : Slots K KeyLink) where
@@ -86,9 +77,9 @@ pub record AreCopied {K V : Type 0} (key_clone : K → K → Type 0) (value_clon
     (values value_copies : Slots V ValueLink) : Type 0 where
   pub name : ℕ → ℕ
   pub rank : ℕ → ℕ
-  pub keys_copied : HaveCopies (IsKeyCopy key_clone hash rank keys) name keys.order copies
+  pub keys_copied : HaveNewPlaces (IsKeyCopy key_clone hash rank keys) name keys.order copies
   pub rows_are : HasRows copies rows
-  pub values_copied : HaveCopies (IsValueCopy value_clone name rank values) rank values.order
+  pub values_copied : HaveNewPlaces (IsValueCopy value_clone name rank values) rank values.order
       value_copies
   pub keys_sound : IsSound copies
   pub values_sound : IsSound value_copies

@@ -1,6 +1,6 @@
 -- Keys that go to other places, with their rows, and values whose links name these. No public
 -- clause cites this module.
-use Rattle.std.specs.Prelude.{◌≡◌, ℕ, ◌≤◌, List, map, length, get_or, set, Some}
+use Rattle.std.specs.Prelude.{◌≡◌, ℕ, ◌≤◌, List, map, length, get_or, set, Option, Some}
 use Rattle.std.specs.Ordering.{nat_cmp}
 use Rattle.std.specs.FinMap.{FinMap, empty, get, insert, len}
 use Rattle.multimap_slots.specs.Lists.{IsIn}
@@ -32,15 +32,21 @@ pub record HasRows {K : Type 0} (keys : Slots K KeyLink) (rows : FinMap nat_cmp 
   pub listed : (place hash : ℕ) → get rows place ≡ Some hash → IsIn place keys.order
   pub counted : len rows ≡ length keys.order
 
-module _ (name : ℕ → ℕ) where
-  -- the keys at these places, in this order, are those of the other list, at the new places, each
-  -- with its link
-  pub record HaveGone {K : Type 0} (places : List ℕ) (keys packed : Slots K KeyLink) : Type 0 where
-    pub apart : (p q : ℕ) → IsIn p places → IsIn q places → name p ≡ name q → p ≡ q
-    pub order : packed.order ≡ map name places
-    pub items : (q : ℕ) → IsIn q places → item_at packed (name q) ≡ item_at keys q
-    pub links : (q : ℕ) → IsIn q places → link_at packed (name q) ≡ link_at keys q
+-- the list has a slot for each of these places, in their order, at its new place, and such an item
+-- and link stand there
+pub record HaveNewPlaces {T L : Type 0} (Stands : ℕ → Option T → Option L → Type 0) (name : ℕ → ℕ)
+    (places : List ℕ) (after : Slots T L) : Type 0 where
+  pub apart : (p q : ℕ) → IsIn p places → IsIn q places → name p ≡ name q → p ≡ q
+  pub order : after.order ≡ map name places
+  pub slots : (q : ℕ) → IsIn q places → Stands q (item_at after (name q)) (link_at after (name q))
 
+-- the item and the link are those that stood at the place
+pub record AreMoved {T L : Type 0} (before : Slots T L) (place : ℕ) (item : Option T)
+    (link : Option L) : Type 0 where
+  pub item_is : item ≡ item_at before place
+  pub link_is : link ≡ link_at before place
+
+module _ (name : ℕ → ℕ) where
   -- the link with the new place of the key
   abbrev pub with_new_key : ValueLink → ValueLink
   with_new_key l = record l { key = name l.key }
@@ -74,7 +80,7 @@ pub record ArePacked {K V : Type 0} (keys keys_after : Slots K KeyLink)
   pub values_settled : Slots V ValueLink
   pub settled : AreRenamed keys keys_settled values values_settled
   pub name : ℕ → ℕ
-  pub gone : HaveGone name keys_settled.order keys_settled keys_after
+  pub gone : HaveNewPlaces (AreMoved keys_settled) name keys_settled.order keys_after
   pub keys_sound : IsSound keys_after
   pub rows : HasRows keys_after rows_after
   pub come : HaveCome name values_settled.order values_settled values_after

@@ -5,7 +5,7 @@ ghost use Rattle.std.specs.FinMap.{empty, len};
 ghost use Rattle.multimap_slots.specs.Lists.{IsIn};
 ghost use Rattle.multimap_slots.specs.Slots.{HasRoomFor, IsEmpty, IsSound, link_at};
 ghost use Rattle.ordered_multimap.specs.Private.Append.{HasListedRows, KeepsTapeRoom};
-ghost use Rattle.ordered_multimap.specs.Private.KeyRenames.{ArePacked, HasRows, HaveCome, HaveGone, IsNewStorage, MovesKey, name_in};
+ghost use Rattle.ordered_multimap.specs.Private.KeyRenames.{ArePacked, AreMoved, HasRows, HaveCome, HaveNewPlaces, IsNewStorage, MovesKey, name_in};
 ghost use Rattle.ordered_multimap.specs.Private.Renames.{AreChained, places_below};
 ghost use Rattle.ordered_multimap.specs.Rooms.{Packs};
 ghost use Rattle.ordered_multimap.specs.Private.Remove.{KeepsKeyRoom, KeepsRoom};
@@ -56,7 +56,8 @@ fn move_keys<K, A: Allocator>(
     requires key_room { length keys.old.order ≤ packed.old.capacity }
     requires row_room { length keys.old.order ≤ table.old.capacity }
     requires within { (q : ℕ) → IsIn q keys.old.order → q < length names.old.items }
-    ensures gone { HaveGone (name_in names.new.items) keys.old.order keys.old packed.new }
+    ensures gone { HaveNewPlaces (AreMoved keys.old) (name_in names.new.items) keys.old.order
+        packed.new }
     ensures rows { HasRows packed.new table.new.rows }
     ensures sound { IsSound packed.new }
     ensures names { length names.new.items ≡ length names.old.items }

@@ -6,8 +6,8 @@ ghost use Rattle.multimap_slots.specs.Slots.{HasRoomFor, IsEmpty, IsSound, link_
 ghost use Rattle.multimap_slots.specs.Tapes.{HasEndRoom};
 ghost use Rattle.ordered_multimap.specs.Agrees.{hash_of};
 ghost use Rattle.ordered_multimap.specs.Private.Append.{HasListedRows, KeepsTapeRoom};
-ghost use Rattle.ordered_multimap.specs.Private.Copies.{AreCopied, AreRanks, CopiesKey, CopiesValue, HaveCopies, HasRankedEnds, HasRankedNeighbours, IsKeyCopy, IsValueCopy};
-ghost use Rattle.ordered_multimap.specs.Private.KeyRenames.{HasRows, IsNewStorage, name_in};
+ghost use Rattle.ordered_multimap.specs.Private.Copies.{AreCopied, AreRanks, CopiesKey, CopiesValue, HasRankedEnds, HasRankedNeighbours, IsKeyCopy, IsValueCopy};
+ghost use Rattle.ordered_multimap.specs.Private.KeyRenames.{HasRows, HaveNewPlaces, IsNewStorage, name_in};
 ghost use Rattle.ordered_multimap.specs.Private.Remove.{KeepsKeyRoom};
 ghost use Rattle.ordered_multimap.specs.Private.Renames.{AreChained};
 ghost use Rattle.ordered_multimap.specs.TapeNumbers.{AreUnused, numbers_of};
@@ -114,7 +114,7 @@ fn clone_keys<K: Hash + Clone, S: BuildHasher, A: Allocator>(
     requires key_room { length keys.now.order ≤ copies.old.capacity }
     requires row_room { length keys.now.order ≤ table.old.capacity }
     requires within { (q : ℕ) → IsIn q keys.now.order → q < length names.old.items }
-    ensures copied { OnOk result (HaveCopies (IsKeyCopy K.is_clone
+    ensures copied { OnOk result (HaveNewPlaces (IsKeyCopy K.is_clone
         (λ k. hash_of S.BuildHasher S.Hasher.Hasher state.now (K.hash_input k))
         (name_in ranks.now.items) keys.now) (name_in names.new.items) keys.now.order copies.new) }
     ensures rows { OnOk result (HasRows copies.new table.new.rows) }
@@ -182,7 +182,7 @@ fn clone_values<V: Clone, A: Allocator>(
     requires no_value { IsEmpty copies.old.list }
     requires no_hole { copies.old.holes ≡ 0 }
     requires room { length values.now.list.order ≤ copies.old.list.capacity }
-    ensures copied { OnOk result (HaveCopies (IsValueCopy V.is_clone (name_in names.now.items)
+    ensures copied { OnOk result (HaveNewPlaces (IsValueCopy V.is_clone (name_in names.now.items)
         (name_in ranks.now.items) values.now.list) (name_in ranks.now.items)
         values.now.list.order copies.new.list) }
     ensures sound { OnOk result (IsSound copies.new.list) }

@@ -4,8 +4,8 @@ use Rattle.ordered_multimap.specs.Agrees.{lists_of}
 use Rattle.ordered_multimap.specs.Clones.{AreClones}
 use Rattle.ordered_multimap.specs.Lists.{IsWellFormed}
 use Rattle.ordered_multimap.proofs.Agreement.Agreed.{length-keys, length-pairs, no_pairs, well_formed}
+use Rattle.ordered_multimap.proofs.Agreement.NewPlaces.{places-length}
 use Rattle.ordered_multimap.proofs.Clone.Copied.{agrees-copied, lists_cloned}
-use Rattle.ordered_multimap.proofs.Clone.Copying.{copies-length}
 use Rattle.ordered_multimap.proofs.Clone.Lists.{empty_cloned, no_keys, same_lists}
 use Rattle.ordered_multimap.proofs.list_ordered_multimap.ListOrderedMultimap.clone.Goals as goal
 
@@ -44,7 +44,7 @@ returns-in_err-storage-clause-succeeds g c =
 pub invariant_of-result : goal.invariant_of-result
 invariant_of-result g c =
     let s = c.in_ok-storage.ensures in
-    let same = copies-length s.copied.values_copied in
+    let same = places-length s.copied.values_copied in
     record {
       agrees = agrees-copied c.self.invariant.agrees s.copied g.met.K.Eq.laws
           (λ k d i. c.requires k d (subst (λ m. IsIn k m.lists.keys) c.self.view_is i));

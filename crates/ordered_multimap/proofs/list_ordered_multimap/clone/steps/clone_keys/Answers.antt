@@ -1,6 +1,7 @@
 use Rattle.std.proofs.Common.{length, refl, ◌∙◌, ap, arith}
 use Rattle.std.proofs.lemmas.List.{length-set}
-use Rattle.ordered_multimap.proofs.Clone.Copying.{copies-length, copying-end, copying-start, keys-step}
+use Rattle.ordered_multimap.proofs.Agreement.NewPlaces.{places-length}
+use Rattle.ordered_multimap.proofs.Clone.Copying.{copying-end, copying-start, keys-step}
 use Rattle.ordered_multimap.proofs.Clone.Passing.{passing-fewer, passing-listed, passing-smaller}
 use Rattle.ordered_multimap.proofs.Pack.Rows.{rows-start, rows-step}
 use Rattle.ordered_multimap.proofs.list_ordered_multimap.clone.steps.clone_keys.Goals as goal
@@ -32,7 +33,7 @@ clone_key-requires-clause-key_room g c =
     omega (
       arith,
       passing-fewer c.len-len.ensures.sound.distinct w.copying.passed c.in-Some.place c.in-Some.is,
-      copies-length w.copying.have,
+      places-length w.copying.have,
       w.rooms.key_room,
       c.requires.key_room,
     )
@@ -43,7 +44,7 @@ clone_key-requires-clause-row_room g c =
     omega (
       arith,
       passing-fewer c.len-len.ensures.sound.distinct w.copying.passed c.in-Some.place c.in-Some.is,
-      copies-length w.copying.have,
+      places-length w.copying.have,
       w.rows.counted,
       w.rooms.row_room,
       c.requires.row_room,

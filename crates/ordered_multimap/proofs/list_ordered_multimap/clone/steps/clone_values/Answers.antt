@@ -1,6 +1,7 @@
 use Rattle.std.proofs.Common.{arith}
 use Rattle.ordered_multimap.proofs.Append.Steps.{room_on, room_same}
-use Rattle.ordered_multimap.proofs.Clone.Copying.{copies-length, copying-end, copying-start, values-step}
+use Rattle.ordered_multimap.proofs.Agreement.NewPlaces.{places-length}
+use Rattle.ordered_multimap.proofs.Clone.Copying.{copying-end, copying-start, values-step}
 use Rattle.ordered_multimap.proofs.Clone.Passing.{passing-fewer, passing-listed, passing-smaller}
 use Rattle.ordered_multimap.proofs.list_ordered_multimap.clone.steps.clone_values.Goals as goal
 
@@ -29,7 +30,7 @@ clone_value-requires-clause-end_room g c =
     omega (
       arith,
       passing-fewer c.len-len.ensures.sound.distinct w.copying.passed c.in-Some.place c.in-Some.is,
-      copies-length w.copying.have,
+      places-length w.copying.have,
       w.room.counts.holes,
       w.room.capacity,
       c.requires.no_hole,
