@@ -5,7 +5,7 @@ use Rattle.multimap_slots.specs.Slots.{DoublesIfGrown}
 use Rattle.ordered_multimap.specs.Lists.{empty_lists}
 use Rattle.ordered_multimap.specs.Pairs.{is_present}
 use Rattle.ordered_multimap.specs.Multimap.{Multimap}
-use Rattle.ordered_multimap.specs.TapeNumbers.{AreUnused, TakesOut}
+use Rattle.ordered_multimap.specs.TapeNumbers.{AreUnused}
 
 module _ {K V S : Type 0} where
   -- no pair, on a tape that was not used
@@ -48,11 +48,6 @@ module _ {K V S : Type 0} where
     pub keys : old.key_room ≤ new.key_room
     pub values : old.value_room ≤ new.value_room
     pub hasher : new.hasher ≡ old.hasher
-
-  -- and no value was taken out
-  pub record KeepsRoomsAndPairs (old new : Multimap K V S) : Type 0 where
-    pub rooms : KeepsRooms old new
-    pub taken : TakesOut 0 old.tape new.tape
 
   -- a room that grows at least doubles
   pub record DoublesRooms (old new : Multimap K V S) : Type 0 where
