@@ -13,19 +13,15 @@ use Rattle.multimap_tool.specs.declared.json.faults.ReadFault.TheVariants.{NotAr
 use Rattle.multimap_tool.specs.declared.json.faults.ReadFault.TheVariants.{BadKey, BadValue}
 use Rattle.multimap_tool.specs.declared.json.faults.ReadFault.TheVariants.{OutOfMemory}
 
--- a whole number of 32 bits, of 64 bits, and of 64 bits with its sign
-abbrev pub is_u32 : Data → Bool
-is_u32 (number (unsigned n)) = nat_lt n (2 ^ 32)
-is_u32 d = false
+-- a whole number of so many bits, and one with a sign beside so many bits
+abbrev pub is_unsigned : ℕ → Data → Bool
+is_unsigned bits (number (unsigned n)) = nat_lt n (2 ^ bits)
+is_unsigned bits d = false
 
-abbrev pub is_u64 : Data → Bool
-is_u64 (number (unsigned n)) = nat_lt n (2 ^ 64)
-is_u64 d = false
-
-abbrev pub is_i64 : Data → Bool
-is_i64 (number (unsigned n)) = nat_lt n (2 ^ 63)
-is_i64 (number (negative z)) = int_le (neg_ℤ (pos (2 ^ 63))) z && int_lt z (pos 0)
-is_i64 d = false
+abbrev pub is_signed : ℕ → Data → Bool
+is_signed bits (number (unsigned n)) = nat_lt n (2 ^ bits)
+is_signed bits (number (negative z)) = int_le (neg_ℤ (pos (2 ^ bits))) z && int_lt z (pos 0)
+is_signed bits d = false
 
 abbrev pub is_truth : Data → Bool
 is_truth (boolean b) = true

@@ -16,6 +16,7 @@ mod faults;
 mod items;
 mod listed;
 mod lists;
+mod numbers;
 mod parts;
 mod written;
 

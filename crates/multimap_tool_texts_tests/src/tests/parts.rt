@@ -55,6 +55,24 @@ fn numbers_are_read(test: &Test) {
     are_read(test, &good, &bad);
 }
 
+fn short_numbers_are_read(test: &Test) {
+    are_read(test, &[(0u8, "0"), (u8::MAX, "255")], &["256", "-1", "1.0"]);
+    are_read(test, &[(u16::MAX, "65535")], &["65536", "-1", "\"1\""]);
+    are_read(
+        test,
+        &[(i8::MIN, "-128"), (i8::MAX, "127")],
+        &["-129", "128", "0.5"],
+    );
+    let good = [(i16::MIN, "-32768"), (i16::MAX, "32767")];
+    are_read(test, &good, &["-32769", "32768"]);
+    let good = [
+        (i32::MIN, "-2147483648"),
+        (0, "0"),
+        (i32::MAX, "2147483647"),
+    ];
+    are_read(test, &good, &["-2147483649", "2147483648", "null"]);
+}
+
 fn truths_and_characters_are_read(test: &Test) {
     let bad = ["0", "1", "\"true\"", "null", "[true]"];
     are_read(test, &[(true, "true"), (false, "false")], &bad);
@@ -87,6 +105,7 @@ fn texts_are_read(test: &Test) {
 fn parts_are_written_and_read(rt: HostRuntime) -> Result<(), Failed> {
     let test = Test::new(rt.alloc());
     numbers_are_read(&test);
+    short_numbers_are_read(&test);
     truths_and_characters_are_read(&test);
     texts_are_read(&test);
     test.end()

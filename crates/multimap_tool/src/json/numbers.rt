@@ -1,0 +1,205 @@
+//! Whole numbers as parts of JSON values.
+ghost use Rattle.std.specs.Prelude.{true};
+
+use super::faults::PartFault;
+use super::parts::JsonPart;
+use serde_json::Value;
+use std::alloc::{AllocError, Global};
+
+/// A whole number of 8 bits.
+impl JsonPart for u8 {
+    ghost use Rattle.serde_json.specs.Data.{number, unsigned};
+    ghost use Rattle.multimap_tool.specs.Json.{is_unsigned};
+
+    ghost json = { λ part. number (unsigned part) };
+
+    ghost is_part = { is_unsigned 8 };
+
+    ghost is_written_freely = { true };
+
+    ghost is_read_freely = { true };
+
+    fn to_part(&self, _alloc: Global) -> Result<Value, AllocError> {
+        Ok(Value::from(*self))
+    }
+
+    fn from_part(_alloc: Global, value: &Value) -> Result<u8, PartFault> {
+        match value.as_u64() {
+            Some(part) if part <= u8::MAX as u64 => Ok(part as u8),
+            _ => Err(PartFault::Refused),
+        }
+    }
+}
+
+/// A whole number of 16 bits.
+impl JsonPart for u16 {
+    ghost use Rattle.serde_json.specs.Data.{number, unsigned};
+    ghost use Rattle.multimap_tool.specs.Json.{is_unsigned};
+
+    ghost json = { λ part. number (unsigned part) };
+
+    ghost is_part = { is_unsigned 16 };
+
+    ghost is_written_freely = { true };
+
+    ghost is_read_freely = { true };
+
+    fn to_part(&self, _alloc: Global) -> Result<Value, AllocError> {
+        Ok(Value::from(*self))
+    }
+
+    fn from_part(_alloc: Global, value: &Value) -> Result<u16, PartFault> {
+        match value.as_u64() {
+            Some(part) if part <= u16::MAX as u64 => Ok(part as u16),
+            _ => Err(PartFault::Refused),
+        }
+    }
+}
+
+/// A whole number of 32 bits.
+impl JsonPart for u32 {
+    ghost use Rattle.serde_json.specs.Data.{number, unsigned};
+    ghost use Rattle.multimap_tool.specs.Json.{is_unsigned};
+
+    ghost json = { λ part. number (unsigned part) };
+
+    ghost is_part = { is_unsigned 32 };
+
+    ghost is_written_freely = { true };
+
+    ghost is_read_freely = { true };
+
+    fn to_part(&self, _alloc: Global) -> Result<Value, AllocError> {
+        Ok(Value::from(*self))
+    }
+
+    fn from_part(_alloc: Global, value: &Value) -> Result<u32, PartFault> {
+        match value.as_u64() {
+            Some(part) if part <= u32::MAX as u64 => Ok(part as u32),
+            _ => Err(PartFault::Refused),
+        }
+    }
+}
+
+/// A whole number of 64 bits.
+impl JsonPart for u64 {
+    ghost use Rattle.serde_json.specs.Data.{number, unsigned};
+    ghost use Rattle.multimap_tool.specs.Json.{is_unsigned};
+
+    ghost json = { λ part. number (unsigned part) };
+
+    ghost is_part = { is_unsigned 64 };
+
+    ghost is_written_freely = { true };
+
+    ghost is_read_freely = { true };
+
+    fn to_part(&self, _alloc: Global) -> Result<Value, AllocError> {
+        Ok(Value::from(*self))
+    }
+
+    fn from_part(_alloc: Global, value: &Value) -> Result<u64, PartFault> {
+        value.as_u64().ok_or(PartFault::Refused)
+    }
+}
+
+/// A whole number of 8 bits, one of them for its sign.
+impl JsonPart for i8 {
+    ghost use Rattle.serde_json.specs.Data.{number};
+    ghost use Rattle.serde_json.specs.Find.{of_integer};
+    ghost use Rattle.multimap_tool.specs.Json.{is_signed};
+
+    ghost json = { λ part. number (of_integer part) };
+
+    ghost is_part = { is_signed 7 };
+
+    ghost is_written_freely = { true };
+
+    ghost is_read_freely = { true };
+
+    fn to_part(&self, _alloc: Global) -> Result<Value, AllocError> {
+        Ok(Value::from(*self))
+    }
+
+    fn from_part(_alloc: Global, value: &Value) -> Result<i8, PartFault> {
+        match value.as_i64() {
+            Some(part) if i8::MIN as i64 <= part && part <= i8::MAX as i64 => Ok(part as i8),
+            _ => Err(PartFault::Refused),
+        }
+    }
+}
+
+/// A whole number of 16 bits, one of them for its sign.
+impl JsonPart for i16 {
+    ghost use Rattle.serde_json.specs.Data.{number};
+    ghost use Rattle.serde_json.specs.Find.{of_integer};
+    ghost use Rattle.multimap_tool.specs.Json.{is_signed};
+
+    ghost json = { λ part. number (of_integer part) };
+
+    ghost is_part = { is_signed 15 };
+
+    ghost is_written_freely = { true };
+
+    ghost is_read_freely = { true };
+
+    fn to_part(&self, _alloc: Global) -> Result<Value, AllocError> {
+        Ok(Value::from(*self))
+    }
+
+    fn from_part(_alloc: Global, value: &Value) -> Result<i16, PartFault> {
+        match value.as_i64() {
+            Some(part) if i16::MIN as i64 <= part && part <= i16::MAX as i64 => Ok(part as i16),
+            _ => Err(PartFault::Refused),
+        }
+    }
+}
+
+/// A whole number of 32 bits, one of them for its sign.
+impl JsonPart for i32 {
+    ghost use Rattle.serde_json.specs.Data.{number};
+    ghost use Rattle.serde_json.specs.Find.{of_integer};
+    ghost use Rattle.multimap_tool.specs.Json.{is_signed};
+
+    ghost json = { λ part. number (of_integer part) };
+
+    ghost is_part = { is_signed 31 };
+
+    ghost is_written_freely = { true };
+
+    ghost is_read_freely = { true };
+
+    fn to_part(&self, _alloc: Global) -> Result<Value, AllocError> {
+        Ok(Value::from(*self))
+    }
+
+    fn from_part(_alloc: Global, value: &Value) -> Result<i32, PartFault> {
+        match value.as_i64() {
+            Some(part) if i32::MIN as i64 <= part && part <= i32::MAX as i64 => Ok(part as i32),
+            _ => Err(PartFault::Refused),
+        }
+    }
+}
+
+/// A whole number of 64 bits, one of them for its sign.
+impl JsonPart for i64 {
+    ghost use Rattle.serde_json.specs.Data.{number};
+    ghost use Rattle.serde_json.specs.Find.{of_integer};
+    ghost use Rattle.multimap_tool.specs.Json.{is_signed};
+
+    ghost json = { λ part. number (of_integer part) };
+
+    ghost is_part = { is_signed 63 };
+
+    ghost is_written_freely = { true };
+
+    ghost is_read_freely = { true };
+
+    fn to_part(&self, _alloc: Global) -> Result<Value, AllocError> {
+        Ok(Value::from(*self))
+    }
+
+    fn from_part(_alloc: Global, value: &Value) -> Result<i64, PartFault> {
+        value.as_i64().ok_or(PartFault::Refused)
+    }
+}
