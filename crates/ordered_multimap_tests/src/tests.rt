@@ -3,6 +3,7 @@
 mod caseless;
 mod clones;
 mod derives;
+mod emptied;
 mod equal;
 mod examples;
 mod hashes;

@@ -1,11 +1,14 @@
 //! The answers of calls that found no memory.
+ghost use Rattle.std.specs.Prelude.{◌≡◌};
+
 use std::alloc::AllocError;
 use std::error::Error;
-use std::fmt;
+use std::{fmt, io};
 
 /// Want of memory, with the pair that was to be stored.
 ///
-/// By `?` it becomes an [`AllocError`], which lets the pair go.
+/// By `?` it becomes an [`AllocError`] or an [`io::Error`], which lets the pair go. A function with an
+/// error type of its own takes it by `map_err(AllocError::from)`.
 #[derive(Debug, PartialEq, Eq, Drop)]
 pub struct Refused<K, V> {
     /// The key that was handed in.
@@ -32,9 +35,20 @@ impl<K: Drop, V: Drop> From<Refused<K, V>> for AllocError {
     }
 }
 
+impl<K: Drop, V: Drop> From<Refused<K, V>> for io::Error {
+    ghost use Rattle.std.specs.IoError.{error_kind};
+    ghost use Rattle.std.specs.declared.io.ErrorKind.TheVariants.{OutOfMemory};
+
+    ghost from_gives = { λ _ e. error_kind e ≡ OutOfMemory };
+
+    fn from(_refused: Refused<K, V>) -> io::Error {
+        io::Error::from(AllocError)
+    }
+}
+
 /// Want of memory, with the value that was to be stored under a key that is there.
 ///
-/// By `?` it becomes an [`AllocError`], which lets the value go.
+/// By `?` it becomes an [`AllocError`] or an [`io::Error`], which lets the value go.
 #[derive(Debug, PartialEq, Eq, Drop)]
 pub struct RefusedValue<V> {
     /// The value that was handed in.
@@ -59,9 +73,20 @@ impl<V: Drop> From<RefusedValue<V>> for AllocError {
     }
 }
 
+impl<V: Drop> From<RefusedValue<V>> for io::Error {
+    ghost use Rattle.std.specs.IoError.{error_kind};
+    ghost use Rattle.std.specs.declared.io.ErrorKind.TheVariants.{OutOfMemory};
+
+    ghost from_gives = { λ _ e. error_kind e ≡ OutOfMemory };
+
+    fn from(_refused: RefusedValue<V>) -> io::Error {
+        io::Error::from(AllocError)
+    }
+}
+
 /// Want of memory for the clone of a key, with the value that was to be handed out beside it.
 ///
-/// By `?` it becomes an [`AllocError`], which lets the value go.
+/// By `?` it becomes an [`AllocError`] or an [`io::Error`], which lets the value go.
 #[derive(Debug, PartialEq, Eq, Drop)]
 pub struct UnclonedKey<V> {
     /// The value of the pair.
@@ -83,5 +108,16 @@ impl<V: fmt::Debug + Drop> Error for UnclonedKey<V> {}
 impl<V: Drop> From<UnclonedKey<V>> for AllocError {
     fn from(_refused: UnclonedKey<V>) -> AllocError {
         AllocError
+    }
+}
+
+impl<V: Drop> From<UnclonedKey<V>> for io::Error {
+    ghost use Rattle.std.specs.IoError.{error_kind};
+    ghost use Rattle.std.specs.declared.io.ErrorKind.TheVariants.{OutOfMemory};
+
+    ghost from_gives = { λ _ e. error_kind e ≡ OutOfMemory };
+
+    fn from(_refused: UnclonedKey<V>) -> io::Error {
+        io::Error::from(AllocError)
     }
 }

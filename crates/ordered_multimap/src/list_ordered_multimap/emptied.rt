@@ -1,0 +1,31 @@
+//! Empty maps, as code over any collection makes them.
+ghost use Rattle.ordered_multimap.specs.Rooms.{IsNewMap};
+
+use super::ListOrderedMultimap;
+use std::alloc::{AllocError, Allocator};
+use std::default::{Emptied, MadeWith};
+use std::hash::{BuildHasher, Hash};
+
+/// What `mem::try_take` leaves in the place of a map: an empty one, with a clone of the hash builder
+/// and the same allocator. It takes no memory but for that clone.
+impl<K: Eq + Hash, V, S: BuildHasher + Clone, A: Allocator + Copy> Emptied
+    for ListOrderedMultimap<K, V, S, A> {
+    ghost is_emptied = { IsNewMap };
+
+    fn emptied(
+        like: &ListOrderedMultimap<K, V, S, A>,
+    ) -> Result<ListOrderedMultimap<K, V, S, A>, AllocError> {
+        let state = like.state.clone()?;
+        Ok(ListOrderedMultimap::with_hasher(*like.keys.allocator(), state))
+    }
+}
+
+/// The map that `or_default` of another map's entry puts in: an empty one, which takes no memory.
+impl<K: Eq + Hash, V, S: BuildHasher + Default, A: Allocator + Copy> MadeWith<A>
+    for ListOrderedMultimap<K, V, S, A> {
+    ghost is_made_with = { IsNewMap };
+
+    fn made_with(alloc: A) -> ListOrderedMultimap<K, V, S, A> {
+        ListOrderedMultimap::with_hasher(alloc, S::default())
+    }
+}

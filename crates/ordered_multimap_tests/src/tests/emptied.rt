@@ -1,0 +1,68 @@
+//! What a program meets first: errors that `?` takes to an `io::Result`, maps as values of a map, and
+//! a map that is taken out of its place.
+use ordered_multimap::ListOrderedMultimap;
+use ordered_multimap::list_ordered_multimap::Entry;
+use ordered_multimap_callers::maps::{Numbers, Refusing};
+use refusing_allocator::RefusingAllocator;
+use std::alloc::Allocator;
+use std::collections::HashMap;
+use std::hash::BuildHasher;
+use std::{io, mem};
+use test_helpers::{Failed, Test};
+
+fn append_two<S: BuildHasher, A: Allocator + Copy>(
+    map: &mut ListOrderedMultimap<u32, u32, S, A>,
+) -> io::Result<()> {
+    map.append(1, 10)?;
+    if let Entry::Occupied(mut entry) = map.entry(1) {
+        entry.append(11)?;
+    }
+    Ok(())
+}
+
+fn is_out_of_memory(answer: io::Result<()>) -> bool {
+    match answer {
+        Ok(()) => false,
+        Err(error) => error.kind() == io::ErrorKind::OutOfMemory,
+    }
+}
+
+fn a_refusal_is_an_io_error(test: &Test, map: &mut Refusing<'_>) {
+    test.expect("out of memory", is_out_of_memory(append_two(map)));
+    test.expect("no pair", map.is_empty());
+}
+
+fn has_two(map: &Numbers) -> bool {
+    map.keys_len() == 1 && map.values_len() == 2 && map.get(&1).copied() == Some(10)
+}
+
+fn a_map_is_taken(test: &Test, map: &mut Numbers) {
+    test.expect("append", append_two(map).is_ok());
+    match mem::try_take(map) {
+        Ok(taken) => test.expect("all pairs", has_two(&taken)),
+        Err(_) => test.expect("memory", false),
+    }
+    test.expect("empty", map.is_empty());
+    test.expect("in use again", append_two(map).is_ok() && has_two(map));
+}
+
+type Sections = HashMap<u32, Numbers>;
+
+fn append_in_section(sections: &mut Sections, section: u32) -> io::Result<()> {
+    append_two(sections.entry(section)?.or_default())
+}
+
+fn maps_are_values(test: &Test, sections: &mut Sections) {
+    test.expect("a section", append_in_section(sections, 7).is_ok());
+    test.expect("its map", sections.get(&7).is_some_and(has_two));
+}
+
+#[test]
+fn empty_maps_stand_in(rt: HostRuntime) -> Result<(), Failed> {
+    let test = Test::new(rt.alloc());
+    let allocator = RefusingAllocator::new(rt.alloc(), 0);
+    a_refusal_is_an_io_error(&test, &mut ListOrderedMultimap::new(&allocator));
+    a_map_is_taken(&test, &mut ListOrderedMultimap::new(test.alloc()));
+    maps_are_values(&test, &mut HashMap::new(test.alloc()));
+    test.end()
+}
