@@ -14,15 +14,18 @@ use Rattle.multimap_slots.proofs.Callers.PlaceLists.{IsIn-append, IsIn-right, Is
 use Rattle.multimap_slots.proofs.Callers.ListedSlots.{slice_get-set_other}
 use Rattle.multimap_slots.proofs.Changes.Put.{put-push, get_or-put_same, get_or-put_other}
 
-module _ {T L : Type 0} {items : List (Option T)} {links : List L} {runs : Spread} (t : IsTape items links runs) where
+module _ {T L : Type 0} {items : List (Option T)} {links : List L} {runs : Spread} {a b : ℕ}
+    (t : IsTape items links runs a b) where
   pub IsTape-push : (new : Spread) (item : T) (link : L) → new.order ≡ runs.order ++ runs.used ∷ [] → new.used ≡ runs.used + 1
-      → IsTape (items ++ Some item ∷ []) (links ++ link ∷ []) new
-  IsTape-push new item link order used =
+      → {a' b' : ℕ} → new.capacity ≤ a' → new.capacity ≤ b' → IsTape (items ++ Some item ∷ []) (links ++ link ∷ []) new a' b'
+  IsTape-push new item link order used items_fit links_fit =
       record {
         items_used = rw length-append (omega (arith, used, t.items_used));
         links_used = rw length-append (omega (arith, used, t.links_used));
         filled = λ p i. rw (← put-push items runs.used (Some item) (omega (arith, t.items_used)))
             (filled p (IsIn-append p runs.order (runs.used ∷ []) (rw order at i)));
+        items_fit = items_fit;
+        links_fit = links_fit;
       }
     where
       filled : (p : ℕ) → IsIn p runs.order ⊎ IsIn p (runs.used ∷ []) → IsSome (get_or (put items runs.used (Some item)) p None)
@@ -34,41 +37,51 @@ module _ {T L : Type 0} {items : List (Option T)} {links : List L} {runs : Sprea
       ]
 
   pub IsTape-remove : (new : Spread) (place : ℕ) → new.order ≡ without runs.order place → new.used ≡ runs.used
-      → IsTape (set items place None) links new
-  IsTape-remove new place order used =
+      → {a' b' : ℕ} → new.capacity ≤ a' → new.capacity ≤ b' → IsTape (set items place None) links new a' b'
+  IsTape-remove new place order used items_fit links_fit =
       record {
         items_used = rw length-set (omega (arith, used, t.items_used));
         links_used = omega (arith, used, t.links_used);
         filled = λ p i.
             let was = IsIn-without p runs.order place (rw order at i) in
             rw (get_or-set_other items place p None None was.1) (t.filled p was.0);
+        items_fit = items_fit;
+        links_fit = links_fit;
       }
 
-  pub IsTape-detach : (new : Spread) (place : ℕ) → new.order ≡ without runs.order place → new.used ≡ runs.used → IsTape items links new
-  IsTape-detach new place order used =
+  pub IsTape-detach : (new : Spread) (place : ℕ) → new.order ≡ without runs.order place → new.used ≡ runs.used
+      → {a' b' : ℕ} → new.capacity ≤ a' → new.capacity ≤ b' → IsTape items links new a' b'
+  IsTape-detach new place order used items_fit links_fit =
       record {
         items_used = omega (arith, used, t.items_used);
         links_used = omega (arith, used, t.links_used);
         filled = λ p i. t.filled p (IsIn-without p runs.order place (rw order at i)).0;
+        items_fit = items_fit;
+        links_fit = links_fit;
       }
 
   pub IsTape-cut : (new : Spread) → new.order ≡ runs.order → new.used ≤ runs.used → ((p : ℕ) → IsIn p new.order → p < new.used)
-      → IsTape (take new.used items) (take new.used links) new
-  IsTape-cut new order no_more within =
+      → {a' b' : ℕ} → new.capacity ≤ a' → new.capacity ≤ b' → IsTape (take new.used items) (take new.used links) new a' b'
+  IsTape-cut new order no_more within items_fit links_fit =
       record {
         items_used = length-take-le new.used items (omega (arith, no_more, t.items_used));
         links_used = length-take-le new.used links (omega (arith, no_more, t.links_used));
         filled = λ p i. rw (get_or-take new.used items p None (within p i)) (t.filled p (rw order at i));
+        items_fit = items_fit;
+        links_fit = links_fit;
       }
 
   pub IsTape-move : (new : Spread) (from to : ℕ) (link : L) → IsRenamed runs.order new.order from to → AreDistinct runs.order
       → new.used ≡ runs.used → to < runs.used
-      → IsTape (set (set items from None) to (get_or items from None)) (set links to link) new
-  IsTape-move new from to link r distinct used within =
+      → {a' b' : ℕ} → new.capacity ≤ a' → new.capacity ≤ b'
+      → IsTape (set (set items from None) to (get_or items from None)) (set links to link) new a' b'
+  IsTape-move new from to link r distinct used within items_fit links_fit =
       record {
         items_used = rw length-set (rw length-set (omega (arith, used, t.items_used)));
         links_used = rw length-set (omega (arith, used, t.links_used));
         filled = λ p i. filled p (cases_eq p to) i;
+        items_fit = items_fit;
+        links_fit = links_fit;
       }
     where
       in_old : (p : ℕ) → p ≢ to → IsIn p new.order → IsIn p (r.front ++ r.back)
@@ -125,6 +138,6 @@ slice_get-take (suc n) (x ∷ xs) zero below = refl
 slice_get-take (suc n) (x ∷ xs) (suc q) below = slice_get-take n xs q (omega (arith, below))
 
 -- a listed place is in use, since an item stands there
-pub listed_used : {T L : Type 0} {items : List (Option T)} {links : List L} {runs : Spread} → IsTape items links runs → (p : ℕ)
-    → IsIn p runs.order → p < runs.used
+pub listed_used : {T L : Type 0} {items : List (Option T)} {links : List L} {runs : Spread} {a b : ℕ} → IsTape items links runs a b
+    → (p : ℕ) → IsIn p runs.order → p < runs.used
 listed_used {items = items} t p i = omega (arith, IsSome-within items p (t.filled p i), t.items_used)

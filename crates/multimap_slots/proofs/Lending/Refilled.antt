@@ -51,12 +51,14 @@ IsFilled-refilled xs ys order states f = record {
   empty = λ p e. none-refilled xs ys p (f.empty p e);
 }
 
-pub IsTape-refilled : {X L : Type 0} (xs ys : List (Option X)) (links : List L) (runs : Spread) → IsTape xs links runs
-    → IsTape (refilled xs ys) links runs
+pub IsTape-refilled : {X L : Type 0} (xs ys : List (Option X)) (links : List L) (runs : Spread) {a b : ℕ} → IsTape xs links runs a b
+    → IsTape (refilled xs ys) links runs a b
 IsTape-refilled xs ys links runs t = record {
   items_used = length-refilled xs ys ∙ t.items_used;
   links_used = t.links_used;
   filled = λ p i. some-refilled xs ys p (t.filled p i);
+  items_fit = t.items_fit;
+  links_fit = t.links_fit;
 }
 
 -- where a vector of n items takes on refilled ones, these are its items

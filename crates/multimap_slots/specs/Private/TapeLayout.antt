@@ -6,12 +6,15 @@ use Rattle.multimap_slots.specs.Private.Runs.{Spread}
 use Rattle.multimap_slots.specs.Slots.{DoublesIfGrown}
 use Rattle.multimap_slots.specs.Tapes.{Taped, HasEndRoomFor, KeepsTape}
 
--- as many items and links as places in use, and an item at each listed place
+-- as many items and links as places in use, an item at each listed place, and memory for as many
+-- items and links as for places, or for more
 pub record IsTape {T L : Type 0} (items : List (Option T)) (links : List L) (runs : Spread)
-    : Type 0 where
+    (items_capacity links_capacity : ℕ) : Type 0 where
   pub items_used : length items ≡ runs.used
   pub links_used : length links ≡ runs.used
   pub filled : (p : ℕ) → IsIn p runs.order → IsSome (get_or items p None)
+  pub items_fit : runs.capacity ≤ items_capacity
+  pub links_fit : runs.capacity ≤ links_capacity
 
 -- what one slot held stands in another, and the first is empty
 abbrev pub moved_item : {T : Type 0} → List (Option T) → ℕ → ℕ → List (Option T)

@@ -6,6 +6,8 @@ use Rattle.multimap_slots.proofs.tape.Tape.detach.Goals as goal
 pub invariant_of-self : goal.invariant_of-self
 invariant_of-self g c = IsTape-detach c.self.invariant c.remove.new.self c.args.place (ap (λ s. s.order) c.remove.ensures.removed)
     (ap (λ s. s.used) c.remove.ensures.removed)
+    (omega (arith, c.self.invariant.items_fit, ap (λ s. s.capacity) c.remove.ensures.removed))
+    (omega (arith, c.self.invariant.links_fit, ap (λ s. s.capacity) c.remove.ensures.removed))
 
 pub returns-clause-detached : goal.returns-clause-detached
 returns-clause-detached g c =

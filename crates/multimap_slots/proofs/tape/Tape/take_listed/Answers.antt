@@ -18,7 +18,9 @@ index_mut-requires g c =
 pub invariant_of-self : goal.invariant_of-self
 invariant_of-self g c =
     rw c.take.ensures.after (IsTape-remove c.self.invariant c.remove.new.self c.args.place (ap (λ s. s.order) c.remove.ensures.removed)
-    (ap (λ s. s.used) c.remove.ensures.removed))
+    (ap (λ s. s.used) c.remove.ensures.removed)
+    (omega (arith, c.self.invariant.items_fit, ap (λ s. s.capacity) c.remove.ensures.removed))
+    (omega (arith, c.self.invariant.links_fit, ap (λ s. s.capacity) c.remove.ensures.removed)))
 
 pub returns-clause-removed : goal.returns-clause-removed
 returns-clause-removed g c =
