@@ -83,7 +83,14 @@ pub(crate) fn find_lane<F: Fn(usize) -> bool>(
 {
     let count = tags.len() / LANES;
     let start = probe_start(hash, count);
-    for step in 0..count {
+    // Most look-ups end in the first group, so it isn't a step of the loop.
+    if let Some(lane) = find_in_group(tags, rows, start, hash, test) {
+        return Some(lane);
+    }
+    if match_tag(tags, start, 0) != 0 {
+        return None;
+    }
+    for step in 1..count {
         let group = probe(start, step, count);
         if let Some(lane) = find_in_group(tags, rows, group, hash, test) {
             return Some(lane);
