@@ -38,6 +38,7 @@ impl<K: Eq + Hash, V, S: BuildHasher, A: Allocator + Copy> ListOrderedMultimap<K
     /// map.append("page", 8)?;
     /// ```
     #[tactic(auto, using(crate::proofs::Append::Rooms::appended_there, crate::proofs::Append::Rooms::refused_there))]
+    #[inline(always)]
     pub fn append(&mut self, key: K, value: V) -> Result<bool, Refused<K, V>>
     where
         K: Drop,
@@ -119,6 +120,7 @@ fn append_behind<K, V: Drop, A: Allocator + Copy>(
 /// Appends a key that isn't listed, whose hash is `hash`, with its first value, and answers its
 /// place.
 #[tactic(auto, using(crate::proofs::Append::Appended::rows_listed))]
+#[inline(never)]
 fn append_first<K, V: Drop, A: Allocator + Copy>(
     keys: &mut SlotList<K, KeyLink, A>,
     table: &mut KeyTable<A>,

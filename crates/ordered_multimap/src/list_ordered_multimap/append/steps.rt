@@ -8,8 +8,7 @@ ghost use Rattle.ordered_multimap.specs.Private.Append.{ComesLast, HasListedRows
 ghost use Rattle.ordered_multimap.specs.Private.Append.{PushesBehind, PushesRow, PushesValue};
 ghost use Rattle.ordered_multimap.specs.Private.Remove.{HasChainBeforeRoom};
 
-use crate::list_ordered_multimap::links::{set_link, set_next};
-use crate::list_ordered_multimap::lookup::slot_at;
+use crate::list_ordered_multimap::links::set_next;
 use multimap_slots::{SlotList, Tape};
 use multimap_table::KeyTable;
 use multimap_walks::{KeyLink, ValueLink};
@@ -77,14 +76,9 @@ pub(crate) fn push_behind<K, V, A: Allocator>(
     ensures pushed { PushesBehind keys.old keys.new values.old.list values.new.list place value }
     ensures room { KeepsTapeRoom values.old values.new }
 {
-    let (_, link) = slot_at(keys, place);
-    let tail = push_value(values, value, place, Some(link.tail));
-    let longer = KeyLink {
-        tail,
-        length: link.length + 1,
-        ..link
-    };
-    set_link(keys, place, longer);
+    let link = keys.listed_link_mut(place);
+    link.tail = push_value(values, value, place, Some(link.tail));
+    link.length += 1;
 }
 
 /// Puts the key last, with this link and a row of its hash, and answers its place.

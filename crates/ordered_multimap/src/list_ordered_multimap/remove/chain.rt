@@ -6,8 +6,8 @@ ghost use Rattle.multimap_slots.specs.Slots.{Removes, item_at, link_at};
 ghost use Rattle.ordered_multimap.specs.Private.Remove.{AreLeaving, HasChain, HasChainBeforeRoom, HasEntry};
 ghost use Rattle.ordered_multimap.specs.Private.Remove.{IsRow, LeavesEntry, LeavesOlder, PushesOver, TakesRow};
 
-use crate::list_ordered_multimap::append::steps::{new_link, push_behind};
-use crate::list_ordered_multimap::links::{set_link, set_previous};
+use crate::list_ordered_multimap::append::steps::push_behind;
+use crate::list_ordered_multimap::links::set_previous;
 use crate::list_ordered_multimap::lookup::slot_at;
 use crate::list_ordered_multimap::remove::leaving::Leaving;
 use multimap_slots::{SlotList, Tape};
@@ -99,10 +99,11 @@ fn leave_older<K, V, W: Leaving<V>, A: Allocator>(
     ensures { LeavesOlder W.keeps (W.gives result.0) keys.old keys.new values.old values.new
         place result.1 }
 {
-    let (_, link) = slot_at(keys, place);
+    let link = keys.listed_link_mut(place);
     let left = leave_values(values, link.head, link.length - 1);
     set_previous(values, Some(link.tail), None);
-    set_link(keys, place, new_link(link.hash, link.tail));
+    link.head = link.tail;
+    link.length = 1;
     left
 }
 

@@ -1,5 +1,4 @@
 use Rattle.std.proofs.Common.{◌≡◌, ◌≢◌, ◌-◌, ℕ, Some, length, refl, sym, ap, ◌∙◌, subst, arith}
-use Rattle.multimap_slots.specs.Slots.{with_link}
 use Rattle.multimap_slots.specs.Tapes.{Taped}
 use Rattle.multimap_walks.specs.declared.links.ValueLink.{ValueLink}
 use Rattle.multimap_walks.specs.Chained.{chain_of}
@@ -12,14 +11,17 @@ use Rattle.ordered_multimap.proofs.list_ordered_multimap.remove.chain.leave_olde
 
 pub leave_values-left-requires-clause-row : goal.leave_values-left-requires-clause-row
 leave_values-left-requires-clause-row g c =
-    let s = c.requires.stands in let l = c.slot_at.result.1 in
-    (_, chain_row s.chains.sound s.chains.chained c.args.place l s.listed c.slot_at.ensures.link_is (l.length - 1) (omega arith))
+    let s = c.requires.stands in let l = c.listed_link_mut-link.result.now in (
+      _,
+      chain_row s.chains.sound s.chains.chained c.args.place l s.listed c.listed_link_mut-link.ensures.value.link_is (l.length - 1)
+          (omega arith),
+    )
 
 pub set_previous-requires : goal.set_previous-requires
 set_previous-requires g c =
     let s = c.requires.stands in
-    let l = c.slot_at.result.1 in
-    let is = c.slot_at.ensures.link_is in
+    let l = c.listed_link_mut-link.result.now in
+    let is = c.listed_link_mut-link.ensures.value.link_is in
     let more = c.requires.more l is in
     let row = chain_row s.chains.sound s.chains.chained c.args.place l s.listed is (l.length - 1) (omega arith) in
     let left = c.leave_values-left.ensures.left _ row in
@@ -32,8 +34,8 @@ set_previous-requires g c =
 pub returns : goal.returns
 returns g c =
     let s = c.requires.stands in
-    let l = c.slot_at.result.1 in
-    let is = c.slot_at.ensures.link_is in
+    let l = c.listed_link_mut-link.result.now in
+    let is = c.listed_link_mut-link.ensures.value.link_is in
     let more = c.requires.more l is in
     let row = chain_row s.chains.sound s.chains.chained c.args.place l s.listed is (l.length - 1) (omega arith) in
     let t = c.leave_values-left in
@@ -67,7 +69,7 @@ returns g c =
         rest = rest;
         alone = λ v has. m.here l.tail v refl has;
         links = links;
-        keys_are = c.set_link.ensures ∙ ap (with_link c.args.keys.now c.args.place) c.new_link.ensures;
+        keys_are = refl;
       };
       first = t.ensures.given;
       counts = subst (λ (v : Taped g.row.V.Denot ValueLink). TakesOut (l.length - 1) (numbers_of c.args.values.now) (numbers_of v))
