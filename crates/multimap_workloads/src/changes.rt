@@ -20,6 +20,7 @@ fn churn<S: BuildHasher>(map: &mut Map<S>, key: u64, value: u64, checksum: u64) 
 }
 
 /// New keys come and the oldest go, four times a pair.
+#[inline(never)]
 pub(crate) fn fifo<S: BuildHasher>(
     map: &mut Map<S>,
     filled: u64,
@@ -35,6 +36,7 @@ pub(crate) fn fifo<S: BuildHasher>(
 }
 
 /// Pairs of a thousand keys come and go, four times a pair.
+#[inline(never)]
 pub(crate) fn fifo_few<S: BuildHasher>(map: &mut Map<S>, run: Run, start: u64) -> Option<u64> {
     let mut checksum = start;
     for j in 0..run.pairs.wrapping_mul(4) {
@@ -46,12 +48,14 @@ pub(crate) fn fifo_few<S: BuildHasher>(map: &mut Map<S>, run: Run, start: u64) -
 }
 
 /// The same as `fifo` on a map of 64 pairs, however many come and go.
+#[inline(never)]
 pub(crate) fn fifo_small<S: BuildHasher>(map: &mut Map<S>, run: Run, start: u64) -> Option<u64> {
     let checksum = distinct(map, Run { pairs: 64, ..run }, start)?;
     fifo(map, 64, run, checksum)
 }
 
 /// Puts a new pair in the place of those of a random key, four times a pair.
+#[inline(never)]
 pub(crate) fn replaces<S: BuildHasher>(map: &mut Map<S>, run: Run, start: u64) -> Option<u64> {
     let mut checksum = start;
     for j in 0..run.pairs.wrapping_mul(4) {
@@ -89,6 +93,7 @@ pub(crate) fn retains<S: BuildHasher>(map: &mut Map<S>, start: u64) -> u64 {
 }
 
 /// Counts how often each of an eighth as many keys is chosen, four times a pair.
+#[inline(never)]
 pub(crate) fn counts<S: BuildHasher>(map: &mut Map<S>, run: Run, start: u64) -> Option<u64> {
     let mut checksum = start;
     for j in 0..run.pairs.wrapping_mul(4) {

@@ -131,7 +131,9 @@ fn run_on<S: BuildHasher + Clone>(map: &mut Map<S>, workload: Workload, run: Run
     }
 }
 
-/// The appends of a workload.
+/// The appends of a workload. They stand apart, as the changes that append do, so that the loops of
+/// other workloads don't share their registers with an append that is inlined.
+#[inline(never)]
 fn fill<S: BuildHasher>(map: &mut Map<S>, workload: Workload, run: Run) -> Option<u64> {
     match workload {
         Workload::AppendDistinct
