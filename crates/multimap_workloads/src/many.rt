@@ -13,6 +13,7 @@ fn told<S: BuildHasher>(map: &Map<S>, run: Run, checksum: u64) -> u64 {
 }
 
 /// Makes a map of a new key for each pair.
+#[inline(never)]
 pub(crate) fn makes<S: BuildHasher + Drop>(alloc: Global, state: S, run: Run) -> Option<u64> {
     let pairs = (0..run.pairs).map(|i| (run.key(i), run.value(i)));
     match ListOrderedMultimap::from_iter(alloc, state, pairs) {
@@ -22,6 +23,7 @@ pub(crate) fn makes<S: BuildHasher + Drop>(alloc: Global, state: S, run: Run) ->
 }
 
 /// Extends the map by eight pairs a key, one after another.
+#[inline(never)]
 pub(crate) fn extends<S: BuildHasher>(map: &mut Map<S>, run: Run, start: u64) -> Option<u64> {
     let pairs = (0..run.pairs).map(|i| (run.key(i / 8), run.value(i)));
     match map.extend(pairs) {

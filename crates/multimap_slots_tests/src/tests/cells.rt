@@ -76,7 +76,10 @@ fn items_of_a_tape_leave_and_are_written(test: &Test, tape: &mut Items) {
     expect_lent(test, write_tape_ends(tape, 11, 41));
     expect_on(test, tape, &[(0, 11, 1), (2, 30, 3), (3, 41, 4)]);
     test.expect("take_detached", tape.take_detached(detached) == 20);
-    test.expect("with links", tape_uses::take_with_links(tape, 2) == Some((30, 3, 3)));
+    test.expect(
+        "with links",
+        tape_uses::take_with_links(tape, 2) == Some((30, 3, 3)),
+    );
     expect_on(test, tape, &[(0, 11, 1), (3, 41, 4)]);
 }
 

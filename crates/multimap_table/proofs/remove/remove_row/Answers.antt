@@ -1,4 +1,4 @@
-use Rattle.std.proofs.Common.{◌≡◌, ℕ, ◌*◌, ◌+◌, ◌/◌, ◌<◌, List, length, get_or, set, subst, sym, arith}
+use Rattle.std.proofs.Common.{◌≡◌, ℕ, ◌*◌, ◌+◌, ◌/◌, ◌<◌, List, length, get_or, set, subst, arith}
 use Rattle.std.proofs.Common.{length-set}
 use Rattle.std.specs.Int.{w64, trailing_zeros}
 use Rattle.multimap_table.specs.Private.Layout.{IsBitSet, IsLaidOut, distance}

@@ -1,5 +1,5 @@
 //! Clones of keys and values in new storage, where each link names the new places.
-ghost use Rattle.std.specs.Prelude.{◌≡◌, ◌≤◌, ◌<◌, ◌+◌, ◌/◌, ℕ, Some, length, option_map, IfOk, OnOk};
+ghost use Rattle.std.specs.Prelude.{◌≡◌, ◌≤◌, ◌<◌, ◌+◌, ◌/◌, ℕ, Some, length, min, option_map, IfOk, OnOk};
 ghost use Rattle.std.specs.FinMap.{empty, len};
 ghost use Rattle.multimap_slots.specs.Lists.{IsIn};
 ghost use Rattle.multimap_slots.specs.Slots.{HasRoomFor, IsEmpty, IsSound, link_at};
@@ -111,8 +111,7 @@ fn clone_keys<K: Hash + Clone, S: BuildHasher, A: Allocator>(
         → HasRankedEnds ranks.now.items l }
     requires no_key { IsEmpty copies.old }
     requires no_row { table.old.rows ≡ empty }
-    requires key_room { length keys.now.order ≤ copies.old.capacity }
-    requires row_room { length keys.now.order ≤ table.old.capacity }
+    requires room { length keys.now.order ≤ min copies.old.capacity table.old.capacity }
     requires within { (q : ℕ) → IsIn q keys.now.order → q < length names.old.items }
     ensures copied { OnOk result (HaveNewPlaces (IsKeyCopy K.is_clone
         (λ k. hash_of S.BuildHasher S.Hasher.Hasher state.now (K.hash_input k))

@@ -5,6 +5,9 @@ use Rattle.ordered_multimap.proofs.list_ordered_multimap.clone.steps.clone_into.
 pub clone_keys-requires-clause-ranked : goal.clone_keys-requires-clause-ranked
 clone_keys-requires-clause-ranked g c = ranked_ends c.requires.chains c.requires.ranks
 
+pub clone_keys-requires-clause-room : goal.clone_keys-requires-clause-room
+clone_keys-requires-clause-room g c = omega (arith, c.requires.key_room, c.requires.row_room)
+
 pub clone_values-requires-clause-ranked : goal.clone_values-requires-clause-ranked
 clone_values-requires-clause-ranked g c =
     ranked_neighbours c.requires.chains c.requires.ranks _

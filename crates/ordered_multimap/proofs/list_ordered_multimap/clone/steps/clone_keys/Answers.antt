@@ -35,7 +35,7 @@ clone_key-requires-clause-key_room g c =
       passing-fewer c.len-len.ensures.sound.distinct w.copying.passed c.in-Some.place c.in-Some.is,
       places-length w.copying.have,
       w.rooms.key_room,
-      c.requires.key_room,
+      c.requires.room,
     )
 
 pub clone_key-requires-clause-row_room : goal.clone_key-requires-clause-row_room
@@ -47,7 +47,7 @@ clone_key-requires-clause-row_room g c =
       places-length w.copying.have,
       w.rows.counted,
       w.rooms.row_room,
-      c.requires.row_room,
+      c.requires.room,
     )
 
 pub clone_key-requires-clause-within : goal.clone_key-requires-clause-within
