@@ -104,7 +104,9 @@ pub(crate) const WORKLOADS: [Workload; 27] = [
     Workload::Extend,
 ];
 
-/// Makes a map, runs a workload on it, and lets the map go. Answers the checksum.
+/// Makes a map, runs a workload on it, and lets the map go. Answers the checksum. Each hasher has this
+/// function to itself, as a large one keeps fewer of a walk's numbers in registers.
+#[inline(never)]
 pub(crate) fn run_workload<S: BuildHasher + Clone + Default + Drop>(
     alloc: Global,
     state: S,
@@ -195,14 +197,26 @@ fn look_up<S: BuildHasher + Clone>(
     checksum: u64,
 ) -> u64 {
     match workload {
-        Workload::GetHit => hits(map, run, checksum),
-        Workload::GetMiss => misses(map, run, checksum),
-        Workload::GetAllWalk | Workload::GetAllWalkScattered => walks(map, run, checksum),
         Workload::IterAll => all_pairs(map, checksum),
         Workload::KeysAll => all_keys(map, checksum),
         Workload::PairsAll => all_lists(map, checksum),
         Workload::Clone => clones(map, checksum).unwrap_or(REFUSED),
+        Workload::GetHit
+        | Workload::GetMiss
+        | Workload::GetAllWalk
+        | Workload::GetAllWalkScattered => ask(map, workload, run, checksum),
         _ => checksum,
+    }
+}
+
+/// The look-ups of a workload, after its appends. They stand apart, so that the walks over all pairs
+/// or keys keep their numbers in registers.
+#[inline(never)]
+fn ask<S: BuildHasher>(map: &Map<S>, workload: Workload, run: Run, checksum: u64) -> u64 {
+    match workload {
+        Workload::GetHit => hits(map, run, checksum),
+        Workload::GetMiss => misses(map, run, checksum),
+        _ => walks(map, run, checksum),
     }
 }
 
