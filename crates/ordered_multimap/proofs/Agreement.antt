@@ -3,5 +3,6 @@ pub mod Agreed
 pub mod Kept
 pub mod LookUps
 pub mod NewPlaces
+pub mod Queries
 pub mod Renamed
 pub mod StayingKeys

@@ -1,7 +1,7 @@
 -- How key list, table and values agree. `IsOccupiedBy` of an entry uses `HasKey`; no public clause
 -- stands on the rest.
 use Rattle.std.specs.Prelude.{◌≡◌, ℕ, Bool, true, false, List, [], Some, length}
-use Rattle.std.specs.List.{fold, filter_map, IsDistinct}
+use Rattle.std.specs.List.{fold, filter_map, list_any, IsDistinct}
 use Rattle.std.specs.Hash.{HashWrites}
 use Rattle.std.specs.Ordering.{nat_cmp}
 use Rattle.std.specs.FinMap.{FinMap, get, len}
@@ -13,9 +13,8 @@ use Rattle.multimap_slots.specs.Tapes.{Taped, HasTapeRoomFor}
 use Rattle.multimap_walks.specs.declared.links.KeyLink.{KeyLink}
 use Rattle.multimap_walks.specs.declared.links.ValueLink.{ValueLink}
 use Rattle.multimap_walks.specs.Chained.{IsChained, pairs_of}
-use Rattle.ordered_multimap.specs.Keys.{is_listed}
 use Rattle.ordered_multimap.specs.Lists.{IsWellFormed, Lists, lists}
-use Rattle.ordered_multimap.specs.Pairs.{values_of}
+use Rattle.ordered_multimap.specs.Pairs.{values_where}
 use Rattle.ordered_multimap.specs.TapeNumbers.{numbers_of, ArePaid}
 
 -- what a builder makes of the writes of a key
@@ -26,32 +25,46 @@ hash_of b h state writes = h.finish (fold h.write (b.build_hasher state) writes)
 abbrev pub items_of : {T L : Type 0} → Slots T L → List T
 items_of s = filter_map (item_at s) s.order
 
--- a key that is equal to k is listed at the place
-pub record HasKey {K : Type 0} (eq : K → K → Bool) (keys : Slots K KeyLink) (k : K)
-    (place : ℕ) : Type 0 where
-  pub listed : IsIn place keys.order
-  pub stored : K
-  pub item_is : item_at keys place ≡ Some stored
-  pub equal : eq k stored ≡ true
+-- What is found of the keys that a test accepts.
+module _ {K : Type 0} (accepts : K → Bool) where
+  -- such a key is listed at the place
+  pub record HasKeyWhere (keys : Slots K KeyLink) (place : ℕ) : Type 0 where
+    pub listed : IsIn place keys.order
+    pub stored : K
+    pub item_is : item_at keys place ≡ Some stored
+    pub equal : accepts stored ≡ true
 
--- no key of well-formed lists is equal to k, and so k has no value
-pub record LacksKey {K V : Type 0} (eq : K → K → Bool) (m : Lists K V) (k : K) : Type 0 where
-  pub well_formed : IsWellFormed eq m
-  pub unlisted : is_listed eq m.keys k ≡ false
-  pub no_value : values_of eq m.pairs k ≡ []
+  -- no key of well-formed lists is accepted, and so none has a value
+  pub record LacksWhere {V : Type 0} (eq : K → K → Bool) (m : Lists K V) : Type 0 where
+    pub well_formed : IsWellFormed eq m
+    pub unlisted : list_any accepts m.keys ≡ false
+    pub no_value : values_where accepts m.pairs ≡ []
 
-module _ {K : Type 0} (eq : K → K → Bool) (keys : Slots K KeyLink) (k : K) (place : ℕ) where
-  -- an equal key stands at the place, or where the answer is no, no equal key stands there
-  abbrev pub SaysWhetherEqual : Bool → Type 0
-  SaysWhetherEqual true = HasKey eq keys k place
-  SaysWhetherEqual false = (j : K) → item_at keys place ≡ Some j → eq k j ≡ false
+  -- an accepted key stands at the place, or where the answer is no, none stands there
+  abbrev pub SaysWhetherAccepted : Slots K KeyLink → ℕ → Bool → Type 0
+  SaysWhetherAccepted keys place true = HasKeyWhere keys place
+  SaysWhetherAccepted keys place false = (j : K) → item_at keys place ≡ Some j → accepts j ≡ false
 
--- the table has only listed places, and with this hash the place of each key that is equal to k
-pub record IsFoundBy {K : Type 0} (eq : K → K → Bool) (keys : Slots K KeyLink)
-    (rows : FinMap nat_cmp ℕ) (k : K) (hash : ℕ) : Type 0 where
-  pub places : (place h : ℕ) → get rows place ≡ Some h → IsIn place keys.order
-  pub hashed : (place : ℕ) (j : K) → IsIn place keys.order → item_at keys place ≡ Some j
-      → eq k j ≡ true → get rows place ≡ Some hash
+  -- the table has only listed places, and with this hash the place of each accepted key
+  pub record IsFoundBy (keys : Slots K KeyLink) (rows : FinMap nat_cmp ℕ) (hash : ℕ) : Type 0 where
+    pub places : (place h : ℕ) → get rows place ≡ Some h → IsIn place keys.order
+    pub hashed : (place : ℕ) (j : K) → IsIn place keys.order → item_at keys place ≡ Some j
+        → accepts j ≡ true → get rows place ≡ Some hash
+
+module _ {K : Type 0} (eq : K → K → Bool) where
+  -- a key that is equal to k is listed at the place
+  abbrev pub HasKey : Slots K KeyLink → K → ℕ → Type 0
+  HasKey keys k = HasKeyWhere (eq k) keys
+
+  -- no key of well-formed lists is equal to k, and so k has no value
+  abbrev pub LacksKey : {V : Type 0} → Lists K V → K → Type 0
+  LacksKey m k = LacksWhere (eq k) eq m
+
+  -- the key at the place is accepted by a test, and the test accepts those that are equal to it
+  pub record StandsAt (accepts : K → Bool) (keys : Slots K KeyLink) (place : ℕ) : Type 0 where
+    pub stored : K
+    pub own : HasKeyWhere (eq stored) keys place
+    pub same : accepts ≡ eq stored
 
 module _ {K V : Type 0} where
   -- the two lists that the slots mean

@@ -2,9 +2,13 @@
 use Rattle.std.specs.Prelude.{Bool, not, List, [], ◌∷◌, ◌++◌, filter}
 use Rattle.multimap_walks.specs.declared.End.{End}
 use Rattle.ordered_multimap.specs.Lists.{Lists, lists, empty_lists}
-use Rattle.ordered_multimap.specs.Pairs.{pairs_without, with_value_at, with_first_value}
-use Rattle.ordered_multimap.specs.Pairs.{end_position}
+use Rattle.ordered_multimap.specs.Pairs.{pairs_except, pairs_without, with_first_where}
+use Rattle.ordered_multimap.specs.Pairs.{with_value_at, end_position}
 use Rattle.ordered_multimap.specs.Keys.{stored_key, keys_with, keys_named_by}
+
+-- the first value of the keys that a test accepts is v, where there is one
+abbrev pub first_written_where : {K V : Type 0} → (K → Bool) → Lists K V → V → Lists K V
+first_written_where accepts m v = lists m.keys (with_first_where accepts m.pairs v)
 
 module _ {K : Type 0} (eq : K → K → Bool) {V : Type 0} where
   -- the pair goes last, under the stored key, and a new key goes last
@@ -20,13 +24,17 @@ module _ {K : Type 0} (eq : K → K → Bool) {V : Type 0} where
   abbrev pub kept : Lists K V → List (K × V) → Lists K V
   kept m pairs = lists (keys_named_by eq m.keys pairs) pairs
 
+  -- the pairs of the keys that a test accepts go
+  abbrev pub removed_where : (K → Bool) → Lists K V → Lists K V
+  removed_where accepts m = kept m (pairs_except accepts m.pairs)
+
   -- the pairs of the key go
   abbrev pub removed : Lists K V → K → Lists K V
-  removed m k = kept m (pairs_without eq m.pairs k)
+  removed m k = removed_where (eq k) m
 
   -- the first value of the key is v, where it has one
   abbrev pub first_written : Lists K V → K → V → Lists K V
-  first_written m k v = lists m.keys (with_first_value eq m.pairs k v)
+  first_written m k v = first_written_where (eq k) m v
 
   -- each pair is appended in turn
   abbrev pub all_appended : Lists K V → List (K × V) → Lists K V

@@ -6,10 +6,10 @@ use Rattle.std.specs.declared.hash.Hash as hash
 use Rattle.std.specs.declared.hash.Hasher as hasher
 use Rattle.std.specs.declared.hash.BuildHasher as builder
 use Rattle.ordered_multimap.specs.declared.list_ordered_multimap.drain.EntryValuesDrain as drains
-use Rattle.ordered_multimap.specs.Changes.{inserted, removed}
+use Rattle.ordered_multimap.specs.Changes.{inserted, removed_where}
 use Rattle.ordered_multimap.specs.Detaches.{KeepsListed, left_of}
 use Rattle.ordered_multimap.specs.Multimap.{Multimap}
-use Rattle.ordered_multimap.specs.Pairs.{values_of}
+use Rattle.ordered_multimap.specs.Pairs.{values_of, values_where}
 use Rattle.ordered_multimap.specs.Rooms.{KeepsRooms, RaisesNoRoom, SameRooms}
 use Rattle.ordered_multimap.specs.TapeNumbers.{TakesOut}
 
@@ -36,13 +36,19 @@ module _ {K V S A H : Type 0} {e : equality.Ghosts K} {k : hash.Ghosts K} {b : b
   DrainsLast old given new =
       KeepsMap old new × TakesLast (λ v. v) (drain_left old) given (drain_left new)
 
-  -- the drain has all values of the key, and the map is without them
-  pub record DrainsEntry (eq : K → K → Bool) (old : Multimap K V S) (key : K)
+  -- the drain has all values of the keys that a test accepts, and the map is without them
+  pub record DrainsWhere (accepts : K → Bool) (eq : K → K → Bool) (old : Multimap K V S)
       (drain : drains.EntryValuesDrain K V S A H e k b h) : Type 0 where
-    pub left : drain_left drain ≡ values_of eq old.lists.pairs key
-    pub lists : drain.map.now.lists ≡ removed eq old.lists key
+    pub left : drain_left drain ≡ values_where accepts old.lists.pairs
+    pub lists : drain.map.now.lists ≡ removed_where eq accepts old.lists
     pub rooms : SameRooms old drain.map.now
-    pub taken : TakesOut (length (values_of eq old.lists.pairs key)) old.tape drain.map.now.tape
+    pub taken : TakesOut (length (values_where accepts old.lists.pairs)) old.tape
+        drain.map.now.tape
+
+  -- the drain has all values of the key, and the map is without them
+  abbrev pub DrainsEntry : (eq : K → K → Bool) → Multimap K V S → K
+      → drains.EntryValuesDrain K V S A H e k b h → Type 0
+  DrainsEntry eq old key drain = DrainsWhere (eq key) eq old drain
 
   -- the drain has all old values of the key, and the map has the pair in their place
   pub record DrainsInserted (eq : K → K → Bool) (old : Multimap K V S) (key : K) (value : V)

@@ -3,6 +3,10 @@ use Rattle.std.specs.Prelude.{◌≡◌, Bool, not, cond, List, [], ◌∷◌, �
 use Rattle.std.specs.List.{list_any}
 use Rattle.std.specs.Map.{keys_of}
 
+-- the first listed key that the test accepts, and k if there is none
+abbrev pub stored_where : {K : Type 0} → (K → Bool) → List K → K → K
+stored_where accepts keys k = unwrap_or (find accepts keys) k
+
 module _ {K : Type 0} (eq : K → K → Bool) where
   -- whether an equal key is listed
   abbrev pub is_listed : List K → K → Bool
@@ -10,7 +14,7 @@ module _ {K : Type 0} (eq : K → K → Bool) where
 
   -- the listed key that is equal to k, and k itself if there is none
   abbrev pub stored_key : List K → K → K
-  stored_key keys k = unwrap_or (find (eq k) keys) k
+  stored_key keys k = stored_where (eq k) keys k
 
   -- the keys once k has come: a new one goes last
   abbrev pub keys_with : List K → K → List K

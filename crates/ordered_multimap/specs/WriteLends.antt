@@ -1,12 +1,12 @@
 -- What a map ends as, where a `&mut` to one of its values is returned.
-use Rattle.std.specs.Prelude.{◌≡◌, ℕ, Option, OnSome, IfNone}
+use Rattle.std.specs.Prelude.{◌≡◌, ℕ, Bool, Option, OnSome, IfNone}
 use Rattle.std.specs.Borrow.{Fml, RattleType, Bor, MutBor, Lends, LendsSo, follows_so, name_if_some}
 use Rattle.std.specs.HashMap.Lent.{HashMembers}
 use Rattle.std.specs.declared.alloc.Allocator as alloc
 use Rattle.std.specs.declared.hash.Hasher as hasher
 use Rattle.std.specs.declared.hash.BuildHasher as builder
 use Rattle.multimap_walks.specs.declared.End.{End}
-use Rattle.ordered_multimap.specs.Changes.{first_written, end_written}
+use Rattle.ordered_multimap.specs.Changes.{first_written_where, end_written}
 use Rattle.ordered_multimap.specs.Multimap.{Multimap}
 use Rattle.ordered_multimap.specs.PopAnswers.{map_row}
 use Rattle.ordered_multimap.specs.Writes.{with_value, with_first, with_end, IsWritten}
@@ -23,11 +23,11 @@ module _ (K V S A H : RattleType) (key : HashMembers K.Denot)
   lends_first_value place r =
       Lends (map_row K V S A H key build hash heap) V m r (with_first m.now place)
 
-  -- it is the first value of k, and at `None` the map stays as it is
-  abbrev pub lends_first_of : K.Denot → Option (MutBor V.Denot) → Fml
-  lends_first_of k r =
+  -- it is the first value of the keys that the test accepts, and at `None` the map stays as it is
+  abbrev pub lends_first_of : (K.Denot → Bool) → Option (MutBor V.Denot) → Fml
+  lends_first_of accepts r =
       LendsSo (map_row K V S A H key build hash heap) V m r
-      (λ n w. OnSome r (IsWritten m.now n (first_written key.eq m.now.lists k w)))
+      (λ n w. OnSome r (IsWritten m.now n (first_written_where accepts m.now.lists w)))
       (λ n. n ≡ m.now)
 
 module _ (K V S A H : RattleType) (key : HashMembers K.Denot)

@@ -3,6 +3,8 @@
 
 pub mod laws;
 pub mod list_ordered_multimap;
+mod query;
 
 pub use list_ordered_multimap::ListOrderedMultimap;
 pub use multimap_walks::End;
+pub use query::KeyQuery;

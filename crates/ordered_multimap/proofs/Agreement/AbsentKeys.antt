@@ -2,52 +2,55 @@
 use Rattle.std.proofs.Common.{◌≡◌, ℕ, Bool, true, List, [], ◌∷◌, length, slice_get, option_map, Some, refl, sym, ap, ◌∙◌, subst, arith}
 use Rattle.std.proofs.Common.{true≢false}
 use Rattle.std.specs.Cmp.{IsEquivalence}
-use Rattle.ordered_multimap.specs.Agrees.{LacksKey}
-use Rattle.ordered_multimap.specs.Changes.{appended, inserted, removed}
+use Rattle.ordered_multimap.specs.Agrees.{LacksKey, LacksWhere}
+use Rattle.ordered_multimap.specs.Changes.{appended, inserted, removed_where}
 use Rattle.ordered_multimap.specs.Detaches.{left_of}
 use Rattle.ordered_multimap.specs.Additions.{IsAppended, IsInserted}
-use Rattle.ordered_multimap.specs.Private.KeySteps.{DetachesValues}
-use Rattle.ordered_multimap.specs.Removals.{IsRemoved, LosesValues}
+use Rattle.ordered_multimap.specs.Private.KeySteps.{DetachesWhere}
+use Rattle.ordered_multimap.specs.Removals.{IsRemovedWhere, LosesValues}
 use Rattle.ordered_multimap.specs.Lists.{Lists}
 use Rattle.ordered_multimap.specs.Multimap.{Multimap}
-use Rattle.ordered_multimap.specs.Pairs.{has_items, is_present, positions_of, values_of}
+use Rattle.ordered_multimap.specs.Pairs.{has_items, is_present_where, positions_where, values_where}
 use Rattle.ordered_multimap.specs.Rooms.{RaisesNoRoom, SameRooms}
 use Rattle.ordered_multimap.specs.TapeNumbers.{TakesOut}
 use Rattle.ordered_multimap.proofs.Append.Inserted.{inserted-absent}
-use Rattle.ordered_multimap.proofs.Agreement.LookUps.{length-positions_of}
+use Rattle.ordered_multimap.proofs.Agreement.LookUps.{length-positions_where}
 use Rattle.ordered_multimap.proofs.Remove.WholeKeys.{removed-absent}
 
--- a key that the lists lack has no position
-pub lacks_position : {K V : Type 0} {eq : K → K → Bool} {m : Lists K V} (k : K) → LacksKey eq m k → positions_of eq m.pairs k ≡ []
-lacks_position {K} {V} {eq} {m} k lacks = none (positions_of eq m.pairs k) (length-positions_of eq k 0 m.pairs ∙ ap length lacks.no_value)
+-- keys that the lists lack have no position
+pub lacks_position : {K V : Type 0} {eq : K → K → Bool} {m : Lists K V} (accepts : K → Bool) → LacksWhere accepts eq m
+    → positions_where accepts m.pairs ≡ []
+lacks_position {K} {V} {eq} {m} accepts lacks =
+    none (positions_where accepts m.pairs) (length-positions_where accepts 0 m.pairs ∙ ap length lacks.no_value)
   where
     none : (xs : List ℕ) → length xs ≡ 0 → xs ≡ []
     none [] e = refl
     none (x ∷ xs) e = absurd (omega (arith, e))
 
 -- a key that is present has a first value
-pub has_first : {K V X : Type 0} (eq : K → K → Bool) (pairs : List (K × V)) (k : K) (x : X) → is_present eq pairs k ≡ true
-    → option_map (λ _. x) (slice_get (values_of eq pairs k) 0) ≡ Some x
-has_first {K} {V} {X} eq pairs k x present = some (values_of eq pairs k) present
+pub has_first : {K V X : Type 0} (accepts : K → Bool) (pairs : List (K × V)) (x : X) → is_present_where accepts pairs ≡ true
+    → option_map (λ _. x) (slice_get (values_where accepts pairs) 0) ≡ Some x
+has_first {K} {V} {X} accepts pairs x present = some (values_where accepts pairs) present
   where
     some : (vs : List V) → has_items vs ≡ true → option_map (λ _. x) (slice_get vs 0) ≡ Some x
     some [] e = absurd (true≢false (sym e))
     some (v ∷ vs) e = refl
 
-module _ {K V : Type 0} {eq : K → K → Bool} (laws : IsEquivalence eq) (m : Lists K V) (k : K) (lacks : LacksKey eq m k) where
-  -- a removal changes nothing
-  pub removed_lacking : removed eq m k ≡ m
-  removed_lacking = removed-absent laws m k lacks.well_formed lacks.unlisted
+module _ {K V : Type 0} {eq : K → K → Bool} (laws : IsEquivalence eq) (m : Lists K V) where
+  -- a removal of keys that they lack changes nothing
+  pub removed_lacking : (accepts : K → Bool) → LacksWhere accepts eq m → removed_where eq accepts m ≡ m
+  removed_lacking accepts lacks = removed-absent laws m accepts lacks.well_formed lacks.unlisted
 
   -- and an insertion is an append
-  pub inserted_lacking : (v : V) → appended eq m k v ≡ inserted eq m k v
-  inserted_lacking v = inserted-absent laws m k v lacks.well_formed lacks.unlisted
+  pub inserted_lacking : (k : K) → LacksKey eq m k → (v : V) → appended eq m k v ≡ inserted eq m k v
+  inserted_lacking k lacks v = inserted-absent laws m k v lacks.well_formed lacks.unlisted
 
--- where it has no value, nothing is left for a drain
-pub detaches_none : {K V S : Type 0} {eq : K → K → Bool} {old new : Multimap K V S} (k : K) {after : Lists K V} → LacksKey eq old.lists k
+-- where there is no value, nothing is left for a drain
+pub detaches_none : {K V S : Type 0} {eq : K → K → Bool} {old new : Multimap K V S} (accepts : K → Bool) {after : Lists K V}
+    → LacksWhere accepts eq old.lists
     → left_of new ≡ [] → new.lists ≡ after → TakesOut 0 old.tape new.tape
-    → DetachesValues eq old new k after
-detaches_none {old = old} {new = new} k lacks left lists taken = record {
+    → DetachesWhere accepts old new after
+detaches_none {old = old} {new = new} accepts lacks left lists taken = record {
   left = left ∙ sym lacks.no_value;
   loses = record { lists = lists; taken = subst (λ vs. TakesOut (length vs) old.tape new.tape) (sym lacks.no_value) taken };
 }
@@ -87,11 +90,11 @@ inserted_new {eq = eq} laws {old} {new} {k} {v} lacks came = record {
 }
 
 -- a removal of an absent key
-pub removes_none : {K V S : Type 0} {eq : K → K → Bool} (laws : IsEquivalence eq) {m : Multimap K V S} {k : K} → LacksKey eq m.lists k
-    → IsRemoved eq m m k
-removes_none laws {m} {k} lacks = record {
+pub removes_none : {K V S : Type 0} {eq : K → K → Bool} (laws : IsEquivalence eq) {m : Multimap K V S} (accepts : K → Bool)
+    → LacksWhere accepts eq m.lists → IsRemovedWhere accepts eq m m
+removes_none laws {m} accepts lacks = record {
   loses = record {
-    lists = sym (removed_lacking laws m.lists k lacks);
+    lists = sym (removed_lacking laws m.lists accepts lacks);
     taken = subst (λ vs. TakesOut (length vs) m.tape m.tape) (sym lacks.no_value) (record { freed = omega arith; paid = omega arith });
   };
   rooms = record { keys = refl; values = refl; slots = refl; hasher = refl };

@@ -16,13 +16,13 @@ use Rattle.multimap_walks.specs.declared.links.ValueLink.{ValueLink}
 use Rattle.multimap_walks.specs.Walk.{end_item}
 use Rattle.multimap_walks.specs.declared.End.TheVariants.{Front, Back}
 use Rattle.multimap_walks.specs.Chained.{position_in, is_value_of, chain_of, positions_at, values_at, pair_at, pairs_of}
-use Rattle.ordered_multimap.specs.Pairs.{all_positions, has_items, values_of, positions_of, is_present}
+use Rattle.ordered_multimap.specs.Pairs.{all_positions, values_of, values_where, positions_of, is_present}
 use Rattle.ordered_multimap.specs.Keys.{is_listed, stored_key}
-use Rattle.ordered_multimap.specs.Agrees.{Agrees, HasKey, IsFoundBy, LacksKey, items_of, lists_of}
+use Rattle.ordered_multimap.specs.Agrees.{Agrees, HasKey, items_of, lists_of}
 use Rattle.ordered_multimap.proofs.Callers.Members.{IsIn-kept}
 use Rattle.ordered_multimap.proofs.Callers.Places.{held, length-filter_map, IsIn-filter_map, origin, begins}
 use Rattle.ordered_multimap.proofs.Callers.Laws.{end_item-push}
-use Rattle.ordered_multimap.proofs.Callers.ListedKeys.{is_listed-member, stored_key_member, stored_key_only}
+use Rattle.ordered_multimap.proofs.Callers.ListedKeys.{is_listed-member, stored_key_only}
 use Rattle.ordered_multimap.proofs.Callers.WellFormed.{is_present-keys}
 use Rattle.ordered_multimap.proofs.Agreement.Agreed.{PairAt, pair_in, is_value_of-is, well_formed}
 
@@ -37,20 +37,6 @@ pub record AreKeyed {K : Type 0} (eq : K → K → Bool) (hash : K → ℕ) (key
   pub listed : (place h : ℕ) → get rows place ≡ Some h → IsIn place keys.order
 
 module _ {K : Type 0} {eq : K → K → Bool} (laws : IsEquivalence eq) where
-  -- no listed key is equal, so none is in the list
-  pub unlisted : (keys : Slots K KeyLink) (k : K)
-      → ((place : ℕ) (j : K) → IsIn place keys.order → item_at keys place ≡ Some j → eq k j ≡ false)
-      → is_listed eq (items_of keys) k ≡ false
-  unlisted keys k apart =
-      let P : Bool → Type 0 = λ b. is_listed eq (items_of keys) k ≡ b → b ≡ false in
-      elim (is_listed eq (items_of keys) k) as P [
-        | true ↦ λ e.
-            let s = stored_key_member laws k (items_of keys) e in
-            let o = origin (item_at keys) (stored_key eq (items_of keys) k) keys.order s.0 in
-            absurd (true≢false (sym s.1 ∙ apart o.from _ o.member o.gives))
-        | false ↦ λ _. refl
-      ] refl
-
   apart_item : (j k : K) (keys : List K) → AllByRecursion (λ y. eq j y ≡ false) keys → IsIn k keys → eq j k ≡ false
   apart_item j k [] apart member = absurd member
   apart_item j k (i ∷ keys) apart (inl here) = ap (eq j) here ∙ apart.0
@@ -79,35 +65,29 @@ module _ {K : Type 0} {eq : K → K → Bool} (laws : IsEquivalence eq) where
       let rest : IsDistinct eq (filter_map (item_at keys) ps) = elim (item_at keys r) as P [ None ↦ λ d. d | Some i ↦ λ d. d.1 ] distinct in
       same_place keys ps rest p q j k p_in q_in p_is q_is equal
 
--- equal keys with equal hashes are found by their hash
-pub found_by : {K : Type 0} {eq : K → K → Bool} {hash : K → ℕ} {keys : Slots K KeyLink} {rows : FinMap nat_cmp ℕ}
-    → AreKeyed eq hash keys rows
-    → ((x y : K) → eq x y ≡ true → hash x ≡ hash y) → (k : K) → IsFoundBy eq keys rows k (hash k)
-found_by {keys = keys} keyed alike k = record {
-  places = keyed.listed;
-  hashed = λ place j listed item equal.
-      let l = held (link_at keys place) (keyed.sound.linked place listed) in
-      keyed.in_table place l.value listed l.is ∙ ap Some (keyed.hashed place j l.value listed item l.is ∙ sym (alike k j equal));
-}
-
 -- functions that agree on a list
 pub map-agree : {X : Type 0} (f g : ℕ → X) (xs : List ℕ) → ((x : ℕ) → IsIn x xs → f x ≡ g x) → map f xs ≡ map g xs
 map-agree f g [] same = refl
 map-agree f g (x ∷ xs) same = ap (λ y. y ∷ map f xs) (same x (inl refl))
     ∙ ap (λ ys. g x ∷ ys) (map-agree f g xs (λ y later. same y (inr later)))
 
--- a key has as many positions as values
-pub length-positions_of : {K V : Type 0} (eq : K → K → Bool) (k : K) (at : ℕ) (pairs : List (K × V))
-    → length (map (λ e. e.0) (filter (λ e. eq k e.1.0) (enumerate_from at pairs))) ≡ length (values_of eq pairs k)
-length-positions_of eq k at [] = refl
-length-positions_of {K} {V} eq k at (p ∷ pairs) =
-    let later = length-positions_of eq k (at + 1) pairs in
-    let rest : List (ℕ × (K × V)) = filter (λ e. eq k e.1.0) (enumerate_from (at + 1) pairs) in
-    elim (eq k p.0) as (λ b. length (map (λ e. e.0) (cond b ((at, p) ∷ rest) rest)) ≡ length
-    (map (λ q. q.1) (cond b (p ∷ filter (λ q. eq k q.0) pairs) (filter (λ q. eq k q.0) pairs)))) [
+-- keys that a test accepts have as many positions as values
+pub length-positions_where : {K V : Type 0} (accepts : K → Bool) (at : ℕ) (pairs : List (K × V))
+    → length (map (λ e. e.0) (filter (λ e. accepts e.1.0) (enumerate_from at pairs))) ≡ length (values_where accepts pairs)
+length-positions_where accepts at [] = refl
+length-positions_where {K} {V} accepts at (p ∷ pairs) =
+    let later = length-positions_where accepts (at + 1) pairs in
+    let rest : List (ℕ × (K × V)) = filter (λ e. accepts e.1.0) (enumerate_from (at + 1) pairs) in
+    elim (accepts p.0) as (λ b. length (map (λ e. e.0) (cond b ((at, p) ∷ rest) rest)) ≡ length
+    (map (λ q. q.1) (cond b (p ∷ filter (λ q. accepts q.0) pairs) (filter (λ q. accepts q.0) pairs)))) [
       | true ↦ ap suc later
       | false ↦ later
     ]
+
+-- a key has as many positions as values
+pub length-positions_of : {K V : Type 0} (eq : K → K → Bool) (k : K) (at : ℕ) (pairs : List (K × V))
+    → length (map (λ e. e.0) (filter (λ e. eq k e.1.0) (enumerate_from at pairs))) ≡ length (values_of eq pairs k)
+length-positions_of eq k at pairs = length-positions_where (eq k) at pairs
 
 module _ {K V : Type 0} {eq : K → K → Bool} (laws : IsEquivalence eq) {hash : K
     → ℕ} {keys : Slots K KeyLink} {rows : FinMap nat_cmp ℕ} {values : Slots V ValueLink} (agrees : Agrees eq hash keys rows values) where
@@ -123,18 +103,6 @@ module _ {K V : Type 0} {eq : K → K → Bool} (laws : IsEquivalence eq) {hash 
 
   pub absent_if_unlisted : (k : K) → is_listed eq (items_of keys) k ≡ false → is_present eq (pairs_of keys values) k ≡ false
   absent_if_unlisted k none = is_present-keys laws (lists_of keys values) k (well_formed agrees) ∙ none
-
-  pub present_as_found : (k : K) (o : Option ℕ) → IfSome o (HasKey eq keys k) → IfNone o (is_listed eq (items_of keys) k ≡ false)
-      → is_some o ≡ is_present eq (pairs_of keys values) k
-  present_as_found k None found unlisted = sym (absent_if_unlisted k unlisted)
-  present_as_found k (Some place) found unlisted = sym (present_if_found k place found)
-
-  pub no_value : (k : K) → is_listed eq (items_of keys) k ≡ false → values_of eq (pairs_of keys values) k ≡ []
-  no_value k none = empty (values_of eq (pairs_of keys values) k) (absent_if_unlisted k none)
-    where
-      empty : (xs : List V) → has_items xs ≡ false → xs ≡ []
-      empty [] e = refl
-      empty (x ∷ xs) e = absurd (true≢false e)
 
   -- a value is the key's exactly where its own key is equal
   pub owns : (k : K) (place : ℕ) (has : HasKey eq keys k place) (q : ℕ) (p : PairAt keys values q) → is_value_of values place q ≡ eq k p.key
@@ -229,12 +197,6 @@ module _ {K V : Type 0} {eq : K → K → Bool} (laws : IsEquivalence eq) {hash 
   positions_at-all =
       map-agree (position_in values.order) (λ q. 0 + position_in values.order q) values.order (λ q member. omega arith)
       ∙ sym (all_positions_along 0 values.order agrees.values_sound.distinct (λ q i. i))
-
-  -- where no key is equal
-  pub lacks_key : (k : K) (o : Option ℕ) → IfNone o (is_listed eq (items_of keys) k ≡ false)
-      → IfNone o (LacksKey eq (lists_of keys values) k)
-  lacks_key k None none = record { well_formed = well_formed agrees; unlisted = none; no_value = no_value k none }
-  lacks_key k (Some place) none = none
 
   -- the key at a place is equal to itself
   pub own_key : (place : ℕ) → IsIn place keys.order → (k : K) × HasKey eq keys k place

@@ -1,24 +1,24 @@
--- A key that stays at its place.
+-- A key that a test accepts, which stays at its place.
 use Rattle.std.proofs.Common.{◌≡◌, ℕ, Bool, Result, OnOk, OnErr, Ok, Err, sym, ◌∙◌, subst}
 use Rattle.multimap_slots.specs.Lists.{IsIn}
 use Rattle.multimap_slots.specs.Slots.{Slots, with_link}
 use Rattle.multimap_walks.specs.declared.links.KeyLink.{KeyLink}
 use Rattle.multimap_walks.specs.declared.links.ValueLink.{ValueLink}
-use Rattle.ordered_multimap.specs.Agrees.{HasKey}
+use Rattle.ordered_multimap.specs.Agrees.{HasKeyWhere}
 use Rattle.ordered_multimap.specs.Private.Append.{AppendsBehind}
 use Rattle.ordered_multimap.specs.Private.Renames.{AreRenamed}
 use Rattle.ordered_multimap.specs.Private.Remove.{InsertsBehind}
 
-module _ {K : Type 0} {eq : K → K → Bool} (k : K) (place : ℕ) where
+module _ {K : Type 0} (accepts : K → Bool) (place : ℕ) where
   -- the key has another link
   linked_stays : {keys keys_after : Slots K KeyLink} (at : ℕ) (link : KeyLink) → keys_after ≡ with_link keys at link
-      → HasKey eq keys k place → HasKey eq keys_after k place
-  linked_stays at link is has = subst (λ s. HasKey eq s k place) (sym is)
+      → HasKeyWhere accepts keys place → HasKeyWhere accepts keys_after place
+  linked_stays at link is has = subst (λ s. HasKeyWhere accepts s place) (sym is)
       (record { listed = has.listed; stored = has.stored; item_is = has.item_is; equal = has.equal })
 
   module _ {V : Type 0} where
     pub renamed_stays : {keys keys_after : Slots K KeyLink} {values values_after : Slots V ValueLink}
-        → AreRenamed keys keys_after values values_after → HasKey eq keys k place → HasKey eq keys_after k place
+        → AreRenamed keys keys_after values values_after → HasKeyWhere accepts keys place → HasKeyWhere accepts keys_after place
     renamed_stays r has = record {
       listed = subst (IsIn place) (sym r.renames.key_order) has.listed;
       stored = has.stored;
@@ -27,17 +27,17 @@ module _ {K : Type 0} {eq : K → K → Bool} (k : K) (place : ℕ) where
     }
 
     appended_stays : {keys keys_after : Slots K KeyLink} {values values_after : Slots V ValueLink} {v : V} {at : ℕ}
-        → AppendsBehind keys keys_after values values_after at v → HasKey eq keys k place → HasKey eq keys_after k place
+        → AppendsBehind keys keys_after values values_after at v → HasKeyWhere accepts keys place → HasKeyWhere accepts keys_after place
     appended_stays {at = at} done has = linked_stays at _ done.pushed.keys_are (renamed_stays done.renamed has)
 
     pub inserted_stays : {keys keys_after : Slots K KeyLink} {values values_after : Slots V ValueLink} {v : V} {at : ℕ}
-        → InsertsBehind keys keys_after values values_after at v → HasKey eq keys k place → HasKey eq keys_after k place
+        → InsertsBehind keys keys_after values values_after at v → HasKeyWhere accepts keys place → HasKeyWhere accepts keys_after place
     inserted_stays {at = at} done has = linked_stays at _ done.older.keys_are
         (linked_stays at _ done.pushed.keys_are (renamed_stays done.renamed has))
 
     -- after either outcome of an append
     pub behind_stays : (keys keys_after : Slots K KeyLink) (values values_after : Slots V ValueLink) (v : V) (at : ℕ)
-        → HasKey eq keys k place → {X E : Type 0} (r : Result X E) → OnOk r (AppendsBehind keys keys_after values values_after at v)
-        → OnErr r (AreRenamed keys keys_after values values_after) → HasKey eq keys_after k place
+        → HasKeyWhere accepts keys place → {X E : Type 0} (r : Result X E) → OnOk r (AppendsBehind keys keys_after values values_after at v)
+        → OnErr r (AreRenamed keys keys_after values values_after) → HasKeyWhere accepts keys_after place
     behind_stays keys keys_after values values_after v at has (Ok x) done renamed = appended_stays done has
     behind_stays keys keys_after values values_after v at has (Err e) done renamed = renamed_stays renamed has

@@ -239,4 +239,4 @@ pub inserted-absent : {K V : Type 0} {eq : K → K → Bool} (laws : IsEquivalen
     → appended eq m k v ≡ inserted eq m k v
 inserted-absent {eq = eq} laws m k v formed unlisted =
     ap (λ ps. lists (keys_with eq m.keys k) (ps ++ (stored_key eq m.keys k, v) ∷ []))
-    (sym (filter-all (λ p. not (eq k p.0)) m.pairs (λ p i. ap not (apart laws m k formed unlisted p i))))
+    (sym (filter-all (λ p. not (eq k p.0)) m.pairs (λ p i. ap not (apart laws m (eq k) formed unlisted p i))))

@@ -1,35 +1,71 @@
 -- Listed keys, where the keys' equality is an equivalence.
-use Rattle.std.proofs.Common.{◌≡◌, ◌⊎◌, Bool, true, false, cond, ◌||◌, List, [], ◌∷◌, ◌++◌, filter, find, unwrap_or, Some, refl, sym, ap}
+use Rattle.std.proofs.Common.{◌≡◌, ◌⊎◌, Bool, true, false, cond, ◌||◌, List, [], ◌∷◌, ◌++◌, filter, find, unwrap_or, Some, None, refl, sym, ap}
 use Rattle.std.proofs.Common.{◌∙◌, inl, inr, true≢false}
-use Rattle.std.specs.List.{IsDistinct, AllByRecursion}
+use Rattle.std.specs.List.{IsDistinct, AllByRecursion, list_any}
 use Rattle.std.specs.Map.{keys_of, values_of as values_in}
 use Rattle.std.specs.Cmp.{IsEquivalence}
 use Rattle.std.proofs.lemmas.Map.Keys.{IsDistinct-push}
 use Rattle.multimap_slots.specs.Lists.{IsIn}
-use Rattle.ordered_multimap.specs.Pairs.{has_items, is_present}
-use Rattle.ordered_multimap.specs.Keys.{is_listed, stored_key, keys_with}
+use Rattle.ordered_multimap.specs.Pairs.{has_items, is_present, is_present_where}
+use Rattle.ordered_multimap.specs.Keys.{is_listed, stored_key, stored_where, keys_with}
 use Rattle.multimap_slots.proofs.Callers.PlaceLists.{IsIn-left, IsIn-right, IsIn-append}
 
 or_right : (a b : Bool) → b ≡ true → (a || b) ≡ true
 or_right a b e = elim a as (λ v. (v || b) ≡ true) [ true ↦ refl | false ↦ e ]
 
+-- keys that a test accepts
+module _ {K : Type 0} (accepts : K → Bool) where
+  -- an accepted member is found
+  pub any_member : (j : K) (keys : List K) → IsIn j keys → accepts j ≡ true → list_any accepts keys ≡ true
+  any_member j [] member e = absurd member
+  any_member j (i ∷ keys) member e =
+      elim member [
+        | inl here ↦ ap (λ b. b || list_any accepts keys) (ap accepts (sym here) ∙ e)
+        | inr later ↦ or_right (accepts i) (list_any accepts keys) (any_member j keys later e)
+      ]
+
+  -- and what is found is a member
+  pub any_found : (keys : List K) → list_any accepts keys ≡ true → (j : K) × (IsIn j keys × (accepts j ≡ true))
+  any_found [] found = absurd (true≢false (sym found))
+  any_found (j ∷ keys) found =
+      let P : Bool → Type 0 = λ b. accepts j ≡ b → (b || list_any accepts keys) ≡ true
+      → (i : K) × (IsIn i (j ∷ keys) × (accepts i ≡ true)) in
+      elim (accepts j) as P [
+        | true ↦ λ e _. (j, (inl refl, e))
+        | false ↦ λ _ later. let f = any_found keys later in (f.0, (inr f.1.0, f.1.1))
+      ] refl found
+
+  -- where one is listed, the first of them is the stored one, whatever key stands for an absent one
+  pub find_stored : (k : K) (keys : List K) → list_any accepts keys ≡ true → find accepts keys ≡ Some (stored_where accepts keys k)
+  find_stored k [] found = absurd (true≢false (sym found))
+  find_stored k (j ∷ keys) found =
+      let P : Bool → Type 0 = λ b. (b || list_any accepts keys) ≡ true
+      → cond b (Some j) (find accepts keys) ≡ Some (unwrap_or (cond b (Some j) (find accepts keys)) k) in
+      elim (accepts j) as P [ true ↦ λ _. refl | false ↦ λ later. find_stored k keys later ] found
+
+  -- and where none is, there is no first one
+  pub find_none : (keys : List K) → list_any accepts keys ≡ false → find accepts keys ≡ None
+  find_none [] none = refl
+  find_none (j ∷ keys) none =
+      let P : Bool → Type 0 = λ b. (b || list_any accepts keys) ≡ false → cond b (Some j) (find accepts keys) ≡ None in
+      elim (accepts j) as P [ true ↦ λ never. absurd (true≢false never) | false ↦ λ later. find_none keys later ] none
+
+  -- one has a value if the pairs name it
+  pub is_present-any : {V : Type 0} (pairs : List (K × V)) → is_present_where accepts pairs ≡ list_any accepts (keys_of pairs)
+  is_present-any [] = refl
+  is_present-any {V = V} (p ∷ pairs) =
+      let rest : List (K × V) = filter (λ p. accepts p.0) pairs in
+      let P : Bool → Type 0 = λ b. has_items (values_in (cond b (p ∷ rest) rest)) ≡ (b || list_any accepts (keys_of pairs)) in
+      elim (accepts p.0) as P [ true ↦ refl | false ↦ is_present-any pairs ]
+
 -- a key has a value if the pairs name it
 pub is_present-is_listed : {K V : Type 0} (eq : K → K → Bool) (k : K) (pairs : List (K × V))
     → is_present eq pairs k ≡ is_listed eq (keys_of pairs) k
-is_present-is_listed eq k [] = refl
-is_present-is_listed {K = K} {V = V} eq k (p ∷ pairs) =
-    let rest : List (K × V) = filter (λ p. eq k p.0) pairs in
-    let P : Bool → Type 0 = λ b. has_items (values_in (cond b (p ∷ rest) rest)) ≡ (b || is_listed eq (keys_of pairs) k) in
-    elim (eq k p.0) as P [ true ↦ refl | false ↦ is_present-is_listed eq k pairs ]
+is_present-is_listed eq k pairs = is_present-any (eq k) pairs
 
 module _ {K : Type 0} {eq : K → K → Bool} (laws : IsEquivalence eq) where
   pub is_listed-member : (k j : K) (keys : List K) → IsIn j keys → eq k j ≡ true → is_listed eq keys k ≡ true
-  is_listed-member k j [] member e = absurd member
-  is_listed-member k j (i ∷ keys) member e =
-      elim member [
-        | inl here ↦ ap (λ b. b || is_listed eq keys k) (ap (eq k) (sym here) ∙ e)
-        | inr later ↦ or_right (eq k i) (is_listed eq keys k) (is_listed-member k j keys later e)
-      ]
+  is_listed-member k j keys member e = any_member (eq k) j keys member e
 
   pub is_listed-self : (k : K) (keys : List K) → IsIn k keys → is_listed eq keys k ≡ true
   is_listed-self k keys member = is_listed-member k k keys member (laws.refl k)

@@ -1,7 +1,7 @@
 -- Each change leaves well-formed lists.
 use Rattle.std.proofs.Common.{◌≡◌, ◌⊎◌, ℕ, zero, suc, ◌-◌, Bool, true, false, not, cond, length, take, slice_get, Option, Some, None, ap}
 use Rattle.std.proofs.Common.{List, [], ◌∷◌, ◌++◌, refl, sym, ◌∙◌, subst, inl, inr, true≢false}
-use Rattle.std.specs.List.{IsDistinct}
+use Rattle.std.specs.List.{IsDistinct, list_any}
 use Rattle.std.specs.Map.{keys_of}
 use Rattle.std.specs.Cmp.{IsEquivalence}
 use Rattle.multimap_slots.specs.Lists.{IsIn}
@@ -16,7 +16,8 @@ use Rattle.multimap_walks.specs.Walk.{end_rest}
 use Rattle.multimap_slots.proofs.Callers.PlaceLists.{IsIn-left, IsIn-right, IsIn-append}
 use Rattle.ordered_multimap.proofs.Callers.Members.{IsIn-filter, IsIn-kept, keys_of-append, keys_of-filter}
 use Rattle.ordered_multimap.proofs.Agreement.Kept.{keys_of-without}
-use Rattle.ordered_multimap.proofs.Callers.ListedKeys.{is_listed-member, is_listed-self, is_present-is_listed, stored_key_member}
+use Rattle.ordered_multimap.proofs.Callers.ListedKeys.{any_found, any_member, is_listed-member, is_listed-self}
+use Rattle.ordered_multimap.proofs.Callers.ListedKeys.{is_present-is_listed, stored_key_member}
 use Rattle.ordered_multimap.proofs.Callers.ListedKeys.{stored_key_only}
 use Rattle.ordered_multimap.proofs.Callers.ListedKeys.{IsDistinct-filter, keys_with-stored_key, keys_with-old, keys_with-cases}
 use Rattle.ordered_multimap.proofs.Callers.ListedKeys.{keys_with-distinct}
@@ -36,20 +37,25 @@ rest_keys Front [] j member = absurd member
 rest_keys Front (p ∷ pairs) j member = inr member
 rest_keys Back pairs j member = keys_of-take (length pairs - 1) pairs j member
 
+-- the pairs name a key that a test accepts exactly if one is listed
+pub same_any : {K V : Type 0} {eq : K → K → Bool} (accepts : K → Bool) (m : Lists K V) → IsWellFormed eq m
+    → list_any accepts (keys_of m.pairs) ≡ list_any accepts m.keys
+same_any accepts m formed =
+    let P : Bool → Type 0 = λ b. list_any accepts m.keys ≡ b → list_any accepts (keys_of m.pairs) ≡ b in
+    let Q : Bool → Type 0 = λ b. list_any accepts (keys_of m.pairs) ≡ b → list_any accepts m.keys ≡ false → b ≡ false in
+    elim (list_any accepts m.keys) as P [
+      | true ↦ λ e. let f = any_found accepts m.keys e in any_member accepts f.0 (keys_of m.pairs) (formed.used f.0 f.1.0) f.1.1
+      | false ↦ λ e. elim (list_any accepts (keys_of m.pairs)) as Q [
+        | true ↦ λ found absent. let f = any_found accepts (keys_of m.pairs) found in
+            absurd (true≢false (sym (any_member accepts f.0 m.keys (formed.listed f.0 f.1.0) f.1.1) ∙ absent))
+        | false ↦ λ _ _. refl
+      ] refl e
+    ] refl
+
 module _ {K V : Type 0} {eq : K → K → Bool} (laws : IsEquivalence eq) where
   -- the pairs name a key exactly if it is listed
   pub same_keys : (m : Lists K V) (k : K) → IsWellFormed eq m → is_listed eq (keys_of m.pairs) k ≡ is_listed eq m.keys k
-  same_keys m k formed =
-      let P : Bool → Type 0 = λ b. is_listed eq m.keys k ≡ b → is_listed eq (keys_of m.pairs) k ≡ b in
-      let Q : Bool → Type 0 = λ b. is_listed eq (keys_of m.pairs) k ≡ b → is_listed eq m.keys k ≡ false → b ≡ false in
-      elim (is_listed eq m.keys k) as P [
-        | true ↦ λ e. let s = stored_key_member laws k m.keys e in is_listed-member laws k _ (keys_of m.pairs) (formed.used _ s.0) s.1
-        | false ↦ λ e. elim (is_listed eq (keys_of m.pairs) k) as Q [
-          | true ↦ λ found absent. let s = stored_key_member laws k (keys_of m.pairs) found in
-              absurd (true≢false (sym (is_listed-member laws k _ m.keys (formed.listed _ s.0) s.1) ∙ absent))
-          | false ↦ λ _ _. refl
-        ] refl e
-      ] refl
+  same_keys m k formed = same_any (eq k) m formed
 
   -- so a key is present exactly if it is listed
   pub is_present-keys : (m : Lists K V) (k : K) → IsWellFormed eq m → is_present eq m.pairs k ≡ is_listed eq m.keys k

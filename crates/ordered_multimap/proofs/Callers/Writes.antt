@@ -19,17 +19,18 @@ use Rattle.multimap_walks.specs.declared.links.ValueLink.{ValueLink}
 use Rattle.multimap_walks.specs.Walk.{end_item}
 use Rattle.multimap_walks.specs.Chained.{IsChained, position_in, chain_of, positions_at, pair_at, pairs_of}
 use Rattle.ordered_multimap.specs.Agrees.{Agrees, IsMap, HasKey, items_of, lists_of}
-use Rattle.ordered_multimap.specs.Changes.{first_written}
+use Rattle.ordered_multimap.specs.Changes.{first_written, first_written_where}
 use Rattle.ordered_multimap.specs.Lists.{Lists, lists}
 use Rattle.ordered_multimap.specs.Multimap.{Multimap, multimap}
 use Rattle.ordered_multimap.specs.TapeNumbers.{TapeNumbers}
 use Rattle.ordered_multimap.specs.Writes.{head_at, with_value, with_end}
 use Rattle.ordered_multimap.specs.Private.RemoveOne.{end_of_list}
-use Rattle.ordered_multimap.specs.Pairs.{values_of, positions_of, with_value_at, with_first_value, end_position}
+use Rattle.ordered_multimap.specs.Pairs.{values_of, values_where, positions_of, positions_where, with_value_at, with_first_value}
+use Rattle.ordered_multimap.specs.Pairs.{end_position}
 use Rattle.ordered_multimap.proofs.Agreement.Agreed.{pair_in, pair_at-is}
 use Rattle.ordered_multimap.proofs.Callers.Places.{filter_map-agree, begins, ends, position_in-split}
 use Rattle.ordered_multimap.proofs.Callers.Laws.{end_item-push}
-use Rattle.ordered_multimap.proofs.Agreement.LookUps.{positions_of-chain, length-positions_of}
+use Rattle.ordered_multimap.proofs.Agreement.LookUps.{positions_of-chain, length-positions_where}
 
 -- links and order are the same
 pub IsChained-with_item : {K V : Type 0} {keys : Slots K KeyLink} {values : Slots V ValueLink} → IsChained keys values → (place : ℕ) (w : V)
@@ -211,14 +212,18 @@ with_value-end {K} {V} {S} m end place distinct long at w =
     ap (λ n. put n place) position ∙ ap (put (end_position end m.lists.pairs))
     (sym (ap (λ o. unwrap_or o 0) (item_at_end end m.slots.values.order place at)))
 
--- a key without a value has no first one, and a write leaves the lists
+-- keys without a value have no first one, and a write leaves the lists
 no_first : {X Y : Type 0} (xs : List X) (ys : List Y) → length ys ≡ length xs → slice_get xs 0 ≡ None → slice_get ys 0 ≡ None
 no_first xs [] same none = refl
 no_first [] (y ∷ ys) same none = absurd (omega (arith, same))
 no_first (x ∷ xs) (y ∷ ys) same none = absurd (let bad = none in cc)
 
+pub first_written-none : {K V : Type 0} (accepts : K → Bool) (m : Lists K V) (v : V) → slice_get (values_where accepts m.pairs) 0 ≡ None
+    → first_written_where accepts m v ≡ m
+first_written-none {K} {V} accepts m v none =
+    ap (λ (o : Option ℕ). lists m.keys (elim o as (λ _. List (K × V)) [ None ↦ m.pairs | Some i ↦ with_value_at m.pairs i v ]))
+    (no_first (values_where accepts m.pairs) (positions_where accepts m.pairs) (length-positions_where accepts 0 m.pairs) none)
+
 pub first_written-absent : {K V : Type 0} (eq : K → K → Bool) (m : Lists K V) (k : K) (v : V) → slice_get (values_of eq m.pairs k) 0 ≡ None
     → first_written eq m k v ≡ m
-first_written-absent {K} {V} eq m k v none =
-    ap (λ (o : Option ℕ). lists m.keys (elim o as (λ _. List (K × V)) [ None ↦ m.pairs | Some i ↦ with_value_at m.pairs i v ]))
-    (no_first (values_of eq m.pairs k) (positions_of eq m.pairs k) (length-positions_of eq k 0 m.pairs) none)
+first_written-absent eq m k v none = first_written-none (eq k) m v none

@@ -13,7 +13,7 @@ use Rattle.multimap_slots.specs.Tapes.{Taped, HasTapeRoomFor}
 use Rattle.multimap_walks.specs.declared.links.KeyLink.{KeyLink}
 use Rattle.multimap_walks.specs.declared.links.ValueLink.{ValueLink}
 use Rattle.multimap_walks.specs.Chained.{position_in, chain_of, pair_at, pairs_of}
-use Rattle.ordered_multimap.specs.Agrees.{Agrees, HasKey, items_of, lists_of}
+use Rattle.ordered_multimap.specs.Agrees.{Agrees, HasKey, HasKeyWhere, items_of, lists_of}
 use Rattle.ordered_multimap.specs.Lists.{Lists, lists}
 use Rattle.ordered_multimap.specs.RemovedAt.{several, position_beside, removed_at, value_beside}
 use Rattle.ordered_multimap.specs.Private.Renames.{KeepsCapacities}
@@ -95,10 +95,10 @@ module _ {K V : Type 0} (keys keys_after : Slots K KeyLink) (key index : ℕ) wh
 
   -- the key stays at its place
   pub stays-at : (values values_after : Slots V ValueLink) (o : Option V) → TakesAt keys keys_after values values_after key index o
-      → {eq : K → K → Bool} (k : K) (place : ℕ) → HasKey eq keys k place → HasKey eq keys_after k place
-  stays-at values values_after None lacks {eq} k place has = subst (λ s. HasKey eq s k place) (sym lacks.keys_are) has
-  stays-at values values_after (Some v) takes {eq} k place has =
-      subst (λ s. HasKey eq s k place) (sym takes.one.keys_are)
+      → (accepts : K → Bool) (place : ℕ) → HasKeyWhere accepts keys place → HasKeyWhere accepts keys_after place
+  stays-at values values_after None lacks accepts place has = subst (λ s. HasKeyWhere accepts s place) (sym lacks.keys_are) has
+  stays-at values values_after (Some v) takes accepts place has =
+      subst (λ s. HasKeyWhere accepts s place) (sym takes.one.keys_are)
       (record { listed = has.listed; stored = has.stored; item_is = has.item_is; equal = has.equal })
 
   -- keys and values have as many slots as before

@@ -3,7 +3,7 @@ use Rattle.std.proofs.Common.{◌≡◌, ◌≢◌, ◌⊎◌, ◌==◌, ◌-◌
 use Rattle.std.proofs.Common.{None, IsSome, is_some, refl, sym, ap, ◌∙◌, subst, inl, inr, true≢false, arith}
 use Rattle.std.proofs.lemmas.Bool.{cases_eq, eq-eqb, ne_eqb}
 use Rattle.std.specs.Cmp.{IsEquivalence, nat_cmp_total, unsigned_tied}
-use Rattle.std.specs.List.{filter_map, IsDistinct}
+use Rattle.std.specs.List.{filter_map, list_any, IsDistinct}
 use Rattle.std.specs.Map.{keys_of}
 use Rattle.std.specs.Ordering.{nat_cmp}
 use Rattle.std.specs.FinMap.{FinMap, get, remove, len, contains_key, get-remove, len-remove}
@@ -16,7 +16,7 @@ use Rattle.multimap_walks.specs.Chained.{IsChained, is_value_of, chain_of, pair_
 use Rattle.ordered_multimap.specs.Lists.{Lists, lists, IsWellFormed}
 use Rattle.ordered_multimap.specs.Keys.{is_listed, stored_key}
 use Rattle.ordered_multimap.specs.Pairs.{pairs_without, values_of}
-use Rattle.ordered_multimap.specs.Changes.{removed, kept}
+use Rattle.ordered_multimap.specs.Changes.{removed, removed_where, kept}
 use Rattle.ordered_multimap.specs.Agrees.{Agrees, HasKey, items_of, lists_of}
 use Rattle.ordered_multimap.specs.Private.Remove.{TakesValues}
 use Rattle.ordered_multimap.proofs.Callers.Members.{IsIn-kept, IsIn-filter, filter-all}
@@ -24,7 +24,7 @@ use Rattle.ordered_multimap.proofs.Agreement.Kept.{filter-among, filter_map-filt
 use Rattle.ordered_multimap.proofs.Callers.Places.{begins, held, pair_named, IsIn-filter_map, AreDistinct-filter, filter-agree}
 use Rattle.ordered_multimap.proofs.Callers.Places.{filter_shorter}
 use Rattle.ordered_multimap.proofs.Callers.Places.{filter_map-agree}
-use Rattle.ordered_multimap.proofs.Callers.ListedKeys.{stored_key_only, is_listed-self, is_listed-member, IsDistinct-filter}
+use Rattle.ordered_multimap.proofs.Callers.ListedKeys.{any_member, stored_key_only, is_listed-self, is_listed-member, IsDistinct-filter}
 use Rattle.ordered_multimap.proofs.Agreement.Agreed.{value_owner, well_formed, pair_in, pair_at-is, is_value_of-is}
 use Rattle.ordered_multimap.proofs.Agreement.LookUps.{owns, same_place, first_value, count_of_values}
 use Rattle.ordered_multimap.proofs.Callers.Laws.{is_listed-others}
@@ -265,19 +265,19 @@ pub fits-taken : {V : Type 0} {gone : ℕ → Bool} (values values_after : Taped
 fits-taken {gone = gone} values values_after takes fits =
     omega (arith, fits, ap (λ n. n / 2) takes.capacity, ap length takes.order, filter_shorter (λ p. not (gone p)) values.list.order)
 
--- an absent key has nothing to be removed
-module _ {K V : Type 0} {eq : K → K → Bool} (laws : IsEquivalence eq) (m : Lists K V) (k : K) (formed : IsWellFormed eq m)
-    (unlisted : is_listed eq m.keys k ≡ false) where
-  pub apart : (p : K × V) → IsIn p m.pairs → eq k p.0 ≡ false
+-- where a test accepts no key, nothing is to be removed
+module _ {K V : Type 0} {eq : K → K → Bool} (laws : IsEquivalence eq) (m : Lists K V) (accepts : K → Bool) (formed : IsWellFormed eq m)
+    (unlisted : list_any accepts m.keys ≡ false) where
+  pub apart : (p : K × V) → IsIn p m.pairs → accepts p.0 ≡ false
   apart p i =
-      let P : Bool → Type 0 = λ b. eq k p.0 ≡ b → b ≡ false in
-      elim (eq k p.0) as P [
-        | true ↦ λ e. sym (is_listed-member laws k p.0 m.keys (formed.listed p.0 (pair_named p.0 p.1 m.pairs i)) e) ∙ unlisted
+      let P : Bool → Type 0 = λ b. accepts p.0 ≡ b → b ≡ false in
+      elim (accepts p.0) as P [
+        | true ↦ λ e. sym (any_member accepts p.0 m.keys (formed.listed p.0 (pair_named p.0 p.1 m.pairs i)) e) ∙ unlisted
         | false ↦ λ _. refl
       ] refl
 
-  pub removed-absent : removed eq m k ≡ m
+  pub removed-absent : removed_where eq accepts m ≡ m
   removed-absent =
-      ap (λ ps. kept eq m ps) (filter-all (λ p. not (eq k p.0)) m.pairs (λ p i. ap not (apart p i)))
+      ap (λ ps. kept eq m ps) (filter-all (λ p. not (accepts p.0)) m.pairs (λ p i. ap not (apart p i)))
       ∙ ap (λ ks. lists ks m.pairs) (filter-all (is_listed eq (keys_of m.pairs)) m.keys
       (λ j i. same_keys laws m j formed ∙ is_listed-self laws j m.keys i))

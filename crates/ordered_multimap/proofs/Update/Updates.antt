@@ -94,7 +94,7 @@ pub absent_updated : {F K V : Type 0} (g : Mut F (MutBor V × Unit {0}) (Unit {0
 absent_updated g eq m key f lacks = record {
   values = [];
   each = subst (λ vs. RewritesEach g f vs [] f) (sym lacks.no_value) (refl, refl);
-  pairs = ap (λ ps. with_values_at m.pairs ps []) (sym (lacks_position key lacks));
+  pairs = ap (λ ps. with_values_at m.pairs ps []) (sym (lacks_position (eq key) lacks));
 }
 
 -- a map stays one where values were written

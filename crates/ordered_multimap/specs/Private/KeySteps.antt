@@ -5,10 +5,16 @@ use Rattle.ordered_multimap.specs.Agrees.{HasKey}
 use Rattle.ordered_multimap.specs.Detaches.{HoldsDrain, left_of}
 use Rattle.ordered_multimap.specs.Lists.{Lists}
 use Rattle.ordered_multimap.specs.Multimap.{Multimap}
-use Rattle.ordered_multimap.specs.Pairs.{values_of}
-use Rattle.ordered_multimap.specs.Removals.{LosesValues}
+use Rattle.ordered_multimap.specs.Pairs.{values_where}
+use Rattle.ordered_multimap.specs.Removals.{LosesWhere}
 use Rattle.ordered_multimap.specs.Rooms.{SameRooms}
 use Rattle.ordered_multimap.specs.TapeNumbers.{TakesOut}
+
+-- the values that the accepted keys had have left for a drain, and these are the lists then
+pub record DetachesWhere {K V S : Type 0} (accepts : K → Bool) (old new : Multimap K V S)
+    (after : Lists K V) : Type 0 where
+  pub left : left_of new ≡ values_where accepts old.lists.pairs
+  pub loses : LosesWhere accepts old new after
 
 module _ {K V S : Type 0} (eq : K → K → Bool) (old new : Multimap K V S) where
   -- a key stands at the place as before, and each key that is equal to it
@@ -22,9 +28,8 @@ module _ {K V S : Type 0} (eq : K → K → Bool) (old new : Multimap K V S) whe
     pub rooms : SameRooms old new
 
   -- the values that the key had have left for a drain, and these are the lists then
-  pub record DetachesValues (k : K) (after : Lists K V) : Type 0 where
-    pub left : left_of new ≡ values_of eq old.lists.pairs k
-    pub loses : LosesValues eq old new k after
+  abbrev pub DetachesValues : K → Lists K V → Type 0
+  DetachesValues k after = DetachesWhere (eq k) old new after
 
 -- the map keeps where the values of a drain stand, and no room has changed
 pub record HoldsInRoom {K V S : Type 0} (old new : Multimap K V S) : Type 0 where

@@ -7,6 +7,7 @@ ghost use Rattle.ordered_multimap.specs.Detaches.{HoldsDrain};
 pub(crate) mod steps;
 
 use super::{DefaultState, EntryValues, ListOrderedMultimap, Refused};
+use crate::KeyQuery;
 use multimap_walks::End;
 use std::alloc::{Allocator, Global};
 use std::fmt;
@@ -28,11 +29,11 @@ pub struct EntryValuesDrain<
 
 impl<K: Eq + Hash, V: Drop, S: BuildHasher, A: Allocator> ListOrderedMultimap<K, V, S, A> {
     ghost use Rattle.std.specs.Borrow.{sem};
-    ghost use Rattle.std.specs.Prelude.{option_map, slice_get};
+    ghost use Rattle.std.specs.Prelude.{find, option_map, slice_get};
     ghost use Rattle.ordered_multimap.specs.DrainLends.{ends_removed};
-    ghost use Rattle.ordered_multimap.specs.Drains.{DrainsEntry};
-    ghost use Rattle.ordered_multimap.specs.Keys.{stored_key};
-    ghost use Rattle.ordered_multimap.specs.Pairs.{values_of};
+    ghost use Rattle.ordered_multimap.specs.Drains.{DrainsEntry, DrainsWhere};
+    ghost use Rattle.ordered_multimap.specs.Keys.{stored_key, stored_where};
+    ghost use Rattle.ordered_multimap.specs.Pairs.{values_of, values_where};
 
     /// Takes the key out with all its values, and hands these out one by one. The pairs leave at
     /// the call, whatever becomes of the drain, and the stored key is dropped. The drain of an
@@ -42,20 +43,20 @@ impl<K: Eq + Hash, V: Drop, S: BuildHasher, A: Allocator> ListOrderedMultimap<K,
     /// reads the slot of the value that it gives. No memory is taken and none is given back.
     ///
     /// ```
-    /// map.remove_all(&"line").next_back() == Some(2)
+    /// map.remove_all("line").next_back() == Some(2)
     /// ```
-    pub fn remove_all(&mut self, key: &K) -> EntryValuesDrain<'_, K, V, S, A>
+    pub fn remove_all<Q: KeyQuery<K>>(&mut self, key: Q) -> EntryValuesDrain<'_, K, V, S, A>
     where
         K: Drop,
-        ensures drain { DrainsEntry K.eq self.old key.now result }
+        ensures drain { DrainsWhere (Q.equivalent key) K.eq self.old result }
         ensures same_map { result.map.ghost_name ≡ self.entry.ghost_name }
     {
         drop(self.detach_all(key));
         EntryValuesDrain { map: self }
     }
 
-    /// The same, and the stored key is put into `stored`, or none for an absent key. In the example
-    /// `page` is a reference to that key.
+    /// Takes the key out with all its values, as `remove_all` does, and puts the stored key into
+    /// `stored`, or none for an absent key. In the example `page` is a query for that key.
     ///
     /// A caller that is proved learns from it what the map is once the drain has ended, as from
     /// `remove_all`; of `remove_entry_all` a starred clause says it, which such a caller doesn't
@@ -64,16 +65,20 @@ impl<K: Eq + Hash, V: Drop, S: BuildHasher, A: Allocator> ListOrderedMultimap<K,
     /// ```
     /// map.remove_entry_with_all(page, &mut stored).next() == Some(8)
     /// ```
-    pub fn remove_entry_with_all<'map>(
+    pub fn remove_entry_with_all<'map, Q: KeyQuery<K>>(
         &'map mut self,
-        key: &K,
+        key: Q,
         stored: &mut Option<K>,
     ) -> EntryValuesDrain<'map, K, V, S, A>
     where
         K: Drop,
-        ensures key { stored.new ≡ option_map (λ _. stored_key K.eq self.old.lists.keys key.now)
-            (slice_get (values_of K.eq self.old.lists.pairs key.now) 0) }
-        ensures drain { DrainsEntry K.eq self.old key.now result }
+        ensures found { stored.new ≡ find (Q.equivalent key) self.old.lists.keys }
+
+        // Of a query that is a key this says the same.
+        ensures key { IfSome (Q.as_key key) (λ k. stored.new
+            ≡ option_map (λ _. stored_where (Q.equivalent key) self.old.lists.keys k)
+            (slice_get (values_where (Q.equivalent key) self.old.lists.pairs) 0)) }
+        ensures drain { DrainsWhere (Q.equivalent key) K.eq self.old result }
         ensures same_map { result.map.ghost_name ≡ self.entry.ghost_name }
     {
         *stored = self.detach_all(key);

@@ -4,11 +4,14 @@ ghost use Rattle.multimap_slots.specs.Lists.{IsIn};
 ghost use Rattle.multimap_slots.specs.Slots.{HasSlot};
 ghost use Rattle.multimap_walks.specs.Walk.{end_item};
 ghost use Rattle.multimap_walks.specs.declared.End.TheVariants.{Front, Back};
-ghost use Rattle.ordered_multimap.specs.Pairs.{values_of, is_present};
-ghost use Rattle.ordered_multimap.specs.Keys.{is_listed, stored_key};
-ghost use Rattle.ordered_multimap.specs.Agrees.{HasKey, LacksKey, SaysWhetherEqual, IsFoundBy, items_of, hash_of};
+ghost use Rattle.std.specs.List.{list_any};
+ghost use Rattle.ordered_multimap.specs.Pairs.{values_of, values_where, is_present_where};
+ghost use Rattle.ordered_multimap.specs.Keys.{stored_key};
+ghost use Rattle.ordered_multimap.specs.Agrees.{HasKey, HasKeyWhere, LacksWhere, StandsAt, items_of, hash_of};
+ghost use Rattle.ordered_multimap.specs.Agrees.{IsFoundBy, SaysWhetherAccepted};
 
 use super::ListOrderedMultimap;
+use crate::KeyQuery;
 use multimap_slots::{Reads, SlotList, Tape};
 use multimap_table::KeyTable;
 use multimap_walks::{KeyLink, ValueLink};
@@ -38,47 +41,57 @@ pub(super) fn value_at<V, A: Allocator>(
     values.get_listed(place, &mut reads)
 }
 
-/// Whether the key at the place is equal to `key`.
-fn is_at<K: Eq, A: Allocator>(keys: &SlotList<K, KeyLink, A>, place: usize, key: &K) -> bool
+/// Whether the query stands for the key at the place.
+fn is_at<K: Eq + Hash, Q: KeyQuery<K>, A: Allocator>(
+    keys: &SlotList<K, KeyLink, A>,
+    place: usize,
+    query: Q,
+) -> bool
     requires { IsIn place keys.now.order }
-    ensures { SaysWhetherEqual K.eq keys.now key.now place result }
+    ensures { SaysWhetherAccepted (Q.equivalent query) keys.now place result }
 {
     let (stored, _) = slot_at(keys, place);
-    key == stored
+    query.equivalent(stored)
 }
 
-/// The place of the key that is equal to `key`, whose hash is `hash`.
+/// The place of the key that the query stands for, where the query's hash is `hash`.
 #[inline(always)]
-pub(super) fn place_of<K: Eq, A: Allocator>(
+fn place_of<K: Eq + Hash, Q: KeyQuery<K>, A: Allocator>(
     keys: &SlotList<K, KeyLink, A>,
     table: &KeyTable<A>,
     hash: u64,
-    key: &K,
+    query: Q,
 ) -> Option<usize>
-    requires { IsFoundBy K.eq keys.now table.now.rows key.now hash }
-    ensures found { IfSome result (HasKey K.eq keys.now key.now) }
-    ensures absent { IfNone result (is_listed K.eq (items_of keys.now) key.now ≡ false) }
+    requires { IsFoundBy (Q.equivalent query) keys.now table.now.rows hash }
+    ensures found { IfSome result (HasKeyWhere (Q.equivalent query) keys.now) }
+    ensures absent { IfNone result
+        (list_any (Q.equivalent query) (items_of keys.now) ≡ false) }
 {
-    let is_equal = |place|
+    let stands_for = |place|
         requires { IsIn place keys.now.order }
-        ensures { SaysWhetherEqual K.eq keys.entry.now key.entry.now place result }
-    { is_at(keys, place, key) };
-    table.find(hash, is_equal)
+        ensures { SaysWhetherAccepted (Q.equivalent query) keys.entry.now place result }
+    { is_at(keys, place, query) };
+    table.find(hash, stands_for)
 }
 
 impl<K: Eq + Hash, V, S: BuildHasher, A: Allocator> ListOrderedMultimap<K, V, S, A> {
-    /// The hash that the builder makes of the key, and the place of the stored key that is equal to
-    /// it.
+    /// The hash that the builder makes of the query, and the place of the stored key that the query
+    /// stands for.
     #[inline(always)]
-    pub(super) fn look_up(&self, key: &K) -> (u64, Option<usize>)
+    pub(super) fn look_up<Q: KeyQuery<K>>(&self, query: Q) -> (u64, Option<usize>)
         ensures hash { result.0 ≡ hash_of S.BuildHasher S.Hasher.Hasher self.now.hasher
-            (K.hash_input key.now) }
-        ensures found { IfSome result.1 (HasKey K.eq self.now.slots.keys key.now) }
-        ensures absent { IfNone result.1 (LacksKey K.eq self.now.lists key.now) }
-        ensures present { is_some result.1 ≡ is_present K.eq self.now.lists.pairs key.now }
+            (Q.hash_input query) }
+        ensures found { IfSome result.1 (HasKeyWhere (Q.equivalent query) self.now.slots.keys) }
+        ensures stands { IfSome result.1
+            (StandsAt K.eq (Q.equivalent query) self.now.slots.keys) }
+        ensures absent { IfNone result.1 (LacksWhere (Q.equivalent query) K.eq self.now.lists) }
+        ensures listed { is_some result.1
+            ≡ list_any (Q.equivalent query) self.now.lists.keys }
+        ensures present { is_some result.1
+            ≡ is_present_where (Q.equivalent query) self.now.lists.pairs }
     {
-        let hash = self.state.hash_one(key);
-        (hash, place_of(&self.keys, &self.table, hash, key))
+        let hash = self.state.hash_one(query);
+        (hash, place_of(&self.keys, &self.table, hash, query))
     }
 
     /// The key at the place.
@@ -119,12 +132,16 @@ impl<K: Eq + Hash, V, S: BuildHasher, A: Allocator> ListOrderedMultimap<K, V, S,
     /// The key's first value, or None where the key is absent. One look-up, and the slots of the key
     /// and of that value.
     ///
+    /// `key` is a `&K`, or another [`KeyQuery`] that stands for the key, such as a `&str` where the
+    /// keys are of type `String`.
+    ///
     /// ```
-    /// map.get(&"line").copied() == Some(1)
+    /// map.get("line").copied() == Some(1)
     /// ```
     #[inline(always)]
-    pub fn get(&self, key: &K) -> Option<&V>
-        ensures { option_copied result ≡ slice_get (values_of K.eq self.now.lists.pairs key.now) 0 }
+    pub fn get<Q: KeyQuery<K>>(&self, key: Q) -> Option<&V>
+        ensures { option_copied result
+            ≡ slice_get (values_where (Q.equivalent key) self.now.lists.pairs) 0 }
     {
         match self.look_up(key).1 {
             Some(place) => Some(self.first_at(place)),
@@ -135,11 +152,11 @@ impl<K: Eq + Hash, V, S: BuildHasher, A: Allocator> ListOrderedMultimap<K, V, S,
     /// Whether the key has a value. One look-up.
     ///
     /// ```
-    /// map.contains_key(&"page")
+    /// map.contains_key("page")
     /// ```
     #[inline]
-    pub fn contains_key(&self, key: &K) -> bool
-        ensures { result ≡ is_present K.eq self.now.lists.pairs key.now }
+    pub fn contains_key<Q: KeyQuery<K>>(&self, key: Q) -> bool
+        ensures { result ≡ is_present_where (Q.equivalent key) self.now.lists.pairs }
     {
         self.look_up(key).1.is_some()
     }
@@ -147,11 +164,11 @@ impl<K: Eq + Hash, V, S: BuildHasher, A: Allocator> ListOrderedMultimap<K, V, S,
     /// How many values the key has. One look-up, and the slot of the key.
     ///
     /// ```
-    /// map.entry_len(&"line") == 2
+    /// map.entry_len("line") == 2
     /// ```
     #[inline]
-    pub fn entry_len(&self, key: &K) -> usize
-        ensures { result ≡ length (values_of K.eq self.now.lists.pairs key.now) }
+    pub fn entry_len<Q: KeyQuery<K>>(&self, key: Q) -> usize
+        ensures { result ≡ length (values_where (Q.equivalent key) self.now.lists.pairs) }
     {
         match self.look_up(key).1 {
             Some(place) => self.len_at(place),

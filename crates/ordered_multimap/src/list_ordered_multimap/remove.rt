@@ -1,11 +1,11 @@
 //! Keys that leave with all their values, and all pairs at once.
-ghost use Rattle.std.specs.Prelude.{◌≡◌, Some, length, slice_get, option_map};
+ghost use Rattle.std.specs.Prelude.{◌≡◌, IfSome, Some, find, length, slice_get, option_map};
 ghost use Rattle.multimap_slots.specs.Lists.{IsIn};
 ghost use Rattle.ordered_multimap.specs.Agrees.{HasKey};
-ghost use Rattle.ordered_multimap.specs.Removals.{IsRemoved, LosesValues};
+ghost use Rattle.ordered_multimap.specs.Removals.{IsRemovedWhere, LosesValues};
 ghost use Rattle.ordered_multimap.specs.Lists.{empty_lists};
-ghost use Rattle.ordered_multimap.specs.Pairs.{values_of};
-ghost use Rattle.ordered_multimap.specs.Keys.{stored_key};
+ghost use Rattle.ordered_multimap.specs.Pairs.{values_of, values_where};
+ghost use Rattle.ordered_multimap.specs.Keys.{stored_key, stored_where};
 ghost use Rattle.ordered_multimap.specs.Changes.{removed};
 ghost use Rattle.ordered_multimap.specs.Rooms.{KeepsRooms, SameRooms};
 ghost use Rattle.ordered_multimap.specs.TapeNumbers.{TakesOut};
@@ -18,6 +18,7 @@ pub(crate) mod one;
 use super::ListOrderedMultimap;
 use super::remove::chain::leave_entry;
 use super::remove::leaving::TakenOut;
+use crate::KeyQuery;
 use std::alloc::Allocator;
 use std::hash::{BuildHasher, Hash};
 
@@ -29,14 +30,15 @@ impl<K: Eq + Hash, V, S: BuildHasher, A: Allocator> ListOrderedMultimap<K, V, S,
     /// is given back: the slots are left for others.
     ///
     /// ```
-    /// map.remove(&"line") == Some(1)
+    /// map.remove("line") == Some(1)
     /// ```
-    pub fn remove(&mut self, key: &K) -> Option<V>
+    pub fn remove<Q: KeyQuery<K>>(&mut self, key: Q) -> Option<V>
     where
         K: Drop,
         V: Drop,
-        ensures value { result ≡ slice_get (values_of K.eq self.old.lists.pairs key.now) 0 }
-        ensures removed { IsRemoved K.eq self.old self.new key.now }
+        ensures value { result
+            ≡ slice_get (values_where (Q.equivalent key) self.old.lists.pairs) 0 }
+        ensures removed { IsRemovedWhere (Q.equivalent key) K.eq self.old self.new }
     {
         match self.remove_entry(key) {
             Some((_key, value)) => Some(value),
@@ -44,17 +46,25 @@ impl<K: Eq + Hash, V, S: BuildHasher, A: Allocator> ListOrderedMultimap<K, V, S,
         }
     }
 
-    /// The same, and the stored key is answered before its first value.
+    /// Takes the key out with all its values, and returns the stored key with the first of them; the
+    /// others are dropped. None for an absent key. It costs what `remove` costs.
     ///
     /// ```
-    /// map.remove_entry(&"page") == Some(("page", 8))
+    /// map.remove_entry("page") == Some(("page", 8))
     /// ```
-    pub fn remove_entry(&mut self, key: &K) -> Option<(K, V)>
+    pub fn remove_entry<Q: KeyQuery<K>>(&mut self, key: Q) -> Option<(K, V)>
     where
         V: Drop,
-        ensures entry { result ≡ option_map (λ v. (stored_key K.eq self.old.lists.keys key.now, v))
-            (slice_get (values_of K.eq self.old.lists.pairs key.now) 0) }
-        ensures removed { IsRemoved K.eq self.old self.new key.now }
+        ensures key { option_map (λ r. r.0) result
+            ≡ find (Q.equivalent key) self.old.lists.keys }
+        ensures value { option_map (λ r. r.1) result
+            ≡ slice_get (values_where (Q.equivalent key) self.old.lists.pairs) 0 }
+
+        // Of a query that is a key both are said in one.
+        ensures entry { IfSome (Q.as_key key) (λ k. result
+            ≡ option_map (λ v. (stored_where (Q.equivalent key) self.old.lists.keys k, v))
+            (slice_get (values_where (Q.equivalent key) self.old.lists.pairs) 0)) }
+        ensures removed { IsRemovedWhere (Q.equivalent key) K.eq self.old self.new }
     {
         match self.look_up(key).1 {
             Some(place) => Some(self.take_entry_at(place)),

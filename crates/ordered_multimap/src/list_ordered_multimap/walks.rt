@@ -3,10 +3,11 @@ ghost use Rattle.std.specs.Prelude.{◌≡◌};
 ghost use Rattle.multimap_slots.specs.Lists.{IsIn};
 ghost use Rattle.ordered_multimap.specs.Agrees.{HasKey};
 ghost use Rattle.ordered_multimap.specs.KeyLists.{keys_with_values};
-ghost use Rattle.ordered_multimap.specs.Pairs.{all_values, positions_of, values_of};
+ghost use Rattle.ordered_multimap.specs.Pairs.{all_values, positions_of, positions_where, values_of, values_where};
 
 use super::ListOrderedMultimap;
 use super::lookup::slot_at;
+use crate::KeyQuery;
 use multimap_walks::{EntryValues, Iter, KeyValues, Keys, Values};
 use std::alloc::Allocator;
 use std::hash::{BuildHasher, Hash};
@@ -62,12 +63,13 @@ impl<K: Eq + Hash, V, S: BuildHasher, A: Allocator> ListOrderedMultimap<K, V, S,
     /// the slot of the key; then each step reads the slot of its value, and no other.
     ///
     /// ```
-    /// map.get_all(&"line").next_back() == Some(&2)
+    /// map.get_all("line").next_back() == Some(&2)
     /// ```
     #[inline]
-    pub fn get_all(&self, key: &K) -> EntryValues<'_, K, V, A>
-        ensures values { result.left ≡ values_of K.eq self.now.lists.pairs key.now }
-        ensures positions { result.positions ≡ positions_of K.eq self.now.lists.pairs key.now }
+    pub fn get_all<Q: KeyQuery<K>>(&self, key: Q) -> EntryValues<'_, K, V, A>
+        ensures values { result.left ≡ values_where (Q.equivalent key) self.now.lists.pairs }
+        ensures positions { result.positions
+            ≡ positions_where (Q.equivalent key) self.now.lists.pairs }
         ensures reads { result.reads ≡ 0 }
     {
         match self.look_up(key).1 {

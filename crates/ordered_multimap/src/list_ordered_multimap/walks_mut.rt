@@ -8,10 +8,12 @@ ghost use Rattle.multimap_walks.specs.WritingWalk.{values_mut_name, values_mut_p
 ghost use Rattle.multimap_walks.specs.WritingWalk.{entry_values_mut_values, entry_values_mut_rest, entry_values_mut_positions, entry_values_mut_name};
 ghost use Rattle.ordered_multimap.specs.Agrees.{HasKey};
 ghost use Rattle.ordered_multimap.specs.Pairs.{all_positions, all_values, positions_of, values_of};
+ghost use Rattle.ordered_multimap.specs.Pairs.{positions_where, values_where};
 ghost use Rattle.ordered_multimap.specs.ValuesLent.{lends_values, EndsMap};
 
 use super::ListOrderedMultimap;
 use super::lookup::slot_at;
+use crate::KeyQuery;
 use multimap_walks::{EntryValuesMut, IterMut, ValuesMut};
 use std::alloc::Allocator;
 use std::hash::{BuildHasher, Hash};
@@ -61,17 +63,17 @@ impl<K: Eq + Hash, V, S: BuildHasher, A: Allocator> ListOrderedMultimap<K, V, S,
     /// takes the slot of its value, and no other.
     ///
     /// ```
-    /// for value in map.get_all_mut(&"line") {
+    /// for value in map.get_all_mut("line") {
     ///     *value = 9;
     /// }
     /// ```
-    pub fn get_all_mut(&mut self, key: &K) -> EntryValuesMut<'_, K, V, A>
+    pub fn get_all_mut<Q: KeyQuery<K>>(&mut self, key: Q) -> EntryValuesMut<'_, K, V, A>
         ensures* writes_back { sem 𝓛 (lends_values K.row V.row S.row A.row S.Hasher.row K.Hash
             S.BuildHasher S.Hasher.Hasher A.Allocator self.entry (entry_values_mut_name result)) }
         ensures values { entry_values_mut_rest result
-            ≡ values_of K.eq self.old.lists.pairs key.now }
+            ≡ values_where (Q.equivalent key) self.old.lists.pairs }
         ensures positions { entry_values_mut_positions result
-            ≡ positions_of K.eq self.old.lists.pairs key.now }
+            ≡ positions_where (Q.equivalent key) self.old.lists.pairs }
         ensures ends { EndsMap K.row V.row S.row self.old (entry_values_mut_values result) }
     {
         match self.look_up(key).1 {

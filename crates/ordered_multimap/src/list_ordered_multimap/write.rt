@@ -9,7 +9,7 @@ ghost use Rattle.multimap_walks.specs.Walk.{end_item};
 ghost use Rattle.multimap_walks.specs.declared.End.TheVariants.{Front, Back};
 ghost use Rattle.ordered_multimap.specs.Agrees.{HasKey};
 ghost use Rattle.ordered_multimap.specs.Changes.{first_written};
-ghost use Rattle.ordered_multimap.specs.Pairs.{values_of};
+ghost use Rattle.ordered_multimap.specs.Pairs.{values_of, values_where};
 ghost use Rattle.ordered_multimap.specs.WriteLends.{lends_value, lends_first_value, lends_first_of};
 ghost use Rattle.ordered_multimap.specs.WriteLends.{lends_end, lends_end_if};
 ghost use Rattle.ordered_multimap.specs.Writes.{with_first, IsWritten};
@@ -17,6 +17,7 @@ ghost use Rattle.ordered_multimap.specs.Writes.{with_first, IsWritten};
 use super::ListOrderedMultimap;
 use super::lookup::{slot_at, value_at};
 use super::pop::end_place;
+use crate::KeyQuery;
 use multimap_walks::End;
 use std::alloc::Allocator;
 use std::hash::{BuildHasher, Hash};
@@ -51,16 +52,16 @@ impl<K: Eq + Hash, V, S: BuildHasher, A: Allocator> ListOrderedMultimap<K, V, S,
     /// the key and of that value.
     ///
     /// ```
-    /// if let Some(value) = map.get_mut(&"line") {
+    /// if let Some(value) = map.get_mut("line") {
     ///     *value = 3;
     /// }
     /// ```
     #[inline]
-    pub fn get_mut(&mut self, key: &K) -> Option<&mut V>
+    pub fn get_mut<Q: KeyQuery<K>>(&mut self, key: Q) -> Option<&mut V>
         ensures* writes_back { sem 𝓛 (lends_first_of K.row V.row S.row A.row S.Hasher.row K.Hash
-            S.BuildHasher S.Hasher.Hasher A.Allocator self.entry key.now result) }
+            S.BuildHasher S.Hasher.Hasher A.Allocator self.entry (Q.equivalent key) result) }
         ensures value { option_copied_mut result
-            ≡ slice_get (values_of K.eq self.old.lists.pairs key.now) 0 }
+            ≡ slice_get (values_where (Q.equivalent key) self.old.lists.pairs) 0 }
     {
         match self.look_up(key).1 {
             Some(place) => Some(self.first_mut_at(place)),

@@ -1,6 +1,6 @@
 //! The examples of the map's doc comments and of README.md, as tests. `tools/examples` says whether
 //! each line of theirs stands here.
-use ordered_multimap::ListOrderedMultimap;
+use ordered_multimap::{KeyQuery, ListOrderedMultimap};
 use ordered_multimap::list_ordered_multimap::{DefaultState, KeyWrapper};
 use ordered_multimap_callers::lists::{appends, copied};
 use std::alloc::{AllocError, Global};
@@ -17,9 +17,9 @@ fn add_three(map: &mut ListOrderedMultimap<&'static str, u32>) -> Result<(), All
 }
 
 fn look_ups_answer(test: &Test, map: &Numbers) {
-    test.expect("get", map.get(&"line").copied() == Some(1));
-    test.expect("contains_key", map.contains_key(&"page"));
-    test.expect("entry_len", map.entry_len(&"line") == 2);
+    test.expect("get", map.get("line").copied() == Some(1));
+    test.expect("contains_key", map.contains_key("page"));
+    test.expect("entry_len", map.entry_len("line") == 2);
 }
 
 fn lengths_answer(test: &Test, map: &Numbers) {
@@ -34,7 +34,7 @@ fn ends_answer(test: &Test, map: &Numbers) {
 }
 
 fn get_all_answers(map: &Numbers) -> bool {
-    map.get_all(&"line").next_back() == Some(&2)
+    map.get_all("line").next_back() == Some(&2)
 }
 
 fn iter_answers(map: &Numbers) -> bool {
@@ -83,10 +83,10 @@ fn has_room(test: &Test, map: &Numbers) {
 }
 
 fn removals_answer(test: &Test, map: &mut Numbers) {
-    test.expect("remove", map.remove(&"line") == Some(1));
+    test.expect("remove", map.remove("line") == Some(1));
     test.expect(
         "remove_entry",
-        map.remove_entry(&"page") == Some(("page", 8)),
+        map.remove_entry("page") == Some(("page", 8)),
     );
 }
 
@@ -105,7 +105,7 @@ fn expect_back(test: &Test, step: &'static str, map: &Numbers, value: u32) {
 }
 
 fn get_mut_answers(test: &Test, map: &mut Numbers) {
-    if let Some(value) = map.get_mut(&"line") {
+    if let Some(value) = map.get_mut("line") {
         *value = 3;
     }
     test.expect("get_mut", map.get(&"line").copied() == Some(3));
@@ -173,7 +173,10 @@ fn wrappers_answer(test: &Test) {
 }
 
 // The key's type is a parameter: a function that lends an `Option<&'static str>` isn't covered.
-fn removes_page<K: Eq + Hash + Drop>(map: &mut ListOrderedMultimap<K, u32>, page: &K) -> bool {
+fn removes_page<K: Eq + Hash + Drop, Q: KeyQuery<K>>(
+    map: &mut ListOrderedMultimap<K, u32>,
+    page: Q,
+) -> bool {
     let mut stored = None;
     let first = map.remove_entry_with_all(page, &mut stored).next() == Some(8);
     first && stored.is_some()
@@ -184,7 +187,7 @@ fn insert_all_answers(map: &mut Numbers) -> Result<bool, AllocError> {
 }
 
 fn remove_all_answers(map: &mut Numbers) -> bool {
-    map.remove_all(&"line").next_back() == Some(2)
+    map.remove_all("line").next_back() == Some(2)
 }
 
 fn remove_entry_all_answers(map: &mut Numbers) -> bool {
@@ -195,7 +198,7 @@ fn drains_answer(test: &Test, map: &mut Numbers) {
     test.expect("insert_all", insert_all_answers(map) == Ok(true));
     test.expect("append", appends(map, "line", 2, true));
     test.expect("remove_all", remove_all_answers(map));
-    test.expect("remove_entry_with_all", removes_page(map, &"page"));
+    test.expect("remove_entry_with_all", removes_page(map, "page"));
     test.expect("remove_entry_all", remove_entry_all_answers(map));
 }
 

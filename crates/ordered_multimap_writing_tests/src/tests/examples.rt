@@ -30,7 +30,7 @@ fn all_are_written(test: &Test, map: &mut Numbers) {
         *value = 7;
     }
     test.expect("values_mut", map.get(&"page") == Some(&7));
-    for value in map.get_all_mut(&"line") {
+    for value in map.get_all_mut("line") {
         *value = 9;
     }
     test.expect("get_all_mut", map.front() == Some((&"line", &9)));

@@ -1,19 +1,20 @@
 //! What a drain does with the map that it borrows: it reads, takes and drops detached values.
-ghost use Rattle.std.specs.Prelude.{◌≡◌, length, option_map, slice_get};
-ghost use Rattle.std.specs.Prelude.{IfErr, IfNone, OnErr, OnOk, IsOk};
+ghost use Rattle.std.specs.Prelude.{◌≡◌, find, length, option_map, slice_get};
+ghost use Rattle.std.specs.Prelude.{IfErr, IfNone, IfSome, OnErr, OnOk, IsOk};
 ghost use Rattle.multimap_slots.specs.Lists.{IsIn};
 ghost use Rattle.ordered_multimap.specs.Additions.{HandsBack};
 ghost use Rattle.ordered_multimap.specs.Private.Append.{KeepsTapeRoom};
 ghost use Rattle.ordered_multimap.specs.Agrees.{HasKey};
-ghost use Rattle.ordered_multimap.specs.Changes.{inserted, removed};
-ghost use Rattle.ordered_multimap.specs.Keys.{stored_key};
-ghost use Rattle.ordered_multimap.specs.Private.KeySteps.{DetachesValues, HoldsInRoom, KeepsPairs};
-ghost use Rattle.ordered_multimap.specs.Pairs.{values_of};
+ghost use Rattle.ordered_multimap.specs.Changes.{inserted, removed, removed_where};
+ghost use Rattle.ordered_multimap.specs.Keys.{stored_key, stored_where};
+ghost use Rattle.ordered_multimap.specs.Private.KeySteps.{DetachesValues, DetachesWhere, HoldsInRoom, KeepsPairs};
+ghost use Rattle.ordered_multimap.specs.Pairs.{values_of, values_where};
 ghost use Rattle.ordered_multimap.specs.Rooms.{HasValueRoom, KeepsRooms, RaisesNoRoom, SameRooms};
 ghost use Rattle.ordered_multimap.specs.TapeNumbers.{TakesOut};
 ghost use Rattle.multimap_walks.specs.Walk.{TakesEnd};
 ghost use Rattle.ordered_multimap.specs.Detaches.{EndsDrain, HoldsDrain, IsDrained, KeepsListed, KeepsSlots, LeavesDrain, left_of};
 
+use crate::KeyQuery;
 use crate::list_ordered_multimap::insert::insert_behind_all;
 use crate::list_ordered_multimap::remove::chain::leave_entry;
 use crate::list_ordered_multimap::remove::leaving::KeptInPlace;
@@ -27,12 +28,14 @@ use std::hash::{BuildHasher, Hash};
 
 impl<K: Eq + Hash, V, S: BuildHasher, A: Allocator> ListOrderedMultimap<K, V, S, A> {
     /// Takes the key out, detaches all its values for a drain, and answers the stored key.
-    pub(crate) fn detach_all(&mut self, key: &K) -> Option<K>
+    pub(crate) fn detach_all<Q: KeyQuery<K>>(&mut self, key: Q) -> Option<K>
         ensures holds { HoldsInRoom self.old self.new }
-        ensures detached { DetachesValues K.eq self.old self.new key.now
-            (removed K.eq self.old.lists key.now) }
-        ensures key { result ≡ option_map (λ _. stored_key K.eq self.old.lists.keys key.now)
-            (slice_get (values_of K.eq self.old.lists.pairs key.now) 0) }
+        ensures detached { DetachesWhere (Q.equivalent key) self.old self.new
+            (removed_where K.eq (Q.equivalent key) self.old.lists) }
+        ensures found { result ≡ find (Q.equivalent key) self.old.lists.keys }
+        ensures key { IfSome (Q.as_key key) (λ k. result
+            ≡ option_map (λ _. stored_where (Q.equivalent key) self.old.lists.keys k)
+            (slice_get (values_where (Q.equivalent key) self.old.lists.pairs) 0)) }
         ensures absent { IfNone result (KeepsListed self.old self.new) }
     {
         match self.look_up(key).1 {

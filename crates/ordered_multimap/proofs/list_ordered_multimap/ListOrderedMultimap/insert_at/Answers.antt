@@ -40,8 +40,8 @@ returns-clause-stays g c =
     subst (λ m. StaysInRoom g.K.PartialEq.eq m (map_of n.keys i.table.capacity n.values i.state i.left) c.args.place) c.self.view_is
     (record {
       place_stays = record {
-        listed = (inserted_stays own.0 c.args.place e.inserted.1.done own.1).listed;
-        stays = λ k has. inserted_stays k c.args.place e.inserted.1.done has;
+        listed = (inserted_stays (g.K.PartialEq.eq own.0) c.args.place e.inserted.1.done own.1).listed;
+        stays = λ k has. inserted_stays (g.K.PartialEq.eq k) c.args.place e.inserted.1.done has;
       };
       rooms = same_rooms i.keys n.keys i.table.capacity i.table.capacity i.values n.values i.state i.left i.left e.capacities refl;
     })

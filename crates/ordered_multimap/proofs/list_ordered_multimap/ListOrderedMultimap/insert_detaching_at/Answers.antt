@@ -34,7 +34,7 @@ pub returns-in_err-left-clause-stays : goal.returns-in_err-left-clause-stays
 returns-in_err-left-clause-stays g c =
     subst (λ m. (k : g.row.K.Denot) → HasKey g.K.PartialEq.eq m.slots.keys k c.args.place
     → HasKey g.K.PartialEq.eq c.insert_behind_all.new.keys k c.args.place) c.self.view_is
-    (λ k has. renamed_stays k c.args.place (c.in_err-left.ensures {u = tt}).unchanged.renamed has)
+    (λ k has. renamed_stays (g.K.PartialEq.eq k) c.args.place (c.in_err-left.ensures {u = tt}).unchanged.renamed has)
 
 pub returns-in_err-left-clause-unchanged : goal.returns-in_err-left-clause-unchanged
 returns-in_err-left-clause-unchanged g c =
@@ -83,7 +83,7 @@ pub returns-clause-stays : goal.returns-clause-stays
 returns-clause-stays g c =
     subst (λ m. (k : g.row.K.Denot) → HasKey g.K.PartialEq.eq m.slots.keys k c.args.place
     → HasKey g.K.PartialEq.eq c.insert_behind_all.new.keys k c.args.place) c.self.view_is
-    (λ k has. inserted_stays k c.args.place c.in_ok-left.ensures.ok.done has)
+    (λ k has. inserted_stays (g.K.PartialEq.eq k) c.args.place c.in_ok-left.ensures.ok.done has)
 
 pub returns-clause-ok : goal.returns-clause-ok
 returns-clause-ok g c =

@@ -1,32 +1,52 @@
 use Rattle.std.proofs.Common.{sym, ap, ◌∙◌, subst}
 use Rattle.std.specs.Prelude.{IfSome, IfNone}
-use Rattle.ordered_multimap.specs.Agrees.{HasKey, IsFoundBy, LacksKey, hash_of}
-use Rattle.ordered_multimap.specs.Pairs.{is_present}
-use Rattle.ordered_multimap.proofs.Agreement.LookUps.{keyed, found_by, lacks_key, present_as_found}
+use Rattle.std.specs.List.{list_any}
+use Rattle.ordered_multimap.specs.Agrees.{HasKeyWhere, IsFoundBy, LacksWhere, StandsAt, hash_of}
+use Rattle.ordered_multimap.specs.Pairs.{is_present_where}
+use Rattle.ordered_multimap.proofs.Agreement.LookUps.{keyed}
+use Rattle.ordered_multimap.proofs.Agreement.Queries.{found_by, lacks_where, listed_as_found, present_as_found, stands_at}
 use Rattle.ordered_multimap.proofs.list_ordered_multimap.ListOrderedMultimap.look_up.Goals as goal
 
 pub place_of-requires : goal.place_of-requires
 place_of-requires g c =
-    subst (IsFoundBy g.K.PartialEq.eq c.self.inside.keys c.self.inside.table.rows c.args.key.now) (sym c.hash_one-hash.ensures)
-    (found_by (keyed g.met.K.Eq.laws c.self.invariant.agrees)
-    (λ x y equal. ap (hash_of g.S.BuildHasher g.S.Hasher.Hasher c.self.inside.state) (g.met.K.Hash.respects_eq x y equal))
-    c.args.key.now)
+    let accepts = g.Q.KeyQuery.equivalent c.args.query in
+    let hash = hash_of g.S.BuildHasher g.S.Hasher.Hasher c.self.inside.state in
+    subst (IsFoundBy accepts c.self.inside.keys c.self.inside.table.rows) (sym c.hash_one-hash.ensures)
+    (found_by (keyed g.met.K.Eq.laws c.self.invariant.agrees) accepts (hash (g.Q.Hash.hash_input c.args.query))
+    (λ y accepted. ap hash (g.met.Q.KeyQuery.respects_hash c.args.query y accepted)))
 
 pub returns-clause-hash : goal.returns-clause-hash
 returns-clause-hash g c = c.hash_one-hash.ensures
-    ∙ ap (λ m. hash_of g.S.BuildHasher g.S.Hasher.Hasher m.hasher (g.K.Hash.hash_input c.args.key.now)) c.self.view_is
+    ∙ ap (λ m. hash_of g.S.BuildHasher g.S.Hasher.Hasher m.hasher (g.Q.Hash.hash_input c.args.query)) c.self.view_is
 
 pub returns-clause-found : goal.returns-clause-found
-returns-clause-found g c = subst (λ m. IfSome c.place_of.result (HasKey g.K.PartialEq.eq m.slots.keys c.args.key.now)) c.self.view_is
+returns-clause-found g c =
+    subst (λ m. IfSome c.place_of.result (HasKeyWhere (g.Q.KeyQuery.equivalent c.args.query) m.slots.keys)) c.self.view_is
     c.place_of.ensures.found
+
+pub returns-clause-stands : goal.returns-clause-stands
+returns-clause-stands g c =
+    let accepts = g.Q.KeyQuery.equivalent c.args.query in
+    subst (λ m. IfSome c.place_of.result (StandsAt g.K.PartialEq.eq accepts m.slots.keys)) c.self.view_is
+    (stands_at g.met.K.Eq.laws accepts (g.met.Q.KeyQuery.respects_eq c.args.query) c.self.inside.keys c.place_of.result
+    c.place_of.ensures.found)
 
 pub returns-clause-absent : goal.returns-clause-absent
 returns-clause-absent g c =
-    subst (λ m. IfNone c.place_of.result (LacksKey g.K.PartialEq.eq m.lists c.args.key.now)) c.self.view_is
-    (lacks_key g.met.K.Eq.laws c.self.invariant.agrees c.args.key.now c.place_of.result c.place_of.ensures.absent)
+    let accepts = g.Q.KeyQuery.equivalent c.args.query in
+    subst (λ m. IfNone c.place_of.result (LacksWhere accepts g.K.PartialEq.eq m.lists)) c.self.view_is
+    (lacks_where c.self.invariant.agrees accepts c.place_of.result c.place_of.ensures.absent)
+
+pub returns-clause-listed : goal.returns-clause-listed
+returns-clause-listed g c =
+    let accepts = g.Q.KeyQuery.equivalent c.args.query in
+    listed_as_found c.self.invariant.agrees accepts c.place_of.result c.place_of.ensures.found
+    c.place_of.ensures.absent
+    ∙ ap (λ m. list_any accepts m.lists.keys) c.self.view_is
 
 pub returns-clause-present : goal.returns-clause-present
 returns-clause-present g c =
-    present_as_found g.met.K.Eq.laws c.self.invariant.agrees c.args.key.now c.place_of.result c.place_of.ensures.found
+    let accepts = g.Q.KeyQuery.equivalent c.args.query in
+    present_as_found c.self.invariant.agrees accepts c.place_of.result c.place_of.ensures.found
     c.place_of.ensures.absent
-    ∙ ap (λ m. is_present g.K.PartialEq.eq m.lists.pairs c.args.key.now) c.self.view_is
+    ∙ ap (λ m. is_present_where accepts m.lists.pairs) c.self.view_is

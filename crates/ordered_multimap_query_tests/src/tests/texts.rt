@@ -1,0 +1,137 @@
+//! Keys that own their text, looked up by texts that are lent: no look-up makes a text.
+use ordered_multimap::ListOrderedMultimap;
+use std::hash::BuildHasher;
+use test_helpers::{End, Test, walk_difference};
+
+/// A map whose keys own their text.
+pub type Owned<S> = ListOrderedMultimap<String, u32, S>;
+
+const PAIRS: &[(&str, u32)] = &[("line", 1), ("page", 8), ("line", 2)];
+
+// A name, the first of its values, and how many it has.
+const FOUND: &[(&str, Option<u32>, usize)] = &[
+    ("line", Some(1), 2),
+    ("page", Some(8), 1),
+    ("none", None, 0),
+    ("lin", None, 0),
+    ("line ", None, 0),
+    ("", None, 0),
+];
+
+fn append_text<S: BuildHasher>(test: &Test, map: &mut Owned<S>, name: &str, value: u32) {
+    match String::from_str(test.alloc(), name) {
+        Ok(key) => test.expect("append", map.append(key, value).is_ok()),
+        Err(_) => test.expect("memory for a key", false),
+    }
+}
+
+fn refill<S: BuildHasher>(test: &Test, map: &mut Owned<S>) {
+    map.clear();
+    for (name, value) in PAIRS {
+        append_text(test, map, name, *value);
+    }
+}
+
+fn is_found<S: BuildHasher>(
+    test: &Test,
+    map: &Owned<S>,
+    at: usize,
+    row: &(&str, Option<u32>, usize),
+) {
+    let (name, first, count) = *row;
+    test.expect_at("get", at, map.get(name).copied() == first);
+    test.expect_at("contains_key", at, map.contains_key(name) == (count > 0));
+    test.expect_at("entry_len", at, map.entry_len(name) == count);
+    test.expect_at("get_all", at, map.get_all(name).len() == count);
+}
+
+fn values_are_walked<S: BuildHasher>(test: &Test, map: &Owned<S>) {
+    let both = [(End::Front, 1), (End::Back, 2)];
+    let difference = walk_difference(&mut map.get_all("line"), &both);
+    test.expect_same("get_all", difference);
+}
+
+fn first_is_written<S: BuildHasher>(test: &Test, map: &mut Owned<S>) {
+    if let Some(value) = map.get_mut("line") {
+        *value = 3;
+    }
+    test.expect("get_mut", map.get("line").copied() == Some(3));
+    test.expect("get_mut of none", map.get_mut("none").is_none());
+}
+
+fn all_are_written<S: BuildHasher>(test: &Test, map: &mut Owned<S>) {
+    for value in map.get_all_mut("line") {
+        *value = 9;
+    }
+    let both = [(End::Front, 9), (End::Front, 9)];
+    let difference = walk_difference(&mut map.get_all("line"), &both);
+    test.expect_same("get_all_mut", difference);
+    test.expect("another key", map.get("page").copied() == Some(8));
+}
+
+fn lengths<S: BuildHasher>(map: &Owned<S>) -> (usize, usize) {
+    (map.keys_len(), map.values_len())
+}
+
+fn removed<S: BuildHasher>(test: &Test, map: &mut Owned<S>) {
+    test.expect("remove", map.remove("line") == Some(1));
+    test.expect("remove again", map.remove("line").is_none());
+    test.expect("a page is left", lengths(map) == (1, 1));
+}
+
+// What a removal hands out, and how long the key is.
+fn entry_of<S: BuildHasher>(map: &mut Owned<S>, name: &str) -> Option<(usize, u32)> {
+    match map.remove_entry(name) {
+        Some((key, value)) => Some((key.len(), value)),
+        None => None,
+    }
+}
+
+fn entries_are_removed<S: BuildHasher>(test: &Test, map: &mut Owned<S>) {
+    test.expect("remove_entry", entry_of(map, "line") == Some((4, 1)));
+    test.expect("remove_entry again", entry_of(map, "line").is_none());
+    test.expect("a page is left", lengths(map) == (1, 1));
+}
+
+fn all_are_drained<S: BuildHasher>(test: &Test, map: &mut Owned<S>) {
+    test.expect("remove_all", map.remove_all("line").next_back() == Some(2));
+    test.expect("remove_all of none", map.remove_all("none").len() == 0);
+    test.expect("a page is left", lengths(map) == (1, 1));
+}
+
+fn drained_with_the_key<S: BuildHasher>(test: &Test, map: &mut Owned<S>) {
+    let mut stored = None;
+    let first = map.remove_entry_with_all("line", &mut stored).next();
+    test.expect("remove_entry_with_all", first == Some(1));
+    match stored {
+        Some(key) => test.expect("the stored key", key.as_str() == "line"),
+        None => test.expect("a stored key", false),
+    }
+}
+
+fn none_is_drained<S: BuildHasher>(test: &Test, map: &mut Owned<S>) {
+    let mut stored = None;
+    let count = map.remove_entry_with_all("none", &mut stored).len();
+    test.expect("no value", count == 0);
+    test.expect("no key", stored.is_none());
+}
+
+/// What each call finds, writes and takes out by a text.
+pub fn texts_are_queries<S: BuildHasher>(test: &Test, map: &mut Owned<S>) {
+    refill(test, map);
+    for (at, row) in FOUND.iter().enumerate() {
+        is_found(test, map, at, row);
+    }
+    values_are_walked(test, map);
+    first_is_written(test, map);
+    all_are_written(test, map);
+    refill(test, map);
+    removed(test, map);
+    refill(test, map);
+    entries_are_removed(test, map);
+    refill(test, map);
+    all_are_drained(test, map);
+    refill(test, map);
+    drained_with_the_key(test, map);
+    none_is_drained(test, map);
+}
