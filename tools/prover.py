@@ -71,7 +71,8 @@ def function_at(crate, file, before):
         named = re.sub(r"\w+::|\bwhere\b.*", "", without_first_parameters(impl), flags=re.S)
         trait, _, kind = named.rpartition(" for ")
         trait = "" if trait.strip() == "Drop" else re.sub(r"\b[A-Z]\b", "", trait)
-        kind = re.sub(r"&(?:'\w+ )?", "Ref", re.sub(r"<.*", "", kind, flags=re.S)).strip()
+        kind = re.sub(r"<.*", "", kind, flags=re.S).strip()
+        kind = re.sub(r"&(?:'\w+ )?(?:\[.*|([A-Z]\b)?(\w?))", lambda it: "Ref" + ((it[2] or "").upper() if "[" not in it[0] else "Slice"), kind)
         if not trait:
             path = module_of(file_of(crate, kind) or file)
         path = [*path, kind[:1].upper() + kind[1:] + re.sub(r"\W", "", trait)]
