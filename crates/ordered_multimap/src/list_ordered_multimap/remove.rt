@@ -44,7 +44,8 @@ impl<K: Eq + Hash, V, S: BuildHasher, A: Allocator> ListOrderedMultimap<K, V, S,
         }
     }
 
-    /// The same, and the stored key is answered before its first value.
+    /// Takes the key out as [`remove`](Self::remove) does, and returns the stored key before its
+    /// first value.
     ///
     /// ```
     /// map.remove_entry(&"page") == Some(("page", 8))
