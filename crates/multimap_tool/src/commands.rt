@@ -18,15 +18,17 @@ pub enum Ends<A: Allocator = Global> {
 pub enum Command<K, V, A: Allocator = Global> {
     /// Appends the pair.
     Append(K, V),
-    /// Puts the pair in the place of all others of its key.
+    /// Puts the pair in the place of all others of its key, and the first value that it replaces is
+    /// told.
     Insert(K, V),
-    /// The same, and all values that it replaces.
+    /// Puts the pair in the place of all others of its key, and all values that it replaces are
+    /// told.
     InsertAll(K, V),
     /// Writes the key's first value, if it has one, and the old one is told.
     SetFirst(K, V),
     /// Writes the value of the first pair, if there is one, and the pair as it was is told.
     SetFront(V),
-    /// The same of the last pair.
+    /// Writes the value of the last pair, if there is one, and the pair as it was is told.
     SetBack(V),
     /// Appends the pair unless the key is present, and tells the key's first value.
     OrInsert(K, V),
@@ -44,11 +46,11 @@ pub enum Command<K, V, A: Allocator = Global> {
     Back,
     /// Takes the key out with all its values, of which the first is told.
     Remove(K),
-    /// The same, and all values are told.
+    /// Takes the key out with all its values, and these are told.
     RemoveAll(K),
-    /// The same, and the stored key is told with its first value.
+    /// Takes the key out with all its values, and the stored key is told with the first of them.
     RemoveEntry(K),
-    /// The same, and the stored key is told with all its values.
+    /// Takes the key out with all its values, and the stored key is told with these.
     RemoveEntryAll(K),
     /// Takes the value at an index among the key's values out, if the key has others, and tells it.
     RemoveAt(K, usize),
@@ -68,7 +70,7 @@ pub enum Command<K, V, A: Allocator = Global> {
     Swap,
     /// Puts in the map's place what is read of its JSON value.
     Json,
-    /// The same with the JSON value that holds both lists.
+    /// Puts in the map's place what is read of the JSON value that holds both its lists.
     Json2,
     /// All pairs.
     Pairs(Ends<A>),

@@ -18,6 +18,7 @@ mod listed;
 mod lists;
 mod numbers;
 mod parts;
+mod to_json;
 mod written;
 
 pub use faults::{PartFault, ReadFault};
@@ -28,6 +29,7 @@ pub use parts::JsonPart;
 use serde_json::Value;
 use std::alloc::{AllocError, Allocator, Global};
 use std::hash::{BuildHasher, Hash};
+pub use to_json::ToJson;
 pub use written::to_value_2;
 
 /// The map as a JSON value: an array with one array `[key, value]` for each pair, in order.
@@ -38,7 +40,7 @@ pub use written::to_value_2;
 /// ```
 /// to_value(alloc, &map)?.to_string(alloc)? == "[[\"b\",20],[\"a\",10]]"
 /// ```
-pub fn to_value<K: JsonPart + Eq + Hash, V: JsonPart, S: BuildHasher, A: Allocator>(
+pub fn to_value<K: ToJson + Eq + Hash, V: ToJson, S: BuildHasher, A: Allocator>(
     alloc: Global,
     map: &ListOrderedMultimap<K, V, S, A>,
 ) -> Result<Value, AllocError>
@@ -55,15 +57,15 @@ pub fn to_value<K: JsonPart + Eq + Hash, V: JsonPart, S: BuildHasher, A: Allocat
 }
 
 /// The array of the key and the value.
-fn item_of<K: JsonPart, V: JsonPart>(alloc: Global, key: &K, value: &V) -> Result<Value, AllocError>
+fn item_of<K: ToJson, V: ToJson>(alloc: Global, key: &K, value: &V) -> Result<Value, AllocError>
     ensures written { IfOk result (λ item.
         view item ≡ pair_json K.json V.json (key.now, value.now)) }
     ensures accepted { (index : ℕ) → IfOk result (λ item.
         item_fault K.is_part V.is_part index (view item) ≡ None) }
 {
     let mut parts = Vec::with_capacity(alloc, 2)?;
-    parts.push_reserved(key.to_part(alloc)?);
-    parts.push_reserved(value.to_part(alloc)?);
+    parts.push_reserved(key.to_json(alloc)?);
+    parts.push_reserved(value.to_json(alloc)?);
     Ok(Value::from(parts))
 }
 

@@ -1,5 +1,6 @@
 //! The tests, by what they are of.
 mod bad_lines;
+mod borrowed;
 mod faults;
 mod lines;
 mod lists;

@@ -7,7 +7,7 @@ use Rattle.ordered_multimap.specs.Lists.{Lists}
 use Rattle.ordered_multimap.specs.Changes.{all_appended, built_from}
 use Rattle.ordered_multimap.specs.Multimap.{Multimap}
 use Rattle.ordered_multimap.specs.Rooms.{DoublesRooms, HasRoomForPairs, KeepsRooms, SameRooms}
-use Rattle.ordered_multimap.specs.TapeNumbers.{TakesOut}
+use Rattle.ordered_multimap.specs.TapeNumbers.{AreUnused, TakesOut}
 use Rattle.ordered_multimap.specs.declared.list_ordered_multimap.refused.Refused.{Refused}
 
 module _ {K V : Type 0} (eq : K → K → Bool) {I T : Type 0} (becomes : I → T → Type 0)
@@ -78,3 +78,20 @@ pub record GrowsForAll {K V S I T X Y E : Type 0} (becomes : I → T → Type 0)
       (HasRoomForMost becomes left iter old) old new
   pub succeeds : HasRoomForGiven becomes steps iter old → IsOk r
   pub succeeds_for_most : HasRoomForMost becomes left iter old → IsOk r
+
+module _ {K V S : Type 0} (eq : K → K → Bool) where
+  -- each pair was appended in turn; no room is lower, one that grows at least doubles, and no value
+  -- left
+  pub record AppendsAll (old : Multimap K V S) (pairs : List (K × V)) (new : Multimap K V S)
+      : Type 0 where
+    pub lists : new.lists ≡ all_appended eq old.lists pairs
+    pub rooms : KeepsRooms old new
+    pub doubles : DoublesRooms old new
+    pub taken : TakesOut 0 old.tape new.tape
+
+  -- the map is built of the pairs, on a tape that was not used, with a default of the hash builder
+  pub record IsCollected (is_default : S → Type 0) (pairs : List (K × V)) (m : Multimap K V S)
+      : Type 0 where
+    pub lists : m.lists ≡ built_from eq pairs
+    pub hasher : is_default m.hasher
+    pub unused : AreUnused m.tape

@@ -93,7 +93,8 @@ fn first_value<V: JsonPart + Drop>(
     }
 }
 
-/// The same where a value is known that can stand for each listed key until its own pairs come.
+/// Reads both arrays where a value is known that can stand for each listed key until its own pairs
+/// come.
 fn read_with_value<
     K: JsonPart + Eq + Hash + Drop,
     V: JsonPart + Drop,
@@ -147,8 +148,8 @@ fn append_lists<
     take_stand_ins(map)
 }
 
-/// The same where the first pair has no value, or there is none: unless both arrays are empty there
-/// is a fault.
+/// Reads both arrays where the first pair has no value, or there is none: unless both are empty
+/// there is a fault.
 fn read_without_value<
     K: JsonPart + Eq + Hash + Drop,
     V: JsonPart + Drop,

@@ -4,7 +4,7 @@ ghost use Rattle.serde_json.specs.Data.{array, object, Items, member, no_members
 ghost use Rattle.serde_json.specs.View.{view, items_of};
 ghost use Rattle.multimap_tool.specs.JsonLists.{both_arrays, each_item, lists_json, AreAccepted};
 
-use super::parts::JsonPart;
+use super::to_json::ToJson;
 use super::to_value;
 use ordered_multimap::ListOrderedMultimap;
 use serde_json::{Value, json};
@@ -20,7 +20,7 @@ use std::hash::{BuildHasher, Hash};
 /// ```
 /// to_value_2(alloc, &map)?.to_string(alloc)? == "{\"keys\":[1,2],\"pairs\":[[2,20],[1,30]]}"
 /// ```
-pub fn to_value_2<K: JsonPart + Eq + Hash, V: JsonPart, S: BuildHasher, A: Allocator>(
+pub fn to_value_2<K: ToJson + Eq + Hash, V: ToJson, S: BuildHasher, A: Allocator>(
     alloc: Global,
     map: &ListOrderedMultimap<K, V, S, A>,
 ) -> Result<Value, AllocError>
@@ -37,7 +37,7 @@ pub fn to_value_2<K: JsonPart + Eq + Hash, V: JsonPart, S: BuildHasher, A: Alloc
 }
 
 /// The array of the keys, in order.
-fn keys_value<K: JsonPart + Eq + Hash, V, S: BuildHasher, A: Allocator>(
+fn keys_value<K: ToJson + Eq + Hash, V, S: BuildHasher, A: Allocator>(
     alloc: Global,
     map: &ListOrderedMultimap<K, V, S, A>,
 ) -> Result<Value, AllocError>
@@ -48,7 +48,7 @@ fn keys_value<K: JsonPart + Eq + Hash, V, S: BuildHasher, A: Allocator>(
 {
     let mut items = Vec::with_capacity(alloc, map.keys_len())?;
     for key in map.keys() {
-        items.push_reserved(key.to_part(alloc)?);
+        items.push_reserved(key.to_json(alloc)?);
     }
     Ok(Value::from(items))
 }

@@ -2,10 +2,12 @@
 use Rattle.std.proofs.Common.{◌≡◌, ◌≤◌, ◌+◌, ◌*◌, ℕ, Bool, true, false, cond, List, [], ◌∷◌, ◌++◌, length, length-append, refl, ap, arith}
 use Rattle.std.proofs.Common.{◌∙◌, inl, inr}
 use Rattle.std.proofs.lemmas.Bool.{cases_lt}
+use Rattle.std.specs.Iterator.{Yields}
+use Rattle.std.specs.Prelude.{Option}
 use Rattle.multimap_slots.specs.Slots.{DoublesIfGrown}
 use Rattle.ordered_multimap.specs.Lists.{Lists}
 use Rattle.ordered_multimap.specs.Changes.{appended, all_appended}
-use Rattle.ordered_multimap.specs.Extends.{GrowsForPairs}
+use Rattle.ordered_multimap.specs.Extends.{AppendsAll, GrowsForPairs}
 use Rattle.ordered_multimap.specs.Keys.{is_listed, keys_with, stored_key}
 use Rattle.ordered_multimap.specs.Multimap.{Multimap}
 use Rattle.ordered_multimap.specs.Rooms.{DoublesRooms, HasKeyRoom, HasPairRoom, HasRoomForPairs, HasValueRoom, KeepsRooms, RaisesNoRoom}
@@ -102,3 +104,14 @@ grows_on eq pairs for_given for_most lists grows rooms raises taken = record {
   key_room = λ room. raises.keys (has_key_room eq pairs (for_given room) lists grows.rooms) ∙ grows.key_room room;
   had_room = λ room. same_rooms-then eq pairs (for_most room) lists grows.rooms (grows.had_room room) raises rooms;
 }
+
+-- pairs were appended, and the map has grown for them alone
+pub appends_all : {K V S : Type 0} {eq : K → K → Bool} {old new : Multimap K V S} {given most : Type 0} {pairs : List (K × V)}
+    → new.lists ≡ all_appended eq old.lists pairs → GrowsForPairs given most old new → AppendsAll eq old pairs new
+appends_all lists grows = record { lists = lists; rooms = grows.rooms; doubles = grows.doubles; taken = grows.taken }
+
+-- what came before the last item came
+pub Yields-before : {S A : Type 0} (steps : S → Option A → S → Type 0) (s : S) (xs : List A) (x : A) (t : S)
+    → Yields steps s (xs ++ x ∷ []) t → (u : S) × Yields steps s xs u
+Yields-before steps s [] x t given = (s, refl)
+Yields-before steps s (y ∷ ys) x t given = let rest = Yields-before steps given.0 ys x t given.2 in (rest.0, (given.0, given.1, rest.1))

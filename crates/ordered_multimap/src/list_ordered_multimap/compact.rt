@@ -37,8 +37,8 @@ fn mend_key<K, A: Allocator>(
     set_link(keys, place, mended);
 }
 
-/// The same for the key that the value's link names. Where the value has neighbours on both sides,
-/// the key's link doesn't name it, and isn't read.
+/// Mends the link of the key that the value's link names. Where the value has neighbours on both
+/// sides, the key's link doesn't name it, and isn't read.
 fn mend_ends<K, A: Allocator>(
     keys: &mut SlotList<K, KeyLink, A>,
     link: ValueLink,

@@ -85,9 +85,9 @@ impl<K: Eq + Hash, V: Drop, S: BuildHasher, A: Allocator> ListOrderedMultimap<K,
         EntryValuesDrain { map: self }
     }
 
-    /// The same as `remove_all`, and the stored key is answered before the drain. None for an
-    /// absent key, and the map keeps all that it has. A caller whose proof has to know the map
-    /// afterwards takes [`remove_entry_with_all`](Self::remove_entry_with_all).
+    /// Takes the key out as [`remove_all`](Self::remove_all) does, and returns the stored key before
+    /// the drain. None for an absent key, and the map keeps all that it has. A caller whose proof has
+    /// to know the map afterwards takes [`remove_entry_with_all`](Self::remove_entry_with_all).
     ///
     /// ```
     /// map.remove_entry_all(&"none").is_none()
@@ -160,7 +160,11 @@ impl<K: Eq + Hash, V: Drop, S: BuildHasher, A: Allocator + Copy> ListOrderedMult
 impl<'map, K: Eq + Hash, V: Drop, S: BuildHasher, A: Allocator> EntryValuesDrain<'map, K, V, S, A> {
     ghost use Rattle.ordered_multimap.specs.Drains.{drain_left};
 
-    /// A walk over the values that are left.
+    /// A walk over the values that are left, for reading.
+    ///
+    /// ```
+    /// map.remove_all(&"line").iter().len() == 2
+    /// ```
     pub fn iter(&self) -> EntryValues<'_, K, V, A>
         ensures { result.left ≡ drain_left self.now }
     {

@@ -20,8 +20,8 @@ use std::marker::Model;
 
 /// The pairs of a map that was given up, oldest first, from both ends.
 ///
-/// Each item has a clone of its key, or the value alone where the clone was refused memory; the walk
-/// goes on behind it. What it has not given is dropped with it.
+/// Each item has a clone of its key, or the value alone where the clone was refused memory; the
+/// walk goes on behind it. What it has not given is dropped with it.
 #[derive(Drop)]
 pub struct IntoIter<K, V, A: Allocator = Global> {
     keys: SlotList<K, KeyLink, A>,
@@ -65,7 +65,11 @@ impl<K: Eq + Hash + Clone, V: Drop, S: BuildHasher + Drop, A: Allocator> IntoIte
 }
 
 impl<K, V, A: Allocator> IntoIter<K, V, A> {
-    /// A walk over the pairs that are left.
+    /// A walk over the pairs that are left, for reading.
+    ///
+    /// ```
+    /// map.into_iter().iter().len() == 3
+    /// ```
     pub fn iter(&self) -> Iter<'_, K, V, A>
         ensures { result ≡ self.now }
     {

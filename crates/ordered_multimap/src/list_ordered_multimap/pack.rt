@@ -128,9 +128,9 @@ fn pack<K: Drop, V: Drop, A: Allocator>(
 }
 
 impl<K: Eq + Hash, V, S: BuildHasher, A: Allocator + Copy> ListOrderedMultimap<K, V, S, A> {
-    /// Takes all keys and values, in their orders, to new memory with room for at least
-    /// `keys_minimum_capacity` keys and `values_minimum_capacity` values. The map must not have more
-    /// keys or values than that. What a forgotten drain has left is dropped, and no hole stays.
+    /// Requires that the map has no more than `keys_minimum_capacity` keys and no more than
+    /// `values_minimum_capacity` values. Takes them all, in their orders, to new memory with room
+    /// for at least these numbers. What a forgotten drain has left is dropped, and no hole stays.
     ///
     /// A refusal is want of memory, or a number of slots past the greatest `usize`. All new memory
     /// is taken before anything is moved, so the map is then as it was. It goes over the slots in
@@ -152,6 +152,10 @@ impl<K: Eq + Hash, V, S: BuildHasher, A: Allocator + Copy> ListOrderedMultimap<K
         requires values { length self.old.lists.pairs ≤ values_minimum_capacity }
         ensures { Packs keys_minimum_capacity values_minimum_capacity self.old self.new result }
     {
+        let keys_fit = self.keys_len() <= keys_minimum_capacity;
+        prove!(keys_fit);
+        let values_fit = self.values_len() <= values_minimum_capacity;
+        prove!(values_fit);
         let alloc = *self.keys.allocator();
         let places = self.keys.used_slots();
         let storage = new_storage(
@@ -164,7 +168,8 @@ impl<K: Eq + Hash, V, S: BuildHasher, A: Allocator + Copy> ListOrderedMultimap<K
         Ok(())
     }
 
-    /// The same, with room for at least the keys and values that the map has.
+    /// Packs the map as [`pack_to`](Self::pack_to) does, with room for at least the keys and values
+    /// that it has. It costs what `pack_to` costs, and a refusal leaves the map as it was.
     ///
     /// ```
     /// map.pack_to_fit()?;

@@ -42,7 +42,7 @@ impl<K: Eq + Hash, V, S: BuildHasher, A: Allocator> ListOrderedMultimap<K, V, S,
         }
     }
 
-    /// The same, and the map is handed back.
+    /// Takes the pair at an end out, as `take_end` does, and hands the map back.
     fn take_end_on(&mut self, end: End) -> (Option<Taken<K, V>>, &mut Self)
         ensures same { result.1.ghost_name ≡ self.entry.ghost_name }
         ensures popped { IsPopped K.eq end self.old result.1.now }
@@ -119,7 +119,10 @@ impl<K: Eq + Hash, V, S: BuildHasher, A: Allocator> ListOrderedMultimap<K, V, S,
         self.pop_end(End::Front)
     }
 
-    /// The same with the last pair, and with the value before it among those of its key.
+    /// Takes the last pair out, as [`pop_front`](Self::pop_front) takes the first one. It reads and
+    /// writes the slots of the value, of its key and of the value before it among those of that
+    /// key. A caller whose proof has to know the map afterwards takes
+    /// [`pop_back_with`](Self::pop_back_with).
     ///
     /// ```
     /// map.pop_back() == Some((KeyWrapper::Owned("line"), 2))
@@ -133,7 +136,7 @@ impl<K: Eq + Hash, V, S: BuildHasher, A: Allocator> ListOrderedMultimap<K, V, S,
     }
 
     /// Takes the first pair out, hands the answer of [`pop_front`](Self::pop_front) to the
-    /// function, and answers what it answers. It is for callers that are proved: they know both
+    /// function, and returns what it returns. It is for callers that are proved: they know both
     /// lists afterwards.
     ///
     /// ```
@@ -151,7 +154,9 @@ impl<K: Eq + Hash, V, S: BuildHasher, A: Allocator> ListOrderedMultimap<K, V, S,
         f(self.wrapped(taken))
     }
 
-    /// The same with the last pair, as [`pop_back`](Self::pop_back) takes it.
+    /// Takes the last pair out, hands the answer of [`pop_back`](Self::pop_back) to the function,
+    /// and returns what it returns. It is for callers that are proved: they know both lists
+    /// afterwards.
     ///
     /// ```
     /// map.pop_back_with(|popped| popped.is_none())

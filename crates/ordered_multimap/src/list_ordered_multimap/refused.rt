@@ -1,4 +1,5 @@
-//! The answers of calls that found no memory.
+//! The answers of calls that found no memory. Their `Debug` asks nothing of keys and values, and
+//! shows none.
 ghost use Rattle.std.specs.Prelude.{◌≡◌};
 
 use std::alloc::AllocError;
@@ -7,14 +8,20 @@ use std::{fmt, io};
 
 /// Want of memory, with the pair that was to be stored.
 ///
-/// By `?` it becomes an [`AllocError`] or an [`io::Error`], which lets the pair go. A function with an
-/// error type of its own takes it by `map_err(AllocError::from)`.
-#[derive(Debug, PartialEq, Eq, Drop)]
+/// By `?` it becomes an [`AllocError`] or an [`io::Error`], which lets the pair go. An error type
+/// of your own that has a `From<AllocError>` takes it by `map_err(AllocError::from)?`.
+#[derive(PartialEq, Eq, Drop)]
 pub struct Refused<K, V> {
     /// The key that was handed in.
     pub key: K,
     /// The value that was handed in.
     pub value: V,
+}
+
+impl<K, V> fmt::Debug for Refused<K, V> {
+    fn fmt<W: fmt::Write>(&self, f: &mut fmt::Formatter<W>) -> fmt::Result {
+        f.debug_struct("Refused").finish_non_exhaustive()
+    }
 }
 
 impl<K, V> fmt::Display for Refused<K, V> {
@@ -27,7 +34,7 @@ impl<K, V> fmt::Display for Refused<K, V> {
     }
 }
 
-impl<K: fmt::Debug + Drop, V: fmt::Debug + Drop> Error for Refused<K, V> {}
+impl<K: Drop, V: Drop> Error for Refused<K, V> {}
 
 impl<K: Drop, V: Drop> From<Refused<K, V>> for AllocError {
     fn from(_refused: Refused<K, V>) -> AllocError {
@@ -48,11 +55,18 @@ impl<K: Drop, V: Drop> From<Refused<K, V>> for io::Error {
 
 /// Want of memory, with the value that was to be stored under a key that is there.
 ///
-/// By `?` it becomes an [`AllocError`] or an [`io::Error`], which lets the value go.
-#[derive(Debug, PartialEq, Eq, Drop)]
+/// By `?` it becomes an [`AllocError`] or an [`io::Error`], which lets the value go. An error type
+/// of your own that has a `From<AllocError>` takes it by `map_err(AllocError::from)?`.
+#[derive(PartialEq, Eq, Drop)]
 pub struct RefusedValue<V> {
     /// The value that was handed in.
     pub value: V,
+}
+
+impl<V> fmt::Debug for RefusedValue<V> {
+    fn fmt<W: fmt::Write>(&self, f: &mut fmt::Formatter<W>) -> fmt::Result {
+        f.debug_struct("RefusedValue").finish_non_exhaustive()
+    }
 }
 
 impl<V> fmt::Display for RefusedValue<V> {
@@ -65,7 +79,7 @@ impl<V> fmt::Display for RefusedValue<V> {
     }
 }
 
-impl<V: fmt::Debug + Drop> Error for RefusedValue<V> {}
+impl<V: Drop> Error for RefusedValue<V> {}
 
 impl<V: Drop> From<RefusedValue<V>> for AllocError {
     fn from(_refused: RefusedValue<V>) -> AllocError {
@@ -86,11 +100,18 @@ impl<V: Drop> From<RefusedValue<V>> for io::Error {
 
 /// Want of memory for the clone of a key, with the value that was to be handed out beside it.
 ///
-/// By `?` it becomes an [`AllocError`] or an [`io::Error`], which lets the value go.
-#[derive(Debug, PartialEq, Eq, Drop)]
+/// By `?` it becomes an [`AllocError`] or an [`io::Error`], which lets the value go. An error type
+/// of your own that has a `From<AllocError>` takes it by `map_err(AllocError::from)?`.
+#[derive(PartialEq, Eq, Drop)]
 pub struct UnclonedKey<V> {
     /// The value of the pair.
     pub value: V,
+}
+
+impl<V> fmt::Debug for UnclonedKey<V> {
+    fn fmt<W: fmt::Write>(&self, f: &mut fmt::Formatter<W>) -> fmt::Result {
+        f.debug_struct("UnclonedKey").finish_non_exhaustive()
+    }
 }
 
 impl<V> fmt::Display for UnclonedKey<V> {
@@ -103,7 +124,7 @@ impl<V> fmt::Display for UnclonedKey<V> {
     }
 }
 
-impl<V: fmt::Debug + Drop> Error for UnclonedKey<V> {}
+impl<V: Drop> Error for UnclonedKey<V> {}
 
 impl<V: Drop> From<UnclonedKey<V>> for AllocError {
     fn from(_refused: UnclonedKey<V>) -> AllocError {

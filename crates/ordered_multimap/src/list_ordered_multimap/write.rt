@@ -95,11 +95,11 @@ impl<K: Eq + Hash, V, S: BuildHasher, A: Allocator> ListOrderedMultimap<K, V, S,
         }
     }
 
-    /// The first pair, its value to write, where there is one. Reads the slots of its value and of
-    /// its key.
+    /// Requires that the map has a pair. The first pair, its value to write. Reads the slots of its
+    /// value and of its key.
     ///
     /// It is for callers that are to be proved: they know both lists afterwards. Others take
-    /// [`front_mut`](Self::front_mut), which answers None where there is no pair.
+    /// [`front_mut`](Self::front_mut), which returns None where there is no pair.
     ///
     /// ```
     /// let (_key, value) = map.first_mut();
@@ -111,10 +111,14 @@ impl<K: Eq + Hash, V, S: BuildHasher, A: Allocator> ListOrderedMultimap<K, V, S,
             S.BuildHasher S.Hasher.Hasher A.Allocator Front self.entry result) }
         ensures pair { end_item Front self.old.lists.pairs ≡ Some (result.0.now, result.1.now) }
     {
+        let has_pair = 0 < self.values_len();
+        prove!(has_pair);
         self.end_mut(End::Front)
     }
 
-    /// The same with the last pair. Others take [`back_mut`](Self::back_mut).
+    /// Requires that the map has a pair. The last pair, its value to write, as
+    /// [`first_mut`](Self::first_mut) lends the first one. Others take
+    /// [`back_mut`](Self::back_mut).
     ///
     /// ```
     /// let (_key, value) = map.last_mut();
@@ -126,6 +130,8 @@ impl<K: Eq + Hash, V, S: BuildHasher, A: Allocator> ListOrderedMultimap<K, V, S,
             S.BuildHasher S.Hasher.Hasher A.Allocator Back self.entry result) }
         ensures pair { end_item Back self.old.lists.pairs ≡ Some (result.0.now, result.1.now) }
     {
+        let has_pair = 0 < self.values_len();
+        prove!(has_pair);
         self.end_mut(End::Back)
     }
 
@@ -169,8 +175,10 @@ impl<K: Eq + Hash, V, S: BuildHasher, A: Allocator> ListOrderedMultimap<K, V, S,
         self.end_mut_if(End::Front)
     }
 
-    /// The same with the last pair. A caller whose proof has to know the map afterwards takes
-    /// [`last_mut`](Self::last_mut).
+    /// The last pair, its value to write. None where there is no pair. Reads the slots of its value
+    /// and of its key.
+    ///
+    /// A caller whose proof has to know the map afterwards takes [`last_mut`](Self::last_mut).
     ///
     /// ```
     /// if let Some((_key, value)) = map.back_mut() {

@@ -3,27 +3,33 @@ use ordered_multimap::End;
 use ordered_multimap::list_ordered_multimap::{
     KeyLink, Refused, RefusedValue, UnclonedKey, ValueLink,
 };
-use std::fmt;
+use std::error::Error;
 use test_helpers::{Failed, Test, expect_text, is_compared, is_copied, is_shown};
 
-fn is_told<T: fmt::Display>(test: &Test, refused: &T) {
+fn is_told<T: Error>(test: &Test, refused: &T) {
     let told = format!(in test.alloc(); "{refused}");
     expect_text(test, "told", told, "memory allocation failed");
 }
 
-type Pair = Refused<&'static str, u32>;
+// A value that has no Debug.
+#[derive(PartialEq, Eq, Drop)]
+struct Hidden(u32);
+
+type Pair = Refused<&'static str, Hidden>;
 
 fn pairs_are_compared(test: &Test, pair: &Pair, like: &Pair, others: &[Pair; 2]) {
     let [value, key] = others;
     test.expect("another value", is_compared(pair, like, value));
     test.expect("another key", is_compared(pair, like, key));
-    let wanted = r#"Refused { key: "a\"b\n", value: 1 }"#;
-    test.expect("shown", is_shown(test.alloc(), pair, wanted));
+    test.expect("shown", is_shown(test.alloc(), pair, "Refused { .. }"));
     is_told(test, pair);
 }
 
 const fn refused(key: &'static str, value: u32) -> Pair {
-    Refused { key, value }
+    Refused {
+        key,
+        value: Hidden(value),
+    }
 }
 
 #[test]
@@ -34,16 +40,16 @@ fn a_refused_pair_is_shown_and_compared(rt: HostRuntime) -> Result<(), Failed> {
     test.end()
 }
 
-fn values_are_compared(test: &Test, value: &RefusedValue<u32>, other: &RefusedValue<u32>) {
+fn values_are_compared(test: &Test, value: &RefusedValue<Hidden>, other: &RefusedValue<Hidden>) {
     test.expect("compared", is_compared(value, value, other));
-    let wanted = "RefusedValue { value: 5 }";
+    let wanted = "RefusedValue { .. }";
     test.expect("shown", is_shown(test.alloc(), value, wanted));
     is_told(test, value);
 }
 
-fn clones_are_compared(test: &Test, value: &UnclonedKey<u32>, other: &UnclonedKey<u32>) {
+fn clones_are_compared(test: &Test, value: &UnclonedKey<Hidden>, other: &UnclonedKey<Hidden>) {
     test.expect("compared", is_compared(value, value, other));
-    let wanted = "UnclonedKey { value: 5 }";
+    let wanted = "UnclonedKey { .. }";
     test.expect("shown", is_shown(test.alloc(), value, wanted));
     is_told(test, value);
 }
@@ -53,10 +59,14 @@ fn a_refused_value_is_shown_and_compared(rt: HostRuntime) -> Result<(), Failed> 
     let test = Test::new(rt.alloc());
     values_are_compared(
         &test,
-        &RefusedValue { value: 5 },
-        &RefusedValue { value: 6 },
+        &RefusedValue { value: Hidden(5) },
+        &RefusedValue { value: Hidden(6) },
     );
-    clones_are_compared(&test, &UnclonedKey { value: 5 }, &UnclonedKey { value: 6 });
+    clones_are_compared(
+        &test,
+        &UnclonedKey { value: Hidden(5) },
+        &UnclonedKey { value: Hidden(6) },
+    );
     test.end()
 }
 

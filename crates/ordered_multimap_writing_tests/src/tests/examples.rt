@@ -21,7 +21,50 @@ fn last_is_written(test: &Test, map: &mut Numbers) {
         *value = 7;
     }
     test.expect("the last", map.back() == Some((&"line", &7)));
-    test.expect("pairs_mut", map.pairs_mut().size_hint() == (2, Some(2)));
+}
+
+fn keys_are_counted(test: &Test, map: &mut Numbers) {
+    test.expect("size_hint", map.pairs_mut().size_hint() == (2, Some(2)));
+    test.expect("iter", map.pairs_mut().iter().len() == 2);
+}
+
+fn write_by_keys(map: &mut Numbers) {
+    let mut keys = map.pairs_mut();
+    for _ in 0..keys.size_hint().0 {
+        if let Some((_key, values)) = keys.next() {
+            for value in values {
+                *value = 7;
+            }
+        }
+    }
+}
+
+fn write_first_key(map: &mut Numbers) {
+    if let Some((_key, values)) = map.pairs_mut().next() {
+        for value in values {
+            *value = 3;
+        }
+    }
+}
+
+fn write_last_key(map: &mut Numbers) {
+    if let Some((_key, values)) = map.pairs_mut().next_back() {
+        for value in values {
+            *value = 8;
+        }
+    }
+}
+
+fn keys_are_written(test: &Test, map: &mut Numbers) {
+    add_three(test, map);
+    keys_are_counted(test, map);
+    write_by_keys(map);
+    let all = [("line", 7), ("page", 7), ("line", 7)];
+    test.expect("pairs_mut", has_pairs(map, &all));
+    write_first_key(map);
+    write_last_key(map);
+    let ends = [("line", 3), ("page", 8), ("line", 3)];
+    test.expect("next and next_back", has_pairs(map, &ends));
 }
 
 fn all_are_written(test: &Test, map: &mut Numbers) {
@@ -60,6 +103,7 @@ fn values_are_updated(test: &Test, map: &mut Numbers) {
 
 fn examples(test: &Test, map: &mut Numbers) {
     last_is_written(test, map);
+    keys_are_written(test, map);
     all_are_written(test, map);
     entry_is_written(test, map);
     values_are_updated(test, map);

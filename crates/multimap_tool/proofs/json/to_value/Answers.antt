@@ -7,7 +7,7 @@ use Rattle.multimap_tool.proofs.json.to_value.Goals as goal
 pub loop-key-preserved : goal.loop-key-preserved
 loop-key-preserved g c =
     let l = c.loop-key in
-    let pair = pair_json g.K.JsonPart.json g.V.JsonPart.json in
+    let pair = pair_json g.K.ToJson.json g.V.ToJson.json in
     let item = c.in_ok-item_of.field-0 in
     let p : g.row.K.Denot × g.row.V.Denot = (c.in-Some.key.now, c.in-Some.value.now) in
     let before : map view l.items.items ++ map pair (p ∷ c.next.new.self) ≡ map pair c.args.map.now.lists.pairs =
@@ -19,6 +19,6 @@ loop-key-preserved g c =
       written = rw c.push_reserved.ensures.items (one_written pair l.items.items item p c.next.new.self c.args.map.now.lists.pairs
           c.in_ok-item_of.ensures.written before);
       room = omega (arith, longer, fewer, l.invariant.room, c.push_reserved.ensures.capacity);
-      accepted = rw c.push_reserved.ensures.items (none_bad-push g.K.JsonPart.is_part g.V.JsonPart.is_part 0 l.items.items item
+      accepted = rw c.push_reserved.ensures.items (none_bad-push g.K.ToJson.is_part g.V.ToJson.is_part 0 l.items.items item
           l.invariant.accepted c.in_ok-item_of.ensures.accepted);
     }

@@ -73,7 +73,7 @@ impl<K: Eq + Hash, V, S: BuildHasher, A: Allocator> ListOrderedMultimap<K, V, S,
         self.left = NO_CHAIN;
     }
 
-    /// The same, and the map is handed back.
+    /// Detaches the key's values, as `detach_all` does, and hands the map back.
     pub(crate) fn detach_all_on(&mut self, key: &K) -> (Option<K>, &mut Self)
         ensures same_map { result.1.ghost_name ≡ self.entry.ghost_name }
         ensures holds { HoldsDrain result.1.now }

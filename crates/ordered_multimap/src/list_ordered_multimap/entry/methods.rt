@@ -69,8 +69,8 @@ impl<'map, K: Eq + Hash, V, S: BuildHasher, A: Allocator> Entry<'map, K, V, S, A
 
 impl<'map, K: Eq + Hash, V: Drop, S: BuildHasher, A: Allocator + Copy> Entry<'map, K, V, S, A> {
     /// The key's first value, to write, if the entry is occupied; the value handed in is dropped
-    /// then. Else puts the pair last, as `append` does without a look-up, and lends its value. Where
-    /// memory is refused, it hands back the pair, and both lists are as before.
+    /// then. Else puts the pair last, as `append` does without a look-up, and lends its value.
+    /// Where memory is refused, it hands back the pair, and both lists are as before.
     ///
     /// ```
     /// *map.entry("page").or_insert(0)? = 9;
@@ -89,7 +89,9 @@ impl<'map, K: Eq + Hash, V: Drop, S: BuildHasher, A: Allocator + Copy> Entry<'ma
         }
     }
 
-    /// The same with what the function answers, which is called only if the entry is vacant.
+    /// The key's first value, to write, as [`or_insert`](Self::or_insert) lends it. The value of a
+    /// pair that is put last is the one that the function returns; it is called only if the entry
+    /// is vacant.
     ///
     /// ```
     /// map.entry("page").or_insert_with(|| 42)?;
@@ -127,7 +129,9 @@ impl<'map, K: Eq + Hash, V: Drop, S: BuildHasher, A: Allocator + Copy> Entry<'ma
         self.or_insert_with_entry(|| value)
     }
 
-    /// The same with what the function answers, which is called only if the entry is vacant.
+    /// The entry, occupied, as [`or_insert_entry`](Self::or_insert_entry) returns it. The value of
+    /// a pair that is put last is the one that the function returns; it is called only if the entry
+    /// is vacant.
     ///
     /// ```
     /// map.entry("page").or_insert_with_entry(|| 42)?.len() == 1

@@ -192,7 +192,8 @@ impl<'map, K: Eq + Hash, V, S: BuildHasher, A: Allocator> OccupiedEntry<'map, K,
         self.map.take_entry_at(place)
     }
 
-    /// The same, and the stored key is dropped.
+    /// Takes the key out with all its values, and returns the first of them; the others are
+    /// dropped, and so is the stored key.
     ///
     /// ```
     /// entry.remove() == 1
@@ -230,8 +231,9 @@ impl<'map, K: Eq + Hash, V: Drop, S: BuildHasher, A: Allocator> OccupiedEntry<'m
         map.drain()
     }
 
-    /// The same, and the stored key is answered before the drain. A caller that is to be proved
-    /// learns of the map only through a function between that answers the drain alone.
+    /// Takes the key out as [`remove_all`](Self::remove_all) does, and returns the stored key
+    /// before the drain of its values. A caller that is to be proved learns of the map only through
+    /// a function between that returns the drain alone.
     ///
     /// ```
     /// entry.remove_entry_all().1.len() == 2

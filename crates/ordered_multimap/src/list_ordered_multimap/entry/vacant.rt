@@ -62,7 +62,9 @@ impl<'map, K: Eq + Hash, V: Drop, S: BuildHasher, A: Allocator + Copy> VacantEnt
         }
     }
 
-    /// The same, and the entry is answered, which is occupied now.
+    /// Puts a pair of the key last, as [`insert`](Self::insert) does, and returns the entry, which
+    /// is occupied now. Where memory is refused, it hands back the pair, and both lists are as
+    /// before.
     ///
     /// ```
     /// entry.insert_entry(5)?.len() == 1

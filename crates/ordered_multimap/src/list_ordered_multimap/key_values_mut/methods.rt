@@ -26,8 +26,17 @@ impl<K: Eq + Hash, V, S: BuildHasher, A: Allocator> ListOrderedMultimap<K, V, S,
     /// its values for writing. Keys, their order, and the order and number of pairs stay. Each step
     /// reads the slot of its key, and no slot of a value.
     ///
+    /// The walk is no `Iterator`, since each step borrows it. A loop counts the keys:
+    ///
     /// ```
-    /// map.pairs_mut().size_hint() == (2, Some(2))
+    /// let mut keys = map.pairs_mut();
+    /// for _ in 0..keys.size_hint().0 {
+    ///     if let Some((_key, values)) = keys.next() {
+    ///         for value in values {
+    ///             *value = 7;
+    ///         }
+    ///     }
+    /// }
     /// ```
     pub fn pairs_mut(&mut self) -> KeyValuesMut<'_, K, V, S, A>
         ensures same_map { result.map.ghost_name ≡ self.entry.ghost_name }
@@ -80,6 +89,14 @@ impl<K: Eq + Hash, V, S: BuildHasher, A: Allocator> ListOrderedMultimap<K, V, S,
 impl<'map, K: Eq + Hash, V, S: BuildHasher, A: Allocator> KeyValuesMut<'map, K, V, S, A> {
     /// The next key from the front, with a walk over its values. The next call may follow once that
     /// walk has ended.
+    ///
+    /// ```
+    /// if let Some((_key, values)) = map.pairs_mut().next() {
+    ///     for value in values {
+    ///         *value = 3;
+    ///     }
+    /// }
+    /// ```
     pub fn next(&mut self) -> Option<(&K, EntryValuesMut<'_, K, V, A>)>
         ensures* writes_back { sem 𝓛 (lends_key_values K.row V.row S.row A.row S.Hasher.row
             A.Allocator Front self.entry result) }
@@ -96,6 +113,14 @@ impl<'map, K: Eq + Hash, V, S: BuildHasher, A: Allocator> KeyValuesMut<'map, K, 
 
     /// The next key from the back, with a walk over its values. The next call may follow once that
     /// walk has ended.
+    ///
+    /// ```
+    /// if let Some((_key, values)) = map.pairs_mut().next_back() {
+    ///     for value in values {
+    ///         *value = 8;
+    ///     }
+    /// }
+    /// ```
     pub fn next_back(&mut self) -> Option<(&K, EntryValuesMut<'_, K, V, A>)>
         ensures* writes_back { sem 𝓛 (lends_key_values K.row V.row S.row A.row S.Hasher.row
             A.Allocator Back self.entry result) }
@@ -111,6 +136,10 @@ impl<'map, K: Eq + Hash, V, S: BuildHasher, A: Allocator> KeyValuesMut<'map, K, 
     }
 
     /// How many keys are left, as the least and as the greatest number.
+    ///
+    /// ```
+    /// map.pairs_mut().size_hint() == (2, Some(2))
+    /// ```
     pub fn size_hint(&self) -> (usize, Option<usize>)
         ensures least { result.0 ≡ length (keys_left self.now) }
         ensures greatest { result.1 ≡ Some result.0 }
@@ -120,6 +149,10 @@ impl<'map, K: Eq + Hash, V, S: BuildHasher, A: Allocator> KeyValuesMut<'map, K, 
     }
 
     /// A walk over the keys that are left, each with a walk over its values, for reading.
+    ///
+    /// ```
+    /// map.pairs_mut().iter().len() == 2
+    /// ```
     pub fn iter(&self) -> KeyValues<'_, K, V, A>
         ensures { result
             ≡ each_with_values K.eq self.now.map.now.lists.pairs (keys_left self.now) }

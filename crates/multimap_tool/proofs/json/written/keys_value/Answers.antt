@@ -7,8 +7,8 @@ use Rattle.multimap_tool.proofs.json.written.keys_value.Goals as goal
 pub loop-key-preserved : goal.loop-key-preserved
 loop-key-preserved g c =
     let l = c.loop-key in
-    let json = g.K.JsonPart.json in
-    let item = c.in_ok-to_part.field-0 in
+    let json = g.K.ToJson.json in
+    let item = c.in_ok-to_json.field-0 in
     let k : g.row.K.Denot = c.in-Some.key.now in
     let before : map view l.items.items ++ map json (k ∷ c.next.new.self) ≡ map json c.args.map.now.lists.keys =
     ap (λ ks. map view l.items.items ++ map json ks) (sym c.in-Some.ensures.steps) ∙ l.invariant.written in
@@ -17,8 +17,8 @@ loop-key-preserved g c =
     let fewer : length l.key-iterator ≡ suc (length c.next.new.self) = ap length c.in-Some.ensures.steps in
     record {
       written = rw c.push_reserved.ensures.items (one_written json l.items.items item k c.next.new.self c.args.map.now.lists.keys
-          c.in_ok-to_part.ensures.written before);
+          c.in_ok-to_json.ensures.written before);
       room = omega (arith, longer, fewer, l.invariant.room, c.push_reserved.ensures.capacity);
-      accepted = rw c.push_reserved.ensures.items (each_item-push g.K.JsonPart.is_part l.items.items item l.invariant.accepted
-          c.in_ok-to_part.ensures.accepted);
+      accepted = rw c.push_reserved.ensures.items (each_item-push g.K.ToJson.is_part l.items.items item l.invariant.accepted
+          c.in_ok-to_json.ensures.accepted);
     }

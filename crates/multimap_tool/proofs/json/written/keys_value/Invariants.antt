@@ -6,7 +6,7 @@ use Rattle.multimap_tool.proofs.json.written.keys_value.Given as goal
 -- what was written, with what is left, is the JSON of all keys, and each item of it is accepted
 abbrev pub invariant-loop-key : goal.invariant-loop-key
 invariant-loop-key g l = record {
-  written : map view l.items.items ++ map g.K.JsonPart.json l.key-iterator ≡ map g.K.JsonPart.json l.map.lists.keys;
+  written : map view l.items.items ++ map g.K.ToJson.json l.key-iterator ≡ map g.K.ToJson.json l.map.lists.keys;
   room : length l.items.items + length l.key-iterator ≤ vec_capacity l.items;
-  accepted : each_item g.K.JsonPart.is_part (items_view l.items.items) ≡ true;
+  accepted : each_item g.K.ToJson.is_part (items_view l.items.items) ≡ true;
 }

@@ -1,0 +1,60 @@
+//! What can be written as a part of a JSON value: each `JsonPart`, and `&str`, which can't be read.
+ghost use Rattle.std.specs.Prelude.{◌≡◌, true, false, IfOk, IsOk};
+ghost use Rattle.serde_json.specs.View.{view};
+
+use super::parts::JsonPart;
+use serde_json::Value;
+use std::alloc::{AllocError, Global};
+
+/// A type whose values can be the keys or the values of a map that is written as JSON.
+///
+/// Each [`JsonPart`] is one. A type of your own that can't be read implements this trait alone, as
+/// `&str` does.
+pub trait ToJson {
+    ghost use Rattle.std.specs.Prelude.{Bool};
+    ghost use Rattle.serde_json.specs.Data.{Data};
+
+    /// The JSON value that it is written as.
+    ghost json: { Self → Data };
+
+    /// Whether a value of this type is written as this JSON value.
+    ghost is_part: { Data → Bool };
+
+    /// Whether it is written without memory.
+    ghost is_written_freely: { Bool };
+
+    /// The JSON value that it is written as. Takes memory from `alloc`, for texts alone.
+    fn to_json(&self, alloc: Global) -> Result<Value, AllocError>
+        ensures written { IfOk result (λ part. view part ≡ json self.now) }
+        ensures accepted { IfOk result (λ part. is_part (view part) ≡ true) }
+        ensures free { is_written_freely ≡ true → IsOk result };
+}
+
+/// What `to_part` writes.
+impl<T: JsonPart> ToJson for T {
+    ghost json = { T.json };
+
+    ghost is_part = { T.is_part };
+
+    ghost is_written_freely = { T.is_written_freely };
+
+    fn to_json(&self, alloc: Global) -> Result<Value, AllocError> {
+        self.to_part(alloc)
+    }
+}
+
+/// A text.
+impl ToJson for &str {
+    ghost use Rattle.serde_json.specs.Data.{string};
+    ghost use Rattle.multimap_tool.specs.Json.{is_text};
+
+    ghost json = { λ part. string part.now };
+
+    ghost is_part = { is_text };
+
+    ghost is_written_freely = { false };
+
+    fn to_json(&self, alloc: Global) -> Result<Value, AllocError> {
+        Value::try_from_str(alloc, self)
+    }
+}
