@@ -1,5 +1,5 @@
 -- Look-ups by key, and the ends of the pairs.
-use Rattle.std.proofs.Common.{option_map, is_some, IfSome, IfNone, ◌≡◌, ◌≢◌, ◌⊎◌, ◌==◌, ℕ, suc, ◌+◌, Bool, true, false, cond, List, [], ◌∷◌}
+use Rattle.std.proofs.Common.{option_map, ◌≡◌, ◌≢◌, ◌⊎◌, ◌==◌, ℕ, suc, ◌+◌, Bool, true, false, cond, List, [], ◌∷◌}
 use Rattle.std.proofs.Common.{length, filter, map, slice_get, Option, Some, None, Result, Ok, Err, IfOk, refl, sym, ap, ◌∙◌, subst, inl}
 use Rattle.std.proofs.Common.{inr, true≢false, arith}
 use Rattle.std.proofs.lemmas.Bool.{cases_eq, eq-eqb, ne_eqb}
@@ -20,7 +20,7 @@ use Rattle.ordered_multimap.specs.Pairs.{all_positions, values_of, values_where,
 use Rattle.ordered_multimap.specs.Keys.{is_listed, stored_key}
 use Rattle.ordered_multimap.specs.Agrees.{Agrees, HasKey, items_of, lists_of}
 use Rattle.ordered_multimap.proofs.Callers.Members.{IsIn-kept}
-use Rattle.ordered_multimap.proofs.Callers.Places.{held, length-filter_map, IsIn-filter_map, origin, begins}
+use Rattle.ordered_multimap.proofs.Callers.Places.{held, length-filter_map, IsIn-filter_map, begins}
 use Rattle.ordered_multimap.proofs.Callers.Laws.{end_item-push}
 use Rattle.ordered_multimap.proofs.Callers.ListedKeys.{is_listed-member, stored_key_only}
 use Rattle.ordered_multimap.proofs.Callers.WellFormed.{is_present-keys}

@@ -16,7 +16,7 @@ use Rattle.multimap_walks.specs.Walk.{end_rest}
 use Rattle.multimap_slots.proofs.Callers.PlaceLists.{IsIn-left, IsIn-right, IsIn-append}
 use Rattle.ordered_multimap.proofs.Callers.Members.{IsIn-filter, IsIn-kept, keys_of-append, keys_of-filter}
 use Rattle.ordered_multimap.proofs.Agreement.Kept.{keys_of-without}
-use Rattle.ordered_multimap.proofs.Callers.ListedKeys.{any_found, any_member, is_listed-member, is_listed-self}
+use Rattle.ordered_multimap.proofs.Callers.ListedKeys.{any_found, any_member, is_listed-self}
 use Rattle.ordered_multimap.proofs.Callers.ListedKeys.{is_present-is_listed, stored_key_member}
 use Rattle.ordered_multimap.proofs.Callers.ListedKeys.{stored_key_only}
 use Rattle.ordered_multimap.proofs.Callers.ListedKeys.{IsDistinct-filter, keys_with-stored_key, keys_with-old, keys_with-cases}

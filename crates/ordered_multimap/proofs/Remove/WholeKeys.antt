@@ -24,7 +24,7 @@ use Rattle.ordered_multimap.proofs.Agreement.Kept.{filter-among, filter_map-filt
 use Rattle.ordered_multimap.proofs.Callers.Places.{begins, held, pair_named, IsIn-filter_map, AreDistinct-filter, filter-agree}
 use Rattle.ordered_multimap.proofs.Callers.Places.{filter_shorter}
 use Rattle.ordered_multimap.proofs.Callers.Places.{filter_map-agree}
-use Rattle.ordered_multimap.proofs.Callers.ListedKeys.{any_member, stored_key_only, is_listed-self, is_listed-member, IsDistinct-filter}
+use Rattle.ordered_multimap.proofs.Callers.ListedKeys.{any_member, stored_key_only, is_listed-self, IsDistinct-filter}
 use Rattle.ordered_multimap.proofs.Agreement.Agreed.{value_owner, well_formed, pair_in, pair_at-is, is_value_of-is}
 use Rattle.ordered_multimap.proofs.Agreement.LookUps.{owns, same_place, first_value, count_of_values}
 use Rattle.ordered_multimap.proofs.Callers.Laws.{is_listed-others}

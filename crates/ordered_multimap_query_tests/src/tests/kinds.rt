@@ -39,7 +39,12 @@ fn finds<K: Eq + Hash + Drop, Q: KeyQuery<K>, E: Drop>(
 
 fn texts_are_found(test: &Test) {
     finds(test, String::from_str(test.alloc(), "line"), "line", "lime");
-    finds(test, BoxedStr::from_str(test.alloc(), "line"), "line", "lime");
+    finds(
+        test,
+        BoxedStr::from_str(test.alloc(), "line"),
+        "line",
+        "lime",
+    );
     finds(test, RcStr::from_str(test.alloc(), "line"), "line", "lime");
 }
 
@@ -56,7 +61,12 @@ const OTHERS: &[u8] = &[1, 2];
 
 fn lists_are_found(test: &Test) {
     finds(test, Vec::from_slice(test.alloc(), ITEMS), ITEMS, OTHERS);
-    finds(test, BoxedSlice::from_slice(test.alloc(), ITEMS), ITEMS, OTHERS);
+    finds(
+        test,
+        BoxedSlice::from_slice(test.alloc(), ITEMS),
+        ITEMS,
+        OTHERS,
+    );
 }
 
 fn lent_lists_are_found(test: &Test) {

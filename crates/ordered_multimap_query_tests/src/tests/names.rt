@@ -109,11 +109,20 @@ fn add(test: &Test, headers: &mut Headers, header: &(&str, &'static str)) {
 fn names_are_found(test: &Test, headers: &Headers) {
     let name = AnyCase { text: "accept" };
     let both = [(End::Front, "text/html"), (End::Front, "text/plain")];
-    test.expect_same("get_all", walk_difference(&mut headers.get_all(name), &both));
+    test.expect_same(
+        "get_all",
+        walk_difference(&mut headers.get_all(name), &both),
+    );
     let cookie = AnyCase { text: "cOOKIE" };
-    test.expect("another of that length", headers.get(cookie).copied() == Some("a=1"));
+    test.expect(
+        "another of that length",
+        headers.get(cookie).copied() == Some("a=1"),
+    );
     test.expect("none", !headers.contains_key(AnyCase { text: "accep" }));
-    test.expect("none of that length", headers.entry_len(AnyCase { text: "accepu" }) == 0);
+    test.expect(
+        "none of that length",
+        headers.entry_len(AnyCase { text: "accepu" }) == 0,
+    );
 }
 
 // The spelling that came first.
@@ -129,7 +138,10 @@ fn headers_are_kept(test: &Test, headers: &mut Headers) {
         add(test, headers, header);
     }
     names_are_found(test, headers);
-    test.expect("the first spelling", is_spelled(headers, "accept", "Accept"));
+    test.expect(
+        "the first spelling",
+        is_spelled(headers, "accept", "Accept"),
+    );
     test.expect("two are left", headers.values_len() == 2);
 }
 

@@ -82,7 +82,10 @@ fn fields_are_kept(test: &Test, fields: &mut ListOrderedMultimap<&'static str, &
     test.expect("the query is read", read_fields(fields, QUERY).is_ok());
     test.expect("page", fields.get("page").copied() == Some("2"));
     test.expect("two tags", fields.entry_len("tag") == 2);
-    test.expect("the last tag", fields.get_all("tag").next_back().copied() == Some("b"));
+    test.expect(
+        "the last tag",
+        fields.get_all("tag").next_back().copied() == Some("b"),
+    );
 }
 
 #[test]

@@ -1,7 +1,7 @@
-use Rattle.std.proofs.Common.{◌≡◌, ℕ, Bool, true, false, Option, Some, None, IfSome, IfNone, refl, sym, ◌∙◌}
+use Rattle.std.proofs.Common.{◌≡◌, ℕ, Bool, true, false, Option, Some, None, IfNone, refl, sym, ◌∙◌}
 use Rattle.std.specs.FinMap.{get}
 use Rattle.std.specs.List.{list_any}
-use Rattle.ordered_multimap.specs.Agrees.{HasKeyWhere, SaysWhetherAccepted, items_of}
+use Rattle.ordered_multimap.specs.Agrees.{SaysWhetherAccepted, items_of}
 use Rattle.ordered_multimap.proofs.Agreement.Queries.{none_accepted}
 use Rattle.ordered_multimap.proofs.list_ordered_multimap.lookup.place_of.Goals as goal
 
