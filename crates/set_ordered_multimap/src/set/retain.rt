@@ -67,7 +67,11 @@ impl<K: Eq + Hash, V: Eq, S: BuildHasher, A: Allocator> SetOrderedMultimap<K, V,
             self.old.tape self.new.tape }
         ensures fewer { length self.new.lists.pairs ≤ length self.old.lists.pairs }
     {
-        self.map.retain(move |key, value| keep.keeps(key, value));
+        self.map.retain(
+            move |key: &K, value: &mut V| -> bool
+                requires { P.lasts keep }
+            { keep.keeps(key, value) },
+        );
     }
 
     /// Calls the function once on each pair, in the order of the pairs. Those for which it returns

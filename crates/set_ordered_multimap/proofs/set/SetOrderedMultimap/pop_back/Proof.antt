@@ -124,6 +124,6 @@ pop_back_spec 𝓤 𝓛 𝓜 𝓡 wired K V S A B LK LV LS LA LB eqs dEq pe dPe 
     move ! (2 ∷ []) $ peeks ! Out (Is Out) (shows 𝓛 Out) o (v₂ ∷ []) (λ io.
     lands_as ! refl refl (((LOut.lawful 𝓛).typed o (v₂ ∷ []) io).0) $
     states ! (option_map popped_of o ≡ p) (subst (λ m. option_map popped_of o ≡ popped_pair pe.eq Back m.lists.pairs) seen given) $
-    move ! (2 ∷ 0 ∷ []) $ join ! $ nothing ! $ nothing ! $ fjoin ! $ nothing ! $ fjoin ! $
+    move ! (2 ∷ 0 ∷ []) $ join ! $ nothing ! $ nothing ! $ fjoin ! $
     returns ! (look_at ! 0 refl) $ free_all ! refl $ keep ! (3 ∷ 0 ∷ 2 ∷ 1 ∷ []) $
     by ! (leaves 𝓛 En hs c y v₂ o (tt, tt) (tt, tt)))))))))))))))
