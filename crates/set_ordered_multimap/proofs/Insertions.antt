@@ -1,15 +1,13 @@
 -- Insertions in turn: their lists, how much longer these become, and what they keep of rooms and of the tape's numbers.
-use Rattle.std.proofs.Common.{◌≡◌, ◌+◌, ◌≤◌, ◌<◌, ℕ, Bool, true, false, cond, List, [], ◌∷◌, ◌++◌, length, length-append, refl, sym, ap, ◌∙◌, subst, arith}
+use Rattle.std.proofs.Common.{◌≡◌, ◌+◌, ◌≤◌, Bool, true, false, cond, List, [], ◌∷◌, ◌++◌, length, length-append, refl, sym, ap, ◌∙◌, subst, arith}
 use Rattle.std.proofs.Common.{Result, Ok, Err}
 use Rattle.std.specs.Cmp.{IsEquivalence}
 use Rattle.ordered_multimap.specs.Additions.{Appends, IsAppended}
 use Rattle.ordered_multimap.specs.Changes.{appended}
-use Rattle.ordered_multimap.specs.Extends.{HasRoomForGiven}
 use Rattle.ordered_multimap.specs.Keys.{is_listed, stored_key, keys_with}
 use Rattle.ordered_multimap.specs.Lists.{Lists}
 use Rattle.ordered_multimap.specs.Multimap.{Multimap}
 use Rattle.ordered_multimap.specs.Rooms.{HasPairRoom, HasRoomForPairs, KeepsRooms}
-use Rattle.ordered_multimap.specs.TapeNumbers.{TakesOut}
 use Rattle.ordered_multimap.specs.declared.list_ordered_multimap.refused.Refused.{Refused}
 use Rattle.set_ordered_multimap.proofs.Callers.Sets.{IsSet-appended}
 use Rattle.set_ordered_multimap.specs.Insertions.{KeepsAll}

@@ -1,5 +1,5 @@
 -- What a retain leaves of a set, and which calls of its function there are.
-use Rattle.std.proofs.Common.{◌≡◌, Bool, true, false, cond, List, [], ◌∷◌, refl, sym, ap, subst}
+use Rattle.std.proofs.Common.{◌≡◌, Bool, true, false, cond, List, [], ◌∷◌, sym, ap, subst}
 use Rattle.std.specs.List.{AllByRecursion, FoldsTo, IsDistinct}
 use Rattle.std.specs.Map.Calls.{CallableOnEachPair, SomeCallAtPair}
 use Rattle.ordered_multimap.specs.Retain.{Retains}

@@ -1,5 +1,5 @@
 -- Pairs that are inserted in turn leave each pair once, at its first occurrence.
-use Rattle.std.proofs.Common.{◌≡◌, Bool, true, false, not, cond, ◌&&◌, ◌||◌, List, [], ◌∷◌, ◌++◌, filter, refl, sym, ap, ◌∙◌}
+use Rattle.std.proofs.Common.{◌≡◌, Bool, true, false, not, cond, ◌&&◌, ◌||◌, List, [], ◌∷◌, filter, refl, sym, ap, ◌∙◌}
 use Rattle.std.proofs.lemmas.List.Folds.{list_any-append}
 use Rattle.std.specs.Cmp.{IsEquivalence}
 use Rattle.ordered_multimap.specs.Changes.{appended, all_appended}
@@ -7,7 +7,7 @@ use Rattle.ordered_multimap.specs.Keys.{stored_key}
 use Rattle.ordered_multimap.specs.Lists.{Lists, empty_lists}
 use Rattle.set_ordered_multimap.proofs.Callers.Sets.{or_false, pair_laws, has_pair-stored}
 use Rattle.set_ordered_multimap.specs.Laws.{KeepsFirstPairs}
-use Rattle.set_ordered_multimap.specs.Set.{same_pair, has_pair, all_inserted, first_pairs, set_inserted}
+use Rattle.set_ordered_multimap.specs.Set.{same_pair, has_pair, all_inserted, first_pairs}
 
 module _ {X : Type 0} where
   -- where the first test passes over all that the second passes over, the second changes nothing

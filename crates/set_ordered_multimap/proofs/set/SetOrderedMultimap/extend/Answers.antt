@@ -1,11 +1,10 @@
-use Rattle.std.proofs.Common.{◌≡◌, true, false, List, [], ◌∷◌, ◌++◌, ◌+◌, length, length-append, true≢false, refl, ap, sym, ◌∙◌, subst}
+use Rattle.std.proofs.Common.{List, [], ◌∷◌, ◌++◌, ◌+◌, length, length-append, ap, sym, ◌∙◌, subst}
 use Rattle.std.specs.Iterator.{Yields}
 use Rattle.std.proofs.iter.Next.{Yields-more}
 use Rattle.ordered_multimap.specs.Extends.{HasRoomForGiven}
 use Rattle.ordered_multimap.specs.Rooms.{HasRoomForPairs}
 use Rattle.set_ordered_multimap.proofs.Callers.Sets.{IsSet-all_inserted}
 use Rattle.set_ordered_multimap.proofs.Insertions.{all_inserted-push, keeps-inserted, keeps-then, pair_room}
-use Rattle.set_ordered_multimap.specs.Insertions.{KeepsAll}
 use Rattle.set_ordered_multimap.specs.Set.{IsSet, set_inserted}
 use Rattle.set_ordered_multimap.proofs.set.SetOrderedMultimap.extend.Given.{Over}
 use Rattle.set_ordered_multimap.proofs.set.SetOrderedMultimap.extend.Goals.{In-Some, In-Err}
