@@ -21,12 +21,6 @@ keeps-all m = record {
 }
 
 module _ {K V : Type 0} (eq : K → K → Bool) (value_eq : V → V → Bool) where
-  -- one more insertion
-  pub all_inserted-push : (m : Lists K V) (pairs : List (K × V)) (k : K) (v : V)
-      → all_inserted eq value_eq m (pairs ++ (k, v) ∷ []) ≡ set_inserted eq value_eq (all_inserted eq value_eq m pairs) k v
-  all_inserted-push m [] k v = refl
-  all_inserted-push m (p ∷ pairs) k v = all_inserted-push (set_inserted eq value_eq m p.0 p.1) pairs k v
-
   -- neither list is longer than before by more than one
   keys_one_more : (keys : List K) (k : K) → length (keys_with eq keys k) ≤ length keys + 1
   keys_one_more keys k = elim (is_listed eq keys k) as (λ b. length (cond b keys (keys ++ k ∷ [])) ≤ length keys + 1) [

@@ -1,5 +1,5 @@
 -- Pairs that are inserted in turn leave each pair once, at its first occurrence.
-use Rattle.std.proofs.Common.{◌≡◌, Bool, true, false, not, cond, ◌&&◌, ◌||◌, List, [], ◌∷◌, filter, refl, sym, ap, ◌∙◌}
+use Rattle.std.proofs.Common.{◌≡◌, Bool, true, false, not, cond, ◌&&◌, ◌||◌, List, [], ◌∷◌, ◌++◌, filter, refl, sym, ap, ◌∙◌}
 use Rattle.std.proofs.lemmas.List.Folds.{list_any-append}
 use Rattle.std.specs.Cmp.{IsEquivalence}
 use Rattle.ordered_multimap.specs.Changes.{appended, all_appended}
@@ -7,7 +7,7 @@ use Rattle.ordered_multimap.specs.Keys.{stored_key}
 use Rattle.ordered_multimap.specs.Lists.{Lists, empty_lists}
 use Rattle.set_ordered_multimap.proofs.Callers.Sets.{or_false, pair_laws, has_pair-stored}
 use Rattle.set_ordered_multimap.specs.Laws.{KeepsFirstPairs}
-use Rattle.set_ordered_multimap.specs.Set.{same_pair, has_pair, all_inserted, first_pairs}
+use Rattle.set_ordered_multimap.specs.Set.{same_pair, has_pair, all_inserted, first_pairs, set_inserted}
 
 module _ {X : Type 0} where
   -- where the first test passes over all that the second passes over, the second changes nothing
@@ -41,6 +41,12 @@ not_or a b = elim a as (λ c. not (c || b) ≡ (not b && not c)) [
   | true ↦ elim b as (λ c. false ≡ (not c && false)) [ true ↦ refl | false ↦ refl ]
   | false ↦ elim b as (λ c. not c ≡ (not c && true)) [ true ↦ refl | false ↦ refl ]
 ]
+
+-- one more insertion
+pub all_inserted-push : {K V : Type 0} (eq : K → K → Bool) (value_eq : V → V → Bool) (m : Lists K V) (pairs : List (K × V)) (k : K) (v : V)
+    → all_inserted eq value_eq m (pairs ++ (k, v) ∷ []) ≡ set_inserted eq value_eq (all_inserted eq value_eq m pairs) k v
+all_inserted-push eq value_eq m [] k v = refl
+all_inserted-push eq value_eq m (p ∷ pairs) k v = all_inserted-push eq value_eq (set_inserted eq value_eq m p.0 p.1) pairs k v
 
 module _ {K V : Type 0} {eq : K → K → Bool} {value_eq : V → V → Bool} (keys : IsEquivalence eq) (values : IsEquivalence value_eq) where
   abbrev pair_eq : K × V → K × V → Bool

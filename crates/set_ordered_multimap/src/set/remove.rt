@@ -1,9 +1,12 @@
 //! Pairs that leave: one, those of a key, and all.
 ghost use Rattle.std.specs.Prelude.{◌≡◌, ◌+◌, ◌&&◌, cond, false, length, true};
 ghost use Rattle.std.specs.Borrow.{sem};
+ghost use Rattle.std.specs.List.{FoldsTo};
 ghost use Rattle.ordered_multimap.specs.Changes.{kept};
 ghost use Rattle.ordered_multimap.specs.Drains.{DrainsEntry};
 ghost use Rattle.ordered_multimap.specs.Lists.{empty_lists};
+ghost use Rattle.ordered_multimap.specs.Pairs.{values_of};
+ghost use Rattle.ordered_multimap.specs.Removals.{IsRemoved};
 ghost use Rattle.ordered_multimap.specs.Rooms.{KeepsRooms, SameRooms};
 ghost use Rattle.ordered_multimap.specs.TapeNumbers.{TakesOut};
 ghost use Rattle.set_ordered_multimap.specs.Set.{IsSet, has_pair, pairs_but, value_removed};
@@ -40,6 +43,23 @@ fn take_equal<K: Eq + Hash + Drop, V: Eq + Drop, S: BuildHasher, A: Allocator>(
         return;
     }
     map.retain(|stored, other| !is_same(key, stored, value, other));
+}
+
+/// Takes the key out with all its values, and hands these to the function, in order.
+fn hand_out<K: Eq + Hash + Drop, V: Drop, S: BuildHasher, A: Allocator, F: FnMut(V)>(
+    map: &mut ListOrderedMultimap<K, V, S, A>,
+    key: &K,
+    mut f: F,
+)
+    requires { F.IsAlwaysCallable f }
+    ensures called { (last : F) × FoldsTo (λ g v h. F.step g v tt h) f
+        (values_of K.eq map.old.lists.pairs key.now) last }
+    ensures removed { IsRemoved K.eq map.old map.new key.now }
+{
+    let mut drain = map.remove_all(key);
+    while let Some(value) = drain.next() {
+        f(value);
+    }
 }
 
 impl<K: Eq + Hash, V: Eq, S: BuildHasher, A: Allocator> SetOrderedMultimap<K, V, S, A> {
@@ -115,7 +135,8 @@ impl<K: Eq + Hash, V: Eq + Drop, S: BuildHasher, A: Allocator> SetOrderedMultima
     /// the call, whatever becomes of the drain, and the stored key is dropped. The drain of an
     /// absent key is empty. The other keys and pairs keep their order.
     ///
-    /// It costs what `remove_all` of the map does, and takes no memory.
+    /// It costs what `remove_all` of the map does, and takes no memory. A caller whose proof has to
+    /// know the set afterwards takes [`remove_all_with`](Self::remove_all_with).
     ///
     /// ```
     /// set.remove_all(&"plan").next_back() == Some("long")
@@ -130,5 +151,23 @@ impl<K: Eq + Hash, V: Eq + Drop, S: BuildHasher, A: Allocator> SetOrderedMultima
     {
         let map = self.lend();
         map.remove_all(key)
+    }
+
+    /// Takes the key out with all its values, and hands these to the function, in order. It is for
+    /// callers that are proved: they know both lists afterwards.
+    ///
+    /// ```
+    /// set.remove_all_with(&"plan", |value| drop(value));
+    /// ```
+    pub fn remove_all_with<F: FnMut(V)>(&mut self, key: &K, f: F)
+    where
+        K: Drop,
+        requires { F.IsAlwaysCallable f }
+        ensures called { (last : F) × FoldsTo (λ g v h. F.step g v tt h) f
+            (values_of K.eq self.old.lists.pairs key.now) last }
+        ensures removed { IsRemoved K.eq self.old self.new key.now }
+        ensures set { IsSet K.eq V.eq self.old.lists → IsSet K.eq V.eq self.new.lists }
+    {
+        hand_out(&mut self.map, key, f);
     }
 }

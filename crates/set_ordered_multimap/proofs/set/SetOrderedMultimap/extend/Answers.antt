@@ -3,8 +3,9 @@ use Rattle.std.specs.Iterator.{Yields}
 use Rattle.std.proofs.iter.Next.{Yields-more}
 use Rattle.ordered_multimap.specs.Extends.{HasRoomForGiven}
 use Rattle.ordered_multimap.specs.Rooms.{HasRoomForPairs}
+use Rattle.set_ordered_multimap.proofs.Callers.FirstPairs.{all_inserted-push}
 use Rattle.set_ordered_multimap.proofs.Callers.Sets.{IsSet-all_inserted}
-use Rattle.set_ordered_multimap.proofs.Insertions.{all_inserted-push, keeps-inserted, keeps-then, pair_room}
+use Rattle.set_ordered_multimap.proofs.Insertions.{keeps-inserted, keeps-then, pair_room}
 use Rattle.set_ordered_multimap.specs.Set.{IsSet, set_inserted}
 use Rattle.set_ordered_multimap.proofs.set.SetOrderedMultimap.extend.Given.{Over}
 use Rattle.set_ordered_multimap.proofs.set.SetOrderedMultimap.extend.Goals.{In-Some, In-Err}
