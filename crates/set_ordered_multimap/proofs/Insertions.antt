@@ -1,0 +1,85 @@
+-- Insertions in turn: their lists, how much longer these become, and what they keep of rooms and of the tape's numbers.
+use Rattle.std.proofs.Common.{◌≡◌, ◌+◌, ◌≤◌, Bool, true, false, cond, List, [], ◌∷◌, ◌++◌, length, length-append, refl, sym, ap, ◌∙◌, subst, arith}
+use Rattle.std.proofs.Common.{Result, Ok, Err}
+use Rattle.std.specs.Cmp.{IsEquivalence}
+use Rattle.ordered_multimap.specs.Additions.{Appends, IsAppended}
+use Rattle.ordered_multimap.specs.Changes.{appended}
+use Rattle.ordered_multimap.specs.Keys.{is_listed, stored_key, keys_with}
+use Rattle.ordered_multimap.specs.Lists.{Lists}
+use Rattle.ordered_multimap.specs.Multimap.{Multimap}
+use Rattle.ordered_multimap.specs.Rooms.{HasPairRoom, HasRoomForPairs, KeepsRooms}
+use Rattle.ordered_multimap.specs.declared.list_ordered_multimap.refused.Refused.{Refused}
+use Rattle.set_ordered_multimap.proofs.Callers.Sets.{IsSet-appended}
+use Rattle.set_ordered_multimap.specs.Insertions.{KeepsAll}
+use Rattle.set_ordered_multimap.specs.Set.{IsSet, has_pair, set_inserted, all_inserted}
+
+-- nothing was done
+pub keeps-all : {K V S : Type 0} (m : Multimap K V S) → KeepsAll m m
+keeps-all m = record {
+  rooms = record { keys = omega arith; values = omega arith; hasher = refl };
+  taken = record { freed = omega arith; paid = omega arith };
+}
+
+module _ {K V : Type 0} (eq : K → K → Bool) (value_eq : V → V → Bool) where
+  -- neither list is longer than before by more than one
+  keys_one_more : (keys : List K) (k : K) → length (keys_with eq keys k) ≤ length keys + 1
+  keys_one_more keys k = elim (is_listed eq keys k) as (λ b. length (cond b keys (keys ++ k ∷ [])) ≤ length keys + 1) [
+    | true ↦ omega arith
+    | false ↦ omega (arith, length-append keys (k ∷ []))
+  ]
+
+  one_more : (m : Lists K V) (k : K) (v : V) → (length (set_inserted eq value_eq m k v).keys ≤ length m.keys + 1)
+      × (length (set_inserted eq value_eq m k v).pairs ≤ length m.pairs + 1)
+  one_more m k v = elim (has_pair eq value_eq m.pairs k v) as (λ b. let n : Lists K V = cond b m (appended eq m k v) in
+      (length n.keys ≤ length m.keys + 1) × (length n.pairs ≤ length m.pairs + 1)) [
+        | true ↦ (omega arith, omega arith)
+        | false ↦ (keys_one_more m.keys k, omega (arith, length-append m.pairs ((stored_key eq m.keys k, v) ∷ [])))
+      ]
+
+  -- nor by more than there are pairs
+  pub lengths-inserted : (m : Lists K V) (pairs : List (K × V)) → (length (all_inserted eq value_eq m pairs).keys ≤ length m.keys + length pairs)
+      × (length (all_inserted eq value_eq m pairs).pairs ≤ length m.pairs + length pairs)
+  lengths-inserted m [] = (omega arith, omega arith)
+  lengths-inserted m (p ∷ pairs) =
+      let first = one_more m p.0 p.1 in
+      let rest = lengths-inserted (set_inserted eq value_eq m p.0 p.1) pairs in
+      (omega (arith, first.0, rest.0), omega (arith, first.1, rest.1))
+
+  module _ {S : Type 0} where
+    -- so where there was room for so many pairs and one more, there is room for one
+    pub pair_room : (m n : Multimap K V S) (pairs : List (K × V)) → HasRoomForPairs m (length pairs + 1)
+        → n.lists ≡ all_inserted eq value_eq m.lists pairs → KeepsRooms m n → (k : K) → HasPairRoom eq n k
+    pair_room m n pairs room is rooms k =
+        let long = lengths-inserted m.lists pairs in
+        record {
+          value = omega (arith, room.values, rooms.values, long.1, ap (λ (l : Lists K V). length l.pairs) is);
+          key = λ _. omega (arith, room.keys, rooms.keys, long.0, ap (λ (l : Lists K V). length l.keys) is);
+        }
+
+    -- an insertion keeps all, whether the pair was there or not
+    pub keeps-inserted : (m n : Multimap K V S) (k : K) (v : V) → (has_pair eq value_eq m.lists.pairs k v ≡ true → n ≡ m)
+        → (has_pair eq value_eq m.lists.pairs k v ≡ false → IsAppended eq k v m n) → KeepsAll m n
+    keeps-inserted m n k v same more = elim (has_pair eq value_eq m.lists.pairs k v) as
+        (λ b. has_pair eq value_eq m.lists.pairs k v ≡ b → KeepsAll m n) [
+          | true ↦ λ there. subst (KeepsAll m) (sym (same there)) (keeps-all m)
+          | false ↦ λ absent. let a = more absent in record { rooms = a.rooms; taken = a.taken }
+        ] refl
+
+-- lists to which a new pair was appended, or was refused, are a set again
+pub IsSet-appends : {K V S X : Type 0} {eq : K → K → Bool} {value_eq : V → V → Bool} → IsEquivalence eq → IsEquivalence value_eq
+    → (m n : Multimap K V S) (k : K) (v : V) (r : Result X (Refused K V)) → Appends eq k v m n r
+    → has_pair eq value_eq m.lists.pairs k v ≡ false → IsSet eq value_eq m.lists → IsSet eq value_eq n.lists
+IsSet-appends {eq = eq} {value_eq = value_eq} keys values m n k v (Ok x) a absent set =
+    subst (IsSet eq value_eq) (sym a.ok.lists) (IsSet-appended keys values m.lists k v absent set)
+IsSet-appends {eq = eq} {value_eq = value_eq} keys values m n k v (Err e) a absent set = subst (IsSet eq value_eq) (sym a.refused.lists) set
+
+-- and so do two in a row
+pub keeps-then : {K V S : Type 0} {a b c : Multimap K V S} → KeepsAll a b → KeepsAll b c → KeepsAll a c
+keeps-then f s = record {
+  rooms = record {
+    keys = omega (arith, f.rooms.keys, s.rooms.keys);
+    values = omega (arith, f.rooms.values, s.rooms.values);
+    hasher = s.rooms.hasher ∙ f.rooms.hasher;
+  };
+  taken = record { freed = omega (arith, f.taken.freed, s.taken.freed); paid = omega (arith, f.taken.paid, s.taken.paid) };
+}

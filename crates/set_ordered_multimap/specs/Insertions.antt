@@ -1,0 +1,30 @@
+-- What a call makes of a set that inserts the pairs of an iterator.
+use Rattle.std.specs.Prelude.{◌≡◌, Bool, List, [], ◌∷◌, ◌++◌, Option, Result, MatchResult}
+use Rattle.std.specs.Iterator.{Drains, Yields}
+use Rattle.ordered_multimap.specs.Changes.{built_from}
+use Rattle.ordered_multimap.specs.Lists.{Lists}
+use Rattle.ordered_multimap.specs.Multimap.{Multimap}
+use Rattle.ordered_multimap.specs.Rooms.{KeepsRooms}
+use Rattle.ordered_multimap.specs.TapeNumbers.{TakesOut}
+use Rattle.ordered_multimap.specs.declared.list_ordered_multimap.refused.Refused.{Refused}
+use Rattle.set_ordered_multimap.specs.Set.{all_inserted, first_pairs}
+
+module _ {K V : Type 0} (eq : K → K → Bool) (value_eq : V → V → Bool) {I T : Type 0}
+    (becomes : I → T → Type 0) (steps : T → Option (K × V) → T → Type 0) where
+  -- each of these pairs was inserted in turn; all that the iterator has, or those before the pair
+  -- that was refused
+  abbrev pub InsertsAll : I → Lists K V → Lists K V → Result (Unit {0}) (Refused K V) → Type 0
+  InsertsAll iter old new r = (it : T) × (pairs : List (K × V)) × becomes iter it
+      × (new ≡ all_inserted eq value_eq old pairs)
+      × MatchResult r (λ _. Drains steps it pairs)
+      (λ refused. (t : T) × Yields steps it (pairs ++ (refused.key, refused.value) ∷ []) t)
+
+  -- of equal pairs of the iterator the first was appended to empty lists, and no other
+  abbrev pub IsSetOf : I → Lists K V → Type 0
+  IsSetOf iter new = (it : T) × (pairs : List (K × V)) × becomes iter it
+      × (new ≡ built_from eq (first_pairs eq value_eq pairs)) × Drains steps it pairs
+
+-- no room is lower, the hash builder is the same, and no value was taken out
+pub record KeepsAll {K V S : Type 0} (old new : Multimap K V S) : Type 0 where
+  pub rooms : KeepsRooms old new
+  pub taken : TakesOut 0 old.tape new.tape

@@ -1,0 +1,41 @@
+-- Lists of pairs in which no pair stands twice, under the keys' equality `eq` and the values'
+-- equality `value_eq`, and what an insertion or a removal makes of them.
+use Rattle.std.specs.Prelude.{Bool, not, cond, ◌&&◌, List, [], ◌∷◌, filter}
+use Rattle.std.specs.List.{IsDistinct, list_any}
+use Rattle.ordered_multimap.specs.Lists.{Lists}
+use Rattle.ordered_multimap.specs.Changes.{appended, kept}
+
+module _ {K V : Type 0} (eq : K → K → Bool) (value_eq : V → V → Bool) where
+  -- two pairs are equal if their keys are equal and their values are
+  abbrev pub same_pair : K × V → K × V → Bool
+  same_pair p q = eq p.0 q.0 && value_eq p.1 q.1
+
+  -- whether an equal pair is listed
+  abbrev pub has_pair : List (K × V) → K → V → Bool
+  has_pair pairs k v = list_any (same_pair (k, v)) pairs
+
+  -- the pairs but those that are equal to this one
+  abbrev pub pairs_but : List (K × V) → K → V → List (K × V)
+  pairs_but pairs k v = filter (λ p. not (same_pair (k, v) p)) pairs
+
+  -- no two pairs are equal
+  abbrev pub IsSet : Lists K V → Type 0
+  IsSet m = IsDistinct same_pair m.pairs
+
+  -- a pair of which there is no equal one goes last
+  abbrev pub set_inserted : Lists K V → K → V → Lists K V
+  set_inserted m k v = cond (has_pair m.pairs k v) m (appended eq m k v)
+
+  -- the equal pair goes, if there is one, and so does a key that no pair names then
+  abbrev pub value_removed : Lists K V → K → V → Lists K V
+  value_removed m k v = cond (has_pair m.pairs k v) (kept eq m (pairs_but m.pairs k v)) m
+
+  -- each pair is inserted in turn
+  abbrev pub all_inserted : Lists K V → List (K × V) → Lists K V
+  all_inserted m [] = m
+  all_inserted m (p ∷ pairs) = all_inserted (set_inserted m p.0 p.1) pairs
+
+  -- the pairs, each only where no earlier one is equal
+  abbrev pub first_pairs : List (K × V) → List (K × V)
+  first_pairs [] = []
+  first_pairs (p ∷ pairs) = p ∷ filter (λ q. not (same_pair p q)) (first_pairs pairs)

@@ -1,0 +1,114 @@
+//! Pairs that come last, where no equal one is there.
+ghost use Rattle.std.specs.Prelude.{◌≡◌, not, true, false, IfErr, IfOk, IsOk, OnOk};
+ghost use Rattle.std.specs.Iterator.{IsFinite};
+ghost use Rattle.ordered_multimap.specs.Additions.{Appends, IsRefused};
+ghost use Rattle.ordered_multimap.specs.Extends.{HasRoomForGiven, IsItem};
+ghost use Rattle.ordered_multimap.specs.Rooms.{HasPairRoom};
+ghost use Rattle.ordered_multimap.specs.TapeNumbers.{AreUnused};
+ghost use Rattle.set_ordered_multimap.specs.Insertions.{InsertsAll, IsSetOf, KeepsAll};
+ghost use Rattle.set_ordered_multimap.specs.Set.{IsSet, has_pair, set_inserted};
+
+use super::SetOrderedMultimap;
+use ordered_multimap::list_ordered_multimap::Refused;
+use std::alloc::Allocator;
+use std::hash::{BuildHasher, Hash};
+
+impl<K: Eq + Hash + Drop, V: Eq + Drop, S: BuildHasher, A: Allocator + Copy> SetOrderedMultimap<
+    K,
+    V,
+    S,
+    A,
+> {
+    /// Puts the pair last and returns true, where no pair with an equal key and an equal value is
+    /// there. Else it changes nothing, drops what was handed in, takes no memory, and returns false.
+    /// A present key stays as it was stored, and the one handed in is dropped.
+    ///
+    /// Where memory is refused, it hands back the pair, and both lists are as before. It costs what
+    /// `contains` does, and for a new pair what `append` of the map does.
+    ///
+    /// ```
+    /// set.insert("plan", "draft") == Ok(false)
+    /// ```
+    pub fn insert(&mut self, key: K, value: V) -> Result<bool, Refused<K, V>>
+        ensures new { IfOk result (λ new.
+            new ≡ not (has_pair K.eq V.eq self.old.lists.pairs key value)) }
+        ensures lists { OnOk result (self.new.lists
+            ≡ set_inserted K.eq V.eq self.old.lists key value) }
+        ensures set { IsSet K.eq V.eq self.old.lists → IsSet K.eq V.eq self.new.lists }
+
+        // An equal pair is there: nothing changes, and nothing is refused.
+        ensures unchanged { has_pair K.eq V.eq self.old.lists.pairs key value ≡ true
+            → self.new ≡ self.old }
+        ensures succeeds { has_pair K.eq V.eq self.old.lists.pairs key value ≡ true → IsOk result }
+
+        // A new pair comes as by `append` of the map, with its rooms.
+        ensures appends { has_pair K.eq V.eq self.old.lists.pairs key value ≡ false
+            → Appends K.eq key value self.old self.new result }
+        ensures refused { IfErr result (IsRefused K.eq key value self.old self.new) }
+        ensures had_room { HasPairRoom K.eq self.old key → IsOk result }
+    {
+        if self.contains(&key, &value) {
+            return Ok(false);
+        }
+        match self.map.append(key, value) {
+            Ok(_) => Ok(true),
+            Err(refused) => Err(refused),
+        }
+    }
+
+    /// Inserts each pair in turn. `iter` has to end. Where there is room for as many more keys and
+    /// as many more values as it has pairs, it succeeds for sure.
+    ///
+    /// Where memory is refused for a pair, it hands that pair back; those before it stay. A caller
+    /// who hands in `&mut iter` keeps those behind it. It costs what `insert` costs for each pair.
+    ///
+    /// ```
+    /// set.extend(pairs)?;
+    /// ```
+    pub fn extend<I: IntoIterator<Item = (K, V)>>(&mut self, iter: I) -> Result<(), Refused<K, V>>
+        requires { (it : I.IntoIter) → I.into_iter_gives iter it
+            → I.IntoIter.can_next it × IsFinite (I.IntoIter.remaining it) }
+        ensures inserts { InsertsAll K.eq V.eq I.into_iter_gives I.IntoIter.next_gives iter
+            self.old.lists self.new.lists result }
+        ensures set { IsSet K.eq V.eq self.old.lists → IsSet K.eq V.eq self.new.lists }
+        ensures keeps { KeepsAll self.old self.new }
+        ensures had_room { HasRoomForGiven I.into_iter_gives I.IntoIter.next_gives iter self.old
+            → IsOk result }
+    {
+        for (key, value) in iter {
+            if let Err(refused) = self.insert(key, value) {
+                return Err(refused);
+            }
+        }
+        Ok(())
+    }
+
+    /// A set with this hash builder, of the pairs in turn, as `extend` inserts them: each stands
+    /// once, at its first occurrence. `alloc` gives its memory. Where memory is refused for a pair,
+    /// it hands that pair back, and there is no set. `iter` has to end.
+    ///
+    /// ```
+    /// SetOrderedMultimap::from_iter(alloc, DefaultState::new(), pairs)?
+    /// ```
+    pub fn from_iter<I: IntoIterator<Item = (K, V)>>(
+        alloc: A,
+        state: S,
+        iter: I,
+    ) -> Result<Self, Refused<K, V>>
+    where
+        S: Drop,
+        requires { (it : I.IntoIter) → I.into_iter_gives iter it
+            → I.IntoIter.can_next it × IsFinite (I.IntoIter.remaining it) }
+        ensures built { IfOk result (λ s.
+            IsSetOf K.eq V.eq I.into_iter_gives I.IntoIter.next_gives iter s.lists) }
+        ensures set { IfOk result (λ s. IsSet K.eq V.eq s.lists) }
+        ensures refused { IfErr result (IsItem I.into_iter_gives I.IntoIter.next_gives iter) }
+        ensures hasher { IfOk result (λ s. s.hasher ≡ state) }
+    {
+        let mut set = SetOrderedMultimap::with_hasher(alloc, state);
+        if let Err(refused) = set.extend(iter) {
+            return Err(refused);
+        }
+        Ok(set)
+    }
+}

@@ -1,0 +1,104 @@
+//! One pass over all pairs that keeps those for which a function returns true.
+ghost use Rattle.std.specs.Prelude.{◌≡◌, ◌≤◌, ◌-◌, Bool, length};
+ghost use Rattle.ordered_multimap.specs.Keys.{keys_named_by};
+ghost use Rattle.ordered_multimap.specs.Retain.{Retains};
+ghost use Rattle.ordered_multimap.specs.Rooms.{SameRooms};
+ghost use Rattle.ordered_multimap.specs.TapeNumbers.{TakesOut};
+ghost use Rattle.set_ordered_multimap.specs.Asked.{AskedOnPair, AsksOnPair};
+ghost use Rattle.set_ordered_multimap.specs.Set.{IsSet};
+
+use super::SetOrderedMultimap;
+use std::alloc::Allocator;
+use std::hash::{BuildHasher, Hash};
+use std::marker::Model;
+
+/// Tells which pairs stay: a trait of its own, since the borrow checker doesn't cover a closure that
+/// calls a function of a type that is a parameter.
+trait Keep<K, V>: Drop {
+    /// It may be asked now, and after each time that it was asked.
+    ghost lasts: { Self → Type 0 };
+
+    /// Asked for a key and a value, it may return this, and be left as that.
+    ghost gives: { Self → K → V → Bool → Self → Type 0 };
+
+    /// Whether the pair stays.
+    fn keeps(&mut self, key: &K, value: &V) -> bool
+        requires { lasts self.old }
+        ensures gives { gives self.old key.now value.now result self.new }
+        ensures lasts { lasts self.new };
+}
+
+/// A function of a key and a value.
+#[derive(Drop)]
+struct KeepBy<F> {
+    keep: F,
+}
+
+impl<F> Model for KeepBy<F> {
+    ghost Value = { F };
+
+    ghost view = { λ k. k.keep };
+}
+
+impl<K, V, F: FnMut(&K, &V) -> bool> Keep<K, V> for KeepBy<F> {
+    ghost lasts = { λ f. F.IsAlwaysCallable f };
+
+    ghost gives = { AskedOnPair F.FnMut };
+
+    fn keeps(&mut self, key: &K, value: &V) -> bool {
+        (self.keep)(key, value)
+    }
+}
+
+impl<K: Eq + Hash, V: Eq, S: BuildHasher, A: Allocator> SetOrderedMultimap<K, V, S, A> {
+    /// Asks once for each pair, in the order of the pairs, and takes out those that don't stay.
+    fn retain_by<P: Keep<K, V>>(&mut self, mut keep: P)
+    where
+        K: Drop,
+        V: Drop,
+        requires { P.lasts keep }
+        ensures retained { (last : P)
+            × Retains (λ p k v b w q. P.gives p k v b q × (w ≡ v)) keep
+            self.old.lists.pairs self.new.lists.pairs last }
+        ensures keys { self.new.lists.keys
+            ≡ keys_named_by K.eq self.old.lists.keys self.new.lists.pairs }
+        ensures rooms { SameRooms self.old self.new }
+        ensures taken { TakesOut (length self.old.lists.pairs - length self.new.lists.pairs)
+            self.old.tape self.new.tape }
+        ensures fewer { length self.new.lists.pairs ≤ length self.old.lists.pairs }
+    {
+        self.map.retain(
+            move |key: &K, value: &mut V| -> bool
+                requires { P.lasts keep }
+            { keep.keeps(key, value) },
+        );
+    }
+
+    /// Calls the function once on each pair, in the order of the pairs. Those for which it returns
+    /// true stay; the others are dropped, and so is a key with its last pair. What stays keeps its
+    /// order. The function has to be callable on any pair, however often it was called.
+    ///
+    /// It takes no memory and gives none back, and costs what `retain` of the map does. The function
+    /// is lent the value for reading alone, since a written value could become equal to another one.
+    ///
+    /// ```
+    /// set.retain(|_key, value| *value != "draft");
+    /// ```
+    pub fn retain<F: FnMut(&K, &V) -> bool>(&mut self, f: F)
+    where
+        K: Drop,
+        V: Drop,
+        requires { F.IsAlwaysCallable f }
+        ensures retained { (last : F) × Retains (AsksOnPair F.FnMut) f
+            self.old.lists.pairs self.new.lists.pairs last }
+        ensures keys { self.new.lists.keys
+            ≡ keys_named_by K.eq self.old.lists.keys self.new.lists.pairs }
+        ensures set { IsSet K.eq V.eq self.old.lists → IsSet K.eq V.eq self.new.lists }
+        ensures rooms { SameRooms self.old self.new }
+        ensures taken { TakesOut (length self.old.lists.pairs - length self.new.lists.pairs)
+            self.old.tape self.new.tape }
+        ensures fewer { length self.new.lists.pairs ≤ length self.old.lists.pairs }
+    {
+        self.retain_by(KeepBy { keep: f });
+    }
+}

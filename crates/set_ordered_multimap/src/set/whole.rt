@@ -1,0 +1,103 @@
+//! Calls on the set as a whole: equality, clones, its text, and the walk that takes it apart.
+ghost use Rattle.std.specs.Cmp.{and_equiv, and_per, on_equiv, on_per, partial_equiv_from_equiv};
+ghost use Rattle.std.specs.Cmp.Lexicographic.{lists_equiv, lists_per};
+ghost use Rattle.std.specs.Prelude.{◌≡◌, [], true, IfOk, IsOk};
+ghost use Rattle.ordered_multimap.specs.Clones.{AreClones};
+ghost use Rattle.ordered_multimap.specs.Lists.{IsIn};
+ghost use Rattle.ordered_multimap.specs.Pairs.{all_values, same_pairs};
+ghost use Rattle.ordered_multimap.specs.TapeNumbers.{AreUnused};
+ghost use Rattle.set_ordered_multimap.specs.Set.{IsSet};
+
+use super::SetOrderedMultimap;
+use ordered_multimap::list_ordered_multimap::{IntoIter, UnclonedKey};
+use std::alloc::{AllocError, Allocator};
+use std::fmt;
+use std::hash::{BuildHasher, Hash};
+
+/// Two sets are equal if they have as many pairs, and equal keys and equal values at each position,
+/// as maps are. The order of their keys may differ.
+///
+/// ```
+/// set == set.clone()?
+/// ```
+impl<K: Eq + Hash, V: PartialEq, S: BuildHasher, A: Allocator> PartialEq
+    for SetOrderedMultimap<K, V, S, A> {
+    ghost eq = { λ m n. same_pairs K.eq V.eq m.lists.pairs n.lists.pairs };
+
+    ghost laws = { on_per (λ m. m.lists.pairs) (lists_per
+        (and_per (on_per (λ p. p.0) (partial_equiv_from_equiv K.Eq.laws))
+        (on_per (λ p. p.1) V.laws))) };
+
+    fn eq(&self, other: &Self) -> bool {
+        self.map == other.map
+    }
+}
+
+impl<K: Eq + Hash, V: Eq, S: BuildHasher, A: Allocator> Eq for SetOrderedMultimap<K, V, S, A> {
+    ghost laws = { on_equiv (λ m. m.lists.pairs) (lists_equiv
+        (and_equiv (on_equiv (λ p. p.0) K.Eq.laws) (on_equiv (λ p. p.1) V.Eq.laws))) };
+}
+
+impl<
+    K: Eq + Hash + Clone,
+    V: Eq + Clone,
+    S: BuildHasher + Clone,
+    A: Allocator + Copy,
+> SetOrderedMultimap<K, V, S, A> {
+    /// A set with a clone of each key and of each value, in the same orders, and a clone of the hash
+    /// builder. A clone of a key must be equal to it. It costs what `clone` of the map does, and is
+    /// refused memory where that is.
+    ///
+    /// ```
+    /// set.clone()?.values_len() == 3
+    /// ```
+    pub fn clone(&self) -> Result<Self, AllocError>
+        requires { (k c : K) → IsIn k self.now.lists.keys → K.is_clone k c → K.eq k c ≡ true }
+        ensures clones { IfOk result (λ m.
+            AreClones K.eq K.is_clone V.is_clone self.now.lists m.lists) }
+
+        // Where a clone of a value is equal to it, no pair of the clone stands twice either.
+        ensures set { ((v c : V) → V.is_clone v c → V.eq v c ≡ true)
+            → IsSet K.eq V.eq self.now.lists → IfOk result (λ m. IsSet K.eq V.eq m.lists) }
+
+        // Where a clone is the very key or value, the lists are the same.
+        ensures lists { ((k c : K) → IsIn k self.now.lists.keys → K.is_clone k c → c ≡ k)
+            → ((v c : V) → IsIn v (all_values self.now.lists.pairs) → V.is_clone v c → c ≡ v)
+            → IfOk result (λ m. m.lists ≡ self.now.lists) }
+
+        ensures hasher { IfOk result (λ m. S.is_clone self.now.hasher m.hasher) }
+        ensures unused { IfOk result (λ m. AreUnused m.tape) }
+        ensures succeeds { self.now.lists.pairs ≡ [] → S.is_infallible self.now.hasher
+            → IsOk result }
+    {
+        let map = self.map.clone()?;
+        Ok(SetOrderedMultimap { map })
+    }
+}
+
+/// The pairs as those of a map are shown, as `{"plan": "draft", "plan": "long"}`.
+impl<K: Eq + Hash + fmt::Debug, V: fmt::Debug, S: BuildHasher, A: Allocator> fmt::Debug
+    for SetOrderedMultimap<K, V, S, A> {
+    fn fmt<W: fmt::Write>(&self, f: &mut fmt::Formatter<W>) -> fmt::Result {
+        self.map.fmt(f)
+    }
+}
+
+impl<K: Eq + Hash + Clone, V: Drop, S: BuildHasher + Drop, A: Allocator> IntoIterator
+    for SetOrderedMultimap<K, V, S, A> {
+    type Item = Result<(K, V), UnclonedKey<V>>;
+
+    type IntoIter = IntoIter<K, V, A>;
+
+    ghost into_iter_gives = { λ m r. r ≡ m.lists.pairs };
+
+    /// All pairs, oldest first, each handed out with a clone of its key. The set is given up.
+    ///
+    /// ```
+    /// set.into_iter().next() == Some(Ok(("plan", "draft")))
+    /// ```
+    fn into_iter(self) -> IntoIter<K, V, A> {
+        let SetOrderedMultimap { map } = self;
+        map.into_iter()
+    }
+}

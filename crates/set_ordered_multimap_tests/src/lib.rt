@@ -1,0 +1,5 @@
+//! Tests of the set from outside.
+#![tactic(auto)]
+
+#[cfg(test)]
+mod tests;

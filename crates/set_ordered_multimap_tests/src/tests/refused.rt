@@ -1,0 +1,216 @@
+//! Each request for memory of each call that grows is refused in turn: what was to be stored comes
+//! back, and both lists are as before. What needs no memory is done where all is refused.
+use ordered_multimap::list_ordered_multimap::{DefaultState, Refused};
+use refusing_allocator::RefusingAllocator;
+use set_callers::lists::has_lists;
+use set_ordered_multimap::SetOrderedMultimap;
+use test_helpers::{Failed, Test, requests_until_enough};
+
+type Refusing<'a> = SetOrderedMultimap<u32, u32, DefaultState, &'a RefusingAllocator>;
+
+/// What a set has before the call, and the pair that is to come.
+struct Start {
+    pairs: &'static [(u32, u32)],
+    keys: &'static [u32],
+    new: (u32, u32),
+    // How many requests the insertion makes at least.
+    least: u64,
+}
+
+// A new set makes key slots, a table and value slots. Four pairs fill the first value slots, so that
+// a fifth one wants more.
+const STARTS: &[Start] = &[
+    Start {
+        pairs: &[],
+        keys: &[],
+        new: (1, 5),
+        least: 3,
+    },
+    Start {
+        pairs: &[(1, 1), (1, 2), (1, 3), (1, 4)],
+        keys: &[1],
+        new: (1, 5),
+        least: 1,
+    },
+    Start {
+        pairs: &[(2, 1), (2, 2), (2, 3), (2, 4)],
+        keys: &[2],
+        new: (1, 5),
+        least: 1,
+    },
+];
+
+fn fill(test: &Test, set: &mut Refusing<'_>, pairs: &[(u32, u32)]) {
+    for (key, value) in pairs {
+        test.expect("insert", set.insert(*key, *value) == Ok(true));
+    }
+}
+
+// Whether the pair stands last, once.
+fn stands_last(set: &Refusing<'_>, start: &Start) -> bool {
+    let count = start.pairs.len().saturating_add(1);
+    set.values_len() == count
+        && set.iter().next_back() == Some((&start.new.0, &start.new.1))
+        && set.contains(&start.new.0, &start.new.1)
+}
+
+// What an insertion leaves; whether there was memory.
+fn is_inserted(
+    test: &Test,
+    set: &Refusing<'_>,
+    start: &Start,
+    given: Result<bool, Refused<u32, u32>>,
+) -> bool {
+    match given {
+        Ok(new) => {
+            test.expect("the pair is new", new && stands_last(set, start));
+            true
+        }
+        Err(refused) => {
+            let pair = (refused.key, refused.value);
+            test.expect("the pair comes back", pair == start.new);
+            test.expect("as before", has_lists(set, start.pairs, start.keys));
+            false
+        }
+    }
+}
+
+fn insert_with(test: &Test, granted: u64, start: &Start) -> bool {
+    let allocator = RefusingAllocator::unlimited(test.alloc());
+    let mut set = SetOrderedMultimap::new(&allocator);
+    fill(test, &mut set, start.pairs);
+    allocator.grant(granted);
+    let given = set.insert(start.new.0, start.new.1);
+    let enough = is_inserted(test, &set, start, given);
+    test.expect("refused for want of memory", enough != allocator.refused());
+    enough
+}
+
+fn insertions_are_refused(test: &Test) {
+    for (row, start) in STARTS.iter().enumerate() {
+        let enough = requests_until_enough(|granted| insert_with(test, granted, start));
+        test.expect_at("requests", row, enough.unwrap_or(0) >= start.least);
+    }
+}
+
+// Pairs of which one comes twice, and the set of them.
+const PAIRS: &[(u32, u32)] = &[(1, 1), (2, 2), (1, 1), (3, 3)];
+
+const FIRST: &[(u32, u32)] = &[(1, 1), (2, 2), (3, 3)];
+
+const KEYS: &[u32] = &[1, 2, 3];
+
+// The pairs before the refused one are there, and no other.
+fn has_those_before(set: &Refusing<'_>, count: usize) -> bool {
+    let count = count.min(3);
+    has_lists(set, &FIRST[..count], &KEYS[..count])
+}
+
+// The refused pair is the one behind the first so many of the set.
+fn comes_back(count: usize, refused: &Refused<u32, u32>) -> bool {
+    FIRST.get(count).copied() == Some((refused.key, refused.value))
+}
+
+fn extend_with(test: &Test, granted: u64) -> bool {
+    let allocator = RefusingAllocator::new(test.alloc(), granted);
+    let mut set = SetOrderedMultimap::new(&allocator);
+    let given = set.extend(PAIRS.iter().copied());
+    is_extended(test, &set, given)
+}
+
+fn is_extended(test: &Test, set: &Refusing<'_>, given: Result<(), Refused<u32, u32>>) -> bool {
+    let count = set.values_len();
+    test.expect("the pairs before", has_those_before(set, count));
+    match given {
+        Ok(()) => {
+            test.expect("all pairs", count == 3);
+            true
+        }
+        Err(refused) => {
+            test.expect("the pair comes back", comes_back(count, &refused));
+            false
+        }
+    }
+}
+
+fn from_iter_with(test: &Test, granted: u64) -> bool {
+    let allocator = RefusingAllocator::new(test.alloc(), granted);
+    let given = SetOrderedMultimap::from_iter(
+        &allocator,
+        DefaultState::new(),
+        PAIRS.iter().copied(),
+    );
+    match given {
+        Ok(set) => {
+            test.expect("all pairs", has_lists(&set, FIRST, KEYS));
+            true
+        }
+        Err(refused) => {
+            let pair = Some((refused.key, refused.value));
+            let of_them = PAIRS.iter().any(|given| Some(*given) == pair);
+            test.expect("a pair of them", of_them);
+            false
+        }
+    }
+}
+
+fn clone_with(test: &Test, granted: u64) -> bool {
+    let allocator = RefusingAllocator::unlimited(test.alloc());
+    let mut set = SetOrderedMultimap::new(&allocator);
+    fill(test, &mut set, FIRST);
+    allocator.grant(granted);
+    let cloned = is_cloned(test, &set);
+    test.expect("refused for want of memory", cloned != allocator.refused());
+    test.expect("the set stays", has_lists(&set, FIRST, KEYS));
+    cloned
+}
+
+fn is_cloned(test: &Test, set: &Refusing<'_>) -> bool {
+    match set.clone() {
+        Ok(copy) => {
+            test.expect("the clone", has_lists(&copy, FIRST, KEYS));
+            true
+        }
+        Err(_) => false,
+    }
+}
+
+fn many_pairs_are_refused(test: &Test) {
+    let extended = requests_until_enough(|granted| extend_with(test, granted));
+    test.expect("extend", extended.unwrap_or(0) >= 3);
+    let made = requests_until_enough(|granted| from_iter_with(test, granted));
+    test.expect("from_iter", made.unwrap_or(0) >= 3);
+    let cloned = requests_until_enough(|granted| clone_with(test, granted));
+    test.expect("clone", cloned.unwrap_or(0) >= 3);
+}
+
+#[test]
+fn a_refused_request_changes_nothing(rt: HostRuntime) -> Result<(), Failed> {
+    let test = Test::new(rt.alloc());
+    insertions_are_refused(&test);
+    many_pairs_are_refused(&test);
+    test.end()
+}
+
+// What needs no memory, where none is given.
+fn all_is_refused(test: &Test, set: &mut Refusing<'_>) {
+    test.expect("a pair that is there", set.insert(2, 2) == Ok(false));
+    test.expect("remove_value", set.remove_value(&2, &2));
+    test.expect("in its room", set.insert(2, 7) == Ok(true));
+    set.retain(|_key, value| *value != 7);
+    test.expect("pop_back", set.pop_back_with(|popped| popped.is_some()));
+    test.expect("remove_all", set.remove_all(&1).next() == Some(1));
+    test.expect("no pair", has_lists(set, &[], &[]));
+}
+
+#[test]
+fn what_needs_no_memory_is_not_refused(rt: HostRuntime) -> Result<(), Failed> {
+    let test = Test::new(rt.alloc());
+    let allocator = RefusingAllocator::unlimited(test.alloc());
+    let mut set = SetOrderedMultimap::new(&allocator);
+    fill(&test, &mut set, FIRST);
+    allocator.refuse_all();
+    all_is_refused(&test, &mut set);
+    test.expect("no request", !allocator.refused());
+    test.end()
+}

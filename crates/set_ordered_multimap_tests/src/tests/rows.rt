@@ -1,0 +1,176 @@
+//! One run of calls on numbers, on texts and on keys whose hashes are all equal, with both lists
+//! after each call.
+use ordered_multimap::list_ordered_multimap::KeyWrapper;
+use set_ordered_multimap::SetOrderedMultimap;
+use std::hash::{BuildHasher, Hash};
+use test_helpers::{Failed, Sample, Test, ZERO};
+
+// A call with the numbers of its key and its value, and what it returns.
+#[derive(Clone, Copy)]
+enum Call {
+    Insert(usize, usize, bool),
+    Contains(usize, usize, bool),
+    RemoveValue(usize, usize, bool),
+    // The pair that leaves, whose key goes with it.
+    PopFront(usize, usize),
+}
+
+// A call, and the pairs and the keys after it.
+struct Row {
+    call: Call,
+    pairs: &'static [(usize, usize)],
+    keys: &'static [usize],
+}
+
+const ROWS: &[Row] = &[
+    Row {
+        call: Call::Insert(1, 5, true),
+        pairs: &[(1, 5)],
+        keys: &[1],
+    },
+    Row {
+        call: Call::Insert(1, 5, false),
+        pairs: &[(1, 5)],
+        keys: &[1],
+    },
+    Row {
+        call: Call::Insert(2, 5, true),
+        pairs: &[(1, 5), (2, 5)],
+        keys: &[1, 2],
+    },
+    Row {
+        call: Call::Insert(1, 6, true),
+        pairs: &[(1, 5), (2, 5), (1, 6)],
+        keys: &[1, 2],
+    },
+    Row {
+        call: Call::Contains(1, 6, true),
+        pairs: &[(1, 5), (2, 5), (1, 6)],
+        keys: &[1, 2],
+    },
+    Row {
+        call: Call::Contains(2, 6, false),
+        pairs: &[(1, 5), (2, 5), (1, 6)],
+        keys: &[1, 2],
+    },
+    Row {
+        call: Call::RemoveValue(1, 5, true),
+        pairs: &[(2, 5), (1, 6)],
+        keys: &[1, 2],
+    },
+    Row {
+        call: Call::RemoveValue(1, 6, true),
+        pairs: &[(2, 5)],
+        keys: &[2],
+    },
+    Row {
+        call: Call::RemoveValue(1, 6, false),
+        pairs: &[(2, 5)],
+        keys: &[2],
+    },
+    Row {
+        call: Call::Insert(1, 5, true),
+        pairs: &[(2, 5), (1, 5)],
+        keys: &[2, 1],
+    },
+    Row {
+        call: Call::PopFront(2, 5),
+        pairs: &[(1, 5)],
+        keys: &[1],
+    },
+];
+
+// Whether there was memory, and whether the pair was new as is said.
+fn inserts<K: Sample + Eq + Hash, V: Sample + Eq, S: BuildHasher>(
+    test: &Test,
+    set: &mut SetOrderedMultimap<K, V, S>,
+    pair: (usize, usize),
+    new: bool,
+) -> bool {
+    let key = K::of(test, pair.0);
+    let value = V::of(test, pair.1);
+    match set.insert(key, value) {
+        Ok(was_new) => was_new == new,
+        Err(_) => false,
+    }
+}
+
+// Whether the key was handed out, and the key and the value are those of the pair.
+fn is_owned<K: Sample, V: Sample>(key: KeyWrapper<'_, K>, value: V, pair: (usize, usize)) -> bool {
+    match key {
+        KeyWrapper::Owned(key) => (key.number(), value.number()) == pair,
+        KeyWrapper::Borrowed(_) => false,
+    }
+}
+
+// Whether the pair leaves at the front, with its key.
+fn pops<K: Sample + Eq + Hash, V: Sample + Eq, S: BuildHasher>(
+    set: &mut SetOrderedMultimap<K, V, S>,
+    pair: (usize, usize),
+) -> bool {
+    match set.pop_front() {
+        Some((key, value)) => is_owned(key, value, pair),
+        None => false,
+    }
+}
+
+// Whether the call returns what is said.
+fn is_called<K: Sample + Eq + Hash, V: Sample + Eq, S: BuildHasher>(
+    test: &Test,
+    set: &mut SetOrderedMultimap<K, V, S>,
+    call: Call,
+) -> bool {
+    match call {
+        Call::Insert(key, value, new) => inserts(test, set, (key, value), new),
+        Call::Contains(key, value, there) => {
+            set.contains(&K::of(test, key), &V::of(test, value)) == there
+        }
+        Call::RemoveValue(key, value, there) => {
+            set.remove_value(&K::of(test, key), &V::of(test, value)) == there
+        }
+        Call::PopFront(key, value) => pops(set, (key, value)),
+    }
+}
+
+fn has_pairs<K: Sample + Eq + Hash, V: Sample, S: BuildHasher>(
+    set: &SetOrderedMultimap<K, V, S>,
+    pairs: &[(usize, usize)],
+) -> bool {
+    let mut same = set.values_len() == pairs.len();
+    for ((key, value), wanted) in set.iter().zip(pairs) {
+        same = same && (key.number(), value.number()) == *wanted;
+    }
+    same
+}
+
+fn has_keys<K: Sample + Eq + Hash, V: Sample, S: BuildHasher>(
+    set: &SetOrderedMultimap<K, V, S>,
+    keys: &[usize],
+) -> bool {
+    let mut same = set.keys_len() == keys.len();
+    for (key, wanted) in set.keys().zip(keys) {
+        same = same && key.number() == *wanted;
+    }
+    same
+}
+
+fn rows_hold<K: Sample + Eq + Hash, V: Sample + Eq, S: BuildHasher>(
+    test: &Test,
+    set: &mut SetOrderedMultimap<K, V, S>,
+) {
+    for (at, row) in ROWS.iter().enumerate() {
+        test.expect_at("call", at, is_called(test, set, row.call));
+        test.expect_at("pairs", at, has_pairs(set, row.pairs));
+        test.expect_at("keys", at, has_keys(set, row.keys));
+    }
+}
+
+#[test]
+fn no_pair_stands_twice(rt: HostRuntime) -> Result<(), Failed> {
+    let test = Test::new(rt.alloc());
+    let alloc = test.alloc();
+    rows_hold::<usize, usize, _>(&test, &mut SetOrderedMultimap::new(alloc));
+    rows_hold::<String, String, _>(&test, &mut SetOrderedMultimap::new(alloc));
+    rows_hold::<usize, String, _>(&test, &mut SetOrderedMultimap::with_hasher(alloc, ZERO));
+    test.end()
+}
