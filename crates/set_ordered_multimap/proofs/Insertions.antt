@@ -1,5 +1,6 @@
 -- Insertions in turn: their lists, how much longer these become, and what they keep of rooms and of the tape's numbers.
-use Rattle.std.proofs.Common.{◌≡◌, ◌+◌, ◌≤◌, Bool, true, false, cond, List, [], ◌∷◌, ◌++◌, length, length-append, refl, sym, ap, ◌∙◌, subst, arith}
+use Rattle.std.proofs.Common.{◌≡◌, ◌+◌, ◌≤◌, Bool, true, false, cond, List, [], ◌∷◌, ◌++◌, length, length-append, refl, sym, ap, ◌∙◌, subst}
+use Rattle.std.proofs.Common.{arith}
 use Rattle.std.proofs.Common.{Result, Ok, Err}
 use Rattle.std.specs.Cmp.{IsEquivalence}
 use Rattle.ordered_multimap.specs.Additions.{Appends, IsAppended}
@@ -37,7 +38,8 @@ module _ {K V : Type 0} (eq : K → K → Bool) (value_eq : V → V → Bool) wh
       ]
 
   -- nor by more than there are pairs
-  pub lengths-inserted : (m : Lists K V) (pairs : List (K × V)) → (length (all_inserted eq value_eq m pairs).keys ≤ length m.keys + length pairs)
+  pub lengths-inserted : (m : Lists K V) (pairs : List (K × V))
+      → (length (all_inserted eq value_eq m pairs).keys ≤ length m.keys + length pairs)
       × (length (all_inserted eq value_eq m pairs).pairs ≤ length m.pairs + length pairs)
   lengths-inserted m [] = (omega arith, omega arith)
   lengths-inserted m (p ∷ pairs) =

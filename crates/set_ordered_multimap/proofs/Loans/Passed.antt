@@ -16,7 +16,8 @@ module _ {M : Type 1} {𝓤 : Ura M} (𝓛 : Logic 𝓤) (R T : RattleType) (γ 
       (sem 𝓛 (follows_so R R γ none (λ _ _. ⊤) Q))
   unfolding such_by follows_by
   ends_as_part =
-      let Rests : (D : RattleType) → (D.Denot → Type 0) → Type 0 = λ D X. (s : (D.Denot → D.Denot) × D.Denot) × ((w : D.Denot) → ⊤) × X s.1 in
+      let Rests : (D : RattleType) → (D.Denot → Type 0)
+      → Type 0 = λ D X. (s : (D.Denot → D.Denot) × D.Denot) × ((w : D.Denot) → ⊤) × X s.1 in
       let Ends : (D : RattleType) (ε : GName) (X : D.Denot → Type 0) → Rests D X → Fml
       = λ D ε X s. follows_by D.Denot D.Denot D.coded.code D.coded.code ε none s.0.0 s.0.1 in
       qed 𝓛 (‵ (follows R T γ δ F) ∷ ‵ (fex (Rests T P) (Ends T δ P)) ∷ []) ∵ move ! (1 ∷ []) $ fpick ! (λ s. move ! (1 ∷ 0 ∷ []) $

@@ -119,7 +119,8 @@ pop_back_spec 𝓤 𝓛 𝓜 𝓡 wired K V S A B LK LV LS LA LB eqs dEq pe dPe 
     heard ! (option_map popped_of o ≡ popped_pair pe.eq Back r.now.lists.pairs) (λ given.
     -- [what the map ends as; the tokens; the result; what the set follows]
     move ! (3 ∷ 0 ∷ []) $ use2 𝓛 (‵ (follows_so R R γ none (λ _ _. ⊤) Ends))
-    (ends_as_part 𝓛 R T γ r.ghost_name (λ m. m) (λ n. IsPopped pe.eq Back r.now n) Ends (λ n is. subst (λ m. IsPopped pe.eq Back m n) seen is)) $
+    (ends_as_part 𝓛 R T γ r.ghost_name (λ m. m) (λ n. IsPopped pe.eq Back r.now n) Ends
+    (λ n is. subst (λ m. IsPopped pe.eq Back m n) seen is)) $
     -- [what the set ends as; the tokens; the result]
     move ! (2 ∷ []) $ peeks ! Out (Is Out) (shows 𝓛 Out) o (v₂ ∷ []) (λ io.
     lands_as ! refl refl (((LOut.lawful 𝓛).typed o (v₂ ∷ []) io).0) $

@@ -8,8 +8,11 @@ use Rattle.set_ordered_multimap.proofs.set.SetOrderedMultimap.remove_all_with.Go
 pub returns-clause-called : goal.returns-clause-called
 returns-clause-called g c =
     let step : g.row.F.Denot → g.row.V.Denot → g.row.F.Denot → Type 0 = λ p v q. goal.F-step g p v tt q in
-    let called = c.hand_out.ensures.called in
-    (called.0, subst (λ m. FoldsTo step c.args.f (values_of g.K.PartialEq.eq m.lists.pairs c.args.key.now) called.0) c.self.view_is called.1)
+    let called = c.hand_out.ensures.called in (
+      called.0,
+      subst (λ m. FoldsTo step c.args.f (values_of g.K.PartialEq.eq m.lists.pairs c.args.key.now) called.0) c.self.view_is
+          called.1,
+    )
 
 pub returns-clause-set : goal.returns-clause-set
 returns-clause-set g c = λ set.

@@ -5,7 +5,8 @@ use Rattle.set_ordered_multimap.proofs.set.SetOrderedMultimap.retain_by.Goals as
 
 pub retain-requires : goal.retain-requires
 retain-requires g c =
-    callable _ _ (λ f. g.P.Keep.lasts f.0) (λ f k v held. search (rules, of_calls)) (λ f k v b w h held t. search (rules, of_calls)) _ _ c.requires
+    callable _ _ (λ f. g.P.Keep.lasts f.0) (λ f k v held. search (rules, of_calls))
+    (λ f k v b w h held t. search (rules, of_calls)) _ _ c.requires
 
 pub returns-clause-retained : goal.returns-clause-retained
 returns-clause-retained g c =

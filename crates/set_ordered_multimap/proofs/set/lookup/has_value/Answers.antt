@@ -9,7 +9,8 @@ loop-stored-init g c =
 
 pub returns-then-eq : goal.returns-then-eq
 returns-then-eq g c =
-    sym (c.loop-stored.invariant ∙ any_first (g.V.PartialEq.eq c.args.value.now) _ _ _ c.in-Some.ensures.steps.0 (sym c.eq.ensures ∙ c.if-eq.true))
+    sym (c.loop-stored.invariant ∙ any_first (g.V.PartialEq.eq c.args.value.now) _ _ _ c.in-Some.ensures.steps.0
+    (sym c.eq.ensures ∙ c.if-eq.true))
 
 pub loop-stored-preserved : goal.loop-stored-preserved
 loop-stored-preserved g c =

@@ -17,7 +17,8 @@ pub returns-clause-lists : goal.returns-clause-lists
 returns-clause-lists g c =
     let eq = g.K.PartialEq.eq in let m = c.args.map.now.lists in let r = c.retain.ensures in
     let gone = same_pair eq g.V.PartialEq.eq (c.args.key.now, c.args.value.now) in
-    let pairs = filter_same_pairs _ (λ p. not (gone p)) _ (λ k v b w f' t. search rules) _ _ (RetainsPairs-retains _ _ _ _ _ r.retained.1) in
+    let pairs = filter_same_pairs _ (λ p. not (gone p)) _ (λ k v b w f' t. search rules) _ _
+    (RetainsPairs-retains _ _ _ _ _ r.retained.1) in
     kept-named_by eq m c.retain.new.self.lists r.keys ∙ ap (kept eq m) pairs
 
 pub returns-clause-taken : goal.returns-clause-taken
