@@ -1,7 +1,7 @@
 //! The examples of the map's doc comments and of README.md, as tests. `tools/examples` says whether
 //! each line of theirs stands here.
-use ordered_multimap::{KeyQuery, ListOrderedMultimap};
 use ordered_multimap::list_ordered_multimap::{DefaultState, KeyWrapper};
+use ordered_multimap::{KeyQuery, ListOrderedMultimap};
 use ordered_multimap_callers::lists::{appends, copied};
 use std::alloc::{AllocError, Global};
 use std::hash::{BuildHasher, Hash};
