@@ -32,7 +32,9 @@ impl<K: Eq + Hash, V, S: BuildHasher, A: Allocator> SetOrderedMultimap<K, V, S, 
         map.pop_front()
     }
 
-    /// The same with the last pair.
+    /// Takes the last pair out, as [`pop_front`](Self::pop_front) takes the first one, and at the
+    /// cost of `pop_back` of the map. A caller whose proof has to know the set afterwards takes
+    /// [`pop_back_with`](Self::pop_back_with).
     ///
     /// ```
     /// set.pop_back() == Some((KeyWrapper::Borrowed(&"plan"), "long"))
@@ -67,7 +69,9 @@ impl<K: Eq + Hash, V: Eq, S: BuildHasher, A: Allocator> SetOrderedMultimap<K, V,
         self.map.pop_front_with(f)
     }
 
-    /// The same with the last pair, as [`pop_back`](Self::pop_back) takes it.
+    /// Takes the last pair out, hands what [`pop_back`](Self::pop_back) returns to the function, and
+    /// returns what that returns. It is for callers that are proved: they know both lists
+    /// afterwards.
     ///
     /// ```
     /// set.pop_back_with(|popped| popped.is_none())
