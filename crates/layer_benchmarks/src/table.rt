@@ -4,7 +4,7 @@ use std::alloc::{AllocError, Allocator, Global};
 use std::time::{Duration, Instant};
 use std::{fmt, io};
 
-/// What was measured, in tenths of a nanosecond a call, and a checksum of the answers.
+/// What was measured, in tenths of a nanosecond a call, and a checksum of the results.
 #[derive(Drop)]
 pub struct Times {
     rows: usize,

@@ -15,7 +15,8 @@ module _ (T L A : RattleType) (alloc : Ghosts A.Denot)
   abbrev pub lent_item : MutBor T.Denot → Fml
   lent_item r = Lends (the_row T L A alloc) T s r (with_item s.now place)
 
-  -- the same where r is a reference, and at `None` the list stays as it is
+  -- once the borrow in r ends, the place has the last item written through it; at `None` the list
+  -- stays as it is
   abbrev pub lends_item : Option (MutBor T.Denot) → Fml
   lends_item r = LendsIf (the_row T L A alloc) T s r (with_item s.now place) s.now
 
@@ -23,7 +24,8 @@ module _ (T L A : RattleType) (alloc : Ghosts A.Denot)
   abbrev pub lent_link : MutBor L.Denot → Fml
   lent_link r = Lends (the_row T L A alloc) L s r (with_link s.now place)
 
-  -- the same where r is a reference, and at `None` the list stays as it is
+  -- once the borrow in r ends, the place has the last link written through it; at `None` the list
+  -- stays as it is
   abbrev pub lends_link : Option (MutBor L.Denot) → Fml
   lends_link r = LendsIf (the_row T L A alloc) L s r (with_link s.now place) s.now
 
@@ -35,6 +37,7 @@ module _ (T L A : RattleType) (alloc : Ghosts A.Denot) (s : MutBor (Slots T.Deno
       follows (the_row T L A alloc) (the_row T L A alloc) s.ghost_name c.whole
       (λ n. with_refilled s.now n.items)
 
-  -- the same of the items beside their order
+  -- once the loan of the items with their order ends, the list is as before but for them, and an
+  -- item stands exactly where one stood
   abbrev pub lends_cells : SlotCells T.Denot L.Denot A.Denot → Fml
   lends_cells c = lends_whole c.cells

@@ -84,7 +84,7 @@ impl<L: Copy, A: Allocator> Order<L, A> {
         grow_to(&mut self.nodes, slots)
     }
 
-    /// Lists a free place last, and answers it.
+    /// Lists a free place last, and returns it.
     pub(crate) fn push_back(&mut self, link: L) -> usize
         requires { length self.old.order + self.old.detached < self.old.capacity }
         ensures { AddsLast self.old self.new result link }

@@ -13,7 +13,7 @@ fn boxes_are_granted(test: &Test, granted: u64) {
     test.expect("none is left", allocator.granted() == 0);
 }
 
-// Pushes the numbers from 0 on until one is refused and handed back, and answers it.
+// Pushes the numbers from 0 on until one is refused and handed back, and returns it.
 fn push_until_refused(items: &mut Vec<u64, &RefusingAllocator>) -> Option<u64> {
     for item in 0..1000u64 {
         if let Err(failed) = items.push(item) {

@@ -52,7 +52,7 @@ impl<A: Allocator + Copy> Compared<A> {
         table
     }
 
-    /// Adds a row where the table has room and no row of the place. Answers whether it did.
+    /// Adds a row where the table has room and no row of the place. Returns whether it did.
     #[inline(always)]
     pub fn insert(&mut self, hash: u64, place: usize) -> bool {
         if self.table.len() == self.table.capacity() || place >= self.hashes.len() {
@@ -66,7 +66,7 @@ impl<A: Allocator + Copy> Compared<A> {
         true
     }
 
-    /// Takes the row of the place out, where it has one. Answers whether it had.
+    /// Takes the row of the place out, where it has one. Returns whether it had.
     #[inline(always)]
     pub fn remove(&mut self, place: usize) -> bool {
         if place >= self.hashes.len() {

@@ -36,7 +36,7 @@ module _ {K V A : Type 0} where
     pub keys : length m.lists.keys + length commands ≤ m.key_room
     pub values : length m.lists.pairs + length commands ≤ m.value_room
 
-  -- no addition is answered by want of memory
+  -- no addition is refused for lack of memory
   abbrev pub FindsRoom : List (Command K V A) → List (Reply K V A) → Type 0
   FindsRoom [] [] = Unit {0}
   FindsRoom (command ∷ commands) (reply ∷ replies) =

@@ -15,7 +15,7 @@ module _ {K V : Type 0} (keeps : V → K → V → Bool → V → Type 0) (eq : 
   IsRun [] m (reply ∷ replies) n = ⊥
   IsRun (command ∷ commands) m [] n = ⊥
 
--- a clone of a key is the very key, and a clone of a value the very value
+-- a clone of a key or value is that key or value itself
 pub record ClonesAreSame {K V : Type 0} (key_clone : K → K → Type 0)
     (value_clone : V → V → Type 0) : Type 0 where
   pub keys : (k c : K) → key_clone k c → c ≡ k

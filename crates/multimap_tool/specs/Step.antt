@@ -43,7 +43,7 @@ abbrev pub word_of : {X A : Type 0} → List X → Ends A → List End
 word_of items Forward = forward items
 word_of items (Word word) = word.items
 
--- what a walk over a list answers
+-- what a walk over a list returns
 abbrev pub walked : {X A : Type 0} → List X → Ends A → List (Option X)
 walked items ends = answers_of_walk items (word_of items ends)
 
@@ -51,7 +51,7 @@ walked items ends = answers_of_walk items (word_of items ends)
 abbrev pub ListsItem : {X : Type 0} → List X → Type 0
 ListsItem items = IsTrue (has_items items)
 
--- what a pop answers, read off the reply
+-- what a pop returns, read off the reply
 abbrev pub told_pop : {K V : Type 0} → Popped K V → pops.Popped K V
 told_pop p = record { owned = p.owned; key = p.key; value = p.value }
 
@@ -105,7 +105,7 @@ Rereads Json = Unit {0}
 Rereads Json2 = Unit {0}
 Rereads _ = ⊥
 
--- a call of the function on these may answer b, and leave w as the value
+-- a call of the function on these may return b, and leave w as the value
 pub record MayKeep {F K V : Type 0}
     (g : Shared F (V × (Bor K × (MutBor V × Unit {0}))) (Bool × (MutBor V × Unit {0}))) (keep : F)
     (operand : V) (k : K) (v : V) (b : Bool) (w : V) : Type 0 where
@@ -116,7 +116,7 @@ pub record MayKeep {F K V : Type 0}
   pub called : FnReturns g keep (operand, (key, (value, tt {0}))) (b, (left, tt {0}))
   pub leaves : left.now ≡ w
 
--- the pairs for which the function answers yes stay, and the keys that they name
+-- the pairs for which the function returns true stay, and the keys that they name
 pub record KeepsPairs {K V : Type 0} (keeps : K → V → Bool → V → Type 0) (eq : K → K → Bool)
     (m n : Lists K V) : Type 0 where
   pub keys : n.keys ≡ keys_named_by eq m.keys n.pairs
@@ -214,7 +214,7 @@ module _ {K : Type 0} (eq : K → K → Bool) {V A : Type 0} where
 
 module _ {K V : Type 0} (keeps : V → K → V → Bool → V → Type 0) (eq : K → K → Bool)
     {A : Type 0} where
-  -- the command may be given this reply, from these lists to those: want of memory changes nothing
+  -- the command may be given this reply, from these lists to those: a refusal changes nothing
   abbrev pub IsStep : Command K V A → Lists K V → Reply K V A → Lists K V → Type 0
   IsStep command m reply n =
       (Tells eq command m reply × Leaves keeps eq command m n)

@@ -58,7 +58,8 @@ pub enum Command<K, V, A: Allocator = Global> {
     PopFront,
     /// Takes the last pair out.
     PopBack,
-    /// Keeps the pairs for which a function of this value, of the key and of the value answers yes.
+    /// Keeps the pairs for which a function of this value, of the key and of the value returns
+    /// true.
     Retain(V),
     /// Takes all pairs out.
     Clear,

@@ -9,8 +9,8 @@ use std::alloc::{AllocError, Allocator};
 
 /// The text of the replies, each followed by a line feed.
 ///
-/// Takes memory for the text alone, from `alloc`; a refusal is want of it. The cost is linear in
-/// the length of the text.
+/// Takes memory for the text alone, from `alloc`; it is refused when out of it. The cost is linear
+/// in the length of the text.
 pub fn format_replies<A: Allocator + Copy>(
     alloc: A,
     replies: &[Reply<u32, i64, A>],

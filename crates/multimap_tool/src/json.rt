@@ -35,7 +35,7 @@ pub use written::to_value_2;
 /// The map as a JSON value: an array with one array `[key, value]` for each pair, in order.
 ///
 /// `alloc` gives the memory of the JSON value: one request for the whole, one for each pair, and
-/// those of its texts. A refusal is want of memory; the map stays as it is.
+/// those of its texts. It is refused when out of memory; the map stays as it is.
 ///
 /// ```
 /// to_value(alloc, &map)?.to_string(alloc)? == "[[\"b\",20],[\"a\",10]]"

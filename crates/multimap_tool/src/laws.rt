@@ -39,7 +39,7 @@ pub fn what_is_written_is_read<K: JsonPart + Eq, V: JsonPart>()
         → (n.keys ≡ first_occurrences K.eq m.pairs) × (n.pairs ≡ m.pairs) }
 {}
 
-/// What is read of the JSON value of both lists of a map are the very lists. Different keys have to
+/// What is read of the JSON value of both lists of a map are the same lists. Different keys have to
 /// have different JSON values, and different values too.
 pub fn json_two_lists<K: JsonPart + Eq, V: JsonPart>()
     requires { DifferAsJson K.json V.json }

@@ -1,4 +1,4 @@
-//! Commands on an insertion-ordered multimap: read from text, run in order, and answered as text.
+//! Commands on an insertion-ordered multimap: read from text, run in order, and replied to as text.
 //!
 //! [`execute::execute`] goes from bytes to bytes; [`parse::parse_commands`], [`run::run`] and
 //! [`format::format_replies`] are its three parts.

@@ -1,4 +1,4 @@
-//! Replies: what a command is answered.
+//! Replies to commands.
 use std::alloc::{Allocator, Global};
 
 /// A pair that was popped, and whether its key went with it.
@@ -12,7 +12,7 @@ pub struct Popped<K, V> {
     pub value: V,
 }
 
-/// The answer to one command.
+/// The reply to one command.
 #[derive_where(Debug, PartialEq, Eq; K, V)]
 #[derive(Drop)]
 pub enum Reply<K, V, A: Allocator = Global> {

@@ -17,7 +17,7 @@ pub fn pairs_of_numbers_are_read()
     what_is_written_is_read::<u32, i64>();
 }
 
-/// What is read of the JSON value of both lists of a map of numbers are the very lists.
+/// What is read of the JSON value of both lists of a map of numbers are the same lists.
 pub fn lists_of_numbers_are_read()
     ensures { (m n : Lists ℕ ℤ) → IsWellFormed ⟦<u32 as PartialEq>⟧.eq m
         → IsRead ⟦<u32 as JsonPart>⟧.json ⟦<i64 as JsonPart>⟧.json ⟦<u32 as JsonPart>⟧.is_part

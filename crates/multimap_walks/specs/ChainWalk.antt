@@ -50,10 +50,10 @@ module _ {V : Type 0} where
   abbrev pub GivesEnd : End → ChainWalk V → Option (Bor V) → ChainWalk V → Type 0
   GivesEnd end old given new = TakesEnd end deref old.left given new.left × Counts end old given new
 
-  -- the first is
+  -- the first value of what is left is given, or none where nothing is left
   abbrev pub GivesFirst : ChainWalk V → Option (Bor V) → ChainWalk V → Type 0
   GivesFirst = GivesEnd Front
 
-  -- and so the last
+  -- the last value of what is left is given, or none where nothing is left
   abbrev pub GivesLast : ChainWalk V → Option (Bor V) → ChainWalk V → Type 0
   GivesLast = GivesEnd Back

@@ -17,7 +17,7 @@ whole_walk values key = record {
   reads = 0;
 }
 
--- what a `&K` beside another value shows
+-- what a `&K` next to another value shows
 abbrev pub deref_key : {K X : Type 0} → Bor K × X → K × X
 deref_key p = (p.0.now, p.1)
 

@@ -16,7 +16,7 @@ module _ {V A : Type 0} (cells : SlotCells V ValueLink A) (left : ChainEnds) whe
   abbrev pub values_rest : List V
   values_rest = items_left (lent_slots cells).order (item_at (lent_slots cells)) left
 
-  -- and their pairs
+  -- the pairs of the values that are left, as they were when they were lent
   abbrev pub pairs_rest : {K : Type 0} → Slots K KeyLink → List (K × V)
   pairs_rest keys = pairs_left keys (lent_slots cells) left
 

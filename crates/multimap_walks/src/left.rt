@@ -74,8 +74,8 @@ impl<T, L: Copy, A: Allocator> Ordered for Tape<T, L, A> {
     }
 }
 
-/// Takes the place at an end from those that are left of a list, or answers None where none is left.
-/// It asks the list for one neighbour. The time is constant.
+/// Takes the place at an end from those that are left of a list, or returns None where none is
+/// left. It asks the list for one neighbour. The time is constant.
 #[inline(always)]
 pub fn take<O: Ordered>(end: End, list: &O, left: &mut ChainEnds) -> Option<usize>
     requires { AreLeft (O.order list.now) left.old }

@@ -1,4 +1,4 @@
-//! The links that stand beside keys in their slot list and values on their tape.
+//! The links of keys in their slot list and of values on their tape.
 ghost use Rattle.std.specs.Prelude.{◌≡◌};
 ghost use Rattle.multimap_walks.specs.Ends.{end_place, ends_after, step_from};
 

@@ -1,4 +1,4 @@
-//! Appends to a map, in the orders of the workloads. Each answers none where memory was refused.
+//! Appends to a map, in the orders of the workloads. Each returns none where memory was refused.
 use crate::numbers::{Run, mix};
 use ordered_multimap::ListOrderedMultimap;
 use std::hash::BuildHasher;

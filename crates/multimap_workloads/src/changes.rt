@@ -1,5 +1,5 @@
 //! Pairs that come and go, that are replaced, and that leave with their key, on a map that was filled
-//! by appends; and keys that are counted. Each answers none where memory was refused.
+//! by appends; and keys that are counted. Each returns none where memory was refused.
 use crate::appends::{Map, distinct, ends};
 use crate::numbers::{Run, mix, spread};
 use std::hash::BuildHasher;

@@ -27,8 +27,8 @@ const DEFAULT: u64 = 0;
 /// Makes a map, runs a workload on it, and lets it go.
 ///
 /// `workload` is the place of the workload in `WORKLOADS`, `hasher` 0 for the map's default hash
-/// builder and 1 for the fast one, `n` the number of pairs, a multiple of 16. The answer is a
-/// checksum of what the calls answered, which depends on no hasher, or 0 where memory was refused
+/// builder and 1 for the fast one, `n` the number of pairs, a multiple of 16. The result is a
+/// checksum of what the calls returned, which depends on no hasher, or 0 where memory was refused
 /// or there is no such workload.
 pub fn bench(alloc: Global, workload: u64, hasher: u64, n: u64, seed: u64) -> u64 {
     let named = usize::try_from(workload)

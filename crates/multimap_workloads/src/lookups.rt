@@ -73,7 +73,7 @@ pub(crate) fn all_lists<S: BuildHasher>(map: &Map<S>, start: u64) -> u64 {
     checksum
 }
 
-/// Clones the map four times. Answers none where memory was refused.
+/// Clones the map four times. Returns none where memory was refused.
 pub(crate) fn clones<S: BuildHasher + Clone>(map: &Map<S>, start: u64) -> Option<u64> {
     let mut checksum = start;
     for _ in 0..4 {

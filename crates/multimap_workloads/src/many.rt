@@ -1,4 +1,4 @@
-//! Many pairs at once, from iterators that tell their length. Each answers none where memory was
+//! Many pairs at once, from iterators that tell their length. Each returns none where memory was
 //! refused.
 use crate::appends::{Map, ends};
 use crate::numbers::{Run, START, mix};

@@ -11,7 +11,7 @@ use ordered_multimap::ListOrderedMultimap;
 use std::alloc::Global;
 use std::hash::BuildHasher;
 
-/// What a workload answers where memory was refused.
+/// What a workload returns where memory was refused.
 pub(crate) const REFUSED: u64 = 0;
 
 /// What is done to an empty map.
@@ -104,8 +104,8 @@ pub(crate) const WORKLOADS: [Workload; 27] = [
     Workload::Extend,
 ];
 
-/// Makes a map, runs a workload on it, and lets the map go. Answers the checksum. Each hasher has this
-/// function to itself, as a large one keeps fewer of a walk's numbers in registers.
+/// Makes a map, runs a workload on it, and lets the map go. Returns the checksum. Each hasher has
+/// this function to itself, as a large one keeps fewer of a walk's numbers in registers.
 #[inline(never)]
 pub(crate) fn run_workload<S: BuildHasher + Clone + Default + Drop>(
     alloc: Global,
@@ -220,7 +220,8 @@ fn ask<S: BuildHasher>(map: &Map<S>, workload: Workload, run: Run, checksum: u64
     }
 }
 
-/// Makes, fills, asks and drops a map of sixteen pairs for every sixteen pairs. Answers the checksum.
+/// Makes, fills, asks and drops a map of sixteen pairs for every sixteen pairs. Returns the
+/// checksum.
 fn run_small<S: BuildHasher + Default + Drop>(alloc: Global, run: Run) -> u64 {
     let mut checksum = START;
     for round in 0..run.pairs / 16 {

@@ -40,7 +40,7 @@ module _ {K : Type 0} (accepts : K → Bool) where
     pub unlisted : list_any accepts m.keys ≡ false
     pub no_value : values_where accepts m.pairs ≡ []
 
-  -- an accepted key stands at the place, or where the answer is no, none stands there
+  -- where the result is true, an accepted key stands at the place, and where it is false, none does
   abbrev pub SaysWhetherAccepted : Slots K KeyLink → ℕ → Bool → Type 0
   SaysWhetherAccepted keys place true = HasKeyWhere keys place
   SaysWhetherAccepted keys place false = (j : K) → item_at keys place ≡ Some j → accepts j ≡ false

@@ -30,7 +30,7 @@ module _ {K V S A H : Type 0} {e : equality.Ghosts K} {k : hash.Ghosts K} {b : b
   DrainsFirst old given new =
       KeepsMap old new × TakesFirst (λ v. v) (drain_left old) given (drain_left new)
 
-  -- and so the last
+  -- the last value that is left is given, or none where nothing is left
   abbrev pub DrainsLast : drains.EntryValuesDrain K V S A H e k b h → Option V
       → drains.EntryValuesDrain K V S A H e k b h → Type 0
   DrainsLast old given new =

@@ -34,7 +34,8 @@ module _ (K V S A H : RattleType) {e : equality.Ghosts K.Denot} {k : hash.Ghosts
       (name_if_ok (λ v. v.ghost_name) r) (λ v n. IsOk r → IsEntered x v n)
       (λ n. OnErr r (RefusesEntry x n))
 
-  -- the same of an entry that is there
+  -- once the reference r has ended, what it last held is the first value of the occupied entry's
+  -- key
   abbrev pub lends_first : OccupiedEntry K.Denot V.Denot S.Denot A.Denot H.Denot e k b h
       → MutBor V.Denot → Fml
   lends_first o r =
@@ -71,7 +72,8 @@ module _ (K V S A H : RattleType) {e : equality.Ghosts K.Denot} {k : hash.Ghosts
       RestsIfErr (the_row K V S A H e k b h alloc) (entry_map_ref x) (λ o. o.map.ghost_name) r
       (RefusesEntry x)
 
-  -- the same of a drain of the entry's values
+  -- at `Err` the value was refused, and else the map ends as what the drain of the entry's values
+  -- leaves
   abbrev pub rests_with_drain : {E : Type 0}
       → OccupiedEntry K.Denot V.Denot S.Denot A.Denot H.Denot e k b h
       → Result (EntryValuesDrain K.Denot V.Denot S.Denot A.Denot H.Denot e k b h) E → Fml

@@ -16,7 +16,7 @@ module _ {K V : Type 0} where
   abbrev pub empty_lists : Lists K V
   empty_lists = lists [] []
 
--- the very value, and not only an equal one, is an item of the list
+-- the value itself, and not only an equal one, is in the list
 abbrev pub IsIn : {X : Type 0} → X → List X → Type 0
 IsIn x xs = IsItem x xs
 

@@ -31,7 +31,7 @@ pub record IsPopped {K V S : Type 0} (eq : K → K → Bool) (end : End)
   pub taken : TakesOut (cond (has_items old.lists.pairs) 1 0) old.tape new.tape
 
 module _ {K V : Type 0} where
-  -- what a pop answers, read off its result
+  -- what a pop returns, read off its result
   abbrev pub popped_of : KeyWrapper K × V → Popped K V
   popped_of (Borrowed k, v) = record { owned = false; key = k.now; value = v }
   popped_of (Owned k, v) = record { owned = true; key = k; value = v }

@@ -8,14 +8,14 @@ use Rattle.ordered_multimap.specs.Pairs.{has_items}
 use Rattle.ordered_multimap.specs.Keys.{is_listed}
 use Rattle.ordered_multimap.specs.Changes.{kept}
 
--- what a pop answers: the pair, and whether its key went with its last value
+-- what a pop returns: the pair, and whether its key went with its last value
 pub record Popped (K V : Type 0) : Type 0 where
   pub owned : Bool
   pub key : K
   pub value : V
 
 module _ {K : Type 0} (eq : K → K → Bool) {V : Type 0} where
-  -- the answer to a pop at an end, or none where there is no pair
+  -- the result of a pop at an end, or none where there is no pair
   abbrev pub popped_pair : End → List (K × V) → Option (Popped K V)
   popped_pair end pairs =
       let owned : K → Bool = λ k. not (is_listed eq (keys_of (end_rest end pairs)) k) in

@@ -78,7 +78,7 @@ module _ {K V S : Type 0} where
     pub slots : new.tape.slots ≡ old.tape.slots
     pub hasher : new.hasher ≡ old.hasher
 
-  -- the same, and all numbers of the tape
+  -- all rooms, the hash builder and all numbers of the tape are the same
   pub record SameNumbers (old new : Multimap K V S) : Type 0 where
     pub rooms : SameRooms old new
     pub tape : new.tape ≡ old.tape
@@ -97,7 +97,7 @@ module _ {K V S : Type 0} where
     pub value_room : values ≤ new.value_room
     pub unused : AreUnused new.tape
 
-  -- it was packed, or refused and left as it was
+  -- the map was packed, or it was refused and left as it was
   pub record Packs (keys values : ℕ) (old new : Multimap K V S) {X E : Type 0} (r : Result X E)
       : Type 0 where
     pub ok : OnOk r (IsPacked keys values old new)

@@ -75,7 +75,8 @@ module _ (K V S A H : RattleType) {e : equality.Ghosts K.Denot} {k : hash.Ghosts
   EndsWalk w c = EndsAs w.map.now c (final V c.cells.around)
       (λ ws. (walk_row K V S A H e k b h alloc).coded.code (with_walk_items w ws))
 
-  -- the same of the walk as it is after its step
+  -- the values of the map of a walk that has stepped are lent; and once their slots have ended with
+  -- some items, the loan of the walk after the step has ended with the walk that has them
   pub record EndsStepped (end : End)
       (old : KeyValuesMut K.Denot V.Denot S.Denot A.Denot H.Denot e k b h)
       (r : Bor K.Denot × EntryValuesMut K.Denot V.Denot A.Denot) : Type 0 where

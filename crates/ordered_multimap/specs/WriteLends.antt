@@ -18,12 +18,14 @@ module _ (K V S A H : RattleType) (key : HashMembers K.Denot)
   abbrev pub lends_value : ℕ → MutBor V.Denot → Fml
   lends_value place r = Lends (map_row K V S A H key build hash heap) V m r (with_value m.now place)
 
-  -- it is the first value of the key at the place
+  -- once the borrow r ends, the last value written through it is the first value of the key at the
+  -- place
   abbrev pub lends_first_value : ℕ → MutBor V.Denot → Fml
   lends_first_value place r =
       Lends (map_row K V S A H key build hash heap) V m r (with_first m.now place)
 
-  -- it is the first value of the keys that the test accepts, and at `None` the map stays as it is
+  -- once the borrow in r ends, the last value written through it is the first value of the keys
+  -- that the test accepts; at `None` the map stays as it is
   abbrev pub lends_first_of : (K.Denot → Bool) → Option (MutBor V.Denot) → Fml
   lends_first_of accepts r =
       LendsSo (map_row K V S A H key build hash heap) V m r
@@ -37,7 +39,8 @@ module _ (K V S A H : RattleType) (key : HashMembers K.Denot)
   abbrev pub lends_end : Bor K.Denot × MutBor V.Denot → Fml
   lends_end r = Lends (map_row K V S A H key build hash heap) V m r.1 (with_end end m.now)
 
-  -- the same where there is a pair, and at `None` the map stays as it is
+  -- once the borrow in r ends, the last value written is that of the pair at the end; at `None` the
+  -- map stays as it is
   abbrev pub lends_end_if : Option (Bor K.Denot × MutBor V.Denot) → Fml
   lends_end_if r =
       follows_so (map_row K V S A H key build hash heap) V m.ghost_name

@@ -41,7 +41,7 @@ pub fn remove_and_read<K: Eq + Hash + Drop, V: Drop, S: BuildHasher, A: Allocato
     for _ in map.remove_all(key) {}
 }
 
-/// Reads no value, and answers the stored key.
+/// Reads no value, and returns the stored key.
 pub fn remove_stored_key<K: Eq + Hash + Drop, V: Drop, S: BuildHasher, A: Allocator>(
     map: &mut ListOrderedMultimap<K, V, S, A>,
     key: &K,

@@ -26,7 +26,7 @@ pub fn set_or_append<K: Eq + Hash + Drop, V: Copy, S: BuildHasher, A: Allocator 
     Ok(())
 }
 
-/// Takes the key out by its entry, if it is present, and answers its first value.
+/// Takes the key out by its entry, if it is present, and returns its first value.
 pub fn take_out<K: Eq + Hash + Drop, V: Drop, S: BuildHasher, A: Allocator>(
     map: &mut ListOrderedMultimap<K, V, S, A>,
     key: K,
@@ -45,7 +45,7 @@ pub fn take_out<K: Eq + Hash + Drop, V: Drop, S: BuildHasher, A: Allocator>(
     }
 }
 
-/// Takes the value at an index among the key's values out, if the key has others, and answers it.
+/// Takes the value at an index among the key's values out, if the key has others, and returns it.
 pub fn take_value_out<K: Eq + Hash + Drop, V: Drop, S: BuildHasher, A: Allocator>(
     map: &mut ListOrderedMultimap<K, V, S, A>,
     key: K,
@@ -88,7 +88,7 @@ pub fn take_last_out<K: Eq + Hash + Drop, V: Drop, S: BuildHasher, A: Allocator>
     }
 }
 
-/// Puts the pair last if the key is absent, and answers how many values the key has then.
+/// Puts the pair last if the key is absent, and returns how many values the key has then.
 pub fn count_entered<K: Eq + Hash + Drop, V: Drop, S: BuildHasher, A: Allocator + Copy>(
     map: &mut ListOrderedMultimap<K, V, S, A>,
     key: K,
@@ -144,7 +144,7 @@ pub fn set_if_present<K: Eq + Hash + Drop, V: Drop, S: BuildHasher, A: Allocator
     }
 }
 
-/// Puts the pair in the place of all others of its key, or last, and answers the first old value.
+/// Puts the pair in the place of all others of its key, or last, and returns the first old value.
 pub fn replace_or_append<K: Eq + Hash + Drop, V: Drop, S: BuildHasher, A: Allocator + Copy>(
     map: &mut ListOrderedMultimap<K, V, S, A>,
     key: K,

@@ -1,5 +1,5 @@
 //! Callers of entries that are proved for every key and value type, one for each call that
-//! `entered.rt` has none for: each knows what the map is afterwards, and what the call answered.
+//! `entered.rt` has none for: each knows what the map is afterwards, and what the call returned.
 ghost use Rattle.std.specs.Prelude.{◌≡◌, true, false, length, option_map, slice_get, Some, IfErr, IfOk, IfSome, IsOk, OnErr, OnOk};
 ghost use Rattle.std.specs.Map.Calls.{MayWrite};
 ghost use Rattle.std.specs.Option.{UnwrapsOrElse};
@@ -17,7 +17,7 @@ use std::alloc::Allocator;
 use std::hash::{BuildHasher, Hash};
 use std::mem;
 
-/// Puts the pair in the place of all others of its key, if the key is present, and answers the
+/// Puts the pair in the place of all others of its key, if the key is present, and returns the
 /// first old value.
 pub fn replace_if_present<K: Eq + Hash + Drop, V: Drop, S: BuildHasher, A: Allocator + Copy>(
     map: &mut ListOrderedMultimap<K, V, S, A>,
@@ -46,7 +46,7 @@ pub fn replace_if_present<K: Eq + Hash + Drop, V: Drop, S: BuildHasher, A: Alloc
     }
 }
 
-/// Writes the value in place of the first one of the key, if the key is present, and answers the
+/// Writes the value in place of the first one of the key, if the key is present, and returns the
 /// one before.
 pub fn swap_first<K: Eq + Hash + Drop, V: Drop, S: BuildHasher, A: Allocator>(
     map: &mut ListOrderedMultimap<K, V, S, A>,
@@ -68,7 +68,7 @@ pub fn swap_first<K: Eq + Hash + Drop, V: Drop, S: BuildHasher, A: Allocator>(
     }
 }
 
-/// Takes the key out, if it is present, and answers the stored key with its first value.
+/// Takes the key out, if it is present, and returns the stored key with its first value.
 pub fn take_pair_out<K: Eq + Hash + Drop, V: Drop, S: BuildHasher, A: Allocator>(
     map: &mut ListOrderedMultimap<K, V, S, A>,
     key: K,
@@ -112,7 +112,7 @@ where
     drain
 }
 
-/// Takes the key out, if it is present, and answers the stored key with the number of its values.
+/// Takes the key out, if it is present, and returns the stored key with the number of its values.
 pub fn take_key_out<K: Eq + Hash + Drop, V: Drop, S: BuildHasher, A: Allocator>(
     map: &mut ListOrderedMultimap<K, V, S, A>,
     key: K,
@@ -140,7 +140,7 @@ pub fn take_key_out<K: Eq + Hash + Drop, V: Drop, S: BuildHasher, A: Allocator>(
     }
 }
 
-/// Puts the pair last if the key is absent, and answers how many values the key has then.
+/// Puts the pair last if the key is absent, and returns how many values the key has then.
 pub fn count_inserted<K: Eq + Hash + Drop, V: Drop, S: BuildHasher, A: Allocator + Copy>(
     map: &mut ListOrderedMultimap<K, V, S, A>,
     key: K,
@@ -165,7 +165,7 @@ pub fn count_inserted<K: Eq + Hash + Drop, V: Drop, S: BuildHasher, A: Allocator
     }
 }
 
-/// If the key is present, its first value is this one afterwards. Answers whether it is.
+/// If the key is present, its first value is this one afterwards. Returns whether it is.
 pub fn modify_to<K: Eq + Hash + Drop, V: Drop, S: BuildHasher, A: Allocator>(
     map: &mut ListOrderedMultimap<K, V, S, A>,
     key: K,
@@ -186,7 +186,7 @@ pub fn modify_to<K: Eq + Hash + Drop, V: Drop, S: BuildHasher, A: Allocator>(
     }
 }
 
-/// Calls the function on the key's first value, if the key is present. Answers whether it is.
+/// Calls the function on the key's first value, if the key is present. Returns whether it is.
 pub fn modify_by<K, V, S, A, F>(
     map: &mut ListOrderedMultimap<K, V, S, A>,
     key: K,
@@ -238,7 +238,7 @@ pub fn modify_or_append<K: Eq + Hash + Drop, V: Drop, S: BuildHasher, A: Allocat
     Ok(())
 }
 
-/// The key's first value, where it is absent after the pair with what the function answers was put
+/// The key's first value, where it is absent after the pair with what the function returns was put
 /// last.
 pub fn first_or_made<K, V, S, A, F>(
     map: &mut ListOrderedMultimap<K, V, S, A>,
@@ -266,7 +266,7 @@ where
     Ok(*first)
 }
 
-/// Puts the pair with what the function answers last if the key is absent, and answers how many
+/// Puts the pair with what the function returns last if the key is absent, and returns how many
 /// values the key has then.
 pub fn count_made<K, V, S, A, F>(
     map: &mut ListOrderedMultimap<K, V, S, A>,

@@ -48,7 +48,7 @@ fn has_keys<K: Eq + Hash + Copy, V, S: BuildHasher, A: Allocator>(
     same && walk.next().is_none()
 }
 
-/// Appends a pair. It answers whether there was memory, and whether the key was there as is said.
+/// Appends a pair. It returns whether there was memory, and whether the key was there as is said.
 pub fn appends<K: Eq + Hash + Drop, V: Drop, S: BuildHasher, A: Allocator + Copy>(
     map: &mut ListOrderedMultimap<K, V, S, A>,
     key: K,
@@ -61,7 +61,7 @@ pub fn appends<K: Eq + Hash + Drop, V: Drop, S: BuildHasher, A: Allocator + Copy
     }
 }
 
-/// Inserts a pair. It answers whether there was memory, and whether the first old value is this.
+/// Inserts a pair. It returns whether there was memory, and whether the first old value is this.
 pub fn inserts<K: Eq + Hash + Drop, V: PartialEq + Drop, S: BuildHasher, A: Allocator + Copy>(
     map: &mut ListOrderedMultimap<K, V, S, A>,
     key: K,

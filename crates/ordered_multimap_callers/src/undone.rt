@@ -10,7 +10,7 @@ use std::alloc::Allocator;
 use std::hash::{BuildHasher, Hash};
 
 /// Appends the pair and takes the last one out: both lists are as before, also where the append was
-/// refused. Answers whether the key went, the key as it was stored, and the value.
+/// refused. Returns whether the key went, the key as it was stored, and the value.
 pub fn append_and_pop<K: Eq + Hash + Copy, V: Copy, S: BuildHasher, A: Allocator + Copy>(
     map: &mut ListOrderedMultimap<K, V, S, A>,
     key: K,

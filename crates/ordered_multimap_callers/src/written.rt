@@ -11,7 +11,7 @@ use std::alloc::Allocator;
 use std::hash::{BuildHasher, Hash};
 use std::mem;
 
-/// Sets the key's first value, if it has one, and answers the one before.
+/// Sets the key's first value, if it has one, and returns the one before.
 pub fn set_first<K: Eq + Hash, V: Drop, S: BuildHasher, A: Allocator>(
     map: &mut ListOrderedMultimap<K, V, S, A>,
     key: &K,
@@ -26,7 +26,7 @@ pub fn set_first<K: Eq + Hash, V: Drop, S: BuildHasher, A: Allocator>(
     }
 }
 
-/// Sets the first pair's value, if there is a pair, and answers the one before.
+/// Sets the first pair's value, if there is a pair, and returns the one before.
 pub fn set_front<K: Eq + Hash, V: Drop, S: BuildHasher, A: Allocator>(
     map: &mut ListOrderedMultimap<K, V, S, A>,
     value: V,

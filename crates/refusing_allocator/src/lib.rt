@@ -71,7 +71,7 @@ impl<A: Allocator> RefusingAllocator<A> {
     }
 }
 
-/// Takes one request off the budget, and answers whether it is to be refused.
+/// Takes one request off the budget, and returns whether it is to be refused.
 fn refuses(budget: &Cell<Budget>) -> bool {
     let Budget { granted, refused } = budget.get();
     if granted == 0 {

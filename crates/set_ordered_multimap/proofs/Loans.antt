@@ -1,1 +1,3 @@
+pub mod HandsOut
 pub mod Passed
+pub mod Pops

@@ -19,7 +19,7 @@ module _ {K V : Type 0} (eq : K → K → Bool) (value_eq : V → V → Bool) {I
       × MatchResult r (λ _. Drains steps it pairs)
       (λ refused. (t : T) × Yields steps it (pairs ++ (refused.key, refused.value) ∷ []) t)
 
-  -- of equal pairs of the iterator the first was appended to empty lists, and no other
+  -- the pairs of the iterator were appended to empty lists, of equal ones the first alone
   abbrev pub IsSetOf : I → Lists K V → Type 0
   IsSetOf iter new = (it : T) × (pairs : List (K × V)) × becomes iter it
       × (new ≡ built_from eq (first_pairs eq value_eq pairs)) × Drains steps it pairs

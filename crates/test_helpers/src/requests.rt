@@ -3,8 +3,8 @@
 // More requests than any call of these tests makes.
 const MANY: u64 = 99;
 
-/// Tries a call with 0 granted requests for memory, then 1, and so on, until `is_enough` answers
-/// that so many were enough; answers that number, or none if 98 aren't enough.
+/// Tries a call with 0 granted requests for memory, then 1, and so on, until `is_enough` returns
+/// that so many were enough; returns that number, or none if 98 aren't enough.
 ///
 /// `is_enough` is handed the number of granted requests. It makes all anew, tries the call, and
 /// checks what a refused one has left.

@@ -1,4 +1,4 @@
-//! Walks from both ends, compared with a slice of what each step answers.
+//! Walks from both ends, compared with a slice of what each step returns.
 
 /// The end that a step of a walk takes an item from.
 #[derive(Clone, Copy)]
@@ -19,7 +19,7 @@ pub trait Plain: Drop {
     fn plain(self) -> Self::Value;
 }
 
-/// Raises a number by 100, and answers what it was.
+/// Raises a number by 100, and returns what it was.
 fn raise(number: &mut u32) -> u32 {
     let was = *number;
     *number = was.saturating_add(100);
@@ -71,7 +71,7 @@ impl<T: PartialEq + Copy, E: Drop> Plain for Result<T, E> {
 ///
 /// Each row names the end that an item is taken from, and the item. Before each the walk has to
 /// tell how many items are left. Behind the last row it has to have ended, and to stay so: where it
-/// hasn't, the answer is how many rows there are.
+/// hasn't, the result is how many rows there are.
 pub fn walk_difference<W: DoubleEndedIterator + ExactSizeIterator>(
     walk: &mut W,
     wanted: &[(End, <W::Item as Plain>::Value)],

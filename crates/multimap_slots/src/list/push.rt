@@ -37,8 +37,8 @@ fn put_item<T, A: Allocator>(items: &mut Vec<Option<T>, A>, place: usize, item: 
 impl<T, L: Copy, A: Allocator> SlotList<T, L, A> {
     /// Makes room for `additional` more items, so that as many calls of `push_back` take no memory.
     ///
-    /// A refusal is want of memory, or a number of items past the greatest `usize`. Where the list
-    /// grows, its items and links are moved to new memory, and keep their places.
+    /// It is refused when out of memory, or for a number of items past the greatest `usize`. Where
+    /// the list grows, its items and links are moved to new memory, and keep their places.
     pub fn reserve(&mut self, additional: usize) -> Result<(), AllocError>
     where
         A: Copy,
@@ -91,7 +91,7 @@ impl<T, L: Copy, A: Allocator> SlotList<T, L, A> {
         }
     }
 
-    /// Puts the item last, with its link, and answers its place. Where memory is refused, it hands
+    /// Puts the item last, with its link, and returns its place. Where memory is refused, it hands
     /// the item back. The time is constant but where the list grows, as `reserve` says.
     pub fn push_back(&mut self, item: T, link: L) -> Result<usize, T>
     where
@@ -112,7 +112,7 @@ impl<T, L: Copy, A: Allocator> SlotList<T, L, A> {
         Ok(self.push_reserved(item, link))
     }
 
-    /// Puts the item last, with its link, where there is room, and answers its place. It takes no
+    /// Puts the item last, with its link, where there is room, and returns its place. It takes no
     /// memory. The time is constant.
     #[inline(always)]
     pub fn push_reserved(&mut self, item: T, link: L) -> usize

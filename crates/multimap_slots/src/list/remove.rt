@@ -22,8 +22,8 @@ impl<T, L: Copy, A: Allocator> SlotList<T, L, A> {
         Some(item)
     }
 
-    /// Takes the item at `place`, which must be in the list, out of it, frees the place, and answers
-    /// the item with its link. Unlike `remove` it does not test the place.
+    /// Takes the item at `place`, which must be in the list, out of it, frees the place, and
+    /// returns the item with its link. Unlike `remove` it does not test the place.
     #[inline(always)]
     pub fn take_listed(&mut self, place: usize) -> (T, L)
         requires { IsIn place self.old.order }

@@ -1,4 +1,4 @@
-//! A node: what stands at a place beside its item.
+//! A node: what stands at a place, next to its item.
 use super::optional_place::OptionalPlace;
 
 /// What stands at a place.

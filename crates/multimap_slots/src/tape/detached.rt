@@ -26,7 +26,7 @@ impl<T, L: Copy, A: Allocator> Tape<T, L, A> {
         self.freed.count_one();
     }
 
-    /// Detaches the item at `place` as [`Tape::detach`] does, and answers its link. The item is not
+    /// Detaches the item at `place` as [`Tape::detach`] does, and returns its link. The item is not
     /// read. The time is constant.
     #[inline(always)]
     pub fn detach_linked(&mut self, place: usize) -> L
@@ -65,7 +65,7 @@ impl<T, L: Copy, A: Allocator> Tape<T, L, A> {
         item
     }
 
-    /// Takes the item that was detached at `place`, and answers it with its link. The time is
+    /// Takes the item that was detached at `place`, and returns it with its link. The time is
     /// constant.
     #[inline(always)]
     pub fn take_detached_linked(&mut self, place: usize) -> (T, L)

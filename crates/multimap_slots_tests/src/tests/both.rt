@@ -93,7 +93,7 @@ impl<'a> Both<'a> {
     }
 }
 
-/// Pushes an item, and answers its place.
+/// Pushes an item, and returns its place.
 pub fn push(test: &Test, list: &mut Both<'_>, item: usize, link: u8) -> usize {
     let pushed = list.push_back(item, link);
     test.expect("memory for a push", pushed.is_ok());

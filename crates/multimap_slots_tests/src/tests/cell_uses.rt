@@ -50,7 +50,7 @@ fn read_ends(cells: &SlotCells<'_, usize, u8>) -> Option<Ends>
     Some((*cells.read(front), *cells.read(back)))
 }
 
-// Writes the items at both ends while both references live, and answers what stood there: the last
+// Writes the items at both ends while both references live, and returns what stood there: the last
 // one is read beside the reference to the first.
 fn write_ends(cells: &mut SlotCells<'_, usize, u8>, first: usize, last: usize) -> Option<Ends>
     requires left { (p : ℕ) → IsIn p (lent_slots cells.old).order → IsLeft cells.old p }
@@ -115,7 +115,7 @@ fn write_without_order(cells: SlotCells<'_, usize, u8>, last: usize) -> Option<u
     Some(was)
 }
 
-/// Writes the last item of a list by the cells without the order, and answers what stood there.
+/// Writes the last item of a list by the cells without the order, and returns what stood there.
 /// What is detached stays so.
 pub fn write_last(list: &mut List, last: usize) -> Option<usize>
     ensures order { list.new.order ≡ list.old.order }
@@ -124,7 +124,7 @@ pub fn write_last(list: &mut List, last: usize) -> Option<usize>
     write_without_order(list.cells(), last)
 }
 
-/// Writes the first and the third item of a slice of slots while both references live. Answers how
+/// Writes the first and the third item of a slice of slots while both references live. Returns how
 /// many slots there are, what was read of both items, the third beside the reference to the first,
 /// and what stood there.
 pub fn write_slots(slots: &mut [Option<usize>], first: usize, third: usize) -> (usize, Ends, Ends)

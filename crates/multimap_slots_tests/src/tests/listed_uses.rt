@@ -8,7 +8,7 @@ ghost use Rattle.multimap_slots.specs.Tapes.{Frees};
 use crate::tests::slots::{Items, List};
 use multimap_slots::Reads;
 
-/// Puts an item last without a test, where there is room, and answers its place.
+/// Puts an item last without a test, where there is room, and returns its place.
 pub fn push_with_room(list: &mut List, item: usize, link: u8) -> Option<usize>
     ensures { IfSome result (λ place. PushesBack list.old list.new place item link) }
 {

@@ -31,7 +31,7 @@ pub fn can_move_down(tape: &Items, from: usize, to: usize) -> bool
     }
 }
 
-/// Detaches the item at a place, if one of the list is there, and answers whether there was.
+/// Detaches the item at a place, if one of the list is there, and returns whether there was.
 pub fn detach_listed<T>(tape: &mut Tape<T, u8>, place: usize) -> bool
     ensures detached { IsTrue result → IsDetached tape.new.list place }
     ensures item { IsTrue result → item_at tape.new.list place ≡ item_at tape.old.list place }
@@ -60,8 +60,8 @@ pub fn detach_and_take(tape: &mut Items, place: usize) -> Option<usize>
     }
 }
 
-/// Takes the item at a place out of the list and then out of its slot, if one is there, and answers
-/// it with its link, as each of the two calls answers it.
+/// Takes the item at a place out of the list and then out of its slot, if one is there, and returns
+/// it with its link, as each of the two calls returns it.
 pub fn take_with_links(tape: &mut Items, place: usize) -> Option<(usize, u8, u8)> {
     // The length tells the proof that each listed place has an item.
     let _len = tape.len();
@@ -73,7 +73,7 @@ pub fn take_with_links(tape: &mut Items, place: usize) -> Option<(usize, u8, u8)
     Some((item, link, same))
 }
 
-/// Tries to remove what is detached already, and answers whether nothing was there.
+/// Tries to remove what is detached already, and returns whether nothing was there.
 pub fn removes_nothing(tape: &mut Items, place: usize) -> bool
     requires { IsDetached tape.old.list place }
     ensures none { IsTrue result }
@@ -82,7 +82,7 @@ pub fn removes_nothing(tape: &mut Items, place: usize) -> bool
     tape.remove(place).is_none()
 }
 
-/// Pushes an item, and answers its place, which is another than a detached item's.
+/// Pushes an item, and returns its place, which is another than a detached item's.
 pub fn push_beside(tape: &mut Items, place: usize, item: usize) -> Option<usize>
     requires { IsDetached tape.old.list place }
     ensures kept { IsDetached tape.new.list place }
@@ -94,7 +94,7 @@ pub fn push_beside(tape: &mut Items, place: usize, item: usize) -> Option<usize>
     Some(at)
 }
 
-/// Takes both items out, and answers whether both were there.
+/// Takes both items out, and returns whether both were there.
 pub fn remove_both(tape: &mut Items, first: usize, second: usize) -> bool
     ensures moved { tape.new.moved ≡ tape.old.moved }
     ensures freed { IsTrue result → tape.new.freed ≡ tape.old.freed + 2 }
@@ -104,7 +104,7 @@ pub fn remove_both(tape: &mut Items, first: usize, second: usize) -> bool
     first.is_some() && second.is_some()
 }
 
-/// Moves an item down, if it may go, and answers whether it went.
+/// Moves an item down, if it may go, and returns whether it went.
 pub fn move_if_free(tape: &mut Items, from: usize, to: usize) -> bool
     ensures moved { IsTrue result → tape.new.moved ≡ tape.old.moved + 1 }
     ensures freed { tape.new.freed ≡ tape.old.freed }
@@ -117,7 +117,7 @@ pub fn move_if_free(tape: &mut Items, from: usize, to: usize) -> bool
     is_free
 }
 
-/// Cuts the end, and answers whether the list has no hole then.
+/// Cuts the end, and returns whether the list has no hole then.
 pub fn cut_to_no_hole(tape: &mut Items) -> bool
     ensures holes { IsTrue result → tape.new.holes ≡ 0 }
     ensures moved { tape.new.moved ≡ tape.old.moved }

@@ -6,7 +6,7 @@ ghost use Rattle.multimap_slots.specs.Slots.{link_at, IsDetached};
 use crate::tests::slots::List;
 use multimap_slots::{Reads, SlotList};
 
-/// Pushes two items, and answers their places: the second stands right behind the first.
+/// Pushes two items, and returns their places: the second stands right behind the first.
 pub fn push_two(list: &mut List, first: usize, second: usize) -> Option<(usize, usize)>
     ensures { IfSome result (λ places. next_of list.new.order places.0 ≡ Some places.1) }
 {
@@ -19,7 +19,7 @@ pub fn push_two(list: &mut List, first: usize, second: usize) -> Option<(usize, 
     Some((a, b))
 }
 
-/// Writes the link at a place, and answers whether an item of the list is there.
+/// Writes the link at a place, and returns whether an item of the list is there.
 pub fn relink(list: &mut List, place: usize, link: u8) -> bool
     ensures written { IsTrue result → link_at list.new place ≡ Some link }
     ensures order { list.new.order ≡ list.old.order }
@@ -49,7 +49,7 @@ pub fn read_all(list: &List, reads: &mut Reads)
     }
 }
 
-/// Detaches the item at a place, and answers whether an item of the list is there.
+/// Detaches the item at a place, and returns whether an item of the list is there.
 pub fn detach_listed<T>(list: &mut SlotList<T, u8>, place: usize) -> bool
     ensures { IsTrue result → IsDetached list.new place }
 {
@@ -61,7 +61,7 @@ pub fn detach_listed<T>(list: &mut SlotList<T, u8>, place: usize) -> bool
     true
 }
 
-/// Removes no item where one is detached, and answers whether that is so.
+/// Removes no item where one is detached, and returns whether that is so.
 pub fn remove_none(list: &mut List, place: usize) -> bool
     requires { IsDetached list.old place }
     ensures none { IsTrue result }

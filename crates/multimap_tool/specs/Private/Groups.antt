@@ -1,4 +1,4 @@
--- Which commands each function of a run answers. No public clause cites this module.
+-- Which commands each function of a run takes. No public clause cites this module.
 use Rattle.multimap_tool.specs.declared.commands.Command.{Command}
 use Rattle.multimap_tool.specs.declared.commands.Command.TheVariants.{Append, Insert, InsertAll}
 use Rattle.multimap_tool.specs.declared.commands.Command.TheVariants.{OrInsert, SetFirst}

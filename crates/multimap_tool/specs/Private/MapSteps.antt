@@ -33,7 +33,7 @@ pub record CanStep {K V A : Type 0} (MayCall : V → Type 0) (key_clone : K → 
   pub parts : Rereads command → DifferAsJson key_json value_json
 
 module _ {K : Type 0} (eq : K → K → Bool) {V A S : Type 0} where
-  -- a command is not answered by want of memory where the map has the room that it asks for; the
+  -- a command is not refused for lack of memory where the map has the room that it asks for; the
   -- list of no value takes no memory
   abbrev pub FindsItsRoom : Command K V A → Multimap K V S → Reply K V A → Type 0
   FindsItsRoom (Append k v) m reply = HasKeyRoom m → HasValueRoom m → reply ≢ NoMemory

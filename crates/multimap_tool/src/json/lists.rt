@@ -169,7 +169,7 @@ fn read_without_value<
     if keys.is_empty() && pairs.is_empty() {
         return Ok(ListOrderedMultimap::with_hasher(alloc, state));
     }
-    // Truths stand for the keys: no map of them is answered, but each key is looked up in one.
+    // Truths stand for the keys: no map of them is returned, but each key is looked up in one.
     let mut listed: ListOrderedMultimap<K, bool, S, A> = ListOrderedMultimap::with_hasher(
         alloc, state,
     );

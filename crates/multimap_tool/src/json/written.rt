@@ -15,7 +15,7 @@ use std::hash::{BuildHasher, Hash};
 /// order, and `pairs`, the array that [`to_value`](crate::json::to_value) gives.
 ///
 /// `alloc` gives the memory of the JSON value: two requests for `keys`, what `to_value` takes, and
-/// those of the object. A refusal is want of memory; the map stays as it is.
+/// those of the object. It is refused when out of memory; the map stays as it is.
 ///
 /// ```
 /// to_value_2(alloc, &map)?.to_string(alloc)? == "{\"keys\":[1,2],\"pairs\":[[2,20],[1,30]]}"

@@ -12,7 +12,7 @@ use ordered_multimap::ListOrderedMultimap;
 use std::alloc::Allocator;
 use std::hash::{BuildHasher, Hash};
 
-/// Answers a command that changes nothing.
+/// Runs a command that changes nothing.
 pub(crate) fn look_up<K: Eq + Hash + Copy, V: Copy, S: BuildHasher, A: Allocator + Copy>(
     alloc: A,
     map: &ListOrderedMultimap<K, V, S, A>,

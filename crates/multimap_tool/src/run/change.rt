@@ -139,7 +139,7 @@ fn pop<K: Eq + Hash + Copy, V: Copy, S: BuildHasher, A: Allocator + Copy>(
     }
 }
 
-/// What a pop answers, with a copy of the key.
+/// What a pop returns, with a copy of the key.
 fn told<K: Copy, V>(pair: Option<(KeyWrapper<'_, K>, V)>) -> Option<Popped<K, V>>
     ensures { option_map told_pop result ≡ option_map popped_of pair.entry }
 {

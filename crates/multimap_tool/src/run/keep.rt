@@ -11,7 +11,7 @@ pub(crate) trait Keep<K, V>: Drop {
     /// It may be asked for this operand, whatever the key and the value.
     ghost accepts: { Self → V → Type 0 };
 
-    /// Asked for an operand, a key and a value, it may answer this, and leave this value.
+    /// Asked for an operand, a key and a value, it may return this, and leave this value.
     ghost answers: { Self → V → K → V → Bool → V → Type 0 };
 
     /// Whether the pair stays. It may write the value.

@@ -239,7 +239,7 @@ pub fn answer<'a>(
     }
 }
 
-/// Whether a line may be answered by want of memory: an addition, but for one to a present key that
+/// Whether a line may be refused for lack of memory: an addition, but for one to a present key that
 /// replaces or keeps, a request for room, a packing, a clone, a JSON value, or a list of some item.
 pub fn may_lack(alloc: Global, plain: &PlainMap<'_>, line: &str) -> bool {
     let line = line_of(line);

@@ -29,7 +29,7 @@ fn all_lines_are_answered(test: &Test, input: &str) {
     test.expect("the answers", output.as_slice() == wanted.as_bytes());
 }
 
-// Runs each line with at most four requests granted, and answers how often one was refused. Where
+// Runs each line with at most four requests granted, and returns how often one was refused. Where
 // it is, both lists are as before.
 fn lines_are_refused<'a, 'l>(
     test: &Test,

@@ -124,7 +124,7 @@ pub fn line_of(line: &str) -> Line<'_> {
     }
 }
 
-/// The next number of a linear congruential sequence, of which the answer is a number below
+/// The next number of a linear congruential sequence, of which the result is a number below
 /// `below`.
 pub fn draw(state: &mut u64, below: u32) -> u32 {
     *state = state

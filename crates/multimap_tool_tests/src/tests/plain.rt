@@ -61,7 +61,7 @@ impl<'a> PlainMap<'a> {
         self.keys.retain(|key| is_named(pairs, key.0));
     }
 
-    /// Puts a pair last, and answers whether its key was present.
+    /// Puts a pair last, and returns whether its key was present.
     pub fn append(&mut self, key: &'a str, value: &'a str) -> Result<bool, AllocError> {
         let present = is_named(&self.keys, key);
         if !present {
@@ -109,7 +109,7 @@ impl<'a> PlainMap<'a> {
         None
     }
 
-    /// Writes the value of the pair at a position, and answers the pair as it was.
+    /// Writes the value of the pair at a position, and returns the pair as it was.
     pub fn write_at(&mut self, at: usize, value: &'a str) -> Option<Pair<'a>> {
         let pair = self.pairs.get_mut(at)?;
         let old = *pair;
@@ -117,7 +117,7 @@ impl<'a> PlainMap<'a> {
         Some(old)
     }
 
-    /// Writes the first value of a key, and answers the pair as it was.
+    /// Writes the first value of a key, and returns the pair as it was.
     pub fn write_first(&mut self, key: &str, value: &'a str) -> Option<Pair<'a>> {
         for pair in &mut self.pairs {
             if pair.0 == key {
@@ -129,7 +129,7 @@ impl<'a> PlainMap<'a> {
         None
     }
 
-    /// Takes the first or the last pair out, and answers it, and whether its key went too.
+    /// Takes the first or the last pair out, and returns it, and whether its key went too.
     pub fn pop(&mut self, from_back: bool) -> Option<(bool, Pair<'a>)> {
         let pair = if from_back {
             self.pairs.pop()?

@@ -110,7 +110,7 @@ const TEXTS: &[(&str, Option<TextFault>)] = &[
     ("walk 1 f\nget\n", Some(TextFault::BadLine(2))),
 ];
 
-// The fault is want of memory until there is enough.
+// The fault is lack of memory until there is enough.
 fn parse_with(test: &Test, input: &str, ample: Option<TextFault>, granted: u64) -> bool {
     let allocator = RefusingAllocator::new(test.alloc(), granted);
     let fault = parse_commands(&allocator, input.as_bytes()).err();

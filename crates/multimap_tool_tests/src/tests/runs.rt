@@ -98,7 +98,7 @@ fn one_run<'a, 'l>(
 }
 
 /// Runs lines, expects an answer to each, or that nothing was done, and the keys and the pairs of
-/// the plain map behind them. Answers whether a request was refused.
+/// the plain map behind them. Returns whether a request was refused.
 pub fn run_lines<'a, 'l>(
     test: &Test,
     allocator: &'a RefusingAllocator,

@@ -23,7 +23,7 @@ fn has_pairs<S: BuildHasher>(
         .eq(pairs.iter().copied())
 }
 
-/// Whether so many granted requests are enough: with fewer it is want of memory, and else the map,
+/// Whether so many granted requests are enough: with fewer it is lack of memory, and else the map,
 /// or the fault of ample memory.
 fn read_with(test: &Test, value: &Value, ample: Option<ReadFault>, granted: u64) -> bool {
     let budget = RefusingAllocator::new(test.alloc(), granted);

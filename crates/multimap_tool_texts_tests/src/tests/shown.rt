@@ -74,7 +74,7 @@ fn replies_are_shown(test: &Test, commands: &Commands) {
     test.expect("equal replies", is_compared(&replies, &like, &other));
 }
 
-// No run of lines with ample memory answers so.
+// No run of lines with ample memory gives these.
 fn rare_replies_are_shown(test: &Test) {
     let rare: [Reply<u32, i64>; 2] = [Reply::NoMemory, Reply::Count(usize::MAX)];
     test.expect("shown", is_shown(test.alloc(), &rare[0], "NoMemory"));

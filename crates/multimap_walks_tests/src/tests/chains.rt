@@ -13,7 +13,7 @@ pub(crate) type Values = Tape<u32, ValueLink>;
 /// The places of four values of one key.
 pub(crate) type Four = (usize, usize, usize, usize);
 
-/// Puts a value last, and answers its place.
+/// Puts a value last, and returns its place.
 pub(crate) fn push(
     values: &mut Values,
     value: u32,
@@ -38,7 +38,7 @@ fn is_listed(values: &Values, place: usize) -> bool
     values.get(place, &mut Reads::new()).is_some()
 }
 
-/// Detaches the value at a place, if one of the list is there, and answers whether there was.
+/// Detaches the value at a place, if one of the list is there, and returns whether there was.
 fn detach(values: &mut Values, place: usize) -> bool
     ensures detached { IsTrue result → IsDetached values.new.list place }
     ensures kept { (p : ℕ) → IsDetached values.old.list p → IsDetached values.new.list p }
@@ -88,7 +88,7 @@ fn four(values: &Values, places: Four) -> Option<ChainEnds>
     })
 }
 
-/// Detaches four values of the list, and answers their ends if they are a chain in this order.
+/// Detaches four values of the list, and returns their ends if they are a chain in this order.
 pub(crate) fn detach_four(values: &mut Values, places: Four) -> Option<ChainEnds>
     ensures { IfSome result (λ e. IsDetachedChain values.new.list e.first e.last e.length) }
 {

@@ -18,7 +18,7 @@ pub const LONG: KeyLink = KeyLink {
     length: 3,
 };
 
-/// Puts a key last, and answers whether it has this place.
+/// Puts a key last, and returns whether it has this place.
 fn key_stands(keys: &mut Keys, key: char, link: KeyLink, place: usize) -> bool
     ensures { IsTrue result → PushesBack keys.old keys.new place key link }
 {
@@ -28,7 +28,7 @@ fn key_stands(keys: &mut Keys, key: char, link: KeyLink, place: usize) -> bool
     }
 }
 
-/// Puts a value last, and answers whether it has this place.
+/// Puts a value last, and returns whether it has this place.
 fn value_stands(values: &mut Values, value: u32, link: ValueLink, place: usize) -> bool
     ensures { IsTrue result → PushesBack values.old.list values.new.list place value link }
 {
@@ -48,7 +48,7 @@ fn link(key: usize, previous: Option<usize>, next: Option<usize>) -> ValueLink
     }
 }
 
-/// Puts the keys into an empty list, and answers whether there was memory.
+/// Puts the keys into an empty list, and returns whether there was memory.
 pub fn push_keys(keys: &mut Keys) -> bool
     requires { keys.old.order ≡ [] }
     ensures { IsTrue result → HasTwoKeys keys.new }
@@ -65,7 +65,7 @@ pub fn push_keys(keys: &mut Keys) -> bool
     key_stands(keys, 'l', short, 1)
 }
 
-/// Puts the values 1 to 4 into an empty list, and answers whether there was memory.
+/// Puts the values 1 to 4 into an empty list, and returns whether there was memory.
 pub fn push_values(values: &mut Values) -> bool
     requires { values.old.list.order ≡ [] }
     ensures { IsTrue result → HasFourValues values.new.list }

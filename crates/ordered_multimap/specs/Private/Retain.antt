@@ -18,7 +18,7 @@ pub record IsOwnedAt {K V : Type 0} (keys : Slots K KeyLink) (values : Slots V V
   pub owned : AreOwned keys values
 
 module _ {F K V : Type 0} (calls : F → K → V → Bool → V → F → Type 0) where
-  -- a call on the pair at the place answers b, and its value is the one that the call left
+  -- a call on the pair at the place returns b, and its value is the one that the call left
   pub record Asks (keys : Slots K KeyLink) (values values_after : Taped V ValueLink) (place : ℕ)
       (f : F) (b : Bool) (g : F) : Type 0 where
     pub key : K

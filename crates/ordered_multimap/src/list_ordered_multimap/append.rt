@@ -25,7 +25,7 @@ use std::alloc::Allocator;
 use std::hash::{BuildHasher, Hash};
 
 impl<K: Eq + Hash, V, S: BuildHasher, A: Allocator + Copy> ListOrderedMultimap<K, V, S, A> {
-    /// Puts the pair last, and answers whether the key was present. A present key stays as it was
+    /// Puts the pair last, and returns whether the key was present. A present key stays as it was
     /// stored, and the one handed in is dropped.
     ///
     /// Where memory is refused, it hands back the pair, and both lists are as before. One look-up;
@@ -58,7 +58,7 @@ impl<K: Eq + Hash, V, S: BuildHasher, A: Allocator + Copy> ListOrderedMultimap<K
         }
     }
 
-    /// Puts a pair of an absent key, whose hash is `hash`, last, and answers the key's place.
+    /// Puts a pair of an absent key, whose hash is `hash`, last, and returns the key's place.
     pub(super) fn append_new(&mut self, hash: u64, key: K, value: V) -> Result<usize, Refused<K, V>>
     where
         V: Drop,
@@ -117,7 +117,7 @@ fn append_behind<K, V: Drop, A: Allocator + Copy>(
     Ok(())
 }
 
-/// Appends a key that isn't listed, whose hash is `hash`, with its first value, and answers its
+/// Appends a key that isn't listed, whose hash is `hash`, with its first value, and returns its
 /// place.
 #[tactic(auto, using(crate::proofs::Append::Appended::rows_listed))]
 #[inline(never)]

@@ -36,7 +36,7 @@ impl<
         ensures clones { IfOk result (λ m.
             AreClones K.eq K.is_clone V.is_clone self.now.lists m.lists) }
 
-        // Where a clone is the very key or value, the lists are the same.
+        // Where a clone is the key or value itself, the lists are the same.
         ensures lists { ((k c : K) → IsIn k self.now.lists.keys → K.is_clone k c → c ≡ k)
             → ((v c : V) → IsIn v (all_values self.now.lists.pairs) → V.is_clone v c → c ≡ v)
             → IfOk result (λ m. m.lists ≡ self.now.lists) }

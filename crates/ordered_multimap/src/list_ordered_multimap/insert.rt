@@ -22,7 +22,7 @@ use std::alloc::Allocator;
 use std::hash::{BuildHasher, Hash};
 
 impl<K: Eq + Hash, V, S: BuildHasher, A: Allocator + Copy> ListOrderedMultimap<K, V, S, A> {
-    /// Takes all pairs of the key out, puts the pair last, and answers the first of the old values,
+    /// Takes all pairs of the key out, puts the pair last, and returns the first of the old values,
     /// or none where the key was absent. A present key stays as it was stored, and keeps its place
     /// among the keys; the one handed in is dropped.
     ///
@@ -55,7 +55,7 @@ impl<K: Eq + Hash, V, S: BuildHasher, A: Allocator + Copy> ListOrderedMultimap<K
 }
 
 impl<K: Eq + Hash, V, S: BuildHasher, A: Allocator> ListOrderedMultimap<K, V, S, A> {
-    /// Takes all pairs of the key at the place out, puts one with this value last, and answers the
+    /// Takes all pairs of the key at the place out, puts one with this value last, and returns the
     /// first of the old values.
     pub(super) fn insert_at(&mut self, place: usize, value: V) -> V
     where
@@ -71,7 +71,7 @@ impl<K: Eq + Hash, V, S: BuildHasher, A: Allocator> ListOrderedMultimap<K, V, S,
     }
 }
 
-/// Puts the value last, behind the others of the key at the place, takes these out, and answers the
+/// Puts the value last, behind the others of the key at the place, takes these out, and returns the
 /// first of them. There is a slot for it, since a tape has two for each value of the map.
 #[inline(always)]
 fn insert_behind<K, V: Drop, A: Allocator>(
@@ -90,7 +90,7 @@ fn insert_behind<K, V: Drop, A: Allocator>(
     first.value
 }
 
-/// Puts the value last, behind the others of the key at the place, detaches these, and answers
+/// Puts the value last, behind the others of the key at the place, detaches these, and returns
 /// where they stand.
 pub(super) fn insert_behind_all<K, V: Drop, A: Allocator + Copy>(
     keys: &mut SlotList<K, KeyLink, A>,

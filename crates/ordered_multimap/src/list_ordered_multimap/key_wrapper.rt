@@ -1,4 +1,4 @@
-//! The key that a pop hands out beside the value.
+//! The key that a pop hands out with the value.
 ghost use Rattle.std.specs.Prelude.{◌≡◌, not, IfOk, IsOk};
 ghost use Rattle.ordered_multimap.specs.KeyWrappers.{is_owned, IsOwnKey, IsNeverRefused};
 

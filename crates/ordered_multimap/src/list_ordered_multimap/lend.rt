@@ -1,4 +1,4 @@
-//! The values of the map for writing, beside its keys for reading.
+//! The values of the map for writing, and its keys for reading.
 ghost use Rattle.std.specs.Prelude.{◌≡◌};
 ghost use Rattle.std.specs.Borrow.{sem};
 ghost use Rattle.multimap_slots.specs.Slots.{IsSound};
@@ -25,7 +25,7 @@ fn cells_of<K: Eq + Hash, V, S: BuildHasher, A: Allocator>(
 }
 
 impl<K: Eq + Hash, V, S: BuildHasher, A: Allocator> ListOrderedMultimap<K, V, S, A> {
-    /// The values for writing, beside the keys.
+    /// The values for writing, and the keys.
     pub(super) fn lend(&mut self) -> (SlotCells<'_, V, ValueLink, A>, &SlotList<K, KeyLink, A>)
         ensures* writes_back { sem 𝓛 (lends_values K.row V.row S.row A.row S.Hasher.row K.Hash
             S.BuildHasher S.Hasher.Hasher A.Allocator self.entry (cells_name result.0)) }

@@ -132,10 +132,10 @@ impl<K: Eq + Hash, V, S: BuildHasher, A: Allocator + Copy> ListOrderedMultimap<K
     /// `values_minimum_capacity` values. Takes them all, in their orders, to new memory with room
     /// for at least these numbers. What a forgotten drain has left is dropped, and no hole stays.
     ///
-    /// A refusal is want of memory, or a number of slots past the greatest `usize`. All new memory
-    /// is taken before anything is moved, so the map is then as it was. It goes over the slots in
-    /// use and the lanes of the new table; for the time of the call it takes a number for each slot
-    /// of a key that is in use. No key is hashed or compared.
+    /// It is refused when out of memory, or for a number of slots past the greatest `usize`. All
+    /// new memory is taken before anything is moved, so the map is then as it was. It goes over the
+    /// slots in use and the lanes of the new table; for the time of the call it takes a number for
+    /// each slot of a key that is in use. No key is hashed or compared.
     ///
     /// ```
     /// map.pack_to(5, 5)?;

@@ -89,7 +89,7 @@ impl<K: Eq + Hash, V, S: BuildHasher, A: Allocator> ListOrderedMultimap<K, V, S,
         }
     }
 
-    /// Takes the pair at an end out, and answers it with its key.
+    /// Takes the pair at an end out, and returns it with its key.
     fn pop_end(&mut self, end: End) -> Option<(KeyWrapper<'_, K>, V)>
         ensures* map { sem 𝓛 (ends_popped K.row V.row S.row A.row S.Hasher.row K.Hash
             S.BuildHasher S.Hasher.Hasher A.Allocator end self.entry) }
@@ -99,7 +99,7 @@ impl<K: Eq + Hash, V, S: BuildHasher, A: Allocator> ListOrderedMultimap<K, V, S,
         map.settle().wrapped(taken)
     }
 
-    /// Takes the first pair out, and answers its key and its value. The key is handed out if that
+    /// Takes the first pair out, and returns its key and its value. The key is handed out if that
     /// was its last value; else the map lends it, and it keeps its place among the keys. None where
     /// there is no pair.
     ///
@@ -135,7 +135,7 @@ impl<K: Eq + Hash, V, S: BuildHasher, A: Allocator> ListOrderedMultimap<K, V, S,
         self.pop_end(End::Back)
     }
 
-    /// Takes the first pair out, hands the answer of [`pop_front`](Self::pop_front) to the
+    /// Takes the first pair out, hands the result of [`pop_front`](Self::pop_front) to the
     /// function, and returns what it returns. It is for callers that are proved: they know both
     /// lists afterwards.
     ///
@@ -154,7 +154,7 @@ impl<K: Eq + Hash, V, S: BuildHasher, A: Allocator> ListOrderedMultimap<K, V, S,
         f(self.wrapped(taken))
     }
 
-    /// Takes the last pair out, hands the answer of [`pop_back`](Self::pop_back) to the function,
+    /// Takes the last pair out, hands the result of [`pop_back`](Self::pop_back) to the function,
     /// and returns what it returns. It is for callers that are proved: they know both lists
     /// afterwards.
     ///

@@ -1,4 +1,4 @@
-//! The answers of calls that found no memory. Their `Debug` asks nothing of keys and values, and
+//! The errors of calls that found no memory. Their `Debug` asks nothing of keys and values, and
 //! shows none.
 ghost use Rattle.std.specs.Prelude.{◌≡◌};
 
@@ -98,7 +98,7 @@ impl<V: Drop> From<RefusedValue<V>> for io::Error {
     }
 }
 
-/// Want of memory for the clone of a key, with the value that was to be handed out beside it.
+/// Out of memory for the clone of a key, with the value that was to be handed out with it.
 ///
 /// By `?` it becomes an [`AllocError`] or an [`io::Error`], which lets the value go. An error type
 /// of your own that has a `From<AllocError>` takes it by `map_err(AllocError::from)?`.

@@ -23,8 +23,9 @@ use std::alloc::Allocator;
 use std::hash::{BuildHasher, Hash};
 
 impl<K: Eq + Hash, V, S: BuildHasher, A: Allocator> ListOrderedMultimap<K, V, S, A> {
-    /// Takes the key out with all its values, and answers the first of them; the others are dropped,
-    /// and so is the stored key. None for an absent key. The other keys and pairs keep their order.
+    /// Takes the key out with all its values, and returns the first of them; the others are
+    /// dropped, and so is the stored key. None for an absent key. The other keys and pairs keep
+    /// their order.
     ///
     /// One look-up, then the slot of the key and those of its values. No memory is taken and none
     /// is given back: the slots are left for others.
@@ -72,7 +73,7 @@ impl<K: Eq + Hash, V, S: BuildHasher, A: Allocator> ListOrderedMultimap<K, V, S,
         }
     }
 
-    /// Takes the key at the place out with all its values, and answers it with the first of them.
+    /// Takes the key at the place out with all its values, and returns it with the first of them.
     pub(super) fn take_entry_at(&mut self, place: usize) -> (K, V)
     where
         V: Drop,

@@ -12,9 +12,9 @@ impl<K: Eq + Hash, V, S: BuildHasher, A: Allocator + Copy> ListOrderedMultimap<K
     /// Makes room for at least `additional` more keys, in the list of keys and in the table. Where
     /// there is room for as many, no memory is taken.
     ///
-    /// A refusal is want of memory, or a number of keys past the greatest `usize`. Both lists are
-    /// as before. A growth costs the slots of the keys and the rows, which are moved, and leaves at
-    /// least twice the room that there was.
+    /// It is refused when out of memory, or for a number of keys past the greatest `usize`. Both
+    /// lists are as before. A growth costs the slots of the keys and the rows, which are moved, and
+    /// leaves at least twice the room that there was.
     ///
     /// ```
     /// map.reserve_keys(10)?;
@@ -38,9 +38,9 @@ impl<K: Eq + Hash, V, S: BuildHasher, A: Allocator + Copy> ListOrderedMultimap<K
     /// Makes room for at least `additional` more values: two slots for each, with those that are
     /// there. Where there is room for as many, no memory is taken.
     ///
-    /// A refusal is want of memory, or a number of slots past the greatest `usize`. Both lists are
-    /// as before. A growth costs the slots of the values, which are moved, and leaves at least
-    /// twice the room that there was.
+    /// It is refused when out of memory, or for a number of slots past the greatest `usize`. Both
+    /// lists are as before. A growth costs the slots of the values, which are moved, and leaves at
+    /// least twice the room that there was.
     ///
     /// ```
     /// map.reserve_values(10)?;

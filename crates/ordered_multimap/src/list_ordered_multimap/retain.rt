@@ -1,4 +1,4 @@
-//! One pass over all pairs that keeps those for which a function answers yes.
+//! One pass over all pairs that keeps those for which a function returns true.
 ghost use Rattle.std.specs.Prelude.{◌≡◌, ◌≤◌, ◌-◌, ℕ, Some, length};
 ghost use Rattle.std.specs.Map.Calls.{CallableOnEachPair, CalledAtPair, TakesPair as MayCall};
 ghost use Rattle.multimap_slots.specs.Slots.{link_at};
@@ -21,7 +21,7 @@ use multimap_walks::{KeyLink, ValueLink};
 use std::alloc::Allocator;
 use std::hash::{BuildHasher, Hash};
 
-/// Calls the function on the pair at a listed place, and answers its answer, with the links of the
+/// Calls the function on the pair at a listed place, and returns its result, with the links of the
 /// value and of its key.
 fn ask<K, V, A: Allocator, F: FnMut(&K, &mut V) -> bool>(
     keys: &SlotList<K, KeyLink, A>,
@@ -42,7 +42,7 @@ fn ask<K, V, A: Allocator, F: FnMut(&K, &mut V) -> bool>(
     (f(key, values.get_listed_mut(place)), link, key_link)
 }
 
-/// Calls the function on the pair at a listed place, and takes the pair out if the answer is no.
+/// Calls the function on the pair at a listed place, and takes the pair out if it returns false.
 fn retain_at<K: Drop, V: Drop, A: Allocator, F: FnMut(&K, &mut V) -> bool>(
     keys: &mut SlotList<K, KeyLink, A>,
     table: &mut KeyTable<A>,
@@ -62,7 +62,7 @@ fn retain_at<K: Drop, V: Drop, A: Allocator, F: FnMut(&K, &mut V) -> bool>(
     }
 }
 
-/// Calls the function on each pair in turn, and takes out those for which it answers no.
+/// Calls the function on each pair in turn, and takes out those for which it returns false.
 fn retain_pairs<K: Eq + Drop, V: Drop, A: Allocator, F: FnMut(&K, &mut V) -> bool>(
     keys: &mut SlotList<K, KeyLink, A>,
     table: &mut KeyTable<A>,
@@ -92,7 +92,7 @@ fn retain_pairs<K: Eq + Drop, V: Drop, A: Allocator, F: FnMut(&K, &mut V) -> boo
 }
 
 impl<K: Eq + Hash, V, S: BuildHasher, A: Allocator> ListOrderedMultimap<K, V, S, A> {
-    /// Calls the function once on each pair, in the order of the pairs. Those for which it answers
+    /// Calls the function once on each pair, in the order of the pairs. Those for which it returns
     /// true stay, with the value as the call left it; the others are dropped, and so is a key with
     /// its last pair. What stays keeps its order.
     ///

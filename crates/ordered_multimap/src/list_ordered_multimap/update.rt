@@ -61,7 +61,7 @@ fn update_pairs<K: Eq, V, A: Allocator, F: FnMut(&K, &mut V)>(
     }
 }
 
-/// Calls the function on the value at a listed place, and answers the place of the next value of
+/// Calls the function on the value at a listed place, and returns the place of the next value of
 /// its key.
 fn rewrite_at<V, A: Allocator, F: FnMut(&mut V)>(
     values: &mut Tape<V, ValueLink, A>,

@@ -1,4 +1,4 @@
-//! Calls of entries from functions that are proved for every key type: what each answers where
+//! Calls of entries from functions that are proved for every key type: what each returns where
 //! there is memory, and what the map is then.
 use ordered_multimap::list_ordered_multimap::Refused;
 use ordered_multimap_callers::entered::take_value_out;
@@ -37,7 +37,7 @@ enum Answer {
 }
 
 // A call on a map of the mixed pairs, with 21 for what a function or a chain of calls writes, and
-// else with 9, or with the index 1; what it answers; and the lists then.
+// else with 9, or with the index 1; what it returns; and the lists then.
 type Row = (Call, u32, Answer, &'static [(u32, u32)], &'static [u32]);
 
 const WITH_THREE: &[(u32, u32)] = &[(1, 11), (2, 12), (2, 13), (1, 14), (3, 9)];
@@ -200,7 +200,7 @@ fn rows_hold(test: &Test, map: &mut Numbers, presence: &'static str, rows: &[Row
     }
 }
 
-/// Each caller answers what it says, and leaves the lists that it says, of a key that is present
+/// Each caller returns what it says, and leaves the lists that it says, of a key that is present
 /// and of one that is absent.
 pub fn callers_answer(test: &Test, map: &mut Numbers) {
     rows_hold(test, map, "a present key", PRESENT);

@@ -1,4 +1,4 @@
-//! Entries of keys that are present and of keys that aren't: what each call answers, and what the
+//! Entries of keys that are present and of keys that aren't: what each call returns, and what the
 //! map is then.
 use ordered_multimap::list_ordered_multimap::{Entry, KeyWrapper};
 use ordered_multimap_callers::lists::has_lists;

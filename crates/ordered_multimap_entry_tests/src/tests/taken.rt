@@ -5,7 +5,7 @@ use ordered_multimap_callers::maps::{Refusing, refill, reserve_anew};
 use refusing_allocator::RefusingAllocator;
 use test_helpers::Test;
 
-// One after another: the key, the index, and what is answered.
+// One after another: the key, the index, and what is returned.
 const STEPS: &[(u32, usize, Option<u32>)] = &[
     (1, 1, Some(2)),
     (1, 2, None),
@@ -28,7 +28,7 @@ const MANY: &[(u32, u32)] = &[
     (1, 16),
 ];
 
-// Of the seven, the index of the one that leaves, what is answered, and the values that are left.
+// Of the seven, the index of the one that leaves, what is returned, and the values that are left.
 const ONES: &[(usize, Option<u32>, &[u32])] = &[
     (0, Some(10), &[11, 12, 13, 14, 15, 16]),
     (1, Some(11), &[10, 12, 13, 14, 15, 16]),

@@ -1,4 +1,4 @@
-//! Pairs that leave at an end: what is answered, and whether the key went.
+//! Pairs that leave at an end: what is returned, and whether the key went.
 use ordered_multimap::ListOrderedMultimap;
 use ordered_multimap::list_ordered_multimap::KeyWrapper;
 use ordered_multimap_callers::lists::{appends, has_lists, inserts};

@@ -1,4 +1,4 @@
-//! Calls that put the pair of the key 1 and the value 77 into a map. Each answers the pair that
+//! Calls that put the pair of the key 1 and the value 77 into a map. Each returns the pair that
 //! comes back where memory is refused.
 use ordered_multimap::list_ordered_multimap::{Entry, Refused, RefusedValue};
 use ordered_multimap_callers::maps::Refusing;

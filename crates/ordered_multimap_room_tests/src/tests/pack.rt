@@ -6,7 +6,7 @@ use std::alloc::Allocator;
 use std::hash::{BuildHasher, Hash};
 use test_helpers::Test;
 
-/// Packs a map that has no more keys and values than these, and answers whether there was memory.
+/// Packs a map that has no more keys and values than these, and returns whether there was memory.
 pub fn pack_to<K: Eq + Hash + Drop, V: Drop, S: BuildHasher, A: Allocator + Copy>(
     test: &Test,
     map: &mut ListOrderedMultimap<K, V, S, A>,

@@ -41,7 +41,7 @@ fn is_as_before(map: &Refusing<'_>, before: &[(u32, u32)]) -> bool {
     }
 }
 
-// It answers whether there was memory enough.
+// It returns whether there was memory enough.
 fn is_put(
     test: &Test,
     map: &Refusing<'_>,
@@ -63,7 +63,7 @@ fn is_put(
     }
 }
 
-/// Makes the call on a map that has as many of the pairs as it has any. It answers whether there was
+/// Makes the call on a map that has as many of the pairs as it has any. It returns whether there was
 /// memory enough.
 pub fn puts(test: &Test, map: &mut Refusing<'_>, call: Call, pairs: &[(u32, u32)]) -> bool {
     let before = first(pairs, map.values_len());

@@ -52,7 +52,7 @@ fn has_both(test: &Test, map: &Texts<'_>) {
     test.expect("no third pair", pairs.next().is_none());
 }
 
-// Answers whether there was memory for a clone.
+// Returns whether there was memory for a clone.
 fn is_cloned(test: &Test, map: &Texts<'_>) -> bool {
     match map.clone() {
         Ok(copy) => {

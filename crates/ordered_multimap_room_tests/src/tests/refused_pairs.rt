@@ -36,7 +36,7 @@ fn is_extended(test: &Test, map: &Refusing<'_>, answer: Result<(), Refused<u32, 
     }
 }
 
-/// Extends the map. It answers whether there was memory for all pairs.
+/// Extends the map. It returns whether there was memory for all pairs.
 pub fn extend(test: &Test, map: &mut Refusing<'_>) -> bool {
     let answer = map.extend(PAIRS.iter().copied());
     is_extended(test, map, answer)

@@ -40,7 +40,7 @@ fn room_of(call: Room) -> (usize, usize) {
     }
 }
 
-/// Makes the call. It answers whether there was memory enough.
+/// Makes the call. It returns whether there was memory enough.
 pub fn is_made(test: &Test, map: &mut Refusing<'_>, call: Room) -> bool {
     let made = makes_room(test, map, call);
     let room = room_of(call);

@@ -1,4 +1,4 @@
-//! Keys and values that are texts: what each call answers before, between and after changes.
+//! Keys and values that are texts: what each call returns before, between and after changes.
 use ordered_multimap_callers::lists::{appends, copied, inserts};
 use ordered_multimap_callers::maps::Texts;
 use test_helpers::{End, Test, walk_difference};
@@ -12,7 +12,7 @@ enum Call {
     Clear,
 }
 
-// A call, what it answers where it answers a value, and what the look-ups answer then: how many
+// A call, what it returns where it returns a value, and what the look-ups answer then: how many
 // keys and values there are, the last pair, and of the key the first value and how many it has.
 struct Row {
     call: Call,
@@ -171,7 +171,7 @@ const LENGTH_OF_A_KEY: &[Row] = &[
     },
 ];
 
-// An append answers whether the key was there: it has more than one value then.
+// An append returns whether the key was there: it has more than one value then.
 fn answers(map: &mut Texts, row: &Row) -> bool {
     let (key, value) = row.pair;
     match row.call {
@@ -227,7 +227,7 @@ fn appended_values_are_walked(test: &Test, map: &mut Texts) {
     test.expect_same("get_all", walk_difference(&mut map.get_all(&"key"), &both));
 }
 
-/// What each call answers before, between and after changes.
+/// What each call returns before, between and after changes.
 pub fn come_and_go(test: &Test, map: &mut Texts) {
     for rows in &[LAST_PAIR, COMES_AND_GOES, LENGTHS, LENGTH_OF_A_KEY] {
         rows_hold(test, map, rows);

@@ -17,7 +17,7 @@ fn told(item: Option<Result<(Text<'_>, u32), UnclonedKey<u32>>>) -> Option<(u32,
     }
 }
 
-// Both values come in order, whichever keys are refused. Answers whether no key was.
+// Both values come in order, whichever keys are refused. Returns whether no key was.
 fn both_are_given(test: &Test, walk: &mut IntoIter<Text<'_>, u32>) -> bool {
     let first = told(walk.next());
     let second = told(walk.next());

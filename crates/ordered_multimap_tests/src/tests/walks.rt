@@ -5,7 +5,7 @@ use test_helpers::{End, Test, walk_difference};
 
 type Text = &'static str;
 
-// A map of these pairs, and what each walk over it answers: over all pairs, over their values, over
+// A map of these pairs, and what each walk over it returns: over all pairs, over their values, over
 // the keys, and over the values of one key.
 struct Row {
     pairs: &'static [(Text, Text)],

@@ -7,7 +7,7 @@ use test_helpers::Test;
 
 type Keys<'a> = KeyValuesMut<'a, u32, u32>;
 
-/// Multiplies both values that the walk hands out by 10, and answers what they were.
+/// Multiplies both values that the walk hands out by 10, and returns what they were.
 fn raise_two(values: &mut EntryValuesMut<'_, u32, u32>) -> Option<(u32, u32)> {
     let first = values.next()?;
     let last = values.next()?;

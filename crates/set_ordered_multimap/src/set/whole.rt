@@ -60,7 +60,7 @@ impl<
         ensures set { ((v c : V) → V.is_clone v c → V.eq v c ≡ true)
             → IsSet K.eq V.eq self.now.lists → IfOk result (λ m. IsSet K.eq V.eq m.lists) }
 
-        // Where a clone is the very key or value, the lists are the same.
+        // Where a clone is the key or value itself, the lists are the same.
         ensures lists { ((k c : K) → IsIn k self.now.lists.keys → K.is_clone k c → c ≡ k)
             → ((v c : V) → IsIn v (all_values self.now.lists.pairs) → V.is_clone v c → c ≡ v)
             → IfOk result (λ m. m.lists ≡ self.now.lists) }

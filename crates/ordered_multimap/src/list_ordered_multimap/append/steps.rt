@@ -26,7 +26,7 @@ pub(crate) fn new_link(hash: u64, place: usize) -> KeyLink
     }
 }
 
-/// Puts the value in the slot behind those in use, and answers its place.
+/// Puts the value in the slot behind those in use, and returns its place.
 #[inline(always)]
 fn push_slot<V, A: Allocator>(
     values: &mut Tape<V, ValueLink, A>,
@@ -40,7 +40,7 @@ fn push_slot<V, A: Allocator>(
     values.push_reserved(value, link)
 }
 
-/// Puts the value last, behind the value at the tail in the chain of its key, and answers its
+/// Puts the value last, behind the value at the tail in the chain of its key, and returns its
 /// place.
 #[inline(always)]
 pub(crate) fn push_value<V, A: Allocator>(
@@ -81,7 +81,7 @@ pub(crate) fn push_behind<K, V, A: Allocator>(
     link.length += 1;
 }
 
-/// Puts the key last, with this link and a row of its hash, and answers its place.
+/// Puts the key last, with this link and a row of its hash, and returns its place.
 #[inline(always)]
 pub(crate) fn push_row<K, A: Allocator + Copy>(
     keys: &mut SlotList<K, KeyLink, A>,

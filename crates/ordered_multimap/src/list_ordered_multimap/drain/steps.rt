@@ -27,7 +27,7 @@ use std::alloc::Allocator;
 use std::hash::{BuildHasher, Hash};
 
 impl<K: Eq + Hash, V, S: BuildHasher, A: Allocator> ListOrderedMultimap<K, V, S, A> {
-    /// Takes the key out, detaches all its values for a drain, and answers the stored key.
+    /// Takes the key out, detaches all its values for a drain, and returns the stored key.
     pub(crate) fn detach_all<Q: KeyQuery<K>>(&mut self, key: Q) -> Option<K>
         ensures holds { HoldsInRoom self.old self.new }
         ensures detached { DetachesWhere (Q.equivalent key) self.old self.new
@@ -47,7 +47,7 @@ impl<K: Eq + Hash, V, S: BuildHasher, A: Allocator> ListOrderedMultimap<K, V, S,
         }
     }
 
-    /// Takes the key at the place out, detaches all its values for a drain, and answers the key.
+    /// Takes the key at the place out, detaches all its values for a drain, and returns the key.
     pub(crate) fn detach_at(&mut self, place: usize) -> K
         requires { IsIn place self.old.slots.keys.order }
         ensures holds { HoldsInRoom self.old self.new }

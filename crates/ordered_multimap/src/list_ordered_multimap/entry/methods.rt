@@ -43,7 +43,7 @@ impl<K: Eq + Hash, V, S: BuildHasher, A: Allocator> ListOrderedMultimap<K, V, S,
 
 impl<'map, K: Eq + Hash, V, S: BuildHasher, A: Allocator> Entry<'map, K, V, S, A> {
     /// Calls the function on the key's first value if the entry is occupied, and doesn't if it is
-    /// vacant. Answers the entry.
+    /// vacant. Returns the entry.
     ///
     /// ```
     /// map.entry("line").and_modify(|value| *value = 9)
@@ -112,7 +112,7 @@ impl<'map, K: Eq + Hash, V: Drop, S: BuildHasher, A: Allocator + Copy> Entry<'ma
     }
 
     /// The entry, if it is occupied; the value handed in is dropped then. Else puts the pair last,
-    /// and answers the entry, which is occupied now. Where memory is refused, it hands back the
+    /// and returns the entry, which is occupied now. Where memory is refused, it hands back the
     /// pair, and both lists are as before.
     ///
     /// ```
@@ -150,7 +150,7 @@ impl<'map, K: Eq + Hash, V: Drop, S: BuildHasher, A: Allocator + Copy> Entry<'ma
     {
         match self {
             Entry::Occupied(entry) => {
-                // Made anew, so that the proof follows the map into the answer.
+                // Made anew, so that the proof follows the map into the result.
                 let OccupiedEntry { map, place } = entry;
                 Ok(OccupiedEntry { map, place })
             }

@@ -154,7 +154,7 @@ impl<'map, K: Eq + Hash, V, S: BuildHasher, A: Allocator> OccupiedEntry<'map, K,
         self.map.append_at(place, value)
     }
 
-    /// Takes all pairs of the key out, puts one with this value last, and answers the first of the
+    /// Takes all pairs of the key out, puts one with this value last, and returns the first of the
     /// old values. The key keeps its place among the keys. It takes no memory, and reads and writes
     /// the slots that the map's call of this name does, as the calls below.
     ///
@@ -174,7 +174,7 @@ impl<'map, K: Eq + Hash, V, S: BuildHasher, A: Allocator> OccupiedEntry<'map, K,
         self.map.insert_at(place, value)
     }
 
-    /// Takes the key out with all its values, and answers the stored key with the first of them.
+    /// Takes the key out with all its values, and returns the stored key with the first of them.
     ///
     /// ```
     /// entry.remove_entry().1 == 1

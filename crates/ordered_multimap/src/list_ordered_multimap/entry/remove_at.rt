@@ -11,7 +11,7 @@ use std::alloc::Allocator;
 use std::hash::{BuildHasher, Hash};
 
 impl<'map, K: Eq + Hash, V, S: BuildHasher, A: Allocator> OccupiedEntry<'map, K, V, S, A> {
-    /// Takes the value at an index among the key's values out, with its pair, and answers it. They
+    /// Takes the value at an index among the key's values out, with its pair, and returns it. They
     /// are counted from 0, in their order. None, and nothing changes, where the key has no value at
     /// the index, or has one value alone: so the key stays, and keeps its place among the keys.
     ///

@@ -15,7 +15,7 @@ use multimap_table::KeyTable;
 use multimap_walks::{ChainEnds, KeyLink, ValueLink};
 use std::alloc::Allocator;
 
-/// Lets the first `count` values along the links from a place on leave, and answers what the first
+/// Lets the first `count` values along the links from a place on leave, and returns what the first
 /// gives, and where they stood. No link is mended.
 #[inline(always)]
 fn leave_values<V, W: Leaving<V>, A: Allocator>(

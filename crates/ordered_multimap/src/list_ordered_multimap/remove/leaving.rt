@@ -16,7 +16,7 @@ pub(crate) trait Leaving<V>: Drop {
     /// What is given tells this of the value.
     ghost gives: { Self → V → Type 0 };
 
-    /// Lets the value at a listed place leave, and answers its link.
+    /// Lets the value at a listed place leave, and returns its link.
     fn leave<A: Allocator>(values: &mut Tape<V, ValueLink, A>, place: usize) -> (Self, ValueLink)
         requires { IsIn place values.old.list.order }
         ensures left { LeavesList keeps values.old values.new place result.1 }

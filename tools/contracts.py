@@ -1,26 +1,18 @@
-#!/usr/bin/env python3
-"""Which words of public contracts have no row in docs/DEFINITIONS.md.
-
-usage: tools/words
+"""The public contracts of the layers, and the words that they cite, for the scripts beside this file.
 
 A word is a definition of a specs/ module of the layers from multimap_slots to multimap_tool that a
 public clause cites: an `ensures` or `requires` of a `pub fn` that callers can name, or of a trait's
 function or a ghost member that a public type has. `ghost use` tells which names are words. Of a
 `Model` only `Value` counts, since `view` and `invariant` name the layout.
-
-Lists each word without a row, and ends with status 1 if there is one. Then it lists lines of specs/
-of more than 100 columns, files of more than 300 lines, and functions whose body has more than 40.
 """
 import os
 import re
-import sys
 
 TOP = os.path.dirname(os.path.dirname(os.path.realpath(__file__)))
 LAYERS = [
     "multimap_slots", "multimap_table", "multimap_walks", "ordered_multimap", "set_ordered_multimap",
     "multimap_tool",
 ]
-MOST_COLUMNS, MOST_LINES, MOST_BODY = 100, 300, 40
 
 
 def files_of(crate, parts, endings):
@@ -180,46 +172,3 @@ def words_cited():
                 for word in cited(clauses, words, modules):
                     found.setdefault(word, path)
     return found
-
-
-def words_with_rows():
-    """The names in the first cell of a row of DEFINITIONS.md, and those that begin its second."""
-    names = set()
-    for line in text_of("docs/DEFINITIONS.md").split("\n"):
-        cells = line.split("|")
-        if len(cells) > 3:
-            names.update(re.findall(r"`([^`]+)`", cells[1]))
-            names.update(re.findall(r"^ `([^`]+)`", cells[2]))
-    return names
-
-
-def lengths():
-    """What is too long."""
-    for crate in sorted(os.listdir(os.path.join(TOP, "crates"))):
-        for path in files_of(crate, ["src", "specs", "proofs"], (".rt", ".antt")):
-            lines = text_of(path).split("\n")
-            if len(lines) - 1 > MOST_LINES:
-                yield f"{path}: {len(lines) - 1} lines"
-            if f"{os.sep}specs{os.sep}" in path:
-                for number, line in enumerate(lines, 1):
-                    if len(line) > MOST_COLUMNS:
-                        yield f"{path}:{number}: {len(line)} columns"
-            if path.endswith(".rt"):
-                for block in blocks_of("\n".join(lines)):
-                    for name, _, _, body in functions_of(block):
-                        if body > MOST_BODY:
-                            yield f"{path}: {name} has a body of {body} lines"
-
-
-def main():
-    rows, cites = words_with_rows(), words_cited()
-    missing = sorted((path, name, by) for (path, name), by in cites.items() if name not in rows)
-    for path, name, by in missing:
-        print(f"{name} of {path.removeprefix('Rattle.')}, cited in {by}, has no row")
-    for said in lengths():
-        print(said)
-    print(f"{len(cites)} words cited, {len(missing)} without a row")
-    sys.exit(1 if missing else 0)
-
-
-main()
