@@ -5,6 +5,7 @@ public clause cites: an `ensures` or `requires` of a `pub fn` that callers can n
 function or a ghost member that a public type has. `ghost use` tells which names are words. Of a
 `Model` only `Value` counts, since `view` and `invariant` name the layout.
 """
+import glob
 import os
 import re
 
@@ -172,3 +173,45 @@ def words_cited():
                 for word in cited(clauses, words, modules):
                     found.setdefault(word, path)
     return found
+
+
+def owner_of(header):
+    """The type and the trait of an `impl`, or a trait's name, from its header."""
+    while re.search(r"<[^<>]*>", header):
+        header = re.sub(r"<[^<>]*>", "", header)
+    found = re.match(r"(?:pub )?impl\s+(?:(\S+) for )?(\w+)", header)
+    if not found:
+        return header.strip(" {")
+    return found[2] + ("+" + found[1] if found[1] else "")
+
+
+def functions(top, crate):
+    """Each function of a crate: its name, whether callers can name it, and its clauses."""
+    for path in sorted(glob.glob(f"{top}/crates/{crate}/src/**/*.rt", recursive=True)):
+        with open(path, encoding="utf-8") as file:
+            lines = file.read().split("\n")
+        owner, open_to_all, clauses = "", False, None
+        for number, line in enumerate(lines):
+            if re.match(r"(pub )?(impl|trait)\b", line):
+                header = line
+                for later in lines[number + 1:number + 12]:
+                    if "{" in header:
+                        break
+                    header += " " + later.strip()
+                owner = owner_of(header)
+                open_to_all = " for " in header.split("{")[0] or "trait" in line.split()[:2]
+            elif re.match(r"(pub(\(\w+\))? )?fn ", line):
+                owner, open_to_all = "", False
+            if line.strip().startswith("//"):
+                continue
+            found = re.match(r"\s*(pub(?:\(\w+\))?\s+)?(?:const )?fn (\w+)", line)
+            if found:
+                seen = (found[1] or "").strip()
+                clauses = []
+                yield f"{crate} {owner}::{found[2]}", seen == "pub" or (open_to_all and not seen), clauses
+            elif re.match(r"\s*(ensures|requires)\b", line) and clauses is not None:
+                text, last = line.strip(), number
+                while text.count("{") > text.count("}"):
+                    last += 1
+                    text += " " + lines[last].strip()
+                clauses.append(re.sub(r"\s+", " ", text).rstrip(";"))

@@ -1,10 +1,14 @@
-//! The program of docs/GUIDE.md: it appends three pairs and prints them in their order.
+//! The program of docs/GUIDE.md: it prints what the snippets of the guide's tour find, and then
+//! three pairs in their order.
 #![tactic(auto)]
+
+mod tour;
 
 use ordered_multimap::ListOrderedMultimap;
 use std::io;
 
 fn main(rt: HostRuntime) -> io::Result<()> {
+    tour::print_all(&rt)?;
     let mut map = ListOrderedMultimap::new(rt.alloc());
     map.append("line", 1)?;
     map.append("page", 8)?;

@@ -1,0 +1,111 @@
+//! From the bytes of the input to the text of the report.
+use crate::fault::Fault;
+use crate::read::{Values, read_values};
+use crate::summary::Summary;
+use ordered_multimap::list_ordered_multimap::DefaultState;
+use ordered_multimap::{EntryValues, ListOrderedMultimap};
+use std::alloc::{AllocError, Allocator};
+
+/// The summary of each group, in the order in which groups first occur.
+type Summaries<'t, A> = ListOrderedMultimap<&'t str, Summary, DefaultState, A>;
+
+/// Puts the report on the lines of the text at the end: that on all groups, and behind it that on
+/// those whose sum isn't below the bound, if the first line has one. Memory comes from `alloc`.
+pub fn push_reports<'t, A: Allocator + Copy>(
+    report: &mut String<A>,
+    alloc: A,
+    text: &'t str,
+) -> Result<(), Fault<'t>> {
+    push_summaries(report, alloc, &mut ListOrderedMultimap::new(alloc), text)
+}
+
+/// Puts both reports at the end. There are no summaries at first.
+fn push_summaries<'t, A: Allocator + Copy>(
+    report: &mut String<A>,
+    alloc: A,
+    summaries: &mut Summaries<'t, A>,
+    text: &'t str,
+) -> Result<(), Fault<'t>> {
+    let bound = summarize_text(alloc, summaries, text)?;
+    push_report(report, summaries)?;
+    if let Some(bound) = bound {
+        summaries.retain(|_group, summary| summary.sum >= bound);
+        report.push('\n')?;
+        push_report(report, summaries)?;
+    }
+    Ok(())
+}
+
+/// Summarizes the values of all lines, and returns the bound if there is one.
+fn summarize_text<'t, A: Allocator + Copy>(
+    alloc: A,
+    summaries: &mut Summaries<'t, A>,
+    text: &'t str,
+) -> Result<Option<i64>, Fault<'t>> {
+    summarize_lines(&mut ListOrderedMultimap::new(alloc), summaries, text)
+}
+
+fn summarize_lines<'t, A: Allocator + Copy>(
+    values: &mut Values<'t, A>,
+    summaries: &mut Summaries<'t, A>,
+    text: &'t str,
+) -> Result<Option<i64>, Fault<'t>> {
+    let bound = read_values(values, text)?;
+    summarize_groups(summaries, values)?;
+    Ok(bound)
+}
+
+/// Summarizes each group by one pass over its values.
+fn summarize_groups<'t, A: Allocator + Copy>(
+    summaries: &mut Summaries<'t, A>,
+    values: &Values<'t, A>,
+) -> Result<(), Fault<'t>> {
+    for (group, values) in values.pairs() {
+        let Some(summary) = summarize(values) else {
+            return Err(Fault::SumOverflows(*group));
+        };
+        summaries.append(*group, summary).map_err(AllocError::from)?;
+    }
+    Ok(())
+}
+
+/// The summary of the values, of which there is one at least, unless their sum overflows.
+fn summarize<'t, A: Allocator>(mut values: EntryValues<'_, &'t str, i64, A>) -> Option<Summary> {
+    let mut summary = Summary::of(*values.next()?);
+    for _ in 0..values.len() {
+        summary = summary.join(Summary::of(*values.next()?))?;
+    }
+    Some(summary)
+}
+
+/// Puts a line for each group at the end, and the line of totals.
+fn push_report<'t, A: Allocator + Copy>(
+    report: &mut String<A>,
+    summaries: &Summaries<'t, A>,
+) -> Result<(), Fault<'t>> {
+    let mut total = None;
+    for (group, summary) in summaries {
+        writeln!(report, "{group}: {summary}")?;
+        total = Some(joined(total, *summary)?);
+    }
+    Ok(push_total(report, summaries.keys_len(), total)?)
+}
+
+/// The total with one more group.
+fn joined<'t>(total: Option<Summary>, summary: Summary) -> Result<Summary, Fault<'t>> {
+    match total {
+        Some(total) => total.join(summary).ok_or(Fault::TotalOverflows),
+        None => Ok(summary),
+    }
+}
+
+fn push_total<A: Allocator>(
+    report: &mut String<A>,
+    groups: usize,
+    total: Option<Summary>,
+) -> Result<(), AllocError> {
+    match total {
+        Some(total) => writeln!(report, "total: groups {groups}, {total}"),
+        None => report.push_str("total: groups 0\n"),
+    }
+}

@@ -1,0 +1,40 @@
+//! What a report says of the values of a group.
+use std::fmt;
+
+/// How many values there are, their sum, the least and the greatest of them.
+#[derive(Clone, Copy)]
+pub struct Summary {
+    pub count: usize,
+    pub sum: i64,
+    pub least: i64,
+    pub greatest: i64,
+}
+
+impl Summary {
+    /// The summary of one value.
+    pub fn of(value: i64) -> Summary {
+        Summary {
+            count: 1,
+            sum: value,
+            least: value,
+            greatest: value,
+        }
+    }
+
+    /// The summary of the values of both, unless their sum overflows.
+    pub fn join(self, other: Summary) -> Option<Summary> {
+        Some(Summary {
+            count: self.count.checked_add(other.count)?,
+            sum: self.sum.checked_add(other.sum)?,
+            least: self.least.min(other.least),
+            greatest: self.greatest.max(other.greatest),
+        })
+    }
+}
+
+impl fmt::Display for Summary {
+    fn fmt<W: fmt::Write>(&self, f: &mut fmt::Formatter<W>) -> fmt::Result {
+        write!(f, "count {}, sum {}, ", self.count, self.sum)?;
+        write!(f, "least {}, greatest {}", self.least, self.greatest)
+    }
+}

@@ -1,0 +1,31 @@
+//! The parts of a header, read from their texts.
+use crate::fault::Fault;
+use crate::lines::split_at_byte;
+use crate::name::Name;
+
+/// The name and the value that stand before and behind the first separator; the value is empty where
+/// there is none. A fault tells `number`, that of the line.
+pub fn field_of(text: &[u8], separator: u8, number: usize) -> Result<(Name<'_>, &[u8]), Fault> {
+    let (name, value) = split_at_byte(text, separator).unwrap_or((text, b""));
+    Ok((name_of(name, number)?, value_of(value, number)?))
+}
+
+/// The name that the text is.
+pub fn name_of(text: &[u8], number: usize) -> Result<Name<'_>, Fault> {
+    Name::new(text).ok_or(Fault::BadName(number))
+}
+
+/// The value that the text is, without the blanks around it.
+fn value_of(text: &[u8], number: usize) -> Result<&[u8], Fault> {
+    if text.iter().all(|byte| is_value_byte(*byte)) {
+        Ok(text.trim_ascii())
+    } else {
+        Err(Fault::BadValue(number))
+    }
+}
+
+/// Whether the byte may stand in a value: a tab, or what is no control character. Bytes above 127
+/// have no meaning of their own.
+fn is_value_byte(byte: u8) -> bool {
+    byte == b'\t' || !byte.is_ascii_control()
+}

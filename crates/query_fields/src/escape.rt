@@ -1,0 +1,112 @@
+//! The names and values of a query, and the texts that they stand for: `+` stands for a space, `%`
+//! and two hexadecimal digits for a byte, and any other byte for itself.
+ghost use Rattle.std.specs.Prelude.{◌≡◌, ◌<◌, ◌∷◌, ◌++◌, length, IfOk, OnOk, IfSome, IfNone, IfErr, IsUtf8, None, Some};
+ghost use Rattle.std.specs.Cow.{cow_str_bytes};
+ghost use Rattle.std.specs.String.{string_bytes};
+ghost use Rattle.query_fields.specs.Escape.{is_unreserved, written_byte, written, read, before};
+
+use std::alloc::{AllocError, Allocator};
+use std::borrow::CowStr;
+use std::fmt::Write;
+use std::io;
+
+/// The text that a name or a value stands for, which is borrowed where it has no escape; or else
+/// the place of the first escape that stands for no text.
+#[tactic(auto, using(crate::proofs::Reading::reading))]
+pub fn decoded<A: Allocator>(alloc: A, encoded: &str) -> io::Result<Result<CowStr<'_, A>, usize>>
+    ensures text { IfOk result (λ answer.
+        IfOk answer (λ text. read encoded.now ≡ Some (cow_str_bytes text))) }
+    ensures bad { IfOk result (λ answer.
+        IfErr answer (λ place. IfSome (read encoded.now) (λ bytes. ¬ IsUtf8 bytes))) }
+{
+    let whole = encoded.as_bytes();
+    if !whole.contains(&b'%') && !whole.contains(&b'+') {
+        return Ok(Ok(CowStr::Borrowed(encoded)));
+    }
+    let mut bytes = Vec::new(alloc);
+    let mut rest = whole;
+    while let Some((byte, behind)) = first_byte(rest) {
+        bytes.push(byte)?;
+        rest = behind;
+    }
+    if !rest.is_empty() {
+        return Ok(Err(whole.len() - rest.len()));
+    }
+    match String::from_utf8(bytes) {
+        Ok(text) => Ok(Ok(CowStr::Owned(text))),
+        Err(error) => Ok(Err(place_of(whole, error.utf8_error().valid_up_to()))),
+    }
+}
+
+/// The place of the escape or the byte that stands for the byte of this number, from 0.
+fn place_of(encoded: &[u8], number: usize) -> usize {
+    let mut rest = encoded;
+    for _ in 0..number {
+        if let Some((_, behind)) = first_byte(rest) {
+            rest = behind;
+        }
+    }
+    encoded.len() - rest.len()
+}
+
+/// The first byte that `encoded` stands for, and what stands behind it. None at the end and at a bad
+/// escape.
+#[tactic(auto, using(crate::proofs::Reading::first_steps))]
+fn first_byte(encoded: &[u8]) -> Option<(u8, &[u8])>
+    ensures some { IfSome result (λ r. read encoded.now ≡ before r.0 (read r.1.now)) }
+    ensures none { IfNone result (0 < length encoded.now → read encoded.now ≡ None) }
+    ensures shorter { IfSome result (λ r. length r.1.now < length encoded.now) }
+{
+    let (first, behind) = encoded.split_first()?;
+    match first {
+        b'%' => escaped_byte(behind),
+        b'+' => Some((b' ', behind)),
+        byte => Some((*byte, behind)),
+    }
+}
+
+#[tactic(auto, using(crate::proofs::Reading::escape_steps))]
+fn escaped_byte(digits: &[u8]) -> Option<(u8, &[u8])>
+    ensures some { IfSome result (λ r. read (37 ∷ digits.now) ≡ before r.0 (read r.1.now)) }
+    ensures none { IfNone result (read (37 ∷ digits.now) ≡ None) }
+    ensures shorter { IfSome result (λ r. length r.1.now < length digits.now) }
+{
+    let (high, behind) = digits.split_first()?;
+    let (low, behind) = behind.split_first()?;
+    let high = char::from(*high).to_digit(16)?;
+    let low = char::from(*low).to_digit(16)?;
+    Some(((16 * high + low) as u8, behind))
+}
+
+/// Adds a text as it stands in a query: letters, digits and `-._~` as they are, a space as `+`, and
+/// each other byte as `%` and two digits.
+pub fn encode<A: Allocator>(text: &str, query: &mut String<A>) -> Result<(), AllocError>
+    ensures written { OnOk result (string_bytes query.new
+        ≡ string_bytes query.old ++ written text.now) }
+    ensures read_again { read (written text.now) ≡ Some text.now }
+{
+    let bytes = text.as_bytes();
+    for byte in bytes {
+        encode_byte(*byte, query)?;
+    }
+    Ok(())
+}
+
+#[tactic(auto, using(crate::proofs::Reading::forms))]
+fn encode_byte<A: Allocator>(byte: u8, query: &mut String<A>) -> Result<(), AllocError>
+    ensures { OnOk result (string_bytes query.new ≡ string_bytes query.old ++ written_byte byte) }
+{
+    if is_unreserved(byte) {
+        query.push(char::from(byte))
+    } else if byte == b' ' {
+        query.push('+')
+    } else {
+        write!(query, "%{byte:02X}")
+    }
+}
+
+fn is_unreserved(byte: u8) -> bool
+    ensures { result ≡ is_unreserved byte }
+{
+    matches!(byte, b'A'..=b'Z' | b'a'..=b'z' | b'0'..=b'9' | b'-' | b'.' | b'_' | b'~')
+}

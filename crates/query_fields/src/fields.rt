@@ -1,0 +1,102 @@
+//! The fields of a query, in order.
+use crate::escape::{decoded, encode};
+use crate::fault::Fault;
+use ordered_multimap::list_ordered_multimap::DefaultState;
+use ordered_multimap::{Entry, ListOrderedMultimap};
+use std::alloc::Allocator;
+use std::borrow::CowStr;
+use std::io;
+
+/// A name or a value, which is borrowed from the input where it stands there as it is.
+pub type Text<'t, A> = CowStr<'t, A>;
+
+/// Names and values. A name may stand several times.
+pub type Fields<'t, A> = ListOrderedMultimap<Text<'t, A>, Text<'t, A>, DefaultState, A>;
+
+/// Appends the fields of a query. A name without `=` has the empty value, and what is empty between
+/// two `&` is no field.
+pub fn read_query<'t, A: Allocator + Copy>(
+    alloc: A,
+    query: &'t str,
+    fields: &mut Fields<'t, A>,
+) -> Result<(), Fault> {
+    let mut position = 1usize;
+    for field in query.split('&') {
+        if !field.is_empty() {
+            read_field(alloc, field, position, fields)?;
+        }
+        position = position.saturating_add(field.len()).saturating_add(1);
+    }
+    Ok(())
+}
+
+/// Appends the field that begins at this byte of the query, counted from 1.
+fn read_field<'t, A: Allocator + Copy>(
+    alloc: A,
+    field: &'t str,
+    position: usize,
+    fields: &mut Fields<'t, A>,
+) -> Result<(), Fault> {
+    let (name, value) = field.split_once('=').unwrap_or((field, ""));
+    let behind = position.saturating_add(name.len()).saturating_add(1);
+    let name = text_at(alloc, name, position)?;
+    let value = text_at(alloc, value, behind)?;
+    Ok(add(fields, name, value)?)
+}
+
+fn text_at<A: Allocator>(alloc: A, encoded: &str, position: usize) -> Result<Text<'_, A>, Fault> {
+    match decoded(alloc, encoded)? {
+        Ok(text) => Ok(text),
+        Err(place) => Err(Fault::Escape(position.saturating_add(place))),
+    }
+}
+
+/// Puts a field last.
+pub fn add<'t, A: Allocator + Copy>(
+    fields: &mut Fields<'t, A>,
+    name: Text<'t, A>,
+    value: Text<'t, A>,
+) -> io::Result<()> {
+    fields.append(name, value)?;
+    Ok(())
+}
+
+/// Gives the first field of this name the value, and takes the others out. Puts it last where there
+/// is none.
+pub fn set<'t, A: Allocator + Copy>(
+    fields: &mut Fields<'t, A>,
+    name: Text<'t, A>,
+    value: Text<'t, A>,
+) -> io::Result<()> {
+    match fields.entry(name) {
+        Entry::Occupied(mut entry) => {
+            *entry.get_mut() = value;
+            for _ in 1..entry.len() {
+                let _ = entry.remove_at(1);
+            }
+        }
+        Entry::Vacant(entry) => {
+            entry.insert(value)?;
+        }
+    }
+    Ok(())
+}
+
+/// Adds the query of all fields in order, and a line feed.
+pub fn write_query<A: Allocator + Copy>(
+    fields: &Fields<'_, A>,
+    query: &mut String<A>,
+) -> io::Result<()> {
+    let mut left = fields.iter();
+    for index in 0..left.len() {
+        if let Some((name, value)) = left.next() {
+            if index > 0 {
+                query.push('&')?;
+            }
+            encode(name.as_str(), query)?;
+            query.push('=')?;
+            encode(value.as_str(), query)?;
+        }
+    }
+    Ok(query.push('\n')?)
+}
