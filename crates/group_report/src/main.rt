@@ -45,18 +45,17 @@ fn run(rt: &HostRuntime, input: &[u8]) -> ExitCode {
 
 fn answer(rt: &HostRuntime, report: &mut String, text: &str) -> ExitCode {
     match push_reports(report, rt.alloc(), text) {
-        Ok(()) => match write(rt, report.as_bytes()) {
-            Ok(()) => ExitCode::SUCCESS,
-            Err(_) => fail(rt, &Fault::WriteFailed),
-        },
+        Ok(()) => write(rt, report.as_bytes()),
         Err(fault) => fail(rt, &fault),
     }
 }
 
-fn write(rt: &HostRuntime, text: &[u8]) -> io::Result<()> {
+fn write(rt: &HostRuntime, text: &[u8]) -> ExitCode {
     let mut output = io::writer(rt);
-    output.write_all(text)?;
-    output.flush()
+    match output.write_all(text).and_then(|()| output.flush()) {
+        Ok(()) => ExitCode::SUCCESS,
+        Err(_) => fail(rt, &Fault::WriteFailed),
+    }
 }
 
 fn fail(rt: &HostRuntime, fault: &Fault<'_>) -> ExitCode {

@@ -26,23 +26,30 @@ fn line_at(input: &[u8], place: usize) -> usize {
     number
 }
 
-/// Reads the values of all lines, and the bound if the first line has one.
+/// The bound, if the first line has one.
+pub fn bound_of(text: &str) -> Option<i64> {
+    match parse_line(text.lines().next()?)? {
+        ("bound", bound) => Some(bound),
+        _ => None,
+    }
+}
+
+/// Reads the values of all lines, but for the first one where it has a bound.
 pub fn read_values<'t, A: Allocator + Copy>(
     values: &mut Values<'t, A>,
     text: &'t str,
-) -> Result<Option<i64>, Fault<'t>> {
-    let mut bound = None;
+    has_bound: bool,
+) -> Result<(), Fault<'t>> {
     for (index, line) in text.lines().enumerate() {
-        match parse_line(line) {
-            Some(("bound", value)) if index == 0 => bound = Some(value),
-            Some((group, value)) => {
-                values.append(group, value).map_err(AllocError::from)?;
-            }
-            None if line.is_empty() => {}
-            None => return Err(Fault::BadLine(index.saturating_add(1))),
+        if line.is_empty() || has_bound && index == 0 {
+            continue;
         }
+        let Some((group, value)) = parse_line(line) else {
+            return Err(Fault::BadLine(index.saturating_add(1)));
+        };
+        values.append(group, value).map_err(AllocError::from)?;
     }
-    Ok(bound)
+    Ok(())
 }
 
 /// The group and the value on a line.

@@ -1,6 +1,8 @@
 //! From the bytes of the input to the text of the report.
+ghost use Rattle.std.specs.Prelude.{◌≡◌, length, IfSome};
+
 use crate::fault::Fault;
-use crate::read::{Values, read_values};
+use crate::read::{Values, bound_of, read_values};
 use crate::summary::Summary;
 use ordered_multimap::list_ordered_multimap::DefaultState;
 use ordered_multimap::{EntryValues, ListOrderedMultimap};
@@ -26,22 +28,22 @@ fn push_summaries<'t, A: Allocator + Copy>(
     summaries: &mut Summaries<'t, A>,
     text: &'t str,
 ) -> Result<(), Fault<'t>> {
-    let bound = summarize_text(alloc, summaries, text)?;
+    summarize_text(alloc, summaries, text)?;
     push_report(report, summaries)?;
-    if let Some(bound) = bound {
-        summaries.retain(|_group, summary| summary.sum >= bound);
-        report.push('\n')?;
-        push_report(report, summaries)?;
-    }
-    Ok(())
+    let Some(bound) = bound_of(text) else {
+        return Ok(());
+    };
+    summaries.retain(|_group, summary| summary.sum >= bound);
+    report.push('\n')?;
+    push_report(report, summaries)
 }
 
-/// Summarizes the values of all lines, and returns the bound if there is one.
+/// Summarizes the values of all lines.
 fn summarize_text<'t, A: Allocator + Copy>(
     alloc: A,
     summaries: &mut Summaries<'t, A>,
     text: &'t str,
-) -> Result<Option<i64>, Fault<'t>> {
+) -> Result<(), Fault<'t>> {
     summarize_lines(&mut ListOrderedMultimap::new(alloc), summaries, text)
 }
 
@@ -49,10 +51,9 @@ fn summarize_lines<'t, A: Allocator + Copy>(
     values: &mut Values<'t, A>,
     summaries: &mut Summaries<'t, A>,
     text: &'t str,
-) -> Result<Option<i64>, Fault<'t>> {
-    let bound = read_values(values, text)?;
-    summarize_groups(summaries, values)?;
-    Ok(bound)
+) -> Result<(), Fault<'t>> {
+    read_values(values, text, bound_of(text).is_some())?;
+    summarize_groups(summaries, values)
 }
 
 /// Summarizes each group by one pass over its values.
@@ -70,7 +71,9 @@ fn summarize_groups<'t, A: Allocator + Copy>(
 }
 
 /// The summary of the values, of which there is one at least, unless their sum overflows.
-fn summarize<'t, A: Allocator>(mut values: EntryValues<'_, &'t str, i64, A>) -> Option<Summary> {
+fn summarize<'t, A: Allocator>(mut values: EntryValues<'_, &'t str, i64, A>) -> Option<Summary>
+    ensures { IfSome result (λ summary. summary.count ≡ length values.entry.left) }
+{
     let mut summary = Summary::of(*values.next()?);
     for _ in 0..values.len() {
         summary = summary.join(Summary::of(*values.next()?))?;

@@ -1,4 +1,6 @@
 //! What a report says of the values of a group.
+ghost use Rattle.std.specs.Prelude.{◌≡◌, ◌+◌, ◌+ℤ◌, IfSome};
+
 use std::fmt;
 
 /// How many values there are, their sum, the least and the greatest of them.
@@ -12,7 +14,10 @@ pub struct Summary {
 
 impl Summary {
     /// The summary of one value.
-    pub fn of(value: i64) -> Summary {
+    pub fn of(value: i64) -> Summary
+        ensures count { result.count ≡ 1 }
+        ensures sum { result.sum ≡ value }
+    {
         Summary {
             count: 1,
             sum: value,
@@ -22,7 +27,10 @@ impl Summary {
     }
 
     /// The summary of the values of both, unless their sum overflows.
-    pub fn join(self, other: Summary) -> Option<Summary> {
+    pub fn join(self, other: Summary) -> Option<Summary>
+        ensures count { IfSome result (λ both. both.count ≡ self.count + other.count) }
+        ensures sum { IfSome result (λ both. both.sum ≡ self.sum +ℤ other.sum) }
+    {
         Some(Summary {
             count: self.count.checked_add(other.count)?,
             sum: self.sum.checked_add(other.sum)?,

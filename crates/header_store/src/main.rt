@@ -57,10 +57,7 @@ fn run(rt: &HostRuntime, input: &[u8]) -> ExitCode {
         return fail(rt, &Fault::NoSeed);
     };
     match answers(rt.alloc(), state, input) {
-        Ok(text) => match write(rt, &text) {
-            Ok(()) => ExitCode::SUCCESS,
-            Err(_) => fail(rt, &Fault::WriteFailed),
-        },
+        Ok(text) => write(rt, &text),
         Err(fault) => fail(rt, &fault),
     }
 }
@@ -73,10 +70,12 @@ fn answers(alloc: Global, state: RandomState, input: &[u8]) -> Result<Vec<u8>, F
     answer_all(alloc, &mut headers, lines)
 }
 
-fn write(rt: &HostRuntime, text: &[u8]) -> io::Result<()> {
+fn write(rt: &HostRuntime, text: &[u8]) -> ExitCode {
     let mut output = io::writer(rt);
-    output.write_all(text)?;
-    output.flush()
+    match output.write_all(text).and_then(|()| output.flush()) {
+        Ok(()) => ExitCode::SUCCESS,
+        Err(_) => fail(rt, &Fault::WriteFailed),
+    }
 }
 
 fn fail(rt: &HostRuntime, fault: &Fault) -> ExitCode {
