@@ -1,24 +1,22 @@
-//! Reports the values of groups, as a log of requests by host or of sales by shop has them.
+//! Reports the values of groups, as a log of requests by page or of sales by article has them.
 //!
-//! Standard input holds a line for each value, `GROUP VALUE`: a name without spaces, one space and
-//! a whole number of 64 bits with a sign. Empty lines count for nothing. Standard output gets a line
-//! for each group, in the order in which they first occur, with how many values it has, their sum,
-//! the least and the greatest of them, and a line of totals behind these.
+//! Standard input holds a line for each value, `GROUP VALUE`: a name without spaces, one space, and
+//! a whole number of 64 bits with a sign. Empty lines count for nothing. Standard output gets a
+//! line for each group, in the order in which they first occur, with how many values it has, their
+//! sum, the least and the greatest of them, and a line of totals behind these.
 //!
 //! Where the first line is `bound N`, an empty line follows, and then the report without the groups
 //! whose sum is below N. On any other line `bound` is a group like others.
 //!
 //! The exit status is 0, or 2 where a line is bad or a sum overflows, 3 when out of memory, or
-//! 4 where standard input or output failed. Then nothing but a message on standard error is written,
-//! unless it is the output that failed.
+//! 4 where standard input or output failed. Then nothing but a message on standard error is
+//! written, unless it is the output that failed.
 #![tactic(auto)]
 
 mod fault;
 mod read;
 mod report;
 mod summary;
-#[cfg(test)]
-mod tests;
 
 use fault::Fault;
 use read::text_of;

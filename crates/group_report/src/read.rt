@@ -1,11 +1,10 @@
 //! The values of each group, read from lines.
 use crate::fault::Fault;
 use ordered_multimap::ListOrderedMultimap;
-use ordered_multimap::list_ordered_multimap::DefaultState;
-use std::alloc::{AllocError, Allocator};
+use std::alloc::AllocError;
 
 /// The values of each group, in the order of the lines. Groups are named by the input's own text.
-pub type Values<'t, A> = ListOrderedMultimap<&'t str, i64, DefaultState, A>;
+pub type Values<'t> = ListOrderedMultimap<&'t str, i64>;
 
 /// The input as a text, or the line at which it isn't UTF-8.
 pub fn text_of(input: &[u8]) -> Result<&str, Fault<'_>> {
@@ -35,8 +34,8 @@ pub fn bound_of(text: &str) -> Option<i64> {
 }
 
 /// Reads the values of all lines, but for the first one where it has a bound.
-pub fn read_values<'t, A: Allocator + Copy>(
-    values: &mut Values<'t, A>,
+pub fn read_values<'t>(
+    values: &mut Values<'t>,
     text: &'t str,
     has_bound: bool,
 ) -> Result<(), Fault<'t>> {

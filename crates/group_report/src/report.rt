@@ -4,28 +4,27 @@ ghost use Rattle.std.specs.Prelude.{◌≡◌, length, IfSome};
 use crate::fault::Fault;
 use crate::read::{Values, bound_of, read_values};
 use crate::summary::Summary;
-use ordered_multimap::list_ordered_multimap::DefaultState;
 use ordered_multimap::{EntryValues, ListOrderedMultimap};
-use std::alloc::{AllocError, Allocator};
+use std::alloc::{AllocError, Global};
 
 /// The summary of each group, in the order in which groups first occur.
-type Summaries<'t, A> = ListOrderedMultimap<&'t str, Summary, DefaultState, A>;
+type Summaries<'t> = ListOrderedMultimap<&'t str, Summary>;
 
 /// Puts the report on the lines of the text at the end: that on all groups, and behind it that on
 /// those whose sum isn't below the bound, if the first line has one. Memory comes from `alloc`.
-pub fn push_reports<'t, A: Allocator + Copy>(
-    report: &mut String<A>,
-    alloc: A,
+pub fn push_reports<'t>(
+    report: &mut String,
+    alloc: Global,
     text: &'t str,
 ) -> Result<(), Fault<'t>> {
     push_summaries(report, alloc, &mut ListOrderedMultimap::new(alloc), text)
 }
 
 /// Puts both reports at the end. There are no summaries at first.
-fn push_summaries<'t, A: Allocator + Copy>(
-    report: &mut String<A>,
-    alloc: A,
-    summaries: &mut Summaries<'t, A>,
+fn push_summaries<'t>(
+    report: &mut String,
+    alloc: Global,
+    summaries: &mut Summaries<'t>,
     text: &'t str,
 ) -> Result<(), Fault<'t>> {
     summarize_text(alloc, summaries, text)?;
@@ -39,17 +38,17 @@ fn push_summaries<'t, A: Allocator + Copy>(
 }
 
 /// Summarizes the values of all lines.
-fn summarize_text<'t, A: Allocator + Copy>(
-    alloc: A,
-    summaries: &mut Summaries<'t, A>,
+fn summarize_text<'t>(
+    alloc: Global,
+    summaries: &mut Summaries<'t>,
     text: &'t str,
 ) -> Result<(), Fault<'t>> {
     summarize_lines(&mut ListOrderedMultimap::new(alloc), summaries, text)
 }
 
-fn summarize_lines<'t, A: Allocator + Copy>(
-    values: &mut Values<'t, A>,
-    summaries: &mut Summaries<'t, A>,
+fn summarize_lines<'t>(
+    values: &mut Values<'t>,
+    summaries: &mut Summaries<'t>,
     text: &'t str,
 ) -> Result<(), Fault<'t>> {
     read_values(values, text, bound_of(text).is_some())?;
@@ -57,9 +56,9 @@ fn summarize_lines<'t, A: Allocator + Copy>(
 }
 
 /// Summarizes each group by one pass over its values.
-fn summarize_groups<'t, A: Allocator + Copy>(
-    summaries: &mut Summaries<'t, A>,
-    values: &Values<'t, A>,
+fn summarize_groups<'t>(
+    summaries: &mut Summaries<'t>,
+    values: &Values<'t>,
 ) -> Result<(), Fault<'t>> {
     for (group, values) in values.pairs() {
         let Some(summary) = summarize(values) else {
@@ -71,7 +70,7 @@ fn summarize_groups<'t, A: Allocator + Copy>(
 }
 
 /// The summary of the values, of which there is one at least, unless their sum overflows.
-fn summarize<'t, A: Allocator>(mut values: EntryValues<'_, &'t str, i64, A>) -> Option<Summary>
+fn summarize<'t>(mut values: EntryValues<'_, &'t str, i64>) -> Option<Summary>
     ensures { IfSome result (λ summary. summary.count ≡ length values.entry.left) }
 {
     let mut summary = Summary::of(*values.next()?);
@@ -82,10 +81,7 @@ fn summarize<'t, A: Allocator>(mut values: EntryValues<'_, &'t str, i64, A>) -> 
 }
 
 /// Puts a line for each group at the end, and the line of totals.
-fn push_report<'t, A: Allocator + Copy>(
-    report: &mut String<A>,
-    summaries: &Summaries<'t, A>,
-) -> Result<(), Fault<'t>> {
+fn push_report<'t>(report: &mut String, summaries: &Summaries<'t>) -> Result<(), Fault<'t>> {
     let mut total = None;
     for (group, summary) in summaries {
         writeln!(report, "{group}: {summary}")?;
@@ -102,8 +98,8 @@ fn joined<'t>(total: Option<Summary>, summary: Summary) -> Result<Summary, Fault
     }
 }
 
-fn push_total<A: Allocator>(
-    report: &mut String<A>,
+fn push_total(
+    report: &mut String,
     groups: usize,
     total: Option<Summary>,
 ) -> Result<(), AllocError> {

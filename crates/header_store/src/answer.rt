@@ -7,16 +7,17 @@ use crate::command::{Command, command_of};
 use crate::fault::Fault;
 use crate::lines::Lines;
 use crate::name::{Name, SET_COOKIE};
-use crate::read::Headers;
+use crate::read::{Headers, read_headers};
 use ordered_multimap::EntryValues;
 use std::alloc::{AllocError, Global};
 
-/// What the commands of the lines write, one after another.
+/// Reads the headers, and answers what the commands behind them write, one after another.
 pub fn answer_all<'t>(
     alloc: Global,
     headers: &mut Headers<'t>,
-    lines: Lines<'t>,
+    mut lines: Lines<'t>,
 ) -> Result<Vec<u8>, Fault> {
+    read_headers(headers, &mut lines)?;
     let mut output = Vec::new(alloc);
     for line in lines {
         if !line.text.is_empty() {

@@ -1,26 +1,27 @@
 //! Keeps the headers of an HTTP message, and answers questions about them.
 //!
-//! Standard input holds header lines, `NAME: VALUE`, up to an empty line, and then a command on each
-//! line. A name has any case: `accept` finds what came as `Accept`.
+//! Standard input holds header lines, `NAME: VALUE`, up to an empty line, and then a command on
+//! each line. A name has any case: `accept` finds what came as `Accept`.
 //!
 //! | Command | What it does |
 //! |---|---|
 //! | `get NAME` | writes the name's first header |
 //! | `all NAME` | writes each header of the name |
-//! | `joined NAME` | writes one header with all values of the name, with a comma and a space between them; `set-cookie` is written as `all` writes it, since its values can't be joined |
+//! | `joined NAME` | writes one header with the name's values, a comma and a space between them |
 //! | `set NAME VALUE` | takes the headers of the name out, and puts this one last |
 //! | `add NAME VALUE` | puts a header last |
 //! | `remove NAME` | takes the headers of the name out |
 //! | `write` | writes all headers in order, each name as it was first spelled |
 //!
-//! Headers are written as `NAME: VALUE`, and by the first three commands with the name as the command
-//! spells it. Of an absent name they write `no NAME`, which is no header. Empty lines among the
-//! commands count for nothing.
+//! The values of `set-cookie` can't be joined, so `joined` writes them as `all` does. Headers are
+//! written as `NAME: VALUE`, and by the first three commands with the name as the command spells
+//! it. Of an absent name they write `no NAME`, which is no header. Empty lines among the commands
+//! count for nothing.
 //!
 //! The exit status is 0, or 2 where a line is bad, as one with a name or a value that RFC 9110
-//! forbids, 3 when out of memory, or 4 where the system gave no random seed or standard input or
-//! output failed. Then nothing but a message on standard error is written, unless it is the output
-//! that failed.
+//! forbids, 3 when out of memory, or 4 where the system gave no random seed or where standard
+//! input or output failed. Then nothing but a message on standard error is written, unless it is
+//! the output that failed.
 #![tactic(auto)]
 
 mod answer;
@@ -36,7 +37,6 @@ use fault::Fault;
 use lines::Lines;
 use ordered_multimap::ListOrderedMultimap;
 use ordered_multimap::list_ordered_multimap::RandomState;
-use read::read_headers;
 use std::alloc::Global;
 use std::io;
 use std::io::{ErrorKind, Read, Write};
@@ -65,9 +65,7 @@ fn run(rt: &HostRuntime, input: &[u8]) -> ExitCode {
 /// What the commands of the input write.
 fn answers(alloc: Global, state: RandomState, input: &[u8]) -> Result<Vec<u8>, Fault> {
     let mut headers = ListOrderedMultimap::with_hasher(alloc, state);
-    let mut lines = Lines::new(input);
-    read_headers(&mut headers, &mut lines)?;
-    answer_all(alloc, &mut headers, lines)
+    answer_all(alloc, &mut headers, Lines::new(input))
 }
 
 fn write(rt: &HostRuntime, text: &[u8]) -> ExitCode {

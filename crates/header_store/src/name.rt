@@ -4,8 +4,9 @@ ghost use Rattle.std.specs.Cmp.{on_equiv, partial_equiv_from_equiv, on_per};
 ghost use Rattle.std.specs.Cmp.Lexicographic.{bytes_decides, nat_list_eq_equiv};
 ghost use Rattle.std.specs.Hash as fed;
 ghost use Rattle.std.specs.List.{flat_map, fold};
-ghost use Rattle.std.specs.Prelude.{◌≡◌};
+ghost use Rattle.std.specs.Prelude.{◌≡◌, ◌↔◌, IsSome, IfSome};
 ghost use Rattle.std.specs.Str.{str_eq_ignore_ascii_case, str_to_ascii_lowercase};
+ghost use Rattle.header_store.specs.Fields as rfc;
 
 use std::hash::{Hash, Hasher};
 
@@ -23,7 +24,10 @@ pub const SET_COOKIE: Name<'static> = Name {
 
 impl<'t> Name<'t> {
     /// The name of this text, or none if RFC 9110 forbids it.
-    pub fn new(text: &'t [u8]) -> Option<Name<'t>> {
+    pub fn new(text: &'t [u8]) -> Option<Name<'t>>
+        ensures token { IsSome result ↔ rfc.IsToken text.now }
+        ensures named { IfSome result (λ name. name.text.now ≡ text.now) }
+    {
         if !text.is_empty() && text.iter().all(|byte| is_token_byte(*byte)) {
             Some(Name { text })
         } else {
@@ -38,7 +42,9 @@ impl<'t> Name<'t> {
 }
 
 /// Whether the byte may stand in a token.
-fn is_token_byte(byte: u8) -> bool {
+fn is_token_byte(byte: u8) -> bool
+    ensures { result ≡ rfc.is_token_byte byte }
+{
     byte.is_ascii_alphanumeric() || b"!#$%&'*+-.^_`|~".contains(&byte)
 }
 

@@ -1,5 +1,6 @@
 -- How an encoded text is read, step by step, and that what is written is read again.
-use Rattle.std.proofs.Common.{◌≡◌, ◌≢◌, ℕ, ◌+◌, ◌*◌, ◌/◌, ◌%◌, ◌<◌, ◌≤◌, Bool, true, false, ◌==◌, ◌&&◌, List, [], ◌∷◌, ◌++◌, append_assoc, append-nil, refl, sym, ap, ◌∙◌, arith, lt-ltb, ne_eqb, Some, None, length, get_or}
+use Rattle.std.proofs.Common.{◌≡◌, ◌≢◌, ℕ, ◌+◌, ◌*◌, ◌/◌, ◌%◌, ◌<◌, ◌≤◌, Bool, true, false, ◌==◌, ◌&&◌, List, [], ◌∷◌, ◌++◌, append_assoc}
+use Rattle.std.proofs.Common.{append-nil, refl, sym, ap, ◌∙◌, arith, lt-ltb, ne_eqb, Some, None, length, get_or}
 use Rattle.std.specs.Prelude.{Option, All}
 use Rattle.std.proofs.lemmas.Bool.{eqb-true}
 use Rattle.std.proofs.lemmas.Bool.Decides.{nat_tests}
@@ -136,10 +137,14 @@ pub none_before_read : (rest : Option (List ℕ)) → behind [] rest ≡ rest
 none_before_read None = refl
 none_before_read (Some more) = refl
 
+-- what is read behind `%`
 pub ruleset escape_steps = (escape_read, bad_high_read, bad_low_read, cut_read, cut_behind_read)
 
+-- what is read at another byte
 pub ruleset first_steps = (space_read, other_read)
 
+-- what a loop has read
 pub ruleset reading = (all_read, one_more_read, none_before_read)
 
+-- how a byte is written
 pub ruleset forms = (plain_written, space_written, escape_written, kept_is_ascii, hex_byte)

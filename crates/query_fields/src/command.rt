@@ -2,14 +2,14 @@
 use crate::fault::Fault;
 use crate::fields::{Fields, add, read_query, set, write_query};
 use ordered_multimap::ListOrderedMultimap;
-use std::alloc::Allocator;
+use std::alloc::Global;
 use std::borrow::CowStr;
 use std::fmt::Write;
 use std::io;
 
 /// The answers to the commands of an input, whose first line is the query. A bad line, also one
 /// below a command, gives none.
-pub fn answers_to<A: Allocator + Copy>(alloc: A, input: &[u8]) -> Result<String<A>, Fault> {
+pub fn answers_to(alloc: Global, input: &[u8]) -> Result<String, Fault> {
     let mut answers = String::new(alloc);
     add_answers(
         alloc,
@@ -21,11 +21,11 @@ pub fn answers_to<A: Allocator + Copy>(alloc: A, input: &[u8]) -> Result<String<
 }
 
 /// Reads the query into `fields`, which is empty, and adds the answers to `answers`.
-fn add_answers<'t, A: Allocator + Copy>(
-    alloc: A,
-    fields: &mut Fields<'t, A>,
+fn add_answers<'t>(
+    alloc: Global,
+    fields: &mut Fields<'t>,
     input: &'t [u8],
-    answers: &mut String<A>,
+    answers: &mut String,
 ) -> Result<(), Fault> {
     for (index, line) in input.split(|byte| *byte == b'\n').enumerate() {
         let number = index.saturating_add(1);
@@ -42,13 +42,12 @@ fn add_answers<'t, A: Allocator + Copy>(
     Ok(())
 }
 
-/// Carries a command out and adds its answer, or returns false where there is no such command. The
-/// operand of `set` and `add` is a name and a value as plain text, with `=` between them as in a
-/// query.
-fn carry_out<'t, A: Allocator + Copy>(
-    fields: &mut Fields<'t, A>,
+/// Carries a command out and adds its answer, or returns false where there is no such command. The operand
+/// of `set` and `add` is a name and a value as plain text, with `=` between them as in a query.
+fn carry_out<'t>(
+    fields: &mut Fields<'t>,
     command: &'t str,
-    answers: &mut String<A>,
+    answers: &mut String,
 ) -> io::Result<bool> {
     let (word, operand) = command.split_once(' ').unwrap_or((command, ""));
     let (name, value) = operand.split_once('=').unwrap_or((operand, ""));
@@ -70,16 +69,9 @@ fn carry_out<'t, A: Allocator + Copy>(
 }
 
 /// Adds the values of a name in order.
-fn add_all<A: Allocator + Copy>(
-    fields: &Fields<'_, A>,
-    name: &str,
-    answers: &mut String<A>,
-) -> io::Result<()> {
-    let mut left = fields.get_all(name);
-    for _ in 0..left.len() {
-        if let Some(value) = left.next() {
-            writeln!(answers, "{value}")?;
-        }
+fn add_all(fields: &Fields<'_>, name: &str, answers: &mut String) -> io::Result<()> {
+    for value in fields.get_all(name) {
+        writeln!(answers, "{value}")?;
     }
     Ok(())
 }

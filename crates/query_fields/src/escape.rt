@@ -5,7 +5,7 @@ ghost use Rattle.std.specs.Cow.{cow_str_bytes};
 ghost use Rattle.std.specs.String.{string_bytes};
 ghost use Rattle.query_fields.specs.Escape.{is_unreserved, written_byte, written, read, before};
 
-use std::alloc::{AllocError, Allocator};
+use std::alloc::{AllocError, Global};
 use std::borrow::CowStr;
 use std::fmt::Write;
 use std::io;
@@ -13,7 +13,7 @@ use std::io;
 /// The text that a name or a value stands for, which is borrowed where it has no escape; or else
 /// the place of the first escape that stands for no text.
 #[tactic(auto, using(crate::proofs::Reading::reading))]
-pub fn decoded<A: Allocator>(alloc: A, encoded: &str) -> io::Result<Result<CowStr<'_, A>, usize>>
+pub fn decoded(alloc: Global, encoded: &str) -> io::Result<Result<CowStr<'_>, usize>>
     ensures text { IfOk result (λ answer.
         IfOk answer (λ text. read encoded.now ≡ Some (cow_str_bytes text))) }
     ensures bad { IfOk result (λ answer.
@@ -49,8 +49,8 @@ fn place_of(encoded: &[u8], number: usize) -> usize {
     encoded.len() - rest.len()
 }
 
-/// The first byte that `encoded` stands for, and what stands behind it. None at the end and at a bad
-/// escape.
+/// The first byte that `encoded` stands for, and what stands behind it. None at the end and at a
+/// bad escape.
 #[tactic(auto, using(crate::proofs::Reading::first_steps))]
 fn first_byte(encoded: &[u8]) -> Option<(u8, &[u8])>
     ensures some { IfSome result (λ r. read encoded.now ≡ before r.0 (read r.1.now)) }
@@ -80,7 +80,7 @@ fn escaped_byte(digits: &[u8]) -> Option<(u8, &[u8])>
 
 /// Adds a text as it stands in a query: letters, digits and `-._~` as they are, a space as `+`, and
 /// each other byte as `%` and two digits.
-pub fn encode<A: Allocator>(text: &str, query: &mut String<A>) -> Result<(), AllocError>
+pub fn encode(text: &str, query: &mut String) -> Result<(), AllocError>
     ensures written { OnOk result (string_bytes query.new
         ≡ string_bytes query.old ++ written text.now) }
     ensures read_again { read (written text.now) ≡ Some text.now }
@@ -93,7 +93,7 @@ pub fn encode<A: Allocator>(text: &str, query: &mut String<A>) -> Result<(), All
 }
 
 #[tactic(auto, using(crate::proofs::Reading::forms))]
-fn encode_byte<A: Allocator>(byte: u8, query: &mut String<A>) -> Result<(), AllocError>
+fn encode_byte(byte: u8, query: &mut String) -> Result<(), AllocError>
     ensures { OnOk result (string_bytes query.new ≡ string_bytes query.old ++ written_byte byte) }
 {
     if is_unreserved(byte) {

@@ -7,8 +7,8 @@ use std::{fmt, io};
 pub enum Fault {
     /// This line, counted from 1, is not what the text says.
     Line(usize, &'static str),
-    /// The escape at this byte of the query, counted from 1, isn't `%` and two hexadecimal digits, or
-    /// the bytes that begin there are no UTF-8.
+    /// The escape at this byte of the query, counted from 1, isn't `%` and two hexadecimal digits,
+    /// or the bytes that begin there are no UTF-8.
     Escape(usize),
     /// Memory was refused, or standard input or output failed.
     System(io::Error),

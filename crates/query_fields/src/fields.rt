@@ -1,25 +1,20 @@
 //! The fields of a query, in order.
 use crate::escape::{decoded, encode};
 use crate::fault::Fault;
-use ordered_multimap::list_ordered_multimap::DefaultState;
 use ordered_multimap::{Entry, ListOrderedMultimap};
-use std::alloc::Allocator;
+use std::alloc::Global;
 use std::borrow::CowStr;
 use std::io;
 
 /// A name or a value, which is borrowed from the input where it stands there as it is.
-pub type Text<'t, A> = CowStr<'t, A>;
+pub type Text<'t> = CowStr<'t>;
 
 /// Names and values. A name may stand several times.
-pub type Fields<'t, A> = ListOrderedMultimap<Text<'t, A>, Text<'t, A>, DefaultState, A>;
+pub type Fields<'t> = ListOrderedMultimap<Text<'t>, Text<'t>>;
 
 /// Appends the fields of a query. A name without `=` has the empty value, and what is empty between
 /// two `&` is no field.
-pub fn read_query<'t, A: Allocator + Copy>(
-    alloc: A,
-    query: &'t str,
-    fields: &mut Fields<'t, A>,
-) -> Result<(), Fault> {
+pub fn read_query<'t>(alloc: Global, query: &'t str, fields: &mut Fields<'t>) -> Result<(), Fault> {
     let mut position = 1usize;
     for field in query.split('&') {
         if !field.is_empty() {
@@ -31,11 +26,11 @@ pub fn read_query<'t, A: Allocator + Copy>(
 }
 
 /// Appends the field that begins at this byte of the query, counted from 1.
-fn read_field<'t, A: Allocator + Copy>(
-    alloc: A,
+fn read_field<'t>(
+    alloc: Global,
     field: &'t str,
     position: usize,
-    fields: &mut Fields<'t, A>,
+    fields: &mut Fields<'t>,
 ) -> Result<(), Fault> {
     let (name, value) = field.split_once('=').unwrap_or((field, ""));
     let behind = position.saturating_add(name.len()).saturating_add(1);
@@ -44,7 +39,7 @@ fn read_field<'t, A: Allocator + Copy>(
     Ok(add(fields, name, value)?)
 }
 
-fn text_at<A: Allocator>(alloc: A, encoded: &str, position: usize) -> Result<Text<'_, A>, Fault> {
+fn text_at(alloc: Global, encoded: &str, position: usize) -> Result<Text<'_>, Fault> {
     match decoded(alloc, encoded)? {
         Ok(text) => Ok(text),
         Err(place) => Err(Fault::Escape(position.saturating_add(place))),
@@ -52,22 +47,14 @@ fn text_at<A: Allocator>(alloc: A, encoded: &str, position: usize) -> Result<Tex
 }
 
 /// Puts a field last.
-pub fn add<'t, A: Allocator + Copy>(
-    fields: &mut Fields<'t, A>,
-    name: Text<'t, A>,
-    value: Text<'t, A>,
-) -> io::Result<()> {
+pub fn add<'t>(fields: &mut Fields<'t>, name: Text<'t>, value: Text<'t>) -> io::Result<()> {
     fields.append(name, value)?;
     Ok(())
 }
 
 /// Gives the first field of this name the value, and takes the others out. Puts it last where there
 /// is none.
-pub fn set<'t, A: Allocator + Copy>(
-    fields: &mut Fields<'t, A>,
-    name: Text<'t, A>,
-    value: Text<'t, A>,
-) -> io::Result<()> {
+pub fn set<'t>(fields: &mut Fields<'t>, name: Text<'t>, value: Text<'t>) -> io::Result<()> {
     match fields.entry(name) {
         Entry::Occupied(mut entry) => {
             *entry.get_mut() = value;
@@ -83,20 +70,16 @@ pub fn set<'t, A: Allocator + Copy>(
 }
 
 /// Adds the query of all fields in order, and a line feed.
-pub fn write_query<A: Allocator + Copy>(
-    fields: &Fields<'_, A>,
-    query: &mut String<A>,
-) -> io::Result<()> {
-    let mut left = fields.iter();
-    for index in 0..left.len() {
-        if let Some((name, value)) = left.next() {
-            if index > 0 {
-                query.push('&')?;
-            }
-            encode(name.as_str(), query)?;
-            query.push('=')?;
-            encode(value.as_str(), query)?;
+pub fn write_query(fields: &Fields<'_>, query: &mut String) -> io::Result<()> {
+    let mut is_first = true;
+    for (name, value) in fields {
+        if !is_first {
+            query.push('&')?;
         }
+        is_first = false;
+        encode(name.as_str(), query)?;
+        query.push('=')?;
+        encode(value.as_str(), query)?;
     }
     Ok(query.push('\n')?)
 }

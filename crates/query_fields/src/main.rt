@@ -6,8 +6,6 @@ mod command;
 mod escape;
 mod fault;
 mod fields;
-#[cfg(test)]
-mod tests;
 
 use crate::command::answers_to;
 use crate::fault::Fault;

@@ -3,7 +3,7 @@ use Rattle.query_fields.proofs.Reading.{plain_read}
 use Rattle.query_fields.proofs.escape.decoded.Goals as goal
 
 pub returns-then-not-contains-2-clause-text : goal.returns-then-not-contains-2-clause-text
-returns-then-not-contains-2-clause-text g c =
+returns-then-not-contains-2-clause-text c =
     let same = sym c.as_bytes-whole.ensures.value in
     plain_read c.args.encoded.now
     (rw same (sym c.contains.ensures.value ∙ c.if-not-contains.true))

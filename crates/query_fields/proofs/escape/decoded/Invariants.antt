@@ -3,10 +3,10 @@ use Rattle.query_fields.specs.Escape.{behind, read}
 use Rattle.query_fields.proofs.escape.decoded.Given as goal
 
 abbrev pub invariant-loop-byte : goal.invariant-loop-byte
-invariant-loop-byte g l = record {
+invariant-loop-byte l = record {
   read : read l.encoded ≡ behind l.bytes.items (read l.rest);
   within : length l.rest ≤ length l.whole;
 }
 
 abbrev pub decreases-loop-byte : goal.decreases-loop-byte
-decreases-loop-byte g l = length l.rest
+decreases-loop-byte l = length l.rest

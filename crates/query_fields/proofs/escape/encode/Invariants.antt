@@ -4,5 +4,5 @@ use Rattle.query_fields.specs.Escape.{written}
 use Rattle.query_fields.proofs.escape.encode.Given as goal
 
 abbrev pub invariant-loop-byte : goal.invariant-loop-byte
-invariant-loop-byte g l =
+invariant-loop-byte l =
     string_bytes l.query ≡ string_bytes l.initial.query ++ written (take l.byte-index l.bytes)
