@@ -42,8 +42,9 @@ fn add_answers<'t>(
     Ok(())
 }
 
-/// Carries a command out and adds its answer, or returns false where there is no such command. The operand
-/// of `set` and `add` is a name and a value as plain text, with `=` between them as in a query.
+/// Carries a command out and adds its answer, or returns false where there is no such command. The
+/// operand of `set` and `add` is a name and a value as plain text, with `=` between them as in a
+/// query.
 fn carry_out<'t>(
     fields: &mut Fields<'t>,
     command: &'t str,

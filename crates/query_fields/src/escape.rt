@@ -1,6 +1,7 @@
 //! The names and values of a query, and the texts that they stand for: `+` stands for a space, `%`
 //! and two hexadecimal digits for a byte, and any other byte for itself.
-ghost use Rattle.std.specs.Prelude.{◌≡◌, ◌<◌, ◌∷◌, ◌++◌, length, IfOk, OnOk, IfSome, IfNone, IfErr, IsUtf8, None, Some};
+ghost use Rattle.std.specs.Prelude.{◌≡◌, ◌<◌, ◌∷◌, ◌++◌, length, IsUtf8, None, Some};
+ghost use Rattle.std.specs.Prelude.{IfErr, IfNone, IfOk, IfSome, OnOk};
 ghost use Rattle.std.specs.Cow.{cow_str_bytes};
 ghost use Rattle.std.specs.String.{string_bytes};
 ghost use Rattle.query_fields.specs.Escape.{is_unreserved, written_byte, written, read, before};
