@@ -155,7 +155,8 @@ def label(goal):
 
 def check_command(crate, crates, built, only):
     """The command that checks these functions of a crate, over the libraries that stand built."""
-    words = [KIT / "bin/rattle", "check", "--crate-name", crate.name, "src/lib.rt"]
+    root = "src/main.rt" if (crate.folder / "src/main.rt").exists() else "src/lib.rt"
+    words = [KIT / "bin/rattle", "check", "--crate-name", crate.name, root]
     kits = ["std", *(it for it in crate.uses if it not in crates)]
     words += [it for name in kits for it in ("--extern", f"{name}={KIT}/rlibs/{name}.rlib")]
     words += ["-L", f"dependency={KIT}/rlibs"]
