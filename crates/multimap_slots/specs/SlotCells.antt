@@ -30,8 +30,8 @@ module _ {T L A : Type 0} where
     pub filled : IsSome (item_at (lent_slots c) p)
     pub untaken : get_or c.cells.left p false ≡ true
 
-  -- the reference shows the item of the place, which is no longer left, and its name is kept there;
-  -- no other place changes
+  -- the reference shows the item of the place, which is no longer left and has the name kept; no
+  -- other place changes
   pub record TakesItem (old : SlotCells T L A) (place : ℕ) (r : MutBor T) (new : SlotCells T L A)
       : Type 0 where
     pub item_is : item_at (lent_slots old) place ≡ Some r.now

@@ -11,21 +11,19 @@ use Rattle.multimap_slots.specs.contracts.list.SlotList.{the_row}
 
 module _ (T L A : RattleType) (alloc : Ghosts A.Denot)
     (s : MutBor (Slots T.Denot L.Denot)) (place : ℕ) where
-  -- once the borrow r ends, the place has the last item written through r
+  -- the place ends with the last item written through r
   abbrev pub lent_item : MutBor T.Denot → Fml
   lent_item r = Lends (the_row T L A alloc) T s r (with_item s.now place)
 
-  -- once the borrow in r ends, the place has the last item written through it; at `None` the list
-  -- stays as it is
+  -- the place ends with the last item written through r; at `None` the list stays as it is
   abbrev pub lends_item : Option (MutBor T.Denot) → Fml
   lends_item r = LendsIf (the_row T L A alloc) T s r (with_item s.now place) s.now
 
-  -- once the borrow r ends, the place has the last link written through r
+  -- the place ends with the last link written through r
   abbrev pub lent_link : MutBor L.Denot → Fml
   lent_link r = Lends (the_row T L A alloc) L s r (with_link s.now place)
 
-  -- once the borrow in r ends, the place has the last link written through it; at `None` the list
-  -- stays as it is
+  -- the place ends with the last link written through r; at `None` the list stays as it is
   abbrev pub lends_link : Option (MutBor L.Denot) → Fml
   lends_link r = LendsIf (the_row T L A alloc) L s r (with_link s.now place) s.now
 
@@ -37,7 +35,7 @@ module _ (T L A : RattleType) (alloc : Ghosts A.Denot) (s : MutBor (Slots T.Deno
       follows (the_row T L A alloc) (the_row T L A alloc) s.ghost_name c.whole
       (λ n. with_refilled s.now n.items)
 
-  -- once the loan of the items with their order ends, the list is as before but for them, and an
-  -- item stands exactly where one stood
+  -- once the loan of items and order ends, only the items of the list may differ, and they stand
+  -- where items stood
   abbrev pub lends_cells : SlotCells T.Denot L.Denot A.Denot → Fml
   lends_cells c = lends_whole c.cells

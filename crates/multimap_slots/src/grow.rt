@@ -6,8 +6,8 @@ use std::alloc::{AllocError, Allocator};
 use std::mem;
 
 /// Makes room for `slots` items in all. Where it grows, it takes new memory and moves the items
-/// there. A growth in place would copy the slots behind them too, of which a tape has as many as
-/// items.
+/// there. A growth in place would also copy the free slots behind them; a tape has as many of these
+/// as items.
 pub(crate) fn grow_to<T, A: Allocator + Copy>(
     items: &mut Vec<T, A>,
     slots: usize,

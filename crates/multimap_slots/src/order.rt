@@ -52,7 +52,7 @@ impl<L: Copy, A: Allocator> Order<L, A> {
     ghost use Rattle.multimap_slots.specs.Private.ListLayout.{HasNoPlaces, HasFree, AddsLast, KeepsPlaces, Removes};
     ghost use Rattle.multimap_slots.specs.Private.OrderLends.{lends_place_link};
 
-    /// No places, over nodes of which there are none.
+    /// An order without places, over an empty vector of nodes.
     pub(crate) fn over(nodes: Vec<Node<L>, A>) -> Self
         requires { nodes.items ≡ [] }
         ensures { HasNoPlaces result (vec_capacity nodes) }

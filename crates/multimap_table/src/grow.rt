@@ -13,7 +13,7 @@ pub(crate) const GROUP_LOAD: usize = 12;
 /// More groups than memory has addresses for.
 pub(crate) const MAX_GROUPS: usize = 1 << 56;
 
-/// The least power of two of groups that hold so many rows.
+/// The least power of two of groups that hold this many rows.
 pub(crate) fn groups_for(capacity: usize) -> usize
     requires { capacity ≤ 12 * 2 ^ 56 }
     ensures count { IsGroupCount result }

@@ -14,7 +14,7 @@ pub(crate) fn probe_start(hash: u64, count: usize) -> usize
     hash as usize & (count - 1)
 }
 
-/// The group that lies so many groups further on, round the table.
+/// The group that lies this many groups further on, round the table.
 pub(crate) fn probe(start: usize, step: usize, count: usize) -> usize
     requires count { IsGroupCount count }
     requires fits { 16 * count < 2 ^ 64 }

@@ -99,7 +99,7 @@ impl<A: Allocator> KeyTable<A> {
         self.len += 1;
     }
 
-    /// Takes the row of a place out. Its room is there for another row.
+    /// Takes the row of a place out. Its lane is free for another row.
     ///
     /// Finds the row as `find` does. Where its group was full, rows of later groups may move back,
     /// each with the tags and rows between read once.
@@ -152,7 +152,7 @@ impl<A: Allocator + Copy> KeyTable<A> {
         KeyTable::with_groups_for(alloc, capacity)
     }
 
-    /// Makes room for `additional` more rows. Where it is there already, nothing changes.
+    /// Makes room for `additional` more rows. If they fit already, nothing changes.
     ///
     /// `Err` where a growth was refused, or the rows would be too many for any memory. The rows and
     /// the capacity are then as before. A growth writes each lane of the new groups and puts each
@@ -180,8 +180,8 @@ impl<A: Allocator + Copy> KeyTable<A> {
         self.grow_to(wanted)
     }
 
-    /// Takes groups for so many rows, and for twice the rows that had room, and puts each row into
-    /// them.
+    /// Takes groups for this many rows, and for at least twice the rows that had room, and puts
+    /// each row into them.
     #[inline(never)]
     fn grow_to(&mut self, capacity: usize) -> Result<(), AllocError>
         requires { self.old.capacity < capacity }

@@ -76,7 +76,7 @@ module _ (is_key is_value : Data → Bool) where
   fault_in (array ds) = first_fault 0 ds
   fault_in d = Some NotArray
 
--- a fault of this kind, or lack of memory
+-- a fault of this kind, or out of memory
 abbrev pub UnlessMemory : (ReadFault → Type 0) → ReadFault → Type 0
 UnlessMemory IsFault OutOfMemory = Unit {0}
 UnlessMemory IsFault fault = IsFault fault

@@ -22,8 +22,7 @@ use Rattle.multimap_tool.specs.declared.json.faults.ReadFault.TheVariants.{Unlis
 abbrev pub array_at : List ℕ → Data → Option Items
 array_at name d = option_and_then as_array (get name d)
 
--- the items of "keys" and those of "pairs", where a JSON value is an object with exactly these
--- members, and both are arrays
+-- the items of "keys" and of "pairs", of an object with exactly these members, both arrays
 abbrev pub both_arrays : Data → Option (Items × Items)
 both_arrays (object ms) =
     cond (members_len ms == 2) (option_and_then

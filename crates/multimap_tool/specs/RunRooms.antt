@@ -29,7 +29,7 @@ module _ {K V A : Type 0} where
   KeepsRoom Json2 = ⊥
   KeepsRoom _ = Unit {0}
 
-  -- no command lowers a room, and there is room for a key and a value for each of them
+  -- no command lowers a room, and each has room for a key and a value
   pub record HasRunRoom {S : Type 0} (commands : List (Command K V A)) (m : Multimap K V S)
       : Type 0 where
     pub keep : (command : Command K V A) → Contains commands command → KeepsRoom command

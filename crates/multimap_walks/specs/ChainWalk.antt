@@ -9,8 +9,8 @@ use Rattle.multimap_walks.specs.declared.links.ValueLink.{ValueLink}
 use Rattle.multimap_walks.specs.declared.End.{End}
 use Rattle.multimap_walks.specs.declared.End.TheVariants.{Front, Back}
 
--- the values that are left, their positions among all values of the list, and how many value
--- slots of the list were read so far; values that have left the list have no positions
+-- the values left, their positions among all values of the list (none once they have left it), and
+-- how many value slots were read so far
 pub record ChainWalk (V : Type 0) : Type 0 where
   pub left : List V
   pub positions : List ℕ
@@ -50,10 +50,10 @@ module _ {V : Type 0} where
   abbrev pub GivesEnd : End → ChainWalk V → Option (Bor V) → ChainWalk V → Type 0
   GivesEnd end old given new = TakesEnd end deref old.left given new.left × Counts end old given new
 
-  -- the first value of what is left is given, or none where nothing is left
+  -- the first value left is given, or none
   abbrev pub GivesFirst : ChainWalk V → Option (Bor V) → ChainWalk V → Type 0
   GivesFirst = GivesEnd Front
 
-  -- the last value of what is left is given, or none where nothing is left
+  -- the last value left is given, or none
   abbrev pub GivesLast : ChainWalk V → Option (Bor V) → ChainWalk V → Type 0
   GivesLast = GivesEnd Back

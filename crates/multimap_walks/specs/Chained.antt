@@ -19,7 +19,7 @@ module _ {V : Type 0} (values : Slots V ValueLink) where
   abbrev pub is_value_of : ℕ → ℕ → Bool
   is_value_of key place = unwrap_or (option_map (λ l. l.key == key) (link_at values place)) false
 
-  -- the places of a key's values, in the order of the list: its chain
+  -- the places of a key's values, in order: its chain
   abbrev pub chain_of : ℕ → List ℕ
   chain_of key = filter (is_value_of key) values.order
 
@@ -79,8 +79,8 @@ module _ {K V : Type 0} (keys : Slots K KeyLink) (values : Slots V ValueLink) wh
   AreOwned = (place : ℕ) (l : ValueLink) → IsIn place values.order
       → link_at values place ≡ Some l → IsIn l.key keys.order
 
-  -- each value's key is listed; each key's link names the ends and the length of its chain, and
-  -- each value's link its neighbours there
+  -- each value's key is listed; a key's link names the ends and the length of its chain, a value's
+  -- link its neighbours there
   pub record IsChained : Type 0 where
     pub owned : AreOwned
     pub head : (key : ℕ) (l : KeyLink) → IsIn key keys.order

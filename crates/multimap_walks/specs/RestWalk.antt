@@ -12,11 +12,11 @@ use Rattle.multimap_walks.specs.Lending.{AreUntaken, CanLend}
 use Rattle.multimap_walks.specs.PairWalk.{pairs_left}
 
 module _ {V A : Type 0} (cells : SlotCells V ValueLink A) (left : ChainEnds) where
-  -- the values that are left, as they were when they were lent
+  -- the values left, as they were when lent
   abbrev pub values_rest : List V
   values_rest = items_left (lent_slots cells).order (item_at (lent_slots cells)) left
 
-  -- the pairs of the values that are left, as they were when they were lent
+  -- the pairs of the values left, as they were when lent
   abbrev pub pairs_rest : {K : Type 0} → Slots K KeyLink → List (K × V)
   pairs_rest keys = pairs_left keys (lent_slots cells) left
 
@@ -26,7 +26,7 @@ module _ {V A : Type 0} (cells : SlotCells V ValueLink A) (left : ChainEnds) whe
     pub owned : AreOwned keys (lent_slots cells)
     pub lends : CanLend cells left
 
-  -- the values that are left of a key, along their links
+  -- the values left of a key, along their links
   abbrev pub entry_rest : List V
   entry_rest = values_at (lent_slots cells) (places_along (lent_slots cells) left.first left.length)
 

@@ -1,5 +1,5 @@
--- Walks over a list: what a step at either end gives and leaves, and a word of ends, with one
--- answer for each of its letters.
+-- Walks over a list: what a step at either end gives and leaves, and a word of ends, which gives
+-- one item for each of its letters.
 use Rattle.std.specs.Prelude.{◌≡◌, ◌-◌, ℕ, List, [], ◌∷◌, ◌++◌, length, take, drop, replicate}
 use Rattle.std.specs.Prelude.{slice_get, Option, Some, IfSome, MatchOption}
 use Rattle.std.specs.Iterator.{at_most, UpTo}
@@ -29,13 +29,13 @@ module _ {X : Type 0} where
   TakesEnd end shows old given new =
       MatchOption given ((old ≡ []) × (new ≡ [])) (λ x. old ≡ with_end end (shows x) new)
 
-  -- the hint tells how many items there are: std's two bounds, and both numbers
+  -- the hint has the number of items as both bounds
   abbrev pub TellsLength : ℕ × Option ℕ → List X → Type 0
   TellsLength hint items =
       IsWithinCount hint.0 (at_most (length items)) × IfSome hint.1 (UpTo (at_most (length items)))
       × (hint.0 ≡ length items) × (hint.1 ≡ Some (length items))
 
-  -- one answer for each letter: the item at that end of what remains, which is then taken away
+  -- for each letter the item at that end of what remains, which is then taken away
   abbrev pub answers_of_walk : List X → List End → List (Option X)
   answers_of_walk items [] = []
   answers_of_walk items (end ∷ word) =

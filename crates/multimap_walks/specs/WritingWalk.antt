@@ -35,23 +35,23 @@ positions_along cells left =
     positions_at (lent_slots cells) (places_left (lent_slots cells).order left)
 
 module _ {K V A : Type 0} where
-  -- the pairs that an `IterMut` has left, as they were when their values were lent
+  -- the pairs that an `IterMut` has left, as they were when lent
   abbrev pub iter_mut_rest : IterMut K V A → List (K × V)
   iter_mut_rest w = pairs_left w.keys.now (lent_slots w.values) w.left
 
-  -- the positions, among all pairs, of those that an `IterMut` has left
+  -- their positions among all pairs
   abbrev pub iter_mut_positions : IterMut K V A → List ℕ
   iter_mut_positions w = positions_along w.values w.left
 
-  -- the name of the loan of an `IterMut`
+  -- the name of its loan
   abbrev pub iter_mut_name : IterMut K V A → GName
   iter_mut_name w = cells_name w.values
 
-  -- the right of an `IterMut` to write the values, with their order
+  -- its right to write the values, with their order
   abbrev pub iter_mut_values : IterMut K V A → SlotCells V ValueLink A
   iter_mut_values w = w.values
 
-  -- the right of an `IterMut` to write the values, without their order, and what they end as
+  -- its right to write the values, without their order, and what they end as
   abbrev pub iter_mut_cells : IterMut K V A → Cells V
   iter_mut_cells w = w.values.cells
 
@@ -63,31 +63,31 @@ module _ {K V A : Type 0} where
     pub positions : PositionGoes end (iter_mut_positions s) r (iter_mut_positions t)
     pub taken : HandsOut s.values (end_place end s.left) (option_map (λ p. p.1) r) t.values
 
-  -- the first pair of what is left is lent, its position goes, and its value's place alone is taken
+  -- the first pair left is lent: its position goes, and its value's place alone is taken
   abbrev pub LendsFirstPair : IterMut K V A → Option (Bor K × MutBor V) → IterMut K V A → Type 0
   LendsFirstPair = LendsPair Front
 
-  -- the last pair of what is left is lent, its position goes, and its value's place alone is taken
+  -- the last pair left is lent: its position goes, and its value's place alone is taken
   abbrev pub LendsLastPair : IterMut K V A → Option (Bor K × MutBor V) → IterMut K V A → Type 0
   LendsLastPair = LendsPair Back
 
-  -- the values that a `ValuesMut` has left, as they were when they were lent
+  -- the values that a `ValuesMut` has left, as they were when lent
   abbrev pub values_mut_rest : ValuesMut K V A → List V
   values_mut_rest w = items_left (lent_slots w.values).order (item_at (lent_slots w.values)) w.left
 
-  -- the positions, among all values, of those that a `ValuesMut` has left
+  -- their positions among all values
   abbrev pub values_mut_positions : ValuesMut K V A → List ℕ
   values_mut_positions w = positions_along w.values w.left
 
-  -- the name of the loan of a `ValuesMut`
+  -- the name of its loan
   abbrev pub values_mut_name : ValuesMut K V A → GName
   values_mut_name w = cells_name w.values
 
-  -- the right of a `ValuesMut` to write the values, with their order
+  -- its right to write the values, with their order
   abbrev pub values_mut_values : ValuesMut K V A → SlotCells V ValueLink A
   values_mut_values w = w.values
 
-  -- the right of a `ValuesMut` to write the values, without their order, and what they end as
+  -- its right to write the values, without their order, and what they end as
   abbrev pub values_mut_cells : ValuesMut K V A → Cells V
   values_mut_cells w = w.values.cells
 
@@ -98,11 +98,11 @@ module _ {K V A : Type 0} where
     pub positions : PositionGoes end (values_mut_positions s) r (values_mut_positions t)
     pub taken : HandsOut s.values (end_place end s.left) r t.values
 
-  -- the first value of what is left is lent, its position goes, and its place alone is taken
+  -- the first value left is lent: its position goes, and its place alone is taken
   abbrev pub LendsFirstValue : ValuesMut K V A → Option (MutBor V) → ValuesMut K V A → Type 0
   LendsFirstValue = LendsValue Front
 
-  -- the last value of what is left is lent, its position goes, and its place alone is taken
+  -- the last value left is lent: its position goes, and its place alone is taken
   abbrev pub LendsLastValue : ValuesMut K V A → Option (MutBor V) → ValuesMut K V A → Type 0
   LendsLastValue = LendsValue Back
 
@@ -110,23 +110,23 @@ module _ {K V A : Type 0} where
   abbrev pub entry_places : EntryValuesMut K V A → List ℕ
   entry_places w = places_along (lent_slots w.values) w.left.first w.left.length
 
-  -- the values of a key that an `EntryValuesMut` has left, as they were when they were lent
+  -- the values of a key that an `EntryValuesMut` has left, as they were when lent
   abbrev pub entry_values_mut_rest : EntryValuesMut K V A → List V
   entry_values_mut_rest w = values_at (lent_slots w.values) (entry_places w)
 
-  -- the positions, among all values of the list, of those that an `EntryValuesMut` has left
+  -- their positions among all values of the list
   abbrev pub entry_values_mut_positions : EntryValuesMut K V A → List ℕ
   entry_values_mut_positions w = positions_at (lent_slots w.values) (entry_places w)
 
-  -- the name of the loan of an `EntryValuesMut`
+  -- the name of its loan
   abbrev pub entry_values_mut_name : EntryValuesMut K V A → GName
   entry_values_mut_name w = cells_name w.values
 
-  -- the right of an `EntryValuesMut` to write the values, with their order
+  -- its right to write the values, with their order
   abbrev pub entry_values_mut_values : EntryValuesMut K V A → SlotCells V ValueLink A
   entry_values_mut_values w = w.values
 
-  -- the right of an `EntryValuesMut` to write the values, without their order, and what they end as
+  -- its right to write the values, without their order, and what they end as
   abbrev pub entry_values_mut_cells : EntryValuesMut K V A → Cells V
   entry_values_mut_cells w = w.values.cells
 
@@ -139,12 +139,12 @@ module _ {K V A : Type 0} where
         (entry_values_mut_positions t)
     pub taken : HandsOut s.values (end_place end s.left) r t.values
 
-  -- the key's first value of what is left is lent: its position goes, and its place alone is taken
+  -- the key's first value left is lent: its position goes, and its place alone is taken
   abbrev pub LendsFirstOfKey
       : EntryValuesMut K V A → Option (MutBor V) → EntryValuesMut K V A → Type 0
   LendsFirstOfKey = LendsOfKey Front
 
-  -- the key's last value of what is left is lent: its position goes, and its place alone is taken
+  -- the key's last value left is lent: its position goes, and its place alone is taken
   abbrev pub LendsLastOfKey
       : EntryValuesMut K V A → Option (MutBor V) → EntryValuesMut K V A → Type 0
   LendsLastOfKey = LendsOfKey Back

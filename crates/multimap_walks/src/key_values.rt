@@ -55,8 +55,8 @@ impl<'map, K, V, A: Allocator> KeyValues<'map, K, V, A> {
         KeyValues::along(keys, values, keys.all())
     }
 
-    /// The walk over the keys from one place of the list to another, which are given with their
-    /// number. None is the empty walk.
+    /// The walk over the keys from one place of the list to another; the number of keys comes with
+    /// the two places. None is the empty walk.
     pub fn new_between(
         keys: &'map SlotList<K, KeyLink, A>,
         values: &'map Tape<V, ValueLink, A>,

@@ -28,8 +28,7 @@ module _ {K V S : Type 0} where
     pub had_room : InsertRaisesNoRoom eq key old new
     pub taken : TakesOut (length (values_of eq old.lists.pairs key)) old.tape new.tape
 
-  -- a pair of the key was refused and handed back: both lists are as they were, and no value was
-  -- taken out
+  -- a pair of the key was refused and handed back; both lists stay, and no value was taken out
   pub record IsRefused (eq : K → K → Bool) (key : K) (value : V) (old new : Multimap K V S)
       (pair : Refused K V) : Type 0 where
     pub returned : pair ≡ record { key = key; value = value }
@@ -46,22 +45,22 @@ module _ {K V S : Type 0} where
     pub grows : GrowsForValue old new
     pub taken : TakesOut 0 old.tape new.tape
 
-  -- a value of a key that is there was refused and handed back: both lists are as they were, and no
-  -- value was taken out
+  -- a value of a present key was refused and handed back; both lists stay, and no value was taken
+  -- out
   pub record RefusesValue (value : V) (old new : Multimap K V S) (r : RefusedValue V) : Type 0 where
     pub returned : r.value ≡ value
     pub lists : new.lists ≡ old.lists
     pub grows : GrowsForValue old new
     pub taken : TakesOut 0 old.tape new.tape
 
-  -- a pair of the key was put last or refused, and it is refused only where there was no room
+  -- a pair of the key was put last, or refused, but only where there was no room
   pub record Appends (eq : K → K → Bool) (key : K) (value : V) (old new : Multimap K V S)
       {X : Type 0} (r : Result X (Refused K V)) : Type 0 where
     pub ok : OnOk r (IsAppended eq key value old new)
     pub refused : IfErr r (IsRefused eq key value old new)
     pub succeeds : HasPairRoom eq old key → IsOk r
 
-  -- a pair that is refused is handed back, and it is refused only where there was no room
+  -- a refused pair is handed back, and it is refused only where there was no room
   pub record HandsBack (eq : K → K → Bool) (key : K) (value : V) (old : Multimap K V S)
       {X : Type 0} (r : Result X (Refused K V)) : Type 0 where
     pub refused : IfErr r (λ pair. pair ≡ record { key = key; value = value })

@@ -1,4 +1,4 @@
--- What the lists of a clone are to those of the original.
+-- How the lists of a clone relate to the lists of the original.
 use Rattle.std.specs.Prelude.{◌≡◌, Bool, true}
 use Rattle.std.specs.List.{AllZip}
 use Rattle.ordered_multimap.specs.Lists.{Lists}
@@ -13,7 +13,7 @@ module _ {K : Type 0} (eq : K → K → Bool) (key_clone : K → K → Type 0) w
     abbrev pub IsPairClone : K × V → K × V → Type 0
     IsPairClone p c = IsKeyClone p.0 c.0 × value_clone p.1 c.1
 
-    -- both lists are as long, and have at each position a clone of the key or the pair there
+    -- both lists are as long, with a clone of the key or pair at each position
     pub record AreClones (m n : Lists K V) : Type 0 where
       pub keys : AllZip IsKeyClone m.keys n.keys
       pub pairs : AllZip IsPairClone m.pairs n.pairs

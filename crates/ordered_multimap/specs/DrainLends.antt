@@ -25,15 +25,14 @@ module _ (K V S A H : RattleType) (e : equality.Ghosts K.Denot) (k : hash.Ghosts
     (b : builder.Ghosts S.Denot H.Denot) (h : hasher.Ghosts H.Denot)
     (alloc : allocator.Ghosts A.Denot)
     (m : MutBor (Multimap K.Denot V.Denot S.Denot)) where
-  -- at `Err` the pair was refused, and otherwise the map ends as what the drain leaves
+  -- at `Err` the pair was refused; else the map ends as what the drain leaves
   abbrev pub ends_inserted : {E : Type 0} → K.Denot
       → Result (drains.EntryValuesDrain K.Denot V.Denot S.Denot A.Denot H.Denot e k b h) E → Fml
   ends_inserted key r =
       RestsIfErr (the_row K V S A H e k b h alloc) m (λ d. d.map.ghost_name) r
       (RefusesPair e.eq key m.now)
 
-  -- at `None` the map keeps all of its lists, rooms and numbers, and otherwise it ends as what the
-  -- drain leaves
+  -- at `None` lists, rooms and numbers stay; else the map ends as what the drain leaves
   abbrev pub ends_removed :
       Option (K.Denot × drains.EntryValuesDrain K.Denot V.Denot S.Denot A.Denot H.Denot e k b h)
       → Fml

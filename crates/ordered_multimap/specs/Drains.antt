@@ -24,13 +24,13 @@ module _ {K V S A H : Type 0} {e : equality.Ghosts K} {k : hash.Ghosts K} {b : b
     pub same_map : new.map.ghost_name ≡ old.map.ghost_name
     pub kept : KeepsListed old.map.now new.map.now
 
-  -- the first value that is left is given, or none where nothing is left
+  -- the first value left is given, or none
   abbrev pub DrainsFirst : drains.EntryValuesDrain K V S A H e k b h → Option V
       → drains.EntryValuesDrain K V S A H e k b h → Type 0
   DrainsFirst old given new =
       KeepsMap old new × TakesFirst (λ v. v) (drain_left old) given (drain_left new)
 
-  -- the last value that is left is given, or none where nothing is left
+  -- the last value left is given, or none
   abbrev pub DrainsLast : drains.EntryValuesDrain K V S A H e k b h → Option V
       → drains.EntryValuesDrain K V S A H e k b h → Type 0
   DrainsLast old given new =

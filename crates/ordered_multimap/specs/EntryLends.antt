@@ -25,8 +25,7 @@ use Rattle.ordered_multimap.specs.Writes.{with_first}
 module _ (K V S A H : RattleType) {e : equality.Ghosts K.Denot} {k : hash.Ghosts K.Denot}
     {b : builder.Ghosts S.Denot H.Denot} {h : hasher.Ghosts H.Denot}
     (alloc : allocator.Ghosts A.Denot) where
-  -- once the reference r has ended, what it last held is the first value of the entry's key; at
-  -- `Err` the pair was refused
+  -- the first value of the entry's key ends as r did; at `Err` the pair was refused
   abbrev pub lends_entered : {E : Type 0} → Entry K.Denot V.Denot S.Denot A.Denot H.Denot e k b h
       → Result (MutBor V.Denot) E → Fml
   lends_entered x r =
@@ -34,15 +33,14 @@ module _ (K V S A H : RattleType) {e : equality.Ghosts K.Denot} {k : hash.Ghosts
       (name_if_ok (λ v. v.ghost_name) r) (λ v n. IsOk r → IsEntered x v n)
       (λ n. OnErr r (RefusesEntry x n))
 
-  -- once the reference r has ended, what it last held is the first value of the occupied entry's
-  -- key
+  -- the first value of the occupied entry's key ends as r did
   abbrev pub lends_first : OccupiedEntry K.Denot V.Denot S.Denot A.Denot H.Denot e k b h
       → MutBor V.Denot → Fml
   lends_first o r =
       follows (the_row K V S A H e k b h alloc) V o.map.ghost_name r.ghost_name
       (with_first o.map.now o.place)
 
-  -- once the reference r has ended, the entry has what it last held as the first value of its key
+  -- the first value of the entry's key ends as r did, and the entry has it
   abbrev pub lends_to_entry : MutBor (OccupiedEntry K.Denot V.Denot S.Denot A.Denot H.Denot e k b h)
       → MutBor V.Denot → Fml
   lends_to_entry o r =
@@ -57,22 +55,22 @@ module _ (K V S A H : RattleType) {e : equality.Ghosts K.Denot} {k : hash.Ghosts
       (occupied.the_row (record { mir = named 1; lft = [] }) K V S A H e k b h alloc)
       o.ghost_name r (λ n. with_map_values o.now n.map.now)
 
-  -- the values of the entry's map are lent; and once their slots have ended with some items, the
-  -- entry's loan has ended with the entry that has them in its map
+  -- the values of the entry's map are lent; once their slots end with some items, the entry's loan
+  -- ends with the entry whose map has them
   abbrev pub EndsEntry : OccupiedEntry K.Denot V.Denot S.Denot A.Denot H.Denot e k b h
       → SlotCells V.Denot ValueLink A.Denot → Type 0
   EndsEntry o c = EndsAs o.map.now c (final V c.cells.around) (λ ws.
       (occupied.the_row (record { mir = named 1; lft = [] }) K V S A H e k b h alloc).coded.code
       (with_entry_items o ws))
 
-  -- at `Err` the pair was refused, and else the map ends as what the entry leaves
+  -- at `Err` the pair was refused; else the map ends as what the entry leaves
   abbrev pub rests_with_entry : {E : Type 0} → Entry K.Denot V.Denot S.Denot A.Denot H.Denot e k b h
       → Result (OccupiedEntry K.Denot V.Denot S.Denot A.Denot H.Denot e k b h) E → Fml
   rests_with_entry x r =
       RestsIfErr (the_row K V S A H e k b h alloc) (entry_map_ref x) (λ o. o.map.ghost_name) r
       (RefusesEntry x)
 
-  -- at `Err` the value was refused, and else the map ends as what the drain of the entry's values
+  -- at `Err` the value was refused; else the map ends as what the drain of the entry's values
   -- leaves
   abbrev pub rests_with_drain : {E : Type 0}
       → OccupiedEntry K.Denot V.Denot S.Denot A.Denot H.Denot e k b h

@@ -35,8 +35,8 @@ ends_exactly K V S m γ c =
 module _ (K V S A H : RattleType) (key : HashMembers K.Denot)
     (build : builder.Ghosts S.Denot H.Denot) (hash : hasher.Ghosts H.Denot)
     (heap : alloc.Ghosts A.Denot) where
-  -- where the values of a map were lent to a walk whose loan the map follows: once the walk and all
-  -- references that it lent have ended, the map has ended exactly
+  -- where a map follows the loan of a walk that has its values: once the walk and all its
+  -- references have ended, the map has ended exactly
   abbrev pub WalksAreExact : Fml
   WalksAreExact =
       fall (Multimap K.Denot V.Denot S.Denot) (λ m. fall GName (λ γ.

@@ -12,8 +12,8 @@ use Rattle.ordered_multimap.specs.declared.list_ordered_multimap.refused.Refused
 
 module _ {K V : Type 0} (eq : K → K → Bool) {I T : Type 0} (becomes : I → T → Type 0)
     (steps : T → Option (K × V) → T → Type 0) where
-  -- each of these pairs was appended in turn; all that the iterator has, or those before the pair
-  -- that was refused
+  -- each of these pairs was appended in turn: all of the iterator's, or those before the refused
+  -- one
   abbrev pub Extends : I → Lists K V → Lists K V → Result (Unit {0}) (Refused K V) → Type 0
   Extends iter old new r = (it : T) × (pairs : List (K × V)) × becomes iter it
       × (new ≡ all_appended eq old pairs)
@@ -38,8 +38,8 @@ lent_pair p = (p.0.now, p.1.now)
 
 module _ {K V : Type 0} (eq : K → K → Bool) {I T : Type 0} (becomes : I → T → Type 0)
     (steps : T → Option (Bor K × Bor V) → T → Type 0) where
-  -- a copy of each of these pairs was appended in turn; of all that the iterator has, or of those
-  -- before the pair that was refused
+  -- a copy of each of these pairs was appended in turn: of all the iterator's, or of those before
+  -- the refused one
   abbrev pub ExtendsCopied : I → Lists K V → Lists K V → Result (Unit {0}) (Refused K V) → Type 0
   ExtendsCopied iter old new r = (it : T) × (items : List (Bor K × Bor V)) × becomes iter it
       × (new ≡ all_appended eq old (map lent_pair items))
@@ -48,7 +48,7 @@ module _ {K V : Type 0} (eq : K → K → Bool) {I T : Type 0} (becomes : I → 
       × (lent_pair item ≡ (refused.key, refused.value)))
 
 module _ {K V S I T : Type 0} (becomes : I → T → Type 0) where
-  -- however many pairs the iterator gives, as many more keys and values fit
+  -- however many pairs the iterator gives, so many more keys and values fit
   abbrev pub HasRoomForGiven : {X : Type 0} → (T → Option X → T → Type 0) → I → Multimap K V S
       → Type 0
   HasRoomForGiven steps iter m =
@@ -69,8 +69,8 @@ pub record GrowsForPairs {K V S : Type 0} (given most : Type 0) (old new : Multi
     pub key_room : given → new.key_room ≡ old.key_room
     pub had_room : most → SameRooms old new
 
--- no pair is refused where there is room for all that come, or for as many as may come, and the map
--- has grown for them alone
+-- nothing is refused where all that come, or may come, have room, and the map has grown for them
+-- alone
 pub record GrowsForAll {K V S I T X Y E : Type 0} (becomes : I → T → Type 0)
     (steps : T → Option X → T → Type 0) (left : T → Count) (iter : I) (old new : Multimap K V S)
     (r : Result Y E) : Type 0 where

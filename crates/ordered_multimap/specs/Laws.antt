@@ -12,8 +12,7 @@ use Rattle.ordered_multimap.specs.Changes.{appended, first_occurrences, built_fr
 use Rattle.ordered_multimap.specs.Popped.{popped_pair, popped}
 
 module _ {K : Type 0} (eq : K → K → Bool) {V : Type 0} where
-  -- a pop at the back takes away the pair that was appended, with an owned key where the key was
-  -- absent
+  -- a pop at the back takes the appended pair away, with an owned key where the key was absent
   pub record PopUndoesAppend (m : Lists K V) (k : K) (v : V) : Type 0 where
     pub lists_again : popped eq Back (appended eq m k v) ≡ m
     pub answer : popped_pair eq Back (appended eq m k v).pairs
@@ -28,8 +27,8 @@ module _ {K : Type 0} (eq : K → K → Bool) {V : Type 0} where
   abbrev pub IsRebuilt : Lists K V → Type 0
   IsRebuilt m = built_from eq m.pairs ≡ lists (first_occurrences eq m.pairs) m.pairs
 
-  -- lists of pairs are compared by an equivalence, and well-formed lists with the same pairs have
-  -- as many keys
+  -- pairs are compared by an equivalence, and well-formed lists with the same pairs have as many
+  -- keys
   pub record ComparesPairs (value_eq : V → V → Bool) : Type 0 where
     pub equivalence : IsEquivalence (same_pairs eq value_eq)
     pub keys : (m n : Lists K V) → IsWellFormed eq m → IsWellFormed eq n
@@ -48,8 +47,8 @@ module _ {K : Type 0} (eq : K → K → Bool) {V : Type 0} where
   abbrev pub marked_values : List (Bool × (K × V)) → K → List (Bool × V)
   marked_values marked k = map (λ m. (m.0, m.1.1)) (filter (λ m. eq k m.1.0) marked)
 
--- where pairs are dropped, whichever they are, a key has its values but those of its dropped pairs;
--- and a walk with as many letters as there are items gives each item once
+-- whichever pairs are dropped, a key keeps its values but those of dropped pairs; a walk with as
+-- many letters as items gives each item once
 pub record FiltersChains {K : Type 0} (eq : K → K → Bool) (V : Type 0) : Type 0 where
   pub before : (pairs : List (Bool × (K × V))) (k : K)
       → values_of eq (all_of pairs) k ≡ all_of (marked_values eq pairs k)

@@ -5,8 +5,8 @@ use Rattle.ordered_multimap.specs.Lists.{Lists, lists}
 use Rattle.ordered_multimap.specs.MapSlots.{MapSlots, map_slots_code}
 use Rattle.ordered_multimap.specs.TapeNumbers.{TapeNumbers, numbers_code}
 
--- its two lists, how many keys and how many values fit without growing, its hash builder, the
--- numbers of the tape on which its values stand, and its slots
+-- its two lists, how many keys and values fit without growing, its hash builder, its tape's
+-- numbers, and its slots
 pub record Multimap (K V S : Type 0) : Type 0 where
   pub lists : Lists K V
   pub key_room : ℕ

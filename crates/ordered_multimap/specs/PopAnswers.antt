@@ -23,7 +23,7 @@ use Rattle.ordered_multimap.specs.declared.list_ordered_multimap.remove.one as s
 use steps.TakenKey.TheVariants.{Kept, Gone}
 use Rattle.ordered_multimap.specs.contracts.list_ordered_multimap.ListOrderedMultimap.{the_row}
 
--- the map after a pop at an end: the pair has gone, if there was one, and no room has changed
+-- the pair at an end has gone, if there was one, and no room has changed
 pub record IsPopped {K V S : Type 0} (eq : K → K → Bool) (end : End)
     (old new : Multimap K V S) : Type 0 where
   pub lists : new.lists ≡ popped eq end old.lists

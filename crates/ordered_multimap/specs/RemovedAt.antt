@@ -19,7 +19,7 @@ module _ {K : Type 0} (eq : K → K → Bool) {V : Type 0} where
   abbrev pub position_beside : List (K × V) → K → ℕ → Option ℕ
   position_beside pairs k index = slice_get (several (positions_of eq pairs k)) index
 
-  -- the pairs without that of this value; all of them where there is no such value
+  -- the pairs without the pair of this value; all of them where there is no such value
   abbrev pub pairs_besides : List (K × V) → K → ℕ → List (K × V)
   pairs_besides pairs k index =
       elim (position_beside pairs k index) [ None ↦ pairs | Some i ↦ remove pairs i ]

@@ -19,7 +19,7 @@ module _ {K V S : Type 0} where
     pub key_room : keys ≤ m.key_room
     pub value_room : values ≤ m.value_room
 
-  -- a new map with such room was made, and it is refused only where room was asked for
+  -- a new map with such room was made; it is refused only where room was asked for
   pub record StartsWithRoom (keys values : ℕ) {E : Type 0} (r : Result (Multimap K V S) E) : Type 0
     where
       pub new : IfOk r (IsNewMapFor keys values)
@@ -33,7 +33,7 @@ module _ {K V S : Type 0} where
   abbrev pub HasValueRoom : Multimap K V S → Type 0
   HasValueRoom m = length m.lists.pairs < m.value_room
 
-  -- one more pair of the key fits: a present key wants room for the value alone
+  -- one more pair of the key fits; a present key needs room for the value alone
   pub record HasPairRoom (eq : K → K → Bool) (m : Multimap K V S) (k : K) : Type 0 where
     pub value : HasValueRoom m
     pub key : is_present eq m.lists.pairs k ≡ false → HasKeyRoom m
@@ -103,7 +103,7 @@ module _ {K V S : Type 0} where
     pub ok : OnOk r (IsPacked keys values old new)
     pub refused : OnErr r (new ≡ old)
 
-  -- an insertion wants room for a key and a value where the key is absent, and else none
+  -- an insertion needs room for a key and a value where the key is absent, else none
   pub record HasInsertRoom (eq : K → K → Bool) (m : Multimap K V S) (k : K) : Type 0 where
     pub key : is_present eq m.lists.pairs k ≡ false → HasKeyRoom m
     pub value : is_present eq m.lists.pairs k ≡ false → HasValueRoom m

@@ -78,8 +78,8 @@ pub record EndsAs {K V S A : Type 0} (m : Multimap K V S) (c : SlotCells V Value
       → (with_values m ws).lists.pairs ≡ pairs_ended m.lists.pairs m.slots.values.order ws
   pub ends : (ws : List (Option V)) → slots ws ≡ whole ws
 
--- the values of the map are lent; and once their slots have ended with some items, the lender's
--- loan has ended with the map that has them there
+-- the map's values are lent; once their slots end with some items, the lender's loan ends with the
+-- map that has them
 abbrev pub EndsMap : (K V S : RattleType) → {A : Type 0} → Multimap K.Denot V.Denot S.Denot
     → SlotCells V.Denot ValueLink A → Type 0
 EndsMap K V S m c = EndsAs m c (final V c.cells.around)

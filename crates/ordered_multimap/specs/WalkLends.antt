@@ -75,8 +75,8 @@ module _ (K V S A H : RattleType) {e : equality.Ghosts K.Denot} {k : hash.Ghosts
   EndsWalk w c = EndsAs w.map.now c (final V c.cells.around)
       (λ ws. (walk_row K V S A H e k b h alloc).coded.code (with_walk_items w ws))
 
-  -- the values of the map of a walk that has stepped are lent; and once their slots have ended with
-  -- some items, the loan of the walk after the step has ended with the walk that has them
+  -- a walk has stepped, and its map's values are lent; once their slots end with some items, the
+  -- loan of the walk after the step ends with the walk that has them
   pub record EndsStepped (end : End)
       (old : KeyValuesMut K.Denot V.Denot S.Denot A.Denot H.Denot e k b h)
       (r : Bor K.Denot × EntryValuesMut K.Denot V.Denot A.Denot) : Type 0 where
@@ -86,7 +86,7 @@ module _ (K V S A H : RattleType) {e : equality.Ghosts K.Denot} {k : hash.Ghosts
     pub ends : EndsWalk walk (entry_values_mut_values r.1)
 
   -- once the walk over the values ends, the key at the end is no longer left; at `None` the walk
-  -- stays as it is
+  -- stays
   abbrev pub lends_key_values : End
       → MutBor (KeyValuesMut K.Denot V.Denot S.Denot A.Denot H.Denot e k b h)
       → Option (Bor K.Denot × EntryValuesMut K.Denot V.Denot A.Denot) → Fml

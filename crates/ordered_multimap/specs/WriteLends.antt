@@ -14,18 +14,17 @@ use Rattle.ordered_multimap.specs.Writes.{with_value, with_first, with_end, IsWr
 module _ (K V S A H : RattleType) (key : HashMembers K.Denot)
     (build : builder.Ghosts S.Denot H.Denot) (hash : hasher.Ghosts H.Denot)
     (heap : alloc.Ghosts A.Denot) (m : MutBor (Multimap K.Denot V.Denot S.Denot)) where
-  -- once the borrow r ends, the last value written through it is the value at the place
+  -- the value at the place ends as r did
   abbrev pub lends_value : ℕ → MutBor V.Denot → Fml
   lends_value place r = Lends (map_row K V S A H key build hash heap) V m r (with_value m.now place)
 
-  -- once the borrow r ends, the last value written through it is the first value of the key at the
-  -- place
+  -- the first value of the key at the place ends as r did
   abbrev pub lends_first_value : ℕ → MutBor V.Denot → Fml
   lends_first_value place r =
       Lends (map_row K V S A H key build hash heap) V m r (with_first m.now place)
 
-  -- once the borrow in r ends, the last value written through it is the first value of the keys
-  -- that the test accepts; at `None` the map stays as it is
+  -- the first value of the keys that the test accepts ends as the borrow in r did; at `None` the
+  -- map stays
   abbrev pub lends_first_of : (K.Denot → Bool) → Option (MutBor V.Denot) → Fml
   lends_first_of accepts r =
       LendsSo (map_row K V S A H key build hash heap) V m r
@@ -35,12 +34,11 @@ module _ (K V S A H : RattleType) (key : HashMembers K.Denot)
 module _ (K V S A H : RattleType) (key : HashMembers K.Denot)
     (build : builder.Ghosts S.Denot H.Denot) (hash : hasher.Ghosts H.Denot)
     (heap : alloc.Ghosts A.Denot) (end : End) (m : MutBor (Multimap K.Denot V.Denot S.Denot)) where
-  -- once the borrow ends, the last value written is that of the pair at the end
+  -- the value of the pair at the end ends as r did
   abbrev pub lends_end : Bor K.Denot × MutBor V.Denot → Fml
   lends_end r = Lends (map_row K V S A H key build hash heap) V m r.1 (with_end end m.now)
 
-  -- once the borrow in r ends, the last value written is that of the pair at the end; at `None` the
-  -- map stays as it is
+  -- the value of the pair at the end ends as the borrow in r did; at `None` the map stays
   abbrev pub lends_end_if : Option (Bor K.Denot × MutBor V.Denot) → Fml
   lends_end_if r =
       follows_so (map_row K V S A H key build hash heap) V m.ghost_name

@@ -11,7 +11,7 @@ module _ {F K V : Type 0} (g : Mut F (Bor K × (Bor V × Unit {0})) Bool) where
     pub shows : (key.now ≡ k) × (value.now ≡ v)
     pub called : Called g f (key, (value, tt)) b next
 
-  -- a call of f at a `&` to k and one to v may return b, and leave f as next; the value w after the
-  -- call is the one before it
+  -- a call of f at a `&` to k and one to v may return b and leave f as next; w, the value after the
+  -- call, is v
   abbrev pub AsksOnPair : F → K → V → Bool → V → F → Type 0
   AsksOnPair f k v b w next = AskedOnPair f k v b next × (w ≡ v)

@@ -11,15 +11,15 @@ use Rattle.set_ordered_multimap.specs.Set.{all_inserted, first_pairs}
 
 module _ {K V : Type 0} (eq : K → K → Bool) (value_eq : V → V → Bool) {I T : Type 0}
     (becomes : I → T → Type 0) (steps : T → Option (K × V) → T → Type 0) where
-  -- each of these pairs was inserted in turn; all that the iterator has, or those before the pair
-  -- that was refused
+  -- each of these pairs was inserted in turn: all of the iterator's, or those before the refused
+  -- one
   abbrev pub InsertsAll : I → Lists K V → Lists K V → Result (Unit {0}) (Refused K V) → Type 0
   InsertsAll iter old new r = (it : T) × (pairs : List (K × V)) × becomes iter it
       × (new ≡ all_inserted eq value_eq old pairs)
       × MatchResult r (λ _. Drains steps it pairs)
       (λ refused. (t : T) × Yields steps it (pairs ++ (refused.key, refused.value) ∷ []) t)
 
-  -- the pairs of the iterator were appended to empty lists, of equal ones the first alone
+  -- the iterator's pairs were appended to empty lists, of equal ones the first alone
   abbrev pub IsSetOf : I → Lists K V → Type 0
   IsSetOf iter new = (it : T) × (pairs : List (K × V)) × becomes iter it
       × (new ≡ built_from eq (first_pairs eq value_eq pairs)) × Drains steps it pairs

@@ -22,11 +22,11 @@ module _ {K V : Type 0} (eq : K → K → Bool) (value_eq : V → V → Bool) wh
   abbrev pub IsSet : Lists K V → Type 0
   IsSet m = IsDistinct same_pair m.pairs
 
-  -- a pair of which there is no equal one goes last
+  -- a pair goes last, unless there is an equal one
   abbrev pub set_inserted : Lists K V → K → V → Lists K V
   set_inserted m k v = cond (has_pair m.pairs k v) m (appended eq m k v)
 
-  -- the equal pair goes, if there is one, and so does a key that no pair names then
+  -- the equal pair goes, if there is one, and a key that no pair names then
   abbrev pub value_removed : Lists K V → K → V → Lists K V
   value_removed m k v = cond (has_pair m.pairs k v) (kept eq m (pairs_but m.pairs k v)) m
 

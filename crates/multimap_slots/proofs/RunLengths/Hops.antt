@@ -146,7 +146,8 @@ leads_back runs p are at_most item more =
             fits = omega (arith, some, same);
             previous = hops_back runs p (before runs p) are stops refl at_most some item ∙ ap Some (omega (arith, same));
           }
-      | inr none ↦ absurd (let e = subst IsSome (back_none runs p (before runs p) are stops refl (omega (arith, none, fits)) item) more in cc)
+      | inr none ↦ absurd (let e = subst IsSome (back_none runs p (before runs p) are stops refl (omega (arith, none, fits)) item) more in
+          cc)
     ]
   where
     before-some : (q : ℕ) → before runs q < q → before runs q ≡ get_or runs (q - 1) 0

@@ -35,7 +35,8 @@ fn put_item<T, A: Allocator>(items: &mut Vec<Option<T>, A>, place: usize, item: 
 }
 
 impl<T, L: Copy, A: Allocator> SlotList<T, L, A> {
-    /// Makes room for `additional` more items, so that as many calls of `push_back` take no memory.
+    /// Makes room for `additional` more items, so that this many calls of `push_back` take no
+    /// memory.
     ///
     /// It is refused when out of memory, or for a number of items past the greatest `usize`. Where
     /// the list grows, its items and links are moved to new memory, and keep their places.

@@ -75,7 +75,8 @@ module _ (name : ℕ → ℕ) where
     AreDistinct-map ps (λ x y i j. apart x y (inr i) (inr j)) distinct.1,
   )
 
-  pub filter-map : (f g : ℕ → Bool) (ps : List ℕ) → ((p : ℕ) → IsIn p ps → f (name p) ≡ g p) → filter f (map name ps) ≡ map name (filter g ps)
+  pub filter-map : (f g : ℕ → Bool) (ps : List ℕ) → ((p : ℕ) → IsIn p ps → f (name p) ≡ g p)
+      → filter f (map name ps) ≡ map name (filter g ps)
   filter-map f g [] same = refl
   filter-map f g (p ∷ ps) same =
       ap (λ b. cond b (name p ∷ filter f (map name ps)) (filter f (map name ps))) (same p (inl refl))

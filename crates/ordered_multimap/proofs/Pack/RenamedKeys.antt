@@ -20,7 +20,8 @@ use Rattle.ordered_multimap.proofs.Agreement.Renamed.{IsIn-map, IsIn-name, filte
 
 module _ {K V : Type 0} (name : ℕ → ℕ) {eq : K → K → Bool} {hash : K
     → ℕ} {keys keys_after : Slots K KeyLink} {rows rows_after : FinMap nat_cmp ℕ} {values values_after : Slots V ValueLink}
-    (agrees : Agrees eq hash keys rows values) (gone : HaveNewPlaces (AreMoved keys) name keys.order keys_after) (has_rows : HasRows keys_after rows_after)
+    (agrees : Agrees eq hash keys rows values) (gone : HaveNewPlaces (AreMoved keys) name keys.order keys_after)
+    (has_rows : HasRows keys_after rows_after)
     (come : HaveCome name values.order values values_after) (keys_sound : IsSound keys_after)
     (fits : length values.order ≤ values_after.capacity) where
   -- the old place of a key

@@ -18,15 +18,15 @@ impl<
     S: BuildHasher + Clone,
     A: Allocator + Copy,
 > ListOrderedMultimap<K, V, S, A> {
-    /// A map with a clone of each key and of each value, in the same orders. The hashes are computed
-    /// anew, with a clone of the hash builder.
+    /// A map with a clone of each key and of each value, in the same orders. The hashes are
+    /// computed again, with a clone of the hash builder.
     ///
     /// A clone of a key must be equal to it. Memory may be refused for the clone of the builder, for
     /// the room of the new map, which is made before any key is cloned, and for the clones of keys
     /// and values. Then what was made is dropped.
     ///
-    /// It reads each pair once, hashes each key once, and looks nothing up. For the time of the call
-    /// it takes a number for each slot of a key or of a value that is in use.
+    /// It reads each pair once, hashes each key once, and looks nothing up. During the call it
+    /// takes memory for one number for each slot in use.
     ///
     /// ```
     /// map.clone()?.values_len() == 3

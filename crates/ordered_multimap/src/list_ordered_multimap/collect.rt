@@ -5,9 +5,9 @@ use super::ListOrderedMultimap;
 use std::alloc::{AllocError, Allocator};
 use std::hash::{BuildHasher, Hash};
 
-/// What `collect(alloc)` of an iterator over pairs makes: a map of these pairs in turn, with a
-/// default of the hash builder. A refused pair is dropped, with the map;
-/// [`from_iter`](ListOrderedMultimap::from_iter) of the map's own hands it back.
+/// Lets `collect(alloc)` make a map of the pairs of an iterator, appended in turn, with a default
+/// hash builder. A refused pair is dropped, with the map; the map's own
+/// [`from_iter`](ListOrderedMultimap::from_iter) hands it back.
 ///
 /// ```
 /// let map: Numbers = pairs.collect(alloc)?;

@@ -35,12 +35,12 @@ impl<K: Eq + Hash, V: Drop, S: BuildHasher, A: Allocator> ListOrderedMultimap<K,
     ghost use Rattle.ordered_multimap.specs.Keys.{stored_key, stored_where};
     ghost use Rattle.ordered_multimap.specs.Pairs.{values_of, values_where};
 
-    /// Takes the key out with all its values, and hands these out one by one. The pairs leave at
-    /// the call, whatever becomes of the drain, and the stored key is dropped. The drain of an
-    /// absent key is empty. The other keys and pairs keep their order.
+    /// Takes the key out with all its values, and returns a drain that hands the values out one by
+    /// one. The pairs leave at the call, whatever happens to the drain, and the stored key is
+    /// dropped. The drain of an absent key is empty. The other keys and pairs keep their order.
     ///
-    /// One look-up, then the slots of the key and those of its values; and each step of the drain
-    /// reads the slot of the value that it gives. No memory is taken and none is given back.
+    /// One look-up, then the slots of the key and of its values; each step of the drain reads one
+    /// slot. No memory is taken or given back.
     ///
     /// ```
     /// map.remove_all("line").next_back() == Some(2)
@@ -85,9 +85,10 @@ impl<K: Eq + Hash, V: Drop, S: BuildHasher, A: Allocator> ListOrderedMultimap<K,
         EntryValuesDrain { map: self }
     }
 
-    /// Takes the key out as [`remove_all`](Self::remove_all) does, and returns the stored key before
-    /// the drain. None for an absent key, and the map keeps all that it has. A caller whose proof has
-    /// to know the map afterwards takes [`remove_entry_with_all`](Self::remove_entry_with_all).
+    /// Takes the key out as [`remove_all`](Self::remove_all) does, and returns the stored key with
+    /// the drain. For an absent key it returns None, and the map stays as it was. A caller whose
+    /// proof has to know the map afterwards takes
+    /// [`remove_entry_with_all`](Self::remove_entry_with_all).
     ///
     /// ```
     /// map.remove_entry_all(&"none").is_none()
@@ -131,10 +132,10 @@ impl<K: Eq + Hash, V: Drop, S: BuildHasher, A: Allocator + Copy> ListOrderedMult
     /// one; none where the key was absent. A present key stays as it was stored, and keeps its
     /// place among the keys; the one handed in is dropped.
     ///
-    /// The pair is put last before the old ones leave, so that a present key wants room for a value
-    /// too. Where memory is refused, it hands back the pair, and both lists are as before. One
-    /// look-up; then the slots of the key, of its values and of the new one, and now and then a
-    /// compaction or a growth, as for `append`.
+    /// The pair is put last before the old ones leave, so a present key needs room for a value too.
+    /// If memory is refused, it hands the pair back, and both lists are as before. One look-up;
+    /// then the slots of the key, of its values and of the new one, and now and then a compaction
+    /// or a growth, as for `append`.
     ///
     /// ```
     /// map.insert_all("line", 3)?.next_back() == Some(2)

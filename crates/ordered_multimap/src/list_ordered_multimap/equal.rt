@@ -16,7 +16,7 @@ fn is_same<K: PartialEq, V: PartialEq>(key: &K, other_key: &K, value: &V, other_
     key == other_key && value == other_value
 }
 
-/// Whether two walks have as many pairs left, and equal ones at each position.
+/// Whether two walks have the same number of pairs left, and equal pairs at each position.
 fn are_same<K: PartialEq, V: PartialEq, A: Allocator>(
     left: Iter<'_, K, V, A>,
     mut right: Iter<'_, K, V, A>,
@@ -36,8 +36,8 @@ fn are_same<K: PartialEq, V: PartialEq, A: Allocator>(
     right.next().is_none()
 }
 
-/// Two maps are equal if they have as many pairs, and equal keys and equal values at each position.
-/// The order of their keys may differ. The lengths are compared first.
+/// Two maps are equal if they have the same number of pairs, with equal keys and equal values at
+/// each position. The order of their keys may differ. The lengths are compared first.
 ///
 /// ```
 /// map == map.clone()?

@@ -15,13 +15,13 @@ impl<K: Eq + Hash + Drop, V: Drop, S: BuildHasher, A: Allocator + Copy> ListOrde
     S,
     A,
 > {
-    /// Appends each pair in turn. `iter` has to end. Where there is room for as many more keys and
-    /// as many more values as there are pairs, it succeeds for sure.
+    /// Appends each pair in turn. `iter` has to end. If there is room for a key and a value for
+    /// each pair, it succeeds.
     ///
-    /// It asks for room for as many values as the iterator says that it has at least; that this is
-    /// refused is no refusal of the call. Where memory is refused for a pair, it hands that pair
-    /// back; those before it stay. A caller who hands in `&mut iter` keeps those behind it.
-    /// It costs what `append` costs for each pair.
+    /// It first asks for room for as many values as the iterator says that it has at least, and
+    /// goes on if this is refused. If memory is refused for a pair, it hands that pair back, and
+    /// the pairs before it stay. A caller who passes `&mut iter` keeps the pairs behind it. Each
+    /// pair costs what `append` costs.
     ///
     /// ```
     /// map.extend(pairs)?;
@@ -47,7 +47,7 @@ impl<K: Eq + Hash + Drop, V: Drop, S: BuildHasher, A: Allocator + Copy> ListOrde
         Ok(())
     }
 
-    /// Appends a copy of each pair in turn, as `extend` does, and succeeds for sure where it does.
+    /// Appends a copy of each pair in turn. Room and refusals are as for `extend`.
     ///
     /// ```
     /// map.extend_copied(other.iter())?;

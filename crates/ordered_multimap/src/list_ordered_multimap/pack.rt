@@ -168,8 +168,8 @@ impl<K: Eq + Hash, V, S: BuildHasher, A: Allocator + Copy> ListOrderedMultimap<K
         Ok(())
     }
 
-    /// Packs the map as [`pack_to`](Self::pack_to) does, with room for at least the keys and values
-    /// that it has. It costs what `pack_to` costs, and a refusal leaves the map as it was.
+    /// Packs the map as [`pack_to`](Self::pack_to) does, with room for at least its keys and
+    /// values. The cost and the refusal are those of `pack_to`.
     ///
     /// ```
     /// map.pack_to_fit()?;

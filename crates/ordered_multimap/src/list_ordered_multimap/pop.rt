@@ -120,8 +120,8 @@ impl<K: Eq + Hash, V, S: BuildHasher, A: Allocator> ListOrderedMultimap<K, V, S,
     }
 
     /// Takes the last pair out, as [`pop_front`](Self::pop_front) takes the first one. It reads and
-    /// writes the slots of the value, of its key and of the value before it among those of that
-    /// key. A caller whose proof has to know the map afterwards takes
+    /// writes the slots of the value, of its key and of the value before it under that key. A
+    /// caller whose proof has to know the map afterwards takes
     /// [`pop_back_with`](Self::pop_back_with).
     ///
     /// ```

@@ -53,7 +53,7 @@ impl<K: Drop, V: Drop> From<Refused<K, V>> for io::Error {
     }
 }
 
-/// Want of memory, with the value that was to be stored under a key that is there.
+/// Out of memory, with the value that was to be stored under a present key.
 ///
 /// By `?` it becomes an [`AllocError`] or an [`io::Error`], which lets the value go. An error type
 /// of your own that has a `From<AllocError>` takes it by `map_err(AllocError::from)?`.

@@ -27,8 +27,8 @@ impl<K: Eq + Hash, V, S: BuildHasher, A: Allocator> ListOrderedMultimap<K, V, S,
     /// dropped, and so is the stored key. None for an absent key. The other keys and pairs keep
     /// their order.
     ///
-    /// One look-up, then the slot of the key and those of its values. No memory is taken and none
-    /// is given back: the slots are left for others.
+    /// One look-up, then the slots of the key and of its values. No memory is taken or given back:
+    /// the slots are free for other pairs.
     ///
     /// ```
     /// map.remove("line") == Some(1)

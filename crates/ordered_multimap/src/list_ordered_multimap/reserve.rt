@@ -9,12 +9,12 @@ use std::alloc::{AllocError, Allocator};
 use std::hash::{BuildHasher, Hash};
 
 impl<K: Eq + Hash, V, S: BuildHasher, A: Allocator + Copy> ListOrderedMultimap<K, V, S, A> {
-    /// Makes room for at least `additional` more keys, in the list of keys and in the table. Where
-    /// there is room for as many, no memory is taken.
+    /// Makes room for at least `additional` more keys, in the list of keys and in the table. If
+    /// they fit already, it takes no memory.
     ///
     /// It is refused when out of memory, or for a number of keys past the greatest `usize`. Both
-    /// lists are as before. A growth costs the slots of the keys and the rows, which are moved, and
-    /// leaves at least twice the room that there was.
+    /// lists are then as before. A growth moves the slots of the keys and the rows, and at least
+    /// doubles the room.
     ///
     /// ```
     /// map.reserve_keys(10)?;
@@ -35,12 +35,12 @@ impl<K: Eq + Hash, V, S: BuildHasher, A: Allocator + Copy> ListOrderedMultimap<K
         make_key_room(&mut self.keys, &mut self.table, additional)
     }
 
-    /// Makes room for at least `additional` more values: two slots for each, with those that are
-    /// there. Where there is room for as many, no memory is taken.
+    /// Makes room for at least `additional` more values: two slots for each value, old or new. If
+    /// they fit already, it takes no memory.
     ///
     /// It is refused when out of memory, or for a number of slots past the greatest `usize`. Both
-    /// lists are as before. A growth costs the slots of the values, which are moved, and leaves at
-    /// least twice the room that there was.
+    /// lists are then as before. A growth moves the slots of the values, and at least doubles the
+    /// room.
     ///
     /// ```
     /// map.reserve_values(10)?;

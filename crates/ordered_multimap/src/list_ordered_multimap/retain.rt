@@ -97,8 +97,7 @@ impl<K: Eq + Hash, V, S: BuildHasher, A: Allocator> ListOrderedMultimap<K, V, S,
     /// its last pair. What stays keeps its order.
     ///
     /// It takes no memory and gives none back. For each pair it reads the slots of its value and of
-    /// its key, and for each that goes it writes those of its neighbours among the values of its
-    /// key.
+    /// its key; for each pair that goes it writes the slots of its neighbours under that key.
     ///
     /// ```
     /// map.retain(|_key, value| *value != 8);

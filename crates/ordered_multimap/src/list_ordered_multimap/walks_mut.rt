@@ -19,9 +19,9 @@ use std::alloc::Allocator;
 use std::hash::{BuildHasher, Hash};
 
 impl<K: Eq + Hash, V, S: BuildHasher, A: Allocator> ListOrderedMultimap<K, V, S, A> {
-    /// A walk over all pairs, in order, with each value for writing. Keys, their order, and the order
-    /// and number of pairs stay; a value that isn't handed out stays too. Each step takes the slot of
-    /// its value and reads that of its key.
+    /// A walk over all pairs, in order, with each value for writing. Keys, their order, and the
+    /// order and number of pairs stay; a value that isn't handed out stays too. Each step takes the
+    /// slot of a value and reads the slot of its key.
     ///
     /// ```
     /// if let Some((_, value)) = map.iter_mut().next_back() {

@@ -45,8 +45,8 @@ impl<'map, K, V, A: Allocator> IterMut<'map, K, V, A> {
         }
     }
 
-    /// Ends the walk, and keeps the right to write the values that it has not given. `Cells::end` of
-    /// it tells what all values end as.
+    /// Ends the walk, and keeps the right to write the values that it has not given. Its
+    /// `Cells::end` tells what all values end as.
     pub fn into_cells(self) -> Cells<'map, V>
         ensures { result ≡ iter_mut_cells self.entry }
     {

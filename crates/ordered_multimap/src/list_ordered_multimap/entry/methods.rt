@@ -150,7 +150,7 @@ impl<'map, K: Eq + Hash, V: Drop, S: BuildHasher, A: Allocator + Copy> Entry<'ma
     {
         match self {
             Entry::Occupied(entry) => {
-                // Made anew, so that the proof follows the map into the result.
+                // Taken apart and put together, so that the proof follows the map into the result.
                 let OccupiedEntry { map, place } = entry;
                 Ok(OccupiedEntry { map, place })
             }

@@ -96,8 +96,7 @@ impl<'map, K: Eq + Hash, V, S: BuildHasher, A: Allocator> OccupiedEntry<'map, K,
         map.first_mut_at(self.place)
     }
 
-    /// A walk over the key's values, as that of
-    /// [`get_all`](crate::ListOrderedMultimap::get_all).
+    /// A walk over the key's values, as by [`get_all`](crate::ListOrderedMultimap::get_all).
     ///
     /// ```
     /// entry.iter().next_back() == Some(&2)
@@ -112,7 +111,7 @@ impl<'map, K: Eq + Hash, V, S: BuildHasher, A: Allocator> OccupiedEntry<'map, K,
         self.map.values_at(self.place)
     }
 
-    /// A walk over the key's values, each for writing, as that of
+    /// A walk over the key's values, each for writing, as by
     /// [`get_all_mut`](crate::ListOrderedMultimap::get_all_mut).
     ///
     /// ```

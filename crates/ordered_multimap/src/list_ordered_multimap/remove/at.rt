@@ -47,7 +47,7 @@ fn place_at<K, V, A: Allocator>(
     found
 }
 
-/// Takes the value at an index in the chain of the key at the place out, where the key has others.
+/// Takes out the value at an index in the chain of the key at the place, if the key has others.
 fn take_at<K, V, A: Allocator>(
     keys: &mut SlotList<K, KeyLink, A>,
     values: &mut Tape<V, ValueLink, A>,
@@ -69,7 +69,7 @@ fn take_at<K, V, A: Allocator>(
 }
 
 impl<K: Eq + Hash, V, S: BuildHasher, A: Allocator> ListOrderedMultimap<K, V, S, A> {
-    /// Takes the value at an index among those of the key at the place out, where the key has
+    /// Takes out the value at an index among the values of the key at the place, if the key has
     /// others.
     pub(crate) fn take_value_at(&mut self, place: usize, index: usize) -> Option<V>
         requires { IsIn place self.old.slots.keys.order }

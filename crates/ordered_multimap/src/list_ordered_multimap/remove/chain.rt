@@ -69,8 +69,8 @@ pub(crate) fn take_key<K, A: Allocator>(
     key
 }
 
-/// Takes the key at the place out, and lets all its values leave. No link is mended, since those of
-/// a chain name each other alone.
+/// Takes the key at the place out, and lets all its values leave. No link is mended, since the
+/// links of a chain name only each other.
 #[inline(always)]
 pub(crate) fn leave_entry<K, V, W: Leaving<V>, A: Allocator>(
     keys: &mut SlotList<K, KeyLink, A>,

@@ -37,8 +37,10 @@ returns-clause-stays g c =
     subst (λ m. KeepsPlace g.K.PartialEq.eq m (map_of n.keys c.self.inside.table.capacity n.values c.self.inside.state c.self.inside.left)
     c.args.place) c.self.view_is
     (record {
-      listed = (behind_stays (g.K.PartialEq.eq own.0) c.args.place _ _ _ _ c.args.value c.args.place own.1 c.append_behind.result e.ok e.unchanged).listed;
-      stays = λ k has. behind_stays (g.K.PartialEq.eq k) c.args.place _ _ _ _ c.args.value c.args.place has c.append_behind.result e.ok e.unchanged;
+      listed = (behind_stays (g.K.PartialEq.eq own.0) c.args.place _ _ _ _ c.args.value c.args.place own.1 c.append_behind.result e.ok
+          e.unchanged).listed;
+      stays = λ k has. behind_stays (g.K.PartialEq.eq k) c.args.place _ _ _ _ c.args.value c.args.place has c.append_behind.result e.ok
+          e.unchanged;
     })
 
 pub returns-clause-ok : goal.returns-clause-ok

@@ -29,7 +29,11 @@ returns-clause-stays g c =
     (subst (λ m. IsIn c.args.place m.slots.keys.order) (sym c.self.view_is) c.requires) in
     subst (λ m. StaysInRoom g.K.PartialEq.eq m (map_of n.keys i.table.capacity n.values i.state i.left) c.args.place) c.self.view_is
     (record {
-      place_stays = record { listed = (stays (g.K.PartialEq.eq own.0) c.args.place own.1).listed; stays = λ k has. stays (g.K.PartialEq.eq k) c.args.place has };
+      place_stays = record {
+        listed = (stays (g.K.PartialEq.eq own.0) c.args.place own.1).listed;
+        stays = λ k has. stays
+            (g.K.PartialEq.eq k) c.args.place has;
+      };
       rooms = same_rooms i.keys n.keys i.table.capacity i.table.capacity i.values n.values i.state i.left i.left
           (capacities-at i.keys n.keys c.args.place c.args.index i.values n.values c.take_at.result c.take_at.ensures.taken) refl;
     })

@@ -11,4 +11,13 @@ pub returns-in-Err : goal.returns-in-Err
 returns-in-Err g c =
     let e = c.in-Err.ensures in
     let r = e.extends in
-    record { ran = (r.0, r.1, r.2, appends_all r.3 e.grows.grows, Yields-before g.I.IntoIter.Iterator.next_gives r.0 r.1 r.4.0 r.4.1 r.4.2) }
+    record {
+      ran = (
+        r.0,
+        r.1,
+        r.2,
+        appends_all r.3 e.grows.grows,
+        Yields-before g.I.IntoIter.Iterator.next_gives r.0 r.1 r.4.0 r.4.1
+            r.4.2,
+      );
+    }
