@@ -1,4 +1,5 @@
 pub mod Callers
+pub mod Ends
 pub mod Insertions
 pub mod Loans
 pub mod Removals

@@ -1,7 +1,11 @@
--- Calls of a function that is lent a pair for reading.
-use Rattle.std.specs.Prelude.{◌≡◌, Bool}
+-- Calls of a function that is lent a pair for reading, or handed what a pop gives.
+use Rattle.std.specs.Prelude.{◌≡◌, Bool, List, Option, option_map}
 use Rattle.std.specs.Borrow.{Bor}
-use Rattle.std.specs.Fn.{Called, Mut}
+use Rattle.std.specs.Fn.{Called, Mut, Once}
+use Rattle.ordered_multimap.specs.End.{End}
+use Rattle.ordered_multimap.specs.PopAnswers.{popped_of}
+use Rattle.ordered_multimap.specs.Popped.{popped_pair}
+use Rattle.ordered_multimap.specs.declared.list_ordered_multimap.key_wrapper.KeyWrapper.{KeyWrapper}
 
 module _ {F K V : Type 0} (g : Mut F (Bor K × (Bor V × Unit {0})) Bool) where
   -- a call of f at a `&` to k and one to v may return b, and leave f as next
@@ -15,3 +19,19 @@ module _ {F K V : Type 0} (g : Mut F (Bor K × (Bor V × Unit {0})) Bool) where
   -- call, is v
   abbrev pub AsksOnPair : F → K → V → Bool → V → F → Type 0
   AsksOnPair f k v b w next = AskedOnPair f k v b next × (w ≡ v)
+
+-- a pop at the end gives this
+abbrev pub GivesPopped : {K V : Type 0} → (K → K → Bool) → End → List (K × V)
+    → Option (KeyWrapper K × V) → Type 0
+GivesPopped eq end pairs x = option_map popped_of x ≡ popped_pair eq end pairs
+
+module _ {F K V R : Type 0} (g : Once F (Option (KeyWrapper K × V) × Unit {0}) R)
+    (eq : K → K → Bool) (end : End) (pairs : List (K × V)) where
+  -- f may be called on whatever a pop at the end gives
+  abbrev pub TakesPopped : F → Type 0
+  TakesPopped f = (x : Option (KeyWrapper K × V)) → GivesPopped eq end pairs x → g.pre f (x, tt)
+
+  -- f was called on what a pop at the end gives, and returned r
+  abbrev pub AnswersPopped : F → R → Type 0
+  AnswersPopped f r =
+      (x : Option (KeyWrapper K × V)) × GivesPopped eq end pairs x × g.post f (x, tt) r

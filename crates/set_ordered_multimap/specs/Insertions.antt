@@ -1,6 +1,6 @@
 -- What a call makes of a set that inserts the pairs of an iterator.
 use Rattle.std.specs.Prelude.{◌≡◌, Bool, List, [], ◌∷◌, ◌++◌, Option, Result, MatchResult}
-use Rattle.std.specs.Iterator.{Drains, Yields}
+use Rattle.std.specs.Iterator.{Count, Drains, IsFinite, Yields}
 use Rattle.ordered_multimap.specs.Changes.{built_from}
 use Rattle.ordered_multimap.specs.Lists.{Lists}
 use Rattle.ordered_multimap.specs.Multimap.{Multimap}
@@ -8,6 +8,12 @@ use Rattle.ordered_multimap.specs.Rooms.{KeepsRooms}
 use Rattle.ordered_multimap.specs.TapeNumbers.{TakesOut}
 use Rattle.ordered_multimap.specs.declared.list_ordered_multimap.refused.Refused.{Refused}
 use Rattle.set_ordered_multimap.specs.Set.{all_inserted, first_pairs}
+
+-- what comes of an iterator may be asked for an item, and ends
+abbrev pub ComesToAnEnd : {I T : Type 0} → (I → T → Type 0) → (T → Type 0) → (T → Count) → I
+    → Type 0
+ComesToAnEnd {T = T} becomes can_next left iter =
+    (it : T) → becomes iter it → can_next it × IsFinite (left it)
 
 module _ {K V : Type 0} (eq : K → K → Bool) (value_eq : V → V → Bool) {I T : Type 0}
     (becomes : I → T → Type 0) (steps : T → Option (K × V) → T → Type 0) where

@@ -1,8 +1,7 @@
 //! The set: its field, what contracts see of it, constructors and lengths.
-ghost use Rattle.std.specs.Prelude.{◌≡◌, ◌≤◌, ◌↔◌, [], length, IsTrue};
-ghost use Rattle.ordered_multimap.specs.Lists.{IsWellFormed};
-ghost use Rattle.ordered_multimap.specs.Rooms.{IsNewMap};
-ghost use Rattle.set_ordered_multimap.specs.Set.{IsSet};
+ghost use Rattle.std.specs.Prelude.{◌≡◌, length};
+ghost use Rattle.set_ordered_multimap.specs.SetChanges.{IsNewSet, IsNewSetWith};
+ghost use Rattle.set_ordered_multimap.specs.SetReads.{TellsEmpty, TellsKeys, TellsRoom};
 
 mod insert;
 mod lookup;
@@ -67,8 +66,7 @@ impl<K: Eq + Hash, V: Eq, A: Allocator + Copy> SetOrderedMultimap<K, V, DefaultS
     /// SetOrderedMultimap::new(alloc)
     /// ```
     pub fn new(alloc: A) -> Self
-        ensures new { IsNewMap result }
-        ensures set { IsSet K.eq V.eq result.lists }
+        ensures new { IsNewSet K.eq V.eq result }
     {
         SetOrderedMultimap::with_hasher(alloc, BuildHasherDefault::new())
     }
@@ -81,9 +79,7 @@ impl<K: Eq + Hash, V: Eq, S: BuildHasher, A: Allocator + Copy> SetOrderedMultima
     /// SetOrderedMultimap::with_hasher(alloc, DefaultState::new())
     /// ```
     pub fn with_hasher(alloc: A, state: S) -> Self
-        ensures new { IsNewMap result }
-        ensures hasher { result.hasher ≡ state }
-        ensures set { IsSet K.eq V.eq result.lists }
+        ensures new { IsNewSetWith K.eq V.eq state result }
     {
         SetOrderedMultimap {
             map: ListOrderedMultimap::with_hasher(alloc, state),
@@ -109,8 +105,7 @@ impl<K: Eq + Hash, V, S: BuildHasher, A: Allocator> SetOrderedMultimap<K, V, S, 
     /// set.keys_len() == 2
     /// ```
     pub fn keys_len(&self) -> usize
-        ensures len { result ≡ length self.now.lists.keys }
-        ensures well_formed { IsWellFormed K.eq self.now.lists }
+        ensures keys { TellsKeys K.eq self.now.lists result }
     {
         self.map.keys_len()
     }
@@ -132,8 +127,7 @@ impl<K: Eq + Hash, V, S: BuildHasher, A: Allocator> SetOrderedMultimap<K, V, S, 
     /// !set.is_empty()
     /// ```
     pub fn is_empty(&self) -> bool
-        ensures empty { IsTrue result ↔ (self.now.lists.pairs ≡ []) }
-        ensures well_formed { IsWellFormed K.eq self.now.lists }
+        ensures empty { TellsEmpty K.eq self.now.lists result }
     {
         self.map.is_empty()
     }
@@ -144,8 +138,7 @@ impl<K: Eq + Hash, V, S: BuildHasher, A: Allocator> SetOrderedMultimap<K, V, S, 
     /// set.keys_capacity() >= set.keys_len()
     /// ```
     pub fn keys_capacity(&self) -> usize
-        ensures capacity { result ≡ self.now.key_room }
-        ensures fits { length self.now.lists.keys ≤ self.now.key_room }
+        ensures room { TellsRoom self.now.key_room (length self.now.lists.keys) result }
     {
         self.map.keys_capacity()
     }
@@ -156,8 +149,7 @@ impl<K: Eq + Hash, V, S: BuildHasher, A: Allocator> SetOrderedMultimap<K, V, S, 
     /// set.values_capacity() >= set.values_len()
     /// ```
     pub fn values_capacity(&self) -> usize
-        ensures capacity { result ≡ self.now.value_room }
-        ensures fits { length self.now.lists.pairs ≤ self.now.value_room }
+        ensures room { TellsRoom self.now.value_room (length self.now.lists.pairs) result }
     {
         self.map.values_capacity()
     }

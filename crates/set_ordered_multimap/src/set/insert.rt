@@ -1,11 +1,9 @@
 //! Pairs that come last, where no equal one is there.
 ghost use Rattle.std.specs.Prelude.{◌≡◌, not, true, false, IfErr, IfOk, IsOk, OnOk};
-ghost use Rattle.std.specs.Iterator.{IsFinite};
 ghost use Rattle.ordered_multimap.specs.Additions.{Appends, IsRefused};
 ghost use Rattle.ordered_multimap.specs.Extends.{HasRoomForGiven, IsItem};
 ghost use Rattle.ordered_multimap.specs.Rooms.{HasPairRoom};
-ghost use Rattle.ordered_multimap.specs.TapeNumbers.{AreUnused};
-ghost use Rattle.set_ordered_multimap.specs.Insertions.{InsertsAll, IsSetOf, KeepsAll};
+ghost use Rattle.set_ordered_multimap.specs.Insertions.{ComesToAnEnd, InsertsAll, IsSetOf, KeepsAll};
 ghost use Rattle.set_ordered_multimap.specs.Set.{IsSet, has_pair, set_inserted};
 
 use super::SetOrderedMultimap;
@@ -66,8 +64,7 @@ impl<K: Eq + Hash + Drop, V: Eq + Drop, S: BuildHasher, A: Allocator + Copy> Set
     /// set.extend(pairs)?;
     /// ```
     pub fn extend<I: IntoIterator<Item = (K, V)>>(&mut self, iter: I) -> Result<(), Refused<K, V>>
-        requires { (it : I.IntoIter) → I.into_iter_gives iter it
-            → I.IntoIter.can_next it × IsFinite (I.IntoIter.remaining it) }
+        requires { ComesToAnEnd I.into_iter_gives I.IntoIter.can_next I.IntoIter.remaining iter }
         ensures inserts { InsertsAll K.eq V.eq I.into_iter_gives I.IntoIter.next_gives iter
             self.old.lists self.new.lists result }
         ensures set { IsSet K.eq V.eq self.old.lists → IsSet K.eq V.eq self.new.lists }
@@ -97,8 +94,7 @@ impl<K: Eq + Hash + Drop, V: Eq + Drop, S: BuildHasher, A: Allocator + Copy> Set
     ) -> Result<Self, Refused<K, V>>
     where
         S: Drop,
-        requires { (it : I.IntoIter) → I.into_iter_gives iter it
-            → I.IntoIter.can_next it × IsFinite (I.IntoIter.remaining it) }
+        requires { ComesToAnEnd I.into_iter_gives I.IntoIter.can_next I.IntoIter.remaining iter }
         ensures built { IfOk result (λ s.
             IsSetOf K.eq V.eq I.into_iter_gives I.IntoIter.next_gives iter s.lists) }
         ensures set { IfOk result (λ s. IsSet K.eq V.eq s.lists) }

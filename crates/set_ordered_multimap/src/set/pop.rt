@@ -1,10 +1,8 @@
 //! Pairs that leave at an end of the set.
-ghost use Rattle.std.specs.Prelude.{◌≡◌, option_map};
 ghost use Rattle.std.specs.Borrow.{sem};
 ghost use Rattle.ordered_multimap.specs.End.TheVariants.{Front, Back};
-ghost use Rattle.ordered_multimap.specs.PopAnswers.{IsPopped, popped_of};
-ghost use Rattle.ordered_multimap.specs.Popped.{popped_pair};
-ghost use Rattle.set_ordered_multimap.specs.Set.{IsSet};
+ghost use Rattle.set_ordered_multimap.specs.Asked.{AnswersPopped, GivesPopped, TakesPopped};
+ghost use Rattle.set_ordered_multimap.specs.SetChanges.{LosesEnd};
 ghost use Rattle.set_ordered_multimap.specs.SetLends.{ends_set_popped};
 
 use super::SetOrderedMultimap;
@@ -26,7 +24,7 @@ impl<K: Eq + Hash, V, S: BuildHasher, A: Allocator> SetOrderedMultimap<K, V, S, 
     pub fn pop_front(&mut self) -> Option<(KeyWrapper<'_, K>, V)>
         ensures* ends { sem 𝓛 (ends_set_popped K.row V.row S.row A.row S.Hasher.row K.Hash
             S.BuildHasher S.Hasher.Hasher A.Allocator Front self.entry) }
-        ensures popped { option_map popped_of result ≡ popped_pair K.eq Front self.old.lists.pairs }
+        ensures popped { GivesPopped K.eq Front self.old.lists.pairs result }
     {
         let map = self.lend();
         map.pop_front()
@@ -42,7 +40,7 @@ impl<K: Eq + Hash, V, S: BuildHasher, A: Allocator> SetOrderedMultimap<K, V, S, 
     pub fn pop_back(&mut self) -> Option<(KeyWrapper<'_, K>, V)>
         ensures* ends { sem 𝓛 (ends_set_popped K.row V.row S.row A.row S.Hasher.row K.Hash
             S.BuildHasher S.Hasher.Hasher A.Allocator Back self.entry) }
-        ensures popped { option_map popped_of result ≡ popped_pair K.eq Back self.old.lists.pairs }
+        ensures popped { GivesPopped K.eq Back self.old.lists.pairs result }
     {
         let map = self.lend();
         map.pop_back()
@@ -58,13 +56,9 @@ impl<K: Eq + Hash, V: Eq, S: BuildHasher, A: Allocator> SetOrderedMultimap<K, V,
     /// set.pop_front_with(|popped| popped.is_some())
     /// ```
     pub fn pop_front_with<R, F: FnOnce(Option<(KeyWrapper<'_, K>, V)>) -> R>(&mut self, f: F) -> R
-        requires { (x : _) → option_map popped_of x ≡ popped_pair K.eq Front self.old.lists.pairs
-            → F.pre f x }
-        ensures popped { IsPopped K.eq Front self.old self.new }
-        ensures set { IsSet K.eq V.eq self.old.lists → IsSet K.eq V.eq self.new.lists }
-        ensures result { (x : _)
-            × (option_map popped_of x ≡ popped_pair K.eq Front self.old.lists.pairs)
-            × F.post f x result }
+        requires { TakesPopped F.FnOnce K.eq Front self.old.lists.pairs f }
+        ensures popped { LosesEnd K.eq V.eq self.old self.new Front }
+        ensures result { AnswersPopped F.FnOnce K.eq Front self.old.lists.pairs f result }
     {
         self.map.pop_front_with(f)
     }
@@ -77,13 +71,9 @@ impl<K: Eq + Hash, V: Eq, S: BuildHasher, A: Allocator> SetOrderedMultimap<K, V,
     /// set.pop_back_with(|popped| popped.is_none())
     /// ```
     pub fn pop_back_with<R, F: FnOnce(Option<(KeyWrapper<'_, K>, V)>) -> R>(&mut self, f: F) -> R
-        requires { (x : _) → option_map popped_of x ≡ popped_pair K.eq Back self.old.lists.pairs
-            → F.pre f x }
-        ensures popped { IsPopped K.eq Back self.old self.new }
-        ensures set { IsSet K.eq V.eq self.old.lists → IsSet K.eq V.eq self.new.lists }
-        ensures result { (x : _)
-            × (option_map popped_of x ≡ popped_pair K.eq Back self.old.lists.pairs)
-            × F.post f x result }
+        requires { TakesPopped F.FnOnce K.eq Back self.old.lists.pairs f }
+        ensures popped { LosesEnd K.eq V.eq self.old self.new Back }
+        ensures result { AnswersPopped F.FnOnce K.eq Back self.old.lists.pairs f result }
     {
         self.map.pop_back_with(f)
     }

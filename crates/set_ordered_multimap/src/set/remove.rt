@@ -4,12 +4,12 @@ ghost use Rattle.std.specs.Borrow.{sem};
 ghost use Rattle.std.specs.List.{FoldsTo};
 ghost use Rattle.ordered_multimap.specs.Changes.{kept};
 ghost use Rattle.ordered_multimap.specs.Drains.{DrainsEntry};
-ghost use Rattle.ordered_multimap.specs.Lists.{empty_lists};
 ghost use Rattle.ordered_multimap.specs.Pairs.{values_of};
 ghost use Rattle.ordered_multimap.specs.Removals.{IsRemoved};
-ghost use Rattle.ordered_multimap.specs.Rooms.{KeepsRooms, SameRooms};
+ghost use Rattle.ordered_multimap.specs.Rooms.{SameRooms};
 ghost use Rattle.ordered_multimap.specs.TapeNumbers.{TakesOut};
-ghost use Rattle.set_ordered_multimap.specs.Set.{IsSet, has_pair, pairs_but, value_removed};
+ghost use Rattle.set_ordered_multimap.specs.Set.{IsSet, has_pair, pairs_but};
+ghost use Rattle.set_ordered_multimap.specs.SetChanges.{IsCleared, LosesKey, LosesValue};
 ghost use Rattle.set_ordered_multimap.specs.SetLends.{ends_as_map, lends_map};
 
 use super::SetOrderedMultimap;
@@ -80,9 +80,7 @@ impl<K: Eq + Hash, V: Eq, S: BuildHasher, A: Allocator> SetOrderedMultimap<K, V,
         K: Drop,
         V: Drop,
         ensures there { result ≡ has_pair K.eq V.eq self.old.lists.pairs key.now value.now }
-        ensures lists { self.new.lists
-            ≡ value_removed K.eq V.eq self.old.lists key.now value.now }
-        ensures set { IsSet K.eq V.eq self.old.lists → IsSet K.eq V.eq self.new.lists }
+        ensures loses { LosesValue K.eq V.eq self.old self.new key.now value.now }
 
         // The one equal pair of a set goes, and nothing changes where there is none.
         ensures one { IsSet K.eq V.eq self.old.lists → length self.old.lists.pairs
@@ -90,7 +88,6 @@ impl<K: Eq + Hash, V: Eq, S: BuildHasher, A: Allocator> SetOrderedMultimap<K, V,
         ensures taken { IsSet K.eq V.eq self.old.lists
             → TakesOut (cond result 1 0) self.old.tape self.new.tape }
         ensures unchanged { result ≡ false → self.new ≡ self.old }
-        ensures rooms { SameRooms self.old self.new }
     {
         if !self.contains(key, value) {
             return false;
@@ -108,12 +105,7 @@ impl<K: Eq + Hash, V: Eq, S: BuildHasher, A: Allocator> SetOrderedMultimap<K, V,
     where
         K: Drop,
         V: Drop,
-        ensures lists { self.new.lists ≡ empty_lists }
-        ensures set { IsSet K.eq V.eq self.new.lists }
-        ensures rooms { KeepsRooms self.old self.new }
-        ensures slots { self.new.tape.slots ≡ self.old.tape.slots }
-        ensures taken { TakesOut (length self.old.lists.pairs) self.old.tape self.new.tape }
-        ensures holes { self.new.tape.holes ≡ 0 }
+        ensures cleared { IsCleared K.eq V.eq self.old self.new }
     {
         self.map.clear();
     }
@@ -165,8 +157,7 @@ impl<K: Eq + Hash, V: Eq + Drop, S: BuildHasher, A: Allocator> SetOrderedMultima
         requires { F.IsAlwaysCallable f }
         ensures called { (last : F) × FoldsTo (λ g v h. F.step g v tt h) f
             (values_of K.eq self.old.lists.pairs key.now) last }
-        ensures removed { IsRemoved K.eq self.old self.new key.now }
-        ensures set { IsSet K.eq V.eq self.old.lists → IsSet K.eq V.eq self.new.lists }
+        ensures removed { LosesKey K.eq V.eq self.old self.new key.now }
     {
         hand_out(&mut self.map, key, f);
     }

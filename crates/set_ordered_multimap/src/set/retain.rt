@@ -1,11 +1,8 @@
 //! One pass over all pairs that keeps those for which a function returns true.
-ghost use Rattle.std.specs.Prelude.{◌≡◌, ◌≤◌, ◌-◌, Bool, length};
-ghost use Rattle.ordered_multimap.specs.Keys.{keys_named_by};
+ghost use Rattle.std.specs.Prelude.{◌≡◌, Bool};
 ghost use Rattle.ordered_multimap.specs.Retain.{Retains};
-ghost use Rattle.ordered_multimap.specs.Rooms.{SameRooms};
-ghost use Rattle.ordered_multimap.specs.TapeNumbers.{TakesOut};
 ghost use Rattle.set_ordered_multimap.specs.Asked.{AskedOnPair, AsksOnPair};
-ghost use Rattle.set_ordered_multimap.specs.Set.{IsSet};
+ghost use Rattle.set_ordered_multimap.specs.SetChanges.{LosesPairs};
 
 use super::SetOrderedMultimap;
 use std::alloc::Allocator;
@@ -60,12 +57,7 @@ impl<K: Eq + Hash, V: Eq, S: BuildHasher, A: Allocator> SetOrderedMultimap<K, V,
         ensures retained { (last : P)
             × Retains (λ p k v b w q. P.gives p k v b q × (w ≡ v)) keep
             self.old.lists.pairs self.new.lists.pairs last }
-        ensures keys { self.new.lists.keys
-            ≡ keys_named_by K.eq self.old.lists.keys self.new.lists.pairs }
-        ensures rooms { SameRooms self.old self.new }
-        ensures taken { TakesOut (length self.old.lists.pairs - length self.new.lists.pairs)
-            self.old.tape self.new.tape }
-        ensures fewer { length self.new.lists.pairs ≤ length self.old.lists.pairs }
+        ensures loses { LosesPairs K.eq V.eq self.old self.new }
     {
         self.map.retain(
             move |key: &K, value: &mut V| -> bool
@@ -91,13 +83,7 @@ impl<K: Eq + Hash, V: Eq, S: BuildHasher, A: Allocator> SetOrderedMultimap<K, V,
         requires { F.IsAlwaysCallable f }
         ensures retained { (last : F) × Retains (AsksOnPair F.FnMut) f
             self.old.lists.pairs self.new.lists.pairs last }
-        ensures keys { self.new.lists.keys
-            ≡ keys_named_by K.eq self.old.lists.keys self.new.lists.pairs }
-        ensures set { IsSet K.eq V.eq self.old.lists → IsSet K.eq V.eq self.new.lists }
-        ensures rooms { SameRooms self.old self.new }
-        ensures taken { TakesOut (length self.old.lists.pairs - length self.new.lists.pairs)
-            self.old.tape self.new.tape }
-        ensures fewer { length self.new.lists.pairs ≤ length self.old.lists.pairs }
+        ensures loses { LosesPairs K.eq V.eq self.old self.new }
     {
         self.retain_by(KeepBy { keep: f });
     }

@@ -1,12 +1,10 @@
 //! Calls on the set as a whole: equality, clones, its text, and the walk that takes it apart.
 ghost use Rattle.std.specs.Cmp.{and_equiv, and_per, on_equiv, on_per, partial_equiv_from_equiv};
 ghost use Rattle.std.specs.Cmp.Lexicographic.{lists_equiv, lists_per};
-ghost use Rattle.std.specs.Prelude.{◌≡◌, [], true, IfOk, IsOk};
-ghost use Rattle.ordered_multimap.specs.Clones.{AreClones};
+ghost use Rattle.std.specs.Prelude.{◌≡◌, true};
 ghost use Rattle.ordered_multimap.specs.Lists.{IsIn};
-ghost use Rattle.ordered_multimap.specs.Pairs.{all_values, same_pairs};
-ghost use Rattle.ordered_multimap.specs.TapeNumbers.{AreUnused};
-ghost use Rattle.set_ordered_multimap.specs.Set.{IsSet};
+ghost use Rattle.ordered_multimap.specs.Pairs.{same_pairs};
+ghost use Rattle.set_ordered_multimap.specs.SetClones.{ClonesSet};
 
 use super::SetOrderedMultimap;
 use ordered_multimap::list_ordered_multimap::{IntoIter, UnclonedKey};
@@ -53,22 +51,8 @@ impl<
     /// ```
     pub fn clone(&self) -> Result<Self, AllocError>
         requires { (k c : K) → IsIn k self.now.lists.keys → K.is_clone k c → K.eq k c ≡ true }
-        ensures clones { IfOk result (λ m.
-            AreClones K.eq K.is_clone V.is_clone self.now.lists m.lists) }
-
-        // Where a clone of a value is equal to it, no pair of the clone stands twice either.
-        ensures set { ((v c : V) → V.is_clone v c → V.eq v c ≡ true)
-            → IsSet K.eq V.eq self.now.lists → IfOk result (λ m. IsSet K.eq V.eq m.lists) }
-
-        // Where a clone is the key or value itself, the lists are the same.
-        ensures lists { ((k c : K) → IsIn k self.now.lists.keys → K.is_clone k c → c ≡ k)
-            → ((v c : V) → IsIn v (all_values self.now.lists.pairs) → V.is_clone v c → c ≡ v)
-            → IfOk result (λ m. m.lists ≡ self.now.lists) }
-
-        ensures hasher { IfOk result (λ m. S.is_clone self.now.hasher m.hasher) }
-        ensures unused { IfOk result (λ m. AreUnused m.tape) }
-        ensures succeeds { self.now.lists.pairs ≡ [] → S.is_infallible self.now.hasher
-            → IsOk result }
+        ensures clones { ClonesSet K.eq V.eq K.is_clone V.is_clone S.is_clone S.is_infallible
+            self.now result }
     {
         let map = self.map.clone()?;
         Ok(SetOrderedMultimap { map })

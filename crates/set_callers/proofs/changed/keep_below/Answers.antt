@@ -9,4 +9,4 @@ returns-clause-lists g c =
     let r = c.retain.ensures in
     let pairs = filter_same_pairs _ (λ p. ltb p.1 c.args.limit) _ (λ k v b w f' t. search rules) _ _
     (RetainsPairs-retains _ _ _ _ _ r.retained.1) in
-    kept-named_by eqb c.args.set.now.lists c.retain.new.self.lists r.keys ∙ ap (kept eqb c.args.set.now.lists) pairs
+    kept-named_by eqb c.args.set.now.lists c.retain.new.self.lists r.loses.keys ∙ ap (kept eqb c.args.set.now.lists) pairs

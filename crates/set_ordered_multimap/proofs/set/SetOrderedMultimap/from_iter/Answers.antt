@@ -9,7 +9,7 @@ returns-clause-built g c =
       i.0,
       i.1,
       i.2,
-      i.3 ∙ ap (λ m. all_inserted g.K.PartialEq.eq g.V.PartialEq.eq m i.1) c.with_hasher-set.ensures.new.empty
+      i.3 ∙ ap (λ m. all_inserted g.K.PartialEq.eq g.V.PartialEq.eq m i.1) c.with_hasher-set.ensures.new.new.empty.empty
           ∙ keeps_first_pairs g.met.K.Eq.laws g.met.V.Eq.laws i.1,
       i.4,
     )

@@ -1,12 +1,10 @@
-use Rattle.std.proofs.Common.{sym, subst}
+use Rattle.std.proofs.Common.{subst}
 use Rattle.ordered_multimap.specs.End.TheVariants.{Back}
-use Rattle.set_ordered_multimap.proofs.Callers.Sets.{IsSet-popped}
-use Rattle.set_ordered_multimap.specs.Set.{IsSet}
+use Rattle.set_ordered_multimap.proofs.Ends.{loses-end}
+use Rattle.set_ordered_multimap.specs.SetChanges.{LosesEnd}
 use Rattle.set_ordered_multimap.proofs.set.SetOrderedMultimap.pop_back_with.Goals as goal
 
-pub returns-clause-set : goal.returns-clause-set
-returns-clause-set g c = λ set.
-    let eq = g.K.PartialEq.eq in let value_eq = g.V.PartialEq.eq in
-    subst (IsSet eq value_eq) (sym c.pop_back_with.ensures.popped.lists)
-    (IsSet-popped g.met.K.Eq.laws g.met.V.Eq.laws Back c.self.inside.map.lists
-    (subst (λ m. IsSet eq value_eq m.lists) (sym c.self.view_is) set))
+pub returns-clause-popped : goal.returns-clause-popped
+returns-clause-popped g c =
+    subst (λ m. LosesEnd g.K.PartialEq.eq g.V.PartialEq.eq m c.pop_back_with.new.self Back) c.self.view_is
+    (loses-end g.met.K.Eq.laws g.met.V.Eq.laws Back c.self.inside.map c.pop_back_with.new.self c.pop_back_with.ensures.popped)

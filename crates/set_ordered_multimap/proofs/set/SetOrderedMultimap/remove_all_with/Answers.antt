@@ -3,6 +3,7 @@ use Rattle.std.specs.List.{FoldsTo}
 use Rattle.ordered_multimap.specs.Pairs.{values_of}
 use Rattle.set_ordered_multimap.proofs.Callers.Sets.{IsSet-removed}
 use Rattle.set_ordered_multimap.specs.Set.{IsSet}
+use Rattle.set_ordered_multimap.specs.SetChanges.{LosesKey}
 use Rattle.set_ordered_multimap.proofs.set.SetOrderedMultimap.remove_all_with.Goals as goal
 
 pub returns-clause-called : goal.returns-clause-called
@@ -14,9 +15,11 @@ returns-clause-called g c =
           called.1,
     )
 
-pub returns-clause-set : goal.returns-clause-set
-returns-clause-set g c = λ set.
-    let eq = g.K.PartialEq.eq in let value_eq = g.V.PartialEq.eq in
-    subst (IsSet eq value_eq) (sym c.hand_out.ensures.removed.loses.lists)
-    (IsSet-removed g.met.K.Eq.laws g.met.V.Eq.laws c.self.inside.map.lists c.args.key.now
-    (subst (λ m. IsSet eq value_eq m.lists) (sym c.self.view_is) set))
+pub returns-clause-removed : goal.returns-clause-removed
+returns-clause-removed g c =
+    let eq = g.K.PartialEq.eq in let value_eq = g.V.PartialEq.eq in let removed = c.hand_out.ensures.removed in
+    subst (λ m. LosesKey eq value_eq m c.hand_out.new.map c.args.key.now) c.self.view_is (record {
+      removed = removed;
+      set = λ set. subst (IsSet eq value_eq) (sym removed.loses.lists)
+          (IsSet-removed g.met.K.Eq.laws g.met.V.Eq.laws c.self.inside.map.lists c.args.key.now set);
+    })

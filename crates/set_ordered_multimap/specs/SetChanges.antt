@@ -1,0 +1,60 @@
+-- What the calls leave of a set: its lists, its rooms and its tape's numbers, and a set again.
+use Rattle.std.specs.Prelude.{◌≡◌, ◌≤◌, ◌-◌, Bool, length}
+use Rattle.ordered_multimap.specs.End.{End}
+use Rattle.ordered_multimap.specs.Keys.{keys_named_by}
+use Rattle.ordered_multimap.specs.Lists.{empty_lists}
+use Rattle.ordered_multimap.specs.Multimap.{Multimap}
+use Rattle.ordered_multimap.specs.PopAnswers.{IsPopped}
+use Rattle.ordered_multimap.specs.Removals.{IsRemoved}
+use Rattle.ordered_multimap.specs.Rooms.{IsNewMap, KeepsRooms, SameRooms}
+use Rattle.ordered_multimap.specs.TapeNumbers.{TakesOut}
+use Rattle.set_ordered_multimap.specs.Set.{IsSet, value_removed}
+
+module _ {K V S : Type 0} (eq : K → K → Bool) (value_eq : V → V → Bool) where
+  -- a set without pairs, on a tape that was not used
+  pub record IsNewSet (m : Multimap K V S) : Type 0 where
+    pub empty : IsNewMap m
+    pub set : IsSet eq value_eq m.lists
+
+  -- such a set with this hash builder
+  pub record IsNewSetWith (state : S) (m : Multimap K V S) : Type 0 where
+    pub new : IsNewSet m
+    pub hasher : m.hasher ≡ state
+
+  module _ (old new : Multimap K V S) where
+    -- no key and no pair is left; no room is lower, and the tape has as many slots and no hole
+    pub record IsCleared : Type 0 where
+      pub lists : new.lists ≡ empty_lists
+      pub set : IsSet eq value_eq new.lists
+      pub rooms : KeepsRooms old new
+      pub slots : new.tape.slots ≡ old.tape.slots
+      pub taken : TakesOut (length old.lists.pairs) old.tape new.tape
+      pub holes : new.tape.holes ≡ 0
+
+    -- pairs have left, and the keys that no pair names then; no room has changed, and a set stays
+    -- one
+    pub record LosesPairs : Type 0 where
+      pub keys : new.lists.keys ≡ keys_named_by eq old.lists.keys new.lists.pairs
+      pub set : IsSet eq value_eq old.lists → IsSet eq value_eq new.lists
+      pub rooms : SameRooms old new
+      pub taken : TakesOut (length old.lists.pairs - length new.lists.pairs) old.tape new.tape
+      pub fewer : length new.lists.pairs ≤ length old.lists.pairs
+
+    -- the equal pair has left, if there was one, and a key that no pair names then; no room has
+    -- changed, and a set stays one
+    pub record LosesValue (k : K) (v : V) : Type 0 where
+      pub lists : new.lists ≡ value_removed eq value_eq old.lists k v
+      pub set : IsSet eq value_eq old.lists → IsSet eq value_eq new.lists
+      pub rooms : SameRooms old new
+
+    -- the key has left with all its values, if it was there; no room has changed, and a set stays
+    -- one
+    pub record LosesKey (k : K) : Type 0 where
+      pub removed : IsRemoved eq old new k
+      pub set : IsSet eq value_eq old.lists → IsSet eq value_eq new.lists
+
+    -- the pair at an end has left, if there was one, and a key with its last value; no room has
+    -- changed, and a set stays one
+    pub record LosesEnd (end : End) : Type 0 where
+      pub popped : IsPopped eq end old new
+      pub set : IsSet eq value_eq old.lists → IsSet eq value_eq new.lists
