@@ -29,3 +29,62 @@ pub fn test_on_empty<T: Checked, M: Empty, F: FnOnce(&T, &mut M)>(
     checks(&test, &mut M::empty(alloc));
     test.finish()
 }
+
+/// Runs a test of checks that need nothing but the test.
+#[macro_export]
+macro_rules! test_all {
+    ($alloc:expr; $($check:path),+) => {{
+        let test = Test::new($alloc);
+        $($check(&test);)+
+        test.end()
+    }};
+}
+
+/// Runs a test of checks that are lent the same map of this type in turn, which is empty at first.
+#[macro_export]
+macro_rules! test_in_turn {
+    ($alloc:expr; $map:ty; $($check:path),+) => {
+        $crate::tested::test_on_empty($alloc, |test: &Test, map: &mut $map| {
+            $($check(test, map);)+
+        })
+    };
+}
+
+/// The same where the map's memory can be refused by an allocator, which the checks are lent too.
+#[macro_export]
+macro_rules! test_refusing {
+    ($alloc:expr; $($check:path),+) => {{
+        let test = Test::new($alloc);
+        let allocator = RefusingAllocator::unlimited(test.alloc());
+        let map = &mut ListOrderedMultimap::new(&allocator);
+        $($check(&test, &allocator, map);)+
+        test.end()
+    }};
+}
+
+/// The same of one check, with room for so many keys and so many values.
+#[macro_export]
+macro_rules! test_with_room {
+    ($alloc:expr; $keys:expr, $values:expr; $check:path) => {{
+        let test = Test::new($alloc);
+        let allocator = RefusingAllocator::unlimited(test.alloc());
+        match ListOrderedMultimap::with_capacity(&allocator, $keys, $values) {
+            Ok(mut map) => $check(&test, &allocator, &mut map),
+            Err(_) => test.expect("memory for the map", false),
+        }
+        test.end()
+    }};
+}
+
+/// Runs a test of a check that is lent a value, whose shares it may count.
+#[macro_export]
+macro_rules! test_shares {
+    ($alloc:expr; $check:path) => {{
+        let test = Test::new($alloc);
+        match Rc::new(test.alloc(), 1) {
+            Ok(shared) => $check(&test, &shared),
+            Err(_) => test.expect("memory for a share", false),
+        }
+        test.end()
+    }};
+}

@@ -17,30 +17,17 @@ use crate::tests::removed::keys_leave;
 use crate::tests::retained::pairs_stay;
 use ordered_multimap::ListOrderedMultimap;
 use ordered_multimap_callers::maps::{Numbers, Texts};
-use ordered_multimap_callers::tested::test_on_empty;
+use ordered_multimap_callers::test_in_turn;
 use test_helpers::{Failed, Test, ZERO};
-
-fn texts_leave(test: &Test, map: &mut Texts) {
-    keys_leave(test, map);
-    key_is_lent_and_handed_out(test, map);
-    values_are_given(test, map);
-}
 
 #[test]
 fn pairs_of_texts_leave(rt: HostRuntime) -> Result<(), Failed> {
-    test_on_empty(rt.alloc(), texts_leave)
-}
-
-fn numbers_leave(test: &Test, map: &mut Numbers) {
-    pairs_leave(test, map);
-    pairs_stay(test, map);
-    keys_are_drained(test, map);
-    lists_are_final(test, map);
+    test_in_turn!(rt.alloc(); Texts; keys_leave, key_is_lent_and_handed_out, values_are_given)
 }
 
 #[test]
 fn pairs_of_numbers_leave(rt: HostRuntime) -> Result<(), Failed> {
-    test_on_empty(rt.alloc(), numbers_leave)
+    test_in_turn!(rt.alloc(); Numbers; pairs_leave, pairs_stay, keys_are_drained, lists_are_final)
 }
 
 #[test]

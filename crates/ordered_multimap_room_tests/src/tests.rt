@@ -23,19 +23,23 @@ use crate::tests::pack::texts_are_packed;
 use crate::tests::reserve::{room_grows, room_is_used};
 use ordered_multimap::ListOrderedMultimap;
 use ordered_multimap_callers::maps::{Numbers, Texts, map_of};
+use ordered_multimap_callers::{test_all, test_in_turn, test_with_room};
 use refusing_allocator::RefusingAllocator;
 use test_helpers::{Failed, Test};
 
+#[test]
+fn room_is_asked_for(rt: HostRuntime) -> Result<(), Failed> {
+    test_in_turn!(rt.alloc(); Texts; room_grows)
+}
+
 fn texts_come(test: &Test, map: &mut Texts) {
     texts_are_packed(test, map);
-    map.clear();
     texts_are_appended(test, map);
 }
 
 #[test]
 fn texts_come_at_once_and_are_packed(rt: HostRuntime) -> Result<(), Failed> {
     let test = Test::new(rt.alloc());
-    room_grows(&test, &mut ListOrderedMultimap::new(test.alloc()));
     match ListOrderedMultimap::with_capacity(test.alloc(), 10, 10) {
         Ok(mut map) => texts_come(&test, &mut map),
         Err(_) => test.expect("memory for ten pairs", false),
@@ -45,9 +49,7 @@ fn texts_come_at_once_and_are_packed(rt: HostRuntime) -> Result<(), Failed> {
 
 fn numbers_come(test: &Test, map: &mut Numbers, other: &Numbers) {
     copies_are_appended(test, map, other);
-    map.clear();
     wish_is_ignored(test, map);
-    map.clear();
     room_is_refused(test, map);
 }
 
@@ -61,19 +63,10 @@ fn numbers_come_at_once(rt: HostRuntime) -> Result<(), Failed> {
 
 #[test]
 fn maps_are_made_of_pairs(rt: HostRuntime) -> Result<(), Failed> {
-    let test = Test::new(rt.alloc());
-    maps_are_made(&test);
-    map_is_made_without_hint(&test);
-    test.end()
+    test_all!(rt.alloc(); maps_are_made, map_is_made_without_hint)
 }
 
 #[test]
 fn room_is_used_without_memory(rt: HostRuntime) -> Result<(), Failed> {
-    let test = Test::new(rt.alloc());
-    let allocator = RefusingAllocator::unlimited(test.alloc());
-    match ListOrderedMultimap::with_capacity(&allocator, 5, 5) {
-        Ok(mut map) => room_is_used(&test, &allocator, &mut map),
-        Err(_) => test.expect("memory for five pairs", false),
-    }
-    test.end()
+    test_with_room!(rt.alloc(); 5, 5; room_is_used)
 }

@@ -22,21 +22,14 @@ use crate::tests::shown::is_shown_apart;
 use ordered_multimap::ListOrderedMultimap;
 use ordered_multimap::list_ordered_multimap::RandomState;
 use ordered_multimap_callers::maps::{MIXED, MIXED_TEXTS, Numbers, Texts, map_of, refill};
-use ordered_multimap_callers::tested::test_on_empty;
+use ordered_multimap_callers::test_in_turn;
 use test_helpers::{Constant, Failed, Test, ZERO};
-
-fn texts_answer(test: &Test, map: &mut Texts) {
-    texts::come_and_go(test, map);
-    walks::are_taken(test, map);
-    key_values::are_taken(test, map);
-    shown::are_shown(test, map);
-    equal::are_compared(test, map);
-    clones::are_made(test, map);
-}
 
 #[test]
 fn maps_of_texts_answer(rt: HostRuntime) -> Result<(), Failed> {
-    test_on_empty(rt.alloc(), texts_answer)
+    test_in_turn!(rt.alloc(); Texts;
+        texts::come_and_go, walks::are_taken, key_values::are_taken, shown::are_shown,
+        equal::are_compared, clones::are_made)
 }
 
 fn collided_keys_are_apart(

@@ -184,6 +184,7 @@ pub fn examples_of_texts_hold(test: &Test, map: &mut Numbers) {
 
 /// The examples with numbers for keys.
 pub fn examples_of_numbers_hold(test: &Test, map: &mut ListOrderedMultimap<u32, u32>) {
+    map.clear();
     an_entry_is_removed(test, map);
     an_entry_is_drained(test, map);
 }

@@ -1,6 +1,7 @@
 //! Each type of key that has a query of the kit's texts or slices. All hashes are equal, so that keys
 //! are told apart by the query alone.
 use ordered_multimap::{KeyQuery, ListOrderedMultimap};
+use ordered_multimap_callers::test_all;
 use std::borrow::{CowSlice, CowStr};
 use std::boxed::{BoxedSlice, BoxedStr};
 use std::hash::Hash;
@@ -78,10 +79,6 @@ fn lent_lists_are_found(test: &Test) {
 
 #[test]
 fn each_kind_of_key_is_found(rt: HostRuntime) -> Result<(), Failed> {
-    let test = Test::new(rt.alloc());
-    texts_are_found(&test);
-    lent_texts_are_found(&test);
-    lists_are_found(&test);
-    lent_lists_are_found(&test);
-    test.end()
+    test_all!(rt.alloc();
+        texts_are_found, lent_texts_are_found, lists_are_found, lent_lists_are_found)
 }

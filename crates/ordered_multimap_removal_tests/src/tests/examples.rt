@@ -3,7 +3,7 @@
 use ordered_multimap::ListOrderedMultimap;
 use ordered_multimap_callers::lists::{appends, has_lists, has_pairs, inserts};
 use ordered_multimap_callers::maps::fill;
-use ordered_multimap_callers::tested::test_on_empty;
+use ordered_multimap_callers::test_in_turn;
 use test_helpers::{Failed, Test};
 
 type Texts = ListOrderedMultimap<&'static str, i64>;
@@ -44,12 +44,7 @@ fn values_below_zero_go(test: &Test, map: &mut Texts) {
     test.expect("four pairs", has_pairs(map, &kept));
 }
 
-fn some_stay(test: &Test, map: &mut Texts) {
-    page_goes(test, map);
-    values_below_zero_go(test, map);
-}
-
 #[test]
 fn texts_stay_by_their_values(rt: HostRuntime) -> Result<(), Failed> {
-    test_on_empty(rt.alloc(), some_stay)
+    test_in_turn!(rt.alloc(); Texts; page_goes, values_below_zero_go)
 }

@@ -2,6 +2,7 @@
 use ordered_multimap::ListOrderedMultimap;
 use ordered_multimap_callers::lists::{appends, has_lists, inserts};
 use ordered_multimap_callers::maps::{Refusing, reserve_anew};
+use ordered_multimap_callers::test_with_room;
 use refusing_allocator::RefusingAllocator;
 use std::mem;
 use test_helpers::{End, Failed, Test, walk_difference};
@@ -94,11 +95,5 @@ fn room_is_used(test: &Test, allocator: &RefusingAllocator, map: &mut Refusing<'
 
 #[test]
 fn room_is_used_without_memory(rt: HostRuntime) -> Result<(), Failed> {
-    let test = Test::new(rt.alloc());
-    let allocator = RefusingAllocator::unlimited(test.alloc());
-    match ListOrderedMultimap::with_capacity(&allocator, 1, 2) {
-        Ok(mut map) => room_is_used(&test, &allocator, &mut map),
-        Err(_) => test.expect("memory for the map", false),
-    }
-    test.end()
+    test_with_room!(rt.alloc(); 1, 2; room_is_used)
 }

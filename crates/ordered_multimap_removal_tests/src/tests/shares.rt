@@ -1,6 +1,7 @@
 //! What a drain has not given is dropped once: with the drain, or, where that is forgotten, with the
 //! map.
 use ordered_multimap::ListOrderedMultimap;
+use ordered_multimap_callers::test_shares;
 use std::mem;
 use std::rc::Rc;
 use test_helpers::{Failed, Test};
@@ -48,10 +49,5 @@ fn shares_are_dropped(test: &Test, shared: &Rc<u8>) {
 
 #[test]
 fn what_is_left_is_dropped_with_the_drain(rt: HostRuntime) -> Result<(), Failed> {
-    let test = Test::new(rt.alloc());
-    match Rc::new(test.alloc(), 1) {
-        Ok(shared) => shares_are_dropped(&test, &shared),
-        Err(_) => test.expect("memory for a share", false),
-    }
-    test.end()
+    test_shares!(rt.alloc(); shares_are_dropped)
 }

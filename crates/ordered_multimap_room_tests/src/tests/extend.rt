@@ -17,6 +17,7 @@ fn has_texts(test: &Test, map: &Texts) {
 
 /// Texts are appended in turn.
 pub fn texts_are_appended(test: &Test, map: &mut Texts) {
+    map.clear();
     test.expect("extend", map.extend(TEXTS.iter().copied()) == Ok(()));
     has_texts(test, map);
 }
@@ -50,6 +51,7 @@ fn hinted(hint: usize) -> Hinted {
 
 /// A hint of more pairs than there can be is ignored.
 pub fn wish_is_ignored(test: &Test, map: &mut Numbers) {
+    map.clear();
     test.expect("extend", map.extend(hinted(usize::MAX)) == Ok(()));
     test.expect("three pairs", has_pairs(map, PAIRS));
 }

@@ -58,6 +58,7 @@ const TOO_MUCH: &[(usize, usize)] = &[(usize::MAX, 0), (0, usize::MAX), (0, usiz
 
 /// Room for more than there can be is refused, and the map is as before.
 pub fn room_is_refused(test: &Test, map: &mut Numbers) {
+    map.clear();
     test.expect("append", appends(map, 7, 70, false));
     test.expect("keys", map.reserve_keys(usize::MAX).is_err());
     test.expect("values", map.reserve_values(usize::MAX).is_err());

@@ -1,6 +1,7 @@
 //! What a forgotten drain has left is dropped once, where the map is packed.
 use crate::tests::pack::pack_to;
 use ordered_multimap::ListOrderedMultimap;
+use ordered_multimap_callers::test_shares;
 use std::mem;
 use std::rc::Rc;
 use test_helpers::{Failed, Test};
@@ -40,10 +41,5 @@ fn shares_are_packed(test: &Test, shared: &Rc<u8>) {
 
 #[test]
 fn what_a_forgotten_drain_left_is_dropped_once(rt: HostRuntime) -> Result<(), Failed> {
-    let test = Test::new(rt.alloc());
-    match Rc::new(test.alloc(), 1) {
-        Ok(shared) => shares_are_packed(&test, &shared),
-        Err(_) => test.expect("memory for a share", false),
-    }
-    test.end()
+    test_shares!(rt.alloc(); shares_are_packed)
 }

@@ -7,7 +7,7 @@ ghost use Rattle.std.specs.Prelude.{nat_eq};
 
 use ordered_multimap::ListOrderedMultimap;
 use ordered_multimap::list_ordered_multimap::KeyWrapper;
-use ordered_multimap_callers::tested::test_on_empty;
+use ordered_multimap_callers::test_in_turn;
 use std::hash::{Hash, Hasher};
 use test_helpers::{Failed, Test};
 
@@ -109,12 +109,7 @@ fn replaced_key_stays(test: &Test, map: &mut Words) {
     test.expect("the stored key", stored(map) == Some("kEY"));
 }
 
-fn keys_stay(test: &Test, map: &mut Words) {
-    first_key_stays(test, map);
-    replaced_key_stays(test, map);
-}
-
 #[test]
 fn of_equal_keys_the_first_stays(rt: HostRuntime) -> Result<(), Failed> {
-    test_on_empty(rt.alloc(), keys_stay)
+    test_in_turn!(rt.alloc(); Words; first_key_stays, replaced_key_stays)
 }

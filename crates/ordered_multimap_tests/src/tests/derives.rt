@@ -3,6 +3,7 @@ use ordered_multimap::End;
 use ordered_multimap::list_ordered_multimap::{
     KeyLink, Refused, RefusedValue, UnclonedKey, ValueLink,
 };
+use ordered_multimap_callers::test_all;
 use std::error::Error;
 use test_helpers::{Failed, Test, expect_text, is_compared, is_copied, is_shown};
 
@@ -146,9 +147,7 @@ fn value_links_are_shown_and_compared(test: &Test) {
 
 #[test]
 fn ends_and_links_are_shown_and_compared(rt: HostRuntime) -> Result<(), Failed> {
-    let test = Test::new(rt.alloc());
-    ends_are_shown_and_compared(&test);
-    key_links_are_shown_and_compared(&test);
-    value_links_are_shown_and_compared(&test);
-    test.end()
+    test_all!(rt.alloc();
+        ends_are_shown_and_compared, key_links_are_shown_and_compared,
+        value_links_are_shown_and_compared)
 }

@@ -1,6 +1,7 @@
 //! Refused calls in functions with an error type of their own.
 use ordered_multimap::{Entry, ListOrderedMultimap};
 use ordered_multimap_callers::maps::Refusing;
+use ordered_multimap_callers::test_refusing;
 use refusing_allocator::RefusingAllocator;
 use std::alloc::AllocError;
 use test_helpers::{Failed, Test};
@@ -48,8 +49,5 @@ fn errors_are_told(test: &Test, allocator: &RefusingAllocator, map: &mut Refusin
 
 #[test]
 fn an_own_error_type_takes_refusals(rt: HostRuntime) -> Result<(), Failed> {
-    let test = Test::new(rt.alloc());
-    let allocator = RefusingAllocator::unlimited(test.alloc());
-    errors_are_told(&test, &allocator, &mut ListOrderedMultimap::new(&allocator));
-    test.end()
+    test_refusing!(rt.alloc(); errors_are_told)
 }

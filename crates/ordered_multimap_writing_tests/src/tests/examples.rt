@@ -3,7 +3,7 @@
 use ordered_multimap::ListOrderedMultimap;
 use ordered_multimap::list_ordered_multimap::Entry;
 use ordered_multimap_callers::lists::has_pairs;
-use ordered_multimap_callers::tested::test_on_empty;
+use ordered_multimap_callers::test_in_turn;
 use test_helpers::{Failed, Test};
 
 type Numbers = ListOrderedMultimap<&'static str, u32>;
@@ -101,15 +101,8 @@ fn values_are_updated(test: &Test, map: &mut Numbers) {
     test.expect("update_all", one);
 }
 
-fn examples(test: &Test, map: &mut Numbers) {
-    last_is_written(test, map);
-    keys_are_written(test, map);
-    all_are_written(test, map);
-    entry_is_written(test, map);
-    values_are_updated(test, map);
-}
-
 #[test]
 fn examples_hold(rt: HostRuntime) -> Result<(), Failed> {
-    test_on_empty(rt.alloc(), examples)
+    test_in_turn!(rt.alloc(); Numbers;
+        last_is_written, keys_are_written, all_are_written, entry_is_written, values_are_updated)
 }
