@@ -27,26 +27,25 @@ fn pop<S: BuildHasher>(map: &mut ListOrderedMultimap<u32, u32, S>, end: End) -> 
 
 const PAIRS: &[(u32, u32)] = &[(1, 1), (2, 2), (2, 3), (1, 4)];
 
-const FROM_THE_BACK: &[(End, Popped)] = &[
-    (End::Back, Some((false, 1, 4))),
-    (End::Back, Some((false, 2, 3))),
-    (End::Back, Some((true, 2, 2))),
-    (End::Back, Some((true, 1, 1))),
-    (End::Back, None),
+const FROM_THE_BACK: &[Popped] = &[
+    Some((false, 1, 4)),
+    Some((false, 2, 3)),
+    Some((true, 2, 2)),
+    Some((true, 1, 1)),
 ];
 
-const FROM_THE_FRONT: &[(End, Popped)] = &[
-    (End::Front, Some((false, 1, 1))),
-    (End::Front, Some((false, 2, 2))),
-    (End::Front, Some((true, 2, 3))),
-    (End::Front, Some((true, 1, 4))),
-    (End::Front, None),
+const FROM_THE_FRONT: &[Popped] = &[
+    Some((false, 1, 1)),
+    Some((false, 2, 2)),
+    Some((true, 2, 3)),
+    Some((true, 1, 4)),
 ];
 
-fn all_leave(test: &Test, map: &mut Numbers, pops: &[(End, Popped)]) {
-    for (row, (end, popped)) in pops.iter().enumerate() {
-        test.expect_at("pop", row, pop(map, *end) == *popped);
+fn all_leave(test: &Test, map: &mut Numbers, end: End, pops: &[Popped]) {
+    for (row, popped) in pops.iter().enumerate() {
+        test.expect_at("pop", row, pop(map, end) == *popped);
     }
+    test.expect("no pair is left", pop(map, end).is_none());
 }
 
 /// The last value takes its key with it.
@@ -71,9 +70,9 @@ fn appends_are_undone(test: &Test, map: &mut Numbers) {
 
 /// Pairs leave at both ends, and an append is undone by a pop.
 pub fn pairs_leave(test: &Test, map: &mut Numbers) {
-    for pops in &[FROM_THE_BACK, FROM_THE_FRONT] {
+    for (end, pops) in &[(End::Back, FROM_THE_BACK), (End::Front, FROM_THE_FRONT)] {
         refill(test, map, PAIRS);
-        all_leave(test, map, pops);
+        all_leave(test, map, *end, pops);
     }
     refill(test, map, PAIRS);
     appends_are_undone(test, map);

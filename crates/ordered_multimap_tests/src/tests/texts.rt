@@ -24,17 +24,6 @@ struct Row {
     count: usize,
 }
 
-// No value is answered, and the pair is the only one.
-const ALONE: Row = Row {
-    call: Call::Insert,
-    pair: ("key", "value"),
-    old: None,
-    lengths: (1, 1),
-    back: Some(("key", "value")),
-    first: Some("value"),
-    count: 1,
-};
-
 const EMPTY: Row = Row {
     call: Call::Nothing,
     pair: ("key", "value"),
@@ -45,50 +34,75 @@ const EMPTY: Row = Row {
     count: 0,
 };
 
+// No value is answered, and the pair is the only one.
+macro_rules! alone {
+    ($call:ident, $key:literal, $value:literal) => {
+        Row {
+            call: Call::$call,
+            pair: ($key, $value),
+            old: None,
+            lengths: (1, 1),
+            back: Some(($key, $value)),
+            first: Some($value),
+            count: 1,
+        }
+    };
+}
+
+// The key has this first value too.
+macro_rules! behind {
+    ($first:literal, $lengths:expr, $row:expr) => {
+        Row {
+            lengths: $lengths,
+            first: Some($first),
+            count: 2,
+            ..$row
+        }
+    };
+}
+
+// The value is answered, and no pair is left.
+macro_rules! gone {
+    ($key:literal, $value:literal) => {
+        Row {
+            call: Call::Remove,
+            pair: ($key, $value),
+            old: Some($value),
+            ..EMPTY
+        }
+    };
+}
+
+// Another pair is left.
+macro_rules! leaves {
+    ($pair:expr, $row:expr) => {
+        Row {
+            lengths: (1, 1),
+            back: Some($pair),
+            ..$row
+        }
+    };
+}
+
 const LAST_PAIR: &[Row] = &[
     Row {
         pair: ("key1", "value1"),
         ..EMPTY
     },
+    alone!(Insert, "key1", "value1"),
     Row {
-        pair: ("key1", "value1"),
-        back: Some(("key1", "value1")),
-        first: Some("value1"),
-        ..ALONE
-    },
-    Row {
-        call: Call::Append,
-        pair: ("key2", "value2"),
         lengths: (2, 2),
-        back: Some(("key2", "value2")),
-        first: Some("value2"),
-        ..ALONE
+        ..alone!(Append, "key2", "value2")
     },
-    Row {
-        call: Call::Remove,
-        pair: ("key2", "value2"),
-        old: Some("value2"),
-        lengths: (1, 1),
-        back: Some(("key1", "value1")),
-        ..EMPTY
-    },
-    Row {
-        call: Call::Remove,
-        pair: ("key1", "value1"),
-        old: Some("value1"),
-        ..EMPTY
-    },
+    leaves!(("key1", "value1"), gone!("key2", "value2")),
+    gone!("key1", "value1"),
 ];
 
 const COMES_AND_GOES: &[Row] = &[
     EMPTY,
-    ALONE,
-    Row {
-        call: Call::Remove,
-        old: Some("value"),
-        ..EMPTY
-    },
-    ALONE,
+    alone!(Insert, "key", "value"),
+    gone!("key", "value"),
+    alone!(Insert, "key", "value"),
     Row {
         call: Call::Clear,
         ..EMPTY
@@ -96,79 +110,28 @@ const COMES_AND_GOES: &[Row] = &[
 ];
 
 const LENGTHS: &[Row] = &[
+    alone!(Insert, "key1", "value1"),
     Row {
-        pair: ("key1", "value1"),
-        back: Some(("key1", "value1")),
-        first: Some("value1"),
-        ..ALONE
-    },
-    Row {
-        pair: ("key2", "value2"),
         lengths: (2, 2),
-        back: Some(("key2", "value2")),
-        first: Some("value2"),
-        ..ALONE
+        ..alone!(Insert, "key2", "value2")
     },
-    Row {
-        call: Call::Append,
-        pair: ("key1", "value3"),
-        lengths: (2, 3),
-        back: Some(("key1", "value3")),
-        first: Some("value1"),
-        count: 2,
-        ..ALONE
-    },
-    Row {
-        call: Call::Remove,
-        pair: ("key1", "value1"),
-        old: Some("value1"),
-        lengths: (1, 1),
-        back: Some(("key2", "value2")),
-        ..EMPTY
-    },
-    Row {
-        call: Call::Remove,
-        pair: ("key2", "value2"),
-        old: Some("value2"),
-        ..EMPTY
-    },
+    behind!("value1", (2, 3), alone!(Append, "key1", "value3")),
+    leaves!(("key2", "value2"), gone!("key1", "value1")),
+    gone!("key2", "value2"),
 ];
 
 const LENGTH_OF_A_KEY: &[Row] = &[
+    alone!(Insert, "key", "value1"),
     Row {
-        pair: ("key", "value1"),
-        back: Some(("key", "value1")),
-        first: Some("value1"),
-        ..ALONE
-    },
-    Row {
-        pair: ("key", "value2"),
         old: Some("value1"),
-        back: Some(("key", "value2")),
-        first: Some("value2"),
-        ..ALONE
+        ..alone!(Insert, "key", "value2")
     },
+    behind!("value2", (1, 2), alone!(Append, "key", "value3")),
     Row {
-        call: Call::Append,
-        pair: ("key", "value3"),
-        lengths: (1, 2),
-        back: Some(("key", "value3")),
-        first: Some("value2"),
-        count: 2,
-        ..ALONE
-    },
-    Row {
-        pair: ("key", "value4"),
         old: Some("value2"),
-        back: Some(("key", "value4")),
-        first: Some("value4"),
-        ..ALONE
+        ..alone!(Insert, "key", "value4")
     },
-    Row {
-        call: Call::Remove,
-        old: Some("value4"),
-        ..EMPTY
-    },
+    gone!("key", "value4"),
 ];
 
 // An append returns whether the key was there: it has more than one value then.

@@ -24,6 +24,20 @@ const VALUES_FORTH: &[(End, u32)] = &[
 
 const ONE_VALUE: &[(End, u32)] = &[(End::Front, 11)];
 
+const WALKED: &[(End, (u32, u32))] = &[
+    (End::Front, (1, 11)),
+    (End::Back, (1, 14)),
+    (End::Front, (2, 12)),
+    (End::Back, (2, 13)),
+];
+
+const WALKED_FORTH: &[(End, (u32, u32))] = &[
+    (End::Front, (1, 11)),
+    (End::Front, (2, 12)),
+    (End::Front, (2, 13)),
+    (End::Front, (1, 14)),
+];
+
 const ONE_KEY: &[(u32, u32)] = &[(1, 11), (1, 12), (1, 13), (1, 14)];
 
 // The pairs of a map, the items of a walk, each of which is raised by 100, and the pairs then.
@@ -40,26 +54,8 @@ const ONE_KEY_RAISED: &[(u32, u32)] = &[(1, 111), (1, 112), (1, 113), (1, 114)];
 const OF_PAIRS: &[Row<(u32, u32)>] = &[
     (&[], &[], &[]),
     (&[(1, 11)], &[(End::Front, (1, 11))], &[(1, 111)]),
-    (
-        MIXED,
-        &[
-            (End::Front, (1, 11)),
-            (End::Back, (1, 14)),
-            (End::Front, (2, 12)),
-            (End::Back, (2, 13)),
-        ],
-        MIXED_RAISED,
-    ),
-    (
-        MIXED,
-        &[
-            (End::Front, (1, 11)),
-            (End::Front, (2, 12)),
-            (End::Front, (2, 13)),
-            (End::Front, (1, 14)),
-        ],
-        MIXED_RAISED,
-    ),
+    (MIXED, WALKED, MIXED_RAISED),
+    (MIXED, WALKED_FORTH, MIXED_RAISED),
 ];
 
 const OF_VALUES: &[Row<u32>] = &[
