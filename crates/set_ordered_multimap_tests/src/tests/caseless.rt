@@ -96,14 +96,7 @@ fn the_first_pair_is_alone(test: &Test, set: &mut Letters) {
     test.expect("one pair", has_letters(set, &[(b'A', b'x')]));
 }
 
-fn of_equal_pairs_the_first_is_kept(test: &Test, set: &mut Letters) {
-    letters_stay(test, set);
-    the_first_pair_is_alone(test, set);
-}
-
 #[test]
 fn of_equal_pairs_the_first_stays(rt: HostRuntime) -> Result<(), Failed> {
-    let test = Test::new(rt.alloc());
-    of_equal_pairs_the_first_is_kept(&test, &mut SetOrderedMultimap::new(test.alloc()));
-    test.end()
+    test_in_turn!(rt.alloc(); letters_stay, the_first_pair_is_alone)
 }

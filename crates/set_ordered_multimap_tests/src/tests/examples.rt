@@ -59,12 +59,9 @@ fn walks_return(test: &Test, set: &Texts) {
     test.expect("Debug", is_shown(test.alloc(), set, SHOWN));
 }
 
-fn clone_returns(set: &Texts) -> Result<bool, AllocError> {
-    Ok(set.clone()?.values_len() == 3)
-}
-
-fn clone_is_equal(set: &Texts) -> Result<bool, AllocError> {
-    Ok(*set == set.clone()?)
+fn clones_return(set: &Texts) -> Result<(bool, bool), AllocError> {
+    let counted = set.clone()?.values_len() == 3;
+    Ok((counted, *set == set.clone()?))
 }
 
 fn into_iter_returns(test: &Test, mut set: Texts) {
@@ -139,8 +136,7 @@ fn from_iter_returns(alloc: Global) -> Result<Texts, AllocError> {
 
 fn many_are_inserted(test: &Test, set: &mut Texts) {
     test.expect("extend", extend_returns(set).is_ok());
-    test.expect("equal", clone_is_equal(set) == Ok(true));
-    test.expect("clone", clone_returns(set) == Ok(true));
+    test.expect("clones", clones_return(set) == Ok((true, true)));
     match from_iter_returns(test.alloc()) {
         Ok(made) => test.expect("from_iter", has_lists(&made, PAIRS, &["plan", "note"])),
         Err(_) => test.expect("from_iter", false),
@@ -176,9 +172,7 @@ fn changes_hold(test: &Test, set: &mut Texts) {
 
 #[test]
 fn texts_leave(rt: HostRuntime) -> Result<(), Failed> {
-    let test = Test::new(rt.alloc());
-    changes_hold(&test, &mut SetOrderedMultimap::new(test.alloc()));
-    test.end()
+    test_in_turn!(rt.alloc(); changes_hold)
 }
 
 type Numbers = SetOrderedMultimap<u32, u32>;

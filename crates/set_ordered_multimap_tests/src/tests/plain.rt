@@ -109,12 +109,16 @@ fn changes(test: &Test, set: &mut Set, plain: &mut Plain, pair: (u32, u32), choi
     }
 }
 
+fn next_random(random: u64) -> u64 {
+    random
+        .wrapping_mul(6_364_136_223_846_793_005)
+        .wrapping_add(1_442_695_040_888_963_407)
+}
+
 fn agree_in_each_round(test: &Test, set: &mut Set, plain: &mut Plain) {
     let mut random: u64 = 88_172_645_463_325_252;
     for round in 0..ROUNDS {
-        random = random
-            .wrapping_mul(6_364_136_223_846_793_005)
-            .wrapping_add(1_442_695_040_888_963_407);
+        random = next_random(random);
         let pair = ((random >> 40) as u32 % 4, (random >> 50) as u32 % 6);
         let same = changes(test, set, plain, pair, (random >> 32) % 16);
         test.expect_at("call", round, same && is_told(set, plain, pair));
@@ -136,7 +140,5 @@ fn agree(test: &Test, set: &mut Set) {
 
 #[test]
 fn a_set_agrees_with_a_plain_list(rt: HostRuntime) -> Result<(), Failed> {
-    let test = Test::new(rt.alloc());
-    agree(&test, &mut SetOrderedMultimap::new(test.alloc()));
-    test.end()
+    test_in_turn!(rt.alloc(); agree)
 }

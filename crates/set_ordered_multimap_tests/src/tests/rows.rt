@@ -16,68 +16,28 @@ enum Call {
 }
 
 // A call, and the pairs and the keys after it.
-struct Row {
-    call: Call,
-    pairs: &'static [(usize, usize)],
-    keys: &'static [usize],
-}
+type Row = (Call, &'static [(usize, usize)], &'static [usize]);
 
 const ROWS: &[Row] = &[
-    Row {
-        call: Call::Insert(1, 5, true),
-        pairs: &[(1, 5)],
-        keys: &[1],
-    },
-    Row {
-        call: Call::Insert(1, 5, false),
-        pairs: &[(1, 5)],
-        keys: &[1],
-    },
-    Row {
-        call: Call::Insert(2, 5, true),
-        pairs: &[(1, 5), (2, 5)],
-        keys: &[1, 2],
-    },
-    Row {
-        call: Call::Insert(1, 6, true),
-        pairs: &[(1, 5), (2, 5), (1, 6)],
-        keys: &[1, 2],
-    },
-    Row {
-        call: Call::Contains(1, 6, true),
-        pairs: &[(1, 5), (2, 5), (1, 6)],
-        keys: &[1, 2],
-    },
-    Row {
-        call: Call::Contains(2, 6, false),
-        pairs: &[(1, 5), (2, 5), (1, 6)],
-        keys: &[1, 2],
-    },
-    Row {
-        call: Call::RemoveValue(1, 5, true),
-        pairs: &[(2, 5), (1, 6)],
-        keys: &[1, 2],
-    },
-    Row {
-        call: Call::RemoveValue(1, 6, true),
-        pairs: &[(2, 5)],
-        keys: &[2],
-    },
-    Row {
-        call: Call::RemoveValue(1, 6, false),
-        pairs: &[(2, 5)],
-        keys: &[2],
-    },
-    Row {
-        call: Call::Insert(1, 5, true),
-        pairs: &[(2, 5), (1, 5)],
-        keys: &[2, 1],
-    },
-    Row {
-        call: Call::PopFront(2, 5),
-        pairs: &[(1, 5)],
-        keys: &[1],
-    },
+    (Call::Insert(1, 5, true), &[(1, 5)], &[1]),
+    (Call::Insert(1, 5, false), &[(1, 5)], &[1]),
+    (Call::Insert(2, 5, true), &[(1, 5), (2, 5)], &[1, 2]),
+    (Call::Insert(1, 6, true), &[(1, 5), (2, 5), (1, 6)], &[1, 2]),
+    (
+        Call::Contains(1, 6, true),
+        &[(1, 5), (2, 5), (1, 6)],
+        &[1, 2],
+    ),
+    (
+        Call::Contains(2, 6, false),
+        &[(1, 5), (2, 5), (1, 6)],
+        &[1, 2],
+    ),
+    (Call::RemoveValue(1, 5, true), &[(2, 5), (1, 6)], &[1, 2]),
+    (Call::RemoveValue(1, 6, true), &[(2, 5)], &[2]),
+    (Call::RemoveValue(1, 6, false), &[(2, 5)], &[2]),
+    (Call::Insert(1, 5, true), &[(2, 5), (1, 5)], &[2, 1]),
+    (Call::PopFront(2, 5), &[(1, 5)], &[1]),
 ];
 
 // Whether there was memory, and whether the pair was new as is said.
@@ -158,10 +118,10 @@ fn rows_hold<K: Sample + Eq + Hash, V: Sample + Eq, S: BuildHasher>(
     test: &Test,
     set: &mut SetOrderedMultimap<K, V, S>,
 ) {
-    for (at, row) in ROWS.iter().enumerate() {
-        test.expect_at("call", at, is_called(test, set, row.call));
-        test.expect_at("pairs", at, has_pairs(set, row.pairs));
-        test.expect_at("keys", at, has_keys(set, row.keys));
+    for (at, (call, pairs, keys)) in ROWS.iter().enumerate() {
+        test.expect_at("call", at, is_called(test, set, *call));
+        test.expect_at("pairs", at, has_pairs(set, pairs));
+        test.expect_at("keys", at, has_keys(set, keys));
     }
 }
 
