@@ -1,6 +1,6 @@
 //! Tests with ample memory: the calls of the slot list and of the tape.
 use crate::tests::listed_uses::{
-    push_at_end, push_with_room, take_from, take_from_tape, use_listed, use_listed_on_tape,
+    Used, push_at_end, push_with_room, take_from, take_from_tape, use_listed, use_listed_on_tape,
 };
 use crate::tests::slots::{Items, List, expect_on, expect_slots};
 use crate::tests::uses::{push_two, read_all, relink};
@@ -62,13 +62,17 @@ fn a_list_is_cleared(test: &Test, list: &mut List) {
     test.expect("the capacity stays", list.capacity() == capacity);
 }
 
+// The item behind the first one was written.
+fn expect_used(test: &Test, first: usize, used: Option<Used>) {
+    test.expect("listed", used == Some((Some(first), (21, 3), None)));
+}
+
 fn listed_slots_answer(test: &Test, list: &mut List) {
     test.expect("no room", push_with_room(list, 5, 5).is_none());
     test.expect("reserve", list.reserve(2).is_ok());
     let a = push_with_room(list, 10, 1).unwrap_or(NOWHERE);
     let b = push_with_room(list, 20, 2).unwrap_or(NOWHERE);
-    let used = use_listed(list, b, (21, 3), &mut Reads::new());
-    test.expect("listed", used == Some((Some(a), (21, 3), None)));
+    expect_used(test, a, use_listed(list, b, (21, 3), &mut Reads::new()));
     test.expect("take_listed", take_from(list, a) == Some((10, 1)));
     expect_slots(test, list, &[(b, 21, 3)]);
 }
@@ -102,7 +106,7 @@ fn listed_slots_of_a_tape_answer(test: &Test, tape: &mut Items) {
     let a = push_at_end(tape, 10, 1).unwrap_or(NOWHERE);
     let b = push_at_end(tape, 20, 2).unwrap_or(NOWHERE);
     let used = use_listed_on_tape(tape, b, (21, 3), &mut Reads::new());
-    test.expect("listed", used == Some((Some(a), (21, 3), None)));
+    expect_used(test, a, used);
     test.expect("shown", is_shown(test.alloc(), tape, "{0: 10, 1: 21}"));
 }
 

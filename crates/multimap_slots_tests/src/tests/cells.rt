@@ -41,14 +41,22 @@ fn both_ends_are_written(test: &Test, list: &mut List, detached: usize)
     expect_slots(test, list, &[(0, 11, 1), (2, 30, 3), (3, 42, 4)]);
 }
 
+// Pushes items 10, 20 and 30, and detaches the second: its place.
+macro_rules! detached {
+    ($test:ident, $items:ident, $detach:path) => {{
+        let _first = $items.push_back(10, 1);
+        let detached = $items.push_back(20, 2).unwrap_or(9);
+        let _third = $items.push_back(30, 3);
+        if !$detach($items, detached) {
+            return $test.expect("detach", false);
+        }
+        detached
+    }};
+}
+
 // Items 10, 20 and 30: the second is detached, 40 comes, and the ends of the others are written.
 fn items_leave_and_are_written(test: &Test, list: &mut List) {
-    let _first = list.push_back(10, 1);
-    let detached = list.push_back(20, 2).unwrap_or(9);
-    let _third = list.push_back(30, 3);
-    if !uses::detach_listed(list, detached) {
-        return test.expect("detach", false);
-    }
+    let detached = detached!(test, list, uses::detach_listed);
     it_has_left_the_list(test, list, detached);
     both_ends_are_written(test, list, detached);
     test.expect("take_detached", list.take_detached(detached) == 20);
@@ -66,12 +74,7 @@ fn it_has_left_the_tape(test: &Test, tape: &mut Items, detached: usize)
 }
 
 fn items_of_a_tape_leave_and_are_written(test: &Test, tape: &mut Items) {
-    let _first = tape.push_back(10, 1);
-    let detached = tape.push_back(20, 2).unwrap_or(9);
-    let _third = tape.push_back(30, 3);
-    if !tape_uses::detach_listed(tape, detached) {
-        return test.expect("detach", false);
-    }
+    let detached = detached!(test, tape, tape_uses::detach_listed);
     it_has_left_the_tape(test, tape, detached);
     expect_lent(test, write_tape_ends(tape, 11, 41));
     expect_on(test, tape, &[(0, 11, 1), (2, 30, 3), (3, 41, 4)]);

@@ -31,6 +31,20 @@ pub fn push_at_end(tape: &mut Items, item: usize, link: u8) -> Option<usize>
 /// What stands before an item, its number and link as they were written, and what stands behind.
 pub type Used = (Option<usize>, (usize, u8), Option<usize>);
 
+macro_rules! used {
+    ($items:ident, $place:ident, $slot:ident, $reads:ident) => {{
+        if $items.get($place, &mut Reads::new()).is_none() {
+            return None;
+        }
+        *$items.get_listed_mut($place) = $slot.0;
+        *$items.listed_link_mut($place) = $slot.1;
+        let before = $items.previous_listed_place($place);
+        let behind = $items.next_listed_place($place);
+        let (item, link) = $items.get_listed($place, $reads);
+        Some((before, (*item, link), behind))
+    }};
+}
+
 /// Writes an item and its link, if one is there, reads them again, and so counts one read.
 pub fn use_listed(
     list: &mut List,
@@ -44,15 +58,7 @@ pub fn use_listed(
     ensures behind { IfSome result (λ r. r.2 ≡ next_of list.old.order place) }
     ensures counted { IfSome result (λ _. reads.new ≡ reads.old + 1) }
 {
-    if list.get(place, &mut Reads::new()).is_none() {
-        return None;
-    }
-    *list.get_listed_mut(place) = slot.0;
-    *list.listed_link_mut(place) = slot.1;
-    let before = list.previous_listed_place(place);
-    let behind = list.next_listed_place(place);
-    let (item, link) = list.get_listed(place, reads);
-    Some((before, (*item, link), behind))
+    used!(list, place, slot, reads)
 }
 
 /// The same on a tape.
@@ -68,15 +74,7 @@ pub fn use_listed_on_tape(
     ensures behind { IfSome result (λ r. r.2 ≡ next_of tape.old.list.order place) }
     ensures counted { IfSome result (λ _. reads.new ≡ reads.old + 1) }
 {
-    if tape.get(place, &mut Reads::new()).is_none() {
-        return None;
-    }
-    *tape.get_listed_mut(place) = slot.0;
-    *tape.listed_link_mut(place) = slot.1;
-    let before = tape.previous_listed_place(place);
-    let behind = tape.next_listed_place(place);
-    let (item, link) = tape.get_listed(place, reads);
-    Some((before, (*item, link), behind))
+    used!(tape, place, slot, reads)
 }
 
 /// Takes an item with its link, if one is there.

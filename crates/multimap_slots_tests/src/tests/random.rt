@@ -99,7 +99,10 @@ fn agrees_in_each_round(test: &Test, tape: &mut Items, plain: &mut Plain) {
 #[test]
 fn a_tape_agrees_with_a_plain_vector(rt: HostRuntime) -> Result<(), Failed> {
     let test = Test::new(rt.alloc());
-    let tape = &mut Tape::new(test.alloc());
-    agrees_in_each_round(&test, tape, &mut Vec::new(test.alloc()));
+    agrees_in_each_round(
+        &test,
+        &mut Tape::new(test.alloc()),
+        &mut Vec::new(test.alloc()),
+    );
     test.end()
 }

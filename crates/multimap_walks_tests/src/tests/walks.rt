@@ -53,12 +53,13 @@ fn five_are_pushed(test: &Test, values: &mut Values) {
         None => test.expect("detach", false),
     }
     test.expect("the other key's is left", values.len() == 1);
-    none_is_walked(test, values);
 }
 
 #[test]
 fn detached_values_are_taken_from_both_ends(rt: HostRuntime) -> Result<(), Failed> {
     let test = Test::new(rt.alloc());
-    five_are_pushed(&test, &mut Tape::new(test.alloc()));
+    let values = &mut Tape::new(test.alloc());
+    five_are_pushed(&test, values);
+    none_is_walked(&test, values);
     test.end()
 }

@@ -35,12 +35,10 @@ const WRITTEN: &[(End, u32)] = &[(End::Back, 304), (End::Front, 301), (End::Fron
 const OTHER_WRITTEN: &[(End, u32)] = &[(End::Front, 202)];
 
 // How a clone of a walk over what is left differs from what is wanted.
-fn difference<W: DoubleEndedIterator + ExactSizeIterator + Clone>(
+fn difference<I: Plain, W: DoubleEndedIterator<Item = I> + ExactSizeIterator + Clone>(
     rest: &W,
-    wanted: &[(End, <W::Item as Plain>::Value)],
+    wanted: &[(End, I::Value)],
 ) -> Option<usize>
-where
-    W::Item: Plain,
     requires next { (state : W) → W.can_next state }
     requires next_back { (state : W) → W.can_next_back state }
 {
