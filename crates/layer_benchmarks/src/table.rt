@@ -19,20 +19,9 @@ pub struct Times {
 
 impl fmt::Display for Times {
     fn fmt<W: fmt::Write>(&self, f: &mut fmt::Formatter<W>) -> fmt::Result {
-        let Times {
-            rows,
-            capacity,
-            insert,
-            hit,
-            miss,
-            churn,
-            remove,
-            answers,
-        } = self;
-        write!(
-            f,
-            "{rows} {capacity} {insert} {hit} {miss} {churn} {remove} {answers}"
-        )
+        write!(f, "{} {} {} ", self.rows, self.capacity, self.insert)?;
+        write!(f, "{} {} {} ", self.hit, self.miss, self.churn)?;
+        write!(f, "{} {}", self.remove, self.answers)
     }
 }
 

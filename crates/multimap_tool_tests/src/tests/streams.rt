@@ -118,10 +118,7 @@ fn a_failed_read_is_told_before_a_bad_line(test: &Test) {
 
 #[test]
 fn a_failed_read_is_told_and_nothing_is_written(rt: HostRuntime) -> Result<(), Failed> {
-    let test = Test::new(rt.alloc());
-    each_read_fails(&test);
-    a_failed_read_is_told_before_a_bad_line(&test);
-    test.end()
+    test_all!(rt.alloc(); each_read_fails, a_failed_read_is_told_before_a_bad_line)
 }
 
 /// A run in which the write after so many has trouble. It returns whether all was written before.
@@ -170,6 +167,10 @@ fn many_lines_are_read(test: &Test, input: &mut Vec<u8>) {
     test.expect("all lines", lines.lines().count() == 12000);
 }
 
+fn long_input_is_read(test: &Test) {
+    many_lines_are_read(test, &mut Vec::new(test.alloc()));
+}
+
 // Nothing is to be written, so a writer that takes nothing is no fault.
 fn no_line_is_answered(test: &Test) {
     let mut output = FailingWriter {
@@ -186,10 +187,7 @@ fn no_line_is_answered(test: &Test) {
 
 #[test]
 fn all_is_read_and_nothing_more_is_written(rt: HostRuntime) -> Result<(), Failed> {
-    let test = Test::new(rt.alloc());
-    many_lines_are_read(&test, &mut Vec::new(test.alloc()));
-    no_line_is_answered(&test);
-    test.end()
+    test_all!(rt.alloc(); long_input_is_read, no_line_is_answered)
 }
 
 /// A writer that takes all, and can't flush it.
@@ -214,8 +212,5 @@ fn a_failed_flush_is_told(test: &Test) {
 
 #[test]
 fn a_failed_write_is_told(rt: HostRuntime) -> Result<(), Failed> {
-    let test = Test::new(rt.alloc());
-    each_write_has_trouble(&test);
-    a_failed_flush_is_told(&test);
-    test.end()
+    test_all!(rt.alloc(); each_write_has_trouble, a_failed_flush_is_told)
 }
