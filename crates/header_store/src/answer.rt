@@ -11,7 +11,7 @@ use crate::read::{Headers, read_headers};
 use ordered_multimap::EntryValues;
 use std::alloc::{AllocError, Global};
 
-/// Reads the headers, and answers what the commands behind them write, one after another.
+/// Reads the headers, and returns what the commands behind them write, one after another.
 pub fn answer_all<'t>(
     alloc: Global,
     headers: &mut Headers<'t>,
@@ -54,8 +54,8 @@ fn answer<'t>(
     }
 }
 
-/// The values of the name, in order: those of all headers whose names differ from it in the case of
-/// ASCII letters alone, however it is spelled.
+/// The values of the name, in order: the values of all headers whose names differ from it in the
+/// case of ASCII letters alone, however it is spelled.
 fn values_of<'m, 't>(
     headers: &'m Headers<'t>,
     name: Name<'t>,

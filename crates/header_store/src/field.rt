@@ -7,7 +7,7 @@ use crate::lines::split_at_byte;
 use crate::name::Name;
 
 /// The name and the value that stand before and behind the first separator; the value is empty
-/// where there is none. A fault tells `number`, that of the line.
+/// where there is none. A fault tells `number`, the number of the line.
 pub fn field_of(text: &[u8], separator: u8, number: usize) -> Result<(Name<'_>, &[u8]), Fault> {
     let (name, value) = split_at_byte(text, separator).unwrap_or((text, b""));
     Ok((name_of(name, number)?, value_of(value, number)?))

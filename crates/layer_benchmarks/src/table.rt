@@ -131,7 +131,7 @@ pub fn print_times(rt: &HostRuntime) -> io::Result<()> {
     Ok(())
 }
 
-/// Measures a table of so many rows by about so many calls.
+/// Measures a table of this many rows by about this many calls.
 pub fn measure(rt: &HostRuntime, rows: usize, calls: usize) -> io::Result<Times> {
     let mut measured = Measured::with_rows(rt.alloc(), rows)?;
     times_of(rt, &mut measured, calls)

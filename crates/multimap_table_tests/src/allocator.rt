@@ -1,4 +1,4 @@
-//! The allocator grants so many requests and refuses the others.
+//! The allocator grants a given number of requests and refuses the others.
 use refusing_allocator::RefusingAllocator;
 use test_helpers::{Failed, Test};
 

@@ -1,4 +1,4 @@
-//! A table beside a plain list of hashes, so that the condition of each call can be tested.
+//! A table with a plain list of hashes, so that the condition of each call can be tested.
 ghost use Rattle.std.specs.Prelude.{◌≡◌, ℕ, None, slice_index_or};
 ghost use Rattle.std.specs.FinMap as map;
 
@@ -6,7 +6,7 @@ use multimap_table::KeyTable;
 use std::alloc::{AllocError, Allocator, Global};
 use std::marker::Model;
 
-/// A table beside a plain list, which has the hash of each place that has a row.
+/// A table with a plain list, which has the hash of each place that has a row.
 #[derive(Drop)]
 pub struct Compared<A: Allocator = Global> {
     table: KeyTable<A>,
@@ -29,7 +29,7 @@ impl<A: Allocator> Model for Compared<A> {
 }
 
 impl<A: Allocator + Copy> Compared<A> {
-    /// An empty table beside a list of so many places.
+    /// An empty table with a list of this many places.
     pub fn with_places(alloc: A, places: usize) -> Result<Compared<A>, AllocError> {
         let mut hashes = Vec::new(alloc);
         hashes.resize(places, None)?;
@@ -80,7 +80,7 @@ impl<A: Allocator + Copy> Compared<A> {
         true
     }
 
-    /// Makes room in the table for so many more rows.
+    /// Makes room in the table for this many more rows.
     pub fn reserve(&mut self, additional: usize) -> Result<(), AllocError> {
         self.table.reserve(additional)
     }

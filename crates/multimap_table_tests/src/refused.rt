@@ -7,7 +7,7 @@ use test_helpers::{Failed, Test, requests_until_enough};
 
 type Rows<'a> = Compared<&'a RefusingAllocator>;
 
-// One table made with so many requests granted. It returns whether that was enough.
+// One table made with this many requests granted. It returns whether that was enough.
 fn make_with(test: &Test, granted: u64) -> bool {
     let allocator = RefusingAllocator::new(test.alloc(), granted);
     let enough = match KeyTable::with_capacity(&allocator, 100) {
@@ -24,7 +24,7 @@ fn fill(test: &Test, rows: &mut Rows<'_>) {
     }
 }
 
-// One growth past the capacity with so many requests granted.
+// One growth past the capacity with this many requests granted.
 fn grow_with(
     test: &Test,
     allocator: &RefusingAllocator,

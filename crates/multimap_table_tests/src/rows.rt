@@ -9,7 +9,7 @@ pub fn agrees<A: Allocator + Copy>(test: &Test, rows: &Compared<A>) {
     test.expect("a table like the list", rows.differences() == 0);
 }
 
-/// An empty table beside a list of so many places, with room for so many rows.
+/// An empty table with a plain list of this many places, and room for this many rows.
 pub fn with_room<A: Allocator + Copy>(
     alloc: A,
     places: usize,

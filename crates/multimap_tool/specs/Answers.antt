@@ -11,7 +11,7 @@ use Rattle.multimap_tool.specs.Texts.{text_of}
 abbrev pub keeps_at_least : ℤ → ℕ → ℤ → Bool → ℤ → Type 0
 keeps_at_least least k v b w = (b ≡ int_le least v) × (w ≡ v)
 
--- the text is that of the replies to the commands that the lines spell, run on empty lists
+-- the text has the replies to the commands that the lines spell, run on empty lists
 pub record IsAnsweredBy (A : Type 0) (bytes text : List ℕ) : Type 0 where
   pub commands : List (Command ℕ ℤ A)
   pub replies : List (Reply ℕ ℤ A)

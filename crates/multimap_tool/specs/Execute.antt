@@ -15,7 +15,7 @@ pub record ReadsAll (old new : Option (List ℕ)) (bytes : List ℕ) : Type 0 wh
   pub taken : Consumes old new bytes
   pub ended : IsAtEnd new
 
--- all of the input was read, and its answer and nothing else was written
+-- all of the input was read, and its output and nothing else was written
 pub record IsAnswered (A : Type 0) (old_input new_input old_output new_output : Option (List ℕ))
     : Type 0 where
   pub bytes : List ℕ

@@ -99,7 +99,7 @@ IsLookUp Json = ⊥
 IsLookUp Json2 = ⊥
 IsLookUp _ = Unit {0}
 
--- the command reads the map anew from a JSON value
+-- the command reads the map back from a JSON value
 abbrev pub Rereads : {K V A : Type 0} → Command K V A → Type 0
 Rereads Json = Unit {0}
 Rereads Json2 = Unit {0}

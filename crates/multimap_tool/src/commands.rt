@@ -63,7 +63,7 @@ pub enum Command<K, V, A: Allocator = Global> {
     Retain(V),
     /// Takes all pairs out.
     Clear,
-    /// Makes room for so many more keys, and for so many more values.
+    /// Makes room for this many more keys, and for this many more values.
     Reserve(usize, usize),
     /// Gives back the room that is left over.
     PackToFit,

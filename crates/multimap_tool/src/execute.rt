@@ -21,7 +21,7 @@ use std::io::{Read, Write};
 const PIECE: usize = 32768;
 
 /// Reads all of the input, runs the commands that its lines spell on an empty map, and writes the
-/// text of their replies. `alloc` gives all memory but that of JSON values, which `memory` gives.
+/// text of their replies. `memory` gives the memory of JSON values, and `alloc` all other memory.
 ///
 /// All input is read before a line is looked at, and all replies are complete before the first
 /// byte is written, so nothing is written before a fault other than [`ToolFault::Write`]. Any

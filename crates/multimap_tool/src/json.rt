@@ -72,14 +72,14 @@ fn item_of<K: ToJson, V: ToJson>(alloc: Global, key: &K, value: &V) -> Result<Va
 /// A map with this hash builder, of what a JSON value holds, which [`to_value`] or [`to_value_2`]
 /// gives.
 ///
-/// `alloc` gives the memory of the map, and `memory` that of keys and values that are read. An array
-/// has to have arrays `[key, value]` as items: these pairs are appended in order. An object has to
-/// have the members `keys`, an array of different keys, and `pairs`, such an array of pairs of these
-/// keys, each of which occurs: the map has the keys in the order of `keys`. The first item that
-/// isn't as it has to be decides which fault is told, and there is then no map. That there is no
-/// room for as many keys and pairs at the start is no fault: each append makes the room that it
-/// needs. One look-up for each item; of an object each key also takes a value slot until all pairs
-/// have come, which is a hole afterwards.
+/// `alloc` gives the memory of the map, and `memory` the memory of keys and values that are read.
+/// An array has to have arrays `[key, value]` as items: these pairs are appended in order. An
+/// object has to have the members `keys`, an array of different keys, and `pairs`, such an array of
+/// pairs of these keys, each of which occurs: the map has the keys in the order of `keys`. The
+/// first item that isn't as it has to be decides which fault is told, and there is then no map.
+/// That there is no room for as many keys and pairs at the start is no fault: each append makes the
+/// room that it needs. One look-up for each item; of an object each key also takes a value slot
+/// until all pairs have come, which is a hole afterwards.
 ///
 /// ```
 /// from_value(alloc, memory, DefaultState::new(), &value)?

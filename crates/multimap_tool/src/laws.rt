@@ -30,8 +30,8 @@ pub fn run_is_well_formed<K: Eq, V, A: Allocator, F: Fn(V, &K, &mut V) -> bool>(
 {}
 
 /// What is read of the JSON value of a map has its pairs, and its keys in the order in which they
-/// first occur in the pairs. Different keys have to have different JSON values, and different values
-/// too, as those of numbers have.
+/// first occur in the pairs. Different keys have to have different JSON values, and different
+/// values too, as clones of numbers have.
 pub fn what_is_written_is_read<K: JsonPart + Eq, V: JsonPart>()
     requires { DifferAsJson K.json V.json }
     ensures { (m n : Lists K V) → IsWellFormed K.eq m

@@ -36,7 +36,7 @@ pub enum Reply<K, V, A: Allocator = Global> {
     Pair(Option<(K, V)>),
     /// The pair that was popped, if there was one.
     Popped(Option<Popped<K, V>>),
-    /// Values: one for each letter of a walk, those of a key, or those that were taken out.
+    /// Values: one for each letter of a walk, all of a key, or all that were taken out.
     Values(Vec<Option<V>, A>),
     /// Keys, one for each letter of a walk.
     Keys(Vec<Option<K>, A>),

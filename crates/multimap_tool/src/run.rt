@@ -27,14 +27,14 @@ use std::hash::{BuildHasher, Hash};
 
 /// Runs the commands on the map, in order, and gives one reply to each.
 ///
-/// `alloc` gives the memory of the replies, and `memory` that of the JSON value that a
+/// `alloc` gives the memory of the replies, and `memory` the memory of the JSON value that a
 /// [`Command::Json`] or [`Command::Json2`] makes and reads. `keep` tells which pairs a
 /// [`Command::Retain`] keeps: it is handed the command's value, a key and its value, which it may
 /// write, and has to be callable with the value of each of these commands and any key and value.
 /// The room for all replies is taken at the start: where it is refused, nothing was done. A command
-/// that finds no memory for itself gets [`Reply::NoMemory`] and changes neither keys nor
-/// pairs. That no append, insert or or-insert is, where the map has room at the start for as many
-/// more keys and as many more values as there are commands, and none is a [`Command::PackToFit`],
+/// that finds no memory for itself gets [`Reply::NoMemory`] and changes neither keys nor pairs.
+/// That no append, insert or or-insert is, where the map has room at the start for as many more
+/// keys and as many more values as there are commands, and none is a [`Command::PackToFit`],
 /// [`Command::Swap`], [`Command::Json`] or [`Command::Json2`]. Clones of keys and values must be
 /// the same keys and values; where one of the last two is among the commands, different keys must
 /// have different JSON values, and different values too. Each command costs what the map's call of

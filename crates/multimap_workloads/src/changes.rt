@@ -54,7 +54,7 @@ pub(crate) fn fifo_small<S: BuildHasher>(map: &mut Map<S>, run: Run, start: u64)
     fifo(map, 64, run, checksum)
 }
 
-/// Puts a new pair in the place of those of a random key, four times a pair.
+/// Puts a new pair in the place of all pairs of a random key, four times a pair.
 #[inline(never)]
 pub(crate) fn replaces<S: BuildHasher>(map: &mut Map<S>, run: Run, start: u64) -> Option<u64> {
     let mut checksum = start;

@@ -3,7 +3,7 @@ use crate::appends::{Map, ends};
 use crate::numbers::{Run, mix};
 use std::hash::BuildHasher;
 
-/// The first value of a random key among those of the pairs, four times a pair.
+/// The first value of a random key of the pairs, four times a pair.
 pub(crate) fn hits<S: BuildHasher>(map: &Map<S>, run: Run, start: u64) -> u64 {
     let mut checksum = start;
     for j in 0..run.pairs.wrapping_mul(4) {

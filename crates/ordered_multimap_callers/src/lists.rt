@@ -74,7 +74,7 @@ pub fn inserts<K: Eq + Hash + Drop, V: PartialEq + Drop, S: BuildHasher, A: Allo
     }
 }
 
-/// Whether a map has room for so many keys and values.
+/// Whether a map has room for this many keys and values.
 pub fn has_room<K: Eq + Hash, V, S: BuildHasher, A: Allocator>(
     map: &ListOrderedMultimap<K, V, S, A>,
     keys: usize,

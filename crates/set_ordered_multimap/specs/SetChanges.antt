@@ -22,7 +22,7 @@ module _ {K V S : Type 0} (eq : K → K → Bool) (value_eq : V → V → Bool) 
     pub hasher : m.hasher ≡ state
 
   module _ (old new : Multimap K V S) where
-    -- no key and no pair is left; no room is lower, and the tape has as many slots and no hole
+    -- no pair is left; no room is lower, and the tape has as many slots and no hole
     pub record IsCleared : Type 0 where
       pub lists : new.lists ≡ empty_lists
       pub set : IsSet eq value_eq new.lists
@@ -31,8 +31,7 @@ module _ {K V S : Type 0} (eq : K → K → Bool) (value_eq : V → V → Bool) 
       pub taken : TakesOut (length old.lists.pairs) old.tape new.tape
       pub holes : new.tape.holes ≡ 0
 
-    -- pairs have left, and the keys that no pair names then; no room has changed, and a set stays
-    -- one
+    -- pairs have left, with the keys that no pair names then; rooms stay, and so does a set
     pub record LosesPairs : Type 0 where
       pub keys : new.lists.keys ≡ keys_named_by eq old.lists.keys new.lists.pairs
       pub set : IsSet eq value_eq old.lists → IsSet eq value_eq new.lists
@@ -40,21 +39,20 @@ module _ {K V S : Type 0} (eq : K → K → Bool) (value_eq : V → V → Bool) 
       pub taken : TakesOut (length old.lists.pairs - length new.lists.pairs) old.tape new.tape
       pub fewer : length new.lists.pairs ≤ length old.lists.pairs
 
-    -- the equal pair has left, if there was one, and a key that no pair names then; no room has
-    -- changed, and a set stays one
+    -- the equal pair has left, if there was one, with a key that no pair names then; rooms stay,
+    -- and so does a set
     pub record LosesValue (k : K) (v : V) : Type 0 where
       pub lists : new.lists ≡ value_removed eq value_eq old.lists k v
       pub set : IsSet eq value_eq old.lists → IsSet eq value_eq new.lists
       pub rooms : SameRooms old new
 
-    -- the key has left with all its values, if it was there; no room has changed, and a set stays
-    -- one
+    -- the key has left with all its values, if it was there; rooms stay, and so does a set
     pub record LosesKey (k : K) : Type 0 where
       pub removed : IsRemoved eq old new k
       pub set : IsSet eq value_eq old.lists → IsSet eq value_eq new.lists
 
-    -- the pair at an end has left, if there was one, and a key with its last value; no room has
-    -- changed, and a set stays one
+    -- the pair at an end has left, if there was one, and its key with its last value; rooms stay,
+    -- and so does a set
     pub record LosesEnd (end : End) : Type 0 where
       pub popped : IsPopped eq end old new
       pub set : IsSet eq value_eq old.lists → IsSet eq value_eq new.lists

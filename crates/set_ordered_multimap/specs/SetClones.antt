@@ -21,10 +21,9 @@ module _ {K V S : Type 0} (eq : K → K → Bool) (value_eq : V → V → Bool)
     pub hasher : hasher_clone m.hasher n.hasher
     pub unused : AreUnused n.tape
 
-  -- a clone was made, or refused: it has a clone of each key, of each value and of the hash
-  -- builder, on a tape that was not used; it is a set if this is one and clones of values are equal
-  -- to them, and has the same lists if clones are the keys and values themselves; it is made for
-  -- sure if there is no pair and the hash builder's clone can't fail
+  -- a clone was made on an unused tape, or refused, which it isn't if there is no pair and the hash
+  -- builder's clone can't fail; it is a set if clones of values are equal to them, and has the same
+  -- lists if clones are the originals
   pub record ClonesSet (infallible : S → Type 0) (m : Multimap K V S) {E : Type 0}
       (r : Result (Multimap K V S) E) : Type 0 where
     pub ok : IfOk r (IsSetClone m)

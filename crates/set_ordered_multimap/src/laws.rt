@@ -8,7 +8,7 @@ pub fn changes_keep_sets<K: Eq, V: Eq>()
 {}
 
 /// Of pairs that are inserted in turn into an empty set, each stands once, at its first occurrence:
-/// the lists are those of a map to which just these pairs were appended.
+/// the lists are the same as of a map to which just these pairs were appended.
 pub fn insertions_keep_first_pairs<K: Eq, V: Eq>()
     ensures { (pairs : List (K × V)) → KeepsFirstPairs K.eq V.eq pairs }
 {}

@@ -25,10 +25,9 @@ use std::marker::Model;
 /// equal keys the set keeps the one that came first, and so it does of equal pairs.
 ///
 /// A call that says nothing else of its cost costs what the map's call of that name does.
-/// `contains`, `insert` and `remove_value` compare the value with those of its key, one after
-/// another. Who has many values under one key makes each pair a key of a
-/// [`ListOrderedMultimap`], which finds it by its hash, or swaps keys and values where a value has
-/// few keys.
+/// `contains`, `insert` and `remove_value` compare the value with the values of its key, one after
+/// another. Who has many values under one key makes each pair a key of a [`ListOrderedMultimap`],
+/// which finds it by its hash, or swaps keys and values where a value has few keys.
 ///
 /// The examples of the calls are about a set with these pairs; `alloc` is an allocator, as
 /// `rt.alloc()` of a program's `HostRuntime` gives it:

@@ -33,7 +33,7 @@ pub fn relink(list: &mut List, place: usize, link: u8) -> bool
     }
 }
 
-/// Reads each item from the front, and so counts as many reads as the list has items.
+/// Reads each item from the front, and so counts one read for each item of the list.
 pub fn read_all(list: &List, reads: &mut Reads)
     ensures { reads.new ≡ reads.old + length list.now.order }
 {
@@ -70,7 +70,7 @@ pub fn remove_none(list: &mut List, place: usize) -> bool
     list.remove(place).is_none()
 }
 
-/// Pushes an item beside a detached one, which stays: the item comes to another place.
+/// Pushes an item while another is detached, which stays: the item comes to another place.
 pub fn push_beside(list: &mut List, item: usize, detached: usize) -> Option<usize>
     requires { IsDetached list.old detached }
     ensures another { IfSome result (λ place. place ≢ detached) }

@@ -12,7 +12,7 @@ pub enum PartFault {
 }
 
 /// Why a JSON value gave no map. The pairs are the items of the array, or of the member `pairs` of
-/// an object. Items are counted from 0, and the first bad one decides, those of `keys` before those
+/// an object. Items are counted from 0, and the first bad one decides, items of `keys` before items
 /// of `pairs`.
 #[derive(Debug, PartialEq, Eq, Clone, Copy)]
 pub enum ReadFault {

@@ -187,8 +187,8 @@ fn append_under<K: Eq + Hash + Drop, V: Drop, S: BuildHasher, A: Allocator + Cop
     Ok(())
 }
 
-/// Takes the pairs out that stand for the keys: the first ones, as many as there are keys. A key
-/// that leaves with one of them is the key of no other pair.
+/// Takes out the pairs that stand for the keys: the first ones, one for each key. A key that leaves
+/// with one of them is the key of no other pair.
 pub(super) fn take_stand_ins<K: Eq + Hash + Drop, V: Drop, S: BuildHasher, A: Allocator>(
     map: &mut ListOrderedMultimap<K, V, S, A>,
 ) -> Result<(), ReadFault>

@@ -1,4 +1,4 @@
-//! The commands that read the map anew from its JSON value.
+//! The commands that read the map back from its JSON value.
 ghost use Rattle.multimap_tool.specs.Json.{DifferAsJson};
 ghost use Rattle.multimap_tool.specs.Private.MapSteps.{IsOwnMapStep};
 

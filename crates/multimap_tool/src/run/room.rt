@@ -10,8 +10,8 @@ use ordered_multimap::ListOrderedMultimap;
 use std::alloc::Allocator;
 use std::hash::{BuildHasher, Hash};
 
-/// Makes room for so many more keys, and for so many more values. Where memory is wanting, one of
-/// both may have grown.
+/// Makes room for this many more keys and values. Where memory is refused, one of both may have
+/// grown.
 pub(crate) fn reserve<K: Eq + Hash + Copy, V: Copy, S: BuildHasher, A: Allocator + Copy>(
     map: &mut ListOrderedMultimap<K, V, S, A>,
     keys: usize,

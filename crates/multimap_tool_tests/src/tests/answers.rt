@@ -1,4 +1,4 @@
-//! How the plain map answers lines, by the definitions of the commands.
+//! How the plain map replies to lines, by the definitions of the commands.
 use crate::tests::lines::{Kind, Line, line_of};
 use crate::tests::plain::{Pair, PlainMap, number};
 use std::alloc::{AllocError, Global};

@@ -175,7 +175,7 @@ fn push_line(alloc: Global, state: &mut u64, text: &mut String) -> Result<(), Al
     text.push_str("\n")
 }
 
-/// Adds so many random lines to a text.
+/// Adds this many random lines to a text.
 pub fn push_lines(
     alloc: Global,
     state: &mut u64,

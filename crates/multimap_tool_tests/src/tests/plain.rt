@@ -71,7 +71,7 @@ impl<'a> PlainMap<'a> {
         Ok(present)
     }
 
-    /// Puts a pair last in the place of those of its key.
+    /// Puts a pair last in the place of all pairs of its key.
     pub fn put_last(&mut self, key: &'a str, value: &'a str) -> Result<(), AllocError> {
         self.drop_pairs_of(key);
         self.append(key, value)?;
@@ -84,7 +84,7 @@ impl<'a> PlainMap<'a> {
         self.drop_keys_without_a_pair();
     }
 
-    /// Takes the pair of a key out that is at an index among those of the key, if there are others.
+    /// Takes out the pair at an index among the pairs of a key, if there are others.
     pub fn take_at(&mut self, key: &str, index: i64) -> Option<Pair<'a>> {
         if self.count_of(key) < 2 {
             return None;
@@ -95,7 +95,7 @@ impl<'a> PlainMap<'a> {
         }
     }
 
-    // The position of the pair at an index among those of a key.
+    // The position of the pair at an index among the pairs of a key.
     fn position_of(&self, key: &str, index: i64) -> Option<usize> {
         let mut before = 0i64;
         for (at, pair) in self.pairs.iter().enumerate() {

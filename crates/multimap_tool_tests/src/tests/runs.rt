@@ -1,4 +1,5 @@
-//! Lines that are run with so many requests for memory granted, and compared with a plain map.
+//! Lines that are run with a given number of requests for memory granted, and compared with a plain
+//! map.
 use crate::tests::answers::{answer, may_lack};
 use crate::tests::plain::PlainMap;
 use multimap_tool::commands::Command;
@@ -37,7 +38,7 @@ pub fn line_answers<'l>(
     answer(alloc, plain, line, &mut text).is_ok() && text.as_str() == told
 }
 
-/// Expects an answer to each line.
+/// Expects a reply to each line.
 pub fn lines_answer<'l>(test: &Test, plain: &mut PlainMap<'l>, lines: &'l str, text: &[u8]) {
     let text = str::from_utf8(text).unwrap_or("");
     for (row, (line, told)) in lines.lines().zip(text.lines()).enumerate() {

@@ -72,7 +72,7 @@ impl Write for FailingWriter {
     }
 }
 
-/// A run in which the read after so many fails. It returns whether the input ended before.
+/// A run in which the read after this many fails. It returns whether the input ended before.
 fn read_with(test: &Test, kind: ErrorKind, reads_before: u64) -> bool {
     let mut input = FailingReader {
         rest: INPUT,
@@ -121,7 +121,7 @@ fn a_failed_read_is_told_and_nothing_is_written(rt: HostRuntime) -> Result<(), F
     test_all!(rt.alloc(); each_read_fails, a_failed_read_is_told_before_a_bad_line)
 }
 
-/// A run in which the write after so many has trouble. It returns whether all was written before.
+/// A run in which the write after this many fails. It returns whether all was written before.
 fn write_with(test: &Test, trouble: Trouble, writes_before: u64) -> bool {
     let mut input = INPUT;
     let mut output = FailingWriter {

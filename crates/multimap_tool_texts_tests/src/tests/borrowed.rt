@@ -14,7 +14,7 @@ fn is_text(alloc: Global, written: Result<Value, AllocError>, text: &str) -> boo
     }
 }
 
-// The text of the pairs, and that of both lists.
+// The text of the pairs, and the text of both lists.
 fn is_written<K: ToJson + Eq + Hash, V: ToJson>(
     test: &Test,
     map: &ListOrderedMultimap<K, V>,

@@ -23,7 +23,7 @@ fn is_text_of<T: JsonPart + PartialEq + Drop>(alloc: Global, part: &T, text: &st
     is_read && has_text(alloc, &value, text)
 }
 
-/// Whether the text is that of a JSON value which isn't read as a part.
+/// Whether the text is a JSON value which isn't read as a part.
 fn is_refused<T: JsonPart + Drop>(alloc: Global, text: &str) -> bool {
     match Value::from_str(alloc, text) {
         Ok(value) => matches!(T::from_part(alloc, &value), Err(PartFault::Refused)),

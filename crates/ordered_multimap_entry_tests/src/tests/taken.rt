@@ -76,7 +76,7 @@ pub fn values_are_taken(test: &Test, allocator: &RefusingAllocator, map: &mut Re
     test.expect("no request", !allocator.refused());
 }
 
-/// Each of many values can be taken: the first, the last, and those of either half.
+/// Each of many values can be taken: the first, the last, and any of either half.
 pub fn one_of_many_is_taken(test: &Test, allocator: &RefusingAllocator, map: &mut Refusing<'_>) {
     reserve_anew(test, allocator, map, 2, 9);
     for (row, (index, wanted, left)) in ONES.iter().enumerate() {

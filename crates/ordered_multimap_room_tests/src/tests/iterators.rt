@@ -2,7 +2,7 @@
 ghost use Rattle.std.specs.Prelude.{◌^◌, ◌+◌, ◌-◌};
 ghost use Rattle.std.specs.Iterator.{at_most};
 
-/// The pairs of a slice. It says that there are so many at least, whatever is left.
+/// The pairs of a slice. It says that there are at least this many, whatever is left.
 #[derive(Drop)]
 pub struct Hinted {
     pub rows: &'static [(u32, u32)],

@@ -33,7 +33,7 @@ fn makes_with_hasher(test: &Test, granted: u64, room: (usize, usize)) -> bool {
     is_made::<Constant>(test, made, room)
 }
 
-/// Room for keys and values, and how many requests it wants at least.
+/// Room for keys and values, and how many requests it takes at least.
 const ROOMS: &[((usize, usize), u64)] = &[((0, 0), 0), ((0, 5), 1), ((5, 0), 2), ((1, 2), 3)];
 
 fn room_is_made(test: &Test, at: usize, room: (usize, usize), least: u64) {

@@ -13,7 +13,7 @@ pub const OTHERS: &[(u32, u32)] = &[(2, 0), (2, 1), (2, 2), (2, 3), (2, 4), (2, 
 
 const PAIR: Refused<u32, u32> = Refused { key: 1, value: 77 };
 
-/// The first rows, as many as there are pairs.
+/// The first rows, one for each pair.
 pub fn first<T>(rows: &[T], count: usize) -> &[T] {
     &rows[..count.min(rows.len())]
 }
@@ -28,7 +28,7 @@ fn stands_behind(map: &Refusing<'_>, pairs: &[(u32, u32)]) -> bool {
     same && copied(walk.next()) == Some((1, 77)) && walk.next().is_none()
 }
 
-// Whether the pairs before stay: those of another key, and those of the key in an append.
+// Whether the pairs before stay: the pairs of another key, and in an append the pairs of the key.
 fn stay(call: Call, before: &[(u32, u32)]) -> bool {
     let appends = call == Call::Append || call == Call::OfOccupied(Occupied::Append);
     appends || before.first().copied() == Some((2, 0))
@@ -71,7 +71,7 @@ pub fn puts(test: &Test, map: &mut Refusing<'_>, call: Call, pairs: &[(u32, u32)
     is_put(test, map, call, before, answer)
 }
 
-/// Puts in as many of the pairs, all of one key, as there is room for.
+/// Appends the pairs, all of one key, as long as there is room.
 pub fn fill_up(test: &Test, map: &mut Refusing<'_>, pairs: &[(u32, u32)]) {
     test.expect("reserve_keys", map.reserve_keys(1).is_ok());
     test.expect("reserve_values", map.reserve_values(2).is_ok());

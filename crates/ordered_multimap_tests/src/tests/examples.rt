@@ -217,7 +217,7 @@ fn add_again(test: &Test, map: &mut Numbers) {
     test.expect("append", add_three(map).is_ok());
 }
 
-// The pairs come anew between the calls that write the same.
+// The pairs are appended again between the calls that write the same.
 fn writes_answer(test: &Test, map: &mut Numbers) {
     get_mut_answers(test, map);
     front_mut_answers(test, map);

@@ -54,8 +54,8 @@ impl<K: Eq + Hash + Drop, V: Eq + Drop, S: BuildHasher, A: Allocator + Copy> Set
         }
     }
 
-    /// Inserts each pair in turn. `iter` has to end. Where there is room for as many more keys and
-    /// as many more values as it has pairs, it succeeds for sure.
+    /// Inserts each pair in turn. `iter` has to end. If there is room for a key and a value for
+    /// each pair, it succeeds.
     ///
     /// Where memory is refused for a pair, it hands that pair back; those before it stay. A caller
     /// who hands in `&mut iter` keeps those behind it. It costs what `insert` costs for each pair.

@@ -1,4 +1,4 @@
-//! Pairs that leave: one, those of a key, and all.
+//! Pairs that leave: one pair, all pairs of a key, or all.
 ghost use Rattle.std.specs.Prelude.{◌≡◌, ◌+◌, ◌&&◌, cond, false, length, true};
 ghost use Rattle.std.specs.Borrow.{sem};
 ghost use Rattle.std.specs.List.{FoldsTo};

@@ -12,8 +12,8 @@ use std::alloc::{AllocError, Allocator};
 use std::fmt;
 use std::hash::{BuildHasher, Hash};
 
-/// Two sets are equal if they have as many pairs, and equal keys and equal values at each position,
-/// as maps are. The order of their keys may differ.
+/// Two sets are equal if they have the same number of pairs, with equal keys and equal values at
+/// each position, as maps are. The order of their keys may differ.
 ///
 /// ```
 /// set == set.clone()?
@@ -59,7 +59,7 @@ impl<
     }
 }
 
-/// The pairs as those of a map are shown, as `{"plan": "draft", "plan": "long"}`.
+/// The pairs, shown as the pairs of a map are: `{"plan": "draft", "plan": "long"}`.
 impl<K: Eq + Hash + fmt::Debug, V: fmt::Debug, S: BuildHasher, A: Allocator> fmt::Debug
     for SetOrderedMultimap<K, V, S, A> {
     fn fmt<W: fmt::Write>(&self, f: &mut fmt::Formatter<W>) -> fmt::Result {
