@@ -40,14 +40,15 @@ macro_rules! test_all {
     }};
 }
 
-/// Runs a test of checks that are lent the same map of this type in turn, which is empty at first.
+/// Runs a test of checks that are lent the same map in turn, which is empty at first.
 #[macro_export]
 macro_rules! test_in_turn {
-    ($alloc:expr; $map:ty; $($check:path),+) => {
-        $crate::tested::test_on_empty($alloc, |test: &Test, map: &mut $map| {
-            $($check(test, map);)+
-        })
-    };
+    ($alloc:expr; $($check:path),+) => {{
+        let test = Test::new($alloc);
+        let map = &mut ListOrderedMultimap::new(test.alloc());
+        $($check(&test, map);)+
+        test.end()
+    }};
 }
 
 /// The same where the map's memory can be refused by an allocator, which the checks are lent too.

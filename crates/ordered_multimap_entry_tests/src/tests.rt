@@ -10,26 +10,25 @@ use crate::tests::called::callers_answer;
 use crate::tests::entries::{entries_are_filled, functions_are_called_once, values_are_replaced};
 use crate::tests::examples::{examples_of_numbers_hold, examples_of_texts_hold};
 use crate::tests::taken::{one_of_many_is_taken, values_are_taken};
-use crate::tests::texts::{Counts, keys_are_entered, values_are_counted};
+use crate::tests::texts::{keys_are_entered, values_are_counted};
 use ordered_multimap::ListOrderedMultimap;
-use ordered_multimap_callers::maps::{Numbers, Texts};
 use ordered_multimap_callers::{test_in_turn, test_refusing};
 use refusing_allocator::RefusingAllocator;
 use test_helpers::{Failed, Test};
 
 #[test]
 fn texts_are_entered(rt: HostRuntime) -> Result<(), Failed> {
-    test_in_turn!(rt.alloc(); Texts; keys_are_entered)
+    test_in_turn!(rt.alloc(); keys_are_entered)
 }
 
 #[test]
 fn counts_are_entered(rt: HostRuntime) -> Result<(), Failed> {
-    test_in_turn!(rt.alloc(); Counts; values_are_counted, examples_of_texts_hold)
+    test_in_turn!(rt.alloc(); values_are_counted, examples_of_texts_hold)
 }
 
 #[test]
 fn numbers_are_entered(rt: HostRuntime) -> Result<(), Failed> {
-    test_in_turn!(rt.alloc(); Numbers;
+    test_in_turn!(rt.alloc();
         entries_are_filled, functions_are_called_once, callers_answer, examples_of_numbers_hold)
 }
 

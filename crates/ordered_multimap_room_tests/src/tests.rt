@@ -29,7 +29,7 @@ use test_helpers::{Failed, Test};
 
 #[test]
 fn room_is_asked_for(rt: HostRuntime) -> Result<(), Failed> {
-    test_in_turn!(rt.alloc(); Texts; room_grows)
+    test_in_turn!(rt.alloc(); room_grows)
 }
 
 fn texts_come(test: &Test, map: &mut Texts) {

@@ -21,13 +21,13 @@ use crate::tests::into_iter::{pairs_are_handed_out, rest_is_walked, sum_of};
 use crate::tests::shown::is_shown_apart;
 use ordered_multimap::ListOrderedMultimap;
 use ordered_multimap::list_ordered_multimap::RandomState;
-use ordered_multimap_callers::maps::{MIXED, MIXED_TEXTS, Numbers, Texts, map_of, refill};
+use ordered_multimap_callers::maps::{MIXED, MIXED_TEXTS, Numbers, map_of, refill};
 use ordered_multimap_callers::test_in_turn;
 use test_helpers::{Constant, Failed, Test, ZERO};
 
 #[test]
 fn maps_of_texts_answer(rt: HostRuntime) -> Result<(), Failed> {
-    test_in_turn!(rt.alloc(); Texts;
+    test_in_turn!(rt.alloc();
         texts::come_and_go, walks::are_taken, key_values::are_taken, shown::are_shown,
         equal::are_compared, clones::are_made)
 }

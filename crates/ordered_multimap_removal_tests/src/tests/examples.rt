@@ -46,5 +46,5 @@ fn values_below_zero_go(test: &Test, map: &mut Texts) {
 
 #[test]
 fn texts_stay_by_their_values(rt: HostRuntime) -> Result<(), Failed> {
-    test_in_turn!(rt.alloc(); Texts; page_goes, values_below_zero_go)
+    test_in_turn!(rt.alloc(); page_goes, values_below_zero_go)
 }

@@ -111,5 +111,5 @@ fn replaced_key_stays(test: &Test, map: &mut Words) {
 
 #[test]
 fn of_equal_keys_the_first_stays(rt: HostRuntime) -> Result<(), Failed> {
-    test_in_turn!(rt.alloc(); Words; first_key_stays, replaced_key_stays)
+    test_in_turn!(rt.alloc(); first_key_stays, replaced_key_stays)
 }

@@ -103,6 +103,6 @@ fn values_are_updated(test: &Test, map: &mut Numbers) {
 
 #[test]
 fn examples_hold(rt: HostRuntime) -> Result<(), Failed> {
-    test_in_turn!(rt.alloc(); Numbers;
+    test_in_turn!(rt.alloc();
         last_is_written, keys_are_written, all_are_written, entry_is_written, values_are_updated)
 }
