@@ -7,10 +7,10 @@ fn boxes_are_granted(test: &Test, granted: u64) {
     let allocator = RefusingAllocator::new(test.alloc(), granted);
     for request in 0..6u64 {
         let is_made = Box::new(&allocator, request).is_ok();
-        test.expect("granted", is_made == (request < granted));
-        test.expect("refused", allocator.refused() == (request >= granted));
+        test.expect(is_made == (request < granted));
+        test.expect(allocator.refused() == (request >= granted));
     }
-    test.expect("none is left", allocator.granted() == 0);
+    test.expect(allocator.granted() == 0);
 }
 
 // Pushes the numbers from 0 on until one is refused and handed back, and returns it.
@@ -30,14 +30,14 @@ fn a_growth_is_a_request(
     items: &mut Vec<u64, &RefusingAllocator>,
 ) {
     let refused = push_until_refused(items);
-    test.expect("refused", allocator.refused());
-    test.expect("a full block", items.len() == items.capacity());
-    test.expect("the item", refused == Some(items.len() as u64));
+    test.expect(allocator.refused());
+    test.expect(items.len() == items.capacity());
+    test.expect(refused == Some(items.len() as u64));
     allocator.refuse_none();
-    test.expect("forgotten", !allocator.refused());
-    test.expect("push", items.push(0).is_ok());
+    test.expect(!allocator.refused());
+    test.expect(items.push(0).is_ok());
     allocator.refuse_all();
-    test.expect("no room", push_until_refused(items).is_some());
+    test.expect(push_until_refused(items).is_some());
 }
 
 #[test]

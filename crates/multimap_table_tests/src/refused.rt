@@ -14,13 +14,13 @@ fn make_with(test: &Test, granted: u64) -> bool {
         Ok(table) => table.is_empty() && table.capacity() >= 100,
         Err(_) => false,
     };
-    test.expect("want of memory alone", enough != allocator.refused());
+    test.expect(enough != allocator.refused());
     enough
 }
 
 fn fill(test: &Test, rows: &mut Rows<'_>) {
     for place in 0..100usize {
-        test.expect("insert", rows.insert(place as u64 % 7, place));
+        test.expect(rows.insert(place as u64 % 7, place));
     }
 }
 
@@ -35,8 +35,8 @@ fn grow_with(
     allocator.refuse_none();
     allocator.grant(granted);
     let enough = rows.reserve(capacity).is_ok();
-    test.expect("want of memory alone", enough != allocator.refused());
-    test.expect("capacity", enough || rows.table().capacity() == capacity);
+    test.expect(enough != allocator.refused());
+    test.expect(enough || rows.table().capacity() == capacity);
     agrees(test, rows);
     enough
 }
@@ -44,17 +44,14 @@ fn grow_with(
 // What has room goes on without memory: a row goes and comes again, and others come.
 fn room_is_used(test: &Test, allocator: &RefusingAllocator, rows: &mut Rows<'_>) {
     let capacity = rows.table().capacity();
-    test.expect("all", rows.reserve(usize::MAX).is_err());
+    test.expect(rows.reserve(usize::MAX).is_err());
     allocator.refuse_all();
-    test.expect(
-        "the room",
-        rows.reserve(capacity.saturating_sub(100)).is_ok(),
-    );
-    test.expect("no more room", rows.table().capacity() == capacity);
-    test.expect("remove", rows.remove(50));
-    test.expect("insert again", rows.insert(3, 50));
+    test.expect(rows.reserve(capacity.saturating_sub(100)).is_ok());
+    test.expect(rows.table().capacity() == capacity);
+    test.expect(rows.remove(50));
+    test.expect(rows.insert(3, 50));
     for place in 100..capacity {
-        test.expect_at("insert", place, rows.insert(3, place));
+        test.expect_at(place, rows.insert(3, place));
     }
     agrees(test, rows);
 }
@@ -64,7 +61,7 @@ fn rows_are_refused(test: &Test, allocator: &RefusingAllocator, rows: &mut Rows<
     room_is_used(test, allocator, rows);
     for granted in 0..3u64 {
         let enough = grow_with(test, allocator, rows, granted);
-        test.expect("two requests", enough == (granted == 2));
+        test.expect(enough == (granted == 2));
     }
 }
 
@@ -73,14 +70,14 @@ fn refusals_change_nothing_and_room_is_used(rt: HostRuntime) -> Result<(), Faile
     let test = Test::new(rt.alloc());
     // One block for the tags, and one for the rows.
     let enough = requests_until_enough(|granted| make_with(&test, granted));
-    test.expect("two requests", enough == Some(2));
+    test.expect(enough == Some(2));
     let allocator = RefusingAllocator::unlimited(test.alloc());
     match with_room(&allocator, 300, 100) {
         Ok(mut rows) => rows_are_refused(&test, &allocator, &mut rows),
-        Err(_) => test.expect("memory", false),
+        Err(_) => test.fail(),
     }
     allocator.refuse_all();
     let none = KeyTable::with_capacity(&allocator, 0);
-    test.expect("room for none", none.is_ok());
+    test.expect(none.is_ok());
     test.end()
 }

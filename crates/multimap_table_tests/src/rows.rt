@@ -6,7 +6,7 @@ use test_helpers::{Failed, Test, expect_text};
 
 /// Expects that the table and the list have the same rows.
 pub fn agrees<A: Allocator + Copy>(test: &Test, rows: &Compared<A>) {
-    test.expect("a table like the list", rows.differences() == 0);
+    test.expect(rows.differences() == 0);
 }
 
 /// An empty table with a plain list of this many places, and room for this many rows.
@@ -21,24 +21,24 @@ pub fn with_room<A: Allocator + Copy>(
 }
 
 fn rows_are_found(test: &Test, rows: &mut Compared) {
-    test.expect("is_empty", rows.table().is_empty());
+    test.expect(rows.table().is_empty());
     for (hash, place) in [(7, 0), (7, 3), (9, 4)] {
-        test.expect("insert", rows.insert(hash, place));
+        test.expect(rows.insert(hash, place));
     }
     let third = rows.table().find(7, |place| place == 3);
-    test.expect("the row of the place", third == Some(3));
+    test.expect(third == Some(3));
     let other = rows.table().find(7, |place| place == 4);
-    test.expect("a row of another hash", other.is_none());
-    test.expect("an absent hash", rows.table().find(8, |_| true).is_none());
+    test.expect(other.is_none());
+    test.expect(rows.table().find(8, |_| true).is_none());
 }
 
 fn the_other_rows_stay(test: &Test, rows: &mut Compared) {
-    test.expect("remove", rows.remove(0));
-    test.expect("len", rows.table().len() == 2);
-    test.expect("the other row", rows.table().find(7, |_| true) == Some(3));
-    test.expect("remove the last", rows.remove(4));
+    test.expect(rows.remove(0));
+    test.expect(rows.table().len() == 2);
+    test.expect(rows.table().find(7, |_| true) == Some(3));
+    test.expect(rows.remove(4));
     let shown = format!(in test.alloc(); "{:?}", rows.table());
-    expect_text(test, "shown", shown, "[(7, 3)]");
+    expect_text(test, shown, "[(7, 3)]");
 }
 
 #[test]
@@ -49,7 +49,7 @@ fn a_row_is_found_by_hash_and_test(rt: HostRuntime) -> Result<(), Failed> {
             rows_are_found(&test, &mut rows);
             the_other_rows_stay(&test, &mut rows);
         }
-        Err(_) => test.expect("memory", false),
+        Err(_) => test.fail(),
     }
     test.end()
 }
@@ -61,8 +61,8 @@ const MASKS: &[u64] = &[0xF, 0xFF00_0000_0000_0007, 0x0F00_0000_0000_FFFF, u64::
 fn change_one(test: &Test, rows: &mut Compared, mask: u64, random: u64) {
     let place = (random >> 20) as usize % 2000;
     if !rows.remove(place) {
-        test.expect("reserve", rows.reserve(1).is_ok());
-        test.expect("insert", rows.insert(next_random(random) & mask, place));
+        test.expect(rows.reserve(1).is_ok());
+        test.expect(rows.insert(next_random(random) & mask, place));
     }
 }
 
@@ -81,8 +81,8 @@ fn change_many(test: &Test, rows: &mut Compared, mask: u64) {
 fn a_cleared_table_is_empty(test: &Test, table: &mut KeyTable) {
     let capacity = table.capacity();
     table.clear();
-    test.expect("capacity", table.capacity() == capacity);
-    test.expect("is_empty", table.is_empty());
+    test.expect(table.capacity() == capacity);
+    test.expect(table.is_empty());
 }
 
 #[test]
@@ -94,7 +94,7 @@ fn a_table_agrees_with_a_plain_list(rt: HostRuntime) -> Result<(), Failed> {
                 change_many(&test, &mut rows, *mask);
                 a_cleared_table_is_empty(&test, &mut rows.into_table());
             }
-            Err(_) => test.expect("memory", false),
+            Err(_) => test.fail(),
         }
     }
     test.end()

@@ -41,7 +41,7 @@ pub fn fill<K: Eq + Hash + Copy, V: Copy, A: Allocator + Copy>(
     pairs: &[(K, V)],
 ) {
     for (key, value) in pairs {
-        test.expect("append", map.append(*key, *value).is_ok());
+        test.expect(map.append(*key, *value).is_ok());
     }
 }
 
@@ -76,7 +76,7 @@ pub fn reserve_anew(
 ) {
     allocator.refuse_none();
     map.clear();
-    test.expect("pack_to_fit", map.pack_to_fit().is_ok());
+    test.expect(map.pack_to_fit().is_ok());
     reserve(test, allocator, map, keys, values);
 }
 
@@ -88,7 +88,7 @@ pub fn reserve(
     keys: usize,
     values: usize,
 ) {
-    test.expect("reserve_keys", map.reserve_keys(keys).is_ok());
-    test.expect("reserve_values", map.reserve_values(values).is_ok());
+    test.expect(map.reserve_keys(keys).is_ok());
+    test.expect(map.reserve_values(values).is_ok());
     allocator.refuse_all();
 }

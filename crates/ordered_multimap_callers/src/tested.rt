@@ -30,35 +30,18 @@ pub fn test_on_empty<T: Checked, M: Empty, F: FnOnce(&T, &mut M)>(
     test.finish()
 }
 
-/// Runs a test of checks that need nothing but the test.
-#[macro_export]
-macro_rules! test_all {
-    ($alloc:expr; $($check:path),+) => {{
-        let test = Test::new($alloc);
-        $($check(&test);)+
-        test.end()
-    }};
-}
-
-/// Runs a test of checks that are lent the same map in turn, which is empty at first.
-#[macro_export]
-macro_rules! test_in_turn {
-    ($alloc:expr; $($check:path),+) => {{
-        let test = Test::new($alloc);
-        let map = &mut ListOrderedMultimap::new(test.alloc());
-        $($check(&test, map);)+
-        test.end()
-    }};
-}
-
-/// The same where the map's memory can be refused by an allocator, which the checks are lent too.
+/// Runs a test of checks that are lent the same map in turn, and an allocator that can refuse the
+/// map's memory.
 #[macro_export]
 macro_rules! test_refusing {
     ($alloc:expr; $($check:path),+) => {{
         let test = Test::new($alloc);
         let allocator = RefusingAllocator::unlimited(test.alloc());
         let map = &mut ListOrderedMultimap::new(&allocator);
-        $($check(&test, &allocator, map);)+
+        $(
+            test.begin(stringify!($check));
+            $check(&test, &allocator, map);
+        )+
         test.end()
     }};
 }
@@ -71,7 +54,7 @@ macro_rules! test_with_room {
         let allocator = RefusingAllocator::unlimited(test.alloc());
         match ListOrderedMultimap::with_capacity(&allocator, $keys, $values) {
             Ok(mut map) => $check(&test, &allocator, &mut map),
-            Err(_) => test.expect("memory for the map", false),
+            Err(_) => test.fail(),
         }
         test.end()
     }};
@@ -84,7 +67,7 @@ macro_rules! test_shares {
         let test = Test::new($alloc);
         match Rc::new(test.alloc(), 1) {
             Ok(shared) => $check(&test, &shared),
-            Err(_) => test.expect("memory for a share", false),
+            Err(_) => test.fail(),
         }
         test.end()
     }};

@@ -12,23 +12,23 @@ use crate::tests::examples::{examples_of_numbers_hold, examples_of_texts_hold};
 use crate::tests::taken::{one_of_many_is_taken, values_are_taken};
 use crate::tests::texts::{keys_are_entered, values_are_counted};
 use ordered_multimap::ListOrderedMultimap;
-use ordered_multimap_callers::{test_in_turn, test_refusing};
+use ordered_multimap_callers::test_refusing;
 use refusing_allocator::RefusingAllocator;
-use test_helpers::{Failed, Test};
+use test_helpers::{Failed, Test, test_in_turn};
 
 #[test]
 fn texts_are_entered(rt: HostRuntime) -> Result<(), Failed> {
-    test_in_turn!(rt.alloc(); keys_are_entered)
+    test_in_turn!(rt.alloc(), ListOrderedMultimap::new; keys_are_entered)
 }
 
 #[test]
 fn counts_are_entered(rt: HostRuntime) -> Result<(), Failed> {
-    test_in_turn!(rt.alloc(); values_are_counted, examples_of_texts_hold)
+    test_in_turn!(rt.alloc(), ListOrderedMultimap::new; values_are_counted, examples_of_texts_hold)
 }
 
 #[test]
 fn numbers_are_entered(rt: HostRuntime) -> Result<(), Failed> {
-    test_in_turn!(rt.alloc();
+    test_in_turn!(rt.alloc(), ListOrderedMultimap::new;
         entries_are_filled, functions_are_called_once, callers_answer, examples_of_numbers_hold)
 }
 

@@ -16,17 +16,16 @@ use crate::tests::popped::{Alike, collided_keys_leave, key_is_lent_and_handed_ou
 use crate::tests::removed::keys_leave;
 use crate::tests::retained::pairs_stay;
 use ordered_multimap::ListOrderedMultimap;
-use ordered_multimap_callers::test_in_turn;
-use test_helpers::{Failed, Test, ZERO};
+use test_helpers::{Failed, Test, ZERO, test_in_turn};
 
 #[test]
 fn pairs_of_texts_leave(rt: HostRuntime) -> Result<(), Failed> {
-    test_in_turn!(rt.alloc(); keys_leave, key_is_lent_and_handed_out, values_are_given)
+    test_in_turn!(rt.alloc(), ListOrderedMultimap::new; keys_leave, key_is_lent_and_handed_out, values_are_given)
 }
 
 #[test]
 fn pairs_of_numbers_leave(rt: HostRuntime) -> Result<(), Failed> {
-    test_in_turn!(rt.alloc(); pairs_leave, pairs_stay, keys_are_drained, lists_are_final)
+    test_in_turn!(rt.alloc(), ListOrderedMultimap::new; pairs_leave, pairs_stay, keys_are_drained, lists_are_final)
 }
 
 #[test]

@@ -23,13 +23,13 @@ use crate::tests::pack::texts_are_packed;
 use crate::tests::reserve::{room_grows, room_is_used};
 use ordered_multimap::ListOrderedMultimap;
 use ordered_multimap_callers::maps::{Numbers, Texts, map_of};
-use ordered_multimap_callers::{test_all, test_in_turn, test_with_room};
+use ordered_multimap_callers::test_with_room;
 use refusing_allocator::RefusingAllocator;
-use test_helpers::{Failed, Test};
+use test_helpers::{Failed, Test, test_all, test_in_turn};
 
 #[test]
 fn room_is_asked_for(rt: HostRuntime) -> Result<(), Failed> {
-    test_in_turn!(rt.alloc(); room_grows)
+    test_in_turn!(rt.alloc(), ListOrderedMultimap::new; room_grows)
 }
 
 fn texts_come(test: &Test, map: &mut Texts) {
@@ -42,7 +42,7 @@ fn texts_come_at_once_and_are_packed(rt: HostRuntime) -> Result<(), Failed> {
     let test = Test::new(rt.alloc());
     match ListOrderedMultimap::with_capacity(test.alloc(), 10, 10) {
         Ok(mut map) => texts_come(&test, &mut map),
-        Err(_) => test.expect("memory for ten pairs", false),
+        Err(_) => test.fail(),
     }
     test.end()
 }

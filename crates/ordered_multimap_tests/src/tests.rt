@@ -22,12 +22,11 @@ use crate::tests::shown::is_shown_apart;
 use ordered_multimap::ListOrderedMultimap;
 use ordered_multimap::list_ordered_multimap::RandomState;
 use ordered_multimap_callers::maps::{MIXED, MIXED_TEXTS, Numbers, map_of, refill};
-use ordered_multimap_callers::test_in_turn;
-use test_helpers::{Constant, Failed, Test, ZERO};
+use test_helpers::{Constant, Failed, Test, ZERO, test_in_turn};
 
 #[test]
 fn maps_of_texts_answer(rt: HostRuntime) -> Result<(), Failed> {
-    test_in_turn!(rt.alloc();
+    test_in_turn!(rt.alloc(), ListOrderedMultimap::new;
         texts::come_and_go, walks::are_taken, key_values::are_taken, shown::are_shown,
         equal::are_compared, clones::are_made)
 }
@@ -56,7 +55,7 @@ fn a_builder_serves(test: &Test, state: Option<RandomState>) {
                 &mut ListOrderedMultimap::with_hasher(test.alloc(), state),
             );
         }
-        None => test.expect("random bytes", false),
+        None => test.fail(),
     }
 }
 
@@ -70,7 +69,7 @@ fn a_random_builder_serves(rt: HostRuntime) -> Result<(), Failed> {
 // The map of numbers is looped over, and then taken apart.
 fn numbers_are_taken(test: &Test, mut map: Numbers) {
     refill(test, &mut map, MIXED);
-    test.expect("each key times its value", sum_of(&map) == 75);
+    test.expect(sum_of(&map) == 75);
     refill(test, &mut map, &[(1, 1), (2, 2), (1, 3)]);
     rest_is_walked(test, &mut map.into_iter());
 }

@@ -17,17 +17,16 @@ use crate::tests::unread::one_key_is_written;
 use crate::tests::updated::values_are_updated;
 use crate::tests::walks::values_are_lent_once;
 use ordered_multimap::ListOrderedMultimap;
-use ordered_multimap_callers::test_in_turn;
-use test_helpers::{Failed, Test};
+use test_helpers::{Failed, Test, test_in_turn};
 
 #[test]
 fn values_are_written_by_walks(rt: HostRuntime) -> Result<(), Failed> {
-    test_in_turn!(rt.alloc();
+    test_in_turn!(rt.alloc(), ListOrderedMultimap::new;
         values_are_lent_once, keys_lend_their_values, one_key_is_written, walks_have_left,
         values_are_updated, walks_leave_values)
 }
 
 #[test]
 fn walks_over_texts_are_shown(rt: HostRuntime) -> Result<(), Failed> {
-    test_in_turn!(rt.alloc(); walks_are_shown)
+    test_in_turn!(rt.alloc(), ListOrderedMultimap::new; walks_are_shown)
 }

@@ -2,9 +2,10 @@
 //! make.
 //!
 //! No function here may end the process, so tests of libraries can stand on this crate as on any
-//! other. A test makes a [`Test`], tells it of each step whether it held, and ends with its result.
+//! other. A test makes a [`Test`], tells it of each check whether it held, and ends with its result.
 #![tactic(auto)]
 
+mod frames;
 mod requests;
 mod samples;
 mod steps;

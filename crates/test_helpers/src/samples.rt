@@ -26,7 +26,7 @@ impl Sample for String {
     fn of(test: &Test, number: usize) -> String {
         let mut text = String::new(test.alloc());
         for _ in 0..number {
-            test.expect("memory for a text", text.push('a').is_ok());
+            test.expect(text.push('a').is_ok());
         }
         text
     }

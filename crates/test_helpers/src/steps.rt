@@ -1,28 +1,35 @@
-//! The steps of a test, and the first of them that didn't hold.
+//! The checks of a test, and the first of them that didn't hold.
 use std::alloc::Global;
 use std::cell::Cell;
 
-/// The first step of a test that didn't hold, and its row where it walks a table, counted from 0.
+/// The first check of a test that didn't hold: the part of the test that was under way, which check
+/// of that part it was, counted from 1, and its row where it walks a table, counted from 0.
 #[derive(Clone, Copy, Debug)]
 pub struct Failed {
-    step: &'static str,
+    part: &'static str,
+    check: usize,
     row: Option<usize>,
 }
 
 /// A test that is under way.
 ///
 /// It isn't `Drop`, so a test that makes one has to call [`Test::end`], and can't forget to tell
-/// what failed.
+/// what failed. Its checks are counted and not named: a text that each were handed would cost the
+/// borrow checker's proof more than the check.
 pub struct Test {
     alloc: Global,
+    part: Cell<&'static str>,
+    checks: Cell<usize>,
     failed: Cell<Option<Failed>>,
 }
 
 impl Test {
-    /// A test of which no step failed. `alloc` gives the memory of what it makes.
+    /// A test of which no check failed. `alloc` gives the memory of what it makes.
     pub fn new(alloc: Global) -> Test {
         Test {
             alloc,
+            part: Cell::new(""),
+            checks: Cell::new(0),
             failed: Cell::new(None),
         }
     }
@@ -32,55 +39,64 @@ impl Test {
         self.alloc
     }
 
-    /// Fails the test by this step unless it holds. The test goes on; its first failure is told.
-    pub fn expect(&self, step: &'static str, holds: bool) {
-        self.note(Failed { step, row: None }, holds);
+    /// Begins a part of the test, whose checks are counted from 1.
+    pub fn begin(&self, part: &'static str) {
+        self.part.set(part);
+        self.checks.set(0);
+    }
+
+    /// Fails the test unless this holds. The test goes on; its first failure is told.
+    pub fn expect(&self, holds: bool) {
+        self.note(None, holds);
     }
 
     /// The same of a row of a table, counted from 0.
-    pub fn expect_at(&self, step: &'static str, row: usize, holds: bool) {
-        self.note(
-            Failed {
-                step,
-                row: Some(row),
-            },
-            holds,
-        );
+    pub fn expect_at(&self, row: usize, holds: bool) {
+        self.note(Some(row), holds);
     }
 
-    /// Fails the test by this step if there is a row at which something differs.
-    pub fn expect_same(&self, step: &'static str, difference: Option<usize>) {
-        self.note(
-            Failed {
-                step,
-                row: difference,
-            },
-            difference.is_none(),
-        );
+    /// Fails the test if there is a row at which something differs.
+    pub fn expect_same(&self, difference: Option<usize>) {
+        self.note(difference, difference.is_none());
     }
 
-    fn note(&self, step: Failed, holds: bool) {
+    /// Fails the test.
+    pub fn fail(&self) {
+        self.note(None, false);
+    }
+
+    fn note(&self, row: Option<usize>, holds: bool) {
+        self.checks.set(self.checks.get().saturating_add(1));
         if !holds && self.failed.get().is_none() {
-            self.failed.set(Some(step));
+            self.failed.set(Some(Failed {
+                part: self.part.get(),
+                check: self.checks.get(),
+                row,
+            }));
         }
     }
 
-    /// Ends the test: an error tells the first step that failed.
+    /// Ends the test: an error tells the first check that failed.
     pub fn end(self) -> Result<(), Failed> {
-        let Test { alloc: _, failed } = self;
+        let Test {
+            alloc: _,
+            part: _,
+            checks: _,
+            failed,
+        } = self;
         match failed.get() {
             None => Ok(()),
-            Some(step) => Err(step),
+            Some(first) => Err(first),
         }
     }
 }
 
 /// What a test begins with, lends to its checks, and ends with.
 pub trait Checked {
-    /// One of which no step failed. `alloc` gives the memory of what it makes.
+    /// One of which no check failed. `alloc` gives the memory of what it makes.
     fn begin(alloc: Global) -> Self;
 
-    /// Ends it: an error tells the first step that failed.
+    /// Ends it: an error tells the first check that failed.
     fn finish(self) -> Result<(), Failed>;
 }
 
@@ -95,14 +111,9 @@ impl Checked for Test {
 }
 
 /// Expects that a value was shown by this text.
-pub fn expect_text<E: Drop>(
-    test: &Test,
-    step: &'static str,
-    shown: Result<String, E>,
-    wanted: &str,
-) {
+pub fn expect_text<E: Drop>(test: &Test, shown: Result<String, E>, wanted: &str) {
     match shown {
-        Ok(text) => test.expect(step, text.as_str() == wanted),
-        Err(_) => test.expect(step, false),
+        Ok(text) => test.expect(text.as_str() == wanted),
+        Err(_) => test.fail(),
     }
 }

@@ -13,7 +13,7 @@ const NOWHERE: usize = 1000;
 
 fn push(test: &Test, list: &mut List, item: usize) -> usize {
     let place = list.push_back(item, 1);
-    test.expect("memory for a push", place.is_ok());
+    test.expect(place.is_ok());
     place.unwrap_or(NOWHERE)
 }
 
@@ -22,58 +22,58 @@ fn items_keep_their_places(test: &Test, list: &mut List) {
     let a = push(test, list, 10);
     let b = push(test, list, 20);
     let c = push(test, list, 30);
-    test.expect("remove", list.remove(b) == Some(20));
-    test.expect("remove again", list.remove(b).is_none());
-    test.expect("next_place", list.next_place(a) == Some(c));
-    test.expect("previous_place", list.previous_place(c) == Some(a));
+    test.expect(list.remove(b) == Some(20));
+    test.expect(list.remove(b).is_none());
+    test.expect(list.next_place(a) == Some(c));
+    test.expect(list.previous_place(c) == Some(a));
     one_comes_and_the_first_goes(test, list, a, c);
 }
 
 fn one_comes_and_the_first_goes(test: &Test, list: &mut List, a: usize, c: usize) {
     let d = push(test, list, 40);
     expect_slots(test, list, &[(a, 10, 1), (c, 30, 1), (d, 40, 1)]);
-    test.expect("remove the first", list.remove(a) == Some(10));
-    test.expect("front_place", list.front_place() == Some(c));
+    test.expect(list.remove(a) == Some(10));
+    test.expect(list.front_place() == Some(c));
 }
 
 fn two_are_pushed_and_read(test: &Test, list: &mut List) {
     let places = push_two(list, 10, 20);
-    test.expect("places", places == Some((0, 1)));
-    test.expect("relink", relink(list, 1, 7));
-    test.expect("relink nowhere", !relink(list, NOWHERE, 7));
+    test.expect(places == Some((0, 1)));
+    test.expect(relink(list, 1, 7));
+    test.expect(!relink(list, NOWHERE, 7));
     read_all(list, &mut Reads::new());
-    test.expect("shown", is_shown(test.alloc(), list, "{0: 10, 1: 20}"));
+    test.expect(is_shown(test.alloc(), list, "{0: 10, 1: 20}"));
 }
 
 fn an_item_is_written(test: &Test, list: &mut List) {
     match list.get_mut(0) {
         Some(item) => *item = 11,
-        None => test.expect("get_mut", false),
+        None => test.fail(),
     }
-    test.expect("get_mut of nowhere", list.get_mut(NOWHERE).is_none());
+    test.expect(list.get_mut(NOWHERE).is_none());
 }
 
 fn a_list_is_cleared(test: &Test, list: &mut List) {
     let capacity = list.capacity();
-    test.expect("used_slots", list.used_slots() == 2);
+    test.expect(list.used_slots() == 2);
     list.clear();
-    test.expect("no slot is used", list.used_slots() == 0);
-    test.expect("empty", list.is_empty());
-    test.expect("the capacity stays", list.capacity() == capacity);
+    test.expect(list.used_slots() == 0);
+    test.expect(list.is_empty());
+    test.expect(list.capacity() == capacity);
 }
 
 // The item behind the first one was written.
 fn expect_used(test: &Test, first: usize, used: Option<Used>) {
-    test.expect("listed", used == Some((Some(first), (21, 3), None)));
+    test.expect(used == Some((Some(first), (21, 3), None)));
 }
 
 fn listed_slots_answer(test: &Test, list: &mut List) {
-    test.expect("no room", push_with_room(list, 5, 5).is_none());
-    test.expect("reserve", list.reserve(2).is_ok());
+    test.expect(push_with_room(list, 5, 5).is_none());
+    test.expect(list.reserve(2).is_ok());
     let a = push_with_room(list, 10, 1).unwrap_or(NOWHERE);
     let b = push_with_room(list, 20, 2).unwrap_or(NOWHERE);
     expect_used(test, a, use_listed(list, b, (21, 3), &mut Reads::new()));
-    test.expect("take_listed", take_from(list, a) == Some((10, 1)));
+    test.expect(take_from(list, a) == Some((10, 1)));
     expect_slots(test, list, &[(b, 21, 3)]);
 }
 
@@ -87,8 +87,8 @@ fn calls_of_a_list_answer(test: &Test, list: &mut List) {
 }
 
 fn a_counter_has_no_bytes(test: &Test) {
-    test.expect("a counter", Reads::new().clone().is_ok());
-    test.expect("its size", size_of::<Reads>() == 0);
+    test.expect(Reads::new().clone().is_ok());
+    test.expect(size_of::<Reads>() == 0);
 }
 
 #[test]
@@ -100,33 +100,33 @@ fn every_call_of_a_slot_list_answers(rt: HostRuntime) -> Result<(), Failed> {
 }
 
 fn listed_slots_of_a_tape_answer(test: &Test, tape: &mut Items) {
-    test.expect("empty", tape.is_empty());
-    test.expect("no slot", push_at_end(tape, 5, 5).is_none());
-    test.expect("reserve", tape.reserve(2).is_ok());
+    test.expect(tape.is_empty());
+    test.expect(push_at_end(tape, 5, 5).is_none());
+    test.expect(tape.reserve(2).is_ok());
     let a = push_at_end(tape, 10, 1).unwrap_or(NOWHERE);
     let b = push_at_end(tape, 20, 2).unwrap_or(NOWHERE);
     let used = use_listed_on_tape(tape, b, (21, 3), &mut Reads::new());
     expect_used(test, a, used);
-    test.expect("shown", is_shown(test.alloc(), tape, "{0: 10, 1: 21}"));
+    test.expect(is_shown(test.alloc(), tape, "{0: 10, 1: 21}"));
 }
 
 fn an_item_of_a_tape_is_written(test: &Test, tape: &mut Items) {
     match tape.get_mut(0) {
         Some(item) => *item = 11,
-        None => test.expect("get_mut", false),
+        None => test.fail(),
     }
     match tape.link_mut(0) {
         Some(link) => *link = 9,
-        None => test.expect("link_mut", false),
+        None => test.fail(),
     }
     expect_on(test, tape, &[(0, 11, 9), (1, 21, 3)]);
 }
 
 fn an_item_of_a_tape_is_taken(test: &Test, tape: &mut Items) {
-    test.expect("take_listed", take_from_tape(tape, 0) == Some((11, 9)));
-    test.expect("a hole", take_from_tape(tape, 0).is_none());
-    test.expect("not listed", !tape.is_listed(0) && !tape.is_listed(NOWHERE));
-    test.expect("listed", tape.is_listed(1));
+    test.expect(take_from_tape(tape, 0) == Some((11, 9)));
+    test.expect(take_from_tape(tape, 0).is_none());
+    test.expect(!tape.is_listed(0) && !tape.is_listed(NOWHERE));
+    test.expect(tape.is_listed(1));
     expect_on(test, tape, &[(1, 21, 3)]);
 }
 

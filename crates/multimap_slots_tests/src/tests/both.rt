@@ -96,6 +96,6 @@ impl<'a> Both<'a> {
 /// Pushes an item, and returns its place.
 pub fn push(test: &Test, list: &mut Both<'_>, item: usize, link: u8) -> usize {
     let pushed = list.push_back(item, link);
-    test.expect("memory for a push", pushed.is_ok());
+    test.expect(pushed.is_ok());
     pushed.unwrap_or(0)
 }

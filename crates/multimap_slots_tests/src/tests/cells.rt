@@ -14,11 +14,11 @@ fn it_has_left_the_list(test: &Test, list: &mut List, detached: usize)
     requires { IsDetached list.old detached }
     ensures { IsDetached list.new detached }
 {
-    test.expect("remove", uses::remove_none(list, detached));
+    test.expect(uses::remove_none(list, detached));
     let (item, link) = list.get_detached(detached);
-    test.expect("get_detached", (*item, link) == (20, 2));
+    test.expect((*item, link) == (20, 2));
     let place = uses::push_beside(list, 40, detached);
-    test.expect("another place", place == Some(3));
+    test.expect(place == Some(3));
     expect_slots(test, list, &[(0, 10, 1), (2, 30, 3), (3, 40, 4)]);
 }
 
@@ -26,10 +26,10 @@ fn it_has_left_the_list(test: &Test, list: &mut List, detached: usize)
 // before they were written.
 fn expect_lent(test: &Test, lending: Lending) {
     let (lent, second, read, were) = lending;
-    test.expect("the ends", lent == (3, Some(0), Some(3)));
-    test.expect("the second", second == Some((3, Some(0), Some(3), (0, 3))));
-    test.expect("read", read == Some((10, 40)));
-    test.expect("both ends", were == Some((10, 40)));
+    test.expect(lent == (3, Some(0), Some(3)));
+    test.expect(second == Some((3, Some(0), Some(3), (0, 3))));
+    test.expect(read == Some((10, 40)));
+    test.expect(were == Some((10, 40)));
 }
 
 fn both_ends_are_written(test: &Test, list: &mut List, detached: usize)
@@ -37,7 +37,7 @@ fn both_ends_are_written(test: &Test, list: &mut List, detached: usize)
     ensures { IsDetached list.new detached }
 {
     expect_lent(test, write_list_ends(list, 11, 41));
-    test.expect("the last", write_last(list, 42) == Some(41));
+    test.expect(write_last(list, 42) == Some(41));
     expect_slots(test, list, &[(0, 11, 1), (2, 30, 3), (3, 42, 4)]);
 }
 
@@ -48,7 +48,7 @@ macro_rules! detached {
         let detached = $items.push_back(20, 2).unwrap_or(9);
         let _third = $items.push_back(30, 3);
         if !$detach($items, detached) {
-            return $test.expect("detach", false);
+            return $test.fail();
         }
         detached
     }};
@@ -59,18 +59,18 @@ fn items_leave_and_are_written(test: &Test, list: &mut List) {
     let detached = detached!(test, list, uses::detach_listed);
     it_has_left_the_list(test, list, detached);
     both_ends_are_written(test, list, detached);
-    test.expect("take_detached", list.take_detached(detached) == 20);
+    test.expect(list.take_detached(detached) == 20);
 }
 
 fn it_has_left_the_tape(test: &Test, tape: &mut Items, detached: usize)
     requires { IsDetached tape.old.list detached }
     ensures { IsDetached tape.new.list detached }
 {
-    test.expect("remove", tape_uses::removes_nothing(tape, detached));
+    test.expect(tape_uses::removes_nothing(tape, detached));
     let (item, link) = tape.get_detached(detached);
-    test.expect("get_detached", (*item, link) == (20, 2));
+    test.expect((*item, link) == (20, 2));
     let place = tape_uses::push_beside(tape, detached, 40);
-    test.expect("another place", place == Some(3));
+    test.expect(place == Some(3));
 }
 
 fn items_of_a_tape_leave_and_are_written(test: &Test, tape: &mut Items) {
@@ -78,21 +78,18 @@ fn items_of_a_tape_leave_and_are_written(test: &Test, tape: &mut Items) {
     it_has_left_the_tape(test, tape, detached);
     expect_lent(test, write_tape_ends(tape, 11, 41));
     expect_on(test, tape, &[(0, 11, 1), (2, 30, 3), (3, 41, 4)]);
-    test.expect("take_detached", tape.take_detached(detached) == 20);
-    test.expect(
-        "with links",
-        tape_uses::take_with_links(tape, 2) == Some((30, 3, 3)),
-    );
+    test.expect(tape.take_detached(detached) == 20);
+    test.expect(tape_uses::take_with_links(tape, 2) == Some((30, 3, 3)));
     expect_on(test, tape, &[(0, 11, 1), (3, 41, 4)]);
 }
 
 fn a_slice_of_slots_is_written(test: &Test) {
     let mut slots = [Some(10), None, Some(30), Some(40)];
     let (length, read, were) = write_slots(&mut slots, 11, 31);
-    test.expect("length", length == 4);
-    test.expect("read", read == (10, 30) && were == (10, 30));
+    test.expect(length == 4);
+    test.expect(read == (10, 30) && were == (10, 30));
     let wanted = [Some(11), None, Some(31), Some(40)];
-    test.expect("written", slots == wanted);
+    test.expect(slots == wanted);
 }
 
 #[test]

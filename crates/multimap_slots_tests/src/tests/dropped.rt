@@ -14,15 +14,15 @@ fn add_detached(test: &Test, list: &mut Shared, item: &Rc<u8>) {
         Ok(share) => list.push_back(share, 0).ok(),
         Err(_) => None,
     };
-    test.expect("detach", uses::detach_listed(list, place.unwrap_or(9)));
-    test.expect("the item is kept", Rc::strong_count(item) == 2);
+    test.expect(uses::detach_listed(list, place.unwrap_or(9)));
+    test.expect(Rc::strong_count(item) == 2);
 }
 
 // The list ends here.
 fn a_list_drops_what_is_detached(test: &Test, mut list: Shared, item: &Rc<u8>) {
     add_detached(test, &mut list, item);
     list.clear();
-    test.expect("cleared", Rc::strong_count(item) == 1);
+    test.expect(Rc::strong_count(item) == 1);
     add_detached(test, &mut list, item);
 }
 
@@ -31,26 +31,26 @@ fn add_detached_to_tape(test: &Test, tape: &mut Shares, item: &Rc<u8>) {
         Ok(share) => tape.push_back(share, 0).ok(),
         Err(_) => None,
     };
-    test.expect("detach", tape_uses::detach_listed(tape, place.unwrap_or(9)));
-    test.expect("the item is kept", Rc::strong_count(item) == 2);
+    test.expect(tape_uses::detach_listed(tape, place.unwrap_or(9)));
+    test.expect(Rc::strong_count(item) == 2);
 }
 
 // The tape ends here.
 fn a_tape_drops_what_is_detached(test: &Test, mut tape: Shares, item: &Rc<u8>) {
     add_detached_to_tape(test, &mut tape, item);
     tape.clear();
-    test.expect("cleared", Rc::strong_count(item) == 1);
+    test.expect(Rc::strong_count(item) == 1);
     add_detached_to_tape(test, &mut tape, item);
     tape.cut_end();
-    test.expect("cut", Rc::strong_count(item) == 1);
+    test.expect(Rc::strong_count(item) == 1);
     add_detached_to_tape(test, &mut tape, item);
 }
 
 fn all_is_dropped(test: &Test, item: &Rc<u8>) {
     a_list_drops_what_is_detached(test, SlotList::new(test.alloc()), item);
-    test.expect("dropped with the list", Rc::strong_count(item) == 1);
+    test.expect(Rc::strong_count(item) == 1);
     a_tape_drops_what_is_detached(test, Tape::new(test.alloc()), item);
-    test.expect("dropped with the tape", Rc::strong_count(item) == 1);
+    test.expect(Rc::strong_count(item) == 1);
 }
 
 #[test]
@@ -58,7 +58,7 @@ fn what_is_detached_is_dropped(rt: HostRuntime) -> Result<(), Failed> {
     let test = Test::new(rt.alloc());
     match Rc::new(test.alloc(), 7) {
         Ok(item) => all_is_dropped(&test, &item),
-        Err(_) => test.expect("memory for an item", false),
+        Err(_) => test.fail(),
     }
     test.end()
 }

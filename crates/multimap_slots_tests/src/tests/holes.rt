@@ -41,10 +41,10 @@ fn closes_two_holes(test: &Test, tape: &mut Items) -> bool
     let places = push_four(tape);
     let are_removed = remove_both(tape, places.0, places.2);
     expect_on(test, tape, &[(places.1, 20, 2), (places.3, 40, 4)]);
-    test.expect("the end is behind four slots", tape.end_place() == 4);
+    test.expect(tape.end_place() == 4);
     let are_closed = close(tape, places);
     expect_on(test, tape, &[(places.0, 20, 2), (places.1, 40, 4)]);
-    test.expect("the end is behind two slots", tape.end_place() == 2);
+    test.expect(tape.end_place() == 2);
     are_removed && are_closed
 }
 
@@ -52,6 +52,6 @@ fn closes_two_holes(test: &Test, tape: &mut Items) -> bool
 fn items_of_a_tape_go_down_over_holes(rt: HostRuntime) -> Result<(), Failed> {
     let test = Test::new(rt.alloc());
     let closes = closes_two_holes(&test, &mut Tape::new(test.alloc()));
-    test.expect("two holes are closed", closes);
+    test.expect(closes);
     test.end()
 }

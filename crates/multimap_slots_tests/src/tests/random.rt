@@ -11,8 +11,8 @@ type Plain = Vec<Option<usize>>;
 
 fn push_both(test: &Test, tape: &mut Items, plain: &mut Plain, item: usize) {
     let place = tape.push_back(item, 7);
-    test.expect("the place behind", place == Ok(plain.len()));
-    test.expect("memory for a place", plain.push(Some(item)).is_ok());
+    test.expect(place == Ok(plain.len()));
+    test.expect(plain.push(Some(item)).is_ok());
 }
 
 fn take_plain(plain: &mut Plain, place: usize) -> Option<usize> {
@@ -41,7 +41,7 @@ fn move_both(test: &Test, tape: &mut Items, plain: &mut Plain, from: usize, to: 
     if is_free {
         move_plain(plain, from, to);
     }
-    test.expect("move_down", move_if_free(tape, from, to) == is_free);
+    test.expect(move_if_free(tape, from, to) == is_free);
 }
 
 fn cut_plain(plain: &mut Plain) {
@@ -53,10 +53,10 @@ fn change_one(test: &Test, tape: &mut Items, plain: &mut Plain, random: u64) {
     let place = (random >> 40) as usize % 64;
     match (random >> 32) % 16 {
         0..=6 => push_both(test, tape, plain, place),
-        7..=8 => test.expect("remove", tape.remove(place) == take_plain(plain, place)),
+        7..=8 => test.expect(tape.remove(place) == take_plain(plain, place)),
         9..=10 => {
             let taken = detach_and_take(tape, place);
-            test.expect("take_detached", taken == take_plain(plain, place));
+            test.expect(taken == take_plain(plain, place));
         }
         11..=13 => {
             let down = (random >> 50) as usize % 4;
@@ -79,7 +79,7 @@ fn wanted(test: &Test, plain: &Plain) -> Vec<Slot> {
     let mut slots = Vec::new(test.alloc());
     for (place, item) in plain.iter().enumerate() {
         if let Some(item) = item {
-            test.expect("memory", slots.push((place, *item, 7)).is_ok());
+            test.expect(slots.push((place, *item, 7)).is_ok());
         }
     }
     slots

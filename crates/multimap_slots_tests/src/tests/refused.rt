@@ -21,7 +21,7 @@ fn fill_up(test: &Test, list: &mut Both<'_>) {
             let _place = push(test, list, item, 7);
         }
     }
-    test.expect("no room", !list.has_room());
+    test.expect(!list.has_room());
 }
 
 // Items of which one goes and others come, so that places don't rise along a slot list, and a tape
@@ -30,7 +30,7 @@ fn make_full(test: &Test, list: &mut Both<'_>) {
     for item in 0..4usize {
         let place = push(test, list, item, 7);
         if item == 1 {
-            test.expect("remove", list.remove(place) == Some(1));
+            test.expect(list.remove(place) == Some(1));
         }
     }
     fill_up(test, list);
@@ -42,7 +42,7 @@ fn is_enough(test: &Test, list: &mut Both<'_>, call: Call) -> bool {
         Call::PushBack => match list.push_back(50, 9) {
             Ok(_) => true,
             Err(returned) => {
-                test.expect("the item comes back", returned == 50);
+                test.expect(returned == 50);
                 false
             }
         },
@@ -54,8 +54,8 @@ fn is_enough(test: &Test, list: &mut Both<'_>, call: Call) -> bool {
 fn call_and_compare(test: &Test, list: &mut Both<'_>, call: Call, before: &Vec<Slot>) -> bool {
     let capacity = list.capacity();
     let enough = is_enough(test, list, call);
-    test.expect("capacity", list.capacity() >= capacity);
-    test.expect("slots", enough || list.slots(test) == *before);
+    test.expect(list.capacity() >= capacity);
+    test.expect(enough || list.slots(test) == *before);
     enough
 }
 
@@ -70,7 +70,7 @@ fn call_with(
     let before = list.slots(test);
     allocator.grant(granted);
     let enough = call_and_compare(test, list, call, &before);
-    test.expect("want of memory alone", enough != allocator.refused());
+    test.expect(enough != allocator.refused());
     enough
 }
 
@@ -82,7 +82,7 @@ fn call_on(test: &Test, kind: Kind, call: Call, granted: u64) -> bool {
 
 fn refusals_change_nothing(test: &Test, kind: Kind, call: Call) {
     let enough = requests_until_enough(|granted| call_on(test, kind, call, granted));
-    test.expect("a request", enough.unwrap_or(0) > 0);
+    test.expect(enough.unwrap_or(0) > 0);
 }
 
 fn is_made(kind: Kind, allocator: &RefusingAllocator, room: usize) -> bool {
@@ -94,16 +94,16 @@ fn is_made(kind: Kind, allocator: &RefusingAllocator, room: usize) -> bool {
 
 fn make_with(test: &Test, kind: Kind, granted: u64) -> bool {
     let allocator = RefusingAllocator::new(test.alloc(), granted);
-    test.expect("room for none", is_made(kind, &allocator, 0));
-    test.expect("no request", allocator.granted() == granted);
+    test.expect(is_made(kind, &allocator, 0));
+    test.expect(allocator.granted() == granted);
     let enough = is_made(kind, &allocator, 5);
-    test.expect("want of memory alone", enough != allocator.refused());
+    test.expect(enough != allocator.refused());
     enough
 }
 
 fn lists_are_made(test: &Test, kind: Kind) {
     let enough = requests_until_enough(|granted| make_with(test, kind, granted));
-    test.expect("a request", enough.unwrap_or(0) > 0);
+    test.expect(enough.unwrap_or(0) > 0);
 }
 
 // Three come, one goes, and others come.
@@ -111,16 +111,16 @@ fn room_is_used(test: &Test, list: &mut Both<'_>) {
     for item in 0..3usize {
         let _place = push(test, list, item, 7);
     }
-    test.expect("remove", list.remove(0) == Some(0));
+    test.expect(list.remove(0) == Some(0));
     fill_up(test, list);
 }
 
 fn room_is_filled(test: &Test, allocator: &RefusingAllocator, list: &mut Both<'_>) {
-    test.expect("reserve", list.reserve(3).is_ok());
+    test.expect(list.reserve(3).is_ok());
     allocator.refuse_all();
     room_is_used(test, list);
-    test.expect("no request", !allocator.refused());
-    test.expect("no memory", !is_enough(test, list, Call::PushBack));
+    test.expect(!allocator.refused());
+    test.expect(!is_enough(test, list, Call::PushBack));
 }
 
 fn room_of(test: &Test, kind: Kind) {

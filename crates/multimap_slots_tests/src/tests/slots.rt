@@ -24,13 +24,13 @@ pub fn add_slots<A: Allocator>(test: &Test, list: &SlotList<usize, u8, A>, slots
     let mut earlier = None;
     for _ in 0..list.len() {
         let place = following.unwrap_or(0);
-        test.expect("previous_place", list.previous_place(place) == earlier);
+        test.expect(list.previous_place(place) == earlier);
         let slot = slot_of(place, list.get(place, &mut Reads::new()));
-        test.expect("memory for a slot", slots.push(slot).is_ok());
+        test.expect(slots.push(slot).is_ok());
         earlier = following;
         following = list.next_place(place);
     }
-    test.expect("back_place", list.back_place() == earlier);
+    test.expect(list.back_place() == earlier);
 }
 
 /// The same of a tape.
@@ -40,25 +40,25 @@ pub fn add_slots_on<A: Allocator>(test: &Test, tape: &Tape<usize, u8, A>, slots:
     for _ in 0..tape.len() {
         let place = following.unwrap_or(0);
         let before = tape.previous_place_before(place);
-        test.expect("previous_place_before", before == earlier);
+        test.expect(before == earlier);
         let slot = slot_of(place, tape.get(place, &mut Reads::new()));
-        test.expect("memory for a slot", slots.push(slot).is_ok());
+        test.expect(slots.push(slot).is_ok());
         earlier = following;
         following = tape.next_place_after(place);
     }
-    test.expect("back_place", tape.back_place() == earlier);
+    test.expect(tape.back_place() == earlier);
 }
 
 /// Expects these slots and no others.
 pub fn expect_slots(test: &Test, list: &List, wanted: &[Slot]) {
     let slots = &mut Vec::new(test.alloc());
     add_slots(test, list, slots);
-    test.expect("slots", slots.as_slice() == wanted);
+    test.expect(slots.as_slice() == wanted);
 }
 
 /// The same of a tape.
 pub fn expect_on(test: &Test, tape: &Items, wanted: &[Slot]) {
     let slots = &mut Vec::new(test.alloc());
     add_slots_on(test, tape, slots);
-    test.expect("slots of a tape", slots.as_slice() == wanted);
+    test.expect(slots.as_slice() == wanted);
 }

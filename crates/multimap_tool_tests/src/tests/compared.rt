@@ -21,12 +21,12 @@ fn push_answers(alloc: Global, input: &str, text: &mut String) -> Result<(), All
 fn all_lines_are_answered(test: &Test, input: &str) {
     let mut wanted = String::new(test.alloc());
     let answered = push_answers(test.alloc(), input, &mut wanted);
-    test.expect("memory for answers", answered.is_ok());
+    test.expect(answered.is_ok());
     let mut output = Vec::new(test.alloc());
     let mut rest = input.as_bytes();
     let ran = execute(test.alloc(), test.alloc(), &mut rest, &mut output);
-    test.expect("no fault", ran.is_ok());
-    test.expect("the answers", output.as_slice() == wanted.as_bytes());
+    test.expect(ran.is_ok());
+    test.expect(output.as_slice() == wanted.as_bytes());
 }
 
 // Runs each line with at most four requests granted, and returns how often one was refused. Where
@@ -64,8 +64,8 @@ fn many_are_refused<'a>(
 ) {
     let plain = &mut PlainMap::new(test.alloc());
     let refused = lines_are_refused(test, allocator, map, plain, input);
-    test.expect("many are refused", refused > 300);
-    test.expect("and many are not", refused < 1700);
+    test.expect(refused > 300);
+    test.expect(refused < 1700);
 }
 
 fn refusals_change_nothing(test: &Test, input: &str) {
@@ -79,7 +79,7 @@ fn random_lines_are_answered_as_by_a_plain_map(rt: HostRuntime) -> Result<(), Fa
     let test = Test::new(rt.alloc());
     let mut input = String::new(test.alloc());
     let pushed = push_lines(test.alloc(), &mut 1, &mut input, 2000);
-    test.expect("memory for lines", pushed.is_ok());
+    test.expect(pushed.is_ok());
     all_lines_are_answered(&test, &input);
     refusals_change_nothing(&test, &input);
     test.end()

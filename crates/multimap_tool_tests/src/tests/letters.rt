@@ -73,15 +73,15 @@ fn letters_are_answered(test: &Test, map: &mut ListOrderedMultimap<Letter, char>
     ];
     characters_differ_as_json();
     match run(test.alloc(), test.alloc(), map, &commands, keep_and_write) {
-        Ok(replies) => test.expect("replies", replies.as_slice() == wanted.as_slice()),
-        Err(_) => test.expect("memory for replies", false),
+        Ok(replies) => test.expect(replies.as_slice() == wanted.as_slice()),
+        Err(_) => test.fail(),
     }
 }
 
 fn the_first_letter_stays(test: &Test, map: &mut ListOrderedMultimap<Letter, char>) {
     letters_are_answered(test, map);
     let first = map.front().is_some_and(|pair| pair.0.is_upper);
-    test.expect("the key stored first", first);
+    test.expect(first);
 }
 
 fn laws_can_be_called() {

@@ -66,7 +66,7 @@ fn run_with(test: &Test, before: &str, lines: &str, granted: u64) -> bool {
 fn runs_are_refused(test: &Test) {
     for (row, (before, lines, least)) in RUNS.iter().enumerate() {
         let enough = requests_until_enough(|granted| run_with(test, before, lines, granted));
-        test.expect_at("requests", row, enough.unwrap_or(0) >= *least);
+        test.expect_at(row, enough.unwrap_or(0) >= *least);
     }
 }
 
@@ -97,8 +97,8 @@ fn execute_with(test: &Test, input: &str, granted: u64) -> bool {
     match ended {
         Ok(()) => lines_answer(test, &mut PlainMap::new(test.alloc()), input, &output),
         Err(fault) => {
-            test.expect("out of memory", fault == ToolFault::OutOfMemory);
-            test.expect("nothing is written", output.is_empty());
+            test.expect(fault == ToolFault::OutOfMemory);
+            test.expect(output.is_empty());
         }
     }
     !allocator.refused()
@@ -120,7 +120,7 @@ fn parse_with(test: &Test, input: &str, ample: Option<TextFault>, granted: u64) 
     } else {
         ample
     };
-    test.expect("fault", fault == wanted);
+    test.expect(fault == wanted);
     !refused
 }
 
@@ -136,23 +136,23 @@ fn format_with(test: &Test, granted: u64) -> bool {
         Ok(text) => text.as_slice() == wanted.as_slice(),
         Err(_) => false,
     };
-    test.expect("refused or right", is_text != allocator.refused());
+    test.expect(is_text != allocator.refused());
     is_text
 }
 
 fn texts_are_refused(test: &Test) {
     for (input, ample) in TEXTS {
         let enough = requests_until_enough(|granted| parse_with(test, input, *ample, granted));
-        test.expect("requests to parse", enough.unwrap_or(0) > 0);
+        test.expect(enough.unwrap_or(0) > 0);
     }
     let enough = requests_until_enough(|granted| format_with(test, granted));
-    test.expect("requests to format", enough.unwrap_or(0) > 0);
+    test.expect(enough.unwrap_or(0) > 0);
 }
 
 fn inputs_are_refused(test: &Test) {
     for input in INPUTS {
         let enough = requests_until_enough(|granted| execute_with(test, input, granted));
-        test.expect("requests to execute", enough.unwrap_or(0) > 0);
+        test.expect(enough.unwrap_or(0) > 0);
     }
 }
 
@@ -161,7 +161,7 @@ fn each_request_is_refused_in_turn(rt: HostRuntime) -> Result<(), Failed> {
     let test = Test::new(rt.alloc());
     runs_are_refused(&test);
     let enough = requests_until_enough(|granted| run_in_room(&test, granted));
-    test.expect("the list of replies alone", enough == Some(1));
+    test.expect(enough == Some(1));
     texts_are_refused(&test);
     inputs_are_refused(&test);
     test.end()

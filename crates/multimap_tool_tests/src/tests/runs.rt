@@ -43,9 +43,9 @@ pub fn lines_answer<'l>(test: &Test, plain: &mut PlainMap<'l>, lines: &'l str, t
     let text = str::from_utf8(text).unwrap_or("");
     for (row, (line, told)) in lines.lines().zip(text.lines()).enumerate() {
         let answers = line_answers(test.alloc(), plain, line, told);
-        test.expect_at("a line", row, answers);
+        test.expect_at(row, answers);
     }
-    test.expect("all lines", lines.lines().count() == text.lines().count());
+    test.expect(lines.lines().count() == text.lines().count());
 }
 
 fn replies_answer<'a, 'l>(
@@ -57,7 +57,7 @@ fn replies_answer<'a, 'l>(
 ) {
     match format_replies(allocator, replies) {
         Ok(text) => lines_answer(test, plain, lines, &text),
-        Err(_) => test.expect("memory for a text", false),
+        Err(_) => test.fail(),
     }
 }
 
@@ -92,7 +92,7 @@ fn one_run<'a, 'l>(
     match parse_commands(allocator, run_of.lines.as_bytes()) {
         Ok(commands) => commands_answer(test, allocator, map, plain, run_of, &commands),
         Err(_) => {
-            test.expect("good lines", false);
+            test.fail();
             false
         }
     }
@@ -113,6 +113,6 @@ pub fn run_lines<'a, 'l>(
         granted: u64::MAX,
     };
     let lacks = one_run(test, allocator, map, plain, lists);
-    test.expect("memory for both lists", !lacks);
+    test.expect(!lacks);
     refused
 }

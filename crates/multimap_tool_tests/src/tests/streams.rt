@@ -3,7 +3,7 @@ use multimap_tool::execute::execute;
 use multimap_tool::faults::ToolFault;
 use std::io;
 use std::io::{Error, ErrorKind, Read, Write};
-use test_helpers::{Failed, Test, requests_until_enough};
+use test_helpers::{Failed, Test, requests_until_enough, test_all};
 
 const INPUT: &[u8] =
     b"append 1 1\nappend 2 2\nappend 2 3\nappend 1 4\npairs\nall 1\nget 2\nget 3\n";
@@ -83,12 +83,12 @@ fn read_with(test: &Test, kind: ErrorKind, reads_before: u64) -> bool {
     let mut output = Vec::new(test.alloc());
     let fault = execute(test.alloc(), test.alloc(), &mut input, &mut output).err();
     if input.failed {
-        test.expect("the read is told", fault == Some(ToolFault::Read));
-        test.expect("nothing is written", output.is_empty());
+        test.expect(fault == Some(ToolFault::Read));
+        test.expect(output.is_empty());
         return false;
     }
-    test.expect("no fault", fault.is_none());
-    test.expect("output", output.as_slice() == OUTPUT);
+    test.expect(fault.is_none());
+    test.expect(output.as_slice() == OUTPUT);
     true
 }
 
@@ -99,7 +99,7 @@ const KINDS: &[ErrorKind] = &[ErrorKind::Other, ErrorKind::Interrupted];
 fn each_read_fails(test: &Test) {
     for kind in KINDS {
         let reads = requests_until_enough(|reads_before| read_with(test, *kind, reads_before));
-        test.expect("reads", reads == Some(15));
+        test.expect(reads == Some(15));
     }
 }
 
@@ -112,8 +112,8 @@ fn a_failed_read_is_told_before_a_bad_line(test: &Test) {
     };
     let mut output = Vec::new(test.alloc());
     let fault = execute(test.alloc(), test.alloc(), &mut input, &mut output).err();
-    test.expect("the read is told", fault == Some(ToolFault::Read));
-    test.expect("nothing is written", output.is_empty());
+    test.expect(fault == Some(ToolFault::Read));
+    test.expect(output.is_empty());
 }
 
 #[test]
@@ -132,12 +132,12 @@ fn write_with(test: &Test, trouble: Trouble, writes_before: u64) -> bool {
     };
     let fault = execute(test.alloc(), test.alloc(), &mut input, &mut output).err();
     if output.met {
-        test.expect("the write is told", fault == Some(ToolFault::Write));
-        test.expect("the start", OUTPUT.starts_with(&output.taken));
+        test.expect(fault == Some(ToolFault::Write));
+        test.expect(OUTPUT.starts_with(&output.taken));
         return false;
     }
-    test.expect("no fault", fault.is_none());
-    test.expect("output", output.taken.as_slice() == OUTPUT);
+    test.expect(fault.is_none());
+    test.expect(output.taken.as_slice() == OUTPUT);
     true
 }
 
@@ -145,14 +145,14 @@ fn write_with(test: &Test, trouble: Trouble, writes_before: u64) -> bool {
 fn each_write_has_trouble(test: &Test) {
     for trouble in [Trouble::Fails, Trouble::TakesNothing] {
         let writes = requests_until_enough(|before| write_with(test, trouble, before));
-        test.expect("writes", writes == Some(15));
+        test.expect(writes == Some(15));
     }
 }
 
 /// Lines that are longer than two pieces of 32 KiB, all answered alike.
 fn many_lines_are_read(test: &Test, input: &mut Vec<u8>) {
     for _ in 0..12000 {
-        test.expect("memory", input.extend_from_slice(b"get 1\n").is_ok());
+        test.expect(input.extend_from_slice(b"get 1\n").is_ok());
     }
     let mut output = Vec::new(test.alloc());
     let ended = execute(
@@ -161,10 +161,10 @@ fn many_lines_are_read(test: &Test, input: &mut Vec<u8>) {
         &mut input.as_slice(),
         &mut output,
     );
-    test.expect("no fault", ended.is_ok());
+    test.expect(ended.is_ok());
     let lines = str::from_utf8(&output).unwrap_or("");
-    test.expect("each line", lines.lines().all(|line| line == "none"));
-    test.expect("all lines", lines.lines().count() == 12000);
+    test.expect(lines.lines().all(|line| line == "none"));
+    test.expect(lines.lines().count() == 12000);
 }
 
 fn long_input_is_read(test: &Test) {
@@ -181,8 +181,8 @@ fn no_line_is_answered(test: &Test) {
     };
     let mut input: &[u8] = b"";
     let ended = execute(test.alloc(), test.alloc(), &mut input, &mut output);
-    test.expect("no fault", ended.is_ok());
-    test.expect("nothing is written", output.taken.is_empty());
+    test.expect(ended.is_ok());
+    test.expect(output.taken.is_empty());
 }
 
 #[test]
@@ -207,7 +207,7 @@ impl Write for Unflushed {
 fn a_failed_flush_is_told(test: &Test) {
     let mut input = INPUT;
     let fault = execute(test.alloc(), test.alloc(), &mut input, &mut Unflushed).err();
-    test.expect("the flush is told", fault == Some(ToolFault::Write));
+    test.expect(fault == Some(ToolFault::Write));
 }
 
 #[test]

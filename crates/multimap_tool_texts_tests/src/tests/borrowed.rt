@@ -22,21 +22,21 @@ fn is_written<K: ToJson + Eq + Hash, V: ToJson>(
     lists: &str,
 ) {
     let written = is_text(test.alloc(), to_value(test.alloc(), map), pairs);
-    test.expect("the pairs", written);
+    test.expect(written);
     let written = is_text(test.alloc(), to_value_2(test.alloc(), map), lists);
-    test.expect("both lists", written);
+    test.expect(written);
 }
 
 fn keys_are_written(test: &Test, map: &mut ListOrderedMultimap<&'static str, u32>) {
-    test.expect("append", map.append("b", 20).is_ok());
-    test.expect("append", map.append("a\"", 10).is_ok());
+    test.expect(map.append("b", 20).is_ok());
+    test.expect(map.append("a\"", 10).is_ok());
     let pairs = r#"[["b",20],["a\"",10]]"#;
     let lists = r#"{"keys":["b","a\""],"pairs":[["b",20],["a\"",10]]}"#;
     is_written(test, map, pairs, lists);
 }
 
 fn values_are_written(test: &Test, map: &mut ListOrderedMultimap<u32, &'static str>) {
-    test.expect("append", map.append(1, "").is_ok());
+    test.expect(map.append(1, "").is_ok());
     is_written(test, map, r#"[[1,""]]"#, r#"{"keys":[1],"pairs":[[1,""]]}"#);
 }
 
@@ -53,7 +53,7 @@ fn read_len(alloc: Global, map: &ListOrderedMultimap<&'static str, u32>) -> Opti
 
 fn keys_are_read(test: &Test, map: &mut ListOrderedMultimap<&'static str, u32>) {
     keys_are_written(test, map);
-    test.expect("two pairs", read_len(test.alloc(), map) == Some(2));
+    test.expect(read_len(test.alloc(), map) == Some(2));
 }
 
 #[test]

@@ -86,12 +86,12 @@ fn are_told<F: fmt::Debug + fmt::Display + PartialEq + Clone + Copy>(
     faults: Faults<F>,
     texts: &[&str],
 ) {
-    test.expect("a text for each", texts.len() == faults.len());
+    test.expect(texts.len() == faults.len());
     for (row, ((fault, shown), text)) in faults.iter().zip(texts.iter()).enumerate() {
-        test.expect_at("shown", row, is_shown(test.alloc(), fault, shown));
-        expect_text(test, "its text", format!(in test.alloc(); "{fault}"), text);
-        test.expect_at("compared", row, stands_apart(faults, row, fault));
-        test.expect_at("copied", row, is_copied(fault));
+        test.expect_at(row, is_shown(test.alloc(), fault, shown));
+        expect_text(test, format!(in test.alloc(); "{fault}"), text);
+        test.expect_at(row, stands_apart(faults, row, fault));
+        test.expect_at(row, is_copied(fault));
     }
 }
 
@@ -99,19 +99,19 @@ const STATUSES: &[u8] = &[2, 2, 3, 3, 4];
 
 fn statuses_are_told(test: &Test) {
     for (row, (status, told)) in STATUSES.iter().zip(TOOL_FAULTS.iter()).enumerate() {
-        test.expect_at("status", row, told.0.status() == *status);
+        test.expect_at(row, told.0.status() == *status);
     }
 }
 
 fn faults_are_passed_on(test: &Test) {
     let line = ToolFault::from(TextFault::BadLine(7));
-    test.expect("a bad line", line == ToolFault::BadLine(7));
+    test.expect(line == ToolFault::BadLine(7));
     let fault = ToolFault::from(TextFault::OutOfMemory);
-    test.expect("want of memory", fault == ToolFault::OutOfMemory);
+    test.expect(fault == ToolFault::OutOfMemory);
     let run = ToolFault::from(AllocError);
-    test.expect("of a run", run == ToolFault::OutOfMemory);
+    test.expect(run == ToolFault::OutOfMemory);
     let text = TextFault::from(AllocError);
-    test.expect("of a text", text == TextFault::OutOfMemory);
+    test.expect(text == TextFault::OutOfMemory);
 }
 
 #[test]

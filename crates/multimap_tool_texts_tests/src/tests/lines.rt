@@ -15,8 +15,8 @@ pub(crate) fn expect_answer(
     let mut output = Vec::new(test.alloc());
     let mut rest = input;
     let fault = execute(test.alloc(), test.alloc(), &mut rest, &mut output).err();
-    test.expect_at("the end", row, fault == ended);
-    test.expect_at("what is written", row, output.as_slice() == written);
+    test.expect_at(row, fault == ended);
+    test.expect_at(row, output.as_slice() == written);
 }
 
 /// Texts with what is written for them.
@@ -137,7 +137,7 @@ fn add_long_line(input: &mut String, written: &mut String) -> Result<(), AllocEr
 }
 
 fn a_long_line_is_read_whole(test: &Test, input: &mut String, written: &mut String) {
-    test.expect("memory", add_long_line(input, written).is_ok());
+    test.expect(add_long_line(input, written).is_ok());
     expect_answer(test, 0, input.as_bytes(), written.as_bytes(), None);
 }
 

@@ -93,14 +93,14 @@ const BAD_PAIRS: &[(&str, ReadFault)] = &[
 fn maps_are_read(test: &Test) {
     for (row, (text, keys, written)) in MAPS.iter().enumerate() {
         let told = read(test.alloc(), text, keys, written);
-        test.expect_at("a map", row, told == Ok(true));
+        test.expect_at(row, told == Ok(true));
     }
 }
 
 fn faults_are_found(test: &Test, rows: &[(&str, ReadFault)]) {
     for (row, (text, fault)) in rows.iter().enumerate() {
         let told = read(test.alloc(), text, &[], "");
-        test.expect_at("a fault", row, told == Err(*fault));
+        test.expect_at(row, told == Err(*fault));
     }
 }
 
@@ -111,14 +111,14 @@ fn has_pairs(alloc: Global, map: &Numbers, text: &str) -> bool {
 
 fn a_map_is_written(test: &Test, map: &mut Numbers) {
     let empty = is_written(test.alloc(), map, EMPTY);
-    test.expect("an empty map", empty);
+    test.expect(empty);
     for (key, value) in [(1, 10), (2, 20), (1, 30)] {
-        test.expect("insert", map.insert(key, value).is_ok());
+        test.expect(map.insert(key, value).is_ok());
     }
     let wanted = r#"{"keys":[1,2],"pairs":[[2,20],[1,30]]}"#;
-    test.expect("a map", is_written(test.alloc(), map, wanted));
+    test.expect(is_written(test.alloc(), map, wanted));
     let pairs = has_pairs(test.alloc(), map, "[[2,20],[1,30]]");
-    test.expect("its pairs alone", pairs);
+    test.expect(pairs);
 }
 
 #[test]

@@ -98,30 +98,30 @@ const BAD_LETTERS: &[(&str, ReadFault)] = &[
 fn numbers_are_read(test: &Test) {
     for (row, (text, keys)) in NUMBERS.iter().enumerate() {
         let told = read::<u32, i64>(test.alloc(), text, keys);
-        test.expect_at("a map", row, told == Ok(true));
+        test.expect_at(row, told == Ok(true));
     }
     for (row, (text, fault)) in BAD.iter().enumerate() {
         let told = read::<u32, i64>(test.alloc(), text, &[]);
-        test.expect_at("a fault", row, told == Err(*fault));
+        test.expect_at(row, told == Err(*fault));
     }
 }
 
 fn letters_are_read(test: &Test) {
     let told = read::<char, u32>(test.alloc(), "[[\"b\",1],[\"c\",2]]", &['b', 'c']);
-    test.expect("a map", told == Ok(true));
+    test.expect(told == Ok(true));
     for (row, (text, fault)) in BAD_LETTERS.iter().enumerate() {
         let told = read::<char, u32>(test.alloc(), text, &[]);
-        test.expect_at("a fault", row, told == Err(*fault));
+        test.expect_at(row, told == Err(*fault));
     }
 }
 
 fn letters_are_written(test: &Test, map: &mut ListOrderedMultimap<char, u32>) {
-    test.expect("an empty map", is_written(test.alloc(), map, "[]"));
+    test.expect(is_written(test.alloc(), map, "[]"));
     for (key, value) in [('b', 20), ('a', 10), ('c', 30), ('b', 30)] {
-        test.expect("append", map.append(key, value).is_ok());
+        test.expect(map.append(key, value).is_ok());
     }
     let wanted = "[[\"b\",20],[\"a\",10],[\"c\",30],[\"b\",30]]";
-    test.expect("a map", is_written(test.alloc(), map, wanted));
+    test.expect(is_written(test.alloc(), map, wanted));
 }
 
 #[test]

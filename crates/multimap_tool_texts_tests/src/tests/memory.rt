@@ -35,15 +35,15 @@ fn read_with(test: &Test, value: &Value, ample: Option<ReadFault>, granted: u64)
     );
     match read {
         Ok(map) => {
-            test.expect("the map", ample.is_none() && has_pairs(&map, PAIRS));
+            test.expect(ample.is_none() && has_pairs(&map, PAIRS));
             true
         }
         Err(ReadFault::OutOfMemory) => {
-            test.expect("a refused request", budget.refused());
+            test.expect(budget.refused());
             false
         }
         Err(fault) => {
-            test.expect("the fault", ample == Some(fault));
+            test.expect(ample == Some(fault));
             !budget.refused()
         }
     }
@@ -70,7 +70,7 @@ const TEXTS: &[(&str, Option<ReadFault>)] = &[
 
 fn requests_are_refused(test: &Test, value: &Value, ample: Option<ReadFault>) {
     let enough = requests_until_enough(|granted| read_with(test, value, ample, granted));
-    test.expect("some requests", enough.unwrap_or(0) >= 3);
+    test.expect(enough.unwrap_or(0) >= 3);
 }
 
 type ReadTexts<'a> = Result<
@@ -102,12 +102,12 @@ fn read_texts_with(test: &Test, value: &Value, granted: u64) -> bool {
     let read: ReadTexts<'_> = from_value(&budget, test.alloc(), DefaultState::new(), value);
     match read {
         Ok(map) => {
-            test.expect("the map of texts", has_texts(&map));
+            test.expect(has_texts(&map));
             true
         }
         Err(fault) => {
             let told = fault == ReadFault::OutOfMemory && budget.refused();
-            test.expect("a refused request", told);
+            test.expect(told);
             false
         }
     }
@@ -117,9 +117,9 @@ fn requests_for_texts_are_refused(test: &Test, text: &str) {
     match Value::from_str(test.alloc(), text) {
         Ok(value) => {
             let enough = requests_until_enough(|granted| read_texts_with(test, &value, granted));
-            test.expect("some requests", enough.unwrap_or(0) >= 3);
+            test.expect(enough.unwrap_or(0) >= 3);
         }
-        Err(_) => test.expect("a value", false),
+        Err(_) => test.fail(),
     }
 }
 
@@ -153,7 +153,7 @@ fn a_refused_wish_is_no_fault(test: &Test, value: &Value) {
         Ok(map) => has_pairs(&map, PAIRS),
         Err(_) => false,
     };
-    test.expect("the map", is_read);
+    test.expect(is_read);
 }
 
 fn a_value_is_read(test: &Test, text: &str, ample: Option<ReadFault>) {
@@ -164,7 +164,7 @@ fn a_value_is_read(test: &Test, text: &str, ample: Option<ReadFault>) {
                 a_refused_wish_is_no_fault(test, &value);
             }
         }
-        Err(_) => test.expect("a value", false),
+        Err(_) => test.fail(),
     }
 }
 

@@ -34,10 +34,10 @@ fn is_refused<T: JsonPart + Drop>(alloc: Global, text: &str) -> bool {
 /// Parts with their texts, and texts that are refused.
 fn are_read<T: JsonPart + PartialEq + Drop>(test: &Test, good: &[(T, &str)], bad: &[&str]) {
     for (row, (part, text)) in good.iter().enumerate() {
-        test.expect_at("a part", row, is_text_of(test.alloc(), part, text));
+        test.expect_at(row, is_text_of(test.alloc(), part, text));
     }
     for (row, text) in bad.iter().enumerate() {
-        test.expect_at("refused", row, is_refused::<T>(test.alloc(), text));
+        test.expect_at(row, is_refused::<T>(test.alloc(), text));
     }
 }
 
@@ -96,7 +96,7 @@ fn texts_are_read(test: &Test) {
             Ok(text) => is_text_of(test.alloc(), &text, written),
             Err(_) => false,
         };
-        test.expect_at("a text", row, is_read);
+        test.expect_at(row, is_read);
     }
     are_read::<String>(test, &[], &["1", "true", "null", "[\"a\"]", "{}"]);
 }

@@ -41,7 +41,7 @@ const OTHER_LINE: &str = "walkkeys bfb\n";
 
 fn commands_in(test: &Test, lines: &str) -> Commands {
     let parsed = parse_commands(test.alloc(), lines.as_bytes());
-    test.expect("good lines", parsed.is_ok());
+    test.expect(parsed.is_ok());
     parsed.unwrap_or(Vec::new(test.alloc()))
 }
 
@@ -55,33 +55,33 @@ fn replies_to(test: &Test, commands: &Commands) -> Replies {
         commands,
         |least, _, value| *value >= least,
     );
-    test.expect("memory for replies", ran.is_ok());
+    test.expect(ran.is_ok());
     ran.unwrap_or(Vec::new(alloc))
 }
 
 fn commands_are_shown(test: &Test, commands: &Commands) {
-    test.expect("commands", is_shown(test.alloc(), commands, COMMANDS));
+    test.expect(is_shown(test.alloc(), commands, COMMANDS));
     let like = commands_in(test, LINES);
     let other = commands_in(test, OTHER_LINE);
-    test.expect("equal commands", is_compared(commands, &like, &other));
+    test.expect(is_compared(commands, &like, &other));
 }
 
 fn replies_are_shown(test: &Test, commands: &Commands) {
     let replies = replies_to(test, commands);
-    test.expect("replies", is_shown(test.alloc(), &replies, REPLIES));
+    test.expect(is_shown(test.alloc(), &replies, REPLIES));
     let like = replies_to(test, commands);
     let other = replies_to(test, &commands_in(test, OTHER_LINE));
-    test.expect("equal replies", is_compared(&replies, &like, &other));
+    test.expect(is_compared(&replies, &like, &other));
 }
 
 // No run of lines with ample memory gives these.
 fn rare_replies_are_shown(test: &Test) {
     let rare: [Reply<u32, i64>; 2] = [Reply::NoMemory, Reply::Count(usize::MAX)];
-    test.expect("shown", is_shown(test.alloc(), &rare[0], "NoMemory"));
+    test.expect(is_shown(test.alloc(), &rare[0], "NoMemory"));
     let wanted = b"no memory\n18446744073709551615\n";
     match format_replies(test.alloc(), &rare) {
-        Ok(text) => test.expect("text", text.as_slice() == wanted.as_slice()),
-        Err(_) => test.expect("memory for a text", false),
+        Ok(text) => test.expect(text.as_slice() == wanted.as_slice()),
+        Err(_) => test.fail(),
     }
 }
 

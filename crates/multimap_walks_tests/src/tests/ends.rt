@@ -21,11 +21,11 @@ fn is_one(row: ChainEnds, place: usize) -> bool {
 #[test]
 fn a_row_is_shortened_at_either_end(rt: HostRuntime) -> Result<(), Failed> {
     let test = Test::new(rt.alloc());
-    test.expect("the first place", ROW.place_at(End::Front) == 3);
-    test.expect("the last place", ROW.place_at(End::Back) == 8);
-    test.expect("the first goes", is_one(ROW.after(End::Front, 8), 8));
-    test.expect("the last goes", is_one(ROW.after(End::Back, 3), 3));
-    test.expect("nothing is behind", LAST.step_from(End::Front).is_none());
-    test.expect("one is before", LAST.step_from(End::Back) == Some(3));
+    test.expect(ROW.place_at(End::Front) == 3);
+    test.expect(ROW.place_at(End::Back) == 8);
+    test.expect(is_one(ROW.after(End::Front, 8), 8));
+    test.expect(is_one(ROW.after(End::Back, 3), 3));
+    test.expect(LAST.step_from(End::Front).is_none());
+    test.expect(LAST.step_from(End::Back) == Some(3));
     test.end()
 }

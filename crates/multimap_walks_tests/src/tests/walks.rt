@@ -31,28 +31,28 @@ fn four_are_walked(test: &Test, values: &Values, ends: ChainEnds)
     requires { IsDetachedChain values.now.list ends.first ends.last ends.length }
 {
     let mut walk: EntryValues<'_, u32, u32> = EntryValues::new_detached(values, Some(ends));
-    test.expect("the last", walk.next_back().copied() == Some(14));
+    test.expect(walk.next_back().copied() == Some(14));
     match walk.clone() {
-        Ok(mut copy) => test.expect_same("a clone", walk_difference(&mut copy, &WORD[1..])),
-        Err(_) => test.expect("a clone takes no memory", false),
+        Ok(mut copy) => test.expect_same(walk_difference(&mut copy, &WORD[1..])),
+        Err(_) => test.fail(),
     }
-    test.expect_same("the walk", walk_difference(&mut walk, &WORD[1..]));
+    test.expect_same(walk_difference(&mut walk, &WORD[1..]));
 }
 
 fn none_is_walked(test: &Test, values: &Values) {
     let mut walk: EntryValues<'_, u32, u32> = EntryValues::new_detached(values, None);
-    test.expect_same("none", walk_difference(&mut walk, &[]));
+    test.expect_same(walk_difference(&mut walk, &[]));
 }
 
 fn five_are_pushed(test: &Test, values: &mut Values) {
     let Some(places) = push_five(values) else {
-        return test.expect("push_back", false);
+        return test.fail();
     };
     match detach_four(values, places) {
         Some(ends) => four_are_walked(test, values, ends),
-        None => test.expect("detach", false),
+        None => test.fail(),
     }
-    test.expect("the other key's is left", values.len() == 1);
+    test.expect(values.len() == 1);
 }
 
 #[test]

@@ -55,9 +55,9 @@ fn pairs_are_lent(test: &Test, keys: &Keys, values: &mut Values)
     ensures { HasFourValues values.new.list }
 {
     let mut walk = IterMut::new(keys, values.cells());
-    test.expect("last", taken(&mut walk, End::Back) == Some(('k', 4)));
-    test.expect_same("what is left", difference(&walk.iter(), PAIRS_LEFT));
-    test.expect_same("pairs", walk_difference(&mut walk, OTHER_PAIRS));
+    test.expect(taken(&mut walk, End::Back) == Some(('k', 4)));
+    test.expect_same(difference(&walk.iter(), PAIRS_LEFT));
+    test.expect_same(walk_difference(&mut walk, OTHER_PAIRS));
 }
 
 fn values_are_lent(test: &Test, values: &mut Values)
@@ -65,9 +65,9 @@ fn values_are_lent(test: &Test, values: &mut Values)
     ensures { HasFourValues values.new.list }
 {
     let mut walk: ValuesMut<'_, char, u32> = ValuesMut::new(values.cells());
-    test.expect("last", taken(&mut walk, End::Back) == Some(104));
-    test.expect_same("what is left", difference(&walk.iter(), VALUES_LEFT));
-    test.expect_same("values", walk_difference(&mut walk, OTHER_VALUES));
+    test.expect(taken(&mut walk, End::Back) == Some(104));
+    test.expect_same(difference(&walk.iter(), VALUES_LEFT));
+    test.expect_same(walk_difference(&mut walk, OTHER_VALUES));
 }
 
 fn values_of_key_are_lent(test: &Test, keys: &Keys, values: &mut Values)
@@ -76,9 +76,9 @@ fn values_of_key_are_lent(test: &Test, keys: &Keys, values: &mut Values)
     ensures { HasFourValues values.new.list }
 {
     let mut walk = EntryValuesMut::new(keys, values.cells(), Some((0, LONG)));
-    test.expect("last", taken(&mut walk, End::Back) == Some(204));
-    test.expect_same("what is left", difference(&walk.iter(), LEFT_OF_KEY));
-    test.expect_same("values", walk_difference(&mut walk, OTHERS_OF_KEY));
+    test.expect(taken(&mut walk, End::Back) == Some(204));
+    test.expect_same(difference(&walk.iter(), LEFT_OF_KEY));
+    test.expect_same(walk_difference(&mut walk, OTHERS_OF_KEY));
 }
 
 fn none_is_lent(test: &Test, keys: &Keys, values: &mut Values)
@@ -87,9 +87,9 @@ fn none_is_lent(test: &Test, keys: &Keys, values: &mut Values)
     ensures { HasFourValues values.new.list }
 {
     let mut walk: EntryValuesMut<'_, char, u32> = EntryValuesMut::new(keys, values.cells(), None);
-    test.expect_same("what is left", difference(&walk.iter(), &[]));
-    test.expect("none", walk.next().is_none());
-    test.expect("none again", walk.next_back().is_none());
+    test.expect_same(difference(&walk.iter(), &[]));
+    test.expect(walk.next().is_none());
+    test.expect(walk.next_back().is_none());
 }
 
 // Whether a walk over the keys has given this key with these values.
@@ -112,12 +112,12 @@ fn keys_are_walked(test: &Test, keys: &Keys, values: &Values)
     requires values { HasFourValues values.now.list }
 {
     let mut walk = KeyValues::new_between(keys, values, Some(keys.all()));
-    test.expect("keys left", walk.len() == 2);
-    test.expect("the other", is_given(walk.next_back(), 'l', OTHER_WRITTEN));
-    test.expect("the first", is_given(walk.next(), 'k', WRITTEN));
-    test.expect("no other", walk.next().is_none());
+    test.expect(walk.len() == 2);
+    test.expect(is_given(walk.next_back(), 'l', OTHER_WRITTEN));
+    test.expect(is_given(walk.next(), 'k', WRITTEN));
+    test.expect(walk.next().is_none());
     let mut none: KeyValues<'_, char, u32> = KeyValues::new_between(keys, values, None);
-    test.expect("no key", none.next_back().is_none());
+    test.expect(none.next_back().is_none());
 }
 
 fn all_is_lent(test: &Test, keys: &mut Keys, values: &mut Values)
@@ -125,7 +125,7 @@ fn all_is_lent(test: &Test, keys: &mut Keys, values: &mut Values)
     requires values { values.old.list.order ≡ [] }
 {
     if !push_keys(keys) || !push_values(values) {
-        return test.expect("memory", false);
+        return test.fail();
     }
     pairs_are_lent(test, keys, values);
     values_are_lent(test, values);

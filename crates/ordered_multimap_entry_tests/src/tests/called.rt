@@ -192,17 +192,17 @@ fn answer_of(map: &mut Numbers, call: Call, key: u32) -> Answer {
     }
 }
 
-fn rows_hold(test: &Test, map: &mut Numbers, presence: &'static str, rows: &[Row]) {
+fn rows_hold(test: &Test, map: &mut Numbers, rows: &[Row]) {
     for (row, (call, key, wanted, pairs, keys)) in rows.iter().enumerate() {
         refill(test, map, MIXED);
-        test.expect_at(presence, row, answer_of(map, *call, *key) == *wanted);
-        test.expect_at("lists", row, has_lists(map, *pairs, *keys));
+        test.expect_at(row, answer_of(map, *call, *key) == *wanted);
+        test.expect_at(row, has_lists(map, *pairs, *keys));
     }
 }
 
 /// Each caller returns what it says, and leaves the lists that it says, of a key that is present
 /// and of one that is absent.
 pub fn callers_answer(test: &Test, map: &mut Numbers) {
-    rows_hold(test, map, "a present key", PRESENT);
-    rows_hold(test, map, "an absent key", ABSENT);
+    rows_hold(test, map, PRESENT);
+    rows_hold(test, map, ABSENT);
 }

@@ -10,12 +10,12 @@ use test_helpers::Test;
 fn value_is_inserted(test: &Test, map: &mut Refusing<'_>) {
     match map.entry(1) {
         Entry::Occupied(mut entry) => {
-            test.expect("len before", entry.len() == 2);
-            test.expect("insert", entry.insert(9) == 1);
-            test.expect("get", *entry.get() == 9);
-            test.expect("len", entry.len() == 1);
+            test.expect(entry.len() == 2);
+            test.expect(entry.insert(9) == 1);
+            test.expect(*entry.get() == 9);
+            test.expect(entry.len() == 1);
         }
-        Entry::Vacant(_) => test.expect("an occupied entry", false),
+        Entry::Vacant(_) => test.fail(),
     }
 }
 
@@ -24,47 +24,47 @@ pub fn values_are_replaced(test: &Test, allocator: &RefusingAllocator, map: &mut
     fill(test, map, &[(1, 1), (1, 2), (2, 3)]);
     allocator.refuse_all();
     value_is_inserted(test, map);
-    test.expect("no request", !allocator.refused());
-    test.expect("lists", has_lists(map, &[(2, 3), (1, 9)], &[1, 2]));
+    test.expect(!allocator.refused());
+    test.expect(has_lists(map, &[(2, 3), (1, 9)], &[1, 2]));
 }
 
 fn key_comes_back(test: &Test, map: &mut Numbers) {
     match map.entry(5) {
-        Entry::Vacant(entry) => test.expect("into_key", entry.into_key() == 5),
-        Entry::Occupied(_) => test.expect("a vacant entry", false),
+        Entry::Vacant(entry) => test.expect(entry.into_key() == 5),
+        Entry::Occupied(_) => test.fail(),
     }
-    test.expect("no pair", map.is_empty());
+    test.expect(map.is_empty());
 }
 
 fn value_comes(test: &Test, map: &mut Numbers) {
     match map.entry(1) {
         Entry::Vacant(entry) => match entry.insert(5) {
-            Ok(value) => test.expect("insert", *value == 5),
-            Err(_) => test.expect("memory for a pair", false),
+            Ok(value) => test.expect(*value == 5),
+            Err(_) => test.fail(),
         },
-        Entry::Occupied(_) => test.expect("a vacant entry", false),
+        Entry::Occupied(_) => test.fail(),
     }
 }
 
 fn entry_comes(test: &Test, map: &mut Numbers) {
     match map.entry(2) {
         Entry::Vacant(entry) => match entry.insert_entry(6) {
-            Ok(mut entry) => test.expect("append", entry.append(7) == Ok(())),
-            Err(_) => test.expect("memory for a pair", false),
+            Ok(mut entry) => test.expect(entry.append(7) == Ok(())),
+            Err(_) => test.fail(),
         },
-        Entry::Occupied(_) => test.expect("a vacant entry", false),
+        Entry::Occupied(_) => test.fail(),
     }
 }
 
 fn they_are_popped(test: &Test, map: &mut Numbers) {
     let popped = map.pop_front();
-    test.expect("the first", popped == Some((KeyWrapper::Owned(1), 5)));
+    test.expect(popped == Some((KeyWrapper::Owned(1), 5)));
     match map.pop_front() {
         Some((key, value)) => {
-            test.expect("the second", key == KeyWrapper::Borrowed(&2) && value == 6);
-            test.expect("its key", key.into_owned() == Ok(2));
+            test.expect(key == KeyWrapper::Borrowed(&2) && value == 6);
+            test.expect(key.into_owned() == Ok(2));
         }
-        None => test.expect("a second pair", false),
+        None => test.fail(),
     }
 }
 
@@ -93,8 +93,8 @@ fn or_inserted(map: &mut Numbers, calls: &Cell<u32>) -> Option<u32> {
 pub fn functions_are_called_once(test: &Test, map: &mut Numbers) {
     map.clear();
     let calls = Cell::new(0);
-    test.expect("vacant", or_inserted(map, &calls) == Some(40));
-    test.expect("called", calls.get() == 1);
-    test.expect("occupied", or_inserted(map, &calls) == Some(40));
-    test.expect("not called", calls.get() == 1);
+    test.expect(or_inserted(map, &calls) == Some(40));
+    test.expect(calls.get() == 1);
+    test.expect(or_inserted(map, &calls) == Some(40));
+    test.expect(calls.get() == 1);
 }

@@ -18,7 +18,7 @@ fn add_three(map: &mut Numbers) -> Result<(), AllocError> {
 }
 
 fn expect_first(test: &Test, map: &Numbers, key: &'static str, value: u32) {
-    test.expect(key, map.get(&key).copied() == Some(value));
+    test.expect(map.get(&key).copied() == Some(value));
 }
 
 fn present_keys_stay(test: &Test, map: &mut Numbers) -> Result<(), AllocError> {
@@ -47,26 +47,26 @@ fn entry_is_made(map: &mut Numbers) -> Result<bool, AllocError> {
 }
 
 fn absent_keys_come(test: &Test, map: &mut Numbers) {
-    test.expect("or_insert_with", value_is_made(map).is_ok());
+    test.expect(value_is_made(map).is_ok());
     expect_first(test, map, "page", 42);
-    test.expect("or_insert_entry", entry_comes_back(map) == Ok(true));
-    test.expect("or_insert_with_entry", entry_is_made(map) == Ok(true));
+    test.expect(entry_comes_back(map) == Ok(true));
+    test.expect(entry_is_made(map) == Ok(true));
 }
 
 fn an_entry_is_read(test: &Test, entry: &Occupied<'_>) {
-    test.expect("key", *entry.key() == "line");
-    test.expect("len", entry.len() == 2);
-    test.expect("get", *entry.get() == 1);
-    test.expect("iter", entry.iter().next_back() == Some(&2));
+    test.expect(*entry.key() == "line");
+    test.expect(entry.len() == 2);
+    test.expect(*entry.get() == 1);
+    test.expect(entry.iter().next_back() == Some(&2));
 }
 
 fn an_entry_is_written(test: &Test, map: &mut Numbers) -> Result<(), AllocError> {
     if let Entry::Occupied(mut entry) = map.entry("line") {
         an_entry_is_read(test, &entry);
         *entry.get_mut() = 5;
-        test.expect("get_mut", *entry.get() == 5);
+        test.expect(*entry.get() == 5);
         entry.append(3)?;
-        test.expect("append", entry.len() == 3);
+        test.expect(entry.len() == 3);
     }
     Ok(())
 }
@@ -80,21 +80,21 @@ fn a_value_is_kept(test: &Test, map: &mut Numbers) {
 
 fn a_value_is_inserted(test: &Test, map: &mut Numbers) {
     if let Entry::Occupied(mut entry) = map.entry("line") {
-        test.expect("insert", entry.insert(9) == 1);
+        test.expect(entry.insert(9) == 1);
     }
     expect_first(test, map, "line", 9);
 }
 
 fn a_value_is_taken(test: &Test, map: &mut Numbers) {
     if let Entry::Occupied(mut entry) = map.entry("line") {
-        test.expect("remove_at", entry.remove_at(1) == Some(2));
+        test.expect(entry.remove_at(1) == Some(2));
     }
     expect_first(test, map, "line", 1);
 }
 
 fn values_are_replaced(test: &Test, map: &mut Numbers) -> Result<(), AllocError> {
     if let Entry::Occupied(entry) = map.entry("line") {
-        test.expect("insert_all", entry.insert_all(3)?.next_back() == Some(2));
+        test.expect(entry.insert_all(3)?.next_back() == Some(2));
     }
     expect_first(test, map, "line", 3);
     Ok(())
@@ -102,33 +102,33 @@ fn values_are_replaced(test: &Test, map: &mut Numbers) -> Result<(), AllocError>
 
 // With numbers for keys.
 fn an_entry_is_removed(test: &Test, map: &mut ListOrderedMultimap<u32, u32>) {
-    test.expect("append", map.append(4, 1) == Ok(false));
+    test.expect(map.append(4, 1) == Ok(false));
     if let Entry::Occupied(entry) = map.entry(4) {
-        test.expect("remove", entry.remove() == 1);
+        test.expect(entry.remove() == 1);
     }
-    test.expect("append", map.append(4, 1) == Ok(false));
+    test.expect(map.append(4, 1) == Ok(false));
     if let Entry::Occupied(entry) = map.entry(4) {
-        test.expect("remove_entry", entry.remove_entry().1 == 1);
+        test.expect(entry.remove_entry().1 == 1);
     }
-    test.expect("gone", map.is_empty());
+    test.expect(map.is_empty());
 }
 
 fn add_two(test: &Test, map: &mut ListOrderedMultimap<u32, u32>) {
-    test.expect("the first", map.append(4, 1) == Ok(false));
-    test.expect("the second", map.append(4, 2) == Ok(true));
+    test.expect(map.append(4, 1) == Ok(false));
+    test.expect(map.append(4, 2) == Ok(true));
 }
 
 // With numbers for keys.
 fn an_entry_is_drained(test: &Test, map: &mut ListOrderedMultimap<u32, u32>) {
     add_two(test, map);
     if let Entry::Occupied(entry) = map.entry(4) {
-        test.expect("remove_all", entry.remove_all().next_back() == Some(2));
+        test.expect(entry.remove_all().next_back() == Some(2));
     }
     add_two(test, map);
     if let Entry::Occupied(entry) = map.entry(4) {
-        test.expect("remove_entry_all", entry.remove_entry_all().1.len() == 2);
+        test.expect(entry.remove_entry_all().1.len() == 2);
     }
-    test.expect("gone", map.is_empty());
+    test.expect(map.is_empty());
 }
 
 fn a_vacant_entry_is_filled(test: &Test, map: &mut Numbers) -> Result<(), AllocError> {
@@ -142,7 +142,7 @@ fn a_vacant_entry_is_filled(test: &Test, map: &mut Numbers) -> Result<(), AllocE
 fn a_vacant_entry_is_occupied(test: &Test, map: &mut Numbers) -> Result<(), AllocError> {
     map.clear();
     if let Entry::Vacant(entry) = map.entry("none") {
-        test.expect("insert_entry", entry.insert_entry(5)?.len() == 1);
+        test.expect(entry.insert_entry(5)?.len() == 1);
     }
     expect_first(test, map, "none", 5);
     Ok(())
@@ -150,36 +150,36 @@ fn a_vacant_entry_is_occupied(test: &Test, map: &mut Numbers) -> Result<(), Allo
 
 fn a_key_comes_back(test: &Test, map: &mut Numbers) {
     if let Entry::Vacant(entry) = map.entry("none") {
-        test.expect("key", *entry.key() == "none");
-        test.expect("into_key", entry.into_key() == "none");
+        test.expect(*entry.key() == "none");
+        test.expect(entry.into_key() == "none");
     }
 }
 
 fn add_again(test: &Test, map: &mut Numbers) {
-    test.expect("append", add_three(map).is_ok());
+    test.expect(add_three(map).is_ok());
 }
 
 fn occupied_entries_answer(test: &Test, map: &mut Numbers) {
     add_again(test, map);
-    test.expect("written", an_entry_is_written(test, map).is_ok());
+    test.expect(an_entry_is_written(test, map).is_ok());
     a_value_is_kept(test, map);
     add_again(test, map);
     a_value_is_inserted(test, map);
     add_again(test, map);
     a_value_is_taken(test, map);
     add_again(test, map);
-    test.expect("replaced", values_are_replaced(test, map).is_ok());
+    test.expect(values_are_replaced(test, map).is_ok());
 }
 
 /// The examples with texts for keys.
 pub fn examples_of_texts_hold(test: &Test, map: &mut Numbers) {
     add_again(test, map);
-    test.expect("present", present_keys_stay(test, map).is_ok());
+    test.expect(present_keys_stay(test, map).is_ok());
     absent_keys_come(test, map);
     occupied_entries_answer(test, map);
     a_key_comes_back(test, map);
-    test.expect("vacant", a_vacant_entry_is_filled(test, map).is_ok());
-    test.expect("occupied", a_vacant_entry_is_occupied(test, map).is_ok());
+    test.expect(a_vacant_entry_is_filled(test, map).is_ok());
+    test.expect(a_vacant_entry_is_occupied(test, map).is_ok());
 }
 
 /// The examples with numbers for keys.

@@ -69,11 +69,11 @@ pub fn values_are_taken(test: &Test, allocator: &RefusingAllocator, map: &mut Re
     reserve_anew(test, allocator, map, 2, 4);
     refill(test, map, &[(1, 1), (1, 2), (2, 5), (1, 3)]);
     for (row, (key, index, wanted)) in STEPS.iter().enumerate() {
-        test.expect_at("a step", row, taken(map, *key, *index) == *wanted);
+        test.expect_at(row, taken(map, *key, *index) == *wanted);
     }
-    test.expect("lists", has_lists(map, &[(2, 5), (1, 3)], &[1, 2]));
-    test.expect("from the back", has_values_from_back(map, &[3]));
-    test.expect("no request", !allocator.refused());
+    test.expect(has_lists(map, &[(2, 5), (1, 3)], &[1, 2]));
+    test.expect(has_values_from_back(map, &[3]));
+    test.expect(!allocator.refused());
 }
 
 /// Each of many values can be taken: the first, the last, and any of either half.
@@ -81,9 +81,9 @@ pub fn one_of_many_is_taken(test: &Test, allocator: &RefusingAllocator, map: &mu
     reserve_anew(test, allocator, map, 2, 9);
     for (row, (index, wanted, left)) in ONES.iter().enumerate() {
         refill(test, map, MANY);
-        test.expect_at("what is taken", row, taken(map, 1, *index) == *wanted);
-        test.expect_at("what is left", row, has_values(map, *left));
-        test.expect_at("from the back", row, has_values_from_back(map, *left));
+        test.expect_at(row, taken(map, 1, *index) == *wanted);
+        test.expect_at(row, has_values(map, *left));
+        test.expect_at(row, has_values_from_back(map, *left));
     }
-    test.expect("no request", !allocator.refused());
+    test.expect(!allocator.refused());
 }

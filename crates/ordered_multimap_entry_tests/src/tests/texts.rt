@@ -14,10 +14,10 @@ fn count(test: &Test, map: &mut Counts, wanted: u32) {
         .and_modify(|value| *value = value.saturating_add(1))
         .or_insert(42)
     {
-        Ok(value) => test.expect("or_insert", *value == wanted),
-        Err(_) => test.expect("memory for a pair", false),
+        Ok(value) => test.expect(*value == wanted),
+        Err(_) => test.fail(),
     }
-    test.expect("get", map.get(&"key").copied() == Some(wanted));
+    test.expect(map.get(&"key").copied() == Some(wanted));
 }
 
 /// A value counts how often its key came.
@@ -82,18 +82,18 @@ fn first_value(map: &mut Texts, call: Call, value: &'static str) -> Option<&'sta
 fn first_value_stays(test: &Test, map: &mut Texts, row: usize, call: Call) {
     map.clear();
     let first = first_value(map, call, "value1");
-    test.expect_at("an absent key", row, first == Some("value1"));
+    test.expect_at(row, first == Some("value1"));
     let first = first_value(map, call, "value2");
-    test.expect_at("a present key", row, first == Some("value1"));
-    test.expect_at("one pair", row, map.values_len() == 1);
+    test.expect_at(row, first == Some("value1"));
+    test.expect_at(row, map.values_len() == 1);
 }
 
 fn vacant_entry_isnt_modified(test: &Test, map: &mut Texts) {
     let _ = map.entry("key").and_modify(|value| *value = "value2");
-    test.expect("the key is absent", map.is_empty());
-    test.expect("insert", inserts(map, "key", "value1", &None));
+    test.expect(map.is_empty());
+    test.expect(inserts(map, "key", "value1", &None));
     let _ = map.entry("key").and_modify(|value| *value = "value2");
-    test.expect("get", map.get(&"key").copied() == Some("value2"));
+    test.expect(map.get(&"key").copied() == Some("value2"));
 }
 
 // The first value of the key, as it is lent for writing.
@@ -105,11 +105,11 @@ fn lent(map: &mut Texts) -> Option<&'static str> {
 }
 
 fn value_is_lent(test: &Test, map: &mut Texts) {
-    test.expect("an absent key", lent(map).is_none());
-    test.expect("insert", inserts(map, "key", "value", &None));
-    test.expect("a present key", lent(map) == Some("value"));
-    test.expect("remove", map.remove(&"key") == Some("value"));
-    test.expect("a removed key", lent(map).is_none());
+    test.expect(lent(map).is_none());
+    test.expect(inserts(map, "key", "value", &None));
+    test.expect(lent(map) == Some("value"));
+    test.expect(map.remove(&"key") == Some("value"));
+    test.expect(lent(map).is_none());
 }
 
 const OCCUPIED: &str = concat!(
@@ -121,12 +121,12 @@ const VACANT: &str = r#"VacantEntry("key")"#;
 
 fn is_shown_as(test: &Test, map: &mut Texts, wanted: &str) {
     let entry = map.entry("key");
-    test.expect("an entry", is_shown(test.alloc(), &entry, wanted));
+    test.expect(is_shown(test.alloc(), &entry, wanted));
     let shown = match entry {
         Entry::Occupied(entry) => is_shown(test.alloc(), &entry, wanted),
         Entry::Vacant(entry) => is_shown(test.alloc(), &entry, wanted),
     };
-    test.expect("what it holds", shown);
+    test.expect(shown);
 }
 
 fn entries_are_shown(test: &Test, map: &mut Texts) {

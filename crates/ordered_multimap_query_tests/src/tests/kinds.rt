@@ -1,12 +1,11 @@
 //! Each type of key that has a query of the kit's texts or slices. All hashes are equal, so that keys
 //! are told apart by the query alone.
 use ordered_multimap::{KeyQuery, ListOrderedMultimap};
-use ordered_multimap_callers::test_all;
 use std::borrow::{CowSlice, CowStr};
 use std::boxed::{BoxedSlice, BoxedStr};
 use std::hash::Hash;
 use std::rc::RcStr;
-use test_helpers::{Constant, Failed, Test, ZERO};
+use test_helpers::{Constant, Failed, Test, ZERO, test_all};
 
 fn is_found<K: Eq + Hash + Drop, Q: KeyQuery<K>>(
     test: &Test,
@@ -15,9 +14,9 @@ fn is_found<K: Eq + Hash + Drop, Q: KeyQuery<K>>(
     query: Q,
     other: Q,
 ) {
-    test.expect("append", map.append(key, 7).is_ok());
-    test.expect("found", map.get(query).copied() == Some(7));
-    test.expect("told apart", map.get(other).is_none());
+    test.expect(map.append(key, 7).is_ok());
+    test.expect(map.get(query).copied() == Some(7));
+    test.expect(map.get(other).is_none());
 }
 
 fn finds<K: Eq + Hash + Drop, Q: KeyQuery<K>, E: Drop>(
@@ -34,7 +33,7 @@ fn finds<K: Eq + Hash + Drop, Q: KeyQuery<K>, E: Drop>(
             query,
             other,
         ),
-        Err(_) => test.expect("memory for a key", false),
+        Err(_) => test.fail(),
     }
 }
 

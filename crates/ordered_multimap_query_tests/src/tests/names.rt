@@ -101,28 +101,19 @@ const SENT: &[(&str, &str)] = &[
 
 fn add(test: &Test, headers: &mut Headers, header: &(&str, &'static str)) {
     match String::from_str(test.alloc(), header.0) {
-        Ok(text) => test.expect("append", headers.append(Name { text }, header.1).is_ok()),
-        Err(_) => test.expect("memory for a name", false),
+        Ok(text) => test.expect(headers.append(Name { text }, header.1).is_ok()),
+        Err(_) => test.fail(),
     }
 }
 
 fn names_are_found(test: &Test, headers: &Headers) {
     let name = AnyCase { text: "accept" };
     let both = [(End::Front, "text/html"), (End::Front, "text/plain")];
-    test.expect_same(
-        "get_all",
-        walk_difference(&mut headers.get_all(name), &both),
-    );
+    test.expect_same(walk_difference(&mut headers.get_all(name), &both));
     let cookie = AnyCase { text: "cOOKIE" };
-    test.expect(
-        "another of that length",
-        headers.get(cookie).copied() == Some("a=1"),
-    );
-    test.expect("none", !headers.contains_key(AnyCase { text: "accep" }));
-    test.expect(
-        "none of that length",
-        headers.entry_len(AnyCase { text: "accepu" }) == 0,
-    );
+    test.expect(headers.get(cookie).copied() == Some("a=1"));
+    test.expect(!headers.contains_key(AnyCase { text: "accep" }));
+    test.expect(headers.entry_len(AnyCase { text: "accepu" }) == 0);
 }
 
 // The spelling that came first.
@@ -138,11 +129,8 @@ fn headers_are_kept(test: &Test, headers: &mut Headers) {
         add(test, headers, header);
     }
     names_are_found(test, headers);
-    test.expect(
-        "the first spelling",
-        is_spelled(headers, "accept", "Accept"),
-    );
-    test.expect("two are left", headers.values_len() == 2);
+    test.expect(is_spelled(headers, "accept", "Accept"));
+    test.expect(headers.values_len() == 2);
 }
 
 #[test]

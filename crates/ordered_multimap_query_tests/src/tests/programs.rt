@@ -48,12 +48,12 @@ fn last_of<'t>(config: &Config<'t>, section: &str, name: &str) -> Option<&'t str
 }
 
 fn settings_are_kept(rt: &HostRuntime, test: &Test, config: &mut Config<'_>) {
-    test.expect("each line is read", read_lines(rt, config).is_ok());
-    test.expect("fetch", last_of(config, "remote", "fetch") == Some("next"));
-    test.expect("merge", last_of(config, "branch", "merge") == Some("main"));
-    test.expect("no setting", last_of(config, "branch", "url").is_none());
-    test.expect("no section", last_of(config, "user", "url").is_none());
-    test.expect("two sections", config.keys_len() == 2);
+    test.expect(read_lines(rt, config).is_ok());
+    test.expect(last_of(config, "remote", "fetch") == Some("next"));
+    test.expect(last_of(config, "branch", "merge") == Some("main"));
+    test.expect(last_of(config, "branch", "url").is_none());
+    test.expect(last_of(config, "user", "url").is_none());
+    test.expect(config.keys_len() == 2);
 }
 
 #[test]
@@ -79,13 +79,10 @@ fn read_fields<'t>(
 }
 
 fn fields_are_kept(test: &Test, fields: &mut ListOrderedMultimap<&'static str, &'static str>) {
-    test.expect("the query is read", read_fields(fields, QUERY).is_ok());
-    test.expect("page", fields.get("page").copied() == Some("2"));
-    test.expect("two tags", fields.entry_len("tag") == 2);
-    test.expect(
-        "the last tag",
-        fields.get_all("tag").next_back().copied() == Some("b"),
-    );
+    test.expect(read_fields(fields, QUERY).is_ok());
+    test.expect(fields.get("page").copied() == Some("2"));
+    test.expect(fields.entry_len("tag") == 2);
+    test.expect(fields.get_all("tag").next_back().copied() == Some("b"));
 }
 
 #[test]

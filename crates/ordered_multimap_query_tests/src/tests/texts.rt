@@ -20,8 +20,8 @@ const FOUND: &[(&str, Option<u32>, usize)] = &[
 
 fn append_text<S: BuildHasher>(test: &Test, map: &mut Owned<S>, name: &str, value: u32) {
     match String::from_str(test.alloc(), name) {
-        Ok(key) => test.expect("append", map.append(key, value).is_ok()),
-        Err(_) => test.expect("memory for a key", false),
+        Ok(key) => test.expect(map.append(key, value).is_ok()),
+        Err(_) => test.fail(),
     }
 }
 
@@ -39,24 +39,24 @@ fn is_found<S: BuildHasher>(
     row: &(&str, Option<u32>, usize),
 ) {
     let (name, first, count) = *row;
-    test.expect_at("get", at, map.get(name).copied() == first);
-    test.expect_at("contains_key", at, map.contains_key(name) == (count > 0));
-    test.expect_at("entry_len", at, map.entry_len(name) == count);
-    test.expect_at("get_all", at, map.get_all(name).len() == count);
+    test.expect_at(at, map.get(name).copied() == first);
+    test.expect_at(at, map.contains_key(name) == (count > 0));
+    test.expect_at(at, map.entry_len(name) == count);
+    test.expect_at(at, map.get_all(name).len() == count);
 }
 
 fn values_are_walked<S: BuildHasher>(test: &Test, map: &Owned<S>) {
     let both = [(End::Front, 1), (End::Back, 2)];
     let difference = walk_difference(&mut map.get_all("line"), &both);
-    test.expect_same("get_all", difference);
+    test.expect_same(difference);
 }
 
 fn first_is_written<S: BuildHasher>(test: &Test, map: &mut Owned<S>) {
     if let Some(value) = map.get_mut("line") {
         *value = 3;
     }
-    test.expect("get_mut", map.get("line").copied() == Some(3));
-    test.expect("get_mut of none", map.get_mut("none").is_none());
+    test.expect(map.get("line").copied() == Some(3));
+    test.expect(map.get_mut("none").is_none());
 }
 
 fn all_are_written<S: BuildHasher>(test: &Test, map: &mut Owned<S>) {
@@ -65,8 +65,8 @@ fn all_are_written<S: BuildHasher>(test: &Test, map: &mut Owned<S>) {
     }
     let both = [(End::Front, 9), (End::Front, 9)];
     let difference = walk_difference(&mut map.get_all("line"), &both);
-    test.expect_same("get_all_mut", difference);
-    test.expect("another key", map.get("page").copied() == Some(8));
+    test.expect_same(difference);
+    test.expect(map.get("page").copied() == Some(8));
 }
 
 fn lengths<S: BuildHasher>(map: &Owned<S>) -> (usize, usize) {
@@ -74,9 +74,9 @@ fn lengths<S: BuildHasher>(map: &Owned<S>) -> (usize, usize) {
 }
 
 fn removed<S: BuildHasher>(test: &Test, map: &mut Owned<S>) {
-    test.expect("remove", map.remove("line") == Some(1));
-    test.expect("remove again", map.remove("line").is_none());
-    test.expect("a page is left", lengths(map) == (1, 1));
+    test.expect(map.remove("line") == Some(1));
+    test.expect(map.remove("line").is_none());
+    test.expect(lengths(map) == (1, 1));
 }
 
 // What a removal hands out, and how long the key is.
@@ -88,32 +88,32 @@ fn entry_of<S: BuildHasher>(map: &mut Owned<S>, name: &str) -> Option<(usize, u3
 }
 
 fn entries_are_removed<S: BuildHasher>(test: &Test, map: &mut Owned<S>) {
-    test.expect("remove_entry", entry_of(map, "line") == Some((4, 1)));
-    test.expect("remove_entry again", entry_of(map, "line").is_none());
-    test.expect("a page is left", lengths(map) == (1, 1));
+    test.expect(entry_of(map, "line") == Some((4, 1)));
+    test.expect(entry_of(map, "line").is_none());
+    test.expect(lengths(map) == (1, 1));
 }
 
 fn all_are_drained<S: BuildHasher>(test: &Test, map: &mut Owned<S>) {
-    test.expect("remove_all", map.remove_all("line").next_back() == Some(2));
-    test.expect("remove_all of none", map.remove_all("none").len() == 0);
-    test.expect("a page is left", lengths(map) == (1, 1));
+    test.expect(map.remove_all("line").next_back() == Some(2));
+    test.expect(map.remove_all("none").len() == 0);
+    test.expect(lengths(map) == (1, 1));
 }
 
 fn drained_with_the_key<S: BuildHasher>(test: &Test, map: &mut Owned<S>) {
     let mut stored = None;
     let first = map.remove_entry_with_all("line", &mut stored).next();
-    test.expect("remove_entry_with_all", first == Some(1));
+    test.expect(first == Some(1));
     match stored {
-        Some(key) => test.expect("the stored key", key.as_str() == "line"),
-        None => test.expect("a stored key", false),
+        Some(key) => test.expect(key.as_str() == "line"),
+        None => test.fail(),
     }
 }
 
 fn none_is_drained<S: BuildHasher>(test: &Test, map: &mut Owned<S>) {
     let mut stored = None;
     let count = map.remove_entry_with_all("none", &mut stored).len();
-    test.expect("no value", count == 0);
-    test.expect("no key", stored.is_none());
+    test.expect(count == 0);
+    test.expect(stored.is_none());
 }
 
 /// What each call finds, writes and takes out by a text.

@@ -25,9 +25,9 @@ pub fn steps_answer<K: Eq + Hash, V: PartialEq + Copy>(
     steps: &[Step<V>],
 ) {
     for (row, (end, left, value)) in steps.iter().enumerate() {
-        test.expect_at("size_hint", row, drain.size_hint() == (*left, Some(*left)));
-        test.expect_at("len", row, drain.len() == *left);
-        test.expect_at("a value", row, taken(drain, *end) == *value);
+        test.expect_at(row, drain.size_hint() == (*left, Some(*left)));
+        test.expect_at(row, drain.len() == *left);
+        test.expect_at(row, taken(drain, *end) == *value);
     }
 }
 
@@ -73,7 +73,7 @@ fn all_is_given(test: &Test, drain: &mut Drain<'_, Text, Text>, steps: &[Step<Te
 
 fn is_drained(test: &Test, map: &mut Texts, steps: &[Step<Text>]) {
     all_is_given(test, &mut map.remove_all(&"key"), steps);
-    test.expect("no pair is left", map.is_empty());
+    test.expect(map.is_empty());
 }
 
 const ENDS: &[Step<Text>] = &[
@@ -94,11 +94,11 @@ const REST_SHOWN: &str = r#"EntryValuesDrain(["value2", "value3"])"#;
 
 // A walk shows what is left, and so does Debug.
 fn rest_is_shown(test: &Test, drain: &mut Drain<'_, Text, Text>) {
-    test.expect("all", is_shown(test.alloc(), drain, ALL_SHOWN));
+    test.expect(is_shown(test.alloc(), drain, ALL_SHOWN));
     steps_answer(test, drain, ENDS);
     let rest = [(End::Front, "value2"), (End::Front, "value3")];
-    test.expect_same("iter", walk_difference(&mut drain.iter(), &rest));
-    test.expect("the rest", is_shown(test.alloc(), drain, REST_SHOWN));
+    test.expect_same(walk_difference(&mut drain.iter(), &rest));
+    test.expect(is_shown(test.alloc(), drain, REST_SHOWN));
     steps_answer(test, drain, REST);
 }
 
@@ -126,8 +126,8 @@ const BOTH: &[Step<u32>] = &[
 
 fn values_are_removed(test: &Test, map: &mut Numbers) {
     steps_answer(test, &mut map.remove_all(&5), NO_VALUE);
-    test.expect("the first", appends(map, 5, 1, false));
-    test.expect("the second", appends(map, 5, 2, true));
+    test.expect(appends(map, 5, 1, false));
+    test.expect(appends(map, 5, 2, true));
     steps_answer(test, &mut map.remove_all(&5), BOTH);
     steps_answer(test, &mut map.remove_all(&5), NO_VALUE);
 }
@@ -135,25 +135,25 @@ fn values_are_removed(test: &Test, map: &mut Numbers) {
 fn entry_is_removed(test: &Test, map: &mut Numbers) {
     match map.remove_entry_all(&5) {
         Some((key, mut drain)) => {
-            test.expect("the stored key", key == 5);
+            test.expect(key == 5);
             steps_answer(test, &mut drain, BOTH);
         }
-        None => test.expect("remove_entry_all", false),
+        None => test.fail(),
     }
 }
 
 fn entries_are_removed(test: &Test, map: &mut Numbers) {
-    test.expect("an absent key", map.remove_entry_all(&5).is_none());
-    test.expect("the first", appends(map, 5, 1, false));
-    test.expect("the second", appends(map, 5, 2, true));
+    test.expect(map.remove_entry_all(&5).is_none());
+    test.expect(appends(map, 5, 1, false));
+    test.expect(appends(map, 5, 2, true));
     entry_is_removed(test, map);
-    test.expect("it has gone", map.remove_entry_all(&5).is_none());
+    test.expect(map.remove_entry_all(&5).is_none());
 }
 
 fn is_replaced(test: &Test, map: &mut Numbers, value: u32, old: &[Step<u32>]) {
     match map.insert_all(5, value) {
         Ok(mut drain) => steps_answer(test, &mut drain, old),
-        Err(_) => test.expect("memory for a pair", false),
+        Err(_) => test.fail(),
     }
 }
 
@@ -165,7 +165,7 @@ fn values_are_replaced(test: &Test, map: &mut Numbers) {
         2,
         &[(End::Front, 1, Some(1)), (End::Front, 0, None)],
     );
-    test.expect("get", map.get(&5).copied() == Some(2));
+    test.expect(map.get(&5).copied() == Some(2));
 }
 
 /// Values of present and absent keys are drained.

@@ -3,8 +3,7 @@
 use ordered_multimap::ListOrderedMultimap;
 use ordered_multimap_callers::lists::{appends, has_lists, has_pairs, inserts};
 use ordered_multimap_callers::maps::fill;
-use ordered_multimap_callers::test_in_turn;
-use test_helpers::{Failed, Test};
+use test_helpers::{Failed, Test, test_in_turn};
 
 type Texts = ListOrderedMultimap<&'static str, i64>;
 
@@ -12,7 +11,7 @@ fn page_goes(test: &Test, map: &mut Texts) {
     fill(test, map, &[("line", 1), ("page", 8), ("line", 2)]);
     map.retain(|_key, value| *value != 8);
     let left = has_lists(map, &[("line", 1), ("line", 2)], &["line"]);
-    test.expect("retain", left);
+    test.expect(left);
 }
 
 // A pair, and whether it is appended; else it takes the place of others.
@@ -37,14 +36,14 @@ fn add(map: &mut Texts, key: &'static str, value: i64, appended: bool) -> bool {
 fn values_below_zero_go(test: &Test, map: &mut Texts) {
     map.clear();
     for (row, (key, value, appended)) in ADDED.iter().enumerate() {
-        test.expect_at("added", row, add(map, key, *value, *appended));
+        test.expect_at(row, add(map, key, *value, *appended));
     }
     map.retain(|_key, value| *value >= 0);
     let kept = [("key1", 1), ("key2", 5), ("key4", 1), ("key4", 1)];
-    test.expect("four pairs", has_pairs(map, &kept));
+    test.expect(has_pairs(map, &kept));
 }
 
 #[test]
 fn texts_stay_by_their_values(rt: HostRuntime) -> Result<(), Failed> {
-    test_in_turn!(rt.alloc(); page_goes, values_below_zero_go)
+    test_in_turn!(rt.alloc(), ListOrderedMultimap::new; page_goes, values_below_zero_go)
 }

@@ -8,14 +8,14 @@ use std::mem;
 use test_helpers::{End, Failed, Test, walk_difference};
 
 fn append(test: &Test, map: &mut Refusing<'_>, pair: (u32, u32), present: bool) {
-    test.expect("append", appends(map, pair.0, pair.1, present));
+    test.expect(appends(map, pair.0, pair.1, present));
 }
 
 // Two values come and leave by a drain that is dropped after one step.
 fn two_come_and_leave(test: &Test, map: &mut Refusing<'_>) {
     append(test, map, (1, 1), false);
     append(test, map, (1, 2), true);
-    test.expect("next", map.remove_all(&1).next() == Some(1));
+    test.expect(map.remove_all(&1).next() == Some(1));
 }
 
 fn drains_are_dropped(test: &Test, allocator: &RefusingAllocator, map: &mut Refusing<'_>) {
@@ -23,8 +23,8 @@ fn drains_are_dropped(test: &Test, allocator: &RefusingAllocator, map: &mut Refu
     for _ in 0..50 {
         two_come_and_leave(test, map);
     }
-    test.expect("no request", !allocator.refused());
-    test.expect("no pair", map.is_empty());
+    test.expect(!allocator.refused());
+    test.expect(map.is_empty());
 }
 
 fn two_come_behind_forgotten_ones(test: &Test, map: &mut Refusing<'_>) {
@@ -42,8 +42,8 @@ fn drains_are_forgotten(test: &Test, allocator: &RefusingAllocator, map: &mut Re
         two_come_behind_forgotten_ones(test, map);
     }
     let left = has_lists(map, &[(2, 3), (1, 1), (1, 2)], &[2, 1]);
-    test.expect("no request", !allocator.refused());
-    test.expect("three pairs", left);
+    test.expect(!allocator.refused());
+    test.expect(left);
 }
 
 // A pair comes, and an older one of its key goes.
@@ -62,16 +62,16 @@ fn pairs_come_and_go(test: &Test, allocator: &RefusingAllocator, map: &mut Refus
         one_goes_for_one(test, map, number);
     }
     let left = has_lists(map, &[(2, 0), (1, 59), (1, 60)], &[1, 2]);
-    test.expect("no request", !allocator.refused());
-    test.expect("three pairs", left);
+    test.expect(!allocator.refused());
+    test.expect(left);
     let values = [(End::Back, 60), (End::Back, 59)];
-    test.expect_same("get_all", walk_difference(&mut map.get_all(&1), &values));
+    test.expect_same(walk_difference(&mut map.get_all(&1), &values));
 }
 
 fn both_are_replaced(test: &Test, map: &mut Refusing<'_>, number: u32) {
     let old = Some(number.saturating_sub(1));
-    test.expect("the key 1", inserts(map, 1, number, &old));
-    test.expect("the key 2", inserts(map, 2, number, &old));
+    test.expect(inserts(map, 1, number, &old));
+    test.expect(inserts(map, 2, number, &old));
 }
 
 fn values_are_replaced(test: &Test, allocator: &RefusingAllocator, map: &mut Refusing<'_>) {
@@ -82,8 +82,8 @@ fn values_are_replaced(test: &Test, allocator: &RefusingAllocator, map: &mut Ref
         both_are_replaced(test, map, number);
     }
     let left = has_lists(map, &[(1, 50), (2, 50)], &[1, 2]);
-    test.expect("no request", !allocator.refused());
-    test.expect("two pairs", left);
+    test.expect(!allocator.refused());
+    test.expect(left);
 }
 
 fn room_is_used(test: &Test, allocator: &RefusingAllocator, map: &mut Refusing<'_>) {

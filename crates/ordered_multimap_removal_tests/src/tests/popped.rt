@@ -43,29 +43,29 @@ const FROM_THE_FRONT: &[Popped] = &[
 
 fn all_leave(test: &Test, map: &mut Numbers, end: End, pops: &[Popped]) {
     for (row, popped) in pops.iter().enumerate() {
-        test.expect_at("pop", row, pop(map, end) == *popped);
+        test.expect_at(row, pop(map, end) == *popped);
     }
-    test.expect("no pair is left", pop(map, end).is_none());
+    test.expect(pop(map, end).is_none());
 }
 
 /// The last value takes its key with it.
 pub fn key_is_lent_and_handed_out(test: &Test, map: &mut Texts) {
     map.clear();
-    test.expect("insert", inserts(map, "key", "value1", &None));
-    test.expect("append", appends(map, "key", "value2", true));
+    test.expect(inserts(map, "key", "value1", &None));
+    test.expect(appends(map, "key", "value2", true));
     let lent = Some((KeyWrapper::Borrowed(&"key"), "value2"));
-    test.expect("lent", map.pop_back() == lent);
+    test.expect(map.pop_back() == lent);
     let owned = Some((KeyWrapper::Owned("key"), "value1"));
-    test.expect("owned", map.pop_back() == owned);
+    test.expect(map.pop_back() == owned);
 }
 
 // What is appended and popped again leaves the map as it was.
 fn appends_are_undone(test: &Test, map: &mut Numbers) {
     let popped = append_and_pop(map, 1, 9);
-    test.expect("a present key", popped == Ok(Some((false, 1, 9))));
+    test.expect(popped == Ok(Some((false, 1, 9))));
     let popped = append_and_pop(map, 3, 9);
-    test.expect("an absent key", popped == Ok(Some((true, 3, 9))));
-    test.expect("as before", has_lists(map, PAIRS, &[1, 2]));
+    test.expect(popped == Ok(Some((true, 3, 9))));
+    test.expect(has_lists(map, PAIRS, &[1, 2]));
 }
 
 /// Pairs leave at both ends, and an append is undone by a pop.
@@ -87,20 +87,20 @@ fn append_two_each(test: &Test, map: &mut Alike) {
             number % 200,
             if number < 200 { number } else { number + 800 },
         );
-        test.expect("append", appends(map, pair.0, pair.1, number >= 200));
+        test.expect(appends(map, pair.0, pair.1, number >= 200));
     }
 }
 
 // Where all hashes are equal, half of the keys leave, and then the first pair of the others.
 fn half_leave(test: &Test, map: &mut Alike) {
     for half in 0..100u32 {
-        test.expect("remove", map.remove(&(half * 2)) == Some(half * 2));
+        test.expect(map.remove(&(half * 2)) == Some(half * 2));
     }
-    test.expect("keys_len", map.keys_len() == 100);
-    test.expect("values_len", map.values_len() == 200);
+    test.expect(map.keys_len() == 100);
+    test.expect(map.values_len() == 200);
     let both = [(End::Front, 1), (End::Front, 1001)];
-    test.expect_same("get_all", walk_difference(&mut map.get_all(&1), &both));
-    test.expect("pop", pop(map, End::Front) == Some((false, 1, 1)));
+    test.expect_same(walk_difference(&mut map.get_all(&1), &both));
+    test.expect(pop(map, End::Front) == Some((false, 1, 1)));
 }
 
 /// Half of the keys leave where all hashes are equal.

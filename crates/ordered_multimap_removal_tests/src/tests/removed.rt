@@ -4,20 +4,20 @@ use ordered_multimap_callers::maps::Texts;
 use test_helpers::Test;
 
 fn entry_leaves(test: &Test, map: &mut Texts) {
-    test.expect("an absent key", map.remove_entry(&"key").is_none());
-    test.expect("insert", inserts(map, "key", "value1", &None));
-    test.expect("append", appends(map, "key", "value2", true));
+    test.expect(map.remove_entry(&"key").is_none());
+    test.expect(inserts(map, "key", "value1", &None));
+    test.expect(appends(map, "key", "value2", true));
     let entry = map.remove_entry(&"key");
-    test.expect("the entry", entry == Some(("key", "value1")));
-    test.expect("it has gone", map.remove_entry(&"key").is_none());
+    test.expect(entry == Some(("key", "value1")));
+    test.expect(map.remove_entry(&"key").is_none());
 }
 
 fn key_leaves(test: &Test, map: &mut Texts) {
-    test.expect("an absent key", map.remove(&"key").is_none());
-    test.expect("insert", inserts(map, "key", "value1", &None));
-    test.expect("append", appends(map, "key", "value2", true));
-    test.expect("the first value", map.remove(&"key") == Some("value1"));
-    test.expect("it has gone", map.remove(&"key").is_none());
+    test.expect(map.remove(&"key").is_none());
+    test.expect(inserts(map, "key", "value1", &None));
+    test.expect(appends(map, "key", "value2", true));
+    test.expect(map.remove(&"key") == Some("value1"));
+    test.expect(map.remove(&"key").is_none());
 }
 
 /// Keys leave with their values.

@@ -10,8 +10,8 @@ type Shares = ListOrderedMultimap<u8, Rc<u8>>;
 
 fn append_share(test: &Test, map: &mut Shares, shared: &Rc<u8>) {
     match shared.clone() {
-        Ok(share) => test.expect("append", map.append(1, share).is_ok()),
-        Err(_) => test.expect("clone", false),
+        Ok(share) => test.expect(map.append(1, share).is_ok()),
+        Err(_) => test.fail(),
     }
 }
 
@@ -19,17 +19,17 @@ fn append_shares(test: &Test, map: &mut Shares, shared: &Rc<u8>) {
     for _ in 0..3 {
         append_share(test, map, shared);
     }
-    test.expect("three are held", Rc::strong_count(shared) == 4);
+    test.expect(Rc::strong_count(shared) == 4);
 }
 
 // What a drain has not given is dropped with it.
 fn the_rest_is_dropped(test: &Test, map: &mut Shares, shared: &Rc<u8>) {
     append_shares(test, map, shared);
     drop(map.remove_all(&1));
-    test.expect("all are dropped", Rc::strong_count(shared) == 1);
+    test.expect(Rc::strong_count(shared) == 1);
     append_shares(test, map, shared);
     let given = map.remove_all(&1).next();
-    test.expect("one is kept", Rc::strong_count(shared) == 2);
+    test.expect(Rc::strong_count(shared) == 2);
     drop(given);
 }
 
@@ -37,14 +37,14 @@ fn the_rest_is_dropped(test: &Test, map: &mut Shares, shared: &Rc<u8>) {
 fn forgotten_ones_are_dropped(test: &Test, mut map: Shares, shared: &Rc<u8>) {
     append_shares(test, &mut map, shared);
     mem::forget(map.remove_all(&1));
-    test.expect("three are kept", Rc::strong_count(shared) == 4);
+    test.expect(Rc::strong_count(shared) == 4);
 }
 
 fn shares_are_dropped(test: &Test, shared: &Rc<u8>) {
     the_rest_is_dropped(test, &mut ListOrderedMultimap::new(test.alloc()), shared);
-    test.expect("none is held", Rc::strong_count(shared) == 1);
+    test.expect(Rc::strong_count(shared) == 1);
     forgotten_ones_are_dropped(test, ListOrderedMultimap::new(test.alloc()), shared);
-    test.expect("none is held", Rc::strong_count(shared) == 1);
+    test.expect(Rc::strong_count(shared) == 1);
 }
 
 #[test]

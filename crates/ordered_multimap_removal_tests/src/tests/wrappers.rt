@@ -5,48 +5,36 @@ use std::hash::BuildHasher;
 use test_helpers::{Failed, Test, is_compared, is_copied, is_shown};
 
 fn wrappers_tell(test: &Test, lent: KeyWrapper<'_, usize>, owned: KeyWrapper<'_, usize>) {
-    test.expect("lent", lent.is_borrowed() && !lent.is_owned());
-    test.expect("owned", owned.is_owned() && !owned.is_borrowed());
-    test.expect("lent key", lent.into_owned() == Ok(5));
-    test.expect("owned key", owned.into_owned() == Ok(5));
+    test.expect(lent.is_borrowed() && !lent.is_owned());
+    test.expect(owned.is_owned() && !owned.is_borrowed());
+    test.expect(lent.into_owned() == Ok(5));
+    test.expect(owned.into_owned() == Ok(5));
 }
 
 fn wrappers_are_compared(test: &Test, key: &usize, like: &usize, other: &usize) {
     let lent = KeyWrapper::Borrowed(key);
     let owned = KeyWrapper::Owned(5);
-    test.expect(
-        "lent",
-        is_compared(
-            &lent,
-            &KeyWrapper::Borrowed(like),
-            &KeyWrapper::Borrowed(other),
-        ),
-    );
-    test.expect(
-        "owned",
-        is_compared(&owned, &KeyWrapper::Owned(5), &KeyWrapper::Owned(6)),
-    );
-    test.expect("a lent and an owned key", is_compared(&lent, &lent, &owned));
-    test.expect("copied", is_copied(&lent) && is_copied(&owned));
+    test.expect(is_compared(
+        &lent,
+        &KeyWrapper::Borrowed(like),
+        &KeyWrapper::Borrowed(other),
+    ));
+    test.expect(is_compared(&owned, &KeyWrapper::Owned(5), &KeyWrapper::Owned(6)));
+    test.expect(is_compared(&lent, &lent, &owned));
+    test.expect(is_copied(&lent) && is_copied(&owned));
 }
 
 fn wrappers_are_shown(test: &Test, lent: &KeyWrapper<'_, usize>, owned: &KeyWrapper<'_, usize>) {
-    test.expect("lent", is_shown(test.alloc(), lent, "Borrowed(5)"));
-    test.expect("owned", is_shown(test.alloc(), owned, "Owned(5)"));
+    test.expect(is_shown(test.alloc(), lent, "Borrowed(5)"));
+    test.expect(is_shown(test.alloc(), owned, "Owned(5)"));
 }
 
 // Equal wrappers have equal hashes, and the two kinds are told apart.
 fn wrappers_are_hashed(test: &Test, lent: &KeyWrapper<'_, usize>, owned: &KeyWrapper<'_, usize>) {
     let state = DefaultState::new();
-    test.expect(
-        "lent",
-        state.hash_one(lent) == state.hash_one(&KeyWrapper::Borrowed(&5usize)),
-    );
-    test.expect(
-        "owned",
-        state.hash_one(owned) == state.hash_one(&KeyWrapper::Owned(5usize)),
-    );
-    test.expect("both", state.hash_one(lent) != state.hash_one(owned));
+    test.expect(state.hash_one(lent) == state.hash_one(&KeyWrapper::Borrowed(&5usize)));
+    test.expect(state.hash_one(owned) == state.hash_one(&KeyWrapper::Owned(5usize)));
+    test.expect(state.hash_one(lent) != state.hash_one(owned));
 }
 
 #[test]
@@ -63,13 +51,13 @@ type Text<'a> = String<&'a RefusingAllocator>;
 
 // A lent key is cloned, which may be refused; an owned one is handed on.
 fn clones_are_refused(test: &Test, allocator: &RefusingAllocator, text: Text<'_>) {
-    test.expect("granted", KeyWrapper::Borrowed(&text).into_owned().is_ok());
+    test.expect(KeyWrapper::Borrowed(&text).into_owned().is_ok());
     allocator.refuse_all();
-    test.expect("refused", KeyWrapper::Borrowed(&text).into_owned().is_err());
-    test.expect("a lent key", KeyWrapper::Borrowed(&text).clone().is_ok());
+    test.expect(KeyWrapper::Borrowed(&text).into_owned().is_err());
+    test.expect(KeyWrapper::Borrowed(&text).clone().is_ok());
     let owned = KeyWrapper::Owned(text);
-    test.expect("an owned key", owned.clone().is_err());
-    test.expect("handed on", owned.into_owned().is_ok());
+    test.expect(owned.clone().is_err());
+    test.expect(owned.into_owned().is_ok());
 }
 
 #[test]
@@ -77,7 +65,7 @@ fn a_refused_clone_of_a_key_is_told(rt: HostRuntime) -> Result<(), Failed> {
     let test = Test::new(rt.alloc());
     let allocator = RefusingAllocator::unlimited(test.alloc());
     let mut text = String::new(&allocator);
-    test.expect("memory for a text", text.push('a').is_ok());
+    test.expect(text.push('a').is_ok());
     clones_are_refused(&test, &allocator, text);
     test.end()
 }

@@ -38,15 +38,15 @@ fn made_of_two(alloc: Global) -> Result<Numbers, AllocError> {
 }
 
 fn is_extended(test: &Test, map: &mut Numbers, other: &Numbers) {
-    test.expect("reserve", reserve_ten(map).is_ok());
-    test.expect("room for keys", map.keys_capacity() >= 10);
-    test.expect("room for values", map.values_capacity() >= 10);
-    test.expect("extend", extend_by_three(map).is_ok());
-    test.expect("three pairs", map.values_len() == 3);
-    test.expect("extend_copied", extend_by(map, other).is_ok());
-    test.expect("five pairs", map.values_len() == 5);
-    test.expect("pack", pack_five(map).is_ok());
-    test.expect("the last", map.back() == Some((&"page", &8)));
+    test.expect(reserve_ten(map).is_ok());
+    test.expect(map.keys_capacity() >= 10);
+    test.expect(map.values_capacity() >= 10);
+    test.expect(extend_by_three(map).is_ok());
+    test.expect(map.values_len() == 3);
+    test.expect(extend_by(map, other).is_ok());
+    test.expect(map.values_len() == 5);
+    test.expect(pack_five(map).is_ok());
+    test.expect(map.back() == Some((&"page", &8)));
 }
 
 #[test]
@@ -54,7 +54,7 @@ fn examples_of_many_pairs_hold(rt: HostRuntime) -> Result<(), Failed> {
     let test = Test::new(rt.alloc());
     match made_of_two(test.alloc()) {
         Ok(other) => is_extended(&test, &mut ListOrderedMultimap::new(test.alloc()), &other),
-        Err(_) => test.expect("memory for two pairs", false),
+        Err(_) => test.fail(),
     }
     test.end()
 }

@@ -14,7 +14,7 @@ type Made<'a, S> = Result<ListOrderedMultimap<u32, u32, S, &'a RefusingAllocator
 fn is_made<S: BuildHasher + Drop>(test: &Test, made: Made<'_, S>, room: (usize, usize)) -> bool {
     match made {
         Ok(map) => {
-            test.expect("room", has_room(&map, room.0, room.1) && map.is_empty());
+            test.expect(has_room(&map, room.0, room.1) && map.is_empty());
             true
         }
         Err(_) => false,
@@ -38,10 +38,10 @@ const ROOMS: &[((usize, usize), u64)] = &[((0, 0), 0), ((0, 5), 1), ((5, 0), 2),
 
 fn room_is_made(test: &Test, at: usize, room: (usize, usize), least: u64) {
     let enough = requests_until_enough(|granted| makes(test, granted, room));
-    test.expect_at("with_capacity", at, enough.unwrap_or(0) >= least);
-    test.expect_at("no room", at, least > 0 || enough == Some(0));
+    test.expect_at(at, enough.unwrap_or(0) >= least);
+    test.expect_at(at, least > 0 || enough == Some(0));
     let alike = requests_until_enough(|granted| makes_with_hasher(test, granted, room));
-    test.expect_at("with_capacity_and_hasher", at, alike == enough);
+    test.expect_at(at, alike == enough);
 }
 
 #[test]
@@ -59,21 +59,21 @@ const TOO_MUCH: &[(usize, usize)] = &[(usize::MAX, 0), (0, usize::MAX), (0, usiz
 /// Room for more than there can be is refused, and the map is as before.
 pub fn room_is_refused(test: &Test, map: &mut Numbers) {
     map.clear();
-    test.expect("append", appends(map, 7, 70, false));
-    test.expect("keys", map.reserve_keys(usize::MAX).is_err());
-    test.expect("values", map.reserve_values(usize::MAX).is_err());
+    test.expect(appends(map, 7, 70, false));
+    test.expect(map.reserve_keys(usize::MAX).is_err());
+    test.expect(map.reserve_values(usize::MAX).is_err());
     let half = usize::MAX / 2;
-    test.expect("half as many", map.reserve_values(half).is_err());
-    test.expect("as before", has_lists(map, &[(7, 70)], &[7]));
+    test.expect(map.reserve_values(half).is_err());
+    test.expect(has_lists(map, &[(7, 70)], &[7]));
 }
 
 #[test]
 fn more_than_there_can_be_is_refused(rt: HostRuntime) -> Result<(), Failed> {
     let test = Test::new(rt.alloc());
     for (at, room) in TOO_MUCH.iter().enumerate() {
-        test.expect_at("with_capacity", at, !makes(&test, u64::MAX, *room));
+        test.expect_at(at, !makes(&test, u64::MAX, *room));
         let made = makes_with_hasher(&test, u64::MAX, *room);
-        test.expect_at("with_capacity_and_hasher", at, !made);
+        test.expect_at(at, !made);
     }
     test.end()
 }

@@ -14,7 +14,7 @@ pub fn pack_to<K: Eq + Hash + Drop, V: Drop, S: BuildHasher, A: Allocator + Copy
     values: usize,
 ) -> bool {
     if map.keys_len() > keys || map.values_len() > values {
-        test.expect("no more keys and values", false);
+        test.fail();
         return false;
     }
     map.pack_to(keys, values).is_ok()
@@ -27,9 +27,9 @@ fn has_texts(map: &Texts, keys: usize, values: usize) -> bool {
 /// Texts are packed where there is room for ten.
 pub fn texts_are_packed(test: &Test, map: &mut Texts) {
     fill(test, map, MIXED_TEXTS);
-    test.expect("room for ten", has_texts(map, 10, 10));
-    test.expect("pack_to", pack_to(test, map, 5, 5));
-    test.expect("room for five", has_texts(map, 5, 5));
-    test.expect("pack_to_fit", map.pack_to_fit().is_ok());
-    test.expect("room for four", has_texts(map, 2, 4));
+    test.expect(has_texts(map, 10, 10));
+    test.expect(pack_to(test, map, 5, 5));
+    test.expect(has_texts(map, 5, 5));
+    test.expect(map.pack_to_fit().is_ok());
+    test.expect(has_texts(map, 2, 4));
 }

@@ -74,17 +74,17 @@ fn tries_with(test: &Test, granted: u64, call: Try, other: &Numbers) -> bool {
     prepare(test, &mut map, call);
     allocator.grant(granted);
     let enough = tries(test, &mut map, call, other);
-    test.expect("refused for want of memory", enough || allocator.refused());
+    test.expect(enough || allocator.refused());
     enough
 }
 
 fn all_are_tried(test: &Test, other: &Numbers) {
     for (row, (call, least)) in TRIES.iter().enumerate() {
         let enough = requests_until_enough(|granted| tries_with(test, granted, *call, other));
-        test.expect_at("requests", row, enough.unwrap_or(0) >= *least);
+        test.expect_at(row, enough.unwrap_or(0) >= *least);
     }
     let enough = requests_until_enough(|granted| from_iter_with(test, granted));
-    test.expect("from_iter", enough.unwrap_or(0) >= 3);
+    test.expect(enough.unwrap_or(0) >= 3);
 }
 
 #[test]

@@ -52,12 +52,12 @@ fn is_put(
     match answer {
         Ok(()) => {
             let kept = if stay(call, before) { before } else { &[] };
-            test.expect("the pair", stands_behind(map, kept));
+            test.expect(stands_behind(map, kept));
             true
         }
         Err(refused) => {
-            test.expect("the pair comes back", refused == PAIR);
-            test.expect("as before", is_as_before(map, before));
+            test.expect(refused == PAIR);
+            test.expect(is_as_before(map, before));
             false
         }
     }
@@ -73,10 +73,10 @@ pub fn puts(test: &Test, map: &mut Refusing<'_>, call: Call, pairs: &[(u32, u32)
 
 /// Appends the pairs, all of one key, as long as there is room.
 pub fn fill_up(test: &Test, map: &mut Refusing<'_>, pairs: &[(u32, u32)]) {
-    test.expect("reserve_keys", map.reserve_keys(1).is_ok());
-    test.expect("reserve_values", map.reserve_values(2).is_ok());
+    test.expect(map.reserve_keys(1).is_ok());
+    test.expect(map.reserve_values(2).is_ok());
     for (key, value) in first(pairs, map.values_capacity()) {
-        test.expect("append", map.append(*key, *value).is_ok());
+        test.expect(map.append(*key, *value).is_ok());
     }
-    test.expect("no room", map.values_len() == map.values_capacity());
+    test.expect(map.values_len() == map.values_capacity());
 }

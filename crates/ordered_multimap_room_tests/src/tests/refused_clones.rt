@@ -10,7 +10,7 @@ type Texts<'a> = ListOrderedMultimap<Text<'a>, Text<'a>, DefaultState, &'a Refus
 
 fn text<'a>(test: &Test, allocator: &'a RefusingAllocator, letter: char) -> Text<'a> {
     let mut text = String::new(allocator);
-    test.expect("memory for a text", text.push(letter).is_ok());
+    test.expect(text.push(letter).is_ok());
     text
 }
 
@@ -22,7 +22,7 @@ fn insert<'a>(
 ) {
     let key = text(test, allocator, pair.0);
     let value = text(test, allocator, pair.1);
-    test.expect("insert", map.insert(key, value).is_ok());
+    test.expect(map.insert(key, value).is_ok());
 }
 
 // The key and the value of a pair are these.
@@ -43,13 +43,13 @@ fn is_key(key: Option<&Text<'_>>, wanted: &str) -> bool {
 // The keys a, b and the pairs (b, y), (a, z).
 fn has_both(test: &Test, map: &Texts<'_>) {
     let mut keys = map.keys();
-    test.expect("first key", is_key(keys.next(), "a"));
-    test.expect("second key", is_key(keys.next(), "b"));
-    test.expect("no third key", keys.next().is_none());
+    test.expect(is_key(keys.next(), "a"));
+    test.expect(is_key(keys.next(), "b"));
+    test.expect(keys.next().is_none());
     let mut pairs = map.iter();
-    test.expect("first pair", is_pair(pairs.next(), "b", "y"));
-    test.expect("second pair", is_pair(pairs.next(), "a", "z"));
-    test.expect("no third pair", pairs.next().is_none());
+    test.expect(is_pair(pairs.next(), "b", "y"));
+    test.expect(is_pair(pairs.next(), "a", "z"));
+    test.expect(pairs.next().is_none());
 }
 
 // Returns whether there was memory for a clone.
@@ -76,7 +76,7 @@ fn clone_with(test: &Test, granted: u64) -> bool {
 fn clones_of_it(test: &Test, allocator: &RefusingAllocator, granted: u64, map: &Texts<'_>) -> bool {
     allocator.grant(granted);
     let cloned = is_cloned(test, map);
-    test.expect("refused for want of memory", cloned != allocator.refused());
+    test.expect(cloned != allocator.refused());
     has_both(test, map);
     cloned
 }
@@ -86,6 +86,6 @@ fn a_refused_clone_leaves_the_map(rt: HostRuntime) -> Result<(), Failed> {
     let test = Test::new(rt.alloc());
     let enough = requests_until_enough(|granted| clone_with(&test, granted));
     // Both lists, the table and four texts.
-    test.expect("seven requests or more", enough.unwrap_or(0) >= 7);
+    test.expect(enough.unwrap_or(0) >= 7);
     test.end()
 }

@@ -16,17 +16,17 @@ const KEYS: &[u32] = &[1, 2, 3];
 // The refused pair is the one behind the first so many.
 fn comes_back(test: &Test, count: usize, refused: Refused<u32, u32>) {
     let pair = (refused.key, refused.value);
-    test.expect("the refused pair", PAIRS.get(count).copied() == Some(pair));
+    test.expect(PAIRS.get(count).copied() == Some(pair));
 }
 
 // What an extension leaves; whether there was memory for all pairs.
 fn is_extended(test: &Test, map: &Refusing<'_>, answer: Result<(), Refused<u32, u32>>) -> bool {
     let count = map.values_len();
     let lists = has_lists(map, first(PAIRS, count), first(KEYS, count));
-    test.expect("the pairs before", lists);
+    test.expect(lists);
     match answer {
         Ok(()) => {
-            test.expect("all pairs", count == 3);
+            test.expect(count == 3);
             true
         }
         Err(refused) => {
@@ -54,7 +54,7 @@ pub fn from_iter_with(test: &Test, granted: u64) -> bool {
     let mut pairs = PAIRS.iter().copied();
     match ListOrderedMultimap::from_iter(&allocator, DefaultState::new(), &mut pairs) {
         Ok(map) => {
-            test.expect("all pairs", has_lists(&map, PAIRS, KEYS));
+            test.expect(has_lists(&map, PAIRS, KEYS));
             true
         }
         Err(refused) => {

@@ -24,11 +24,11 @@ fn makes_room(test: &Test, map: &mut Refusing<'_>, call: Room) -> bool {
 
 /// Leaves three pairs, with a hole among the keys and one among the values.
 pub fn keep_three(test: &Test, map: &mut Refusing<'_>) {
-    test.expect("the first", appends(map, 1, 11, false));
-    test.expect("the second", appends(map, 2, 12, false));
-    test.expect("the third", appends(map, 3, 13, false));
-    test.expect("the fourth", appends(map, 1, 14, true));
-    test.expect("remove", map.remove(&2) == Some(12));
+    test.expect(appends(map, 1, 11, false));
+    test.expect(appends(map, 2, 12, false));
+    test.expect(appends(map, 3, 13, false));
+    test.expect(appends(map, 1, 14, true));
+    test.expect(map.remove(&2) == Some(12));
 }
 
 fn room_of(call: Room) -> (usize, usize) {
@@ -44,8 +44,8 @@ fn room_of(call: Room) -> (usize, usize) {
 pub fn is_made(test: &Test, map: &mut Refusing<'_>, call: Room) -> bool {
     let made = makes_room(test, map, call);
     let room = room_of(call);
-    test.expect("the room", !made || has_room(map, room.0, room.1));
+    test.expect(!made || has_room(map, room.0, room.1));
     let lists = has_lists(map, &[(1, 11), (3, 13), (1, 14)], &[1, 3]);
-    test.expect("as before", lists);
+    test.expect(lists);
     made
 }

@@ -17,34 +17,34 @@ fn popped(map: &mut Refusing<'_>) -> Option<(bool, u32, u32)> {
 fn three_are_added(test: &Test, allocator: &RefusingAllocator, map: &mut Refusing<'_>) {
     reserve_anew(test, allocator, map, 3, 3);
     for number in 1..4u32 {
-        test.expect("append", appends(map, number, number, false));
+        test.expect(appends(map, number, number, false));
     }
-    test.expect("insert", inserts(map, 2, 9, &Some(2)));
-    test.expect("pop", popped(map) == Some((true, 1, 1)));
+    test.expect(inserts(map, 2, 9, &Some(2)));
+    test.expect(popped(map) == Some((true, 1, 1)));
     map.retain(|_key, value| *value < 9);
-    test.expect("one pair stays", has_lists(map, &[(3, 3)], &[3]));
-    test.expect("no request", !allocator.refused());
+    test.expect(has_lists(map, &[(3, 3)], &[3]));
+    test.expect(!allocator.refused());
 }
 
 // A key whose oldest value leaves as each new one comes.
 fn values_pass_through(test: &Test, allocator: &RefusingAllocator, map: &mut Refusing<'_>) {
     reserve_anew(test, allocator, map, 1, 2);
-    test.expect("the first", appends(map, 1, 0, false));
+    test.expect(appends(map, 1, 0, false));
     for number in 1..101u32 {
-        test.expect("append", appends(map, 1, number, true));
-        test.expect("pop", popped(map) == Some((false, 1, number - 1)));
+        test.expect(appends(map, 1, number, true));
+        test.expect(popped(map) == Some((false, 1, number - 1)));
     }
-    test.expect("the last", has_lists(map, &[(1, 100)], &[1]));
-    test.expect("no request", !allocator.refused());
+    test.expect(has_lists(map, &[(1, 100)], &[1]));
+    test.expect(!allocator.refused());
 }
 
 // Room that is there already is never refused, and nothing grows.
 fn reserves_nothing(test: &Test, allocator: &RefusingAllocator, map: &mut Refusing<'_>) {
     let room = (map.keys_capacity(), map.values_capacity());
     reserve(test, allocator, map, 2, 5);
-    test.expect("no request", !allocator.refused());
+    test.expect(!allocator.refused());
     let left = (map.keys_capacity(), map.values_capacity());
-    test.expect("as much room", left == room);
+    test.expect(left == room);
 }
 
 /// Room is used without memory. There is room for five at first.
@@ -57,10 +57,10 @@ pub fn room_is_used(test: &Test, allocator: &RefusingAllocator, map: &mut Refusi
 
 /// Room comes with a pair, and with a call that asks for it.
 pub fn room_grows(test: &Test, map: &mut Texts) {
-    test.expect("insert", inserts(map, "key", "value", &None));
-    test.expect("room for one", has_room(map, 1, 1));
+    test.expect(inserts(map, "key", "value", &None));
+    test.expect(has_room(map, 1, 1));
     map.clear();
-    test.expect("keys", map.reserve_keys(5).is_ok());
-    test.expect("values", map.reserve_values(5).is_ok());
-    test.expect("room for five", has_room(map, 5, 5));
+    test.expect(map.reserve_keys(5).is_ok());
+    test.expect(map.reserve_values(5).is_ok());
+    test.expect(has_room(map, 5, 5));
 }

@@ -10,8 +10,8 @@ type Shares = ListOrderedMultimap<u8, Rc<u8>>;
 
 fn append_share(test: &Test, map: &mut Shares, key: u8, shared: &Rc<u8>) {
     match shared.clone() {
-        Ok(share) => test.expect("append", map.append(key, share).is_ok()),
-        Err(_) => test.expect("clone", false),
+        Ok(share) => test.expect(map.append(key, share).is_ok()),
+        Err(_) => test.fail(),
     }
 }
 
@@ -21,22 +21,22 @@ fn leave_shares(test: &Test, map: &mut Shares, shared: &Rc<u8>) {
         append_share(test, map, *key, shared);
     }
     mem::forget(map.remove_all(&1));
-    test.expect("five are held", Rc::strong_count(shared) == 6);
+    test.expect(Rc::strong_count(shared) == 6);
     drop(map.pop_front());
-    test.expect("one has gone", Rc::strong_count(shared) == 5);
+    test.expect(Rc::strong_count(shared) == 5);
 }
 
 fn forgotten_ones_are_dropped(test: &Test, map: &mut Shares, shared: &Rc<u8>) {
     leave_shares(test, map, shared);
-    test.expect("pack_to_fit", map.pack_to_fit().is_ok());
-    test.expect("two are held", Rc::strong_count(shared) == 3);
-    test.expect("pack_to", pack_to(test, map, 5, 5));
-    test.expect("they stay", Rc::strong_count(shared) == 3);
+    test.expect(map.pack_to_fit().is_ok());
+    test.expect(Rc::strong_count(shared) == 3);
+    test.expect(pack_to(test, map, 5, 5));
+    test.expect(Rc::strong_count(shared) == 3);
 }
 
 fn shares_are_packed(test: &Test, shared: &Rc<u8>) {
     forgotten_ones_are_dropped(test, &mut ListOrderedMultimap::new(test.alloc()), shared);
-    test.expect("none is held", Rc::strong_count(shared) == 1);
+    test.expect(Rc::strong_count(shared) == 1);
 }
 
 #[test]

@@ -7,9 +7,8 @@ ghost use Rattle.std.specs.Prelude.{nat_eq};
 
 use ordered_multimap::ListOrderedMultimap;
 use ordered_multimap::list_ordered_multimap::KeyWrapper;
-use ordered_multimap_callers::test_in_turn;
 use std::hash::{Hash, Hasher};
-use test_helpers::{Failed, Test};
+use test_helpers::{Failed, Test, test_in_turn};
 
 /// A word of up to eight letters, whose case counts for nothing.
 #[derive(Drop)]
@@ -93,23 +92,23 @@ fn popped(map: &mut Words) -> Option<(&'static str, u32)> {
 }
 
 fn first_key_stays(test: &Test, map: &mut Words) {
-    test.expect("append", appended(map, "Key", 1) == Some(false));
-    test.expect("append", appended(map, "KEY", 2) == Some(true));
-    test.expect("remove_entry", removed(map, "key") == Some(("Key", 1)));
-    test.expect("values_len", map.values_len() == 0);
-    test.expect("keys_len", map.keys_len() == 0);
+    test.expect(appended(map, "Key", 1) == Some(false));
+    test.expect(appended(map, "KEY", 2) == Some(true));
+    test.expect(removed(map, "key") == Some(("Key", 1)));
+    test.expect(map.values_len() == 0);
+    test.expect(map.keys_len() == 0);
 }
 
 fn replaced_key_stays(test: &Test, map: &mut Words) {
-    test.expect("append", appended(map, "Key", 1) == Some(false));
-    test.expect("insert", inserted(map, "KEY", 2) == Some(1));
-    test.expect("one pair", map.values_len() == 1);
-    test.expect("pop_back", popped(map) == Some(("Key", 2)));
-    test.expect("append", appended(map, "kEY", 3) == Some(false));
-    test.expect("the stored key", stored(map) == Some("kEY"));
+    test.expect(appended(map, "Key", 1) == Some(false));
+    test.expect(inserted(map, "KEY", 2) == Some(1));
+    test.expect(map.values_len() == 1);
+    test.expect(popped(map) == Some(("Key", 2)));
+    test.expect(appended(map, "kEY", 3) == Some(false));
+    test.expect(stored(map) == Some("kEY"));
 }
 
 #[test]
 fn of_equal_keys_the_first_stays(rt: HostRuntime) -> Result<(), Failed> {
-    test_in_turn!(rt.alloc(); first_key_stays, replaced_key_stays)
+    test_in_turn!(rt.alloc(), ListOrderedMultimap::new; first_key_stays, replaced_key_stays)
 }

@@ -23,43 +23,40 @@ const VALUES: &[(End, &str)] = &[
 fn leave_holes(test: &Test, map: &mut Texts) {
     refill(test, map, MIXED_TEXTS);
     let old = Some("value1");
-    test.expect("insert", inserts(map, "key1", "value5", &old));
-    test.expect("append", appends(map, "key2", "value6", true));
+    test.expect(inserts(map, "key1", "value5", &old));
+    test.expect(appends(map, "key2", "value6", true));
 }
 
 // The values of a key are found by the clone's own links, and leave the other pair alone.
 fn values_of_a_clone_leave(test: &Test, map: &Texts, copy: &mut Texts) {
-    test.expect("its lists", has_lists(copy, PAIRS, KEYS));
+    test.expect(has_lists(copy, PAIRS, KEYS));
     let walked = walk_difference(&mut copy.get_all(&"key2"), VALUES);
-    test.expect("the values of a key", walked.is_none());
-    test.expect("the first goes", copy.remove(&"key2") == Some("value2"));
-    test.expect(
-        "a key less",
-        has_lists(copy, &[("key1", "value5")], &["key1"]),
-    );
-    test.expect("the original", has_lists(map, PAIRS, KEYS));
+    test.expect(walked.is_none());
+    test.expect(copy.remove(&"key2") == Some("value2"));
+    test.expect(has_lists(copy, &[("key1", "value5")], &["key1"]));
+    test.expect(has_lists(map, PAIRS, KEYS));
 }
 
 fn map_with_holes_is_cloned(test: &Test, map: &mut Texts) {
     leave_holes(test, map);
     match map.clone() {
         Ok(mut copy) => values_of_a_clone_leave(test, map, &mut copy),
-        Err(_) => test.expect("memory for a clone", false),
+        Err(_) => test.fail(),
     }
 }
 
 fn clone_of_an_emptied_map_serves(test: &Test, copy: &mut Texts) {
-    test.expect("no pair", has_lists(copy, &[], &[]));
-    test.expect("append", appends(copy, "key1", "value1", false));
-    test.expect("a pair", copy.get(&"key1").copied() == Some("value1"));
+    test.expect(has_lists(copy, &[], &[]));
+    test.expect(appends(copy, "key1", "value1", false));
+    test.expect(copy.get(&"key1").copied() == Some("value1"));
 }
 
 fn emptied_map_is_cloned(test: &Test, map: &mut Texts) {
-    test.expect("remove", map.remove(&"key1") == Some("value5"));
-    test.expect("remove", map.remove(&"key2") == Some("value2"));
+    test.expect(map.remove(&"key1") == Some("value5"));
+    test.expect(map.remove(&"key2") == Some("value2"));
     match map.clone() {
         Ok(mut copy) => clone_of_an_emptied_map_serves(test, &mut copy),
-        Err(_) => test.expect("no memory is asked for", false),
+        Err(_) => test.fail(),
     }
 }
 

@@ -3,13 +3,12 @@ use ordered_multimap::End;
 use ordered_multimap::list_ordered_multimap::{
     KeyLink, Refused, RefusedValue, UnclonedKey, ValueLink,
 };
-use ordered_multimap_callers::test_all;
 use std::error::Error;
-use test_helpers::{Failed, Test, expect_text, is_compared, is_copied, is_shown};
+use test_helpers::{Failed, Test, expect_text, is_compared, is_copied, is_shown, test_all};
 
 fn is_told<T: Error>(test: &Test, refused: &T) {
     let told = format!(in test.alloc(); "{refused}");
-    expect_text(test, "told", told, "memory allocation failed");
+    expect_text(test, told, "memory allocation failed");
 }
 
 // A value that has no Debug.
@@ -20,9 +19,9 @@ type Pair = Refused<&'static str, Hidden>;
 
 fn pairs_are_compared(test: &Test, pair: &Pair, like: &Pair, others: &[Pair; 2]) {
     let [value, key] = others;
-    test.expect("another value", is_compared(pair, like, value));
-    test.expect("another key", is_compared(pair, like, key));
-    test.expect("shown", is_shown(test.alloc(), pair, "Refused { .. }"));
+    test.expect(is_compared(pair, like, value));
+    test.expect(is_compared(pair, like, key));
+    test.expect(is_shown(test.alloc(), pair, "Refused { .. }"));
     is_told(test, pair);
 }
 
@@ -42,16 +41,16 @@ fn a_refused_pair_is_shown_and_compared(rt: HostRuntime) -> Result<(), Failed> {
 }
 
 fn values_are_compared(test: &Test, value: &RefusedValue<Hidden>, other: &RefusedValue<Hidden>) {
-    test.expect("compared", is_compared(value, value, other));
+    test.expect(is_compared(value, value, other));
     let wanted = "RefusedValue { .. }";
-    test.expect("shown", is_shown(test.alloc(), value, wanted));
+    test.expect(is_shown(test.alloc(), value, wanted));
     is_told(test, value);
 }
 
 fn clones_are_compared(test: &Test, value: &UnclonedKey<Hidden>, other: &UnclonedKey<Hidden>) {
-    test.expect("compared", is_compared(value, value, other));
+    test.expect(is_compared(value, value, other));
     let wanted = "UnclonedKey { .. }";
-    test.expect("shown", is_shown(test.alloc(), value, wanted));
+    test.expect(is_shown(test.alloc(), value, wanted));
     is_told(test, value);
 }
 
@@ -72,11 +71,11 @@ fn a_refused_value_is_shown_and_compared(rt: HostRuntime) -> Result<(), Failed> 
 }
 
 fn ends_are_shown_and_compared(test: &Test) {
-    test.expect("front", is_shown(test.alloc(), &End::Front, "Front"));
-    test.expect("back", is_shown(test.alloc(), &End::Back, "Back"));
+    test.expect(is_shown(test.alloc(), &End::Front, "Front"));
+    test.expect(is_shown(test.alloc(), &End::Back, "Back"));
     let ends = is_compared(&End::Front, &End::Front, &End::Back);
-    test.expect("ends", ends);
-    test.expect("copied", is_copied(&End::Back));
+    test.expect(ends);
+    test.expect(is_copied(&End::Back));
 }
 
 const KEY_LINK: KeyLink = KeyLink {
@@ -107,11 +106,11 @@ const KEY_LINKS: &[KeyLink] = &[
 
 fn key_links_are_shown_and_compared(test: &Test) {
     let wanted = "KeyLink { hash: 1, head: 2, tail: 3, length: 4 }";
-    test.expect("shown", is_shown(test.alloc(), &KEY_LINK, wanted));
+    test.expect(is_shown(test.alloc(), &KEY_LINK, wanted));
     for (row, other) in KEY_LINKS.iter().enumerate() {
-        test.expect_at("compared", row, is_compared(&KEY_LINK, &KEY_LINK, other));
+        test.expect_at(row, is_compared(&KEY_LINK, &KEY_LINK, other));
     }
-    test.expect("copied", is_copied(&KEY_LINK));
+    test.expect(is_copied(&KEY_LINK));
 }
 
 const VALUE_LINK: ValueLink = ValueLink {
@@ -137,12 +136,12 @@ const VALUE_LINKS: &[ValueLink] = &[
 
 fn value_links_are_shown_and_compared(test: &Test) {
     let wanted = "ValueLink { key: 1, previous: Some(2), next: None }";
-    test.expect("shown", is_shown(test.alloc(), &VALUE_LINK, wanted));
+    test.expect(is_shown(test.alloc(), &VALUE_LINK, wanted));
     for (row, other) in VALUE_LINKS.iter().enumerate() {
         let compared = is_compared(&VALUE_LINK, &VALUE_LINK, other);
-        test.expect_at("compared", row, compared);
+        test.expect_at(row, compared);
     }
-    test.expect("copied", is_copied(&VALUE_LINK));
+    test.expect(is_copied(&VALUE_LINK));
 }
 
 #[test]

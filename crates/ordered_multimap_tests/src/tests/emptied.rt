@@ -28,8 +28,8 @@ fn is_out_of_memory(answer: io::Result<()>) -> bool {
 }
 
 fn a_refusal_is_an_io_error(test: &Test, map: &mut Refusing<'_>) {
-    test.expect("out of memory", is_out_of_memory(append_two(map)));
-    test.expect("no pair", map.is_empty());
+    test.expect(is_out_of_memory(append_two(map)));
+    test.expect(map.is_empty());
 }
 
 fn has_two(map: &Numbers) -> bool {
@@ -37,13 +37,13 @@ fn has_two(map: &Numbers) -> bool {
 }
 
 fn a_map_is_taken(test: &Test, map: &mut Numbers) {
-    test.expect("append", append_two(map).is_ok());
+    test.expect(append_two(map).is_ok());
     match mem::try_take(map) {
-        Ok(taken) => test.expect("all pairs", has_two(&taken)),
-        Err(_) => test.expect("memory", false),
+        Ok(taken) => test.expect(has_two(&taken)),
+        Err(_) => test.fail(),
     }
-    test.expect("empty", map.is_empty());
-    test.expect("in use again", append_two(map).is_ok() && has_two(map));
+    test.expect(map.is_empty());
+    test.expect(append_two(map).is_ok() && has_two(map));
 }
 
 type Sections = HashMap<u32, Numbers>;
@@ -53,8 +53,8 @@ fn append_in_section(sections: &mut Sections, section: u32) -> io::Result<()> {
 }
 
 fn maps_are_values(test: &Test, sections: &mut Sections) {
-    test.expect("a section", append_in_section(sections, 7).is_ok());
-    test.expect("its map", sections.get(&7).is_some_and(has_two));
+    test.expect(append_in_section(sections, 7).is_ok());
+    test.expect(sections.get(&7).is_some_and(has_two));
 }
 
 #[test]

@@ -8,10 +8,10 @@ fn are_equal(map: &Texts, other: &Texts) -> bool {
 }
 
 fn last_pair_goes_and_comes(test: &Test, map: &Texts, copy: &mut Texts) {
-    test.expect("pop_back", copy.pop_back().is_some());
-    test.expect("one pair less", !are_equal(map, copy));
-    test.expect("append", copy.append("key1", "value4") == Ok(true));
-    test.expect("equal", are_equal(map, copy));
+    test.expect(copy.pop_back().is_some());
+    test.expect(!are_equal(map, copy));
+    test.expect(copy.append("key1", "value4") == Ok(true));
+    test.expect(are_equal(map, copy));
 }
 
 fn insert(
@@ -20,7 +20,7 @@ fn insert(
     pair: (&'static str, &'static str),
     old: Option<&'static str>,
 ) {
-    test.expect("insert", inserts(map, pair.0, pair.1, &old));
+    test.expect(inserts(map, pair.0, pair.1, &old));
 }
 
 fn insert_three(test: &Test, map: &mut Texts) {
@@ -36,9 +36,9 @@ const PAIRS: &[(&str, &str)] = &[("2", "20"), ("1", "30")];
 fn keys_in_another_order(test: &Test, map: &mut Texts, other: &mut Texts) {
     insert_three(test, map);
     refill(test, other, PAIRS);
-    test.expect("equal pairs", are_equal(map, other));
-    test.expect("its lists", has_lists(map, PAIRS, &["1", "2"]));
-    test.expect("the other's", has_lists(other, PAIRS, &["2", "1"]));
+    test.expect(are_equal(map, other));
+    test.expect(has_lists(map, PAIRS, &["1", "2"]));
+    test.expect(has_lists(other, PAIRS, &["2", "1"]));
 }
 
 fn clone_is_changed(test: &Test, map: &mut Texts, copy: &mut Texts) {
@@ -51,6 +51,6 @@ pub fn are_compared(test: &Test, map: &mut Texts) {
     refill(test, map, MIXED_TEXTS);
     match map.clone() {
         Ok(mut copy) => clone_is_changed(test, map, &mut copy),
-        Err(_) => test.expect("memory for a clone", false),
+        Err(_) => test.fail(),
     }
 }

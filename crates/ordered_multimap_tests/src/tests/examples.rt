@@ -17,20 +17,20 @@ fn add_three(map: &mut ListOrderedMultimap<&'static str, u32>) -> Result<(), All
 }
 
 fn look_ups_answer(test: &Test, map: &Numbers) {
-    test.expect("get", map.get("line").copied() == Some(1));
-    test.expect("contains_key", map.contains_key("page"));
-    test.expect("entry_len", map.entry_len("line") == 2);
+    test.expect(map.get("line").copied() == Some(1));
+    test.expect(map.contains_key("page"));
+    test.expect(map.entry_len("line") == 2);
 }
 
 fn lengths_answer(test: &Test, map: &Numbers) {
-    test.expect("keys_len", map.keys_len() == 2);
-    test.expect("values_len", map.values_len() == 3);
-    test.expect("is_empty", !map.is_empty());
+    test.expect(map.keys_len() == 2);
+    test.expect(map.values_len() == 3);
+    test.expect(!map.is_empty());
 }
 
 fn ends_answer(test: &Test, map: &Numbers) {
-    test.expect("front", map.front() == Some((&"line", &1)));
-    test.expect("back", map.back() == Some((&"line", &2)));
+    test.expect(map.front() == Some((&"line", &1)));
+    test.expect(map.back() == Some((&"line", &2)));
 }
 
 fn get_all_answers(map: &Numbers) -> bool {
@@ -54,11 +54,11 @@ fn pairs_answer(map: &Numbers) -> bool {
 }
 
 fn walks_answer(test: &Test, map: &Numbers) {
-    test.expect("get_all", get_all_answers(map));
-    test.expect("iter", iter_answers(map));
-    test.expect("keys", keys_answer(map));
-    test.expect("values", values_answer(map));
-    test.expect("pairs", pairs_answer(map));
+    test.expect(get_all_answers(map));
+    test.expect(iter_answers(map));
+    test.expect(keys_answer(map));
+    test.expect(values_answer(map));
+    test.expect(pairs_answer(map));
 }
 
 fn clone_answers(map: &Numbers) -> Result<bool, AllocError> {
@@ -70,59 +70,56 @@ fn clone_is_equal(map: &Numbers) -> Result<bool, AllocError> {
 }
 
 fn into_iter_answers(test: &Test, mut map: Numbers) {
-    test.expect("append", add_three(&mut map).is_ok());
+    test.expect(add_three(&mut map).is_ok());
     let first = map.into_iter().next() == Some(Ok(("line", 1)));
-    test.expect("into_iter", first);
+    test.expect(first);
 }
 
 fn has_room(test: &Test, map: &Numbers) {
-    test.expect("keys_capacity", map.keys_capacity() >= map.keys_len());
-    test.expect("values_capacity", map.values_capacity() >= map.values_len());
+    test.expect(map.keys_capacity() >= map.keys_len());
+    test.expect(map.values_capacity() >= map.values_len());
     let hash = DefaultState::new().hash_one(&"line");
-    test.expect("hasher", map.hasher().hash_one(&"line") == hash);
+    test.expect(map.hasher().hash_one(&"line") == hash);
 }
 
 fn removals_answer(test: &Test, map: &mut Numbers) {
-    test.expect("remove", map.remove("line") == Some(1));
-    test.expect(
-        "remove_entry",
-        map.remove_entry("page") == Some(("page", 8)),
-    );
+    test.expect(map.remove("line") == Some(1));
+    test.expect(map.remove_entry("page") == Some(("page", 8)));
 }
 
 fn insertions_answer(test: &Test, map: &mut Numbers) {
-    test.expect("insert", map.insert("page", 9) == Ok(Some(8)));
+    test.expect(map.insert("page", 9) == Ok(Some(8)));
     map.clear();
-    test.expect("clear", map.is_empty());
+    test.expect(map.is_empty());
 }
 
-fn expect_front(test: &Test, step: &'static str, map: &Numbers, value: u32) {
-    test.expect(step, copied(map.front()) == Some(("line", value)));
+fn expect_front(test: &Test, map: &Numbers, value: u32) {
+    test.expect(copied(map.front()) == Some(("line", value)));
 }
 
-fn expect_back(test: &Test, step: &'static str, map: &Numbers, value: u32) {
-    test.expect(step, copied(map.back()) == Some(("line", value)));
+fn expect_back(test: &Test, map: &Numbers, value: u32) {
+    test.expect(copied(map.back()) == Some(("line", value)));
 }
 
 fn get_mut_answers(test: &Test, map: &mut Numbers) {
     if let Some(value) = map.get_mut("line") {
         *value = 3;
     }
-    test.expect("get_mut", map.get(&"line").copied() == Some(3));
+    test.expect(map.get(&"line").copied() == Some(3));
 }
 
 fn front_mut_answers(test: &Test, map: &mut Numbers) {
     if let Some((_key, value)) = map.front_mut() {
         *value = 4;
     }
-    expect_front(test, "front_mut", map, 4);
+    expect_front(test, map, 4);
 }
 
 fn back_mut_answers(test: &Test, map: &mut Numbers) {
     if let Some((_key, value)) = map.back_mut() {
         *value = 9;
     }
-    expect_back(test, "back_mut", map, 9);
+    expect_back(test, map, 9);
 }
 
 fn first_answers(test: &Test, map: &mut Numbers) {
@@ -130,7 +127,7 @@ fn first_answers(test: &Test, map: &mut Numbers) {
         let (_key, value) = map.first_mut();
         *value = 4;
     }
-    expect_front(test, "first_mut", map, 4);
+    expect_front(test, map, 4);
 }
 
 fn last_answers(test: &Test, map: &mut Numbers) {
@@ -138,38 +135,23 @@ fn last_answers(test: &Test, map: &mut Numbers) {
         let (_key, value) = map.last_mut();
         *value = 9;
     }
-    expect_back(test, "last_mut", map, 9);
+    expect_back(test, map, 9);
 }
 
 fn pops_answer(test: &Test, map: &mut Numbers) {
-    test.expect(
-        "pop_front",
-        map.pop_front() == Some((KeyWrapper::Borrowed(&"line"), 1)),
-    );
-    test.expect(
-        "pop_back",
-        map.pop_back() == Some((KeyWrapper::Owned("line"), 2)),
-    );
+    test.expect(map.pop_front() == Some((KeyWrapper::Borrowed(&"line"), 1)));
+    test.expect(map.pop_back() == Some((KeyWrapper::Owned("line"), 2)));
 }
 
 fn pops_by_functions_answer(test: &Test, map: &mut Numbers) {
-    test.expect(
-        "pop_front_with",
-        map.pop_front_with(|popped| popped.is_some()),
-    );
-    test.expect(
-        "pop_back_with",
-        map.pop_back_with(|popped| popped.is_none()),
-    );
+    test.expect(map.pop_front_with(|popped| popped.is_some()));
+    test.expect(map.pop_back_with(|popped| popped.is_none()));
 }
 
 fn wrappers_answer(test: &Test) {
-    test.expect("is_owned", KeyWrapper::Owned("line").is_owned());
-    test.expect("is_borrowed", KeyWrapper::Borrowed(&"line").is_borrowed());
-    test.expect(
-        "into_owned",
-        KeyWrapper::Borrowed(&"line").into_owned() == Ok("line"),
-    );
+    test.expect(KeyWrapper::Owned("line").is_owned());
+    test.expect(KeyWrapper::Borrowed(&"line").is_borrowed());
+    test.expect(KeyWrapper::Borrowed(&"line").into_owned() == Ok("line"));
 }
 
 // The key's type is a parameter: a function that lends an `Option<&'static str>` isn't covered.
@@ -195,11 +177,11 @@ fn remove_entry_all_answers(map: &mut Numbers) -> bool {
 }
 
 fn drains_answer(test: &Test, map: &mut Numbers) {
-    test.expect("insert_all", insert_all_answers(map) == Ok(true));
-    test.expect("append", appends(map, "line", 2, true));
-    test.expect("remove_all", remove_all_answers(map));
-    test.expect("remove_entry_with_all", removes_page(map, "page"));
-    test.expect("remove_entry_all", remove_entry_all_answers(map));
+    test.expect(insert_all_answers(map) == Ok(true));
+    test.expect(appends(map, "line", 2, true));
+    test.expect(remove_all_answers(map));
+    test.expect(removes_page(map, "page"));
+    test.expect(remove_entry_all_answers(map));
 }
 
 fn reads_answer(test: &Test, map: &Numbers) {
@@ -207,14 +189,14 @@ fn reads_answer(test: &Test, map: &Numbers) {
     lengths_answer(test, map);
     ends_answer(test, map);
     walks_answer(test, map);
-    test.expect("clone", clone_answers(map) == Ok(true));
-    test.expect("==", clone_is_equal(map) == Ok(true));
+    test.expect(clone_answers(map) == Ok(true));
+    test.expect(clone_is_equal(map) == Ok(true));
     has_room(test, map);
 }
 
 fn add_again(test: &Test, map: &mut Numbers) {
     map.clear();
-    test.expect("append", add_three(map).is_ok());
+    test.expect(add_three(map).is_ok());
 }
 
 // The pairs are appended again between the calls that write the same.
@@ -259,17 +241,17 @@ fn examples_hold(rt: HostRuntime) -> Result<(), Failed> {
 }
 
 fn is_empty(test: &Test, map: Numbers) {
-    test.expect("no pair", map.is_empty());
+    test.expect(map.is_empty());
     has_room(test, &map);
 }
 
 fn has_room_for_three(test: &Test, made: Result<Numbers, AllocError>) {
     match made {
         Ok(map) => {
-            test.expect("room for keys", map.keys_capacity() >= 2);
-            test.expect("room for values", map.values_capacity() >= 3);
+            test.expect(map.keys_capacity() >= 2);
+            test.expect(map.values_capacity() >= 3);
         }
-        Err(_) => test.expect("memory for three pairs", false),
+        Err(_) => test.fail(),
     }
 }
 

@@ -38,22 +38,18 @@ fn is_taken_apart(map: Texts, wanted: &[(End, Option<(Text, Text)>)]) -> bool {
 /// Maps are taken apart from both ends.
 pub fn pairs_are_handed_out(test: &Test) {
     for (row, (pairs, wanted)) in WALKS.iter().enumerate() {
-        test.expect_at(
-            "into_iter",
-            row,
-            is_taken_apart(map_of(test, pairs), wanted),
-        );
+        test.expect_at(row, is_taken_apart(map_of(test, pairs), wanted));
     }
 }
 
 /// What is left of the pairs (1, 1), (2, 2) and (1, 3) is walked.
 pub fn rest_is_walked(test: &Test, walk: &mut IntoIter<u32, u32>) {
-    test.expect("the first", taken(walk, End::Front) == Some(Some((1, 1))));
-    test.expect("the last", taken(walk, End::Back) == Some(Some((1, 3))));
+    test.expect(taken(walk, End::Front) == Some(Some((1, 1))));
+    test.expect(taken(walk, End::Back) == Some(Some((1, 3))));
     let rest = [(End::Front, (2, 2))];
-    test.expect_same("the rest", walk_difference(&mut walk.iter(), &rest));
+    test.expect_same(walk_difference(&mut walk.iter(), &rest));
     let second = [(End::Front, Some((2, 2)))];
-    test.expect_same("the second", walk_difference(walk, &second));
+    test.expect_same(walk_difference(walk, &second));
 }
 
 /// The sum of each key times its value. A loop over a reference to a map is a walk of `iter`.

@@ -72,8 +72,8 @@ fn has_left(walk: &KeyValues<'_, Text, Text>, left: usize) -> bool {
 
 fn steps_answer(test: &Test, walk: &mut KeyValues<'_, Text, Text>, steps: &[Step]) {
     for (row, step) in steps.iter().enumerate() {
-        test.expect_at("keys left", row, has_left(walk, step.1));
-        test.expect_at("a key", row, step_answers(walk, step));
+        test.expect_at(row, has_left(walk, step.1));
+        test.expect_at(row, step_answers(walk, step));
     }
 }
 
@@ -91,10 +91,10 @@ fn rows_answer(test: &Test, map: &mut Texts) {
 const LAST: &[Step] = &[(End::Front, 1, Some(("key2", INNER))), (End::Back, 0, None)];
 
 fn clone_goes_on(test: &Test, walk: &mut KeyValues<'_, Text, Text>) {
-    test.expect("the first", walk.next().is_some());
+    test.expect(walk.next().is_some());
     match walk.clone() {
         Ok(mut copy) => steps_answer(test, &mut copy, LAST),
-        Err(_) => test.expect("a clone takes no memory", false),
+        Err(_) => test.fail(),
     }
     steps_answer(test, walk, LAST);
 }

@@ -68,17 +68,17 @@ fn key_values_are_shown(alloc: Global, map: &Texts) -> bool {
 }
 
 fn walks_are_shown(test: &Test, map: &Texts) {
-    test.expect("iter", pairs_are_shown(test.alloc(), map));
-    test.expect("values", values_are_shown(test.alloc(), map));
-    test.expect("keys", keys_are_shown(test.alloc(), map));
-    test.expect("pairs", key_values_are_shown(test.alloc(), map));
-    test.expect("map", is_shown(test.alloc(), map, MAP));
+    test.expect(pairs_are_shown(test.alloc(), map));
+    test.expect(values_are_shown(test.alloc(), map));
+    test.expect(keys_are_shown(test.alloc(), map));
+    test.expect(key_values_are_shown(test.alloc(), map));
+    test.expect(is_shown(test.alloc(), map, MAP));
 }
 
 fn walk_of_a_key_is_shown(test: &Test, map: &Texts) {
     let mut values = map.get_all(&"key");
     let shown = is_shown_twice(test.alloc(), &mut values, VALUES_OF_A_KEY);
-    test.expect("get_all", shown);
+    test.expect(shown);
 }
 
 /// The texts of a map and of its walks.
@@ -93,5 +93,5 @@ pub fn are_shown(test: &Test, map: &mut Texts) {
 pub fn is_shown_apart(test: &Test, map: Texts) {
     let mut walk = map.into_iter();
     let shown = is_shown_twice(test.alloc(), &mut walk, TAKEN_APART);
-    test.expect("into_iter", shown);
+    test.expect(shown);
 }

@@ -151,24 +151,20 @@ fn answers(map: &mut Texts, row: &Row) -> bool {
 
 fn key_is_found(test: &Test, map: &Texts, at: usize, row: &Row) {
     let (key, _) = row.pair;
-    test.expect_at("get", at, map.get(&key).copied() == row.first);
-    test.expect_at(
-        "contains_key",
-        at,
-        map.contains_key(&key) == (row.count > 0),
-    );
-    test.expect_at("entry_len", at, map.entry_len(&key) == row.count);
+    test.expect_at(at, map.get(&key).copied() == row.first);
+    test.expect_at(at, map.contains_key(&key) == (row.count > 0));
+    test.expect_at(at, map.entry_len(&key) == row.count);
 }
 
 fn lengths_are_told(test: &Test, map: &Texts, at: usize, row: &Row) {
     let lengths = (map.keys_len(), map.values_len());
-    test.expect_at("lengths", at, lengths == row.lengths);
-    test.expect_at("is_empty", at, map.is_empty() == (row.lengths.1 == 0));
-    test.expect_at("back", at, copied(map.back()) == row.back);
+    test.expect_at(at, lengths == row.lengths);
+    test.expect_at(at, map.is_empty() == (row.lengths.1 == 0));
+    test.expect_at(at, copied(map.back()) == row.back);
 }
 
 fn row_holds(test: &Test, map: &mut Texts, at: usize, row: &Row) {
-    test.expect_at("the answer", at, answers(map, row));
+    test.expect_at(at, answers(map, row));
     key_is_found(test, map, at, row);
     lengths_are_told(test, map, at, row);
 }
@@ -181,13 +177,13 @@ fn rows_hold(test: &Test, map: &mut Texts, rows: &[Row]) {
 }
 
 fn appended_values_are_walked(test: &Test, map: &mut Texts) {
-    test.expect("no value", map.entry_len(&"key") == 0);
-    test.expect("a new key", appends(map, "key", "value1", false));
-    test.expect("one value", map.entry_len(&"key") == 1);
-    test.expect("the same key", appends(map, "key", "value2", true));
-    test.expect("two values", map.entry_len(&"key") == 2);
+    test.expect(map.entry_len(&"key") == 0);
+    test.expect(appends(map, "key", "value1", false));
+    test.expect(map.entry_len(&"key") == 1);
+    test.expect(appends(map, "key", "value2", true));
+    test.expect(map.entry_len(&"key") == 2);
     let both = [(End::Front, "value1"), (End::Front, "value2")];
-    test.expect_same("get_all", walk_difference(&mut map.get_all(&"key"), &both));
+    test.expect_same(walk_difference(&mut map.get_all(&"key"), &both));
 }
 
 /// What each call returns before, between and after changes.

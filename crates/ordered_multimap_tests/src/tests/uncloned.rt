@@ -23,16 +23,16 @@ fn both_are_given(test: &Test, walk: &mut IntoIter<Text<'_>, u32>) -> bool {
     let second = told(walk.next());
     let first_cloned = first == Some((1, true));
     let second_cloned = second == Some((2, true));
-    test.expect("the first", first_cloned || first == Some((1, false)));
-    test.expect("the second", second_cloned || second == Some((2, false)));
-    test.expect("the end", walk.next().is_none());
+    test.expect(first_cloned || first == Some((1, false)));
+    test.expect(second_cloned || second == Some((2, false)));
+    test.expect(walk.next().is_none());
     first_cloned && second_cloned
 }
 
 fn append_text<'a>(test: &Test, allocator: &'a RefusingAllocator, map: &mut Texts<'a>, value: u32) {
     let mut text = String::new(allocator);
-    test.expect("memory for a text", text.push('a').is_ok());
-    test.expect("append", map.append(text, value).is_ok());
+    test.expect(text.push('a').is_ok());
+    test.expect(map.append(text, value).is_ok());
 }
 
 fn taken_apart(test: &Test, allocator: &RefusingAllocator, granted: u64, map: Texts<'_>) -> bool {
@@ -52,6 +52,6 @@ fn taken_apart_with(test: &Test, granted: u64) -> bool {
 fn a_refused_clone_of_a_key_gives_the_value(rt: HostRuntime) -> Result<(), Failed> {
     let test = Test::new(rt.alloc());
     let enough = requests_until_enough(|granted| taken_apart_with(&test, granted));
-    test.expect("a request for each key", enough == Some(2));
+    test.expect(enough == Some(2));
     test.end()
 }

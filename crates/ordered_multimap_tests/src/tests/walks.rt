@@ -118,10 +118,10 @@ fn values_of_a_key_answer(map: &Texts, row: &Row) -> bool {
 }
 
 fn walks_answer(test: &Test, map: &Texts, at: usize, row: &Row) {
-    test.expect_at("iter", at, pairs_answer(map, row));
-    test.expect_at("values", at, values_answer(map, row));
-    test.expect_at("keys", at, keys_answer(map, row));
-    test.expect_at("get_all", at, values_of_a_key_answer(map, row));
+    test.expect_at(at, pairs_answer(map, row));
+    test.expect_at(at, values_answer(map, row));
+    test.expect_at(at, keys_answer(map, row));
+    test.expect_at(at, values_of_a_key_answer(map, row));
 }
 
 fn rows_answer(test: &Test, map: &mut Texts) {
@@ -143,33 +143,33 @@ const VALUES_LEFT: &[(End, Text)] = &[
     (End::Front, "value3"),
 ];
 
-fn clone_of_pairs(test: &Test, map: &Texts) {
-    test.expect("iter", goes_on(&mut map.iter(), PAIRS_LEFT));
+fn clone_of_pairs(map: &Texts, left: &[(End, (Text, Text))]) -> bool {
+    goes_on(&mut map.iter(), left)
 }
 
-fn clone_of_values(test: &Test, map: &Texts) {
-    test.expect("values", goes_on(&mut map.values(), VALUES_LEFT));
+fn clone_of_values(map: &Texts, left: &[(End, Text)]) -> bool {
+    goes_on(&mut map.values(), left)
 }
 
 fn clone_of_keys(test: &Test, map: &Texts) {
     let last = [(End::Front, "key2")];
-    test.expect("keys", goes_on(&mut map.keys(), &last));
+    test.expect(goes_on(&mut map.keys(), &last));
 }
 
 fn clone_of_values_of_a_key(test: &Test, map: &Texts) {
     let last = [(End::Back, "value4")];
-    test.expect("get_all", goes_on(&mut map.get_all(&"key1"), &last));
+    test.expect(goes_on(&mut map.get_all(&"key1"), &last));
 }
 
 fn clones_go_on(test: &Test, map: &Texts) {
-    clone_of_pairs(test, map);
-    clone_of_values(test, map);
+    test.expect(clone_of_pairs(map, PAIRS_LEFT));
+    test.expect(clone_of_values(map, VALUES_LEFT));
     clone_of_keys(test, map);
     clone_of_values_of_a_key(test, map);
 }
 
 fn insert(test: &Test, map: &mut Texts, pair: (Text, Text), old: Option<Text>) {
-    test.expect("insert", inserts(map, pair.0, pair.1, &old));
+    test.expect(inserts(map, pair.0, pair.1, &old));
 }
 
 fn three_keys_are_walked(test: &Test, map: &mut Texts) {
@@ -182,7 +182,7 @@ fn three_keys_are_walked(test: &Test, map: &mut Texts) {
         (End::Front, "key2"),
         (End::Front, "key3"),
     ];
-    test.expect_same("keys", walk_difference(&mut map.keys(), &keys));
+    test.expect_same(walk_difference(&mut map.keys(), &keys));
 }
 
 const FOUR: &[(End, (Text, Text))] = &[
@@ -195,9 +195,9 @@ const FOUR: &[(End, (Text, Text))] = &[
 fn four_pairs_are_walked(test: &Test, map: &mut Texts) {
     insert(test, map, ("key1", "value1"), None);
     insert(test, map, ("key2", "value1"), None);
-    test.expect("append", appends(map, "key1", "value2", true));
-    test.expect("append", appends(map, "key2", "value2", true));
-    test.expect_same("pairs", walk_difference(&mut map.iter(), FOUR));
+    test.expect(appends(map, "key1", "value2", true));
+    test.expect(appends(map, "key2", "value2", true));
+    test.expect_same(walk_difference(&mut map.iter(), FOUR));
 }
 
 /// Walks from both ends, their clones, and walks over what was inserted.

@@ -19,7 +19,7 @@ fn is_collected(test: &Test, granted: u64) -> bool {
     let allocator = RefusingAllocator::new(test.alloc(), granted);
     match collect(&allocator) {
         Ok(map) => {
-            test.expect("all pairs", has_lists(&map, PAIRS, KEYS));
+            test.expect(has_lists(&map, PAIRS, KEYS));
             true
         }
         Err(_) => false,
@@ -35,8 +35,8 @@ fn is_extended(test: &Test, map: &Refusing<'_>, answer: Result<(), AllocError>) 
     let count = map.values_len();
     let before = PAIRS.get(..count).unwrap_or(PAIRS);
     let keys = KEYS.get(..map.keys_len()).unwrap_or(KEYS);
-    test.expect("the pairs before", has_lists(map, before, keys));
-    test.expect("all pairs", answer.is_err() || count == PAIRS.len());
+    test.expect(has_lists(map, before, keys));
+    test.expect(answer.is_err() || count == PAIRS.len());
     answer.is_ok()
 }
 
@@ -53,19 +53,19 @@ fn copy_all(map: &mut Numbers, other: &Numbers) -> Result<(), AllocError> {
 
 fn copies_come(test: &Test, map: &mut Numbers) {
     match PAIRS.iter().copied().collect(test.alloc()) {
-        Ok(other) => test.expect("extend", copy_all(map, &other).is_ok()),
-        Err(_) => test.expect("memory for three pairs", false),
+        Ok(other) => test.expect(copy_all(map, &other).is_ok()),
+        Err(_) => test.fail(),
     }
-    test.expect("copies", has_lists(map, PAIRS, KEYS));
+    test.expect(has_lists(map, PAIRS, KEYS));
 }
 
 #[test]
 fn maps_are_collected_and_extended(rt: HostRuntime) -> Result<(), Failed> {
     let test = Test::new(rt.alloc());
     let enough = requests_until_enough(|granted| is_collected(&test, granted));
-    test.expect("collect", enough.unwrap_or(0) >= 3);
+    test.expect(enough.unwrap_or(0) >= 3);
     let enough = requests_until_enough(|granted| extends(&test, granted));
-    test.expect("extend", enough.unwrap_or(0) >= 3);
+    test.expect(enough.unwrap_or(0) >= 3);
     copies_come(&test, &mut ListOrderedMultimap::new(test.alloc()));
     test.end()
 }

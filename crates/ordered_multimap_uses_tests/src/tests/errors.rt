@@ -37,14 +37,14 @@ fn add_again(map: &mut Refusing<'_>, name: u32, value: u32) -> Result<(), Header
 }
 
 fn errors_are_told(test: &Test, allocator: &RefusingAllocator, map: &mut Refusing<'_>) {
-    test.expect("no name", add_header(map, 0, 1) == Err(HeaderError::NoName));
-    test.expect("a name", add_header(map, 7, 1) == Ok(false));
-    test.expect("pack_to_fit", map.pack_to_fit().is_ok());
+    test.expect(add_header(map, 0, 1) == Err(HeaderError::NoName));
+    test.expect(add_header(map, 7, 1) == Ok(false));
+    test.expect(map.pack_to_fit().is_ok());
     allocator.refuse_all();
     let refused = add_header(map, 8, 1) == Err(HeaderError::OutOfMemory);
-    test.expect("another name is refused", refused);
+    test.expect(refused);
     let refused = add_again(map, 7, 2) == Err(HeaderError::OutOfMemory);
-    test.expect("one more value is refused", refused);
+    test.expect(refused);
 }
 
 #[test]

@@ -23,15 +23,15 @@ fn values_are_left(map: &mut Numbers) -> bool {
 
 fn collected_map_answers(test: &Test, made: Result<Numbers, AllocError>) {
     match made {
-        Ok(map) => test.expect("iter of IntoIter", pairs_are_left(map)),
-        Err(_) => test.expect("memory for three pairs", false),
+        Ok(map) => test.expect(pairs_are_left(map)),
+        Err(_) => test.fail(),
     }
 }
 
 fn drain_answers(test: &Test, map: &mut Numbers) {
-    test.expect("append", map.append("line", 1).is_ok());
-    test.expect("append", map.append("line", 2).is_ok());
-    test.expect("iter of a drain", values_are_left(map));
+    test.expect(map.append("line", 1).is_ok());
+    test.expect(map.append("line", 2).is_ok());
+    test.expect(values_are_left(map));
     collected_map_answers(test, collected(test.alloc()));
 }
 

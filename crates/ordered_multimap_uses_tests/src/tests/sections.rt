@@ -56,21 +56,18 @@ fn take_settings(sections: &mut Sections, section: &'static str) -> io::Result<S
 
 fn settings_are_taken(test: &Test, sections: &mut Sections) {
     match take_settings(sections, "colours") {
-        Ok(settings) => test.expect("two settings", settings.entry_len(&"page") == 2),
-        Err(_) => test.expect("the section", false),
+        Ok(settings) => test.expect(settings.entry_len(&"page") == 2),
+        Err(_) => test.fail(),
     }
-    test.expect("no setting is left", has_settings(sections, "colours", &[]));
+    test.expect(has_settings(sections, "colours", &[]));
 }
 
 fn sections_have_settings(test: &Test, sections: &mut Sections) {
-    test.expect("memory", add_settings(test.alloc(), sections).is_ok());
+    test.expect(add_settings(test.alloc(), sections).is_ok());
     let colours = [("page", "white"), ("page", "grey")];
-    test.expect("colours", has_settings(sections, "colours", &colours));
-    test.expect(
-        "fonts",
-        has_settings(sections, "fonts", &[("head", "serif")]),
-    );
-    test.expect("two sections", sections.values_len() == 2);
+    test.expect(has_settings(sections, "colours", &colours));
+    test.expect(has_settings(sections, "fonts", &[("head", "serif")]));
+    test.expect(sections.values_len() == 2);
     settings_are_taken(test, sections);
 }
 

@@ -20,14 +20,14 @@ fn write_ends(map: &mut Numbers) -> bool {
 
 fn ends_are_written(test: &Test, map: &mut Numbers) {
     refill(test, map, &[(1, 1), (2, 2), (1, 3)]);
-    test.expect("two steps", write_ends(map));
+    test.expect(write_ends(map));
     let ends = has_lists(map, &[(1, 10), (2, 2), (1, 30)], &[1, 2]);
-    test.expect("ends", ends);
+    test.expect(ends);
     for value in map.values_mut() {
         *value = value.saturating_add(1);
     }
     let all = has_lists(map, &[(1, 11), (2, 3), (1, 31)], &[1, 2]);
-    test.expect("all", all);
+    test.expect(all);
 }
 
 /// Writes both values of the key 1, the first by the front step.
@@ -45,9 +45,9 @@ fn write_equal(map: &mut Numbers) -> bool {
 
 fn equal_values_are_told_apart(test: &Test, map: &mut Numbers) {
     refill(test, map, &[(1, 5), (2, 0), (1, 5)]);
-    test.expect("two steps", write_equal(map));
+    test.expect(write_equal(map));
     let both = has_lists(map, &[(1, 6), (2, 0), (1, 7)], &[1, 2]);
-    test.expect("equal values", both);
+    test.expect(both);
 }
 
 /// Writes the last value, and ends the walk by its right to the others.
@@ -91,11 +91,11 @@ fn end_values_of_a_key(map: &mut Numbers) -> bool {
 
 fn walks_are_ended(test: &Test, map: &mut Numbers) {
     refill(test, map, &[(1, 1), (2, 2), (1, 3)]);
-    test.expect("pairs", end_pairs(map));
-    test.expect("values", end_values(map));
-    test.expect("values of a key", end_values_of_a_key(map));
+    test.expect(end_pairs(map));
+    test.expect(end_values(map));
+    test.expect(end_values_of_a_key(map));
     let ended = has_lists(map, &[(1, 10), (2, 20), (1, 30)], &[1, 2]);
-    test.expect("ended", ended);
+    test.expect(ended);
 }
 
 /// Walks that are let go leave each value where it belongs.

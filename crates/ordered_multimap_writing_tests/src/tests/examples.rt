@@ -3,16 +3,15 @@
 use ordered_multimap::ListOrderedMultimap;
 use ordered_multimap::list_ordered_multimap::Entry;
 use ordered_multimap_callers::lists::has_pairs;
-use ordered_multimap_callers::test_in_turn;
-use test_helpers::{Failed, Test};
+use test_helpers::{Failed, Test, test_in_turn};
 
 type Numbers = ListOrderedMultimap<&'static str, u32>;
 
 fn add_three(test: &Test, map: &mut Numbers) {
     map.clear();
-    test.expect("append", map.append("line", 1).is_ok());
-    test.expect("append", map.append("page", 8).is_ok());
-    test.expect("append", map.append("line", 2).is_ok());
+    test.expect(map.append("line", 1).is_ok());
+    test.expect(map.append("page", 8).is_ok());
+    test.expect(map.append("line", 2).is_ok());
 }
 
 fn last_is_written(test: &Test, map: &mut Numbers) {
@@ -20,12 +19,12 @@ fn last_is_written(test: &Test, map: &mut Numbers) {
     if let Some((_, value)) = map.iter_mut().next_back() {
         *value = 7;
     }
-    test.expect("the last", map.back() == Some((&"line", &7)));
+    test.expect(map.back() == Some((&"line", &7)));
 }
 
 fn keys_are_counted(test: &Test, map: &mut Numbers) {
-    test.expect("size_hint", map.pairs_mut().size_hint() == (2, Some(2)));
-    test.expect("iter", map.pairs_mut().iter().len() == 2);
+    test.expect(map.pairs_mut().size_hint() == (2, Some(2)));
+    test.expect(map.pairs_mut().iter().len() == 2);
 }
 
 fn write_by_keys(map: &mut Numbers) {
@@ -60,11 +59,11 @@ fn keys_are_written(test: &Test, map: &mut Numbers) {
     keys_are_counted(test, map);
     write_by_keys(map);
     let all = [("line", 7), ("page", 7), ("line", 7)];
-    test.expect("pairs_mut", has_pairs(map, &all));
+    test.expect(has_pairs(map, &all));
     write_first_key(map);
     write_last_key(map);
     let ends = [("line", 3), ("page", 8), ("line", 3)];
-    test.expect("next and next_back", has_pairs(map, &ends));
+    test.expect(has_pairs(map, &ends));
 }
 
 fn all_are_written(test: &Test, map: &mut Numbers) {
@@ -72,12 +71,12 @@ fn all_are_written(test: &Test, map: &mut Numbers) {
     for value in map.values_mut() {
         *value = 7;
     }
-    test.expect("values_mut", map.get(&"page") == Some(&7));
+    test.expect(map.get(&"page") == Some(&7));
     for value in map.get_all_mut("line") {
         *value = 9;
     }
-    test.expect("get_all_mut", map.front() == Some((&"line", &9)));
-    test.expect("another key", map.get(&"page") == Some(&7));
+    test.expect(map.front() == Some((&"line", &9)));
+    test.expect(map.get(&"page") == Some(&7));
 }
 
 fn entry_is_written(test: &Test, map: &mut Numbers) {
@@ -88,21 +87,21 @@ fn entry_is_written(test: &Test, map: &mut Numbers) {
         }
     }
     let written = has_pairs(map, &[("line", 7), ("page", 8), ("line", 7)]);
-    test.expect("iter_mut of an entry", written);
+    test.expect(written);
 }
 
 fn values_are_updated(test: &Test, map: &mut Numbers) {
     add_three(test, map);
     map.update_values(|_key, value| *value = value.wrapping_add(1));
     let all = has_pairs(map, &[("line", 2), ("page", 9), ("line", 3)]);
-    test.expect("update_values", all);
+    test.expect(all);
     map.update_all(&"line", |value| *value = value.wrapping_add(1));
     let one = has_pairs(map, &[("line", 3), ("page", 9), ("line", 4)]);
-    test.expect("update_all", one);
+    test.expect(one);
 }
 
 #[test]
 fn examples_hold(rt: HostRuntime) -> Result<(), Failed> {
-    test_in_turn!(rt.alloc();
+    test_in_turn!(rt.alloc(), ListOrderedMultimap::new;
         last_is_written, keys_are_written, all_are_written, entry_is_written, values_are_updated)
 }

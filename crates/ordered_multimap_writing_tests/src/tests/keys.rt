@@ -70,11 +70,11 @@ fn is_lent(
 ) {
     match lent {
         Some((key, mut values)) => {
-            test.expect("the key", *key == wanted);
+            test.expect(*key == wanted);
             let answers = steps.is_empty() || walk_difference(&mut values, steps).is_none();
-            test.expect("its values", answers);
+            test.expect(answers);
         }
-        None => test.expect("a key", false),
+        None => test.fail(),
     }
 }
 
@@ -89,13 +89,13 @@ fn key_is_lent(test: &Test, keys: &mut Keys<'_>, step: &KeyStep) {
     match *step {
         (End::Front, _, Some((key, steps))) => is_lent(test, keys.next(), key, steps),
         (End::Back, _, Some((key, steps))) => is_lent(test, keys.next_back(), key, steps),
-        (end, _, None) => test.expect("the end", is_over(keys, end)),
+        (end, _, None) => test.expect(is_over(keys, end)),
     }
 }
 
 fn keys_are_lent(test: &Test, keys: &mut Keys<'_>, steps: &[KeyStep]) {
     for (row, step) in steps.iter().enumerate() {
-        test.expect_at("keys left", row, has_left(keys, step.1));
+        test.expect_at(row, has_left(keys, step.1));
         key_is_lent(test, keys, step);
     }
 }
@@ -109,6 +109,6 @@ pub fn keys_lend_their_values(test: &Test, map: &mut Numbers) {
     for (row, (pairs, steps, then)) in WALKS.iter().enumerate() {
         refill(test, map, pairs);
         walk_lends(test, map, steps);
-        test.expect_at("the pairs", row, has_pairs(map, then));
+        test.expect_at(row, has_pairs(map, then));
     }
 }

@@ -14,16 +14,16 @@ const LAST: &[(End, u32)] = &[(End::Front, 14)];
 // The last pair is handed out, and the first is passed over before the comparison.
 fn pairs_are_left(test: &Test, walk: &mut IterMut<'_, u32, u32>) {
     let _last = walk.next_back();
-    test.expect("pairs", goes_on(&mut walk.iter(), PAIRS));
+    test.expect(goes_on(&mut walk.iter(), PAIRS));
 }
 
 fn values_are_left(test: &Test, walk: &mut ValuesMut<'_, u32, u32>) {
     let _last = walk.next_back();
-    test.expect("values", goes_on(&mut walk.iter(), VALUES));
+    test.expect(goes_on(&mut walk.iter(), VALUES));
 }
 
 fn values_of_a_key_are_left(test: &Test, walk: &EntryValuesMut<'_, u32, u32>) {
-    test.expect("values of a key", goes_on(&mut walk.iter(), LAST));
+    test.expect(goes_on(&mut walk.iter(), LAST));
 }
 
 fn pairs(test: &Test, map: &mut Numbers) {

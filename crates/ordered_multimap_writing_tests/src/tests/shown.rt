@@ -11,10 +11,10 @@ const PAIRS_LEFT: &str =
 
 fn pairs_are_shown(test: &Test, map: &mut Texts) {
     let mut walk = map.iter_mut();
-    test.expect("pairs", is_shown(test.alloc(), &walk, PAIRS));
-    test.expect("next", walk.next().is_some());
+    test.expect(is_shown(test.alloc(), &walk, PAIRS));
+    test.expect(walk.next().is_some());
     let left = is_shown(test.alloc(), &walk.iter(), PAIRS_LEFT);
-    test.expect("pairs left", left);
+    test.expect(left);
 }
 
 const VALUES: &str = r#"ValuesMut(["value1", "value2", "value3", "value4"])"#;
@@ -23,10 +23,10 @@ const VALUES_LEFT: &str = r#"ValuesRest(["value2", "value3", "value4"])"#;
 
 fn values_are_shown(test: &Test, map: &mut Texts) {
     let mut walk = map.values_mut();
-    test.expect("values", is_shown(test.alloc(), &walk, VALUES));
-    test.expect("next", walk.next().is_some());
+    test.expect(is_shown(test.alloc(), &walk, VALUES));
+    test.expect(walk.next().is_some());
     let left = is_shown(test.alloc(), &walk.iter(), VALUES_LEFT);
-    test.expect("values left", left);
+    test.expect(left);
 }
 
 const VALUES_OF_A_KEY: &str = r#"EntryValuesMut(["value1", "value2", "value3", "value4"])"#;
@@ -35,10 +35,10 @@ const LEFT_OF_A_KEY: &str = r#"EntryValuesRest(["value2", "value3", "value4"])"#
 
 fn values_of_a_key_are_shown(test: &Test, map: &mut Texts) {
     let mut walk = map.get_all_mut(&"key");
-    test.expect("all", is_shown(test.alloc(), &walk, VALUES_OF_A_KEY));
-    test.expect("next", walk.next().is_some());
+    test.expect(is_shown(test.alloc(), &walk, VALUES_OF_A_KEY));
+    test.expect(walk.next().is_some());
     let left = is_shown(test.alloc(), &walk.iter(), LEFT_OF_A_KEY);
-    test.expect("left", left);
+    test.expect(left);
 }
 
 const KEYS: &str = concat!(
@@ -50,9 +50,9 @@ const KEY_LEFT: &str = r#"KeyValuesMut([("key2", EntryValues(["value2", "value3"
 
 fn keys_are_shown(test: &Test, map: &mut Texts) {
     let mut walk = map.pairs_mut();
-    test.expect("keys", is_shown(test.alloc(), &walk, KEYS));
-    test.expect("next", walk.next().is_some());
-    test.expect("key left", is_shown(test.alloc(), &walk, KEY_LEFT));
+    test.expect(is_shown(test.alloc(), &walk, KEYS));
+    test.expect(walk.next().is_some());
+    test.expect(is_shown(test.alloc(), &walk, KEY_LEFT));
 }
 
 /// Walks over texts are shown.

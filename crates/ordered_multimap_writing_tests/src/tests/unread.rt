@@ -30,10 +30,10 @@ fn the_last_key(keys: &mut Keys<'_>) -> Option<u32> {
 }
 
 fn steps_answer(test: &Test, keys: &mut Keys<'_>) {
-    test.expect("two", keys.size_hint() == (2, Some(2)));
-    test.expect("the first", the_first_key(keys) == Some((1, 1, 3)));
-    test.expect("the last", the_last_key(keys) == Some(2));
-    test.expect("the end", keys.next().is_none());
+    test.expect(keys.size_hint() == (2, Some(2)));
+    test.expect(the_first_key(keys) == Some((1, 1, 3)));
+    test.expect(the_last_key(keys) == Some(2));
+    test.expect(keys.next().is_none());
 }
 
 /// A key that isn't read keeps its values.
@@ -41,5 +41,5 @@ pub fn one_key_is_written(test: &Test, map: &mut Numbers) {
     refill(test, map, &[(1, 1), (2, 2), (1, 3)]);
     steps_answer(test, &mut map.pairs_mut());
     let left = has_lists(map, &[(1, 10), (2, 2), (1, 30)], &[1, 2]);
-    test.expect("pairs", left);
+    test.expect(left);
 }

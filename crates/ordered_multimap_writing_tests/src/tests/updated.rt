@@ -36,7 +36,7 @@ fn one_key_is_updated(test: &Test, map: &mut Numbers) {
     for (row, (before, key, after)) in RAISED.iter().enumerate() {
         refill(test, map, before);
         add_one_to(map, key);
-        test.expect_at("update_all", row, has_pairs(map, after));
+        test.expect_at(row, has_pairs(map, after));
     }
 }
 
@@ -44,11 +44,11 @@ fn all_are_updated(test: &Test, map: &mut Numbers) {
     for (row, (before, after)) in ADDED.iter().enumerate() {
         refill(test, map, before);
         add_keys(map);
-        test.expect_at("update_values", row, has_pairs(map, after));
+        test.expect_at(row, has_pairs(map, after));
     }
     refill(test, map, &[(1, 5), (2, 5), (1, 6)]);
     fill_with(map, 9);
-    test.expect("one value", has_pairs(map, &[(1, 9), (2, 9), (1, 9)]));
+    test.expect(has_pairs(map, &[(1, 9), (2, 9), (1, 9)]));
 }
 
 // Each call writes its number: once on each value, in order, and on no other.
@@ -59,18 +59,18 @@ fn calls_are_counted(test: &Test, map: &mut Numbers) {
         calls = calls.saturating_add(1);
         *value = calls;
     });
-    test.expect("calls for one key", calls == 3);
+    test.expect(calls == 3);
     let counted = has_pairs(map, &[(1, 1), (2, 5), (1, 2), (3, 5), (1, 3)]);
-    test.expect("values of one key", counted);
+    test.expect(counted);
     map.update_all(&4, |_value| calls = calls.saturating_add(1));
-    test.expect("calls for an absent key", calls == 3);
+    test.expect(calls == 3);
     map.update_values(|_key, value| {
         calls = calls.saturating_add(1);
         *value = calls;
     });
-    test.expect("calls for all pairs", calls == 8);
+    test.expect(calls == 8);
     let counted = has_pairs(map, &[(1, 4), (2, 5), (1, 6), (3, 7), (1, 8)]);
-    test.expect("all values", counted);
+    test.expect(counted);
 }
 
 /// Functions write the values of one key, and of all.

@@ -79,23 +79,23 @@ const OF_KEY: &[Row<u32>] = &[
 ];
 
 fn pair_walk(test: &Test, map: &mut Numbers, wanted: &[(End, (u32, u32))]) {
-    test.expect_same("pairs", walk_difference(&mut map.iter_mut(), wanted));
+    test.expect_same(walk_difference(&mut map.iter_mut(), wanted));
 }
 
 fn value_walk(test: &Test, map: &mut Numbers, wanted: &[(End, u32)]) {
-    test.expect_same("values", walk_difference(&mut map.values_mut(), wanted));
+    test.expect_same(walk_difference(&mut map.values_mut(), wanted));
 }
 
 fn key_walk(test: &Test, map: &mut Numbers, wanted: &[(End, u32)]) {
     let difference = walk_difference(&mut map.get_all_mut(&1), wanted);
-    test.expect_same("values of a key", difference);
+    test.expect_same(difference);
 }
 
 fn pairs_are_raised(test: &Test, map: &mut Numbers) {
     for (at, row) in OF_PAIRS.iter().enumerate() {
         refill(test, map, row.0);
         pair_walk(test, map, row.1);
-        test.expect_at("iter_mut", at, has_pairs(map, row.2));
+        test.expect_at(at, has_pairs(map, row.2));
     }
 }
 
@@ -103,7 +103,7 @@ fn values_are_raised(test: &Test, map: &mut Numbers) {
     for (at, row) in OF_VALUES.iter().enumerate() {
         refill(test, map, row.0);
         value_walk(test, map, row.1);
-        test.expect_at("values_mut", at, has_pairs(map, row.2));
+        test.expect_at(at, has_pairs(map, row.2));
     }
 }
 
@@ -111,7 +111,7 @@ fn values_of_a_key_are_raised(test: &Test, map: &mut Numbers) {
     for (at, row) in OF_KEY.iter().enumerate() {
         refill(test, map, row.0);
         key_walk(test, map, row.1);
-        test.expect_at("get_all_mut", at, has_pairs(map, row.2));
+        test.expect_at(at, has_pairs(map, row.2));
     }
 }
 
@@ -137,9 +137,9 @@ fn write_both(map: &mut Numbers) -> bool {
 
 fn both_are_written(test: &Test, map: &mut Numbers) {
     refill(test, map, &[(1, 1), (2, 7), (1, 2), (1, 3)]);
-    test.expect("1 and 3", write_both(map));
+    test.expect(write_both(map));
     let written = has_lists(map, &[(1, 10), (2, 7), (1, 2), (1, 30)], &[1, 2]);
-    test.expect("both are written", written);
+    test.expect(written);
 }
 
 // Whether the keys 1, 2, 2 and 1 have these values, in this order.
@@ -150,20 +150,20 @@ fn has_values(map: &Numbers, values: [u32; 4]) -> bool {
 
 fn loops_write(test: &Test, map: &mut Numbers) {
     fill_all(map, 7);
-    test.expect("fill_all", has_values(map, [7, 7, 7, 7]));
+    test.expect(has_values(map, [7, 7, 7, 7]));
     fill_key(map, &2, 8);
-    test.expect("fill_key", has_values(map, [7, 8, 8, 7]));
+    test.expect(has_values(map, [7, 8, 8, 7]));
     fill_ends(map, 9);
-    test.expect("fill_ends", has_values(map, [9, 8, 8, 9]));
+    test.expect(has_values(map, [9, 8, 8, 9]));
 }
 
 fn more_loops_write(test: &Test, map: &mut Numbers) {
     fill_values(map, 5);
-    test.expect("fill_values", has_values(map, [5, 5, 5, 5]));
+    test.expect(has_values(map, [5, 5, 5, 5]));
     fill_by_reference(map, 6);
-    test.expect("fill_by_reference", has_values(map, [6, 6, 6, 6]));
+    test.expect(has_values(map, [6, 6, 6, 6]));
     fill_first_key(map, 4);
-    test.expect("fill_first_key", has_values(map, [4, 6, 6, 4]));
+    test.expect(has_values(map, [4, 6, 6, 4]));
 }
 
 /// Each value is lent once, and is written.

@@ -7,7 +7,7 @@ ghost use Rattle.std.specs.Prelude.{nat_eq};
 
 use set_ordered_multimap::SetOrderedMultimap;
 use std::hash::{Hash, Hasher};
-use test_helpers::{Failed, Test};
+use test_helpers::{Failed, Test, test_in_turn};
 
 /// An ASCII letter, whose case counts for nothing.
 #[derive(Clone, Copy)]
@@ -80,23 +80,23 @@ fn has_letters(set: &Letters, pairs: &[(u8, u8)]) -> bool {
 
 fn letters_stay(test: &Test, set: &mut Letters) {
     for (row, (key, value, new)) in ROWS.iter().enumerate() {
-        test.expect_at("insert", row, inserts(set, *key, *value, *new));
+        test.expect_at(row, inserts(set, *key, *value, *new));
     }
-    test.expect("the first of equal pairs", has_letters(set, STORED));
+    test.expect(has_letters(set, STORED));
     let gone = set.remove_value(&Letter::new(b'a'), &Letter::new(b'Y'));
-    test.expect("remove_value", gone);
+    test.expect(gone);
     let left = has_letters(set, &[(b'A', b'x'), (b'B', b'X')]);
-    test.expect("the other pairs", left);
+    test.expect(left);
 }
 
 fn the_first_pair_is_alone(test: &Test, set: &mut Letters) {
     set.clear();
-    test.expect("insert", inserts(set, b'A', b'x', true));
-    test.expect("insert", inserts(set, b'a', b'X', false));
-    test.expect("one pair", has_letters(set, &[(b'A', b'x')]));
+    test.expect(inserts(set, b'A', b'x', true));
+    test.expect(inserts(set, b'a', b'X', false));
+    test.expect(has_letters(set, &[(b'A', b'x')]));
 }
 
 #[test]
 fn of_equal_pairs_the_first_stays(rt: HostRuntime) -> Result<(), Failed> {
-    test_in_turn!(rt.alloc(); letters_stay, the_first_pair_is_alone)
+    test_in_turn!(rt.alloc(), SetOrderedMultimap::new; letters_stay, the_first_pair_is_alone)
 }

@@ -8,7 +8,7 @@ use set_ordered_multimap::SetOrderedMultimap;
 use set_ordered_multimap::laws::{changes_keep_sets, insertions_keep_first_pairs};
 use std::alloc::{AllocError, Global};
 use std::hash::BuildHasher;
-use test_helpers::{Failed, Test, is_shown};
+use test_helpers::{Failed, Test, is_shown, test_in_turn};
 
 type Texts = SetOrderedMultimap<&'static str, &'static str>;
 
@@ -24,19 +24,19 @@ fn insert_three(set: &mut Texts) -> Result<(), AllocError> {
 }
 
 fn look_ups_return(test: &Test, set: &Texts) {
-    test.expect("contains", set.contains(&"plan", &"long"));
-    test.expect("contains_key", set.contains_key(&"note"));
-    test.expect("entry_len", set.entry_len(&"plan") == 2);
+    test.expect(set.contains(&"plan", &"long"));
+    test.expect(set.contains_key(&"note"));
+    test.expect(set.entry_len(&"plan") == 2);
     let hash = DefaultState::new().hash_one(&"plan");
-    test.expect("hasher", set.hasher().hash_one(&"plan") == hash);
+    test.expect(set.hasher().hash_one(&"plan") == hash);
 }
 
 fn lengths_return(test: &Test, set: &Texts) {
-    test.expect("keys_len", set.keys_len() == 2);
-    test.expect("values_len", set.values_len() == 3);
-    test.expect("is_empty", !set.is_empty());
-    test.expect("keys_capacity", set.keys_capacity() >= set.keys_len());
-    test.expect("values_capacity", set.values_capacity() >= set.values_len());
+    test.expect(set.keys_len() == 2);
+    test.expect(set.values_len() == 3);
+    test.expect(!set.is_empty());
+    test.expect(set.keys_capacity() >= set.keys_len());
+    test.expect(set.values_capacity() >= set.values_len());
 }
 
 fn get_all_returns(set: &Texts) -> bool {
@@ -52,11 +52,11 @@ fn keys_return(set: &Texts) -> bool {
 }
 
 fn walks_return(test: &Test, set: &Texts) {
-    test.expect("get_all", get_all_returns(set));
-    test.expect("iter", iter_returns(set));
-    test.expect("keys", keys_return(set));
-    test.expect("into_iter", set.into_iter().len() == 3);
-    test.expect("Debug", is_shown(test.alloc(), set, SHOWN));
+    test.expect(get_all_returns(set));
+    test.expect(iter_returns(set));
+    test.expect(keys_return(set));
+    test.expect(set.into_iter().len() == 3);
+    test.expect(is_shown(test.alloc(), set, SHOWN));
 }
 
 fn clones_return(set: &Texts) -> Result<(bool, bool), AllocError> {
@@ -65,25 +65,25 @@ fn clones_return(set: &Texts) -> Result<(bool, bool), AllocError> {
 }
 
 fn into_iter_returns(test: &Test, mut set: Texts) {
-    test.expect("insert", insert_three(&mut set).is_ok());
+    test.expect(insert_three(&mut set).is_ok());
     let first = set.into_iter().next() == Some(Ok(("plan", "draft")));
-    test.expect("into_iter by value", first);
+    test.expect(first);
 }
 
 fn removals_return(test: &Test, set: &mut Texts) {
-    test.expect("insert", set.insert("plan", "draft") == Ok(false));
+    test.expect(set.insert("plan", "draft") == Ok(false));
     let removed = set.remove_value(&"plan", &"draft");
-    test.expect("remove_value", removed);
+    test.expect(removed);
     let left = has_lists(
         set,
         &[("note", "draft"), ("plan", "long")],
         &["plan", "note"],
     );
-    test.expect("the others", left);
+    test.expect(left);
     set.retain(|_key, value| *value != "draft");
-    test.expect("retain", has_lists(set, &[("plan", "long")], &["plan"]));
+    test.expect(has_lists(set, &[("plan", "long")], &["plan"]));
     set.clear();
-    test.expect("clear", set.is_empty());
+    test.expect(set.is_empty());
 }
 
 fn remove_all_returns(set: &mut Texts) -> bool {
@@ -100,26 +100,23 @@ fn pop_back_returns(set: &mut Texts) -> bool {
 
 fn pops_by_functions_return(test: &Test, set: &mut Texts) {
     let popped = set.pop_front_with(|popped| popped.is_some());
-    test.expect("pop_front_with", popped);
+    test.expect(popped);
     let popped = set.pop_back_with(|popped| popped.is_none());
-    test.expect("pop_back_with", popped);
+    test.expect(popped);
 }
 
 fn ends_leave(test: &Test, set: &mut Texts) {
-    test.expect("insert", insert_three(set).is_ok());
-    test.expect("remove_all", remove_all_returns(set));
-    test.expect("insert", insert_three(set).is_ok());
+    test.expect(insert_three(set).is_ok());
+    test.expect(remove_all_returns(set));
+    test.expect(insert_three(set).is_ok());
     set.remove_all_with(&"plan", |value| drop(value));
-    test.expect(
-        "remove_all_with",
-        has_lists(set, &[("note", "draft")], &["note"]),
-    );
+    test.expect(has_lists(set, &[("note", "draft")], &["note"]));
     pops_by_functions_return(test, set);
-    test.expect("insert", insert_three(set).is_ok());
-    test.expect("pop_front", pop_front_returns(set));
+    test.expect(insert_three(set).is_ok());
+    test.expect(pop_front_returns(set));
     set.clear();
-    test.expect("insert", insert_three(set).is_ok());
-    test.expect("pop_back", pop_back_returns(set));
+    test.expect(insert_three(set).is_ok());
+    test.expect(pop_back_returns(set));
 }
 
 fn extend_returns(set: &mut Texts) -> Result<(), AllocError> {
@@ -135,20 +132,20 @@ fn from_iter_returns(alloc: Global) -> Result<Texts, AllocError> {
 }
 
 fn many_are_inserted(test: &Test, set: &mut Texts) {
-    test.expect("extend", extend_returns(set).is_ok());
-    test.expect("clones", clones_return(set) == Ok((true, true)));
+    test.expect(extend_returns(set).is_ok());
+    test.expect(clones_return(set) == Ok((true, true)));
     match from_iter_returns(test.alloc()) {
-        Ok(made) => test.expect("from_iter", has_lists(&made, PAIRS, &["plan", "note"])),
-        Err(_) => test.expect("from_iter", false),
+        Ok(made) => test.expect(has_lists(&made, PAIRS, &["plan", "note"])),
+        Err(_) => test.fail(),
     }
 }
 
 fn reads_hold(test: &Test, set: &mut Texts) {
-    test.expect("insert", insert_three(set).is_ok());
+    test.expect(insert_three(set).is_ok());
     look_ups_return(test, set);
     lengths_return(test, set);
     walks_return(test, set);
-    test.expect("insert", set.insert("plan", "draft") == Ok(false));
+    test.expect(set.insert("plan", "draft") == Ok(false));
 }
 
 #[test]
@@ -165,14 +162,14 @@ fn texts_are_read(rt: HostRuntime) -> Result<(), Failed> {
 }
 
 fn changes_hold(test: &Test, set: &mut Texts) {
-    test.expect("insert", insert_three(set).is_ok());
+    test.expect(insert_three(set).is_ok());
     removals_return(test, set);
     ends_leave(test, set);
 }
 
 #[test]
 fn texts_leave(rt: HostRuntime) -> Result<(), Failed> {
-    test_in_turn!(rt.alloc(); changes_hold)
+    test_in_turn!(rt.alloc(), SetOrderedMultimap::new; changes_hold)
 }
 
 type Numbers = SetOrderedMultimap<u32, u32>;
@@ -181,22 +178,19 @@ type Numbers = SetOrderedMultimap<u32, u32>;
 fn callers_return(test: &Test, set: &mut Numbers) {
     changes_keep_sets::<u32, u32>();
     insertions_keep_first_pairs::<u32, u32>();
-    test.expect("exchange", exchange(set, 1, &1, 4) == Ok(true));
+    test.expect(exchange(set, 1, &1, 4) == Ok(true));
     keep_below(set, 4);
-    test.expect("keep_below", has_lists(set, &[(2, 2), (3, 3)], &[2, 3]));
-    test.expect("take_first", take_first(set) == Some(2));
-    test.expect("insert_in_room", insert_in_room(set, 2, 2));
+    test.expect(has_lists(set, &[(2, 2), (3, 3)], &[2, 3]));
+    test.expect(take_first(set) == Some(2));
+    test.expect(insert_in_room(set, 2, 2));
     remove_key(set, &3);
-    test.expect("remove_key", has_lists(set, &[(2, 2)], &[2]));
+    test.expect(has_lists(set, &[(2, 2)], &[2]));
 }
 
 fn numbers_are_gathered(test: &Test) -> Result<(), AllocError> {
     let pairs = [(1, 1), (2, 2), (1, 1), (3, 3)];
     let mut set = gathered(test.alloc(), pairs.iter().copied())?;
-    test.expect(
-        "gathered",
-        has_lists(&set, &[(1, 1), (2, 2), (3, 3)], &[1, 2, 3]),
-    );
+    test.expect(has_lists(&set, &[(1, 1), (2, 2), (3, 3)], &[1, 2, 3]));
     callers_return(test, &mut set);
     Ok(())
 }
@@ -204,6 +198,6 @@ fn numbers_are_gathered(test: &Test) -> Result<(), AllocError> {
 #[test]
 fn proved_callers_are_called(rt: HostRuntime) -> Result<(), Failed> {
     let test = Test::new(rt.alloc());
-    test.expect("memory", numbers_are_gathered(&test).is_ok());
+    test.expect(numbers_are_gathered(&test).is_ok());
     test.end()
 }

@@ -2,7 +2,7 @@
 use ordered_multimap::list_ordered_multimap::KeyWrapper;
 use set_callers::lists::has_lists;
 use set_ordered_multimap::SetOrderedMultimap;
-use test_helpers::{Failed, Test};
+use test_helpers::{Failed, Test, test_in_turn};
 
 const ROUNDS: usize = 2_000;
 
@@ -29,9 +29,9 @@ impl Plain {
             return false;
         }
         if !self.has_key(pair.0) {
-            test.expect("memory for a key", self.keys.push(pair.0).is_ok());
+            test.expect(self.keys.push(pair.0).is_ok());
         }
-        test.expect("memory for a pair", self.pairs.push(pair).is_ok());
+        test.expect(self.pairs.push(pair).is_ok());
         true
     }
 
@@ -121,9 +121,9 @@ fn agree_in_each_round(test: &Test, set: &mut Set, plain: &mut Plain) {
         random = next_random(random);
         let pair = ((random >> 40) as u32 % 4, (random >> 50) as u32 % 6);
         let same = changes(test, set, plain, pair, (random >> 32) % 16);
-        test.expect_at("call", round, same && is_told(set, plain, pair));
+        test.expect_at(round, same && is_told(set, plain, pair));
         let lists = has_lists(set, plain.pairs.as_slice(), plain.keys.as_slice());
-        test.expect_at("lists", round, lists);
+        test.expect_at(round, lists);
         if random >> 56 == 0 {
             clear(set, plain);
         }
@@ -140,5 +140,5 @@ fn agree(test: &Test, set: &mut Set) {
 
 #[test]
 fn a_set_agrees_with_a_plain_list(rt: HostRuntime) -> Result<(), Failed> {
-    test_in_turn!(rt.alloc(); agree)
+    test_in_turn!(rt.alloc(), SetOrderedMultimap::new; agree)
 }

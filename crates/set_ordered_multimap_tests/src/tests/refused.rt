@@ -42,7 +42,7 @@ const STARTS: &[Start] = &[
 
 fn fill(test: &Test, set: &mut Refusing<'_>, pairs: &[(u32, u32)]) {
     for (key, value) in pairs {
-        test.expect("insert", set.insert(*key, *value) == Ok(true));
+        test.expect(set.insert(*key, *value) == Ok(true));
     }
 }
 
@@ -63,13 +63,13 @@ fn is_inserted(
 ) -> bool {
     match given {
         Ok(new) => {
-            test.expect("the pair is new", new && stands_last(set, start));
+            test.expect(new && stands_last(set, start));
             true
         }
         Err(refused) => {
             let pair = (refused.key, refused.value);
-            test.expect("the pair comes back", pair == start.new);
-            test.expect("as before", has_lists(set, start.pairs, start.keys));
+            test.expect(pair == start.new);
+            test.expect(has_lists(set, start.pairs, start.keys));
             false
         }
     }
@@ -82,14 +82,14 @@ fn insert_with(test: &Test, granted: u64, start: &Start) -> bool {
     allocator.grant(granted);
     let given = set.insert(start.new.0, start.new.1);
     let enough = is_inserted(test, &set, start, given);
-    test.expect("refused for want of memory", enough != allocator.refused());
+    test.expect(enough != allocator.refused());
     enough
 }
 
 fn insertions_are_refused(test: &Test) {
     for (row, start) in STARTS.iter().enumerate() {
         let enough = requests_until_enough(|granted| insert_with(test, granted, start));
-        test.expect_at("requests", row, enough.unwrap_or(0) >= start.least);
+        test.expect_at(row, enough.unwrap_or(0) >= start.least);
     }
 }
 
@@ -120,14 +120,14 @@ fn extend_with(test: &Test, granted: u64) -> bool {
 
 fn is_extended(test: &Test, set: &Refusing<'_>, given: Result<(), Refused<u32, u32>>) -> bool {
     let count = set.values_len();
-    test.expect("the pairs before", has_those_before(set, count));
+    test.expect(has_those_before(set, count));
     match given {
         Ok(()) => {
-            test.expect("all pairs", count == 3);
+            test.expect(count == 3);
             true
         }
         Err(refused) => {
-            test.expect("the pair comes back", comes_back(count, &refused));
+            test.expect(comes_back(count, &refused));
             false
         }
     }
@@ -142,13 +142,13 @@ fn from_iter_with(test: &Test, granted: u64) -> bool {
     );
     match given {
         Ok(set) => {
-            test.expect("all pairs", has_lists(&set, FIRST, KEYS));
+            test.expect(has_lists(&set, FIRST, KEYS));
             true
         }
         Err(refused) => {
             let pair = Some((refused.key, refused.value));
             let of_them = PAIRS.iter().any(|given| Some(*given) == pair);
-            test.expect("a pair of them", of_them);
+            test.expect(of_them);
             false
         }
     }
@@ -160,15 +160,15 @@ fn clone_with(test: &Test, granted: u64) -> bool {
     fill(test, &mut set, FIRST);
     allocator.grant(granted);
     let cloned = is_cloned(test, &set);
-    test.expect("refused for want of memory", cloned != allocator.refused());
-    test.expect("the set stays", has_lists(&set, FIRST, KEYS));
+    test.expect(cloned != allocator.refused());
+    test.expect(has_lists(&set, FIRST, KEYS));
     cloned
 }
 
 fn is_cloned(test: &Test, set: &Refusing<'_>) -> bool {
     match set.clone() {
         Ok(copy) => {
-            test.expect("the clone", has_lists(&copy, FIRST, KEYS));
+            test.expect(has_lists(&copy, FIRST, KEYS));
             true
         }
         Err(_) => false,
@@ -177,11 +177,11 @@ fn is_cloned(test: &Test, set: &Refusing<'_>) -> bool {
 
 fn many_pairs_are_refused(test: &Test) {
     let extended = requests_until_enough(|granted| extend_with(test, granted));
-    test.expect("extend", extended.unwrap_or(0) >= 3);
+    test.expect(extended.unwrap_or(0) >= 3);
     let made = requests_until_enough(|granted| from_iter_with(test, granted));
-    test.expect("from_iter", made.unwrap_or(0) >= 3);
+    test.expect(made.unwrap_or(0) >= 3);
     let cloned = requests_until_enough(|granted| clone_with(test, granted));
-    test.expect("clone", cloned.unwrap_or(0) >= 3);
+    test.expect(cloned.unwrap_or(0) >= 3);
 }
 
 #[test]
@@ -194,13 +194,13 @@ fn a_refused_request_changes_nothing(rt: HostRuntime) -> Result<(), Failed> {
 
 // What needs no memory, where none is given.
 fn all_is_refused(test: &Test, set: &mut Refusing<'_>) {
-    test.expect("a pair that is there", set.insert(2, 2) == Ok(false));
-    test.expect("remove_value", set.remove_value(&2, &2));
-    test.expect("in its room", set.insert(2, 7) == Ok(true));
+    test.expect(set.insert(2, 2) == Ok(false));
+    test.expect(set.remove_value(&2, &2));
+    test.expect(set.insert(2, 7) == Ok(true));
     set.retain(|_key, value| *value != 7);
-    test.expect("pop_back", set.pop_back_with(|popped| popped.is_some()));
-    test.expect("remove_all", set.remove_all(&1).next() == Some(1));
-    test.expect("no pair", has_lists(set, &[], &[]));
+    test.expect(set.pop_back_with(|popped| popped.is_some()));
+    test.expect(set.remove_all(&1).next() == Some(1));
+    test.expect(has_lists(set, &[], &[]));
 }
 
 #[test]
@@ -211,6 +211,6 @@ fn what_needs_no_memory_is_not_refused(rt: HostRuntime) -> Result<(), Failed> {
     fill(&test, &mut set, FIRST);
     allocator.refuse_all();
     all_is_refused(&test, &mut set);
-    test.expect("no request", !allocator.refused());
+    test.expect(!allocator.refused());
     test.end()
 }

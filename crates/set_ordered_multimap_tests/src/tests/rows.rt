@@ -119,9 +119,9 @@ fn rows_hold<K: Sample + Eq + Hash, V: Sample + Eq, S: BuildHasher>(
     set: &mut SetOrderedMultimap<K, V, S>,
 ) {
     for (at, (call, pairs, keys)) in ROWS.iter().enumerate() {
-        test.expect_at("call", at, is_called(test, set, *call));
-        test.expect_at("pairs", at, has_pairs(set, pairs));
-        test.expect_at("keys", at, has_keys(set, keys));
+        test.expect_at(at, is_called(test, set, *call));
+        test.expect_at(at, has_pairs(set, pairs));
+        test.expect_at(at, has_keys(set, keys));
     }
 }
 
