@@ -53,12 +53,9 @@ fn carry_out<'t>(
     let (word, operand) = command.split_once(' ').unwrap_or((command, ""));
     let (name, value) = operand.split_once('=').unwrap_or((operand, ""));
     match word {
-        "get" => match fields.get(operand) {
-            Some(value) => writeln!(answers, "{value}")?,
-            None => writeln!(answers, "none")?,
-        },
+        "get" => add_first(fields, operand, answers)?,
         "all" => add_all(fields, operand, answers)?,
-        "set" => set(fields, CowStr::Borrowed(name), CowStr::Borrowed(value))?,
+        "set" => set(fields, name, value)?,
         "add" => add(fields, CowStr::Borrowed(name), CowStr::Borrowed(value))?,
         "remove" => {
             let _ = fields.remove(operand);
@@ -67,6 +64,14 @@ fn carry_out<'t>(
         _ => return Ok(command.is_empty()),
     }
     Ok(true)
+}
+
+/// Adds the first value of a name.
+fn add_first(fields: &Fields<'_>, name: &str, answers: &mut String) -> io::Result<()> {
+    match fields.get(name) {
+        Some(value) => Ok(writeln!(answers, "{value}")?),
+        None => Ok(answers.push_str("none\n")?),
+    }
 }
 
 /// Adds the values of a name in order.

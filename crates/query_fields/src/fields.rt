@@ -54,8 +54,9 @@ pub fn add<'t>(fields: &mut Fields<'t>, name: Text<'t>, value: Text<'t>) -> io::
 
 /// Gives the first field of this name the value, and takes the others out. Puts it last where there
 /// is none.
-pub fn set<'t>(fields: &mut Fields<'t>, name: Text<'t>, value: Text<'t>) -> io::Result<()> {
-    match fields.entry(name) {
+pub fn set<'t>(fields: &mut Fields<'t>, name: &'t str, value: &'t str) -> io::Result<()> {
+    let value = CowStr::Borrowed(value);
+    match fields.entry(CowStr::Borrowed(name)) {
         Entry::Occupied(mut entry) => {
             *entry.get_mut() = value;
             for _ in 1..entry.len() {
@@ -77,9 +78,13 @@ pub fn write_query(fields: &Fields<'_>, query: &mut String) -> io::Result<()> {
             query.push('&')?;
         }
         is_first = false;
-        encode(name.as_str(), query)?;
-        query.push('=')?;
-        encode(value.as_str(), query)?;
+        write_field(name, value, query)?;
     }
     Ok(query.push('\n')?)
+}
+
+fn write_field(name: &Text<'_>, value: &Text<'_>, query: &mut String) -> io::Result<()> {
+    encode(name.as_str(), query)?;
+    query.push('=')?;
+    Ok(encode(value.as_str(), query)?)
 }
