@@ -1,5 +1,5 @@
 //! Questions and their answers.
-use crate::config::{Config, add_line};
+use crate::config::{Config, Settings, add_line};
 use crate::fault::Fault;
 use ordered_multimap::{EntryValues, ListOrderedMultimap};
 use std::alloc::Global;
@@ -8,13 +8,18 @@ use std::io;
 
 /// The answers to the questions of an input. A bad line, also one below a question, gives none.
 pub fn answers_to(alloc: Global, input: &[u8]) -> Result<String, Fault> {
+    let mut config = ListOrderedMultimap::new(alloc);
+    answers_on(alloc, &mut config, input)
+}
+
+/// The answers, where `config` is empty.
+fn answers_on<'t>(
+    alloc: Global,
+    config: &mut Config<'t>,
+    input: &'t [u8],
+) -> Result<String, Fault> {
     let mut answers = String::new(alloc);
-    add_answers(
-        alloc,
-        &mut ListOrderedMultimap::new(alloc),
-        input,
-        &mut answers,
-    )?;
+    add_answers(alloc, config, input, &mut answers)?;
     Ok(answers)
 }
 
@@ -108,9 +113,14 @@ fn write_config(config: &Config<'_>, answers: &mut String) -> io::Result<()> {
         if !section.is_empty() {
             writeln!(answers, "[{section}]")?;
         }
-        for (key, value) in settings {
-            writeln!(answers, "{key} = {value}")?;
-        }
+        write_settings(settings, answers)?;
+    }
+    Ok(())
+}
+
+fn write_settings(settings: &Settings<'_>, answers: &mut String) -> io::Result<()> {
+    for (key, value) in settings {
+        writeln!(answers, "{key} = {value}")?;
     }
     Ok(())
 }

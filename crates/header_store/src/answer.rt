@@ -3,55 +3,99 @@ ghost use Rattle.std.specs.Prelude.{◌≡◌, ℕ, List};
 ghost use Rattle.std.specs.Str.{str_eq_ignore_ascii_case, str_to_ascii_lowercase};
 ghost use Rattle.ordered_multimap.specs.Pairs.{values_where};
 
-use crate::command::{Command, command_of};
 use crate::fault::Fault;
-use crate::lines::Lines;
+use crate::field::{field_of, name_of, split_at_byte};
 use crate::name::{Name, SET_COOKIE};
-use crate::read::{Headers, read_headers};
-use ordered_multimap::EntryValues;
+use ordered_multimap::list_ordered_multimap::RandomState;
+use ordered_multimap::{EntryValues, ListOrderedMultimap};
 use std::alloc::{AllocError, Global};
 
-/// Reads the headers, and returns what the commands behind them write, one after another.
+/// The headers of a message, in their order. Names and values are parts of the input.
+pub type Headers<'t> = ListOrderedMultimap<Name<'t>, &'t [u8], RandomState>;
+
+/// Reads headers up to an empty line into `headers`, which is empty, and returns what the commands
+/// below it write, one after another.
 pub fn answer_all<'t>(
     alloc: Global,
     headers: &mut Headers<'t>,
-    mut lines: Lines<'t>,
+    input: &'t [u8],
 ) -> Result<Vec<u8>, Fault> {
-    read_headers(headers, &mut lines)?;
     let mut output = Vec::new(alloc);
-    for line in lines {
-        if !line.text.is_empty() {
-            answer(headers, &mut output, command_of(line)?)?;
+    let mut are_read = false;
+    for (index, line) in input.split(|byte| *byte == b'\n').enumerate() {
+        let number = index.saturating_add(1);
+        let line = line.strip_suffix(b"\r").unwrap_or(line);
+        if line.is_empty() {
+            are_read = true;
+        } else if are_read {
+            answer(headers, &mut output, line, number)?;
+        } else {
+            read_header(headers, line, number)?;
         }
     }
     Ok(output)
 }
 
-/// Does what the command says, and puts what it writes at the end of the output.
+/// Appends the header on a line of this number.
+fn read_header<'t>(headers: &mut Headers<'t>, line: &'t [u8], number: usize) -> Result<(), Fault> {
+    if !line.contains(&b':') {
+        return Err(Fault::NoHeader(number));
+    }
+    Ok(change(headers, b"add", field_of(line, b':', number)?)?)
+}
+
+/// Does what the line of this number commands, and puts what that writes at the end of the output.
 fn answer<'t>(
     headers: &mut Headers<'t>,
     output: &mut Vec<u8>,
-    command: Command<'t>,
+    line: &'t [u8],
+    number: usize,
+) -> Result<(), Fault> {
+    let (word, operands) = split_at_byte(line, b' ').unwrap_or((line, b""));
+    match word {
+        b"get" | b"all" | b"joined" | b"remove" => {
+            answer_on_name(headers, output, word, name_of(operands, number)?)?;
+        }
+        b"set" | b"add" => change(headers, word, field_of(operands, b' ', number)?)?,
+        b"write" if operands.is_empty() => push_headers(output, headers)?,
+        _ => return Err(Fault::NoCommand(number)),
+    }
+    Ok(())
+}
+
+// `word` is get, all, joined or remove.
+fn answer_on_name<'t>(
+    headers: &mut Headers<'t>,
+    output: &mut Vec<u8>,
+    word: &[u8],
+    name: Name<'t>,
 ) -> Result<(), AllocError> {
-    match command {
-        Command::Get(name) => push_first(output, headers, name),
-        Command::All(name) => push_all(output, headers, name),
-        Command::Joined(name) if name == SET_COOKIE => push_all(output, headers, name),
-        Command::Joined(name) => push_joined(output, headers, name),
-        Command::Set(name, value) => {
-            headers.insert(name, value)?;
-            Ok(())
-        }
-        Command::Add(name, value) => {
-            headers.append(name, value)?;
-            Ok(())
-        }
-        Command::Remove(name) => {
+    match word {
+        b"get" => push_first(output, headers, name),
+        b"joined" if name != SET_COOKIE => push_joined(output, headers, name),
+        b"all" | b"joined" => push_all(output, headers, name),
+        _ => {
             headers.remove(&name);
             Ok(())
         }
-        Command::Write => push_headers(output, headers),
     }
+}
+
+// `word` is set or add.
+fn change<'t>(
+    headers: &mut Headers<'t>,
+    word: &[u8],
+    (name, value): (Name<'t>, &'t [u8]),
+) -> Result<(), AllocError> {
+    match word {
+        b"set" => {
+            headers.insert(name, value)?;
+        }
+        _ => {
+            headers.append(name, value)?;
+        }
+    }
+    Ok(())
 }
 
 /// The values of the name, in order: the values of all headers whose names differ from it in the
@@ -103,15 +147,17 @@ fn push_joined<'t>(
     headers: &Headers<'t>,
     name: Name<'t>,
 ) -> Result<(), AllocError> {
-    let mut values = values_of(headers, name);
-    let Some(first) = values.next() else {
+    let values = values_of(headers, name);
+    if values.len() == 0 {
         return push_absent(output, name);
-    };
-    push_parts(output, &[name.as_bytes(), b": ", *first])?;
-    for value in values {
-        push_parts(output, &[b", ", *value])?;
     }
-    push_parts(output, &[b"\n"])
+    output.extend_from_slice(name.as_bytes())?;
+    let mut separator: &[u8] = b": ";
+    for value in values {
+        push_parts(output, &[separator, *value])?;
+        separator = b", ";
+    }
+    output.extend_from_slice(b"\n")
 }
 
 fn push_headers(output: &mut Vec<u8>, headers: &Headers<'_>) -> Result<(), AllocError> {

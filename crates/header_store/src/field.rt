@@ -1,9 +1,8 @@
-//! The parts of a header, read from their texts.
+//! Headers and their parts, read from their texts.
 ghost use Rattle.std.specs.Prelude.{◌≡◌, ◌↔◌, IsOk, IfErr};
 ghost use Rattle.header_store.specs.Fields as rfc;
 
 use crate::fault::Fault;
-use crate::lines::split_at_byte;
 use crate::name::Name;
 
 /// The name and the value that stand before and behind the first separator; the value is empty
@@ -39,4 +38,10 @@ fn is_value_byte(byte: u8) -> bool
     ensures { result ≡ rfc.is_value_byte byte }
 {
     byte == b'\t' || !byte.is_ascii_control()
+}
+
+/// What stands before the first such byte, and what stands behind it, if there is one.
+pub fn split_at_byte(text: &[u8], separator: u8) -> Option<(&[u8], &[u8])> {
+    let place = text.iter().position(|byte| *byte == separator)?;
+    Some((&text[..place], &text[place + 1..]))
 }

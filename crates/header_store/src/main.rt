@@ -25,16 +25,12 @@
 #![tactic(auto)]
 
 mod answer;
-mod command;
 mod fault;
 mod field;
-mod lines;
 mod name;
-mod read;
 
 use answer::answer_all;
 use fault::Fault;
-use lines::Lines;
 use ordered_multimap::ListOrderedMultimap;
 use ordered_multimap::list_ordered_multimap::RandomState;
 use std::alloc::Global;
@@ -65,7 +61,7 @@ fn run(rt: &HostRuntime, input: &[u8]) -> ExitCode {
 /// What the commands of the input write.
 fn answers(alloc: Global, state: RandomState, input: &[u8]) -> Result<Vec<u8>, Fault> {
     let mut headers = ListOrderedMultimap::with_hasher(alloc, state);
-    answer_all(alloc, &mut headers, Lines::new(input))
+    answer_all(alloc, &mut headers, input)
 }
 
 fn write(rt: &HostRuntime, text: &[u8]) -> ExitCode {

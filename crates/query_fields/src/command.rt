@@ -3,20 +3,24 @@ use crate::fault::Fault;
 use crate::fields::{Fields, add, read_query, set, write_query};
 use ordered_multimap::ListOrderedMultimap;
 use std::alloc::Global;
-use std::borrow::CowStr;
 use std::fmt::Write;
 use std::io;
 
 /// The answers to the commands of an input, whose first line is the query. A bad line, also one
 /// below a command, gives none.
 pub fn answers_to(alloc: Global, input: &[u8]) -> Result<String, Fault> {
+    let mut fields = ListOrderedMultimap::new(alloc);
+    answers_on(alloc, &mut fields, input)
+}
+
+/// The answers, where `fields` is empty.
+fn answers_on<'t>(
+    alloc: Global,
+    fields: &mut Fields<'t>,
+    input: &'t [u8],
+) -> Result<String, Fault> {
     let mut answers = String::new(alloc);
-    add_answers(
-        alloc,
-        &mut ListOrderedMultimap::new(alloc),
-        input,
-        &mut answers,
-    )?;
+    add_answers(alloc, fields, input, &mut answers)?;
     Ok(answers)
 }
 
@@ -56,7 +60,7 @@ fn carry_out<'t>(
         "get" => add_first(fields, operand, answers)?,
         "all" => add_all(fields, operand, answers)?,
         "set" => set(fields, name, value)?,
-        "add" => add(fields, CowStr::Borrowed(name), CowStr::Borrowed(value))?,
+        "add" => add(fields, name, value)?,
         "remove" => {
             let _ = fields.remove(operand);
         }

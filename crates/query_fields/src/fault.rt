@@ -3,7 +3,7 @@ use std::io::ErrorKind;
 use std::{fmt, io};
 
 /// Why there are no answers.
-#[derive(Debug, Drop)]
+#[derive(Drop)]
 pub enum Fault {
     /// This line, counted from 1, is not what the text says.
     Line(usize, &'static str),

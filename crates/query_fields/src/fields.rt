@@ -36,7 +36,7 @@ fn read_field<'t>(
     let behind = position.saturating_add(name.len()).saturating_add(1);
     let name = text_at(alloc, name, position)?;
     let value = text_at(alloc, value, behind)?;
-    Ok(add(fields, name, value)?)
+    Ok(append(fields, name, value)?)
 }
 
 fn text_at(alloc: Global, encoded: &str, position: usize) -> Result<Text<'_>, Fault> {
@@ -46,10 +46,14 @@ fn text_at(alloc: Global, encoded: &str, position: usize) -> Result<Text<'_>, Fa
     }
 }
 
-/// Puts a field last.
-pub fn add<'t>(fields: &mut Fields<'t>, name: Text<'t>, value: Text<'t>) -> io::Result<()> {
+fn append<'t>(fields: &mut Fields<'t>, name: Text<'t>, value: Text<'t>) -> io::Result<()> {
     fields.append(name, value)?;
     Ok(())
+}
+
+/// Puts a field last.
+pub fn add<'t>(fields: &mut Fields<'t>, name: &'t str, value: &'t str) -> io::Result<()> {
+    append(fields, CowStr::Borrowed(name), CowStr::Borrowed(value))
 }
 
 /// Gives the first field of this name the value, and takes the others out. Puts it last where there
