@@ -1,4 +1,4 @@
-use Rattle.std.proofs.Common.{◌≡◌, suc, ◌+◌, [], ◌∷◌, ◌++◌, map, length, length-append, ap, sym, ◌∙◌, arith}
+use Rattle.std.proofs.Common.{rules, ◌≡◌, suc, ◌+◌, [], ◌∷◌, ◌++◌, map, length, length-append, ap, sym, ◌∙◌, arith}
 use Rattle.serde_json.specs.View.{view}
 use Rattle.multimap_tool.specs.Json.{pair_json}
 use Rattle.multimap_tool.proofs.Callers.JsonParts.{one_written, none_bad-push}
@@ -22,3 +22,9 @@ loop-key-preserved g c =
       accepted = rw c.push_reserved.ensures.items (none_bad-push g.K.ToJson.is_part g.V.ToJson.is_part 0 l.items.items item
           l.invariant.accepted c.in_ok-item_of.ensures.accepted);
     }
+
+pub returns-clause-written : goal.returns-clause-written
+returns-clause-written g c = search rules
+
+pub returns-clause-accepted : goal.returns-clause-accepted
+returns-clause-accepted g c = search rules

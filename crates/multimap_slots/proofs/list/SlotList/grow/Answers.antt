@@ -1,4 +1,4 @@
-use Rattle.std.proofs.Common.{arith}
+use Rattle.std.proofs.Common.{rules, arith}
 use Rattle.multimap_slots.proofs.list.SlotList.grow.Goals as goal
 
 pub overflow_sub-missing : goal.overflow_sub-missing
@@ -12,3 +12,9 @@ overflow_sub-missing g c =
       c.self.invariant.same_length,
       c.self.inside.items.ok,
     )
+
+pub returns-in_ok-grow_to : goal.returns-in_ok-grow_to
+returns-in_ok-grow_to g c = search rules
+
+pub returns-in_ok-grow_to-2 : goal.returns-in_ok-grow_to-2
+returns-in_ok-grow_to-2 g c = search rules

@@ -1,4 +1,4 @@
-use Rattle.std.proofs.Common.{None, Some, ap, arith, refl, length, min, vec_capacity, set, sym, ◌<◌, ◌∙◌}
+use Rattle.std.proofs.Common.{rules, None, Some, ap, arith, refl, length, min, vec_capacity, set, sym, ◌<◌, ◌∙◌}
 use Rattle.std.proofs.lemmas.List.{get_or_default}
 use Rattle.std.proofs.lemmas.Option.{slice_get-get_or}
 use Rattle.multimap_slots.proofs.Changes.SlotLists.{Removes-set}
@@ -39,3 +39,6 @@ returns-clause-link g c =
     let within = listed_used c.self.invariant c.args.place (rw (← c.self.view_is) at c.requires) in
     rw (← c.self.view_is) (slice_get-get_or c.self.inside.links.items c.args.place c.index-link.result.now
     (omega (arith, within, c.self.invariant.links_used)) ∙ ap Some (sym c.index-link.ensures))
+
+pub returns-clause-freed : goal.returns-clause-freed
+returns-clause-freed g c = search rules

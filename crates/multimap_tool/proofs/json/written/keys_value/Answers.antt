@@ -1,4 +1,4 @@
-use Rattle.std.proofs.Common.{◌≡◌, suc, ◌+◌, [], ◌∷◌, ◌++◌, map, length, length-append, ap, sym, ◌∙◌, arith}
+use Rattle.std.proofs.Common.{rules, ◌≡◌, suc, ◌+◌, [], ◌∷◌, ◌++◌, map, length, length-append, ap, sym, ◌∙◌, arith}
 use Rattle.serde_json.specs.View.{view}
 use Rattle.multimap_tool.proofs.Callers.JsonParts.{one_written}
 use Rattle.multimap_tool.proofs.JsonValues.Shapes.{each_item-push}
@@ -22,3 +22,9 @@ loop-key-preserved g c =
       accepted = rw c.push_reserved.ensures.items (each_item-push g.K.ToJson.is_part l.items.items item l.invariant.accepted
           c.in_ok-to_json.ensures.accepted);
     }
+
+pub returns-clause-written : goal.returns-clause-written
+returns-clause-written g c = search rules
+
+pub returns-clause-accepted : goal.returns-clause-accepted
+returns-clause-accepted g c = search rules

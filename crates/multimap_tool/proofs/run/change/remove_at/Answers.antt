@@ -18,3 +18,6 @@ returns-in-Vacant g c = record {
   rooms = search rules;
   finds_room = tt;
 }
+
+pub returns-in-Occupied : goal.returns-in-Occupied
+returns-in-Occupied g c = search rules

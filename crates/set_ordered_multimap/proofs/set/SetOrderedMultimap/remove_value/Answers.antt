@@ -1,4 +1,4 @@
-use Rattle.std.proofs.Common.{◌≡◌, ◌+◌, true, not, cond, length, sym, ap, ◌∙◌, subst}
+use Rattle.std.proofs.Common.{rules, ◌≡◌, ◌+◌, true, not, cond, length, sym, ap, ◌∙◌, subst}
 use Rattle.set_ordered_multimap.proofs.Callers.Sets.{IsSet-kept}
 use Rattle.set_ordered_multimap.proofs.Removals.{one_goes}
 use Rattle.ordered_multimap.specs.Changes.{kept}
@@ -30,3 +30,12 @@ returns-clause-one g c = λ set.
     ap (λ m. length m.lists.pairs) (sym c.self.view_is)
     ∙ one_goes g.met.K.Eq.laws g.met.V.Eq.laws c.self.inside.map.lists.pairs key value seen there
     ∙ ap (λ l. length l.pairs + 1) (sym c.take_equal.ensures.lists)
+
+pub returns-then-not-contains-clause-there : goal.returns-then-not-contains-clause-there
+returns-then-not-contains-clause-there g c = search rules
+
+pub returns-then-not-contains-clause-one : goal.returns-then-not-contains-clause-one
+returns-then-not-contains-clause-one g c = search rules
+
+pub returns-then-not-contains-clause-taken : goal.returns-then-not-contains-clause-taken
+returns-then-not-contains-clause-taken g c = search rules

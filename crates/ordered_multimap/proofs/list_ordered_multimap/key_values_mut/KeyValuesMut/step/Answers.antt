@@ -1,4 +1,4 @@
-use Rattle.std.proofs.Common.{◌≡◌, Option, Some, None, IsSome, IfNone, sym, ◌∙◌}
+use Rattle.std.proofs.Common.{rules, ◌≡◌, Option, Some, None, IsSome, IfNone, sym, ◌∙◌}
 use Rattle.std.specs.declared.cmp.PartialEq as equality
 use Rattle.std.specs.declared.hash.Hash as hash
 use Rattle.std.specs.declared.hash.Hasher as hasher
@@ -32,3 +32,6 @@ returns-clause-none g c = elim c.if-is_some.branch [
   | then-is_some w ↦ if_some (c.if-is_some.self ≡ c.args.self.now) c.take_key-place.result (sym c.is_some.ensures ∙ w.if-is_some.true)
   | else-is_some w ↦ always c.take_key-place.result (w.self-is ∙ same_walk c.args.self.now _)
 ]
+
+pub returns-clause-rest : goal.returns-clause-rest
+returns-clause-rest g c = search rules
