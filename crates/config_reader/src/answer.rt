@@ -1,61 +1,41 @@
 //! Questions and their answers.
+use crate::bad;
 use crate::config::{Config, Settings, add_line};
-use crate::fault::Fault;
-use ordered_multimap::{EntryValues, ListOrderedMultimap};
+use ordered_multimap::EntryValues;
 use std::alloc::Global;
 use std::fmt::Write;
 use std::io;
 
-/// The answers to the questions of an input. A bad line, also one below a question, gives none.
-pub fn answers_to(alloc: Global, input: &[u8]) -> Result<String, Fault> {
-    let mut config = ListOrderedMultimap::new(alloc);
-    answers_on(alloc, &mut config, input)
-}
-
-/// The answers, where `config` is empty.
-fn answers_on<'t>(
-    alloc: Global,
-    config: &mut Config<'t>,
-    input: &'t [u8],
-) -> Result<String, Fault> {
-    let mut answers = String::new(alloc);
-    add_answers(alloc, config, input, &mut answers)?;
-    Ok(answers)
-}
-
-/// Reads the settings into `config`, which is empty, and adds the answers to `answers`.
-fn add_answers<'t>(
+/// Reads the settings into `config`, which is empty, and adds the answers to the questions. A bad
+/// line, also one below a question, ends this. `number` is the number of the line that is read.
+pub fn add_answers<'t>(
     alloc: Global,
     config: &mut Config<'t>,
     input: &'t [u8],
     answers: &mut String,
-) -> Result<(), Fault> {
+    number: &mut usize,
+) -> io::Result<()> {
     let mut asks = false;
     let mut section = "";
     for (index, line) in input.split(|byte| *byte == b'\n').enumerate() {
-        let number = index.saturating_add(1);
+        *number = index.saturating_add(1);
         let Ok(line) = str::from_utf8(line) else {
-            return Err(Fault::Line(number, "UTF-8"));
+            return Err(bad("not UTF-8"));
         };
         let line = line.trim();
         if asks {
-            if !add_answer(config, line, answers)? {
-                return Err(Fault::Line(number, "a question"));
-            }
+            add_answer(config, line, answers)?;
         } else if line == "---" {
             asks = true;
         } else {
-            match add_line(alloc, config, section, line)? {
-                Some(name) => section = name,
-                None => return Err(Fault::Line(number, "a section or a setting")),
-            }
+            section = add_line(alloc, config, section, line)?;
         }
     }
     Ok(())
 }
 
-/// Adds the answer to a question, or returns false where there is no such question.
-fn add_answer(config: &Config<'_>, question: &str, answers: &mut String) -> io::Result<bool> {
+/// Adds the answer to a question.
+fn add_answer(config: &Config<'_>, question: &str, answers: &mut String) -> io::Result<()> {
     let (word, operand) = question.split_once(' ').unwrap_or((question, ""));
     let operand = operand.trim_start();
     match word {
@@ -67,9 +47,10 @@ fn add_answer(config: &Config<'_>, question: &str, answers: &mut String) -> io::
         "keys" => add_keys(config, operand, answers)?,
         "sections" if operand.is_empty() => add_sections(config, answers)?,
         "write" if operand.is_empty() => write_config(config, answers)?,
-        _ => return Ok(question.is_empty()),
+        "" => {}
+        _ => return Err(bad("not a question")),
     }
-    Ok(true)
+    Ok(())
 }
 
 /// The values of `SECTION.KEY`, or of a `KEY` above the first section, if there is such a section.

@@ -1,4 +1,5 @@
 //! Sections and settings, as the lines of an INI text say them.
+use crate::bad;
 use ordered_multimap::ListOrderedMultimap;
 use std::alloc::Global;
 use std::io;
@@ -9,26 +10,26 @@ pub type Settings<'t> = ListOrderedMultimap<&'t str, &'t str>;
 /// The sections by their names, in order. Settings above the first section have the name `""`.
 pub type Config<'t> = ListOrderedMultimap<&'t str, Settings<'t>>;
 
-/// Takes up a line of the section `open`. Returns the name of the section that the next line is of,
-/// or none if the line is bad.
+/// Takes up a line of the section `open`, and returns the name of the section that the next line is
+/// of.
 pub fn add_line<'t>(
     alloc: Global,
     config: &mut Config<'t>,
     open: &'t str,
     line: &'t str,
-) -> io::Result<Option<&'t str>> {
+) -> io::Result<&'t str> {
     if line.is_empty() || line.starts_with(';') || line.starts_with('#') {
-        return Ok(Some(open));
+        return Ok(open);
     }
     if let Some(name) = section_of(line) {
         settings_of(alloc, config, name)?;
-        return Ok(Some(name));
+        return Ok(name);
     }
     let Some((key, value)) = setting_of(line) else {
-        return Ok(None);
+        return Err(bad("not a section or a setting"));
     };
     settings_of(alloc, config, open)?.append(key, value)?;
-    Ok(Some(open))
+    Ok(open)
 }
 
 fn section_of(line: &str) -> Option<&str> {

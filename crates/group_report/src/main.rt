@@ -13,50 +13,74 @@
 //! written, unless it is the output that failed.
 #![tactic(auto)]
 
-mod fault;
 mod read;
 mod report;
 mod summary;
 
-use fault::Fault;
-use read::text_of;
-use report::push_reports;
+use crate::report::{Summaries, add_reports};
+use ordered_multimap::ListOrderedMultimap;
+use std::alloc::AllocError;
 use std::io;
-use std::io::{ErrorKind, Read, Write};
+use std::io::{ErrorKind, Read};
 use std::process::ExitCode;
+
+/// Why there is no report.
+#[derive(Drop)]
+pub enum Fault<'t> {
+    /// The line of this number, counted from 1, isn't a group and a value, or no UTF-8 text.
+    Line(usize),
+    /// The sum of this group's values doesn't fit 64 bits.
+    Sum(&'t str),
+    /// Memory was refused, or standard input or output failed.
+    System(io::Error),
+}
+
+impl<'t> From<AllocError> for Fault<'t> {
+    fn from(error: AllocError) -> Fault<'t> {
+        Fault::System(io::Error::from(error))
+    }
+}
 
 fn main(rt: HostRuntime) -> ExitCode {
     let mut input = Vec::new(rt.alloc());
     match rt.reader().read_to_end(&mut input) {
         Ok(_) => run(&rt, &input),
-        Err(error) if error.kind() == ErrorKind::OutOfMemory => fail(&rt, &Fault::OutOfMemory),
-        Err(_) => fail(&rt, &Fault::ReadFailed),
+        Err(error) => fail(&rt, &Fault::System(error)),
     }
 }
 
 fn run(rt: &HostRuntime, input: &[u8]) -> ExitCode {
-    match text_of(input) {
-        Ok(text) => answer(rt, &mut String::new(rt.alloc()), text),
-        Err(fault) => fail(rt, &fault),
-    }
-}
-
-fn answer(rt: &HostRuntime, report: &mut String, text: &str) -> ExitCode {
-    match push_reports(report, rt.alloc(), text) {
-        Ok(()) => write(rt, report.as_bytes()),
-        Err(fault) => fail(rt, &fault),
-    }
-}
-
-fn write(rt: &HostRuntime, text: &[u8]) -> ExitCode {
-    let mut output = io::writer(rt);
-    match output.write_all(text).and_then(|()| output.flush()) {
+    match write_reports(rt, &mut ListOrderedMultimap::new(rt.alloc()), input) {
         Ok(()) => ExitCode::SUCCESS,
-        Err(_) => fail(rt, &Fault::WriteFailed),
+        Err(fault) => fail(rt, &fault),
+    }
+}
+
+/// Writes the reports once all of them are there. There are no summaries at first.
+fn write_reports<'t>(
+    rt: &HostRuntime,
+    summaries: &mut Summaries<'t>,
+    input: &'t [u8],
+) -> Result<(), Fault<'t>> {
+    let mut reports = String::new(rt.alloc());
+    add_reports(rt.alloc(), summaries, input, &mut reports)?;
+    match print!(rt; "{reports}") {
+        Ok(()) => Ok(()),
+        Err(error) => Err(Fault::System(error)),
     }
 }
 
 fn fail(rt: &HostRuntime, fault: &Fault<'_>) -> ExitCode {
-    let _ = eprintln!(rt; "group_report: {fault}");
-    ExitCode::from(fault.status())
+    let _ = match fault {
+        Fault::Line(number) => eprintln!(rt;
+            "group_report: line {number} isn't a group and a value"
+        ),
+        Fault::Sum(group) => eprintln!(rt; "group_report: the sum of {group} doesn't fit 64 bits"),
+        Fault::System(error) => eprintln!(rt; "group_report: {error}"),
+    };
+    ExitCode::from(match fault {
+        Fault::System(error) if error.kind() == ErrorKind::OutOfMemory => 3,
+        Fault::System(_) => 4,
+        _ => 2,
+    })
 }

@@ -12,6 +12,14 @@ pub struct Summary {
     pub greatest: i64,
 }
 
+/// The summary of no value, which changes none that it is joined with.
+pub const NOTHING: Summary = Summary {
+    count: 0,
+    sum: 0,
+    least: i64::MAX,
+    greatest: i64::MIN,
+};
+
 impl Summary {
     /// The summary of one value.
     pub fn of(value: i64) -> Summary

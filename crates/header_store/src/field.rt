@@ -1,35 +1,36 @@
 //! Headers and their parts, read from their texts.
-ghost use Rattle.std.specs.Prelude.{◌≡◌, ◌↔◌, IsOk, IfErr};
+ghost use Rattle.std.specs.Prelude.{◌≡◌, ◌↔◌, IsSome};
 ghost use Rattle.header_store.specs.Fields as rfc;
 
-use crate::fault::Fault;
+use crate::bad;
 use crate::name::Name;
+use std::io;
 
 /// The name and the value that stand before and behind the first separator; the value is empty
-/// where there is none. A fault tells `number`, the number of the line.
-pub fn field_of(text: &[u8], separator: u8, number: usize) -> Result<(Name<'_>, &[u8]), Fault> {
+/// where there is none.
+pub fn field_of(text: &[u8], separator: u8) -> io::Result<(Name<'_>, &[u8])> {
     let (name, value) = split_at_byte(text, separator).unwrap_or((text, b""));
-    Ok((name_of(name, number)?, value_of(value, number)?))
+    let name = name_of(name)?;
+    match value_of(value) {
+        Some(value) => Ok((name, value)),
+        None => Err(bad("forbidden value")),
+    }
 }
 
 /// The name that the text is.
-pub fn name_of(text: &[u8], number: usize) -> Result<Name<'_>, Fault>
-    ensures token { IsOk result ↔ rfc.IsToken text.now }
-    ensures fault { IfErr result (λ fault. fault ≡ Fault.BadName number) }
-{
-    Name::new(text).ok_or(Fault::BadName(number))
+pub fn name_of(text: &[u8]) -> io::Result<Name<'_>> {
+    match Name::new(text) {
+        Some(name) => Ok(name),
+        None => Err(bad("forbidden name")),
+    }
 }
 
-/// The value that the text is, without the blanks around it.
-fn value_of(text: &[u8], number: usize) -> Result<&[u8], Fault>
-    ensures value { IsOk result ↔ rfc.IsValue text.now }
-    ensures fault { IfErr result (λ fault. fault ≡ Fault.BadValue number) }
+/// The value that the text is, without the blanks around it, or none if RFC 9110 forbids it.
+fn value_of(text: &[u8]) -> Option<&[u8]>
+    ensures { IsSome result ↔ rfc.IsValue text.now }
 {
-    if text.iter().all(|byte| is_value_byte(*byte)) {
-        Ok(text.trim_ascii())
-    } else {
-        Err(Fault::BadValue(number))
-    }
+    let is_value = text.iter().all(|byte| is_value_byte(*byte));
+    is_value.then_some(text.trim_ascii())
 }
 
 /// Whether the byte may stand in a value: a tab, or what is no control character. Bytes above 127

@@ -25,54 +25,61 @@
 #![tactic(auto)]
 
 mod answer;
-mod fault;
 mod field;
 mod name;
 
-use answer::answer_all;
-use fault::Fault;
+use crate::answer::{Headers, add_answers};
 use ordered_multimap::ListOrderedMultimap;
 use ordered_multimap::list_ordered_multimap::RandomState;
-use std::alloc::Global;
 use std::io;
 use std::io::{ErrorKind, Read, Write};
 use std::process::ExitCode;
 
 fn main(rt: HostRuntime) -> ExitCode {
-    let mut input = Vec::new(rt.alloc());
-    match rt.reader().read_to_end(&mut input) {
-        Ok(_) => run(&rt, &input),
-        Err(error) if error.kind() == ErrorKind::OutOfMemory => fail(&rt, &Fault::OutOfMemory),
-        Err(_) => fail(&rt, &Fault::ReadFailed),
-    }
-}
-
-fn run(rt: &HostRuntime, input: &[u8]) -> ExitCode {
-    // Who sends headers may choose names that share a hash, so the hash has a seed of its own.
-    let Ok(state) = RandomState::new(rt) else {
-        return fail(rt, &Fault::NoSeed);
-    };
-    match answers(rt.alloc(), state, input) {
-        Ok(text) => write(rt, &text),
-        Err(fault) => fail(rt, &fault),
-    }
-}
-
-/// What the commands of the input write.
-fn answers(alloc: Global, state: RandomState, input: &[u8]) -> Result<Vec<u8>, Fault> {
-    let mut headers = ListOrderedMultimap::with_hasher(alloc, state);
-    answer_all(alloc, &mut headers, input)
-}
-
-fn write(rt: &HostRuntime, text: &[u8]) -> ExitCode {
-    let mut output = io::writer(rt);
-    match output.write_all(text).and_then(|()| output.flush()) {
+    let mut line = 0usize;
+    match run(&rt, &mut line) {
         Ok(()) => ExitCode::SUCCESS,
-        Err(_) => fail(rt, &Fault::WriteFailed),
+        Err(error) if error.kind() == ErrorKind::InvalidData => {
+            let _ = eprintln!(rt; "header_store: line {line}: {error}");
+            ExitCode::from(2)
+        }
+        Err(error) => {
+            let _ = eprintln!(rt; "header_store: {error}");
+            ExitCode::from(if error.kind() == ErrorKind::OutOfMemory {
+                3
+            } else {
+                4
+            })
+        }
     }
 }
 
-fn fail(rt: &HostRuntime, fault: &Fault) -> ExitCode {
-    let _ = eprintln!(rt; "header_store: {fault}");
-    ExitCode::from(fault.status())
+/// Reads all of the input, and writes the answers. `line` is the number of the line that is looked
+/// at, from 1.
+fn run(rt: &HostRuntime, line: &mut usize) -> io::Result<()> {
+    // Who sends headers may choose names that share a hash, so the hash has a seed of its own.
+    let state = RandomState::new(rt)?;
+    let mut input = Vec::new(rt.alloc());
+    rt.reader().read_to_end(&mut input)?;
+    let headers = &mut ListOrderedMultimap::with_hasher(rt.alloc(), state);
+    write_answers(rt, headers, &input, line)
+}
+
+/// Writes the answers once all of them are there. `headers` is empty at first.
+fn write_answers<'t>(
+    rt: &HostRuntime,
+    headers: &mut Headers<'t>,
+    input: &'t [u8],
+    line: &mut usize,
+) -> io::Result<()> {
+    let mut answers = Vec::new(rt.alloc());
+    add_answers(headers, input, &mut answers, line)?;
+    let mut output = io::writer(rt);
+    output.write_all(&answers)?;
+    output.flush()
+}
+
+/// The error of a line that is bad for this reason.
+pub fn bad(reason: &str) -> io::Error {
+    io::Error::new(ErrorKind::InvalidData, reason)
 }

@@ -3,26 +3,29 @@
 ghost use Rattle.std.specs.Prelude.{◌≡◌, ◌<◌, ◌∷◌, ◌++◌, length, IsUtf8, None, Some};
 ghost use Rattle.std.specs.Prelude.{IfErr, IfNone, IfOk, IfSome, OnOk};
 ghost use Rattle.std.specs.Cow.{cow_str_bytes};
+ghost use Rattle.std.specs.IoError.{error_kind};
+ghost use Rattle.std.specs.declared.io.ErrorKind.TheVariants.{InvalidData};
 ghost use Rattle.std.specs.String.{string_bytes};
 ghost use Rattle.query_fields.specs.Escape.{is_unreserved, written_byte, written, read, before};
 
+use crate::bad;
 use std::alloc::{AllocError, Global};
 use std::borrow::CowStr;
 use std::fmt::Write;
 use std::io;
 
-/// The text that a name or a value stands for, which is borrowed where it has no escape; or else
-/// the place of the first escape that stands for no text.
+/// The text that a name or a value stands for, which is borrowed where it has no escape. A fault
+/// tells the byte of the first escape that stands for no text, where `position` is that of the first
+/// byte of `encoded`.
 #[tactic(auto, using(crate::proofs::Reading::reading))]
-pub fn decoded(alloc: Global, encoded: &str) -> io::Result<Result<CowStr<'_>, usize>>
-    ensures text { IfOk result (λ answer.
-        IfOk answer (λ text. read encoded.now ≡ Some (cow_str_bytes text))) }
-    ensures bad { IfOk result (λ answer.
-        IfErr answer (λ place. IfSome (read encoded.now) (λ bytes. ¬ IsUtf8 bytes))) }
+pub fn decoded(alloc: Global, encoded: &str, position: usize) -> io::Result<CowStr<'_>>
+    ensures text { IfOk result (λ text. read encoded.now ≡ Some (cow_str_bytes text)) }
+    ensures bad { IfErr result (λ error. error_kind error ≡ InvalidData
+        → IfSome (read encoded.now) (λ bytes. ¬ IsUtf8 bytes)) }
 {
     let whole = encoded.as_bytes();
     if !whole.contains(&b'%') && !whole.contains(&b'+') {
-        return Ok(Ok(CowStr::Borrowed(encoded)));
+        return Ok(CowStr::Borrowed(encoded));
     }
     let mut bytes = Vec::new(alloc);
     let mut rest = whole;
@@ -31,11 +34,22 @@ pub fn decoded(alloc: Global, encoded: &str) -> io::Result<Result<CowStr<'_>, us
         rest = behind;
     }
     if !rest.is_empty() {
-        return Ok(Err(whole.len() - rest.len()));
+        return Err(bad_escape(alloc, position, whole.len() - rest.len()));
     }
     match String::from_utf8(bytes) {
-        Ok(text) => Ok(Ok(CowStr::Owned(text))),
-        Err(error) => Ok(Err(place_of(whole, error.utf8_error().valid_up_to()))),
+        Ok(text) => Ok(CowStr::Owned(text)),
+        Err(error) => Err(bad_escape(
+            alloc,
+            position,
+            place_of(whole, error.utf8_error().valid_up_to()),
+        )),
+    }
+}
+
+fn bad_escape(alloc: Global, position: usize, place: usize) -> io::Error {
+    match format!(in alloc; "bad escape at byte {}", position.saturating_add(place)) {
+        Ok(reason) => bad(&reason),
+        Err(error) => io::Error::from(error),
     }
 }
 
@@ -81,20 +95,20 @@ fn escaped_byte(digits: &[u8]) -> Option<(u8, &[u8])>
 
 /// Adds a text as it stands in a query: letters, digits and `-._~` as they are, a space as `+`, and
 /// each other byte as `%` and two digits.
-pub fn encode(text: &str, query: &mut String) -> Result<(), AllocError>
+pub fn add_encoded(text: &str, query: &mut String) -> Result<(), AllocError>
     ensures written { OnOk result (string_bytes query.new
         ≡ string_bytes query.old ++ written text.now) }
     ensures read_again { read (written text.now) ≡ Some text.now }
 {
     let bytes = text.as_bytes();
     for byte in bytes {
-        encode_byte(*byte, query)?;
+        add_byte(*byte, query)?;
     }
     Ok(())
 }
 
 #[tactic(auto, using(crate::proofs::Reading::forms))]
-fn encode_byte(byte: u8, query: &mut String) -> Result<(), AllocError>
+fn add_byte(byte: u8, query: &mut String) -> Result<(), AllocError>
     ensures { OnOk result (string_bytes query.new ≡ string_bytes query.old ++ written_byte byte) }
 {
     if is_unreserved(byte) {

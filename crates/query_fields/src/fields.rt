@@ -1,8 +1,7 @@
 //! The fields of a query, in order.
-use crate::escape::{decoded, encode};
-use crate::fault::Fault;
+use crate::escape::{add_encoded, decoded};
 use ordered_multimap::{Entry, ListOrderedMultimap};
-use std::alloc::Global;
+use std::alloc::{AllocError, Global};
 use std::borrow::CowStr;
 use std::io;
 
@@ -14,7 +13,7 @@ pub type Fields<'t> = ListOrderedMultimap<Text<'t>, Text<'t>>;
 
 /// Appends the fields of a query. A name without `=` has the empty value, and what is empty between
 /// two `&` is no field.
-pub fn read_query<'t>(alloc: Global, query: &'t str, fields: &mut Fields<'t>) -> Result<(), Fault> {
+pub fn read_query<'t>(alloc: Global, query: &'t str, fields: &mut Fields<'t>) -> io::Result<()> {
     let mut position = 1usize;
     for field in query.split('&') {
         if !field.is_empty() {
@@ -31,36 +30,19 @@ fn read_field<'t>(
     field: &'t str,
     position: usize,
     fields: &mut Fields<'t>,
-) -> Result<(), Fault> {
+) -> io::Result<()> {
     let (name, value) = field.split_once('=').unwrap_or((field, ""));
     let behind = position.saturating_add(name.len()).saturating_add(1);
-    let name = text_at(alloc, name, position)?;
-    let value = text_at(alloc, value, behind)?;
-    Ok(append(fields, name, value)?)
-}
-
-fn text_at(alloc: Global, encoded: &str, position: usize) -> Result<Text<'_>, Fault> {
-    match decoded(alloc, encoded)? {
-        Ok(text) => Ok(text),
-        Err(place) => Err(Fault::Escape(position.saturating_add(place))),
-    }
-}
-
-fn append<'t>(fields: &mut Fields<'t>, name: Text<'t>, value: Text<'t>) -> io::Result<()> {
+    let name = decoded(alloc, name, position)?;
+    let value = decoded(alloc, value, behind)?;
     fields.append(name, value)?;
     Ok(())
 }
 
-/// Puts a field last.
-pub fn add<'t>(fields: &mut Fields<'t>, name: &'t str, value: &'t str) -> io::Result<()> {
-    append(fields, CowStr::Borrowed(name), CowStr::Borrowed(value))
-}
-
 /// Gives the first field of this name the value, and takes the others out. Puts it last where there
 /// is none.
-pub fn set<'t>(fields: &mut Fields<'t>, name: &'t str, value: &'t str) -> io::Result<()> {
-    let value = CowStr::Borrowed(value);
-    match fields.entry(CowStr::Borrowed(name)) {
+pub fn set<'t>(fields: &mut Fields<'t>, name: Text<'t>, value: Text<'t>) -> io::Result<()> {
+    match fields.entry(name) {
         Entry::Occupied(mut entry) => {
             *entry.get_mut() = value;
             for _ in 1..entry.len() {
@@ -75,20 +57,20 @@ pub fn set<'t>(fields: &mut Fields<'t>, name: &'t str, value: &'t str) -> io::Re
 }
 
 /// Adds the query of all fields in order, and a line feed.
-pub fn write_query(fields: &Fields<'_>, query: &mut String) -> io::Result<()> {
+pub fn add_query(fields: &Fields<'_>, query: &mut String) -> Result<(), AllocError> {
     let mut is_first = true;
     for (name, value) in fields {
         if !is_first {
             query.push('&')?;
         }
         is_first = false;
-        write_field(name, value, query)?;
+        add_field(name, value, query)?;
     }
-    Ok(query.push('\n')?)
+    query.push('\n')
 }
 
-fn write_field(name: &Text<'_>, value: &Text<'_>, query: &mut String) -> io::Result<()> {
-    encode(name.as_str(), query)?;
+fn add_field(name: &Text<'_>, value: &Text<'_>, query: &mut String) -> Result<(), AllocError> {
+    add_encoded(name.as_str(), query)?;
     query.push('=')?;
-    Ok(encode(value.as_str(), query)?)
+    add_encoded(value.as_str(), query)
 }

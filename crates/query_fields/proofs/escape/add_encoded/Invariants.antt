@@ -1,7 +1,7 @@
 use Rattle.std.proofs.Common.{◌≡◌, ◌++◌, take}
 use Rattle.std.specs.String.{string_bytes}
 use Rattle.query_fields.specs.Escape.{written}
-use Rattle.query_fields.proofs.escape.encode.Given as goal
+use Rattle.query_fields.proofs.escape.add_encoded.Given as goal
 
 abbrev pub invariant-loop-byte : goal.invariant-loop-byte
 invariant-loop-byte l =
