@@ -1,7 +1,10 @@
-use Rattle.std.proofs.Common.{ap, sym, ◌∙◌, subst}
+use Rattle.std.proofs.Common.{rules, ap, sym, ◌∙◌, subst}
 use Rattle.ordered_multimap.specs.Private.Append.{PushesRow, link_of_one}
 use Rattle.ordered_multimap.proofs.Append.Steps.{ok_if, new_listed}
 use Rattle.ordered_multimap.proofs.list_ordered_multimap.append.append_first.Goals as goal
+
+pub returns-then-is_err-clause-unchanged : goal.returns-then-is_err-clause-unchanged
+returns-then-is_err-clause-unchanged g c = search rules
 
 pub returns-clause-found : goal.returns-clause-found
 returns-clause-found g c =

@@ -1,4 +1,4 @@
-use Rattle.std.proofs.Common.{slice_get, ap, ◌∙◌, arith}
+use Rattle.std.proofs.Common.{rules, slice_get, ap, ◌∙◌, arith}
 use Rattle.multimap_slots.specs.Slots.{link_at}
 use Rattle.multimap_walks.specs.Chained.{chain_of}
 use Rattle.ordered_multimap.proofs.Chains.Indexes.{indexed_listed, indexed_owner, several_all}
@@ -21,6 +21,9 @@ take_one-requires-clause-stands g c =
       sound = l.ensures.sound;
       chained = c.requires.stands.chains.chained;
     }
+
+pub take_one-requires-clause-more : goal.take_one-requires-clause-more
+take_one-requires-clause-more g c = search rules
 
 pub returns-clause-taken : goal.returns-clause-taken
 returns-clause-taken g c =

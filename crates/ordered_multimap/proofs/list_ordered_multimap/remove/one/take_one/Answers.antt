@@ -1,4 +1,4 @@
-use Rattle.std.proofs.Common.{sym, ap, ◌∙◌, subst}
+use Rattle.std.proofs.Common.{rules, sym, ap, ◌∙◌, subst}
 use Rattle.multimap_slots.specs.Lists.{IsIn, without}
 use Rattle.multimap_slots.specs.Slots.{item_at, with_link}
 use Rattle.multimap_slots.specs.Tapes.{Taped}
@@ -17,6 +17,9 @@ set_previous-requires g c =
     let s = c.requires.stands in
     if_each c.args.link.next (λ q e. subst (λ (t : Taped g.row.V.Denot ValueLink). IsIn q t.list.order) (sym c.set_next.ensures.rest)
     (behind_own s.sound s.chained c.args.place c.args.link s.listed s.link_is q e).0)
+
+pub take_listed-value-requires : goal.take_listed-value-requires
+take_listed-value-requires g c = search rules
 
 pub returns-clause-taken : goal.returns-clause-taken
 returns-clause-taken g c =
@@ -54,3 +57,6 @@ returns-clause-taken g c =
           ∙ ap (λ (v : Taped g.row.V.Denot ValueLink). v.list.capacity) second.rest
           ∙ ap (λ (v : Taped g.row.V.Denot ValueLink). v.list.capacity) first.rest;
     }
+
+pub returns-clause-frees : goal.returns-clause-frees
+returns-clause-frees g c = search rules
