@@ -1,4 +1,4 @@
-use Rattle.std.proofs.Common.{subst}
+use Rattle.std.proofs.Common.{rules, subst}
 use Rattle.std.specs.Prelude.{Contains}
 use Rattle.multimap_tool.proofs.run.run.Goals as goal
 
@@ -8,3 +8,6 @@ run_all-requires-clause-steps g c = λ command here. record {
   clones = c.requires.clones;
   parts = c.requires.parts command here;
 }
+
+pub returns-clause-unchanged : goal.returns-clause-unchanged
+returns-clause-unchanged g c = search rules
