@@ -1,0 +1,43 @@
+#!/usr/bin/env python3
+"""Commands that are run while some request for memory is refused, and what two plain lists say of the replies.
+
+Where a command may lack memory, its reply may be `no memory`: then it has changed neither list."""
+from random_lines import Lists, lines, reply
+
+# Each command that asks for memory on a map with and without its key, and random ones behind them.
+FIRST = """append 1 1|append 2 2|append 1 3|insert 3 4|insert 1 5|append 1 6|insertall 4 7|insertall 1 8|orinsert 5 9|orinsert 5 9
+setfirst 1 2|setfront 3|append 2 4|append 6 1|append 6 2|pairs|keys|values|lists|all 2|all 9|walk 2 fbf|walkpairs bf|removeall 2
+removeentryall 6|keys|pairs|append 2 1|append 2 3|reserve 9 9|keys|pairs|packtofit|pairs|swap|pairs|json|keys|pairs|json2|keys
+popfront|removeat 2 1|remove 3|append 7 1|append 8 1|append 9 1|append 7 2|retain 1|lists|clear|removeall 1|append 1 1|pairs"""
+LINES = [*FIRST.replace("\n", "|").split("|"), *list(lines())[:60], "keys", "pairs"]
+
+
+def may_lack_memory(lists, line):
+    """Whether a command may lack memory: where it adds a pair for good, makes room, makes another map, or lists some item."""
+    word, *operands = line.split()
+    if word in ("append", "insertall", "reserve", "packtofit", "swap", "json", "json2"):
+        return True
+    if word in ("insert", "orinsert", "removeall", "removeentryall"):
+        is_present = bool(lists.of(int(operands[0])))
+        return is_present == word.startswith("remove")
+    return word in ("all", "walk", "pairs", "keys", "values", "lists", "walkpairs", "walkkeys", "walkvalues") and reply(lists, line) != "empty"
+
+
+def fault_in(output, error, status):
+    """What is wrong with an output, a text on standard error and a status, where requests may have been refused; or None."""
+    if status == 4:
+        return None if (output, error) == (b"", b"out of memory\n") else f"status 4 with {output!r} and {error!r}"
+    if (error, status) != (b"", 0):
+        return f"status {status} with {error!r}"
+    lists, replies = Lists(), output.decode().split("\n")
+    for line, said in zip(LINES, replies):
+        if said == "no memory" and may_lack_memory(lists, line):
+            continue
+        wanted = reply(lists, line)
+        if said != wanted:
+            return f"{line}: {said}, where {wanted} was wanted"
+    return None if len(replies) == len(LINES) + 1 else f"{len(replies)} replies"
+
+
+if __name__ == "__main__":
+    print("\n".join(LINES))
