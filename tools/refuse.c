@@ -1,5 +1,5 @@
-/* Loaded before a program's own libraries (LD_PRELOAD), refuses each request for memory from the one with
-   the number REFUSE_FROM on, counted from 0. tools/cases builds and uses it. */
+/* Loaded before a program's own libraries (LD_PRELOAD), refuses as many requests for memory as REFUSE_MOST
+   says, or all, from the one with the number REFUSE_FROM on, counted from 0. tools/cases builds and uses it. */
 #include <errno.h>
 #include <stdlib.h>
 
@@ -9,13 +9,13 @@ extern void *__libc_memalign(size_t align, size_t size);
 
 static int is_refused(void)
 {
-    static unsigned long asked;
-    const char *from = getenv("REFUSE_FROM");
-    if (from && asked++ >= strtoul(from, NULL, 10)) {
-        errno = ENOMEM;
-        return 1;
-    }
-    return 0;
+    static unsigned long asked, refused;
+    const char *from = getenv("REFUSE_FROM"), *most = getenv("REFUSE_MOST");
+    if (!from || asked++ < strtoul(from, NULL, 10) || (most && refused >= strtoul(most, NULL, 10)))
+        return 0;
+    refused++;
+    errno = ENOMEM;
+    return 1;
 }
 
 void *malloc(size_t size)

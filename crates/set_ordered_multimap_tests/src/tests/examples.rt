@@ -59,9 +59,9 @@ fn walks_return(test: &Test, set: &Texts) {
     test.expect(is_shown(test.alloc(), set, SHOWN));
 }
 
-fn clones_return(set: &Texts) -> Result<(bool, bool), AllocError> {
-    let counted = set.clone()?.values_len() == 3;
-    Ok((counted, *set == set.clone()?))
+fn clone_returns(set: &Texts) -> Result<bool, AllocError> {
+    let copy = set.clone()?;
+    Ok(copy == *set && copy.values_len() == 3)
 }
 
 fn into_iter_returns(test: &Test, mut set: Texts) {
@@ -133,7 +133,7 @@ fn from_iter_returns(alloc: Global) -> Result<Texts, AllocError> {
 
 fn many_are_inserted(test: &Test, set: &mut Texts) {
     test.expect(extend_returns(set).is_ok());
-    test.expect(clones_return(set) == Ok((true, true)));
+    test.expect(clone_returns(set) == Ok(true));
     match from_iter_returns(test.alloc()) {
         Ok(made) => test.expect(has_lists(&made, PAIRS, &["plan", "note"])),
         Err(_) => test.fail(),
@@ -148,17 +148,18 @@ fn reads_hold(test: &Test, set: &mut Texts) {
     test.expect(set.insert("plan", "draft") == Ok(false));
 }
 
+fn texts_are_inserted(test: &Test, set: &mut Texts) {
+    set.clear();
+    many_are_inserted(test, set);
+    into_iter_returns(
+        test,
+        SetOrderedMultimap::with_hasher(test.alloc(), DefaultState::new()),
+    );
+}
+
 #[test]
 fn texts_are_read(rt: HostRuntime) -> Result<(), Failed> {
-    let test = Test::new(rt.alloc());
-    let alloc = test.alloc();
-    reads_hold(&test, &mut SetOrderedMultimap::new(alloc));
-    many_are_inserted(
-        &test,
-        &mut SetOrderedMultimap::with_hasher(alloc, DefaultState::new()),
-    );
-    into_iter_returns(&test, SetOrderedMultimap::new(alloc));
-    test.end()
+    test_in_turn!(rt.alloc(), SetOrderedMultimap::new; reads_hold, texts_are_inserted)
 }
 
 fn changes_hold(test: &Test, set: &mut Texts) {

@@ -77,11 +77,21 @@ fn is_inserted(
 
 fn insert_with(test: &Test, granted: u64, start: &Start) -> bool {
     let allocator = RefusingAllocator::unlimited(test.alloc());
-    let mut set = SetOrderedMultimap::new(&allocator);
-    fill(test, &mut set, start.pairs);
+    let set = &mut SetOrderedMultimap::new(&allocator);
+    insert_into(test, &allocator, set, granted, start)
+}
+
+fn insert_into<'a>(
+    test: &Test,
+    allocator: &'a RefusingAllocator,
+    set: &mut Refusing<'a>,
+    granted: u64,
+    start: &Start,
+) -> bool {
+    fill(test, set, start.pairs);
     allocator.grant(granted);
     let given = set.insert(start.new.0, start.new.1);
-    let enough = is_inserted(test, &set, start, given);
+    let enough = is_inserted(test, set, start, given);
     test.expect(enough != allocator.refused());
     enough
 }
@@ -113,9 +123,12 @@ fn comes_back(count: usize, refused: &Refused<u32, u32>) -> bool {
 
 fn extend_with(test: &Test, granted: u64) -> bool {
     let allocator = RefusingAllocator::new(test.alloc(), granted);
-    let mut set = SetOrderedMultimap::new(&allocator);
+    extend(test, &mut SetOrderedMultimap::new(&allocator))
+}
+
+fn extend(test: &Test, set: &mut Refusing<'_>) -> bool {
     let given = set.extend(PAIRS.iter().copied());
-    is_extended(test, &set, given)
+    is_extended(test, set, given)
 }
 
 fn is_extended(test: &Test, set: &Refusing<'_>, given: Result<(), Refused<u32, u32>>) -> bool {
@@ -156,12 +169,25 @@ fn from_iter_with(test: &Test, granted: u64) -> bool {
 
 fn clone_with(test: &Test, granted: u64) -> bool {
     let allocator = RefusingAllocator::unlimited(test.alloc());
-    let mut set = SetOrderedMultimap::new(&allocator);
-    fill(test, &mut set, FIRST);
+    clone_of(
+        test,
+        &allocator,
+        &mut SetOrderedMultimap::new(&allocator),
+        granted,
+    )
+}
+
+fn clone_of<'a>(
+    test: &Test,
+    allocator: &'a RefusingAllocator,
+    set: &mut Refusing<'a>,
+    granted: u64,
+) -> bool {
+    fill(test, set, FIRST);
     allocator.grant(granted);
-    let cloned = is_cloned(test, &set);
+    let cloned = is_cloned(test, set);
     test.expect(cloned != allocator.refused());
-    test.expect(has_lists(&set, FIRST, KEYS));
+    test.expect(has_lists(set, FIRST, KEYS));
     cloned
 }
 
@@ -203,14 +229,17 @@ fn all_is_refused(test: &Test, set: &mut Refusing<'_>) {
     test.expect(has_lists(set, &[], &[]));
 }
 
+fn fill_and_refuse_all<'a>(test: &Test, allocator: &'a RefusingAllocator, set: &mut Refusing<'a>) {
+    fill(test, set, FIRST);
+    allocator.refuse_all();
+    all_is_refused(test, set);
+    test.expect(!allocator.refused());
+}
+
 #[test]
 fn what_needs_no_memory_is_not_refused(rt: HostRuntime) -> Result<(), Failed> {
     let test = Test::new(rt.alloc());
     let allocator = RefusingAllocator::unlimited(test.alloc());
-    let mut set = SetOrderedMultimap::new(&allocator);
-    fill(&test, &mut set, FIRST);
-    allocator.refuse_all();
-    all_is_refused(&test, &mut set);
-    test.expect(!allocator.refused());
+    fill_and_refuse_all(&test, &allocator, &mut SetOrderedMultimap::new(&allocator));
     test.end()
 }

@@ -3,7 +3,7 @@
 use ordered_multimap::list_ordered_multimap::KeyWrapper;
 use set_ordered_multimap::SetOrderedMultimap;
 use std::hash::{BuildHasher, Hash};
-use test_helpers::{Failed, Sample, Test, ZERO};
+use test_helpers::{Failed, Sample, Test, ZERO, test_all};
 
 // A call with the numbers of its key and its value, and what it returns.
 #[derive(Clone, Copy)]
@@ -125,12 +125,20 @@ fn rows_hold<K: Sample + Eq + Hash, V: Sample + Eq, S: BuildHasher>(
     }
 }
 
+fn numbers_stand_once(test: &Test) {
+    rows_hold::<usize, usize, _>(test, &mut SetOrderedMultimap::new(test.alloc()));
+}
+
+fn texts_stand_once(test: &Test) {
+    rows_hold::<String, String, _>(test, &mut SetOrderedMultimap::new(test.alloc()));
+}
+
+fn values_of_one_hash_stand_once(test: &Test) {
+    let set = &mut SetOrderedMultimap::with_hasher(test.alloc(), ZERO);
+    rows_hold::<usize, String, _>(test, set);
+}
+
 #[test]
 fn no_pair_stands_twice(rt: HostRuntime) -> Result<(), Failed> {
-    let test = Test::new(rt.alloc());
-    let alloc = test.alloc();
-    rows_hold::<usize, usize, _>(&test, &mut SetOrderedMultimap::new(alloc));
-    rows_hold::<String, String, _>(&test, &mut SetOrderedMultimap::new(alloc));
-    rows_hold::<usize, String, _>(&test, &mut SetOrderedMultimap::with_hasher(alloc, ZERO));
-    test.end()
+    test_all!(rt.alloc(); numbers_stand_once, texts_stand_once, values_of_one_hash_stand_once)
 }
