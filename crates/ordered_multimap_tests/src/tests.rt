@@ -1,5 +1,5 @@
-//! The tests: each makes one map and lends it to all comparisons of its type, since a map that is
-//! owned costs its proof more than all that it is lent to.
+//! The tests: each makes one map, or is lent an empty one, for all comparisons of its type, since a
+//! map that is owned costs a proof more than all that it is lent to.
 mod caseless;
 mod clones;
 mod derives;
@@ -14,37 +14,55 @@ mod texts;
 mod uncloned;
 mod walks;
 
-use crate::tests::hashes::{
-    collided_keys_are_inserted, collided_values_are_appended, keys_are_found,
-};
+use crate::tests::hashes::{collided_keys_come, keys_are_found};
 use crate::tests::into_iter::{pairs_are_handed_out, rest_is_walked, sum_of};
 use crate::tests::shown::is_shown_apart;
 use ordered_multimap::ListOrderedMultimap;
 use ordered_multimap::list_ordered_multimap::RandomState;
-use ordered_multimap_callers::maps::{MIXED, MIXED_TEXTS, Numbers, map_of, refill};
-use test_helpers::{Constant, Failed, Test, ZERO, test_in_turn};
+use ordered_multimap_callers::maps::{MIXED, Numbers, Texts, map_of, refill};
+use ordered_multimap_callers::tested::test_on_empty;
+use test_helpers::{Failed, Test, ZERO, test_all};
+
+fn texts_answer(test: &Test, map: &mut Texts) {
+    test.begin("texts");
+    texts::come_and_go(test, map);
+    test.begin("shown");
+    shown::map_is_shown(test, map);
+}
 
 #[test]
 fn maps_of_texts_answer(rt: HostRuntime) -> Result<(), Failed> {
-    test_in_turn!(rt.alloc(), ListOrderedMultimap::new;
-        texts::come_and_go, walks::are_taken, key_values::are_taken, shown::are_shown,
-        equal::are_compared, clones::are_made)
+    test_on_empty(rt.alloc(), texts_answer)
 }
 
-fn collided_keys_are_apart(
-    test: &Test,
-    map: &mut ListOrderedMultimap<&'static str, &'static str, Constant>,
-) {
-    collided_keys_are_inserted(test, map);
-    collided_values_are_appended(test, map);
+fn numbers_answer(test: &Test, map: &mut Numbers) {
+    test.begin("walks");
+    walks::are_taken(test, map);
+    test.begin("key_values");
+    key_values::are_taken(test, map);
+    test.begin("shown");
+    shown::walks_are_shown(test, map);
+    test.begin("equal");
+    equal::are_compared(test, map);
+    test.begin("clones");
+    clones::are_made(test, map);
+}
+
+#[test]
+fn maps_of_numbers_answer(rt: HostRuntime) -> Result<(), Failed> {
+    test_on_empty(rt.alloc(), numbers_answer)
+}
+
+fn collided_keys_are_apart(test: &Test) {
+    collided_keys_come(
+        test,
+        &mut ListOrderedMultimap::with_hasher(test.alloc(), ZERO),
+    );
 }
 
 #[test]
 fn keys_of_one_hash_are_apart(rt: HostRuntime) -> Result<(), Failed> {
-    let test = Test::new(rt.alloc());
-    let mut map = ListOrderedMultimap::with_hasher(test.alloc(), ZERO);
-    collided_keys_are_apart(&test, &mut map);
-    test.end()
+    test_all!(rt.alloc(); collided_keys_are_apart)
 }
 
 fn a_builder_serves(test: &Test, state: Option<RandomState>) {
@@ -79,6 +97,6 @@ fn maps_are_taken_apart(rt: HostRuntime) -> Result<(), Failed> {
     let test = Test::new(rt.alloc());
     pairs_are_handed_out(&test);
     numbers_are_taken(&test, ListOrderedMultimap::new(test.alloc()));
-    is_shown_apart(&test, map_of(&test, MIXED_TEXTS));
+    is_shown_apart(&test, map_of(&test, MIXED));
     test.end()
 }

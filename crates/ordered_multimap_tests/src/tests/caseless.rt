@@ -7,8 +7,9 @@ ghost use Rattle.std.specs.Prelude.{nat_eq};
 
 use ordered_multimap::ListOrderedMultimap;
 use ordered_multimap::list_ordered_multimap::KeyWrapper;
+use ordered_multimap_callers::tested::test_on_empty;
 use std::hash::{Hash, Hasher};
-use test_helpers::{Failed, Test, test_in_turn};
+use test_helpers::{Failed, Test};
 
 /// A word of up to eight letters, whose case counts for nothing.
 #[derive(Drop)]
@@ -108,7 +109,12 @@ fn replaced_key_stays(test: &Test, map: &mut Words) {
     test.expect(stored(map) == Some("kEY"));
 }
 
+fn first_keys_stay(test: &Test, map: &mut Words) {
+    first_key_stays(test, map);
+    replaced_key_stays(test, map);
+}
+
 #[test]
 fn of_equal_keys_the_first_stays(rt: HostRuntime) -> Result<(), Failed> {
-    test_in_turn!(rt.alloc(), ListOrderedMultimap::new; first_key_stays, replaced_key_stays)
+    test_on_empty(rt.alloc(), first_keys_stay)
 }

@@ -3,6 +3,7 @@
 use ordered_multimap::ListOrderedMultimap;
 use ordered_multimap::list_ordered_multimap::Entry;
 use ordered_multimap_callers::maps::{Numbers, Refusing};
+use ordered_multimap_callers::tested::test_on_empty;
 use refusing_allocator::RefusingAllocator;
 use std::alloc::Allocator;
 use std::collections::HashMap;
@@ -36,12 +37,16 @@ fn has_two(map: &Numbers) -> bool {
     map.keys_len() == 1 && map.values_len() == 2 && map.get(&1).copied() == Some(10)
 }
 
-fn a_map_is_taken(test: &Test, map: &mut Numbers) {
-    test.expect(append_two(map).is_ok());
+fn both_are_taken(test: &Test, map: &mut Numbers) {
     match mem::try_take(map) {
         Ok(taken) => test.expect(has_two(&taken)),
         Err(_) => test.fail(),
     }
+}
+
+fn a_map_is_taken(test: &Test, map: &mut Numbers) {
+    test.expect(append_two(map).is_ok());
+    both_are_taken(test, map);
     test.expect(map.is_empty());
     test.expect(append_two(map).is_ok() && has_two(map));
 }
@@ -57,12 +62,25 @@ fn maps_are_values(test: &Test, sections: &mut Sections) {
     test.expect(sections.get(&7).is_some_and(has_two));
 }
 
+fn without_memory(test: &Test, allocator: &RefusingAllocator) {
+    a_refusal_is_an_io_error(test, &mut ListOrderedMultimap::new(allocator));
+}
+
 #[test]
-fn empty_maps_stand_in(rt: HostRuntime) -> Result<(), Failed> {
+fn errors_are_taken_to_others(rt: HostRuntime) -> Result<(), Failed> {
     let test = Test::new(rt.alloc());
-    let allocator = RefusingAllocator::new(rt.alloc(), 0);
-    a_refusal_is_an_io_error(&test, &mut ListOrderedMultimap::new(&allocator));
-    a_map_is_taken(&test, &mut ListOrderedMultimap::new(test.alloc()));
+    without_memory(&test, &RefusingAllocator::new(test.alloc(), 0));
+    test.end()
+}
+
+#[test]
+fn an_empty_map_stands_in(rt: HostRuntime) -> Result<(), Failed> {
+    test_on_empty(rt.alloc(), a_map_is_taken)
+}
+
+#[test]
+fn maps_are_values_of_a_map(rt: HostRuntime) -> Result<(), Failed> {
+    let test = Test::new(rt.alloc());
     maps_are_values(&test, &mut HashMap::new(test.alloc()));
     test.end()
 }

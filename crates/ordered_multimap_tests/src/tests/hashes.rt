@@ -4,30 +4,34 @@ use ordered_multimap::list_ordered_multimap::RandomState;
 use ordered_multimap_callers::lists::{appends, inserts};
 use test_helpers::{Constant, End, Test, walk_difference};
 
-type Collided = ListOrderedMultimap<&'static str, &'static str, Constant>;
+type Collided = ListOrderedMultimap<u32, u32, Constant>;
 
-fn expect_value(test: &Test, map: &Collided, key: &'static str, value: &'static str) {
+fn expect_value(test: &Test, map: &Collided, key: u32, value: u32) {
     test.expect(map.get(&key).copied() == Some(value));
 }
 
-/// Keys of one hash are inserted.
-pub fn collided_keys_are_inserted(test: &Test, map: &mut Collided) {
-    test.expect(inserts(map, "key1", "value1", &None));
-    expect_value(test, map, "key1", "value1");
-    test.expect(inserts(map, "key2", "value2", &None));
-    expect_value(test, map, "key2", "value2");
-    expect_value(test, map, "key1", "value1");
+fn collided_keys_are_inserted(test: &Test, map: &mut Collided) {
+    test.expect(inserts(map, 1, 11, &None));
+    expect_value(test, map, 1, 11);
+    test.expect(inserts(map, 2, 12, &None));
+    expect_value(test, map, 2, 12);
+    expect_value(test, map, 1, 11);
 }
 
-/// Values of keys of one hash are appended.
-pub fn collided_values_are_appended(test: &Test, map: &mut Collided) {
+fn collided_values_are_appended(test: &Test, map: &mut Collided) {
     map.clear();
-    test.expect(appends(map, "key1", "1", false));
-    test.expect(appends(map, "key2", "2", false));
-    test.expect(appends(map, "key1", "3", true));
-    let both = [(End::Front, "1"), (End::Front, "3")];
-    test.expect_same(walk_difference(&mut map.get_all(&"key1"), &both));
-    expect_value(test, map, "key2", "2");
+    test.expect(appends(map, 1, 11, false));
+    test.expect(appends(map, 2, 12, false));
+    test.expect(appends(map, 1, 13, true));
+    let both = [(End::Front, 11), (End::Front, 13)];
+    test.expect_same(walk_difference(&mut map.get_all(&1), &both));
+    expect_value(test, map, 2, 12);
+}
+
+/// Keys of one hash are inserted, and their values are appended.
+pub fn collided_keys_come(test: &Test, map: &mut Collided) {
+    collided_keys_are_inserted(test, map);
+    collided_values_are_appended(test, map);
 }
 
 /// Keys are found by a builder with a random seed.

@@ -1,37 +1,35 @@
 //! The walk that takes a map apart, from both ends.
 use ordered_multimap::list_ordered_multimap::IntoIter;
-use ordered_multimap_callers::maps::{MIXED_TEXTS, Numbers, Texts, map_of};
+use ordered_multimap_callers::maps::{MIXED, Numbers, map_of};
 use test_helpers::{End, Test, taken, walk_difference};
 
-type Text = &'static str;
-
-type Pairs = &'static [(Text, Text)];
+type Pairs = &'static [(u32, u32)];
 
 // What a map is made of, and the walk that takes it apart. No clone of a key is refused.
-const WALKS: &[(Pairs, &[(End, Option<(Text, Text)>)])] = &[
+const WALKS: &[(Pairs, &[(End, Option<(u32, u32)>)])] = &[
     (&[], &[]),
-    (&[("key", "value")], &[(End::Front, Some(("key", "value")))]),
+    (&[(1, 11)], &[(End::Front, Some((1, 11)))]),
     (
-        MIXED_TEXTS,
+        MIXED,
         &[
-            (End::Front, Some(("key1", "value1"))),
-            (End::Back, Some(("key1", "value4"))),
-            (End::Front, Some(("key2", "value2"))),
-            (End::Back, Some(("key2", "value3"))),
+            (End::Front, Some((1, 11))),
+            (End::Back, Some((1, 14))),
+            (End::Front, Some((2, 12))),
+            (End::Back, Some((2, 13))),
         ],
     ),
     (
-        MIXED_TEXTS,
+        MIXED,
         &[
-            (End::Front, Some(("key1", "value1"))),
-            (End::Front, Some(("key2", "value2"))),
-            (End::Front, Some(("key2", "value3"))),
-            (End::Front, Some(("key1", "value4"))),
+            (End::Front, Some((1, 11))),
+            (End::Front, Some((2, 12))),
+            (End::Front, Some((2, 13))),
+            (End::Front, Some((1, 14))),
         ],
     ),
 ];
 
-fn is_taken_apart(map: Texts, wanted: &[(End, Option<(Text, Text)>)]) -> bool {
+fn is_taken_apart(map: Numbers, wanted: &[(End, Option<(u32, u32)>)]) -> bool {
     walk_difference(&mut map.into_iter(), wanted).is_none()
 }
 

@@ -1,26 +1,24 @@
 //! Walks over the keys, each with a walk over its values, from both ends.
 use ordered_multimap::list_ordered_multimap::{EntryValues, KeyValues};
-use ordered_multimap_callers::maps::{MIXED_TEXTS, Texts, refill};
+use ordered_multimap_callers::maps::{MIXED, Numbers, refill};
 use test_helpers::{End, Test, walk_difference};
 
-type Text = &'static str;
-
 // An end, how many keys are left before, and the key that is there with its values.
-type Step = (End, usize, Option<(Text, &'static [(End, Text)])>);
+type Step = (End, usize, Option<(u32, &'static [(End, u32)])>);
 
-const OUTER: &[(End, Text)] = &[(End::Front, "value1"), (End::Front, "value4")];
+const OUTER: &[(End, u32)] = &[(End::Front, 11), (End::Front, 14)];
 
-const INNER: &[(End, Text)] = &[(End::Back, "value3"), (End::Front, "value2")];
+const INNER: &[(End, u32)] = &[(End::Back, 13), (End::Front, 12)];
 
-const ONE: &[(End, Text)] = &[(End::Back, "value")];
+const ONE: &[(End, u32)] = &[(End::Back, 11)];
 
 // What a map is made of, and the walk over its keys.
-const WALKS: &[(&[(Text, Text)], &[Step])] = &[
+const WALKS: &[(&[(u32, u32)], &[Step])] = &[
     (&[], &[(End::Back, 0, None), (End::Front, 0, None)]),
     (
-        &[("key", "value")],
+        &[(1, 11)],
         &[
-            (End::Front, 1, Some(("key", ONE))),
+            (End::Front, 1, Some((1, ONE))),
             (End::Front, 0, None),
             (End::Back, 0, None),
             (End::Front, 0, None),
@@ -29,27 +27,27 @@ const WALKS: &[(&[(Text, Text)], &[Step])] = &[
         ],
     ),
     (
-        MIXED_TEXTS,
+        MIXED,
         &[
-            (End::Front, 2, Some(("key1", OUTER))),
-            (End::Back, 1, Some(("key2", INNER))),
+            (End::Front, 2, Some((1, OUTER))),
+            (End::Back, 1, Some((2, INNER))),
             (End::Front, 0, None),
             (End::Back, 0, None),
         ],
     ),
     (
-        MIXED_TEXTS,
+        MIXED,
         &[
-            (End::Front, 2, Some(("key1", OUTER))),
-            (End::Front, 1, Some(("key2", INNER))),
+            (End::Front, 2, Some((1, OUTER))),
+            (End::Front, 1, Some((2, INNER))),
             (End::Front, 0, None),
         ],
     ),
 ];
 
-type Item<'a> = (&'a Text, EntryValues<'a, Text, Text>);
+type Item<'a> = (&'a u32, EntryValues<'a, u32, u32>);
 
-fn is_item(item: Option<Item<'_>>, wanted: &Option<(Text, &[(End, Text)])>) -> bool {
+fn is_item(item: Option<Item<'_>>, wanted: &Option<(u32, &[(End, u32)])>) -> bool {
     match (item, wanted) {
         (Some((key, mut values)), Some((wanted, steps))) => {
             *key == *wanted && walk_difference(&mut values, steps).is_none()
@@ -59,38 +57,38 @@ fn is_item(item: Option<Item<'_>>, wanted: &Option<(Text, &[(End, Text)])>) -> b
     }
 }
 
-fn step_answers(walk: &mut KeyValues<'_, Text, Text>, step: &Step) -> bool {
+fn step_answers(walk: &mut KeyValues<'_, u32, u32>, step: &Step) -> bool {
     match step.0 {
         End::Front => is_item(walk.next(), &step.2),
         End::Back => is_item(walk.next_back(), &step.2),
     }
 }
 
-fn has_left(walk: &KeyValues<'_, Text, Text>, left: usize) -> bool {
+fn has_left(walk: &KeyValues<'_, u32, u32>, left: usize) -> bool {
     walk.size_hint() == (left, Some(left)) && walk.len() == left
 }
 
-fn steps_answer(test: &Test, walk: &mut KeyValues<'_, Text, Text>, steps: &[Step]) {
+fn steps_answer(test: &Test, walk: &mut KeyValues<'_, u32, u32>, steps: &[Step]) {
     for (row, step) in steps.iter().enumerate() {
         test.expect_at(row, has_left(walk, step.1));
         test.expect_at(row, step_answers(walk, step));
     }
 }
 
-fn walk_answers(test: &Test, map: &Texts, steps: &[Step]) {
+fn walk_answers(test: &Test, map: &Numbers, steps: &[Step]) {
     steps_answer(test, &mut map.pairs(), steps);
 }
 
-fn rows_answer(test: &Test, map: &mut Texts) {
+fn rows_answer(test: &Test, map: &mut Numbers) {
     for (pairs, steps) in WALKS {
         refill(test, map, pairs);
         walk_answers(test, map, steps);
     }
 }
 
-const LAST: &[Step] = &[(End::Front, 1, Some(("key2", INNER))), (End::Back, 0, None)];
+const LAST: &[Step] = &[(End::Front, 1, Some((2, INNER))), (End::Back, 0, None)];
 
-fn clone_goes_on(test: &Test, walk: &mut KeyValues<'_, Text, Text>) {
+fn clone_goes_on(test: &Test, walk: &mut KeyValues<'_, u32, u32>) {
     test.expect(walk.next().is_some());
     match walk.clone() {
         Ok(mut copy) => steps_answer(test, &mut copy, LAST),
@@ -100,8 +98,8 @@ fn clone_goes_on(test: &Test, walk: &mut KeyValues<'_, Text, Text>) {
 }
 
 /// Walks from both ends, and their clones.
-pub fn are_taken(test: &Test, map: &mut Texts) {
+pub fn are_taken(test: &Test, map: &mut Numbers) {
     rows_answer(test, map);
-    refill(test, map, MIXED_TEXTS);
+    refill(test, map, MIXED);
     clone_goes_on(test, &mut map.pairs());
 }

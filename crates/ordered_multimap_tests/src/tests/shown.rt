@@ -1,41 +1,30 @@
 //! What Debug shows of a map and of the walks for reading: all, and what is left once an item was
 //! taken.
-use ordered_multimap_callers::maps::{MIXED_TEXTS, ONE_KEY, Texts, refill};
+use ordered_multimap_callers::maps::{MIXED, MIXED_TEXTS, Numbers, Texts, refill};
 use std::alloc::Global;
 use std::fmt;
 use test_helpers::{Test, is_shown};
 
 const PAIRS: [&str; 2] = [
-    r#"Iter([("key1", "value1"), ("key2", "value2"), ("key2", "value3"), ("key1", "value4")])"#,
-    r#"Iter([("key2", "value2"), ("key2", "value3"), ("key1", "value4")])"#,
+    "Iter([(1, 11), (2, 12), (2, 13), (1, 14)])",
+    "Iter([(2, 12), (2, 13), (1, 14)])",
 ];
 
 const TAKEN_APART: [&str; 2] = [
-    r#"IntoIter([("key1", "value1"), ("key2", "value2"), ("key2", "value3"), ("key1", "value4")])"#,
-    r#"IntoIter([("key2", "value2"), ("key2", "value3"), ("key1", "value4")])"#,
+    "IntoIter([(1, 11), (2, 12), (2, 13), (1, 14)])",
+    "IntoIter([(2, 12), (2, 13), (1, 14)])",
 ];
 
-const VALUES: [&str; 2] = [
-    r#"Values(["value1", "value2", "value3", "value4"])"#,
-    r#"Values(["value2", "value3", "value4"])"#,
-];
+const VALUES: [&str; 2] = ["Values([11, 12, 13, 14])", "Values([12, 13, 14])"];
 
-const KEYS: [&str; 2] = [r#"Keys(["key1", "key2"])"#, r#"Keys(["key2"])"#];
+const KEYS: [&str; 2] = ["Keys([1, 2])", "Keys([2])"];
 
 const KEY_VALUES: [&str; 2] = [
-    concat!(
-        r#"KeyValues([("key1", EntryValues(["value1", "value4"])), "#,
-        r#"("key2", EntryValues(["value2", "value3"]))])"#
-    ),
-    r#"KeyValues([("key2", EntryValues(["value2", "value3"]))])"#,
+    "KeyValues([(1, EntryValues([11, 14])), (2, EntryValues([12, 13]))])",
+    "KeyValues([(2, EntryValues([12, 13]))])",
 ];
 
-const VALUES_OF_A_KEY: [&str; 2] = [
-    r#"EntryValues(["value1", "value2", "value3", "value4"])"#,
-    r#"EntryValues(["value2", "value3", "value4"])"#,
-];
-
-const MAP: &str = r#"{"key1": "value1", "key2": "value2", "key2": "value3", "key1": "value4"}"#;
+const VALUES_OF_A_KEY: [&str; 2] = ["EntryValues([11, 12, 13, 14])", "EntryValues([12, 13, 14])"];
 
 // Whether a walk is shown by both texts, the second one once its first item was taken.
 fn is_shown_twice<W: Iterator + fmt::Debug>(alloc: Global, walk: &mut W, texts: [&str; 2]) -> bool
@@ -51,46 +40,55 @@ where
     is_shown(alloc, walk, rest)
 }
 
-fn pairs_are_shown(alloc: Global, map: &Texts) -> bool {
+fn pairs_are_shown(alloc: Global, map: &Numbers) -> bool {
     is_shown_twice(alloc, &mut map.iter(), PAIRS)
 }
 
-fn values_are_shown(alloc: Global, map: &Texts) -> bool {
+fn values_are_shown(alloc: Global, map: &Numbers) -> bool {
     is_shown_twice(alloc, &mut map.values(), VALUES)
 }
 
-fn keys_are_shown(alloc: Global, map: &Texts) -> bool {
+fn keys_are_shown(alloc: Global, map: &Numbers) -> bool {
     is_shown_twice(alloc, &mut map.keys(), KEYS)
 }
 
-fn key_values_are_shown(alloc: Global, map: &Texts) -> bool {
+fn key_values_are_shown(alloc: Global, map: &Numbers) -> bool {
     is_shown_twice(alloc, &mut map.pairs(), KEY_VALUES)
 }
 
-fn walks_are_shown(test: &Test, map: &Texts) {
+fn walks_of_all_are_shown(test: &Test, map: &Numbers) {
     test.expect(pairs_are_shown(test.alloc(), map));
     test.expect(values_are_shown(test.alloc(), map));
     test.expect(keys_are_shown(test.alloc(), map));
     test.expect(key_values_are_shown(test.alloc(), map));
-    test.expect(is_shown(test.alloc(), map, MAP));
 }
 
-fn walk_of_a_key_is_shown(test: &Test, map: &Texts) {
-    let mut values = map.get_all(&"key");
+fn walk_of_a_key_is_shown(test: &Test, map: &Numbers) {
+    let mut values = map.get_all(&1);
     let shown = is_shown_twice(test.alloc(), &mut values, VALUES_OF_A_KEY);
     test.expect(shown);
 }
 
-/// The texts of a map and of its walks.
-pub fn are_shown(test: &Test, map: &mut Texts) {
-    refill(test, map, MIXED_TEXTS);
-    walks_are_shown(test, map);
+const ONE_KEY: &[(u32, u32)] = &[(1, 11), (1, 12), (1, 13), (1, 14)];
+
+/// The texts of a map's walks.
+pub fn walks_are_shown(test: &Test, map: &mut Numbers) {
+    refill(test, map, MIXED);
+    walks_of_all_are_shown(test, map);
     refill(test, map, ONE_KEY);
     walk_of_a_key_is_shown(test, map);
 }
 
+const MAP: &str = r#"{"key1": "value1", "key2": "value2", "key2": "value3", "key1": "value4"}"#;
+
+/// The text of a map of texts.
+pub fn map_is_shown(test: &Test, map: &mut Texts) {
+    refill(test, map, MIXED_TEXTS);
+    test.expect(is_shown(test.alloc(), map, MAP));
+}
+
 /// The texts of the walk that takes a map apart.
-pub fn is_shown_apart(test: &Test, map: Texts) {
+pub fn is_shown_apart(test: &Test, map: Numbers) {
     let mut walk = map.into_iter();
     let shown = is_shown_twice(test.alloc(), &mut walk, TAKEN_APART);
     test.expect(shown);

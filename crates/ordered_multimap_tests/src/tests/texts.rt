@@ -1,7 +1,7 @@
 //! Keys and values that are texts: what each call returns before, between and after changes.
 use ordered_multimap_callers::lists::{appends, copied, inserts};
 use ordered_multimap_callers::maps::Texts;
-use test_helpers::{End, Test, walk_difference};
+use test_helpers::Test;
 
 #[derive(Clone, Copy)]
 enum Call {
@@ -176,21 +176,9 @@ fn rows_hold(test: &Test, map: &mut Texts, rows: &[Row]) {
     }
 }
 
-fn appended_values_are_walked(test: &Test, map: &mut Texts) {
-    test.expect(map.entry_len(&"key") == 0);
-    test.expect(appends(map, "key", "value1", false));
-    test.expect(map.entry_len(&"key") == 1);
-    test.expect(appends(map, "key", "value2", true));
-    test.expect(map.entry_len(&"key") == 2);
-    let both = [(End::Front, "value1"), (End::Front, "value2")];
-    test.expect_same(walk_difference(&mut map.get_all(&"key"), &both));
-}
-
 /// What each call returns before, between and after changes.
 pub fn come_and_go(test: &Test, map: &mut Texts) {
     for rows in &[LAST_PAIR, COMES_AND_GOES, LENGTHS, LENGTH_OF_A_KEY] {
         rows_hold(test, map, rows);
     }
-    map.clear();
-    appended_values_are_walked(test, map);
 }
