@@ -1,5 +1,5 @@
-//! The tests: each makes one map and lends it to all comparisons of its type, since a map that is
-//! owned costs its proof more than all that it is lent to.
+//! The tests: each makes one map, or is lent an empty one, for all comparisons of its type, since a
+//! map that is owned costs a proof more than all that it is lent to.
 mod drain_steps;
 mod drained;
 mod examples;
@@ -12,26 +12,50 @@ mod wrappers;
 
 use crate::tests::drain_steps::{keys_are_drained, values_are_given};
 use crate::tests::drained::lists_are_final;
-use crate::tests::popped::{Alike, collided_keys_leave, key_is_lent_and_handed_out, pairs_leave};
+use crate::tests::popped::{collided_keys_leave, key_is_lent_and_handed_out, pairs_leave};
 use crate::tests::removed::keys_leave;
 use crate::tests::retained::pairs_stay;
 use ordered_multimap::ListOrderedMultimap;
-use test_helpers::{Failed, Test, ZERO, test_in_turn};
+use ordered_multimap_callers::maps::Numbers;
+use ordered_multimap_callers::tested::test_on_empty;
+use test_helpers::{Failed, Test, ZERO, test_all};
 
-#[test]
-fn pairs_of_texts_leave(rt: HostRuntime) -> Result<(), Failed> {
-    test_in_turn!(rt.alloc(), ListOrderedMultimap::new; keys_leave, key_is_lent_and_handed_out, values_are_given)
+fn numbers_leave(test: &Test, map: &mut Numbers) {
+    test.begin("removed");
+    keys_leave(test, map);
+    test.begin("popped");
+    key_is_lent_and_handed_out(test, map);
+    pairs_leave(test, map);
+    test.begin("retained");
+    pairs_stay(test, map);
 }
 
 #[test]
 fn pairs_of_numbers_leave(rt: HostRuntime) -> Result<(), Failed> {
-    test_in_turn!(rt.alloc(), ListOrderedMultimap::new; pairs_leave, pairs_stay, keys_are_drained, lists_are_final)
+    test_on_empty(rt.alloc(), numbers_leave)
+}
+
+fn numbers_are_drained(test: &Test, map: &mut Numbers) {
+    test.begin("drain_steps");
+    values_are_given(test, map);
+    keys_are_drained(test, map);
+    test.begin("drained");
+    lists_are_final(test, map);
+}
+
+#[test]
+fn pairs_of_numbers_are_drained(rt: HostRuntime) -> Result<(), Failed> {
+    test_on_empty(rt.alloc(), numbers_are_drained)
+}
+
+fn alike_keys_leave(test: &Test) {
+    collided_keys_leave(
+        test,
+        &mut ListOrderedMultimap::with_hasher(test.alloc(), ZERO),
+    );
 }
 
 #[test]
 fn keys_of_one_hash_leave(rt: HostRuntime) -> Result<(), Failed> {
-    let test = Test::new(rt.alloc());
-    let mut map: Alike = ListOrderedMultimap::with_hasher(test.alloc(), ZERO);
-    collided_keys_leave(&test, &mut map);
-    test.end()
+    test_all!(rt.alloc(); alike_keys_leave)
 }

@@ -1,17 +1,15 @@
 //! Steps of a drain: what it gives from both ends, and what it shows of the rest.
 use ordered_multimap::list_ordered_multimap::{DefaultState, EntryValuesDrain};
 use ordered_multimap_callers::lists::appends;
-use ordered_multimap_callers::maps::{Numbers, ONE_KEY, Texts, refill};
-use std::hash::Hash;
+use ordered_multimap_callers::maps::{Numbers, refill};
 use test_helpers::{End, Test, is_shown, walk_difference};
 
 /// An end, how many values are left before, and the value that is there.
-pub type Step<V> = (End, usize, Option<V>);
+pub type Step = (End, usize, Option<u32>);
 
-/// A drain of a map with the default builder.
-pub type Drain<'a, K, V> = EntryValuesDrain<'a, K, V, DefaultState>;
+type Drain<'a> = EntryValuesDrain<'a, u32, u32, DefaultState>;
 
-fn taken<K: Eq + Hash, V: Drop>(drain: &mut Drain<'_, K, V>, end: End) -> Option<V> {
+fn taken(drain: &mut Drain<'_>, end: End) -> Option<u32> {
     match end {
         End::Front => drain.next(),
         End::Back => drain.next_back(),
@@ -19,11 +17,7 @@ fn taken<K: Eq + Hash, V: Drop>(drain: &mut Drain<'_, K, V>, end: End) -> Option
 }
 
 /// Expects of each step what is left before, and what it gives.
-pub fn steps_answer<K: Eq + Hash, V: PartialEq + Copy>(
-    test: &Test,
-    drain: &mut Drain<'_, K, V>,
-    steps: &[Step<V>],
-) {
+pub fn steps_answer(test: &Test, drain: &mut Drain<'_>, steps: &[Step]) {
     for (row, (end, left, value)) in steps.iter().enumerate() {
         test.expect_at(row, drain.size_hint() == (*left, Some(*left)));
         test.expect_at(row, drain.len() == *left);
@@ -31,34 +25,34 @@ pub fn steps_answer<K: Eq + Hash, V: PartialEq + Copy>(
     }
 }
 
-type Text = &'static str;
+const ONE_KEY: &[(u32, u32)] = &[(1, 11), (1, 12), (1, 13), (1, 14)];
 
 // What a map is made of, and the steps of a drain of its key's values until none is left.
-const DRAINS: &[(&[(Text, Text)], &[Step<Text>])] = &[
+const DRAINS: &[(&[(u32, u32)], &[Step])] = &[
     (&[], &[(End::Back, 0, None), (End::Front, 0, None)]),
-    (&[("key", "value")], &[(End::Front, 1, Some("value"))]),
+    (&[(1, 11)], &[(End::Front, 1, Some(11))]),
     (
         ONE_KEY,
         &[
-            (End::Front, 4, Some("value1")),
-            (End::Back, 3, Some("value4")),
-            (End::Front, 2, Some("value2")),
-            (End::Back, 1, Some("value3")),
+            (End::Front, 4, Some(11)),
+            (End::Back, 3, Some(14)),
+            (End::Front, 2, Some(12)),
+            (End::Back, 1, Some(13)),
         ],
     ),
     (
         ONE_KEY,
         &[
-            (End::Front, 4, Some("value1")),
-            (End::Front, 3, Some("value2")),
-            (End::Front, 2, Some("value3")),
-            (End::Front, 1, Some("value4")),
+            (End::Front, 4, Some(11)),
+            (End::Front, 3, Some(12)),
+            (End::Front, 2, Some(13)),
+            (End::Front, 1, Some(14)),
         ],
     ),
 ];
 
 // Further steps at either end give nothing.
-const NO_MORE: &[Step<Text>] = &[
+const NO_MORE: &[Step] = &[
     (End::Front, 0, None),
     (End::Back, 0, None),
     (End::Front, 0, None),
@@ -66,48 +60,49 @@ const NO_MORE: &[Step<Text>] = &[
     (End::Front, 0, None),
 ];
 
-fn all_is_given(test: &Test, drain: &mut Drain<'_, Text, Text>, steps: &[Step<Text>]) {
+fn all_is_given(test: &Test, drain: &mut Drain<'_>, steps: &[Step]) {
     steps_answer(test, drain, steps);
     steps_answer(test, drain, NO_MORE);
 }
 
-fn is_drained(test: &Test, map: &mut Texts, steps: &[Step<Text>]) {
-    all_is_given(test, &mut map.remove_all(&"key"), steps);
+fn is_drained(test: &Test, map: &mut Numbers, steps: &[Step]) {
+    all_is_given(test, &mut map.remove_all(&1), steps);
     test.expect(map.is_empty());
 }
 
-const ENDS: &[Step<Text>] = &[
-    (End::Front, 4, Some("value1")),
-    (End::Back, 3, Some("value4")),
-];
+const ENDS: &[Step] = &[(End::Front, 4, Some(11)), (End::Back, 3, Some(14))];
 
-const REST: &[Step<Text>] = &[
-    (End::Front, 2, Some("value2")),
-    (End::Back, 1, Some("value3")),
+const REST: &[Step] = &[
+    (End::Front, 2, Some(12)),
+    (End::Back, 1, Some(13)),
     (End::Front, 0, None),
     (End::Back, 0, None),
 ];
 
-const ALL_SHOWN: &str = r#"EntryValuesDrain(["value1", "value2", "value3", "value4"])"#;
+const ALL_SHOWN: &str = "EntryValuesDrain([11, 12, 13, 14])";
 
-const REST_SHOWN: &str = r#"EntryValuesDrain(["value2", "value3"])"#;
+const REST_SHOWN: &str = "EntryValuesDrain([12, 13])";
 
 // A walk shows what is left, and so does Debug.
-fn rest_is_shown(test: &Test, drain: &mut Drain<'_, Text, Text>) {
-    test.expect(is_shown(test.alloc(), drain, ALL_SHOWN));
-    steps_answer(test, drain, ENDS);
-    let rest = [(End::Front, "value2"), (End::Front, "value3")];
+fn two_are_left(test: &Test, drain: &Drain<'_>) {
+    let rest = [(End::Front, 12), (End::Front, 13)];
     test.expect_same(walk_difference(&mut drain.iter(), &rest));
     test.expect(is_shown(test.alloc(), drain, REST_SHOWN));
+}
+
+fn rest_is_shown(test: &Test, drain: &mut Drain<'_>) {
+    test.expect(is_shown(test.alloc(), drain, ALL_SHOWN));
+    steps_answer(test, drain, ENDS);
+    two_are_left(test, drain);
     steps_answer(test, drain, REST);
 }
 
-fn drain_is_shown(test: &Test, map: &mut Texts) {
-    rest_is_shown(test, &mut map.remove_all(&"key"));
+fn drain_is_shown(test: &Test, map: &mut Numbers) {
+    rest_is_shown(test, &mut map.remove_all(&1));
 }
 
 /// Drains give their values from both ends, and show what is left.
-pub fn values_are_given(test: &Test, map: &mut Texts) {
+pub fn values_are_given(test: &Test, map: &mut Numbers) {
     for (pairs, steps) in DRAINS {
         refill(test, map, pairs);
         is_drained(test, map, steps);
@@ -116,9 +111,9 @@ pub fn values_are_given(test: &Test, map: &mut Texts) {
     drain_is_shown(test, map);
 }
 
-const NO_VALUE: &[Step<u32>] = &[(End::Front, 0, None)];
+const NO_VALUE: &[Step] = &[(End::Front, 0, None)];
 
-const BOTH: &[Step<u32>] = &[
+const BOTH: &[Step] = &[
     (End::Front, 2, Some(1)),
     (End::Front, 1, Some(2)),
     (End::Front, 0, None),
@@ -142,15 +137,19 @@ fn entry_is_removed(test: &Test, map: &mut Numbers) {
     }
 }
 
-fn entries_are_removed(test: &Test, map: &mut Numbers) {
-    test.expect(map.remove_entry_all(&5).is_none());
-    test.expect(appends(map, 5, 1, false));
-    test.expect(appends(map, 5, 2, true));
-    entry_is_removed(test, map);
+fn no_entry_is_removed(test: &Test, map: &mut Numbers) {
     test.expect(map.remove_entry_all(&5).is_none());
 }
 
-fn is_replaced(test: &Test, map: &mut Numbers, value: u32, old: &[Step<u32>]) {
+fn entries_are_removed(test: &Test, map: &mut Numbers) {
+    no_entry_is_removed(test, map);
+    test.expect(appends(map, 5, 1, false));
+    test.expect(appends(map, 5, 2, true));
+    entry_is_removed(test, map);
+    no_entry_is_removed(test, map);
+}
+
+fn is_replaced(test: &Test, map: &mut Numbers, value: u32, old: &[Step]) {
     match map.insert_all(5, value) {
         Ok(mut drain) => steps_answer(test, &mut drain, old),
         Err(_) => test.fail(),

@@ -3,7 +3,8 @@
 use ordered_multimap::ListOrderedMultimap;
 use ordered_multimap_callers::lists::{appends, has_lists, has_pairs, inserts};
 use ordered_multimap_callers::maps::fill;
-use test_helpers::{Failed, Test, test_in_turn};
+use ordered_multimap_callers::tested::test_on_empty;
+use test_helpers::{Failed, Test};
 
 type Texts = ListOrderedMultimap<&'static str, i64>;
 
@@ -33,17 +34,26 @@ fn add(map: &mut Texts, key: &'static str, value: i64, appended: bool) -> bool {
     }
 }
 
-fn values_below_zero_go(test: &Test, map: &mut Texts) {
-    map.clear();
+fn add_all(test: &Test, map: &mut Texts) {
     for (row, (key, value, appended)) in ADDED.iter().enumerate() {
         test.expect_at(row, add(map, key, *value, *appended));
     }
+}
+
+fn values_below_zero_go(test: &Test, map: &mut Texts) {
+    map.clear();
+    add_all(test, map);
     map.retain(|_key, value| *value >= 0);
     let kept = [("key1", 1), ("key2", 5), ("key4", 1), ("key4", 1)];
     test.expect(has_pairs(map, &kept));
 }
 
+fn texts_stay(test: &Test, map: &mut Texts) {
+    page_goes(test, map);
+    values_below_zero_go(test, map);
+}
+
 #[test]
 fn texts_stay_by_their_values(rt: HostRuntime) -> Result<(), Failed> {
-    test_in_turn!(rt.alloc(), ListOrderedMultimap::new; page_goes, values_below_zero_go)
+    test_on_empty(rt.alloc(), texts_stay)
 }

@@ -2,7 +2,7 @@
 use ordered_multimap::ListOrderedMultimap;
 use ordered_multimap::list_ordered_multimap::KeyWrapper;
 use ordered_multimap_callers::lists::{appends, has_lists, inserts};
-use ordered_multimap_callers::maps::{Numbers, Texts, refill};
+use ordered_multimap_callers::maps::{Numbers, refill};
 use ordered_multimap_callers::undone::append_and_pop;
 use std::hash::BuildHasher;
 use test_helpers::{Constant, End, Test, walk_difference};
@@ -49,14 +49,12 @@ fn all_leave(test: &Test, map: &mut Numbers, end: End, pops: &[Popped]) {
 }
 
 /// The last value takes its key with it.
-pub fn key_is_lent_and_handed_out(test: &Test, map: &mut Texts) {
+pub fn key_is_lent_and_handed_out(test: &Test, map: &mut Numbers) {
     map.clear();
-    test.expect(inserts(map, "key", "value1", &None));
-    test.expect(appends(map, "key", "value2", true));
-    let lent = Some((KeyWrapper::Borrowed(&"key"), "value2"));
-    test.expect(map.pop_back() == lent);
-    let owned = Some((KeyWrapper::Owned("key"), "value1"));
-    test.expect(map.pop_back() == owned);
+    test.expect(inserts(map, 1, 11, &None));
+    test.expect(appends(map, 1, 12, true));
+    test.expect(pop(map, End::Back) == Some((false, 1, 12)));
+    test.expect(pop(map, End::Back) == Some((true, 1, 11)));
 }
 
 // What is appended and popped again leaves the map as it was.
@@ -91,11 +89,13 @@ fn append_two_each(test: &Test, map: &mut Alike) {
     }
 }
 
-// Where all hashes are equal, half of the keys leave, and then the first pair of the others.
 fn half_leave(test: &Test, map: &mut Alike) {
     for half in 0..100u32 {
         test.expect(map.remove(&(half * 2)) == Some(half * 2));
     }
+}
+
+fn half_is_left(test: &Test, map: &mut Alike) {
     test.expect(map.keys_len() == 100);
     test.expect(map.values_len() == 200);
     let both = [(End::Front, 1), (End::Front, 1001)];
@@ -103,8 +103,9 @@ fn half_leave(test: &Test, map: &mut Alike) {
     test.expect(pop(map, End::Front) == Some((false, 1, 1)));
 }
 
-/// Half of the keys leave where all hashes are equal.
+/// Where all hashes are equal, half of the keys leave, and then the first pair of the others.
 pub fn collided_keys_leave(test: &Test, map: &mut Alike) {
     append_two_each(test, map);
     half_leave(test, map);
+    half_is_left(test, map);
 }
