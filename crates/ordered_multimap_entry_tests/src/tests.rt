@@ -1,35 +1,44 @@
-//! The tests: each makes one map and lends it to all comparisons of its type, since a map that is
-//! owned costs its proof more than all that it is lent to.
+//! The tests: each makes one map, or is lent an empty one, for all comparisons of its type, since a
+//! map that is owned costs a proof more than all that it is lent to.
 mod called;
 mod entries;
 mod examples;
+mod firsts;
 mod taken;
-mod texts;
 
 use crate::tests::called::callers_answer;
 use crate::tests::entries::{entries_are_filled, functions_are_called_once, values_are_replaced};
 use crate::tests::examples::{examples_of_numbers_hold, examples_of_texts_hold};
+use crate::tests::firsts::{keys_are_entered, values_are_counted};
 use crate::tests::taken::{one_of_many_is_taken, values_are_taken};
-use crate::tests::texts::{keys_are_entered, values_are_counted};
 use ordered_multimap::ListOrderedMultimap;
+use ordered_multimap_callers::maps::Numbers;
 use ordered_multimap_callers::test_refusing;
+use ordered_multimap_callers::tested::test_on_empty;
 use refusing_allocator::RefusingAllocator;
-use test_helpers::{Failed, Test, test_in_turn};
+use test_helpers::{Failed, Test};
 
 #[test]
 fn texts_are_entered(rt: HostRuntime) -> Result<(), Failed> {
-    test_in_turn!(rt.alloc(), ListOrderedMultimap::new; keys_are_entered)
+    test_on_empty(rt.alloc(), examples_of_texts_hold)
 }
 
-#[test]
-fn counts_are_entered(rt: HostRuntime) -> Result<(), Failed> {
-    test_in_turn!(rt.alloc(), ListOrderedMultimap::new; values_are_counted, examples_of_texts_hold)
+fn entries_answer(test: &Test, map: &mut Numbers) {
+    test.begin("firsts");
+    keys_are_entered(test, map);
+    values_are_counted(test, map);
+    test.begin("entries");
+    entries_are_filled(test, map);
+    functions_are_called_once(test, map);
+    test.begin("examples");
+    examples_of_numbers_hold(test, map);
+    test.begin("called");
+    callers_answer(test, map);
 }
 
 #[test]
 fn numbers_are_entered(rt: HostRuntime) -> Result<(), Failed> {
-    test_in_turn!(rt.alloc(), ListOrderedMultimap::new;
-        entries_are_filled, functions_are_called_once, callers_answer, examples_of_numbers_hold)
+    test_on_empty(rt.alloc(), entries_answer)
 }
 
 #[test]
