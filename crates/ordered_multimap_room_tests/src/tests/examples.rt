@@ -2,6 +2,7 @@
 //! line of theirs stands here.
 use ordered_multimap::ListOrderedMultimap;
 use ordered_multimap::list_ordered_multimap::DefaultState;
+use ordered_multimap_callers::tested::test_on_empty;
 use std::alloc::{AllocError, Global};
 use test_helpers::{Failed, Test};
 
@@ -49,12 +50,14 @@ fn is_extended(test: &Test, map: &mut Numbers, other: &Numbers) {
     test.expect(map.back() == Some((&"page", &8)));
 }
 
-#[test]
-fn examples_of_many_pairs_hold(rt: HostRuntime) -> Result<(), Failed> {
-    let test = Test::new(rt.alloc());
+fn many_pairs_come(test: &Test, map: &mut Numbers) {
     match made_of_two(test.alloc()) {
-        Ok(other) => is_extended(&test, &mut ListOrderedMultimap::new(test.alloc()), &other),
+        Ok(other) => is_extended(test, map, &other),
         Err(_) => test.fail(),
     }
-    test.end()
+}
+
+#[test]
+fn examples_of_many_pairs_hold(rt: HostRuntime) -> Result<(), Failed> {
+    test_on_empty(rt.alloc(), many_pairs_come)
 }

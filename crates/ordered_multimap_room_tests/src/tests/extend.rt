@@ -3,38 +3,43 @@ use crate::tests::iterators::Hinted;
 use ordered_multimap::ListOrderedMultimap;
 use ordered_multimap::list_ordered_multimap::DefaultState;
 use ordered_multimap_callers::lists::has_pairs;
-use ordered_multimap_callers::maps::{Numbers, Texts};
+use ordered_multimap_callers::maps::Numbers;
 use test_helpers::{End, Test, walk_difference};
 
-const TEXTS: &[(&str, &str)] = &[("key1", "value1"), ("key2", "value2"), ("key2", "value3")];
+const THREE: &[(u32, u32)] = &[(1, 11), (2, 12), (2, 13)];
 
-fn has_texts(test: &Test, map: &Texts) {
-    let one = [(End::Front, "value1")];
-    test.expect_same(walk_difference(&mut map.get_all(&"key1"), &one));
-    let two = [(End::Front, "value2"), (End::Front, "value3")];
-    test.expect_same(walk_difference(&mut map.get_all(&"key2"), &two));
+fn has_both(test: &Test, map: &Numbers) {
+    let one = [(End::Front, 11)];
+    test.expect_same(walk_difference(&mut map.get_all(&1), &one));
+    let two = [(End::Front, 12), (End::Front, 13)];
+    test.expect_same(walk_difference(&mut map.get_all(&2), &two));
 }
 
-/// Texts are appended in turn.
-pub fn texts_are_appended(test: &Test, map: &mut Texts) {
+/// Pairs are appended in turn.
+pub fn pairs_are_appended(test: &Test, map: &mut Numbers) {
     map.clear();
-    test.expect(map.extend(TEXTS.iter().copied()) == Ok(()));
-    has_texts(test, map);
+    test.expect(map.extend(THREE.iter().copied()) == Ok(()));
+    has_both(test, map);
 }
 
-/// Copies of the pairs (1, 1), (2, 1) and (2, 2) are appended in turn.
-pub fn copies_are_appended(test: &Test, map: &mut Numbers, other: &Numbers) {
-    test.expect(map.extend_copied(other.iter()) == Ok(()));
+fn has_copies(test: &Test, map: &Numbers) {
     let one = [(End::Front, 1)];
     test.expect_same(walk_difference(&mut map.get_all(&1), &one));
     let two = [(End::Front, 1), (End::Front, 2)];
     test.expect_same(walk_difference(&mut map.get_all(&2), &two));
 }
 
+/// Copies of the pairs (1, 1), (2, 1) and (2, 2) are appended in turn.
+pub fn copies_are_appended(test: &Test, map: &mut Numbers, other: &Numbers) {
+    map.clear();
+    test.expect(map.extend_copied(other.iter()) == Ok(()));
+    has_copies(test, map);
+}
+
 /// Maps are made of pairs.
 pub fn maps_are_made(test: &Test) {
-    match ListOrderedMultimap::from_iter(test.alloc(), DefaultState::new(), TEXTS.iter().copied()) {
-        Ok(map) => has_texts(test, &map),
+    match ListOrderedMultimap::from_iter(test.alloc(), DefaultState::new(), THREE.iter().copied()) {
+        Ok(map) => has_both(test, &map),
         Err(_) => test.fail(),
     }
 }

@@ -1,7 +1,7 @@
 //! Maps that are packed: their pairs stay, in less room or more.
 use ordered_multimap::ListOrderedMultimap;
 use ordered_multimap_callers::lists::{has_lists, has_room};
-use ordered_multimap_callers::maps::{MIXED_TEXTS, Texts, fill};
+use ordered_multimap_callers::maps::{MIXED, Numbers, fill};
 use std::alloc::Allocator;
 use std::hash::{BuildHasher, Hash};
 use test_helpers::Test;
@@ -20,16 +20,16 @@ pub fn pack_to<K: Eq + Hash + Drop, V: Drop, S: BuildHasher, A: Allocator + Copy
     map.pack_to(keys, values).is_ok()
 }
 
-fn has_texts(map: &Texts, keys: usize, values: usize) -> bool {
-    has_room(map, keys, values) && has_lists(map, MIXED_TEXTS, &["key1", "key2"])
+fn is_mixed_in(map: &Numbers, keys: usize, values: usize) -> bool {
+    has_room(map, keys, values) && has_lists(map, MIXED, &[1, 2])
 }
 
-/// Texts are packed where there is room for ten.
-pub fn texts_are_packed(test: &Test, map: &mut Texts) {
-    fill(test, map, MIXED_TEXTS);
-    test.expect(has_texts(map, 10, 10));
+/// Pairs are packed where there is room for ten.
+pub fn pairs_are_packed(test: &Test, map: &mut Numbers) {
+    fill(test, map, MIXED);
+    test.expect(is_mixed_in(map, 10, 10));
     test.expect(pack_to(test, map, 5, 5));
-    test.expect(has_texts(map, 5, 5));
+    test.expect(is_mixed_in(map, 5, 5));
     test.expect(map.pack_to_fit().is_ok());
-    test.expect(has_texts(map, 2, 4));
+    test.expect(is_mixed_in(map, 2, 4));
 }

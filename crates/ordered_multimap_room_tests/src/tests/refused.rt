@@ -70,12 +70,22 @@ fn tries(test: &Test, map: &mut Refusing<'_>, call: Try, other: &Numbers) -> boo
 
 fn tries_with(test: &Test, granted: u64, call: Try, other: &Numbers) -> bool {
     let allocator = RefusingAllocator::unlimited(test.alloc());
-    let mut map = ListOrderedMultimap::new(&allocator);
-    prepare(test, &mut map, call);
-    allocator.grant(granted);
-    let enough = tries(test, &mut map, call, other);
+    let enough = tries_on(test, &allocator, granted, call, other);
     test.expect(enough || allocator.refused());
     enough
+}
+
+fn tries_on(
+    test: &Test,
+    allocator: &RefusingAllocator,
+    granted: u64,
+    call: Try,
+    other: &Numbers,
+) -> bool {
+    let mut map = ListOrderedMultimap::new(allocator);
+    prepare(test, &mut map, call);
+    allocator.grant(granted);
+    tries(test, &mut map, call, other)
 }
 
 fn all_are_tried(test: &Test, other: &Numbers) {

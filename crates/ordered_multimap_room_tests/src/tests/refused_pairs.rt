@@ -50,9 +50,12 @@ pub fn extend_copied(test: &Test, map: &mut Refusing<'_>, other: &Numbers) -> bo
 
 /// Makes a map. A refused pair comes back, and those behind it are left in the iterator.
 pub fn from_iter_with(test: &Test, granted: u64) -> bool {
-    let allocator = RefusingAllocator::new(test.alloc(), granted);
+    from_iter_of(test, &RefusingAllocator::new(test.alloc(), granted))
+}
+
+fn from_iter_of(test: &Test, allocator: &RefusingAllocator) -> bool {
     let mut pairs = PAIRS.iter().copied();
-    match ListOrderedMultimap::from_iter(&allocator, DefaultState::new(), &mut pairs) {
+    match ListOrderedMultimap::from_iter(allocator, DefaultState::new(), &mut pairs) {
         Ok(map) => {
             test.expect(has_lists(&map, PAIRS, KEYS));
             true

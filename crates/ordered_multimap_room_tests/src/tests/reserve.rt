@@ -1,7 +1,7 @@
 //! Room that is asked for ahead, and what needs no memory then.
 use ordered_multimap::list_ordered_multimap::KeyWrapper;
 use ordered_multimap_callers::lists::{appends, has_lists, has_room, inserts};
-use ordered_multimap_callers::maps::{Refusing, Texts, reserve, reserve_anew};
+use ordered_multimap_callers::maps::{Numbers, Refusing, reserve, reserve_anew};
 use refusing_allocator::RefusingAllocator;
 use test_helpers::Test;
 
@@ -56,8 +56,10 @@ pub fn room_is_used(test: &Test, allocator: &RefusingAllocator, map: &mut Refusi
 }
 
 /// Room comes with a pair, and with a call that asks for it.
-pub fn room_grows(test: &Test, map: &mut Texts) {
-    test.expect(inserts(map, "key", "value", &None));
+pub fn room_grows(test: &Test, map: &mut Numbers) {
+    map.clear();
+    test.expect(map.pack_to_fit().is_ok());
+    test.expect(inserts(map, 1, 11, &None));
     test.expect(has_room(map, 1, 1));
     map.clear();
     test.expect(map.reserve_keys(5).is_ok());
