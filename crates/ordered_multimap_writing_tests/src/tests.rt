@@ -1,5 +1,5 @@
-//! The tests: each makes one map and lends it to all comparisons of its type, since a map that is
-//! owned costs its proof more than all that it is lent to.
+//! The tests: each makes one map, or is lent an empty one, for all comparisons of its type, since a
+//! map that is owned costs a proof more than all that it is lent to.
 mod ended;
 mod examples;
 mod keys;
@@ -16,17 +16,27 @@ use crate::tests::shown::walks_are_shown;
 use crate::tests::unread::one_key_is_written;
 use crate::tests::updated::values_are_updated;
 use crate::tests::walks::values_are_lent_once;
-use ordered_multimap::ListOrderedMultimap;
-use test_helpers::{Failed, Test, test_in_turn};
+use ordered_multimap_callers::maps::Numbers;
+use ordered_multimap_callers::tested::test_on_empty;
+use test_helpers::{Failed, Test};
 
-#[test]
-fn values_are_written_by_walks(rt: HostRuntime) -> Result<(), Failed> {
-    test_in_turn!(rt.alloc(), ListOrderedMultimap::new;
-        values_are_lent_once, keys_lend_their_values, one_key_is_written, walks_have_left,
-        values_are_updated, walks_leave_values)
+fn numbers_are_written(test: &Test, map: &mut Numbers) {
+    test.begin("walks");
+    values_are_lent_once(test, map);
+    test.begin("keys");
+    keys_lend_their_values(test, map);
+    one_key_is_written(test, map);
+    test.begin("rest");
+    walks_have_left(test, map);
+    test.begin("updated");
+    values_are_updated(test, map);
+    test.begin("ended");
+    walks_leave_values(test, map);
+    test.begin("shown");
+    walks_are_shown(test, map);
 }
 
 #[test]
-fn walks_over_texts_are_shown(rt: HostRuntime) -> Result<(), Failed> {
-    test_in_turn!(rt.alloc(), ListOrderedMultimap::new; walks_are_shown)
+fn values_are_written_by_walks(rt: HostRuntime) -> Result<(), Failed> {
+    test_on_empty(rt.alloc(), numbers_are_written)
 }

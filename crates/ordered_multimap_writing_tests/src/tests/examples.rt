@@ -3,7 +3,8 @@
 use ordered_multimap::ListOrderedMultimap;
 use ordered_multimap::list_ordered_multimap::Entry;
 use ordered_multimap_callers::lists::has_pairs;
-use test_helpers::{Failed, Test, test_in_turn};
+use ordered_multimap_callers::tested::test_on_empty;
+use test_helpers::{Failed, Test};
 
 type Numbers = ListOrderedMultimap<&'static str, u32>;
 
@@ -72,6 +73,10 @@ fn all_are_written(test: &Test, map: &mut Numbers) {
         *value = 7;
     }
     test.expect(map.get(&"page") == Some(&7));
+}
+
+// All values are 7 before.
+fn values_of_a_key_are_written(test: &Test, map: &mut Numbers) {
     for value in map.get_all_mut("line") {
         *value = 9;
     }
@@ -100,8 +105,16 @@ fn values_are_updated(test: &Test, map: &mut Numbers) {
     test.expect(one);
 }
 
+fn texts_are_written(test: &Test, map: &mut Numbers) {
+    last_is_written(test, map);
+    keys_are_written(test, map);
+    all_are_written(test, map);
+    values_of_a_key_are_written(test, map);
+    entry_is_written(test, map);
+    values_are_updated(test, map);
+}
+
 #[test]
 fn examples_hold(rt: HostRuntime) -> Result<(), Failed> {
-    test_in_turn!(rt.alloc(), ListOrderedMultimap::new;
-        last_is_written, keys_are_written, all_are_written, entry_is_written, values_are_updated)
+    test_on_empty(rt.alloc(), texts_are_written)
 }

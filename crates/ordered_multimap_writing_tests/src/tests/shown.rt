@@ -1,15 +1,13 @@
 //! The Debug texts of walks for writing, and of what they have left: all, and what is left once an
 //! item was taken.
-use ordered_multimap_callers::maps::{MIXED_TEXTS, ONE_KEY, Texts, fill, refill};
+use ordered_multimap_callers::maps::{MIXED, Numbers, refill};
 use test_helpers::{Test, is_shown};
 
-const PAIRS: &str =
-    r#"IterMut([("key1", "value1"), ("key2", "value2"), ("key2", "value3"), ("key1", "value4")])"#;
+const PAIRS: &str = "IterMut([(1, 11), (2, 12), (2, 13), (1, 14)])";
 
-const PAIRS_LEFT: &str =
-    r#"IterRest([("key2", "value2"), ("key2", "value3"), ("key1", "value4")])"#;
+const PAIRS_LEFT: &str = "IterRest([(2, 12), (2, 13), (1, 14)])";
 
-fn pairs_are_shown(test: &Test, map: &mut Texts) {
+fn pairs_are_shown(test: &Test, map: &mut Numbers) {
     let mut walk = map.iter_mut();
     test.expect(is_shown(test.alloc(), &walk, PAIRS));
     test.expect(walk.next().is_some());
@@ -17,11 +15,11 @@ fn pairs_are_shown(test: &Test, map: &mut Texts) {
     test.expect(left);
 }
 
-const VALUES: &str = r#"ValuesMut(["value1", "value2", "value3", "value4"])"#;
+const VALUES: &str = "ValuesMut([11, 12, 13, 14])";
 
-const VALUES_LEFT: &str = r#"ValuesRest(["value2", "value3", "value4"])"#;
+const VALUES_LEFT: &str = "ValuesRest([12, 13, 14])";
 
-fn values_are_shown(test: &Test, map: &mut Texts) {
+fn values_are_shown(test: &Test, map: &mut Numbers) {
     let mut walk = map.values_mut();
     test.expect(is_shown(test.alloc(), &walk, VALUES));
     test.expect(walk.next().is_some());
@@ -29,35 +27,34 @@ fn values_are_shown(test: &Test, map: &mut Texts) {
     test.expect(left);
 }
 
-const VALUES_OF_A_KEY: &str = r#"EntryValuesMut(["value1", "value2", "value3", "value4"])"#;
+const VALUES_OF_A_KEY: &str = "EntryValuesMut([11, 12, 13, 14])";
 
-const LEFT_OF_A_KEY: &str = r#"EntryValuesRest(["value2", "value3", "value4"])"#;
+const LEFT_OF_A_KEY: &str = "EntryValuesRest([12, 13, 14])";
 
-fn values_of_a_key_are_shown(test: &Test, map: &mut Texts) {
-    let mut walk = map.get_all_mut(&"key");
+fn values_of_a_key_are_shown(test: &Test, map: &mut Numbers) {
+    let mut walk = map.get_all_mut(&1);
     test.expect(is_shown(test.alloc(), &walk, VALUES_OF_A_KEY));
     test.expect(walk.next().is_some());
     let left = is_shown(test.alloc(), &walk.iter(), LEFT_OF_A_KEY);
     test.expect(left);
 }
 
-const KEYS: &str = concat!(
-    r#"KeyValuesMut([("key1", EntryValues(["value1", "value4"])), "#,
-    r#"("key2", EntryValues(["value2", "value3"]))])"#
-);
+const KEYS: &str = "KeyValuesMut([(1, EntryValues([11, 14])), (2, EntryValues([12, 13]))])";
 
-const KEY_LEFT: &str = r#"KeyValuesMut([("key2", EntryValues(["value2", "value3"]))])"#;
+const KEY_LEFT: &str = "KeyValuesMut([(2, EntryValues([12, 13]))])";
 
-fn keys_are_shown(test: &Test, map: &mut Texts) {
+fn keys_are_shown(test: &Test, map: &mut Numbers) {
     let mut walk = map.pairs_mut();
     test.expect(is_shown(test.alloc(), &walk, KEYS));
     test.expect(walk.next().is_some());
     test.expect(is_shown(test.alloc(), &walk, KEY_LEFT));
 }
 
-/// Walks over texts are shown.
-pub fn walks_are_shown(test: &Test, map: &mut Texts) {
-    fill(test, map, MIXED_TEXTS);
+const ONE_KEY: &[(u32, u32)] = &[(1, 11), (1, 12), (1, 13), (1, 14)];
+
+/// Walks are shown.
+pub fn walks_are_shown(test: &Test, map: &mut Numbers) {
+    refill(test, map, MIXED);
     pairs_are_shown(test, map);
     values_are_shown(test, map);
     keys_are_shown(test, map);
