@@ -8,7 +8,7 @@ use set_ordered_multimap::SetOrderedMultimap;
 use set_ordered_multimap::laws::{changes_keep_sets, insertions_keep_first_pairs};
 use std::alloc::{AllocError, Global};
 use std::hash::BuildHasher;
-use test_helpers::{Failed, Test, is_shown, test_in_turn};
+use test_helpers::{Failed, Test, is_shown, test_all, test_in_turn};
 
 type Texts = SetOrderedMultimap<&'static str, &'static str>;
 
@@ -60,8 +60,11 @@ fn walks_return(test: &Test, set: &Texts) {
 }
 
 fn clone_returns(set: &Texts) -> Result<bool, AllocError> {
-    let copy = set.clone()?;
-    Ok(copy == *set && copy.values_len() == 3)
+    Ok(set.clone()?.values_len() == 3)
+}
+
+fn clone_is_equal(set: &Texts) -> Result<bool, AllocError> {
+    Ok(*set == set.clone()?)
 }
 
 fn into_iter_returns(test: &Test, mut set: Texts) {
@@ -134,6 +137,7 @@ fn from_iter_returns(alloc: Global) -> Result<Texts, AllocError> {
 fn many_are_inserted(test: &Test, set: &mut Texts) {
     test.expect(extend_returns(set).is_ok());
     test.expect(clone_returns(set) == Ok(true));
+    test.expect(clone_is_equal(set) == Ok(true));
     match from_iter_returns(test.alloc()) {
         Ok(made) => test.expect(has_lists(&made, PAIRS, &["plan", "note"])),
         Err(_) => test.fail(),
@@ -148,18 +152,26 @@ fn reads_hold(test: &Test, set: &mut Texts) {
     test.expect(set.insert("plan", "draft") == Ok(false));
 }
 
-fn texts_are_inserted(test: &Test, set: &mut Texts) {
-    set.clear();
-    many_are_inserted(test, set);
-    into_iter_returns(
+fn a_set_is_read(test: &Test) {
+    let alloc = test.alloc();
+    reads_hold(test, &mut SetOrderedMultimap::new(alloc));
+}
+
+fn many_come_to_a_set(test: &Test) {
+    let alloc = test.alloc();
+    many_are_inserted(
         test,
-        SetOrderedMultimap::with_hasher(test.alloc(), DefaultState::new()),
+        &mut SetOrderedMultimap::with_hasher(alloc, DefaultState::new()),
     );
+}
+
+fn a_set_is_taken_apart(test: &Test) {
+    into_iter_returns(test, SetOrderedMultimap::new(test.alloc()));
 }
 
 #[test]
 fn texts_are_read(rt: HostRuntime) -> Result<(), Failed> {
-    test_in_turn!(rt.alloc(), SetOrderedMultimap::new; reads_hold, texts_are_inserted)
+    test_all!(rt.alloc(); a_set_is_read, many_come_to_a_set, a_set_is_taken_apart)
 }
 
 fn changes_hold(test: &Test, set: &mut Texts) {
