@@ -6,11 +6,22 @@ use std::alloc::AllocError;
 /// The values of each group, in the order of the lines. Groups are named by the input's own text.
 pub type Values<'t> = ListOrderedMultimap<&'t str, i64>;
 
+/// The input as a text, or the line at which it isn't UTF-8.
+pub fn text_of(input: &[u8]) -> Result<&str, Fault<'_>> {
+    match str::from_utf8(input) {
+        Ok(text) => Ok(text),
+        Err(error) => {
+            let before = input.iter().take(error.valid_up_to());
+            let ended = before.filter(|byte| **byte == b'\n').count();
+            Err(Fault::Line(ended.saturating_add(1)))
+        }
+    }
+}
+
 /// Reads the values of all lines into `values`, and returns the bound, if the first line has one.
-pub fn read_values<'t>(values: &mut Values<'t>, input: &'t [u8]) -> Result<Option<i64>, Fault<'t>> {
+pub fn read_values<'t>(values: &mut Values<'t>, text: &'t str) -> Result<Option<i64>, Fault<'t>> {
     let mut bound = None;
-    for (index, line) in input.split(|byte| *byte == b'\n').enumerate() {
-        let line = line.strip_suffix(b"\r").unwrap_or(line);
+    for (index, line) in text.lines().enumerate() {
         match parse_line(line) {
             _ if line.is_empty() => {}
             Some(("bound", least)) if index == 0 => bound = Some(least),
@@ -24,8 +35,8 @@ pub fn read_values<'t>(values: &mut Values<'t>, input: &'t [u8]) -> Result<Optio
 }
 
 /// The group and the value on a line.
-fn parse_line(line: &[u8]) -> Option<(&str, i64)> {
-    let (group, value) = str::from_utf8(line).ok()?.split_once(' ')?;
+fn parse_line(line: &str) -> Option<(&str, i64)> {
+    let (group, value) = line.split_once(' ')?;
     if group.is_empty() {
         return None;
     }

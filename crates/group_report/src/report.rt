@@ -2,7 +2,7 @@
 ghost use Rattle.std.specs.Prelude.{◌≡◌, length, IfSome};
 
 use crate::Fault;
-use crate::read::{Values, read_values};
+use crate::read::{Values, read_values, text_of};
 use crate::summary::{NOTHING, Summary};
 use ordered_multimap::{EntryValues, ListOrderedMultimap};
 use std::alloc::{AllocError, Global};
@@ -44,7 +44,7 @@ fn summarize_lines<'t>(
     summaries: &mut Summaries<'t>,
     input: &'t [u8],
 ) -> Result<Option<i64>, Fault<'t>> {
-    let bound = read_values(values, input)?;
+    let bound = read_values(values, text_of(input)?)?;
     for (group, values) in values.pairs() {
         let summary = summarize(values).ok_or(Fault::Sum(*group))?;
         summaries.append(*group, summary).map_err(AllocError::from)?;
