@@ -37,21 +37,18 @@ use std::process::ExitCode;
 
 fn main(rt: HostRuntime) -> ExitCode {
     let mut line = 0usize;
-    match run(&rt, &mut line) {
-        Ok(()) => ExitCode::SUCCESS,
-        Err(error) if error.kind() == ErrorKind::InvalidData => {
-            let _ = eprintln!(rt; "header_store: line {line}: {error}");
-            ExitCode::from(2)
-        }
-        Err(error) => {
-            let _ = eprintln!(rt; "header_store: {error}");
-            ExitCode::from(if error.kind() == ErrorKind::OutOfMemory {
-                3
-            } else {
-                4
-            })
-        }
-    }
+    let Err(error) = run(&rt, &mut line) else {
+        return ExitCode::SUCCESS;
+    };
+    let _ = match error.kind() {
+        ErrorKind::InvalidData => eprintln!(rt; "header_store: line {line}: {error}"),
+        _ => eprintln!(rt; "header_store: {error}"),
+    };
+    ExitCode::from(match error.kind() {
+        ErrorKind::InvalidData => 2,
+        ErrorKind::OutOfMemory => 3,
+        _ => 4,
+    })
 }
 
 /// Reads all of the input, and writes the answers. `line` is the number of the line that is looked

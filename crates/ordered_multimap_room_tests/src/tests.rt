@@ -14,15 +14,12 @@ mod refused_room;
 mod reserve;
 mod shares;
 
-use crate::tests::extend::{
-    copies_are_appended, map_is_made_without_hint, maps_are_made, pairs_are_appended,
-    wish_is_ignored,
-};
+use crate::tests::extend::{map_is_made_without_hint, maps_are_made, pairs_come};
 use crate::tests::made::room_is_refused;
 use crate::tests::pack::pairs_are_packed;
 use crate::tests::reserve::{room_grows, room_is_used};
 use ordered_multimap::ListOrderedMultimap;
-use ordered_multimap_callers::maps::{Numbers, map_of};
+use ordered_multimap_callers::maps::Numbers;
 use ordered_multimap_callers::test_with_room;
 use ordered_multimap_callers::tested::test_on_empty;
 use refusing_allocator::RefusingAllocator;
@@ -44,16 +41,6 @@ fn room_for_ten(test: &Test) {
 #[test]
 fn room_is_made_and_maps_are_made_of_pairs(rt: HostRuntime) -> Result<(), Failed> {
     test_all!(rt.alloc(); room_for_ten, maps_are_made, map_is_made_without_hint)
-}
-
-fn copies_come(test: &Test, map: &mut Numbers) {
-    copies_are_appended(test, map, &map_of(test, &[(1, 1), (2, 1), (2, 2)]));
-}
-
-fn pairs_come(test: &Test, map: &mut Numbers) {
-    pairs_are_appended(test, map);
-    copies_come(test, map);
-    wish_is_ignored(test, map);
 }
 
 #[test]

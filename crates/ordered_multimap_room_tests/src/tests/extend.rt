@@ -3,7 +3,7 @@ use crate::tests::iterators::Hinted;
 use ordered_multimap::ListOrderedMultimap;
 use ordered_multimap::list_ordered_multimap::DefaultState;
 use ordered_multimap_callers::lists::has_pairs;
-use ordered_multimap_callers::maps::Numbers;
+use ordered_multimap_callers::maps::{Numbers, map_of};
 use test_helpers::{End, Test, walk_difference};
 
 const THREE: &[(u32, u32)] = &[(1, 11), (2, 12), (2, 13)];
@@ -15,8 +15,7 @@ fn has_both(test: &Test, map: &Numbers) {
     test.expect_same(walk_difference(&mut map.get_all(&2), &two));
 }
 
-/// Pairs are appended in turn.
-pub fn pairs_are_appended(test: &Test, map: &mut Numbers) {
+fn pairs_are_appended(test: &Test, map: &mut Numbers) {
     map.clear();
     test.expect(map.extend(THREE.iter().copied()) == Ok(()));
     has_both(test, map);
@@ -29,11 +28,14 @@ fn has_copies(test: &Test, map: &Numbers) {
     test.expect_same(walk_difference(&mut map.get_all(&2), &two));
 }
 
-/// Copies of the pairs (1, 1), (2, 1) and (2, 2) are appended in turn.
-pub fn copies_are_appended(test: &Test, map: &mut Numbers, other: &Numbers) {
+fn copies_are_appended(test: &Test, map: &mut Numbers, other: &Numbers) {
     map.clear();
     test.expect(map.extend_copied(other.iter()) == Ok(()));
     has_copies(test, map);
+}
+
+fn copies_come(test: &Test, map: &mut Numbers) {
+    copies_are_appended(test, map, &map_of(test, &[(1, 1), (2, 1), (2, 2)]));
 }
 
 /// Maps are made of pairs.
@@ -54,11 +56,18 @@ fn hinted(hint: usize) -> Hinted {
     }
 }
 
-/// A hint of more pairs than there can be is ignored.
-pub fn wish_is_ignored(test: &Test, map: &mut Numbers) {
+// A hint of more pairs than there can be is ignored.
+fn wish_is_ignored(test: &Test, map: &mut Numbers) {
     map.clear();
     test.expect(map.extend(hinted(usize::MAX)) == Ok(()));
     test.expect(has_pairs(map, PAIRS));
+}
+
+/// Pairs are appended in turn.
+pub fn pairs_come(test: &Test, map: &mut Numbers) {
+    pairs_are_appended(test, map);
+    copies_come(test, map);
+    wish_is_ignored(test, map);
 }
 
 /// A map is made of pairs whose hint says nothing.

@@ -92,14 +92,6 @@ fn popped(map: &mut Words) -> Option<(&'static str, u32)> {
     }
 }
 
-fn first_key_stays(test: &Test, map: &mut Words) {
-    test.expect(appended(map, "Key", 1) == Some(false));
-    test.expect(appended(map, "KEY", 2) == Some(true));
-    test.expect(removed(map, "key") == Some(("Key", 1)));
-    test.expect(map.values_len() == 0);
-    test.expect(map.keys_len() == 0);
-}
-
 fn replaced_key_stays(test: &Test, map: &mut Words) {
     test.expect(appended(map, "Key", 1) == Some(false));
     test.expect(inserted(map, "KEY", 2) == Some(1));
@@ -110,7 +102,11 @@ fn replaced_key_stays(test: &Test, map: &mut Words) {
 }
 
 fn first_keys_stay(test: &Test, map: &mut Words) {
-    first_key_stays(test, map);
+    test.expect(appended(map, "Key", 1) == Some(false));
+    test.expect(appended(map, "KEY", 2) == Some(true));
+    test.expect(removed(map, "key") == Some(("Key", 1)));
+    test.expect(map.values_len() == 0);
+    test.expect(map.keys_len() == 0);
     replaced_key_stays(test, map);
 }
 

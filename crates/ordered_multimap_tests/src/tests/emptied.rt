@@ -62,6 +62,11 @@ fn maps_are_values(test: &Test, sections: &mut Sections) {
     test.expect(sections.get(&7).is_some_and(has_two));
 }
 
+#[test]
+fn an_empty_map_stands_in(rt: HostRuntime) -> Result<(), Failed> {
+    test_on_empty(rt.alloc(), a_map_is_taken)
+}
+
 fn without_memory(test: &Test, allocator: &RefusingAllocator) {
     a_refusal_is_an_io_error(test, &mut ListOrderedMultimap::new(allocator));
 }
@@ -71,11 +76,6 @@ fn errors_are_taken_to_others(rt: HostRuntime) -> Result<(), Failed> {
     let test = Test::new(rt.alloc());
     without_memory(&test, &RefusingAllocator::new(test.alloc(), 0));
     test.end()
-}
-
-#[test]
-fn an_empty_map_stands_in(rt: HostRuntime) -> Result<(), Failed> {
-    test_on_empty(rt.alloc(), a_map_is_taken)
 }
 
 #[test]
