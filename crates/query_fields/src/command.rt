@@ -37,25 +37,36 @@ fn carry_out<'t>(
     answers: &mut String,
 ) -> io::Result<()> {
     let (word, operand) = command.split_once(' ').unwrap_or((command, ""));
-    let (name, value) = operand.split_once('=').unwrap_or((operand, ""));
     match word {
-        "get" => {
-            let first = fields.get(operand).map(Text::as_str);
-            writeln!(answers, "{}", first.unwrap_or("none"))?;
-        }
+        "get" => add_first(fields, operand, answers)?,
         "all" => add_all(fields, operand, answers)?,
-        "set" => set(fields, Text::Borrowed(name), Text::Borrowed(value))?,
-        "add" => {
-            fields.append(Text::Borrowed(name), Text::Borrowed(value))?;
-        }
-        "remove" => {
-            let _ = fields.remove(operand);
-        }
+        "set" | "add" | "remove" => change(fields, word, operand)?,
         "write" if operand.is_empty() => add_query(fields, answers)?,
         "" => {}
         _ => return Err(bad("not a command")),
     }
     Ok(())
+}
+
+// `word` is set, add or remove.
+fn change<'t>(fields: &mut Fields<'t>, word: &str, operand: &'t str) -> io::Result<()> {
+    let (name, value) = operand.split_once('=').unwrap_or((operand, ""));
+    match word {
+        "set" => set(fields, Text::Borrowed(name), Text::Borrowed(value))?,
+        "add" => {
+            fields.append(Text::Borrowed(name), Text::Borrowed(value))?;
+        }
+        _ => {
+            let _ = fields.remove(operand);
+        }
+    }
+    Ok(())
+}
+
+/// Adds the first value of a name.
+fn add_first(fields: &Fields<'_>, name: &str, answers: &mut String) -> Result<(), AllocError> {
+    let first = fields.get(name).map(Text::as_str);
+    writeln!(answers, "{}", first.unwrap_or("none"))
 }
 
 /// Adds the values of a name in order.
