@@ -1,5 +1,7 @@
 //! Headers and their parts, read from their texts.
-ghost use Rattle.std.specs.Prelude.{◌≡◌, ◌↔◌, IsSome};
+ghost use Rattle.std.specs.Prelude.{◌≡◌, ◌↔◌, IsOk, IsSome, IfErr};
+ghost use Rattle.std.specs.IoError.{error_kind};
+ghost use Rattle.std.specs.declared.io.ErrorKind.TheVariants.{InvalidData};
 ghost use Rattle.header_store.specs.Fields as rfc;
 
 use crate::bad;
@@ -8,7 +10,9 @@ use std::io;
 
 /// The name and the value that stand before and behind the first separator; the value is empty
 /// where there is none.
-pub fn field_of(text: &[u8], separator: u8) -> io::Result<(Name<'_>, &[u8])> {
+pub fn field_of(text: &[u8], separator: u8) -> io::Result<(Name<'_>, &[u8])>
+    ensures fault { IfErr result (λ error. error_kind error ≡ InvalidData) }
+{
     let (name, value) = split_at_byte(text, separator).unwrap_or((text, b""));
     let name = name_of(name)?;
     match value_of(value) {
@@ -18,7 +22,10 @@ pub fn field_of(text: &[u8], separator: u8) -> io::Result<(Name<'_>, &[u8])> {
 }
 
 /// The name that the text is.
-pub fn name_of(text: &[u8]) -> io::Result<Name<'_>> {
+pub fn name_of(text: &[u8]) -> io::Result<Name<'_>>
+    ensures token { IsOk result ↔ rfc.IsToken text.now }
+    ensures fault { IfErr result (λ error. error_kind error ≡ InvalidData) }
+{
     match Name::new(text) {
         Some(name) => Ok(name),
         None => Err(bad("forbidden name")),

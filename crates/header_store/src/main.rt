@@ -24,6 +24,10 @@
 //! the output that failed.
 #![tactic(auto)]
 
+ghost use Rattle.std.specs.IoError.{error_kind};
+ghost use Rattle.std.specs.Prelude.{◌≡◌};
+ghost use Rattle.std.specs.declared.io.ErrorKind.TheVariants.{InvalidData};
+
 mod answer;
 mod field;
 mod name;
@@ -77,6 +81,8 @@ fn write_answers<'t>(
 }
 
 /// The error of a line that is bad for this reason.
-pub fn bad(reason: &str) -> io::Error {
+pub fn bad(reason: &str) -> io::Error
+    ensures { error_kind result ≡ InvalidData }
+{
     io::Error::new(ErrorKind::InvalidData, reason)
 }
