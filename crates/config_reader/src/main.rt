@@ -1,5 +1,23 @@
-//! Reads settings in INI form from standard input, up to a line `---`, and answers the questions
-//! below that line, one a line.
+//! Reads settings in INI form, and answers questions about them.
+//!
+//! Standard input holds settings up to a line `---`, and a question on each line below it. A line
+//! `[SECTION]` opens a section, and `KEY = VALUE` is a setting of the section that is open, or above
+//! the first one of none. A key has no dot, and may stand several times. Empty lines count for
+//! nothing, and above `---` those too that begin with `;` or `#`.
+//!
+//! | Question | The answer |
+//! |---|---|
+//! | `get SECTION.KEY` | the key's last value, or `none` |
+//! | `all SECTION.KEY` | each value of the key |
+//! | `keys SECTION` | each key of the section, once |
+//! | `sections` | the name of each section |
+//! | `write` | all settings below their sections, in order |
+//!
+//! `KEY` alone, and `keys` alone, ask for settings above the first section.
+//!
+//! The exit status is 0, or 2 where a line is bad, 3 when out of memory, or 4 where standard input
+//! or output failed. Then nothing but a message on standard error is written, unless it is the
+//! output that failed.
 #![tactic(auto)]
 
 mod answer;
@@ -14,21 +32,18 @@ use std::process::ExitCode;
 
 fn main(rt: HostRuntime) -> ExitCode {
     let mut line = 0usize;
-    match run(&rt, &mut line) {
-        Ok(()) => ExitCode::SUCCESS,
-        Err(error) if error.kind() == ErrorKind::InvalidData => {
-            let _ = eprintln!(rt; "config_reader: line {line}: {error}");
-            ExitCode::from(2)
-        }
-        Err(error) => {
-            let _ = eprintln!(rt; "config_reader: {error}");
-            ExitCode::from(if error.kind() == ErrorKind::OutOfMemory {
-                3
-            } else {
-                4
-            })
-        }
-    }
+    let Err(error) = run(&rt, &mut line) else {
+        return ExitCode::SUCCESS;
+    };
+    let _ = match error.kind() {
+        ErrorKind::InvalidData => eprintln!(rt; "config_reader: line {line}: {error}"),
+        _ => eprintln!(rt; "config_reader: {error}"),
+    };
+    ExitCode::from(match error.kind() {
+        ErrorKind::InvalidData => 2,
+        ErrorKind::OutOfMemory => 3,
+        _ => 4,
+    })
 }
 
 /// Reads all of the input, and writes the answers. `line` is the number of the line that is looked

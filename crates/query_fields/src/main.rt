@@ -1,5 +1,24 @@
-//! Reads the query of a URL, or the fields of a form, from the first line of standard input, and
-//! does what the lines below it command.
+//! Reads the query of a URL, or the fields of a form, changes it, and answers questions about it.
+//!
+//! The first line of standard input is the query: fields `NAME=VALUE` with `&` between them, where
+//! `+` stands for a space, and `%` and two hexadecimal digits for a byte. Each line below it is a
+//! command, with names and values as plain text.
+//!
+//! | Command | What it does |
+//! |---|---|
+//! | `get NAME` | writes the name's first value, or `none` |
+//! | `all NAME` | writes each value of the name |
+//! | `set NAME=VALUE` | gives the name's first field this value, and takes its others out |
+//! | `add NAME=VALUE` | puts a field last |
+//! | `remove NAME` | takes the fields of the name out |
+//! | `write` | writes the query of all fields, in order |
+//!
+//! `set` of an absent name puts a field last. A name without `=` has the empty value. Empty lines
+//! among the commands count for nothing.
+//!
+//! The exit status is 0, or 2 where a line is bad, as one with an escape that stands for no UTF-8
+//! text, 3 when out of memory, or 4 where standard input or output failed. Then nothing but a
+//! message on standard error is written, unless it is the output that failed.
 #![tactic(auto)]
 
 mod command;
@@ -15,21 +34,18 @@ use std::process::ExitCode;
 
 fn main(rt: HostRuntime) -> ExitCode {
     let mut line = 0usize;
-    match run(&rt, &mut line) {
-        Ok(()) => ExitCode::SUCCESS,
-        Err(error) if error.kind() == ErrorKind::InvalidData => {
-            let _ = eprintln!(rt; "query_fields: line {line}: {error}");
-            ExitCode::from(2)
-        }
-        Err(error) => {
-            let _ = eprintln!(rt; "query_fields: {error}");
-            ExitCode::from(if error.kind() == ErrorKind::OutOfMemory {
-                3
-            } else {
-                4
-            })
-        }
-    }
+    let Err(error) = run(&rt, &mut line) else {
+        return ExitCode::SUCCESS;
+    };
+    let _ = match error.kind() {
+        ErrorKind::InvalidData => eprintln!(rt; "query_fields: line {line}: {error}"),
+        _ => eprintln!(rt; "query_fields: {error}"),
+    };
+    ExitCode::from(match error.kind() {
+        ErrorKind::InvalidData => 2,
+        ErrorKind::OutOfMemory => 3,
+        _ => 4,
+    })
 }
 
 /// Reads all of the input, and writes the answers. `line` is the number of the line that is looked
