@@ -14,7 +14,7 @@ use node::{Node, State};
 use optional_place::OptionalPlace;
 use std::alloc::{AllocError, Allocator};
 use std::marker::Model;
-use write::{claim, release, set_next, set_previous};
+use write::{claim, set_next};
 
 /// Places in an order, each with a link.
 #[derive(Drop)]

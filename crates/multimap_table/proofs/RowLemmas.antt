@@ -1,10 +1,10 @@
 -- The rows in the lanes, as a map: what one put in, taken out or moved changes.
 use Rattle.std.proofs.Common.{◌≡◌, ℕ, zero, suc, ◌+◌, ◌<◌, true, false, cond, Option, None, Some, List, [], ◌∷◌, length, get_or, set, refl}
 use Rattle.std.proofs.Common.{sym, ap, subst, ◌∙◌, arith, length-set, get_or-set_other}
-use Rattle.std.specs.Ordering.{nat_cmp, eq_by_cmp}
-use Rattle.std.specs.Cmp.{unsigned_tied, nat_cmp_total}
+use Rattle.std.specs.Ordering.{nat_cmp}
+use Rattle.std.specs.Cmp.{nat_cmp_total}
 use Rattle.std.specs.FinMap.{FinMap, find, from_entries, empty, get, insert, remove, len, get-from_entries, get-insert, get-remove}
-use Rattle.std.specs.FinMap.{same_map, nat_cmp-IsAntisymmetric, from_entries_push, len-insert, len-empty, get-empty}
+use Rattle.std.specs.FinMap.{same_map, nat_cmp-IsAntisymmetric, len-insert, len-empty}
 use Rattle.multimap_table.specs.declared.group.Row.{Row}
 use Rattle.multimap_table.specs.Private.Entries.{entries, IsUnique, rows_of, row_at}
 use Rattle.multimap_table.proofs.EntryLemmas.{tied, same_from_tied, tied_from_same, find_full, find_put, unique_put, length_put, find_erase}

@@ -1,11 +1,11 @@
 //! Lanes for more rows.
-ghost use Rattle.std.specs.Prelude.{◌≡◌, ◌*◌, ◌/◌, ◌^◌, ◌<◌, ◌≤◌, [], length};
+ghost use Rattle.std.specs.Prelude.{◌≡◌, ◌*◌, ◌^◌, ◌<◌, ◌≤◌, [], length};
 ghost use Rattle.multimap_table.specs.Private.Layout.{group_count, IsGroupCount, IsLaidOut, HoldRows};
 ghost use Rattle.multimap_table.specs.Private.Entries.{entries, rows_of, IsUnique};
 
-use crate::group::{LANES, Row};
+use crate::group::Row;
 use crate::insert::insert_row;
-use std::alloc::{AllocError, Allocator};
+use std::alloc::Allocator;
 
 /// How many rows a group holds on average at most, so that most groups have an empty lane.
 pub(crate) const GROUP_LOAD: usize = 12;

@@ -1,9 +1,11 @@
 pub mod AtEnds
 pub mod ByIndex
 pub mod OlderValues
+pub mod OneLink
 pub mod OnePair
 pub mod OneValue
 pub mod Retaining
+pub mod RetainingStep
 pub mod ValueByValue
 pub mod WaysOut
 pub mod WholeKeys

@@ -1,5 +1,5 @@
 //! What proved callers know of a map after `update_values` and `update_all`: the list of its pairs.
-ghost use Rattle.std.specs.Prelude.{◌≡◌, ◌+◌, ◌%◌, ◌^◌, if◌then◌else◌, map as each, nat_eq};
+ghost use Rattle.std.specs.Prelude.{◌≡◌, ◌+◌, ◌%◌, ◌^◌, if◌then◌else◌, map as each};
 
 use ordered_multimap::ListOrderedMultimap;
 use std::alloc::Allocator;

@@ -1,10 +1,9 @@
 //! What proved callers know of a set after a removal, a pop or a retain.
-ghost use Rattle.std.specs.Prelude.{◌≡◌, cond, filter, nat_eq, nat_lt, true, IsOk};
-ghost use Rattle.std.specs.Prelude.{OnOk};
+ghost use Rattle.std.specs.Prelude.{◌≡◌, filter, nat_eq, nat_lt, true, OnOk};
 ghost use Rattle.ordered_multimap.specs.Changes.{kept, removed};
 ghost use Rattle.ordered_multimap.specs.End.TheVariants.{Front};
 ghost use Rattle.ordered_multimap.specs.Popped.{popped};
-ghost use Rattle.set_ordered_multimap.specs.Set.{IsSet, has_pair, set_inserted, value_removed};
+ghost use Rattle.set_ordered_multimap.specs.Set.{IsSet, set_inserted, value_removed};
 
 use ordered_multimap::list_ordered_multimap::Refused;
 use set_ordered_multimap::SetOrderedMultimap;

@@ -10,7 +10,7 @@ use base.Logic.{SProp, ent, sep, ex, wand, emp, all_e, apply∗, never_e, id⊢}
 use base.Fml.{Fml, Lft, GName, Share, ftrue, ffalse, fsep, flft, fobs, fres, fbor}
 use base.Stored.{Gv, coded_list}
 use types.Logic.{Logic, sem}
-use types.Kit.{given, learn, rewrite, ‵, raw, ◌⊛◌, some, later, ◌$◌, ◌∵◌, !, qed, by, move, keep, drop, use1, use2, use3, split, split3}
+use types.Kit.{rewrite, ‵, raw, ◌⊛◌, some, later, ◌$◌, ◌∵◌, !, qed, by, move, keep, drop, use1, use2, use3, split, split3}
 use types.Kit.{join, group, pick, fsplit, fjoin, feq_i, feq_l, each, assume, show, await, updating, now, done}
 use types.SemTy.{SemTy, Body, Arr, cells}
 use types.Tokens.{name_done}

@@ -1,6 +1,5 @@
 //! Tests of items that leave the order and stay at their places, and of the right to write the
 //! others, each once.
-ghost use Rattle.std.specs.Prelude.{ℕ};
 ghost use Rattle.multimap_slots.specs.Slots.{IsDetached};
 
 use crate::tests::cell_uses::{Lending, write_last, write_list_ends, write_slots, write_tape_ends};

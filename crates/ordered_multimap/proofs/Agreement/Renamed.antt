@@ -124,7 +124,8 @@ module _ {K V : Type 0} (name : ℕ → ℕ) {keys keys_after : Slots K KeyLink}
       let m = held (link_at values n.place) (values_sound.linked n.place n.member) in
       let both : Some l ≡ Some (renamed_value name m.value) = sym is ∙ ap (link_at values_after) n.is
       ∙ r.links n.place m.value n.member m.is in
-      record { old = n.place; old_listed = n.member; place_is = n.is; link = m.value; link_was = m.is; link_is = let same : l ≡ renamed_value name m.value = cc in same }
+      let same : l ≡ renamed_value name m.value = cc in
+      record { old = n.place; old_listed = n.member; place_is = n.is; link = m.value; link_was = m.is; link_is = same }
 
   record WasKey (key : ℕ) (l : KeyLink) : Type 0 where
     key_listed : IsIn key keys.order

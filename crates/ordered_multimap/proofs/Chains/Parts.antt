@@ -1,6 +1,6 @@
 -- A place in the chain of its key: what stands before it and behind it, and the chain without it.
 use Rattle.std.proofs.Common.{◌≡◌, ◌≢◌, ◌==◌, ◌<◌, ℕ, Bool, true, false, cond, List, [], ◌∷◌, ◌++◌, reverse, length, filter, Option, Some}
-use Rattle.std.proofs.Common.{None, refl, sym, ap, ◌∙◌, subst, inl, inr, arith, length-append}
+use Rattle.std.proofs.Common.{None, refl, sym, ap, ◌∙◌, subst, inl, inr, arith, append_assoc, length-append}
 use Rattle.std.proofs.lemmas.Bool.{cases_eq, eq-eqb, ne_eqb}
 use Rattle.std.proofs.lemmas.List.{append-nil, reverse-append}
 use Rattle.std.specs.List.{last_or}
@@ -14,8 +14,8 @@ use Rattle.multimap_walks.specs.declared.links.ValueLink.{ValueLink}
 use Rattle.multimap_walks.specs.Chained.{IsChained, is_value_of, chain_of}
 use Rattle.ordered_multimap.specs.Private.RemoveOne.{end_left}
 use Rattle.ordered_multimap.proofs.Callers.Members.{IsIn-kept, IsIn-filter}
-use Rattle.ordered_multimap.proofs.Callers.Places.{AreDistinct-filter, last_of-member}
-use Rattle.ordered_multimap.proofs.Chains.LongerLists.{last_or-push}
+use Rattle.ordered_multimap.proofs.Callers.Places.{begins, ends, AreDistinct-filter, last_of-member}
+use Rattle.ordered_multimap.proofs.Chains.LongerLists.{cases_some, last_or-push}
 use Rattle.ordered_multimap.proofs.Chains.Neighbours.{first_of-member}
 use Rattle.ordered_multimap.proofs.Agreement.Agreed.{is_value_of-is}
 
@@ -67,6 +67,34 @@ previous_of-skip xs p ys q differs not_first =
     ap (λ zs. next_of zs q) (reverse-append xs ys)
     ∙ next_of-skip (reverse ys) p (reverse xs) q differs (λ e. not_first (sym (last_of-reverse ys) ∙ e))
     ∙ ap (λ zs. next_of zs q) (sym (reverse-split xs p ys))
+
+-- what is behind a place that stays is named by a link that is mended where it was the one before
+module _ (front back : List ℕ) (place q : ℕ) (distinct : AreDistinct (front ++ back)) (other : q ≢ place) {before behind : Option ℕ}
+    (last_is : last_of front ≡ before) (first_is : first_of back ≡ behind) where
+  pub next_left : {next now : Option ℕ} → next_of (front ++ place ∷ back) q ≡ next
+      → (before ≡ Some q → now ≡ behind) → (before ≢ Some q → now ≡ next) → next_of (front ++ back) q ≡ now
+  next_left was mended same = elim (cases_some before q) [
+    | inl here ↦
+        let e = ends front q (last_is ∙ here) in
+        let whole : front ++ back ≡ e.front ++ q ∷ back = ap (λ ps. ps ++ back) e.is ∙ append_assoc e.front (q ∷ []) back in
+        let gone = AreDistinct-gone e.front q back (subst AreDistinct whole distinct) in
+        ap (λ ps. next_of ps q) whole ∙ next_of-split e.front q back (λ i. gone (IsIn-left q e.front back i))
+        ∙ first_is ∙ sym (mended here)
+    | inr there ↦ next_of-skip front place back q other (λ e. there (sym last_is ∙ e)) ∙ was ∙ sym (same there)
+  ]
+
+  -- and what is before it, where it was the one behind
+  pub previous_left : {previous now : Option ℕ} → previous_of (front ++ place ∷ back) q ≡ previous
+      → (behind ≡ Some q → now ≡ before) → (behind ≢ Some q → now ≡ previous) → previous_of (front ++ back) q ≡ now
+  previous_left was mended same = elim (cases_some behind q) [
+    | inl here ↦
+        let b = begins back q (first_is ∙ here) in
+        let whole : front ++ back ≡ front ++ q ∷ b.rest = ap (λ ps. front ++ ps) b.is in
+        let gone = AreDistinct-gone front q b.rest (subst AreDistinct whole distinct) in
+        ap (λ ps. previous_of ps q) whole ∙ previous_of-split front q b.rest (λ i. gone (IsIn-right q front b.rest i))
+        ∙ last_is ∙ sym (mended here)
+    | inr there ↦ previous_of-skip front place back q other (λ e. there (sym first_is ∙ e)) ∙ was ∙ sym (same there)
+  ]
 
 -- the ends of what is left
 pub head_left : (front back : List ℕ) (place : ℕ) (before behind : Option ℕ) (head : ℕ) → last_of front ≡ before → first_of back ≡ behind

@@ -1,13 +1,14 @@
 -- Where only the last value of a key stays, key list, table and values agree, and the lists are without the older pairs.
-use Rattle.std.proofs.Common.{◌≡◌, ◌≢◌, ◌⊎◌, ◌==◌, ◌≤◌, ℕ, Bool, true, false, not, cond, List, [], ◌∷◌, ◌++◌, length, filter, Some, None, IsSome, refl, sym, ap, ◌∙◌, subst, inl, inr, true≢false, arith}
+use Rattle.std.proofs.Common.{◌≡◌, ◌≢◌, ◌==◌, ◌≤◌, ℕ, Bool, true, false, not, cond, List, [], ◌∷◌, ◌++◌, length, filter, Some, None, IsSome}
+use Rattle.std.proofs.Common.{refl, sym, ap, ◌∙◌, subst, inl, inr, true≢false, arith}
 use Rattle.std.proofs.lemmas.Bool.{cases_eq, eq-eqb}
 use Rattle.std.proofs.lemmas.List.Elements.{filter-append, filter_map-append}
 use Rattle.std.specs.Cmp.{IsEquivalence}
-use Rattle.std.specs.List.{filter_map, cons_option, IsDistinct}
+use Rattle.std.specs.List.{filter_map, cons_option}
 use Rattle.std.specs.Ordering.{nat_cmp}
-use Rattle.std.specs.FinMap.{FinMap, get}
+use Rattle.std.specs.FinMap.{FinMap}
 use Rattle.multimap_slots.specs.Lists.{IsIn, AreDistinct, first_of, last_of, next_of, previous_of}
-use Rattle.multimap_slots.specs.Slots.{Slots, IsSound, item_at, link_at, with_link}
+use Rattle.multimap_slots.specs.Slots.{Slots, IsSound, item_at, link_at}
 use Rattle.multimap_slots.proofs.Callers.PlaceLists.{AreDistinct-gone, IsIn-left, IsIn-right, IsIn-append, next_of-split}
 use Rattle.multimap_walks.specs.declared.links.KeyLink.{KeyLink}
 use Rattle.multimap_walks.specs.declared.links.ValueLink.{ValueLink}
@@ -19,13 +20,14 @@ use Rattle.ordered_multimap.specs.Private.Remove.{TakesOlder, among}
 use Rattle.ordered_multimap.proofs.Callers.Members.{IsIn-kept, filter-none}
 use Rattle.ordered_multimap.proofs.Agreement.Kept.{push_inj, filter-among, filter_map-filter}
 use Rattle.ordered_multimap.proofs.Callers.Places.{held, filter-agree, filter_map-agree}
-use Rattle.ordered_multimap.proofs.Append.Steps.{IsSound-with_link, sets_link}
-use Rattle.ordered_multimap.proofs.Agreement.Agreed.{PairAt, value_owner, pair_in, pair_at-is, is_value_of-is}
+use Rattle.ordered_multimap.proofs.Agreement.Agreed.{PairAt, value_owner, pair_in, is_value_of-is}
 use Rattle.ordered_multimap.proofs.Agreement.LookUps.{owns}
+use Rattle.ordered_multimap.proofs.Remove.OneLink.{Relinks, StaysLinked, same_owner, same_pair, agrees-relinked, chained-relinked}
 use Rattle.ordered_multimap.proofs.Remove.WholeKeys.{not_true, still_listed, values_sound-taken}
 use Rattle.ordered_multimap.proofs.Remove.ValueByValue.{among-none, among-filter, not_among, taking-whole}
 
-module _ {K V : Type 0} {eq : K → K → Bool} (laws : IsEquivalence eq) {hash : K → ℕ} {keys keys_after : Slots K KeyLink} {rows : FinMap nat_cmp ℕ} {values values_after : Slots V ValueLink}
+module _ {K V : Type 0} {eq : K → K → Bool} (laws : IsEquivalence eq) {hash : K → ℕ} {keys keys_after : Slots K KeyLink}
+    {rows : FinMap nat_cmp ℕ} {values values_after : Slots V ValueLink}
     (agrees : Agrees eq hash keys rows values) (k : K) (place : ℕ) (has : HasKey eq keys k place)
     (takes : TakesOlder keys keys_after values values_after place)
     (front : List ℕ) (order_is : values.order ≡ front ++ takes.link.tail ∷ []) where
@@ -38,7 +40,8 @@ module _ {K V : Type 0} {eq : K → K → Bool} (laws : IsEquivalence eq) {hash 
       (omega (arith, takes.older, agrees.chained.length place takes.link has.listed takes.link_is))
 
   pub tail_own : (IsIn takes.link.tail values.order) × (own takes.link.tail ≡ true)
-  tail_own = IsIn-kept own takes.link.tail values.order (subst (IsIn takes.link.tail) (sym parts) (IsIn-right takes.link.tail takes.taking.gone (takes.link.tail ∷ []) (inl refl)))
+  tail_own = IsIn-kept own takes.link.tail values.order
+      (subst (IsIn takes.link.tail) (sym parts) (IsIn-right takes.link.tail takes.taking.gone (takes.link.tail ∷ []) (inl refl)))
 
   gone_is : takes.taking.gone ≡ filter own front
   gone_is =
@@ -47,78 +50,82 @@ module _ {K V : Type 0} {eq : K → K → Bool} (laws : IsEquivalence eq) {hash 
       ∙ ap (λ b. filter own front ++ cond b (takes.link.tail ∷ []) []) tail_own.1)).0
 
   not_front : ¬ IsIn takes.link.tail front
-  not_front i = AreDistinct-gone front takes.link.tail [] (subst AreDistinct order_is agrees.values_sound.distinct) (IsIn-left takes.link.tail front [] i)
+  not_front i = AreDistinct-gone front takes.link.tail [] (subst AreDistinct order_is agrees.values_sound.distinct)
+      (IsIn-left takes.link.tail front [] i)
 
   left_front : (q : ℕ) → IsIn q front → among takes.taking.gone q ≡ own q
   left_front q i = ap (λ ps. among ps q) gone_is ∙ among-filter own front q i
 
   tail_stays : among takes.taking.gone takes.link.tail ≡ false
-  tail_stays = ap (λ ps. among ps takes.link.tail) gone_is ∙ among-none (filter own front) takes.link.tail (λ j. not_front (IsIn-kept own takes.link.tail front j).0)
+  tail_stays = ap (λ ps. among ps takes.link.tail) gone_is
+      ∙ among-none (filter own front) takes.link.tail (λ j. not_front (IsIn-kept own takes.link.tail front j).0)
 
   order_after : values_after.order ≡ filter (λ q. not (own q)) front ++ takes.link.tail ∷ []
   order_after =
-      ap (λ (s : Slots V ValueLink). s.order) takes.rest ∙ takes.taking.taken.order ∙ ap (filter (λ q. not (among takes.taking.gone q))) order_is
-      ∙ filter-append (λ q. not (among takes.taking.gone q)) front (takes.link.tail ∷ [])
-      ∙ (λ i. filter (λ q. not (among takes.taking.gone q)) front ++ cond (not (tail_stays i)) (takes.link.tail ∷ []) [])
-      ∙ ap (λ qs. qs ++ takes.link.tail ∷ []) (filter-agree (λ q. not (among takes.taking.gone q)) (λ q. not (own q)) front (λ q i. ap not (left_front q i)))
+      let stays = λ (q : ℕ). not (among takes.taking.gone q) in
+      ap (λ (s : Slots V ValueLink). s.order) takes.rest ∙ takes.taking.taken.order ∙ ap (filter stays) order_is
+      ∙ filter-append stays front (takes.link.tail ∷ [])
+      ∙ (λ i. filter stays front ++ cond (not (tail_stays i)) (takes.link.tail ∷ []) [])
+      ∙ ap (λ qs. qs ++ takes.link.tail ∷ []) (filter-agree stays (λ q. not (own q)) front (λ q i. ap not (left_front q i)))
 
-  -- a place that stays, with its link
+  -- a place that stays; its link is another one only where it is the last one of the key
   record Stays (q : ℕ) : Type 0 where
-    listed : IsIn q values.order
+    kept : StaysLinked values values_after q
     stays : among takes.taking.gone q ≡ false
-    old : ValueLink
-    old_is : link_at values q ≡ Some old
-    now : ValueLink
-    now_is : link_at values_after q ≡ Some now
-    same_key : now.key ≡ old.key
-    same_next : now.next ≡ old.next
-    item : item_at values_after q ≡ item_at values q
-    other : q ≢ takes.link.tail → now ≡ old
-    last : q ≡ takes.link.tail → now.previous ≡ None
+    same_next : kept.now.next ≡ kept.old.next
+    other : q ≢ takes.link.tail → kept.now ≡ kept.old
+    last : q ≡ takes.link.tail → kept.now.previous ≡ None
 
   stays_at : (q : ℕ) → IsIn q values_after.order → Stays q
   stays_at q i =
-      let kept = still_listed takes.taking.taken q (subst (λ (s : Slots V ValueLink). IsIn q s.order) takes.rest i) in
-      let l = held (link_at values q) (agrees.values_sound.linked q kept.0) in
-      let left_is : link_at takes.left q ≡ Some l.value = takes.taking.taken.links q kept.1 ∙ l.is in
-      let item : item_at values_after q ≡ item_at values q = ap (λ (s : Slots V ValueLink). item_at s q) takes.rest ∙ takes.taking.taken.items q kept.1 in
+      let left = still_listed takes.taking.taken q (subst (λ (s : Slots V ValueLink). IsIn q s.order) takes.rest i) in
+      let l = held (link_at values q) (agrees.values_sound.linked q left.0) in
+      let left_is : link_at takes.left q ≡ Some l.value = takes.taking.taken.links q left.1 ∙ l.is in
+      let kept : (now : ValueLink) → link_at values_after q ≡ Some now → now.key ≡ l.value.key → StaysLinked values values_after q =
+      λ now now_is same_key. record {
+        listed = left.0;
+        old = l.value;
+        old_is = l.is;
+        now = now;
+        now_is = now_is;
+        same_key = same_key;
+        item = ap (λ (s : Slots V ValueLink). item_at s q) takes.rest ∙ takes.taking.taken.items q left.1;
+      } in
       elim (cases_eq q takes.link.tail) [
-        | inl same ↦ record {
-          listed = kept.0;
-          stays = kept.1;
-          old = l.value;
-          old_is = l.is;
-          now = record l.value { previous = None };
-          now_is = ap (link_at values_after) same ∙ takes.alone l.value (ap (link_at takes.left) (sym same) ∙ left_is);
-          same_key = refl;
-          same_next = refl;
-          item = item;
-          other = λ differs. absurd (differs same);
-          last = λ _. refl;
-        }
+        | inl same ↦
+            let alone = takes.alone l.value (ap (link_at takes.left) (sym same) ∙ left_is) in
+            record {
+              kept = kept (record l.value { previous = None }) (ap (link_at values_after) same ∙ alone) refl;
+              stays = left.1;
+              same_next = refl;
+              other = λ differs. absurd (differs same);
+              last = λ _. refl;
+            }
         | inr differs ↦ record {
-          listed = kept.0;
-          stays = kept.1;
-          old = l.value;
-          old_is = l.is;
-          now = l.value;
-          now_is = takes.links q differs ∙ left_is;
-          same_key = refl;
+          kept = kept l.value (takes.links q differs ∙ left_is) refl;
+          stays = left.1;
           same_next = refl;
-          item = item;
           other = λ _. refl;
           last = λ same. absurd (differs same);
         }
       ]
 
-  same_owner : (key q : ℕ) → IsIn q values_after.order → is_value_of values_after key q ≡ is_value_of values key q
-  same_owner key q i =
-      let s = stays_at q i in
-      is_value_of-is keys values_after key q s.now s.now_is ∙ ap (λ owner. owner == key) s.same_key ∙ sym (is_value_of-is keys values key q s.old s.old_is)
+  abbrev kept_at : (q : ℕ) → IsIn q values_after.order → StaysLinked values values_after q
+  kept_at q i = (stays_at q i).kept
+
+  link_now : KeyLink
+  link_now = record { hash = takes.link.hash; head = takes.link.tail; tail = takes.link.tail; length = 1 }
+
+  relinks : Relinks keys keys_after place takes.link link_now
+  unfolding link_now
+  relinks = record { listed = has.listed; was_is = takes.link_is; same_hash = refl; keys_are = takes.keys_are }
+
+  owner_stays : (key q : ℕ) → IsIn q values_after.order → is_value_of values_after key q ≡ is_value_of values key q
+  owner_stays = same_owner relinks agrees kept_at
 
   chain_here : chain_of values_after place ≡ takes.link.tail ∷ []
   chain_here =
-      filter-agree (is_value_of values_after place) own values_after.order (same_owner place)
+      filter-agree (is_value_of values_after place) own values_after.order (owner_stays place)
       ∙ ap (filter own) order_after ∙ filter-append own (filter (λ q. not (own q)) front) (takes.link.tail ∷ [])
       ∙ (λ i. filter-none own (filter (λ q. not (own q)) front) none i ++ cond (tail_own.1 i) (takes.link.tail ∷ []) [])
     where
@@ -127,7 +134,7 @@ module _ {K V : Type 0} {eq : K → K → Bool} (laws : IsEquivalence eq) {hash 
 
   chain_there : (key : ℕ) → key ≢ place → chain_of values_after key ≡ chain_of values key
   chain_there key differs =
-      filter-agree (is_value_of values_after key) (is_value_of values key) values_after.order (same_owner key)
+      filter-agree (is_value_of values_after key) (is_value_of values key) values_after.order (owner_stays key)
       ∙ ap (filter (is_value_of values key)) (ap (λ (s : Slots V ValueLink). s.order) takes.rest ∙ takes.taking.taken.order)
       ∙ filter-among (is_value_of values key) (λ q. not (among takes.taking.gone q)) values.order (λ q listed e.
       ap not (among-none takes.taking.gone q (λ j.
@@ -135,109 +142,75 @@ module _ {K V : Type 0} {eq : K → K → Bool} (laws : IsEquivalence eq) {hash 
       let mine : own q ≡ true = (IsIn-kept own q front (subst (IsIn q) gone_is j)).1 in
       differs (sym (value_owner keys values key q l.value l.is e) ∙ value_owner keys values place q l.value l.is mine))))
 
-  link_now : KeyLink
-  link_now = record { hash = takes.link.hash; head = takes.link.tail; tail = takes.link.tail; length = 1 }
-
-  -- the key's link, and those of the others
-  key_links : (key : ℕ) (l : KeyLink) → link_at keys_after key ≡ Some l → ((key ≡ place) × (l ≡ link_now)) ⊎ ((key ≢ place) × (link_at keys key ≡ Some l))
-  unfolding link_now
-  key_links key l is =
-      let sets = sets_link keys place has.stored link_now has.listed has.item_is (agrees.keys_sound.linked place has.listed) in
-      let now : link_at (with_link keys place link_now) key ≡ Some l = ap (λ (s : Slots K KeyLink). link_at s key) (sym takes.keys_are) ∙ is in
-      elim (cases_eq key place) [
-        | inl same ↦
-            let one : Some l ≡ Some link_now = sym now ∙ ap (link_at (with_link keys place link_now)) same ∙ sets.link_is in
-            inl (same, let e : l ≡ link_now = cc in e)
-        | inr differs ↦ inr (differs, sym (sets.links key differs) ∙ now)
+  -- a value that stays is the last one, or one of another key
+  other_key : (q : ℕ) (s : Stays q) → q ≢ takes.link.tail → s.kept.old.key ≢ place
+  other_key q s differs same =
+      elim (IsIn-append q front (takes.link.tail ∷ []) (subst (IsIn q) order_is s.kept.listed)) [
+        | inl i ↦
+            let mine : own q ≡ true = is_value_of-is keys values place q s.kept.old s.kept.old_is ∙ eq-eqb s.kept.old.key place same in
+            true≢false (sym (left_front q i ∙ mine) ∙ s.stays)
+        | inr here ↦ elim here [ inl e ↦ differs e | inr never ↦ absurd never ]
       ]
 
-  -- a value that stays is the last one, or one of another key
-  other_key : (q : ℕ) (s : Stays q) → q ≢ takes.link.tail → s.old.key ≢ place
-  other_key q s differs same = elim (IsIn-append q front (takes.link.tail ∷ []) (subst (IsIn q) order_is s.listed)) [
-    | inl i ↦ true≢false (sym (left_front q i ∙ is_value_of-is keys values place q s.old s.old_is ∙ eq-eqb s.old.key place same) ∙ s.stays)
-    | inr here ↦ elim here [ inl e ↦ differs e | inr never ↦ absurd never ]
-  ]
-
-  tail_key : (q : ℕ) → q ≡ takes.link.tail → (s : Stays q) → s.old.key ≡ place
-  tail_key q same s = value_owner keys values place q s.old s.old_is (ap own same ∙ tail_own.1)
-
-  old_order : (key : ℕ) → IsIn key keys_after.order → IsIn key keys.order
-  old_order key i = subst (λ (s : Slots K KeyLink). IsIn key s.order) takes.keys_are i
+  tail_key : (q : ℕ) → q ≡ takes.link.tail → (s : Stays q) → s.kept.old.key ≡ place
+  tail_key q same s = value_owner keys values place q s.kept.old s.kept.old_is (ap own same ∙ tail_own.1)
 
   chained-older : IsChained keys_after values_after
   unfolding link_now
-  chained-older = record {
-    owned = λ q l i is.
-        let s = stays_at q i in
-        let one : Some s.now ≡ Some l = sym s.now_is ∙ is in
-        let e : s.now ≡ l = cc in
-        subst (λ p. IsIn p keys_after.order) (sym s.same_key ∙ ap (λ (m : ValueLink). m.key) e) (same_order s.old.key (agrees.chained.owned q s.old s.listed s.old_is));
-    head = λ key l i is. elim (key_links key l is) [
-      | inl here ↦ ap first_of (ap (chain_of values_after) here.0 ∙ chain_here) ∙ ap (λ (m : KeyLink). Some m.head) (sym here.1)
-      | inr there ↦ ap first_of (chain_there key there.0) ∙ agrees.chained.head key l (old_order key i) there.1
-    ];
-    tail = λ key l i is. elim (key_links key l is) [
-      | inl here ↦ ap last_of (ap (chain_of values_after) here.0 ∙ chain_here) ∙ ap (λ (m : KeyLink). Some m.tail) (sym here.1)
-      | inr there ↦ ap last_of (chain_there key there.0) ∙ agrees.chained.tail key l (old_order key i) there.1
-    ];
-    length = λ key l i is. elim (key_links key l is) [
-      | inl here ↦ ap length (ap (chain_of values_after) here.0 ∙ chain_here) ∙ ap (λ (m : KeyLink). m.length) (sym here.1)
-      | inr there ↦ ap length (chain_there key there.0) ∙ agrees.chained.length key l (old_order key i) there.1
-    ];
-    previous = λ q l i is.
-        let s = stays_at q i in
-        let one : Some s.now ≡ Some l = sym s.now_is ∙ is in
-        let e : s.now ≡ l = cc in
-        subst (λ (m : ValueLink). previous_of (chain_of values_after m.key) q ≡ m.previous) e (before q s);
-    next = λ q l i is.
-        let s = stays_at q i in
-        let one : Some s.now ≡ Some l = sym s.now_is ∙ is in
-        let e : s.now ≡ l = cc in
-        subst (λ (m : ValueLink). next_of (chain_of values_after m.key) q ≡ m.next) e (behind q s);
-  }
+  chained-older = chained-relinked relinks agrees kept_at chain_there (ap first_of chain_here) (ap last_of chain_here)
+      (ap length chain_here) before behind
     where
-      same_order : (key : ℕ) → IsIn key keys.order → IsIn key keys_after.order
-      same_order key i = subst (λ (s : Slots K KeyLink). IsIn key s.order) (sym takes.keys_are) i
-
-      alone : (q : ℕ) → q ≡ takes.link.tail → (s : Stays q) → chain_of values_after s.now.key ≡ takes.link.tail ∷ []
-      alone q same s = ap (chain_of values_after) (s.same_key ∙ tail_key q same s) ∙ chain_here
+      alone : (q : ℕ) → q ≡ takes.link.tail → (s : Stays q) → chain_of values_after s.kept.now.key ≡ takes.link.tail ∷ []
+      alone q same s = ap (chain_of values_after) (s.kept.same_key ∙ tail_key q same s) ∙ chain_here
 
       single : (p q : ℕ) → next_of (p ∷ []) q ≡ None
       single p q = elim (p == q) as (λ b. cond b (first_of {X = ℕ} []) None ≡ None) [ true ↦ refl | false ↦ refl ]
 
-      no_next : (q : ℕ) → q ≡ takes.link.tail → (s : Stays q) → s.old.next ≡ None
+      no_next : (q : ℕ) → q ≡ takes.link.tail → (s : Stays q) → s.kept.old.next ≡ None
       no_next q same s =
-          sym (agrees.chained.next q s.old s.listed s.old_is)
+          sym (agrees.chained.next q s.kept.old s.kept.listed s.kept.old_is)
           ∙ (λ i. next_of (chain_of values (tail_key q same s i)) (same i)) ∙ ap (λ ps. next_of ps takes.link.tail) parts
           ∙ next_of-split takes.taking.gone takes.link.tail [] (not_among takes.taking.gone takes.link.tail tail_stays)
 
-      before : (q : ℕ) (s : Stays q) → previous_of (chain_of values_after s.now.key) q ≡ s.now.previous
-      before q s = elim (cases_eq q takes.link.tail) [
-        | inl same ↦ ap (λ ps. previous_of ps q) (alone q same s) ∙ single takes.link.tail q ∙ sym (s.last same)
-        | inr differs ↦ subst (λ (m : ValueLink). previous_of (chain_of values_after m.key) q ≡ m.previous) (sym (s.other differs))
-            (ap (λ ps. previous_of ps q) (chain_there s.old.key (other_key q s differs)) ∙ agrees.chained.previous q s.old s.listed s.old_is)
-      ]
+      before : (q : ℕ) (i : IsIn q values_after.order)
+          → previous_of (chain_of values_after (kept_at q i).now.key) q ≡ (kept_at q i).now.previous
+      before q i =
+          let s = stays_at q i in
+          elim (cases_eq q takes.link.tail) [
+            | inl same ↦ ap (λ ps. previous_of ps q) (alone q same s) ∙ single takes.link.tail q ∙ sym (s.last same)
+            | inr differs ↦
+                let was = agrees.chained.previous q s.kept.old s.kept.listed s.kept.old_is in
+                subst (λ (m : ValueLink). previous_of (chain_of values_after m.key) q ≡ m.previous) (sym (s.other differs))
+                (ap (λ ps. previous_of ps q) (chain_there s.kept.old.key (other_key q s differs)) ∙ was)
+          ]
 
-      behind : (q : ℕ) (s : Stays q) → next_of (chain_of values_after s.now.key) q ≡ s.now.next
-      behind q s = elim (cases_eq q takes.link.tail) [
-        | inl same ↦ ap (λ ps. next_of ps q) (alone q same s) ∙ single takes.link.tail q ∙ sym (s.same_next ∙ no_next q same s)
-        | inr differs ↦ subst (λ (m : ValueLink). next_of (chain_of values_after m.key) q ≡ m.next) (sym (s.other differs))
-            (ap (λ ps. next_of ps q) (chain_there s.old.key (other_key q s differs)) ∙ agrees.chained.next q s.old s.listed s.old_is)
-      ]
+      behind : (q : ℕ) (i : IsIn q values_after.order)
+          → next_of (chain_of values_after (kept_at q i).now.key) q ≡ (kept_at q i).now.next
+      behind q i =
+          let s = stays_at q i in
+          elim (cases_eq q takes.link.tail) [
+            | inl same ↦
+                ap (λ ps. next_of ps q) (alone q same s) ∙ single takes.link.tail q ∙ sym (s.same_next ∙ no_next q same s)
+            | inr differs ↦
+                let was = agrees.chained.next q s.kept.old s.kept.listed s.kept.old_is in
+                subst (λ (m : ValueLink). next_of (chain_of values_after m.key) q ≡ m.next) (sym (s.other differs))
+                (ap (λ ps. next_of ps q) (chain_there s.kept.old.key (other_key q s differs)) ∙ was)
+          ]
 
   values_sound-older : IsSound values_after
   values_sound-older =
       let left : IsSound takes.left = values_sound-taken takes.taking.taken agrees.values_sound in
       record {
         distinct = subst (λ (s : Slots V ValueLink). AreDistinct s.order) (sym takes.rest) left.distinct;
-        filled = λ q i. subst (λ (s : Slots V ValueLink). IsSome (item_at s q)) (sym takes.rest) (left.filled q (subst (λ (s : Slots V ValueLink). IsIn q s.order) takes.rest i));
-        linked = λ q i. let s = stays_at q i in subst IsSome (sym s.now_is) refl;
+        filled = λ q i. let s = kept_at q i in subst IsSome (sym s.item) (agrees.values_sound.filled q s.listed);
+        linked = λ q i. let s = kept_at q i in subst IsSome (sym s.now_is) refl;
         fits = subst (λ (s : Slots V ValueLink). length s.order ≤ s.capacity) (sym takes.rest) left.fits;
       }
 
-  pairs_of-older : (before : List (K × V)) (p : K × V) → pairs_of keys values ≡ before ++ p ∷ [] → pairs_of keys_after values_after ≡ pairs_without eq before k ++ p ∷ []
+  pairs_of-older : (before : List (K × V)) (p : K × V) → pairs_of keys values ≡ before ++ p ∷ []
+      → pairs_of keys_after values_after ≡ pairs_without eq before k ++ p ∷ []
   pairs_of-older before p is =
-      filter_map-agree (pair_at keys_after values_after) (pair_at keys values) values_after.order same
+      filter_map-agree (pair_at keys_after values_after) (pair_at keys values) values_after.order (same_pair relinks agrees kept_at)
       ∙ ap (filter_map (pair_at keys values)) order_after
       ∙ filter_map-append (pair_at keys values) (filter (λ q. not (own q)) front) (takes.link.tail ∷ [])
       ∙ (λ i. filter_map-filter (pair_at keys values) (λ q. not (own q)) (λ e. not (eq k e.0)) front kept i ++ last_pair i)
@@ -261,38 +234,8 @@ module _ {K V : Type 0} {eq : K → K → Bool} (laws : IsEquivalence eq) {hash 
           let is_pair : (here.key, here.value) ≡ e = cc in
           ap not (owns laws agrees k place has q here ∙ ap (λ (x : K × V). eq k x.0) is_pair)
 
-      same : (q : ℕ) → IsIn q values_after.order → pair_at keys_after values_after q ≡ pair_at keys values q
-      same q i =
-          let s = stays_at q i in
-          let here = pair_in agrees q s.listed in
-          let one : Some s.old ≡ Some here.link = sym s.old_is ∙ here.link_is in
-          let old_is : s.old ≡ here.link = cc in
-          pair_at-is keys_after values_after q s.now here.key here.value s.now_is
-          (ap (λ (m : Slots K KeyLink). item_at m s.now.key) takes.keys_are ∙ ap (item_at keys) (s.same_key ∙ ap (λ (l : ValueLink). l.key) old_is) ∙ here.key_is)
-          (s.item ∙ here.value_is)
-          ∙ sym here.pair_is
-
   pub agrees-older : Agrees eq hash keys_after rows values_after
-  unfolding link_now
-  agrees-older = record {
-    keys_sound = subst IsSound (sym takes.keys_are) (IsSound-with_link keys place link_now has.listed agrees.keys_sound);
-    values_sound = values_sound-older;
-    chained = chained-older;
-    distinct = subst (λ (s : Slots K KeyLink). IsDistinct eq (items_of s)) (sym takes.keys_are) agrees.distinct;
-    hashed = λ key j l i item is. elim (key_links key l is) [
-      | inl here ↦ ap (λ (m : KeyLink). m.hash) here.1 ∙ agrees.hashed place j takes.link has.listed (ap (item_at keys) (sym here.0) ∙ old_item key ∙ item) takes.link_is
-      | inr there ↦ agrees.hashed key j l (old_order key i) (old_item key ∙ item) there.1
-    ];
-    in_table = λ key l i is. elim (key_links key l is) [
-      | inl here ↦ ap (get rows) here.0 ∙ agrees.in_table place takes.link has.listed takes.link_is ∙ ap (λ (m : KeyLink). Some m.hash) (sym here.1)
-      | inr there ↦ agrees.in_table key l (old_order key i) there.1
-    ];
-    listed = λ key h is. subst (λ (s : Slots K KeyLink). IsIn key s.order) (sym takes.keys_are) (agrees.listed key h is);
-    counted = agrees.counted ∙ ap (λ (s : Slots K KeyLink). length s.order) (sym takes.keys_are);
-  }
-    where
-      old_item : (key : ℕ) → item_at keys key ≡ item_at keys_after key
-      old_item key = ap (λ (s : Slots K KeyLink). item_at s key) (sym takes.keys_are)
+  agrees-older = agrees-relinked relinks agrees values_sound-older chained-older
 
   pub lists_of-older : (before : List (K × V)) (p : K × V) → pairs_of keys values ≡ before ++ p ∷ []
       → lists_of keys_after values_after ≡ lists (items_of keys) (pairs_without eq before k ++ p ∷ [])

@@ -1,5 +1,6 @@
 -- One pass over the pairs: what is done with the pair at a place, and what is left to do.
-use Rattle.std.proofs.Common.{◌≡◌, ◌≢◌, ◌<◌, ◌≤◌, ℕ, ◌+◌, Bool, true, false, cond, List, [], ◌∷◌, ◌++◌, length, length-append, filter, Option, Some, None, refl, sym, ap, ◌∙◌, subst, inl, arith, append_assoc}
+use Rattle.std.proofs.Common.{◌≡◌, ◌≢◌, ℕ, ◌+◌, Bool, true, false, cond, List, [], ◌∷◌, ◌++◌, length, length-append, filter}
+use Rattle.std.proofs.Common.{Option, Some, None, refl, sym, ap, ◌∙◌, subst, inl, arith, append_assoc}
 use Rattle.std.proofs.lemmas.List.{append-nil}
 use Rattle.std.proofs.lemmas.List.Elements.{filter_map-append}
 use Rattle.std.specs.Cmp.{IsEquivalence}
@@ -10,8 +11,6 @@ use Rattle.std.specs.Ordering.{nat_cmp}
 use Rattle.std.specs.FinMap.{FinMap}
 use Rattle.multimap_slots.specs.Lists.{IsIn, first_of, next_of, without, AreDistinct}
 use Rattle.multimap_slots.specs.Slots.{Slots, with_item}
-use Rattle.multimap_slots.specs.Tapes.{Taped}
-use Rattle.multimap_table.specs.Table.{Table}
 use Rattle.multimap_slots.proofs.Callers.PlaceLists.{AreDistinct-gone, IsIn-left, IsIn-right, IsIn-was, next_of-split, without-split}
 use Rattle.multimap_walks.specs.declared.links.KeyLink.{KeyLink}
 use Rattle.multimap_walks.specs.declared.links.ValueLink.{ValueLink}
@@ -19,9 +18,7 @@ use Rattle.multimap_walks.specs.Chained.{pair_at, pairs_of}
 use Rattle.ordered_multimap.specs.Agrees.{Agrees, items_of}
 use Rattle.ordered_multimap.specs.Keys.{is_listed, keys_named_by}
 use Rattle.ordered_multimap.specs.Retain.{Retains}
-use Rattle.ordered_multimap.specs.Private.RemoveOne.{TakesPair}
-use Rattle.ordered_multimap.specs.Private.Retain.{RetainsAt, StaysIf}
-use Rattle.ordered_multimap.proofs.Remove.OnePair.{LeavesAt, leaves_at, named_by-again, named_by-all}
+use Rattle.ordered_multimap.proofs.Remove.OnePair.{LeavesAt, named_by-again, named_by-all}
 use Rattle.ordered_multimap.proofs.Callers.Members.{keys_of-append}
 use Rattle.ordered_multimap.proofs.Callers.Places.{begins, filter_map-agree, no_rest, places_from, places_from-split}
 use Rattle.ordered_multimap.proofs.Callers.Writes.{Agrees-with_item, pair_here, pair_other}
@@ -44,36 +41,35 @@ module _ {F K V : Type 0} (calls : F → K → V → Bool → V → F → Type 0
         → Retains calls first (pairs_of old_keys old_values)
         (filter_map (pair_at keys values) done ++ later) last
 
--- each pair that leaves the list is counted
-pub record CountsLeft {V : Type 0} (values values_after : Taped V ValueLink) : Type 0 where
-  pub moved : values_after.moved ≡ values.moved
-  pub freed : values_after.freed + length values_after.list.order ≡ values.freed + length values.list.order
-  pub holes : values_after.holes + length values_after.list.order ≡ values.holes + length values.list.order
-  pub fewer : length values_after.list.order ≤ length values.list.order
-
 module _ {F K V : Type 0} {eq : K → K → Bool} {calls : F → K → V → Bool → V → F → Type 0} {accepts : F → K → V → Type 0}
     {old_keys : Slots K KeyLink} {old_rows : FinMap nat_cmp ℕ} {old_values : Slots V ValueLink} {first : F} where
   -- a step has left this much to do
   pub record Continues {keys : Slots K KeyLink} {rows : FinMap nat_cmp ℕ} {values : Slots V ValueLink} {f : F} {following : Option ℕ}
       (r : IsRetaining calls eq accepts old_keys keys old_rows rows old_values values first f following)
-      (keys_after : Slots K KeyLink) (rows_after : FinMap nat_cmp ℕ) (values_after : Slots V ValueLink) (g : F) (next : Option ℕ) : Type 0 where
+      (keys_after : Slots K KeyLink) (rows_after : FinMap nat_cmp ℕ) (values_after : Slots V ValueLink)
+      (g : F) (next : Option ℕ) : Type 0 where
     pub retaining : IsRetaining calls eq accepts old_keys keys_after old_rows rows_after old_values values_after first g next
     pub fewer : length retaining.rest + 1 ≡ length r.rest
 
   -- so many places are left
   pub places_from-rest : {keys : Slots K KeyLink} {rows : FinMap nat_cmp ℕ} {values : Slots V ValueLink} {f : F} {following : Option ℕ}
-      → (r : IsRetaining calls eq accepts old_keys keys old_rows rows old_values values first f following) → AreDistinct values.order → places_from values.order following ≡ length r.rest
+      → (r : IsRetaining calls eq accepts old_keys keys old_rows rows old_values values first f following)
+      → AreDistinct values.order → places_from values.order following ≡ length r.rest
   places_from-rest {values = values} {following = following} r distinct =
-      ap (λ ps. places_from ps following) r.order ∙ ap (places_from (r.done ++ r.rest)) r.following_is ∙ places_from-split r.done r.rest (subst AreDistinct r.order distinct)
+      ap (λ ps. places_from ps following) r.order ∙ ap (places_from (r.done ++ r.rest)) r.following_is
+      ∙ places_from-split r.done r.rest (subst AreDistinct r.order distinct)
 
   -- there is a place
-  pub retaining-at : {keys : Slots K KeyLink} {rows : FinMap nat_cmp ℕ} {values : Slots V ValueLink} {f : F} {following : Option ℕ} {place : ℕ} → following ≡ Some place
+  pub retaining-at : {keys : Slots K KeyLink} {rows : FinMap nat_cmp ℕ} {values : Slots V ValueLink} {f : F} {following : Option ℕ}
+      {place : ℕ} → following ≡ Some place
       → IsRetaining calls eq accepts old_keys keys old_rows rows old_values values first f following
       → IsRetaining calls eq accepts old_keys keys old_rows rows old_values values first f (Some place)
-  retaining-at {keys = keys} {rows = rows} {values = values} {f = f} is r = subst (IsRetaining calls eq accepts old_keys keys old_rows rows old_values values first f) is r
+  retaining-at {keys = keys} {rows = rows} {values = values} {f = f} is r =
+      subst (IsRetaining calls eq accepts old_keys keys old_rows rows old_values values first f) is r
 
   -- nothing is done yet
-  pub retaining-start : IsEquivalence eq → {hash : K → ℕ} → Agrees eq hash old_keys old_rows old_values → (following : Option ℕ) → following ≡ first_of old_values.order
+  pub retaining-start : IsEquivalence eq → {hash : K → ℕ} → Agrees eq hash old_keys old_rows old_values
+      → (following : Option ℕ) → following ≡ first_of old_values.order
       → CallableOnEachPair calls accepts first (pairs_of old_keys old_values)
       → IsRetaining calls eq accepts old_keys old_keys old_rows old_rows old_values old_values first first following
   retaining-start laws agrees following is callable = record {
@@ -87,7 +83,8 @@ module _ {F K V : Type 0} {eq : K → K → Bool} {calls : F → K → V → Boo
     goes_on = λ later last r. r;
   }
 
-  module _ (laws : IsEquivalence eq) {hash : K → ℕ} (old_agrees : Agrees eq hash old_keys old_rows old_values) {keys : Slots K KeyLink} {rows : FinMap nat_cmp ℕ} {values : Slots V ValueLink} {f : F} {place : ℕ}
+  module _ (laws : IsEquivalence eq) {hash : K → ℕ} (old_agrees : Agrees eq hash old_keys old_rows old_values)
+      {keys : Slots K KeyLink} {rows : FinMap nat_cmp ℕ} {values : Slots V ValueLink} {f : F} {place : ℕ}
       (r : IsRetaining calls eq accepts old_keys keys old_rows rows old_values values first f (Some place)) where
     abbrev agrees : Agrees eq hash keys rows values
     agrees = r.agrees hash old_agrees
@@ -97,6 +94,13 @@ module _ {F K V : Type 0} {eq : K → K → Bool} {calls : F → K → V → Boo
 
     rest_is : r.rest ≡ place ∷ back
     rest_is = (begins r.rest place (sym r.following_is)).is
+
+    -- the pairs that are done, and those behind this one
+    abbrev pub done_pairs : List (K × V)
+    done_pairs = filter_map (pair_at keys values) r.done
+
+    abbrev pub back_pairs : List (K × V)
+    back_pairs = filter_map (pair_at keys values) back
 
     split : values.order ≡ r.done ++ place ∷ back
     split = r.order ∙ ap (λ ps. r.done ++ ps) rest_is
@@ -120,47 +124,49 @@ module _ {F K V : Type 0} {eq : K → K → Bool} {calls : F → K → V → Boo
     -- the function may be called on the pair
     pub may_ask : (k : K) (v : V) → pair_at keys values place ≡ Some (k, v) → accepts f k v
     may_ask k v is =
-        r.callable.at [] (filter_map (pair_at keys values) back) f k v
-        (ap (filter_map (pair_at keys values)) rest_is ∙ ap (λ o. cons_option o (filter_map (pair_at keys values) back)) is) refl
+        r.callable.at [] back_pairs f k v
+        (ap (filter_map (pair_at keys values)) rest_is ∙ ap (λ o. cons_option o back_pairs) is) refl
 
     -- the pairs once the pair has been asked for: the others are the same
-    record Turned (b : Bool) (w : V) (k : K) (keys_after : Slots K KeyLink) (rows_after : FinMap nat_cmp ℕ) (values_after : Slots V ValueLink) : Type 0 where
+    pub record Turned (b : Bool) (w : V) (k : K) (keys_after : Slots K KeyLink) (rows_after : FinMap nat_cmp ℕ)
+        (values_after : Slots V ValueLink) : Type 0 where
       order : values_after.order ≡ cond b (r.done ++ place ∷ []) r.done ++ back
       others : (q : ℕ) → IsIn q (r.done ++ back) → pair_at keys_after values_after q ≡ pair_at keys values q
       here : b ≡ true → pair_at keys_after values_after place ≡ Some (k, w)
       agrees_after : (h : K → ℕ) → Agrees eq h keys rows values → Agrees eq h keys_after rows_after values_after
-      keys_are : (pairs_of keys_after values_after ≡ filter_map (pair_at keys values) r.done ++ cond b ((k, w) ∷ filter_map (pair_at keys values) back) (filter_map (pair_at keys values) back))
+      keys_are : (pairs_of keys_after values_after ≡ done_pairs ++ cond b ((k, w) ∷ back_pairs) back_pairs)
           → items_of keys_after ≡ keys_named_by eq (items_of old_keys) (pairs_of keys_after values_after)
 
-    one_fewer : {w : V} {k : K} {keys_after : Slots K KeyLink} {rows_after : FinMap nat_cmp ℕ} {values_after : Slots V ValueLink}
+    pub one_fewer : {w : V} {k : K} {keys_after : Slots K KeyLink} {rows_after : FinMap nat_cmp ℕ} {values_after : Slots V ValueLink}
         → Turned false w k keys_after rows_after values_after → length values_after.order + 1 ≡ length values.order
     one_fewer t = omega (arith, ap length t.order, ap length split, length-append r.done back, length-append r.done (place ∷ back))
 
     module _ {b : Bool} {k : K} {was w : V} {g : F} (pair_is : pair_at keys values place ≡ Some (k, was)) (called : calls f k was b w g)
-        {keys_after : Slots K KeyLink} {rows_after : FinMap nat_cmp ℕ} {values_after : Slots V ValueLink} (t : Turned b w k keys_after rows_after values_after) where
-      abbrev done_pairs : List (K × V)
-      done_pairs = filter_map (pair_at keys values) r.done
-
-      abbrev back_pairs : List (K × V)
-      back_pairs = filter_map (pair_at keys values) back
-
+        {keys_after : Slots K KeyLink} {rows_after : FinMap nat_cmp ℕ} {values_after : Slots V ValueLink}
+        (t : Turned b w k keys_after rows_after values_after) where
       done_same : filter_map (pair_at keys_after values_after) r.done ≡ done_pairs
-      done_same = filter_map-agree (pair_at keys_after values_after) (pair_at keys values) r.done (λ q i. t.others q (IsIn-left q r.done back i))
+      done_same = filter_map-agree (pair_at keys_after values_after) (pair_at keys values) r.done
+          (λ q i. t.others q (IsIn-left q r.done back i))
 
       back_same : filter_map (pair_at keys_after values_after) back ≡ back_pairs
-      back_same = filter_map-agree (pair_at keys_after values_after) (pair_at keys values) back (λ q i. t.others q (IsIn-right q r.done back i))
+      back_same = filter_map-agree (pair_at keys_after values_after) (pair_at keys values) back
+          (λ q i. t.others q (IsIn-right q r.done back i))
 
       rest_pairs : filter_map (pair_at keys values) r.rest ≡ (k, was) ∷ back_pairs
       rest_pairs = ap (filter_map (pair_at keys values)) rest_is ∙ ap (λ o. cons_option o back_pairs) pair_is
 
       -- the pairs that are done, before others
-      done_now : (more : List (K × V)) → filter_map (pair_at keys_after values_after) (cond b (r.done ++ place ∷ []) r.done) ++ more ≡ done_pairs ++ cond b ((k, w) ∷ more) more
+      abbrev done_after : Bool → List (K × V)
+      done_after c = filter_map (pair_at keys_after values_after) (cond c (r.done ++ place ∷ []) r.done)
+
+      done_now : (more : List (K × V)) → done_after b ++ more ≡ done_pairs ++ cond b ((k, w) ∷ more) more
       done_now more = by b t.here
         where
           by : (c : Bool) → (c ≡ true → pair_at keys_after values_after place ≡ Some (k, w))
-              → filter_map (pair_at keys_after values_after) (cond c (r.done ++ place ∷ []) r.done) ++ more ≡ done_pairs ++ cond c ((k, w) ∷ more) more
+              → done_after c ++ more ≡ done_pairs ++ cond c ((k, w) ∷ more) more
           by true here =
-              ap (λ ps. ps ++ more) (filter_map-append (pair_at keys_after values_after) r.done (place ∷ []) ∙ ap (λ o. filter_map (pair_at keys_after values_after) r.done ++ cons_option o []) (here refl))
+              ap (λ ps. ps ++ more) (filter_map-append (pair_at keys_after values_after) r.done (place ∷ []))
+              ∙ ap (λ o. (filter_map (pair_at keys_after values_after) r.done ++ cons_option o []) ++ more) (here refl)
               ∙ ap (λ ps. (ps ++ (k, w) ∷ []) ++ more) done_same
               ∙ append_assoc done_pairs ((k, w) ∷ []) more
           by false here = ap (λ ps. ps ++ more) done_same
@@ -169,10 +175,10 @@ module _ {F K V : Type 0} {eq : K → K → Bool} {calls : F → K → V → Boo
       pairs_now =
           ap (filter_map (pair_at keys_after values_after)) t.order
           ∙ filter_map-append (pair_at keys_after values_after) (cond b (r.done ++ place ∷ []) r.done) back
-          ∙ ap (λ ps. filter_map (pair_at keys_after values_after) (cond b (r.done ++ place ∷ []) r.done) ++ ps) back_same
+          ∙ ap (λ ps. done_after b ++ ps) back_same
           ∙ done_now back_pairs
 
-      continues : (next : Option ℕ) → next ≡ next_of values.order place → Continues r keys_after rows_after values_after g next
+      pub continues : (next : Option ℕ) → next ≡ next_of values.order place → Continues r keys_after rows_after values_after g next
       continues next next_of_is = record {
         retaining = record {
           done = cond b (r.done ++ place ∷ []) r.done;
@@ -183,30 +189,32 @@ module _ {F K V : Type 0} {eq : K → K → Bool} {calls : F → K → V → Boo
           keys_are = t.keys_are pairs_now;
           callable = record {
             at = λ before after g' j v is folds.
-                r.callable.at ((k, was) ∷ before) after g' j v (rest_pairs ∙ ap (λ ps. (k, was) ∷ ps) (sym back_same ∙ is)) (g, (b, w, called), folds);
+                r.callable.at ((k, was) ∷ before) after g' j v
+                (rest_pairs ∙ ap (λ ps. (k, was) ∷ ps) (sym back_same ∙ is)) (g, (b, w, called), folds);
           };
           goes_on = λ later last rest.
               let here : Retains calls f ((k, was) ∷ back_pairs) (cond b ((k, w) ∷ later) later) last =
               (b, w, g, later, called, subst (λ ps. Retains calls g ps later last) back_same rest, refl) in
               subst (λ ps. Retains calls first (pairs_of old_keys old_values) ps last) (sym (done_now later))
-              (r.goes_on (cond b ((k, w) ∷ later) later) last (subst (λ ps. Retains calls f ps (cond b ((k, w) ∷ later) later) last) (sym rest_pairs) here));
+              (r.goes_on (cond b ((k, w) ∷ later) later) last
+              (subst (λ ps. Retains calls f ps (cond b ((k, w) ∷ later) later) last) (sym rest_pairs) here));
         };
         fewer = omega (arith, ap length rest_is);
       }
 
     module _ (k : K) (was w : V) (pair_is : pair_at keys values place ≡ Some (k, was)) where
-      abbrev written : Slots V ValueLink
+      abbrev pub written : Slots V ValueLink
       written = with_item values place w
 
       -- the names of the pairs as they were
-      names : keys_of (pairs_of keys values) ≡ keys_of (filter_map (pair_at keys values) r.done) ++ k ∷ keys_of (filter_map (pair_at keys values) back)
+      names : keys_of (pairs_of keys values) ≡ keys_of done_pairs ++ k ∷ keys_of back_pairs
       names =
           ap (λ ps. keys_of (filter_map (pair_at keys values) ps)) split
           ∙ ap keys_of (filter_map-append (pair_at keys values) r.done (place ∷ back))
-          ∙ ap (λ o. keys_of (filter_map (pair_at keys values) r.done ++ cons_option o (filter_map (pair_at keys values) back))) pair_is
-          ∙ keys_of-append (filter_map (pair_at keys values) r.done) ((k, was) ∷ filter_map (pair_at keys values) back)
+          ∙ ap (λ o. keys_of (done_pairs ++ cons_option o back_pairs)) pair_is
+          ∙ keys_of-append done_pairs ((k, was) ∷ back_pairs)
 
-      turned_stays : Turned true w k keys rows written
+      pub turned_stays : Turned true w k keys rows written
       turned_stays = record {
         order = split ∙ sym (append_assoc r.done (place ∷ []) back);
         others = λ q i. pair_other agrees place listed_place w q (was_listed q i) (other q i);
@@ -215,7 +223,7 @@ module _ {F K V : Type 0} {eq : K → K → Bool} {calls : F → K → V → Boo
         keys_are = λ now.
             r.keys_are
             ∙ ap (λ ks. filter (is_listed eq ks) (items_of old_keys))
-            (names ∙ sym (ap keys_of now ∙ keys_of-append (filter_map (pair_at keys values) r.done) ((k, w) ∷ filter_map (pair_at keys values) back)));
+            (names ∙ sym (ap keys_of now ∙ keys_of-append done_pairs ((k, w) ∷ back_pairs)));
       }
 
       module _ {keys_after : Slots K KeyLink} {rows_after : FinMap nat_cmp ℕ} {values_after : Slots V ValueLink}
@@ -226,75 +234,30 @@ module _ {F K V : Type 0} {eq : K → K → Bool} {calls : F → K → V → Boo
         order_left : values_after.order ≡ r.done ++ back
         order_left = left.order ∙ ap (λ ps. without ps place) split ∙ without-split r.done place back gone
 
-        turned_leaves : Turned false w k keys_after rows_after values_after
+        pub turned_leaves : Turned false w k keys_after rows_after values_after
         turned_leaves = record {
           order = order_left;
-          others = λ q i. left.same q (subst (IsIn q) (sym order_left) i) ∙ pair_other agrees place listed_place w q (was_listed q i) (other q i);
+          others = λ q i.
+              left.same q (subst (IsIn q) (sym order_left) i)
+              ∙ pair_other agrees place listed_place w q (was_listed q i) (other q i);
           here = λ e. absurd (let bad : false ≡ true = e in cc);
           agrees_after = λ h a. (leaves h (Agrees-with_item a place listed_place w)).agrees;
           keys_are = λ now.
               left.keys_are ∙ ap (λ ks. keys_named_by eq ks (pairs_of keys_after values_after)) r.keys_are
               ∙ named_by-again laws (items_of old_keys) (pairs_of keys values) (pairs_of keys_after values_after)
               (λ j i. subst (IsIn j) (sym names)
-              (IsIn-was j (keys_of (filter_map (pair_at keys values) r.done)) k (keys_of (filter_map (pair_at keys values) back))
-              (subst (IsIn j) (ap keys_of now ∙ keys_of-append (filter_map (pair_at keys values) r.done) (filter_map (pair_at keys values) back)) i)));
+              (IsIn-was j (keys_of done_pairs) k (keys_of back_pairs)
+              (subst (IsIn j) (ap keys_of now ∙ keys_of-append done_pairs back_pairs) i)));
         }
 
-  -- one step: the pair at the place stays or has left
-  module _ (laws : IsEquivalence eq) {hash : K → ℕ} (old_agrees : Agrees eq hash old_keys old_rows old_values)
-      {keys keys_after : Slots K KeyLink} {table table_after : Table} {values values_after : Taped V ValueLink} {f g : F} {place : ℕ}
-      (r : IsRetaining calls eq accepts old_keys keys old_rows table.rows old_values values.list first f (Some place))
-      (at : RetainsAt calls keys keys_after table table_after values values_after place f g) where
-    asked_list : at.asked.list ≡ with_item values.list place at.asks.left
-    asked_list = ap (λ (t : Taped V ValueLink). t.list) at.asks.written
-
-    turns : (b : Bool) → StaysIf calls keys keys_after table table_after at.asked values_after place b → Turned laws old_agrees r b at.asks.left at.asks.key keys_after table_after.rows values_after.list
-    turns true stays =
-        let lists : with_item values.list place at.asks.left ≡ values_after.list = sym (ap (λ (t : Taped V ValueLink). t.list) stays.values_are ∙ asked_list) in
-        subst (λ ks. Turned laws old_agrees r true at.asks.left at.asks.key ks table_after.rows values_after.list) (sym stays.keys_are)
-        (subst (λ (t : Table). Turned laws old_agrees r true at.asks.left at.asks.key keys t.rows values_after.list) (sym stays.table_is)
-        (subst (λ vs. Turned laws old_agrees r true at.asks.left at.asks.key keys table.rows vs) lists (turned_stays laws old_agrees r at.asks.key at.asks.was at.asks.left at.asks.pair)))
-    turns false leaves =
-        turned_leaves laws old_agrees r at.asks.key at.asks.was at.asks.left at.asks.pair (λ h a.
-        leaves_at laws a place (listed_place laws old_agrees r) leaves.0
-        (subst (λ vs. TakesPair keys keys_after table.rows table_after.rows vs values_after.list place leaves.0) asked_list leaves.1.takes))
-
-    pub retaining-step : (next : Option ℕ) → next ≡ next_of values.list.order place → Continues r keys_after table_after.rows values_after.list g next
-    retaining-step next is = continues laws old_agrees r at.asks.pair at.asks.called (turns at.answer at.rest) next is
-
-    pub retaining-smaller : (next : Option ℕ) → next ≡ next_of values.list.order place → places_from values_after.list.order next < places_from values.list.order (Some place)
-    retaining-smaller next is =
-        let s = retaining-step next is in
-        omega (arith, s.fewer, places_from-rest s.retaining (s.retaining.agrees hash old_agrees).values_sound.distinct, places_from-rest r (r.agrees hash old_agrees).values_sound.distinct)
-
-    -- what it makes of the numbers
-    pub retaining-counts : CountsLeft values values_after
-    retaining-counts = by at.answer at.rest
-      where
-        by : (b : Bool) → StaysIf calls keys keys_after table table_after at.asked values_after place b → CountsLeft values values_after
-        by true stays =
-            let same = stays.values_are ∙ at.asks.written in
-            record {
-              moved = ap (λ (t : Taped V ValueLink). t.moved) same;
-              freed = ap (λ (t : Taped V ValueLink). t.freed + length t.list.order) same;
-              holes = ap (λ (t : Taped V ValueLink). t.holes + length t.list.order) same;
-              fewer = omega (arith, ap (λ (t : Taped V ValueLink). length t.list.order) same);
-            }
-        by false leaves =
-            let one : length values_after.list.order + 1 ≡ length values.list.order = one_fewer laws old_agrees r (turns false leaves) in
-            record {
-              moved = leaves.1.frees.moved ∙ ap (λ (t : Taped V ValueLink). t.moved) at.asks.written;
-              freed = omega (arith, one, leaves.1.frees.freed, ap (λ (t : Taped V ValueLink). t.freed) at.asks.written);
-              holes = omega (arith, one, leaves.1.frees.holes, ap (λ (t : Taped V ValueLink). t.holes) at.asks.written);
-              fewer = omega (arith, one);
-            }
-
   -- all is done
-  pub retaining-end : {keys : Slots K KeyLink} {rows : FinMap nat_cmp ℕ} {values : Slots V ValueLink} {f : F} {following : Option ℕ} → following ≡ None
-      → IsRetaining calls eq accepts old_keys keys old_rows rows old_values values first f following → Retains calls first (pairs_of old_keys old_values) (pairs_of keys values) f
+  pub retaining-end : {keys : Slots K KeyLink} {rows : FinMap nat_cmp ℕ} {values : Slots V ValueLink} {f : F} {following : Option ℕ}
+      → following ≡ None → IsRetaining calls eq accepts old_keys keys old_rows rows old_values values first f following
+      → Retains calls first (pairs_of old_keys old_values) (pairs_of keys values) f
   retaining-end {keys = keys} {values = values} {f = f} is r =
       let none = no_rest r.rest (sym r.following_is ∙ is) in
       let all : pairs_of keys values ≡ filter_map (pair_at keys values) r.done ++ [] =
-      ap (filter_map (pair_at keys values)) (r.order ∙ ap (λ ps. r.done ++ ps) none ∙ append-nil r.done) ∙ sym (append-nil (filter_map (pair_at keys values) r.done)) in
+      ap (filter_map (pair_at keys values)) (r.order ∙ ap (λ ps. r.done ++ ps) none ∙ append-nil r.done)
+      ∙ sym (append-nil (filter_map (pair_at keys values) r.done)) in
       subst (λ ps. Retains calls first (pairs_of old_keys old_values) ps f) (sym all)
       (r.goes_on [] f (subst (λ ps. Retains calls f (filter_map (pair_at keys values) ps) [] f) (sym none) (refl, refl)))

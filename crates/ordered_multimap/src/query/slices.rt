@@ -3,7 +3,7 @@ ghost use Rattle.std.specs.Box.{boxed_slice_items};
 ghost use Rattle.std.specs.Cmp.Lexicographic.{pointwise, lists_equiv};
 ghost use Rattle.std.specs.Cow.{cow_slice_items};
 ghost use Rattle.std.specs.Hash.{items_Alike};
-ghost use Rattle.std.specs.Prelude.{◌≡◌, None};
+ghost use Rattle.std.specs.Prelude.{None};
 
 use super::KeyQuery;
 use std::alloc::Allocator;

@@ -1,4 +1,6 @@
 -- The law holds of nothing that is handed in. Assumes `Logic`.
+-- The body does nothing: the fact is the lemma of the same name, which stands in `Loans/Exact`.
+-- It gives that back, and the tokens as they came.
 use mathlib.Core.Path.{refl}
 use mathlib.Core.List.{List, [], ◌∷◌}
 use mir.Syntax.{a_type, dcons, dnil}

@@ -1,5 +1,5 @@
 //! The ways in which a value leaves the list.
-ghost use Rattle.std.specs.Prelude.{◌≡◌, ℕ, Bool, true, false, Some, ⊤};
+ghost use Rattle.std.specs.Prelude.{◌≡◌, Bool, true, false, Some, ⊤};
 ghost use Rattle.multimap_slots.specs.Lists.{IsIn};
 ghost use Rattle.multimap_slots.specs.Slots.{item_at};
 ghost use Rattle.ordered_multimap.specs.Private.Remove.{LeavesList};

@@ -1,4 +1,6 @@
 -- `first_by_walk` lends the map to a walk, takes the first reference, and drops the walk. Assumes `Logic`.
+-- It calls `values_mut`, `first_of`, the law `walks_are_exact`, and the walk's `drop`, and hands each the tokens that it asks for.
+-- It joins what these say with the law: the map ends with what the reference ends with, and otherwise as it was.
 use Rattle.std.proofs.Common.{◌≡◌, ◌<◌, List, [], ◌∷◌, refl, sym, ap, ◌∙◌, subst, length, option_map}
 use Rattle.std.specs.Prelude.{Some}
 use mir.Syntax.{a_type, dcons, dnil, named}

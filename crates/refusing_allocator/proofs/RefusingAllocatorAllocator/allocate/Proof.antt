@@ -1,4 +1,6 @@
 -- It refuses, or answers what the inner allocator answers. Assumes `Logic`.
+-- It shows both fields under the `&`, and asks the budget (`refuses`): where it refuses, the answer is an error.
+-- Else it calls the inner `allocate` with the same size and alignment, and hands on the block or the error.
 use Rattle.std.proofs.Common.{◌≡◌, ℕ, ◌+◌, ◌^◌, ◌<◌, Bool, true, false, List, [], ◌∷◌, Ok, Err, refl, w64, Bor}
 use seplogic.Ra.Ura.{Ura}
 use mir.Syntax.{Ty, Args, Fn, a_type, dnil, dcons}

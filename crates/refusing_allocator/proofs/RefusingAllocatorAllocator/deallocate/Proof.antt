@@ -1,4 +1,6 @@
 -- It gives the block back to the inner allocator. Assumes `Logic`.
+-- No block is null, so that case can't be. Else it shows the inner allocator under the `&`,
+-- and calls its `deallocate` with block, size and alignment as they came.
 use Rattle.std.proofs.Common.{◌≡◌, ℕ, ◌+◌, ◌^◌, ◌<◌, List, [], ◌∷◌, refl, w64, Bor}
 use seplogic.Ra.Ura.{Ura}
 use mir.Syntax.{Ty, Args, Fn, a_type, dnil, dcons}

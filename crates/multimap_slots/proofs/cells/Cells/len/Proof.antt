@@ -1,4 +1,6 @@
 -- `len` reads the number of slots. Assumes `Logic`.
+-- It takes the fields out of the `&`, and what the slots lend meanwhile, which says that the length field counts the items.
+-- It reads that field, and gives the fields back.
 use mathlib.Core.Path.{◌≡◌, refl, sym}
 use Prim.Native.Nat.{ℕ, ◌<◌, ◌^◌}
 use mathlib.Core.List.{List, [], ◌∷◌}

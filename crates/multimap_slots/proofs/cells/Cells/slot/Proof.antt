@@ -1,4 +1,6 @@
 -- `slot` shows one slot that a `&` reaches. Assumes `Logic`.
+-- It takes the fields out of the `&`, and of what the slots lend meanwhile the slot at the place (`slot_seen`), for as long as the `&`.
+-- It computes the slot's address, which fits, gives the fields back, and makes the reference.
 use mathlib.Core.Path.{◌≡◌, refl, sym, ap, ◌∙◌}
 use Prim.Native.Nat.{ℕ, ◌+◌, ◌*◌, ◌<◌, ◌^◌}
 use native.Mathlib.Omega.{arith}

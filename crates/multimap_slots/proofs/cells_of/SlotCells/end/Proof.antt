@@ -1,4 +1,6 @@
 -- `end` lets the loans go that are left. Assumes `Logic`.
+-- It ends the cells within, of whichever of the two kinds they are (`slot_cells_end`), and drops the rest.
+-- It gives back what they end as, and the tokens as they came.
 use mathlib.Core.Path.{refl, sym, subst}
 use mathlib.Core.List.{List, [], ◌∷◌, ◌++◌}
 use mir.Syntax.{a_type, dcons, dnil}

@@ -7,7 +7,12 @@ use Rattle.ordered_multimap.proofs.list_ordered_multimap.ListOrderedMultimap.key
 pub returns-clause-own : goal.returns-clause-own
 returns-clause-own g c =
     subst (λ m. HasKey g.K.PartialEq.eq m.slots.keys c.slot_at.result.0.now c.args.place) c.self.view_is
-    (record { listed = c.slot_at.ensures.listed; stored = c.slot_at.result.0.now; item_is = c.slot_at.ensures.item_is; equal = g.met.K.Eq.laws.refl c.slot_at.result.0.now })
+    (record {
+      listed = c.slot_at.ensures.listed;
+      stored = c.slot_at.result.0.now;
+      item_is = c.slot_at.ensures.item_is;
+      equal = g.met.K.Eq.laws.refl c.slot_at.result.0.now;
+    })
 
 pub returns-clause-stored : goal.returns-clause-stored
 returns-clause-stored g c =

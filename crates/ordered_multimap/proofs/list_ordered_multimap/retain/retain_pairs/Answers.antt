@@ -1,8 +1,8 @@
 use Rattle.std.proofs.Common.{◌<◌, refl, sym, ◌∙◌, subst, arith}
 use Rattle.ordered_multimap.proofs.Remove.OnePair.{has_pair, retains_room}
 use Rattle.ordered_multimap.proofs.Callers.Places.{places_from}
-use Rattle.ordered_multimap.proofs.Remove.Retaining.{retaining-at, retaining-start, retaining-end, retaining-step, retaining-counts}
-use Rattle.ordered_multimap.proofs.Remove.Retaining.{retaining-smaller, listed_place, may_ask}
+use Rattle.ordered_multimap.proofs.Remove.Retaining.{retaining-at, retaining-start, retaining-end, listed_place, may_ask}
+use Rattle.ordered_multimap.proofs.Remove.RetainingStep.{retaining-step, retaining-smaller, retaining-counts}
 use Rattle.ordered_multimap.proofs.list_ordered_multimap.retain.retain_pairs.Goals as goal
 
 pub loop-following-init : goal.loop-following-init

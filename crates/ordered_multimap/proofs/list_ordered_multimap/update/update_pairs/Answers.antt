@@ -1,10 +1,8 @@
-use Rattle.std.proofs.Common.{◌<◌, true, refl, sym, ap, ◌∙◌, subst}
-use Rattle.ordered_multimap.specs.Private.Retain.{RetainsAt}
-use Rattle.ordered_multimap.specs.Updates.{Updates}
+use Rattle.std.proofs.Common.{◌<◌, refl, sym, ap, ◌∙◌, subst}
 use Rattle.ordered_multimap.proofs.Callers.Places.{places_from}
 use Rattle.ordered_multimap.proofs.Append.Steps.{room_same, room_written}
-use Rattle.ordered_multimap.proofs.Remove.Retaining.{retaining-at, retaining-start, retaining-end, retaining-step, retaining-smaller}
-use Rattle.ordered_multimap.proofs.Remove.Retaining.{listed_place, may_ask}
+use Rattle.ordered_multimap.proofs.Remove.Retaining.{retaining-at, retaining-start, retaining-end, listed_place, may_ask}
+use Rattle.ordered_multimap.proofs.Remove.RetainingStep.{retaining-step, retaining-smaller, stays_written}
 use Rattle.ordered_multimap.proofs.list_ordered_multimap.update.update_pairs.Goals as goal
 
 pub loop-following-init : goal.loop-following-init
@@ -31,25 +29,20 @@ update_at-requires-clause-callable g c =
 
 pub loop-following-smaller : goal.loop-following-smaller
 loop-following-smaller g c =
-    let asks = c.update_at.ensures in
-    let at : RetainsAt (Updates g.F.FnMut) c.args.keys.now c.args.keys.now c.args.table.now c.args.table.now c.loop-following.values
-    c.update_at.new.values c.in-Some.place c.loop-following.f c.update_at.new.f
-    = record { answer = true; asked = c.update_at.new.values; asks = asks; rest = record { keys_are = refl; table_is = refl; values_are = refl } } in
     subst (λ o. places_from c.update_at.new.values.list.order c.next_listed_place-following.result < places_from
     c.loop-following.values.list.order o) (sym c.in-Some.is)
-    (retaining-smaller g.met.K.Eq.laws c.requires.agrees.1 (retaining-at c.in-Some.is c.loop-following.invariant.retaining) at
+    (retaining-smaller g.met.K.Eq.laws c.requires.agrees.1 (retaining-at c.in-Some.is c.loop-following.invariant.retaining)
+    (stays_written {table = c.args.table.now} c.update_at.ensures)
     c.next_listed_place-following.result c.next_listed_place-following.ensures)
 
 pub loop-following-preserved : goal.loop-following-preserved
 loop-following-preserved g c =
     let w = c.loop-following.invariant in
     let asks = c.update_at.ensures in
-    let at : RetainsAt (Updates g.F.FnMut) c.args.keys.now c.args.keys.now c.args.table.now c.args.table.now c.loop-following.values
-    c.update_at.new.values c.in-Some.place c.loop-following.f c.update_at.new.f
-    = record { answer = true; asked = c.update_at.new.values; asks = asks; rest = record { keys_are = refl; table_is = refl; values_are = refl } } in
     record {
       retaining =
-          (retaining-step g.met.K.Eq.laws c.requires.agrees.1 (retaining-at c.in-Some.is w.retaining) at
+          (retaining-step g.met.K.Eq.laws c.requires.agrees.1 (retaining-at c.in-Some.is w.retaining)
+          (stays_written {table = c.args.table.now} asks)
           c.next_listed_place-following.result c.next_listed_place-following.ensures).retaining;
       order = ap (λ t. t.list.order) asks.written ∙ w.order;
       room = room_written _ _ w.room asks.written;

@@ -8,7 +8,7 @@ use Rattle.set_ordered_multimap.proofs.Callers.Sets.{IsSet-all_inserted}
 use Rattle.set_ordered_multimap.proofs.Insertions.{keeps-inserted, keeps-then, pair_room}
 use Rattle.set_ordered_multimap.specs.Set.{IsSet, set_inserted}
 use Rattle.set_ordered_multimap.proofs.set.SetOrderedMultimap.extend.Given.{Over}
-use Rattle.set_ordered_multimap.proofs.set.SetOrderedMultimap.extend.Goals.{In-Some, In-Err}
+use Rattle.set_ordered_multimap.proofs.set.SetOrderedMultimap.extend.Goals.{In-Some}
 use Rattle.set_ordered_multimap.proofs.set.SetOrderedMultimap.extend.Goals as goal
 
 -- the iterator has given these and one more

@@ -40,7 +40,11 @@ returns-then-key_link-eq1 g c =
         };
       };
       frees = t.freed;
-      room = record { key_room = c.take_key-key.ensures.removed.capacity; row_room = c.take_key-key.ensures.row.capacity; value_room = t.removed.capacity };
+      room = record {
+        key_room = c.take_key-key.ensures.removed.capacity;
+        row_room = c.take_key-key.ensures.row.capacity;
+        value_room = t.removed.capacity;
+      };
     }
 
 -- one of several
