@@ -1,5 +1,6 @@
 //! Headers and their parts, read from their texts.
-ghost use Rattle.std.specs.Prelude.{◌≡◌, ◌↔◌, IsOk, IsSome, IfErr};
+ghost use Rattle.std.specs.Prelude.{◌≡◌, ◌↔◌, IsOk, IsSome, IfErr, IfSome};
+ghost use Rattle.std.specs.Str.{IsTrimAscii};
 ghost use Rattle.std.specs.IoError.{error_kind};
 ghost use Rattle.std.specs.declared.io.ErrorKind.TheVariants.{InvalidData};
 ghost use Rattle.header_store.specs.Fields as rfc;
@@ -34,7 +35,8 @@ pub fn name_of(text: &[u8]) -> io::Result<Name<'_>>
 
 /// The value that the text is, without the blanks around it, or none if RFC 9110 forbids it.
 fn value_of(text: &[u8]) -> Option<&[u8]>
-    ensures { IsSome result ↔ rfc.IsValue text.now }
+    ensures allowed { IsSome result ↔ rfc.IsValue text.now }
+    ensures trimmed { IfSome result (λ value. IsTrimAscii text.now value.now) }
 {
     let is_value = text.iter().all(|byte| is_value_byte(*byte));
     is_value.then_some(text.trim_ascii())
