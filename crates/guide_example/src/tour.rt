@@ -1,10 +1,8 @@
 //! The snippets of docs/GUIDE.md, each as a function that prints what it finds.
+use crate::Words;
 use ordered_multimap::{ListOrderedMultimap, Refused};
 use std::alloc::AllocError;
 use std::io;
-
-/// Words with a number each.
-type Words = ListOrderedMultimap<&'static str, u32>;
 
 /// Counts words: each has one value, how often it came.
 fn count(counts: &mut Words, words: &[&'static str]) -> Result<(), AllocError> {

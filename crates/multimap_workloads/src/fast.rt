@@ -1,6 +1,5 @@
 //! A fast hasher for keys of one word, which has no seed.
 ghost use Rattle.std.specs.Prelude.{◌≡◌, length};
-ghost use Rattle.std.specs.Int.{w64, from_le_bytes};
 ghost use Rattle.multimap_workloads.specs.Fast.{folded, first_word, written};
 
 use std::hash::Hasher;
