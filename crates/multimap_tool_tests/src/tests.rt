@@ -1,4 +1,11 @@
 //! The tests, by what they are of.
+mod borrowed;
+mod callers;
+mod faults;
 mod letters;
-mod refused;
+mod lists;
+mod maps;
+mod memory;
+mod parts;
+mod shown;
 mod streams;

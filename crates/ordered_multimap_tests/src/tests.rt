@@ -9,9 +9,11 @@ mod examples;
 mod hashes;
 mod into_iter;
 mod key_values;
+mod queries;
 mod shown;
 mod texts;
 mod uncloned;
+mod uses;
 mod walks;
 
 use crate::tests::hashes::{collided_keys_come, keys_are_found};

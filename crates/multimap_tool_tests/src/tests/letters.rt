@@ -1,5 +1,6 @@
 //! A run over keys that are equal and not the same, whose function writes what it keeps; and the
 //! laws of runs.
+use crate::tests::callers::{lists_of_numbers_are_read, pairs_of_numbers_are_read};
 use multimap_tool::commands::Command;
 use multimap_tool::json::{JsonPart, PartFault};
 use multimap_tool::laws::{characters_differ_as_json, run_is_well_formed, step_is_orderly};
@@ -90,6 +91,8 @@ fn laws_can_be_called() {
     equal_maps::<u32, i64>();
     step_is_orderly::<u32, i64, Global, _>(&|_, _, _| true);
     run_is_well_formed::<u32, i64, Global, _>(&|_, _, _| true);
+    pairs_of_numbers_are_read();
+    lists_of_numbers_are_read();
 }
 
 #[test]

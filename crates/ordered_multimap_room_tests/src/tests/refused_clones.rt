@@ -2,6 +2,7 @@
 use ordered_multimap::ListOrderedMultimap;
 use ordered_multimap::list_ordered_multimap::DefaultState;
 use refusing_allocator::RefusingAllocator;
+use std::alloc::AllocError;
 use test_helpers::{Failed, Test, requests_until_enough};
 
 type Text<'a> = String<&'a RefusingAllocator>;
@@ -40,21 +41,25 @@ fn is_key(key: Option<&Text<'_>>, wanted: &str) -> bool {
     }
 }
 
+fn has_keys(map: &Texts<'_>) -> bool {
+    let mut keys = map.keys();
+    is_key(keys.next(), "a") && is_key(keys.next(), "b") && keys.next().is_none()
+}
+
+fn has_pairs(map: &Texts<'_>) -> bool {
+    let mut pairs = map.iter();
+    is_pair(pairs.next(), "b", "y") && is_pair(pairs.next(), "a", "z") && pairs.next().is_none()
+}
+
 // The keys a, b and the pairs (b, y), (a, z).
 fn has_both(test: &Test, map: &Texts<'_>) {
-    let mut keys = map.keys();
-    test.expect(is_key(keys.next(), "a"));
-    test.expect(is_key(keys.next(), "b"));
-    test.expect(keys.next().is_none());
-    let mut pairs = map.iter();
-    test.expect(is_pair(pairs.next(), "b", "y"));
-    test.expect(is_pair(pairs.next(), "a", "z"));
-    test.expect(pairs.next().is_none());
+    test.expect(has_keys(map));
+    test.expect(has_pairs(map));
 }
 
 // Returns whether there was memory for a clone.
-fn is_cloned(test: &Test, map: &Texts<'_>) -> bool {
-    match map.clone() {
+fn is_copy(test: &Test, made: Result<Texts<'_>, AllocError>) -> bool {
+    match made {
         Ok(copy) => {
             has_both(test, &copy);
             true
@@ -65,17 +70,32 @@ fn is_cloned(test: &Test, map: &Texts<'_>) -> bool {
 
 fn clone_with(test: &Test, granted: u64) -> bool {
     let allocator = RefusingAllocator::unlimited(test.alloc());
-    let mut map = ListOrderedMultimap::new(&allocator);
-    insert(test, &allocator, &mut map, ('a', 'x'));
-    insert(test, &allocator, &mut map, ('b', 'y'));
-    insert(test, &allocator, &mut map, ('a', 'z'));
-    clones_of_it(test, &allocator, granted, &map)
+    clones_of_it(
+        test,
+        &allocator,
+        granted,
+        &mut ListOrderedMultimap::new(&allocator),
+    )
+}
+
+const PAIRS: &[(char, char)] = &[('a', 'x'), ('b', 'y'), ('a', 'z')];
+
+fn fill<'a>(test: &Test, allocator: &'a RefusingAllocator, map: &mut Texts<'a>) {
+    for pair in PAIRS {
+        insert(test, allocator, map, *pair);
+    }
 }
 
 // A refused request is told, and the map is as it was.
-fn clones_of_it(test: &Test, allocator: &RefusingAllocator, granted: u64, map: &Texts<'_>) -> bool {
+fn clones_of_it<'a>(
+    test: &Test,
+    allocator: &'a RefusingAllocator,
+    granted: u64,
+    map: &mut Texts<'a>,
+) -> bool {
+    fill(test, allocator, map);
     allocator.grant(granted);
-    let cloned = is_cloned(test, map);
+    let cloned = is_copy(test, map.clone());
     test.expect(cloned != allocator.refused());
     has_both(test, map);
     cloned

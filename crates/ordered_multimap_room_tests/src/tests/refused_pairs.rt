@@ -55,13 +55,18 @@ pub fn from_iter_with(test: &Test, granted: u64) -> bool {
 
 fn from_iter_of(test: &Test, allocator: &RefusingAllocator) -> bool {
     let mut pairs = PAIRS.iter().copied();
-    match ListOrderedMultimap::from_iter(allocator, DefaultState::new(), &mut pairs) {
+    let made = ListOrderedMultimap::from_iter(allocator, DefaultState::new(), &mut pairs);
+    is_made_of(test, made, PAIRS.len().saturating_sub(pairs.len()))
+}
+
+// The map, or the pair that was the last one given of so many.
+fn is_made_of(test: &Test, made: Result<Refusing<'_>, Refused<u32, u32>>, given: usize) -> bool {
+    match made {
         Ok(map) => {
             test.expect(has_lists(&map, PAIRS, KEYS));
             true
         }
         Err(refused) => {
-            let given = PAIRS.len().saturating_sub(pairs.len());
             comes_back(test, given.saturating_sub(1), refused);
             false
         }

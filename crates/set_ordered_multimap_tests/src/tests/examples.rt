@@ -1,9 +1,11 @@
 //! The examples of the set's doc comments, which call each public function once, as tests.
 //! `tools/examples` says whether each line of theirs stands here.
+use crate::tests::callers::changed::{
+    exchange, insert_in_room, keep_below, remove_key, take_first,
+};
+use crate::tests::callers::gathered::gathered;
+use crate::tests::lists::has_lists;
 use ordered_multimap::list_ordered_multimap::{DefaultState, KeyWrapper};
-use set_callers::changed::{exchange, insert_in_room, keep_below, remove_key, take_first};
-use set_callers::gathered::gathered;
-use set_callers::lists::has_lists;
 use set_ordered_multimap::SetOrderedMultimap;
 use set_ordered_multimap::laws::{changes_keep_sets, insertions_keep_first_pairs};
 use std::alloc::{AllocError, Global};
@@ -134,14 +136,18 @@ fn from_iter_returns(alloc: Global) -> Result<Texts, AllocError> {
     Ok(set)
 }
 
-fn many_are_inserted(test: &Test, set: &mut Texts) {
-    test.expect(extend_returns(set).is_ok());
-    test.expect(clone_returns(set) == Ok(true));
-    test.expect(clone_is_equal(set) == Ok(true));
+fn is_made(test: &Test) {
     match from_iter_returns(test.alloc()) {
         Ok(made) => test.expect(has_lists(&made, PAIRS, &["plan", "note"])),
         Err(_) => test.fail(),
     }
+}
+
+fn many_are_inserted(test: &Test, set: &mut Texts) {
+    test.expect(extend_returns(set).is_ok());
+    test.expect(clone_returns(set) == Ok(true));
+    test.expect(clone_is_equal(set) == Ok(true));
+    is_made(test);
 }
 
 fn reads_hold(test: &Test, set: &mut Texts) {

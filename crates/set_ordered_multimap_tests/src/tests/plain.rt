@@ -1,6 +1,6 @@
 //! Random calls, each compared with the same one of a plain list of pairs.
+use crate::tests::lists::has_lists;
 use ordered_multimap::list_ordered_multimap::KeyWrapper;
-use set_callers::lists::has_lists;
 use set_ordered_multimap::SetOrderedMultimap;
 use test_helpers::{Failed, Test, test_in_turn};
 

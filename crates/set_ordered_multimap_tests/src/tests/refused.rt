@@ -1,9 +1,10 @@
 //! Each request for memory of each call that grows is refused in turn: what was to be stored comes
 //! back, and both lists are as before. What needs no memory is done where all is refused.
+use crate::tests::lists::has_lists;
 use ordered_multimap::list_ordered_multimap::{DefaultState, Refused};
 use refusing_allocator::RefusingAllocator;
-use set_callers::lists::has_lists;
 use set_ordered_multimap::SetOrderedMultimap;
+use std::alloc::AllocError;
 use test_helpers::{Failed, Test, requests_until_enough};
 
 type Refusing<'a> = SetOrderedMultimap<u32, u32, DefaultState, &'a RefusingAllocator>;
@@ -148,23 +149,32 @@ fn is_extended(test: &Test, set: &Refusing<'_>, given: Result<(), Refused<u32, u
 
 fn from_iter_with(test: &Test, granted: u64) -> bool {
     let allocator = RefusingAllocator::new(test.alloc(), granted);
-    let given = SetOrderedMultimap::from_iter(
-        &allocator,
-        DefaultState::new(),
-        PAIRS.iter().copied(),
-    );
-    match given {
+    let pairs = PAIRS.iter().copied();
+    is_made(
+        test,
+        SetOrderedMultimap::from_iter(&allocator, DefaultState::new(), pairs),
+    )
+}
+
+fn is_made(test: &Test, made: Result<Refusing<'_>, Refused<u32, u32>>) -> bool {
+    match made {
         Ok(set) => {
             test.expect(has_lists(&set, FIRST, KEYS));
             true
         }
         Err(refused) => {
-            let pair = Some((refused.key, refused.value));
-            let of_them = PAIRS.iter().any(|given| Some(*given) == pair);
-            test.expect(of_them);
+            test.expect(is_given(refused));
             false
         }
     }
+}
+
+fn is_given(refused: Refused<u32, u32>) -> bool {
+    let mut found = false;
+    for pair in PAIRS {
+        found = found || *pair == (refused.key, refused.value);
+    }
+    found
 }
 
 fn clone_with(test: &Test, granted: u64) -> bool {
@@ -185,14 +195,14 @@ fn clone_of<'a>(
 ) -> bool {
     fill(test, set, FIRST);
     allocator.grant(granted);
-    let cloned = is_cloned(test, set);
+    let cloned = is_copy(test, set.clone());
     test.expect(cloned != allocator.refused());
     test.expect(has_lists(set, FIRST, KEYS));
     cloned
 }
 
-fn is_cloned(test: &Test, set: &Refusing<'_>) -> bool {
-    match set.clone() {
+fn is_copy(test: &Test, made: Result<Refusing<'_>, AllocError>) -> bool {
+    match made {
         Ok(copy) => {
             test.expect(has_lists(&copy, FIRST, KEYS));
             true

@@ -1,0 +1,4 @@
+pub mod CellsLemmas
+pub mod DetachedLemmas
+pub mod TapedLemmas
+pub mod WalkedLemmas

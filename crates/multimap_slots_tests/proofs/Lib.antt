@@ -1,3 +1,0 @@
-pub mod CellsLemmas
-pub mod TapedLemmas
-pub mod WalkedLemmas

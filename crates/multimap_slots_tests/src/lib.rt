@@ -1,8 +1,0 @@
-//! Tests of the slot list and of the tape, from outside.
-//!
-//! They stand in a crate of their own, since they need an allocator that refuses: a crate has one
-//! list of dependencies for its code and its tests, and the slot list itself stands on nothing.
-#![tactic(auto)]
-
-#[cfg(test)]
-mod tests;

@@ -1,6 +1,0 @@
-//! The tests of the walks.
-mod chains;
-mod ends;
-mod two_keys;
-mod walks;
-mod writing;

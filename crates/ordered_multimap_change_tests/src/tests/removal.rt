@@ -1,0 +1,60 @@
+//! Insertions, removals, pops, drains and `retain`, each test over one map.
+mod drain_steps;
+mod drained;
+mod examples;
+mod memory;
+mod popped;
+mod removed;
+mod retained;
+mod shares;
+mod wrappers;
+
+use crate::tests::removal::drain_steps::{keys_are_drained, values_are_given};
+use crate::tests::removal::drained::lists_are_final;
+use crate::tests::removal::popped::{collided_keys_leave, key_is_lent_and_handed_out, pairs_leave};
+use crate::tests::removal::removed::keys_leave;
+use crate::tests::removal::retained::pairs_stay;
+use ordered_multimap::ListOrderedMultimap;
+use ordered_multimap_callers::maps::Numbers;
+use ordered_multimap_callers::tested::test_on_empty;
+use test_helpers::{Failed, Test, ZERO, test_all};
+
+fn numbers_leave(test: &Test, map: &mut Numbers) {
+    test.begin("removed");
+    keys_leave(test, map);
+    test.begin("popped");
+    key_is_lent_and_handed_out(test, map);
+    pairs_leave(test, map);
+    test.begin("retained");
+    pairs_stay(test, map);
+}
+
+#[test]
+fn pairs_of_numbers_leave(rt: HostRuntime) -> Result<(), Failed> {
+    test_on_empty(rt.alloc(), numbers_leave)
+}
+
+fn numbers_are_drained(test: &Test, map: &mut Numbers) {
+    test.begin("drain_steps");
+    values_are_given(test, map);
+    keys_are_drained(test, map);
+    test.begin("drained");
+    lists_are_final(test, map);
+}
+
+#[test]
+fn pairs_of_numbers_are_drained(rt: HostRuntime) -> Result<(), Failed> {
+    test_on_empty(rt.alloc(), numbers_are_drained)
+}
+
+fn alike_keys_leave(test: &Test) {
+    collided_keys_leave(
+        test,
+        &mut ListOrderedMultimap::with_hasher(test.alloc(), ZERO),
+    );
+}
+
+#[test]
+fn keys_of_one_hash_leave(rt: HostRuntime) -> Result<(), Failed> {
+    test_all!(rt.alloc(); alike_keys_leave)
+}

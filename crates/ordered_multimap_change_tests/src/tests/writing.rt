@@ -1,0 +1,41 @@
+//! Walks that lend values for writing, over one map that is lent to all comparisons.
+mod ended;
+mod examples;
+mod keys;
+mod rest;
+mod shown;
+mod unread;
+mod updated;
+mod walks;
+
+use crate::tests::writing::ended::walks_leave_values;
+use crate::tests::writing::keys::keys_lend_their_values;
+use crate::tests::writing::rest::walks_have_left;
+use crate::tests::writing::shown::walks_are_shown;
+use crate::tests::writing::unread::one_key_is_written;
+use crate::tests::writing::updated::values_are_updated;
+use crate::tests::writing::walks::values_are_lent_once;
+use ordered_multimap_callers::maps::Numbers;
+use ordered_multimap_callers::tested::test_on_empty;
+use test_helpers::{Failed, Test};
+
+fn numbers_are_written(test: &Test, map: &mut Numbers) {
+    test.begin("walks");
+    values_are_lent_once(test, map);
+    test.begin("keys");
+    keys_lend_their_values(test, map);
+    one_key_is_written(test, map);
+    test.begin("rest");
+    walks_have_left(test, map);
+    test.begin("updated");
+    values_are_updated(test, map);
+    test.begin("ended");
+    walks_leave_values(test, map);
+    test.begin("shown");
+    walks_are_shown(test, map);
+}
+
+#[test]
+fn values_are_written_by_walks(rt: HostRuntime) -> Result<(), Failed> {
+    test_on_empty(rt.alloc(), numbers_are_written)
+}

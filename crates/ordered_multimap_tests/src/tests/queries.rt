@@ -1,0 +1,25 @@
+//! Look-ups by queries: by a text that is lent, by a slice, and by a query of one's own. And programs
+//! of somebody who begins with the map.
+mod kinds;
+mod names;
+mod programs;
+mod texts;
+
+use crate::tests::queries::texts::{Owned, texts_are_queries};
+use ordered_multimap::ListOrderedMultimap;
+use ordered_multimap_callers::tested::test_on_empty;
+use test_helpers::{Constant, Failed, Test, ZERO};
+
+#[test]
+fn owned_texts_are_found_by_lent_ones(rt: HostRuntime) -> Result<(), Failed> {
+    test_on_empty(rt.alloc(), texts_are_queries)
+}
+
+#[test]
+fn collided_texts_are_found_by_lent_ones(rt: HostRuntime) -> Result<(), Failed> {
+    let test = Test::new(rt.alloc());
+    let mut map: Owned<Constant> = ListOrderedMultimap::with_hasher(test.alloc(), ZERO);
+    texts_are_queries(&test, &mut map);
+    drop(map);
+    test.end()
+}
