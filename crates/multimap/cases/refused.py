@@ -41,9 +41,9 @@ def may_lack_memory(lists, line):
     return word in ("all", "walk", "pairs", "keys", "values", "lists", "walkpairs", "walkkeys", "walkvalues") and reply(lists, line) != "empty"
 
 
-def fault_in(given, output, error, status):
-    """What is wrong with an output, a text on standard error and a status, where requests may have been refused; or None."""
-    if status == 4:
+def fault_in(given, output, error, status, is_refused):
+    """What is wrong with an output, a text on standard error and a status, or None. Only a run that is refused memory may say so."""
+    if status == 4 and is_refused:
         return None if (output, error) == (b"", b"out of memory\n") else f"status 4 with {output!r} and {error!r}"
     if given[-1] in BAD_LINES:
         wanted = b"", b"bad line %d\n" % BAD_LINES[given[-1]], 2
@@ -53,7 +53,7 @@ def fault_in(given, output, error, status):
     lists, replies = Lists(), output.decode().split("\n")
     has_room = (given[0], replies[0]) == ("reserve 3 3", "done")
     for line, said in zip(given, replies):
-        if said == "no memory" and may_lack_memory(lists, line) and not (has_room and line.endswith(" 3")):
+        if said == "no memory" and is_refused and may_lack_memory(lists, line) and not (has_room and line.endswith(" 3")):
             continue
         wanted = reply(lists, line)
         if said != wanted:
