@@ -42,7 +42,7 @@ def may_lack_memory(lists, line):
 
 
 def fault_in(given, output, error, status, is_refused):
-    """What is wrong with an output, a text on standard error and a status, or None. Only a run that is refused memory may say so."""
+    """What is wrong with an output, a text on standard error and a status, or None. Only a run that is refused memory may lack it."""
     if status == 4 and is_refused:
         return None if (output, error) == (b"", b"out of memory\n") else f"status 4 with {output!r} and {error!r}"
     if given[-1] in BAD_LINES:
