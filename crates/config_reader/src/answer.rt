@@ -1,7 +1,7 @@
 //! Questions and their answers.
 use crate::bad;
 use crate::config::{Config, Settings, add_line};
-use ordered_multimap::EntryValues;
+use ordered_multimap::{EntryValues, Keys};
 use std::alloc::Global;
 use std::fmt::Write;
 use std::io;
@@ -39,18 +39,14 @@ fn add_answer(config: &Config<'_>, question: &str, answers: &mut String) -> io::
     let (word, operand) = question.split_once(' ').unwrap_or((question, ""));
     let operand = operand.trim_start();
     match word {
-        "get" if !operand.is_empty() => {
-            let last = values_of(config, operand).and_then(|mut values| values.next_back());
-            writeln!(answers, "{}", last.copied().unwrap_or("none"))?;
-        }
-        "all" if !operand.is_empty() => add_all(config, operand, answers)?,
-        "keys" => add_keys(config, operand, answers)?,
-        "sections" if operand.is_empty() => add_sections(config, answers)?,
-        "write" if operand.is_empty() => write_config(config, answers)?,
-        "" => {}
-        _ => return Err(bad("not a question")),
+        "get" if !operand.is_empty() => add_last(config, operand, answers),
+        "all" if !operand.is_empty() => add_all(config, operand, answers),
+        "keys" => add_keys(config, operand, answers),
+        "sections" if operand.is_empty() => add_names(config.keys(), answers),
+        "write" if operand.is_empty() => write_config(config, answers),
+        "" => Ok(()),
+        _ => Err(bad("not a question")),
     }
-    Ok(())
 }
 
 /// The values of `SECTION.KEY`, or of a `KEY` above the first section, if there is such a section.
@@ -60,6 +56,15 @@ fn values_of<'c, 't>(
 ) -> Option<EntryValues<'c, &'t str, &'t str>> {
     let (section, key) = name.rsplit_once('.').unwrap_or(("", name));
     Some(config.get(section)?.get_all(key))
+}
+
+fn last_of<'t>(config: &Config<'t>, name: &str) -> Option<&'t str> {
+    values_of(config, name)?.next_back().copied()
+}
+
+fn add_last(config: &Config<'_>, name: &str, answers: &mut String) -> io::Result<()> {
+    writeln!(answers, "{}", last_of(config, name).unwrap_or("none"))?;
+    Ok(())
 }
 
 fn add_all(config: &Config<'_>, name: &str, answers: &mut String) -> io::Result<()> {
@@ -72,18 +77,17 @@ fn add_all(config: &Config<'_>, name: &str, answers: &mut String) -> io::Result<
 }
 
 fn add_keys(config: &Config<'_>, section: &str, answers: &mut String) -> io::Result<()> {
-    if let Some(settings) = config.get(section) {
-        for key in settings.keys() {
-            writeln!(answers, "{key}")?;
-        }
+    match config.get(section) {
+        Some(settings) => add_names(settings.keys(), answers),
+        None => Ok(()),
     }
-    Ok(())
 }
 
-fn add_sections(config: &Config<'_>, answers: &mut String) -> io::Result<()> {
-    for section in config.keys() {
-        if !section.is_empty() {
-            writeln!(answers, "{section}")?;
+// The names of sections or keys. Settings above the first section have an empty name, no key has.
+fn add_names(names: Keys<'_, &str>, answers: &mut String) -> io::Result<()> {
+    for name in names {
+        if !name.is_empty() {
+            writeln!(answers, "{name}")?;
         }
     }
     Ok(())

@@ -28,11 +28,8 @@ impl<'t> Name<'t> {
         ensures token { IsSome result ↔ rfc.IsToken text.now }
         ensures named { IfSome result (λ name. name.text.now ≡ text.now) }
     {
-        if !text.is_empty() && text.iter().all(|byte| is_token_byte(*byte)) {
-            Some(Name { text })
-        } else {
-            None
-        }
+        let is_token = !text.is_empty() && text.iter().all(|byte| is_token_byte(*byte));
+        is_token.then_some(Name { text })
     }
 
     /// The name as it was spelled.

@@ -3,32 +3,35 @@ use crate::compared::Compared;
 use crate::rows::{agrees, with_room};
 use multimap_table::KeyTable;
 use refusing_allocator::RefusingAllocator;
+use std::alloc::Allocator;
 use test_helpers::{Failed, Test, requests_until_enough};
 
-type Rows<'a> = Compared<&'a RefusingAllocator>;
+fn is_made<A: Allocator + Copy>(allocator: A) -> bool {
+    match KeyTable::with_capacity(allocator, 100) {
+        Ok(table) => table.is_empty() && table.capacity() >= 100,
+        Err(_) => false,
+    }
+}
 
 // One table made with this many requests granted. It returns whether that was enough.
 fn make_with(test: &Test, granted: u64) -> bool {
     let allocator = RefusingAllocator::new(test.alloc(), granted);
-    let enough = match KeyTable::with_capacity(&allocator, 100) {
-        Ok(table) => table.is_empty() && table.capacity() >= 100,
-        Err(_) => false,
-    };
+    let enough = is_made(&allocator);
     test.expect(enough != allocator.refused());
     enough
 }
 
-fn fill(test: &Test, rows: &mut Rows<'_>) {
+fn fill<A: Allocator + Copy>(test: &Test, rows: &mut Compared<A>) {
     for place in 0..100usize {
         test.expect(rows.insert(place as u64 % 7, place));
     }
 }
 
 // One growth past the capacity with this many requests granted.
-fn grow_with(
+fn grow_with<A: Allocator + Copy>(
     test: &Test,
     allocator: &RefusingAllocator,
-    rows: &mut Rows<'_>,
+    rows: &mut Compared<A>,
     granted: u64,
 ) -> bool {
     let capacity = rows.table().capacity();
@@ -42,7 +45,11 @@ fn grow_with(
 }
 
 // What has room goes on without memory: a row goes and comes again, and others come.
-fn room_is_used(test: &Test, allocator: &RefusingAllocator, rows: &mut Rows<'_>) {
+fn room_is_used<A: Allocator + Copy>(
+    test: &Test,
+    allocator: &RefusingAllocator,
+    rows: &mut Compared<A>,
+) {
     let capacity = rows.table().capacity();
     test.expect(rows.reserve(usize::MAX).is_err());
     allocator.refuse_all();
@@ -56,7 +63,11 @@ fn room_is_used(test: &Test, allocator: &RefusingAllocator, rows: &mut Rows<'_>)
     agrees(test, rows);
 }
 
-fn rows_are_refused(test: &Test, allocator: &RefusingAllocator, rows: &mut Rows<'_>) {
+fn rows_are_refused<A: Allocator + Copy>(
+    test: &Test,
+    allocator: &RefusingAllocator,
+    rows: &mut Compared<A>,
+) {
     fill(test, rows);
     room_is_used(test, allocator, rows);
     for granted in 0..3u64 {

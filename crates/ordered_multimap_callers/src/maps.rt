@@ -12,8 +12,9 @@ pub type Numbers = ListOrderedMultimap<u32, u32>;
 /// A map of texts.
 pub type Texts = ListOrderedMultimap<&'static str, &'static str>;
 
-/// A map of numbers whose memory may be refused.
-pub type Refusing<'a> = ListOrderedMultimap<u32, u32, DefaultState, &'a RefusingAllocator>;
+/// A map of numbers whose memory may be refused. The allocator's type is a parameter of the checks,
+/// since a map of a type with a reference costs a proof twice as much.
+pub type Refusing<A> = ListOrderedMultimap<u32, u32, DefaultState, A>;
 
 /// Two keys with two values each, one inside the other.
 pub const MIXED: &[(u32, u32)] = &[(1, 11), (2, 12), (2, 13), (1, 14)];
@@ -67,10 +68,10 @@ pub fn map_of<K: Eq + Hash + Copy, V: Copy>(
 
 /// Takes all pairs out and gives all room up, asks for room for so many keys and values, and refuses
 /// all memory from then on.
-pub fn reserve_anew(
+pub fn reserve_anew<A: Allocator + Copy>(
     test: &Test,
     allocator: &RefusingAllocator,
-    map: &mut Refusing<'_>,
+    map: &mut Refusing<A>,
     keys: usize,
     values: usize,
 ) {
@@ -81,10 +82,10 @@ pub fn reserve_anew(
 }
 
 /// Asks for room for so many keys and values, and refuses all memory from then on.
-pub fn reserve(
+pub fn reserve<A: Allocator + Copy>(
     test: &Test,
     allocator: &RefusingAllocator,
-    map: &mut Refusing<'_>,
+    map: &mut Refusing<A>,
     keys: usize,
     values: usize,
 ) {

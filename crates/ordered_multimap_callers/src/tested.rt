@@ -37,11 +37,12 @@ macro_rules! test_refusing {
     ($alloc:expr; $($check:path),+) => {{
         let test = Test::new($alloc);
         let allocator = RefusingAllocator::unlimited(test.alloc());
-        let map = &mut ListOrderedMultimap::new(&allocator);
-        $(
-            test.begin(stringify!($check));
-            $check(&test, &allocator, map);
-        )+
+        test_helpers::lend(ListOrderedMultimap::new(&allocator), |map| {
+            $(
+                test.begin(stringify!($check));
+                $check(&test, &allocator, map);
+            )+
+        });
         test.end()
     }};
 }
@@ -52,10 +53,11 @@ macro_rules! test_with_room {
     ($alloc:expr; $keys:expr, $values:expr; $check:path) => {{
         let test = Test::new($alloc);
         let allocator = RefusingAllocator::unlimited(test.alloc());
-        match ListOrderedMultimap::with_capacity(&allocator, $keys, $values) {
-            Ok(mut map) => $check(&test, &allocator, &mut map),
-            Err(_) => test.fail(),
-        }
+        test.expect(test_helpers::lend_made(
+            ListOrderedMultimap::with_capacity(&allocator, $keys, $values),
+            |map| $check(&test, &allocator, map),
+            |_refused| {},
+        ));
         test.end()
     }};
 }

@@ -1,4 +1,5 @@
 //! The tests, by what they are of.
 mod entry;
+mod lending;
 mod removal;
 mod writing;

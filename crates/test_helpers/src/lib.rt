@@ -6,12 +6,14 @@
 #![tactic(auto)]
 
 mod frames;
+mod lent;
 mod requests;
 mod samples;
 mod steps;
 mod values;
 mod walks;
 
+pub use lent::{lend, lend_made, test_on_new};
 pub use requests::requests_until_enough;
 pub use samples::{Constant, Sample, Token, ZERO};
 pub use steps::{Checked, Failed, Test, expect_text};

@@ -1,13 +1,8 @@
 //! The calls that the slot list and the tape have both, for tests that run over both.
 use crate::tests::slots::{Slot, add_slots, add_slots_on};
 use multimap_slots::{SlotList, Tape};
-use refusing_allocator::RefusingAllocator;
-use std::alloc::AllocError;
+use std::alloc::{AllocError, Allocator};
 use test_helpers::Test;
-
-type List<'a> = SlotList<usize, u8, &'a RefusingAllocator>;
-
-type Items<'a> = Tape<usize, u8, &'a RefusingAllocator>;
 
 /// Which of both.
 #[derive(Clone, Copy)]
@@ -18,24 +13,20 @@ pub enum Kind {
 
 /// A slot list or a tape.
 #[derive(Drop)]
-pub enum Both<'a> {
-    List(List<'a>),
-    Tape(Items<'a>),
+pub enum Both<A: Allocator> {
+    List(SlotList<usize, u8, A>),
+    Tape(Tape<usize, u8, A>),
 }
 
-impl<'a> Both<'a> {
-    pub fn with_capacity(
-        kind: Kind,
-        alloc: &'a RefusingAllocator,
-        capacity: usize,
-    ) -> Result<Both<'a>, AllocError> {
+impl<A: Allocator + Copy> Both<A> {
+    pub fn with_capacity(kind: Kind, alloc: A, capacity: usize) -> Result<Both<A>, AllocError> {
         match kind {
             Kind::List => Ok(Both::List(SlotList::with_capacity(alloc, capacity)?)),
             Kind::Tape => Ok(Both::Tape(Tape::with_capacity(alloc, capacity)?)),
         }
     }
 
-    pub fn new(kind: Kind, alloc: &'a RefusingAllocator) -> Both<'a> {
+    pub fn new(kind: Kind, alloc: A) -> Both<A> {
         match kind {
             Kind::List => Both::List(SlotList::new(alloc)),
             Kind::Tape => Both::Tape(Tape::new(alloc)),
@@ -94,7 +85,7 @@ impl<'a> Both<'a> {
 }
 
 /// Pushes an item, and returns its place.
-pub fn push(test: &Test, list: &mut Both<'_>, item: usize, link: u8) -> usize {
+pub fn push<A: Allocator + Copy>(test: &Test, list: &mut Both<A>, item: usize, link: u8) -> usize {
     let pushed = list.push_back(item, link);
     test.expect(pushed.is_ok());
     pushed.unwrap_or(0)

@@ -2,7 +2,8 @@
 use crate::tests::both::{Both, Kind, push};
 use crate::tests::slots::Slot;
 use refusing_allocator::RefusingAllocator;
-use test_helpers::{Failed, Test, requests_until_enough};
+use std::alloc::Allocator;
+use test_helpers::{Failed, Test, lend, requests_until_enough};
 
 // More slots than any list of these tests has free.
 const MANY: usize = 40;
@@ -15,7 +16,7 @@ enum Call {
 }
 
 // Pushes items until the next one would take memory.
-fn fill_up(test: &Test, list: &mut Both<'_>) {
+fn fill_up<A: Allocator + Copy>(test: &Test, list: &mut Both<A>) {
     for item in 0..MANY {
         if list.has_room() {
             let _place = push(test, list, item, 7);
@@ -26,7 +27,7 @@ fn fill_up(test: &Test, list: &mut Both<'_>) {
 
 // Items of which one goes and others come, so that places don't rise along a slot list, and a tape
 // has a hole.
-fn make_full(test: &Test, list: &mut Both<'_>) {
+fn make_full<A: Allocator + Copy>(test: &Test, list: &mut Both<A>) {
     for item in 0..4usize {
         let place = push(test, list, item, 7);
         if item == 1 {
@@ -37,7 +38,7 @@ fn make_full(test: &Test, list: &mut Both<'_>) {
 }
 
 // Whether the call has memory enough. A refused push hands its item back.
-fn is_enough(test: &Test, list: &mut Both<'_>, call: Call) -> bool {
+fn is_enough<A: Allocator + Copy>(test: &Test, list: &mut Both<A>, call: Call) -> bool {
     match call {
         Call::PushBack => match list.push_back(50, 9) {
             Ok(_) => true,
@@ -51,7 +52,12 @@ fn is_enough(test: &Test, list: &mut Both<'_>, call: Call) -> bool {
 }
 
 // After a refusal the list is as before.
-fn call_and_compare(test: &Test, list: &mut Both<'_>, call: Call, before: &Vec<Slot>) -> bool {
+fn call_and_compare<A: Allocator + Copy>(
+    test: &Test,
+    list: &mut Both<A>,
+    call: Call,
+    before: &Vec<Slot>,
+) -> bool {
     let capacity = list.capacity();
     let enough = is_enough(test, list, call);
     test.expect(list.capacity() >= capacity);
@@ -59,10 +65,10 @@ fn call_and_compare(test: &Test, list: &mut Both<'_>, call: Call, before: &Vec<S
     enough
 }
 
-fn call_with(
+fn call_with<A: Allocator + Copy>(
     test: &Test,
     allocator: &RefusingAllocator,
-    list: &mut Both<'_>,
+    list: &mut Both<A>,
     call: Call,
     granted: u64,
 ) -> bool {
@@ -74,10 +80,20 @@ fn call_with(
     enough
 }
 
+// The allocator's type is a parameter, since a list of a type with a reference costs a proof more.
+fn call_by<A: Allocator + Copy>(
+    test: &Test,
+    refusing: &RefusingAllocator,
+    list: Both<A>,
+    call: Call,
+    granted: u64,
+) -> bool {
+    lend(list, |list| call_with(test, refusing, list, call, granted))
+}
+
 fn call_on(test: &Test, kind: Kind, call: Call, granted: u64) -> bool {
     let allocator = RefusingAllocator::unlimited(test.alloc());
-    let list = &mut Both::new(kind, &allocator);
-    call_with(test, &allocator, list, call, granted)
+    call_by(test, &allocator, Both::new(kind, &allocator), call, granted)
 }
 
 fn refusals_change_nothing(test: &Test, kind: Kind, call: Call) {
@@ -85,7 +101,7 @@ fn refusals_change_nothing(test: &Test, kind: Kind, call: Call) {
     test.expect(enough.unwrap_or(0) > 0);
 }
 
-fn is_made(kind: Kind, allocator: &RefusingAllocator, room: usize) -> bool {
+fn is_made<A: Allocator + Copy>(kind: Kind, allocator: A, room: usize) -> bool {
     match Both::with_capacity(kind, allocator, room) {
         Ok(list) => list.capacity() >= room,
         Err(_) => false,
@@ -107,7 +123,7 @@ fn lists_are_made(test: &Test, kind: Kind) {
 }
 
 // Three come, one goes, and others come.
-fn room_is_used(test: &Test, list: &mut Both<'_>) {
+fn room_is_used<A: Allocator + Copy>(test: &Test, list: &mut Both<A>) {
     for item in 0..3usize {
         let _place = push(test, list, item, 7);
     }
@@ -115,7 +131,11 @@ fn room_is_used(test: &Test, list: &mut Both<'_>) {
     fill_up(test, list);
 }
 
-fn room_is_filled(test: &Test, allocator: &RefusingAllocator, list: &mut Both<'_>) {
+fn room_is_filled<A: Allocator + Copy>(
+    test: &Test,
+    allocator: &RefusingAllocator,
+    list: &mut Both<A>,
+) {
     test.expect(list.reserve(3).is_ok());
     allocator.refuse_all();
     room_is_used(test, list);
@@ -123,9 +143,13 @@ fn room_is_filled(test: &Test, allocator: &RefusingAllocator, list: &mut Both<'_
     test.expect(!is_enough(test, list, Call::PushBack));
 }
 
+fn room_by<A: Allocator + Copy>(test: &Test, refusing: &RefusingAllocator, list: Both<A>) {
+    lend(list, |list| room_is_filled(test, refusing, list));
+}
+
 fn room_of(test: &Test, kind: Kind) {
     let allocator = RefusingAllocator::unlimited(test.alloc());
-    room_is_filled(test, &allocator, &mut Both::new(kind, &allocator));
+    room_by(test, &allocator, Both::new(kind, &allocator));
 }
 
 #[test]

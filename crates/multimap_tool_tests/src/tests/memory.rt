@@ -7,17 +7,19 @@ use ordered_multimap::ListOrderedMultimap;
 use ordered_multimap::list_ordered_multimap::DefaultState;
 use refusing_allocator::RefusingAllocator;
 use serde_json::Value;
+use std::alloc::Allocator;
 use std::hash::BuildHasher;
-use test_helpers::{Constant, Failed, Test, ZERO, requests_until_enough};
+use test_helpers::{Constant, Failed, Test, ZERO, lend_made, requests_until_enough};
 
-type Read<'a, S> = Result<ListOrderedMultimap<u32, i64, S, &'a RefusingAllocator>, ReadFault>;
+// The types of allocator and hash builder are parameters, since a map of a type with a reference
+// costs a proof more.
+type Numbers<S, A> = ListOrderedMultimap<u32, i64, S, A>;
+
+type Texts<A> = ListOrderedMultimap<String, i64, DefaultState, A>;
 
 const PAIRS: &[(u32, i64)] = &[(1, 5), (2, 6), (1, 7)];
 
-fn has_pairs<S: BuildHasher>(
-    map: &ListOrderedMultimap<u32, i64, S, &RefusingAllocator>,
-    pairs: &[(u32, i64)],
-) -> bool {
+fn has_pairs<S: BuildHasher, A: Allocator>(map: &Numbers<S, A>, pairs: &[(u32, i64)]) -> bool {
     let mut walk = map.iter();
     let mut same = true;
     for (key, value) in pairs {
@@ -26,35 +28,36 @@ fn has_pairs<S: BuildHasher>(
     same && walk.next().is_none()
 }
 
+fn fault_of<M>(read: &Result<M, ReadFault>) -> Option<ReadFault> {
+    match read {
+        Ok(_) => None,
+        Err(fault) => Some(*fault),
+    }
+}
+
 /// Whether so many granted requests are enough: with fewer it is lack of memory, and else the map,
 /// or the fault of ample memory.
 fn read_with(test: &Test, value: &Value, ample: Option<ReadFault>, granted: u64) -> bool {
     let budget = RefusingAllocator::new(test.alloc(), granted);
-    let read = from_value(&budget, test.alloc(), DefaultState::new(), value);
-    let refused = budget.refused();
-    is_told(test, read, ample, refused)
+    let fault = read_by(test, &budget, value);
+    is_told(test, fault, ample, budget.refused())
 }
 
-fn is_told(
-    test: &Test,
-    read: Read<'_, DefaultState>,
-    ample: Option<ReadFault>,
-    refused: bool,
-) -> bool {
-    match read {
-        Ok(map) => {
-            test.expect(ample.is_none() && has_pairs(&map, PAIRS));
-            true
-        }
-        Err(ReadFault::OutOfMemory) => {
-            test.expect(refused);
-            false
-        }
-        Err(fault) => {
-            test.expect(ample == Some(fault));
-            !refused
-        }
+fn read_by<A: Allocator + Copy>(test: &Test, allocator: A, value: &Value) -> Option<ReadFault> {
+    let read = from_value(allocator, test.alloc(), DefaultState::new(), value);
+    let fault = fault_of(&read);
+    let has_all = |map: &mut Numbers<DefaultState, A>| test.expect(has_pairs(map, PAIRS));
+    lend_made(read, has_all, |_fault| {});
+    fault
+}
+
+fn is_told(test: &Test, fault: Option<ReadFault>, ample: Option<ReadFault>, refused: bool) -> bool {
+    if fault == Some(ReadFault::OutOfMemory) {
+        test.expect(refused);
+        return false;
     }
+    test.expect(fault == ample);
+    fault.is_none() || !refused
 }
 
 /// Texts, each with the fault of ample memory.
@@ -81,17 +84,12 @@ fn requests_are_refused(test: &Test, value: &Value, ample: Option<ReadFault>) {
     test.expect(enough.unwrap_or(0) >= 3);
 }
 
-type ReadTexts<'a> = Result<
-    ListOrderedMultimap<String, i64, DefaultState, &'a RefusingAllocator>,
-    ReadFault,
->;
-
 const TEXT_KEYS: &[&str] = &[
     "[[\"a\",1],[\"b\",2],[\"a\",3]]",
     "{\"keys\":[\"b\",\"a\"],\"pairs\":[[\"a\",1],[\"b\",2],[\"a\",3]]}",
 ];
 
-fn has_texts(map: &ListOrderedMultimap<String, i64, DefaultState, &RefusingAllocator>) -> bool {
+fn has_texts<A: Allocator>(map: &Texts<A>) -> bool {
     let mut walk = map.iter();
     let mut same = map.keys_len() == 2;
     for (text, value) in [("a", 1), ("b", 2), ("a", 3)] {
@@ -107,22 +105,22 @@ fn has_texts(map: &ListOrderedMultimap<String, i64, DefaultState, &RefusingAlloc
 // The same of a map whose keys are texts.
 fn read_texts_with(test: &Test, value: &Value, granted: u64) -> bool {
     let budget = RefusingAllocator::new(test.alloc(), granted);
-    let read = from_value(&budget, test.alloc(), DefaultState::new(), value);
-    let refused = budget.refused();
-    are_texts(test, read, refused)
+    read_texts_by(test, &budget, &budget, value)
 }
 
-fn are_texts(test: &Test, read: ReadTexts<'_>, refused: bool) -> bool {
-    match read {
-        Ok(map) => {
-            test.expect(has_texts(&map));
-            true
-        }
-        Err(fault) => {
-            test.expect(fault == ReadFault::OutOfMemory && refused);
-            false
-        }
-    }
+fn read_texts_by<A: Allocator + Copy>(
+    test: &Test,
+    budget: &RefusingAllocator,
+    allocator: A,
+    value: &Value,
+) -> bool {
+    let read = from_value(allocator, test.alloc(), DefaultState::new(), value);
+    let refused = budget.refused();
+    lend_made(
+        read,
+        |map: &mut Texts<A>| test.expect(has_texts(map)),
+        |fault| test.expect(fault == ReadFault::OutOfMemory && refused),
+    )
 }
 
 fn requests_for_texts_are_refused(test: &Test, text: &str) {
@@ -156,14 +154,18 @@ impl<'a> BuildHasher for Granting<'a> {
 fn a_refused_wish_is_no_fault(test: &Test, value: &Value) {
     let budget = RefusingAllocator::new(test.alloc(), 0);
     let state = Granting { budget: &budget };
-    is_read_whole(test, from_value(&budget, test.alloc(), state, value));
+    test.expect(is_read_whole(test, &budget, state, value));
 }
 
-fn is_read_whole(test: &Test, read: Read<'_, Granting<'_>>) {
-    match read {
-        Ok(map) => test.expect(has_pairs(&map, PAIRS)),
-        Err(_) => test.fail(),
-    }
+fn is_read_whole<S: BuildHasher + Drop, A: Allocator + Copy>(
+    test: &Test,
+    allocator: A,
+    state: S,
+    value: &Value,
+) -> bool {
+    let read = from_value(allocator, test.alloc(), state, value);
+    let has_all = |map: &mut Numbers<S, A>| test.expect(has_pairs(map, PAIRS));
+    lend_made(read, has_all, |_fault| {})
 }
 
 fn a_value_is_read(test: &Test, text: &str, ample: Option<ReadFault>) {

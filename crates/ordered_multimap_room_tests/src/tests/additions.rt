@@ -2,6 +2,7 @@
 //! comes back where memory is refused.
 use ordered_multimap::list_ordered_multimap::{Entry, Refused, RefusedValue};
 use ordered_multimap_callers::maps::Refusing;
+use std::alloc::Allocator;
 
 /// Nothing, or the pair that comes back.
 pub type Answer = Result<(), Refused<u32, u32>>;
@@ -35,7 +36,7 @@ pub enum Occupied {
 }
 
 /// Makes the call.
-pub fn put(map: &mut Refusing<'_>, call: Call) -> Answer {
+pub fn put<A: Allocator + Copy>(map: &mut Refusing<A>, call: Call) -> Answer {
     match call {
         Call::Append => appended(map),
         Call::Insert => inserted(map),
@@ -48,74 +49,59 @@ pub fn put(map: &mut Refusing<'_>, call: Call) -> Answer {
     }
 }
 
-fn appended(map: &mut Refusing<'_>) -> Answer {
-    map.append(1, 77)?;
-    Ok(())
+// That it was done, whatever the call gave, or the pair that comes back.
+fn done<G: Drop, R>(given: Result<G, R>) -> Result<(), R> {
+    match given {
+        Ok(_) => Ok(()),
+        Err(refused) => Err(refused),
+    }
 }
 
-fn inserted(map: &mut Refusing<'_>) -> Answer {
-    map.insert(1, 77)?;
-    Ok(())
+fn appended<A: Allocator + Copy>(map: &mut Refusing<A>) -> Answer {
+    done(map.append(1, 77))
 }
 
-fn all_replaced(map: &mut Refusing<'_>) -> Answer {
-    map.insert_all(1, 77)?;
-    Ok(())
+fn inserted<A: Allocator + Copy>(map: &mut Refusing<A>) -> Answer {
+    done(map.insert(1, 77))
 }
 
-fn put_by_vacant(map: &mut Refusing<'_>, call: Vacant) -> Answer {
+fn all_replaced<A: Allocator + Copy>(map: &mut Refusing<A>) -> Answer {
+    done(map.insert_all(1, 77))
+}
+
+fn put_by_vacant<A: Allocator + Copy>(map: &mut Refusing<A>, call: Vacant) -> Answer {
     match call {
-        Vacant::OrInsert => or_inserted(map, false),
-        Vacant::OrInsertWith => or_inserted(map, true),
-        Vacant::OrInsertEntry => or_inserted_entry(map, false),
-        Vacant::OrInsertWithEntry => or_inserted_entry(map, true),
-        Vacant::Insert => filled(map),
-        Vacant::InsertEntry => entry_filled(map),
+        Vacant::OrInsert => done(map.entry(1).or_insert(77)),
+        Vacant::OrInsertWith => done(map.entry(1).or_insert_with(|| 77)),
+        Vacant::OrInsertEntry => done(map.entry(1).or_insert_entry(77)),
+        Vacant::OrInsertWithEntry => done(map.entry(1).or_insert_with_entry(|| 77)),
+        Vacant::Insert => filled(map, false),
+        Vacant::InsertEntry => filled(map, true),
     }
 }
 
-fn or_inserted(map: &mut Refusing<'_>, with: bool) -> Answer {
-    let entry = map.entry(1);
-    if with {
-        entry.or_insert_with(|| 77)?;
-    } else {
-        entry.or_insert(77)?;
-    }
-    Ok(())
-}
-
-fn or_inserted_entry(map: &mut Refusing<'_>, with: bool) -> Answer {
-    let entry = map.entry(1);
-    if with {
-        entry.or_insert_with_entry(|| 77)?;
-    } else {
-        entry.or_insert_entry(77)?;
-    }
-    Ok(())
-}
-
-fn filled(map: &mut Refusing<'_>) -> Answer {
-    if let Entry::Vacant(entry) = map.entry(1) {
-        entry.insert(77)?;
-    }
-    Ok(())
-}
-
-fn entry_filled(map: &mut Refusing<'_>) -> Answer {
-    if let Entry::Vacant(entry) = map.entry(1) {
-        entry.insert_entry(77)?;
-    }
-    Ok(())
-}
-
-fn put_by_occupied(map: &mut Refusing<'_>, call: Occupied) -> Result<(), RefusedValue<u32>> {
-    if let Entry::Occupied(mut entry) = map.entry(1) {
-        match call {
-            Occupied::Append => entry.append(77)?,
-            Occupied::InsertAll => {
-                entry.insert_all(77)?;
+fn filled<A: Allocator + Copy>(map: &mut Refusing<A>, for_entry: bool) -> Answer {
+    match map.entry(1) {
+        Entry::Vacant(entry) => {
+            if for_entry {
+                done(entry.insert_entry(77))
+            } else {
+                done(entry.insert(77))
             }
         }
+        Entry::Occupied(_) => Ok(()),
     }
-    Ok(())
+}
+
+fn put_by_occupied<A: Allocator + Copy>(
+    map: &mut Refusing<A>,
+    call: Occupied,
+) -> Result<(), RefusedValue<u32>> {
+    match map.entry(1) {
+        Entry::Occupied(mut entry) => match call {
+            Occupied::Append => entry.append(77),
+            Occupied::InsertAll => done(entry.insert_all(77)),
+        },
+        Entry::Vacant(_) => Ok(()),
+    }
 }

@@ -8,11 +8,15 @@ use test_helpers::{End, Test, walk_difference};
 
 const THREE: &[(u32, u32)] = &[(1, 11), (2, 12), (2, 13)];
 
+// Whether the keys 1 and 2 have these values.
+fn have_values(test: &Test, map: &Numbers, first: &[(End, u32)], second: &[(End, u32)]) {
+    test.expect_same(walk_difference(&mut map.get_all(&1), first));
+    test.expect_same(walk_difference(&mut map.get_all(&2), second));
+}
+
 fn has_both(test: &Test, map: &Numbers) {
-    let one = [(End::Front, 11)];
-    test.expect_same(walk_difference(&mut map.get_all(&1), &one));
-    let two = [(End::Front, 12), (End::Front, 13)];
-    test.expect_same(walk_difference(&mut map.get_all(&2), &two));
+    let second = [(End::Front, 12), (End::Front, 13)];
+    have_values(test, map, &[(End::Front, 11)], &second);
 }
 
 fn pairs_are_appended(test: &Test, map: &mut Numbers) {
@@ -21,17 +25,11 @@ fn pairs_are_appended(test: &Test, map: &mut Numbers) {
     has_both(test, map);
 }
 
-fn has_copies(test: &Test, map: &Numbers) {
-    let one = [(End::Front, 1)];
-    test.expect_same(walk_difference(&mut map.get_all(&1), &one));
-    let two = [(End::Front, 1), (End::Front, 2)];
-    test.expect_same(walk_difference(&mut map.get_all(&2), &two));
-}
-
 fn copies_are_appended(test: &Test, map: &mut Numbers, other: &Numbers) {
     map.clear();
     test.expect(map.extend_copied(other.iter()) == Ok(()));
-    has_copies(test, map);
+    let second = [(End::Front, 1), (End::Front, 2)];
+    have_values(test, map, &[(End::Front, 1)], &second);
 }
 
 fn copies_come(test: &Test, map: &mut Numbers) {

@@ -4,33 +4,47 @@ use ordered_multimap::list_ordered_multimap::DefaultState;
 use ordered_multimap_callers::lists::{appends, has_lists, has_room};
 use ordered_multimap_callers::maps::Numbers;
 use refusing_allocator::RefusingAllocator;
-use std::alloc::AllocError;
+use std::alloc::{AllocError, Allocator};
 use std::hash::BuildHasher;
-use test_helpers::{Constant, Failed, Test, ZERO, requests_until_enough};
-
-type Made<'a, S> = Result<ListOrderedMultimap<u32, u32, S, &'a RefusingAllocator>, AllocError>;
+use test_helpers::{Constant, Failed, Test, ZERO, lend_made, requests_until_enough};
 
 // Whether a map was made; where it was, it has the room and no pair.
-fn is_made<S: BuildHasher + Drop>(test: &Test, made: Made<'_, S>, room: (usize, usize)) -> bool {
-    match made {
-        Ok(map) => {
-            test.expect(has_room(&map, room.0, room.1) && map.is_empty());
-            true
-        }
-        Err(_) => false,
-    }
+fn is_made<S: BuildHasher + Drop, A: Allocator + Copy>(
+    test: &Test,
+    made: Result<ListOrderedMultimap<u32, u32, S, A>, AllocError>,
+    room: (usize, usize),
+) -> bool {
+    lend_made(
+        made,
+        |map: &mut ListOrderedMultimap<u32, u32, S, A>| {
+            test.expect(has_room(map, room.0, room.1) && map.is_empty())
+        },
+        |_refused| {},
+    )
+}
+
+fn makes_by<A: Allocator + Copy>(test: &Test, allocator: A, room: (usize, usize)) -> bool {
+    let made = ListOrderedMultimap::with_capacity(allocator, room.0, room.1);
+    is_made::<DefaultState, A>(test, made, room)
+}
+
+fn makes_with_hasher_by<A: Allocator + Copy>(
+    test: &Test,
+    allocator: A,
+    room: (usize, usize),
+) -> bool {
+    let made = ListOrderedMultimap::with_capacity_and_hasher(allocator, room.0, room.1, ZERO);
+    is_made::<Constant, A>(test, made, room)
 }
 
 fn makes(test: &Test, granted: u64, room: (usize, usize)) -> bool {
     let allocator = RefusingAllocator::new(test.alloc(), granted);
-    let made = ListOrderedMultimap::with_capacity(&allocator, room.0, room.1);
-    is_made::<DefaultState>(test, made, room)
+    makes_by(test, &allocator, room)
 }
 
 fn makes_with_hasher(test: &Test, granted: u64, room: (usize, usize)) -> bool {
     let allocator = RefusingAllocator::new(test.alloc(), granted);
-    let made = ListOrderedMultimap::with_capacity_and_hasher(&allocator, room.0, room.1, ZERO);
-    is_made::<Constant>(test, made, room)
+    makes_with_hasher_by(test, &allocator, room)
 }
 
 /// Room for keys and values, and how many requests it takes at least.

@@ -6,7 +6,8 @@ use crate::tests::refused_room::{Room, is_made, keep_three};
 use ordered_multimap::ListOrderedMultimap;
 use ordered_multimap_callers::maps::{Numbers, Refusing, map_of};
 use refusing_allocator::RefusingAllocator;
-use test_helpers::{Failed, Test, requests_until_enough};
+use std::alloc::Allocator;
+use test_helpers::{Failed, Test, lend, requests_until_enough};
 
 #[derive(Clone, Copy)]
 enum Try {
@@ -49,7 +50,7 @@ const TRIES: &[(Try, u64)] = &[
     (Try::ExtendCopied, 3),
 ];
 
-fn prepare(test: &Test, map: &mut Refusing<'_>, call: Try) {
+fn prepare<A: Allocator + Copy>(test: &Test, map: &mut Refusing<A>, call: Try) {
     match call {
         Try::PutIntoFull(_) => fill_up(test, map, OWN),
         Try::PutBesideOthers(_) => fill_up(test, map, OTHERS),
@@ -58,7 +59,12 @@ fn prepare(test: &Test, map: &mut Refusing<'_>, call: Try) {
     }
 }
 
-fn tries(test: &Test, map: &mut Refusing<'_>, call: Try, other: &Numbers) -> bool {
+fn tries<A: Allocator + Copy>(
+    test: &Test,
+    map: &mut Refusing<A>,
+    call: Try,
+    other: &Numbers,
+) -> bool {
     match call {
         Try::PutIntoNew(call) | Try::PutIntoFull(call) => puts(test, map, call, OWN),
         Try::PutBesideOthers(call) => puts(test, map, call, OTHERS),
@@ -70,22 +76,24 @@ fn tries(test: &Test, map: &mut Refusing<'_>, call: Try, other: &Numbers) -> boo
 
 fn tries_with(test: &Test, granted: u64, call: Try, other: &Numbers) -> bool {
     let allocator = RefusingAllocator::unlimited(test.alloc());
-    let enough = tries_on(test, &allocator, granted, call, other);
+    let enough = tries_by(test, &allocator, &allocator, granted, call, other);
     test.expect(enough || allocator.refused());
     enough
 }
 
-fn tries_on(
+fn tries_by<A: Allocator + Copy>(
     test: &Test,
-    allocator: &RefusingAllocator,
+    refusing: &RefusingAllocator,
+    allocator: A,
     granted: u64,
     call: Try,
     other: &Numbers,
 ) -> bool {
-    let mut map = ListOrderedMultimap::new(allocator);
-    prepare(test, &mut map, call);
-    allocator.grant(granted);
-    tries(test, &mut map, call, other)
+    lend(ListOrderedMultimap::new(allocator), |map| {
+        prepare(test, map, call);
+        refusing.grant(granted);
+        tries(test, map, call, other)
+    })
 }
 
 fn all_are_tried(test: &Test, other: &Numbers) {
@@ -100,6 +108,6 @@ fn all_are_tried(test: &Test, other: &Numbers) {
 #[test]
 fn a_refused_request_changes_nothing(rt: HostRuntime) -> Result<(), Failed> {
     let test = Test::new(rt.alloc());
-    all_are_tried(&test, &map_of(&test, PAIRS));
+    lend(map_of(&test, PAIRS), |other| all_are_tried(&test, other));
     test.end()
 }

@@ -4,6 +4,7 @@ use crate::tests::additions::{Answer, Call, Occupied, put};
 use ordered_multimap::list_ordered_multimap::Refused;
 use ordered_multimap_callers::lists::{copied, has_lists};
 use ordered_multimap_callers::maps::Refusing;
+use std::alloc::Allocator;
 use test_helpers::Test;
 
 /// The pairs of a full map: of the key that is added to, or of another.
@@ -19,9 +20,9 @@ pub fn first<T>(rows: &[T], count: usize) -> &[T] {
 }
 
 // Whether the pair stands behind these, and nothing else is there.
-fn stands_behind(map: &Refusing<'_>, pairs: &[(u32, u32)]) -> bool {
+fn stands_behind<A: Allocator + Copy>(map: &Refusing<A>, pairs: &[(u32, u32)]) -> bool {
     let mut walk = map.iter();
-    let mut same = map.keys().next_back() == Some(&1);
+    let mut same = map.keys().next_back().copied() == Some(1);
     for pair in pairs {
         same = same && copied(walk.next()) == Some(*pair);
     }
@@ -34,7 +35,7 @@ fn stay(call: Call, before: &[(u32, u32)]) -> bool {
     appends || before.first().copied() == Some((2, 0))
 }
 
-fn is_as_before(map: &Refusing<'_>, before: &[(u32, u32)]) -> bool {
+fn is_as_before<A: Allocator + Copy>(map: &Refusing<A>, before: &[(u32, u32)]) -> bool {
     match before.first() {
         Some((key, _)) => has_lists(map, before, &[*key]),
         None => map.is_empty() && map.keys_len() == 0,
@@ -42,9 +43,9 @@ fn is_as_before(map: &Refusing<'_>, before: &[(u32, u32)]) -> bool {
 }
 
 // It returns whether there was memory enough.
-fn is_put(
+fn is_put<A: Allocator + Copy>(
     test: &Test,
-    map: &Refusing<'_>,
+    map: &Refusing<A>,
     call: Call,
     before: &[(u32, u32)],
     answer: Answer,
@@ -65,14 +66,19 @@ fn is_put(
 
 /// Makes the call on a map that has as many of the pairs as it has any. It returns whether there was
 /// memory enough.
-pub fn puts(test: &Test, map: &mut Refusing<'_>, call: Call, pairs: &[(u32, u32)]) -> bool {
+pub fn puts<A: Allocator + Copy>(
+    test: &Test,
+    map: &mut Refusing<A>,
+    call: Call,
+    pairs: &[(u32, u32)],
+) -> bool {
     let before = first(pairs, map.values_len());
     let answer = put(map, call);
     is_put(test, map, call, before, answer)
 }
 
 /// Appends the pairs, all of one key, as long as there is room.
-pub fn fill_up(test: &Test, map: &mut Refusing<'_>, pairs: &[(u32, u32)]) {
+pub fn fill_up<A: Allocator + Copy>(test: &Test, map: &mut Refusing<A>, pairs: &[(u32, u32)]) {
     test.expect(map.reserve_keys(1).is_ok());
     test.expect(map.reserve_values(2).is_ok());
     for (key, value) in first(pairs, map.values_capacity()) {

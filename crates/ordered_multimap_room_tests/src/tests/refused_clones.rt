@@ -2,103 +2,92 @@
 use ordered_multimap::ListOrderedMultimap;
 use ordered_multimap::list_ordered_multimap::DefaultState;
 use refusing_allocator::RefusingAllocator;
-use std::alloc::AllocError;
-use test_helpers::{Failed, Test, requests_until_enough};
+use std::alloc::Allocator;
+use test_helpers::{Failed, Test, lend, lend_made, requests_until_enough};
 
-type Text<'a> = String<&'a RefusingAllocator>;
+type Texts<A> = ListOrderedMultimap<String<A>, String<A>, DefaultState, A>;
 
-type Texts<'a> = ListOrderedMultimap<Text<'a>, Text<'a>, DefaultState, &'a RefusingAllocator>;
-
-fn text<'a>(test: &Test, allocator: &'a RefusingAllocator, letter: char) -> Text<'a> {
+fn text<A: Allocator + Copy>(test: &Test, allocator: A, letter: char) -> String<A> {
     let mut text = String::new(allocator);
     test.expect(text.push(letter).is_ok());
     text
 }
 
-fn insert<'a>(
-    test: &Test,
-    allocator: &'a RefusingAllocator,
-    map: &mut Texts<'a>,
-    pair: (char, char),
-) {
+fn insert<A: Allocator + Copy>(test: &Test, allocator: A, map: &mut Texts<A>, pair: (char, char)) {
     let key = text(test, allocator, pair.0);
     let value = text(test, allocator, pair.1);
     test.expect(map.insert(key, value).is_ok());
 }
 
 // The key and the value of a pair are these.
-fn is_pair(pair: Option<(&Text<'_>, &Text<'_>)>, key: &str, value: &str) -> bool {
+fn is_pair<A: Allocator>(pair: Option<(&String<A>, &String<A>)>, key: &str, value: &str) -> bool {
     match pair {
         Some((k, v)) => k.as_str() == key && v.as_str() == value,
         None => false,
     }
 }
 
-fn is_key(key: Option<&Text<'_>>, wanted: &str) -> bool {
+fn is_key<A: Allocator>(key: Option<&String<A>>, wanted: &str) -> bool {
     match key {
         Some(key) => key.as_str() == wanted,
         None => false,
     }
 }
 
-fn has_keys(map: &Texts<'_>) -> bool {
+fn has_keys<A: Allocator + Copy>(map: &Texts<A>) -> bool {
     let mut keys = map.keys();
     is_key(keys.next(), "a") && is_key(keys.next(), "b") && keys.next().is_none()
 }
 
-fn has_pairs(map: &Texts<'_>) -> bool {
+fn has_pairs<A: Allocator + Copy>(map: &Texts<A>) -> bool {
     let mut pairs = map.iter();
     is_pair(pairs.next(), "b", "y") && is_pair(pairs.next(), "a", "z") && pairs.next().is_none()
 }
 
 // The keys a, b and the pairs (b, y), (a, z).
-fn has_both(test: &Test, map: &Texts<'_>) {
+fn has_both<A: Allocator + Copy>(test: &Test, map: &Texts<A>) {
     test.expect(has_keys(map));
     test.expect(has_pairs(map));
 }
 
-// Returns whether there was memory for a clone.
-fn is_copy(test: &Test, made: Result<Texts<'_>, AllocError>) -> bool {
-    match made {
-        Ok(copy) => {
-            has_both(test, &copy);
-            true
-        }
-        Err(_) => false,
-    }
-}
-
-fn clone_with(test: &Test, granted: u64) -> bool {
-    let allocator = RefusingAllocator::unlimited(test.alloc());
-    clones_of_it(
-        test,
-        &allocator,
-        granted,
-        &mut ListOrderedMultimap::new(&allocator),
-    )
-}
-
 const PAIRS: &[(char, char)] = &[('a', 'x'), ('b', 'y'), ('a', 'z')];
 
-fn fill<'a>(test: &Test, allocator: &'a RefusingAllocator, map: &mut Texts<'a>) {
+fn fill<A: Allocator + Copy>(test: &Test, allocator: A, map: &mut Texts<A>) {
     for pair in PAIRS {
         insert(test, allocator, map, *pair);
     }
 }
 
-// A refused request is told, and the map is as it was.
-fn clones_of_it<'a>(
+// A refused request is told, and the map is as it was. It returns whether there was memory for a
+// clone.
+fn clones_of_it<A: Allocator + Copy>(
     test: &Test,
-    allocator: &'a RefusingAllocator,
-    granted: u64,
-    map: &mut Texts<'a>,
+    refusing: &RefusingAllocator,
+    map: &mut Texts<A>,
 ) -> bool {
-    fill(test, allocator, map);
-    allocator.grant(granted);
-    let cloned = is_copy(test, map.clone());
-    test.expect(cloned != allocator.refused());
+    let is_copy = |copy: &mut Texts<A>| has_both(test, copy);
+    let cloned = lend_made(map.clone(), is_copy, |_refused| {});
+    test.expect(cloned != refusing.refused());
     has_both(test, map);
     cloned
+}
+
+fn clone_by<A: Allocator + Copy>(
+    test: &Test,
+    refusing: &RefusingAllocator,
+    allocator: A,
+    granted: u64,
+) -> bool {
+    lend(ListOrderedMultimap::new(allocator), |map| {
+        fill(test, allocator, map);
+        refusing.grant(granted);
+        clones_of_it(test, refusing, map)
+    })
+}
+
+fn clone_with(test: &Test, granted: u64) -> bool {
+    let allocator = RefusingAllocator::unlimited(test.alloc());
+    clone_by(test, &allocator, &allocator, granted)
 }
 
 #[test]

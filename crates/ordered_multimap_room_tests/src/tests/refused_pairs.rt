@@ -6,7 +6,8 @@ use ordered_multimap::list_ordered_multimap::{DefaultState, Refused};
 use ordered_multimap_callers::lists::has_lists;
 use ordered_multimap_callers::maps::{Numbers, Refusing};
 use refusing_allocator::RefusingAllocator;
-use test_helpers::Test;
+use std::alloc::Allocator;
+use test_helpers::{Test, lend_made};
 
 /// The pairs.
 pub const PAIRS: &[(u32, u32)] = &[(1, 1), (2, 2), (3, 3)];
@@ -20,7 +21,11 @@ fn comes_back(test: &Test, count: usize, refused: Refused<u32, u32>) {
 }
 
 // What an extension leaves; whether there was memory for all pairs.
-fn is_extended(test: &Test, map: &Refusing<'_>, answer: Result<(), Refused<u32, u32>>) -> bool {
+fn is_extended<A: Allocator + Copy>(
+    test: &Test,
+    map: &Refusing<A>,
+    answer: Result<(), Refused<u32, u32>>,
+) -> bool {
     let count = map.values_len();
     let lists = has_lists(map, first(PAIRS, count), first(KEYS, count));
     test.expect(lists);
@@ -37,38 +42,34 @@ fn is_extended(test: &Test, map: &Refusing<'_>, answer: Result<(), Refused<u32, 
 }
 
 /// Extends the map. It returns whether there was memory for all pairs.
-pub fn extend(test: &Test, map: &mut Refusing<'_>) -> bool {
+pub fn extend<A: Allocator + Copy>(test: &Test, map: &mut Refusing<A>) -> bool {
     let answer = map.extend(PAIRS.iter().copied());
     is_extended(test, map, answer)
 }
 
 /// The same by copies of the pairs of another.
-pub fn extend_copied(test: &Test, map: &mut Refusing<'_>, other: &Numbers) -> bool {
+pub fn extend_copied<A: Allocator + Copy>(
+    test: &Test,
+    map: &mut Refusing<A>,
+    other: &Numbers,
+) -> bool {
     let answer = map.extend_copied(other.iter());
     is_extended(test, map, answer)
 }
 
 /// Makes a map. A refused pair comes back, and those behind it are left in the iterator.
 pub fn from_iter_with(test: &Test, granted: u64) -> bool {
-    from_iter_of(test, &RefusingAllocator::new(test.alloc(), granted))
+    let allocator = RefusingAllocator::new(test.alloc(), granted);
+    from_iter_by(test, &allocator)
 }
 
-fn from_iter_of(test: &Test, allocator: &RefusingAllocator) -> bool {
+fn from_iter_by<A: Allocator + Copy>(test: &Test, allocator: A) -> bool {
     let mut pairs = PAIRS.iter().copied();
     let made = ListOrderedMultimap::from_iter(allocator, DefaultState::new(), &mut pairs);
-    is_made_of(test, made, PAIRS.len().saturating_sub(pairs.len()))
-}
-
-// The map, or the pair that was the last one given of so many.
-fn is_made_of(test: &Test, made: Result<Refusing<'_>, Refused<u32, u32>>, given: usize) -> bool {
-    match made {
-        Ok(map) => {
-            test.expect(has_lists(&map, PAIRS, KEYS));
-            true
-        }
-        Err(refused) => {
-            comes_back(test, given.saturating_sub(1), refused);
-            false
-        }
-    }
+    let given = PAIRS.len().saturating_sub(pairs.len());
+    lend_made(
+        made,
+        |map: &mut Refusing<A>| test.expect(has_lists(map, PAIRS, KEYS)),
+        |refused| comes_back(test, given.saturating_sub(1), refused),
+    )
 }

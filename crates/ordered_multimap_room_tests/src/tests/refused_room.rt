@@ -2,6 +2,7 @@
 use crate::tests::pack::pack_to;
 use ordered_multimap_callers::lists::{appends, has_lists, has_room};
 use ordered_multimap_callers::maps::Refusing;
+use std::alloc::Allocator;
 use test_helpers::Test;
 
 /// Calls that make room.
@@ -13,7 +14,7 @@ pub enum Room {
     PackToFit,
 }
 
-fn makes_room(test: &Test, map: &mut Refusing<'_>, call: Room) -> bool {
+fn makes_room<A: Allocator + Copy>(test: &Test, map: &mut Refusing<A>, call: Room) -> bool {
     match call {
         Room::ReserveKeys => map.reserve_keys(100).is_ok(),
         Room::ReserveValues => map.reserve_values(100).is_ok(),
@@ -23,7 +24,7 @@ fn makes_room(test: &Test, map: &mut Refusing<'_>, call: Room) -> bool {
 }
 
 /// Leaves three pairs, with a hole among the keys and one among the values.
-pub fn keep_three(test: &Test, map: &mut Refusing<'_>) {
+pub fn keep_three<A: Allocator + Copy>(test: &Test, map: &mut Refusing<A>) {
     test.expect(appends(map, 1, 11, false));
     test.expect(appends(map, 2, 12, false));
     test.expect(appends(map, 3, 13, false));
@@ -41,7 +42,7 @@ fn room_of(call: Room) -> (usize, usize) {
 }
 
 /// Makes the call. It returns whether there was memory enough.
-pub fn is_made(test: &Test, map: &mut Refusing<'_>, call: Room) -> bool {
+pub fn is_made<A: Allocator + Copy>(test: &Test, map: &mut Refusing<A>, call: Room) -> bool {
     let made = makes_room(test, map, call);
     let room = room_of(call);
     test.expect(!made || has_room(map, room.0, room.1));

@@ -3,10 +3,11 @@ use ordered_multimap::list_ordered_multimap::KeyWrapper;
 use ordered_multimap_callers::lists::{appends, has_lists, has_room, inserts};
 use ordered_multimap_callers::maps::{Numbers, Refusing, reserve, reserve_anew};
 use refusing_allocator::RefusingAllocator;
+use std::alloc::Allocator;
 use test_helpers::Test;
 
 // Whether the key went, the key and the value of the first pair, which leaves.
-fn popped(map: &mut Refusing<'_>) -> Option<(bool, u32, u32)> {
+fn popped<A: Allocator + Copy>(map: &mut Refusing<A>) -> Option<(bool, u32, u32)> {
     match map.pop_front() {
         Some((KeyWrapper::Owned(key), value)) => Some((true, key, value)),
         Some((KeyWrapper::Borrowed(key), value)) => Some((false, *key, value)),
@@ -14,7 +15,11 @@ fn popped(map: &mut Refusing<'_>) -> Option<(bool, u32, u32)> {
     }
 }
 
-fn three_are_added(test: &Test, allocator: &RefusingAllocator, map: &mut Refusing<'_>) {
+fn three_are_added<A: Allocator + Copy>(
+    test: &Test,
+    allocator: &RefusingAllocator,
+    map: &mut Refusing<A>,
+) {
     reserve_anew(test, allocator, map, 3, 3);
     for number in 1..4u32 {
         test.expect(appends(map, number, number, false));
@@ -27,7 +32,11 @@ fn three_are_added(test: &Test, allocator: &RefusingAllocator, map: &mut Refusin
 }
 
 // A key whose oldest value leaves as each new one comes.
-fn values_pass_through(test: &Test, allocator: &RefusingAllocator, map: &mut Refusing<'_>) {
+fn values_pass_through<A: Allocator + Copy>(
+    test: &Test,
+    allocator: &RefusingAllocator,
+    map: &mut Refusing<A>,
+) {
     reserve_anew(test, allocator, map, 1, 2);
     test.expect(appends(map, 1, 0, false));
     for number in 1..101u32 {
@@ -39,7 +48,11 @@ fn values_pass_through(test: &Test, allocator: &RefusingAllocator, map: &mut Ref
 }
 
 // Room that is there already is never refused, and nothing grows.
-fn reserves_nothing(test: &Test, allocator: &RefusingAllocator, map: &mut Refusing<'_>) {
+fn reserves_nothing<A: Allocator + Copy>(
+    test: &Test,
+    allocator: &RefusingAllocator,
+    map: &mut Refusing<A>,
+) {
     let room = (map.keys_capacity(), map.values_capacity());
     reserve(test, allocator, map, 2, 5);
     test.expect(!allocator.refused());
@@ -48,7 +61,11 @@ fn reserves_nothing(test: &Test, allocator: &RefusingAllocator, map: &mut Refusi
 }
 
 /// Room is used without memory. There is room for five at first.
-pub fn room_is_used(test: &Test, allocator: &RefusingAllocator, map: &mut Refusing<'_>) {
+pub fn room_is_used<A: Allocator + Copy>(
+    test: &Test,
+    allocator: &RefusingAllocator,
+    map: &mut Refusing<A>,
+) {
     allocator.refuse_all();
     reserves_nothing(test, allocator, map);
     three_are_added(test, allocator, map);

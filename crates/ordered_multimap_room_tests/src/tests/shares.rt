@@ -22,7 +22,10 @@ fn leave_shares(test: &Test, map: &mut Shares, shared: &Rc<u8>) {
     }
     mem::forget(map.remove_all(&1));
     test.expect(Rc::strong_count(shared) == 6);
-    drop(map.pop_front());
+    match map.pop_front() {
+        Some((_key, share)) => drop(share),
+        None => test.fail(),
+    }
     test.expect(Rc::strong_count(shared) == 5);
 }
 

@@ -28,7 +28,7 @@ fn is_out_of_memory(answer: io::Result<()>) -> bool {
     }
 }
 
-fn a_refusal_is_an_io_error(test: &Test, map: &mut Refusing<'_>) {
+fn a_refusal_is_an_io_error<A: Allocator + Copy>(test: &Test, map: &mut Refusing<A>) {
     test.expect(is_out_of_memory(append_two(map)));
     test.expect(map.is_empty());
 }

@@ -1,8 +1,6 @@
-//! Look-ups by queries: by a text that is lent, by a slice, and by a query of one's own. And programs
-//! of somebody who begins with the map.
+//! Look-ups by queries: by a text that is lent, by a slice, and by a query of one's own.
 mod kinds;
 mod names;
-mod programs;
 mod texts;
 
 use crate::tests::queries::texts::{Owned, texts_are_queries};

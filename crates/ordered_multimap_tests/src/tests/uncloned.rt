@@ -2,14 +2,16 @@
 use ordered_multimap::ListOrderedMultimap;
 use ordered_multimap::list_ordered_multimap::{IntoIter, UnclonedKey};
 use refusing_allocator::RefusingAllocator;
-use test_helpers::{Failed, Test, requests_until_enough};
+use std::alloc::Allocator;
+use test_helpers::{Failed, Test, lend, requests_until_enough};
 
-type Text<'a> = String<&'a RefusingAllocator>;
-
-type Texts<'a> = ListOrderedMultimap<Text<'a>, u32>;
+// The allocator's type is a parameter, since a map of a type with a reference costs a proof more.
+type Texts<A> = ListOrderedMultimap<String<A>, u32>;
 
 // The value of an item, and whether its key was cloned.
-fn told(item: Option<Result<(Text<'_>, u32), UnclonedKey<u32>>>) -> Option<(u32, bool)> {
+fn told<A: Allocator>(
+    item: Option<Result<(String<A>, u32), UnclonedKey<u32>>>,
+) -> Option<(u32, bool)> {
     match item {
         Some(Ok((key, value))) => Some((value, key.as_str() == "a")),
         Some(Err(refused)) => Some((refused.value, false)),
@@ -18,7 +20,7 @@ fn told(item: Option<Result<(Text<'_>, u32), UnclonedKey<u32>>>) -> Option<(u32,
 }
 
 // Both values come in order, whichever keys are refused. Returns whether no key was.
-fn both_are_given(test: &Test, walk: &mut IntoIter<Text<'_>, u32>) -> bool {
+fn both_are_given<A: Allocator + Copy>(test: &Test, walk: &mut IntoIter<String<A>, u32>) -> bool {
     let first = told(walk.next());
     let second = told(walk.next());
     let first_cloned = first == Some((1, true));
@@ -29,23 +31,33 @@ fn both_are_given(test: &Test, walk: &mut IntoIter<Text<'_>, u32>) -> bool {
     first_cloned && second_cloned
 }
 
-fn append_text<'a>(test: &Test, allocator: &'a RefusingAllocator, map: &mut Texts<'a>, value: u32) {
+fn append_text<A: Allocator + Copy>(test: &Test, allocator: A, map: &mut Texts<A>, value: u32) {
     let mut text = String::new(allocator);
     test.expect(text.push('a').is_ok());
     test.expect(map.append(text, value).is_ok());
 }
 
-fn taken_apart(test: &Test, allocator: &RefusingAllocator, granted: u64, map: Texts<'_>) -> bool {
-    allocator.grant(granted);
-    both_are_given(test, &mut map.into_iter())
+fn made_of_two<A: Allocator + Copy>(test: &Test, allocator: A) -> IntoIter<String<A>, u32> {
+    let mut map = ListOrderedMultimap::new(test.alloc());
+    append_text(test, allocator, &mut map, 1);
+    append_text(test, allocator, &mut map, 2);
+    map.into_iter()
+}
+
+fn taken_apart<A: Allocator + Copy>(
+    test: &Test,
+    refusing: &RefusingAllocator,
+    allocator: A,
+    granted: u64,
+) -> bool {
+    let walk = made_of_two(test, allocator);
+    refusing.grant(granted);
+    lend(walk, |walk| both_are_given(test, walk))
 }
 
 fn taken_apart_with(test: &Test, granted: u64) -> bool {
     let allocator = RefusingAllocator::unlimited(test.alloc());
-    let mut map = ListOrderedMultimap::new(test.alloc());
-    append_text(test, &allocator, &mut map, 1);
-    append_text(test, &allocator, &mut map, 2);
-    taken_apart(test, &allocator, granted, map)
+    taken_apart(test, &allocator, &allocator, granted)
 }
 
 #[test]

@@ -5,9 +5,10 @@ ghost use Rattle.std.specs.Hash as fed;
 ghost use Rattle.std.specs.Ordering.{on};
 ghost use Rattle.std.specs.Prelude.{nat_eq};
 
+use crate::tests::lists::{Marked, has_lists};
 use set_ordered_multimap::SetOrderedMultimap;
 use std::hash::{Hash, Hasher};
-use test_helpers::{Failed, Test, test_in_turn};
+use test_helpers::{Failed, Test, test_on_new};
 
 /// An ASCII letter, whose case counts for nothing.
 #[derive(Clone, Copy)]
@@ -49,6 +50,15 @@ impl Hash for Letter {
     }
 }
 
+/// A letter is told from an equal one by its case.
+impl Marked for Letter {
+    type Mark = u8;
+
+    fn mark(&self) -> u8 {
+        self.letter
+    }
+}
+
 type Letters = SetOrderedMultimap<Letter, Letter>;
 
 // A pair of letters, and whether it is new.
@@ -60,8 +70,10 @@ const ROWS: &[(u8, u8, bool)] = &[
     (b'b', b'x', false),
 ];
 
-// The pairs as they are stored.
+// The pairs and the keys as they are stored.
 const STORED: &[(u8, u8)] = &[(b'A', b'x'), (b'A', b'y'), (b'B', b'X')];
+
+const KEYS: &[u8] = &[b'A', b'B'];
 
 fn inserts(set: &mut Letters, key: u8, value: u8, new: bool) -> bool {
     match set.insert(Letter::new(key), Letter::new(value)) {
@@ -70,22 +82,14 @@ fn inserts(set: &mut Letters, key: u8, value: u8, new: bool) -> bool {
     }
 }
 
-fn has_letters(set: &Letters, pairs: &[(u8, u8)]) -> bool {
-    let mut same = set.values_len() == pairs.len();
-    for ((key, value), wanted) in set.iter().zip(pairs) {
-        same = same && (key.letter, value.letter) == *wanted;
-    }
-    same
-}
-
 fn letters_stay(test: &Test, set: &mut Letters) {
     for (row, (key, value, new)) in ROWS.iter().enumerate() {
         test.expect_at(row, inserts(set, *key, *value, *new));
     }
-    test.expect(has_letters(set, STORED));
+    test.expect(has_lists(set, STORED, KEYS));
     let gone = set.remove_value(&Letter::new(b'a'), &Letter::new(b'Y'));
     test.expect(gone);
-    let left = has_letters(set, &[(b'A', b'x'), (b'B', b'X')]);
+    let left = has_lists(set, &[(b'A', b'x'), (b'B', b'X')], KEYS);
     test.expect(left);
 }
 
@@ -93,10 +97,17 @@ fn the_first_pair_is_alone(test: &Test, set: &mut Letters) {
     set.clear();
     test.expect(inserts(set, b'A', b'x', true));
     test.expect(inserts(set, b'a', b'X', false));
-    test.expect(has_letters(set, &[(b'A', b'x')]));
+    test.expect(has_lists(set, &[(b'A', b'x')], &[b'A']));
+}
+
+fn first_ones_stay(test: &Test, set: &mut Letters) {
+    test.begin("letters_stay");
+    letters_stay(test, set);
+    test.begin("the_first_pair_is_alone");
+    the_first_pair_is_alone(test, set);
 }
 
 #[test]
 fn of_equal_pairs_the_first_stays(rt: HostRuntime) -> Result<(), Failed> {
-    test_in_turn!(rt.alloc(), SetOrderedMultimap::new; letters_stay, the_first_pair_is_alone)
+    test_on_new(rt.alloc(), SetOrderedMultimap::new, first_ones_stay)
 }

@@ -8,9 +8,9 @@ use crate::tests::lists::has_lists;
 use ordered_multimap::list_ordered_multimap::{DefaultState, KeyWrapper};
 use set_ordered_multimap::SetOrderedMultimap;
 use set_ordered_multimap::laws::{changes_keep_sets, insertions_keep_first_pairs};
-use std::alloc::{AllocError, Global};
-use std::hash::BuildHasher;
-use test_helpers::{Failed, Test, is_shown, test_all, test_in_turn};
+use std::alloc::{AllocError, Allocator, Global};
+use std::hash::{BuildHasher, Hash};
+use test_helpers::{Failed, Test, is_shown, lend, lend_made, test_all, test_on_new};
 
 type Texts = SetOrderedMultimap<&'static str, &'static str>;
 
@@ -33,7 +33,10 @@ fn look_ups_return(test: &Test, set: &Texts) {
     test.expect(set.hasher().hash_one(&"plan") == hash);
 }
 
-fn lengths_return(test: &Test, set: &Texts) {
+fn lengths_return<K: Eq + Hash, V, S: BuildHasher, A: Allocator>(
+    test: &Test,
+    set: &SetOrderedMultimap<K, V, S, A>,
+) {
     test.expect(set.keys_len() == 2);
     test.expect(set.values_len() == 3);
     test.expect(!set.is_empty());
@@ -69,14 +72,15 @@ fn clone_is_equal(set: &Texts) -> Result<bool, AllocError> {
     Ok(*set == set.clone()?)
 }
 
-fn into_iter_returns(test: &Test, mut set: Texts) {
-    test.expect(insert_three(&mut set).is_ok());
-    let first = set.into_iter().next() == Some(Ok(("plan", "draft")));
-    test.expect(first);
+fn into_iter_returns(set: Texts) -> bool {
+    set.into_iter().next() == Some(Ok(("plan", "draft")))
 }
 
-fn removals_return(test: &Test, set: &mut Texts) {
-    test.expect(set.insert("plan", "draft") == Ok(false));
+fn insert_returns(set: &mut Texts) -> bool {
+    set.insert("plan", "draft") == Ok(false)
+}
+
+fn remove_value_returns(test: &Test, set: &mut Texts) {
     let removed = set.remove_value(&"plan", &"draft");
     test.expect(removed);
     let left = has_lists(
@@ -85,6 +89,11 @@ fn removals_return(test: &Test, set: &mut Texts) {
         &["plan", "note"],
     );
     test.expect(left);
+}
+
+fn removals_return(test: &Test, set: &mut Texts) {
+    test.expect(insert_returns(set));
+    remove_value_returns(test, set);
     set.retain(|_key, value| *value != "draft");
     test.expect(has_lists(set, &[("plan", "long")], &["plan"]));
     set.clear();
@@ -110,17 +119,25 @@ fn pops_by_functions_return(test: &Test, set: &mut Texts) {
     test.expect(popped);
 }
 
+fn insert_again(test: &Test, set: &mut Texts) {
+    set.clear();
+    test.expect(insert_three(set).is_ok());
+}
+
+fn remove_all_with_leaves(test: &Test, set: &mut Texts) {
+    set.remove_all_with(&"plan", |value| drop(value));
+    test.expect(has_lists(set, &[("note", "draft")], &["note"]));
+}
+
 fn ends_leave(test: &Test, set: &mut Texts) {
     test.expect(insert_three(set).is_ok());
     test.expect(remove_all_returns(set));
     test.expect(insert_three(set).is_ok());
-    set.remove_all_with(&"plan", |value| drop(value));
-    test.expect(has_lists(set, &[("note", "draft")], &["note"]));
+    remove_all_with_leaves(test, set);
     pops_by_functions_return(test, set);
     test.expect(insert_three(set).is_ok());
     test.expect(pop_front_returns(set));
-    set.clear();
-    test.expect(insert_three(set).is_ok());
+    insert_again(test, set);
     test.expect(pop_back_returns(set));
 }
 
@@ -136,18 +153,19 @@ fn from_iter_returns(alloc: Global) -> Result<Texts, AllocError> {
     Ok(set)
 }
 
-fn is_made(test: &Test) {
-    match from_iter_returns(test.alloc()) {
-        Ok(made) => test.expect(has_lists(&made, PAIRS, &["plan", "note"])),
-        Err(_) => test.fail(),
-    }
+fn from_iter_is_made(test: &Test) {
+    lend_made(
+        from_iter_returns(test.alloc()),
+        |set| test.expect(has_lists(set, PAIRS, &["plan", "note"])),
+        |_refused| test.fail(),
+    );
 }
 
 fn many_are_inserted(test: &Test, set: &mut Texts) {
     test.expect(extend_returns(set).is_ok());
     test.expect(clone_returns(set) == Ok(true));
     test.expect(clone_is_equal(set) == Ok(true));
-    is_made(test);
+    from_iter_is_made(test);
 }
 
 fn reads_hold(test: &Test, set: &mut Texts) {
@@ -155,24 +173,25 @@ fn reads_hold(test: &Test, set: &mut Texts) {
     look_ups_return(test, set);
     lengths_return(test, set);
     walks_return(test, set);
-    test.expect(set.insert("plan", "draft") == Ok(false));
+    test.expect(insert_returns(set));
 }
 
 fn a_set_is_read(test: &Test) {
     let alloc = test.alloc();
-    reads_hold(test, &mut SetOrderedMultimap::new(alloc));
+    lend(SetOrderedMultimap::new(alloc), |set| reads_hold(test, set));
 }
 
 fn many_come_to_a_set(test: &Test) {
     let alloc = test.alloc();
-    many_are_inserted(
-        test,
-        &mut SetOrderedMultimap::with_hasher(alloc, DefaultState::new()),
-    );
+    let set = SetOrderedMultimap::with_hasher(alloc, DefaultState::new());
+    lend(set, |set| many_are_inserted(test, set));
 }
 
 fn a_set_is_taken_apart(test: &Test) {
-    into_iter_returns(test, SetOrderedMultimap::new(test.alloc()));
+    match from_iter_returns(test.alloc()) {
+        Ok(set) => test.expect(into_iter_returns(set)),
+        Err(_) => test.fail(),
+    }
 }
 
 #[test]
@@ -188,10 +207,12 @@ fn changes_hold(test: &Test, set: &mut Texts) {
 
 #[test]
 fn texts_leave(rt: HostRuntime) -> Result<(), Failed> {
-    test_in_turn!(rt.alloc(), SetOrderedMultimap::new; changes_hold)
+    test_on_new(rt.alloc(), SetOrderedMultimap::new, changes_hold)
 }
 
 type Numbers = SetOrderedMultimap<u32, u32>;
+
+const NUMBERS: &[(u32, u32)] = &[(1, 1), (2, 2), (1, 1), (3, 3)];
 
 // What is proved of callers holds where they are called.
 fn callers_return(test: &Test, set: &mut Numbers) {
@@ -206,17 +227,20 @@ fn callers_return(test: &Test, set: &mut Numbers) {
     test.expect(has_lists(set, &[(2, 2)], &[2]));
 }
 
-fn numbers_are_gathered(test: &Test) -> Result<(), AllocError> {
-    let pairs = [(1, 1), (2, 2), (1, 1), (3, 3)];
-    let mut set = gathered(test.alloc(), pairs.iter().copied())?;
-    test.expect(has_lists(&set, &[(1, 1), (2, 2), (3, 3)], &[1, 2, 3]));
-    callers_return(test, &mut set);
-    Ok(())
+fn gathered_numbers_return(test: &Test, set: &mut Numbers) {
+    test.expect(has_lists(set, &[(1, 1), (2, 2), (3, 3)], &[1, 2, 3]));
+    callers_return(test, set);
+}
+
+fn numbers_are_gathered(test: &Test) {
+    lend_made(
+        gathered(test.alloc(), NUMBERS.iter().copied()),
+        |set| gathered_numbers_return(test, set),
+        |_refused| test.fail(),
+    );
 }
 
 #[test]
 fn proved_callers_are_called(rt: HostRuntime) -> Result<(), Failed> {
-    let test = Test::new(rt.alloc());
-    test.expect(numbers_are_gathered(&test).is_ok());
-    test.end()
+    test_all!(rt.alloc(); numbers_are_gathered)
 }

@@ -2,7 +2,7 @@
 use crate::tests::lists::has_lists;
 use ordered_multimap::list_ordered_multimap::KeyWrapper;
 use set_ordered_multimap::SetOrderedMultimap;
-use test_helpers::{Failed, Test, test_in_turn};
+use test_helpers::{Failed, Test, test_on_new};
 
 const ROUNDS: usize = 2_000;
 
@@ -140,5 +140,5 @@ fn agree(test: &Test, set: &mut Set) {
 
 #[test]
 fn a_set_agrees_with_a_plain_list(rt: HostRuntime) -> Result<(), Failed> {
-    test_in_turn!(rt.alloc(), SetOrderedMultimap::new; agree)
+    test_on_new(rt.alloc(), SetOrderedMultimap::new, agree)
 }

@@ -1,9 +1,10 @@
 //! One run of calls on numbers, on texts and on keys whose hashes are all equal, with both lists
 //! after each call.
+use crate::tests::lists::{Marked, has_lists};
 use ordered_multimap::list_ordered_multimap::KeyWrapper;
 use set_ordered_multimap::SetOrderedMultimap;
 use std::hash::{BuildHasher, Hash};
-use test_helpers::{Failed, Sample, Test, ZERO, test_all};
+use test_helpers::{Failed, Sample, Test, ZERO, lend, test_all, test_on_new};
 
 // A call with the numbers of its key and its value, and what it returns.
 #[derive(Clone, Copy)]
@@ -92,53 +93,41 @@ fn is_called<K: Sample + Eq + Hash, V: Sample + Eq, S: BuildHasher>(
     }
 }
 
-fn has_pairs<K: Sample + Eq + Hash, V: Sample, S: BuildHasher>(
-    set: &SetOrderedMultimap<K, V, S>,
-    pairs: &[(usize, usize)],
-) -> bool {
-    let mut same = set.values_len() == pairs.len();
-    for ((key, value), wanted) in set.iter().zip(pairs) {
-        same = same && (key.number(), value.number()) == *wanted;
-    }
-    same
-}
-
-fn has_keys<K: Sample + Eq + Hash, V: Sample, S: BuildHasher>(
-    set: &SetOrderedMultimap<K, V, S>,
-    keys: &[usize],
-) -> bool {
-    let mut same = set.keys_len() == keys.len();
-    for (key, wanted) in set.keys().zip(keys) {
-        same = same && key.number() == *wanted;
-    }
-    same
-}
-
-fn rows_hold<K: Sample + Eq + Hash, V: Sample + Eq, S: BuildHasher>(
-    test: &Test,
-    set: &mut SetOrderedMultimap<K, V, S>,
-) {
+fn rows_hold<
+    K: Sample + Marked<Mark = usize> + Eq + Hash,
+    V: Sample + Marked<Mark = usize> + Eq,
+    S: BuildHasher,
+>(test: &Test, set: &mut SetOrderedMultimap<K, V, S>) {
     for (at, (call, pairs, keys)) in ROWS.iter().enumerate() {
         test.expect_at(at, is_called(test, set, *call));
-        test.expect_at(at, has_pairs(set, pairs));
-        test.expect_at(at, has_keys(set, keys));
+        test.expect_at(at, has_lists(set, pairs, keys));
     }
 }
 
-fn numbers_stand_once(test: &Test) {
-    rows_hold::<usize, usize, _>(test, &mut SetOrderedMultimap::new(test.alloc()));
-}
-
-fn texts_stand_once(test: &Test) {
-    rows_hold::<String, String, _>(test, &mut SetOrderedMultimap::new(test.alloc()));
-}
-
-fn values_of_one_hash_stand_once(test: &Test) {
-    let set = &mut SetOrderedMultimap::with_hasher(test.alloc(), ZERO);
-    rows_hold::<usize, String, _>(test, set);
+fn numbers_stand_once(test: &Test, set: &mut SetOrderedMultimap<usize, usize>) {
+    rows_hold(test, set);
 }
 
 #[test]
-fn no_pair_stands_twice(rt: HostRuntime) -> Result<(), Failed> {
-    test_all!(rt.alloc(); numbers_stand_once, texts_stand_once, values_of_one_hash_stand_once)
+fn no_pair_of_numbers_stands_twice(rt: HostRuntime) -> Result<(), Failed> {
+    test_on_new(rt.alloc(), SetOrderedMultimap::new, numbers_stand_once)
+}
+
+fn texts_stand_once(test: &Test, set: &mut SetOrderedMultimap<String, String>) {
+    rows_hold(test, set);
+}
+
+#[test]
+fn no_pair_of_texts_stands_twice(rt: HostRuntime) -> Result<(), Failed> {
+    test_on_new(rt.alloc(), SetOrderedMultimap::new, texts_stand_once)
+}
+
+fn values_of_one_hash_stand_once(test: &Test) {
+    let set = SetOrderedMultimap::with_hasher(test.alloc(), ZERO);
+    lend(set, |set| rows_hold::<usize, String, _>(test, set));
+}
+
+#[test]
+fn no_pair_of_one_hash_stands_twice(rt: HostRuntime) -> Result<(), Failed> {
+    test_all!(rt.alloc(); values_of_one_hash_stand_once)
 }

@@ -1,13 +1,15 @@
 //! Entries of keys that are present and of keys that aren't: what each call returns, and what the
 //! map is then.
+use crate::tests::lending::entered;
 use ordered_multimap::list_ordered_multimap::{Entry, KeyWrapper};
 use ordered_multimap_callers::lists::has_lists;
 use ordered_multimap_callers::maps::{Numbers, Refusing, fill};
 use refusing_allocator::RefusingAllocator;
+use std::alloc::Allocator;
 use std::cell::Cell;
 use test_helpers::Test;
 
-fn value_is_inserted(test: &Test, map: &mut Refusing<'_>) {
+fn value_is_inserted<A: Allocator + Copy>(test: &Test, map: &mut Refusing<A>) {
     match map.entry(1) {
         Entry::Occupied(mut entry) => {
             test.expect(entry.len() == 2);
@@ -20,7 +22,11 @@ fn value_is_inserted(test: &Test, map: &mut Refusing<'_>) {
 }
 
 /// An occupied entry replaces its values without memory.
-pub fn values_are_replaced(test: &Test, allocator: &RefusingAllocator, map: &mut Refusing<'_>) {
+pub fn values_are_replaced<A: Allocator + Copy>(
+    test: &Test,
+    allocator: &RefusingAllocator,
+    map: &mut Refusing<A>,
+) {
     fill(test, map, &[(1, 1), (1, 2), (2, 3)]);
     allocator.refuse_all();
     value_is_inserted(test, map);
@@ -47,12 +53,9 @@ fn value_comes(test: &Test, map: &mut Numbers) {
 }
 
 fn entry_comes(test: &Test, map: &mut Numbers) {
-    match map.entry(2) {
-        Entry::Vacant(entry) => match entry.insert_entry(6) {
-            Ok(mut entry) => test.expect(entry.append(7) == Ok(())),
-            Err(_) => test.fail(),
-        },
-        Entry::Occupied(_) => test.fail(),
+    match entered(map, 2, 6) {
+        Some(mut entry) => test.expect(entry.append(7) == Ok(())),
+        None => test.fail(),
     }
 }
 

@@ -3,6 +3,7 @@ use ordered_multimap::list_ordered_multimap::Entry;
 use ordered_multimap_callers::lists::has_lists;
 use ordered_multimap_callers::maps::{Refusing, refill, reserve_anew};
 use refusing_allocator::RefusingAllocator;
+use std::alloc::Allocator;
 use test_helpers::Test;
 
 // One after another: the key, the index, and what is returned.
@@ -38,14 +39,14 @@ const ONES: &[(usize, Option<u32>, &[u32])] = &[
     (7, None, &[10, 11, 12, 13, 14, 15, 16]),
 ];
 
-fn taken(map: &mut Refusing<'_>, key: u32, index: usize) -> Option<u32> {
+fn taken<A: Allocator + Copy>(map: &mut Refusing<A>, key: u32, index: usize) -> Option<u32> {
     match map.entry(key) {
         Entry::Occupied(mut entry) => entry.remove_at(index),
         Entry::Vacant(_) => None,
     }
 }
 
-fn has_values(map: &Refusing<'_>, values: &[u32]) -> bool {
+fn has_values<A: Allocator + Copy>(map: &Refusing<A>, values: &[u32]) -> bool {
     let mut walk = map.get_all(&1);
     let mut same = map.entry_len(&1) == values.len();
     for value in values {
@@ -54,7 +55,7 @@ fn has_values(map: &Refusing<'_>, values: &[u32]) -> bool {
     same
 }
 
-fn has_values_from_back(map: &Refusing<'_>, values: &[u32]) -> bool {
+fn has_values_from_back<A: Allocator + Copy>(map: &Refusing<A>, values: &[u32]) -> bool {
     let mut walk = map.get_all(&1);
     let mut same = true;
     for value in values.iter().rev() {
@@ -65,7 +66,11 @@ fn has_values_from_back(map: &Refusing<'_>, values: &[u32]) -> bool {
 
 /// An only value stays, and no value is taken of an absent key or at an index without one. It takes
 /// no memory.
-pub fn values_are_taken(test: &Test, allocator: &RefusingAllocator, map: &mut Refusing<'_>) {
+pub fn values_are_taken<A: Allocator + Copy>(
+    test: &Test,
+    allocator: &RefusingAllocator,
+    map: &mut Refusing<A>,
+) {
     reserve_anew(test, allocator, map, 2, 4);
     refill(test, map, &[(1, 1), (1, 2), (2, 5), (1, 3)]);
     for (row, (key, index, wanted)) in STEPS.iter().enumerate() {
@@ -77,7 +82,11 @@ pub fn values_are_taken(test: &Test, allocator: &RefusingAllocator, map: &mut Re
 }
 
 /// Each of many values can be taken: the first, the last, and any of either half.
-pub fn one_of_many_is_taken(test: &Test, allocator: &RefusingAllocator, map: &mut Refusing<'_>) {
+pub fn one_of_many_is_taken<A: Allocator + Copy>(
+    test: &Test,
+    allocator: &RefusingAllocator,
+    map: &mut Refusing<A>,
+) {
     reserve_anew(test, allocator, map, 2, 9);
     for (row, (index, wanted, left)) in ONES.iter().enumerate() {
         refill(test, map, MANY);

@@ -1,13 +1,11 @@
 //! Steps of a drain: what it gives from both ends, and what it shows of the rest.
-use ordered_multimap::list_ordered_multimap::{DefaultState, EntryValuesDrain};
+use crate::tests::lending::{Drain, drain_of, entry_drain_of, replaced_by};
 use ordered_multimap_callers::lists::appends;
 use ordered_multimap_callers::maps::{Numbers, refill};
 use test_helpers::{End, Test, is_shown, walk_difference};
 
 /// An end, how many values are left before, and the value that is there.
 pub type Step = (End, usize, Option<u32>);
-
-type Drain<'a> = EntryValuesDrain<'a, u32, u32, DefaultState>;
 
 fn taken(drain: &mut Drain<'_>, end: End) -> Option<u32> {
     match end {
@@ -66,7 +64,7 @@ fn all_is_given(test: &Test, drain: &mut Drain<'_>, steps: &[Step]) {
 }
 
 fn is_drained(test: &Test, map: &mut Numbers, steps: &[Step]) {
-    all_is_given(test, &mut map.remove_all(&1), steps);
+    all_is_given(test, &mut drain_of(map, 1), steps);
     test.expect(map.is_empty());
 }
 
@@ -98,7 +96,7 @@ fn rest_is_shown(test: &Test, drain: &mut Drain<'_>) {
 }
 
 fn drain_is_shown(test: &Test, map: &mut Numbers) {
-    rest_is_shown(test, &mut map.remove_all(&1));
+    rest_is_shown(test, &mut drain_of(map, 1));
 }
 
 /// Drains give their values from both ends, and show what is left.
@@ -120,15 +118,15 @@ const BOTH: &[Step] = &[
 ];
 
 fn values_are_removed(test: &Test, map: &mut Numbers) {
-    steps_answer(test, &mut map.remove_all(&5), NO_VALUE);
+    steps_answer(test, &mut drain_of(map, 5), NO_VALUE);
     test.expect(appends(map, 5, 1, false));
     test.expect(appends(map, 5, 2, true));
-    steps_answer(test, &mut map.remove_all(&5), BOTH);
-    steps_answer(test, &mut map.remove_all(&5), NO_VALUE);
+    steps_answer(test, &mut drain_of(map, 5), BOTH);
+    steps_answer(test, &mut drain_of(map, 5), NO_VALUE);
 }
 
 fn entry_is_removed(test: &Test, map: &mut Numbers) {
-    match map.remove_entry_all(&5) {
+    match entry_drain_of(map, 5) {
         Some((key, mut drain)) => {
             test.expect(key == 5);
             steps_answer(test, &mut drain, BOTH);
@@ -138,7 +136,7 @@ fn entry_is_removed(test: &Test, map: &mut Numbers) {
 }
 
 fn no_entry_is_removed(test: &Test, map: &mut Numbers) {
-    test.expect(map.remove_entry_all(&5).is_none());
+    test.expect(entry_drain_of(map, 5).is_none());
 }
 
 fn entries_are_removed(test: &Test, map: &mut Numbers) {
@@ -150,9 +148,9 @@ fn entries_are_removed(test: &Test, map: &mut Numbers) {
 }
 
 fn is_replaced(test: &Test, map: &mut Numbers, value: u32, old: &[Step]) {
-    match map.insert_all(5, value) {
-        Ok(mut drain) => steps_answer(test, &mut drain, old),
-        Err(_) => test.fail(),
+    match replaced_by(map, 5, value) {
+        Some(mut drain) => steps_answer(test, &mut drain, old),
+        None => test.fail(),
     }
 }
 

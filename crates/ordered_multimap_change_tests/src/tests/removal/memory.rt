@@ -4,21 +4,31 @@ use ordered_multimap_callers::lists::{appends, has_lists, inserts};
 use ordered_multimap_callers::maps::{Refusing, reserve_anew};
 use ordered_multimap_callers::test_with_room;
 use refusing_allocator::RefusingAllocator;
+use std::alloc::Allocator;
 use std::mem;
 use test_helpers::{End, Failed, Test, walk_difference};
 
-fn append(test: &Test, map: &mut Refusing<'_>, pair: (u32, u32), present: bool) {
+fn append<A: Allocator + Copy>(
+    test: &Test,
+    map: &mut Refusing<A>,
+    pair: (u32, u32),
+    present: bool,
+) {
     test.expect(appends(map, pair.0, pair.1, present));
 }
 
 // Two values come and leave by a drain that is dropped after one step.
-fn two_come_and_leave(test: &Test, map: &mut Refusing<'_>) {
+fn two_come_and_leave<A: Allocator + Copy>(test: &Test, map: &mut Refusing<A>) {
     append(test, map, (1, 1), false);
     append(test, map, (1, 2), true);
     test.expect(map.remove_all(&1).next() == Some(1));
 }
 
-fn drains_are_dropped(test: &Test, allocator: &RefusingAllocator, map: &mut Refusing<'_>) {
+fn drains_are_dropped<A: Allocator + Copy>(
+    test: &Test,
+    allocator: &RefusingAllocator,
+    map: &mut Refusing<A>,
+) {
     allocator.refuse_all();
     for _ in 0..50 {
         two_come_and_leave(test, map);
@@ -27,13 +37,17 @@ fn drains_are_dropped(test: &Test, allocator: &RefusingAllocator, map: &mut Refu
     test.expect(map.is_empty());
 }
 
-fn two_come_behind_forgotten_ones(test: &Test, map: &mut Refusing<'_>) {
+fn two_come_behind_forgotten_ones<A: Allocator + Copy>(test: &Test, map: &mut Refusing<A>) {
     mem::forget(map.remove_all(&1));
     append(test, map, (1, 1), false);
     append(test, map, (1, 2), true);
 }
 
-fn drains_are_forgotten(test: &Test, allocator: &RefusingAllocator, map: &mut Refusing<'_>) {
+fn drains_are_forgotten<A: Allocator + Copy>(
+    test: &Test,
+    allocator: &RefusingAllocator,
+    map: &mut Refusing<A>,
+) {
     reserve_anew(test, allocator, map, 2, 4);
     append(test, map, (1, 1), false);
     append(test, map, (1, 2), true);
@@ -47,13 +61,17 @@ fn drains_are_forgotten(test: &Test, allocator: &RefusingAllocator, map: &mut Re
 }
 
 // A pair comes, and an older one of its key goes.
-fn one_goes_for_one(test: &Test, map: &mut Refusing<'_>, number: u32) {
+fn one_goes_for_one<A: Allocator + Copy>(test: &Test, map: &mut Refusing<A>, number: u32) {
     append(test, map, (1, number), true);
     let gone = number.saturating_sub(2);
     map.retain(|key, value| *key != 1 || *value != gone);
 }
 
-fn pairs_come_and_go(test: &Test, allocator: &RefusingAllocator, map: &mut Refusing<'_>) {
+fn pairs_come_and_go<A: Allocator + Copy>(
+    test: &Test,
+    allocator: &RefusingAllocator,
+    map: &mut Refusing<A>,
+) {
     reserve_anew(test, allocator, map, 2, 4);
     append(test, map, (1, 0), false);
     append(test, map, (2, 0), false);
@@ -68,13 +86,17 @@ fn pairs_come_and_go(test: &Test, allocator: &RefusingAllocator, map: &mut Refus
     test.expect_same(walk_difference(&mut map.get_all(&1), &values));
 }
 
-fn both_are_replaced(test: &Test, map: &mut Refusing<'_>, number: u32) {
+fn both_are_replaced<A: Allocator + Copy>(test: &Test, map: &mut Refusing<A>, number: u32) {
     let old = Some(number.saturating_sub(1));
     test.expect(inserts(map, 1, number, &old));
     test.expect(inserts(map, 2, number, &old));
 }
 
-fn values_are_replaced(test: &Test, allocator: &RefusingAllocator, map: &mut Refusing<'_>) {
+fn values_are_replaced<A: Allocator + Copy>(
+    test: &Test,
+    allocator: &RefusingAllocator,
+    map: &mut Refusing<A>,
+) {
     reserve_anew(test, allocator, map, 2, 2);
     append(test, map, (1, 0), false);
     append(test, map, (2, 0), false);
@@ -86,7 +108,11 @@ fn values_are_replaced(test: &Test, allocator: &RefusingAllocator, map: &mut Ref
     test.expect(left);
 }
 
-fn room_is_used(test: &Test, allocator: &RefusingAllocator, map: &mut Refusing<'_>) {
+fn room_is_used<A: Allocator + Copy>(
+    test: &Test,
+    allocator: &RefusingAllocator,
+    map: &mut Refusing<A>,
+) {
     drains_are_dropped(test, allocator, map);
     drains_are_forgotten(test, allocator, map);
     pairs_come_and_go(test, allocator, map);

@@ -1,5 +1,6 @@
 //! What a map has once a walk for writing has ended: at each position that was handed out what its
 //! reference last held, and elsewhere what stood there, also where values of a key are equal.
+use crate::tests::lending::{pairs_of, values_of, values_of_key};
 use ordered_multimap_callers::lists::has_lists;
 use ordered_multimap_callers::maps::{Numbers, refill};
 use test_helpers::Test;
@@ -7,7 +8,7 @@ use test_helpers::Test;
 /// Writes the last value and then the first, while both references live, and lets the walk go with
 /// the one between.
 fn write_ends(map: &mut Numbers) -> bool {
-    let mut walk = map.iter_mut();
+    let mut walk = pairs_of(map);
     match (walk.next_back(), walk.next()) {
         (Some((_, last)), Some((_, first))) => {
             *last = 30;
@@ -18,21 +19,25 @@ fn write_ends(map: &mut Numbers) -> bool {
     }
 }
 
+fn raise_all(map: &mut Numbers) {
+    for value in values_of(map) {
+        *value = value.saturating_add(1);
+    }
+}
+
 fn ends_are_written(test: &Test, map: &mut Numbers) {
     refill(test, map, &[(1, 1), (2, 2), (1, 3)]);
     test.expect(write_ends(map));
     let ends = has_lists(map, &[(1, 10), (2, 2), (1, 30)], &[1, 2]);
     test.expect(ends);
-    for value in map.values_mut() {
-        *value = value.saturating_add(1);
-    }
+    raise_all(map);
     let all = has_lists(map, &[(1, 11), (2, 3), (1, 31)], &[1, 2]);
     test.expect(all);
 }
 
 /// Writes both values of the key 1, the first by the front step.
 fn write_equal(map: &mut Numbers) -> bool {
-    let mut walk = map.get_all_mut(&1);
+    let mut walk = values_of_key(map, 1);
     match (walk.next(), walk.next_back()) {
         (Some(first), Some(last)) => {
             *first = 6;
@@ -52,7 +57,7 @@ fn equal_values_are_told_apart(test: &Test, map: &mut Numbers) {
 
 /// Writes the last value, and ends the walk by its right to the others.
 fn end_pairs(map: &mut Numbers) -> bool {
-    let mut walk = map.iter_mut();
+    let mut walk = pairs_of(map);
     match walk.next_back() {
         Some((_, last)) => {
             *last = 30;
@@ -65,7 +70,7 @@ fn end_pairs(map: &mut Numbers) -> bool {
 
 /// The same with the first value.
 fn end_values(map: &mut Numbers) -> bool {
-    let mut walk = map.values_mut();
+    let mut walk = values_of(map);
     match walk.next() {
         Some(first) => {
             *first = 10;
@@ -78,7 +83,7 @@ fn end_values(map: &mut Numbers) -> bool {
 
 /// The same with the last value of the key 2.
 fn end_values_of_a_key(map: &mut Numbers) -> bool {
-    let mut walk = map.get_all_mut(&2);
+    let mut walk = values_of_key(map, 2);
     match walk.next_back() {
         Some(last) => {
             *last = 20;

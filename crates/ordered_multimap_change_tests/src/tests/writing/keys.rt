@@ -1,8 +1,9 @@
 //! The walk over keys with their values for writing.
+use crate::tests::lending::{keys_of, values_of_key_differ};
 use ordered_multimap::list_ordered_multimap::{EntryValuesMut, KeyValuesMut};
 use ordered_multimap_callers::lists::has_pairs;
 use ordered_multimap_callers::maps::{MIXED, Numbers, refill};
-use test_helpers::{End, Test, walk_difference};
+use test_helpers::{End, Test};
 
 type Keys<'a> = KeyValuesMut<'a, u32, u32>;
 
@@ -71,7 +72,7 @@ fn is_lent(
     match lent {
         Some((key, mut values)) => {
             test.expect(*key == wanted);
-            let answers = steps.is_empty() || walk_difference(&mut values, steps).is_none();
+            let answers = steps.is_empty() || values_of_key_differ(&mut values, steps).is_none();
             test.expect(answers);
         }
         None => test.fail(),
@@ -101,7 +102,7 @@ fn keys_are_lent(test: &Test, keys: &mut Keys<'_>, steps: &[KeyStep]) {
 }
 
 fn walk_lends(test: &Test, map: &mut Numbers, steps: &[KeyStep]) {
-    keys_are_lent(test, &mut map.pairs_mut(), steps);
+    keys_are_lent(test, &mut keys_of(map), steps);
 }
 
 /// Each key lends its values.

@@ -1,5 +1,6 @@
 //! What the walks for writing have left, for reading.
 
+use crate::tests::lending::{pairs_of, values_of, values_of_key};
 use ordered_multimap::list_ordered_multimap::{EntryValuesMut, IterMut, ValuesMut};
 use ordered_multimap_callers::lists::goes_on;
 use ordered_multimap_callers::maps::{MIXED, Numbers, refill};
@@ -27,15 +28,15 @@ fn values_of_a_key_are_left(test: &Test, walk: &EntryValuesMut<'_, u32, u32>) {
 }
 
 fn pairs(test: &Test, map: &mut Numbers) {
-    pairs_are_left(test, &mut map.iter_mut());
+    pairs_are_left(test, &mut pairs_of(map));
 }
 
 fn values(test: &Test, map: &mut Numbers) {
-    values_are_left(test, &mut map.values_mut());
+    values_are_left(test, &mut values_of(map));
 }
 
 fn values_of_a_key(test: &Test, map: &mut Numbers) {
-    values_of_a_key_are_left(test, &map.get_all_mut(&1));
+    values_of_a_key_are_left(test, &values_of_key(map, 1));
 }
 
 /// What is left is walked and cloned.

@@ -1,5 +1,6 @@
 //! The Debug texts of walks for writing, and of what they have left: all, and what is left once an
 //! item was taken.
+use crate::tests::lending::{keys_of, pairs_of, values_of, values_of_key};
 use ordered_multimap_callers::maps::{MIXED, Numbers, refill};
 use test_helpers::{Test, is_shown};
 
@@ -8,7 +9,7 @@ const PAIRS: &str = "IterMut([(1, 11), (2, 12), (2, 13), (1, 14)])";
 const PAIRS_LEFT: &str = "IterRest([(2, 12), (2, 13), (1, 14)])";
 
 fn pairs_are_shown(test: &Test, map: &mut Numbers) {
-    let mut walk = map.iter_mut();
+    let mut walk = pairs_of(map);
     test.expect(is_shown(test.alloc(), &walk, PAIRS));
     test.expect(walk.next().is_some());
     let left = is_shown(test.alloc(), &walk.iter(), PAIRS_LEFT);
@@ -20,7 +21,7 @@ const VALUES: &str = "ValuesMut([11, 12, 13, 14])";
 const VALUES_LEFT: &str = "ValuesRest([12, 13, 14])";
 
 fn values_are_shown(test: &Test, map: &mut Numbers) {
-    let mut walk = map.values_mut();
+    let mut walk = values_of(map);
     test.expect(is_shown(test.alloc(), &walk, VALUES));
     test.expect(walk.next().is_some());
     let left = is_shown(test.alloc(), &walk.iter(), VALUES_LEFT);
@@ -32,7 +33,7 @@ const VALUES_OF_A_KEY: &str = "EntryValuesMut([11, 12, 13, 14])";
 const LEFT_OF_A_KEY: &str = "EntryValuesRest([12, 13, 14])";
 
 fn values_of_a_key_are_shown(test: &Test, map: &mut Numbers) {
-    let mut walk = map.get_all_mut(&1);
+    let mut walk = values_of_key(map, 1);
     test.expect(is_shown(test.alloc(), &walk, VALUES_OF_A_KEY));
     test.expect(walk.next().is_some());
     let left = is_shown(test.alloc(), &walk.iter(), LEFT_OF_A_KEY);
@@ -44,7 +45,7 @@ const KEYS: &str = "KeyValuesMut([(1, EntryValues([11, 14])), (2, EntryValues([1
 const KEY_LEFT: &str = "KeyValuesMut([(2, EntryValues([12, 13]))])";
 
 fn keys_are_shown(test: &Test, map: &mut Numbers) {
-    let mut walk = map.pairs_mut();
+    let mut walk = keys_of(map);
     test.expect(is_shown(test.alloc(), &walk, KEYS));
     test.expect(walk.next().is_some());
     test.expect(is_shown(test.alloc(), &walk, KEY_LEFT));

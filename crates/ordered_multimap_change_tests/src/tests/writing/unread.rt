@@ -1,5 +1,6 @@
 //! A key of `pairs_mut` whose values are written, and one whose walk isn't read.
 
+use crate::tests::lending::keys_of;
 use ordered_multimap::list_ordered_multimap::{EntryValuesMut, KeyValuesMut};
 use ordered_multimap_callers::lists::has_lists;
 use ordered_multimap_callers::maps::{Numbers, refill};
@@ -39,7 +40,7 @@ fn steps_answer(test: &Test, keys: &mut Keys<'_>) {
 /// A key that isn't read keeps its values.
 pub fn one_key_is_written(test: &Test, map: &mut Numbers) {
     refill(test, map, &[(1, 1), (2, 2), (1, 3)]);
-    steps_answer(test, &mut map.pairs_mut());
+    steps_answer(test, &mut keys_of(map));
     let left = has_lists(map, &[(1, 10), (2, 2), (1, 30)], &[1, 2]);
     test.expect(left);
 }

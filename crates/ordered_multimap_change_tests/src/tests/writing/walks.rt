@@ -1,5 +1,8 @@
 //! Walks over all pairs, all values and one key's values for writing, from both ends, and what they
 //! leave.
+use crate::tests::lending::{
+    pairs_differ, pairs_of, values_differ, values_of, values_of_key, values_of_key_differ,
+};
 use ordered_multimap::list_ordered_multimap::EntryValuesMut;
 use ordered_multimap_callers::filled::{
     fill_all, fill_by_reference, fill_ends, fill_first_key, fill_key, fill_values,
@@ -79,16 +82,15 @@ const OF_KEY: &[Row<u32>] = &[
 ];
 
 fn pair_walk(test: &Test, map: &mut Numbers, wanted: &[(End, (u32, u32))]) {
-    test.expect_same(walk_difference(&mut map.iter_mut(), wanted));
+    test.expect_same(pairs_differ(&mut pairs_of(map), wanted));
 }
 
 fn value_walk(test: &Test, map: &mut Numbers, wanted: &[(End, u32)]) {
-    test.expect_same(walk_difference(&mut map.values_mut(), wanted));
+    test.expect_same(values_differ(&mut values_of(map), wanted));
 }
 
 fn key_walk(test: &Test, map: &mut Numbers, wanted: &[(End, u32)]) {
-    let difference = walk_difference(&mut map.get_all_mut(&1), wanted);
-    test.expect_same(difference);
+    test.expect_same(values_of_key_differ(&mut values_of_key(map, 1), wanted));
 }
 
 fn pairs_are_raised(test: &Test, map: &mut Numbers) {
@@ -123,7 +125,7 @@ fn is_left_alone(walk: &EntryValuesMut<'_, u32, u32>, value: u32) -> bool {
 /// Writes the first and the last value of the key 1 while both references live, and the one between
 /// is left.
 fn write_both(map: &mut Numbers) -> bool {
-    let mut walk = map.get_all_mut(&1);
+    let mut walk = values_of_key(map, 1);
     match (walk.next(), walk.next_back()) {
         (Some(first), Some(last)) => {
             let held = *first == 1 && *last == 3 && is_left_alone(&walk, 2);

@@ -45,10 +45,12 @@ fn is_found<S: BuildHasher>(
     test.expect_at(at, map.get_all(name).len() == count);
 }
 
+fn difference<S: BuildHasher>(map: &Owned<S>, wanted: &[(End, u32)]) -> Option<usize> {
+    walk_difference(&mut map.get_all("line"), wanted)
+}
+
 fn values_are_walked<S: BuildHasher>(test: &Test, map: &Owned<S>) {
-    let both = [(End::Front, 1), (End::Back, 2)];
-    let difference = walk_difference(&mut map.get_all("line"), &both);
-    test.expect_same(difference);
+    test.expect_same(difference(map, &[(End::Front, 1), (End::Back, 2)]));
 }
 
 fn first_is_written<S: BuildHasher>(test: &Test, map: &mut Owned<S>) {
@@ -59,13 +61,15 @@ fn first_is_written<S: BuildHasher>(test: &Test, map: &mut Owned<S>) {
     test.expect(map.get_mut("none").is_none());
 }
 
-fn all_are_written<S: BuildHasher>(test: &Test, map: &mut Owned<S>) {
+fn write_all<S: BuildHasher>(map: &mut Owned<S>) {
     for value in map.get_all_mut("line") {
         *value = 9;
     }
-    let both = [(End::Front, 9), (End::Front, 9)];
-    let difference = walk_difference(&mut map.get_all("line"), &both);
-    test.expect_same(difference);
+}
+
+fn all_are_written<S: BuildHasher>(test: &Test, map: &mut Owned<S>) {
+    write_all(map);
+    test.expect_same(difference(map, &[(End::Front, 9), (End::Front, 9)]));
     test.expect(map.get("page").copied() == Some(8));
 }
 

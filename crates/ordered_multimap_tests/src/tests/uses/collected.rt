@@ -4,34 +4,37 @@ use ordered_multimap::ListOrderedMultimap;
 use ordered_multimap_callers::lists::has_lists;
 use ordered_multimap_callers::maps::{Numbers, Refusing};
 use refusing_allocator::RefusingAllocator;
-use std::alloc::AllocError;
-use test_helpers::{Failed, Test, requests_until_enough};
+use std::alloc::{AllocError, Allocator};
+use test_helpers::{Failed, Test, lend, lend_made, requests_until_enough};
 
 const PAIRS: &[(u32, u32)] = &[(1, 1), (2, 2), (1, 3)];
 
 const KEYS: &[u32] = &[1, 2];
 
-fn collect(alloc: &RefusingAllocator) -> Result<Refusing<'_>, AllocError> {
+fn collect<A: Allocator + Copy>(alloc: A) -> Result<Refusing<A>, AllocError> {
     PAIRS.iter().copied().collect(alloc)
+}
+
+fn is_collected_by<A: Allocator + Copy>(test: &Test, alloc: A) -> bool {
+    let has_all = |map: &mut Refusing<A>| test.expect(has_lists(map, PAIRS, KEYS));
+    lend_made(collect(alloc), has_all, |_refused| {})
 }
 
 fn is_collected(test: &Test, granted: u64) -> bool {
     let allocator = RefusingAllocator::new(test.alloc(), granted);
-    match collect(&allocator) {
-        Ok(map) => {
-            test.expect(has_lists(&map, PAIRS, KEYS));
-            true
-        }
-        Err(_) => false,
-    }
+    is_collected_by(test, &allocator)
 }
 
 // By the trait, as code over any collection does.
-fn extend(map: &mut Refusing<'_>) -> Result<(), AllocError> {
+fn extend<A: Allocator + Copy>(map: &mut Refusing<A>) -> Result<(), AllocError> {
     Extend::extend(map, PAIRS.iter().copied())
 }
 
-fn is_extended(test: &Test, map: &Refusing<'_>, answer: Result<(), AllocError>) -> bool {
+fn is_extended<A: Allocator + Copy>(
+    test: &Test,
+    map: &Refusing<A>,
+    answer: Result<(), AllocError>,
+) -> bool {
     let count = map.values_len();
     let before = PAIRS.get(..count).unwrap_or(PAIRS);
     let keys = KEYS.get(..map.keys_len()).unwrap_or(KEYS);
@@ -40,11 +43,18 @@ fn is_extended(test: &Test, map: &Refusing<'_>, answer: Result<(), AllocError>) 
     answer.is_ok()
 }
 
+fn extends_on<A: Allocator + Copy>(test: &Test, map: &mut Refusing<A>) -> bool {
+    let answer = extend(map);
+    is_extended(test, map, answer)
+}
+
+fn extends_by<A: Allocator + Copy>(test: &Test, alloc: A) -> bool {
+    lend(ListOrderedMultimap::new(alloc), |map| extends_on(test, map))
+}
+
 fn extends(test: &Test, granted: u64) -> bool {
     let allocator = RefusingAllocator::new(test.alloc(), granted);
-    let mut map = ListOrderedMultimap::new(&allocator);
-    let answer = extend(&mut map);
-    is_extended(test, &map, answer)
+    extends_by(test, &allocator)
 }
 
 fn copy_all(map: &mut Numbers, other: &Numbers) -> Result<(), AllocError> {

@@ -3,7 +3,7 @@ use ordered_multimap::{Entry, ListOrderedMultimap};
 use ordered_multimap_callers::maps::Refusing;
 use ordered_multimap_callers::test_refusing;
 use refusing_allocator::RefusingAllocator;
-use std::alloc::AllocError;
+use std::alloc::{AllocError, Allocator};
 use test_helpers::{Failed, Test};
 
 /// Why a header was not stored.
@@ -21,7 +21,11 @@ impl From<AllocError> for HeaderError {
     }
 }
 
-fn add_header(map: &mut Refusing<'_>, name: u32, value: u32) -> Result<bool, HeaderError> {
+fn add_header<A: Allocator + Copy>(
+    map: &mut Refusing<A>,
+    name: u32,
+    value: u32,
+) -> Result<bool, HeaderError> {
     if name == 0 {
         return Err(HeaderError::NoName);
     }
@@ -29,14 +33,22 @@ fn add_header(map: &mut Refusing<'_>, name: u32, value: u32) -> Result<bool, Hea
     Ok(present)
 }
 
-fn add_again(map: &mut Refusing<'_>, name: u32, value: u32) -> Result<(), HeaderError> {
+fn add_again<A: Allocator + Copy>(
+    map: &mut Refusing<A>,
+    name: u32,
+    value: u32,
+) -> Result<(), HeaderError> {
     if let Entry::Occupied(mut entry) = map.entry(name) {
         entry.append(value).map_err(AllocError::from)?;
     }
     Ok(())
 }
 
-fn errors_are_told(test: &Test, allocator: &RefusingAllocator, map: &mut Refusing<'_>) {
+fn errors_are_told<A: Allocator + Copy>(
+    test: &Test,
+    allocator: &RefusingAllocator,
+    map: &mut Refusing<A>,
+) {
     test.expect(add_header(map, 0, 1) == Err(HeaderError::NoName));
     test.expect(add_header(map, 7, 1) == Ok(false));
     test.expect(map.pack_to_fit().is_ok());
