@@ -86,7 +86,8 @@ impl<A: Allocator> KeyTable<A> {
         }
     }
 
-    /// Adds a row of a place that the table does not have yet. Takes no memory.
+    /// Adds a row of a place that the table does not have yet. There must be room for it. Takes no
+    /// memory.
     ///
     /// Reads the tags of groups up to the first that has an empty lane: one, seldom more.
     pub fn insert(&mut self, hash: u64, place: usize)
@@ -99,7 +100,8 @@ impl<A: Allocator> KeyTable<A> {
         self.len += 1;
     }
 
-    /// Takes the row of a place out. Its lane is free for another row.
+    /// Takes the row of a place out, which must be there with this hash. Its lane is free for
+    /// another row.
     ///
     /// Finds the row as `find` does. Where its group was full, rows of later groups may move back,
     /// each with the tags and rows between read once.
@@ -215,11 +217,10 @@ impl<A: Allocator + Copy> KeyTable<A> {
         }
         let lanes = LANES * groups_for(capacity);
         let no_row = Row { hash: 0, place: 0 };
-        Ok(KeyTable {
-            tags: Vec::from_elem(alloc, 0, lanes)?,
-            rows: Vec::from_elem(alloc, no_row, lanes)?,
-            len: 0,
-        })
+        // The rows take sixteen times as much as the tags. Where they are refused, nothing was written.
+        let rows = Vec::from_elem(alloc, no_row, lanes)?;
+        let tags = Vec::from_elem(alloc, 0, lanes)?;
+        Ok(KeyTable { tags, rows, len: 0 })
     }
 }
 

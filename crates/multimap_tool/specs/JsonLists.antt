@@ -10,7 +10,8 @@ use Rattle.serde_json.specs.Events.{members_len}
 use Rattle.serde_json.specs.Find.{as_array, get}
 use Rattle.serde_json.specs.View.{items_of}
 use Rattle.ordered_multimap.specs.Lists.{Lists, IsIn}
-use Rattle.ordered_multimap.specs.Keys.{is_listed, stored_key}
+use Rattle.ordered_multimap.specs.Changes.{under_listed}
+use Rattle.ordered_multimap.specs.Keys.{is_listed}
 use Rattle.multimap_tool.specs.Json.{pairs_json, IsReadFrom, item_fault, fault_in}
 use Rattle.multimap_tool.specs.declared.json.faults.ReadFault.{ReadFault}
 use Rattle.multimap_tool.specs.declared.json.faults.ReadFault.TheVariants.{NotVersion2}
@@ -63,11 +64,6 @@ abbrev pub first_unused : {K : Type 0} → (K → K → Bool) → ℕ → List K
 first_unused eq i [] named = None
 first_unused eq i (k ∷ keys) named =
     cond (is_listed eq named k) (first_unused eq (suc i) keys named) (Some (UnusedKey i))
-
--- the pairs, each with the listed key that equals its own
-abbrev pub under_listed : {K : Type 0} → (K → K → Bool) → List K → {V : Type 0} → List (K × V)
-    → List (K × V)
-under_listed eq keys pairs = map (λ p. (stored_key eq keys p.0, p.1)) pairs
 
 module _ {K V : Type 0} (key_json : K → Data) (value_json : V → Data) where
   -- an object of the keys and of the pairs, both in order

@@ -65,7 +65,7 @@ pub enum Command<K, V, A: Allocator = Global> {
     Clear,
     /// Makes room for this many more keys, and for this many more values.
     Reserve(usize, usize),
-    /// Gives back the room that is left over.
+    /// Moves the map to new memory, without holes.
     PackToFit,
     /// Puts a clone of the map in its place.
     Swap,

@@ -41,7 +41,7 @@ pub fn what_is_written_is_read<K: JsonPart + Eq, V: JsonPart>()
 
 /// What is read of the JSON value of both lists of a map are the same lists. Different keys have to
 /// have different JSON values, and different values too.
-pub fn json_two_lists<K: JsonPart + Eq, V: JsonPart>()
+pub fn both_lists_are_read<K: JsonPart + Eq, V: JsonPart>()
     requires { DifferAsJson K.json V.json }
     ensures { (m n : Lists K V) → IsWellFormed K.eq m
         → IsRead K.json V.json K.is_part V.is_part K.eq (lists_json K.json V.json m) n → n ≡ m }

@@ -31,6 +31,10 @@ module _ {V : Type 0} where
     reads = reads;
   }
 
+  -- a walk at its start, over values that have left the list
+  abbrev pub detached_walk : List V → ChainWalk V
+  detached_walk values = record { left = values; positions = []; reads = 0 }
+
   -- a walk has a position for each value that is left, or none where its values have left the list
   abbrev pub AreCounted : ChainWalk V → Type 0
   AreCounted walk = (walk.positions ≡ []) ⊎ (length walk.positions ≡ length walk.left)

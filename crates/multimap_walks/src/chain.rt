@@ -3,7 +3,7 @@ ghost use Rattle.std.specs.Prelude.{◌≡◌, [], length, MatchOption, ⊤};
 ghost use Rattle.std.specs.Iterator.{at_most};
 ghost use Rattle.multimap_slots.specs.Slots.{HasLink};
 ghost use Rattle.multimap_walks.specs.Chained.{IsChain, IsChained, IsDetachedChain, chain_of, places_along, positions_at, values_at};
-ghost use Rattle.multimap_walks.specs.ChainWalk.{GivesEnd, GivesFirst, GivesLast, chain_walk};
+ghost use Rattle.multimap_walks.specs.ChainWalk.{GivesEnd, GivesFirst, GivesLast, chain_walk, detached_walk};
 ghost use Rattle.multimap_walks.specs.Walk.{TellsLength};
 
 use crate::End;
@@ -72,11 +72,8 @@ impl<'map, K, V, A: Allocator> EntryValues<'map, K, V, A> {
     pub fn new_detached(values: &'map Tape<V, ValueLink, A>, ends: Option<ChainEnds>) -> Self
         requires { MatchOption ends ⊤
             (λ e. IsDetachedChain values.now.list e.first e.last e.length) }
-        ensures values { MatchOption ends (result.left ≡ [])
-            (λ e. result.left
-            ≡ values_at values.now.list (places_along values.now.list e.first e.length)) }
-        ensures positions { result.positions ≡ [] }
-        ensures reads { result.reads ≡ 0 }
+        ensures { MatchOption ends (result ≡ detached_walk []) (λ e. result ≡ detached_walk
+            (values_at values.now.list (places_along values.now.list e.first e.length))) }
     {
         EntryValues::along(values, ends.unwrap_or(NO_ENDS), true)
     }

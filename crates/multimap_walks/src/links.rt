@@ -65,7 +65,8 @@ impl ChainEnds {
         }
     }
 
-    /// What is left once the place at an end has gone, where `place` is at that end then.
+    /// What is left, of one place at least, once that at an end has gone, where `place` is at that
+    /// end then.
     #[inline(always)]
     pub fn after(&self, end: End, place: usize) -> ChainEnds
         requires more { ¬ (self.now.length ≡ 0) }

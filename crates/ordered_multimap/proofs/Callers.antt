@@ -1,3 +1,4 @@
+pub mod Growth
 pub mod KeyOrder
 pub mod Laws
 pub mod LentValues

@@ -1,5 +1,5 @@
 -- What an addition, a removal or a write makes of the two lists.
-use Rattle.std.specs.Prelude.{Bool, not, List, [], ◌∷◌, ◌++◌, filter}
+use Rattle.std.specs.Prelude.{Bool, not, List, [], ◌∷◌, ◌++◌, filter, map}
 use Rattle.multimap_walks.specs.declared.End.{End}
 use Rattle.ordered_multimap.specs.Lists.{Lists, lists, empty_lists}
 use Rattle.ordered_multimap.specs.Pairs.{pairs_except, pairs_without, with_first_where}
@@ -49,6 +49,15 @@ module _ {K : Type 0} (eq : K → K → Bool) {V : Type 0} where
   abbrev pub first_occurrences : List (K × V) → List K
   first_occurrences [] = []
   first_occurrences (p ∷ pairs) = p.0 ∷ filter (λ k. not (eq p.0 k)) (first_occurrences pairs)
+
+module _ {K : Type 0} (eq : K → K → Bool) {V : Type 0} where
+  -- the pairs, each with the listed key that equals its own
+  abbrev pub under_listed : List K → List (K × V) → List (K × V)
+  under_listed keys pairs = map (λ p. (stored_key eq keys p.0, p.1)) pairs
+
+  -- the lists of these keys and of these pairs
+  abbrev pub built_from_both : List K → List (K × V) → Lists K V
+  built_from_both keys pairs = lists keys (under_listed keys pairs)
 
 -- the value of the first or the last pair is v, where there is one
 abbrev pub end_written : {K V : Type 0} → End → Lists K V → V → Lists K V

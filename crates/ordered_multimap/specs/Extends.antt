@@ -2,7 +2,7 @@
 use Rattle.std.specs.Prelude.{◌≡◌, Bool, List, [], ◌∷◌, ◌++◌, length, map, Option, Result}
 use Rattle.std.specs.Prelude.{IsOk, MatchResult}
 use Rattle.std.specs.Borrow.{Bor}
-use Rattle.std.specs.Iterator.{Count, Drains, HoldsAlong, Yields, size}
+use Rattle.std.specs.Iterator.{Count, Drains, ExtendsWithItems, HoldsAlong, Yields, size}
 use Rattle.ordered_multimap.specs.Lists.{Lists}
 use Rattle.ordered_multimap.specs.Changes.{all_appended, built_from}
 use Rattle.ordered_multimap.specs.Multimap.{Multimap}
@@ -78,6 +78,15 @@ pub record GrowsForAll {K V S I T X Y E : Type 0} (becomes : I → T → Type 0)
       (HasRoomForMost becomes left iter old) old new
   pub succeeds : HasRoomForGiven becomes steps iter old → IsOk r
   pub succeeds_for_most : HasRoomForMost becomes left iter old → IsOk r
+
+-- what std says of items that were added, or of those before a refused one; and how the map has
+-- grown for them
+pub record ExtendsInRoom {K V S I T X E : Type 0} (becomes : I → T → Type 0)
+    (steps : T → Option X → T → Type 0) (left : T → Count)
+    (gives : Multimap K V S → List X → Multimap K V S → Type 0) (iter : I)
+    (old new : Multimap K V S) (r : Result (Unit {0}) E) : Type 0 where
+  pub ran : ExtendsWithItems becomes steps gives iter old new r
+  pub grows : GrowsForAll becomes steps left iter old new r
 
 module _ {K V S : Type 0} (eq : K → K → Bool) where
   -- each pair was appended in turn; no room is lower, one that grows at least doubles, and no value

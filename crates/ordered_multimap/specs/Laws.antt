@@ -8,7 +8,7 @@ use Rattle.multimap_walks.specs.Walk.{answers_of_walk}
 use Rattle.ordered_multimap.specs.Lists.{IsWellFormed, Lists, lists}
 use Rattle.ordered_multimap.specs.Pairs.{values_of, is_present, same_pairs}
 use Rattle.ordered_multimap.specs.Keys.{stored_key}
-use Rattle.ordered_multimap.specs.Changes.{appended, first_occurrences, built_from}
+use Rattle.ordered_multimap.specs.Changes.{appended, first_occurrences, built_from, built_from_both}
 use Rattle.ordered_multimap.specs.Popped.{popped_pair, popped}
 
 module _ {K : Type 0} (eq : K → K → Bool) {V : Type 0} where
@@ -26,6 +26,10 @@ module _ {K : Type 0} (eq : K → K → Bool) {V : Type 0} where
   -- first occurrence
   abbrev pub IsRebuilt : Lists K V → Type 0
   IsRebuilt m = built_from eq m.pairs ≡ lists (first_occurrences eq m.pairs) m.pairs
+
+  -- built anew of their own keys and pairs, the lists are the same
+  abbrev pub IsRebuiltOfBoth : Lists K V → Type 0
+  IsRebuiltOfBoth m = built_from_both eq m.keys m.pairs ≡ m
 
   -- pairs are compared by an equivalence, and well-formed lists with the same pairs have as many
   -- keys

@@ -2,7 +2,8 @@
 ghost use Rattle.std.specs.Borrow.{sem};
 ghost use Rattle.ordered_multimap.specs.Exact.{WalksAreExact};
 ghost use Rattle.ordered_multimap.specs.Lists.{Lists, IsWellFormed};
-ghost use Rattle.ordered_multimap.specs.Laws.{ComparesPairs, FiltersChains, PopUndoesAppend, IsRebuilt};
+ghost use Rattle.ordered_multimap.specs.Laws.{ComparesPairs, FiltersChains};
+ghost use Rattle.ordered_multimap.specs.Laws.{IsRebuilt, IsRebuiltOfBoth, PopUndoesAppend};
 
 use std::alloc::Allocator;
 use std::hash::{BuildHasher, Hash};
@@ -16,6 +17,11 @@ pub fn append_then_pop_back<K: Eq, V>()
 /// which they first occur in the pairs.
 pub fn json_first_occurrence<K: Eq, V>()
     ensures { (m : Lists K V) → IsWellFormed K.eq m → IsRebuilt K.eq m }
+{}
+
+/// Lists that are built of a map's own keys and pairs are its lists again.
+pub fn json_two_lists<K: Eq, V>()
+    ensures { (m : Lists K V) → IsWellFormed K.eq m → IsRebuiltOfBoth K.eq m }
 {}
 
 /// Equality of maps is an equivalence, and equal maps have as many keys.

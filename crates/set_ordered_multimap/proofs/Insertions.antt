@@ -1,40 +1,29 @@
--- Insertions in turn: their lists, how much longer these become, and what they keep of rooms and of the tape's numbers.
+-- Insertions in turn: their lists, how much longer these become, and how the rooms grow.
 use Rattle.std.proofs.Common.{◌≡◌, ◌+◌, ◌≤◌, Bool, true, false, cond, List, [], ◌∷◌, ◌++◌, length, length-append, refl, sym, ap, ◌∙◌, subst}
 use Rattle.std.proofs.Common.{arith}
 use Rattle.std.proofs.Common.{Result, Ok, Err}
 use Rattle.std.specs.Cmp.{IsEquivalence}
 use Rattle.ordered_multimap.specs.Additions.{Appends, IsAppended}
 use Rattle.ordered_multimap.specs.Changes.{appended}
-use Rattle.ordered_multimap.specs.Keys.{is_listed, stored_key, keys_with}
+use Rattle.ordered_multimap.specs.Extends.{GrowsForPairs}
+use Rattle.ordered_multimap.specs.Keys.{stored_key}
 use Rattle.ordered_multimap.specs.Lists.{Lists}
 use Rattle.ordered_multimap.specs.Multimap.{Multimap}
-use Rattle.ordered_multimap.specs.Rooms.{HasPairRoom, HasRoomForPairs, KeepsRooms}
+use Rattle.ordered_multimap.specs.Rooms.{HasRoomForPairs, KeepsRooms}
+use Rattle.ordered_multimap.proofs.Callers.Growth.{grows_for_one}
+use Rattle.ordered_multimap.proofs.Callers.ListedKeys.{length-keys_with}
 use Rattle.ordered_multimap.specs.declared.list_ordered_multimap.refused.Refused.{Refused}
 use Rattle.set_ordered_multimap.proofs.Callers.Sets.{IsSet-appended}
-use Rattle.set_ordered_multimap.specs.Insertions.{KeepsAll}
 use Rattle.set_ordered_multimap.specs.Set.{IsSet, has_pair, set_inserted, all_inserted}
-
--- nothing was done
-pub keeps-all : {K V S : Type 0} (m : Multimap K V S) → KeepsAll m m
-keeps-all m = record {
-  rooms = record { keys = omega arith; values = omega arith; hasher = refl };
-  taken = record { freed = omega arith; paid = omega arith };
-}
 
 module _ {K V : Type 0} (eq : K → K → Bool) (value_eq : V → V → Bool) where
   -- neither list is longer than before by more than one
-  keys_one_more : (keys : List K) (k : K) → length (keys_with eq keys k) ≤ length keys + 1
-  keys_one_more keys k = elim (is_listed eq keys k) as (λ b. length (cond b keys (keys ++ k ∷ [])) ≤ length keys + 1) [
-    | true ↦ omega arith
-    | false ↦ omega (arith, length-append keys (k ∷ []))
-  ]
-
   one_more : (m : Lists K V) (k : K) (v : V) → (length (set_inserted eq value_eq m k v).keys ≤ length m.keys + 1)
       × (length (set_inserted eq value_eq m k v).pairs ≤ length m.pairs + 1)
   one_more m k v = elim (has_pair eq value_eq m.pairs k v) as (λ b. let n : Lists K V = cond b m (appended eq m k v) in
       (length n.keys ≤ length m.keys + 1) × (length n.pairs ≤ length m.pairs + 1)) [
         | true ↦ (omega arith, omega arith)
-        | false ↦ (keys_one_more m.keys k, omega (arith, length-append m.pairs ((stored_key eq m.keys k, v) ∷ [])))
+        | false ↦ (length-keys_with eq m.keys k, omega (arith, length-append m.pairs ((stored_key eq m.keys k, v) ∷ [])))
       ]
 
   -- nor by more than there are pairs
@@ -49,22 +38,24 @@ module _ {K V : Type 0} (eq : K → K → Bool) (value_eq : V → V → Bool) wh
 
   module _ {S : Type 0} where
     -- so where there was room for so many pairs and one more, there is room for one
-    pub pair_room : (m n : Multimap K V S) (pairs : List (K × V)) → HasRoomForPairs m (length pairs + 1)
-        → n.lists ≡ all_inserted eq value_eq m.lists pairs → KeepsRooms m n → (k : K) → HasPairRoom eq n k
-    pair_room m n pairs room is rooms k =
+    pub room_left : {m n : Multimap K V S} (pairs : List (K × V)) → HasRoomForPairs m (length pairs + 1)
+        → n.lists ≡ all_inserted eq value_eq m.lists pairs → KeepsRooms m n → HasRoomForPairs n 1
+    room_left {m} pairs room is rooms =
         let long = lengths-inserted m.lists pairs in
         record {
-          value = omega (arith, room.values, rooms.values, long.1, ap (λ (l : Lists K V). length l.pairs) is);
-          key = λ _. omega (arith, room.keys, rooms.keys, long.0, ap (λ (l : Lists K V). length l.keys) is);
+          keys = omega (arith, room.keys, rooms.keys, long.0, ap (λ (l : Lists K V). length l.keys) is);
+          values = omega (arith, room.values, rooms.values, long.1, ap (λ (l : Lists K V). length l.pairs) is);
         }
 
-    -- an insertion keeps all, whether the pair was there or not
-    pub keeps-inserted : (m n : Multimap K V S) (k : K) (v : V) → (has_pair eq value_eq m.lists.pairs k v ≡ true → n ≡ m)
-        → (has_pair eq value_eq m.lists.pairs k v ≡ false → IsAppended eq k v m n) → KeepsAll m n
-    keeps-inserted m n k v same more = elim (has_pair eq value_eq m.lists.pairs k v) as
-        (λ b. has_pair eq value_eq m.lists.pairs k v ≡ b → KeepsAll m n) [
-          | true ↦ λ there. subst (KeepsAll m) (sym (same there)) (keeps-all m)
-          | false ↦ λ absent. let a = more absent in record { rooms = a.rooms; taken = a.taken }
+    -- an insertion grows for the pair alone, whether it was there or not
+    pub grows-inserted : {given : Type 0} (old m n : Multimap K V S) (k : K) (v : V) → (given → HasRoomForPairs m 1)
+        → (has_pair eq value_eq m.lists.pairs k v ≡ true → n ≡ m)
+        → (has_pair eq value_eq m.lists.pairs k v ≡ false → IsAppended eq k v m n)
+        → GrowsForPairs given given old m → GrowsForPairs given given old n
+    grows-inserted {given} old m n k v room same more grows = elim (has_pair eq value_eq m.lists.pairs k v) as
+        (λ b. has_pair eq value_eq m.lists.pairs k v ≡ b → GrowsForPairs given given old n) [
+          | true ↦ λ there. subst (GrowsForPairs given given old) (sym (same there)) grows
+          | false ↦ λ absent. let a = more absent in grows_for_one eq room room grows a.rooms a.had_room a.taken
         ] refl
 
 -- lists to which a new pair was appended, or was refused, are a set again
@@ -74,14 +65,3 @@ pub IsSet-appends : {K V S X : Type 0} {eq : K → K → Bool} {value_eq : V →
 IsSet-appends {eq = eq} {value_eq = value_eq} keys values m n k v (Ok x) a absent set =
     subst (IsSet eq value_eq) (sym a.ok.lists) (IsSet-appended keys values m.lists k v absent set)
 IsSet-appends {eq = eq} {value_eq = value_eq} keys values m n k v (Err e) a absent set = subst (IsSet eq value_eq) (sym a.refused.lists) set
-
--- and so do two in a row
-pub keeps-then : {K V S : Type 0} {a b c : Multimap K V S} → KeepsAll a b → KeepsAll b c → KeepsAll a c
-keeps-then f s = record {
-  rooms = record {
-    keys = omega (arith, f.rooms.keys, s.rooms.keys);
-    values = omega (arith, f.rooms.values, s.rooms.values);
-    hasher = s.rooms.hasher ∙ f.rooms.hasher;
-  };
-  taken = record { freed = omega (arith, f.taken.freed, s.taken.freed); paid = omega (arith, f.taken.paid, s.taken.paid) };
-}

@@ -1,13 +1,14 @@
 -- What a call makes of a set that inserts the pairs of an iterator.
-use Rattle.std.specs.Prelude.{◌≡◌, Bool, List, [], ◌∷◌, ◌++◌, Option, Result, MatchResult}
+use Rattle.std.specs.Prelude.{◌≡◌, Bool, false, List, [], ◌∷◌, ◌++◌, Option}
+use Rattle.std.specs.Prelude.{Result, IsOk, MatchResult}
 use Rattle.std.specs.Iterator.{Count, Drains, IsFinite, Yields}
 use Rattle.ordered_multimap.specs.Changes.{built_from}
+use Rattle.ordered_multimap.specs.Extends.{GrowsForPairs, HasRoomForGiven}
 use Rattle.ordered_multimap.specs.Lists.{Lists}
 use Rattle.ordered_multimap.specs.Multimap.{Multimap}
-use Rattle.ordered_multimap.specs.Rooms.{KeepsRooms}
-use Rattle.ordered_multimap.specs.TapeNumbers.{TakesOut}
+use Rattle.ordered_multimap.specs.Rooms.{HasPairRoom}
 use Rattle.ordered_multimap.specs.declared.list_ordered_multimap.refused.Refused.{Refused}
-use Rattle.set_ordered_multimap.specs.Set.{all_inserted, first_pairs}
+use Rattle.set_ordered_multimap.specs.Set.{all_inserted, first_pairs, has_pair}
 
 -- what comes of an iterator may be asked for an item, and ends
 abbrev pub ComesToAnEnd : {I T : Type 0} → (I → T → Type 0) → (T → Type 0) → (T → Count) → I
@@ -30,7 +31,17 @@ module _ {K V : Type 0} (eq : K → K → Bool) (value_eq : V → V → Bool) {I
   IsSetOf iter new = (it : T) × (pairs : List (K × V)) × becomes iter it
       × (new ≡ built_from eq (first_pairs eq value_eq pairs)) × Drains steps it pairs
 
--- no room is lower, the hash builder is the same, and no value was taken out
-pub record KeepsAll {K V S : Type 0} (old new : Multimap K V S) : Type 0 where
-  pub rooms : KeepsRooms old new
-  pub taken : TakesOut 0 old.tape new.tape
+module _ {K V S I T : Type 0} (becomes : I → T → Type 0) {X : Type 0}
+    (steps : T → Option X → T → Type 0) where
+  -- nothing is refused where all pairs that come have room, and the set has grown for them alone
+  pub record GrowsForInserted (iter : I) (old new : Multimap K V S) {Y E : Type 0} (r : Result Y E)
+      : Type 0 where
+    pub grows : GrowsForPairs (HasRoomForGiven becomes steps iter old)
+        (HasRoomForGiven becomes steps iter old) old new
+    pub succeeds : HasRoomForGiven becomes steps iter old → IsOk r
+
+-- a pair needs room for a key and a value only where no equal one is there
+abbrev pub HasRoomToInsert : {K V S : Type 0} → (K → K → Bool) → (V → V → Bool) → Multimap K V S
+    → K → V → Type 0
+HasRoomToInsert eq value_eq m k v =
+    has_pair eq value_eq m.lists.pairs k v ≡ false → HasPairRoom eq m k

@@ -11,13 +11,14 @@ use Rattle.ordered_multimap.specs.Lists.{Lists, lists, IsIn, IsWellFormed}
 use Rattle.ordered_multimap.specs.Keys.{is_listed, stored_key, keys_named_by}
 use Rattle.ordered_multimap.specs.End.TheVariants.{Front}
 use Rattle.ordered_multimap.specs.Pairs.{has_items, is_present}
-use Rattle.ordered_multimap.specs.Changes.{appended}
+use Rattle.ordered_multimap.specs.Changes.{appended, under_listed}
 use Rattle.ordered_multimap.specs.Popped.{popped, popped_pair}
-use Rattle.ordered_multimap.proofs.Callers.ListedKeys.{is_listed-self, stored_key_only, stored_key_absent, apart_member}
+use Rattle.ordered_multimap.proofs.Callers.Laws.{under_own}
+use Rattle.ordered_multimap.proofs.Callers.ListedKeys.{is_listed-self, stored_key_absent, apart_member}
 use Rattle.ordered_multimap.proofs.Callers.ListedKeys.{is_present-is_listed}
 use Rattle.ordered_multimap.proofs.Callers.Members.{filter-all, keys_of-append}
 use Rattle.multimap_tool.specs.Json.{item_fault, first_fault, pair_json, UnlessMemory}
-use Rattle.multimap_tool.specs.JsonLists.{both_arrays, each_item, first_unused, under_listed, lists_json, IsKeysFault, IsPairsFault}
+use Rattle.multimap_tool.specs.JsonLists.{both_arrays, each_item, first_unused, lists_json, IsKeysFault, IsPairsFault}
 use Rattle.multimap_tool.specs.JsonLists.{IsListsFault, AreReadLists, IsRead, IsFaultIn, AreAccepted}
 use Rattle.multimap_tool.specs.Private.JsonSteps.{is_owned_pop}
 use Rattle.multimap_tool.proofs.Callers.JsonParts.{same_items, same_pairs_json, nones, unless_is}
@@ -59,14 +60,6 @@ module _ {K : Type 0} {eq : K → K → Bool} (laws : IsEquivalence eq) where
   none_unused i (k ∷ keys) named each = rw (each k (inl refl)) (none_unused (suc i) keys named (λ j later. each j (inr later)))
 
 module _ {K V : Type 0} {eq : K → K → Bool} (laws : IsEquivalence eq) where
-  -- pairs of listed keys are under their own keys
-  pub under_own : (keys : List K) (pairs : List (K × V)) → IsDistinct eq keys → ((k : K) → IsIn k (keys_of pairs) → IsIn k keys)
-      → under_listed eq keys pairs ≡ pairs
-  under_own keys [] distinct each = refl
-  under_own keys (p ∷ pairs) distinct each =
-      ap₂ (λ k ps. (k, p.1) ∷ ps) (stored_key_only laws p.0 p.0 keys distinct (each p.0 (inl refl)) (laws.refl p.0))
-      (under_own keys pairs distinct (λ k later. each k (inr later)))
-
   -- all keys are still named once the first pair has gone, where its own is
   pub all_named : (keys : List K) (p : K × V) (rest : List (K × V)) → ((k : K) → IsIn k keys → IsIn k (keys_of (p ∷ rest)))
       → is_listed eq (keys_of rest) p.0 ≡ true → keys_named_by eq keys rest ≡ keys

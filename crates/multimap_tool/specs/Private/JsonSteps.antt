@@ -3,12 +3,13 @@ use Rattle.std.specs.Prelude.{◌≡◌, ℕ, Bool, true, false, List, [], ◌�
 use Rattle.std.specs.Prelude.{Option, Some, None, Result, IfOk, IfErr, OnOk}
 use Rattle.serde_json.specs.Data.{Data, Items, array}
 use Rattle.ordered_multimap.specs.Lists.{Lists, lists}
+use Rattle.ordered_multimap.specs.Changes.{under_listed}
 use Rattle.ordered_multimap.specs.Keys.{is_listed, stored_key}
 use Rattle.ordered_multimap.specs.Multimap.{Multimap}
 use Rattle.ordered_multimap.specs.Popped.{Popped}
 use Rattle.ordered_multimap.specs.TapeNumbers.{AreUnused}
 use Rattle.multimap_tool.specs.Json.{fault_in, item_fault, pair_json, IsReadFrom, UnlessMemory}
-use Rattle.multimap_tool.specs.JsonLists.{under_listed, AreReadLists, AreReadPairs, IsListsFault}
+use Rattle.multimap_tool.specs.JsonLists.{AreReadLists, AreReadPairs, IsListsFault}
 use Rattle.multimap_tool.specs.declared.json.faults.ReadFault.{ReadFault}
 
 -- what is to be read comes into the map, unless a fault is told; the hash builder stays, and a tape

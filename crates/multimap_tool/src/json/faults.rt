@@ -36,7 +36,8 @@ pub enum ReadFault {
     BadValue(usize),
     /// No pair is bad, and this item of `keys` is the first that is the key of no pair.
     UnusedKey(usize),
-    /// Memory was wanting, at the first bad item or before it, or at any item if none is bad.
+    /// Memory was wanting, at the first bad item or before it, or at any item if none is bad; of an
+    /// object also at the value of the first pair, which is read before all else.
     OutOfMemory,
 }
 

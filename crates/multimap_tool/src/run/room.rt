@@ -34,7 +34,7 @@ pub(crate) fn reserve<K: Eq + Hash + Copy, V: Copy, S: BuildHasher, A: Allocator
     }
 }
 
-/// Gives back the room that is left over.
+/// Moves the map to new memory, without holes.
 pub(crate) fn pack_to_fit<K: Eq + Hash + Copy, V: Copy, S: BuildHasher, A: Allocator + Copy>(
     map: &mut ListOrderedMultimap<K, V, S, A>,
 ) -> Reply<K, V, A>

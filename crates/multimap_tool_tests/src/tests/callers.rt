@@ -5,7 +5,7 @@ ghost use Rattle.multimap_tool.specs.Json.{IsReadFrom, pairs_json};
 ghost use Rattle.multimap_tool.specs.JsonLists.{IsRead, lists_json};
 
 use multimap_tool::json::JsonPart;
-use multimap_tool::laws::{json_two_lists, what_is_written_is_read};
+use multimap_tool::laws::{both_lists_are_read, what_is_written_is_read};
 
 /// What is read of the JSON value of a map of numbers has its pairs.
 pub fn pairs_of_numbers_are_read()
@@ -24,5 +24,5 @@ pub fn lists_of_numbers_are_read()
         ⟦<i64 as JsonPart>⟧.is_part ⟦<u32 as PartialEq>⟧.eq
         (lists_json ⟦<u32 as JsonPart>⟧.json ⟦<i64 as JsonPart>⟧.json m) n → n ≡ m }
 {
-    json_two_lists::<u32, i64>();
+    both_lists_are_read::<u32, i64>();
 }

@@ -7,7 +7,7 @@ use multimap_tool::laws::{characters_differ_as_json, run_is_well_formed, step_is
 use multimap_tool::replies::Reply;
 use multimap_tool::run::run;
 use ordered_multimap::ListOrderedMultimap;
-use ordered_multimap::laws::{chain_is_filter, equal_maps, json_first_occurrence};
+use ordered_multimap::laws::{chain_is_filter, equal_maps, json_first_occurrence, json_two_lists};
 use serde_json::Value;
 use std::alloc::{AllocError, Global};
 use test_helpers::{Failed, Test};
@@ -87,6 +87,7 @@ fn the_first_letter_stays(test: &Test, map: &mut ListOrderedMultimap<Letter, cha
 
 fn laws_can_be_called() {
     json_first_occurrence::<u32, i64>();
+    json_two_lists::<u32, i64>();
     chain_is_filter::<u32, i64>();
     equal_maps::<u32, i64>();
     step_is_orderly::<u32, i64, Global, _>(&|_, _, _| true);

@@ -1,8 +1,9 @@
 -- The laws of the definitions.
 use Rattle.std.proofs.Common.{◌≡◌, ◌-◌, Bool, true, false, not, cond, ◌||◌, List, [], ◌∷◌, ◌++◌, filter, length, take, slice_get, Some}
-use Rattle.std.proofs.Common.{refl, sym, ap, ◌∙◌, subst, inl, inr, arith}
+use Rattle.std.proofs.Common.{refl, sym, ap, ap₂, ◌∙◌, subst, inl, inr, arith}
 use Rattle.std.proofs.lemmas.List.{append-nil, append_assoc, length-append, take_at}
 use Rattle.std.proofs.lemmas.List.Elements.{filter-append}
+use Rattle.std.specs.List.{IsDistinct}
 use Rattle.std.specs.Map.{keys_of}
 use Rattle.std.specs.Cmp.{IsEquivalence}
 use Rattle.multimap_walks.specs.declared.End.TheVariants.{Back}
@@ -11,8 +12,8 @@ use Rattle.multimap_slots.specs.Lists.{IsIn}
 use Rattle.ordered_multimap.specs.Lists.{Lists, lists, IsWellFormed}
 use Rattle.ordered_multimap.specs.Pairs.{has_items, is_present}
 use Rattle.ordered_multimap.specs.Keys.{is_listed, stored_key, keys_with, keys_named_by}
-use Rattle.ordered_multimap.specs.Changes.{appended, all_appended, first_occurrences}
-use Rattle.ordered_multimap.specs.Laws.{PopUndoesAppend, IsRebuilt}
+use Rattle.ordered_multimap.specs.Changes.{appended, all_appended, first_occurrences, under_listed}
+use Rattle.ordered_multimap.specs.Laws.{PopUndoesAppend, IsRebuilt, IsRebuiltOfBoth}
 use Rattle.multimap_slots.proofs.Callers.PlaceLists.{IsIn-left, IsIn-right}
 use Rattle.ordered_multimap.proofs.Callers.Members.{IsIn-kept, filter-all, keys_of-append}
 use Rattle.ordered_multimap.proofs.Callers.ListedKeys.{is_listed-self, stored_key_member, stored_key_absent, stored_key_only}
@@ -145,6 +146,17 @@ module _ {K V : Type 0} {eq : K → K → Bool} (laws : IsEquivalence eq) where
       ∙ ap (λ key. lists (first_occurrences eq (done ++ p ∷ [])) (done ++ (key, p.1) ∷ [])) own in
       ap (λ m. all_appended eq m pairs) step ∙ built_on (done ++ p ∷ []) pairs (subst IsExact (sym whole) exact)
       ∙ ap (λ all. lists (first_occurrences eq all) all) whole
+
+  -- pairs of listed keys are under their own keys
+  pub under_own : (keys : List K) (pairs : List (K × V)) → IsDistinct eq keys → ((k : K) → IsIn k (keys_of pairs) → IsIn k keys)
+      → under_listed eq keys pairs ≡ pairs
+  under_own keys [] distinct each = refl
+  under_own keys (p ∷ pairs) distinct each =
+      ap₂ (λ k ps. (k, p.1) ∷ ps) (stored_key_only laws p.0 p.0 keys distinct (each p.0 (inl refl)) (laws.refl p.0))
+      (under_own keys pairs distinct (λ k later. each k (inr later)))
+
+  pub rebuilt_of_both : (m : Lists K V) → IsWellFormed eq m → IsRebuiltOfBoth eq m
+  rebuilt_of_both m formed = ap (lists m.keys) (under_own m.keys m.pairs formed.distinct formed.listed)
 
   pub rebuilt : (m : Lists K V) → IsWellFormed eq m → IsRebuilt eq m
   rebuilt m formed = built_on [] m.pairs (record {

@@ -1,6 +1,6 @@
 -- Listed keys, where the keys' equality is an equivalence.
 use Rattle.std.proofs.Common.{◌≡◌, ◌⊎◌, Bool, true, false, cond, ◌||◌, List, [], ◌∷◌, ◌++◌, filter, find, unwrap_or, Some, None, refl, sym}
-use Rattle.std.proofs.Common.{ap}
+use Rattle.std.proofs.Common.{◌≤◌, ◌+◌, ap, arith, length, length-append}
 use Rattle.std.proofs.Common.{◌∙◌, inl, inr, true≢false}
 use Rattle.std.specs.List.{IsDistinct, AllByRecursion, list_any}
 use Rattle.std.specs.Map.{keys_of, values_of as values_in}
@@ -13,6 +13,13 @@ use Rattle.multimap_slots.proofs.Callers.PlaceLists.{IsIn-left, IsIn-right, IsIn
 
 or_right : (a b : Bool) → b ≡ true → (a || b) ≡ true
 or_right a b e = elim a as (λ v. (v || b) ≡ true) [ true ↦ refl | false ↦ e ]
+
+-- one more key makes the list longer by one at most
+pub length-keys_with : {K : Type 0} (eq : K → K → Bool) (keys : List K) (k : K) → length (keys_with eq keys k) ≤ length keys + 1
+length-keys_with eq keys k = elim (is_listed eq keys k) as (λ b. length (cond b keys (keys ++ k ∷ [])) ≤ length keys + 1) [
+  | true ↦ omega arith
+  | false ↦ omega (arith, length-append keys (k ∷ []))
+]
 
 -- keys that a test accepts
 module _ {K : Type 0} (accepts : K → Bool) where

@@ -30,9 +30,9 @@ impl<K: Eq + Hash, V, S: BuildHasher, A: Allocator + Copy> ListOrderedMultimap<K
     ///
     /// Where memory is refused, it hands back the pair, and both lists are as before. One look-up;
     /// it writes the slots of the key, of the new value and of the value before it under the same
-    /// key. A growth costs the slots or rows that are moved. Where the last slot is in use and half
-    /// of the slots or more are free, the values are moved over the holes that removals left, and no
-    /// memory is taken: over all calls that is no more than one move for each removal.
+    /// key. A growth costs the slots or rows that are moved. Where one more value fits but the last
+    /// slot is in use, the values are moved over the holes that removals left, and no memory is
+    /// taken: over all calls that is no more than one move for each removal.
     ///
     /// ```
     /// map.append("page", 8)?;

@@ -1,5 +1,6 @@
 //! What code over any collection calls: a map that is collected, and one that is extended.
-ghost use Rattle.ordered_multimap.specs.Extends.{AppendsAll, IsCollected, lent_pair};
+ghost use Rattle.std.specs.Iterator.{IsFinite};
+ghost use Rattle.ordered_multimap.specs.Extends.{AppendsAll, ExtendsInRoom, IsCollected, lent_pair};
 
 use super::ListOrderedMultimap;
 use std::alloc::{AllocError, Allocator};
@@ -33,7 +34,12 @@ impl<K: Eq + Hash + Drop, V: Drop, S: BuildHasher, A: Allocator + Copy> Extend<(
     for ListOrderedMultimap<K, V, S, A> {
     ghost extend_gives = { AppendsAll K.eq };
 
-    fn extend<I: IntoIterator<Item = (K, V)>>(&mut self, iter: I) -> Result<(), AllocError> {
+    fn extend<I: IntoIterator<Item = (K, V)>>(&mut self, iter: I) -> Result<(), AllocError>
+        requires { (it : I.IntoIter) → I.into_iter_gives iter it
+            → I.IntoIter.can_next it × IsFinite (I.IntoIter.remaining it) }
+        ensures { ExtendsInRoom I.into_iter_gives I.IntoIter.next_gives I.IntoIter.remaining
+            (AppendsAll K.eq) iter self.old self.new result }
+    {
         match ListOrderedMultimap::extend(self, iter) {
             Ok(()) => Ok(()),
             Err(refused) => Err(AllocError::from(refused)),
@@ -50,10 +56,13 @@ impl<'a, K: Eq + Hash + Copy + 'a, V: Copy + 'a, S: BuildHasher, A: Allocator + 
 
     ghost extend_gives = { λ m items n. AppendsAll K.eq m (map lent_pair items) n };
 
-    fn extend<I: IntoIterator<Item = (&'a K, &'a V)>>(
-        &mut self,
-        iter: I,
-    ) -> Result<(), AllocError> {
+    fn extend<I: IntoIterator<Item = (&'a K, &'a V)>>(&mut self, iter: I) -> Result<(), AllocError>
+        requires { (it : I.IntoIter) → I.into_iter_gives iter it
+            → I.IntoIter.can_next it × IsFinite (I.IntoIter.remaining it) }
+        ensures { ExtendsInRoom I.into_iter_gives I.IntoIter.next_gives I.IntoIter.remaining
+            (λ m items n. AppendsAll K.eq m (map lent_pair items) n)
+            iter self.old self.new result }
+    {
         match self.extend_copied(iter) {
             Ok(()) => Ok(()),
             Err(refused) => Err(AllocError::from(refused)),

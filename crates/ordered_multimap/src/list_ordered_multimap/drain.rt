@@ -15,7 +15,7 @@ use std::hash::{BuildHasher, Hash};
 use std::iter::FusedIterator;
 
 /// The values of one key, which have left the map, from both ends. It borrows the map. What it has
-/// not given is dropped with it.
+/// not given is dropped with it, slot by slot.
 pub struct EntryValuesDrain<
     'map,
     K: Eq + Hash,
@@ -56,7 +56,8 @@ impl<K: Eq + Hash, V: Drop, S: BuildHasher, A: Allocator> ListOrderedMultimap<K,
     }
 
     /// Takes the key out with all its values, as `remove_all` does, and puts the stored key into
-    /// `stored`, or none for an absent key. In the example `page` is a query for that key.
+    /// `stored`, or none for an absent key; what was in it is dropped. In the example `page` is a
+    /// query for that key.
     ///
     /// A caller that is proved learns from it what the map is once the drain has ended, as from
     /// `remove_all`; of `remove_entry_all` a starred clause says it, which such a caller doesn't
@@ -91,7 +92,7 @@ impl<K: Eq + Hash, V: Drop, S: BuildHasher, A: Allocator> ListOrderedMultimap<K,
     /// [`remove_entry_with_all`](Self::remove_entry_with_all).
     ///
     /// ```
-    /// map.remove_entry_all(&"none").is_none()
+    /// map.remove_entry_all(&"page").is_some()
     /// ```
     pub fn remove_entry_all(&mut self, key: &K) -> Option<(K, EntryValuesDrain<'_, K, V, S, A>)>
     where
@@ -159,15 +160,16 @@ impl<K: Eq + Hash, V: Drop, S: BuildHasher, A: Allocator + Copy> ListOrderedMult
 }
 
 impl<'map, K: Eq + Hash, V: Drop, S: BuildHasher, A: Allocator> EntryValuesDrain<'map, K, V, S, A> {
+    ghost use Rattle.multimap_walks.specs.ChainWalk.{detached_walk};
     ghost use Rattle.ordered_multimap.specs.Drains.{drain_left};
 
-    /// A walk over the values that are left, for reading.
+    /// A walk over the values that are left, for reading. Its steps count no read.
     ///
     /// ```
     /// map.remove_all(&"line").iter().len() == 2
     /// ```
     pub fn iter(&self) -> EntryValues<'_, K, V, A>
-        ensures { result.left ≡ drain_left self.now }
+        ensures { result ≡ detached_walk (drain_left self.now) }
     {
         self.map.values_left()
     }

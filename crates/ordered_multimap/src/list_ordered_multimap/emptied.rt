@@ -1,4 +1,5 @@
 //! Empty maps, as code over any collection makes them.
+ghost use Rattle.std.specs.Prelude.{IfOk};
 ghost use Rattle.ordered_multimap.specs.Rooms.{IsNewMap};
 
 use super::ListOrderedMultimap;
@@ -14,7 +15,10 @@ impl<K: Eq + Hash, V, S: BuildHasher + Clone, A: Allocator + Copy> Emptied
 
     fn emptied(
         like: &ListOrderedMultimap<K, V, S, A>,
-    ) -> Result<ListOrderedMultimap<K, V, S, A>, AllocError> {
+    ) -> Result<ListOrderedMultimap<K, V, S, A>, AllocError>
+        ensures empty { IfOk result IsNewMap }
+        ensures hasher { IfOk result (λ m. S.is_clone like.now.hasher m.hasher) }
+    {
         let state = like.state.clone()?;
         Ok(ListOrderedMultimap::with_hasher(*like.keys.allocator(), state))
     }
@@ -23,7 +27,7 @@ impl<K: Eq + Hash, V, S: BuildHasher + Clone, A: Allocator + Copy> Emptied
 /// The map that `or_default` of another map's entry puts in: an empty one, which takes no memory.
 impl<K: Eq + Hash, V, S: BuildHasher + Default, A: Allocator + Copy> MadeWith<A>
     for ListOrderedMultimap<K, V, S, A> {
-    ghost is_made_with = { IsNewMap };
+    ghost is_made_with = { λ m. IsNewMap m × S.is_default m.hasher };
 
     fn made_with(alloc: A) -> ListOrderedMultimap<K, V, S, A> {
         ListOrderedMultimap::with_hasher(alloc, S::default())

@@ -37,7 +37,8 @@ fn are_same<K: PartialEq, V: PartialEq, A: Allocator>(
 }
 
 /// Two maps are equal if they have the same number of pairs, with equal keys and equal values at
-/// each position. The order of their keys may differ. The lengths are compared first.
+/// each position. The order of their keys may differ. The lengths are compared first, then the
+/// pairs up to the first difference.
 ///
 /// ```
 /// map == map.clone()?

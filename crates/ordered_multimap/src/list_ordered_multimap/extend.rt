@@ -47,7 +47,7 @@ impl<K: Eq + Hash + Drop, V: Drop, S: BuildHasher, A: Allocator + Copy> ListOrde
         Ok(())
     }
 
-    /// Appends a copy of each pair in turn. Room and refusals are as for `extend`.
+    /// Appends a copy of each pair in turn. Room, refusals and costs are as for `extend`.
     ///
     /// ```
     /// map.extend_copied(other.iter())?;

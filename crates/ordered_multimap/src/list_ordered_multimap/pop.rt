@@ -125,7 +125,7 @@ impl<K: Eq + Hash, V, S: BuildHasher, A: Allocator> ListOrderedMultimap<K, V, S,
     /// [`pop_back_with`](Self::pop_back_with).
     ///
     /// ```
-    /// map.pop_back() == Some((KeyWrapper::Owned("line"), 2))
+    /// map.pop_back() == Some((KeyWrapper::Borrowed(&"line"), 2))
     /// ```
     pub fn pop_back(&mut self) -> Option<(KeyWrapper<'_, K>, V)>
         ensures* map { sem 𝓛 (ends_popped K.row V.row S.row A.row S.Hasher.row K.Hash
@@ -159,7 +159,7 @@ impl<K: Eq + Hash, V, S: BuildHasher, A: Allocator> ListOrderedMultimap<K, V, S,
     /// afterwards.
     ///
     /// ```
-    /// map.pop_back_with(|popped| popped.is_none())
+    /// map.pop_back_with(|popped| popped.is_some())
     /// ```
     pub fn pop_back_with<R, F: FnOnce(Option<(KeyWrapper<'_, K>, V)>) -> R>(&mut self, f: F) -> R
         requires { (x : _) → option_map popped_of x ≡ popped_pair K.eq Back self.old.lists.pairs

@@ -31,8 +31,8 @@ pub(super) fn make_end_room<K, V: Drop, A: Allocator>(
     }
 }
 
-/// Makes room for one more value behind the others. Where half of the slots or more are free, it
-/// closes the holes and takes no memory.
+/// Makes room for one more value behind the others. Where one more fits but the last slot is in
+/// use, it closes the holes and takes no memory.
 #[tactic(auto, using(crate::proofs::Compact::Settled::grown_places, crate::proofs::Compact::Settled::same_places))]
 #[inline(always)]
 pub(super) fn make_value_room<K, V: Drop, A: Allocator + Copy>(

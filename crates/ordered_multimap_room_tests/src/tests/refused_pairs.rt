@@ -41,9 +41,13 @@ fn is_extended<A: Allocator + Copy>(
     }
 }
 
-/// Extends the map. It returns whether there was memory for all pairs.
+/// Extends the map. It returns whether there was memory for all pairs. Those behind a refused one
+/// are left in the iterator.
 pub fn extend<A: Allocator + Copy>(test: &Test, map: &mut Refusing<A>) -> bool {
-    let answer = map.extend(PAIRS.iter().copied());
+    let mut pairs = PAIRS.iter().copied();
+    let answer = map.extend(&mut pairs);
+    let given = PAIRS.len().saturating_sub(pairs.len());
+    test.expect(given == map.values_len().saturating_add(1).min(PAIRS.len()));
     is_extended(test, map, answer)
 }
 

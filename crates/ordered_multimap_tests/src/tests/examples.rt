@@ -138,12 +138,13 @@ fn last_answers(test: &Test, map: &mut Numbers) {
 
 fn pops_answer(test: &Test, map: &mut Numbers) {
     test.expect(map.pop_front() == Some((KeyWrapper::Borrowed(&"line"), 1)));
-    test.expect(map.pop_back() == Some((KeyWrapper::Owned("line"), 2)));
+    add_again(test, map);
+    test.expect(map.pop_back() == Some((KeyWrapper::Borrowed(&"line"), 2)));
 }
 
 fn pops_by_functions_answer(test: &Test, map: &mut Numbers) {
     test.expect(map.pop_front_with(|popped| popped.is_some()));
-    test.expect(map.pop_back_with(|popped| popped.is_none()));
+    test.expect(map.pop_back_with(|popped| popped.is_some()));
 }
 
 fn wrappers_answer(test: &Test) {
@@ -171,7 +172,7 @@ fn remove_all_answers(map: &mut Numbers) -> bool {
 }
 
 fn remove_entry_all_answers(map: &mut Numbers) -> bool {
-    map.remove_entry_all(&"none").is_none()
+    map.remove_entry_all(&"page").is_some()
 }
 
 fn drains_answer(test: &Test, map: &mut Numbers) {
@@ -179,6 +180,7 @@ fn drains_answer(test: &Test, map: &mut Numbers) {
     test.expect(appends(map, "line", 2, true));
     test.expect(remove_all_answers(map));
     test.expect(removes_page(map, "page"));
+    add_again(test, map);
     test.expect(remove_entry_all_answers(map));
 }
 

@@ -1,9 +1,10 @@
 //! Pairs that come last, where no equal one is there.
 ghost use Rattle.std.specs.Prelude.{◌≡◌, not, true, false, IfErr, IfOk, IsOk, OnOk};
 ghost use Rattle.ordered_multimap.specs.Additions.{Appends, IsRefused};
-ghost use Rattle.ordered_multimap.specs.Extends.{HasRoomForGiven, IsItem};
-ghost use Rattle.ordered_multimap.specs.Rooms.{HasPairRoom};
-ghost use Rattle.set_ordered_multimap.specs.Insertions.{ComesToAnEnd, InsertsAll, IsSetOf, KeepsAll};
+ghost use Rattle.ordered_multimap.specs.Extends.{IsItem};
+ghost use Rattle.ordered_multimap.specs.TapeNumbers.{AreUnused};
+ghost use Rattle.set_ordered_multimap.specs.Insertions.{ComesToAnEnd, GrowsForInserted, InsertsAll};
+ghost use Rattle.set_ordered_multimap.specs.Insertions.{HasRoomToInsert, IsSetOf};
 ghost use Rattle.set_ordered_multimap.specs.Set.{IsSet, has_pair, set_inserted};
 
 use super::SetOrderedMultimap;
@@ -34,16 +35,15 @@ impl<K: Eq + Hash + Drop, V: Eq + Drop, S: BuildHasher, A: Allocator + Copy> Set
             ≡ set_inserted K.eq V.eq self.old.lists key value) }
         ensures set { IsSet K.eq V.eq self.old.lists → IsSet K.eq V.eq self.new.lists }
 
-        // An equal pair is there: nothing changes, and nothing is refused.
+        // Where an equal pair is there, nothing changes.
         ensures unchanged { has_pair K.eq V.eq self.old.lists.pairs key value ≡ true
             → self.new ≡ self.old }
-        ensures succeeds { has_pair K.eq V.eq self.old.lists.pairs key value ≡ true → IsOk result }
 
         // A new pair comes as by `append` of the map, with its rooms.
         ensures appends { has_pair K.eq V.eq self.old.lists.pairs key value ≡ false
             → Appends K.eq key value self.old self.new result }
         ensures refused { IfErr result (IsRefused K.eq key value self.old self.new) }
-        ensures had_room { HasPairRoom K.eq self.old key → IsOk result }
+        ensures succeeds { HasRoomToInsert K.eq V.eq self.old key value → IsOk result }
     {
         if self.contains(&key, &value) {
             return Ok(false);
@@ -55,7 +55,7 @@ impl<K: Eq + Hash + Drop, V: Eq + Drop, S: BuildHasher, A: Allocator + Copy> Set
     }
 
     /// Inserts each pair in turn. `iter` has to end. If there is room for a key and a value for
-    /// each pair, it succeeds.
+    /// each pair, it succeeds, and no room grows.
     ///
     /// Where memory is refused for a pair, it hands that pair back; those before it stay. A caller
     /// who hands in `&mut iter` keeps those behind it. It costs what `insert` costs for each pair.
@@ -68,9 +68,8 @@ impl<K: Eq + Hash + Drop, V: Eq + Drop, S: BuildHasher, A: Allocator + Copy> Set
         ensures inserts { InsertsAll K.eq V.eq I.into_iter_gives I.IntoIter.next_gives iter
             self.old.lists self.new.lists result }
         ensures set { IsSet K.eq V.eq self.old.lists → IsSet K.eq V.eq self.new.lists }
-        ensures keeps { KeepsAll self.old self.new }
-        ensures had_room { HasRoomForGiven I.into_iter_gives I.IntoIter.next_gives iter self.old
-            → IsOk result }
+        ensures grows { GrowsForInserted I.into_iter_gives I.IntoIter.next_gives iter
+            self.old self.new result }
     {
         for (key, value) in iter {
             if let Err(refused) = self.insert(key, value) {
@@ -100,6 +99,7 @@ impl<K: Eq + Hash + Drop, V: Eq + Drop, S: BuildHasher, A: Allocator + Copy> Set
         ensures set { IfOk result (λ s. IsSet K.eq V.eq s.lists) }
         ensures refused { IfErr result (IsItem I.into_iter_gives I.IntoIter.next_gives iter) }
         ensures hasher { IfOk result (λ s. s.hasher ≡ state) }
+        ensures unused { IfOk result (λ s. AreUnused s.tape) }
     {
         let mut set = SetOrderedMultimap::with_hasher(alloc, state);
         if let Err(refused) = set.extend(iter) {

@@ -68,7 +68,7 @@ impl<K: Eq + Hash, V: Eq, S: BuildHasher, A: Allocator> SetOrderedMultimap<K, V,
     /// afterwards.
     ///
     /// ```
-    /// set.pop_back_with(|popped| popped.is_none())
+    /// set.pop_back_with(|popped| popped.is_some())
     /// ```
     pub fn pop_back_with<R, F: FnOnce(Option<(KeyWrapper<'_, K>, V)>) -> R>(&mut self, f: F) -> R
         requires { TakesPopped F.FnOnce K.eq Back self.old.lists.pairs f }

@@ -145,8 +145,11 @@ impl<K: Eq + Hash, V: Eq + Drop, S: BuildHasher, A: Allocator> SetOrderedMultima
         map.remove_all(key)
     }
 
-    /// Takes the key out with all its values, and hands these to the function, in order. It is for
-    /// callers that are proved: they know both lists afterwards.
+    /// Takes the key out with all its values, drops the stored key, and hands the values to the
+    /// function, in order. It is for callers that are proved: they know both lists afterwards. The
+    /// function has to be one that may be called with any value, however often it was called.
+    ///
+    /// It costs what `remove_all` does and as many calls as the key had values.
     ///
     /// ```
     /// set.remove_all_with(&"plan", |value| drop(value));

@@ -59,7 +59,7 @@ impl<
     }
 }
 
-/// The pairs, shown as the pairs of a map are: `{"plan": "draft", "plan": "long"}`.
+/// The pairs, shown as the pairs of a map are: `{"plan": "draft", "note": "draft", "plan": "long"}`.
 impl<K: Eq + Hash + fmt::Debug, V: fmt::Debug, S: BuildHasher, A: Allocator> fmt::Debug
     for SetOrderedMultimap<K, V, S, A> {
     fn fmt<W: fmt::Write>(&self, f: &mut fmt::Formatter<W>) -> fmt::Result {

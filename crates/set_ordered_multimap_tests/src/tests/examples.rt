@@ -115,7 +115,7 @@ fn pop_back_returns(set: &mut Texts) -> bool {
 fn pops_by_functions_return(test: &Test, set: &mut Texts) {
     let popped = set.pop_front_with(|popped| popped.is_some());
     test.expect(popped);
-    let popped = set.pop_back_with(|popped| popped.is_none());
+    let popped = set.pop_back_with(|popped| popped.is_some());
     test.expect(popped);
 }
 
@@ -134,8 +134,9 @@ fn ends_leave(test: &Test, set: &mut Texts) {
     test.expect(remove_all_returns(set));
     test.expect(insert_three(set).is_ok());
     remove_all_with_leaves(test, set);
+    insert_again(test, set);
     pops_by_functions_return(test, set);
-    test.expect(insert_three(set).is_ok());
+    insert_again(test, set);
     test.expect(pop_front_returns(set));
     insert_again(test, set);
     test.expect(pop_back_returns(set));

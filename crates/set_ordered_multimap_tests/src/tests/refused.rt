@@ -59,10 +59,13 @@ const TRIES: &[(Try, u64)] = &[
     (Try::Clone, 3),
 ];
 
-// Pairs of which one comes twice, and the set of them.
+// Pairs of which one comes twice, the set of them, and how many are left behind the one that comes
+// next to so many of the set.
 const PAIRS: &[(u32, u32)] = &[(1, 1), (2, 2), (1, 1), (3, 3)];
 
 const FIRST: &[(u32, u32)] = &[(1, 1), (2, 2), (3, 3)];
+
+const LEFT: &[usize] = &[3, 2, 0, 0];
 
 const KEYS: &[u32] = &[1, 2, 3];
 
@@ -120,15 +123,18 @@ fn has_those_before<A: Allocator + Copy>(set: &Refusing<A>, count: usize) -> boo
     has_lists(set, &FIRST[..count], &KEYS[..count])
 }
 
-fn extended<A: Allocator + Copy>(set: &mut Refusing<A>) -> Result<(), (u32, u32)> {
-    set.extend(PAIRS.iter().copied()).map_err(refused_pair)
+// The pair that was refused, if one was, and how many are left in the iterator.
+fn extended<A: Allocator + Copy>(set: &mut Refusing<A>) -> (Result<(), (u32, u32)>, usize) {
+    let mut pairs = PAIRS.iter().copied();
+    let given = set.extend(&mut pairs).map_err(refused_pair);
+    (given, pairs.len())
 }
 
 // Inserts all pairs. The refused one is the one behind those that the set has then.
 fn extend<A: Allocator + Copy>(test: &Test, set: &mut Refusing<A>) -> bool {
-    let given = extended(set);
+    let (given, left) = extended(set);
     let count = set.values_len();
-    test.expect(has_those_before(set, count));
+    test.expect(has_those_before(set, count) && LEFT.get(count).copied() == Some(left));
     match given {
         Ok(()) => {
             test.expect(count == 3);

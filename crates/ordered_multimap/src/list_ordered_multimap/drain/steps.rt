@@ -11,6 +11,7 @@ ghost use Rattle.ordered_multimap.specs.Private.KeySteps.{DetachesValues, Detach
 ghost use Rattle.ordered_multimap.specs.Pairs.{values_of, values_where};
 ghost use Rattle.ordered_multimap.specs.Rooms.{HasValueRoom, KeepsRooms, RaisesNoRoom, SameRooms};
 ghost use Rattle.ordered_multimap.specs.TapeNumbers.{TakesOut};
+ghost use Rattle.multimap_walks.specs.ChainWalk.{detached_walk};
 ghost use Rattle.multimap_walks.specs.Walk.{TakesEnd};
 ghost use Rattle.ordered_multimap.specs.Detaches.{EndsDrain, HoldsDrain, IsDrained, KeepsListed, KeepsSlots, LeavesDrain, left_of};
 
@@ -101,7 +102,7 @@ impl<K: Eq + Hash, V, S: BuildHasher, A: Allocator> ListOrderedMultimap<K, V, S,
     /// A walk over the values that are left of the drain.
     pub(crate) fn values_left(&self) -> EntryValues<'_, K, V, A>
         requires { HoldsDrain self.now }
-        ensures { result.left ≡ left_of self.now }
+        ensures { result ≡ detached_walk (left_of self.now) }
     {
         EntryValues::new_detached(&self.values, Some(self.left))
     }

@@ -1,12 +1,13 @@
 use Rattle.std.proofs.Common.{◌≡◌, ◌++◌, true, List, map, take, drop}
 use Rattle.std.specs.Map.{keys_of}
 use Rattle.serde_json.specs.View.{view, items_view}
+use Rattle.ordered_multimap.specs.Changes.{under_listed}
 use Rattle.ordered_multimap.specs.Lists.{IsIn, lists}
 use Rattle.ordered_multimap.specs.Keys.{is_listed}
 use Rattle.ordered_multimap.specs.TapeNumbers.{AreUnused}
 use Rattle.multimap_tool.specs.declared.json.faults.ReadFault.{ReadFault}
 use Rattle.multimap_tool.specs.Json.{pair_json, first_fault}
-use Rattle.multimap_tool.specs.JsonLists.{under_listed, IsPairsFault}
+use Rattle.multimap_tool.specs.JsonLists.{IsPairsFault}
 use Rattle.multimap_tool.proofs.json.listed.append_listed_pairs.Given as goal
 
 -- the items so far are the JSON of the pairs that were appended, whose keys are listed, and what is

@@ -4,7 +4,8 @@ use Rattle.std.proofs.iter.Next.{Yields-more, on}
 use Rattle.ordered_multimap.specs.Changes.{appended}
 use Rattle.ordered_multimap.specs.Extends.{HasRoomForGiven, HasRoomForMost}
 use Rattle.ordered_multimap.specs.Rooms.{HasRoomForPairs}
-use Rattle.ordered_multimap.proofs.Append.Extended.{all_appended-push, grows_on, has_pair_room, room-fewer}
+use Rattle.ordered_multimap.proofs.Append.Extended.{all_appended-push, grows_on, room_left}
+use Rattle.ordered_multimap.proofs.Callers.Growth.{has_pair_room, room-fewer}
 use Rattle.ordered_multimap.proofs.list_ordered_multimap.ListOrderedMultimap.extend.Given.{Over}
 use Rattle.ordered_multimap.proofs.list_ordered_multimap.ListOrderedMultimap.extend.Goals.{In-Some, In-Err}
 use Rattle.ordered_multimap.proofs.list_ordered_multimap.ListOrderedMultimap.extend.Goals as goal
@@ -48,8 +49,9 @@ room_for_most g c room =
 -- and then the pair is not refused
 not_refused : (g : Over) (c : In-Err g) → HasRoomForPairs c.args.self.now (length c.loop-key.yielded + 1) → ⊥
 not_refused g c room =
-    true≢false (sym (c.in-Err.ensures.appends.succeeds (has_pair_room g.K.PartialEq.eq c.loop-key.yielded room c.loop-key.invariant.0
-    c.loop-key.invariant.1.rooms c.in-Some.key)))
+    let eq = g.K.PartialEq.eq in
+    let left = room_left eq c.loop-key.yielded room c.loop-key.invariant.0 c.loop-key.invariant.1.rooms in
+    true≢false (sym (c.in-Err.ensures.appends.succeeds (has_pair_room eq left c.in-Some.key)))
 
 pub returns-in-Err-clause-extends : goal.returns-in-Err-clause-extends
 returns-in-Err-clause-extends g c =

@@ -5,7 +5,8 @@ use Rattle.std.proofs.lemmas.List.{map-append, length-map}
 use Rattle.ordered_multimap.specs.Changes.{appended, all_appended}
 use Rattle.ordered_multimap.specs.Extends.{HasRoomForGiven, HasRoomForMost, lent_pair}
 use Rattle.ordered_multimap.specs.Rooms.{HasRoomForPairs}
-use Rattle.ordered_multimap.proofs.Append.Extended.{all_appended-push, grows_on, has_pair_room, room-fewer}
+use Rattle.ordered_multimap.proofs.Append.Extended.{all_appended-push, grows_on, room_left}
+use Rattle.ordered_multimap.proofs.Callers.Growth.{has_pair_room, room-fewer}
 use Rattle.ordered_multimap.proofs.list_ordered_multimap.ListOrderedMultimap.extend_copied.Given.{Over}
 use Rattle.ordered_multimap.proofs.list_ordered_multimap.ListOrderedMultimap.extend_copied.Goals.{In-Some, In-Err}
 use Rattle.ordered_multimap.proofs.list_ordered_multimap.ListOrderedMultimap.extend_copied.Goals as goal
@@ -60,8 +61,9 @@ room_for_most g c room =
 -- and then the pair is not refused
 not_refused : (g : Over) (c : In-Err g) → HasRoomForPairs c.args.self.now (length (map lent_pair c.loop-key.yielded) + 1) → ⊥
 not_refused g c room =
-    true≢false (sym (c.in-Err.ensures.appends.succeeds (has_pair_room g.K.PartialEq.eq
-    (map lent_pair c.loop-key.yielded) room c.loop-key.invariant.0 c.loop-key.invariant.1.rooms c.in-Some.key.now)))
+    let eq = g.K.PartialEq.eq in
+    let left = room_left eq (map lent_pair c.loop-key.yielded) room c.loop-key.invariant.0 c.loop-key.invariant.1.rooms in
+    true≢false (sym (c.in-Err.ensures.appends.succeeds (has_pair_room eq left c.in-Some.key.now)))
 
 pub returns-in-Err-clause-extends : goal.returns-in-Err-clause-extends
 returns-in-Err-clause-extends g c =

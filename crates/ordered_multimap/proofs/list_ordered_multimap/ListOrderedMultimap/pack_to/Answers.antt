@@ -38,7 +38,7 @@ pack-requires-clause-value_room g c =
 
 pub pack-requires-clause-names : goal.pack-requires-clause-names
 pack-requires-clause-names g c =
-    λ q listed. omega (arith, c.used_slots-places.ensures q listed, c.in_ok-storage.ensures.names)
+    λ q listed. omega (arith, c.used_slots-places.ensures.above q listed, c.in_ok-storage.ensures.names)
 
 pub invariant_of-self : goal.invariant_of-self
 invariant_of-self g c =

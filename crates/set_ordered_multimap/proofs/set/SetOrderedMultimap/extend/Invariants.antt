@@ -1,9 +1,11 @@
 use Rattle.std.proofs.Common.{◌≡◌}
-use Rattle.set_ordered_multimap.specs.Insertions.{KeepsAll}
+use Rattle.ordered_multimap.specs.Extends.{GrowsForPairs, HasRoomForGiven}
 use Rattle.set_ordered_multimap.specs.Set.{all_inserted}
 use Rattle.set_ordered_multimap.proofs.set.SetOrderedMultimap.extend.Given as goal
 
--- the pairs that the iterator has given were inserted
+-- the pairs that the iterator has given were inserted, and no room grew where there was enough
 abbrev pub invariant-loop-key : goal.invariant-loop-key
 invariant-loop-key g l =
-    (l.self.lists ≡ all_inserted g.K.PartialEq.eq g.V.PartialEq.eq l.fn.self.lists l.yielded) × KeepsAll l.fn.self l.self
+    (l.self.lists ≡ all_inserted g.K.PartialEq.eq g.V.PartialEq.eq l.fn.self.lists l.yielded)
+    × GrowsForPairs (HasRoomForGiven g.I.IntoIterator.into_iter_gives g.I.IntoIter.Iterator.next_gives l.fn.iter l.fn.self)
+    (HasRoomForGiven g.I.IntoIterator.into_iter_gives g.I.IntoIter.Iterator.next_gives l.fn.iter l.fn.self) l.fn.self l.self

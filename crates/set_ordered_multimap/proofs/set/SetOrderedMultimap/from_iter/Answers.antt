@@ -1,4 +1,4 @@
-use Rattle.std.proofs.Common.{ap, ◌∙◌}
+use Rattle.std.proofs.Common.{ap, arith, ◌∙◌}
 use Rattle.set_ordered_multimap.proofs.Callers.FirstPairs.{keeps_first_pairs}
 use Rattle.set_ordered_multimap.specs.Set.{all_inserted}
 use Rattle.set_ordered_multimap.proofs.set.SetOrderedMultimap.from_iter.Goals as goal
@@ -13,3 +13,13 @@ returns-clause-built g c =
           ∙ keeps_first_pairs g.met.K.Eq.laws g.met.V.Eq.laws i.1,
       i.4,
     )
+
+pub returns-clause-unused : goal.returns-clause-unused
+returns-clause-unused g c =
+    let new = c.with_hasher-set.ensures.new.new.empty.unused in
+    let taken = c.in_default.ensures.grows.grows.taken in
+    record {
+      moved = omega (arith, new.moved, new.holes, taken.paid);
+      freed = omega (arith, new.freed, taken.freed);
+      holes = omega (arith, new.moved, new.holes, taken.paid);
+    }

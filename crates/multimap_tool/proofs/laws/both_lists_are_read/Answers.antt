@@ -1,5 +1,5 @@
 use Rattle.multimap_tool.proofs.JsonValues.BothLists.{read_lists_back}
-use Rattle.multimap_tool.proofs.laws.json_two_lists.Goals as goal
+use Rattle.multimap_tool.proofs.laws.both_lists_are_read.Goals as goal
 
 pub returns : goal.returns
 returns g c m n formed read =
