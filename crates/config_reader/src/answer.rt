@@ -17,6 +17,7 @@ pub fn add_answers<'t>(
 ) -> io::Result<()> {
     let mut asks = false;
     let mut section = "";
+    let input = input.strip_prefix(b"\xef\xbb\xbf").unwrap_or(input);
     for (index, line) in input.split(|byte| *byte == b'\n').enumerate() {
         *number = index.saturating_add(1);
         let Ok(line) = str::from_utf8(line) else {

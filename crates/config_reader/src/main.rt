@@ -2,8 +2,10 @@
 //!
 //! Standard input holds settings up to a line `---`, and a question on each line below it. A line
 //! `[SECTION]` opens a section, and `KEY = VALUE` is a setting of the section that is open, or above
-//! the first one of none. A key has no dot, and may stand several times. Empty lines count for
-//! nothing, and above `---` those too that begin with `;` or `#`.
+//! the first one of none. A key has no dot, and may stand several times; sections of one name are
+//! one. Blanks around a line, a name, a key or a value count for nothing, nor do empty lines, a byte
+//! order mark at the start of the input, and above `---` lines that begin with `;` or `#`. What
+//! stands behind `=` is the value, a `;` or `#` in it too.
 //!
 //! | Question | The answer |
 //! |---|---|
@@ -17,7 +19,8 @@
 //!
 //! The exit status is 0, or 2 where a line is bad, 3 when out of memory, or 4 where standard input
 //! or output failed. Then nothing but a message on standard error is written, unless it is the
-//! output that failed.
+//! output that failed. The map has the default hash builder, whose seed is fixed: for settings that
+//! somebody hostile names it may become slow.
 #![tactic(auto)]
 
 mod answer;

@@ -8,9 +8,12 @@
 //! Where the first line is `bound N`, an empty line follows, and then the report without the groups
 //! whose sum is below N. On any other line `bound` is a group like others.
 //!
-//! The exit status is 0, or 2 where a line is bad or a sum overflows, 3 when out of memory, or
-//! 4 where standard input or output failed. Then nothing but a message on standard error is
-//! written, unless it is the output that failed.
+//! A byte order mark at the start of the input is passed over. The map has the default hash builder,
+//! whose seed is fixed: for groups that somebody hostile names it may become slow.
+//!
+//! The exit status is 0, or 2 where a line is bad or a sum in the report doesn't fit 64 bits, 3 when
+//! out of memory, or 4 where standard input or output failed. Then nothing but a message on standard
+//! error is written, unless it is the output that failed.
 #![tactic(auto)]
 
 mod read;
@@ -29,7 +32,7 @@ use std::process::ExitCode;
 pub enum Fault<'t> {
     /// The line of this number, counted from 1, isn't a group and a value, or no UTF-8 text.
     Line(usize),
-    /// The sum of this group's values doesn't fit 64 bits.
+    /// The sum of the values of this group, or of these groups, doesn't fit 64 bits.
     Sum(&'t str),
     /// Memory was refused, or standard input or output failed.
     System(io::Error),

@@ -6,10 +6,10 @@ use std::alloc::AllocError;
 /// The values of each group, in the order of the lines. Groups are named by the input's own text.
 pub type Values<'t> = ListOrderedMultimap<&'t str, i64>;
 
-/// The input as a text, or the line at which it isn't UTF-8.
+/// The input as a text, without a byte order mark, or the line at which it isn't UTF-8.
 pub fn text_of(input: &[u8]) -> Result<&str, Fault<'_>> {
     match str::from_utf8(input) {
-        Ok(text) => Ok(text),
+        Ok(text) => Ok(text.strip_prefix('\u{feff}').unwrap_or(text)),
         Err(error) => {
             let before = input.iter().take(error.valid_up_to());
             let ended = before.filter(|byte| **byte == b'\n').count();

@@ -1,5 +1,6 @@
 //! From the bytes of the input to the text of the report.
 ghost use Rattle.std.specs.Prelude.{◌≡◌, length, IfSome};
+ghost use Rattle.group_report.specs.Sums.{greatest_of, least_of, sum_of};
 
 use crate::Fault;
 use crate::read::{Values, read_values, text_of};
@@ -20,11 +21,11 @@ pub fn add_reports<'t>(
     reports: &mut String,
 ) -> Result<(), Fault<'t>> {
     let bound = summarize_input(alloc, summaries, input)?;
-    add_report(summaries, reports)?;
+    add_report(summaries, "all groups", reports)?;
     if let Some(bound) = bound {
-        summaries.retain(|_group, summary| summary.sum >= bound);
+        summaries.retain(|_group, summary| summary.sum >= i128::from(bound));
         reports.push('\n')?;
-        add_report(summaries, reports)?;
+        add_report(summaries, "the groups that are left", reports)?;
     }
     Ok(())
 }
@@ -52,24 +53,33 @@ fn summarize_lines<'t>(
     Ok(bound)
 }
 
-/// The summary of the values, unless their sum overflows.
+/// The summary of the values, unless their sum doesn't fit 64 bits.
 fn summarize<'t>(mut values: EntryValues<'_, &'t str, i64>) -> Option<Summary>
-    ensures { IfSome result (λ summary. summary.count ≡ length values.entry.left) }
+    ensures count { IfSome result (λ summary. summary.count ≡ length values.entry.left) }
+    ensures sum { IfSome result (λ summary. summary.sum ≡ sum_of values.entry.left) }
+    ensures least { IfSome result (λ summary. summary.least ≡ least_of values.entry.left) }
+    ensures greatest { IfSome result (λ summary.
+        summary.greatest ≡ greatest_of values.entry.left) }
 {
     let mut summary = NOTHING;
     for _ in 0..values.len() {
         summary = summary.join(Summary::of(*values.next()?))?;
     }
-    Some(summary)
+    summary.fitting()
 }
 
-/// Adds a line for each group, and the line of totals.
-fn add_report<'t>(summaries: &Summaries<'t>, reports: &mut String) -> Result<(), Fault<'t>> {
+/// Adds a line for each group, and the line of totals. `groups` says which they are.
+fn add_report<'t>(
+    summaries: &Summaries<'t>,
+    groups: &'t str,
+    reports: &mut String,
+) -> Result<(), Fault<'t>> {
     let mut total = NOTHING;
     for (group, summary) in summaries {
         writeln!(reports, "{group}: {summary}")?;
-        total = total.join(*summary).ok_or(Fault::Sum("all groups"))?;
+        total = total.join(*summary).ok_or(Fault::Sum(groups))?;
     }
+    let total = total.fitting().ok_or(Fault::Sum(groups))?;
     Ok(add_total(summaries.keys_len(), total, reports)?)
 }
 

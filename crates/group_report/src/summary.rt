@@ -1,13 +1,15 @@
 //! What a report says of the values of a group.
-ghost use Rattle.std.specs.Prelude.{◌≡◌, ◌+◌, ◌+ℤ◌, IfSome};
+ghost use Rattle.std.specs.Int.{int_max, int_min, w64};
+ghost use Rattle.std.specs.Prelude.{◌≡◌, ◌+◌, ◌+ℤ◌, ◌↔◌, IfSome, IsSome, FitsSigned};
 
 use std::fmt;
 
-/// How many values there are, their sum, the least and the greatest of them.
+/// How many values there are, their sum, the least and the greatest of them. The sum may leave 64
+/// bits and come back.
 #[derive(Clone, Copy)]
 pub struct Summary {
     pub count: usize,
-    pub sum: i64,
+    pub sum: i128,
     pub least: i64,
     pub greatest: i64,
 }
@@ -25,19 +27,32 @@ impl Summary {
     pub fn of(value: i64) -> Summary
         ensures count { result.count ≡ 1 }
         ensures sum { result.sum ≡ value }
+        ensures least { result.least ≡ value }
+        ensures greatest { result.greatest ≡ value }
     {
         Summary {
             count: 1,
-            sum: value,
+            sum: i128::from(value),
             least: value,
             greatest: value,
         }
     }
 
-    /// The summary of the values of both, unless their sum overflows.
+    /// The summary, unless its sum doesn't fit 64 bits.
+    pub fn fitting(self) -> Option<Summary>
+        ensures fits { IsSome result ↔ FitsSigned w64 self.sum }
+        ensures same { IfSome result (λ summary. summary ≡ self) }
+    {
+        i64::try_from(self.sum).is_ok().then_some(self)
+    }
+
+    /// The summary of the values of both, unless their number or their sum overflows.
     pub fn join(self, other: Summary) -> Option<Summary>
         ensures count { IfSome result (λ both. both.count ≡ self.count + other.count) }
         ensures sum { IfSome result (λ both. both.sum ≡ self.sum +ℤ other.sum) }
+        ensures least { IfSome result (λ both. both.least ≡ int_min self.least other.least) }
+        ensures greatest { IfSome result (λ both.
+            both.greatest ≡ int_max self.greatest other.greatest) }
     {
         Some(Summary {
             count: self.count.checked_add(other.count)?,

@@ -1,5 +1,5 @@
 //! Headers and their parts, read from their texts.
-ghost use Rattle.std.specs.Prelude.{◌≡◌, ◌↔◌, IsOk, IsSome, IfErr, IfSome};
+ghost use Rattle.std.specs.Prelude.{◌≡◌, ◌↔◌, IsOk, IsSome, IfErr, IfOk, IfSome};
 ghost use Rattle.std.specs.Str.{IsTrimAscii};
 ghost use Rattle.std.specs.IoError.{error_kind};
 ghost use Rattle.std.specs.declared.io.ErrorKind.TheVariants.{InvalidData};
@@ -25,6 +25,7 @@ pub fn field_of(text: &[u8], separator: u8) -> io::Result<(Name<'_>, &[u8])>
 /// The name that the text is.
 pub fn name_of(text: &[u8]) -> io::Result<Name<'_>>
     ensures token { IsOk result ↔ rfc.IsToken text.now }
+    ensures named { IfOk result (λ name. name.text.now ≡ text.now) }
     ensures fault { IfErr result (λ error. error_kind error ≡ InvalidData) }
 {
     match Name::new(text) {

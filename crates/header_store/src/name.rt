@@ -33,7 +33,9 @@ impl<'t> Name<'t> {
     }
 
     /// The name as it was spelled.
-    pub fn as_bytes(self) -> &'t [u8] {
+    pub fn as_bytes(self) -> &'t [u8]
+        ensures { result.now ≡ self.entry.text.now }
+    {
         self.text
     }
 }

@@ -1,5 +1,6 @@
 //! The fields of a query, in order.
 use crate::escape::{add_encoded, decoded};
+use ordered_multimap::list_ordered_multimap::RandomState;
 use ordered_multimap::{Entry, ListOrderedMultimap};
 use std::alloc::{AllocError, Global};
 use std::borrow::CowStr;
@@ -9,7 +10,7 @@ use std::io;
 pub type Text<'t> = CowStr<'t>;
 
 /// Names and values. A name may stand several times.
-pub type Fields<'t> = ListOrderedMultimap<Text<'t>, Text<'t>>;
+pub type Fields<'t> = ListOrderedMultimap<Text<'t>, Text<'t>, RandomState>;
 
 /// Appends the fields of a query. A name without `=` has the empty value, and what is empty between
 /// two `&` is no field.

@@ -13,12 +13,14 @@
 //! | `remove NAME` | takes the fields of the name out |
 //! | `write` | writes the query of all fields, in order |
 //!
-//! `set` of an absent name puts a field last. A name without `=` has the empty value. Empty lines
-//! among the commands count for nothing.
+//! `set` of an absent name puts a field last. A name without `=` has the empty value. `get` and `all`
+//! write a value as it is, with a line feed in it too. Empty lines among the commands count for
+//! nothing.
 //!
 //! The exit status is 0, or 2 where a line is bad, as one with an escape that stands for no UTF-8
-//! text, 3 when out of memory, or 4 where standard input or output failed. Then nothing but a
-//! message on standard error is written, unless it is the output that failed.
+//! text, 3 when out of memory, or 4 where the system gave no random seed or where standard input or
+//! output failed. Then nothing but a message on standard error is written, unless it is the output
+//! that failed.
 #![tactic(auto)]
 
 mod command;
@@ -28,6 +30,7 @@ mod fields;
 use crate::command::add_answers;
 use crate::fields::Fields;
 use ordered_multimap::ListOrderedMultimap;
+use ordered_multimap::list_ordered_multimap::RandomState;
 use std::io;
 use std::io::{ErrorKind, Read};
 use std::process::ExitCode;
@@ -50,15 +53,18 @@ fn main(rt: HostRuntime) -> ExitCode {
 
 /// Reads all of the input, and writes the answers. `line` is the number of the line that is looked
 /// at, from 1.
-fn run(rt: &(impl Input + Print + AllocGlobal), line: &mut usize) -> io::Result<()> {
+fn run(rt: &HostRuntime, line: &mut usize) -> io::Result<()> {
+    // Who sends a query may choose names that share a hash, so the hash has a seed of its own.
+    let state = RandomState::new(rt)?;
     let mut input = Vec::new(rt.alloc());
     rt.reader().read_to_end(&mut input)?;
-    write_answers(rt, &mut ListOrderedMultimap::new(rt.alloc()), &input, line)
+    let fields = &mut ListOrderedMultimap::with_hasher(rt.alloc(), state);
+    write_answers(rt, fields, &input, line)
 }
 
 /// Writes the answers once all of them are there. `fields` is empty at first.
 fn write_answers<'t>(
-    rt: &(impl Print + AllocGlobal),
+    rt: &HostRuntime,
     fields: &mut Fields<'t>,
     input: &'t [u8],
     line: &mut usize,
