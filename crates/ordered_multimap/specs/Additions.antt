@@ -7,8 +7,8 @@ use Rattle.ordered_multimap.specs.Agrees.{HasKey}
 use Rattle.ordered_multimap.specs.Changes.{appended, inserted}
 use Rattle.ordered_multimap.specs.Multimap.{Multimap}
 use Rattle.ordered_multimap.specs.Pairs.{values_of}
-use Rattle.ordered_multimap.specs.Rooms.{GrowsForValue, HasPairRoom, InsertRaisesNoRoom, KeepsRooms}
-use Rattle.ordered_multimap.specs.Rooms.{RaisesNoRoom}
+use Rattle.ordered_multimap.specs.Rooms.{GrowsForValue, HasPairRoom, HasValueRoom}
+use Rattle.ordered_multimap.specs.Rooms.{InsertRaisesNoRoom, KeepsRooms, RaisesNoRoom}
 use Rattle.ordered_multimap.specs.TapeNumbers.{TakesOut}
 
 module _ {K V S : Type 0} where
@@ -28,7 +28,8 @@ module _ {K V S : Type 0} where
     pub had_room : InsertRaisesNoRoom eq key old new
     pub taken : TakesOut (length (values_of eq old.lists.pairs key)) old.tape new.tape
 
-  -- a pair of the key was refused and handed back; both lists stay, and no value was taken out
+  -- a pair of the key was refused and handed back, for want of room that the map still lacks; both
+  -- lists stay, and no value was taken out
   pub record IsRefused (eq : K → K → Bool) (key : K) (value : V) (old new : Multimap K V S)
       (pair : Refused K V) : Type 0 where
     pub returned : pair ≡ record { key = key; value = value }
@@ -36,6 +37,7 @@ module _ {K V S : Type 0} where
     pub rooms : KeepsRooms old new
     pub had_room : RaisesNoRoom eq key old new
     pub taken : TakesOut 0 old.tape new.tape
+    pub full : ¬ HasPairRoom eq new key
 
   -- a pair of the key at the place was put last
   pub record IsAppendedAt (eq : K → K → Bool) (place : ℕ) (value : V) (old new : Multimap K V S)
@@ -45,13 +47,14 @@ module _ {K V S : Type 0} where
     pub grows : GrowsForValue old new
     pub taken : TakesOut 0 old.tape new.tape
 
-  -- a value of a present key was refused and handed back; both lists stay, and no value was taken
-  -- out
+  -- a value of a present key was refused and handed back, for want of room that the map still lacks;
+  -- both lists stay, and no value was taken out
   pub record RefusesValue (value : V) (old new : Multimap K V S) (r : RefusedValue V) : Type 0 where
     pub returned : r.value ≡ value
     pub lists : new.lists ≡ old.lists
     pub grows : GrowsForValue old new
     pub taken : TakesOut 0 old.tape new.tape
+    pub full : ¬ HasValueRoom new
 
   -- a pair of the key was put last, or refused, but only where there was no room
   pub record Appends (eq : K → K → Bool) (key : K) (value : V) (old new : Multimap K V S)

@@ -1,6 +1,6 @@
 -- Values that leave the list together and are kept in their slots, for a drain to take. Of the
 -- slots that a drain names, clauses on contents show the values alone.
-use Rattle.std.specs.Prelude.{◌≡◌, ℕ, List, [], reverse, IfSome}
+use Rattle.std.specs.Prelude.{◌≡◌, ℕ, List, [], None, reverse, IfSome}
 use Rattle.multimap_slots.specs.Lists.{AreDistinct, IsIn, last_of}
 use Rattle.multimap_slots.specs.Slots.{IsDetached, Slots, item_at, link_at}
 use Rattle.multimap_walks.specs.declared.links.ChainEnds.{ChainEnds}
@@ -53,6 +53,14 @@ pub record LeavesDrain {K V S : Type 0} (old new : Multimap K V S) : Type 0 wher
 pub record EndsDrain {K V S : Type 0} (old new : Multimap K V S) : Type 0 where
   pub drain : LeavesDrain old new
   pub none : left_of new ≡ []
+
+-- no item stands at the places of detached values any more
+abbrev pub AreDropped : {V : Type 0} → Slots V ValueLink → ChainEnds → Slots V ValueLink → Type 0
+AreDropped old ends new = (p : ℕ) → IsIn p (drained_places old ends) → item_at new p ≡ None
+
+-- no item stands at a place that the drain still held
+abbrev pub DropsRest : {K V S : Type 0} → Multimap K V S → Multimap K V S → Type 0
+DropsRest old new = AreDropped old.slots.values old.slots.left new.slots.values
 
 -- the list is the same, with each item and each link of it; what is detached may differ
 pub record KeepsSlots {V : Type 0} (old new : Slots V ValueLink) : Type 0 where

@@ -22,6 +22,14 @@ use Rattle.multimap_walks.specs.declared.links.ValueLink.{ValueLink}
 use Rattle.ordered_multimap.specs.ValuesLent.{EndsAs}
 use Rattle.ordered_multimap.specs.Writes.{with_first}
 
+module _ (K V S A H : RattleType) where
+  -- the entry's type, as the logic holds it
+  abbrev pub entry_row : equality.Ghosts K.Denot → hash.Ghosts K.Denot
+      → builder.Ghosts S.Denot H.Denot → hasher.Ghosts H.Denot → allocator.Ghosts A.Denot
+      → RattleType
+  entry_row e k b h alloc =
+      occupied.the_row (record { mir = named 1; lft = [] }) K V S A H e k b h alloc
+
 module _ (K V S A H : RattleType) {e : equality.Ghosts K.Denot} {k : hash.Ghosts K.Denot}
     {b : builder.Ghosts S.Denot H.Denot} {h : hasher.Ghosts H.Denot}
     (alloc : allocator.Ghosts A.Denot) where
@@ -44,15 +52,14 @@ module _ (K V S A H : RattleType) {e : equality.Ghosts K.Denot} {k : hash.Ghosts
   abbrev pub lends_to_entry : MutBor (OccupiedEntry K.Denot V.Denot S.Denot A.Denot H.Denot e k b h)
       → MutBor V.Denot → Fml
   lends_to_entry o r =
-      follows (occupied.the_row (record { mir = named 1; lft = [] }) K V S A H e k b h alloc) V
-      o.ghost_name r.ghost_name (with_first_written o.now)
+      follows (entry_row K V S A H e k b h alloc) V o.ghost_name r.ghost_name
+      (with_first_written o.now)
 
   -- once the loan with this name ends, the entry's map is as before but for its values
   abbrev pub lends_values_to_entry
       : MutBor (OccupiedEntry K.Denot V.Denot S.Denot A.Denot H.Denot e k b h) → GName → Fml
   lends_values_to_entry o r =
-      follows (occupied.the_row (record { mir = named 1; lft = [] }) K V S A H e k b h alloc)
-      (occupied.the_row (record { mir = named 1; lft = [] }) K V S A H e k b h alloc)
+      follows (entry_row K V S A H e k b h alloc) (entry_row K V S A H e k b h alloc)
       o.ghost_name r (λ n. with_map_values o.now n.map.now)
 
   -- the values of the entry's map are lent; once their slots end with some items, the entry's loan
@@ -60,8 +67,7 @@ module _ (K V S A H : RattleType) {e : equality.Ghosts K.Denot} {k : hash.Ghosts
   abbrev pub EndsEntry : OccupiedEntry K.Denot V.Denot S.Denot A.Denot H.Denot e k b h
       → SlotCells V.Denot ValueLink A.Denot → Type 0
   EndsEntry o c = EndsAs o.map.now c (final V c.cells.around) (λ ws.
-      (occupied.the_row (record { mir = named 1; lft = [] }) K V S A H e k b h alloc).coded.code
-      (with_entry_items o ws))
+      (entry_row K V S A H e k b h alloc).coded.code (with_entry_items o ws))
 
   -- at `Err` the pair was refused; else the map ends as what the entry leaves
   abbrev pub rests_with_entry : {E : Type 0} → Entry K.Denot V.Denot S.Denot A.Denot H.Denot e k b h

@@ -1,6 +1,6 @@
 //! Laws of the definitions, for all lists. The functions do nothing: what they ensure is the law.
 ghost use Rattle.std.specs.Borrow.{sem};
-ghost use Rattle.ordered_multimap.specs.Exact.{WalksAreExact};
+ghost use Rattle.ordered_multimap.specs.Exact.{InnerWalksAreExact, WalksAreExact};
 ghost use Rattle.ordered_multimap.specs.Lists.{Lists, IsWellFormed};
 ghost use Rattle.ordered_multimap.specs.Laws.{ComparesPairs, FiltersChains};
 ghost use Rattle.ordered_multimap.specs.Laws.{IsRebuilt, IsRebuiltOfBoth, PopUndoesAppend};
@@ -43,4 +43,13 @@ pub fn chain_is_filter<K: Eq, V>()
 pub fn walks_are_exact<K: Eq + Hash, V, S: BuildHasher, A: Allocator>()
     ensures* exact { sem 𝓛 (WalksAreExact K.row V.row S.row A.row S.Hasher.row K.Hash
         S.BuildHasher S.Hasher.Hasher A.Allocator) }
+{}
+
+/// The same of a walk over one key's values that an occupied entry, or a walk over keys, gives: once it
+/// and all its references have ended, the entry's map, or that of the walk over keys, has ended exactly.
+/// That walk has then its other keys left. It joins what `iter_mut` of the entry, or `next` and
+/// `next_back` of the walk over keys say (`writes_back`, `ends`) with what the walk over values says.
+pub fn inner_walks_are_exact<K: Eq + Hash, V, S: BuildHasher, A: Allocator>()
+    ensures* exact { sem 𝓛 (InnerWalksAreExact K.row V.row S.row A.row S.Hasher.row K.PartialEq
+        K.Hash.own S.BuildHasher S.Hasher.Hasher A.Allocator) }
 {}

@@ -1,7 +1,7 @@
 -- How the nodes of a slot list lie. No public clause cites this module.
 use Rattle.std.specs.Prelude.{◌≡◌, ◌≢◌, ℕ, zero, suc, ◌+◌, ◌<◌, ◌≤◌, Option, Some, None, IsSome}
 use Rattle.std.specs.Prelude.{List, [], ◌∷◌, ◌++◌, map, get_or, slice_get, slice_set, length}
-use Rattle.std.specs.Prelude.{Result, OnOk}
+use Rattle.std.specs.Prelude.{Result, OnErr, OnOk}
 use Rattle.std.specs.List.{sum_by}
 use Rattle.multimap_slots.specs.declared.order.node.Node.{Node}
 use Rattle.multimap_slots.specs.declared.order.node.State.{State}
@@ -204,6 +204,7 @@ module _ {L : Type 0} where
 pub record GrowsFor {T L X E : Type 0} (more : ℕ) (old new : Slots T L) (result : Result X E)
     : Type 0 where
   pub room : OnOk result (HasRoomFor new more)
+  pub refused : OnErr result (new.capacity ≡ old.capacity)
   pub unchanged : KeepsItems old new
   pub rises : old.capacity ≤ new.capacity
   pub doubles : DoublesIfGrown old.capacity new.capacity

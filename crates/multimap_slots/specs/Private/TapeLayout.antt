@@ -1,6 +1,6 @@
 -- How the vectors of a tape agree. No public clause cites this module.
 use Rattle.std.specs.Prelude.{◌≡◌, ℕ, ◌≤◌, List, Option, None, IsSome, get_or, slice_set, length}
-use Rattle.std.specs.Prelude.{Result, OnOk}
+use Rattle.std.specs.Prelude.{Result, OnErr, OnOk}
 use Rattle.multimap_slots.specs.Lists.{IsIn}
 use Rattle.multimap_slots.specs.Private.Runs.{Spread}
 use Rattle.multimap_slots.specs.Slots.{DoublesIfGrown}
@@ -25,6 +25,7 @@ moved_item items from to = slice_set (slice_set items from None) to (get_or item
 pub record GrowsBehind {T L X E : Type 0} (more : ℕ) (old new : Taped T L) (result : Result X E)
     : Type 0 where
   pub room : OnOk result (HasEndRoomFor new more)
+  pub refused : OnErr result (new.list.capacity ≡ old.list.capacity)
   pub unchanged : KeepsTape old new
   pub rises : old.list.capacity ≤ new.list.capacity
   pub doubles : DoublesIfGrown old.list.capacity new.list.capacity

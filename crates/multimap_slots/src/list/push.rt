@@ -49,6 +49,7 @@ impl<T, L: Copy, A: Allocator> SlotList<T, L, A> {
         // Where there is room already, nothing grows and nothing is refused.
         ensures succeeds { HasRoomFor self.old additional → IsOk result }
         ensures had_room { HasRoomFor self.old additional → self.new.capacity ≡ self.old.capacity }
+        ensures refused { OnErr result (self.new.capacity ≡ self.old.capacity) }
         ensures capacity { self.old.capacity ≤ self.new.capacity }
 
         // A growth that happens at least doubles, so that n items that come last cost n moves.

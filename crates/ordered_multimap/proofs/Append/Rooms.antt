@@ -89,6 +89,7 @@ module _ {K V S : Type 0} {eq : K → K → Bool} {old new : Multimap K V S} {k 
     rooms = came.grows.rooms;
     had_room = raises_none came.grows;
     taken = came.taken;
+    full = λ room. came.full room.value;
   }
 
 module _ {K V S : Type 0} {eq : K → K → Bool} {hash : K → ℕ} (keys : Slots K KeyLink) (rows : FinMap nat_cmp ℕ) (values : Taped V ValueLink)
@@ -157,6 +158,11 @@ on_ok-map f (Err e) p = tt
 pub on_err-map : {X E P Q : Type 0} → (P → Q) → (r : Result X E) → OnErr r P → OnErr r Q
 on_err-map f (Ok x) p = tt
 on_err-map f (Err e) p = f p
+
+-- two facts on a refusal
+pub both_on_err : {X E : Type 0} (P Q : Type 0) (r : Result X E) → OnErr r P → OnErr r Q → OnErr r (P × Q)
+both_on_err P Q (Ok x) p q = tt
+both_on_err P Q (Err e) p q = (p, q)
 
 -- what is said on a refusal, and what of the error
 pub if_err-map : {X E P : Type 0} {Q R : E → Type 0} → ((e : E) → P → Q e → R e) → (r : Result X E) → OnErr r P → IfErr r Q → IfErr r R

@@ -1,7 +1,7 @@
 -- What a drain has left, and what its steps leave of the slots.
 use Rattle.std.proofs.lemmas.List.{append-nil}
 use Rattle.std.proofs.Common.{◌≡◌, ◌≢◌, ℕ, zero, suc, ◌+◌, Bool, true, List, [], ◌∷◌, ◌++◌, length, map, reverse, Option, Some, None}
-use Rattle.std.proofs.Common.{IsSome, option_map, unwrap_or, refl, sym, ap, ◌∙◌, subst, arith}
+use Rattle.std.proofs.Common.{◌⊎◌, inl, inr, true≢false, IsSome, option_map, unwrap_or, refl, sym, ap, ◌∙◌, subst, arith}
 use Rattle.std.specs.Prelude.{IfSome}
 use Rattle.std.proofs.Math.Logic.{∥∥₁_elim}
 use Rattle.std.specs.Ordering.{nat_cmp}
@@ -122,6 +122,11 @@ module _ {V : Type 0} {values : Slots V ValueLink} (values_after : Slots V Value
   left-kept = ap (values_at values_after) places-kept
       ∙ filter_map-agree (item_at values_after) (item_at values) (drained_places values ends) items
 
+-- each of the first drain's places is one of the second drain's, or no item stands there any more
+abbrev pub AreLeftOrDropped : {V : Type 0} → Slots V ValueLink → ChainEnds → Slots V ValueLink → ChainEnds → Type 0
+AreLeftOrDropped old old_ends new new_ends =
+    (p : ℕ) → IsIn p (drained_places old old_ends) → IsIn p (drained_places new new_ends) ⊎ (item_at new p ≡ None)
+
 -- a step at either end
 module _ {V : Type 0} {values : Slots V ValueLink} (ends : ChainEnds) (some : ∥ IsDrained values ends ∥₁) (n : ℕ)
     (more : ends.length ≡ n + 1) where
@@ -160,6 +165,26 @@ module _ {V : Type 0} {values : Slots V ValueLink} (ends : ChainEnds) (some : �
     elsewhere p member same = split.0 (subst (λ x. IsIn x (drained_places values behind_ends)) same member)
 
     module _ {values_after : Slots V ValueLink} {v : V} (takes : TakesDetached values values_after ends.first v) where
+      after_places : drained_places values_after behind_ends ≡ drained_places values behind_ends
+      unfolding behind_ends
+      after_places = places-kept values_after behind_ends rest
+          (λ p member listed. (rest.there p member).not_listed (subst (IsIn p) takes.order listed))
+          (λ p member. takes.others.items p (elsewhere p member)) (λ p member. takes.others.links p (elsewhere p member))
+
+      pub first_dropped : (p : ℕ) → IsIn p (drained_places values ends) ⊎ (item_at values p ≡ None)
+          → IsIn p (drained_places values_after (record { first = behind; last = ends.last; length = n })) ⊎ (item_at values_after p ≡ None)
+      unfolding behind_ends
+      first_dropped p (inl member) = by (subst (IsIn p) places_are member)
+        where
+          by : IsIn p (ends.first ∷ drained_places values behind_ends)
+              → IsIn p (drained_places values_after behind_ends) ⊎ (item_at values_after p ≡ None)
+          by (inl same) = inr (ap (item_at values_after) same ∙ takes.freed)
+          by (inr behind_it) = inl (subst (IsIn p) (sym after_places) behind_it)
+      first_dropped p (inr gone) =
+          let apart : p ≢ ends.first =
+          λ same. true≢false (sym (subst IsSome (sym takes.had ∙ ap (item_at values) (sym same) ∙ gone) refl)) in
+          inr (takes.others.items p apart ∙ gone)
+
       pub first_rest : IsDrained values_after (record { first = behind; last = ends.last; length = n })
       unfolding behind_ends
       first_rest = drained-kept values_after behind_ends rest

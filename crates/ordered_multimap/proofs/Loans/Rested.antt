@@ -3,7 +3,7 @@ use mathlib.Core.Path.{refl}
 use mathlib.Core.List.{[], ◌∷◌}
 use mathlib.Core.Option.{none, some}
 use seplogic.Ra.Ura.{Ura}
-use base.Logic.{ent, emp, wand}
+use base.Logic.{ent, emp, ex, id⊢, wand}
 use base.Fml.{Fml, GName, fex, fsep, feq, fres, fauth}
 use types.Logic.{Logic, sem}
 use types.Kit.{‵, ◌$◌, ◌∵◌, !, qed, each, assume, feq_i, fjoin, fpick, fpack, done}
@@ -49,3 +49,14 @@ module _ {M : Type 1} {𝓤 : Ura M} (𝓛 : Logic 𝓤) (R T : RattleType) (γ 
   unfolding such_by follows_by
   so_none = qed 𝓛 (‵ (fres γ (R.coded.code v)) ∷ []) ∵ fpack ! Met
       (λ s. follows_by R.Denot T.Denot R.coded.code T.coded.code γ none s.0.0 s.0.1) ((F, v), met, at_none) $ done !
+
+module _ (R T : RattleType) (P : T.Denot → R.Denot → Type 0) (Q : R.Denot → Type 0) where
+  -- a function of what the loan's name ends as, of which the relation is so, and a value
+  abbrev pub SoMet : Type 0
+  SoMet = (s : (T.Denot → R.Denot) × R.Denot) × ((w : T.Denot) → P w (s.0 w)) × Q s.1
+
+  -- from a relation such a function
+  pub so_out : {M : Type 1} {𝓤 : Ura M} (𝓛 : Logic 𝓤) (γ γ' : GName)
+      → ent 𝓤 (sem 𝓛 (follows_so R T γ (some γ') P Q)) (ex 𝓤 (λ (s : SoMet). sem 𝓛 (follows R T γ γ' s.0.0)))
+  unfolding such_by follows_by
+  so_out {𝓤 = 𝓤} 𝓛 γ γ' = id⊢ 𝓤 (ex 𝓤 (λ (s : SoMet). sem 𝓛 (follows R T γ γ' s.0.0)))

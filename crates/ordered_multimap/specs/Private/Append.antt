@@ -1,6 +1,6 @@
 -- What an append does to the slots. No public clause cites this module.
 use Rattle.std.specs.Prelude.{◌≡◌, ◌≢◌, ◌+◌, ◌^◌, ◌≤◌, ◌<◌, ℕ, min, [], ◌∷◌, ◌++◌, length}
-use Rattle.std.specs.Prelude.{Option, Some, None, Result, IfErr, IsOk, OnOk}
+use Rattle.std.specs.Prelude.{Option, Some, None, Result, IfErr, IsOk, OnErr, OnOk}
 use Rattle.std.specs.Ordering.{nat_cmp}
 use Rattle.std.specs.FinMap.{FinMap, get, insert, len}
 use Rattle.multimap_slots.specs.Lists.{IsIn}
@@ -57,7 +57,7 @@ pub record MakesEndRoom {K V : Type 0} (keys keys_after : Slots K KeyLink)
   pub end_room : HasEndRoom values_after
   pub capacities : KeepsCapacities keys keys_after values values_after
 
--- room for one more value was asked for, and is there if it was not refused
+-- room for one more value was asked for, and is there exactly if it was not refused
 pub record MakesValueRoom {K V X E : Type 0} (keys keys_after : Slots K KeyLink)
     (values values_after : Taped V ValueLink) (r : Result X E) : Type 0 where
   pub renamed : AreRenamed keys keys_after values.list values_after.list
@@ -65,6 +65,7 @@ pub record MakesValueRoom {K V X E : Type 0} (keys keys_after : Slots K KeyLink)
   pub room : OnOk r (HasTapeRoomFor values_after 1)
   pub end_room : OnOk r (HasEndRoom values_after)
   pub succeeds : HasTapeRoomFor values 1 → IsOk r
+  pub refused : OnErr r (¬ HasTapeRoomFor values_after 1)
   pub keys_capacity : keys_after.capacity ≡ keys.capacity
 
 -- a value that is refused is handed back, and it is refused only where half of the slots are full
@@ -73,13 +74,16 @@ pub record HandsBackAt {V X : Type 0} (value : V) (values : Taped V ValueLink)
   pub refused : IfErr r (λ back. back.value ≡ value)
   pub succeeds : HasTapeRoomFor values 1 → IsOk r
 
--- room for so many more keys was asked for, and is there if it was not refused
+-- room for so many more keys was asked for, and is there if it was not refused; else the room is as
+-- it was
 pub record MakesKeyRoom {K X E : Type 0} (keys keys_after : Slots K KeyLink)
     (table table_after : Table) (additional : ℕ) (r : Result X E) : Type 0 where
   pub same_keys : KeepsItems keys keys_after
   pub same_rows : table_after.rows ≡ table.rows
   pub room : OnOk r (FitsKeys keys_after table.rows table_after.capacity additional)
   pub succeeds : FitsKeys keys table.rows table.capacity additional → IsOk r
+  pub refused : OnErr r (min keys_after.capacity table_after.capacity
+      ≡ min keys.capacity table.capacity)
   pub grows : GrowsFor keys keys_after table.rows table.capacity table_after.capacity additional
 
 -- each key has a row, and no row is more; both lists are chained
@@ -88,7 +92,7 @@ pub record HasCountedChains {K V : Type 0} (keys : Slots K KeyLink) (table : Tab
   pub counted : len table.rows ≡ length keys.order
   pub chains : AreChained keys values
 
--- room for one more key and its first value was asked for, and is there if it was not refused
+-- room for one more key and its first value was asked for, and is there exactly if it was not refused
 pub record MakesPairRoom {K V X E : Type 0} (keys keys_after : Slots K KeyLink)
     (table table_after : Table) (values values_after : Taped V ValueLink) (r : Result X E) : Type 0
   where
@@ -97,6 +101,8 @@ pub record MakesPairRoom {K V X E : Type 0} (keys keys_after : Slots K KeyLink)
     pub room : OnOk r (FitsOneMore keys_after table_after.rows table_after.capacity values_after)
     pub end_room : OnOk r (HasEndRoom values_after)
     pub succeeds : FitsOneMore keys table.rows table.capacity values → IsOk r
+    pub refused : OnErr r (¬ FitsOneMore keys_after table_after.rows table_after.capacity
+        values_after)
     pub grows : GrowsFor keys keys_after table.rows table.capacity table_after.capacity 1
     pub tape : MakesRoom values values_after
 

@@ -2,6 +2,7 @@
 ghost use Rattle.std.specs.Prelude.{◌≡◌, false, IfOk, IfErr, OnOk, OnErr, IsOk};
 ghost use Rattle.multimap_slots.specs.Lists.{IsIn};
 ghost use Rattle.multimap_slots.specs.Slots.{HasItem};
+ghost use Rattle.multimap_slots.specs.Tapes.{HasTapeRoomFor};
 ghost use Rattle.ordered_multimap.specs.Private.Append.{AppendsBehind, AppendsFirst, FitsOneMore, GrowsFor};
 ghost use Rattle.ordered_multimap.specs.Private.Append.{HandsBackAt, HasCountedChains, HasListedRows, MakesRoom};
 ghost use Rattle.ordered_multimap.specs.Additions.{Appends, IsAppendedAt, RefusesValue};
@@ -107,6 +108,7 @@ fn append_behind<K, V: Drop, A: Allocator + Copy>(
     ensures unchanged { OnErr result (AreRenamed keys.old keys.new
         values.old.list values.new.list) }
     ensures hands_back { HandsBackAt value values.old result }
+    ensures full { OnErr result (¬ HasTapeRoomFor values.new 1) }
     ensures keys_capacity { keys.new.capacity ≡ keys.old.capacity }
     ensures values { MakesRoom values.old values.new }
 {
@@ -139,6 +141,8 @@ fn append_first<K, V: Drop, A: Allocator + Copy>(
     ensures refused { IfErr result (λ pair. pair ≡ record { key = key; value = value }) }
     ensures succeeds { FitsOneMore keys.old table.old.rows table.old.capacity values.old
         → IsOk result }
+    ensures full { OnErr result (¬ FitsOneMore keys.new table.new.rows table.new.capacity
+        values.new) }
     ensures grows { GrowsFor keys.old keys.new table.old.rows
         table.old.capacity table.new.capacity 1 }
     ensures values { MakesRoom values.old values.new }

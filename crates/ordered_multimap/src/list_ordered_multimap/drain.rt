@@ -226,10 +226,11 @@ impl<'map, K: Eq + Hash, V: Drop, S: BuildHasher, A: Allocator> FusedIterator
 impl<'map, K: Eq + Hash, V: Drop, S: BuildHasher, A: Allocator> Drop
     for EntryValuesDrain<'map, K, V, S, A> {
     ghost use Rattle.std.specs.Prelude.{[]};
-    ghost use Rattle.ordered_multimap.specs.Detaches.{KeepsListed, left_of};
+    ghost use Rattle.ordered_multimap.specs.Detaches.{DropsRest, KeepsListed, left_of};
 
     fn drop(self)
         ensures none_left { left_of self.exit.0.now ≡ [] }
+        ensures dropped { DropsRest self.entry.map.now self.exit.0.now }
         ensures kept { KeepsListed self.entry.map.now self.exit.0.now }
     {
         let EntryValuesDrain { map } = self;

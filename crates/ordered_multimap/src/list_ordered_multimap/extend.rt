@@ -3,6 +3,7 @@ ghost use Rattle.std.specs.Prelude.{◌≡◌, IfOk, IfErr};
 ghost use Rattle.std.specs.Iterator.{IsFinite};
 ghost use Rattle.ordered_multimap.specs.Extends.{Extends, ExtendsCopied, IsBuilt, IsItem};
 ghost use Rattle.ordered_multimap.specs.Extends.{GrowsForAll};
+ghost use Rattle.ordered_multimap.specs.Rooms.{HasPairRoom};
 ghost use Rattle.ordered_multimap.specs.TapeNumbers.{AreUnused};
 
 use super::{ListOrderedMultimap, Refused};
@@ -31,6 +32,7 @@ impl<K: Eq + Hash + Drop, V: Drop, S: BuildHasher, A: Allocator + Copy> ListOrde
             → I.IntoIter.can_next it × IsFinite (I.IntoIter.remaining it) }
         ensures extends { Extends K.eq I.into_iter_gives I.IntoIter.next_gives iter
             self.old.lists self.new.lists result }
+        ensures full { IfErr result (λ pair. ¬ HasPairRoom K.eq self.new pair.key) }
 
         // The room for values may grow beyond the pairs that come: an iterator may tell of more.
         ensures grows { GrowsForAll I.into_iter_gives I.IntoIter.next_gives I.IntoIter.remaining
@@ -63,6 +65,7 @@ impl<K: Eq + Hash + Drop, V: Drop, S: BuildHasher, A: Allocator + Copy> ListOrde
             → I.IntoIter.can_next it × IsFinite (I.IntoIter.remaining it) }
         ensures extends { ExtendsCopied K.eq I.into_iter_gives I.IntoIter.next_gives iter
             self.old.lists self.new.lists result }
+        ensures full { IfErr result (λ pair. ¬ HasPairRoom K.eq self.new pair.key) }
 
         // The room for values may grow beyond the pairs that come: an iterator may tell of more.
         ensures grows { GrowsForAll I.into_iter_gives I.IntoIter.next_gives I.IntoIter.remaining

@@ -13,7 +13,8 @@ ghost use Rattle.ordered_multimap.specs.Rooms.{HasValueRoom, KeepsRooms, RaisesN
 ghost use Rattle.ordered_multimap.specs.TapeNumbers.{TakesOut};
 ghost use Rattle.multimap_walks.specs.ChainWalk.{detached_walk};
 ghost use Rattle.multimap_walks.specs.Walk.{TakesEnd};
-ghost use Rattle.ordered_multimap.specs.Detaches.{EndsDrain, HoldsDrain, IsDrained, KeepsListed, KeepsSlots, LeavesDrain, left_of};
+ghost use Rattle.ordered_multimap.specs.Detaches.{AreDropped, DropsRest, EndsDrain, HoldsDrain, IsDrained, KeepsListed};
+ghost use Rattle.ordered_multimap.specs.Detaches.{KeepsSlots, LeavesDrain, left_of};
 
 use crate::KeyQuery;
 use crate::list_ordered_multimap::insert::insert_behind_all;
@@ -128,7 +129,8 @@ impl<K: Eq + Hash, V, S: BuildHasher, A: Allocator> ListOrderedMultimap<K, V, S,
     where
         V: Drop,
         requires { HoldsDrain self.old }
-        ensures { EndsDrain self.old self.new }
+        ensures ends { EndsDrain self.old self.new }
+        ensures dropped { DropsRest self.old self.new }
     {
         let left = self.left;
         self.left.length = 0;
@@ -192,6 +194,7 @@ impl<K: Eq + Hash, V, S: BuildHasher, A: Allocator + Copy> ListOrderedMultimap<K
 /// Takes detached values, and drops them.
 fn drop_chain<V: Drop, A: Allocator>(values: &mut Tape<V, ValueLink, A>, ends: ChainEnds)
     requires { IsDrained values.old.list ends }
+    ensures dropped { AreDropped values.old.list ends values.new.list }
     ensures kept { KeepsSlots values.old.list values.new.list }
     ensures room { KeepsTapeRoom values.old values.new }
 {

@@ -1,4 +1,4 @@
-use Rattle.std.proofs.Common.{IfErr, OnOk, IsOk, refl, sym, subst}
+use Rattle.std.proofs.Common.{◌/◌, IfErr, OnOk, IsOk, refl, sym, subst}
 use Rattle.multimap_slots.specs.Lists.{IsIn}
 use Rattle.ordered_multimap.specs.Additions.{IsAppendedAt, RefusesValue}
 use Rattle.ordered_multimap.specs.Private.KeySteps.{KeepsPlace}
@@ -7,7 +7,8 @@ use Rattle.ordered_multimap.proofs.Remove.OnePair.{has_chain}
 use Rattle.ordered_multimap.proofs.Agreement.LookUps.{own_key}
 use Rattle.ordered_multimap.proofs.Append.Appended.{behind_agrees, behind_lists, refused_lists, stays_paid}
 use Rattle.ordered_multimap.proofs.Agreement.StayingKeys.{behind_stays}
-use Rattle.ordered_multimap.proofs.Append.Rooms.{fits_value, grows_there, if_err-map, map_of, on_ok-map}
+use Rattle.ordered_multimap.proofs.Agreement.Agreed.{value_room}
+use Rattle.ordered_multimap.proofs.Append.Rooms.{both_on_err, fits_value, grows_there, if_err-map, map_of, on_ok-map}
 use Rattle.ordered_multimap.proofs.list_ordered_multimap.ListOrderedMultimap.append_at.Goals as goal
 
 pub append_behind-requires : goal.append_behind-requires
@@ -67,16 +68,19 @@ returns-clause-refused g c =
     let agrees = c.self.invariant.agrees in
     let own = own_key g.met.K.Eq.laws agrees c.args.place
     (subst (λ m. IsIn c.args.place m.slots.keys.order) (sym c.self.view_is) c.requires) in
+    let after = behind_agrees g.met.K.Eq.laws agrees own.0 c.args.value _ _ c.args.place own.1 c.append_behind.result e.ok e.unchanged in
     subst (λ m. IfErr c.append_behind.result (RefusesValue c.args.value m
     (map_of n.keys i.table.capacity n.values i.state i.left))) c.self.view_is
-    (if_err-map (λ r lists returned. record {
+    (if_err-map (λ r kept returned. record {
       returned = returned;
-      lists = lists;
+      lists = kept.0;
       grows =
           grows_there i.keys i.table.rows i.values agrees i.table.capacity i.state i.left n.keys i.table.capacity n.values i.left
           e.values.no_less e.values.had_room e.values.doubles e.keys_capacity refl;
       taken = e.values.taken;
-    }) c.append_behind.result (refused_lists g.met.K.Eq.laws agrees own.0 c.args.value _ _ c.append_behind.result e.unchanged)
+      full = λ room. kept.1 (value_room after (n.values.list.capacity / 2) room);
+    }) c.append_behind.result (both_on_err _ _ c.append_behind.result
+    (refused_lists g.met.K.Eq.laws agrees own.0 c.args.value _ _ c.append_behind.result e.unchanged) e.full)
     e.hands_back.refused)
 
 pub returns-clause-succeeds : goal.returns-clause-succeeds

@@ -16,8 +16,8 @@ invariant_of-self g c =
       paid = paid-listed i.values c.drop_chain.new.values t.room.counts c.self.invariant.paid;
     }
 
-pub returns : goal.returns
-returns g c =
+pub returns-clause-ends : goal.returns-clause-ends
+returns-clause-ends g c =
     let i = c.self.inside in
     let t = c.drop_chain.ensures in
     let left : ChainEnds = record { first = i.left.first; last = i.left.last; length = 0 } in
