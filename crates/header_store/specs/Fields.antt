@@ -1,8 +1,8 @@
--- What RFC 9110 allows in the names and the values of headers.
+-- What stands before and behind a byte, and what RFC 9110 allows in names and values of headers.
 use Rattle.std.specs.Prelude.{ℕ, ◌<◌, ◌==◌, ◌||◌, Bool, not, IsTrue, nat_eq}
 use Rattle.std.specs.Prelude.{List, length, All, codes}
 use Rattle.std.specs.Char.{is_ascii_alphanumeric, is_ascii_control}
-use Rattle.std.specs.List.{list_any}
+use Rattle.std.specs.List.{after_first, before_first, list_any}
 
 -- the byte may stand in a token: a letter, a digit or one of some marks
 abbrev pub is_token_byte : ℕ → Bool
@@ -20,3 +20,11 @@ is_value_byte byte = (byte == 9) || not (is_ascii_control byte)
 -- no byte of the text is forbidden in a value
 abbrev pub IsValue : List ℕ → Type 0
 IsValue text = All (λ byte. IsTrue (is_value_byte byte)) text
+
+-- what stands before the first such byte of a text, or the whole text where there is none
+abbrev pub before_byte : ℕ → List ℕ → List ℕ
+before_byte separator text = before_first (λ byte. byte == separator) text
+
+-- what stands behind the first such byte of a text, or nothing where there is none
+abbrev pub behind_byte : ℕ → List ℕ → List ℕ
+behind_byte separator text = after_first (λ byte. byte == separator) text

@@ -46,7 +46,7 @@ fn carry_out<'t>(
     line: &'t [u8],
     answers: &mut Vec<u8>,
 ) -> io::Result<()> {
-    let (word, operands) = split_at_byte(line, b' ').unwrap_or((line, b""));
+    let (word, operands) = split_at_byte(line, b' ');
     match word {
         b"get" | b"all" | b"joined" => {
             add_values(headers, word, name_of(operands)?, answers)?;

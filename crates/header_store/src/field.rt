@@ -1,5 +1,5 @@
 //! Headers and their parts, read from their texts.
-ghost use Rattle.std.specs.Prelude.{◌≡◌, ◌↔◌, IsOk, IsSome, IfErr, IfOk, IfSome};
+ghost use Rattle.std.specs.Prelude.{◌≡◌, ◌↔◌, ◌==◌, IsOk, IsSome, IfErr, IfOk, IfSome, position};
 ghost use Rattle.std.specs.Str.{IsTrimAscii};
 ghost use Rattle.std.specs.IoError.{error_kind};
 ghost use Rattle.std.specs.declared.io.ErrorKind.TheVariants.{InvalidData};
@@ -9,12 +9,20 @@ use crate::bad;
 use crate::name::Name;
 use std::io;
 
-/// The name and the value that stand before and behind the first separator; the value is empty
-/// where there is none.
+/// The name and the value that stand before and behind the first separator, the value without the
+/// blanks around it. Without a separator the whole text is the name, and the value is empty. It
+/// fails exactly if RFC 9110 forbids what stands before the separator as a name, or what stands
+/// behind it as a value.
 pub fn field_of(text: &[u8], separator: u8) -> io::Result<(Name<'_>, &[u8])>
+    ensures allowed { IsOk result ↔ rfc.IsToken (rfc.before_byte separator text.now)
+        × rfc.IsValue (rfc.behind_byte separator text.now) }
+    ensures named { IfOk result (λ field.
+        field.0.text.now ≡ rfc.before_byte separator text.now) }
+    ensures trimmed { IfOk result (λ field.
+        IsTrimAscii (rfc.behind_byte separator text.now) field.1.now) }
     ensures fault { IfErr result (λ error. error_kind error ≡ InvalidData) }
 {
-    let (name, value) = split_at_byte(text, separator).unwrap_or((text, b""));
+    let (name, value) = split_at_byte(text, separator);
     let name = name_of(name)?;
     match value_of(value) {
         Some(value) => Ok((name, value)),
@@ -51,8 +59,21 @@ fn is_value_byte(byte: u8) -> bool
     byte == b'\t' || !byte.is_ascii_control()
 }
 
-/// What stands before the first such byte, and what stands behind it, if there is one.
-pub fn split_at_byte(text: &[u8], separator: u8) -> Option<(&[u8], &[u8])> {
-    let place = text.iter().position(|byte| *byte == separator)?;
-    Some((&text[..place], &text[place + 1..]))
+/// What stands before the first such byte, and what stands behind it; the whole text and nothing
+/// where there is none.
+pub fn split_at_byte(text: &[u8], separator: u8) -> (&[u8], &[u8])
+    ensures before { result.0.now ≡ rfc.before_byte separator text.now }
+    ensures behind { result.1.now ≡ rfc.behind_byte separator text.now }
+{
+    match place_of(text, separator) {
+        Some(place) => (&text[..place], &text[place + 1..]),
+        None => (text, b""),
+    }
+}
+
+// Where the first such byte stands.
+fn place_of(text: &[u8], byte: u8) -> Option<usize>
+    ensures { result ≡ position (λ other. other == byte) text.now }
+{
+    text.iter().position(|other| *other == byte)
 }
