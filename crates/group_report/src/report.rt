@@ -1,5 +1,6 @@
 //! From the bytes of the input to the text of the report.
-ghost use Rattle.std.specs.Prelude.{◌≡◌, length, IfSome};
+ghost use Rattle.std.specs.Int.{w64};
+ghost use Rattle.std.specs.Prelude.{◌≡◌, ◌↔◌, length, IfSome, IsSome, FitsSigned};
 ghost use Rattle.group_report.specs.Sums.{greatest_of, least_of, sum_of};
 
 use crate::Fault;
@@ -53,8 +54,9 @@ fn summarize_lines<'t>(
     Ok(bound)
 }
 
-/// The summary of the values, unless their sum doesn't fit 64 bits.
+/// The summary of the values, or none exactly if their sum doesn't fit 64 bits.
 fn summarize<'t>(mut values: EntryValues<'_, &'t str, i64>) -> Option<Summary>
+    ensures fits { IsSome result ↔ FitsSigned w64 (sum_of values.entry.left) }
     ensures count { IfSome result (λ summary. summary.count ≡ length values.entry.left) }
     ensures sum { IfSome result (λ summary. summary.sum ≡ sum_of values.entry.left) }
     ensures least { IfSome result (λ summary. summary.least ≡ least_of values.entry.left) }

@@ -1,6 +1,6 @@
 //! What a report says of the values of a group.
-ghost use Rattle.std.specs.Int.{int_max, int_min, w64};
-ghost use Rattle.std.specs.Prelude.{◌≡◌, ◌+◌, ◌+ℤ◌, ◌↔◌, IfSome, IsSome, FitsSigned};
+ghost use Rattle.std.specs.Int.{int_max, int_min, w64, w128};
+ghost use Rattle.std.specs.Prelude.{◌≡◌, ◌+◌, ◌<◌, ◌^◌, ◌+ℤ◌, ◌↔◌, IfSome, IsSome, FitsSigned};
 
 use std::fmt;
 
@@ -38,7 +38,7 @@ impl Summary {
         }
     }
 
-    /// The summary, unless its sum doesn't fit 64 bits.
+    /// The summary, or none exactly if its sum doesn't fit 64 bits.
     pub fn fitting(self) -> Option<Summary>
         ensures fits { IsSome result ↔ FitsSigned w64 self.sum }
         ensures same { IfSome result (λ summary. summary ≡ self) }
@@ -46,8 +46,11 @@ impl Summary {
         i64::try_from(self.sum).is_ok().then_some(self)
     }
 
-    /// The summary of the values of both, unless their number or their sum overflows.
+    /// The summary of the values of both, or none exactly if their number overflows a `usize` or
+    /// their sum doesn't fit 128 bits.
     pub fn join(self, other: Summary) -> Option<Summary>
+        ensures fits { IsSome result ↔ (self.count + other.count < 2 ^ 64)
+            × FitsSigned w128 (self.sum +ℤ other.sum) }
         ensures count { IfSome result (λ both. both.count ≡ self.count + other.count) }
         ensures sum { IfSome result (λ both. both.sum ≡ self.sum +ℤ other.sum) }
         ensures least { IfSome result (λ both. both.least ≡ int_min self.least other.least) }

@@ -1,7 +1,7 @@
-use Rattle.std.proofs.Common.{◌≡◌, ◌+◌, length}
+use Rattle.std.proofs.Common.{◌≡◌, ◌+◌, ◌*◌, ◌^◌, ◌≤◌, length}
 use Rattle.std.specs.Int.{int_max, int_min}
 use Rattle.std.specs.List.{fold}
-use Rattle.std.specs.Prelude.{◌+ℤ◌}
+use Rattle.std.specs.Prelude.{◌+ℤ◌, unsigned_abs}
 use Rattle.group_report.specs.Sums.{greatest_of, least_of, sum_of}
 use Rattle.group_report.proofs.report.summarize.Given as goal
 
@@ -12,3 +12,5 @@ invariant-loop l = (l.summary.count + length l.values.left ≡ length l.fn.value
     × (fold int_min l.summary.least l.values.left ≡ least_of l.fn.values.left)
     × (fold int_max l.summary.greatest l.values.left ≡ greatest_of l.fn.values.left)
     × (l.counter + length l.values.left ≡ l.end)
+    × (l.summary.count ≡ l.counter)
+    × (unsigned_abs l.summary.sum ≤ l.counter * 2 ^ 63)
