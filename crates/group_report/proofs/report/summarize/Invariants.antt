@@ -5,7 +5,7 @@ use Rattle.std.specs.Prelude.{◌+ℤ◌, unsigned_abs}
 use Rattle.group_report.specs.Sums.{greatest_of, least_of, sum_of}
 use Rattle.group_report.proofs.report.summarize.Given as goal
 
--- what the summary says, and the values that are left, come to what all values do
+-- what the summary says, and the values that are left, come to what all values do; n values of 64 bits come to at most n * 2 ^ 63
 abbrev pub invariant-loop : goal.invariant-loop
 invariant-loop l = (l.summary.count + length l.values.left ≡ length l.fn.values.left)
     × (fold (λ sum value. sum +ℤ value) l.summary.sum l.values.left ≡ sum_of l.fn.values.left)
