@@ -3,6 +3,7 @@
 mod additions;
 mod examples;
 mod extend;
+mod full;
 mod iterators;
 mod made;
 mod pack;
@@ -15,6 +16,7 @@ mod reserve;
 mod shares;
 
 use crate::tests::extend::{map_is_made_without_hint, maps_are_made, pairs_come};
+use crate::tests::full::present_keys_find_room;
 use crate::tests::made::room_is_refused;
 use crate::tests::pack::pairs_are_packed;
 use crate::tests::reserve::{room_grows, room_is_used};
@@ -51,4 +53,9 @@ fn pairs_come_at_once(rt: HostRuntime) -> Result<(), Failed> {
 #[test]
 fn room_is_used_without_memory(rt: HostRuntime) -> Result<(), Failed> {
     test_with_room!(rt.alloc(); 5, 5; room_is_used)
+}
+
+#[test]
+fn full_keys_refuse_only_new_ones(rt: HostRuntime) -> Result<(), Failed> {
+    test_with_room!(rt.alloc(); 3, 70; present_keys_find_room)
 }

@@ -3,7 +3,7 @@ use Rattle.std.proofs.Common.{◌≡◌, ◌+◌, ◌≤◌, Bool, true, false, 
 use Rattle.std.proofs.Common.{arith}
 use Rattle.std.proofs.Common.{Result, Ok, Err}
 use Rattle.std.specs.Cmp.{IsEquivalence}
-use Rattle.ordered_multimap.specs.Additions.{Appends, IsAppended}
+use Rattle.ordered_multimap.specs.Additions.{Appends, IsAppended, IsRefused}
 use Rattle.ordered_multimap.specs.Changes.{appended}
 use Rattle.ordered_multimap.specs.Extends.{GrowsForPairs}
 use Rattle.ordered_multimap.specs.Keys.{stored_key}
@@ -14,6 +14,7 @@ use Rattle.ordered_multimap.proofs.Callers.Growth.{grows_for_one}
 use Rattle.ordered_multimap.proofs.Callers.ListedKeys.{length-keys_with}
 use Rattle.ordered_multimap.specs.declared.list_ordered_multimap.refused.Refused.{Refused}
 use Rattle.set_ordered_multimap.proofs.Callers.Sets.{IsSet-appended}
+use Rattle.set_ordered_multimap.specs.Insertions.{HasRoomToInsert}
 use Rattle.set_ordered_multimap.specs.Set.{IsSet, has_pair, set_inserted, all_inserted}
 
 module _ {K V : Type 0} (eq : K → K → Bool) (value_eq : V → V → Bool) where
@@ -46,6 +47,15 @@ module _ {K V : Type 0} (eq : K → K → Bool) (value_eq : V → V → Bool) wh
           keys = omega (arith, room.keys, rooms.keys, long.0, ap (λ (l : Lists K V). length l.keys) is);
           values = omega (arith, room.values, rooms.values, long.1, ap (λ (l : Lists K V). length l.pairs) is);
         }
+
+    -- where a pair was refused that there was no room to insert, there is none afterwards
+    pub no_room_to_insert : {m n : Multimap K V S} {pair : Refused K V} (k : K) (v : V) → IsRefused eq k v m n pair
+        → ¬ HasRoomToInsert eq value_eq m k v → ¬ HasRoomToInsert eq value_eq n pair.key pair.value
+    no_room_to_insert {m} {n} k v refused none room =
+        let here : HasRoomToInsert eq value_eq n k v =
+        subst (λ (p : Refused K V). HasRoomToInsert eq value_eq n p.key p.value) refused.returned room in
+        none (λ absent. absurd (refused.full
+        (here (ap (λ (l : Lists K V). has_pair eq value_eq l.pairs k v) refused.lists ∙ absent))))
 
     -- an insertion grows for the pair alone, whether it was there or not
     pub grows-inserted : {given : Type 0} (old m n : Multimap K V S) (k : K) (v : V) → (given → HasRoomForPairs m 1)

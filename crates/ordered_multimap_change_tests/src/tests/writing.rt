@@ -1,6 +1,7 @@
 //! Walks that lend values for writing, over one map that is lent to all comparisons.
 mod ended;
 mod examples;
+mod held;
 mod keys;
 mod rest;
 mod shown;
@@ -9,6 +10,7 @@ mod updated;
 mod walks;
 
 use crate::tests::writing::ended::walks_leave_values;
+use crate::tests::writing::held::held_walks_end;
 use crate::tests::writing::keys::keys_lend_their_values;
 use crate::tests::writing::rest::walks_have_left;
 use crate::tests::writing::shown::walks_are_shown;
@@ -31,6 +33,8 @@ fn numbers_are_written(test: &Test, map: &mut Numbers) {
     values_are_updated(test, map);
     test.begin("ended");
     walks_leave_values(test, map);
+    test.begin("held");
+    held_walks_end(test, map);
     test.begin("shown");
     walks_are_shown(test, map);
 }

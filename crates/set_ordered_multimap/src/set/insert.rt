@@ -67,6 +67,8 @@ impl<K: Eq + Hash + Drop, V: Eq + Drop, S: BuildHasher, A: Allocator + Copy> Set
         requires { ComesToAnEnd I.into_iter_gives I.IntoIter.can_next I.IntoIter.remaining iter }
         ensures inserts { InsertsAll K.eq V.eq I.into_iter_gives I.IntoIter.next_gives iter
             self.old.lists self.new.lists result }
+        ensures full { IfErr result (λ pair.
+            ¬ HasRoomToInsert K.eq V.eq self.new pair.key pair.value) }
         ensures set { IsSet K.eq V.eq self.old.lists → IsSet K.eq V.eq self.new.lists }
         ensures grows { GrowsForInserted I.into_iter_gives I.IntoIter.next_gives iter
             self.old self.new result }

@@ -26,6 +26,8 @@ enum Try {
     Clone,
     // Calls that make no request.
     NeedNone,
+    // Pairs that a full set has.
+    ExtendByPresent,
 }
 
 // A call, and how many requests it makes at least. A new set makes key slots, a table and value
@@ -41,7 +43,7 @@ const TRIES: &[(Try, u64)] = &[
     ),
     (
         Try::Insert(Start {
-            pairs: &[(1, 1), (1, 2), (1, 3), (1, 4)],
+            pairs: FULL,
             keys: &[1],
             new: (1, 5),
         }),
@@ -62,6 +64,9 @@ const TRIES: &[(Try, u64)] = &[
 // Pairs of which one comes twice, the set of them, and how many are left behind the one that comes
 // next to so many of the set.
 const PAIRS: &[(u32, u32)] = &[(1, 1), (2, 2), (1, 1), (3, 3)];
+
+// Pairs that fill the first value slots.
+const FULL: &[(u32, u32)] = &[(1, 1), (1, 2), (1, 3), (1, 4)];
 
 const FIRST: &[(u32, u32)] = &[(1, 1), (2, 2), (3, 3)];
 
@@ -124,15 +129,18 @@ fn has_those_before<A: Allocator + Copy>(set: &Refusing<A>, count: usize) -> boo
 }
 
 // The pair that was refused, if one was, and how many are left in the iterator.
-fn extended<A: Allocator + Copy>(set: &mut Refusing<A>) -> (Result<(), (u32, u32)>, usize) {
-    let mut pairs = PAIRS.iter().copied();
+fn extended<A: Allocator + Copy>(
+    set: &mut Refusing<A>,
+    pairs: &[(u32, u32)],
+) -> (Result<(), (u32, u32)>, usize) {
+    let mut pairs = pairs.iter().copied();
     let given = set.extend(&mut pairs).map_err(refused_pair);
     (given, pairs.len())
 }
 
 // Inserts all pairs. The refused one is the one behind those that the set has then.
 fn extend<A: Allocator + Copy>(test: &Test, set: &mut Refusing<A>) -> bool {
-    let (given, left) = extended(set);
+    let (given, left) = extended(set, PAIRS);
     let count = set.values_len();
     test.expect(has_those_before(set, count) && LEFT.get(count).copied() == Some(left));
     match given {
@@ -145,6 +153,15 @@ fn extend<A: Allocator + Copy>(test: &Test, set: &mut Refusing<A>) -> bool {
             false
         }
     }
+}
+
+// Inserts pairs that a full set has. There is no room for one that it doesn't have.
+fn extend_by_present<A: Allocator + Copy>(test: &Test, set: &mut Refusing<A>) -> bool {
+    test.expect(set.values_len() == set.values_capacity());
+    let given = extended(set, &[(1, 2), (1, 4)]);
+    test.expect(given == (Ok(()), 0));
+    test.expect(has_lists(set, FULL, &[1]));
+    true
 }
 
 // Clones the set of the pairs, which stays.
@@ -175,6 +192,7 @@ fn ends_leave<A: Allocator + Copy>(test: &Test, set: &mut Refusing<A>) {
 fn pairs_before(call: Try) -> &'static [(u32, u32)] {
     match call {
         Try::Insert(start) => start.pairs,
+        Try::ExtendByPresent => FULL,
         Try::Extend => &[],
         Try::Clone | Try::NeedNone => FIRST,
     }
@@ -187,6 +205,7 @@ fn tries<A: Allocator + Copy>(test: &Test, set: &mut Refusing<A>, call: Try) -> 
         Try::Extend => extend(test, set),
         Try::Clone => clone_of(test, set),
         Try::NeedNone => need_none(test, set),
+        Try::ExtendByPresent => extend_by_present(test, set),
     }
 }
 
@@ -263,5 +282,6 @@ fn a_refused_request_changes_nothing(rt: HostRuntime) -> Result<(), Failed> {
 fn what_needs_no_memory_is_not_refused(rt: HostRuntime) -> Result<(), Failed> {
     let test = Test::new(rt.alloc());
     test.expect(tries_with(&test, 0, Try::NeedNone));
+    test.expect(tries_with(&test, 0, Try::ExtendByPresent));
     test.end()
 }

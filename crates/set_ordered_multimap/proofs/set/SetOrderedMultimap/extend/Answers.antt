@@ -1,4 +1,4 @@
-use Rattle.std.proofs.Common.{List, [], ◌∷◌, ◌++◌, ◌+◌, length, length-append, refl, ap, sym, ◌∙◌, subst}
+use Rattle.std.proofs.Common.{List, [], ◌∷◌, ◌++◌, ◌+◌, length, length-append, true≢false, refl, ap, sym, ◌∙◌, subst}
 use Rattle.std.specs.Iterator.{Yields}
 use Rattle.std.proofs.iter.Next.{Yields-more}
 use Rattle.ordered_multimap.specs.Extends.{HasRoomForGiven}
@@ -6,7 +6,7 @@ use Rattle.ordered_multimap.specs.Rooms.{HasRoomForPairs}
 use Rattle.set_ordered_multimap.proofs.Callers.FirstPairs.{all_inserted-push}
 use Rattle.set_ordered_multimap.proofs.Callers.Sets.{IsSet-all_inserted}
 use Rattle.ordered_multimap.proofs.Callers.Growth.{grows_for_none, grows_for_one, has_pair_room}
-use Rattle.set_ordered_multimap.proofs.Insertions.{grows-inserted, room_left}
+use Rattle.set_ordered_multimap.proofs.Insertions.{grows-inserted, no_room_to_insert, room_left}
 use Rattle.set_ordered_multimap.specs.Set.{IsSet, set_inserted}
 use Rattle.set_ordered_multimap.proofs.set.SetOrderedMultimap.extend.Given.{Over}
 use Rattle.set_ordered_multimap.proofs.set.SetOrderedMultimap.extend.Goals.{In-Some}
@@ -55,6 +55,11 @@ returns-in-Err-clause-inserts g c =
             (given g at),
       ),
     )
+
+pub returns-in-Err-clause-full : goal.returns-in-Err-clause-full
+returns-in-Err-clause-full g c =
+    let e = c.in-Err.ensures in
+    no_room_to_insert g.K.PartialEq.eq g.V.PartialEq.eq c.in-Some.key c.in-Some.value e.refused (λ room. true≢false (sym (e.succeeds room)))
 
 pub returns-in-Err-clause-set : goal.returns-in-Err-clause-set
 returns-in-Err-clause-set g c = λ set. c.in-Err.ensures.set (set_so_far g (goal.at.returns-in-Err-clause-set g c).In-Some set)
