@@ -47,8 +47,8 @@ module _ {K V S : Type 0} where
     pub grows : GrowsForValue old new
     pub taken : TakesOut 0 old.tape new.tape
 
-  -- a value of a present key was refused and handed back, for want of room that the map still lacks;
-  -- both lists stay, and no value was taken out
+  -- a value of a present key was refused and handed back, for want of room that the map still
+  -- lacks; both lists stay, and no value was taken out
   pub record RefusesValue (value : V) (old new : Multimap K V S) (r : RefusedValue V) : Type 0 where
     pub returned : r.value ≡ value
     pub lists : new.lists ≡ old.lists

@@ -24,7 +24,8 @@ use Rattle.ordered_multimap.specs.Multimap.{Multimap, multimap_code}
 use Rattle.ordered_multimap.specs.ValuesLent.{EndsMap, map_row, pairs_ended, with_values_of}
 use Rattle.ordered_multimap.specs.WalkLends.{EndsStepped, lends_key_values, walk_row}
 use Rattle.ordered_multimap.specs.declared.list_ordered_multimap.entry.OccupiedEntry.{OccupiedEntry}
-use Rattle.ordered_multimap.specs.declared.list_ordered_multimap.key_values_mut.KeyValuesMut.{KeyValuesMut}
+use Rattle.ordered_multimap.specs.declared.list_ordered_multimap.key_values_mut as walks
+use walks.KeyValuesMut.{KeyValuesMut}
 
 -- the map whose slots of values ended with these items: its pairs are its own, each with the item
 -- of its place, under the same keys and in the same order

@@ -10,6 +10,17 @@ use Rattle.ordered_multimap.specs.Rooms.{DoublesRooms, HasRoomForPairs, KeepsRoo
 use Rattle.ordered_multimap.specs.TapeNumbers.{AreUnused, TakesOut}
 use Rattle.ordered_multimap.specs.declared.list_ordered_multimap.refused.Refused.{Refused}
 
+module _ {K V T : Type 0} (steps : T → Option (K × V) → T → Type 0) where
+  -- the iterator was read so far: it gave these pairs, and last of all the refused one
+  abbrev pub StopsAt : T → List (K × V) → Refused K V → Type 0
+  StopsAt it pairs refused =
+      (t : T) × Yields steps it (pairs ++ (refused.key, refused.value) ∷ []) t
+
+  -- the refused pair is the last that was read of what an iterator became
+  abbrev pub IsLastRead : {I : Type 0} → (I → T → Type 0) → I → Refused K V → Type 0
+  IsLastRead becomes iter refused =
+      (it : T) × (pairs : List (K × V)) × becomes iter it × StopsAt it pairs refused
+
 module _ {K V : Type 0} (eq : K → K → Bool) {I T : Type 0} (becomes : I → T → Type 0)
     (steps : T → Option (K × V) → T → Type 0) where
   -- each of these pairs was appended in turn: all of the iterator's, or those before the refused
@@ -17,20 +28,12 @@ module _ {K V : Type 0} (eq : K → K → Bool) {I T : Type 0} (becomes : I → 
   abbrev pub Extends : I → Lists K V → Lists K V → Result (Unit {0}) (Refused K V) → Type 0
   Extends iter old new r = (it : T) × (pairs : List (K × V)) × becomes iter it
       × (new ≡ all_appended eq old pairs)
-      × MatchResult r (λ _. Drains steps it pairs)
-      (λ refused. (t : T) × Yields steps it (pairs ++ (refused.key, refused.value) ∷ []) t)
+      × MatchResult r (λ _. Drains steps it pairs) (StopsAt steps it pairs)
 
   -- the items are the pairs that were appended to empty lists
   abbrev pub IsBuilt : I → Lists K V → Type 0
   IsBuilt iter new = (it : T) × (pairs : List (K × V)) × becomes iter it
       × (new ≡ built_from eq pairs) × Drains steps it pairs
-
-module _ {K V I T : Type 0} (becomes : I → T → Type 0) (steps : T → Option (K × V) → T → Type 0)
-  where
-    -- the pair came from the iterator
-    abbrev pub IsItem : I → Refused K V → Type 0
-    IsItem iter refused = (it : T) × (pairs : List (K × V)) × (t : T) × becomes iter it
-        × Yields steps it (pairs ++ (refused.key, refused.value) ∷ []) t
 
 -- the pair that two references lend
 abbrev pub lent_pair : {K V : Type 0} → Bor K × Bor V → K × V

@@ -1,9 +1,9 @@
 -- What a call makes of a set that inserts the pairs of an iterator.
-use Rattle.std.specs.Prelude.{◌≡◌, Bool, false, List, [], ◌∷◌, ◌++◌, Option}
+use Rattle.std.specs.Prelude.{◌≡◌, Bool, false, List, Option}
 use Rattle.std.specs.Prelude.{Result, IsOk, MatchResult}
-use Rattle.std.specs.Iterator.{Count, Drains, IsFinite, Yields}
+use Rattle.std.specs.Iterator.{Count, Drains, IsFinite}
 use Rattle.ordered_multimap.specs.Changes.{built_from}
-use Rattle.ordered_multimap.specs.Extends.{GrowsForPairs, HasRoomForGiven}
+use Rattle.ordered_multimap.specs.Extends.{GrowsForPairs, HasRoomForGiven, StopsAt}
 use Rattle.ordered_multimap.specs.Lists.{Lists}
 use Rattle.ordered_multimap.specs.Multimap.{Multimap}
 use Rattle.ordered_multimap.specs.Rooms.{HasPairRoom}
@@ -23,8 +23,7 @@ module _ {K V : Type 0} (eq : K → K → Bool) (value_eq : V → V → Bool) {I
   abbrev pub InsertsAll : I → Lists K V → Lists K V → Result (Unit {0}) (Refused K V) → Type 0
   InsertsAll iter old new r = (it : T) × (pairs : List (K × V)) × becomes iter it
       × (new ≡ all_inserted eq value_eq old pairs)
-      × MatchResult r (λ _. Drains steps it pairs)
-      (λ refused. (t : T) × Yields steps it (pairs ++ (refused.key, refused.value) ∷ []) t)
+      × MatchResult r (λ _. Drains steps it pairs) (StopsAt steps it pairs)
 
   -- the iterator's pairs were appended to empty lists, of equal ones the first alone
   abbrev pub IsSetOf : I → Lists K V → Type 0

@@ -1,5 +1,5 @@
 -- How the rooms of a map grow for pairs that come one after another.
-use Rattle.std.proofs.Common.{◌≡◌, ◌≤◌, ◌*◌, ℕ, Bool, refl, arith, ◌∙◌, inl, inr}
+use Rattle.std.proofs.Common.{◌≤◌, ◌*◌, ℕ, Bool, refl, arith, ◌∙◌, inl, inr}
 use Rattle.std.proofs.lemmas.Bool.{cases_lt}
 use Rattle.multimap_slots.specs.Slots.{DoublesIfGrown}
 use Rattle.ordered_multimap.specs.Extends.{GrowsForPairs}

@@ -180,10 +180,8 @@ module _ {V : Type 0} {values : Slots V ValueLink} (ends : ChainEnds) (some : �
               → IsIn p (drained_places values_after behind_ends) ⊎ (item_at values_after p ≡ None)
           by (inl same) = inr (ap (item_at values_after) same ∙ takes.freed)
           by (inr behind_it) = inl (subst (IsIn p) (sym after_places) behind_it)
-      first_dropped p (inr gone) =
-          let apart : p ≢ ends.first =
-          λ same. true≢false (sym (subst IsSome (sym takes.had ∙ ap (item_at values) (sym same) ∙ gone) refl)) in
-          inr (takes.others.items p apart ∙ gone)
+      first_dropped p (inr gone) = inr (takes.others.items p (λ same.
+          true≢false (sym (subst IsSome (sym takes.had ∙ ap (item_at values) (sym same) ∙ gone) refl))) ∙ gone)
 
       pub first_rest : IsDrained values_after (record { first = behind; last = ends.last; length = n })
       unfolding behind_ends

@@ -92,7 +92,8 @@ pub record HasCountedChains {K V : Type 0} (keys : Slots K KeyLink) (table : Tab
   pub counted : len table.rows ≡ length keys.order
   pub chains : AreChained keys values
 
--- room for one more key and its first value was asked for, and is there exactly if it was not refused
+-- room for one more key and its first value was asked for, and is there exactly if it was not
+-- refused
 pub record MakesPairRoom {K V X E : Type 0} (keys keys_after : Slots K KeyLink)
     (table table_after : Table) (values values_after : Taped V ValueLink) (r : Result X E) : Type 0
   where

@@ -1,7 +1,7 @@
 //! Many pairs that come last.
 ghost use Rattle.std.specs.Prelude.{◌≡◌, IfOk, IfErr};
 ghost use Rattle.std.specs.Iterator.{IsFinite};
-ghost use Rattle.ordered_multimap.specs.Extends.{Extends, ExtendsCopied, IsBuilt, IsItem};
+ghost use Rattle.ordered_multimap.specs.Extends.{Extends, ExtendsCopied, IsBuilt, IsLastRead};
 ghost use Rattle.ordered_multimap.specs.Extends.{GrowsForAll};
 ghost use Rattle.ordered_multimap.specs.Rooms.{HasPairRoom};
 ghost use Rattle.ordered_multimap.specs.TapeNumbers.{AreUnused};
@@ -16,8 +16,8 @@ impl<K: Eq + Hash + Drop, V: Drop, S: BuildHasher, A: Allocator + Copy> ListOrde
     S,
     A,
 > {
-    /// Appends each pair in turn. `iter` has to end. If there is room for a key and a value for
-    /// each pair, it succeeds.
+    /// Appends each pair in turn. `iter` has to end. It refuses no pair that `append` would take, so
+    /// it succeeds if there is room for a key and a value for each pair.
     ///
     /// It first asks for room for as many values as the iterator says that it has at least, and
     /// goes on if this is refused. If memory is refused for a pair, it hands that pair back, and
@@ -83,8 +83,8 @@ impl<K: Eq + Hash + Drop, V: Drop, S: BuildHasher, A: Allocator + Copy> ListOrde
     }
 
     /// A map with this hash builder, of the pairs in turn, as `extend` appends them. `alloc` gives
-    /// its memory. Where memory is refused for a pair, it hands that pair back, and there is no
-    /// map. `iter` has to end.
+    /// its memory. Where memory is refused for a pair, it reads no more of `iter` and hands that pair
+    /// back; the pairs before it are dropped, and there is no map. `iter` has to end.
     ///
     /// ```
     /// ListOrderedMultimap::from_iter(alloc, DefaultState::new(), pairs)?
@@ -100,7 +100,8 @@ impl<K: Eq + Hash + Drop, V: Drop, S: BuildHasher, A: Allocator + Copy> ListOrde
             → I.IntoIter.can_next it × IsFinite (I.IntoIter.remaining it) }
         ensures built { IfOk result (λ m.
             IsBuilt K.eq I.into_iter_gives I.IntoIter.next_gives iter m.lists) }
-        ensures refused { IfErr result (IsItem I.into_iter_gives I.IntoIter.next_gives iter) }
+        ensures refused { IfErr result
+            (IsLastRead I.IntoIter.next_gives I.into_iter_gives iter) }
         ensures hasher { IfOk result (λ m. m.hasher ≡ state) }
         ensures unused { IfOk result (λ m. AreUnused m.tape) }
     {

@@ -23,6 +23,11 @@ impl<K: Eq + Hash, V, S: BuildHasher, A: Allocator> ListOrderedMultimap<K, V, S,
     /// order and number of pairs stay; a value that isn't handed out stays too. Each step takes the
     /// slot of a value and reads the slot of its key.
     ///
+    /// A walk for writing has a `Drop`. So a walk in a variable borrows the map to the end of its
+    /// block, or up to `drop(walk)`, also behind its last use. One that the condition of an `if let`
+    /// makes does so to the end of the statement; a `let` before the `if let` ends it sooner. A
+    /// `for` loop over the call, and `get_mut`, need none of this.
+    ///
     /// ```
     /// if let Some((_, value)) = map.iter_mut().next_back() {
     ///     *value = 7;
@@ -40,7 +45,7 @@ impl<K: Eq + Hash, V, S: BuildHasher, A: Allocator> ListOrderedMultimap<K, V, S,
     }
 
     /// A walk over the values of all pairs, in order, each for writing. What stays is what stays of
-    /// `iter_mut`. Each step takes the slot of its value.
+    /// `iter_mut`, and so is what ends the borrow. Each step takes the slot of its value.
     ///
     /// ```
     /// for value in map.values_mut() {
@@ -59,8 +64,8 @@ impl<K: Eq + Hash, V, S: BuildHasher, A: Allocator> ListOrderedMultimap<K, V, S,
     }
 
     /// A walk over the key's values, in order, each for writing, which is empty for an absent key.
-    /// What stays is what stays of `iter_mut`. One look-up and the slot of the key; then each step
-    /// takes the slot of its value, and no other.
+    /// What stays is what stays of `iter_mut`, and so is what ends the borrow. One look-up and the
+    /// slot of the key; then each step takes the slot of its value, and no other.
     ///
     /// ```
     /// for value in map.get_all_mut("line") {

@@ -1,7 +1,7 @@
 //! Pairs that come last, where no equal one is there.
 ghost use Rattle.std.specs.Prelude.{◌≡◌, not, true, false, IfErr, IfOk, IsOk, OnOk};
 ghost use Rattle.ordered_multimap.specs.Additions.{Appends, IsRefused};
-ghost use Rattle.ordered_multimap.specs.Extends.{IsItem};
+ghost use Rattle.ordered_multimap.specs.Extends.{IsLastRead};
 ghost use Rattle.ordered_multimap.specs.TapeNumbers.{AreUnused};
 ghost use Rattle.set_ordered_multimap.specs.Insertions.{ComesToAnEnd, GrowsForInserted, InsertsAll};
 ghost use Rattle.set_ordered_multimap.specs.Insertions.{HasRoomToInsert, IsSetOf};
@@ -54,8 +54,8 @@ impl<K: Eq + Hash + Drop, V: Eq + Drop, S: BuildHasher, A: Allocator + Copy> Set
         }
     }
 
-    /// Inserts each pair in turn. `iter` has to end. If there is room for a key and a value for
-    /// each pair, it succeeds, and no room grows.
+    /// Inserts each pair in turn. `iter` has to end. It refuses no pair that `insert` would take. If
+    /// there is room for a key and a value for each pair, it succeeds, and no room grows.
     ///
     /// Where memory is refused for a pair, it hands that pair back; those before it stay. A caller
     /// who hands in `&mut iter` keeps those behind it. It costs what `insert` costs for each pair.
@@ -83,7 +83,8 @@ impl<K: Eq + Hash + Drop, V: Eq + Drop, S: BuildHasher, A: Allocator + Copy> Set
 
     /// A set with this hash builder, of the pairs in turn, as `extend` inserts them: each stands
     /// once, at its first occurrence. `alloc` gives its memory. Where memory is refused for a pair,
-    /// it hands that pair back, and there is no set. `iter` has to end.
+    /// it reads no more of `iter` and hands that pair back; the pairs before it are dropped, and
+    /// there is no set. `iter` has to end.
     ///
     /// ```
     /// SetOrderedMultimap::from_iter(alloc, DefaultState::new(), pairs)?
@@ -99,7 +100,8 @@ impl<K: Eq + Hash + Drop, V: Eq + Drop, S: BuildHasher, A: Allocator + Copy> Set
         ensures built { IfOk result (λ s.
             IsSetOf K.eq V.eq I.into_iter_gives I.IntoIter.next_gives iter s.lists) }
         ensures set { IfOk result (λ s. IsSet K.eq V.eq s.lists) }
-        ensures refused { IfErr result (IsItem I.into_iter_gives I.IntoIter.next_gives iter) }
+        ensures refused { IfErr result
+            (IsLastRead I.IntoIter.next_gives I.into_iter_gives iter) }
         ensures hasher { IfOk result (λ s. s.hasher ≡ state) }
         ensures unused { IfOk result (λ s. AreUnused s.tape) }
     {

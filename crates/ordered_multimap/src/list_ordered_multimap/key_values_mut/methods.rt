@@ -26,7 +26,9 @@ impl<K: Eq + Hash, V, S: BuildHasher, A: Allocator> ListOrderedMultimap<K, V, S,
     /// its values for writing. Keys, their order, and the order and number of pairs stay. Each step
     /// reads the slot of its key, and no slot of a value.
     ///
-    /// The walk is no `Iterator`, since each step borrows it. A loop counts the keys:
+    /// The walk is no `Iterator`, since each step borrows it: up to the end of the walk over the
+    /// key's values, which borrows as one of [`iter_mut`](Self::iter_mut) does. A loop counts the
+    /// keys:
     ///
     /// ```
     /// let mut keys = map.pairs_mut();
