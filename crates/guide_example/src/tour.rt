@@ -54,6 +54,16 @@ fn clear_values(map: &mut Words) {
     }
 }
 
+/// Writes a key's first value, and returns how many it has.
+fn write_first(map: &mut Words, key: &'static str) -> usize {
+    let first = map.get_all_mut(key).next();
+    if let Some(first) = first {
+        *first = 9;
+        return map.entry_len(key);
+    }
+    0
+}
+
 /// Keeps the pairs with a value above 1.
 fn keep_large(map: &mut Words) {
     map.retain(|_key, value| *value > 1);
@@ -96,5 +106,6 @@ fn print_changes(rt: &impl Print, map: &mut Words) -> io::Result<()> {
     print_groups(rt, map)?;
     clear_values(map);
     print_groups(rt, map)?;
+    println!(rt; "written: {}", write_first(map, "line"))?;
     println!(rt; "total: {}", total(map, "line"))
 }
