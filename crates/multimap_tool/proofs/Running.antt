@@ -1,5 +1,6 @@
 pub mod Groups
 pub mod OrInserted
+pub mod Reserved
 pub mod Rooms
 pub mod Runs
 pub mod Walked

@@ -4,6 +4,7 @@ pub mod Faults
 pub mod Json
 pub mod JsonLists
 pub mod Laws
+pub mod MapRuns
 pub mod Private
 pub mod RunRooms
 pub mod Runs

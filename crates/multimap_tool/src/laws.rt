@@ -1,12 +1,15 @@
 //! Laws of steps and runs, for all commands, and of maps as JSON values. The functions do nothing:
 //! what they ensure is the law.
-ghost use Rattle.std.specs.Prelude.{◌≡◌, ℕ, List};
+ghost use Rattle.std.specs.Prelude.{◌≡◌, ◌+◌, ℕ, List, Some, Contains, take, slice_get};
 ghost use Rattle.ordered_multimap.specs.Lists.{Lists, IsWellFormed};
 ghost use Rattle.ordered_multimap.specs.Changes.{first_occurrences};
 ghost use Rattle.multimap_tool.specs.declared.commands.Command.{Command};
 ghost use Rattle.multimap_tool.specs.declared.replies.Reply.{Reply};
 ghost use Rattle.multimap_tool.specs.Step.{IsStep, MayKeep};
+ghost use Rattle.ordered_multimap.specs.Multimap.{Multimap};
 ghost use Rattle.multimap_tool.specs.Runs.{IsRun};
+ghost use Rattle.multimap_tool.specs.MapRuns.{IsMapRun};
+ghost use Rattle.multimap_tool.specs.RunRooms.{HasRoomsFor, KeepsRoom};
 ghost use Rattle.multimap_tool.specs.Laws.{IsOrderly};
 ghost use Rattle.multimap_tool.specs.Json.{DifferAsJson, IsReadFrom, pairs_json};
 ghost use Rattle.multimap_tool.specs.JsonLists.{IsRead, lists_json};
@@ -27,6 +30,17 @@ pub fn run_is_well_formed<K: Eq, V, A: Allocator, F: Fn(V, &K, &mut V) -> bool>(
     ensures { (cs : List (Command K V A))
         (m : Lists K V) (rs : List (Reply K V A)) (n : Lists K V) →
         IsWellFormed K.eq m → IsRun (MayKeep F.Fn _keep.now) K.eq cs m rs n → IsWellFormed K.eq n }
+{}
+
+/// In a run, a [`Command::Reserve`] is done where its room is there at the start beside that of a key
+/// and a value for each command before it, and none of these lowers a room.
+pub fn reserves_find_room<K: Eq, V, S: Clone, A: Allocator, F: Fn(V, &K, &mut V) -> bool>(_keep: &F)
+    ensures { (cs : List (Command K V A)) (m : Multimap K V S)
+        (rs : List (Reply K V A)) (n : Multimap K V S) (i a b : ℕ) →
+        IsMapRun (MayKeep F.Fn _keep.now) K.eq S.is_clone cs m rs n
+        → slice_get cs i ≡ Some (Command.Reserve a b)
+        → ((c : Command K V A) → Contains (take i cs) c → KeepsRoom c)
+        → HasRoomsFor m (i + a) (i + b) → slice_get rs i ≡ Some Reply.Done }
 {}
 
 /// What is read of the JSON value of a map has its pairs, and its keys in the order in which they

@@ -6,7 +6,8 @@ ghost use Rattle.multimap_tool.specs.Step.{MayKeep, Rereads};
 ghost use Rattle.multimap_tool.specs.Json.{DifferAsJson};
 ghost use Rattle.multimap_tool.specs.Runs.{ClonesAreSame, IsRun};
 ghost use Rattle.multimap_tool.specs.RunRooms.{HasRunRoom, FindsRoom};
-ghost use Rattle.multimap_tool.specs.Private.MapSteps.{CanStep, IsMapStep, IsOwnMapStep, IsStepInPlace};
+ghost use Rattle.multimap_tool.specs.MapRuns.{IsMapRun, IsMapStep};
+ghost use Rattle.multimap_tool.specs.Private.MapSteps.{CanStep, IsOwnMapStep, IsStepInPlace};
 
 mod ask;
 mod change;
@@ -33,12 +34,14 @@ use std::hash::{BuildHasher, Hash};
 /// write, and has to be callable with the value of each of these commands and any key and value.
 /// The room for all replies is taken at the start: where it is refused, nothing was done. A command
 /// that finds no memory for itself gets [`Reply::NoMemory`] and changes neither keys nor pairs.
-/// That no append, insert or or-insert is, where the map has room at the start for as many more
-/// keys and as many more values as there are commands, and none is a [`Command::PackToFit`],
-/// [`Command::Swap`], [`Command::Json`] or [`Command::Json2`]. Clones of keys and values must be
-/// the same keys and values; where one of the last two is among the commands, different keys must
-/// have different JSON values, and different values too. Each command costs what the map's call of
-/// its name does.
+/// No append, insert or or-insert gets it where the map has room at the start for as many more keys
+/// and as many more values as there are commands, and none is a [`Command::PackToFit`],
+/// [`Command::Swap`], [`Command::Json`] or [`Command::Json2`]; nor does one get it where the map has
+/// room for a key and a value once the run comes to it. A [`Command::Reserve`] is done where its room
+/// is there once the run comes to it, and where it is done its room is there then. Clones of keys
+/// and values must be the same keys and values; where a [`Command::Json`] or [`Command::Json2`] is
+/// among the commands, different keys must have different JSON values, and different values too.
+/// Each command costs what the map's call of its name does.
 pub fn run<
     K: JsonPart + Eq + Hash + Copy,
     V: JsonPart + Copy,
@@ -59,6 +62,8 @@ pub fn run<
         → DifferAsJson K.json V.json }
     ensures ok { IfOk result (λ replies. IsRun (MayKeep F.Fn keep) K.eq
         commands.now map.old.lists replies.items map.new.lists) }
+    ensures steps { IfOk result (λ replies. IsMapRun (MayKeep F.Fn keep) K.eq S.is_clone
+        commands.now map.old replies.items map.new) }
     ensures hasher { ((s c : S) → S.is_clone s c → c ≡ s) → map.new.hasher ≡ map.old.hasher }
     ensures room { HasRunRoom commands.now map.old
         → IfOk result (λ replies. FindsRoom commands.now replies.items) }
@@ -91,6 +96,8 @@ fn run_all<
     requires capacity { length commands.now ≤ vec_capacity replies.old }
     ensures ok { IsRun (F.answers keep.now) K.eq
         commands.now map.old.lists replies.new.items map.new.lists }
+    ensures steps { IsMapRun (F.answers keep.now) K.eq S.is_clone
+        commands.now map.old replies.new.items map.new }
     ensures hasher { ((s c : S) → S.is_clone s c → c ≡ s) → map.new.hasher ≡ map.old.hasher }
     ensures room { HasRunRoom commands.now map.old → FindsRoom commands.now replies.new.items }
 {

@@ -9,7 +9,7 @@ use Rattle.multimap_tool.specs.declared.commands.Command.TheVariants.{Remove, Re
 use Rattle.multimap_tool.specs.declared.commands.Command.TheVariants.{PopBack, Retain, Clear, Reserve, PackToFit, Swap, Json, Json2}
 use Rattle.multimap_tool.specs.declared.replies.Reply.{Reply}
 use Rattle.multimap_tool.specs.declared.replies.Reply.TheVariants.{NoMemory}
-use Rattle.multimap_tool.specs.Private.MapSteps.{FindsItsRoom, MakesUnused}
+use Rattle.multimap_tool.specs.MapRuns.{FindsItsRoom, MakesItsRoom, MakesUnused}
 use Rattle.multimap_tool.specs.Step.{IsLookUp}
 use Rattle.multimap_tool.specs.RunRooms.{IsAddition}
 use Rattle.multimap_tool.specs.Private.Groups.{IsInPlace, WritesOrRemoves, RemovesOrLooksUp}
@@ -78,3 +78,9 @@ module _ {K V A S : Type 0} (eq : K → K → Bool) (m : Multimap K V S) (reply 
   look_up_finds (OrInsert k v) is = absurd is
   look_up_finds (Reserve a b) is = absurd is
   look_up_finds command is = tt
+
+-- and makes none
+module _ {K V A S : Type 0} (n : Multimap K V S) (reply : Reply K V A) where
+  pub look_up_makes : (command : Command K V A) → IsLookUp command → MakesItsRoom command n reply
+  look_up_makes (Reserve a b) is = absurd is
+  look_up_makes command is = tt

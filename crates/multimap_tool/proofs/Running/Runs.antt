@@ -28,7 +28,9 @@ use Rattle.multimap_tool.specs.declared.commands.Command.TheVariants.{RemoveEntr
 use Rattle.multimap_tool.specs.declared.commands.Command.TheVariants.{PackToFit, Swap, Json, Json2, Pairs, Keys, Values, KeyLists, Lengths}
 use Rattle.multimap_tool.specs.declared.replies.Reply.{Reply}
 use Rattle.multimap_tool.specs.Step.{Leaves, IsOwnStep, IsStep, KeepsPairs, entered}
+use Rattle.multimap_tool.specs.MapRuns.{IsMapRun, IsMapStep}
 use Rattle.multimap_tool.specs.Runs.{IsRun}
+use Rattle.ordered_multimap.specs.Multimap.{Multimap}
 use Rattle.multimap_tool.specs.Laws.{IsOrderly}
 
 module _ {K V A : Type 0} (keeps : V → K → V → Bool → V → Type 0) (eq : K → K → Bool) where
@@ -42,6 +44,19 @@ module _ {K V A : Type 0} (keeps : V → K → V → Bool → V → Type 0) (eq 
       (run.0, run.1, IsRun-push commands run.0 replies n command reply last run.2 step)
   IsRun-push [] m (told ∷ replies) n command reply last run step = absurd run
   IsRun-push (first ∷ commands) m [] n command reply last run step = absurd run
+
+module _ {K V A S : Type 0} (keeps : V → K → V → Bool → V → Type 0) (eq : K → K → Bool) (state_clone : S → S → Type 0) where
+  -- the same on the whole map
+  pub IsMapRun-push : (commands : List (Command K V A)) (m : Multimap K V S) (replies : List (Reply K V A)) (n : Multimap K V S)
+      (command : Command K V A) (reply : Reply K V A) (last : Multimap K V S) → IsMapRun keeps eq state_clone commands m replies n
+      → IsMapStep keeps eq state_clone command n last reply
+      → IsMapRun keeps eq state_clone (commands ++ command ∷ []) m (replies ++ reply ∷ []) last
+  IsMapRun-push [] m [] n command reply last run step =
+      (last, subst (λ l. IsMapStep keeps eq state_clone command l last reply) run step, refl)
+  IsMapRun-push (first ∷ commands) m (told ∷ replies) n command reply last run step =
+      (run.0, run.1, IsMapRun-push commands run.0 replies n command reply last run.2 step)
+  IsMapRun-push [] m (told ∷ replies) n command reply last run step = absurd run
+  IsMapRun-push (first ∷ commands) m [] n command reply last run step = absurd run
 
 module _ {K V : Type 0} {eq : K → K → Bool} (laws : IsEquivalence eq) where
   -- lists built of pairs are well formed

@@ -16,4 +16,5 @@ returns g c =
       );
       rooms = search rules;
       finds_room = tt;
+      makes_room = tt;
     }

@@ -18,5 +18,6 @@ returns-in_default g c =
       hasher = λ same. made.ensures.rooms.hasher;
       rooms = λ keeps. made.ensures.rooms;
       finds_room = made.ensures.finds_room;
+      makes_room = made.ensures.makes_room;
       unused = λ makes done. absurd (makes_no_unused command in_place makes);
     }

@@ -7,5 +7,6 @@ returns-in-Ok g c = record {
   hasher = λ same. same _ _ c.in-Ok.ensures.hasher;
   rooms = λ never. absurd never;
   finds_room = tt;
+  makes_room = tt;
   unused = λ makes done. c.in-Ok.ensures.unused;
 }

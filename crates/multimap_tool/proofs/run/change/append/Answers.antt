@@ -6,4 +6,5 @@ returns-in-Ok g c = record {
   step = inl (c.in-Ok.ensures.present, c.in-Ok.ensures.appends.ok.lists);
   rooms = search rules;
   finds_room = search rules;
+  makes_room = tt;
 }

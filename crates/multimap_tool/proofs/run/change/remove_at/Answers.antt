@@ -17,6 +17,7 @@ returns-in-Vacant g c = record {
   step = absent_step g.K.PartialEq.eq c.args.key c.args.index c.args.map.now.lists _ (search rules) (sym c.in-Vacant.ensures.occupied);
   rooms = search rules;
   finds_room = tt;
+  makes_room = tt;
 }
 
 pub returns-in-Occupied : goal.returns-in-Occupied

@@ -1,5 +1,5 @@
 use Rattle.std.proofs.Common.{rules}
-use Rattle.multimap_tool.proofs.Running.Groups.{IsLookUp-else, look_up_finds}
+use Rattle.multimap_tool.proofs.Running.Groups.{IsLookUp-else, look_up_finds, look_up_makes}
 use Rattle.multimap_tool.proofs.run.change.remove_or_look_up.Goals as goal
 
 pub look_up-requires : goal.look_up-requires
@@ -16,4 +16,5 @@ returns-in_default g c =
       step = c.look_up.ensures;
       rooms = search rules;
       finds_room = look_up_finds g.K.PartialEq.eq c.args.map.now c.look_up.result command looks_up;
+      makes_room = look_up_makes c.args.map.now c.look_up.result command looks_up;
     }

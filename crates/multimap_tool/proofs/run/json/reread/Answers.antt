@@ -18,5 +18,6 @@ returns-in-Ok-from_value g c =
       hasher = λ same. c.in-Ok-from_value.ensures.hasher ∙ same _ _ c.in-Ok-clone.ensures.cases ∙ c.hasher.ensures;
       rooms = λ never. absurd never;
       finds_room = tt;
+      makes_room = tt;
       unused = λ never. absurd never;
     }

@@ -10,4 +10,5 @@ returns-in-Ok g c =
           ((c.in-Ok.ensures {u = tt}).value c.args.key e.key) (f.holds w (ap is_ok c.in-Ok.is)) (search (rules));
       rooms = search rules;
       finds_room = search rules;
+      makes_room = tt;
     }

@@ -16,6 +16,7 @@ returns-in-Some g c =
       step = inl (ap Some c.replace.ensures.value ∙ value, written.lists ∙ ap (first_written eq m.lists k) c.replace.ensures.after);
       rooms = search (rules);
       finds_room = tt;
+      makes_room = tt;
     }
 
 pub returns-in-None : goal.returns-in-None
@@ -29,4 +30,5 @@ returns-in-None g c =
       );
       rooms = search rules;
       finds_room = tt;
+      makes_room = tt;
     }
