@@ -1,3 +1,4 @@
 pub mod BothLists
+pub mod EqualParts
 pub mod Faults
 pub mod Shapes

@@ -1,6 +1,7 @@
 -- JSON values of keys, values and maps: which are read, as what, and what is wrong with the others.
 use Rattle.std.specs.Prelude.{◌≡◌, ℕ, suc, ◌^◌, ◌&&◌, ◌==◌, neg_ℤ, pos, Bool, true, false, cond}
 use Rattle.std.specs.Prelude.{List, map, length, nat_lt, int_lt, int_le, Option, Some, None}
+use Rattle.std.specs.Cmp.Lexicographic.{pointwise}
 use Rattle.std.specs.Option.{option_or}
 use Rattle.std.specs.Str.{chars}
 use Rattle.serde_json.specs.Data.{Data, number, unsigned, negative, boolean, string, array}
@@ -8,6 +9,7 @@ use Rattle.serde_json.specs.Data.{Items, no_items, item}
 use Rattle.serde_json.specs.View.{items_of}
 use Rattle.ordered_multimap.specs.Lists.{Lists}
 use Rattle.ordered_multimap.specs.Changes.{appended, built_from}
+use Rattle.ordered_multimap.specs.Pairs.{same_pairs}
 use Rattle.multimap_tool.specs.declared.json.faults.ReadFault.{ReadFault}
 use Rattle.multimap_tool.specs.declared.json.faults.ReadFault.TheVariants.{NotArray, NotPair}
 use Rattle.multimap_tool.specs.declared.json.faults.ReadFault.TheVariants.{BadKey, BadValue}
@@ -57,6 +59,16 @@ module _ {K V : Type 0} (key_json : K → Data) (value_json : V → Data) where
   -- the pair of this JSON value is appended
   abbrev pub AppendsRead : (K → K → Bool) → Data → Lists K V → Lists K V → Type 0
   AppendsRead eq d m n = (pair : K × V) × (d ≡ pair_json pair) × (n ≡ appended eq m pair.0 pair.1)
+
+-- unequal keys, or unequal values, have different JSON values
+abbrev pub UnequalDiffer : {X : Type 0} → (X → Data) → (X → X → Bool) → Type 0
+UnequalDiffer {X} json eq = (x y : X) → json x ≡ json y → eq x y ≡ true
+
+-- as many keys and as many pairs, and at each position equal ones
+pub record AreEqualLists {K V : Type 0} (eq : K → K → Bool) (value_eq : V → V → Bool)
+    (m n : Lists K V) : Type 0 where
+  pub keys : pointwise eq m.keys n.keys ≡ true
+  pub pairs : same_pairs eq value_eq m.pairs n.pairs ≡ true
 
 module _ (is_key is_value : Data → Bool) where
   -- what is wrong with the item at a position: that it is no array of two, else that its first part

@@ -1,7 +1,7 @@
 //! Laws of steps and runs, for all commands, and of maps as JSON values. The functions do nothing:
 //! what they ensure is the law.
 ghost use Rattle.std.specs.Prelude.{◌≡◌, ◌+◌, ℕ, List, Some, Contains, take, slice_get};
-ghost use Rattle.ordered_multimap.specs.Lists.{Lists, IsWellFormed};
+ghost use Rattle.ordered_multimap.specs.Lists.{Lists, IsWellFormed, lists};
 ghost use Rattle.ordered_multimap.specs.Changes.{first_occurrences};
 ghost use Rattle.multimap_tool.specs.declared.commands.Command.{Command};
 ghost use Rattle.multimap_tool.specs.declared.replies.Reply.{Reply};
@@ -12,6 +12,7 @@ ghost use Rattle.multimap_tool.specs.MapRuns.{IsMapRun};
 ghost use Rattle.multimap_tool.specs.RunRooms.{HasRoomsFor, KeepsRoom};
 ghost use Rattle.multimap_tool.specs.Laws.{IsOrderly};
 ghost use Rattle.multimap_tool.specs.Json.{DifferAsJson, IsReadFrom, pairs_json};
+ghost use Rattle.multimap_tool.specs.Json.{UnequalDiffer, AreEqualLists};
 ghost use Rattle.multimap_tool.specs.JsonLists.{IsRead, lists_json};
 
 use crate::json::JsonPart;
@@ -61,8 +62,36 @@ pub fn both_lists_are_read<K: JsonPart + Eq, V: JsonPart>()
         → IsRead K.json V.json K.is_part V.is_part K.eq (lists_json K.json V.json m) n → n ≡ m }
 {}
 
+/// What is read of the JSON value of a map has pairs equal to its own, position by position, and
+/// keys equal to those of the pairs in the order in which they first occur. Unequal keys have to
+/// have different JSON values, and unequal values too, as texts have.
+pub fn equal_pairs_are_read<K: JsonPart + Eq, V: JsonPart + PartialEq>()
+    requires keys { UnequalDiffer K.json K.eq }
+    requires values { UnequalDiffer V.json V.eq }
+    ensures { (m n : Lists K V) → IsWellFormed K.eq m
+        → IsReadFrom K.json V.json K.eq (pairs_json K.json V.json m.pairs) n
+        → AreEqualLists K.eq V.eq (lists (first_occurrences K.eq m.pairs) m.pairs) n }
+{}
+
+/// What is read of the JSON value of both lists of a map are equal lists, position by position.
+/// Unequal keys have to have different JSON values, and unequal values too, as texts have.
+pub fn equal_lists_are_read<K: JsonPart + Eq, V: JsonPart + PartialEq>()
+    requires keys { UnequalDiffer K.json K.eq }
+    requires values { UnequalDiffer V.json V.eq }
+    ensures { (m n : Lists K V) → IsWellFormed K.eq m
+        → IsRead K.json V.json K.is_part V.is_part K.eq (lists_json K.json V.json m) n
+        → AreEqualLists K.eq V.eq m n }
+{}
+
 /// Different characters have different JSON values, as [`crate::run::run`] asks of keys and values.
 /// For numbers and truth values a caller's proof needs no such law.
 pub fn characters_differ_as_json()
     ensures { (c d : ℕ) → ⟦<char as JsonPart>⟧.json c ≡ ⟦<char as JsonPart>⟧.json d → c ≡ d }
+{}
+
+/// Unequal texts have different JSON values, as [`equal_pairs_are_read`] and
+/// [`equal_lists_are_read`] ask of keys and values. To a contract two texts with the same bytes may
+/// be different values.
+pub fn texts_differ_as_json()
+    ensures { UnequalDiffer ⟦<String as JsonPart>⟧.json ⟦<String as PartialEq>⟧.eq }
 {}

@@ -9,3 +9,4 @@ mod memory;
 mod parts;
 mod shown;
 mod streams;
+mod texts;
