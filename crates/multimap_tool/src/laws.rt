@@ -33,8 +33,8 @@ pub fn run_is_well_formed<K: Eq, V, A: Allocator, F: Fn(V, &K, &mut V) -> bool>(
         IsWellFormed K.eq m → IsRun (MayKeep F.Fn _keep.now) K.eq cs m rs n → IsWellFormed K.eq n }
 {}
 
-/// In a run, a [`Command::Reserve`] is done where its room is there at the start beside that of a key
-/// and a value for each command before it, and none of these lowers a room.
+/// In a run, a [`Command::Reserve`] is done where its room is there at the start, beside room for a
+/// key and a value for each command before it, and none of these lowers a room.
 pub fn reserves_find_room<K: Eq, V, S: Clone, A: Allocator, F: Fn(V, &K, &mut V) -> bool>(_keep: &F)
     ensures { (cs : List (Command K V A)) (m : Multimap K V S)
         (rs : List (Reply K V A)) (n : Multimap K V S) (i a b : ℕ) →
