@@ -1,5 +1,6 @@
 //! Proved callers of the laws that what is written of a map is read, at numbers and at texts.
-ghost use Rattle.std.specs.Prelude.{◌≡◌, ℕ, ℤ, true, Global, String};
+ghost use Rattle.std.specs.Prelude.{◌≡◌, ℕ, ℤ, true, String};
+ghost use Rattle.std.specs.declared.alloc.Global.{Global};
 ghost use Rattle.ordered_multimap.specs.Lists.{Lists, IsWellFormed};
 ghost use Rattle.ordered_multimap.specs.Pairs.{same_pairs};
 ghost use Rattle.multimap_tool.specs.Json.{AreEqualLists, IsReadFrom, pairs_json};
