@@ -1,2 +1,3 @@
 pub mod FirstLemmas
+pub mod StoppedKeysLemmas
 pub mod StoppedLemmas

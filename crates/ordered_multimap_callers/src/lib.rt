@@ -15,6 +15,7 @@ pub mod maps;
 pub mod queried;
 pub mod retained;
 pub mod stopped;
+pub mod stopped_keys;
 pub mod tested;
 pub mod undone;
 pub mod updated;
