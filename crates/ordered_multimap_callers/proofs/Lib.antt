@@ -1,3 +1,4 @@
 pub mod FirstLemmas
 pub mod StoppedKeysLemmas
 pub mod StoppedLemmas
+pub mod WalkShows

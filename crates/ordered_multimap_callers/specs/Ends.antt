@@ -7,17 +7,14 @@ use Rattle.std.specs.declared.cmp.PartialEq as equality
 use Rattle.std.specs.declared.hash.Hash as hashed
 use Rattle.std.specs.declared.hash.Hasher as hasher
 use Rattle.std.specs.declared.hash.BuildHasher as builder
-use Rattle.multimap_slots.specs.Slots.{item_at}
-use Rattle.multimap_walks.specs.Chained.{position_in}
-use Rattle.multimap_walks.specs.Walk.{end_item}
-use Rattle.ordered_multimap.specs.Changes.{end_written}
+use Rattle.multimap_walks.specs.Walk.{end_item, end_rest}
+use Rattle.ordered_multimap.specs.Changes.{end_written, first_written}
 use Rattle.ordered_multimap.specs.End.TheVariants.{Front}
-use Rattle.ordered_multimap.specs.Exact.{IsEndedWalk}
 use Rattle.ordered_multimap.specs.KeysLeft.{keys_left}
 use Rattle.ordered_multimap.specs.Lists.{Lists}
 use Rattle.ordered_multimap.specs.Multimap.{Multimap, multimap_code}
-use Rattle.ordered_multimap.specs.Pairs.{positions_of}
 use Rattle.ordered_multimap.specs.WalkLends.{walk_row}
+use Rattle.ordered_multimap.specs.Writes.{IsWritten}
 use Rattle.ordered_multimap.specs.declared.list_ordered_multimap.key_values_mut.KeyValuesMut.{KeyValuesMut}
 
 -- the loan with this name ends, and leaves a map with these lists
@@ -37,33 +34,28 @@ ends_first_written K V S m r =
     fwand (fres r.ghost_name (V.coded.code w))
     (ends_with_lists K V S m.ghost_name (end_written Front m.now.lists w)))
 
--- the place is that of the first value of the walk's first key, and v stands there
-pub record IsFirstOfNext {K V S A H : Type 0} {e : equality.Ghosts K} {k : hashed.Ghosts K}
-    {b : builder.Ghosts S H} {h : hasher.Ghosts H} (w : KeyValuesMut K V S A H e k b h) (v : V)
-    (place : ℕ) : Type 0 where
-  pub key : K
-  pub key_is : end_item Front (keys_left w) ≡ Some key
-  pub position : slice_get (positions_of e.eq w.map.now.lists.pairs key) 0
-      ≡ Some (position_in w.map.now.slots.values.order place)
-  pub item : item_at w.map.now.slots.values place ≡ Some v
+-- the walk over keys has given the key, which was its first, and its map has v as the first value
+-- of that key
+pub record IsNextWritten {K V S A H : Type 0} {e : equality.Ghosts K} {k : hashed.Ghosts K}
+    {b : builder.Ghosts S H} {h : hasher.Ghosts H} (old : KeyValuesMut K V S A H e k b h) (key : K)
+    (v : V) (new : KeyValuesMut K V S A H e k b h) : Type 0 where
+  pub map : IsWritten old.map.now new.map.now (first_written e.eq old.map.now.lists key v)
+  pub same_name : new.map.ghost_name ≡ old.map.ghost_name
+  pub same_place : new.map.ref_ptr ≡ old.map.ref_ptr
+  pub keys : keys_left new ≡ end_rest Front (keys_left old)
 
 module _ (K V S A H : RattleType) {e : equality.Ghosts K.Denot} {k : hashed.Ghosts K.Denot}
     {b : builder.Ghosts S.Denot H.Denot} {h : hasher.Ghosts H.Denot}
     (heap : alloc.Ghosts A.Denot) where
-  -- once the reference has ended with a value, so has the loan of the walk over keys: it has its
-  -- other keys left, and its map has that value at the place, and elsewhere what stood there
+  -- the walk has a first key; and once the reference has ended with a value, so has the loan of the
+  -- walk: that is the key's first value, all other pairs are as they were, and the other keys are
+  -- left
   abbrev pub ends_next_written
-      : MutBor (KeyValuesMut K.Denot V.Denot S.Denot A.Denot H.Denot e k b h) → ℕ → MutBor V.Denot
-      → Fml
-  ends_next_written w place r =
-      fall V.Denot (λ v. fwand (fres r.ghost_name (V.coded.code v))
-      (fex ((n : KeyValuesMut K.Denot V.Denot S.Denot A.Denot H.Denot e k b h)
-      × IsEndedWalk Front w.now (set w.now.map.now.slots.values.items place (Some v)) n)
-      (λ n. fres w.ghost_name ((walk_row K V S A H e k b h heap).coded.code n.0))))
-
-  -- the reference is to the first value of the walk's first key, and is all that is written
-  abbrev pub ends_first_of_next
       : MutBor (KeyValuesMut K.Denot V.Denot S.Denot A.Denot H.Denot e k b h) → MutBor V.Denot
       → Fml
-  ends_first_of_next w r =
-      fex ((place : ℕ) × IsFirstOfNext w.now r.now place) (λ p. ends_next_written w p.0 r)
+  ends_next_written w r =
+      fex ((key : K.Denot) × (end_item Front (keys_left w.now) ≡ Some key)) (λ x.
+      fall V.Denot (λ v. fwand (fres r.ghost_name (V.coded.code v))
+      (fex ((n : KeyValuesMut K.Denot V.Denot S.Denot A.Denot H.Denot e k b h)
+      × IsNextWritten w.now x.0 v n)
+      (λ n. fres w.ghost_name ((walk_row K V S A H e k b h heap).coded.code n.0)))))

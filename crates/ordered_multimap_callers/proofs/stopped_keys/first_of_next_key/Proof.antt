@@ -10,7 +10,7 @@ use base.Logic.{SProp, id⊢, apply∗}
 use base.Fml.{Fml, ftrue, feq, flft, fwand}
 use prog.Wp.{Wp, after_seq, at_return}
 use types.Logic.{sem}
-use types.Kit.{‵, raw, ◌⊛◌, some, later, at_ret, any_q, ◌$◌, ◌∵◌, !, qed, by, move, keep, drop, split, join, fjoin, feq_l, use1, use2, pick}
+use types.Kit.{‵, raw, ◌⊛◌, some, later, at_ret, any_q, ◌$◌, ◌∵◌, !, qed, by, move, keep, drop, split, join, fjoin, feq_l, use1, use2, use3, pick}
 use types.Kit.{await, rewrite}
 use types.Run.{enter, of_opd, addr, stop, fld, no_more, and_then, first, switches_on, exec, returns}
 use types.ByLocal.{alloc_all, pass_all, free_all, look_at, get, get_in, get_tag, through, sets, lands_as, lands_last, env}
@@ -58,8 +58,9 @@ use Rattle.ordered_multimap.proofs.Callers.PairsByValue.{both, both_typed, pair_
 use Rattle.ordered_multimap.proofs.Loans.Options.{option_out}
 use Rattle.ordered_multimap.proofs.Loans.Outlived.{told, hears_with, tells, states}
 use Rattle.ordered_multimap.specs.contracts.list_ordered_multimap.key_values_mut.KeyValuesMut as E-type
-use Rattle.ordered_multimap_callers.specs.Ends.{ends_first_of_next}
-use Rattle.ordered_multimap_callers.proofs.StoppedKeysLemmas.{ends_first_next, inner_law_at, is_first_of_next, no_front}
+use Rattle.ordered_multimap_callers.specs.Ends.{ends_next_written}
+use Rattle.ordered_multimap_callers.proofs.WalkShows.{SlotsAgree, walk_shows}
+use Rattle.ordered_multimap_callers.proofs.StoppedKeysLemmas.{ends_next, inner_law_at, no_front}
 use Rattle.ordered_multimap_callers.specs.contracts.stopped_keys.first_of_next_key as f
 use Rattle.ordered_multimap_callers.specs.contracts.stopped_keys.first_of_next_key.Key.{name as #self}
 use Rattle.ordered_multimap_callers.proofs.stopped_keys.first_of_next_key.Statement.{statement}
@@ -109,6 +110,7 @@ first_of_next_key_spec 𝓤 𝓛 𝓜 𝓡 wired K V S A B LK LV LS LA LB eqs dE
     ) in
     let Tw : RattleType = Tuple (W ∷ Mv ∷ []) in
     let inK : Type 0 = κs.1.1.0 ⊑ K.lives in let inV : Type 0 = κs.1.1.1.0 ⊑ V.lives in let inA : Type 0 = κs.1.1.1.1.1.0 ⊑ A.lives in
+    let Own : Fml = (MutRef (named 0) κs.0 R).own_val a.0 (mut_vals a.0) in let Agree : Type 0 = SlotsAgree pe.eq w₀.map.now in
     let Long : Type 0 = 0 < length (keys_left w₀) in
     let Valued : Type 0 = IfSome (end_item Front (keys_left w₀)) (λ k. 0 < length (values_of pe.eq pairs k)) in
     let t₀ = ‵ (flft κs.0 qs.0) in let t₁ = ‵ (flft κs.1.0 qs.1.0) in let t₂ = ‵ (flft κs.1.1.0 qs.1.1.0) in
@@ -127,8 +129,14 @@ first_of_next_key_spec 𝓤 𝓛 𝓜 𝓡 wired K V S A B LK LV LS LA LB eqs dE
     qed 𝓛 (raw (on_entry 𝓛 En.signature κs qs a (mut_vals a.0, tt)) ∷
     told κs.1.1 K V S A B (raw (fact 𝓤 Long) ⊛ raw (fact 𝓤 Valued)) ∷ []) ∵
     move ! (1 ∷ []) $ hears_with κs.1.1 K V S A B ! (λ five. split ! $ heard ! Long (λ long. heard ! Valued (λ valued.
-    nothing ! $ tells κs.1.1 K V S A B ! five $ move ! (1 ∷ 0 ∷ []) $ use2 𝓛 (raw (G₁.pre z₁)) (id⊢ 𝓤 _) $
+    use1 𝓛 (toks ⊛ ‵ Own ⊛ ‵ ftrue) (id⊢ 𝓤 _) $
     enter ! 𝓣.C 𝓣.Λ fn (vptr a.0.ref_ptr.0 a.0.ref_ptr.1 ∷ []) Post $ alloc_all ! (λ l. pass_all ! refl ((tt, tt), tt) $
+    split ! $ split ! $ move ! (1 ∷ []) $ split ! $ move ! (3 ∷ []) $ split ! $ move ! (0 ∷ 4 ∷ 2 ∷ []) $
+    -- [the walk; the tokens 0, 1; nothing; the other tokens]
+    use3 𝓛 (later (raw (fact 𝓤 Agree) ⊛ ‵ Own ⊛ t₀ ⊛ t₁)) (walk_shows 𝓛 Kr Vr Sr Ar Br pe ha bh hg al κs.0 κs.1.0 qs.0 qs.1.0 a.0) $
+    await ! tt $ split ! $ heard ! Agree (λ agree. split ! $ move ! (1 ∷ []) $ split ! $ move ! (1 ∷ 4 ∷ []) $ join ! $ move ! (1 ∷ 0 ∷ []) $
+    join ! $ move ! (1 ∷ 2 ∷ []) $ fjoin ! $ move ! (1 ∷ 0 ∷ []) $ join ! $
+    nothing ! $ tells κs.1.1 K V S A B ! five $ move ! (1 ∷ 0 ∷ []) $ use2 𝓛 (raw (G₁.pre z₁)) (id⊢ 𝓤 _) $
     let Ev = env fn.locals l in let arms : Body = head (after 2 fn.body) in let Then = any_q
     (after_seq 𝓤 H (Wp 𝓤 H 𝓣.C 𝓣.Λ Ev (after 3 fn.body) (at_return 𝓤 H Ev Post)) (at_return 𝓤 H Ev Post)) in
     sets ! (addr ! (through ! refl (stop !))) refl (tt, tt) $
@@ -241,8 +249,12 @@ first_of_next_key_spec 𝓤 𝓛 𝓜 𝓡 wired K V S A B LK LV LS LA LB eqs dE
     move ! (7 ∷ []) $ rewrite ! 0 (λ (o : Out.Denot). ‵ (Rest o)) is_some refl $
     use2 𝓛 (‵ (fwand (ends_with Vr c₁) exact)) (apply∗ 𝓤 (sem 𝓛 (Rest (Some x))) (sem 𝓛 (fwand (ends_with Vr c₁) exact))) $
     move ! (1 ∷ 0 ∷ []) $ use2 𝓛 (‵ exact) (apply∗ 𝓤 (sem 𝓛 (ends_with Vr c₁)) (sem 𝓛 exact)) $
-    use1 𝓛 (‵ (ends_first_of_next Kr Vr Sr Ar Br al a.0 q.1)) (ends_first_next Kr Vr Sr Ar Br pe ha bh hg al 𝓛 a.0 x q.0 q.1 stepped lends
-    (is_first_of_next Kr Vr Sr Ar Br pe ha bh hg al w₀ x q.0 q.1 stepped lends key positions₁ more)) $
+    use1 𝓛 (‵ (ends_next_written Kr Vr Sr Ar Br al a.0 q.1))
+    (ends_next Kr Vr Sr Ar Br pe ha bh hg al 𝓛 a.0 x q.0 q.1 stepped lends agree key positions₁ more) $
+    let First : Type 0 = IfSome (end_item Front (keys_left w₀)) (λ k. end_item Front (values_of pe.eq pairs k) ≡ Some q.1.now) in
+    let at_first : end_item Front (values_of pe.eq pairs x.0.now) ≡ Some q.1.now = ap (end_item Front) (sym values₁ ∙ lends.steps) in
+    states ! First (subst (λ o. IfSome o (λ k. end_item Front (values_of pe.eq pairs k) ≡ Some q.1.now)) key at_first) $
+    move ! (1 ∷ 0 ∷ []) $ join ! $
     -- [what the walk ends as; the tokens of the inner walk; the tokens 6, 4; the reference; the token 1]
     move ! (1 ∷ []) $ split ! $ move ! (1 ∷ []) $ split ! $ move ! (1 ∷ []) $ split ! $ move ! (1 ∷ []) $ split ! $ move ! (1 ∷ []) $
     drop ! $
@@ -252,4 +264,4 @@ first_of_next_key_spec 𝓤 𝓛 𝓜 𝓡 wired K V S A B LK LV LS LA LB eqs dE
     -- [the tokens; what is said; the reference]
     nothing ! $ nothing ! $ fjoin ! $
     returns ! (look_at ! 0 refl) $ free_all ! refl $ keep ! (1 ∷ 0 ∷ 3 ∷ 2 ∷ []) $
-    by ! (leaves 𝓛 En hs c y (vptr q.1.ref_ptr.0 q.1.ref_ptr.1) q.1 (tt, tt) (tt, tt))))))))))))))))))))))))))))))
+    by ! (leaves 𝓛 En hs c y (vptr q.1.ref_ptr.0 q.1.ref_ptr.1) q.1 (tt, tt) (tt, tt)))))))))))))))))))))))))))))))
