@@ -1,8 +1,10 @@
 -- Where a walk over keys gave one value of its next key alone: what that walk ends as. Assumes `Logic`.
-use Rattle.std.proofs.Common.{◌≡◌, ℕ, zero, suc, ◌<◌, Bool, true, false, List, [], ◌∷◌, length, get_or, set, replicate, arith, inl}
+use Rattle.std.proofs.Common.{◌≡◌, ℕ, zero, suc, ◌<◌, Bool, true, false, List, [], ◌∷◌, length, get_or, set, replicate, arith, inl, inr}
 use Rattle.std.proofs.lemmas.Bool.{false≢true}
 use Rattle.std.proofs.Common.{Option, Some, None, IsSome, refl, sym, ap, ◌∙◌, subst, option_map}
 use Rattle.std.specs.Prelude.{slice_get}
+use Rattle.std.specs.Cmp.{IsEquivalence}
+use Rattle.std.specs.List.{filter_map, cons_option}
 use seplogic.Ra.Ura.{Ura}
 use base.Logic.{all_e, apply∗, ent, snd∗, via, wand}
 use base.Fml.{Fml, GName, fall, fex, fres, fwand}
@@ -19,7 +21,7 @@ use Rattle.multimap_slots.specs.Ended.{become, ends_with}
 use Rattle.multimap_slots.specs.declared.cells.Cells.{Cells}
 use Rattle.multimap_slots.specs.SlotCells.{lent_slots, LendsSlots}
 use Rattle.multimap_slots.specs.Slots.{Slots, item_at, with_item}
-use Rattle.multimap_slots.specs.Lists.{IsIn}
+use Rattle.multimap_slots.specs.Lists.{IsIn, next_of, previous_of}
 use Rattle.multimap_slots.specs.CellsLends.{with_refilled}
 use Rattle.multimap_slots.specs.Taken.{refilled}
 use Rattle.multimap_slots.proofs.Callers.Tapes.{IsSome-within}
@@ -30,15 +32,21 @@ use Rattle.multimap_walks.specs.declared.End.{End}
 use Rattle.multimap_walks.specs.declared.End.TheVariants.{Front}
 use Rattle.multimap_walks.specs.declared.links.ValueLink.{ValueLink}
 use Rattle.multimap_walks.specs.declared.writing.chain.EntryValuesMut.{EntryValuesMut}
-use Rattle.multimap_walks.proofs.Callers.Squashed.{read_chain}
+use Rattle.multimap_walks.proofs.Callers.Squashed.{read_chain, read_left}
+use Rattle.multimap_walks.proofs.Callers.Paths.{path-is}
+use Rattle.multimap_walks.specs.Along.{places_left}
 use Rattle.ordered_multimap.specs.Changes.{first_written}
 use Rattle.ordered_multimap.specs.Exact.{EntryWalksAreExact, InnerWalksAreExact, IsEndedWalk, KeyWalksAreExact, ended_map, walk_ends_exactly}
 use Rattle.ordered_multimap.specs.KeysLeft.{keys_left}
-use Rattle.ordered_multimap.specs.Pairs.{positions_of, with_first_value, with_value_at}
-use Rattle.ordered_multimap.specs.Lists.{Lists, lists}
+use Rattle.ordered_multimap.specs.Pairs.{has_items, positions_of, values_of, with_first_value, with_value_at}
+use Rattle.ordered_multimap.specs.Lists.{IsWellFormed, Lists, lists}
 use Rattle.ordered_multimap.specs.Multimap.{Multimap}
 use Rattle.ordered_multimap.specs.ValuesLent.{pairs_ended, revalued, with_values}
 use Rattle.ordered_multimap.specs.Writes.{IsWritten}
+use Rattle.ordered_multimap.proofs.Agreement.Agreed.{well_formed}
+use Rattle.ordered_multimap.proofs.Callers.ListedKeys.{is_listed-self}
+use Rattle.ordered_multimap.proofs.Callers.Places.{IsIn-filter_map}
+use Rattle.ordered_multimap.proofs.Callers.WellFormed.{is_present-keys}
 use Rattle.ordered_multimap.proofs.Callers.Writes.{pairs_of-with_item}
 use Rattle.ordered_multimap.specs.WalkLends.{EndsStepped, lends_key_values, walk_row}
 use Rattle.ordered_multimap.specs.declared.list_ordered_multimap.key_values_mut.KeyValuesMut.{KeyValuesMut}
@@ -106,6 +114,36 @@ module _ {K V : Type 0} where
       let first_are : with_first_value eq pairs key v ≡ with_value_at pairs at v = ap
       (λ (o : Option ℕ). elim o as (λ _. List (K × V)) [ None ↦ pairs | Some i ↦ with_value_at pairs i v ]) position in
       ap (λ (ps : List (K × V)). lists m.lists.keys ps) (pairs_are ∙ sym first_are)
+
+-- what is shown first at some places is shown at one of all places
+first_shown : {Y : Type 0} (shows : ℕ → Option Y) (places order : List ℕ) → ((p : ℕ) → IsIn p places → IsIn p order) → (y : Y)
+    → end_item Front (filter_map shows places) ≡ Some y → IsIn y (filter_map shows order)
+first_shown shows [] order among y e = absurd (let bad = e in cc)
+first_shown shows (p ∷ places) order among y e =
+    let From : Option _ → Type 0 = λ o. shows p ≡ o → end_item Front (cons_option o (filter_map shows places)) ≡ Some y
+    → IsIn y (filter_map shows order) in
+    elim (shows p) as From [
+      | Some z ↦ λ is first. IsIn-filter_map shows p y order (among p (inl refl)) (is ∙ first)
+      | None ↦ λ is first. first_shown shows places order (λ q i. among q (inr i)) y first
+    ] refl e
+
+some_items : {X : Type 0} (xs : List X) → has_items xs ≡ true → 0 < length xs
+some_items [] e = absurd (false≢true e)
+some_items (x ∷ xs) e = omega arith
+
+-- the first key that a walk has left has a value
+pub first_has_value : {K V S A H : Type 0} {e : equality.Ghosts K} {k : hashed.Ghosts K} {b : builder.Ghosts S H} {h : hasher.Ghosts H}
+    → IsEquivalence e.eq → (w : KeyValuesMut K V S A H e k b h) → SlotsAgree e.eq w.map.now → (y : K)
+    → end_item Front (keys_left w) ≡ Some y → 0 < length (values_of e.eq w.map.now.lists.pairs y)
+first_has_value {e = e} laws w agree y first =
+    let m = w.map.now in let keys = m.slots.keys in
+    let left = read_left keys.order w.left w.are_left in
+    let along : places_left keys.order w.left ≡ left.places = path-is (λ place. IsIn place keys.order) (next_of keys.order)
+    (previous_of keys.order) w.left.first w.left.last w.left.length left in
+    let listed : IsIn y m.lists.keys = subst (λ (l : Lists _ _). IsIn y l.keys) agree.lists
+    (first_shown (item_at keys) (places_left keys.order w.left) keys.order (λ p i. left.there p (subst (IsIn p) along i)) y first) in
+    let formed : IsWellFormed e.eq m.lists = subst (IsWellFormed e.eq) agree.lists (well_formed agree.agrees) in
+    some_items (values_of e.eq m.lists.pairs y) (is_present-keys laws m.lists y formed ∙ is_listed-self laws y m.lists.keys listed)
 
 module _ (K V S A H : RattleType) (e : equality.Ghosts K.Denot) (k : hashed.Ghosts K.Denot) (b : builder.Ghosts S.Denot H.Denot)
     (h : hasher.Ghosts H.Denot) (heap : alloc.Ghosts A.Denot) where

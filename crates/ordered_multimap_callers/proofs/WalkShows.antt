@@ -10,7 +10,7 @@ use base.Fraction.{full_share}
 use base.Fml.{Fml, Lft, Share, fat, flft, fsep, ftrue}
 use prog.Memory.{align, size, up}
 use types.Logic.{Logic, sem}
-use types.Kit.{‵, raw, ◌⊛◌, some, ◌$◌, ◌∵◌, !, qed, done, drop, feq_i, feq_l, fjoin3, fsplit3, move, now, pick, rewrite, split, split3, updating}
+use types.Kit.{‵, raw, ◌⊛◌, some, ◌$◌, !, qed, done, drop, feq_i, feq_l, fjoin3, fsplit3, move, now, pick, rewrite, split, split3, updating}
 use types.Kit.{use0, use1, use2, use3}
 use types.Mut.{close_ref, open_ref}
 use contract.Monad.{fact, fact_i}

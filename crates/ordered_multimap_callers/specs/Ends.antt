@@ -1,6 +1,6 @@
 -- What a caller that has given up its loan of a map says of the map.
 use base.Fml.{Fml, GName, fall, fex, feq, fres, fsep, fwand}
-use Rattle.std.specs.Prelude.{◌≡◌, ℕ, Some, set, slice_get}
+use Rattle.std.specs.Prelude.{◌≡◌, Some}
 use Rattle.std.specs.Borrow.{RattleType, MutBor}
 use Rattle.std.specs.declared.alloc.Allocator as alloc
 use Rattle.std.specs.declared.cmp.PartialEq as equality
@@ -15,7 +15,8 @@ use Rattle.ordered_multimap.specs.Lists.{Lists}
 use Rattle.ordered_multimap.specs.Multimap.{Multimap, multimap_code}
 use Rattle.ordered_multimap.specs.WalkLends.{walk_row}
 use Rattle.ordered_multimap.specs.Writes.{IsWritten}
-use Rattle.ordered_multimap.specs.declared.list_ordered_multimap.key_values_mut.KeyValuesMut.{KeyValuesMut}
+use Rattle.ordered_multimap.specs.declared.list_ordered_multimap.key_values_mut as walks
+use walks.KeyValuesMut.{KeyValuesMut}
 
 -- the loan with this name ends, and leaves a map with these lists
 abbrev pub ends_with_lists

@@ -36,9 +36,7 @@ fn first_of_values<'map, K, V, A: Allocator>(
 pub fn first_of_next_key<'w, 'map, K: Eq + Hash + Drop, V: Drop, S: BuildHasher, A: Allocator>(
     walk: &'w mut KeyValuesMut<'map, K, V, S, A>,
 ) -> &'w mut V
-    requires more { 0 < length (keys_left walk.old) }
-    requires valued { IfSome (end_item Front (keys_left walk.old))
-        (λ k. 0 < length (values_of K.eq walk.old.map.now.lists.pairs k)) }
+    requires { 0 < length (keys_left walk.old) }
     ensures* ends { sem 𝓛 (ends_next_written K.row V.row S.row A.row S.Hasher.row A.Allocator
         walk.entry result) }
     ensures value { IfSome (end_item Front (keys_left walk.old)) (λ k. end_item Front

@@ -60,7 +60,7 @@ use Rattle.ordered_multimap.proofs.Loans.Outlived.{told, hears_with, tells, stat
 use Rattle.ordered_multimap.specs.contracts.list_ordered_multimap.key_values_mut.KeyValuesMut as E-type
 use Rattle.ordered_multimap_callers.specs.Ends.{ends_next_written}
 use Rattle.ordered_multimap_callers.proofs.WalkShows.{SlotsAgree, walk_shows}
-use Rattle.ordered_multimap_callers.proofs.StoppedKeysLemmas.{ends_next, inner_law_at, no_front}
+use Rattle.ordered_multimap_callers.proofs.StoppedKeysLemmas.{ends_next, first_has_value, inner_law_at, no_front}
 use Rattle.ordered_multimap_callers.specs.contracts.stopped_keys.first_of_next_key as f
 use Rattle.ordered_multimap_callers.specs.contracts.stopped_keys.first_of_next_key.Key.{name as #self}
 use Rattle.ordered_multimap_callers.proofs.stopped_keys.first_of_next_key.Statement.{statement}
@@ -112,7 +112,6 @@ first_of_next_key_spec 𝓤 𝓛 𝓜 𝓡 wired K V S A B LK LV LS LA LB eqs dE
     let inK : Type 0 = κs.1.1.0 ⊑ K.lives in let inV : Type 0 = κs.1.1.1.0 ⊑ V.lives in let inA : Type 0 = κs.1.1.1.1.1.0 ⊑ A.lives in
     let Own : Fml = (MutRef (named 0) κs.0 R).own_val a.0 (mut_vals a.0) in let Agree : Type 0 = SlotsAgree pe.eq w₀.map.now in
     let Long : Type 0 = 0 < length (keys_left w₀) in
-    let Valued : Type 0 = IfSome (end_item Front (keys_left w₀)) (λ k. 0 < length (values_of pe.eq pairs k)) in
     let t₀ = ‵ (flft κs.0 qs.0) in let t₁ = ‵ (flft κs.1.0 qs.1.0) in let t₂ = ‵ (flft κs.1.1.0 qs.1.1.0) in
     let t₃ = ‵ (flft κs.1.1.1.0 qs.1.1.1.0) in let t₄ = ‵ (flft κs.1.1.1.1.0 qs.1.1.1.1.0) in
     let t₅ = ‵ (flft κs.1.1.1.1.1.0 qs.1.1.1.1.1.0) in let t₆ = ‵ (flft κs.1.1.1.1.1.1.0 qs.1.1.1.1.1.1.0) in
@@ -127,8 +126,8 @@ first_of_next_key_spec 𝓤 𝓛 𝓜 𝓡 wired K V S A B LK LV LS LA LB eqs dE
     let Positions : Out.Denot → Type 0 = λ out. IfSome out (λ x. entry_values_mut_positions x.1 ≡ positions_of pe.eq pairs x.0.now) in
     let Ends : Out.Denot → Type 0 = λ out. IfSome out (EndsStepped Kr Vr Sr Ar Br al Front w₀) in
     qed 𝓛 (raw (on_entry 𝓛 En.signature κs qs a (mut_vals a.0, tt)) ∷
-    told κs.1.1 K V S A B (raw (fact 𝓤 Long) ⊛ raw (fact 𝓤 Valued)) ∷ []) ∵
-    move ! (1 ∷ []) $ hears_with κs.1.1 K V S A B ! (λ five. split ! $ heard ! Long (λ long. heard ! Valued (λ valued.
+    told κs.1.1 K V S A B (raw (fact 𝓤 Long)) ∷ []) ∵
+    move ! (1 ∷ []) $ hears_with κs.1.1 K V S A B ! (λ five. heard ! Long (λ long.
     use1 𝓛 (toks ⊛ ‵ Own ⊛ ‵ ftrue) (id⊢ 𝓤 _) $
     enter ! 𝓣.C 𝓣.Λ fn (vptr a.0.ref_ptr.0 a.0.ref_ptr.1 ∷ []) Post $ alloc_all ! (λ l. pass_all ! refl ((tt, tt), tt) $
     split ! $ split ! $ move ! (1 ∷ []) $ split ! $ move ! (3 ∷ []) $ split ! $ move ! (0 ∷ 4 ∷ 2 ∷ []) $
@@ -156,8 +155,7 @@ first_of_next_key_spec 𝓤 𝓛 𝓜 𝓡 wired K V S A B LK LV LS LA LB eqs dE
     (λ x i is_some gi some_val.
     let key : Key (Some x) = subst Key is_some keyed in let values₁ : Values (Some x) = subst Values is_some values in
     let positions₁ : Positions (Some x) = subst Positions is_some positions in let stepped : Ends (Some x) = subst Ends is_some ended in
-    let valued₁ : 0 < length (values_of pe.eq pairs x.0.now) = subst
-    (λ o. IfSome o (λ k. 0 < length (values_of pe.eq pairs k))) (sym key) valued in
+    let valued : 0 < length (values_of pe.eq pairs x.0.now) = first_has_value mEq.laws w₀ agree x.0.now (sym key) in
     pair_out Sk W ! refl (shr_Lawful 𝓛 (named 0) κs.0 Kr) W-is.one (W-is.lawful 𝓛) x.0 x.1 (i ∷ []) (λ ki wi gk gw ip.
     let gp = both_typed (layout Sk) (layout W) ki wi gk gw in let made : Val = live 1 (vcons (both ki wi) vnil) in
     let good : Good (layout Out) made = (and_tt _ gp.0, (record { fits = lit< tt }, (gp.1, tt))) in
@@ -172,7 +170,7 @@ first_of_next_key_spec 𝓤 𝓛 𝓜 𝓡 wired K V S A B LK LV LS LA LB eqs dE
     let κ₂ : Lfts 4 = (κs.0, (κs.1.1.0, (κs.1.1.1.0, (κs.1.1.1.1.1.0, tt)))) in
     let q₂ : Shares 4 = (qs.0, (qs.1.1.0, (qs.1.1.1.0, (qs.1.1.1.1.1.0, tt)))) in
     let toks₂ = t₀ ⊛ t₂ ⊛ t₃ ⊛ t₅ ⊛ ‵ ftrue in let More : Type 0 = 0 < length (entry_values_mut_rest x.1) in
-    let more : More = subst (λ (vs : List Vr.Denot). 0 < length vs) (sym values₁) valued₁ in
+    let more : More = subst (λ (vs : List Vr.Denot). 0 < length vs) (sym values₁) valued in
     let G₂ = triple_of 𝓛 (g₂.signature K V A al dAl dropA) (g₂.spec K V A al dAl dropA 𝓛 𝓜.mem 𝓡.returns) in
     let z₂ : G₂.Ghost = ((κ₂, q₂, (bounds.1.0, (bounds.1.1.0, (bounds.1.1.1.1.0, tt))), (x.1, tt), (wi ∷ [], tt)), tt) in
     drop ! $ move ! (2 ∷ []) $ split ! $ move ! (1 ∷ []) $ split ! $ move ! (1 ∷ []) $ split ! $ move ! (1 ∷ []) $ split ! $ move ! (1 ∷ []) $
@@ -264,4 +262,4 @@ first_of_next_key_spec 𝓤 𝓛 𝓜 𝓡 wired K V S A B LK LV LS LA LB eqs dE
     -- [the tokens; what is said; the reference]
     nothing ! $ nothing ! $ fjoin ! $
     returns ! (look_at ! 0 refl) $ free_all ! refl $ keep ! (1 ∷ 0 ∷ 3 ∷ 2 ∷ []) $
-    by ! (leaves 𝓛 En hs c y (vptr q.1.ref_ptr.0 q.1.ref_ptr.1) q.1 (tt, tt) (tt, tt)))))))))))))))))))))))))))))))
+    by ! (leaves 𝓛 En hs c y (vptr q.1.ref_ptr.0 q.1.ref_ptr.1) q.1 (tt, tt) (tt, tt))))))))))))))))))))))))))))))
