@@ -1,7 +1,7 @@
 -- Where a walk over keys gave one value of its next key alone: what that walk ends as. Assumes `Logic`.
 use Rattle.std.proofs.Common.{◌≡◌, ℕ, zero, suc, ◌<◌, Bool, true, false, List, [], ◌∷◌, length, get_or, set, replicate, arith, inl, inr}
-use Rattle.std.proofs.lemmas.Bool.{false≢true}
 use Rattle.std.proofs.Common.{Option, Some, None, IsSome, refl, sym, ap, ◌∙◌, subst, option_map}
+use Rattle.std.proofs.lemmas.Bool.{false≢true}
 use Rattle.std.specs.Prelude.{slice_get}
 use Rattle.std.specs.Cmp.{IsEquivalence}
 use Rattle.std.specs.List.{filter_map, cons_option}
@@ -27,29 +27,31 @@ use Rattle.multimap_slots.specs.Taken.{refilled}
 use Rattle.multimap_slots.proofs.Callers.Tapes.{IsSome-within}
 use Rattle.multimap_walks.specs.Chained.{pairs_of, places_along, position_in, positions_at, values_at}
 use Rattle.multimap_walks.specs.Walk.{end_item}
-use Rattle.multimap_walks.specs.WritingWalk.{entry_values_mut_name, entry_values_mut_positions, entry_values_mut_rest, entry_values_mut_values, LendsFirstOfKey}
+use Rattle.multimap_walks.specs.WritingWalk.{entry_values_mut_name, entry_values_mut_positions, entry_values_mut_rest}
+use Rattle.multimap_walks.specs.WritingWalk.{entry_values_mut_values, LendsFirstOfKey}
 use Rattle.multimap_walks.specs.declared.End.{End}
 use Rattle.multimap_walks.specs.declared.End.TheVariants.{Front}
 use Rattle.multimap_walks.specs.declared.links.ValueLink.{ValueLink}
 use Rattle.multimap_walks.specs.declared.writing.chain.EntryValuesMut.{EntryValuesMut}
+use Rattle.multimap_walks.specs.Along.{places_left}
 use Rattle.multimap_walks.proofs.Callers.Squashed.{read_chain, read_left}
 use Rattle.multimap_walks.proofs.Callers.Paths.{path-is}
-use Rattle.multimap_walks.specs.Along.{places_left}
 use Rattle.ordered_multimap.specs.Changes.{first_written}
-use Rattle.ordered_multimap.specs.Exact.{EntryWalksAreExact, InnerWalksAreExact, IsEndedWalk, KeyWalksAreExact, ended_map, walk_ends_exactly}
+use Rattle.ordered_multimap.specs.Exact.{EntryWalksAreExact, InnerWalksAreExact, IsEndedWalk, KeyWalksAreExact}
+use Rattle.ordered_multimap.specs.Exact.{ended_map, walk_ends_exactly}
 use Rattle.ordered_multimap.specs.KeysLeft.{keys_left}
 use Rattle.ordered_multimap.specs.Pairs.{has_items, positions_of, values_of, with_first_value, with_value_at}
 use Rattle.ordered_multimap.specs.Lists.{IsWellFormed, Lists, lists}
 use Rattle.ordered_multimap.specs.Multimap.{Multimap}
 use Rattle.ordered_multimap.specs.ValuesLent.{pairs_ended, revalued, with_values}
 use Rattle.ordered_multimap.specs.Writes.{IsWritten}
+use Rattle.ordered_multimap.specs.WalkLends.{EndsStepped, lends_key_values, walk_row}
+use Rattle.ordered_multimap.specs.declared.list_ordered_multimap.key_values_mut.KeyValuesMut.{KeyValuesMut}
 use Rattle.ordered_multimap.proofs.Agreement.Agreed.{well_formed}
 use Rattle.ordered_multimap.proofs.Callers.ListedKeys.{is_listed-self}
 use Rattle.ordered_multimap.proofs.Callers.Places.{IsIn-filter_map}
 use Rattle.ordered_multimap.proofs.Callers.WellFormed.{is_present-keys}
 use Rattle.ordered_multimap.proofs.Callers.Writes.{pairs_of-with_item}
-use Rattle.ordered_multimap.specs.WalkLends.{EndsStepped, lends_key_values, walk_row}
-use Rattle.ordered_multimap.specs.declared.list_ordered_multimap.key_values_mut.KeyValuesMut.{KeyValuesMut}
 use Rattle.ordered_multimap_callers.specs.Ends.{ends_next_written, IsNextWritten}
 use Rattle.ordered_multimap_callers.proofs.StoppedLemmas.{one_becomes}
 use Rattle.ordered_multimap_callers.proofs.WalkShows.{SlotsAgree}
@@ -154,7 +156,8 @@ module _ (K V S A H : RattleType) (e : equality.Ghosts K.Denot) (k : hashed.Ghos
   Next = Bor K.Denot × EntryValuesMut K.Denot V.Denot A.Denot
 
   abbrev Follows : End → MutBor Walk → Next → Cells V.Denot → Fml
-  Follows end w x c = fwand (lends_key_values K V S A H heap end w (Some x)) (fwand (ends_with V c) (walk_ends_exactly K V S A H heap end w c))
+  Follows end w x c = fwand (lends_key_values K V S A H heap end w (Some x))
+      (fwand (ends_with V c) (walk_ends_exactly K V S A H heap end w c))
 
   abbrev OfName : End → MutBor Walk → Next → Cells V.Denot → Fml
   OfName end w x c = fall (c.whole ≡ entry_values_mut_name x.1) (λ _. Follows end w x c)
@@ -180,7 +183,8 @@ module _ (K V S A H : RattleType) (e : equality.Ghosts K.Denot) (k : hashed.Ghos
       → ent 𝓤 (sem 𝓛 (InnerWalksAreExact K V S A H e k b h heap)) (sem 𝓛 (Follows end w x c))
   inner_law_at {𝓤 = 𝓤} 𝓛 end w x c stepped around name =
       let Keys : Fml = KeyWalksAreExact K V S A H e k b h heap in
-      via 𝓤 (sem 𝓛 Keys) (snd∗ 𝓤 (sem 𝓛 (EntryWalksAreExact K V S A H e k b h heap)) (sem 𝓛 Keys)) (via 𝓤 (sem 𝓛 (OfEnd end)) (all_e 𝓤 (λ n. sem 𝓛 (OfEnd n)) end)
+      via 𝓤 (sem 𝓛 Keys) (snd∗ 𝓤 (sem 𝓛 (EntryWalksAreExact K V S A H e k b h heap)) (sem 𝓛 Keys))
+      (via 𝓤 (sem 𝓛 (OfEnd end)) (all_e 𝓤 (λ n. sem 𝓛 (OfEnd n)) end)
       (via 𝓤 (sem 𝓛 (OfWalk end w)) (all_e 𝓤 (λ n. sem 𝓛 (OfWalk end n)) w)
       (via 𝓤 (sem 𝓛 (OfNext end w x)) (all_e 𝓤 (λ n. sem 𝓛 (OfNext end w n)) x)
       (via 𝓤 (sem 𝓛 (OfCells end w x c)) (all_e 𝓤 (λ n. sem 𝓛 (OfCells end w x n)) c)
@@ -215,7 +219,8 @@ module _ (K V S A H : RattleType) (e : equality.Ghosts K.Denot) (k : hashed.Ghos
         let can = read_chain x.1.values x.1.left x.1.readable in
         let listed : IsIn place m.slots.values.order = subst (λ (s : Slots V.Denot ValueLink). IsIn place s.order) lent.slots
         (can.untaken.each place (front_along (lent_slots x.1.values) place x.1.left.length more)).listed in
-        let pairs : (ws : List (Option V.Denot)) → (with_values m ws).lists.pairs ≡ pairs_ended m.lists.pairs m.slots.values.order ws = subst
+        let pairs : (ws : List (Option V.Denot)) → (with_values m ws).lists.pairs ≡ pairs_ended m.lists.pairs m.slots.values.order ws =
+        subst
         (λ (b : MutBor _). (ws : List (Option V.Denot)) → (with_values b.now ws).lists.pairs
         ≡ pairs_ended b.now.lists.pairs b.now.slots.values.order ws) stepped.same_map stepped.ends.pairs in
         let lists = first_is_written e.eq m agree pairs x.0.now place listed position v in

@@ -84,5 +84,6 @@ module _ {M : Type 1} {𝓤 : Ura M} (𝓛 : Logic 𝓤) (K V S A H : RattleType
       move ! (0 ∷ 2 ∷ 3 ∷ 4 ∷ []) $ close_ref ! tt (mem E) s {b = at} {o = o} $
       feq_i ! (List Val) (mut_vals w) (mut_vals w) refl $ fjoin3 ! $
       -- [the walk; its token; the token of 'map]
-      let agree : Agree = subst (SlotsAgree e.eq) is.0.1.0 (record { hash = _; rows = is.0.0.table.rows; agrees = is.0.1.1.agrees; lists = refl }) in
+      let agree : Agree = subst (SlotsAgree e.eq) is.0.1.0
+      (record { hash = _; rows = is.0.0.table.rows; agrees = is.0.1.1.agrees; lists = refl }) in
       use0 𝓛 (raw (fact 𝓤 Agree)) (fact_i 𝓤 Agree _ agree) $ now ! $ done !)))))

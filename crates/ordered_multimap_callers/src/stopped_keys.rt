@@ -1,6 +1,6 @@
-//! A walk over keys for writing that is left once it has given one value of its next key. The caller
-//! is proved by hand, since a generated proof learns nothing of the loan of a walk. No test calls
-//! it: only a function that is proved by hand can.
+//! A walk over keys for writing that is left once it has given one value of its next key. The
+//! caller is proved by hand, since a generated proof learns nothing of the loan of a walk. No test
+//! calls it: only a function that is proved by hand can.
 ghost use Rattle.std.specs.Prelude.{◌≡◌, ◌<◌, IfSome, Some, length};
 ghost use Rattle.std.specs.Borrow.{sem};
 ghost use Rattle.multimap_walks.specs.Walk.{end_item};
@@ -30,9 +30,9 @@ fn first_of_values<'map, K, V, A: Allocator>(
 }
 
 /// The first value of the next key that a walk over keys gives, for writing. The walk over that
-/// key's values is dropped when it has given that one. Once the reference has ended, the key has what
-/// was written there as its first value, and otherwise the map has what it had. The walk over keys
-/// then has its other keys left.
+/// key's values is dropped when it has given that one. Once the reference has ended, the map has
+/// what was written there as the first value of that key. All else in the map is as it was, and the
+/// walk over keys has its other keys left.
 pub fn first_of_next_key<'w, 'map, K: Eq + Hash + Drop, V: Drop, S: BuildHasher, A: Allocator>(
     walk: &'w mut KeyValuesMut<'map, K, V, S, A>,
 ) -> &'w mut V

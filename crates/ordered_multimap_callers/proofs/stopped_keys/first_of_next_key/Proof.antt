@@ -1,6 +1,7 @@
 -- `first_of_next_key` lends a walk over keys to one over the values of its next key, takes the first reference, and drops that walk.
--- It calls `next`, `first_of_values`, the law `inner_walks_are_exact`, and the inner walk's `drop`, and hands each the tokens that it asks for.
--- It joins what these say with the law: the walk over keys ends with what the reference ends with, and otherwise as it was. Assumes `Logic`.
+-- It opens the walk over keys to learn that its map's slots agree, and closes it again. Assumes `Logic`.
+-- It calls `next`, `first_of_values`, the law `inner_walks_are_exact`, and the inner walk's `drop`, each with the tokens that it asks for.
+-- It joins what these say with the law: the walk over keys ends with what the reference ends with, and otherwise as it was.
 use Rattle.std.proofs.Common.{◌≡◌, ◌<◌, List, [], ◌∷◌, refl, sym, ap, ◌∙◌, subst, length, option_map, lit<}
 use Rattle.std.specs.Prelude.{Some, IfSome}
 use mir.Syntax.{a_type, dcons, dnil, named, ty_unit, Body}
@@ -10,8 +11,8 @@ use base.Logic.{SProp, id⊢, apply∗}
 use base.Fml.{Fml, ftrue, feq, flft, fwand}
 use prog.Wp.{Wp, after_seq, at_return}
 use types.Logic.{sem}
-use types.Kit.{‵, raw, ◌⊛◌, some, later, at_ret, any_q, ◌$◌, ◌∵◌, !, qed, by, move, keep, drop, split, join, fjoin, feq_l, use1, use2, use3, pick}
-use types.Kit.{await, rewrite}
+use types.Kit.{‵, raw, ◌⊛◌, some, later, at_ret, any_q, ◌$◌, ◌∵◌, !, qed, by, move, keep, drop, split, join, fjoin, feq_l, use1, use2}
+use types.Kit.{use3, pick, await, rewrite}
 use types.Run.{enter, of_opd, addr, stop, fld, no_more, and_then, first, switches_on, exec, returns}
 use types.ByLocal.{alloc_all, pass_all, free_all, look_at, get, get_in, get_tag, through, sets, lands_as, lands_last, env}
 use types.Match.{live, vrt, in_variant}
@@ -90,8 +91,11 @@ first_of_next_key_spec 𝓤 𝓛 𝓜 𝓡 wired K V S A B LK LV LS LA LB eqs dE
           (plain (λ κs. E-type.the_row (named_lft 7 1 tt κs) Kr Vr Sr Ar Br pe ha bh hg al))) no,
       tt,
     ) in
-    proved 𝓛 En hs c 𝓜 𝓡 (Goes-spent_ref 𝓛 7 (0 ∷ []) tt (plain (λ κs. E-type.the_row (named_lft 7 1 tt κs) Kr Vr Sr Ar Br pe ha bh hg al)), tt)
-    (#self inst) fn
+    proved 𝓛 En hs c 𝓜 𝓡 (
+      Goes-spent_ref 𝓛 7 (0 ∷ []) tt
+          (plain (λ κs. E-type.the_row (named_lft 7 1 tt κs) Kr Vr Sr Ar Br pe ha bh hg al)),
+      tt,
+    ) (#self inst) fn
     (code.unfolded 𝓤 H 𝓜 𝓡 wired (K, (V, (S, (A, (B, tt))))) dEq dPe dHa dBh dHg dAl dropK dropV dropA dropB)
     (λ κs. (mut_vals, tt)) (λ κs. (mut_Tells (named 0) κs.0 (E-type.the_row (named_lft 7 1 tt κs) Kr Vr Sr Ar Br pe ha bh hg al), tt))
     (λ κs qs bounds a gh are.
@@ -133,8 +137,8 @@ first_of_next_key_spec 𝓤 𝓛 𝓜 𝓡 wired K V S A B LK LV LS LA LB eqs dE
     split ! $ split ! $ move ! (1 ∷ []) $ split ! $ move ! (3 ∷ []) $ split ! $ move ! (0 ∷ 4 ∷ 2 ∷ []) $
     -- [the walk; the tokens 0, 1; nothing; the other tokens]
     use3 𝓛 (later (raw (fact 𝓤 Agree) ⊛ ‵ Own ⊛ t₀ ⊛ t₁)) (walk_shows 𝓛 Kr Vr Sr Ar Br pe ha bh hg al κs.0 κs.1.0 qs.0 qs.1.0 a.0) $
-    await ! tt $ split ! $ heard ! Agree (λ agree. split ! $ move ! (1 ∷ []) $ split ! $ move ! (1 ∷ 4 ∷ []) $ join ! $ move ! (1 ∷ 0 ∷ []) $
-    join ! $ move ! (1 ∷ 2 ∷ []) $ fjoin ! $ move ! (1 ∷ 0 ∷ []) $ join ! $
+    await ! tt $ split ! $ heard ! Agree (λ agree. split ! $ move ! (1 ∷ []) $ split ! $ move ! (1 ∷ 4 ∷ []) $ join ! $
+    move ! (1 ∷ 0 ∷ []) $ join ! $ move ! (1 ∷ 2 ∷ []) $ fjoin ! $ move ! (1 ∷ 0 ∷ []) $ join ! $
     nothing ! $ tells κs.1.1 K V S A B ! five $ move ! (1 ∷ 0 ∷ []) $ use2 𝓛 (raw (G₁.pre z₁)) (id⊢ 𝓤 _) $
     let Ev = env fn.locals l in let arms : Body = head (after 2 fn.body) in let Then = any_q
     (after_seq 𝓤 H (Wp 𝓤 H 𝓣.C 𝓣.Λ Ev (after 3 fn.body) (at_return 𝓤 H Ev Post)) (at_return 𝓤 H Ev Post)) in
@@ -162,8 +166,10 @@ first_of_next_key_spec 𝓤 𝓛 𝓜 𝓡 wired K V S A B LK LV LS LA LB eqs dE
     let is : v ≡ made = ap only some_val ∙ ap (λ u. live 1 (vcons u vnil)) (ap only ip) in
     lands_as ! is refl good $
     first ! $ switches_on ! (get_tag ! (vrt ! refl (fld ! refl (stop !))) (whole !)) $ exec ! 𝓣.C 𝓣.Λ Ev (arm_body 0 arms) Then $
-    sets ! (of_opd ! (get_in ! (vrt ! refl (fld ! refl (fld ! refl (stop !)))) (sub ! 0 refl (in_variant ! 1 0 refl refl (whole !))))) refl gk $
-    sets ! (of_opd ! (get_in ! (vrt ! refl (fld ! refl (fld ! refl (stop !)))) (sub ! 1 refl (in_variant ! 1 0 refl refl (whole !))))) refl gw $
+    sets ! (of_opd ! (get_in ! (vrt ! refl (fld ! refl (fld ! refl (stop !))))
+    (sub ! 0 refl (in_variant ! 1 0 refl refl (whole !))))) refl gk $
+    sets ! (of_opd ! (get_in ! (vrt ! refl (fld ! refl (fld ! refl (stop !))))
+    (sub ! 1 refl (in_variant ! 1 0 refl refl (whole !))))) refl gw $
     sets ! (of_opd ! (get ! refl)) refl gw $
     -- [the key; the inner walk; what the walk follows; the tokens]
     -- the inner walk gives the first
@@ -173,16 +179,16 @@ first_of_next_key_spec 𝓤 𝓛 𝓜 𝓡 wired K V S A B LK LV LS LA LB eqs dE
     let more : More = subst (λ (vs : List Vr.Denot). 0 < length vs) (sym values₁) valued in
     let G₂ = triple_of 𝓛 (g₂.signature K V A al dAl dropA) (g₂.spec K V A al dAl dropA 𝓛 𝓜.mem 𝓡.returns) in
     let z₂ : G₂.Ghost = ((κ₂, q₂, (bounds.1.0, (bounds.1.1.0, (bounds.1.1.1.1.0, tt))), (x.1, tt), (wi ∷ [], tt)), tt) in
-    drop ! $ move ! (2 ∷ []) $ split ! $ move ! (1 ∷ []) $ split ! $ move ! (1 ∷ []) $ split ! $ move ! (1 ∷ []) $ split ! $ move ! (1 ∷ []) $
-    split ! $ move ! (1 ∷ []) $ split ! $ move ! (1 ∷ []) $ split ! $ move ! (1 ∷ []) $ drop ! $
+    drop ! $ move ! (2 ∷ []) $ split ! $ move ! (1 ∷ []) $ split ! $ move ! (1 ∷ []) $ split ! $ move ! (1 ∷ []) $
+    split ! $ move ! (1 ∷ []) $ split ! $ move ! (1 ∷ []) $ split ! $ move ! (1 ∷ []) $ split ! $ move ! (1 ∷ []) $ drop ! $
     -- [the tokens 6, 5, 4, 3, 2, 1, 0; the inner walk; what the walk follows]
     nothing ! $ move ! (2 ∷ 0 ∷ []) $ join ! $ move ! (3 ∷ 0 ∷ []) $ join ! $ move ! (3 ∷ 0 ∷ []) $ join ! $ move ! (4 ∷ 0 ∷ []) $ join ! $
     -- [the tokens of the inner walk; the tokens 6, 4, 1; the inner walk; what the walk follows]
     nothing ! $ move ! (5 ∷ 0 ∷ []) $ fjoin ! $ move ! (1 ∷ 0 ∷ []) $ join ! $
     states ! More more $ states ! inA five.memory $ join ! $ states ! inV five.values $ join ! $ states ! inK five.keys $ join ! $
     move ! (1 ∷ 0 ∷ []) $ use2 𝓛 (raw (G₂.pre z₂)) (id⊢ 𝓤 _) $
-    calls_at ! (framed 𝓤 H 𝓜 𝓣) G₂ (met₂ 𝓤 𝓛 𝓜 𝓡 (code.calls-ordered_multimap_callers::stopped_keys::first_of_values 𝓡.env wired) K V A LK LV
-    LA al dAl dropA mAl mDropA) z₂ (and_then ! (get ! refl) (no_more !)) (λ v₂.
+    calls_at ! (framed 𝓤 H 𝓜 𝓣) G₂ (met₂ 𝓤 𝓛 𝓜 𝓡 (code.calls-ordered_multimap_callers::stopped_keys::first_of_values 𝓡.env wired)
+    K V A LK LV LA al dAl dropA mAl mDropA) z₂ (and_then ! (get ! refl) (no_more !)) (λ v₂.
     let Lends : Tw.Denot → Type 0 = λ q. LendsFirstOfKey x.1 (Some q.1) q.0 in
     use1 𝓛 (later (some (λ (q : Tw.Denot). (toks₂ ⊛ ‵ (Tw.own_val q (v₂ ∷ []))) ⊛
     some (λ (ws₂ : Lasts (g₂.ended K V A al dAl dropA) κ₂ (x.1, tt)). ‵ (lasts (g₂.ended K V A al dAl dropA) κ₂ (x.1, tt) ws₂) ⊛ raw
@@ -211,8 +217,9 @@ first_of_next_key_spec 𝓤 𝓛 𝓜 𝓡 wired K V S A B LK LV LS LA LB eqs dE
     -- [the tokens from 2; the token 0; the reference; the inner walk; the token 1; what the walk follows]
     nothing ! $ move ! (1 ∷ 0 ∷ []) $ join ! $
     nothing ! $ tells κs.1.1 K V S A B ! five $ move ! (1 ∷ 0 ∷ []) $ use2 𝓛 (raw (G₃.pre z₃)) (id⊢ 𝓤 _) $
-    calls_at ! (framed 𝓤 H 𝓜 𝓣) G₃ (met₃ 𝓤 𝓛 𝓜 𝓡 (code.calls-ordered_multimap::laws::inner_walks_are_exact 𝓡.env wired) K V S A B LK LV LS LA
-    LB eqs dEq pe dPe ha dHa bh dBh hg dHg al dAl dropA dropB mEq mPe mHa mBh mHg mAl mDropA mDropB) z₃ (no_more !) (λ v₃.
+    calls_at ! (framed 𝓤 H 𝓜 𝓣) G₃ (met₃ 𝓤 𝓛 𝓜 𝓡 (code.calls-ordered_multimap::laws::inner_walks_are_exact 𝓡.env wired)
+    K V S A B LK LV LS LA LB eqs dEq pe dPe ha dHa bh dBh
+    hg dHg al dAl dropA dropB mEq mPe mHa mBh mHg mAl mDropA mDropB) z₃ (no_more !) (λ v₃.
     use1 𝓛 (later (some (λ (n : Unit {0}). (toks₃ ⊛ ‵ (feq (List Val) (v₃ ∷ []) (vunit ∷ []))) ⊛ some
     (λ (ws₃ : Unit {0}). ‵ ftrue ⊛ ‵ law)))) (id⊢ 𝓤 _) $
     await ! tt $ pick ! (λ n. split ! $ split ! $ move ! (2 ∷ []) $
@@ -230,8 +237,8 @@ first_of_next_key_spec 𝓤 𝓛 𝓜 𝓡 wired K V S A B LK LV LS LA LB eqs dE
     nothing ! $ states ! inA five.memory $ join ! $ states ! inV five.values $ join ! $ states ! inK five.keys $ join ! $
     move ! (1 ∷ 0 ∷ []) $ use2 𝓛 (raw (G₅.pre z₅)) (id⊢ 𝓤 _) $
     sets ! (addr ! (through ! refl (stop !))) refl (tt, tt) $
-    calls_at_last ! (framed 𝓤 H 𝓜 𝓣) G₅ (met₅ 𝓤 𝓛 𝓜 𝓡 (code.calls-multimap_walks::writing::chain::EntryValuesMut::drop 𝓡.env wired) K V A LK LV
-    LA al dAl dropK dropV dropA mAl mDropK mDropV mDropA) z₅ (and_then ! (get ! refl) (no_more !)) (λ v₅.
+    calls_at_last ! (framed 𝓤 H 𝓜 𝓣) G₅ (met₅ 𝓤 𝓛 𝓜 𝓡 (code.calls-multimap_walks::writing::chain::EntryValuesMut::drop 𝓡.env wired)
+    K V A LK LV LA al dAl dropK dropV dropA mAl mDropK mDropV mDropA) z₅ (and_then ! (get ! refl) (no_more !)) (λ v₅.
     let c₁ : Cells Vr.Denot = q.0.values.cells in
     use1 𝓛 (later (some (λ (n : Unit {0}). (toks₂ ⊛ ‵ (feq (List Val) (v₅ ∷ []) (vunit ∷ []))) ⊛
     some (λ (ws₅ : Lasts (g₅.ended K V A al dAl dropK dropV dropA) κ₂ (q.0, tt)). ‵
