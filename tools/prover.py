@@ -1,10 +1,11 @@
 """The prover, its crates and what it says, for the scripts beside this file."""
-import os
 import pathlib
 import re
 import shutil
 
-KIT = pathlib.Path(os.path.realpath(shutil.which("rt") or "/")).parent.parent
+from source import Source, prover_name
+
+KIT = pathlib.Path(shutil.which("rt") or "/").resolve().parent.parent
 
 
 class Crate:
@@ -44,54 +45,9 @@ def below(crate, crates):
     return found
 
 
-def without_first_parameters(text):
-    """The text without the angle brackets that it begins with, and what stands between them."""
-    depth = 0
-    for at, letter in enumerate(text):
-        depth += letter == "<"
-        depth -= letter == ">" and text[at - 1] != "-"
-        if not depth:
-            return text[at + 1 :] if letter == ">" else text
-    return text
-
-
-FN = re.compile(r'^( *)(?:pub(?:\([a-z]+\))? )?(?:const )?(?:unsafe )?(?:extern "C" )?fn (\w+)', re.M)
-
-
-def function_at(crate, file, before):
-    """The function that a file is in after a part of its text, by the prover's name without the crate's: a
-    method is named after its type, in the type's module, or after type and trait, in its own module, without
-    type parameters. The one of `Drop` counts as the type's own."""
-    heads = list(FN.finditer(before))
-    if not heads:
-        return None
-    path = module_of(file)
-    if heads[-1][1]:
-        impl = re.findall(r"^impl\b([^{]*)\{", before[: heads[-1].start()], re.M)[-1]
-        named = re.sub(r"\w+::|\bwhere\b.*", "", without_first_parameters(impl), flags=re.S)
-        trait, _, kind = named.rpartition(" for ")
-        trait = "" if trait.strip() == "Drop" else re.sub(r"\b[A-Z]\b", "", trait)
-        kind = re.sub(r"<.*", "", kind, flags=re.S).strip()
-        kind = re.sub(r"&(?:'\w+ )?(?:\[.*|([A-Z]\b)?(\w?))", lambda it: "Ref" + ((it[2] or "").upper() if "[" not in it[0] else "Slice"), kind)
-        if not trait:
-            path = module_of(file_of(crate, kind) or file)
-        path = [*path, kind[:1].upper() + kind[1:] + re.sub(r"\W", "", trait)]
-    return "::".join([*path, heads[-1][2]])
-
-
-def file_of(crate, kind):
-    """The file that declares a type."""
-    words = re.compile(rf"^(?:pub(?:\([a-z]+\))? )?(?:struct|enum) {kind}\b", re.M)
-    files = [it for it in (crate.folder / "src").rglob("*.rt") if words.search(it.read_text())]
-    return str(files[0].relative_to(crate.folder)) if files else None
-
-
-def module_of(file):
-    return [it for it in file.removeprefix("src/").removesuffix(".rt").split("/") if it != "lib"]
-
-
 FINDING = re.compile(r"note: src/\S+: .*\(`([^`]+)`\)")
 VERDICT = re.compile(r"fn (\S+): (.*)")
+UNCOVERED = re.compile(r"^note: the borrow checker has no part in the proof of `([^`]+)`", re.M)
 ERROR = re.compile(r"\./proofs/(\S+)/(\w+\.antt):(\d+):\d+: error: `([^`]+)`")
 
 
@@ -101,6 +57,7 @@ class Report:
     def __init__(self, said, crate):
         self.verdicts, self.goals, self.crate = {}, {}, crate
         self.unknown = re.findall(r"^rattle: error: .* no function `([^`]+)`", said, re.M)
+        self.uncovered = {it.removeprefix(f"{crate.name}::") for it in UNCOVERED.findall(said)}
         self.has_reached_the_prover = re.search(r"^(only=\d+ |rattle: no verdict)", said, re.M) is not None
         found = []
         for line in said.split("\n"):
@@ -167,3 +124,31 @@ def check_command(crate, crates, built, only):
     words += ["--antt-project", KIT / "rattle/logic/antt-project.json", "--logic-built", KIT / "logic_built"]
     words += ["--links", f"{crate.name}=", "--jobs", "1", "--incremental", "out/incremental"]
     return [*words, *(it for name in sorted(only) for it in ("--only", name))]
+
+
+ANSWER = """use Rattle.{}.Goals as goal
+
+pub unreachable-requires : goal.unreachable-requires
+unreachable-requires = ?
+"""
+
+
+def take_bodies_out(crate, kept):
+    """Gives each function but those that are kept a body that no proof admits, with an answer that fails at once.
+
+    The proof of a function stands on the contracts of what it calls, so this says the same of those that are kept.
+    """
+    for file in sorted((crate.folder / "src").rglob("*.rt")):
+        source, made, at = Source(file), [], 0
+        for function in source.functions:
+            name = prover_name(crate.folder, source, function)
+            if function.opens is None or name in kept or function.first < at:
+                continue
+            made += [*source.lines[at : function.opens + 1], f"{function.indent}    unreachable!()"]
+            at = function.closes
+            folder = crate.folder / "proofs" / name.replace("::", "/")
+            for part in ("Proof", "Invariants"):
+                (folder / f"{part}.antt").unlink(missing_ok=True)
+            folder.mkdir(parents=True, exist_ok=True)
+            (folder / "Answers.antt").write_text(ANSWER.format(".".join([crate.name, "proofs", *name.split("::")])))
+        file.write_text("\n".join([*made, *source.lines[at:]]))
