@@ -106,6 +106,39 @@ GOOD = [
     ),
 ]
 
+# Runs of changes, each change with its reply, and what look-ups then find: the key that is looked up, its first
+# value, how many it has, how many keys and values there are, and the last pair.
+CHANGES = [
+    [
+        ("lengths", "0 0", 1, "none", 0, "0 0", "none"),
+        ("insert 1 11", "none", 1, "11", 1, "1 1", "1:11"),
+        ("append 2 12", "new", 2, "12", 1, "2 2", "2:12"),
+        ("remove 2", "12", 2, "none", 0, "1 1", "1:11"),
+        ("remove 1", "11", 1, "none", 0, "0 0", "none"),
+    ],
+    [
+        ("lengths", "0 0", 1, "none", 0, "0 0", "none"),
+        ("insert 1 11", "none", 1, "11", 1, "1 1", "1:11"),
+        ("remove 1", "11", 1, "none", 0, "0 0", "none"),
+        ("insert 1 11", "none", 1, "11", 1, "1 1", "1:11"),
+        ("clear", "done", 1, "none", 0, "0 0", "none"),
+    ],
+    [
+        ("insert 1 11", "none", 1, "11", 1, "1 1", "1:11"),
+        ("insert 2 12", "none", 2, "12", 1, "2 2", "2:12"),
+        ("append 1 13", "more", 1, "11", 2, "2 3", "1:13"),
+        ("remove 1", "11", 1, "none", 0, "1 1", "2:12"),
+        ("remove 2", "12", 2, "none", 0, "0 0", "none"),
+    ],
+    [
+        ("insert 1 11", "none", 1, "11", 1, "1 1", "1:11"),
+        ("insert 1 12", "old 11", 1, "12", 1, "1 1", "1:12"),
+        ("append 1 13", "more", 1, "12", 2, "1 2", "1:13"),
+        ("insert 1 14", "old 12", 1, "14", 1, "1 1", "1:14"),
+        ("remove 1", "14", 1, "none", 0, "0 0", "none"),
+    ],
+]
+
 # Texts with the number of their first bad line. Nothing is written for them.
 BAD = [
     # A run that ends in a line with a missing operand.
@@ -209,9 +242,19 @@ LONG = [
 ]
 
 
+def looked_up(rows):
+    """A run of changes with the look-ups behind each, and what is written."""
+    given = (f"{change}\nget {key}\nhas {key}\nlen {key}\nlengths\nback\n" for change, _, key, *_ in rows)
+    written = (
+        f"{reply}\n{first}\n{'yes' if count else 'no'}\n{count}\n{lengths}\n{back}\n"
+        for _, reply, _, first, count, lengths, back in rows
+    )
+    return "".join(given), "".join(written)
+
+
 def runs():
     """Each input with its output, the text on standard error, and the status."""
-    for given, written in GOOD + LONG:
+    for given, written in GOOD + LONG + [looked_up(rows) for rows in CHANGES]:
         yield given.encode(), (written.encode(), b"", 0)
     for given, line in [*((text.encode(), line) for text, line in BAD), *((text, 1) for text in BYTES)]:
         yield given, (b"", b"bad line %d\n" % line, 2)

@@ -11,7 +11,6 @@ mod into_iter;
 mod key_values;
 mod queries;
 mod shown;
-mod texts;
 mod uncloned;
 mod uses;
 mod walks;
@@ -21,20 +20,13 @@ use crate::tests::into_iter::{pairs_are_handed_out, rest_is_walked, sum_of};
 use crate::tests::shown::is_shown_apart;
 use ordered_multimap::ListOrderedMultimap;
 use ordered_multimap::list_ordered_multimap::RandomState;
-use ordered_multimap_callers::maps::{MIXED, Numbers, Texts, map_of, refill};
+use ordered_multimap_callers::maps::{MIXED, Numbers, map_of, refill};
 use ordered_multimap_callers::tested::test_on_empty;
 use test_helpers::{Failed, Test, ZERO, test_all};
 
-fn texts_answer(test: &Test, map: &mut Texts) {
-    test.begin("texts");
-    texts::come_and_go(test, map);
-    test.begin("shown");
-    shown::map_is_shown(test, map);
-}
-
 #[test]
-fn maps_of_texts_answer(rt: HostRuntime) -> Result<(), Failed> {
-    test_on_empty(rt.alloc(), texts_answer)
+fn maps_of_texts_are_shown(rt: HostRuntime) -> Result<(), Failed> {
+    test_on_empty(rt.alloc(), shown::map_is_shown)
 }
 
 fn numbers_answer(test: &Test, map: &mut Numbers) {
