@@ -9,7 +9,7 @@ use Rattle.multimap_slots.specs.declared.cells_of.SlotCells.{SlotCells}
 module _ {T L A : Type 0} where
   -- the name of the loan that the list follows
   abbrev pub cells_name : SlotCells T L A → GName
-  cells_name c = c.cells.whole
+  cells_name c = c.cells.lender_loan
 
   -- the list as it was lent
   abbrev pub lent_slots : SlotCells T L A → Slots T L
@@ -39,7 +39,7 @@ module _ {T L A : Type 0} where
     pub left : new.cells.left ≡ slice_set old.cells.left place false
     pub name : cells_name new ≡ cells_name old
     pub ends : end_names new ≡ slice_set (end_names old) place r.ghost_name
-    pub around : new.cells.around ≡ old.cells.around
+    pub lender_context : new.cells.lender_context ≡ old.cells.lender_context
 
   -- only the capacity differs, no item was taken, listed or not, and each slot has a name
   pub record LendsSlots (s : Slots T L) (c : SlotCells T L A) : Type 0 where

@@ -32,7 +32,7 @@ module _ (T L A : RattleType) (alloc : Ghosts A.Denot) (s : MutBor (Slots T.Deno
   -- where one stood
   abbrev pub lends_whole : Cells T.Denot → Fml
   lends_whole c =
-      follows (the_row T L A alloc) (the_row T L A alloc) s.ghost_name c.whole
+      follows (the_row T L A alloc) (the_row T L A alloc) s.ghost_name c.lender_loan
       (λ n. with_refilled s.now n.items)
 
   -- once the loan of items and order ends, only the items of the list may differ, and they stand

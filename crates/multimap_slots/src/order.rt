@@ -49,7 +49,7 @@ impl<L, A: Allocator> Model for Order<L, A> {
 
 impl<L: Copy, A: Allocator> Order<L, A> {
     ghost use Rattle.std.specs.Borrow.{sem};
-    ghost use Rattle.multimap_slots.specs.Private.ListLayout.{HasNoPlaces, HasFree, AddsLast, KeepsPlaces, Removes};
+    ghost use Rattle.multimap_slots.specs.Private.ListLayout.{HasNoPlaces, HasFree, AddsLast, KeepsPlaces, RemovesPlace};
     ghost use Rattle.multimap_slots.specs.Private.OrderLends.{lends_place_link};
 
     /// An order without places, over an empty vector of nodes.
@@ -106,7 +106,7 @@ impl<L: Copy, A: Allocator> Order<L, A> {
     /// Takes the place out of the order. It is free then, and the next to be given.
     pub(crate) fn remove(&mut self, place: usize)
         requires { IsIn place self.old.order }
-        ensures { Removes self.old self.new place }
+        ensures { RemovesPlace self.old self.new place }
     {
         self.detach(place);
         self.free_detached(place);

@@ -15,7 +15,7 @@ use Rattle.ordered_multimap.specs.Keys.{stored_key, keys_named_by}
 use Rattle.ordered_multimap.specs.Changes.{appended, inserted, removed, first_written, end_written}
 use Rattle.ordered_multimap.specs.Changes.{first_occurrences}
 use Rattle.ordered_multimap.specs.Popped.{popped, popped_pair}
-use Rattle.ordered_multimap.specs.RemovedAt.{removed_at, value_beside}
+use Rattle.ordered_multimap.specs.RemovedAt.{removed_at, removable_value_at}
 use Rattle.ordered_multimap.specs.Retain.{Retains}
 use Rattle.ordered_multimap.specs.Popped as pops
 use Rattle.multimap_tool.specs.declared.commands.Ends.{Ends}
@@ -171,7 +171,7 @@ module _ {K : Type 0} (eq : K → K → Bool) {V A : Type 0} where
   Tells (RemoveEntry k) m (replies.Pair pair) = pair ≡ first_entry eq m k
   Tells (RemoveEntryAll k) m (replies.List list) =
       option_map (λ p. (p.0, p.1.items)) list ≡ entry_of eq m k
-  Tells (RemoveAt k i) m (replies.Value value) = value ≡ value_beside eq m.pairs k i
+  Tells (RemoveAt k i) m (replies.Value value) = value ≡ removable_value_at eq m.pairs k i
   Tells PopFront m (replies.Popped pair) =
       option_map told_pop pair ≡ popped_pair eq ends.Front m.pairs
   Tells PopBack m (replies.Popped pair) =

@@ -29,12 +29,12 @@ module _ (order : List ℕ) where
   AreLeft left = IsPath (λ place. IsIn place order) (next_of order) (previous_of order)
       left.first left.last left.length
 
-  module _ {X : Type 0} (shows : ℕ → Option X) where
+  module _ {X : Type 0} (item_of : ℕ → Option X) where
     -- what is shown at the places that are left
     abbrev pub items_left : ChainEnds → List X
-    items_left left = filter_map shows (places_left left)
+    items_left left = filter_map item_of (places_left left)
 
     -- places of the order are left, and each place of it shows an item
     pub record IsAlong (left : ChainEnds) : Type 0 where
-      pub shown : (place : ℕ) → IsIn place order → IsSome (shows place)
+      pub shown : (place : ℕ) → IsIn place order → IsSome (item_of place)
       pub are_left : AreLeft left

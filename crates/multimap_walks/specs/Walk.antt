@@ -26,8 +26,8 @@ module _ {X : Type 0} where
   -- a step at an end of the items gave what shows the item there, if there is one, and left the
   -- others: std's `TakesFirst` and `TakesLast` in one
   abbrev pub TakesEnd : {G : Type 0} → End → (G → X) → List X → Option G → List X → Type 0
-  TakesEnd end shows old given new =
-      MatchOption given ((old ≡ []) × (new ≡ [])) (λ x. old ≡ with_end end (shows x) new)
+  TakesEnd end item_of old given new =
+      MatchOption given ((old ≡ []) × (new ≡ [])) (λ x. old ≡ with_end end (item_of x) new)
 
   -- the hint has the number of items as both bounds
   abbrev pub TellsLength : ℕ × Option ℕ → List X → Type 0

@@ -4,5 +4,5 @@ pub mod Kept
 pub mod LookUps
 pub mod NewPlaces
 pub mod Queries
-pub mod Renamed
+pub mod Relocated
 pub mod StayingKeys

@@ -1,3 +1,3 @@
-pub mod Mended
+pub mod Relinked
 pub mod OneMove
-pub mod Settled
+pub mod Dense

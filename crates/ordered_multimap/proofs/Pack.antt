@@ -1,4 +1,4 @@
 pub mod Capacities
 pub mod Packing
-pub mod RenamedKeys
+pub mod RelocatedKeys
 pub mod Rows

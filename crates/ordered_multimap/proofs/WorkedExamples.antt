@@ -11,7 +11,7 @@ use Rattle.ordered_multimap.specs.Changes.{appended, inserted, kept, removed, al
 use Rattle.ordered_multimap.specs.Changes.{end_written}
 use Rattle.ordered_multimap.specs.Popped.{Popped, popped_pair, popped}
 use Rattle.ordered_multimap.specs.Retain.{Retains}
-use Rattle.ordered_multimap.specs.RemovedAt.{removed_at, value_beside}
+use Rattle.ordered_multimap.specs.RemovedAt.{removed_at, removable_value_at}
 use Rattle.ordered_multimap.specs.Laws.{all_of, staying}
 
 -- the definitions at numbers
@@ -211,7 +211,7 @@ marked_pairs = (true, (1, 1)) ∷ (false, (1, 2)) ∷ (true, (2, 5)) ∷ (true, 
 abbrev three_of_one : Numbers
 three_of_one = append_each ((1, 1) ∷ (1, 2) ∷ (2, 5) ∷ (1, 3) ∷ [])
 
-values_beside : value_beside nat_eq three_of_one.pairs 1 1 ∷ value_beside nat_eq three_of_one.pairs 1 3 ∷ value_beside nat_eq
+values_beside : removable_value_at nat_eq three_of_one.pairs 1 1 ∷ removable_value_at nat_eq three_of_one.pairs 1 3 ∷ removable_value_at nat_eq
     three_of_one.pairs 2 0 ∷ []
     ≡ Some 2 ∷ None ∷ None ∷ []
 values_beside = refl

@@ -66,7 +66,7 @@ module _ (K V S A H : RattleType) {e : equality.Ghosts K.Denot} {k : hash.Ghosts
   -- ends with the entry whose map has them
   abbrev pub EndsEntry : OccupiedEntry K.Denot V.Denot S.Denot A.Denot H.Denot e k b h
       → SlotCells V.Denot ValueLink A.Denot → Type 0
-  EndsEntry o c = EndsAs o.map.now c (final V c.cells.around) (λ ws.
+  EndsEntry o c = EndsAs o.map.now c (final V c.cells.lender_context) (λ ws.
       (entry_row K V S A H e k b h alloc).coded.code (with_entry_items o ws))
 
   -- at `Err` the pair was refused; else the map ends as what the entry leaves

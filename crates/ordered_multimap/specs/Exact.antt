@@ -57,9 +57,9 @@ module _ (K V S A H : RattleType) (key : HashMembers K.Denot)
   WalksAreExact =
       fall (Multimap K.Denot V.Denot S.Denot) (λ m. fall GName (λ γ.
       fall (SlotCells V.Denot ValueLink A.Denot) (λ made. fall (Cells V.Denot) (λ c.
-      fall (EndsMap K V S m made) (λ _. fall (c.around ≡ made.cells.around) (λ _.
+      fall (EndsMap K V S m made) (λ _. fall (c.lender_context ≡ made.cells.lender_context) (λ _.
       fwand (follows (map_row K V S A H key build hash heap)
-      (map_row K V S A H key build hash heap) γ c.whole (with_values_of m))
+      (map_row K V S A H key build hash heap) γ c.lender_loan (with_values_of m))
       (fwand (ends_with V c) (ends_exactly K V S m γ c))))))))
 
 module _ {K V S A H : Type 0} {e : equality.Ghosts K} {k : hashed.Ghosts K} {b : builder.Ghosts S H}
@@ -111,8 +111,8 @@ module _ (K V S A H : RattleType) (e : equality.Ghosts K.Denot) (k : hashed.Ghos
   EntryWalksAreExact =
       fall (MutBor (OccupiedEntry K.Denot V.Denot S.Denot A.Denot H.Denot e k b h)) (λ o.
       fall (SlotCells V.Denot ValueLink A.Denot) (λ made. fall (Cells V.Denot) (λ c.
-      fall (EndsEntry K V S A H heap o.now made) (λ _. fall (c.around ≡ made.cells.around) (λ _.
-      fwand (lends_values_to_entry K V S A H heap o c.whole)
+      fall (EndsEntry K V S A H heap o.now made) (λ _. fall (c.lender_context ≡ made.cells.lender_context) (λ _.
+      fwand (lends_values_to_entry K V S A H heap o c.lender_loan)
       (fwand (ends_with V c) (entry_ends_exactly K V S A H heap o c)))))))
 
   -- where a walk over keys follows the loan of the walk over a key's values that it gave: once that
@@ -123,8 +123,8 @@ module _ (K V S A H : RattleType) (e : equality.Ghosts K.Denot) (k : hashed.Ghos
       fall (MutBor (KeyValuesMut K.Denot V.Denot S.Denot A.Denot H.Denot e k b h)) (λ w.
       fall (Bor K.Denot × EntryValuesMut K.Denot V.Denot A.Denot) (λ r. fall (Cells V.Denot) (λ c.
       fall (EndsStepped K V S A H heap end w.now r) (λ _.
-      fall (c.around ≡ (entry_values_mut_values r.1).cells.around) (λ _.
-      fall (c.whole ≡ entry_values_mut_name r.1) (λ _.
+      fall (c.lender_context ≡ (entry_values_mut_values r.1).cells.lender_context) (λ _.
+      fall (c.lender_loan ≡ entry_values_mut_name r.1) (λ _.
       fwand (lends_key_values K V S A H heap end w (Some r))
       (fwand (ends_with V c) (walk_ends_exactly K V S A H heap end w c)))))))))
 

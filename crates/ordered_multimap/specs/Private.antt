@@ -1,10 +1,10 @@
 pub mod Append
 pub mod Copies
-pub mod KeyRenames
+pub mod KeyRelocations
 pub mod KeySteps
 pub mod Remove
 pub mod RemoveAt
 pub mod RemoveOne
-pub mod Renames
+pub mod Relocations
 pub mod Retain
 pub mod Update

@@ -12,8 +12,8 @@ several (x ∷ y ∷ xs) = x ∷ y ∷ xs
 
 module _ {K : Type 0} (eq : K → K → Bool) {V : Type 0} where
   -- the value at an index among the key's values, counted from 0, where the key has others
-  abbrev pub value_beside : List (K × V) → K → ℕ → Option V
-  value_beside pairs k index = slice_get (several (values_of eq pairs k)) index
+  abbrev pub removable_value_at : List (K × V) → K → ℕ → Option V
+  removable_value_at pairs k index = slice_get (several (values_of eq pairs k)) index
 
   -- the position of its pair
   abbrev pub position_beside : List (K × V) → K → ℕ → Option ℕ

@@ -82,7 +82,7 @@ pub record EndsAs {K V S A : Type 0} (m : Multimap K V S) (c : SlotCells V Value
 -- map that has them
 abbrev pub EndsMap : (K V S : RattleType) → {A : Type 0} → Multimap K.Denot V.Denot S.Denot
     → SlotCells V.Denot ValueLink A → Type 0
-EndsMap K V S m c = EndsAs m c (final V c.cells.around)
+EndsMap K V S m c = EndsAs m c (final V c.cells.lender_context)
     (λ ws. (multimap_code K.coded V.coded S.coded).code (with_items m ws))
 
 -- the same of a tape of values

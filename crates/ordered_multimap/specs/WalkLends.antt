@@ -72,7 +72,7 @@ module _ (K V S A H : RattleType) {e : equality.Ghosts K.Denot} {k : hash.Ghosts
   -- walk's loan has ended with the walk that has them in its map
   abbrev pub EndsWalk : KeyValuesMut K.Denot V.Denot S.Denot A.Denot H.Denot e k b h
       → SlotCells V.Denot ValueLink A.Denot → Type 0
-  EndsWalk w c = EndsAs w.map.now c (final V c.cells.around)
+  EndsWalk w c = EndsAs w.map.now c (final V c.cells.lender_context)
       (λ ws. (walk_row K V S A H e k b h alloc).coded.code (with_walk_items w ws))
 
   -- a walk has stepped, and its map's values are lent; once their slots end with some items, the

@@ -118,15 +118,15 @@ module _ {K V : Type 0} where
       ap (λ (ps : List (K × V)). lists m.lists.keys ps) (pairs_are ∙ sym first_are)
 
 -- what is shown first at some places is shown at one of all places
-first_shown : {Y : Type 0} (shows : ℕ → Option Y) (places order : List ℕ) → ((p : ℕ) → IsIn p places → IsIn p order) → (y : Y)
-    → end_item Front (filter_map shows places) ≡ Some y → IsIn y (filter_map shows order)
-first_shown shows [] order among y e = absurd (let bad = e in cc)
-first_shown shows (p ∷ places) order among y e =
-    let From : Option _ → Type 0 = λ o. shows p ≡ o → end_item Front (cons_option o (filter_map shows places)) ≡ Some y
-    → IsIn y (filter_map shows order) in
-    elim (shows p) as From [
-      | Some z ↦ λ is first. IsIn-filter_map shows p y order (among p (inl refl)) (is ∙ first)
-      | None ↦ λ is first. first_shown shows places order (λ q i. among q (inr i)) y first
+first_shown : {Y : Type 0} (item_of : ℕ → Option Y) (places order : List ℕ) → ((p : ℕ) → IsIn p places → IsIn p order) → (y : Y)
+    → end_item Front (filter_map item_of places) ≡ Some y → IsIn y (filter_map item_of order)
+first_shown item_of [] order among y e = absurd (let bad = e in cc)
+first_shown item_of (p ∷ places) order among y e =
+    let From : Option _ → Type 0 = λ o. item_of p ≡ o → end_item Front (cons_option o (filter_map item_of places)) ≡ Some y
+    → IsIn y (filter_map item_of order) in
+    elim (item_of p) as From [
+      | Some z ↦ λ is first. IsIn-filter_map item_of p y order (among p (inl refl)) (is ∙ first)
+      | None ↦ λ is first. first_shown item_of places order (λ q i. among q (inr i)) y first
     ] refl e
 
 some_items : {X : Type 0} (xs : List X) → has_items xs ≡ true → 0 < length xs
@@ -160,10 +160,10 @@ module _ (K V S A H : RattleType) (e : equality.Ghosts K.Denot) (k : hashed.Ghos
       (fwand (ends_with V c) (walk_ends_exactly K V S A H heap end w c))
 
   abbrev OfName : End → MutBor Walk → Next → Cells V.Denot → Fml
-  OfName end w x c = fall (c.whole ≡ entry_values_mut_name x.1) (λ _. Follows end w x c)
+  OfName end w x c = fall (c.lender_loan ≡ entry_values_mut_name x.1) (λ _. Follows end w x c)
 
   abbrev OfAround : End → MutBor Walk → Next → Cells V.Denot → Fml
-  OfAround end w x c = fall (c.around ≡ (entry_values_mut_values x.1).cells.around) (λ _. OfName end w x c)
+  OfAround end w x c = fall (c.lender_context ≡ (entry_values_mut_values x.1).cells.lender_context) (λ _. OfName end w x c)
 
   abbrev OfCells : End → MutBor Walk → Next → Cells V.Denot → Fml
   OfCells end w x c = fall (EndsStepped K V S A H heap end w.now x) (λ _. OfAround end w x c)
@@ -179,7 +179,7 @@ module _ (K V S A H : RattleType) (e : equality.Ghosts K.Denot) (k : hashed.Ghos
 
   -- the law of the walks over a key's values, of one such walk
   pub inner_law_at : {M : Type 1} {𝓤 : Ura M} (𝓛 : Logic 𝓤) (end : End) (w : MutBor Walk) (x : Next) (c : Cells V.Denot)
-      → EndsStepped K V S A H heap end w.now x → c.around ≡ (entry_values_mut_values x.1).cells.around → c.whole ≡ entry_values_mut_name x.1
+      → EndsStepped K V S A H heap end w.now x → c.lender_context ≡ (entry_values_mut_values x.1).cells.lender_context → c.lender_loan ≡ entry_values_mut_name x.1
       → ent 𝓤 (sem 𝓛 (InnerWalksAreExact K V S A H e k b h heap)) (sem 𝓛 (Follows end w x c))
   inner_law_at {𝓤 = 𝓤} 𝓛 end w x c stepped around name =
       let Keys : Fml = KeyWalksAreExact K V S A H e k b h heap in

@@ -199,22 +199,22 @@ module _ {M : Type 1} {𝓤 : Ura M} (𝓛 : Logic 𝓤) (K V S A H : RattleType
   R = map_row K V S A H key build hash heap
 
   pub law_at : (m : Multimap K.Denot V.Denot S.Denot) (γ : GName) (made : SlotCells V.Denot ValueLink A.Denot) (c : Cells V.Denot)
-      → EndsMap K V S m made → c.around ≡ made.cells.around
+      → EndsMap K V S m made → c.lender_context ≡ made.cells.lender_context
       → ent 𝓤 (sem 𝓛 (WalksAreExact K V S A H key build hash heap))
-      (sem 𝓛 (fwand (follows R R γ c.whole (with_values_of m)) (fwand (ends_with V c) (ends_exactly K V S m γ c))))
+      (sem 𝓛 (fwand (follows R R γ c.lender_loan (with_values_of m)) (fwand (ends_with V c) (ends_exactly K V S m γ c))))
   law_at m γ made c ends same =
-      let Joined : Fml = fwand (follows R R γ c.whole (with_values_of m)) (fwand (ends_with V c) (ends_exactly K V S m γ c)) in
-      let Around : Fml = fall (c.around ≡ made.cells.around) (λ _. Joined) in
+      let Joined : Fml = fwand (follows R R γ c.lender_loan (with_values_of m)) (fwand (ends_with V c) (ends_exactly K V S m γ c)) in
+      let Around : Fml = fall (c.lender_context ≡ made.cells.lender_context) (λ _. Joined) in
       let Over : SlotCells V.Denot ValueLink A.Denot → Cells V.Denot
-      → Fml = λ made c. fall (EndsMap K V S m made) (λ _. fall (c.around ≡ made.cells.around) (λ _.
-      fwand (follows R R γ c.whole (with_values_of m)) (fwand (ends_with V c) (ends_exactly K V S m γ c)))) in
+      → Fml = λ made c. fall (EndsMap K V S m made) (λ _. fall (c.lender_context ≡ made.cells.lender_context) (λ _.
+      fwand (follows R R γ c.lender_loan (with_values_of m)) (fwand (ends_with V c) (ends_exactly K V S m γ c)))) in
       let Named : GName → Fml = λ γ. fall (SlotCells V.Denot ValueLink A.Denot)
-      (λ made. fall (Cells V.Denot) (λ c. fall (EndsMap K V S m made) (λ _. fall (c.around ≡ made.cells.around) (λ _.
-      fwand (follows R R γ c.whole (with_values_of m)) (fwand (ends_with V c) (ends_exactly K V S m γ c)))))) in
+      (λ made. fall (Cells V.Denot) (λ c. fall (EndsMap K V S m made) (λ _. fall (c.lender_context ≡ made.cells.lender_context) (λ _.
+      fwand (follows R R γ c.lender_loan (with_values_of m)) (fwand (ends_with V c) (ends_exactly K V S m γ c)))))) in
       let Of : Multimap K.Denot V.Denot S.Denot → Fml = λ m. fall GName
       (λ γ. fall (SlotCells V.Denot ValueLink A.Denot) (λ made. fall (Cells V.Denot) (λ c.
-      fall (EndsMap K V S m made) (λ _. fall (c.around ≡ made.cells.around)
-      (λ _. fwand (follows R R γ c.whole (with_values_of m)) (fwand (ends_with V c) (ends_exactly K V S m γ c))))))) in
+      fall (EndsMap K V S m made) (λ _. fall (c.lender_context ≡ made.cells.lender_context)
+      (λ _. fwand (follows R R γ c.lender_loan (with_values_of m)) (fwand (ends_with V c) (ends_exactly K V S m γ c))))))) in
       via 𝓤 (sem 𝓛 (Of m)) (all_e 𝓤 (λ n. sem 𝓛 (Of n)) m) (via 𝓤 (sem 𝓛 (Named γ)) (all_e 𝓤 (λ δ. sem 𝓛 (Named δ)) γ)
       (via 𝓤 (sem 𝓛 (fall (Cells V.Denot) (Over made))) (all_e 𝓤 (λ h. sem 𝓛 (fall (Cells V.Denot) (Over h))) made)
       (via 𝓤 (sem 𝓛 (Over made c)) (all_e 𝓤 (λ d. sem 𝓛 (Over made d)) c)

@@ -2,7 +2,7 @@
 ghost use Rattle.std.specs.Prelude.{◌≡◌, true, false, length, nat_eq, slice_get, Some, IfNone, IfOk, IfSome, OnSome, OnErr, OnOk};
 ghost use Rattle.ordered_multimap.specs.Changes.{appended, first_written, inserted, removed};
 ghost use Rattle.ordered_multimap.specs.Pairs.{is_present, values_of};
-ghost use Rattle.ordered_multimap.specs.RemovedAt.{removed_at, value_beside};
+ghost use Rattle.ordered_multimap.specs.RemovedAt.{removed_at, removable_value_at};
 
 use ordered_multimap::ListOrderedMultimap;
 use ordered_multimap::list_ordered_multimap::{Entry, Refused, RefusedValue};
@@ -55,7 +55,7 @@ pub fn take_value_out<K: Eq + Hash + Drop, V: Drop, S: BuildHasher, A: Allocator
         → map.new.lists ≡ removed_at K.eq map.old.lists key index }
     ensures absent { is_present K.eq map.old.lists.pairs key ≡ false
         → map.new.lists ≡ map.old.lists }
-    ensures value { result ≡ value_beside K.eq map.old.lists.pairs key index }
+    ensures value { result ≡ removable_value_at K.eq map.old.lists.pairs key index }
 {
     match map.entry(key) {
         Entry::Occupied(mut entry) => entry.remove_at(index),

@@ -41,10 +41,10 @@ fn closes_two_holes(test: &Test, tape: &mut Items) -> bool
     let places = push_four(tape);
     let are_removed = remove_both(tape, places.0, places.2);
     expect_on(test, tape, &[(places.1, 20, 2), (places.3, 40, 4)]);
-    test.expect(tape.end_place() == 4);
+    test.expect(tape.push_place() == 4);
     let are_closed = close(tape, places);
     expect_on(test, tape, &[(places.0, 20, 2), (places.1, 40, 4)]);
-    test.expect(tape.end_place() == 2);
+    test.expect(tape.push_place() == 2);
     are_removed && are_closed
 }
 

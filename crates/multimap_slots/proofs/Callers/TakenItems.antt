@@ -26,7 +26,7 @@ module _ {T L A : Type 0} {old new : SlotCells T L A} {place : ℕ} {r : MutBor 
 -- the same items are lent where another loan is followed
 pub LendsSlots-renamed : {T L A : Type 0} {s : Slots T L} {c : SlotCells T L A} (whole : GName) (around : Option (List (Bool × Gv)))
     → LendsSlots s c
-    → LendsSlots s (record c { cells = record c.cells { whole = whole; around = around } })
+    → LendsSlots s (record c { cells = record c.cells { lender_loan = whole; lender_context = around } })
 LendsSlots-renamed whole around lent = record {
   slots = lent.slots;
   untaken = lent.untaken;

@@ -2,7 +2,7 @@
 use Rattle.std.proofs.Common.{◌≡◌, ℕ, zero, suc, ◌+◌, ◌<◌, ◌≤◌, List, [], ◌∷◌, ◌++◌, length, get_or, set, take, Option, Some, None}
 use Rattle.std.proofs.Common.{append_assoc, refl, sym, ap, subst, ◌∙◌, inl, inr, arith}
 use Rattle.std.proofs.lemmas.Bool.{eq-eqb, ne_eqb}
-use Rattle.multimap_slots.specs.Lists.{IsIn, AreDistinct, Rises, first_of, last_of, next_of, previous_of, without, IsRenamed}
+use Rattle.multimap_slots.specs.Lists.{IsIn, AreDistinct, Rises, first_of, last_of, next_of, previous_of, without, IsRelocated}
 use Rattle.multimap_slots.specs.Private.Runs.{places_from}
 use Rattle.multimap_slots.proofs.Callers.PlaceLists.{without-absent, IsIn-split, IsIn-left, IsIn-right, AreDistinct-gone, next_of-split}
 use Rattle.multimap_slots.proofs.Callers.PlaceLists.{previous_of-split}
@@ -121,7 +121,7 @@ places-none at (suc n ∷ runs) holes = places-none (suc at) runs (λ q below. h
 -- an item goes down over holes
 pub places-move : (at : ℕ) (runs : List ℕ) (to from n : ℕ) → to < from → ((q : ℕ) → to ≤ q → q < from → 0 < get_or runs q 0)
     → get_or runs from 1 ≡ 0 → 0 < n
-    → IsRenamed (places_from at runs) (places_from at (set (set runs to 0) from n)) (at + from) (at + to)
+    → IsRelocated (places_from at runs) (places_from at (set (set runs to 0) from n)) (at + from) (at + to)
 places-move at [] to from n down holes item some = absurd (omega (arith, item))
 places-move at (r ∷ runs) to zero n down holes item some = absurd (omega (arith, down))
 places-move at (zero ∷ runs) zero (suc from) n down holes item some = absurd (omega (arith, holes 0 (omega arith) (omega arith)))

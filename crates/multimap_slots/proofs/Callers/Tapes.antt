@@ -4,19 +4,19 @@ use Rattle.std.proofs.Common.{Some, None, IsSome, refl, sym, ap, subst, ◌∙�
 use Rattle.std.proofs.lemmas.Bool.{cases_eq}
 use Rattle.std.proofs.lemmas.List.{length-set, get_or-set_same, get_or-set_other, get_or-take}
 use Rattle.std.proofs.lemmas.Option.{slice_get-get_or}
-use Rattle.multimap_slots.specs.Lists.{IsIn, AreDistinct, IsRenamed, without}
+use Rattle.multimap_slots.specs.Lists.{IsIn, AreDistinct, IsRelocated, without}
 use Rattle.multimap_slots.specs.Slots.{Slots}
 use Rattle.multimap_slots.specs.Tapes.{MovesDown}
 use Rattle.multimap_slots.specs.Private.ListLayout.{put}
-use Rattle.multimap_slots.specs.Private.Runs.{Spread}
+use Rattle.multimap_slots.specs.Private.Runs.{RunLengths}
 use Rattle.multimap_slots.specs.Private.TapeLayout.{IsTape}
 use Rattle.multimap_slots.proofs.Callers.PlaceLists.{IsIn-append, IsIn-right, IsIn-was, IsIn-besides, IsIn-without, AreDistinct-gone}
 use Rattle.multimap_slots.proofs.Callers.ListedSlots.{slice_get-set_other}
 use Rattle.multimap_slots.proofs.Changes.Put.{put-push, get_or-put_same, get_or-put_other}
 
-module _ {T L : Type 0} {items : List (Option T)} {links : List L} {runs : Spread} {a b : ℕ}
+module _ {T L : Type 0} {items : List (Option T)} {links : List L} {runs : RunLengths} {a b : ℕ}
     (t : IsTape items links runs a b) where
-  pub IsTape-push : (new : Spread) (item : T) (link : L) → new.order ≡ runs.order ++ runs.used ∷ [] → new.used ≡ runs.used + 1
+  pub IsTape-push : (new : RunLengths) (item : T) (link : L) → new.order ≡ runs.order ++ runs.used ∷ [] → new.used ≡ runs.used + 1
       → {a' b' : ℕ} → new.capacity ≤ a' → new.capacity ≤ b' → IsTape (items ++ Some item ∷ []) (links ++ link ∷ []) new a' b'
   IsTape-push new item link order used items_fit links_fit =
       record {
@@ -36,7 +36,7 @@ module _ {T L : Type 0} {items : List (Option T)} {links : List L} {runs : Sprea
             (elim i [ inl was ↦ t.filled p was | inr b ↦ absurd (elim b [ inl e ↦ differs e | inr none ↦ none ]) ])
       ]
 
-  pub IsTape-remove : (new : Spread) (place : ℕ) → new.order ≡ without runs.order place → new.used ≡ runs.used
+  pub IsTape-remove : (new : RunLengths) (place : ℕ) → new.order ≡ without runs.order place → new.used ≡ runs.used
       → {a' b' : ℕ} → new.capacity ≤ a' → new.capacity ≤ b' → IsTape (set items place None) links new a' b'
   IsTape-remove new place order used items_fit links_fit =
       record {
@@ -49,7 +49,7 @@ module _ {T L : Type 0} {items : List (Option T)} {links : List L} {runs : Sprea
         links_fit = links_fit;
       }
 
-  pub IsTape-detach : (new : Spread) (place : ℕ) → new.order ≡ without runs.order place → new.used ≡ runs.used
+  pub IsTape-detach : (new : RunLengths) (place : ℕ) → new.order ≡ without runs.order place → new.used ≡ runs.used
       → {a' b' : ℕ} → new.capacity ≤ a' → new.capacity ≤ b' → IsTape items links new a' b'
   IsTape-detach new place order used items_fit links_fit =
       record {
@@ -60,7 +60,7 @@ module _ {T L : Type 0} {items : List (Option T)} {links : List L} {runs : Sprea
         links_fit = links_fit;
       }
 
-  pub IsTape-cut : (new : Spread) → new.order ≡ runs.order → new.used ≤ runs.used → ((p : ℕ) → IsIn p new.order → p < new.used)
+  pub IsTape-cut : (new : RunLengths) → new.order ≡ runs.order → new.used ≤ runs.used → ((p : ℕ) → IsIn p new.order → p < new.used)
       → {a' b' : ℕ} → new.capacity ≤ a' → new.capacity ≤ b' → IsTape (take new.used items) (take new.used links) new a' b'
   IsTape-cut new order no_more within items_fit links_fit =
       record {
@@ -71,7 +71,7 @@ module _ {T L : Type 0} {items : List (Option T)} {links : List L} {runs : Sprea
         links_fit = links_fit;
       }
 
-  pub IsTape-move : (new : Spread) (from to : ℕ) (link : L) → IsRenamed runs.order new.order from to → AreDistinct runs.order
+  pub IsTape-move : (new : RunLengths) (from to : ℕ) (link : L) → IsRelocated runs.order new.order from to → AreDistinct runs.order
       → new.used ≡ runs.used → to < runs.used
       → {a' b' : ℕ} → new.capacity ≤ a' → new.capacity ≤ b'
       → IsTape (set (set items from None) to (get_or items from None)) (set links to link) new a' b'
@@ -106,7 +106,7 @@ module _ {T L : Type 0} {items : List (Option T)} {links : List L} {runs : Sprea
 
 -- an item goes down with its link
 module _ {T L : Type 0} (old new : Slots T L) (from to : ℕ) where
-  pub MovesDown-set : (link : L) → ¬ IsIn to old.order → IsRenamed old.order new.order from to → from ≢ to
+  pub MovesDown-set : (link : L) → ¬ IsIn to old.order → IsRelocated old.order new.order from to → from ≢ to
       → from < length old.items → to < length old.items → from < length old.links → to < length old.links
       → link ≡ get_or old.links from link
       → new.items ≡ set (set old.items from None) to (get_or old.items from None) → new.links ≡ set old.links to link
@@ -138,6 +138,6 @@ slice_get-take (suc n) (x ∷ xs) zero below = refl
 slice_get-take (suc n) (x ∷ xs) (suc q) below = slice_get-take n xs q (omega (arith, below))
 
 -- a listed place is in use, since an item stands there
-pub listed_used : {T L : Type 0} {items : List (Option T)} {links : List L} {runs : Spread} {a b : ℕ} → IsTape items links runs a b
+pub listed_used : {T L : Type 0} {items : List (Option T)} {links : List L} {runs : RunLengths} {a b : ℕ} → IsTape items links runs a b
     → (p : ℕ) → IsIn p runs.order → p < runs.used
 listed_used {items = items} t p i = omega (arith, IsSome-within items p (t.filled p i), t.items_used)

@@ -8,7 +8,7 @@ use Rattle.std.specs.Prelude.{Option, Some, None, IsSome, is_some, map, ◌++◌
 use Rattle.std.proofs.Math.Seq.{take-append_seam}
 use Rattle.multimap_slots.specs.Taken.{refilled}
 use Rattle.multimap_slots.specs.Private.ListLayout.{IsFilled}
-use Rattle.multimap_slots.specs.Private.Runs.{Spread}
+use Rattle.multimap_slots.specs.Private.Runs.{RunLengths}
 use Rattle.multimap_slots.specs.Private.TapeLayout.{IsTape}
 use Rattle.multimap_slots.specs.declared.order.node.State.{State}
 use Rattle.multimap_slots.proofs.Loans.SplitKept.{length-refilled}
@@ -51,7 +51,7 @@ IsFilled-refilled xs ys order states f = record {
   empty = λ p e. none-refilled xs ys p (f.empty p e);
 }
 
-pub IsTape-refilled : {X L : Type 0} (xs ys : List (Option X)) (links : List L) (runs : Spread) {a b : ℕ} → IsTape xs links runs a b
+pub IsTape-refilled : {X L : Type 0} (xs ys : List (Option X)) (links : List L) (runs : RunLengths) {a b : ℕ} → IsTape xs links runs a b
     → IsTape (refilled xs ys) links runs a b
 IsTape-refilled xs ys links runs t = record {
   items_used = length-refilled xs ys ∙ t.items_used;

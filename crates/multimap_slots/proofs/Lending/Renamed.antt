@@ -34,19 +34,19 @@ use Rattle.multimap_slots.specs.Ended.{stays, ends_with}
 module _ {M : Type 1} {𝓤 : Ura M} (𝓛 : Logic 𝓤) (a : NamedLft) (T : RattleType) (R U : SemTy) (mk : U.rep → R.rep)
     (u : List (Option T.Denot) → U.rep) (ε : GName) (rim : Option (List (Bool × Gv))) where
   abbrev pub renamed : Cells T.Denot → Cells T.Denot
-  renamed c = record c { whole = ε; around = rim }
+  renamed c = record c { lender_loan = ε; lender_context = rim }
 
-  pub cells_renamed : (c : Cells T.Denot) (vs : List Val) → ((ws : List (Option T.Denot)) → U.coded.code (u ws) ≡ final T c.around ws)
+  pub cells_renamed : (c : Cells T.Denot) (vs : List Val) → ((ws : List (Option T.Denot)) → U.coded.code (u ws) ≡ final T c.lender_context ws)
       → ((ws : List (Option T.Denot)) → R.coded.code (mk (u ws)) ≡ final T rim ws)
-      → ent 𝓤 (sep 𝓤 (sem 𝓛 ((C.the_row a T).own_val c vs)) (sem 𝓛 (after R U ε c.whole mk)))
+      → ent 𝓤 (sep 𝓤 (sem 𝓛 ((C.the_row a T).own_val c vs)) (sem 𝓛 (after R U ε c.lender_loan mk)))
       (sem 𝓛 ((C.the_row a T).own_val (renamed c) vs))
   cells_renamed c vs from to =
       let Sized : Fml = flt (length c.items * (mem (Opt T)).size) (2 ^ 63) in
-      qed 𝓛 (‵ ((C.the_row a T).own_val c vs) ∷ ‵ (after R U ε c.whole mk) ∷ []) ∵ fsplit ! $ move ! (1 ∷ []) $ fsplit ! $ move ! (1 ∷ []) $
+      qed 𝓛 (‵ ((C.the_row a T).own_val c vs) ∷ ‵ (after R U ε c.lender_loan mk) ∷ []) ∵ fsplit ! $ move ! (1 ∷ []) $ fsplit ! $ move ! (1 ∷ []) $
       fpick ! (λ p. fsplit3 ! $ move ! (2 ∷ []) $ fsplit ! $
       -- [tied; the loans; the pointer; the size; the count; the fields; after]
       move ! (0 ∷ 6 ∷ []) $ use2 𝓛 (‵ (tied_now T ε rim c.names c.left))
-      (tied_on 𝓛 a.lft T p.0 R U mk u c.whole ε c.around rim from to c.names c.left) $ fjoin ! $
+      (tied_on 𝓛 a.lft T p.0 R U mk u c.lender_loan ε c.lender_context rim from to c.names c.left) $ fjoin ! $
       move ! (2 ∷ 0 ∷ []) $ fjoin ! $ move ! (1 ∷ 0 ∷ []) $ fjoin ! $
       fpack ! (ℕ × ℕ) (λ z. fsep (feq Ptr c.at (block_ptr z.0 z.1))
       (fsep Sized (fsep (tied_now T ε rim c.names c.left) (loans a.lft T z.0 c.names c.items c.left z.1)))) p $
@@ -60,12 +60,12 @@ module _ {M : Type 1} {𝓤 : Ura M} (𝓛 : Logic 𝓤) (a : NamedLft) (T : Rat
     Parts = (shape (S.the_type a T L A alloc)).fields
 
     pub slot_cells_renamed : (s : SlotCells T.Denot L.Denot A.Denot) (vs : List Val)
-        → ((ws : List (Option T.Denot)) → U.coded.code (u ws) ≡ final T s.cells.around ws)
+        → ((ws : List (Option T.Denot)) → U.coded.code (u ws) ≡ final T s.cells.lender_context ws)
         → ((ws : List (Option T.Denot)) → R.coded.code (mk (u ws)) ≡ final T rim ws)
-        → ent 𝓤 (sep 𝓤 (sem 𝓛 ((S.the_row a T L A alloc).own_val s vs)) (sem 𝓛 (after R U ε s.cells.whole mk)))
+        → ent 𝓤 (sep 𝓤 (sem 𝓛 ((S.the_row a T L A alloc).own_val s vs)) (sem 𝓛 (after R U ε s.cells.lender_loan mk)))
         (sem 𝓛 ((S.the_row a T L A alloc).own_val (all_renamed s) vs))
     slot_cells_renamed s vs from to =
-        qed 𝓛 (‵ ((S.the_row a T L A alloc).own_val s vs) ∷ ‵ (after R U ε s.cells.whole mk) ∷ []) ∵ fpick ! (λ us. fsplit3 ! $
+        qed 𝓛 (‵ ((S.the_row a T L A alloc).own_val s vs) ∷ ‵ (after R U ε s.cells.lender_loan mk) ∷ []) ∵ fpick ! (λ us. fsplit3 ! $
         -- [the value; the cells; the order; after]
         move ! (1 ∷ 3 ∷ []) $ use2 𝓛 (‵ ((C.the_row a T).own_val (renamed s.cells) us.0)) (cells_renamed s.cells us.0 from to) $
         move ! (0 ∷ 2 ∷ []) $ fjoin ! $ move ! (1 ∷ 0 ∷ []) $ fjoin ! $
@@ -80,7 +80,7 @@ module _ {M : Type 1} {𝓤 : Ura M} (𝓛 : Logic 𝓤) (a : NamedLft) (T : Rat
       fpick ! (λ p. fsplit3 ! $ drop ! $ drop ! $ fsplit ! $ move ! (1 ∷ []) $
       use1 𝓛 (later (‵ (stays (mem (Opt T)) c.names c.items c.left))) (left_stays 𝓛 a.lft T p.0 c.names c.items c.left p.1) $ await ! tt $
       move ! (1 ∷ 0 ∷ []) $
-      use2 𝓛 (‵ (ends_with T c)) (all_end 𝓛 a.lft T p.0 c.whole c.around c.names c.items c.left) $ now ! $ done !)
+      use2 𝓛 (‵ (ends_with T c)) (all_end 𝓛 a.lft T p.0 c.lender_loan c.lender_context c.names c.items c.left) $ now ! $ done !)
 
   pub slot_cells_end : (L A : RattleType) (alloc : Ghosts A.Denot) (s : SlotCells T.Denot L.Denot A.Denot) (vs : List Val)
       → ent 𝓤 (sem 𝓛 ((S.the_row a T L A alloc).own_val s vs)) (H.⇛ (sem 𝓛 (ends_with T s.cells)))

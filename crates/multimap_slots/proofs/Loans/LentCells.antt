@@ -40,8 +40,8 @@ module _ (R : RattleType) (b o : ℕ) (xs : List (Option R.Denot)) (ns : List GN
     at = block_ptr b o;
     length = length xs;
     mark = record {};
-    whole = ε;
-    around = rim;
+    lender_loan = ε;
+    lender_context = rim;
     names = ns;
     items = xs;
     left = replicate (length xs) true;

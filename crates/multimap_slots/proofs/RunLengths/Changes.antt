@@ -5,7 +5,7 @@ use Rattle.std.proofs.Common.{inl, inr, arith, length-append, length-take-le}
 use Rattle.std.proofs.lemmas.Bool.{cases_eq, cases_lt}
 use Rattle.std.proofs.lemmas.List.{get_or-set_same, get_or-set_other, get_or_past, length-set, get_or-take}
 use Rattle.multimap_slots.proofs.Callers.TapePlaces.{places-hole, places-push}
-use Rattle.multimap_slots.specs.Private.Runs.{before, IsRun, HasLength, AreRuns, WritesRun, AreLaid}
+use Rattle.multimap_slots.specs.Private.Runs.{before, IsRun, HasLength, AreRuns, WritesRun, IsRunLengthCoded}
 use Rattle.multimap_slots.proofs.RunLengths.Runs.{AreRuns-within, hole-set, get_or-set_again, whole, HasLength-none, IsAround}
 
 -- an item's place becomes a hole
@@ -77,8 +77,8 @@ WritesRun-set old start last end n last_is n_is rises within holes =
     not_start q (inr high) = λ e. omega (arith, high, e, rises, last_is)
 
 -- an item behind all
-pub AreLaid-push : (runs : List ℕ) (len : ℕ) → AreLaid runs len → AreLaid (runs ++ 0 ∷ []) (len + 1)
-AreLaid-push runs len laid =
+pub IsRunLengthCoded-push : (runs : List ℕ) (len : ℕ) → IsRunLengthCoded runs len → IsRunLengthCoded (runs ++ 0 ∷ []) (len + 1)
+IsRunLengthCoded-push runs len laid =
     record {
       are =
           AreRuns-within runs (runs ++ 0 ∷ []) (suc (length runs)) (suc (length runs)) (omega arith)

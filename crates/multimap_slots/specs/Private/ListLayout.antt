@@ -73,7 +73,7 @@ module _ {L : Type 0} where
     pub fits : length o.states ≤ o.capacity
 
   -- the place is neither listed nor free
-  pub record IsApart (o : Places L) (place : ℕ) : Type 0 where
+  pub record IsDetached (o : Places L) (place : ℕ) : Type 0 where
     pub not_listed : ¬ IsIn place o.order
     pub not_free : get_or o.states place Free ≢ Free
 
@@ -89,9 +89,9 @@ module _ {L : Type 0} where
     pub capacity : new.capacity ≡ old.capacity
 
   -- the listed place is detached, and there is room for all places
-  pub record Detaches (old new : Places L) (place : ℕ) : Type 0 where
+  pub record DetachesPlace (old new : Places L) (place : ℕ) : Type 0 where
     pub was_listed : get_or old.states place Free ≡ Listed
-    pub apart : IsApart new place
+    pub apart : IsDetached new place
     pub relists : Relists (without old.order place) (slice_set old.states place Detached) old new
     pub shorter : length new.order + 1 ≡ length old.order
     pub detached : new.detached ≡ old.detached + 1
@@ -106,7 +106,7 @@ module _ {L : Type 0} where
     pub fits : length old.states ≤ old.capacity
 
   -- the listed place is free
-  pub record Removes (old new : Places L) (place : ℕ) : Type 0 where
+  pub record RemovesPlace (old new : Places L) (place : ℕ) : Type 0 where
     pub relists : Relists (without old.order place) (slice_set old.states place Free) old new
     pub shorter : length new.order + 1 ≡ length old.order
     pub detached : new.detached ≡ old.detached

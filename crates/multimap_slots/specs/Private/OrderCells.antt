@@ -2,7 +2,7 @@
 use Rattle.std.specs.Prelude.{◌≡◌, List, length}
 use Rattle.std.specs.Borrow.{RattleType}
 use Rattle.multimap_slots.specs.Private.ListLayout.{Places}
-use Rattle.multimap_slots.specs.Private.Runs.{Spread}
+use Rattle.multimap_slots.specs.Private.Runs.{RunLengths}
 use Rattle.multimap_slots.specs.Slots.{Slots}
 use Rattle.multimap_slots.specs.Tapes.{Taped}
 use Rattle.multimap_slots.specs.Taken.{Makes}
@@ -22,7 +22,7 @@ module _ (T L : RattleType) where
   -- every item is there to be taken, the order is the tape's, each place in use has a link, and
   -- what the slots end as is what the tape ends as
   pub record TapeIsLent (t : Taped T.Denot L.Denot) (cells : Cells T.Denot) (links : List L.Denot)
-      (runs : Spread) : Type 0 where
+      (runs : RunLengths) : Type 0 where
     pub made : Makes t.list.items cells
     pub order_is : runs.order ≡ t.list.order
     pub links_are : links ≡ t.list.links

@@ -2,13 +2,13 @@
 use Rattle.std.specs.Prelude.{◌≡◌, ℕ, ◌≤◌, List, Option, None, IsSome, get_or, slice_set, length}
 use Rattle.std.specs.Prelude.{Result, OnErr, OnOk}
 use Rattle.multimap_slots.specs.Lists.{IsIn}
-use Rattle.multimap_slots.specs.Private.Runs.{Spread}
+use Rattle.multimap_slots.specs.Private.Runs.{RunLengths}
 use Rattle.multimap_slots.specs.Slots.{DoublesIfGrown}
 use Rattle.multimap_slots.specs.Tapes.{Taped, HasEndRoomFor, KeepsTape}
 
 -- as many items and links as places in use, an item at each listed place, and memory for as many
 -- items and links as for places, or for more
-pub record IsTape {T L : Type 0} (items : List (Option T)) (links : List L) (runs : Spread)
+pub record IsTape {T L : Type 0} (items : List (Option T)) (links : List L) (runs : RunLengths)
     (items_capacity links_capacity : ℕ) : Type 0 where
   pub items_used : length items ≡ runs.used
   pub links_used : length links ≡ runs.used

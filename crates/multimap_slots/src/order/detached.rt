@@ -9,7 +9,7 @@ use super::write::{release, set_detached, set_next, set_previous};
 use std::alloc::Allocator;
 
 impl<L: Copy, A: Allocator> Order<L, A> {
-    ghost use Rattle.multimap_slots.specs.Private.ListLayout.{AreAllDetached, Detaches, FreesDetached, IsApart};
+    ghost use Rattle.multimap_slots.specs.Private.ListLayout.{AreAllDetached, DetachesPlace, FreesDetached, IsDetached};
     ghost use Rattle.multimap_slots.specs.declared.order.node.State.TheVariants.{Detached, Free};
 
     /// How many places are detached.
@@ -37,7 +37,7 @@ impl<L: Copy, A: Allocator> Order<L, A> {
     }
 
     pub(crate) fn detached_link(&self, place: usize) -> L
-        requires { IsApart self.now place }
+        requires { IsDetached self.now place }
         ensures { slice_get self.now.links place ≡ Some result }
     {
         self.nodes[place].link
@@ -46,7 +46,7 @@ impl<L: Copy, A: Allocator> Order<L, A> {
     /// Takes the place out of the order, and keeps it from being given.
     pub(crate) fn detach(&mut self, place: usize)
         requires { IsIn place self.old.order }
-        ensures { Detaches self.old self.new place }
+        ensures { DetachesPlace self.old self.new place }
     {
         let previous = self.nodes[place].previous;
         let next = self.nodes[place].next;
@@ -59,7 +59,7 @@ impl<L: Copy, A: Allocator> Order<L, A> {
 
     /// Makes the detached place free, and the next to be given.
     pub(crate) fn free_detached(&mut self, place: usize)
-        requires { IsApart self.old place }
+        requires { IsDetached self.old place }
         ensures { FreesDetached self.old self.new place }
     {
         release(&mut self.nodes, place, self.free);

@@ -31,11 +31,11 @@ module _ (order : List ℕ) where
       path-is listed (next_of order) (previous_of order) (unwrap_or (first_of order) 0) (unwrap_or (last_of order) 0) (length order)
       (all_left distinct)
 
-  module _ {X : Type 0} (shows : ℕ → Option X) where
+  module _ {X : Type 0} (item_of : ℕ → Option X) where
     -- as many items are shown as places are left
-    pub length_along : (left : ChainEnds) → IsAlong order shows left → length (items_left order shows left) ≡ left.length
+    pub length_along : (left : ChainEnds) → IsAlong order item_of left → length (items_left order item_of left) ≡ left.length
     length_along left walk =
-        length-path shows listed (next_of order) (previous_of order) left.first left.last left.length walk.are_left walk.shown
+        length-path item_of listed (next_of order) (previous_of order) left.first left.last left.length walk.are_left walk.shown
 
 -- a step at either end of the places that are left
 module _ (order : List ℕ) (left : ChainEnds) (more : left.length ≡ left.length - 1 + 1) (are_left : AreLeft order left) (end : End) where

@@ -54,10 +54,10 @@ module _ {X : Type 0} where
   AreDistinct-end Back x xs distinct member = AreDistinct-gone xs x [] distinct (IsIn-left x xs [] member)
 
 -- a step over places is one over what they show
-pub shows_end : {X : Type 0} (shows : ℕ → Option X) (end : End) (places : List ℕ) (p : ℕ) (rest : List ℕ) (x : X)
-    → places ≡ with_end end p rest → shows p ≡ Some x → filter_map shows places ≡ with_end end x (filter_map shows rest)
-shows_end shows Front places p rest x taken is = shown_first shows places p rest x taken is
-shows_end shows Back places p rest x taken is = shown_last shows places p rest x taken is
+pub shows_end : {X : Type 0} (item_of : ℕ → Option X) (end : End) (places : List ℕ) (p : ℕ) (rest : List ℕ) (x : X)
+    → places ≡ with_end end p rest → item_of p ≡ Some x → filter_map item_of places ≡ with_end end x (filter_map item_of rest)
+shows_end item_of Front places p rest x taken is = shown_first item_of places p rest x taken is
+shows_end item_of Back places p rest x taken is = shown_last item_of places p rest x taken is
 
 -- what is left once an end has moved to a place
 pub place_after : (end : End) (left : ChainEnds) (place : ℕ) → end_place end (ends_after end left place) ≡ place

@@ -171,37 +171,37 @@ module _ (stands : ℕ → Type 0) (next previous : ℕ → Option ℕ) (front b
       ∙ sym (reverse-reverse grown.places) ∙ ap reverse (at_back before told).taken ∙ reverse-cons back behind
       ∙ ap (λ ps. ps ++ back ∷ []) (sym (path-is stands next previous front before n (back_rest before told)))
 
-module _ {X : Type 0} (shows : ℕ → Option X) where
+module _ {X : Type 0} (item_of : ℕ → Option X) where
   one_more : (o : Option X) (xs : List X) → IsSome o → length (cons_option o xs) ≡ length xs + 1
   one_more None xs some = absurd (cc)
   one_more (Some x) xs some = omega arith
 
-  length-shown : (ps : List ℕ) → ((p : ℕ) → IsIn p ps → IsSome (shows p)) → length (filter_map shows ps) ≡ length ps
+  length-shown : (ps : List ℕ) → ((p : ℕ) → IsIn p ps → IsSome (item_of p)) → length (filter_map item_of ps) ≡ length ps
   length-shown [] each = refl
   length-shown (p ∷ ps) each =
-      omega (arith, one_more (shows p) (filter_map shows ps) (each p (inl refl)), length-shown ps (λ q later. each q (inr later)))
+      omega (arith, one_more (item_of p) (filter_map item_of ps) (each p (inl refl)), length-shown ps (λ q later. each q (inr later)))
 
   -- where each place shows something, as much is shown as places are left
   pub length-path : (stands : ℕ → Type 0) (next previous : ℕ → Option ℕ) (front back n : ℕ) → IsPath stands next previous front back n
-      → ((p : ℕ) → stands p → IsSome (shows p))
-      → length (filter_map shows (path next front n)) ≡ n
+      → ((p : ℕ) → stands p → IsSome (item_of p))
+      → length (filter_map item_of (path next front n)) ≡ n
   length-path stands next previous front back n walk each =
-      ap (λ ps. length (filter_map shows ps)) (path-is stands next previous front back n walk)
+      ap (λ ps. length (filter_map item_of ps)) (path-is stands next previous front back n walk)
       ∙ length-shown walk.places (λ p member. each p (walk.there p member)) ∙ walk.count
 
   -- the first place and the last show an item each
-  pub shown_first : (places : List ℕ) (p : ℕ) (ps : List ℕ) (x : X) → places ≡ p ∷ ps → shows p ≡ Some x
-      → filter_map shows places ≡ x ∷ filter_map shows ps
-  shown_first places p ps x taken is = ap (filter_map shows) taken ∙ ap (λ o. cons_option o (filter_map shows ps)) is
+  pub shown_first : (places : List ℕ) (p : ℕ) (ps : List ℕ) (x : X) → places ≡ p ∷ ps → item_of p ≡ Some x
+      → filter_map item_of places ≡ x ∷ filter_map item_of ps
+  shown_first places p ps x taken is = ap (filter_map item_of) taken ∙ ap (λ o. cons_option o (filter_map item_of ps)) is
 
-  shown_end : (ps : List ℕ) (p : ℕ) (x : X) → shows p ≡ Some x → filter_map shows (ps ++ p ∷ []) ≡ filter_map shows ps ++ x ∷ []
+  shown_end : (ps : List ℕ) (p : ℕ) (x : X) → item_of p ≡ Some x → filter_map item_of (ps ++ p ∷ []) ≡ filter_map item_of ps ++ x ∷ []
   shown_end [] p x is = ap (λ o. cons_option o []) is
   shown_end (q ∷ ps) p x is =
-      elim (shows q) as (λ o. cons_option o (filter_map shows (ps ++ p ∷ [])) ≡ cons_option o (filter_map shows ps) ++ x ∷ []) [
+      elim (item_of q) as (λ o. cons_option o (filter_map item_of (ps ++ p ∷ [])) ≡ cons_option o (filter_map item_of ps) ++ x ∷ []) [
         | None ↦ shown_end ps p x is
         | Some y ↦ ap (λ ys. y ∷ ys) (shown_end ps p x is)
       ]
 
-  pub shown_last : (places : List ℕ) (p : ℕ) (ps : List ℕ) (x : X) → places ≡ ps ++ p ∷ [] → shows p ≡ Some x
-      → filter_map shows places ≡ filter_map shows ps ++ x ∷ []
-  shown_last places p ps x taken is = ap (filter_map shows) taken ∙ shown_end ps p x is
+  pub shown_last : (places : List ℕ) (p : ℕ) (ps : List ℕ) (x : X) → places ≡ ps ++ p ∷ [] → item_of p ≡ Some x
+      → filter_map item_of places ≡ filter_map item_of ps ++ x ∷ []
+  shown_last places p ps x taken is = ap (filter_map item_of) taken ∙ shown_end ps p x is

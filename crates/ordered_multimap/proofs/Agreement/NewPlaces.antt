@@ -5,9 +5,9 @@ use Rattle.std.proofs.lemmas.List.{get_or-set_same, get_or-set_other, length-map
 use Rattle.multimap_slots.specs.Lists.{IsIn}
 use Rattle.multimap_slots.specs.Slots.{Slots, IsEmpty, PushesBack, item_at, link_at}
 use Rattle.multimap_slots.proofs.Callers.PlaceLists.{IsIn-append}
-use Rattle.ordered_multimap.specs.Private.KeyRenames.{HaveNewPlaces, name_in}
+use Rattle.ordered_multimap.specs.Private.KeyRelocations.{HaveNewPlaces, new_place_in}
 use Rattle.ordered_multimap.proofs.Agreement.LookUps.{map-agree}
-use Rattle.ordered_multimap.proofs.Agreement.Renamed.{IsIn-name}
+use Rattle.ordered_multimap.proofs.Agreement.Relocated.{IsIn-name}
 use Rattle.ordered_multimap.proofs.Append.Steps.{old_other}
 
 module _ {T L : Type 0} {Stands : ℕ → Option T → Option L → Type 0} where
@@ -59,12 +59,12 @@ module _ {T L : Type 0} {Stands : ℕ → Option T → Option L → Type 0} wher
     }
 
   -- the new place is noted in a list
-  pub noted-step : (names : List ℕ) {names_after places : List ℕ} {place to : ℕ} {before after : Slots T L} {item : T} {link : L}
-      → HaveNewPlaces Stands (name_in names) places before → PushesBack before after to item link → Stands place (Some item) (Some link)
-      → names_after ≡ set names place to → (IsIn place places → ⊥) → place < length names
-      → HaveNewPlaces Stands (name_in names_after) (places ++ place ∷ []) after
-  noted-step names {places = places} {place} {to} have pushed stands names_are new within =
+  pub noted-step : (new_places : List ℕ) {new_places_after places : List ℕ} {place to : ℕ} {before after : Slots T L} {item : T} {link : L}
+      → HaveNewPlaces Stands (new_place_in new_places) places before → PushesBack before after to item link → Stands place (Some item) (Some link)
+      → new_places_after ≡ set new_places place to → (IsIn place places → ⊥) → place < length new_places
+      → HaveNewPlaces Stands (new_place_in new_places_after) (places ++ place ∷ []) after
+  noted-step new_places {places = places} {place} {to} have pushed stands new_places_are new within =
       places-step have pushed stands
-      (λ q i. ap (λ ns. get_or ns q 0) names_are
-      ∙ get_or-set_other names place q to 0 (λ same. new (subst (λ p. IsIn p places) same i)))
-      (ap (λ ns. get_or ns place 0) names_are ∙ get_or-set_same names place to 0 within)
+      (λ q i. ap (λ ns. get_or ns q 0) new_places_are
+      ∙ get_or-set_other new_places place q to 0 (λ same. new (subst (λ p. IsIn p places) same i)))
+      (ap (λ ns. get_or ns place 0) new_places_are ∙ get_or-set_same new_places place to 0 within)

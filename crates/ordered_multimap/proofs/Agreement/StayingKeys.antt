@@ -6,7 +6,7 @@ use Rattle.multimap_walks.specs.declared.links.KeyLink.{KeyLink}
 use Rattle.multimap_walks.specs.declared.links.ValueLink.{ValueLink}
 use Rattle.ordered_multimap.specs.Agrees.{HasKeyWhere}
 use Rattle.ordered_multimap.specs.Private.Append.{AppendsBehind}
-use Rattle.ordered_multimap.specs.Private.Renames.{AreRenamed}
+use Rattle.ordered_multimap.specs.Private.Relocations.{AreRelocated}
 use Rattle.ordered_multimap.specs.Private.Remove.{InsertsBehind}
 
 module _ {K : Type 0} (accepts : K → Bool) (place : ℕ) where
@@ -17,27 +17,27 @@ module _ {K : Type 0} (accepts : K → Bool) (place : ℕ) where
       (record { listed = has.listed; stored = has.stored; item_is = has.item_is; equal = has.equal })
 
   module _ {V : Type 0} where
-    pub renamed_stays : {keys keys_after : Slots K KeyLink} {values values_after : Slots V ValueLink}
-        → AreRenamed keys keys_after values values_after → HasKeyWhere accepts keys place → HasKeyWhere accepts keys_after place
-    renamed_stays r has = record {
-      listed = subst (IsIn place) (sym r.renames.key_order) has.listed;
+    pub relocated_stays : {keys keys_after : Slots K KeyLink} {values values_after : Slots V ValueLink}
+        → AreRelocated keys keys_after values values_after → HasKeyWhere accepts keys place → HasKeyWhere accepts keys_after place
+    relocated_stays r has = record {
+      listed = subst (IsIn place) (sym r.relocates.key_order) has.listed;
       stored = has.stored;
-      item_is = r.renames.key_items place ∙ has.item_is;
+      item_is = r.relocates.key_items place ∙ has.item_is;
       equal = has.equal;
     }
 
     appended_stays : {keys keys_after : Slots K KeyLink} {values values_after : Slots V ValueLink} {v : V} {at : ℕ}
         → AppendsBehind keys keys_after values values_after at v → HasKeyWhere accepts keys place → HasKeyWhere accepts keys_after place
-    appended_stays {at = at} done has = linked_stays at _ done.pushed.keys_are (renamed_stays done.renamed has)
+    appended_stays {at = at} done has = linked_stays at _ done.pushed.keys_are (relocated_stays done.relocated has)
 
     pub inserted_stays : {keys keys_after : Slots K KeyLink} {values values_after : Slots V ValueLink} {v : V} {at : ℕ}
         → InsertsBehind keys keys_after values values_after at v → HasKeyWhere accepts keys place → HasKeyWhere accepts keys_after place
     inserted_stays {at = at} done has = linked_stays at _ done.older.keys_are
-        (linked_stays at _ done.pushed.keys_are (renamed_stays done.renamed has))
+        (linked_stays at _ done.pushed.keys_are (relocated_stays done.relocated has))
 
     -- after either outcome of an append
     pub behind_stays : (keys keys_after : Slots K KeyLink) (values values_after : Slots V ValueLink) (v : V) (at : ℕ)
         → HasKeyWhere accepts keys place → {X E : Type 0} (r : Result X E) → OnOk r (AppendsBehind keys keys_after values values_after at v)
-        → OnErr r (AreRenamed keys keys_after values values_after) → HasKeyWhere accepts keys_after place
-    behind_stays keys keys_after values values_after v at has (Ok x) done renamed = appended_stays done has
-    behind_stays keys keys_after values values_after v at has (Err e) done renamed = renamed_stays renamed has
+        → OnErr r (AreRelocated keys keys_after values values_after) → HasKeyWhere accepts keys_after place
+    behind_stays keys keys_after values values_after v at has (Ok x) done relocated = appended_stays done has
+    behind_stays keys keys_after values values_after v at has (Err e) done relocated = relocated_stays relocated has

@@ -27,13 +27,13 @@ use Rattle.ordered_multimap.proofs.Chains.LongerLists.{first_of-push}
 use Rattle.ordered_multimap.proofs.Append.Steps.{old_other, old_listed, new_listed, listed_cases, IsSound-push, IsSound-with_link}
 use Rattle.ordered_multimap.proofs.Append.Steps.{sets_link}
 use Rattle.ordered_multimap.proofs.Append.Steps.{sets_pushed, SetsKey}
-use Rattle.ordered_multimap.specs.Private.Renames.{AreRenamed}
+use Rattle.ordered_multimap.specs.Private.Relocations.{AreRelocated}
 use Rattle.ordered_multimap.specs.TapeNumbers.{TapeNumbers, TakesOut, ArePaid}
 use Rattle.ordered_multimap.proofs.Append.Chained.{chained-append, pairs_of-append}
-use Rattle.ordered_multimap.proofs.Agreement.Renamed.{agrees-renamed, lists_of-renamed}
+use Rattle.ordered_multimap.proofs.Agreement.Relocated.{agrees-relocated, lists_of-relocated}
 
 -- what an append ends with
-pub record Appends {K V : Type 0} (eq : K → K → Bool) (hash : K → ℕ) (keys : Slots K KeyLink) (values : Slots V ValueLink) (key : K) (v : V)
+pub record AppendsOne {K V : Type 0} (eq : K → K → Bool) (hash : K → ℕ) (keys : Slots K KeyLink) (values : Slots V ValueLink) (key : K) (v : V)
     (keys_after : Slots K KeyLink) (rows_after : FinMap nat_cmp ℕ) (values_after : Slots V ValueLink) : Type 0 where
   pub agrees : Agrees eq hash keys_after rows_after values_after
   pub lists : lists_of keys_after values_after ≡ appended eq (lists_of keys values) key v
@@ -46,7 +46,7 @@ module _ {K V : Type 0} {eq : K → K → Bool} (laws : IsEquivalence eq) {hash 
   pub append_present : (l : KeyLink) (keys_after : Slots K KeyLink) → HasKey eq keys key place → link_at keys place ≡ Some l
       → PushesValue values values_after last v place (Some l.tail) → n ≡ l.length + 1
       → keys_after ≡ with_link keys place (record l { tail = last; length = n })
-      → Appends eq hash keys values key v keys_after rows values_after
+      → AppendsOne eq hash keys values key v keys_after rows values_after
   append_present l keys_after has link_is pushes more sets_is =
       let link : KeyLink = record l { tail = last; length = n } in
       let after : Slots K KeyLink = with_link keys place link in
@@ -62,7 +62,7 @@ module _ {K V : Type 0} {eq : K → K → Bool} (laws : IsEquivalence eq) {hash 
       (IsIn-filter_map (item_at keys) place has.stored keys.order has.listed has.item_is) has.equal in
       let own : stored_key eq ks key ≡ has.stored = stored_key_only laws key has.stored ks agrees.distinct
       (IsIn-filter_map (item_at keys) place has.stored keys.order has.listed has.item_is) has.equal in
-      let all : Appends eq hash keys values key v after rows values_after = record {
+      let all : AppendsOne eq hash keys values key v after rows values_after = record {
         agrees = record {
           keys_sound = IsSound-with_link keys place link has.listed agrees.keys_sound;
           values_sound = sound;
@@ -93,7 +93,7 @@ module _ {K V : Type 0} {eq : K → K → Bool} (laws : IsEquivalence eq) {hash 
             ∙ sym (ap (λ b. lists (cond b ks (ks ++ key ∷ [])) (ps ++ (stored_key eq ks key, v) ∷ [])) there
             ∙ ap (λ s. lists ks (ps ++ (s, v) ∷ [])) own);
       } in
-      subst (λ s. Appends eq hash keys values key v s rows values_after) (sym sets_is) all
+      subst (λ s. AppendsOne eq hash keys values key v s rows values_after) (sym sets_is) all
 
   -- the table has no row of a place that was not listed
   pub row_absent : {after : Slots K KeyLink} {link : KeyLink} → PushesBack keys after place key link → get rows place ≡ None
@@ -105,7 +105,7 @@ module _ {K V : Type 0} {eq : K → K → Bool} (laws : IsEquivalence eq) {hash 
   pub append_absent : (h : ℕ) (after : Slots K KeyLink) (rows_after : FinMap nat_cmp ℕ)
       → is_listed eq (items_of keys) key ≡ false → h ≡ hash key → HasRoomFor keys 1
       → PushesRow keys after rows rows_after place key (link_of_one h last)
-      → PushesValue values values_after last v place None → Appends eq hash keys values key v after rows_after values_after
+      → PushesValue values values_after last v place None → AppendsOne eq hash keys values key v after rows_after values_after
   append_absent h after rows_after unlisted hash_is room row pushes =
       let link : KeyLink = link_of_one h last in
       let pushed : PushesBack keys after place key link = row.key_pushed in
@@ -129,7 +129,7 @@ module _ {K V : Type 0} {eq : K → K → Bool} (laws : IsEquivalence eq) {hash 
       let at_place = λ (p : ℕ) (same : p ≡ place). inserted p ∙ ap (λ b. cond b (Some h) (get rows p)) (eq-eqb p place same) in
       let elsewhere = λ (p : ℕ) (differs : p ≢ place). inserted p ∙ ap (λ b. cond b (Some h) (get rows p)) (ne_eqb p place differs) in
       let own : stored_key eq ks key ≡ key = stored_key_absent laws key ks unlisted in
-      let all : Appends eq hash keys values key v after (insert rows place h) values_after = record {
+      let all : AppendsOne eq hash keys values key v after (insert rows place h) values_after = record {
         agrees = record {
           keys_sound = IsSound-push pushed agrees.keys_sound room row.same_room;
           values_sound = sound;
@@ -169,7 +169,7 @@ module _ {K V : Type 0} {eq : K → K → Bool} (laws : IsEquivalence eq) {hash 
             ∙ sym (ap (λ b. lists (cond b ks (ks ++ key ∷ [])) (ps ++ (stored_key eq ks key, v) ∷ [])) unlisted
             ∙ ap (λ s. lists (ks ++ key ∷ []) (ps ++ (s, v) ∷ [])) own);
       } in
-      subst (λ r. Appends eq hash keys values key v after r values_after) (sym row.rows_are) all
+      subst (λ r. AppendsOne eq hash keys values key v after r values_after) (sym row.rows_are) all
     where
       no_row : (o : Option ℕ) → o ≡ None → is_some o ≡ false
       no_row o e = ap is_some e
@@ -194,22 +194,22 @@ module _ {K V : Type 0} {keys : Slots K KeyLink} {values : Slots V ValueLink} (c
 module _ {K V : Type 0} {eq : K → K → Bool} (laws : IsEquivalence eq) {hash : K
     → ℕ} {keys : Slots K KeyLink} {rows : FinMap nat_cmp ℕ} {values : Slots V ValueLink}
     (agrees : Agrees eq hash keys rows values) {keys_reserved : Slots K KeyLink} {reserved : Slots V ValueLink}
-    (r : AreRenamed keys keys_reserved values reserved) where
+    (r : AreRelocated keys keys_reserved values reserved) where
   -- with room
   pub agrees_reserved : Agrees eq hash keys_reserved rows reserved
-  agrees_reserved = agrees-renamed r.name agrees r.renames
+  agrees_reserved = agrees-relocated r.name agrees r.relocates
 
   pub lists_reserved : lists_of keys_reserved reserved ≡ lists_of keys values
-  lists_reserved = lists_of-renamed r.name agrees r.renames
+  lists_reserved = lists_of-relocated r.name agrees r.relocates
 
   pub present_step : (key : K) (v : V) (place : ℕ) {values_after : Slots V ValueLink} {keys_after : Slots K KeyLink}
       → HasKey eq keys key place
-      → PushesBehind keys_reserved keys_after reserved values_after place v → Appends eq hash keys values key v keys_after rows values_after
+      → PushesBehind keys_reserved keys_after reserved values_after place v → AppendsOne eq hash keys values key v keys_after rows values_after
   present_step key v place {values_after} {keys_after} has p =
       let there : HasKey eq keys_reserved key place = record {
-        listed = subst (IsIn place) (sym r.renames.key_order) has.listed;
+        listed = subst (IsIn place) (sym r.relocates.key_order) has.listed;
         stored = has.stored;
-        item_is = r.renames.key_items place ∙ has.item_is;
+        item_is = r.relocates.key_items place ∙ has.item_is;
         equal = has.equal;
       } in
       let done = append_present laws agrees_reserved key v place p.last
@@ -222,7 +222,7 @@ module _ {K V : Type 0} {eq : K → K → Bool} (laws : IsEquivalence eq) {hash 
       → is_listed eq (items_of keys) key ≡ false → h ≡ hash key → HasRoomFor keys_reserved 1
       → PushesRow keys_reserved keys_after rows_reserved rows_after place key (link_of_one h last)
       → PushesValue reserved values_after last v place None → IsSound values_after
-      → Appends eq hash keys values key v keys_after rows_after values_after
+      → AppendsOne eq hash keys values key v keys_after rows_after values_after
   absent_step rows_reserved same_rows key v place last h {values_after} {keys_after} {rows_after} unlisted hash_is fits row pushes sound =
       let a : Agrees eq hash keys_reserved rows_reserved reserved = subst (λ m. Agrees eq hash keys_reserved m reserved)
       (sym same_rows) agrees_reserved in
@@ -233,39 +233,39 @@ module _ {K V : Type 0} {eq : K → K → Bool} (laws : IsEquivalence eq) {hash 
 -- the table of reserved rows has listed places alone
 pub rows_listed : {K V : Type 0} {keys keys_reserved : Slots K KeyLink} {values reserved : Slots V ValueLink} {rows rows_reserved : FinMap
     nat_cmp ℕ}
-    → AreRenamed keys keys_reserved values reserved → rows_reserved ≡ rows → HasListedRows keys rows
+    → AreRelocated keys keys_reserved values reserved → rows_reserved ≡ rows → HasListedRows keys rows
     → HasListedRows keys_reserved rows_reserved
-rows_listed r same_rows listed p h is = subst (IsIn p) (sym r.renames.key_order) (listed p h (ap (λ m. get m p) (sym same_rows) ∙ is))
+rows_listed r same_rows listed p h is = subst (IsIn p) (sym r.relocates.key_order) (listed p h (ap (λ m. get m p) (sym same_rows) ∙ is))
 
 -- what either outcome of an append leaves
 module _ {K V : Type 0} {eq : K → K → Bool} (laws : IsEquivalence eq) {hash : K
     → ℕ} {keys : Slots K KeyLink} {rows : FinMap nat_cmp ℕ} {values : Slots V ValueLink}
     (agrees : Agrees eq hash keys rows values) (key : K) (v : V) (keys_after : Slots K KeyLink) (values_after : Slots V ValueLink) where
-  pub refused_lists : {X E : Type 0} (r : Result X E) → OnErr r (AreRenamed keys keys_after values values_after)
+  pub refused_lists : {X E : Type 0} (r : Result X E) → OnErr r (AreRelocated keys keys_after values values_after)
       → OnErr r (lists_of keys_after values_after ≡ lists_of keys values)
-  refused_lists (Ok x) renamed = renamed
-  refused_lists (Err e) renamed = lists_reserved laws agrees renamed
+  refused_lists (Ok x) relocated = relocated
+  refused_lists (Err e) relocated = lists_reserved laws agrees relocated
 
   -- of a present key
   module _ (place : ℕ) (has : HasKey eq keys key place) where
-    behind : AppendsBehind keys keys_after values values_after place v → Appends eq hash keys values key v keys_after rows values_after
-    behind done = present_step laws agrees done.renamed key v place has done.pushed
+    behind : AppendsBehind keys keys_after values values_after place v → AppendsOne eq hash keys values key v keys_after rows values_after
+    behind done = present_step laws agrees done.relocated key v place has done.pushed
 
     pub behind_agrees : {X E : Type 0} (r : Result X E) → OnOk r (AppendsBehind keys keys_after values values_after place v)
-        → OnErr r (AreRenamed keys keys_after values values_after) → Agrees eq hash keys_after rows values_after
-    behind_agrees (Ok x) done renamed = (behind done).agrees
-    behind_agrees (Err e) done renamed = agrees_reserved laws agrees renamed
+        → OnErr r (AreRelocated keys keys_after values values_after) → Agrees eq hash keys_after rows values_after
+    behind_agrees (Ok x) done relocated = (behind done).agrees
+    behind_agrees (Err e) done relocated = agrees_reserved laws agrees relocated
 
   -- of an absent key
   module _ (rows_after : FinMap nat_cmp ℕ) (h : ℕ) (unlisted : is_listed eq (items_of keys) key ≡ false) (hash_is : h ≡ hash key) where
     pub first : AppendsFirst keys keys_after rows rows_after values values_after h key v
-        → Appends eq hash keys values key v keys_after rows_after values_after
+        → AppendsOne eq hash keys values key v keys_after rows_after values_after
     first done =
-        absent_step laws agrees done.renamed done.rows_reserved done.same_rows
+        absent_step laws agrees done.relocated done.rows_reserved done.same_rows
         key v done.place done.last h unlisted hash_is done.fits done.row done.value_pushed done.sound
 
     pub first_agrees : {X E : Type 0} (r : Result X E) → OnOk r (AppendsFirst keys keys_after rows rows_after values values_after h key v)
-        → OnErr r (AreRenamed keys keys_after values values_after × (rows_after ≡ rows)) → Agrees eq hash keys_after rows_after values_after
+        → OnErr r (AreRelocated keys keys_after values values_after × (rows_after ≡ rows)) → Agrees eq hash keys_after rows_after values_after
     first_agrees (Ok x) done kept = (first done).agrees
     first_agrees (Err e) done kept = subst (λ m. Agrees eq hash keys_after m values_after) (sym kept.1) (agrees_reserved laws agrees kept.0)
 
@@ -281,7 +281,7 @@ pub behind_lists : {K V : Type 0} {eq : K → K → Bool}
     (r : Result X E) → OnOk r (AppendsBehind keys keys_after values values_after place v)
     → OnOk r ((k : K) → HasKey eq keys k place → lists_of keys_after values_after ≡ appended eq (lists_of keys values) k v)
 behind_lists laws agrees keys_after values_after v place (Ok x) done = λ k has.
-    (present_step laws agrees done.renamed k v place has done.pushed).lists
+    (present_step laws agrees done.relocated k v place has done.pushed).lists
 behind_lists laws agrees keys_after values_after v place (Err e) done = done
 
 -- the moves stay paid, however many pairs were taken out

@@ -19,17 +19,17 @@ use Rattle.ordered_multimap.specs.Pairs.{has_items, pairs_without, values_of}
 use Rattle.ordered_multimap.specs.Changes.{appended, inserted}
 use Rattle.ordered_multimap.specs.Agrees.{Agrees, HasKey, items_of, lists_of}
 use Rattle.ordered_multimap.specs.Private.Append.{PushesValue, PushesBehind}
-use Rattle.ordered_multimap.specs.Private.Renames.{AreRenamed}
-use Rattle.ordered_multimap.specs.Private.Remove.{HasChain, Inserts, InsertsBehind, PushesOver}
+use Rattle.ordered_multimap.specs.Private.Relocations.{AreRelocated}
+use Rattle.ordered_multimap.specs.Private.Remove.{HasChain, Inserts, InsertsBehind, ReplacesChain}
 use Rattle.ordered_multimap.specs.TapeNumbers.{TakesOut, numbers_of}
 use Rattle.ordered_multimap.proofs.Callers.Members.{filter-all}
 use Rattle.ordered_multimap.proofs.Callers.Places.{held, begins, filter_shorter}
 use Rattle.ordered_multimap.proofs.Chains.LongerLists.{first_of-push}
 use Rattle.ordered_multimap.proofs.Append.Steps.{sets_link, SetsKey}
 use Rattle.ordered_multimap.proofs.Chains.Neighbours.{first_of-member}
-use Rattle.ordered_multimap.proofs.Agreement.Renamed.{chain_of-renamed, chains-renamed}
+use Rattle.ordered_multimap.proofs.Agreement.Relocated.{chain_of-relocated, chains-relocated}
 use Rattle.ordered_multimap.proofs.Append.Chained.{chained-append}
-use Rattle.ordered_multimap.proofs.Append.Appended.{Appends, present_step, agrees_reserved}
+use Rattle.ordered_multimap.proofs.Append.Appended.{AppendsOne, present_step, agrees_reserved}
 use Rattle.ordered_multimap.proofs.Agreement.LookUps.{first_value, present_if_found}
 use Rattle.ordered_multimap.proofs.Remove.OlderValues.{agrees-older, lists_of-older}
 use Rattle.ordered_multimap.proofs.Remove.WholeKeys.{apart}
@@ -87,15 +87,15 @@ module _ {K V : Type 0} {keys : Slots K KeyLink} {values : Slots V ValueLink} (k
 
   -- under other names a chain is as long
   pub same_count : IsSound values → {keys_after : Slots K KeyLink} {values_after : Slots V ValueLink}
-      → AreRenamed keys keys_after values values_after
+      → AreRelocated keys keys_after values values_after
       → length (chain_of values_after place) ≡ length (chain_of values place)
-  same_count values_sound r = ap length (chain_of-renamed r.name keys_sound values_sound chained r.renames place)
+  same_count values_sound r = ap length (chain_of-relocated r.name keys_sound values_sound chained r.relocates place)
       ∙ length-map (chain_of values place) r.name
 
 -- a value was put behind the others of a key, and these have left
 module _ {K V : Type 0} {keeps : Bool} {gives : V → Type 0} {keys keys_after : Slots K KeyLink} {values values_after : Taped V ValueLink}
     {place : ℕ} {v : V} {ends : ChainEnds}
-    (over : PushesOver keeps gives keys keys_after values values_after place v ends) where
+    (over : ReplacesChain keeps gives keys keys_after values values_after place v ends) where
   -- no room changes
   pub over_keys : keys_after.capacity ≡ keys.capacity
   over_keys = ap (λ (s : Slots K KeyLink). s.capacity) over.older.older.keys_are
@@ -106,22 +106,22 @@ module _ {K V : Type 0} {keeps : Bool} {gives : V → Type 0} {keys keys_after :
       ∙ over.room.capacity
 
 module _ {K V : Type 0} {keys keys_reserved : Slots K KeyLink} {place : ℕ} where
-  pub chain-renamed : {values reserved : Slots V ValueLink} → HasChain keys values place → AreRenamed keys keys_reserved values reserved
+  pub chain-relocated : {values reserved : Slots V ValueLink} → HasChain keys values place → AreRelocated keys keys_reserved values reserved
       → HasChain keys_reserved reserved place
-  chain-renamed s r = record {
-    listed = subst (IsIn place) (sym r.renames.key_order) s.listed;
-    chains = chains-renamed s.chains r;
+  chain-relocated s r = record {
+    listed = subst (IsIn place) (sym r.relocates.key_order) s.listed;
+    chains = chains-relocated s.chains r;
   }
 
   -- room was made before
   pub inserts-over : {keys_after : Slots K KeyLink} {values reserved values_after : Taped V ValueLink} {keeps : Bool} {gives : V → Type 0}
       {v : V} {ends : ChainEnds}
-      → HasChain keys values.list place → AreRenamed keys keys_reserved values.list reserved.list
+      → HasChain keys values.list place → AreRelocated keys keys_reserved values.list reserved.list
       → TakesOut 0 (numbers_of values) (numbers_of reserved) → HasTapeRoomFor reserved 0
-      → PushesOver keeps gives keys_reserved keys_after reserved values_after place v ends
+      → ReplacesChain keeps gives keys_reserved keys_after reserved values_after place v ends
       → Inserts keeps gives keys keys_after values values_after place v ends
   inserts-over {values = values} {reserved = reserved} {values_after = values_after} s r taken fits over =
-      let t = chain-renamed s r in
+      let t = chain-relocated s r in
       let m = t.chains in
       let o = over.older.older in
       let n = longer m.keys_sound m.chained place t.listed m.sound over.pushed o.link o.link_is in
@@ -131,7 +131,7 @@ module _ {K V : Type 0} {keys keys_reserved : Slots K KeyLink} {place : ℕ} whe
         done = record {
           keys_reserved = keys_reserved;
           reserved = reserved.list;
-          renamed = r;
+          relocated = r;
           keys_pushed = over.keys_pushed;
           pushed_values = over.pushed_values.list;
           pushed = over.pushed;
@@ -171,23 +171,23 @@ module _ {K V : Type 0} {eq : K → K → Bool} (laws : IsEquivalence eq) {hash 
     → ℕ} {keys keys_after : Slots K KeyLink} {rows : FinMap nat_cmp ℕ} {values values_after : Slots V ValueLink}
     (agrees : Agrees eq hash keys rows values) (k : K) (v : V) (place : ℕ) (has : HasKey eq keys k place)
     (done : InsertsBehind keys keys_after values values_after place v) where
-  pushed : Appends eq hash keys values k v done.keys_pushed rows done.pushed_values
-  pushed = present_step laws agrees done.renamed k v place has done.pushed
+  pushed : AppendsOne eq hash keys values k v done.keys_pushed rows done.pushed_values
+  pushed = present_step laws agrees done.relocated k v place has done.pushed
 
   reserved_listed : IsIn place done.keys_reserved.order
-  reserved_listed = subst (IsIn place) (sym done.renamed.renames.key_order) has.listed
+  reserved_listed = subst (IsIn place) (sym done.relocated.relocates.key_order) has.listed
 
   has_pushed : HasKey eq done.keys_pushed k place
   has_pushed = record {
     listed = subst (λ (s : Slots K KeyLink). IsIn place s.order) (sym done.pushed.keys_are) reserved_listed;
     stored = has.stored;
-    item_is = ap (λ (s : Slots K KeyLink). item_at s place) done.pushed.keys_are ∙ done.renamed.renames.key_items place ∙ has.item_is;
+    item_is = ap (λ (s : Slots K KeyLink). item_at s place) done.pushed.keys_are ∙ done.relocated.relocates.key_items place ∙ has.item_is;
     equal = has.equal;
   }
 
   order_is : done.pushed_values.order ≡ done.reserved.order ++ done.older.link.tail ∷ []
   order_is =
-      let reserved = agrees_reserved laws agrees done.renamed in
+      let reserved = agrees_reserved laws agrees done.relocated in
       done.pushed.pushed.order ∙ ap (λ p. done.reserved.order ++ p ∷ [])
       (sym (tail_is reserved.keys_sound reserved.chained place reserved_listed reserved.values_sound done.pushed done.older.link
       done.older.link_is))

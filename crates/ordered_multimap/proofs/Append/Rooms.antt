@@ -17,7 +17,7 @@ use Rattle.ordered_multimap.specs.MapSlots.{MapSlots}
 use Rattle.ordered_multimap.specs.Multimap.{Multimap, multimap}
 use Rattle.ordered_multimap.specs.Agrees.{Agrees, HasKey, items_of, lists_of}
 use Rattle.ordered_multimap.specs.Private.Append.{FitsKeys, FitsOneMore, GrowsFor, MakesRoom}
-use Rattle.ordered_multimap.specs.Private.Renames.{KeepsCapacities}
+use Rattle.ordered_multimap.specs.Private.Relocations.{KeepsCapacities}
 use Rattle.ordered_multimap.specs.TapeNumbers.{TapeNumbers, numbers_of}
 use Rattle.ordered_multimap.specs.declared.list_ordered_multimap.refused.RefusedValue.{RefusedValue}
 use Rattle.ordered_multimap.specs.Additions.{IsAppended, IsAppendedAt, IsRefused, RefusesValue}

@@ -10,7 +10,7 @@ use Rattle.multimap_slots.proofs.Callers.ListedSlots.{link_at-with_link, KeepsOt
 use Rattle.multimap_walks.specs.declared.links.KeyLink.{KeyLink}
 use Rattle.multimap_walks.specs.declared.links.ValueLink.{ValueLink}
 use Rattle.ordered_multimap.specs.Private.Append.{KeepsTapeRoom, PushesValue}
-use Rattle.ordered_multimap.specs.Private.Renames.{MendsLink}
+use Rattle.ordered_multimap.specs.Private.Relocations.{WritesLink}
 
 -- the key is listed at the place with this link, and each other key as before
 pub record SetsKey {K : Type 0} (old new : Slots K KeyLink) (place : ℕ) (k : K)
@@ -78,7 +78,7 @@ if_each (Some p) each = each p refl
 module _ {V : Type 0} {old : Slots V ValueLink} {mid : Taped V ValueLink} {place : ℕ} {v : V} {key : ℕ} {tail : Option ℕ}
     (pushed : PushesBack old mid.list place v (record { key = key; previous = tail; next = None }))
     (listed : (q : ℕ) → tail ≡ Some q → IsIn q old.order) where
-  pub pushes_value : {new : Taped V ValueLink} → MendsLink mid new tail (λ l. record l { next = Some place })
+  pub pushes_value : {new : Taped V ValueLink} → WritesLink mid new tail (λ l. record l { next = Some place })
       → PushesValue old new.list place v key tail
   pushes_value mends = record {
     was_absent = pushed.was_absent;

@@ -192,6 +192,6 @@ map-ended {K} {V} {S} m n rows same agrees shown ws =
 pub ends_walk : {K V S A : Type 0} (m : Multimap K V S)
     (final : Option (List (Bool × Gv)) → List (Option V) → Gv) {walk lent : SlotCells V ValueLink A} {whole : List (Option V) → Gv}
     → walk ≡ lent
-    → EndsAs m lent (final lent.cells.around) whole → EndsAs m walk (final walk.cells.around) whole
+    → EndsAs m lent (final lent.cells.lender_context) whole → EndsAs m walk (final walk.cells.lender_context) whole
 ends_walk {V = V} {A = A} m final {whole = whole} same lent = subst
-    (λ (c : SlotCells V ValueLink A). EndsAs m c (final c.cells.around) whole) (sym same) lent
+    (λ (c : SlotCells V ValueLink A). EndsAs m c (final c.cells.lender_context) whole) (sym same) lent

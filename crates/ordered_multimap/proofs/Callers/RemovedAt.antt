@@ -9,7 +9,7 @@ use Rattle.multimap_slots.specs.Lists.{IsIn}
 use Rattle.ordered_multimap.specs.Keys.{stored_key}
 use Rattle.ordered_multimap.specs.Lists.{Lists, lists, IsWellFormed}
 use Rattle.ordered_multimap.specs.Pairs.{has_items, is_present, positions_of, values_of}
-use Rattle.ordered_multimap.specs.RemovedAt.{several, value_beside, position_beside, pairs_besides, removed_at}
+use Rattle.ordered_multimap.specs.RemovedAt.{several, removable_value_at, position_beside, pairs_besides, removed_at}
 use Rattle.ordered_multimap.proofs.Callers.ListedKeys.{stored_key_only}
 use Rattle.ordered_multimap.proofs.Agreement.LookUps.{length-positions_of}
 
@@ -127,8 +127,8 @@ module _ {K V : Type 0} (eq : K → K → Bool) (k : K) where
       (λ p. length (without_at pairs p) ≤ length pairs) [ None ↦ omega arith | Some i ↦ remove_few pairs i ]
 
   -- an absent key has no value that can go
-  pub value_beside-absent : (pairs : List (K × V)) (index : ℕ) → is_present eq pairs k ≡ false → value_beside eq pairs k index ≡ None
-  value_beside-absent pairs index absent = ap (λ vs. slice_get (several vs) index)
+  pub removable_value_at-absent : (pairs : List (K × V)) (index : ℕ) → is_present eq pairs k ≡ false → removable_value_at eq pairs k index ≡ None
+  removable_value_at-absent pairs index absent = ap (λ vs. slice_get (several vs) index)
       (empty (values_of eq pairs k) (no_items (values_of eq pairs k) absent))
 
   pub removed_at-absent : (m : Lists K V) (index : ℕ) → is_present eq m.pairs k ≡ false → removed_at eq m k index ≡ m

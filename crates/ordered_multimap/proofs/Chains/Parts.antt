@@ -73,26 +73,26 @@ module _ (front back : List ℕ) (place q : ℕ) (distinct : AreDistinct (front 
     (last_is : last_of front ≡ before) (first_is : first_of back ≡ behind) where
   pub next_left : {next now : Option ℕ} → next_of (front ++ place ∷ back) q ≡ next
       → (before ≡ Some q → now ≡ behind) → (before ≢ Some q → now ≡ next) → next_of (front ++ back) q ≡ now
-  next_left was mended same = elim (cases_some before q) [
+  next_left was relinked same = elim (cases_some before q) [
     | inl here ↦
         let e = ends front q (last_is ∙ here) in
         let whole : front ++ back ≡ e.front ++ q ∷ back = ap (λ ps. ps ++ back) e.is ∙ append_assoc e.front (q ∷ []) back in
         let gone = AreDistinct-gone e.front q back (subst AreDistinct whole distinct) in
         ap (λ ps. next_of ps q) whole ∙ next_of-split e.front q back (λ i. gone (IsIn-left q e.front back i))
-        ∙ first_is ∙ sym (mended here)
+        ∙ first_is ∙ sym (relinked here)
     | inr there ↦ next_of-skip front place back q other (λ e. there (sym last_is ∙ e)) ∙ was ∙ sym (same there)
   ]
 
   -- and what is before it, where it was the one behind
   pub previous_left : {previous now : Option ℕ} → previous_of (front ++ place ∷ back) q ≡ previous
       → (behind ≡ Some q → now ≡ before) → (behind ≢ Some q → now ≡ previous) → previous_of (front ++ back) q ≡ now
-  previous_left was mended same = elim (cases_some behind q) [
+  previous_left was relinked same = elim (cases_some behind q) [
     | inl here ↦
         let b = begins back q (first_is ∙ here) in
         let whole : front ++ back ≡ front ++ q ∷ b.rest = ap (λ ps. front ++ ps) b.is in
         let gone = AreDistinct-gone front q b.rest (subst AreDistinct whole distinct) in
         ap (λ ps. previous_of ps q) whole ∙ previous_of-split front q b.rest (λ i. gone (IsIn-right q front b.rest i))
-        ∙ last_is ∙ sym (mended here)
+        ∙ last_is ∙ sym (relinked here)
     | inr there ↦ previous_of-skip front place back q other (λ e. there (sym first_is ∙ e)) ∙ was ∙ sym (same there)
   ]
 

@@ -15,11 +15,11 @@ use Rattle.multimap_walks.specs.Chained.{IsChained, chain_of, is_value_of, pair_
 use Rattle.ordered_multimap.specs.Agrees.{Agrees, items_of, lists_of}
 use Rattle.ordered_multimap.specs.Clones.{AreClones, IsKeyClone, IsPairClone}
 use Rattle.ordered_multimap.specs.Private.Copies.{AreCopied, IsKeyCopy, IsValueCopy}
-use Rattle.ordered_multimap.specs.Private.KeyRenames.{with_new_key}
-use Rattle.ordered_multimap.specs.Private.Renames.{renamed_key, renamed_value}
+use Rattle.ordered_multimap.specs.Private.KeyRelocations.{with_new_key}
+use Rattle.ordered_multimap.specs.Private.Relocations.{relocated_key, relocated_value}
 use Rattle.ordered_multimap.proofs.Agreement.Agreed.{is_value_of-is, pair_at-is}
-use Rattle.ordered_multimap.proofs.Agreement.Renamed.{IsIn-map, IsIn-name, IsTold, filter-map, first_of-map, last_or-map, next_of-map}
-use Rattle.ordered_multimap.proofs.Agreement.Renamed.{previous_of-map}
+use Rattle.ordered_multimap.proofs.Agreement.Relocated.{IsIn-map, IsIn-name, IsTold, filter-map, first_of-map, last_or-map, next_of-map}
+use Rattle.ordered_multimap.proofs.Agreement.Relocated.{previous_of-map}
 use Rattle.ordered_multimap.proofs.Callers.Members.{IsIn-kept}
 use Rattle.ordered_multimap.proofs.Callers.Places.{IsIn-filter_map}
 
@@ -86,9 +86,9 @@ module _ {K V : Type 0} {key_clone : K → K → Type 0} {value_clone : V → V 
       }
 
   key_link_is : (place : ℕ) (l : KeyLink) (w : OfKey place) → link_at copies place ≡ Some l
-      → l ≡ record (renamed_key c.rank w.stands.key_link) { hash = hash_after w.stands.copy }
+      → l ≡ record (relocated_key c.rank w.stands.key_link) { hash = hash_after w.stands.copy }
   key_link_is place l w is =
-      let both : Some l ≡ Some (record (renamed_key c.rank w.stands.key_link) { hash = hash_after w.stands.copy })
+      let both : Some l ≡ Some (record (relocated_key c.rank w.stands.key_link) { hash = hash_after w.stands.copy })
       = sym is ∙ w.stands.link_is in cc
 
   -- the value of which there is a clone at the place
@@ -111,9 +111,9 @@ module _ {K V : Type 0} {key_clone : K → K → Type 0} {value_clone : V → V 
       }
 
   value_link_is : (place : ℕ) (l : ValueLink) (w : OfValue place) → link_at value_copies place ≡ Some l
-      → l ≡ with_new_key c.name (renamed_value c.rank w.stands.value_link)
+      → l ≡ with_new_key c.name (relocated_value c.rank w.stands.value_link)
   value_link_is place l w is =
-      let both : Some l ≡ Some (with_new_key c.name (renamed_value c.rank w.stands.value_link)) = sym is ∙ w.stands.link_is in cc
+      let both : Some l ≡ Some (with_new_key c.name (relocated_value c.rank w.stands.value_link)) = sym is ∙ w.stands.link_is in cc
 
   same_name : (p q : ℕ) → IsIn p keys.order → IsIn q keys.order → (c.name p == c.name q) ≡ (p == q)
   same_name p q i j = elim (cases_eq p q) [
@@ -126,7 +126,7 @@ module _ {K V : Type 0} {key_clone : K → K → Type 0} {value_clone : V → V 
       → is_value_of value_copies (c.name key) (c.rank q) ≡ is_value_of values key q
   same_owner key there q listed =
       let s = c.values_copied.slots q listed in
-      is_value_of-is copies value_copies (c.name key) (c.rank q) (with_new_key c.name (renamed_value c.rank s.value_link)) s.link_is
+      is_value_of-is copies value_copies (c.name key) (c.rank q) (with_new_key c.name (relocated_value c.rank s.value_link)) s.link_is
       ∙ same_name s.value_link.key key (agrees.chained.owned q s.value_link listed s.link_was) there
       ∙ sym (is_value_of-is keys values key q s.value_link s.link_was)
 
@@ -212,7 +212,7 @@ module _ {K V : Type 0} {key_clone : K → K → Type 0} {value_clone : V → V 
           first = (k.key, s.value);
           second = (k.copy, s.copy);
           first_is = pair_at-is keys values q s.value_link k.key s.value s.link_was k.was s.was;
-          second_is = pair_at-is copies value_copies (c.rank q) (with_new_key c.name (renamed_value c.rank s.value_link)) k.copy s.copy
+          second_is = pair_at-is copies value_copies (c.rank q) (with_new_key c.name (relocated_value c.rank s.value_link)) k.copy s.copy
               s.link_is k.item_is s.item_is;
           related = (key_clone_at s.value_link.key there k, s.cloned);
         }))

@@ -7,7 +7,7 @@ use Rattle.multimap_slots.specs.Slots.{Slots, IsEmpty}
 use Rattle.multimap_walks.specs.declared.links.KeyLink.{KeyLink}
 use Rattle.multimap_walks.specs.declared.links.ValueLink.{ValueLink}
 use Rattle.ordered_multimap.specs.Private.Copies.{AreRanks, CopiesKey, CopiesValue, IsKeyCopy, IsValueCopy}
-use Rattle.ordered_multimap.specs.Private.KeyRenames.{HaveNewPlaces, name_in}
+use Rattle.ordered_multimap.specs.Private.KeyRelocations.{HaveNewPlaces, new_place_in}
 use Rattle.ordered_multimap.proofs.Agreement.NewPlaces.{noted-step, places-length, places-start, places-step}
 use Rattle.ordered_multimap.proofs.Clone.Passing.{HasPassed, passing-end, passing-listed, passing-new, passing-position, passing-start}
 use Rattle.ordered_multimap.proofs.Clone.Passing.{passing-step}
@@ -37,22 +37,22 @@ module _ {order : List ℕ} {following : Option ℕ} (distinct : AreDistinct ord
     (next_is : next ≡ next_of order place) where
   -- one more key, whose new place is noted
   pub keys-step : {K : Type 0} {is_clone : K → K → Type 0} {hash : K → ℕ} {rank : ℕ → ℕ} {keys copies copies_after : Slots K KeyLink}
-      {rows rows_after : FinMap nat_cmp ℕ} {names names_after : List ℕ}
-      → AreCopying (IsKeyCopy is_clone hash rank keys) (name_in names) order following copies
-      → CopiesKey is_clone hash rank keys copies copies_after rows rows_after names names_after place → place < length names
-      → AreCopying (IsKeyCopy is_clone hash rank keys) (name_in names_after) order next copies_after
-  keys-step {names = names} w copied within = record {
+      {rows rows_after : FinMap nat_cmp ℕ} {new_places new_places_after : List ℕ}
+      → AreCopying (IsKeyCopy is_clone hash rank keys) (new_place_in new_places) order following copies
+      → CopiesKey is_clone hash rank keys copies copies_after rows rows_after new_places new_places_after place → place < length new_places
+      → AreCopying (IsKeyCopy is_clone hash rank keys) (new_place_in new_places_after) order next copies_after
+  keys-step {new_places = new_places} w copied within = record {
     done = w.done ++ place ∷ [];
     passed = passing-step distinct w.passed place here next next_is;
-    have = noted-step names w.have copied.pushed copied.stands copied.names_are (passing-new distinct w.passed place here) within;
+    have = noted-step new_places w.have copied.pushed copied.stands copied.new_places_are (passing-new distinct w.passed place here) within;
   }
 
   -- one more value, at the place of its rank
   pub values-step : {V : Type 0} {is_clone : V → V → Type 0} {name : ℕ
       → ℕ} {values copies copies_after : Slots V ValueLink} {ranks : List ℕ}
-      {to : ℕ} → AreRanks order ranks → AreCopying (IsValueCopy is_clone name (name_in ranks) values) (name_in ranks) order following copies
-      → CopiesValue is_clone name (name_in ranks) values copies copies_after place to → to ≡ length copies.order
-      → AreCopying (IsValueCopy is_clone name (name_in ranks) values) (name_in ranks) order next copies_after
+      {to : ℕ} → AreRanks order ranks → AreCopying (IsValueCopy is_clone name (new_place_in ranks) values) (new_place_in ranks) order following copies
+      → CopiesValue is_clone name (new_place_in ranks) values copies copies_after place to → to ≡ length copies.order
+      → AreCopying (IsValueCopy is_clone name (new_place_in ranks) values) (new_place_in ranks) order next copies_after
   values-step {copies = copies} {to = to} are w copied behind = record {
     done = w.done ++ place ∷ [];
     passed = passing-step distinct w.passed place here next next_is;

@@ -10,8 +10,8 @@ use Rattle.multimap_walks.specs.declared.links.KeyLink.{KeyLink}
 use Rattle.multimap_walks.specs.declared.links.ValueLink.{ValueLink}
 use Rattle.multimap_walks.specs.Chained.{chain_of, is_value_of, position_in}
 use Rattle.ordered_multimap.specs.Private.Copies.{AreRanks, HasRankedEnds, HasRankedNeighbours}
-use Rattle.ordered_multimap.specs.Private.KeyRenames.{name_in}
-use Rattle.ordered_multimap.specs.Private.Renames.{AreChained}
+use Rattle.ordered_multimap.specs.Private.KeyRelocations.{new_place_in}
+use Rattle.ordered_multimap.specs.Private.Relocations.{AreChained}
 use Rattle.ordered_multimap.proofs.Callers.Members.{IsIn-kept}
 use Rattle.ordered_multimap.proofs.Callers.Places.{begins, last_of-member, position_in-split}
 use Rattle.ordered_multimap.proofs.Chains.Neighbours.{first_of-member, next_of-members, previous_of-members}
@@ -25,7 +25,7 @@ pub record AreNoted (order ranks : List ℕ) (rank place : ℕ) : Type 0 where
   pub above : (q : ℕ) → IsIn q rest → place ≤ q
   pub rank_is : rank ≡ length done
   pub length_is : length ranks ≡ place
-  pub each : (q : ℕ) → IsIn q done → name_in ranks q ≡ position_in order q
+  pub each : (q : ℕ) → IsIn q done → new_place_in ranks q ≡ position_in order q
 
 pub ranks-start : (order : List ℕ) → AreNoted order [] 0 0
 ranks-start order = record {
@@ -50,7 +50,7 @@ lowest_first (p ∷ rest) place rises (inl same) above = ap Some (sym same)
 lowest_first (p ∷ rest) place rises (inr later) above = absurd (omega (arith, rises.0 place later, above p (inl refl)))
 
 module _ {order ranks : List ℕ} {rank place : ℕ} (rises : Rises order) (noted : AreNoted order ranks rank place) where
-  old_rank : (q : ℕ) → IsIn q noted.done → name_in (ranks ++ rank ∷ []) q ≡ position_in order q
+  old_rank : (q : ℕ) → IsIn q noted.done → new_place_in (ranks ++ rank ∷ []) q ≡ position_in order q
   old_rank q i = get_or_append_left ranks (rank ∷ []) 0 q (omega (arith, noted.below q i, noted.length_is)) ∙ noted.each q i
 
   length_after : length (ranks ++ rank ∷ []) ≡ place + 1
@@ -82,7 +82,7 @@ module _ {order ranks : List ℕ} {rank place : ℕ} (rises : Rises order) (note
         each = λ q i. elim (IsIn-append q noted.done (place ∷ []) i) [
           | inl old ↦ old_rank q old
           | inr last ↦ elim last [
-            | inl same ↦ ap (name_in (ranks ++ rank ∷ [])) same ∙ get_or_push ranks rank 0 place noted.length_is ∙ noted.rank_is
+            | inl same ↦ ap (new_place_in (ranks ++ rank ∷ [])) same ∙ get_or_push ranks rank 0 place noted.length_is ∙ noted.rank_is
                 ∙ sym (position_in-split noted.done place b.rest (λ j. omega (arith, noted.below place j)))
                 ∙ sym (ap (λ ps. position_in ps place) split) ∙ ap (position_in order) (sym same)
             | inr none ↦ absurd none
@@ -130,9 +130,9 @@ module _ {K V : Type 0} {keys : Slots K KeyLink} {values : Slots V ValueLink} {r
     tail = in_chain q l.tail (last_of-member (chain_of values q) l.tail (chains.chained.tail q l listed is));
   }
 
-  pub ranked_neighbours : (names : List ℕ) → ((q : ℕ) → IsIn q keys.order → q < length names) → (q : ℕ) (l : ValueLink)
-      → IsIn q values.order → link_at values q ≡ Some l → HasRankedNeighbours names ranks l
-  ranked_neighbours names within q l listed is = record {
+  pub ranked_neighbours : (new_places : List ℕ) → ((q : ℕ) → IsIn q keys.order → q < length new_places) → (q : ℕ) (l : ValueLink)
+      → IsIn q values.order → link_at values q ≡ Some l → HasRankedNeighbours new_places ranks l
+  ranked_neighbours new_places within q l listed is = record {
     key = within l.key (chains.chained.owned q l listed is);
     previous = λ p e. in_chain l.key p (previous_of-members (chain_of values l.key) q p (chains.chained.previous q l listed is ∙ e)).1;
     next = λ p e. in_chain l.key p (next_of-members (chain_of values l.key) q p (chains.chained.next q l listed is ∙ e)).1;

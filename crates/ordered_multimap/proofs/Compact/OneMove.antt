@@ -3,13 +3,13 @@ use Rattle.std.proofs.Common.{◌≡◌, ◌≢◌, ◌⊎◌, ℕ, List, [], �
 use Rattle.std.proofs.Common.{inr, true≢false, length, ◌≤◌}
 use Rattle.std.proofs.lemmas.Bool.{cases_eq, eq-eqb, ne_eqb}
 use Rattle.std.proofs.lemmas.List.{map-append}
-use Rattle.multimap_slots.specs.Lists.{IsIn, AreDistinct, next_of, previous_of, IsRenamed}
+use Rattle.multimap_slots.specs.Lists.{IsIn, AreDistinct, next_of, previous_of, IsRelocated}
 use Rattle.multimap_slots.specs.Slots.{Slots, IsSound, item_at, link_at}
 use Rattle.multimap_slots.proofs.Callers.PlaceLists.{IsIn-left, IsIn-right, AreDistinct-gone}
 use Rattle.multimap_walks.specs.declared.links.KeyLink.{KeyLink}
 use Rattle.multimap_walks.specs.declared.links.ValueLink.{ValueLink}
 use Rattle.multimap_walks.specs.Chained.{IsChained, is_value_of, chain_of}
-use Rattle.ordered_multimap.specs.Private.Renames.{Renames, renamed, renamed_value, renamed_key}
+use Rattle.ordered_multimap.specs.Private.Relocations.{Relocates, relocated, relocated_value, relocated_key}
 use Rattle.ordered_multimap.proofs.Callers.Members.{IsIn-kept}
 use Rattle.ordered_multimap.proofs.Callers.Places.{begins, AreDistinct-filter, last_of-member}
 use Rattle.ordered_multimap.proofs.Agreement.Agreed.{is_value_of-is}
@@ -22,7 +22,7 @@ pub record MovesValue {K V : Type 0} (keys keys_after : Slots K KeyLink)
   pub was_absent : ¬ IsIn to values.order
   pub was_listed : IsIn from values.order
   pub had : link_at values from ≡ Some l
-  pub order : IsRenamed values.order values_after.order from to
+  pub order : IsRelocated values.order values_after.order from to
   pub room : length values.order ≤ values_after.capacity
   pub item_is : item_at values_after to ≡ item_at values from
   pub items : (q : ℕ) → q ≢ from → q ≢ to → item_at values_after q ≡ item_at values q
@@ -36,27 +36,27 @@ pub record MovesValue {K V : Type 0} (keys keys_after : Slots K KeyLink)
   pub key_order : keys_after.order ≡ keys.order
   pub key_items : (q : ℕ) → item_at keys_after q ≡ item_at keys q
   pub key_link : (k : KeyLink) → link_at keys l.key ≡ Some k
-      → link_at keys_after l.key ≡ Some (renamed_key (renamed from to) k)
+      → link_at keys_after l.key ≡ Some (relocated_key (relocated from to) k)
   pub key_others : (q : ℕ) → q ≢ l.key → link_at keys_after q ≡ link_at keys q
   pub key_room : length keys.order ≤ keys_after.capacity
 
 module _ (from to : ℕ) where
-  pub renamed-from : (q : ℕ) → q ≡ from → renamed from to q ≡ to
-  renamed-from q same = rw (eq-eqb q from same) refl
+  pub relocated-from : (q : ℕ) → q ≡ from → relocated from to q ≡ to
+  relocated-from q same = rw (eq-eqb q from same) refl
 
-  pub renamed-other : (q : ℕ) → q ≢ from → renamed from to q ≡ q
-  renamed-other q differs = rw (ne_eqb q from differs) refl
+  pub relocated-other : (q : ℕ) → q ≢ from → relocated from to q ≡ q
+  relocated-other q differs = rw (ne_eqb q from differs) refl
 
-  renamed-option : (o : Option ℕ) → o ≢ Some from → option_map (renamed from to) o ≡ o
-  renamed-option None differs = refl
-  renamed-option (Some q) differs = ap Some (renamed-other q (λ e. differs (ap Some e)))
+  relocated-option : (o : Option ℕ) → o ≢ Some from → option_map (relocated from to) o ≡ o
+  relocated-option None differs = refl
+  relocated-option (Some q) differs = ap Some (relocated-other q (λ e. differs (ap Some e)))
 
-  renamed-option_from : (o : Option ℕ) → o ≡ Some from → option_map (renamed from to) o ≡ Some to
-  renamed-option_from o e = ap (option_map (renamed from to)) e ∙ ap Some (renamed-from from refl)
+  relocated-option_from : (o : Option ℕ) → o ≡ Some from → option_map (relocated from to) o ≡ Some to
+  relocated-option_from o e = ap (option_map (relocated from to)) e ∙ ap Some (relocated-from from refl)
 
-  pub renamed-none : (ps : List ℕ) → (IsIn from ps → ⊥) → map (renamed from to) ps ≡ ps
-  renamed-none [] absent = refl
-  renamed-none (p ∷ ps) absent = λ i. renamed-other p (λ e. absent (inl (sym e))) i ∷ renamed-none ps (λ j. absent (inr j)) i
+  pub relocated-none : (ps : List ℕ) → (IsIn from ps → ⊥) → map (relocated from to) ps ≡ ps
+  relocated-none [] absent = refl
+  relocated-none (p ∷ ps) absent = λ i. relocated-other p (λ e. absent (inl (sym e))) i ∷ relocated-none ps (λ j. absent (inr j)) i
 
 module _ {K V : Type 0} {keys keys_after : Slots K KeyLink} {values values_after : Slots V ValueLink} {from to : ℕ} {l : ValueLink}
     (keys_sound : IsSound keys) (values_sound : IsSound values) (chained : IsChained keys values)
@@ -125,44 +125,44 @@ module _ {K V : Type 0} {keys keys_after : Slots K KeyLink} {values values_after
   not_previous e = let follows = next_is (chain_of values l.key) (chain_distinct l.key) from from (previous_was ∙ e) in
       no_cycle (chain_of values l.key) (chain_distinct l.key) from from follows follows
 
-  link_renamed : (q : ℕ) (n : ValueLink) → IsIn q values.order → link_at values q ≡ Some n
-      → link_at values_after (renamed from to q) ≡ Some (renamed_value (renamed from to) n)
-  link_renamed q n listed is = elim (cases_eq q from) [
+  link_relocated : (q : ℕ) (n : ValueLink) → IsIn q values.order → link_at values q ≡ Some n
+      → link_at values_after (relocated from to q) ≡ Some (relocated_value (relocated from to) n)
+  link_relocated q n listed is = elim (cases_eq q from) [
     | inl same ↦
         let both : Some n ≡ Some l = sym is ∙ ap (link_at values) same ∙ m.had in
         let own : n ≡ l = cc in
-        ap (link_at values_after) (renamed-from from to q same) ∙ m.link_is
-        ∙ sym (ap (λ o. Some (record l { previous = o; next = option_map (renamed from to) l.next }))
-        (renamed-option from to l.previous not_previous)
-        ∙ ap (λ o. Some (record l { next = o })) (renamed-option from to l.next not_next))
-        ∙ ap (λ x. Some (renamed_value (renamed from to) x)) (sym own)
-    | inr differs ↦ ap (link_at values_after) (renamed-other from to q differs)
+        ap (link_at values_after) (relocated-from from to q same) ∙ m.link_is
+        ∙ sym (ap (λ o. Some (record l { previous = o; next = option_map (relocated from to) l.next }))
+        (relocated-option from to l.previous not_previous)
+        ∙ ap (λ o. Some (record l { next = o })) (relocated-option from to l.next not_next))
+        ∙ ap (λ x. Some (relocated_value (relocated from to) x)) (sym own)
+    | inr differs ↦ ap (link_at values_after) (relocated-other from to q differs)
         ∙ elsewhere q n listed is differs (cases_some l.previous q) (cases_some l.next q)
   ]
     where
       elsewhere : (q : ℕ) (n : ValueLink) → IsIn q values.order → link_at values q ≡ Some n → q ≢ from
           → (l.previous ≡ Some q) ⊎ (l.previous ≢ Some q) → (l.next ≡ Some q) ⊎ (l.next ≢ Some q)
-          → link_at values_after q ≡ Some (renamed_value (renamed from to) n)
+          → link_at values_after q ≡ Some (relocated_value (relocated from to) n)
       elsewhere q n listed is differs (inl back) (inl forth) = absurd (not_both q back forth)
       elsewhere q n listed is differs (inl back) (inr other) =
           m.before q n back is
-          ∙ sym (ap (λ o. Some (record n { previous = o; next = option_map (renamed from to) n.next }))
-          (renamed-option from to n.previous (λ e. other (names_previous q n listed is e)))
-          ∙ ap (λ o. Some (record n { next = o })) (renamed-option_from from to n.next (before_names q n listed is back)))
+          ∙ sym (ap (λ o. Some (record n { previous = o; next = option_map (relocated from to) n.next }))
+          (relocated-option from to n.previous (λ e. other (names_previous q n listed is e)))
+          ∙ ap (λ o. Some (record n { next = o })) (relocated-option_from from to n.next (before_names q n listed is back)))
       elsewhere q n listed is differs (inr other) (inl forth) =
           m.behind q n forth is
-          ∙ sym (ap (λ o. Some (record n { previous = option_map (renamed from to) n.previous; next = o }))
-          (renamed-option from to n.next (λ e. other (names_next q n listed is e)))
-          ∙ ap (λ o. Some (record n { previous = o })) (renamed-option_from from to n.previous (behind_names q n listed is forth)))
+          ∙ sym (ap (λ o. Some (record n { previous = option_map (relocated from to) n.previous; next = o }))
+          (relocated-option from to n.next (λ e. other (names_next q n listed is e)))
+          ∙ ap (λ o. Some (record n { previous = o })) (relocated-option_from from to n.previous (behind_names q n listed is forth)))
       elsewhere q n listed is differs (inr no_back) (inr no_forth) =
           m.others q differs (to_other q listed) no_back no_forth ∙ is
-          ∙ sym (ap (λ o. Some (record n { previous = o; next = option_map (renamed from to) n.next }))
-          (renamed-option from to n.previous (λ e. no_forth (names_previous q n listed is e)))
-          ∙ ap (λ o. Some (record n { next = o })) (renamed-option from to n.next (λ e. no_back (names_next q n listed is e))))
+          ∙ sym (ap (λ o. Some (record n { previous = o; next = option_map (relocated from to) n.next }))
+          (relocated-option from to n.previous (λ e. no_forth (names_previous q n listed is e)))
+          ∙ ap (λ o. Some (record n { next = o })) (relocated-option from to n.next (λ e. no_back (names_next q n listed is e))))
 
-  key_renamed : (q : ℕ) (k : KeyLink) → IsIn q keys.order → link_at keys q ≡ Some k
-      → link_at keys_after q ≡ Some (renamed_key (renamed from to) k)
-  key_renamed q k listed is = elim (cases_eq q l.key) [
+  key_relocated : (q : ℕ) (k : KeyLink) → IsIn q keys.order → link_at keys q ≡ Some k
+      → link_at keys_after q ≡ Some (relocated_key (relocated from to) k)
+  key_relocated q k listed is = elim (cases_eq q l.key) [
     | inl same ↦ ap (link_at keys_after) same ∙ m.key_link k (ap (link_at keys) (sym same) ∙ is)
     | inr differs ↦
         let b = begins (chain_of values q) k.head (chained.head q k listed is) in
@@ -171,39 +171,39 @@ module _ {K V : Type 0} {keys keys_after : Slots K KeyLink} {values values_after
         let away : (p : ℕ) → IsIn p (chain_of values q)
         → p ≢ from = λ p i e. differs (sym (owner q from l m.had (subst (λ x. IsIn x (chain_of values q)) e i))) in
         m.key_others q differs ∙ is
-        ∙ sym (ap (λ h. Some (record k { head = h; tail = renamed from to k.tail })) (renamed-other from to k.head (away k.head head_in))
-        ∙ ap (λ t. Some (record k { tail = t })) (renamed-other from to k.tail (away k.tail tail_in)))
+        ∙ sym (ap (λ h. Some (record k { head = h; tail = relocated from to k.tail })) (relocated-other from to k.head (away k.head head_in))
+        ∙ ap (λ t. Some (record k { tail = t })) (relocated-other from to k.tail (away k.tail tail_in)))
   ]
 
-  order_renamed : values_after.order ≡ map (renamed from to) values.order
-  order_renamed =
+  order_relocated : values_after.order ≡ map (relocated from to) values.order
+  order_relocated =
       let r = m.order in
       let gone = AreDistinct-gone r.front from r.back (subst AreDistinct r.was values_sound.distinct) in
-      r.is ∙ sym (ap (map (renamed from to)) r.was ∙ map-append (renamed from to) r.front (from ∷ r.back)
-      ∙ (λ i. renamed-none from to r.front (λ j. gone (IsIn-left from r.front r.back j)) i
-      ++ renamed-from from to from refl i ∷ renamed-none from to r.back (λ j. gone (IsIn-right from r.front r.back j)) i))
+      r.is ∙ sym (ap (map (relocated from to)) r.was ∙ map-append (relocated from to) r.front (from ∷ r.back)
+      ∙ (λ i. relocated-none from to r.front (λ j. gone (IsIn-left from r.front r.back j)) i
+      ++ relocated-from from to from refl i ∷ relocated-none from to r.back (λ j. gone (IsIn-right from r.front r.back j)) i))
 
-  pub renames-moved : Renames (renamed from to) keys keys_after values values_after
-  renames-moved = record {
+  pub relocates-moved : Relocates (relocated from to) keys keys_after values values_after
+  relocates-moved = record {
     apart = λ p q p_listed q_listed e. elim (cases_eq p from) [
       | inl p_same ↦ elim (cases_eq q from) [
         | inl q_same ↦ p_same ∙ sym q_same
-        | inr q_other ↦ absurd (to_other q q_listed (sym (renamed-other from to q q_other) ∙ sym e ∙ renamed-from from to p p_same))
+        | inr q_other ↦ absurd (to_other q q_listed (sym (relocated-other from to q q_other) ∙ sym e ∙ relocated-from from to p p_same))
       ]
       | inr p_other ↦ elim (cases_eq q from) [
-        | inl q_same ↦ absurd (to_other p p_listed (sym (renamed-other from to p p_other) ∙ e ∙ renamed-from from to q q_same))
-        | inr q_other ↦ sym (renamed-other from to p p_other) ∙ e ∙ renamed-other from to q q_other
+        | inl q_same ↦ absurd (to_other p p_listed (sym (relocated-other from to p p_other) ∙ e ∙ relocated-from from to q q_same))
+        | inr q_other ↦ sym (relocated-other from to p p_other) ∙ e ∙ relocated-other from to q q_other
       ]
     ];
     key_order = m.key_order;
     key_items = m.key_items;
-    key_links = key_renamed;
+    key_links = key_relocated;
     key_room = m.key_room;
-    order = order_renamed;
+    order = order_relocated;
     items = λ q listed. elim (cases_eq q from) [
-      | inl same ↦ ap (item_at values_after) (renamed-from from to q same) ∙ m.item_is ∙ ap (item_at values) (sym same)
-      | inr differs ↦ ap (item_at values_after) (renamed-other from to q differs) ∙ m.items q differs (to_other q listed)
+      | inl same ↦ ap (item_at values_after) (relocated-from from to q same) ∙ m.item_is ∙ ap (item_at values) (sym same)
+      | inr differs ↦ ap (item_at values_after) (relocated-other from to q differs) ∙ m.items q differs (to_other q listed)
     ];
-    links = link_renamed;
+    links = link_relocated;
     room = m.room;
   }

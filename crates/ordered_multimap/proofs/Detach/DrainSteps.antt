@@ -20,9 +20,9 @@ use Rattle.multimap_walks.proofs.Callers.Chains.{chain_behind, chain_before, fir
 use Rattle.multimap_walks.proofs.Callers.Squashed.{AreDistinct-prop, Leads-prop}
 use Rattle.ordered_multimap.specs.Agrees.{Agrees, lists_of}
 use Rattle.ordered_multimap.specs.Detaches.{IsDrained, KeepsSlots, drained, drained_places}
-use Rattle.ordered_multimap.specs.Private.Renames.{Renames}
+use Rattle.ordered_multimap.specs.Private.Relocations.{Relocates}
 use Rattle.ordered_multimap.proofs.Callers.Places.{filter_map-agree}
-use Rattle.ordered_multimap.proofs.Agreement.Renamed.{agrees-renamed, lists_of-renamed}
+use Rattle.ordered_multimap.proofs.Agreement.Relocated.{agrees-relocated, lists_of-relocated}
 
 -- that a drain's places are detached has one proof at most
 module _ {V : Type 0} (values : Slots V ValueLink) where
@@ -278,7 +278,7 @@ module _ {K V : Type 0} {eq : K → K → Bool} {hash : K
   map-same [] = refl
   map-same (p ∷ ps) = ap (λ qs. p ∷ qs) (map-same ps)
 
-  unnamed : Renames (λ p. p) keys keys values values_after
+  unnamed : Relocates (λ p. p) keys keys values values_after
   unnamed = record {
     apart = λ p q i j same. same;
     key_order = refl;
@@ -293,7 +293,7 @@ module _ {K V : Type 0} {eq : K → K → Bool} {hash : K
   }
 
   pub agrees-listed : Agrees eq hash keys rows values_after
-  agrees-listed = agrees-renamed (λ p. p) agrees unnamed
+  agrees-listed = agrees-relocated (λ p. p) agrees unnamed
 
   pub lists_of-listed : lists_of keys values_after ≡ lists_of keys values
-  lists_of-listed = lists_of-renamed (λ p. p) agrees unnamed
+  lists_of-listed = lists_of-relocated (λ p. p) agrees unnamed

@@ -39,21 +39,21 @@ use Rattle.ordered_multimap.proofs.Loans.Rested.{SoMet, so_out}
 -- where the lender follows the loan of a walk: from what is so of the lender once the slots ended with some items, to what the walk's end says
 module _ {M : Type 1} {𝓤 : Ura M} (𝓛 : Logic 𝓤) (R V : RattleType) (F : R.Denot → R.Denot) (lent : List (Option V.Denot) → R.Denot)
     (γ : GName) (c : Cells V.Denot) (says : List (Option V.Denot) → Fml)
-    (is : (ws : List (Option V.Denot)) → final V c.around ws ≡ R.coded.code (lent ws))
+    (is : (ws : List (Option V.Denot)) → final V c.lender_context ws ≡ R.coded.code (lent ws))
     (to : (ws : List (Option V.Denot)) → ent 𝓤 (sem 𝓛 (fres γ (R.coded.code (F (lent ws))))) (sem 𝓛 (says ws))) where
   open 𝓛 use {A as B}
 
-  by_items : ent 𝓤 (sep 𝓤 (sem 𝓛 (follows R R γ c.whole F)) (sem 𝓛 (ends_with V c))) (sem 𝓛 (ends_by_items V c says))
-  by_items = qed 𝓛 (‵ (follows R R γ c.whole F) ∷ ‵ (ends_with V c) ∷ []) ∵
+  by_items : ent 𝓤 (sep 𝓤 (sem 𝓛 (follows R R γ c.lender_loan F)) (sem 𝓛 (ends_with V c))) (sem 𝓛 (ends_by_items V c says))
+  by_items = qed 𝓛 (‵ (follows R R γ c.lender_loan F) ∷ ‵ (ends_with V c) ∷ []) ∵
       each ! (λ (ws : List (Option V.Denot)). wand 𝓤 (sem 𝓛 (become V c.names c.items c.left ws)) (sem 𝓛 (says ws))) (λ ws.
       assume ! (‵ (become V c.names c.items c.left ws)) $ move ! (2 ∷ []) $
-      use1 𝓛 (raw (wand 𝓤 (sem 𝓛 (become V c.names c.items c.left ws)) (B.res c.whole (final V c.around ws))))
+      use1 𝓛 (raw (wand 𝓤 (sem 𝓛 (become V c.names c.items c.left ws)) (B.res c.lender_loan (final V c.lender_context ws))))
       (all_e 𝓤 (λ (vs : List (Option V.Denot)). wand 𝓤 (sem 𝓛 (become V c.names c.items c.left vs))
-      (B.res c.whole (final V c.around vs))) ws) $
-      move ! (1 ∷ 0 ∷ []) $ use2 𝓛 (‵ (fres c.whole (final V c.around ws)))
-      (apply∗ 𝓤 (sem 𝓛 (become V c.names c.items c.left ws)) (B.res c.whole (final V c.around ws))) $
-      rewrite ! 0 (λ (g : Gv). ‵ (fres c.whole g)) (is ws) refl $ move ! (1 ∷ 0 ∷ []) $
-      use2 𝓛 (‵ (fres γ (R.coded.code (F (lent ws))))) (followed 𝓛 R R F γ c.whole (lent ws)) $
+      (B.res c.lender_loan (final V c.lender_context vs))) ws) $
+      move ! (1 ∷ 0 ∷ []) $ use2 𝓛 (‵ (fres c.lender_loan (final V c.lender_context ws)))
+      (apply∗ 𝓤 (sem 𝓛 (become V c.names c.items c.left ws)) (B.res c.lender_loan (final V c.lender_context ws))) $
+      rewrite ! 0 (λ (g : Gv). ‵ (fres c.lender_loan g)) (is ws) refl $ move ! (1 ∷ 0 ∷ []) $
+      use2 𝓛 (‵ (fres γ (R.coded.code (F (lent ws))))) (followed 𝓛 R R F γ c.lender_loan (lent ws)) $
       use1 𝓛 (‵ (says ws)) (to ws) $ done !)
 
 -- the map whose slots of values have these items, by its pairs
@@ -71,8 +71,8 @@ module _ {M : Type 1} {𝓤 : Ura M} (𝓛 : Logic 𝓤) (K V S A H : RattleType
 
   -- from the clauses of the call that made the walk, and of the walk's end
   pub exactly : (m : Multimap K.Denot V.Denot S.Denot) (γ : GName) (made : SlotCells V.Denot ValueLink A.Denot) (c : Cells V.Denot)
-      → EndsMap K V S m made → c.around ≡ made.cells.around
-      → ent 𝓤 (sep 𝓤 (sem 𝓛 (follows R R γ c.whole (with_values_of m))) (sem 𝓛 (ends_with V c))) (sem 𝓛 (ends_exactly K V S m γ c))
+      → EndsMap K V S m made → c.lender_context ≡ made.cells.lender_context
+      → ent 𝓤 (sep 𝓤 (sem 𝓛 (follows R R γ c.lender_loan (with_values_of m))) (sem 𝓛 (ends_with V c))) (sem 𝓛 (ends_exactly K V S m γ c))
   exactly m γ made c ends same = by_items 𝓛 R V (with_values_of m) (with_items m) γ c (λ ws. fres γ (R.coded.code (ended_map m ws)))
       (λ ws. ap (λ hs. final V hs ws) same ∙ ends.ends ws) (λ ws. qed 𝓛 (‵ (fres γ (R.coded.code (with_values m ws))) ∷ []) ∵
       rewrite ! 0 (λ (n : Multimap K.Denot V.Denot S.Denot). ‵ (fres γ (R.coded.code n))) (ended m ws (ends.pairs ws)) refl $ done !)
@@ -80,7 +80,7 @@ module _ {M : Type 1} {𝓤 : Ura M} (𝓛 : Logic 𝓤) (K V S A H : RattleType
   pub walks_are_exact : ent 𝓤 (emp 𝓤) (sem 𝓛 (WalksAreExact K V S A H key build hash heap))
   walks_are_exact =
       all_i 𝓤 _ (λ m. all_i 𝓤 _ (λ γ. all_i 𝓤 _ (λ made. all_i 𝓤 _ (λ c. all_i 𝓤 _ (λ ends. all_i 𝓤 _ (λ same.
-      qed 𝓛 [] ∵ assume ! (‵ (follows R R γ c.whole (with_values_of m))) $ assume ! (‵ (ends_with V c)) $ move ! (1 ∷ 0 ∷ []) $
+      qed 𝓛 [] ∵ assume ! (‵ (follows R R γ c.lender_loan (with_values_of m))) $ assume ! (‵ (ends_with V c)) $ move ! (1 ∷ 0 ∷ []) $
       use2 𝓛 (‵ (ends_exactly K V S m γ c)) (exactly m γ made c ends same) $ done !))))))
 
 module _ {M : Type 1} {𝓤 : Ura M} (𝓛 : Logic 𝓤) (K V S A H : RattleType) (e : equality.Ghosts K.Denot) (k : hashed.Ghosts K.Denot)
@@ -92,8 +92,8 @@ module _ {M : Type 1} {𝓤 : Ura M} (𝓛 : Logic 𝓤) (K V S A H : RattleType
   W = walk_row K V S A H e k b h heap
 
   pub entry_exactly : (o : MutBor E.Denot) (made : SlotCells V.Denot ValueLink A.Denot) (c : Cells V.Denot)
-      → EndsEntry K V S A H heap o.now made → c.around ≡ made.cells.around
-      → ent 𝓤 (sep 𝓤 (sem 𝓛 (lends_values_to_entry K V S A H heap o c.whole)) (sem 𝓛 (ends_with V c)))
+      → EndsEntry K V S A H heap o.now made → c.lender_context ≡ made.cells.lender_context
+      → ent 𝓤 (sep 𝓤 (sem 𝓛 (lends_values_to_entry K V S A H heap o c.lender_loan)) (sem 𝓛 (ends_with V c)))
       (sem 𝓛 (entry_ends_exactly K V S A H heap o c))
   entry_exactly o made c ends same =
       let m : Multimap K.Denot V.Denot S.Denot = o.now.map.now in
@@ -110,8 +110,8 @@ module _ {M : Type 1} {𝓤 : Ura M} (𝓛 : Logic 𝓤) (K V S A H : RattleType
       rewrite ! 0 (λ (ps : List (K.Denot × V.Denot)). ‵ (fres o.ghost_name (E.coded.code (over ws ps)))) (ends.pairs ws) refl $ done !)
 
   pub walk_exactly : (end : End) (w : MutBor W.Denot) (r : Bor K.Denot × EntryValuesMut K.Denot V.Denot A.Denot) (c : Cells V.Denot)
-      → EndsStepped K V S A H heap end w.now r → c.around ≡ (entry_values_mut_values r.1).cells.around
-      → c.whole ≡ entry_values_mut_name r.1
+      → EndsStepped K V S A H heap end w.now r → c.lender_context ≡ (entry_values_mut_values r.1).cells.lender_context
+      → c.lender_loan ≡ entry_values_mut_name r.1
       → ent 𝓤 (sep 𝓤 (sem 𝓛 (lends_key_values K V S A H heap end w (Some r))) (sem 𝓛 (ends_with V c)))
       (sem 𝓛 (walk_ends_exactly K V S A H heap end w c))
   walk_exactly end w r c stepped same name =
@@ -150,6 +150,6 @@ module _ {M : Type 1} {𝓤 : Ura M} (𝓛 : Logic 𝓤) (K V S A H : RattleType
       qed 𝓛 [] ∵ assume ! (‵ (lends_key_values K V S A H heap end w (Some r))) $ assume ! (‵ (ends_with V c)) $ move ! (1 ∷ 0 ∷ []) $
       use2 𝓛 (‵ (walk_ends_exactly K V S A H heap end w c)) (walk_exactly end w r c stepped same name) $ done !)))))))) $
       use0 𝓛 (‵ (EntryWalksAreExact K V S A H e k b h heap)) (all_i 𝓤 _ (λ o. all_i 𝓤 _ (λ made. all_i 𝓤 _ (λ c. all_i 𝓤 _ (λ ends.
-      all_i 𝓤 _ (λ same. qed 𝓛 [] ∵ assume ! (‵ (lends_values_to_entry K V S A H heap o c.whole)) $ assume ! (‵ (ends_with V c)) $
+      all_i 𝓤 _ (λ same. qed 𝓛 [] ∵ assume ! (‵ (lends_values_to_entry K V S A H heap o c.lender_loan)) $ assume ! (‵ (ends_with V c)) $
       move ! (1 ∷ 0 ∷ []) $ use2 𝓛 (‵ (entry_ends_exactly K V S A H heap o c)) (entry_exactly o made c ends same) $ done !)))))) $
       fjoin ! $ done !

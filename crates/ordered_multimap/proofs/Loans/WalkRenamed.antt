@@ -37,12 +37,12 @@ module _ {M : Type 1} {𝓤 : Ura M} (𝓛 : Logic 𝓤) (a : NamedLft) (K V A :
 
   pub entry_values_renamed : (w : EntryValuesMut K.Denot V.Denot A.Denot) (vs : List Val)
       (can : ∥ CanReadChain (lent_again w.values) w.left ∥₁)
-      → ((ws : List (Option V.Denot)) → U.coded.code (u ws) ≡ final V w.values.cells.around ws)
+      → ((ws : List (Option V.Denot)) → U.coded.code (u ws) ≡ final V w.values.cells.lender_context ws)
       → ((ws : List (Option V.Denot)) → R.coded.code (mk (u ws)) ≡ final V rim ws)
-      → ent 𝓤 (sep 𝓤 (sem 𝓛 ((W-type.the_row a K V A alloc).own_val w vs)) (sem 𝓛 (after R U ε w.values.cells.whole mk)))
+      → ent 𝓤 (sep 𝓤 (sem 𝓛 ((W-type.the_row a K V A alloc).own_val w vs)) (sem 𝓛 (after R U ε w.values.cells.lender_loan mk)))
       (sem 𝓛 ((W-type.the_row a K V A alloc).own_val (record w { values = lent_again w.values; readable = can }) vs))
   entry_values_renamed w vs can from to =
-      qed 𝓛 (‵ ((W-type.the_row a K V A alloc).own_val w vs) ∷ ‵ (after R U ε w.values.cells.whole mk) ∷ []) ∵ fpick !
+      qed 𝓛 (‵ ((W-type.the_row a K V A alloc).own_val w vs) ∷ ‵ (after R U ε w.values.cells.lender_loan mk) ∷ []) ∵ fpick !
       (λ us. fsplit3 ! $ move ! (2 ∷ []) $ fsplit ! $
       -- [the cells; the ends; the value; the mark; after]
       move ! (0 ∷ 4 ∷ []) $ use2 𝓛 (‵ ((S.the_row a V VL-type.the_row A alloc).own_val (lent_again w.values) us.1.0))

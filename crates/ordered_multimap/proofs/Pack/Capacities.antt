@@ -11,21 +11,21 @@ use Rattle.multimap_walks.specs.Chained.{pairs_of}
 use Rattle.ordered_multimap.specs.Agrees.{Agrees, items_of}
 use Rattle.ordered_multimap.specs.Private.Append.{FitsKeys, GrowsFor}
 use Rattle.ordered_multimap.specs.Rooms.{SameRooms}
-use Rattle.ordered_multimap.specs.Private.Renames.{AreRenamed}
-use Rattle.ordered_multimap.proofs.Compact.Settled.{renamed-room}
+use Rattle.ordered_multimap.specs.Private.Relocations.{AreRelocated}
+use Rattle.ordered_multimap.proofs.Compact.Dense.{relocated-room}
 use Rattle.ordered_multimap.proofs.Agreement.Agreed.{length-keys, length-pairs}
-use Rattle.ordered_multimap.proofs.Agreement.Renamed.{agrees-renamed}
+use Rattle.ordered_multimap.proofs.Agreement.Relocated.{agrees-relocated}
 use Rattle.ordered_multimap.proofs.Append.Rooms.{map_of}
 
 module _ {K V : Type 0} {eq : K → K → Bool} {hash : K
     → ℕ} {keys keys_after : Slots K KeyLink} {rows : FinMap nat_cmp ℕ} {values values_after : Slots V ValueLink}
     (agrees : Agrees eq hash keys rows values) (same_keys : KeepsItems keys keys_after) (same_values : KeepsItems values values_after)
     (key_room : keys.capacity ≤ keys_after.capacity) (value_room : values.capacity ≤ values_after.capacity) where
-  widened : AreRenamed keys keys_after values values_after
-  widened = renamed-room keys keys_after values values_after agrees.keys_sound agrees.values_sound same_keys same_values key_room value_room
+  widened : AreRelocated keys keys_after values values_after
+  widened = relocated-room keys keys_after values values_after agrees.keys_sound agrees.values_sound same_keys same_values key_room value_room
 
   pub agrees-widened : Agrees eq hash keys_after rows values_after
-  agrees-widened = agrees-renamed widened.name agrees widened.renames
+  agrees-widened = agrees-relocated widened.name agrees widened.relocates
 
 -- rooms, where so many more keys fit, and where the slots of values are as many or more
 module _ {K V S : Type 0} {eq : K → K → Bool} {hash : K → ℕ} (keys : Slots K KeyLink) {rows : FinMap nat_cmp ℕ} (values : Taped V ValueLink)

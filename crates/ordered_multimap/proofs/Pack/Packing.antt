@@ -9,19 +9,19 @@ use Rattle.multimap_slots.specs.Slots.{Slots, IsEmpty, IsSound, PushesBack, Remo
 use Rattle.multimap_slots.proofs.Callers.PlaceLists.{AreDistinct-gone, IsIn-append, IsIn-left, IsIn-right, IsIn-without, without-split}
 use Rattle.multimap_walks.specs.declared.links.KeyLink.{KeyLink}
 use Rattle.multimap_walks.specs.declared.links.ValueLink.{ValueLink}
-use Rattle.ordered_multimap.specs.Private.KeyRenames.{AreMoved, HaveCome, HaveNewPlaces, MovesKey, name_in, with_new_key}
-use Rattle.ordered_multimap.specs.Private.Renames.{places_below}
+use Rattle.ordered_multimap.specs.Private.KeyRelocations.{AreMoved, HaveCome, HaveNewPlaces, MovesKey, new_place_in, with_new_key}
+use Rattle.ordered_multimap.specs.Private.Relocations.{places_below}
 use Rattle.ordered_multimap.proofs.Agreement.NewPlaces.{noted-step, places-start}
-use Rattle.ordered_multimap.proofs.Compact.Settled.{below-less, length-below}
+use Rattle.ordered_multimap.proofs.Compact.Dense.{below-less, length-below}
 use Rattle.ordered_multimap.proofs.Callers.Members.{IsIn-filter}
 use Rattle.ordered_multimap.proofs.Callers.Places.{Begins, begins}
 
 -- a first part of the keys has gone, and the others are left as they were
-pub record AreGoing {K : Type 0} (names : List ℕ) (keys left packed : Slots K KeyLink)
+pub record AreGoing {K : Type 0} (new_places : List ℕ) (keys left packed : Slots K KeyLink)
     : Type 0 where
   pub part : List ℕ
   pub parts : keys.order ≡ part ++ left.order
-  pub gone : HaveNewPlaces (AreMoved keys) (name_in names) part packed
+  pub gone : HaveNewPlaces (AreMoved keys) (new_place_in new_places) part packed
   pub left_items : (q : ℕ) → IsIn q left.order → item_at left q ≡ item_at keys q
   pub left_links : (q : ℕ) → IsIn q left.order → link_at left q ≡ link_at keys q
 
@@ -33,20 +33,20 @@ pub record AreComing {V : Type 0} (name : ℕ → ℕ) (n : ℕ) (values left pa
   pub left_items : (q : ℕ) → IsIn q left.order → item_at left q ≡ item_at values q
   pub left_links : (q : ℕ) → IsIn q left.order → link_at left q ≡ link_at values q
 
-pub going-start : {K : Type 0} (names : List ℕ) (keys packed : Slots K KeyLink) → IsEmpty packed → AreGoing names keys keys packed
-going-start names keys packed none = record {
+pub going-start : {K : Type 0} (new_places : List ℕ) (keys packed : Slots K KeyLink) → IsEmpty packed → AreGoing new_places keys keys packed
+going-start new_places keys packed none = record {
   part = [];
   parts = refl;
-  gone = places-start (name_in names) packed none;
+  gone = places-start (new_place_in new_places) packed none;
   left_items = λ q i. refl;
   left_links = λ q i. refl;
 }
 
-module _ {K : Type 0} {left left_after packed packed_after : Slots K KeyLink} {rows rows_after : FinMap nat_cmp ℕ} {names names_after : List
+module _ {K : Type 0} {left left_after packed packed_after : Slots K KeyLink} {rows rows_after : FinMap nat_cmp ℕ} {new_places new_places_after : List
     ℕ} {place : ℕ}
-    (moves : MovesKey left left_after packed packed_after rows rows_after names names_after place) where
-  module _ {keys : Slots K KeyLink} (sound : IsSound keys) (going : AreGoing names keys left packed) (b : Begins left.order place)
-      (within : place < length names) where
+    (moves : MovesKey left left_after packed packed_after rows rows_after new_places new_places_after place) where
+  module _ {keys : Slots K KeyLink} (sound : IsSound keys) (going : AreGoing new_places keys left packed) (b : Begins left.order place)
+      (within : place < length new_places) where
     -- the place is in neither part
     not_in : IsIn place (going.part ++ b.rest) → ⊥
     not_in = AreDistinct-gone going.part place b.rest (subst AreDistinct (going.parts ∙ ap (λ ps. going.part ++ ps) b.is) sound.distinct)
@@ -55,17 +55,17 @@ module _ {K : Type 0} {left left_after packed packed_after : Slots K KeyLink} {r
     left_after_is = moves.removed.order ∙ ap (λ ps. without ps place) b.is
         ∙ without-split [] place b.rest (λ i. not_in (IsIn-right place going.part b.rest i))
 
-    pub going-step : AreGoing names_after keys left_after packed_after
+    pub going-step : AreGoing new_places_after keys left_after packed_after
     going-step = record {
       part = going.part ++ place ∷ [];
       parts =
           going.parts ∙ ap (λ ps. going.part ++ ps) (b.is ∙ ap (λ ps. place ∷ ps) (sym left_after_is))
           ∙ sym (append_assoc going.part (place ∷ []) left_after.order);
-      gone = noted-step names going.gone moves.pushed
+      gone = noted-step new_places going.gone moves.pushed
           (record {
             item_is = sym moves.removed.had ∙ going.left_items place moves.removed.was_listed;
             link_is = sym moves.link_was ∙ going.left_links place moves.removed.was_listed;
-          }) moves.names_are (λ i. not_in (IsIn-left place going.part b.rest i)) within;
+          }) moves.new_places_are (λ i. not_in (IsIn-left place going.part b.rest i)) within;
       left_items = λ q i. let was = still q i in moves.removed.others.items q was.1 ∙ going.left_items q was.0;
       left_links = λ q i. let was = still q i in moves.removed.others.links q was.1 ∙ going.left_links q was.0;
     }
@@ -74,7 +74,7 @@ module _ {K : Type 0} {left left_after packed packed_after : Slots K KeyLink} {r
         still q i = IsIn-without q left.order place (subst (IsIn q) moves.removed.order i)
 
 -- the next key is one of all
-pub going-listed : {K : Type 0} {names : List ℕ} {keys left packed : Slots K KeyLink} {place : ℕ} → AreGoing names keys left packed
+pub going-listed : {K : Type 0} {new_places : List ℕ} {keys left packed : Slots K KeyLink} {place : ℕ} → AreGoing new_places keys left packed
     → first_of left.order ≡ Some place → IsIn place keys.order
 going-listed {keys = keys} {left} {place = place} going first =
     let b = begins left.order place first in
@@ -96,10 +96,10 @@ coming-start name values packed none = record {
 }
 
 module _ {V : Type 0} {name : ℕ → ℕ} {n : ℕ} {values left packed : Slots V ValueLink} (coming : AreComing name n values left packed)
-    (settled : values.order ≡ places_below (length values.order)) where
+    (dense : values.order ≡ places_below (length values.order)) where
   -- the next place has a value, as it had before
   pub was_there : n < length values.order → IsIn n values.order
-  was_there more = subst (IsIn n) (sym settled) (in-below (length values.order) n more)
+  was_there more = subst (IsIn n) (sym dense) (in-below (length values.order) n more)
 
   pub next_there : n < length values.order → IsIn n left.order
   next_there more = coming.there n (omega arith) (was_there more)
@@ -108,7 +108,7 @@ module _ {V : Type 0} {name : ℕ → ℕ} {n : ℕ} {values left packed : Slots
   come_length = ap length coming.come.order ∙ length-below n
 
   pub coming-end : n ≡ length values.order → HaveCome name values.order values packed
-  coming-end all = subst (λ ps. HaveCome name ps values packed) (ap places_below all ∙ sym settled) coming.come
+  coming-end all = subst (λ ps. HaveCome name ps values packed) (ap places_below all ∙ sym dense) coming.come
 
   module _ {left_after packed_after : Slots V ValueLink} {value : V} {link : ValueLink} {to : ℕ} (removed : Removes left left_after n value)
       (link_was : link_at left n ≡ Some link)

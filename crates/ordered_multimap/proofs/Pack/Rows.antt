@@ -9,7 +9,7 @@ use Rattle.std.specs.FinMap.{FinMap, empty, get, insert, len, get-empty, get-ins
 use Rattle.multimap_slots.specs.Lists.{IsIn}
 use Rattle.multimap_slots.specs.Slots.{Slots, IsEmpty, PushesBack, link_at}
 use Rattle.multimap_walks.specs.declared.links.KeyLink.{KeyLink}
-use Rattle.ordered_multimap.specs.Private.KeyRenames.{HasRows}
+use Rattle.ordered_multimap.specs.Private.KeyRelocations.{HasRows}
 use Rattle.ordered_multimap.proofs.Append.Steps.{listed_cases, new_listed, old_listed, old_other}
 
 pub rows-start : {K : Type 0} (packed : Slots K KeyLink) (rows : FinMap nat_cmp ℕ) → IsEmpty packed → rows ≡ empty → HasRows packed rows

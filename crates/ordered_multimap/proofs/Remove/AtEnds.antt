@@ -25,7 +25,7 @@ use Rattle.ordered_multimap.specs.Changes.{kept}
 use Rattle.ordered_multimap.specs.Popped.{popped, popped_pair}
 use Rattle.ordered_multimap.specs.PopAnswers.{IsTaken}
 use Rattle.ordered_multimap.specs.Agrees.{Agrees, lists_of}
-use Rattle.ordered_multimap.specs.Private.RemoveOne.{TakesLast, TakesPair, TakesByKey, TakesBeside, end_of_list}
+use Rattle.ordered_multimap.specs.Private.RemoveOne.{TakesLast, TakesPair, TakesByKey, TakesOneOfSeveral, end_of_list}
 use Rattle.ordered_multimap.specs.TapeNumbers.{TapeNumbers, TakesOut, numbers_of}
 use Rattle.ordered_multimap.specs.declared.list_ordered_multimap.remove.one.Taken.{Taken}
 use Rattle.ordered_multimap.specs.declared.list_ordered_multimap.remove.one.TakenKey.{TakenKey}
@@ -146,7 +146,7 @@ module _ {K V : Type 0} {eq : K → K → Bool} (laws : IsEquivalence eq) {hash 
     → ℕ} {keys keys_after : Slots K KeyLink} {rows rows_after : FinMap nat_cmp ℕ} {values values_after : Slots V ValueLink}
     (agrees : Agrees eq hash keys rows values) (end : End) (place : ℕ) (at : end_of_list end values.order ≡ Some place) {v : V} where
   -- the key has other values, and stays
-  leaves_beside : (key : ℕ) → TakesBeside keys keys_after rows rows_after values values_after place v key
+  leaves_beside : (key : ℕ) → TakesOneOfSeveral keys keys_after rows rows_after values values_after place v key
       → Leaves eq hash end keys keys_after rows_after values values_after (record { key = Kept key; value = v })
   leaves_beside key beside =
       let listed = end_listed end values.order place at in

@@ -15,8 +15,8 @@ use Rattle.multimap_walks.specs.declared.links.ValueLink.{ValueLink}
 use Rattle.multimap_walks.specs.Chained.{position_in, chain_of, pair_at, pairs_of}
 use Rattle.ordered_multimap.specs.Agrees.{Agrees, HasKey, HasKeyWhere, items_of, lists_of}
 use Rattle.ordered_multimap.specs.Lists.{Lists, lists}
-use Rattle.ordered_multimap.specs.RemovedAt.{several, position_beside, removed_at, value_beside}
-use Rattle.ordered_multimap.specs.Private.Renames.{KeepsCapacities}
+use Rattle.ordered_multimap.specs.RemovedAt.{several, position_beside, removed_at, removable_value_at}
+use Rattle.ordered_multimap.specs.Private.Relocations.{KeepsCapacities}
 use Rattle.ordered_multimap.specs.Private.RemoveAt.{TakesAt, TakesIndexed}
 use Rattle.ordered_multimap.proofs.Agreement.Agreed.{pair_in}
 use Rattle.ordered_multimap.proofs.Chains.Indexes.{indexed_listed, of_several, several-map, several_shown, shown_without}
@@ -58,7 +58,7 @@ module _ {K V : Type 0} {eq : K → K → Bool} {hash : K → ℕ} {keys : Slots
     module _ (laws : IsEquivalence eq) (k : K) (has : HasKey eq keys k key) where
       -- what was taken is the value at the index
       pub value_is-at : (o : Option V) → TakesAt keys keys_after values values_after key index o
-          → o ≡ value_beside eq (pairs_of keys values) k index
+          → o ≡ removable_value_at eq (pairs_of keys values) k index
       value_is-at o takes =
           shown o takes
           ∙ sym (ap (λ vs. slice_get (several vs) index) (values_of-chain laws agrees k key has)

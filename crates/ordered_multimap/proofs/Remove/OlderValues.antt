@@ -69,14 +69,14 @@ module _ {K V : Type 0} {eq : K → K → Bool} (laws : IsEquivalence eq) {hash 
       ∙ ap (λ qs. qs ++ takes.link.tail ∷ []) (filter-agree stays (λ q. not (own q)) front (λ q i. ap not (left_front q i)))
 
   -- a place that stays; its link is another one only where it is the last one of the key
-  record Stays (q : ℕ) : Type 0 where
+  record StaysBehind (q : ℕ) : Type 0 where
     kept : StaysLinked values values_after q
     stays : among takes.taking.gone q ≡ false
     same_next : kept.now.next ≡ kept.old.next
     other : q ≢ takes.link.tail → kept.now ≡ kept.old
     last : q ≡ takes.link.tail → kept.now.previous ≡ None
 
-  stays_at : (q : ℕ) → IsIn q values_after.order → Stays q
+  stays_at : (q : ℕ) → IsIn q values_after.order → StaysBehind q
   stays_at q i =
       let left = still_listed takes.taking.taken q (subst (λ (s : Slots V ValueLink). IsIn q s.order) takes.rest i) in
       let l = held (link_at values q) (agrees.values_sound.linked q left.0) in
@@ -143,7 +143,7 @@ module _ {K V : Type 0} {eq : K → K → Bool} (laws : IsEquivalence eq) {hash 
       differs (sym (value_owner keys values key q l.value l.is e) ∙ value_owner keys values place q l.value l.is mine))))
 
   -- a value that stays is the last one, or one of another key
-  other_key : (q : ℕ) (s : Stays q) → q ≢ takes.link.tail → s.kept.old.key ≢ place
+  other_key : (q : ℕ) (s : StaysBehind q) → q ≢ takes.link.tail → s.kept.old.key ≢ place
   other_key q s differs same =
       elim (IsIn-append q front (takes.link.tail ∷ []) (subst (IsIn q) order_is s.kept.listed)) [
         | inl i ↦
@@ -152,7 +152,7 @@ module _ {K V : Type 0} {eq : K → K → Bool} (laws : IsEquivalence eq) {hash 
         | inr here ↦ elim here [ inl e ↦ differs e | inr never ↦ absurd never ]
       ]
 
-  tail_key : (q : ℕ) → q ≡ takes.link.tail → (s : Stays q) → s.kept.old.key ≡ place
+  tail_key : (q : ℕ) → q ≡ takes.link.tail → (s : StaysBehind q) → s.kept.old.key ≡ place
   tail_key q same s = value_owner keys values place q s.kept.old s.kept.old_is (ap own same ∙ tail_own.1)
 
   chained-older : IsChained keys_after values_after
@@ -160,13 +160,13 @@ module _ {K V : Type 0} {eq : K → K → Bool} (laws : IsEquivalence eq) {hash 
   chained-older = chained-relinked relinks agrees kept_at chain_there (ap first_of chain_here) (ap last_of chain_here)
       (ap length chain_here) before behind
     where
-      alone : (q : ℕ) → q ≡ takes.link.tail → (s : Stays q) → chain_of values_after s.kept.now.key ≡ takes.link.tail ∷ []
+      alone : (q : ℕ) → q ≡ takes.link.tail → (s : StaysBehind q) → chain_of values_after s.kept.now.key ≡ takes.link.tail ∷ []
       alone q same s = ap (chain_of values_after) (s.kept.same_key ∙ tail_key q same s) ∙ chain_here
 
       single : (p q : ℕ) → next_of (p ∷ []) q ≡ None
       single p q = elim (p == q) as (λ b. cond b (first_of {X = ℕ} []) None ≡ None) [ true ↦ refl | false ↦ refl ]
 
-      no_next : (q : ℕ) → q ≡ takes.link.tail → (s : Stays q) → s.kept.old.next ≡ None
+      no_next : (q : ℕ) → q ≡ takes.link.tail → (s : StaysBehind q) → s.kept.old.next ≡ None
       no_next q same s =
           sym (agrees.chained.next q s.kept.old s.kept.listed s.kept.old_is)
           ∙ (λ i. next_of (chain_of values (tail_key q same s i)) (same i)) ∙ ap (λ ps. next_of ps takes.link.tail) parts

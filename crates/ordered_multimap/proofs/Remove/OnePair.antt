@@ -16,10 +16,10 @@ use Rattle.ordered_multimap.specs.Agrees.{Agrees, HasKey, IsMap, items_of, lists
 use Rattle.ordered_multimap.specs.Keys.{is_listed, stored_key, keys_named_by}
 use Rattle.ordered_multimap.specs.Lists.{Lists, lists, IsWellFormed}
 use Rattle.ordered_multimap.specs.Changes.{kept}
-use Rattle.ordered_multimap.specs.Private.Renames.{AreChained}
+use Rattle.ordered_multimap.specs.Private.Relocations.{AreChained}
 use Rattle.ordered_multimap.specs.Private.Retain.{RetainsAt, StaysIf}
-use Rattle.ordered_multimap.specs.Private.Remove.{HasEntry, HasFittingChain, HasChain, KeepsRoom, LeavesEntry}
-use Rattle.ordered_multimap.specs.Private.RemoveOne.{HasPair, TakesOne, TakesLast, TakesPair, TakesByKey, TakesBeside}
+use Rattle.ordered_multimap.specs.Private.Remove.{HasEntry, HasFittingChain, HasChain, KeepsRoom, UnlinksEntry}
+use Rattle.ordered_multimap.specs.Private.RemoveOne.{HasPair, TakesOne, TakesLast, TakesPair, TakesByKey, TakesOneOfSeveral}
 use Rattle.ordered_multimap.specs.declared.list_ordered_multimap.remove.one.Taken.{Taken}
 use Rattle.ordered_multimap.specs.declared.list_ordered_multimap.remove.one.TakenKey.{TakenKey}
 use Rattle.ordered_multimap.specs.declared.list_ordered_multimap.remove.one.TakenKey.TheVariants.{Kept, Gone}
@@ -74,7 +74,7 @@ has_entry agrees place listed = record {
 pub map_left : {K V : Type 0} {eq : K → K → Bool} (laws : IsEquivalence eq) {hash : K → ℕ} {keys keys_after : Slots K KeyLink}
     {table table_after : Table} {values values_after : Taped V ValueLink} {keeps : Bool} {gives : V → Type 0} {key : K} {ends : ChainEnds}
     → IsMap eq hash keys table.rows values → (k : K) (place : ℕ) → HasKey eq keys k place
-    → LeavesEntry keeps gives keys keys_after table table_after values values_after place key ends
+    → UnlinksEntry keeps gives keys keys_after table table_after values values_after place key ends
     → IsMap eq hash keys_after table_after.rows values_after
 map_left laws {table_after = table_after} {values = values} {values_after = values_after} m k place has t = record {
   agrees = agrees-taken laws m.agrees k place has t.entry.taken t.entry.removed table_after.rows t.entry.rows_are;
@@ -160,7 +160,7 @@ module _ {K V : Type 0} {eq : K → K → Bool} (laws : IsEquivalence eq) {hash 
     → ℕ} {keys keys_after : Slots K KeyLink} {rows rows_after : FinMap nat_cmp ℕ} {values values_after : Slots V ValueLink}
     (agrees : Agrees eq hash keys rows values) (place : ℕ) (listed : IsIn place values.order) (v : V) where
   -- the key has other values, and stays
-  pub beside_at : (key : ℕ) → TakesBeside keys keys_after rows rows_after values values_after place v key
+  pub beside_at : (key : ℕ) → TakesOneOfSeveral keys keys_after rows rows_after values values_after place v key
       → LeavesAt eq hash keys keys_after rows_after values values_after place
   beside_at key beside = record {
     agrees = subst (λ r. Agrees eq hash keys_after r values_after) (sym beside.rows_are) (agrees-one agrees place listed beside.one);

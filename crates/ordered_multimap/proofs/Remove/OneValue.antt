@@ -38,7 +38,7 @@ module _ {K V : Type 0} {eq : K → K → Bool} {hash : K → ℕ} {keys keys_af
       (AreDistinct-filter (λ p. not (p == place)) values.order agrees.values_sound.distinct)
 
   -- a place that stays; its link is another one only where it named the value that left
-  record Stays (q : ℕ) : Type 0 where
+  record StaysBesideOne (q : ℕ) : Type 0 where
     kept : StaysLinked values values_after q
     other : q ≢ place
     behind : takes.link.next ≡ Some q → kept.now.previous ≡ takes.link.previous
@@ -46,7 +46,7 @@ module _ {K V : Type 0} {eq : K → K → Bool} {hash : K → ℕ} {keys keys_af
     before : takes.link.previous ≡ Some q → kept.now.next ≡ takes.link.next
     not_before : takes.link.previous ≢ Some q → kept.now.next ≡ kept.old.next
 
-  stays_at : (q : ℕ) → IsIn q values_after.order → Stays q
+  stays_at : (q : ℕ) → IsIn q values_after.order → StaysBesideOne q
   stays_at q i =
       let left = IsIn-without q values.order place (subst (IsIn q) takes.order i) in
       let l = held (link_at values q) (agrees.values_sound.linked q left.0) in
@@ -134,7 +134,7 @@ module _ {K V : Type 0} {eq : K → K → Bool} {hash : K → ℕ} {keys keys_af
   before q i =
       let s = stays_at q i in
       let was = agrees.chained.previous q s.kept.old s.kept.listed s.kept.old_is in
-      let mended : previous_of (chain_of values_after s.kept.old.key) q ≡ s.kept.now.previous =
+      let relinked : previous_of (chain_of values_after s.kept.old.key) q ≡ s.kept.now.previous =
       elim (cases_eq s.kept.old.key takes.link.key) [
         | inl here ↦
             let whole : previous_of (chain.front ++ place ∷ chain.back) q ≡ s.kept.old.previous =
@@ -146,14 +146,14 @@ module _ {K V : Type 0} {eq : K → K → Bool} {hash : K → ℕ} {keys keys_af
             ap (λ ps. previous_of ps q) (chain_there s.kept.old.key there) ∙ was
             ∙ sym (s.not_behind (λ e. there (same_key q s.kept (neighbour e).1)))
       ] in
-      ap (λ key. previous_of (chain_of values_after key) q) s.kept.same_key ∙ mended
+      ap (λ key. previous_of (chain_of values_after key) q) s.kept.same_key ∙ relinked
 
   behind : (q : ℕ) (i : IsIn q values_after.order)
       → next_of (chain_of values_after (kept_at q i).now.key) q ≡ (kept_at q i).now.next
   behind q i =
       let s = stays_at q i in
       let was = agrees.chained.next q s.kept.old s.kept.listed s.kept.old_is in
-      let mended : next_of (chain_of values_after s.kept.old.key) q ≡ s.kept.now.next =
+      let relinked : next_of (chain_of values_after s.kept.old.key) q ≡ s.kept.now.next =
       elim (cases_eq s.kept.old.key takes.link.key) [
         | inl here ↦
             let whole : next_of (chain.front ++ place ∷ chain.back) q ≡ s.kept.old.next =
@@ -165,7 +165,7 @@ module _ {K V : Type 0} {eq : K → K → Bool} {hash : K → ℕ} {keys keys_af
             ap (λ ps. next_of ps q) (chain_there s.kept.old.key there) ∙ was
             ∙ sym (s.not_before (λ e. there (same_key q s.kept (neighbour e).1)))
       ] in
-      ap (λ key. next_of (chain_of values_after key) q) s.kept.same_key ∙ mended
+      ap (λ key. next_of (chain_of values_after key) q) s.kept.same_key ∙ relinked
 
   -- the key's link names the ends and the length of what is left of its chain
   chained-one : IsChained keys_after values_after

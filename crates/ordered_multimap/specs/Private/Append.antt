@@ -10,7 +10,7 @@ use Rattle.multimap_walks.specs.declared.links.KeyLink.{KeyLink}
 use Rattle.multimap_walks.specs.declared.links.ValueLink.{ValueLink}
 use Rattle.multimap_slots.specs.Tapes.{Taped, HasEndRoom, HasTapeRoomFor, KeepsCounts}
 use Rattle.multimap_table.specs.Table.{Table}
-use Rattle.ordered_multimap.specs.Private.Renames.{AreChained, AreRenamed, KeepsCapacities}
+use Rattle.ordered_multimap.specs.Private.Relocations.{AreChained, AreRelocated, KeepsCapacities}
 use Rattle.ordered_multimap.specs.TapeNumbers.{TakesOut, numbers_of}
 use Rattle.ordered_multimap.specs.declared.list_ordered_multimap.refused.RefusedValue.{RefusedValue}
 
@@ -51,7 +51,7 @@ pub record FitsOneMore {K V : Type 0} (keys : Slots K KeyLink) (rows : FinMap na
 -- was taken
 pub record MakesEndRoom {K V : Type 0} (keys keys_after : Slots K KeyLink)
     (values values_after : Taped V ValueLink) : Type 0 where
-  pub renamed : AreRenamed keys keys_after values.list values_after.list
+  pub relocated : AreRelocated keys keys_after values.list values_after.list
   pub same_length : length values_after.list.order ≡ length values.list.order
   pub taken : TakesOut 0 (numbers_of values) (numbers_of values_after)
   pub end_room : HasEndRoom values_after
@@ -60,7 +60,7 @@ pub record MakesEndRoom {K V : Type 0} (keys keys_after : Slots K KeyLink)
 -- room for one more value was asked for, and is there exactly if it was not refused
 pub record MakesValueRoom {K V X E : Type 0} (keys keys_after : Slots K KeyLink)
     (values values_after : Taped V ValueLink) (r : Result X E) : Type 0 where
-  pub renamed : AreRenamed keys keys_after values.list values_after.list
+  pub relocated : AreRelocated keys keys_after values.list values_after.list
   pub tape : MakesRoom values values_after
   pub room : OnOk r (HasTapeRoomFor values_after 1)
   pub end_room : OnOk r (HasEndRoom values_after)
@@ -97,7 +97,7 @@ pub record HasCountedChains {K V : Type 0} (keys : Slots K KeyLink) (table : Tab
 pub record MakesPairRoom {K V X E : Type 0} (keys keys_after : Slots K KeyLink)
     (table table_after : Table) (values values_after : Taped V ValueLink) (r : Result X E) : Type 0
   where
-    pub renamed : AreRenamed keys keys_after values.list values_after.list
+    pub relocated : AreRelocated keys keys_after values.list values_after.list
     pub same_rows : table_after.rows ≡ table.rows
     pub room : OnOk r (FitsOneMore keys_after table_after.rows table_after.capacity values_after)
     pub end_room : OnOk r (HasEndRoom values_after)
@@ -162,7 +162,7 @@ pub record AppendsBehind {K V : Type 0} (keys keys_after : Slots K KeyLink)
     (values values_after : Slots V ValueLink) (place : ℕ) (value : V) : Type 0 where
   pub keys_reserved : Slots K KeyLink
   pub reserved : Slots V ValueLink
-  pub renamed : AreRenamed keys keys_reserved values reserved
+  pub relocated : AreRelocated keys keys_reserved values reserved
   pub pushed : PushesBehind keys_reserved keys_after reserved values_after place value
 
 -- room was made for a key and a value, and then both were put last
@@ -172,7 +172,7 @@ pub record AppendsFirst {K V : Type 0} (keys keys_after : Slots K KeyLink)
   pub keys_reserved : Slots K KeyLink
   pub rows_reserved : FinMap nat_cmp ℕ
   pub reserved : Slots V ValueLink
-  pub renamed : AreRenamed keys keys_reserved values reserved
+  pub relocated : AreRelocated keys keys_reserved values reserved
   pub same_rows : rows_reserved ≡ rows
   pub fits : HasRoomFor keys_reserved 1
   pub place : ℕ

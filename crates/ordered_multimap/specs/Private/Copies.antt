@@ -8,13 +8,13 @@ use Rattle.multimap_slots.specs.Slots.{Slots, IsSound, PushesBack, item_at, link
 use Rattle.multimap_walks.specs.declared.links.KeyLink.{KeyLink}
 use Rattle.multimap_walks.specs.declared.links.ValueLink.{ValueLink}
 use Rattle.multimap_walks.specs.Chained.{position_in}
-use Rattle.ordered_multimap.specs.Private.KeyRenames.{HasRows, HaveNewPlaces, name_in, with_new_key}
-use Rattle.ordered_multimap.specs.Private.Renames.{renamed_key, renamed_value}
+use Rattle.ordered_multimap.specs.Private.KeyRelocations.{HasRows, HaveNewPlaces, new_place_in, with_new_key}
+use Rattle.ordered_multimap.specs.Private.Relocations.{relocated_key, relocated_value}
 
 -- at each place of the order its rank: how many places stand before it
 pub record AreRanks (order ranks : List ℕ) : Type 0 where
   pub within : (q : ℕ) → IsIn q order → q < length ranks
-  pub each : (q : ℕ) → IsIn q order → name_in ranks q ≡ position_in order q
+  pub each : (q : ℕ) → IsIn q order → new_place_in ranks q ≡ position_in order q
 
 -- both ends that the link names have a rank
 pub record HasRankedEnds (ranks : List ℕ) (link : KeyLink) : Type 0 where
@@ -22,8 +22,8 @@ pub record HasRankedEnds (ranks : List ℕ) (link : KeyLink) : Type 0 where
   pub tail : link.tail < length ranks
 
 -- the key that the link names has a new place, and each neighbour a rank
-pub record HasRankedNeighbours (names ranks : List ℕ) (link : ValueLink) : Type 0 where
-  pub key : link.key < length names
+pub record HasRankedNeighbours (new_places ranks : List ℕ) (link : ValueLink) : Type 0 where
+  pub key : link.key < length new_places
   pub previous : (q : ℕ) → link.previous ≡ Some q → q < length ranks
   pub next : (q : ℕ) → link.next ≡ Some q → q < length ranks
 
@@ -38,18 +38,18 @@ module _ {K : Type 0} (is_clone : K → K → Type 0) (hash : K → ℕ) (rank :
     pub link_was : link_at keys place ≡ Some key_link
     pub cloned : is_clone key copy
     pub item_is : item ≡ Some copy
-    pub link_is : link ≡ Some (record (renamed_key rank key_link) { hash = hash copy })
+    pub link_is : link ≡ Some (record (relocated_key rank key_link) { hash = hash copy })
 
   -- such a clone stands last, with a row of its hash, and its place is noted
   pub record CopiesKey (copies copies_after : Slots K KeyLink) (rows rows_after : FinMap nat_cmp ℕ)
-      (names names_after : List ℕ) (place : ℕ) : Type 0 where
+      (new_places new_places_after : List ℕ) (place : ℕ) : Type 0 where
     pub copy : K
     pub link : KeyLink
     pub to : ℕ
     pub stands : IsKeyCopy place (Some copy) (Some link)
     pub pushed : PushesBack copies copies_after to copy link
     pub rows_are : rows_after ≡ insert rows to link.hash
-    pub names_are : names_after ≡ set names place to
+    pub new_places_are : new_places_after ≡ set new_places place to
 
 module _ {V : Type 0} (is_clone : V → V → Type 0) (name rank : ℕ → ℕ)
     (values : Slots V ValueLink) where
@@ -62,7 +62,7 @@ module _ {V : Type 0} (is_clone : V → V → Type 0) (name rank : ℕ → ℕ)
     pub link_was : link_at values place ≡ Some value_link
     pub cloned : is_clone value copy
     pub item_is : item ≡ Some copy
-    pub link_is : link ≡ Some (with_new_key name (renamed_value rank value_link))
+    pub link_is : link ≡ Some (with_new_key name (relocated_value rank value_link))
 
   -- such a clone stands last
   pub record CopiesValue (copies copies_after : Slots V ValueLink) (place to : ℕ) : Type 0 where

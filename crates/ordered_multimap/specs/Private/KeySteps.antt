@@ -37,6 +37,6 @@ pub record HoldsInRoom {K V S : Type 0} (old new : Multimap K V S) : Type 0 wher
   pub rooms : SameRooms old new
 
 -- the lists are as they were, and no pair was taken out
-pub record KeepsPairs {K V S : Type 0} (old new : Multimap K V S) : Type 0 where
+pub record KeepsBothLists {K V S : Type 0} (old new : Multimap K V S) : Type 0 where
   pub lists : new.lists ≡ old.lists
   pub taken : TakesOut 0 old.tape new.tape

@@ -16,7 +16,7 @@ use Rattle.multimap_walks.specs.declared.links.ValueLink.{ValueLink}
 use Rattle.multimap_walks.specs.Chained.{is_value_of, chain_of, values_at}
 use Rattle.ordered_multimap.specs.Private.Append.{KeepsTapeRoom, PushesBehind}
 use Rattle.ordered_multimap.specs.Detaches.{IsDrained, drained}
-use Rattle.ordered_multimap.specs.Private.Renames.{AreChained, AreRenamed}
+use Rattle.ordered_multimap.specs.Private.Relocations.{AreChained, AreRelocated}
 use Rattle.ordered_multimap.specs.TapeNumbers.{TakesOut, numbers_of}
 
 -- the values at these places have left the list, what stands at the others is as it was, and as
@@ -59,7 +59,7 @@ pub record IsRow {V : Type 0} (values : Slots V ValueLink) (first count : ℕ) (
 -- a value leaves, or values leave together, in a way that keeps what stands in the slots or not
 module _ {V : Type 0} (keeps : Bool) where
   -- the value at the place has left the list, with this link
-  pub record LeavesList (old new : Taped V ValueLink) (place : ℕ) (link : ValueLink) : Type 0 where
+  pub record UnlinksValue (old new : Taped V ValueLink) (place : ℕ) (link : ValueLink) : Type 0 where
     pub link_is : link_at old.list place ≡ Some link
     pub order : new.list.order ≡ without old.list.order place
     pub shorter : length new.list.order + 1 ≡ length old.list.order
@@ -69,7 +69,7 @@ module _ {V : Type 0} (keeps : Bool) where
     pub frees : Frees old new
 
   -- of a row of places the first n have left, up to the last one of these, and each is counted
-  pub record AreLeaving (row : List ℕ) (n last : ℕ) (following : Option ℕ)
+  pub record AreUnlinked (row : List ℕ) (n last : ℕ) (following : Option ℕ)
       (old new : Taped V ValueLink) : Type 0 where
     pub taking : IsTaking row n following old.list new.list
     pub last_is : last_of taking.gone ≡ Some last
@@ -158,7 +158,7 @@ pub record InsertsBehind {K V : Type 0} (keys keys_after : Slots K KeyLink)
     (values values_after : Slots V ValueLink) (place : ℕ) (value : V) : Type 0 where
   pub keys_reserved : Slots K KeyLink
   pub reserved : Slots V ValueLink
-  pub renamed : AreRenamed keys keys_reserved values reserved
+  pub relocated : AreRelocated keys keys_reserved values reserved
   pub keys_pushed : Slots K KeyLink
   pub pushed_values : Slots V ValueLink
   pub pushed : PushesBehind keys_reserved keys_pushed reserved pushed_values place value
@@ -169,7 +169,7 @@ pub record InsertsBehind {K V : Type 0} (keys keys_after : Slots K KeyLink)
 module _ {K V : Type 0} (keeps : Bool) (gives : V → Type 0)
     (keys keys_after : Slots K KeyLink) where
   -- all have left, and the key at the place with them
-  pub record LeavesEntry (table table_after : Table) (values values_after : Taped V ValueLink)
+  pub record UnlinksEntry (table table_after : Table) (values values_after : Taped V ValueLink)
       (place : ℕ) (key : K) (ends : ChainEnds) : Type 0 where
     pub entry : TakesKey keys keys_after table.rows table_after.rows
         values.list values_after.list place key
@@ -183,7 +183,7 @@ module _ {K V : Type 0} (keeps : Bool) (gives : V → Type 0)
 
   module _ (values values_after : Taped V ValueLink) (place : ℕ) where
     -- all but the last one have left
-    pub record LeavesOlder (ends : ChainEnds) : Type 0 where
+    pub record UnlinksOlder (ends : ChainEnds) : Type 0 where
       pub older : TakesOlder keys keys_after values.list values_after.list place
       pub first : (v : V) → item_at values.list older.link.head ≡ Some v → gives v
       pub counts : TakesOut older.count (numbers_of values) (numbers_of values_after)
@@ -202,19 +202,19 @@ module _ {K V : Type 0} (keeps : Bool) (gives : V → Type 0)
           (values_at done.pushed_values done.older.taking.gone)
 
 -- the value was put last, behind the others of the key at the place, and these have left
-pub record PushesOver {K V : Type 0} (keeps : Bool) (gives : V → Type 0)
+pub record ReplacesChain {K V : Type 0} (keeps : Bool) (gives : V → Type 0)
     (keys keys_after : Slots K KeyLink) (values values_after : Taped V ValueLink) (place : ℕ)
     (value : V) (ends : ChainEnds) : Type 0 where
   pub keys_pushed : Slots K KeyLink
   pub pushed_values : Taped V ValueLink
   pub pushed : PushesBehind keys keys_pushed values.list pushed_values.list place value
   pub room : KeepsTapeRoom values pushed_values
-  pub older : LeavesOlder keeps gives keys_pushed keys_after pushed_values values_after place ends
+  pub older : UnlinksOlder keeps gives keys_pushed keys_after pushed_values values_after place ends
 
 -- keys and values have other names at most, the values fit, and none was taken out
 pub record KeepsNames {K V : Type 0} (keys keys_after : Slots K KeyLink)
     (values values_after : Taped V ValueLink) : Type 0 where
-  pub renamed : AreRenamed keys keys_after values.list values_after.list
+  pub relocated : AreRelocated keys keys_after values.list values_after.list
   pub fits : HasTapeRoomFor values_after 0
   pub counts : TakesOut 0 (numbers_of values) (numbers_of values_after)
 

@@ -91,13 +91,13 @@ pub record TakesLast {K V : Type 0} (keys keys_after : Slots K KeyLink)
 module _ {K V : Type 0} (keys keys_after : Slots K KeyLink) (rows rows_after : FinMap nat_cmp ℕ)
     (values values_after : Slots V ValueLink) (place : ℕ) (value : V) where
   -- and the key at its place, with other values
-  pub record TakesBeside (key : ℕ) : Type 0 where
+  pub record TakesOneOfSeveral (key : ℕ) : Type 0 where
     pub one : TakesOne keys keys_after values values_after place value
     pub key_is : one.link.key ≡ key
     pub rows_are : rows_after ≡ rows
 
   abbrev pub TakesByKey : TakenKey K → Type 0
-  TakesByKey (Kept key) = TakesBeside key
+  TakesByKey (Kept key) = TakesOneOfSeveral key
   TakesByKey (Gone key) =
       TakesLast keys keys_after rows rows_after values values_after place key value
 

@@ -31,14 +31,14 @@ module _ {F K V : Type 0} (calls : F → K → V → Bool → V → F → Type 0
   module _ (keys keys_after : Slots K KeyLink) (table table_after : Table)
       (values values_after : Taped V ValueLink) (place : ℕ) where
     -- the pair stays, and all is as it was
-    pub record Stays : Type 0 where
+    pub record KeepsPair : Type 0 where
       pub keys_are : keys_after ≡ keys
       pub table_is : table_after ≡ table
       pub values_are : values_after ≡ values
 
     -- it stays, or has left
     abbrev pub StaysIf : Bool → Type 0
-    StaysIf true = Stays
+    StaysIf true = KeepsPair
     StaysIf false =
         (pair : Taken K V)
         × LeavesPair keys keys_after table table_after values values_after place pair

@@ -8,7 +8,7 @@ ghost use Rattle.ordered_multimap.specs.Private.Append.{HandsBackAt, HasCountedC
 ghost use Rattle.ordered_multimap.specs.Additions.{Appends, IsAppendedAt, RefusesValue};
 ghost use Rattle.ordered_multimap.specs.Private.KeySteps.{KeepsPlace};
 ghost use Rattle.ordered_multimap.specs.Agrees.{HasKey, hash_of};
-ghost use Rattle.ordered_multimap.specs.Private.Renames.{AreRenamed};
+ghost use Rattle.ordered_multimap.specs.Private.Relocations.{AreRelocated};
 ghost use Rattle.ordered_multimap.specs.Private.Remove.{HasChain};
 ghost use Rattle.ordered_multimap.specs.Keys.{is_listed};
 ghost use Rattle.ordered_multimap.specs.Pairs.{is_present};
@@ -102,10 +102,10 @@ fn append_behind<K, V: Drop, A: Allocator + Copy>(
     place: usize,
     value: V,
 ) -> Result<(), RefusedValue<V>>
-    requires stands { HasChain keys.old values.old.list place }
+    requires chain { HasChain keys.old values.old.list place }
     ensures ok { OnOk result (AppendsBehind keys.old keys.new
         values.old.list values.new.list place value) }
-    ensures unchanged { OnErr result (AreRenamed keys.old keys.new
+    ensures unchanged { OnErr result (AreRelocated keys.old keys.new
         values.old.list values.new.list) }
     ensures hands_back { HandsBackAt value values.old result }
     ensures full { OnErr result (¬ HasTapeRoomFor values.new 1) }
@@ -136,7 +136,7 @@ fn append_first<K, V: Drop, A: Allocator + Copy>(
     ensures found { IfOk result (λ place. HasItem keys.new place key) }
     ensures ok { OnOk result (AppendsFirst keys.old keys.new table.old.rows table.new.rows
         values.old.list values.new.list hash key value) }
-    ensures unchanged { OnErr result (AreRenamed keys.old keys.new values.old.list values.new.list
+    ensures unchanged { OnErr result (AreRelocated keys.old keys.new values.old.list values.new.list
         × (table.new.rows ≡ table.old.rows)) }
     ensures refused { IfErr result (λ pair. pair ≡ record { key = key; value = value }) }
     ensures succeeds { FitsOneMore keys.old table.old.rows table.old.capacity values.old
@@ -150,7 +150,7 @@ fn append_first<K, V: Drop, A: Allocator + Copy>(
     if make_room(keys, table, values).is_err() {
         return Err(Refused { key, value });
     }
-    let link = new_link(hash, values.end_place());
+    let link = new_link(hash, values.push_place());
     let place = push_row(keys, table, key, link);
     push_value(values, value, place, None);
     Ok(place)

@@ -3,7 +3,7 @@ ghost use Rattle.std.specs.Prelude.{◌≡◌, ◌≤◌, ◌<◌, ℕ, Some, Is
 ghost use Rattle.multimap_slots.specs.Lists.{IsIn};
 ghost use Rattle.multimap_slots.specs.Slots.{link_at};
 ghost use Rattle.multimap_slots.specs.Tapes.{CountsMove};
-ghost use Rattle.ordered_multimap.specs.Private.Renames.{AreChained, Compacts, KeepsCapacities, MendsKey, Renames, renamed, renamed_key};
+ghost use Rattle.ordered_multimap.specs.Private.Relocations.{AreChained, Compacts, KeepsCapacities, RelinksKey, Relocates, relocated, relocated_key};
 
 use super::links::{link_of, set_link, set_next, set_previous};
 use super::lookup::slot_at;
@@ -13,33 +13,33 @@ use std::alloc::Allocator;
 
 /// The other place, if the place is the one that has gone.
 fn new_place(place: usize, from: usize, to: usize) -> usize
-    ensures { result ≡ renamed from to place }
+    ensures { result ≡ relocated from to place }
 {
     if place == from { to } else { place }
 }
 
 /// Makes the key's link name `to` where it named `from`.
-fn mend_key<K, A: Allocator>(
+fn relink_key<K, A: Allocator>(
     keys: &mut SlotList<K, KeyLink, A>,
     place: usize,
     from: usize,
     to: usize,
 )
     requires { IsIn place keys.old.order }
-    ensures { MendsKey keys.old keys.new place from to }
+    ensures { RelinksKey keys.old keys.new place from to }
 {
     let (_, link) = slot_at(keys, place);
-    let mended = KeyLink {
+    let relinked = KeyLink {
         head: new_place(link.head, from, to),
         tail: new_place(link.tail, from, to),
         ..link
     };
-    set_link(keys, place, mended);
+    set_link(keys, place, relinked);
 }
 
 /// Mends the link of the key that the value's link names. Where the value has neighbours on both
 /// sides, the key's link doesn't name it, and isn't read.
-fn mend_ends<K, A: Allocator>(
+fn relink_ends<K, A: Allocator>(
     keys: &mut SlotList<K, KeyLink, A>,
     link: ValueLink,
     from: usize,
@@ -47,13 +47,13 @@ fn mend_ends<K, A: Allocator>(
 )
     requires listed { IsIn link.key keys.old.order }
     requires between { IsSome link.previous → IsSome link.next
-        → (l : KeyLink) → link_at keys.old link.key ≡ Some l → renamed_key (renamed from to) l ≡ l }
-    ensures { MendsKey keys.old keys.new link.key from to }
+        → (l : KeyLink) → link_at keys.old link.key ≡ Some l → relocated_key (relocated from to) l ≡ l }
+    ensures { RelinksKey keys.old keys.new link.key from to }
 {
     if link.previous.is_some() && link.next.is_some() {
         return;
     }
-    mend_key(keys, link.key, from, to);
+    relink_key(keys, link.key, from, to);
 }
 
 /// Takes the value at `from` down to the hole at `to`, and mends the links that name its place.
@@ -67,7 +67,7 @@ fn move_value<K, V: Drop, A: Allocator>(
     requires listed { IsIn from values.old.list.order }
     requires down { to < from }
     requires holes { (q : ℕ) → to ≤ q → q < from → ¬ IsIn q values.old.list.order }
-    ensures renames { Renames (renamed from to) keys.old keys.new values.old.list values.new.list }
+    ensures relocates { Relocates (relocated from to) keys.old keys.new values.old.list values.new.list }
     ensures counts { CountsMove values.old values.new }
     ensures capacities { KeepsCapacities keys.old keys.new values.old values.new }
 {
@@ -75,7 +75,7 @@ fn move_value<K, V: Drop, A: Allocator>(
     values.move_down(from, to);
     set_next(values, link.previous, Some(to));
     set_previous(values, link.next, Some(to));
-    mend_ends(keys, link, from, to);
+    relink_ends(keys, link, from, to);
 }
 
 /// Takes each value down to the lowest hole before it, and gives up the holes.

@@ -6,14 +6,14 @@ ghost use Rattle.ordered_multimap.specs.Agrees.{HasKey};
 ghost use Rattle.ordered_multimap.specs.Private.KeySteps.{StaysInRoom};
 ghost use Rattle.ordered_multimap.specs.Removals.{LosesValues};
 ghost use Rattle.ordered_multimap.specs.Private.Remove.{GrowsForOne, HasFittingChain, Inserts, KeepsNames};
-ghost use Rattle.ordered_multimap.specs.Private.Renames.{KeepsCapacities};
+ghost use Rattle.ordered_multimap.specs.Private.Relocations.{KeepsCapacities};
 ghost use Rattle.ordered_multimap.specs.Pairs.{values_of};
 ghost use Rattle.ordered_multimap.specs.Changes.{inserted};
 ghost use Rattle.ordered_multimap.specs.Rooms.{HasInsertRoom};
 ghost use Rattle.ordered_multimap.specs.Additions.{IsInserted, IsRefused};
 
-use super::remove::chain::push_over;
-use super::remove::leaving::{KeptInPlace, TakenOut};
+use super::remove::chain::replace_chain;
+use super::remove::unlink::{KeptInPlace, TakenOut};
 use super::room::{make_end_room, make_value_room};
 use super::{ListOrderedMultimap, Refused, RefusedValue};
 use multimap_slots::{SlotList, Tape};
@@ -86,7 +86,7 @@ fn insert_behind<K, V: Drop, A: Allocator>(
     ensures capacities { KeepsCapacities keys.old keys.new values.old values.new }
 {
     make_end_room(keys, values);
-    let (first, _) = push_over::<K, V, TakenOut<V>, A>(keys, values, place, value);
+    let (first, _) = replace_chain::<K, V, TakenOut<V>, A>(keys, values, place, value);
     first.value
 }
 
@@ -108,6 +108,6 @@ pub(super) fn insert_behind_all<K, V: Drop, A: Allocator + Copy>(
     if make_value_room(keys, values).is_err() {
         return Err(RefusedValue { value });
     }
-    let (_, left) = push_over::<K, V, KeptInPlace, A>(keys, values, place, value);
+    let (_, left) = replace_chain::<K, V, KeptInPlace, A>(keys, values, place, value);
     Ok(left)
 }

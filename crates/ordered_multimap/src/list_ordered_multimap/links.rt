@@ -2,7 +2,7 @@
 ghost use Rattle.std.specs.Prelude.{◌≡◌, Some, IfSome};
 ghost use Rattle.multimap_slots.specs.Lists.{IsIn};
 ghost use Rattle.multimap_slots.specs.Slots.{IsSound, link_at, with_link};
-ghost use Rattle.ordered_multimap.specs.Private.Renames.{MendsLink};
+ghost use Rattle.ordered_multimap.specs.Private.Relocations.{WritesLink};
 
 use super::lookup::value_at;
 use multimap_slots::{SlotList, Tape};
@@ -43,7 +43,7 @@ pub(super) fn set_next<V, A: Allocator>(
     next: Option<usize>,
 )
     requires { IfSome place (λ p. IsIn p values.old.list.order) }
-    ensures { MendsLink values.old values.new place (λ l. record l { next = next }) }
+    ensures { WritesLink values.old values.new place (λ l. record l { next = next }) }
 {
     if let Some(place) = place {
         values.listed_link_mut(place).next = next;
@@ -58,7 +58,7 @@ pub(super) fn set_previous<V, A: Allocator>(
     previous: Option<usize>,
 )
     requires { IfSome place (λ p. IsIn p values.old.list.order) }
-    ensures { MendsLink values.old values.new place (λ l. record l { previous = previous }) }
+    ensures { WritesLink values.old values.new place (λ l. record l { previous = previous }) }
 {
     if let Some(place) = place {
         values.listed_link_mut(place).previous = previous;

@@ -82,7 +82,7 @@ impl<K: Eq + Hash, V, S: BuildHasher, A: Allocator> ListOrderedMultimap<K, V, S,
         ensures hash { result.0 ≡ hash_of S.BuildHasher S.Hasher.Hasher self.now.hasher
             (Q.hash_input query) }
         ensures found { IfSome result.1 (HasKeyWhere (Q.equivalent query) self.now.slots.keys) }
-        ensures stands { IfSome result.1
+        ensures stored { IfSome result.1
             (StandsAt K.eq (Q.equivalent query) self.now.slots.keys) }
         ensures absent { IfNone result.1 (LacksWhere (Q.equivalent query) K.eq self.now.lists) }
         ensures listed { is_some result.1

@@ -5,8 +5,8 @@ ghost use Rattle.std.specs.FinMap.{empty, len};
 ghost use Rattle.multimap_slots.specs.Lists.{IsIn};
 ghost use Rattle.multimap_slots.specs.Slots.{HasRoomFor, IsEmpty, IsSound, link_at};
 ghost use Rattle.ordered_multimap.specs.Private.Append.{HasListedRows, KeepsTapeRoom};
-ghost use Rattle.ordered_multimap.specs.Private.KeyRenames.{ArePacked, AreMoved, HasRows, HaveCome, HaveNewPlaces, IsNewStorage, MovesKey, name_in};
-ghost use Rattle.ordered_multimap.specs.Private.Renames.{AreChained, places_below};
+ghost use Rattle.ordered_multimap.specs.Private.KeyRelocations.{ArePacked, AreMoved, HasRows, HaveCome, HaveNewPlaces, IsNewStorage, MovesKey, new_place_in};
+ghost use Rattle.ordered_multimap.specs.Private.Relocations.{AreChained, places_below};
 ghost use Rattle.ordered_multimap.specs.Rooms.{Packs};
 ghost use Rattle.ordered_multimap.specs.Private.Remove.{KeepsKeyRoom, KeepsRoom};
 ghost use Rattle.ordered_multimap.specs.TapeNumbers.{AreUnused, numbers_of};
@@ -27,21 +27,21 @@ fn move_key<K, A: Allocator>(
     place: usize,
     packed: &mut SlotList<K, KeyLink, A>,
     table: &mut KeyTable<A>,
-    names: &mut Vec<usize, A>,
+    new_places: &mut Vec<usize, A>,
 )
     requires listed { IsIn place keys.old.order }
     requires rows { HasListedRows packed.old table.old.rows }
     requires key_room { HasRoomFor packed.old 1 }
     requires row_room { len table.old.rows < table.old.capacity }
-    requires within { place < length names.old.items }
+    requires within { place < length new_places.old.items }
     ensures moved { MovesKey keys.old keys.new packed.old packed.new table.old.rows table.new.rows
-        names.old.items names.new.items place }
+        new_places.old.items new_places.new.items place }
     ensures rooms { KeepsKeyRoom packed.old packed.new table.old table.new }
 {
     let (key, link) = keys.take_listed(place);
     let to = packed.push_reserved(key, link);
     table.insert(link.hash, to);
-    names[place] = to;
+    new_places[place] = to;
 }
 
 /// Takes all keys to the new list in their order, and notes the new place of each.
@@ -49,24 +49,24 @@ fn move_keys<K, A: Allocator>(
     keys: &mut SlotList<K, KeyLink, A>,
     packed: &mut SlotList<K, KeyLink, A>,
     table: &mut KeyTable<A>,
-    names: &mut Vec<usize, A>,
+    new_places: &mut Vec<usize, A>,
 )
     requires no_key { IsEmpty packed.old }
     requires no_row { table.old.rows ≡ empty }
     requires key_room { length keys.old.order ≤ packed.old.capacity }
     requires row_room { length keys.old.order ≤ table.old.capacity }
-    requires within { (q : ℕ) → IsIn q keys.old.order → q < length names.old.items }
-    ensures gone { HaveNewPlaces (AreMoved keys.old) (name_in names.new.items) keys.old.order
+    requires within { (q : ℕ) → IsIn q keys.old.order → q < length new_places.old.items }
+    ensures gone { HaveNewPlaces (AreMoved keys.old) (new_place_in new_places.new.items) keys.old.order
         packed.new }
     ensures rows { HasRows packed.new table.new.rows }
     ensures sound { IsSound packed.new }
-    ensures names { length names.new.items ≡ length names.old.items }
+    ensures new_places { length new_places.new.items ≡ length new_places.old.items }
     ensures rooms { KeepsKeyRoom packed.old packed.new table.old table.new }
 {
     // The lengths tell the proof that the lists are sound.
     let _len = keys.len();
     while let Some(place) = keys.front_place() {
-        move_key(keys, place, packed, table, names);
+        move_key(keys, place, packed, table, new_places);
     }
     let _packed = packed.len();
 }
@@ -76,21 +76,21 @@ fn move_keys<K, A: Allocator>(
 fn move_values<V, A: Allocator>(
     values: &mut Tape<V, ValueLink, A>,
     packed: &mut Tape<V, ValueLink, A>,
-    names: &Vec<usize, A>,
+    new_places: &Vec<usize, A>,
 )
-    requires settled { values.old.list.order ≡ places_below (length values.old.list.order) }
+    requires dense { values.old.list.order ≡ places_below (length values.old.list.order) }
     requires no_value { IsEmpty packed.old.list }
     requires no_hole { packed.old.holes ≡ 0 }
     requires room { length values.old.list.order ≤ packed.old.list.capacity }
     requires within { (q : ℕ) (l : ValueLink) → IsIn q values.old.list.order
-        → link_at values.old.list q ≡ Some l → l.key < length names.now.items }
-    ensures come { HaveCome (name_in names.now.items) values.old.list.order
+        → link_at values.old.list q ≡ Some l → l.key < length new_places.now.items }
+    ensures come { HaveCome (new_place_in new_places.now.items) values.old.list.order
         values.old.list packed.new.list }
     ensures room { KeepsTapeRoom packed.old packed.new }
 {
     for place in 0..values.len() {
         let (value, link) = values.take_listed(place);
-        let key = names[link.key];
+        let key = new_places[link.key];
         packed.push_reserved(value, ValueLink { key, ..link });
     }
 }
@@ -108,7 +108,7 @@ fn pack<K: Drop, V: Drop, A: Allocator>(
     requires key_room { length keys.old.order ≤ storage.keys.capacity }
     requires row_room { length keys.old.order ≤ storage.table.capacity }
     requires value_room { length values.old.list.order ≤ storage.values.list.capacity }
-    requires names { (q : ℕ) → IsIn q keys.old.order → q < length storage.names.items }
+    requires new_places { (q : ℕ) → IsIn q keys.old.order → q < length storage.new_places.items }
     ensures packed { ArePacked keys.old keys.new table.new.rows values.old.list values.new.list }
     ensures unused { AreUnused (numbers_of values.new) }
     ensures rooms { KeepsRoom storage.keys keys.new storage.table table.new
@@ -119,9 +119,9 @@ fn pack<K: Drop, V: Drop, A: Allocator>(
         keys,
         &mut storage.keys,
         &mut storage.table,
-        &mut storage.names,
+        &mut storage.new_places,
     );
-    move_values(values, &mut storage.values, &storage.names);
+    move_values(values, &mut storage.values, &storage.new_places);
     *keys = storage.keys;
     *table = storage.table;
     *values = storage.values;

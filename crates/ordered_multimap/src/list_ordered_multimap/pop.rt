@@ -15,7 +15,10 @@ use std::alloc::Allocator;
 use std::hash::{BuildHasher, Hash};
 
 /// The place of the value at an end.
-pub(super) fn end_place<V, A: Allocator>(values: &Tape<V, ValueLink, A>, end: End) -> Option<usize>
+pub(super) fn place_at_end<V, A: Allocator>(
+    values: &Tape<V, ValueLink, A>,
+    end: End,
+) -> Option<usize>
     ensures { result ≡ end_of_list end values.now.list.order }
 {
     match end {
@@ -31,7 +34,7 @@ impl<K: Eq + Hash, V, S: BuildHasher, A: Allocator> ListOrderedMultimap<K, V, S,
         ensures taken { IsTaken self.new.slots.keys (popped_pair K.eq end self.old.lists.pairs)
             result }
     {
-        match end_place(&self.values, end) {
+        match place_at_end(&self.values, end) {
             Some(place) => Some(take_pair_at(
                 &mut self.keys,
                 &mut self.table,
@@ -54,7 +57,7 @@ impl<K: Eq + Hash, V, S: BuildHasher, A: Allocator> ListOrderedMultimap<K, V, S,
     }
 
     /// The map, which is only read from now on until the loan ends.
-    fn settle(&mut self) -> &Self
+    fn as_shared(&mut self) -> &Self
         ensures* rests { sem 𝓛 (ends_same K.row V.row S.row A.row S.Hasher.row K.Hash
             S.BuildHasher S.Hasher.Hasher A.Allocator self.entry) }
         ensures same { result.now ≡ self.old }
@@ -96,7 +99,7 @@ impl<K: Eq + Hash, V, S: BuildHasher, A: Allocator> ListOrderedMultimap<K, V, S,
         ensures popped { option_map popped_of result ≡ popped_pair K.eq end self.old.lists.pairs }
     {
         let (taken, map) = self.take_end_on(end);
-        map.settle().wrapped(taken)
+        map.as_shared().wrapped(taken)
     }
 
     /// Takes the first pair out, and returns its key and its value. The key is handed out if that

@@ -12,12 +12,12 @@ ghost use Rattle.ordered_multimap.specs.TapeNumbers.{TakesOut};
 
 pub(crate) mod at;
 pub(crate) mod chain;
-pub(crate) mod leaving;
 pub(crate) mod one;
+pub(crate) mod unlink;
 
 use super::ListOrderedMultimap;
-use super::remove::chain::leave_entry;
-use super::remove::leaving::TakenOut;
+use super::remove::chain::unlink_entry;
+use super::remove::unlink::TakenOut;
 use crate::KeyQuery;
 use std::alloc::Allocator;
 use std::hash::{BuildHasher, Hash};
@@ -85,7 +85,7 @@ impl<K: Eq + Hash, V, S: BuildHasher, A: Allocator> ListOrderedMultimap<K, V, S,
             → LosesValues K.eq self.old self.new k (removed K.eq self.old.lists k) }
         ensures rooms { SameRooms self.old self.new }
     {
-        let (key, first, _) = leave_entry::<K, V, TakenOut<V>, A>(
+        let (key, first, _) = unlink_entry::<K, V, TakenOut<V>, A>(
             &mut self.keys,
             &mut self.table,
             &mut self.values,

@@ -29,7 +29,7 @@ fn ask<K, V, A: Allocator, F: FnMut(&K, &mut V) -> bool>(
     f: &mut F,
     place: usize,
 ) -> (bool, ValueLink, KeyLink)
-    requires stands { IsOwnedAt keys.now values.old.list place }
+    requires owned { IsOwnedAt keys.now values.old.list place }
     requires callable { (k : K) (v : V) → pair_at keys.now values.old.list place ≡ Some (k, v)
         → MayCall F.FnMut f.old k v }
     ensures asked { Asks (CalledAtPair F.FnMut) keys.now values.old values.new place
@@ -50,7 +50,7 @@ fn retain_at<K: Drop, V: Drop, A: Allocator, F: FnMut(&K, &mut V) -> bool>(
     f: &mut F,
     place: usize,
 )
-    requires stands { HasPair keys.old table.old.rows values.old.list place }
+    requires pair { HasPair keys.old table.old.rows values.old.list place }
     requires callable { (k : K) (v : V) → pair_at keys.old values.old.list place ≡ Some (k, v)
         → MayCall F.FnMut f.old k v }
     ensures { RetainsAt (CalledAtPair F.FnMut) keys.old keys.new table.old table.new

@@ -3,7 +3,7 @@ ghost use Rattle.std.specs.Prelude.{◌≡◌, ◌<◌, length};
 ghost use Rattle.std.specs.FinMap.{len};
 ghost use Rattle.multimap_slots.specs.Tapes.{HasTapeRoomFor};
 ghost use Rattle.ordered_multimap.specs.Private.Append.{HasCountedChains, MakesEndRoom, MakesKeyRoom, MakesPairRoom, MakesValueRoom};
-ghost use Rattle.ordered_multimap.specs.Private.Renames.{AreChained};
+ghost use Rattle.ordered_multimap.specs.Private.Relocations.{AreChained};
 
 use super::compact::compact;
 use multimap_slots::{SlotList, Tape};
@@ -13,7 +13,7 @@ use std::alloc::{AllocError, Allocator};
 
 /// Makes room for one more value behind the others, where half of the slots or more are free. It
 /// closes the holes if the last slot is in use, and takes no memory.
-#[tactic(auto, using(crate::proofs::Compact::Settled::same_places))]
+#[tactic(auto, using(crate::proofs::Compact::Dense::same_places))]
 #[inline(always)]
 pub(super) fn make_end_room<K, V: Drop, A: Allocator>(
     keys: &mut SlotList<K, KeyLink, A>,
@@ -33,7 +33,7 @@ pub(super) fn make_end_room<K, V: Drop, A: Allocator>(
 
 /// Makes room for one more value behind the others. Where one more fits but the last slot is in
 /// use, it closes the holes and takes no memory.
-#[tactic(auto, using(crate::proofs::Compact::Settled::grown_places, crate::proofs::Compact::Settled::same_places))]
+#[tactic(auto, using(crate::proofs::Compact::Dense::grown_places, crate::proofs::Compact::Dense::same_places))]
 #[inline(always)]
 pub(super) fn make_value_room<K, V: Drop, A: Allocator + Copy>(
     keys: &mut SlotList<K, KeyLink, A>,
@@ -78,7 +78,7 @@ pub(super) fn make_key_room<K, A: Allocator + Copy>(
 }
 
 /// Makes room for one more key and one more value.
-#[tactic(auto, using(crate::proofs::Compact::Settled::grown_keys))]
+#[tactic(auto, using(crate::proofs::Compact::Dense::grown_keys))]
 pub(super) fn make_room<K, V: Drop, A: Allocator + Copy>(
     keys: &mut SlotList<K, KeyLink, A>,
     table: &mut KeyTable<A>,

@@ -1,6 +1,6 @@
 //! New storage for the keys and values of a map, where it is packed or cloned.
 ghost use Rattle.std.specs.Prelude.{◌≡◌, ◌≤◌, ◌/◌, length, IfOk};
-ghost use Rattle.ordered_multimap.specs.Private.KeyRenames.{IsNewStorage};
+ghost use Rattle.ordered_multimap.specs.Private.KeyRelocations.{IsNewStorage};
 
 use multimap_slots::{SlotList, Tape};
 use multimap_table::KeyTable;
@@ -14,7 +14,7 @@ pub(super) struct Storage<K, V, A: Allocator> {
     pub(super) table: KeyTable<A>,
     pub(super) values: Tape<V, ValueLink, A>,
     // At the old place of each key its new one.
-    pub(super) names: Vec<usize, A>,
+    pub(super) new_places: Vec<usize, A>,
 }
 
 /// Empty storage with room for so many keys and values, and with a name for each of so many places.
@@ -28,9 +28,9 @@ pub(super) fn new_storage<K: Drop, V: Drop, A: Allocator + Copy>(
     ensures key_room { IfOk result (λ s. key_capacity ≤ s.keys.capacity) }
     ensures row_room { IfOk result (λ s. key_capacity ≤ s.table.capacity) }
     ensures value_room { IfOk result (λ s. value_capacity ≤ s.values.list.capacity / 2) }
-    ensures names { IfOk result (λ s. length s.names.items ≡ places) }
+    ensures new_places { IfOk result (λ s. length s.new_places.items ≡ places) }
 {
-    let names = Vec::from_elem(alloc, 0, places)?;
+    let new_places = Vec::from_elem(alloc, 0, places)?;
     let keys = SlotList::with_capacity(alloc, key_capacity)?;
     let table = KeyTable::with_capacity(alloc, key_capacity)?;
     let values = Tape::with_capacity(alloc, value_capacity)?;
@@ -38,6 +38,6 @@ pub(super) fn new_storage<K: Drop, V: Drop, A: Allocator + Copy>(
         keys,
         table,
         values,
-        names,
+        new_places,
     })
 }

@@ -29,7 +29,7 @@ fn update_at<K, V, A: Allocator, F: FnMut(&K, &mut V)>(
     f: &mut F,
     place: usize,
 )
-    requires stands { IsOwnedAt keys.now values.old.list place }
+    requires owned { IsOwnedAt keys.now values.old.list place }
     requires callable { (k : K) (v : V) → pair_at keys.now values.old.list place ≡ Some (k, v)
         → MayUpdate F.FnMut f.old k v }
     ensures { Asks (Updates F.FnMut) keys.now values.old values.new place f.old true f.new }

@@ -16,7 +16,7 @@ ghost use Rattle.ordered_multimap.specs.Writes.{with_first, IsWritten};
 
 use super::ListOrderedMultimap;
 use super::lookup::{slot_at, value_at};
-use super::pop::end_place;
+use super::pop::place_at_end;
 use crate::KeyQuery;
 use multimap_walks::End;
 use std::alloc::Allocator;
@@ -89,7 +89,7 @@ impl<K: Eq + Hash, V, S: BuildHasher, A: Allocator> ListOrderedMultimap<K, V, S,
             S.BuildHasher S.Hasher.Hasher A.Allocator end self.entry result) }
         ensures pair { end_item end self.old.lists.pairs ≡ Some (result.0.now, result.1.now) }
     {
-        match end_place(&self.values, end) {
+        match place_at_end(&self.values, end) {
             Some(place) => self.pair_mut_at(place),
             None => unreachable!(),
         }
@@ -136,7 +136,7 @@ impl<K: Eq + Hash, V, S: BuildHasher, A: Allocator> ListOrderedMultimap<K, V, S,
     }
 
     /// Whether there is a pair, and the map is handed back.
-    fn checked(&mut self) -> (bool, &mut Self)
+    fn has_pair_on(&mut self) -> (bool, &mut Self)
         ensures some { result.0 ≡ nat_lt 0 (length self.old.lists.pairs) }
         ensures same { result.1.ghost_name ≡ self.entry.ghost_name }
         ensures now { result.1.now ≡ self.old }
@@ -152,7 +152,7 @@ impl<K: Eq + Hash, V, S: BuildHasher, A: Allocator> ListOrderedMultimap<K, V, S,
         ensures pair { option_map (λ r. (r.0.now, r.1.now)) result
             ≡ end_item end self.old.lists.pairs }
     {
-        let (some, map) = self.checked();
+        let (some, map) = self.has_pair_on();
         if some { Some(map.end_mut(end)) } else { None }
     }
 

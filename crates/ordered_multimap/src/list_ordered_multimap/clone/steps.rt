@@ -7,9 +7,9 @@ ghost use Rattle.multimap_slots.specs.Tapes.{HasEndRoom};
 ghost use Rattle.ordered_multimap.specs.Agrees.{hash_of};
 ghost use Rattle.ordered_multimap.specs.Private.Append.{HasListedRows, KeepsTapeRoom};
 ghost use Rattle.ordered_multimap.specs.Private.Copies.{AreCopied, AreRanks, CopiesKey, CopiesValue, HasRankedEnds, HasRankedNeighbours, IsKeyCopy, IsValueCopy};
-ghost use Rattle.ordered_multimap.specs.Private.KeyRenames.{HasRows, HaveNewPlaces, IsNewStorage, name_in};
+ghost use Rattle.ordered_multimap.specs.Private.KeyRelocations.{HasRows, HaveNewPlaces, IsNewStorage, new_place_in};
 ghost use Rattle.ordered_multimap.specs.Private.Remove.{KeepsKeyRoom};
-ghost use Rattle.ordered_multimap.specs.Private.Renames.{AreChained};
+ghost use Rattle.ordered_multimap.specs.Private.Relocations.{AreChained};
 ghost use Rattle.ordered_multimap.specs.TapeNumbers.{AreUnused, numbers_of};
 
 use crate::list_ordered_multimap::lookup::{slot_at, value_at};
@@ -29,7 +29,7 @@ fn ranks_of<V, A: Allocator + Copy>(
 {
     // The length tells the proof that places rise.
     let _len = values.len();
-    let end = values.end_place();
+    let end = values.push_place();
     let mut ranks = Vec::with_capacity(alloc, end)?;
     let mut rank = 0;
     for place in 0..end {
@@ -45,7 +45,7 @@ fn ranks_of<V, A: Allocator + Copy>(
 #[inline(always)]
 fn rank_of<A: Allocator>(place: Option<usize>, ranks: &Vec<usize, A>) -> Option<usize>
     requires { (q : ℕ) → place ≡ Some q → q < length ranks.now.items }
-    ensures { result ≡ option_map (name_in ranks.now.items) place }
+    ensures { result ≡ option_map (new_place_in ranks.now.items) place }
 {
     match place {
         Some(place) => Some(ranks[place]),
@@ -63,7 +63,7 @@ fn clone_key<K: Hash + Clone, S: BuildHasher, A: Allocator>(
     ranks: &Vec<usize, A>,
     copies: &mut SlotList<K, KeyLink, A>,
     table: &mut KeyTable<A>,
-    names: &mut Vec<usize, A>,
+    new_places: &mut Vec<usize, A>,
 ) -> Result<(), AllocError>
     requires listed { IsIn place keys.now.order }
     requires ranked { (l : KeyLink) → link_at keys.now place ≡ Some l
@@ -71,11 +71,11 @@ fn clone_key<K: Hash + Clone, S: BuildHasher, A: Allocator>(
     requires rows { HasListedRows copies.old table.old.rows }
     requires key_room { HasRoomFor copies.old 1 }
     requires row_room { len table.old.rows < table.old.capacity }
-    requires within { place < length names.old.items }
+    requires within { place < length new_places.old.items }
     ensures copied { OnOk result (CopiesKey K.is_clone
         (λ k. hash_of S.BuildHasher S.Hasher.Hasher state.now (K.hash_input k))
-        (name_in ranks.now.items) keys.now copies.old copies.new table.old.rows table.new.rows
-        names.old.items names.new.items place) }
+        (new_place_in ranks.now.items) keys.now copies.old copies.new table.old.rows table.new.rows
+        new_places.old.items new_places.new.items place) }
     ensures rooms { KeepsKeyRoom copies.old copies.new table.old table.new }
 {
     let (key, link) = slot_at(keys, place);
@@ -94,7 +94,7 @@ fn clone_key<K: Hash + Clone, S: BuildHasher, A: Allocator>(
         },
     );
     table.insert(hash, to);
-    names[place] = to;
+    new_places[place] = to;
     Ok(())
 }
 
@@ -105,20 +105,20 @@ fn clone_keys<K: Hash + Clone, S: BuildHasher, A: Allocator>(
     ranks: &Vec<usize, A>,
     copies: &mut SlotList<K, KeyLink, A>,
     table: &mut KeyTable<A>,
-    names: &mut Vec<usize, A>,
+    new_places: &mut Vec<usize, A>,
 ) -> Result<(), AllocError>
     requires ranked { (q : ℕ) (l : KeyLink) → IsIn q keys.now.order → link_at keys.now q ≡ Some l
         → HasRankedEnds ranks.now.items l }
     requires no_key { IsEmpty copies.old }
     requires no_row { table.old.rows ≡ empty }
     requires room { length keys.now.order ≤ min copies.old.capacity table.old.capacity }
-    requires within { (q : ℕ) → IsIn q keys.now.order → q < length names.old.items }
+    requires within { (q : ℕ) → IsIn q keys.now.order → q < length new_places.old.items }
     ensures copied { OnOk result (HaveNewPlaces (IsKeyCopy K.is_clone
         (λ k. hash_of S.BuildHasher S.Hasher.Hasher state.now (K.hash_input k))
-        (name_in ranks.now.items) keys.now) (name_in names.new.items) keys.now.order copies.new) }
+        (new_place_in ranks.now.items) keys.now) (new_place_in new_places.new.items) keys.now.order copies.new) }
     ensures rows { OnOk result (HasRows copies.new table.new.rows) }
     ensures sound { OnOk result (IsSound copies.new) }
-    ensures names { OnOk result (length names.new.items ≡ length names.old.items) }
+    ensures new_places { OnOk result (length new_places.new.items ≡ length new_places.old.items) }
     ensures rooms { KeepsKeyRoom copies.old copies.new table.old table.new }
 {
     // The lengths tell the proof that the lists are sound.
@@ -126,7 +126,7 @@ fn clone_keys<K: Hash + Clone, S: BuildHasher, A: Allocator>(
     let mut following = keys.front_place();
     while let Some(place) = following {
         following = keys.next_listed_place(place);
-        clone_key(keys, place, state, ranks, copies, table, names)?;
+        clone_key(keys, place, state, ranks, copies, table, new_places)?;
     }
     let _copies = copies.len();
     Ok(())
@@ -137,22 +137,22 @@ fn clone_keys<K: Hash + Clone, S: BuildHasher, A: Allocator>(
 fn clone_value<V: Clone, A: Allocator>(
     values: &Tape<V, ValueLink, A>,
     place: usize,
-    names: &Vec<usize, A>,
+    new_places: &Vec<usize, A>,
     ranks: &Vec<usize, A>,
     copies: &mut Tape<V, ValueLink, A>,
 ) -> Result<(), AllocError>
     requires listed { IsIn place values.now.list.order }
     requires ranked { (l : ValueLink) → link_at values.now.list place ≡ Some l
-        → HasRankedNeighbours names.now.items ranks.now.items l }
+        → HasRankedNeighbours new_places.now.items ranks.now.items l }
     requires end_room { HasEndRoom copies.old }
-    ensures copied { OnOk result (CopiesValue V.is_clone (name_in names.now.items)
-        (name_in ranks.now.items) values.now.list copies.old.list copies.new.list place
+    ensures copied { OnOk result (CopiesValue V.is_clone (new_place_in new_places.now.items)
+        (new_place_in ranks.now.items) values.now.list copies.old.list copies.new.list place
         (length copies.old.list.order + copies.old.holes)) }
     ensures room { KeepsTapeRoom copies.old copies.new }
 {
     let (value, link) = value_at(values, place);
     let copy = value.clone()?;
-    let key = names[link.key];
+    let key = new_places[link.key];
     let previous = rank_of(link.previous, ranks);
     let next = rank_of(link.next, ranks);
     copies.push_reserved(
@@ -170,19 +170,19 @@ fn clone_value<V: Clone, A: Allocator>(
 /// stand there without a hole, each at the place of its rank.
 fn clone_values<V: Clone, A: Allocator>(
     values: &Tape<V, ValueLink, A>,
-    names: &Vec<usize, A>,
+    new_places: &Vec<usize, A>,
     ranks: &Vec<usize, A>,
     copies: &mut Tape<V, ValueLink, A>,
 ) -> Result<(), AllocError>
     requires ranks { AreRanks values.now.list.order ranks.now.items }
     requires ranked { (q : ℕ) (l : ValueLink) → IsIn q values.now.list.order
         → link_at values.now.list q ≡ Some l
-        → HasRankedNeighbours names.now.items ranks.now.items l }
+        → HasRankedNeighbours new_places.now.items ranks.now.items l }
     requires no_value { IsEmpty copies.old.list }
     requires no_hole { copies.old.holes ≡ 0 }
     requires room { length values.now.list.order ≤ copies.old.list.capacity }
-    ensures copied { OnOk result (HaveNewPlaces (IsValueCopy V.is_clone (name_in names.now.items)
-        (name_in ranks.now.items) values.now.list) (name_in ranks.now.items)
+    ensures copied { OnOk result (HaveNewPlaces (IsValueCopy V.is_clone (new_place_in new_places.now.items)
+        (new_place_in ranks.now.items) values.now.list) (new_place_in ranks.now.items)
         values.now.list.order copies.new.list) }
     ensures sound { OnOk result (IsSound copies.new.list) }
     ensures room { KeepsTapeRoom copies.old copies.new }
@@ -192,7 +192,7 @@ fn clone_values<V: Clone, A: Allocator>(
     let mut following = values.front_place();
     while let Some(place) = following {
         following = values.next_listed_place(place);
-        clone_value(values, place, names, ranks, copies)?;
+        clone_value(values, place, new_places, ranks, copies)?;
     }
     let _copies = copies.len();
     Ok(())
@@ -212,7 +212,7 @@ fn clone_into<K: Hash + Clone, V: Clone, S: BuildHasher, A: Allocator>(
     requires key_room { length keys.now.order ≤ storage.old.keys.capacity }
     requires row_room { length keys.now.order ≤ storage.old.table.capacity }
     requires value_room { length values.now.list.order ≤ storage.old.values.list.capacity }
-    requires names { (q : ℕ) → IsIn q keys.now.order → q < length storage.old.names.items }
+    requires new_places { (q : ℕ) → IsIn q keys.now.order → q < length storage.old.new_places.items }
     ensures copied { OnOk result (AreCopied K.is_clone V.is_clone
         (λ k. hash_of S.BuildHasher S.Hasher.Hasher state.now (K.hash_input k))
         keys.now storage.new.keys storage.new.table.rows values.now.list storage.new.values.list) }
@@ -226,9 +226,9 @@ fn clone_into<K: Hash + Clone, V: Clone, S: BuildHasher, A: Allocator>(
         ranks,
         &mut storage.keys,
         &mut storage.table,
-        &mut storage.names,
+        &mut storage.new_places,
     )?;
-    clone_values(values, &storage.names, ranks, &mut storage.values)
+    clone_values(values, &storage.new_places, ranks, &mut storage.values)
 }
 
 /// New storage with clones of all keys and values, and with room for all.

@@ -7,7 +7,7 @@ ghost use Rattle.ordered_multimap.specs.Private.Append.{KeepsTapeRoom};
 ghost use Rattle.ordered_multimap.specs.Agrees.{HasKey};
 ghost use Rattle.ordered_multimap.specs.Changes.{inserted, removed, removed_where};
 ghost use Rattle.ordered_multimap.specs.Keys.{stored_key, stored_where};
-ghost use Rattle.ordered_multimap.specs.Private.KeySteps.{DetachesValues, DetachesWhere, HoldsInRoom, KeepsPairs};
+ghost use Rattle.ordered_multimap.specs.Private.KeySteps.{DetachesValues, DetachesWhere, HoldsInRoom, KeepsBothLists};
 ghost use Rattle.ordered_multimap.specs.Pairs.{values_of, values_where};
 ghost use Rattle.ordered_multimap.specs.Rooms.{HasValueRoom, KeepsRooms, RaisesNoRoom, SameRooms};
 ghost use Rattle.ordered_multimap.specs.TapeNumbers.{TakesOut};
@@ -18,8 +18,8 @@ ghost use Rattle.ordered_multimap.specs.Detaches.{KeepsSlots, LeavesDrain, left_
 
 use crate::KeyQuery;
 use crate::list_ordered_multimap::insert::insert_behind_all;
-use crate::list_ordered_multimap::remove::chain::leave_entry;
-use crate::list_ordered_multimap::remove::leaving::KeptInPlace;
+use crate::list_ordered_multimap::remove::chain::unlink_entry;
+use crate::list_ordered_multimap::remove::unlink::KeptInPlace;
 use crate::list_ordered_multimap::{
     EntryValues, ListOrderedMultimap, NO_CHAIN, Refused, RefusedValue,
 };
@@ -58,7 +58,7 @@ impl<K: Eq + Hash, V, S: BuildHasher, A: Allocator> ListOrderedMultimap<K, V, S,
         ensures key { (k : K) → HasKey K.eq self.old.slots.keys k place
             → result ≡ stored_key K.eq self.old.lists.keys k }
     {
-        let (key, _, left) = leave_entry::<K, V, KeptInPlace, A>(
+        let (key, _, left) = unlink_entry::<K, V, KeptInPlace, A>(
             &mut self.keys,
             &mut self.table,
             &mut self.values,
@@ -147,7 +147,7 @@ impl<K: Eq + Hash, V, S: BuildHasher, A: Allocator + Copy> ListOrderedMultimap<K
         ensures holds { OnOk result (HoldsDrain self.new) }
         ensures ok { OnOk result (DetachesValues K.eq self.old self.new key
             (inserted K.eq self.old.lists key value)) }
-        ensures unchanged { OnErr result (KeepsPairs self.old self.new) }
+        ensures unchanged { OnErr result (KeepsBothLists self.old self.new) }
         ensures hands_back { HandsBack K.eq key value self.old result }
         ensures rooms { KeepsRooms self.old self.new }
         ensures had_room { RaisesNoRoom K.eq key self.old self.new }
@@ -178,7 +178,7 @@ impl<K: Eq + Hash, V, S: BuildHasher, A: Allocator + Copy> ListOrderedMultimap<K
         ensures holds { OnOk result (HoldsDrain self.new) }
         ensures ok { OnOk result ((k : K) → HasKey K.eq self.old.slots.keys k place
             → DetachesValues K.eq self.old self.new k (inserted K.eq self.old.lists k value)) }
-        ensures unchanged { OnErr result (KeepsPairs self.old self.new) }
+        ensures unchanged { OnErr result (KeepsBothLists self.old self.new) }
         ensures refused { IfErr result (λ r. r.value ≡ value) }
         ensures succeeds { HasValueRoom self.old → IsOk result }
         ensures rooms { KeepsRooms self.old self.new }

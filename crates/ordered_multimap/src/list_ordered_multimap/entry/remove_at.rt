@@ -3,7 +3,7 @@
 
 ghost use Rattle.std.specs.Prelude.{◌≡◌, cond, is_some};
 ghost use Rattle.ordered_multimap.specs.Entries.{IsOccupiedBy, IsSameEntryInRoom};
-ghost use Rattle.ordered_multimap.specs.RemovedAt.{removed_at, value_beside};
+ghost use Rattle.ordered_multimap.specs.RemovedAt.{removed_at, removable_value_at};
 ghost use Rattle.ordered_multimap.specs.TapeNumbers.{TakesOut};
 
 use super::OccupiedEntry;
@@ -25,7 +25,7 @@ impl<'map, K: Eq + Hash, V, S: BuildHasher, A: Allocator> OccupiedEntry<'map, K,
     pub fn remove_at(&mut self, index: usize) -> Option<V>
         ensures same_entry { IsSameEntryInRoom self.old self.new }
         ensures value { (k : K) → IsOccupiedBy self.old k
-            → result ≡ value_beside K.eq self.old.map.now.lists.pairs k index }
+            → result ≡ removable_value_at K.eq self.old.map.now.lists.pairs k index }
         ensures lists { (k : K) → IsOccupiedBy self.old k
             → self.new.map.now.lists ≡ removed_at K.eq self.old.map.now.lists k index }
         ensures taken { TakesOut (cond (is_some result) 1 0)

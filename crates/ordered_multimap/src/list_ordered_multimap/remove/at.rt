@@ -5,7 +5,7 @@ ghost use Rattle.multimap_slots.specs.Slots.{link_at};
 ghost use Rattle.multimap_walks.specs.Chained.{chain_of};
 ghost use Rattle.ordered_multimap.specs.Agrees.{HasKey};
 ghost use Rattle.ordered_multimap.specs.Private.KeySteps.{StaysInRoom};
-ghost use Rattle.ordered_multimap.specs.RemovedAt.{removed_at, value_beside};
+ghost use Rattle.ordered_multimap.specs.RemovedAt.{removed_at, removable_value_at};
 ghost use Rattle.ordered_multimap.specs.Private.Remove.{HasChain};
 ghost use Rattle.ordered_multimap.specs.Private.RemoveAt.{TakesAt};
 ghost use Rattle.ordered_multimap.specs.TapeNumbers.{TakesOut, numbers_of};
@@ -27,7 +27,7 @@ fn place_at<K, V, A: Allocator>(
     place: usize,
     index: usize,
 ) -> usize
-    requires stands { HasChain keys.now values.now.list place }
+    requires chain { HasChain keys.now values.now.list place }
     requires among { (l : KeyLink) → link_at keys.now place ≡ Some l → index < l.length }
     ensures { slice_get (chain_of values.now.list place) index ≡ Some result }
 {
@@ -54,7 +54,7 @@ fn take_at<K, V, A: Allocator>(
     place: usize,
     index: usize,
 ) -> Option<V>
-    requires stands { HasChain keys.old values.old.list place }
+    requires chain { HasChain keys.old values.old.list place }
     ensures taken { TakesAt keys.old keys.new values.old.list values.new.list place index result }
     ensures counts { TakesOut (cond (is_some result) 1 0)
         (numbers_of values.old) (numbers_of values.new) }
@@ -75,7 +75,7 @@ impl<K: Eq + Hash, V, S: BuildHasher, A: Allocator> ListOrderedMultimap<K, V, S,
         requires { IsIn place self.old.slots.keys.order }
         ensures stays { StaysInRoom K.eq self.old self.new place }
         ensures value { (k : K) → HasKey K.eq self.old.slots.keys k place
-            → result ≡ value_beside K.eq self.old.lists.pairs k index }
+            → result ≡ removable_value_at K.eq self.old.lists.pairs k index }
         ensures lists { (k : K) → HasKey K.eq self.old.slots.keys k place
             → self.new.lists ≡ removed_at K.eq self.old.lists k index }
         ensures taken { TakesOut (cond (is_some result) 1 0) self.old.tape self.new.tape }

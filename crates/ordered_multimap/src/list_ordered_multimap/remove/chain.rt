@@ -3,13 +3,13 @@ ghost use Rattle.std.specs.Prelude.{◌≡◌, ◌<◌, ℕ, List, Some};
 ghost use Rattle.std.specs.FinMap.{get};
 ghost use Rattle.multimap_slots.specs.Lists.{IsIn};
 ghost use Rattle.multimap_slots.specs.Slots.{Removes, item_at, link_at};
-ghost use Rattle.ordered_multimap.specs.Private.Remove.{AreLeaving, HasChain, HasChainBeforeRoom, HasEntry};
-ghost use Rattle.ordered_multimap.specs.Private.Remove.{IsRow, LeavesEntry, LeavesOlder, PushesOver, TakesRow};
+ghost use Rattle.ordered_multimap.specs.Private.Remove.{AreUnlinked, HasChain, HasChainBeforeRoom, HasEntry};
+ghost use Rattle.ordered_multimap.specs.Private.Remove.{IsRow, UnlinksEntry, UnlinksOlder, ReplacesChain, TakesRow};
 
 use crate::list_ordered_multimap::append::steps::push_behind;
 use crate::list_ordered_multimap::links::set_previous;
 use crate::list_ordered_multimap::lookup::slot_at;
-use crate::list_ordered_multimap::remove::leaving::Leaving;
+use crate::list_ordered_multimap::remove::unlink::Unlink;
 use multimap_slots::{SlotList, Tape};
 use multimap_table::KeyTable;
 use multimap_walks::{ChainEnds, KeyLink, ValueLink};
@@ -18,7 +18,7 @@ use std::alloc::Allocator;
 /// Lets the first `count` values along the links from a place on leave, and returns what the first
 /// gives, and where they stood. No link is mended.
 #[inline(always)]
-fn leave_values<V, W: Leaving<V>, A: Allocator>(
+fn unlink_values<V, W: Unlink<V>, A: Allocator>(
     values: &mut Tape<V, ValueLink, A>,
     first: usize,
     count: usize,
@@ -26,17 +26,17 @@ fn leave_values<V, W: Leaving<V>, A: Allocator>(
     requires some { 0 < count }
     requires row { (row : List ℕ) × IsRow values.old.list first count row }
     ensures left { (row : List ℕ) → IsRow values.old.list first count row → (following : _)
-        × AreLeaving W.keeps row count result.1.last following values.old values.new }
+        × AreUnlinked W.keeps row count result.1.last following values.old values.new }
     ensures given { (v : V) → item_at values.old.list first ≡ Some v → W.gives result.0 v }
     ensures ends { result.1 ≡ record { first = first; last = result.1.last; length = count } }
 {
-    let (given, link) = W::leave(values, first);
+    let (given, link) = W::unlink(values, first);
     let mut last = first;
     let mut following = link.next;
     for _ in 1..count {
         match following {
             Some(next) => {
-                let (_given, link) = W::leave(values, next);
+                let (_given, link) = W::unlink(values, next);
                 last = next;
                 following = link.next;
             }
@@ -72,35 +72,35 @@ pub(crate) fn take_key<K, A: Allocator>(
 /// Takes the key at the place out, and lets all its values leave. No link is mended, since the
 /// links of a chain name only each other.
 #[inline(always)]
-pub(crate) fn leave_entry<K, V, W: Leaving<V>, A: Allocator>(
+pub(crate) fn unlink_entry<K, V, W: Unlink<V>, A: Allocator>(
     keys: &mut SlotList<K, KeyLink, A>,
     table: &mut KeyTable<A>,
     values: &mut Tape<V, ValueLink, A>,
     place: usize,
 ) -> (K, W, ChainEnds)
     requires { HasEntry keys.old table.old.rows values.old.list place }
-    ensures { LeavesEntry W.keeps (W.gives result.1) keys.old keys.new table.old table.new
+    ensures { UnlinksEntry W.keeps (W.gives result.1) keys.old keys.new table.old table.new
         values.old values.new place result.0 result.2 }
 {
     let (_, link) = slot_at(keys, place);
-    let (first, ends) = leave_values(values, link.head, link.length);
+    let (first, ends) = unlink_values(values, link.head, link.length);
     (take_key(keys, table, place, link.hash), first, ends)
 }
 
 /// Lets all values of the key at the place leave but the last one.
 #[inline(always)]
-fn leave_older<K, V, W: Leaving<V>, A: Allocator>(
+fn unlink_older<K, V, W: Unlink<V>, A: Allocator>(
     keys: &mut SlotList<K, KeyLink, A>,
     values: &mut Tape<V, ValueLink, A>,
     place: usize,
 ) -> (W, ChainEnds)
-    requires stands { HasChain keys.old values.old.list place }
+    requires chain { HasChain keys.old values.old.list place }
     requires more { (l : KeyLink) → link_at keys.old place ≡ Some l → 1 < l.length }
-    ensures { LeavesOlder W.keeps (W.gives result.0) keys.old keys.new values.old values.new
+    ensures { UnlinksOlder W.keeps (W.gives result.0) keys.old keys.new values.old values.new
         place result.1 }
 {
     let link = keys.listed_link_mut(place);
-    let left = leave_values(values, link.head, link.length - 1);
+    let left = unlink_values(values, link.head, link.length - 1);
     set_previous(values, Some(link.tail), None);
     link.head = link.tail;
     link.length = 1;
@@ -109,16 +109,16 @@ fn leave_older<K, V, W: Leaving<V>, A: Allocator>(
 
 /// Puts the value last, behind the others of the key at the place, and lets these leave.
 #[inline(always)]
-pub(crate) fn push_over<K, V, W: Leaving<V>, A: Allocator>(
+pub(crate) fn replace_chain<K, V, W: Unlink<V>, A: Allocator>(
     keys: &mut SlotList<K, KeyLink, A>,
     values: &mut Tape<V, ValueLink, A>,
     place: usize,
     value: V,
 ) -> (W, ChainEnds)
     requires { HasChainBeforeRoom keys.old values.old place }
-    ensures { PushesOver W.keeps (W.gives result.0) keys.old keys.new values.old values.new
+    ensures { ReplacesChain W.keeps (W.gives result.0) keys.old keys.new values.old values.new
         place value result.1 }
 {
     push_behind(keys, values, place, value);
-    leave_older(keys, values, place)
+    unlink_older(keys, values, place)
 }

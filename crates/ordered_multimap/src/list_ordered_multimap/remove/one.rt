@@ -63,7 +63,7 @@ pub(crate) fn take_one<K, V, A: Allocator>(
     link: ValueLink,
     key_link: KeyLink,
 ) -> V
-    requires stands { HasLinks keys.old values.old.list place link key_link }
+    requires links { HasLinks keys.old values.old.list place link key_link }
     requires more { 1 < key_link.length }
     ensures taken { TakesOne keys.old keys.new values.old.list values.new.list place result }
     ensures frees { Frees values.old values.new }
@@ -100,7 +100,7 @@ pub(crate) fn take_pair<K, V, A: Allocator>(
     link: ValueLink,
     key_link: KeyLink,
 ) -> Taken<K, V>
-    requires stands { HasLinks keys.old values.old.list place link key_link }
+    requires links { HasLinks keys.old values.old.list place link key_link }
     requires row { get table.old.rows link.key ≡ Some key_link.hash }
     ensures { LeavesPair keys.old keys.new table.old table.new values.old values.new place result }
 {

@@ -200,12 +200,12 @@ first_by_walk_spec 𝓤 𝓛 𝓜 𝓡 wired K V S A B LK LV LS LA LB eqs dEq pe
     await ! tt $ pick ! (λ n₅. split ! $ split ! $ move ! (2 ∷ []) $
     pick ! (λ ws₅. split ! $ drop ! $ move ! (2 ∷ []) $ feq_l ! (λ e₅. lands_as ! (ap only e₅) refl (tt, tt) $
     -- [the walk's end; the tokens of the walk; the tokens 5, 3; the law; the reference; what the map follows]
-    move ! (4 ∷ []) $ use1 𝓛 (‵ (fwand (follows R R γ c₁.whole (with_values_of m))
+    move ! (4 ∷ []) $ use1 𝓛 (‵ (fwand (follows R R γ c₁.lender_loan (with_values_of m))
     (fwand (ends_with Vr c₁) (ends_exactly Kr Vr Sr m γ c₁))))
-    (law_at 𝓛 Kr Vr Sr Ar Br (record { eq = pe.eq; hash_input = ha.hash_input }) bh hg al m γ s.values c₁ ended lends.taken.around) $
+    (law_at 𝓛 Kr Vr Sr Ar Br (record { eq = pe.eq; hash_input = ha.hash_input }) bh hg al m γ s.values c₁ ended lends.taken.lender_context) $
     move ! (6 ∷ []) $ rewrite ! 0 (λ (δ : GName). ‵ (follows R R γ δ (with_values_of m))) (sym lends.taken.name) refl $
     use2 𝓛 (‵ (fwand (ends_with Vr c₁) (ends_exactly Kr Vr Sr m γ c₁)))
-    (apply∗ 𝓤 (sem 𝓛 (follows R R γ c₁.whole (with_values_of m))) (sem 𝓛 (fwand (ends_with Vr c₁) (ends_exactly Kr Vr Sr m γ c₁)))) $
+    (apply∗ 𝓤 (sem 𝓛 (follows R R γ c₁.lender_loan (with_values_of m))) (sem 𝓛 (fwand (ends_with Vr c₁) (ends_exactly Kr Vr Sr m γ c₁)))) $
     move ! (1 ∷ 0 ∷ []) $ use2 𝓛 (‵ (ends_exactly Kr Vr Sr m γ c₁))
     (apply∗ 𝓤 (sem 𝓛 (ends_with Vr c₁)) (sem 𝓛 (ends_exactly Kr Vr Sr m γ c₁))) $
     use1 𝓛 (‵ (ends_first_written Kr Vr Sr a.0 q.1)) (ends_first 𝓛 Kr Vr Sr Ar a.0 s q.0 q.1 ended values positions lends) $

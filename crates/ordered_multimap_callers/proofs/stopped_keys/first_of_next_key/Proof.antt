@@ -250,7 +250,7 @@ first_of_next_key_spec 𝓤 𝓛 𝓜 𝓡 wired K V S A B LK LV LS LA LB eqs dE
     -- [the inner walk's end; its tokens; the tokens 6, 4; the law; the reference; the token 1; what the walk follows]
     let exact : Fml = walk_ends_exactly Kr Vr Sr Ar Br al Front a.0 c₁ in
     move ! (4 ∷ []) $ use1 𝓛 (‵ (fwand (Rest (Some x)) (fwand (ends_with Vr c₁) exact)))
-    (inner_law_at Kr Vr Sr Ar Br pe ha bh hg al 𝓛 Front a.0 x c₁ stepped lends.taken.around lends.taken.name) $
+    (inner_law_at Kr Vr Sr Ar Br pe ha bh hg al 𝓛 Front a.0 x c₁ stepped lends.taken.lender_context lends.taken.name) $
     move ! (7 ∷ []) $ rewrite ! 0 (λ (o : Out.Denot). ‵ (Rest o)) is_some refl $
     use2 𝓛 (‵ (fwand (ends_with Vr c₁) exact)) (apply∗ 𝓤 (sem 𝓛 (Rest (Some x))) (sem 𝓛 (fwand (ends_with Vr c₁) exact))) $
     move ! (1 ∷ 0 ∷ []) $ use2 𝓛 (‵ exact) (apply∗ 𝓤 (sem 𝓛 (ends_with Vr c₁)) (sem 𝓛 exact)) $

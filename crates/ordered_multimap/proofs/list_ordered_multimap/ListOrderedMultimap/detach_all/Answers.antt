@@ -13,14 +13,14 @@ use Rattle.ordered_multimap.proofs.list_ordered_multimap.ListOrderedMultimap.det
 pub returns-in-Some-clause-detached : goal.returns-in-Some-clause-detached
 returns-in-Some-clause-detached g c =
     let old = c.args.self.now in
-    let stands = rw c.in-Some.is at c.look_up.ensures.stands in
+    let stands = rw c.in-Some.is at c.look_up.ensures.stored in
     subst (λ (t : g.row.K.Denot → Bool). DetachesWhere t old c.detach_at.new.self (removed_where g.K.PartialEq.eq t old.lists))
     (sym stands.same) (c.detach_at.ensures.detached stands.stored stands.own)
 
 pub returns-in-Some-clause-found : goal.returns-in-Some-clause-found
 returns-in-Some-clause-found g c =
     let keys = c.args.self.now.lists.keys in let accepts = g.Q.KeyQuery.equivalent c.args.key in
-    let stands = rw c.in-Some.is at c.look_up.ensures.stands in
+    let stands = rw c.in-Some.is at c.look_up.ensures.stored in
     let listed = sym (rw c.in-Some.is at c.look_up.ensures.listed) in
     ap Some (c.detach_at.ensures.key stands.stored stands.own
     ∙ stored_is g.K.PartialEq.eq accepts stands.stored stands.same keys stands.stored listed)
@@ -29,7 +29,7 @@ returns-in-Some-clause-found g c =
 pub returns-in-Some-clause-key : goal.returns-in-Some-clause-key
 returns-in-Some-clause-key g c =
     let m = c.args.self.now.lists in let accepts = g.Q.KeyQuery.equivalent c.args.key in
-    let stands = rw c.in-Some.is at c.look_up.ensures.stands in
+    let stands = rw c.in-Some.is at c.look_up.ensures.stored in
     let listed = sym (rw c.in-Some.is at c.look_up.ensures.listed) in
     of_key (λ k. Some c.detach_at.result
     ≡ option_map (λ _. stored_where accepts m.keys k) (slice_get (values_where accepts m.pairs) 0))

@@ -11,22 +11,22 @@ use Rattle.ordered_multimap.proofs.Agreement.LookUps.{own_key, values_of-chain}
 use Rattle.ordered_multimap.proofs.Remove.WholeKeys.{entry_count, lists_of-taken, removed_key}
 use Rattle.ordered_multimap.proofs.list_ordered_multimap.ListOrderedMultimap.detach_at.Goals as goal
 
-pub leave_entry-key-requires : goal.leave_entry-key-requires
-leave_entry-key-requires g c =
+pub unlink_entry-key-requires : goal.unlink_entry-key-requires
+unlink_entry-key-requires g c =
     has_entry c.self.invariant.agrees c.args.place (subst (λ m. IsIn c.args.place m.slots.keys.order) (sym c.self.view_is) c.requires)
 
 pub invariant_of-self : goal.invariant_of-self
 invariant_of-self g c =
     let own = own_key g.met.K.Eq.laws c.self.invariant.agrees c.args.place
     (subst (λ m. IsIn c.args.place m.slots.keys.order) (sym c.self.view_is) c.requires) in
-    map_left g.met.K.Eq.laws c.self.invariant own.0 c.args.place own.1 c.leave_entry-key.ensures
+    map_left g.met.K.Eq.laws c.self.invariant own.0 c.args.place own.1 c.unlink_entry-key.ensures
 
 pub returns-clause-detached : goal.returns-clause-detached
 returns-clause-detached g c =
-    let t = c.leave_entry-key.ensures in
-    let n = c.leave_entry-key.new in
+    let t = c.unlink_entry-key.ensures in
+    let n = c.unlink_entry-key.new in
     subst (λ m. (k : g.row.K.Denot) → HasKey g.K.PartialEq.eq m.slots.keys k c.args.place
-    → DetachesValues g.K.PartialEq.eq m (map_of n.keys n.table.capacity n.values c.self.inside.state c.leave_entry-key.result.2) k
+    → DetachesValues g.K.PartialEq.eq m (map_of n.keys n.table.capacity n.values c.self.inside.state c.unlink_entry-key.result.2) k
     (removed g.K.PartialEq.eq m.lists k)) c.self.view_is
     (λ k has. record {
       left = (t.drain refl).left ∙ sym (values_of-chain g.met.K.Eq.laws c.self.invariant.agrees k c.args.place has);
@@ -41,17 +41,17 @@ returns-clause-detached g c =
 pub returns-clause-key : goal.returns-clause-key
 returns-clause-key g c =
     subst (λ m. (k : g.row.K.Denot) → HasKey g.K.PartialEq.eq m.slots.keys k c.args.place
-    → c.leave_entry-key.result.0 ≡ stored_key g.K.PartialEq.eq m.lists.keys k) c.self.view_is
-    (λ k has. sym (removed_key g.met.K.Eq.laws c.self.invariant.agrees k c.args.place has c.leave_entry-key.ensures.entry.removed))
+    → c.unlink_entry-key.result.0 ≡ stored_key g.K.PartialEq.eq m.lists.keys k) c.self.view_is
+    (λ k has. sym (removed_key g.met.K.Eq.laws c.self.invariant.agrees k c.args.place has c.unlink_entry-key.ensures.entry.removed))
 
 pub returns-clause-holds : goal.returns-clause-holds
 returns-clause-holds g c =
-    let t = c.leave_entry-key.ensures in
-    let n = c.leave_entry-key.new in
+    let t = c.unlink_entry-key.ensures in
+    let n = c.unlink_entry-key.new in
     let i = c.self.inside in
-    subst (λ m. HoldsInRoom m (map_of n.keys n.table.capacity n.values i.state c.leave_entry-key.result.2)) c.self.view_is
+    subst (λ m. HoldsInRoom m (map_of n.keys n.table.capacity n.values i.state c.unlink_entry-key.result.2)) c.self.view_is
     (record {
       drain = (t.drain refl).chain;
-      rooms = same_rooms i.keys n.keys i.table.capacity n.table.capacity i.values n.values i.state i.left c.leave_entry-key.result.2
+      rooms = same_rooms i.keys n.keys i.table.capacity n.table.capacity i.values n.values i.state i.left c.unlink_entry-key.result.2
           (record { keys_capacity = t.entry.removed.capacity; capacity = t.entry.taken.capacity }) t.row_room;
     })

@@ -59,8 +59,8 @@ use Rattle.ordered_multimap.specs.contracts.list_ordered_multimap.ListOrderedMul
 use Rattle.ordered_multimap.specs.contracts.list_ordered_multimap.ListOrderedMultimap.end_mut_if.Key.{name as #self}
 use Rattle.ordered_multimap.proofs.list_ordered_multimap.ListOrderedMultimap.end_mut_if.Statement.{statement}
 use Rattle.ordered_multimap.proofs.list_ordered_multimap.ListOrderedMultimap.end_mut_if.Code as code
-use Rattle.ordered_multimap.specs.contracts.list_ordered_multimap.ListOrderedMultimap.checked as g₁
-use Rattle.ordered_multimap.proofs.list_ordered_multimap.ListOrderedMultimap.checked.Met.{met as met₁}
+use Rattle.ordered_multimap.specs.contracts.list_ordered_multimap.ListOrderedMultimap.has_pair_on as g₁
+use Rattle.ordered_multimap.proofs.list_ordered_multimap.ListOrderedMultimap.has_pair_on.Met.{met as met₁}
 use Rattle.ordered_multimap.specs.contracts.list_ordered_multimap.ListOrderedMultimap.end_mut as g₂
 use Rattle.ordered_multimap.proofs.list_ordered_multimap.ListOrderedMultimap.end_mut.Met.{met as met₂}
 
@@ -117,7 +117,7 @@ end_mut_if_spec 𝓤 𝓛 𝓜 𝓡 wired K V S A B LK LV LS LA LB eqs dEq pe dP
     enter ! 𝓣.C 𝓣.Λ fn (vptr a.0.ref_ptr.0 a.0.ref_ptr.1 ∷ at_end end) Post $
     alloc_all ! (λ l. pass_all ! refl ((tt, tt), (end_good, tt)) $ let Ev = env fn.locals l in
     sets ! (addr ! (through ! refl (stop !))) refl (tt, tt) $
-    calls_at ! (framed 𝓤 H 𝓜 𝓣) G₁ (met₁ 𝓤 𝓛 𝓜 𝓡 (code.calls-ordered_multimap::list_ordered_multimap::ListOrderedMultimap::checked 𝓡.env
+    calls_at ! (framed 𝓤 H 𝓜 𝓣) G₁ (met₁ 𝓤 𝓛 𝓜 𝓡 (code.calls-ordered_multimap::list_ordered_multimap::ListOrderedMultimap::has_pair_on 𝓡.env
     wired) K V S A B LK LV LS LA LB eqs dEq pe dPe ha dHa bh dBh hg dHg al dAl dropA dropB mEq mPe mHa mBh mHg mAl mDropA mDropB) z₁
     (and_then ! (get ! refl) (no_more !)) (λ v.
     use1 𝓛 (later (some (λ (r : Q.Denot). (toks ⊛ ‵ (Q.own_val r (v ∷ []))) ⊛

@@ -5,7 +5,7 @@ use Rattle.ordered_multimap.proofs.list_ordered_multimap.ListOrderedMultimap.get
 
 pub returns-in-Some : goal.returns-in-Some
 returns-in-Some g c =
-    let stands = rw c.in-Some.is at c.look_up.ensures.stands in
+    let stands = rw c.in-Some.is at c.look_up.ensures.stored in
     sym (ap (λ (t : g.row.K.Denot → Bool). slice_get (values_where t c.args.self.now.lists.pairs) 0) stands.same
     ∙ c.first_at.ensures stands.stored stands.own)
 

@@ -6,13 +6,13 @@ use Rattle.ordered_multimap.proofs.list_ordered_multimap.ListOrderedMultimap.get
 
 pub returns-in-Some-clause-values : goal.returns-in-Some-clause-values
 returns-in-Some-clause-values g c =
-    let stands = rw c.in-Some.is at c.look_up.ensures.stands in
+    let stands = rw c.in-Some.is at c.look_up.ensures.stored in
     c.values_at.ensures.values stands.stored stands.own
     ∙ sym (ap (λ (t : g.row.K.Denot → Bool). values_where t c.args.self.now.lists.pairs) stands.same)
 
 pub returns-in-Some-clause-positions : goal.returns-in-Some-clause-positions
 returns-in-Some-clause-positions g c =
-    let stands = rw c.in-Some.is at c.look_up.ensures.stands in
+    let stands = rw c.in-Some.is at c.look_up.ensures.stored in
     c.values_at.ensures.positions stands.stored stands.own
     ∙ sym (ap (λ (t : g.row.K.Denot → Bool). positions_where t c.args.self.now.lists.pairs) stands.same)
 

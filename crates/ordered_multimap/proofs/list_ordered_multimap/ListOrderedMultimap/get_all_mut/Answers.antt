@@ -9,7 +9,7 @@ use Rattle.ordered_multimap.proofs.list_ordered_multimap.ListOrderedMultimap.get
 pub returns-in-Some : goal.returns-in-Some
 returns-in-Some g c =
     let pairs = c.args.self.now.lists.pairs in
-    let stands = rw c.in-Some.is at c.look_up.ensures.stands in (
+    let stands = rw c.in-Some.is at c.look_up.ensures.stored in (
       (refl, λ w. refl),
       record {
         writes_back = tt;

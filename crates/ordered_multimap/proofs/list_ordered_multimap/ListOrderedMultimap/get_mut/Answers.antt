@@ -9,7 +9,7 @@ use Rattle.ordered_multimap.proofs.list_ordered_multimap.ListOrderedMultimap.get
 pub returns-in-Some : goal.returns-in-Some
 returns-in-Some g c =
     let m = c.args.self.now in
-    let stands = rw c.in-Some.is at c.look_up.ensures.stands in
+    let stands = rw c.in-Some.is at c.look_up.ensures.stored in
     let written = λ (w : g.row.V.Denot).
     subst (λ (t : g.row.K.Denot → Bool). IsWritten m (with_first m c.in-Some.place w) (first_written_where t m.lists w))
     (sym stands.same) (c.first_mut_at.ensures.written stands.stored stands.own w) in (

@@ -4,10 +4,10 @@ use Rattle.ordered_multimap.specs.Changes.{inserted}
 use Rattle.ordered_multimap.specs.TapeNumbers.{TakesOut, numbers_of}
 use Rattle.ordered_multimap.specs.Rooms.{HasValueRoom, RaisesNoRoom}
 use Rattle.ordered_multimap.specs.Agrees.{HasKey}
-use Rattle.ordered_multimap.specs.Private.KeySteps.{DetachesValues, KeepsPairs}
+use Rattle.ordered_multimap.specs.Private.KeySteps.{DetachesValues, KeepsBothLists}
 use Rattle.ordered_multimap.proofs.Remove.OnePair.{has_fitting_chain}
 use Rattle.ordered_multimap.proofs.Agreement.LookUps.{own_key}
-use Rattle.ordered_multimap.proofs.Agreement.StayingKeys.{inserted_stays, renamed_stays}
+use Rattle.ordered_multimap.proofs.Agreement.StayingKeys.{inserted_stays, relocated_stays}
 use Rattle.ordered_multimap.proofs.Append.Appended.{agrees_reserved, lists_reserved, stays_paid}
 use Rattle.ordered_multimap.proofs.Append.Rooms.{map_of, fits_value, grows_there, on_err, raises_none}
 use Rattle.ordered_multimap.proofs.Append.Inserted.{agrees-inserted, lists_of-inserted}
@@ -25,7 +25,7 @@ pub invariant_of-self : goal.invariant_of-self
 invariant_of-self g c =
     let u = c.in_err-left.ensures {u = tt} in
     record {
-      agrees = agrees_reserved g.met.K.Eq.laws c.self.invariant.agrees u.unchanged.renamed;
+      agrees = agrees_reserved g.met.K.Eq.laws c.self.invariant.agrees u.unchanged.relocated;
       fits = u.unchanged.fits;
       paid = stays_paid u.unchanged.counts c.self.invariant.paid;
     }
@@ -34,15 +34,15 @@ pub returns-in_err-left-clause-stays : goal.returns-in_err-left-clause-stays
 returns-in_err-left-clause-stays g c =
     subst (λ m. (k : g.row.K.Denot) → HasKey g.K.PartialEq.eq m.slots.keys k c.args.place
     → HasKey g.K.PartialEq.eq c.insert_behind_all.new.keys k c.args.place) c.self.view_is
-    (λ k has. renamed_stays (g.K.PartialEq.eq k) c.args.place (c.in_err-left.ensures {u = tt}).unchanged.renamed has)
+    (λ k has. relocated_stays (g.K.PartialEq.eq k) c.args.place (c.in_err-left.ensures {u = tt}).unchanged.relocated has)
 
 pub returns-in_err-left-clause-unchanged : goal.returns-in_err-left-clause-unchanged
 returns-in_err-left-clause-unchanged g c =
     let u = (c.in_err-left.ensures {u = tt}).unchanged in
     let n = c.insert_behind_all.new in
     on_err c.from_residual.result
-    (subst (λ m. KeepsPairs m (map_of n.keys c.self.inside.table.capacity n.values c.self.inside.state c.self.inside.left)) c.self.view_is
-    (record { lists = lists_reserved g.met.K.Eq.laws c.self.invariant.agrees u.renamed; taken = u.counts }))
+    (subst (λ m. KeepsBothLists m (map_of n.keys c.self.inside.table.capacity n.values c.self.inside.state c.self.inside.left)) c.self.view_is
+    (record { lists = lists_reserved g.met.K.Eq.laws c.self.invariant.agrees u.relocated; taken = u.counts }))
 
 pub returns-in_err-left-clause-succeeds : goal.returns-in_err-left-clause-succeeds
 returns-in_err-left-clause-succeeds g c = λ room. absurd (true≢false (sym ((c.in_err-left.ensures {u = tt}).hands_back.succeeds

@@ -226,7 +226,7 @@ lend_spec 𝓤 𝓛 𝓜 𝓡 wired X₀ X₁ X₂ X₃ X₄ L₀ L₁ L₂ L₃
     -- [half the token; what the map follows; what its name follows; the cells; the other half; the other tokens; the keys]
     move ! (0 ∷ 4 ∷ []) $ use2 𝓛 (‵ (flft κ q)) (𝓛.lfts.lft_join κ q) $
     let rim : Option (List (Bool × Gv)) = Some (around_values K.coded V.coded S.coded s) in
-    let e : CR.Denot = record m { cells = record m.cells { whole = ε; around = rim } } in
+    let e : CR.Denot = record m { cells = record m.cells { lender_loan = ε; lender_context = rim } } in
     -- [the token of 'a; what the map follows; what its name follows; the cells; the other tokens; the keys]
     move ! (3 ∷ 2 ∷ []) $ use2 𝓛 (‵ (CR.own_val e (u ∷ [])))
     (slot_cells_renamed 𝓛 a' V (mem R) (mem VS) (λ h. with_items s h.list.items)

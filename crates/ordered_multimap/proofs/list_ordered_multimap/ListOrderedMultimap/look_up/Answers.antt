@@ -24,8 +24,8 @@ returns-clause-found g c =
     subst (λ m. IfSome c.place_of.result (HasKeyWhere (g.Q.KeyQuery.equivalent c.args.query) m.slots.keys)) c.self.view_is
     c.place_of.ensures.found
 
-pub returns-clause-stands : goal.returns-clause-stands
-returns-clause-stands g c =
+pub returns-clause-stored : goal.returns-clause-stored
+returns-clause-stored g c =
     let accepts = g.Q.KeyQuery.equivalent c.args.query in
     subst (λ m. IfSome c.place_of.result (StandsAt g.K.PartialEq.eq accepts m.slots.keys)) c.self.view_is
     (stands_at g.met.K.Eq.laws accepts (g.met.Q.KeyQuery.respects_eq c.args.query) c.self.inside.keys c.place_of.result

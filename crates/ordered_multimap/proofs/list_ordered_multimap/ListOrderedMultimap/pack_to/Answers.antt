@@ -1,6 +1,6 @@
 use Rattle.std.proofs.Common.{◌/◌, length, ap, ◌∙◌, arith}
 use Rattle.ordered_multimap.proofs.Agreement.Agreed.{length-keys, length-pairs}
-use Rattle.ordered_multimap.proofs.Pack.RenamedKeys.{agrees-packed, lists_of-packed, packed_length}
+use Rattle.ordered_multimap.proofs.Pack.RelocatedKeys.{agrees-packed, lists_of-packed, packed_length}
 use Rattle.ordered_multimap.proofs.list_ordered_multimap.ListOrderedMultimap.pack_to.Goals as goal
 
 pub pack-requires-clause-key_room : goal.pack-requires-clause-key_room
@@ -36,9 +36,9 @@ pack-requires-clause-value_room g c =
       c.in_ok-storage.ensures.value_room,
     )
 
-pub pack-requires-clause-names : goal.pack-requires-clause-names
-pack-requires-clause-names g c =
-    λ q listed. omega (arith, c.used_slots-places.ensures.above q listed, c.in_ok-storage.ensures.names)
+pub pack-requires-clause-new_places : goal.pack-requires-clause-new_places
+pack-requires-clause-new_places g c =
+    λ q listed. omega (arith, c.used_slots-places.ensures.above q listed, c.in_ok-storage.ensures.new_places)
 
 pub invariant_of-self : goal.invariant_of-self
 invariant_of-self g c =

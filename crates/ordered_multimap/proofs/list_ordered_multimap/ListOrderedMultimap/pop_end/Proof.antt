@@ -55,8 +55,8 @@ use Rattle.ordered_multimap.proofs.list_ordered_multimap.ListOrderedMultimap.pop
 use Rattle.ordered_multimap.proofs.list_ordered_multimap.ListOrderedMultimap.pop_end.Code as code
 use Rattle.ordered_multimap.specs.contracts.list_ordered_multimap.ListOrderedMultimap.take_end_on as g₁
 use Rattle.ordered_multimap.proofs.list_ordered_multimap.ListOrderedMultimap.take_end_on.Met.{met as met₁}
-use Rattle.ordered_multimap.specs.contracts.list_ordered_multimap.ListOrderedMultimap.settle as g₂
-use Rattle.ordered_multimap.proofs.list_ordered_multimap.ListOrderedMultimap.settle.Met.{met as met₂}
+use Rattle.ordered_multimap.specs.contracts.list_ordered_multimap.ListOrderedMultimap.as_shared as g₂
+use Rattle.ordered_multimap.proofs.list_ordered_multimap.ListOrderedMultimap.as_shared.Met.{met as met₂}
 use Rattle.ordered_multimap.specs.contracts.list_ordered_multimap.ListOrderedMultimap.wrapped as g₃
 use Rattle.ordered_multimap.proofs.list_ordered_multimap.ListOrderedMultimap.wrapped.Met.{met as met₃}
 
@@ -127,7 +127,7 @@ pop_end_spec 𝓤 𝓛 𝓜 𝓡 wired K V S A B LK LV LS LA LB eqs dEq pe dPe h
     let z₂ : G₂.Ghost = ((κs, qs, bounds, (r.1, tt), (mut_vals r.1, tt)), tt) in
     nothing ! $ move ! (1 ∷ 0 ∷ []) $ fjoin ! $ move ! (2 ∷ 0 ∷ []) $ join ! $ nothing ! $
     tells κs.1 K V S A B ! five $ move ! (1 ∷ 0 ∷ []) $ use2 𝓛 (raw (G₂.pre z₂)) (id⊢ 𝓤 _) $
-    calls_at ! (framed 𝓤 H 𝓜 𝓣) G₂ (met₂ 𝓤 𝓛 𝓜 𝓡 (code.calls-ordered_multimap::list_ordered_multimap::ListOrderedMultimap::settle 𝓡.env
+    calls_at ! (framed 𝓤 H 𝓜 𝓣) G₂ (met₂ 𝓤 𝓛 𝓜 𝓡 (code.calls-ordered_multimap::list_ordered_multimap::ListOrderedMultimap::as_shared 𝓡.env
     wired) K V S A B LK LV LS LA LB eqs dEq pe dPe ha dHa bh dBh hg dHg al dAl dropA dropB mEq mPe mHa mBh mHg mAl mDropA mDropB) z₂
     (and_then ! (get ! refl) (no_more !)) (λ v₂.
     use1 𝓛 (later (some (λ (s : Bor R.Denot). (toks ⊛ ‵ (Sh.own_val s (v₂ ∷ []))) ⊛

@@ -10,7 +10,7 @@ use Rattle.ordered_multimap.proofs.list_ordered_multimap.ListOrderedMultimap.rem
 pub returns-in-Some-clause-key : goal.returns-in-Some-clause-key
 returns-in-Some-clause-key g c =
     let eq = g.K.PartialEq.eq in let keys = c.args.self.now.lists.keys in let accepts = g.Q.KeyQuery.equivalent c.args.key in
-    let stands = rw c.in-Some.is at c.look_up.ensures.stands in
+    let stands = rw c.in-Some.is at c.look_up.ensures.stored in
     let listed = sym (rw c.in-Some.is at c.look_up.ensures.listed) in
     ap Some (key_of_pair _ _ c.take_entry_at.result (c.take_entry_at.ensures.entry stands.stored stands.own)
     ∙ stored_is eq accepts stands.stored stands.same keys stands.stored listed)
@@ -18,14 +18,14 @@ returns-in-Some-clause-key g c =
 
 pub returns-in-Some-clause-value : goal.returns-in-Some-clause-value
 returns-in-Some-clause-value g c =
-    let stands = rw c.in-Some.is at c.look_up.ensures.stands in
+    let stands = rw c.in-Some.is at c.look_up.ensures.stored in
     value_of_pair _ _ c.take_entry_at.result (c.take_entry_at.ensures.entry stands.stored stands.own)
     ∙ sym (ap (λ (t : g.row.K.Denot → Bool). slice_get (values_where t c.args.self.now.lists.pairs) 0) stands.same)
 
 pub returns-in-Some-clause-entry : goal.returns-in-Some-clause-entry
 returns-in-Some-clause-entry g c =
     let eq = g.K.PartialEq.eq in let m = c.args.self.now.lists in let accepts = g.Q.KeyQuery.equivalent c.args.key in
-    let stands = rw c.in-Some.is at c.look_up.ensures.stands in
+    let stands = rw c.in-Some.is at c.look_up.ensures.stored in
     let listed = sym (rw c.in-Some.is at c.look_up.ensures.listed) in
     of_key (λ k. Some c.take_entry_at.result
     ≡ option_map (λ v. (stored_where accepts m.keys k, v)) (slice_get (values_where accepts m.pairs) 0))
@@ -38,7 +38,7 @@ returns-in-Some-clause-entry g c =
 
 pub returns-in-Some-clause-removed : goal.returns-in-Some-clause-removed
 returns-in-Some-clause-removed g c =
-    let stands = rw c.in-Some.is at c.look_up.ensures.stands in
+    let stands = rw c.in-Some.is at c.look_up.ensures.stored in
     removes_where g.K.PartialEq.eq (g.Q.KeyQuery.equivalent c.args.key) stands.stored stands.same
     (c.take_entry_at.ensures.removed stands.stored stands.own) c.take_entry_at.ensures.rooms
 

@@ -16,7 +16,7 @@ use Rattle.ordered_multimap.proofs.list_ordered_multimap.ListOrderedMultimap.tak
 pub take_pair_at-requires : goal.take_pair_at-requires
 take_pair_at-requires g c =
     has_pair c.self.invariant.agrees c.in-Some.place
-    (end_listed c.args.end c.self.inside.values.list.order c.in-Some.place (sym c.end_place.ensures ∙ c.in-Some.is))
+    (end_listed c.args.end c.self.inside.values.list.order c.in-Some.place (sym c.place_at_end.ensures ∙ c.in-Some.is))
 
 -- a pair at the end
 
@@ -24,7 +24,7 @@ pub invariant_of-self : goal.invariant_of-self
 invariant_of-self g c =
     let t = c.take_pair_at.ensures in
     let left = leaves g.met.K.Eq.laws c.self.invariant.agrees c.args.end c.in-Some.place
-    (sym c.end_place.ensures ∙ c.in-Some.is) c.take_pair_at.result t.takes in
+    (sym c.place_at_end.ensures ∙ c.in-Some.is) c.take_pair_at.result t.takes in
     record {
       agrees = left.agrees;
       fits = fits-pair c.self.inside.keys c.take_pair_at.new.keys c.self.inside.table.rows c.take_pair_at.new.table.rows
@@ -37,7 +37,7 @@ pub returns-in-Some-clause-popped : goal.returns-in-Some-clause-popped
 returns-in-Some-clause-popped g c =
     let t = c.take_pair_at.ensures in
     let left = leaves g.met.K.Eq.laws c.self.invariant.agrees c.args.end c.in-Some.place
-    (sym c.end_place.ensures ∙ c.in-Some.is) c.take_pair_at.result t.takes in
+    (sym c.place_at_end.ensures ∙ c.in-Some.is) c.take_pair_at.result t.takes in
     subst (λ m. IsPopped g.K.PartialEq.eq c.args.end m
     (map_of c.take_pair_at.new.keys c.take_pair_at.new.table.capacity c.take_pair_at.new.values c.self.inside.state c.self.inside.left))
     c.self.view_is
@@ -56,7 +56,7 @@ pub returns-in-Some-clause-taken : goal.returns-in-Some-clause-taken
 returns-in-Some-clause-taken g c =
     let t = c.take_pair_at.ensures in
     let left = leaves g.met.K.Eq.laws c.self.invariant.agrees c.args.end c.in-Some.place
-    (sym c.end_place.ensures ∙ c.in-Some.is) c.take_pair_at.result t.takes in
+    (sym c.place_at_end.ensures ∙ c.in-Some.is) c.take_pair_at.result t.takes in
     subst (λ m. IsTaken c.take_pair_at.new.keys (popped_pair g.K.PartialEq.eq c.args.end m.lists.pairs) (Some c.take_pair_at.result))
     c.self.view_is left.is_taken
 
@@ -65,7 +65,7 @@ returns-in-Some-clause-taken g c =
 pub returns-in-None-clause-popped : goal.returns-in-None-clause-popped
 returns-in-None-clause-popped g c =
     let none = none_at_end (pair_at c.self.inside.keys c.self.inside.values.list) c.args.end c.self.inside.values.list.order
-    (sym c.end_place.ensures ∙ c.in-None.is) in
+    (sym c.place_at_end.ensures ∙ c.in-None.is) in
     subst (λ m. IsPopped g.K.PartialEq.eq c.args.end m m) c.self.view_is
     (record {
       lists = sym (popped-none g.K.PartialEq.eq c.args.end (lists_of c.self.inside.keys c.self.inside.values.list) none);
@@ -76,7 +76,7 @@ returns-in-None-clause-popped g c =
 pub returns-in-None-clause-taken : goal.returns-in-None-clause-taken
 returns-in-None-clause-taken g c =
     let none = none_at_end (pair_at c.self.inside.keys c.self.inside.values.list) c.args.end c.self.inside.values.list.order
-    (sym c.end_place.ensures ∙ c.in-None.is) in
+    (sym c.place_at_end.ensures ∙ c.in-None.is) in
     subst (λ m. IsTaken m.slots.keys (popped_pair g.K.PartialEq.eq c.args.end m.lists.pairs) None) c.self.view_is
     (subst (λ p. IsTaken c.self.inside.keys p None)
     (sym (popped_pair-none g.K.PartialEq.eq c.args.end (pairs_of c.self.inside.keys c.self.inside.values.list) none)) tt)

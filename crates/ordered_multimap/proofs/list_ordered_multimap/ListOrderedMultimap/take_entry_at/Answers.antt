@@ -12,29 +12,29 @@ use Rattle.ordered_multimap.proofs.Agreement.LookUps.{own_key}
 use Rattle.ordered_multimap.proofs.Remove.WholeKeys.{lists_of-taken, entry_is, entry_count}
 use Rattle.ordered_multimap.proofs.list_ordered_multimap.ListOrderedMultimap.take_entry_at.Goals as goal
 
-pub leave_entry-key-requires : goal.leave_entry-key-requires
-leave_entry-key-requires g c =
+pub unlink_entry-key-requires : goal.unlink_entry-key-requires
+unlink_entry-key-requires g c =
     has_entry c.self.invariant.agrees c.args.place (subst (λ m. IsIn c.args.place m.slots.keys.order) (sym c.self.view_is) c.requires)
 
 pub invariant_of-self : goal.invariant_of-self
 invariant_of-self g c =
     let own = own_key g.met.K.Eq.laws c.self.invariant.agrees c.args.place
     (subst (λ m. IsIn c.args.place m.slots.keys.order) (sym c.self.view_is) c.requires) in
-    map_left g.met.K.Eq.laws c.self.invariant own.0 c.args.place own.1 c.leave_entry-key.ensures
+    map_left g.met.K.Eq.laws c.self.invariant own.0 c.args.place own.1 c.unlink_entry-key.ensures
 
 pub returns-clause-entry : goal.returns-clause-entry
 returns-clause-entry g c =
-    let entry : g.row.K.Denot × g.row.V.Denot = (c.leave_entry-key.result.0, c.leave_entry-key.result.1.value) in
+    let entry : g.row.K.Denot × g.row.V.Denot = (c.unlink_entry-key.result.0, c.unlink_entry-key.result.1.value) in
     subst (λ m. (k : g.row.K.Denot) → HasKey g.K.PartialEq.eq m.slots.keys k c.args.place
     → Some entry ≡ option_map (λ v. (stored_key g.K.PartialEq.eq m.lists.keys k, v))
     (slice_get (values_of g.K.PartialEq.eq m.lists.pairs k) 0)) c.self.view_is
-    (λ k has. sym (entry_is g.met.K.Eq.laws c.self.invariant.agrees k c.args.place has c.leave_entry-key.ensures.entry.removed
-    c.leave_entry-key.ensures.first))
+    (λ k has. sym (entry_is g.met.K.Eq.laws c.self.invariant.agrees k c.args.place has c.unlink_entry-key.ensures.entry.removed
+    c.unlink_entry-key.ensures.first))
 
 pub returns-clause-removed : goal.returns-clause-removed
 returns-clause-removed g c =
-    let t = c.leave_entry-key.ensures in
-    let n = c.leave_entry-key.new in
+    let t = c.unlink_entry-key.ensures in
+    let n = c.unlink_entry-key.new in
     subst (λ m. (k : g.row.K.Denot) → HasKey g.K.PartialEq.eq m.slots.keys k c.args.place
     → LosesValues g.K.PartialEq.eq m (map_of n.keys n.table.capacity n.values c.self.inside.state c.self.inside.left) k
     (removed g.K.PartialEq.eq m.lists k)) c.self.view_is

@@ -4,7 +4,7 @@ use Rattle.ordered_multimap.specs.Agrees.{HasKey, lists_of}
 use Rattle.ordered_multimap.specs.Private.KeySteps.{StaysInRoom}
 use Rattle.ordered_multimap.proofs.Agreement.LookUps.{own_key}
 use Rattle.ordered_multimap.proofs.Append.Rooms.{map_of, same_rooms}
-use Rattle.ordered_multimap.specs.RemovedAt.{removed_at, value_beside}
+use Rattle.ordered_multimap.specs.RemovedAt.{removed_at, removable_value_at}
 use Rattle.ordered_multimap.proofs.Append.Appended.{stays_paid}
 use Rattle.ordered_multimap.proofs.Remove.ByIndex.{agrees-at, capacities-at, fits-at, lists_of-at, stays-at, value_is-at}
 use Rattle.ordered_multimap.proofs.list_ordered_multimap.ListOrderedMultimap.take_value_at.Goals as goal
@@ -41,7 +41,7 @@ returns-clause-stays g c =
 pub returns-clause-value : goal.returns-clause-value
 returns-clause-value g c =
     subst (λ m. (k : g.row.K.Denot) → HasKey g.K.PartialEq.eq m.slots.keys k c.args.place
-    → c.take_at.result ≡ value_beside g.K.PartialEq.eq m.lists.pairs k c.args.index) c.self.view_is
+    → c.take_at.result ≡ removable_value_at g.K.PartialEq.eq m.lists.pairs k c.args.index) c.self.view_is
     (λ k has. value_is-at c.self.invariant.agrees c.args.place c.args.index c.take_at.new.keys c.take_at.new.values.list g.met.K.Eq.laws k
     has c.take_at.result c.take_at.ensures.taken)
 

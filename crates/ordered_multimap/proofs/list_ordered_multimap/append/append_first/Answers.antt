@@ -14,12 +14,12 @@ returns-clause-found g c =
 pub returns-clause-ok : goal.returns-clause-ok
 returns-clause-ok g c =
     let last = c.push_value.ensures.last in
-    let link_is = c.new_link-link.ensures ∙ ap (link_of_one c.args.hash) (c.end_place.ensures.end ∙ sym last.behind) in
+    let link_is = c.new_link-link.ensures ∙ ap (link_of_one c.args.hash) (c.push_place.ensures.end ∙ sym last.behind) in
     record {
       keys_reserved = c.make_room.new.keys;
       rows_reserved = c.make_room.new.table.rows;
       reserved = c.make_room.new.values.list;
-      renamed = c.make_room.ensures.renamed;
+      relocated = c.make_room.ensures.relocated;
       same_rows = c.make_room.ensures.same_rows;
       fits = (ok_if c.make_room.result (sym c.is_err.ensures.value ∙ c.if-is_err.false) c.make_room.ensures.room).key;
       place = c.push_row-place.result;

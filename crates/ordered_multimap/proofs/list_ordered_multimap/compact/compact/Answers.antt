@@ -1,17 +1,17 @@
 use Rattle.std.proofs.Common.{◌≡◌, map, length, refl, sym, ap, ◌∙◌, subst, arith, add-one, unwrap_or}
 use Rattle.multimap_slots.specs.Lists.{IsIn, next_of}
-use Rattle.ordered_multimap.specs.Private.Renames.{places_below, renamed}
-use Rattle.ordered_multimap.proofs.Agreement.Renamed.{chains-renamed}
-use Rattle.ordered_multimap.proofs.Compact.Settled.{settled-start, settled-next, next-listed, next-holes, settled-stay, settled-move}
-use Rattle.ordered_multimap.proofs.Compact.Settled.{settled-end, settled-all, renamed-room, renames-then, renames-cut}
+use Rattle.ordered_multimap.specs.Private.Relocations.{places_below, relocated}
+use Rattle.ordered_multimap.proofs.Agreement.Relocated.{chains-relocated}
+use Rattle.ordered_multimap.proofs.Compact.Dense.{dense-start, dense-next, next-listed, next-holes, dense-stay, dense-move}
+use Rattle.ordered_multimap.proofs.Compact.Dense.{dense-end, dense-all, relocated-room, relocates-then, relocates-cut}
 use Rattle.std.proofs.lemmas.List.{length-map}
 use Rattle.ordered_multimap.proofs.list_ordered_multimap.compact.compact.Goals as goal
 use Rattle.ordered_multimap.proofs.list_ordered_multimap.compact.compact.Goals.{then-to-from, else-to-from}
 
 pub loop-to-init : goal.loop-to-init
 loop-to-init g c = record {
-  renamed = renamed-room _ _ _ _ c.requires.chains.keys_sound c.requires.chains.sound refl refl (omega arith) (omega arith);
-  settled = settled-start _ _ c.front_place-following.ensures;
+  relocated = relocated-room _ _ _ _ c.requires.chains.keys_sound c.requires.chains.sound refl refl (omega arith) (omega arith);
+  dense = dense-start _ _ c.front_place-following.ensures;
   same_length = sym c.len-count.ensures.len;
   moved = omega arith;
   freed = refl;
@@ -20,12 +20,12 @@ loop-to-init g c = record {
 }
 
 pub move_value-requires-clause-chains : goal.move_value-requires-clause-chains
-move_value-requires-clause-chains g c = chains-renamed c.requires.chains c.loop-to.invariant.renamed
+move_value-requires-clause-chains g c = chains-relocated c.requires.chains c.loop-to.invariant.relocated
 
 pub move_value-requires-clause-listed : goal.move_value-requires-clause-listed
 move_value-requires-clause-listed g c =
     let w = c.loop-to.invariant in
-    let x = settled-next c.loop-to.values.list.order c.loop-to.to c.loop-to.following w.settled
+    let x = dense-next c.loop-to.values.list.order c.loop-to.to c.loop-to.following w.dense
     (omega (arith, w.same_length, c.loop-to-test.true)) c.len-len.ensures.rises in
     let from_is : c.unwrap_or-from.result ≡ x.from = c.unwrap_or-from.ensures ∙ ap (λ o. unwrap_or o c.loop-to.to) x.is in
     subst (λ p. IsIn p c.loop-to.values.list.order) (sym from_is)
@@ -34,7 +34,7 @@ move_value-requires-clause-listed g c =
 pub move_value-requires-clause-holes : goal.move_value-requires-clause-holes
 move_value-requires-clause-holes g c =
     let w = c.loop-to.invariant in
-    let x = settled-next c.loop-to.values.list.order c.loop-to.to c.loop-to.following w.settled
+    let x = dense-next c.loop-to.values.list.order c.loop-to.to c.loop-to.following w.dense
     (omega (arith, w.same_length, c.loop-to-test.true)) c.len-len.ensures.rises in
     let from_is : c.unwrap_or-from.result ≡ x.from = c.unwrap_or-from.ensures ∙ ap (λ o. unwrap_or o c.loop-to.to) x.is in
     λ q above below. next-holes c.loop-to.values.list.order c.loop-to.to c.loop-to.following x q above (omega (arith, below, from_is))
@@ -43,7 +43,7 @@ pub loop-to-preserved : goal.loop-to-preserved
 loop-to-preserved g c =
     let w = c.loop-to.invariant in
     let order = c.loop-to.values.list.order in
-    let x = settled-next order c.loop-to.to c.loop-to.following w.settled
+    let x = dense-next order c.loop-to.to c.loop-to.following w.dense
     (omega (arith, w.same_length, c.loop-to-test.true)) c.len-len.ensures.rises in
     let from_is : c.unwrap_or-from.result ≡ x.from = c.unwrap_or-from.ensures ∙ ap (λ o. unwrap_or o c.loop-to.to) x.is in
     elim c.if-to-from.branch [
@@ -51,13 +51,13 @@ loop-to-preserved g c =
           let m = b.move_value.ensures in
           let next = c.next_place_after-following.ensures ∙ ap (λ t. next_of t.list.order c.loop-to.to) b.values-is in
           rw (add-one, b.keys-is, b.values-is) (record {
-            renamed = record {
-              name = λ p. renamed c.unwrap_or-from.result c.loop-to.to (w.renamed.name p);
-              renames = renames-then w.renamed.name (renamed c.unwrap_or-from.result c.loop-to.to) w.renamed.renames m.renames;
+            relocated = record {
+              name = λ p. relocated c.unwrap_or-from.result c.loop-to.to (w.relocated.name p);
+              relocates = relocates-then w.relocated.name (relocated c.unwrap_or-from.result c.loop-to.to) w.relocated.relocates m.relocates;
             };
-            settled = settled-move order c.loop-to.to c.loop-to.following x _
-                (m.renames.order ∙ ap (λ p. map (renamed p c.loop-to.to) order) from_is) _ next;
-            same_length = ap length m.renames.order ∙ length-map order (renamed c.unwrap_or-from.result c.loop-to.to) ∙ w.same_length;
+            dense = dense-move order c.loop-to.to c.loop-to.following x _
+                (m.relocates.order ∙ ap (λ p. map (relocated p c.loop-to.to) order) from_is) _ next;
+            same_length = ap length m.relocates.order ∙ length-map order (relocated c.unwrap_or-from.result c.loop-to.to) ∙ w.same_length;
             moved = omega (arith, m.counts.moved, w.moved);
             freed = m.counts.freed ∙ w.freed;
             holes = m.counts.holes ∙ w.holes;
@@ -69,8 +69,8 @@ loop-to-preserved g c =
       | else-to-from b ↦
           let next = c.next_place_after-following.ensures ∙ ap (λ t. next_of t.list.order c.loop-to.to) b.values-is in
           rw (add-one, b.keys-is, b.values-is) (record {
-            renamed = w.renamed;
-            settled = settled-stay order c.loop-to.to c.loop-to.following x (omega (arith, b.if-to-from.false, from_is)) _ next;
+            relocated = w.relocated;
+            dense = dense-stay order c.loop-to.to c.loop-to.following x (omega (arith, b.if-to-from.false, from_is)) _ next;
             same_length = w.same_length;
             moved = omega (arith, w.moved);
             freed = w.freed;
@@ -87,11 +87,11 @@ returns g c =
     (arith, c.len-count.ensures.len, c.loop-to.auto.to-end, c.loop-to-test.false) in
     let same : length c.loop-to.values.list.order ≡ c.loop-to.to = omega (arith, w.same_length, all, c.len-count.ensures.len) in
     record {
-      renamed = record { name = w.renamed.name; renames = renames-cut w.renamed.name c.loop-to.values _ w.renamed.renames cut };
-      settled = cut.order ∙ settled-all c.loop-to.values.list.order c.loop-to.to c.loop-to.following w.settled same
+      relocated = record { name = w.relocated.name; relocates = relocates-cut w.relocated.name c.loop-to.values _ w.relocated.relocates cut };
+      dense = cut.order ∙ dense-all c.loop-to.values.list.order c.loop-to.to c.loop-to.following w.dense same
           ∙ ap places_below all;
       no_hole =
-          let end = settled-end c.loop-to.values.list.order c.loop-to.to c.loop-to.following w.settled same in
+          let end = dense-end c.loop-to.values.list.order c.loop-to.to c.loop-to.following w.dense same in
           omega (arith, cut.used, ap length cut.order, same, end);
       moved = omega (arith, cut.moved, w.moved, all);
       freed = cut.freed ∙ w.freed;

@@ -9,14 +9,14 @@ pub loop-place-init : goal.loop-place-init
 loop-place-init g c = record {
   going = going-start _ _ _ c.requires.no_key;
   rows = rows-start _ _ c.requires.no_key c.requires.no_row;
-  names = refl;
+  new_places = refl;
   rooms = record { key_room = refl; row_room = refl };
 }
 
 pub move_key-requires-clause-within : goal.move_key-requires-clause-within
 move_key-requires-clause-within g c =
     let w = c.loop-place.invariant in
-    omega (arith, w.names, c.requires.within c.in-Some.place (going-listed w.going (sym c.front_place.ensures ∙ c.in-Some.is)))
+    omega (arith, w.new_places, c.requires.within c.in-Some.place (going-listed w.going (sym c.front_place.ensures ∙ c.in-Some.is)))
 
 pub loop-place-preserved : goal.loop-place-preserved
 loop-place-preserved g c =
@@ -26,8 +26,8 @@ loop-place-preserved g c =
     record {
       going =
           going-step m.moved c.len-len.ensures.sound w.going (begins _ _ first)
-          (omega (arith, w.names, c.requires.within c.in-Some.place (going-listed w.going first)));
+          (omega (arith, w.new_places, c.requires.within c.in-Some.place (going-listed w.going first)));
       rows = rows-step m.moved.pushed m.moved.rows_are w.rows;
-      names = ap length m.moved.names_are ∙ length-set _ _ _ ∙ w.names;
+      new_places = ap length m.moved.new_places_are ∙ length-set _ _ _ ∙ w.new_places;
       rooms = record { key_room = m.rooms.key_room ∙ w.rooms.key_room; row_room = m.rooms.row_room ∙ w.rooms.row_room };
     }

@@ -1,14 +1,14 @@
 use Rattle.std.proofs.Common.{◌≡◌, length}
-use Rattle.ordered_multimap.specs.Private.KeyRenames.{HasRows}
+use Rattle.ordered_multimap.specs.Private.KeyRelocations.{HasRows}
 use Rattle.ordered_multimap.specs.Private.Remove.{KeepsKeyRoom}
 use Rattle.ordered_multimap.proofs.Pack.Packing.{AreGoing}
 use Rattle.ordered_multimap.proofs.list_ordered_multimap.pack.move_keys.Given as goal
 
 abbrev pub invariant-loop-place : goal.invariant-loop-place
 invariant-loop-place g l = record {
-  going : AreGoing l.names.items l.fn.keys l.keys l.packed;
+  going : AreGoing l.new_places.items l.fn.keys l.keys l.packed;
   rows : HasRows l.packed l.table.rows;
-  names : length l.names.items ≡ length l.fn.names.items;
+  new_places : length l.new_places.items ≡ length l.fn.new_places.items;
   rooms : KeepsKeyRoom l.fn.packed l.packed l.fn.table l.table;
 }
 

@@ -15,7 +15,7 @@ loop-place-init g c = record {
 pub take_listed-value-requires : goal.take_listed-value-requires
 take_listed-value-requires g c =
     let w = c.loop-place.invariant in
-    next_there w.coming c.requires.settled (omega (arith, c.loop-place-test.true, c.loop-place.auto.place-end, c.len-place-end.ensures.len))
+    next_there w.coming c.requires.dense (omega (arith, c.loop-place-test.true, c.loop-place.auto.place-end, c.len-place-end.ensures.len))
 
 pub index-key-requires : goal.index-key-requires
 index-key-requires g c =
@@ -23,12 +23,12 @@ index-key-requires g c =
     let t = c.take_listed-value.ensures in
     let more : c.loop-place.place < length c.args.values.now.list.order = omega
     (arith, c.loop-place-test.true, c.loop-place.auto.place-end, c.len-place-end.ensures.len) in
-    let was = sym (w.coming.left_links c.loop-place.place (next_there w.coming c.requires.settled more)) ∙ t.link in
+    let was = sym (w.coming.left_links c.loop-place.place (next_there w.coming c.requires.dense more)) ∙ t.link in
     omega (
       arith,
-      c.args.names.now.ok,
+      c.args.new_places.now.ok,
       c.requires.within c.loop-place.place c.take_listed-value.result.1
-          (was_there w.coming c.requires.settled more) was,
+          (was_there w.coming c.requires.dense more) was,
     )
 
 pub push_reserved-requires : goal.push_reserved-requires
@@ -37,7 +37,7 @@ push_reserved-requires g c =
     omega (
       arith,
       come_length w.coming
-          c.requires.settled,
+          c.requires.dense,
       w.room.counts.holes,
       c.requires.no_hole,
       w.room.capacity,
@@ -52,24 +52,24 @@ loop-place-preserved g c =
     let w = c.loop-place.invariant in
     let t = c.take_listed-value.ensures in
     let p = c.push_reserved.ensures in
-    let names = c.args.names.now.items in
+    let new_places = c.args.new_places.now.items in
     let link : ValueLink = c.take_listed-value.result.1 in
     let more : c.loop-place.place < length c.args.values.now.list.order = omega
     (arith, c.loop-place-test.true, c.loop-place.auto.place-end, c.len-place-end.ensures.len) in
-    let was = sym (w.coming.left_links c.loop-place.place (next_there w.coming c.requires.settled more)) ∙ t.link in
-    let key_is : c.index-key.result.now ≡ get_or names link.key 0 =
-    c.index-key.ensures ∙ sym (get_or_default names link.key 0 c.index-key.result.now
-    (c.requires.within c.loop-place.place link (was_there w.coming c.requires.settled more) was)) in
+    let was = sym (w.coming.left_links c.loop-place.place (next_there w.coming c.requires.dense more)) ∙ t.link in
+    let key_is : c.index-key.result.now ≡ get_or new_places link.key 0 =
+    c.index-key.ensures ∙ sym (get_or_default new_places link.key 0 c.index-key.result.now
+    (c.requires.within c.loop-place.place link (was_there w.coming c.requires.dense more) was)) in
     rw add-one (record {
       coming =
-          coming-step w.coming c.requires.settled t.removed t.link
+          coming-step w.coming c.requires.dense t.removed t.link
           (subst (λ k. PushesBack c.loop-place.packed.list c.push_reserved.new.self.list c.push_reserved.result c.take_listed-value.result.0
           (record link { key = k })) key_is p.pushed)
-          (omega (arith, p.behind, come_length w.coming c.requires.settled, w.room.counts.holes, c.requires.no_hole));
+          (omega (arith, p.behind, come_length w.coming c.requires.dense, w.room.counts.holes, c.requires.no_hole));
       room = room_on w.room p.counts p.capacity;
     })
 
 pub returns-clause-come : goal.returns-clause-come
 returns-clause-come g c =
-    coming-end c.loop-place.invariant.coming c.requires.settled
+    coming-end c.loop-place.invariant.coming c.requires.dense
     (omega (arith, c.loop-place-test.false, c.loop-place.auto.place-end, c.len-place-end.ensures.len))

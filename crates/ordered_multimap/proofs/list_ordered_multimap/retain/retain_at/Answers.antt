@@ -3,12 +3,12 @@ use Rattle.ordered_multimap.specs.Private.RemoveOne.{HasLinks}
 use Rattle.ordered_multimap.proofs.Callers.Writes.{IsChained-with_item, IsSound-with_item}
 use Rattle.ordered_multimap.proofs.list_ordered_multimap.retain.retain_at.Goals as goal
 
-pub ask-stays-requires-clause-stands : goal.ask-stays-requires-clause-stands
-ask-stays-requires-clause-stands g c = record { listed = c.requires.stands.listed; owned = c.requires.stands.chained.owned }
+pub ask-stays-requires-clause-owned : goal.ask-stays-requires-clause-owned
+ask-stays-requires-clause-owned g c = record { listed = c.requires.pair.listed; owned = c.requires.pair.chained.owned }
 
-pub take_pair-requires-clause-stands : goal.take_pair-requires-clause-stands
-take_pair-requires-clause-stands g c =
-    let s = c.requires.stands in
+pub take_pair-requires-clause-links : goal.take_pair-requires-clause-links
+take_pair-requires-clause-links g c =
+    let s = c.requires.pair in
     let asked = c.ask-stays.ensures.asked in
     subst (λ vs. HasLinks c.args.keys.now vs c.args.place c.ask-stays.result.1 c.ask-stays.result.2) (sym (ap (λ t. t.list) asked.written))
     (record {
@@ -20,7 +20,7 @@ take_pair-requires-clause-stands g c =
     })
 
 pub take_pair-requires-clause-row : goal.take_pair-requires-clause-row
-take_pair-requires-clause-row g c = c.requires.stands.row c.ask-stays.result.1 c.ask-stays.result.2 c.ask-stays.ensures.link
+take_pair-requires-clause-row g c = c.requires.pair.row c.ask-stays.result.1 c.ask-stays.result.2 c.ask-stays.ensures.link
     c.ask-stays.ensures.key_link
 
 pub returns-then-not-stays : goal.returns-then-not-stays

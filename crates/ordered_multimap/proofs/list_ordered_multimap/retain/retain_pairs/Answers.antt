@@ -20,8 +20,8 @@ pub next_listed_place-following-requires : goal.next_listed_place-following-requ
 next_listed_place-following-requires g c = listed_place g.met.K.Eq.laws c.requires.agrees.1
     (retaining-at c.in-Some.is c.loop-following.invariant.retaining)
 
-pub retain_at-requires-clause-stands : goal.retain_at-requires-clause-stands
-retain_at-requires-clause-stands g c =
+pub retain_at-requires-clause-pair : goal.retain_at-requires-clause-pair
+retain_at-requires-clause-pair g c =
     has_pair (c.loop-following.invariant.retaining.agrees c.requires.agrees.0 c.requires.agrees.1) c.in-Some.place
     (listed_place g.met.K.Eq.laws c.requires.agrees.1 (retaining-at c.in-Some.is c.loop-following.invariant.retaining))
 

@@ -17,8 +17,8 @@ pub next_listed_place-following-requires : goal.next_listed_place-following-requ
 next_listed_place-following-requires g c =
     listed_place g.met.K.Eq.laws c.requires.agrees.1 (retaining-at c.in-Some.is c.loop-following.invariant.retaining)
 
-pub update_at-requires-clause-stands : goal.update_at-requires-clause-stands
-update_at-requires-clause-stands g c = let w = c.loop-following.invariant.retaining in record {
+pub update_at-requires-clause-owned : goal.update_at-requires-clause-owned
+update_at-requires-clause-owned g c = let w = c.loop-following.invariant.retaining in record {
   listed = listed_place g.met.K.Eq.laws c.requires.agrees.1 (retaining-at c.in-Some.is w);
   owned = (w.agrees c.requires.agrees.0 c.requires.agrees.1).chained.owned;
 }

@@ -11,4 +11,4 @@ clone_keys-requires-clause-room g c = omega (arith, c.requires.key_room, c.requi
 pub clone_values-requires-clause-ranked : goal.clone_values-requires-clause-ranked
 clone_values-requires-clause-ranked g c =
     ranked_neighbours c.requires.chains c.requires.ranks _
-    (λ q listed. omega (arith, c.in_ok-clone_keys.ensures.names, c.requires.names q listed))
+    (λ q listed. omega (arith, c.in_ok-clone_keys.ensures.new_places, c.requires.new_places q listed))

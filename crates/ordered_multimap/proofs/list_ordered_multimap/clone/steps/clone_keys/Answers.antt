@@ -10,7 +10,7 @@ pub loop-following-init : goal.loop-following-init
 loop-following-init g c = record {
   copying = copying-start _ _ _ _ c.front_place-following.ensures c.requires.no_key;
   rows = rows-start _ _ c.requires.no_key c.requires.no_row;
-  names = refl;
+  new_places = refl;
   rooms = record { key_room = refl; row_room = refl };
 }
 
@@ -55,7 +55,7 @@ clone_key-requires-clause-within g c =
     let w = c.loop-following.invariant in
     omega (
       arith,
-      w.names,
+      w.new_places,
       c.requires.within c.in-Some.place
           (passing-listed c.len-len.ensures.sound.distinct w.copying.passed c.in-Some.place c.in-Some.is),
     )
@@ -76,12 +76,12 @@ loop-following-preserved g c =
           w.copying m
           (omega (
             arith,
-            w.names,
+            w.new_places,
             c.requires.within c.in-Some.place
                 (passing-listed distinct w.copying.passed c.in-Some.place c.in-Some.is),
           ));
       rows = rows-step m.pushed m.rows_are w.rows;
-      names = ap length m.names_are ∙ length-set _ _ _ ∙ w.names;
+      new_places = ap length m.new_places_are ∙ length-set _ _ _ ∙ w.new_places;
       rooms = record {
         key_room = c.clone_key.ensures.rooms.key_room ∙ w.rooms.key_room;
         row_room = c.clone_key.ensures.rooms.row_room ∙ w.rooms.row_room;

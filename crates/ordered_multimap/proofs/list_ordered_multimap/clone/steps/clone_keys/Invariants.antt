@@ -1,7 +1,7 @@
 use Rattle.std.proofs.Common.{◌≡◌, length}
 use Rattle.ordered_multimap.specs.Agrees.{hash_of}
 use Rattle.ordered_multimap.specs.Private.Copies.{IsKeyCopy}
-use Rattle.ordered_multimap.specs.Private.KeyRenames.{HasRows, name_in}
+use Rattle.ordered_multimap.specs.Private.KeyRelocations.{HasRows, new_place_in}
 use Rattle.ordered_multimap.specs.Private.Remove.{KeepsKeyRoom}
 use Rattle.ordered_multimap.proofs.Callers.Places.{places_from}
 use Rattle.ordered_multimap.proofs.Clone.Copying.{AreCopying}
@@ -10,10 +10,10 @@ use Rattle.ordered_multimap.proofs.list_ordered_multimap.clone.steps.clone_keys.
 abbrev pub invariant-loop-following : goal.invariant-loop-following
 invariant-loop-following g l = record {
   copying : AreCopying (IsKeyCopy g.K.Clone.is_clone
-      (λ k. hash_of g.S.BuildHasher g.S.Hasher.Hasher l.state (g.K.Hash.hash_input k)) (name_in l.ranks.items) l.keys)
-      (name_in l.names.items) l.keys.order l.following l.copies;
+      (λ k. hash_of g.S.BuildHasher g.S.Hasher.Hasher l.state (g.K.Hash.hash_input k)) (new_place_in l.ranks.items) l.keys)
+      (new_place_in l.new_places.items) l.keys.order l.following l.copies;
   rows : HasRows l.copies l.table.rows;
-  names : length l.names.items ≡ length l.fn.names.items;
+  new_places : length l.new_places.items ≡ length l.fn.new_places.items;
   rooms : KeepsKeyRoom l.fn.copies l.copies l.fn.table l.table;
 }
 

@@ -9,10 +9,10 @@ returns-clause-copied g c =
     let v = c.value_at.ensures in
     let p = c.push_reserved.ensures in
     let old : ValueLink = c.value_at.result.1 in
-    let names = c.args.names.now.items in
+    let new_places = c.args.new_places.now.items in
     let link : ValueLink = record { key = c.index-key.result.now; previous = c.rank_of-previous.result; next = c.rank_of-next.result } in
-    let key_is : c.index-key.result.now ≡ get_or names old.key 0 =
-    c.index-key.ensures ∙ sym (get_or_default names old.key 0 c.index-key.result.now (c.requires.ranked old v.link_is).key) in
+    let key_is : c.index-key.result.now ≡ get_or new_places old.key 0 =
+    c.index-key.ensures ∙ sym (get_or_default new_places old.key 0 c.index-key.result.now (c.requires.ranked old v.link_is).key) in
     record {
       copy = c.in_ok-copy.copy;
       link = link;

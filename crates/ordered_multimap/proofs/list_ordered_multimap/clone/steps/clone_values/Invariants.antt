@@ -1,14 +1,14 @@
 use Rattle.ordered_multimap.specs.Private.Append.{KeepsTapeRoom}
 use Rattle.ordered_multimap.specs.Private.Copies.{IsValueCopy}
-use Rattle.ordered_multimap.specs.Private.KeyRenames.{name_in}
+use Rattle.ordered_multimap.specs.Private.KeyRelocations.{new_place_in}
 use Rattle.ordered_multimap.proofs.Callers.Places.{places_from}
 use Rattle.ordered_multimap.proofs.Clone.Copying.{AreCopying}
 use Rattle.ordered_multimap.proofs.list_ordered_multimap.clone.steps.clone_values.Given as goal
 
 abbrev pub invariant-loop-following : goal.invariant-loop-following
 invariant-loop-following g l = record {
-  copying : AreCopying (IsValueCopy g.V.Clone.is_clone (name_in l.names.items) (name_in l.ranks.items) l.values.list)
-      (name_in l.ranks.items) l.values.list.order l.following l.copies.list;
+  copying : AreCopying (IsValueCopy g.V.Clone.is_clone (new_place_in l.new_places.items) (new_place_in l.ranks.items) l.values.list)
+      (new_place_in l.ranks.items) l.values.list.order l.following l.copies.list;
   room : KeepsTapeRoom l.fn.copies l.copies;
 }
 

@@ -23,4 +23,4 @@ loop-place-preserved g c =
 
 pub returns : goal.returns
 returns g c =
-    ranks-end c.loop-place.invariant.noted (λ q i. omega (arith, c.end_place-end.ensures.within q i, c.loop-place-test.false))
+    ranks-end c.loop-place.invariant.noted (λ q i. omega (arith, c.push_place-end.ensures.within q i, c.loop-place-test.false))

@@ -247,7 +247,7 @@ lend_at_spec 𝓤 𝓛 𝓜 𝓡 wired X₀ X₁ X₂ X₃ X₄ L₀ L₁ L₂ L
     -- [the other tokens; the token of 'a; what the walk follows; what its name follows; the values' walk; the key]
     let rim : Option (List (Bool × Gv)) = Some ((false, (codeds (CE ∷ [])).code (s.left, tt)) ∷
     (true, (coded× coded_ℕ coded_ℕ).code m.ref_ptr) ∷ (true, coded_ℕ.code δ) ∷ around_values K.coded V.coded S.coded m.now) in
-    let lent : SlotCells V.Denot ValueLink B.Denot = record w.values { cells = record w.values.cells { whole = ε; around = rim } } in
+    let lent : SlotCells V.Denot ValueLink B.Denot = record w.values { cells = record w.values.cells { lender_loan = ε; lender_context = rim } } in
     let again : CanReadChain w.values w.left → CanReadChain lent w.left
     = λ left. record {
       chain = left.chain;

@@ -6,8 +6,8 @@ use Rattle.ordered_multimap.proofs.list_ordered_multimap.remove.at.place_at.Goal
 -- from the head
 
 pub loop-init : goal.loop-init
-loop-init g c = head_indexed c.requires.stands.chains.sound c.requires.stands.chains.chained c.args.place c.slot_at.result.1
-    c.requires.stands.listed
+loop-init g c = head_indexed c.requires.chain.chains.sound c.requires.chain.chains.chained c.args.place c.slot_at.result.1
+    c.requires.chain.listed
     c.slot_at.ensures.link_is
 
 pub link_of-requires : goal.link_of-requires
@@ -20,7 +20,7 @@ loop-preserved g c =
     let among = c.requires.among l c.slot_at.ensures.link_is in
     let on : suc i ≡ i + 1 = omega arith in
     subst (λ n. slice_get (chain_of c.args.values.now.list c.args.place) n ≡ Some c.unwrap_or-found.result) on
-    (next_indexed c.requires.stands.chains.sound c.requires.stands.chains.chained c.args.place l c.requires.stands.listed
+    (next_indexed c.requires.chain.chains.sound c.requires.chain.chains.chained c.args.place l c.requires.chain.listed
     c.slot_at.ensures.link_is i c.loop.found
     c.link_of.result (omega (arith, among, c.loop-test.true)) c.loop.invariant c.link_of.ensures.link
     ∙ ap Some (sym c.unwrap_or-found.ensures))
@@ -32,7 +32,7 @@ loop-2-init g c =
     let l = c.slot_at.result.1 in
     let among = c.requires.among l c.slot_at.ensures.link_is in
     let behind : ℕ = l.length - c.args.index - 1 in
-    tail_indexed c.requires.stands.chains.sound c.requires.stands.chains.chained c.args.place l c.requires.stands.listed
+    tail_indexed c.requires.chain.chains.sound c.requires.chain.chains.chained c.args.place l c.requires.chain.listed
     c.slot_at.ensures.link_is
     (c.args.index + (behind - 0)) (omega (arith, among))
 
@@ -46,7 +46,7 @@ loop-2-preserved g c =
     let behind : ℕ = c.slot_at.result.1.length - c.args.index - 1 in
     let i : ℕ = c.args.index + (behind - (c.loop-2.counter + 1)) in
     let on : c.args.index + (behind - c.loop-2.counter) ≡ suc i = omega (arith, c.loop-2-test.true) in
-    previous_indexed c.requires.stands.chains.sound c.requires.stands.chains.chained c.args.place i c.loop-2.found
+    previous_indexed c.requires.chain.chains.sound c.requires.chain.chains.chained c.args.place i c.loop-2.found
     c.link_of-in-loop-2.result
     (subst (λ n. slice_get (chain_of c.args.values.now.list c.args.place) n ≡ Some c.loop-2.found) on c.loop-2.invariant)
     c.link_of-in-loop-2.ensures.link

@@ -7,8 +7,8 @@ use Rattle.ordered_multimap.proofs.list_ordered_multimap.remove.at.take_at.Goals
 pub link_of-gone-requires : goal.link_of-gone-requires
 link_of-gone-requires g c = indexed_listed c.args.values.now.list c.args.place c.args.index c.place_at-found.result c.place_at-found.ensures
 
-pub take_one-requires-clause-stands : goal.take_one-requires-clause-stands
-take_one-requires-clause-stands g c =
+pub take_one-requires-clause-links : goal.take_one-requires-clause-links
+take_one-requires-clause-links g c =
     let values = c.args.values.now.list in
     let l = c.link_of-gone in
     record {
@@ -19,7 +19,7 @@ take_one-requires-clause-stands g c =
           c.args.keys.now l.result l.ensures.link)
           ∙ c.slot_at.ensures.link_is;
       sound = l.ensures.sound;
-      chained = c.requires.stands.chains.chained;
+      chained = c.requires.chain.chains.chained;
     }
 
 pub take_one-requires-clause-more : goal.take_one-requires-clause-more
@@ -28,7 +28,7 @@ take_one-requires-clause-more g c = search rules
 pub returns-clause-taken : goal.returns-clause-taken
 returns-clause-taken g c =
     let chain = chain_of c.args.values.now.list c.args.place in
-    let count = c.requires.stands.chains.chained.length c.args.place c.slot_at.result.1 c.requires.stands.listed
+    let count = c.requires.chain.chains.chained.length c.args.place c.slot_at.result.1 c.requires.chain.listed
     c.slot_at.ensures.link_is in
     record {
       place = c.place_at-found.result;

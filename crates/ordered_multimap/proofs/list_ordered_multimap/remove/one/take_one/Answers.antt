@@ -9,12 +9,12 @@ use Rattle.ordered_multimap.proofs.list_ordered_multimap.remove.one.take_one.Goa
 
 pub set_next-requires : goal.set_next-requires
 set_next-requires g c =
-    let s = c.requires.stands in
+    let s = c.requires.links in
     if_each c.args.link.previous (λ q e. (before_own s.sound s.chained c.args.place c.args.link s.listed s.link_is q e).0)
 
 pub set_previous-requires : goal.set_previous-requires
 set_previous-requires g c =
-    let s = c.requires.stands in
+    let s = c.requires.links in
     if_each c.args.link.next (λ q e. subst (λ (t : Taped g.row.V.Denot ValueLink). IsIn q t.list.order) (sym c.set_next.ensures.rest)
     (behind_own s.sound s.chained c.args.place c.args.link s.listed s.link_is q e).0)
 
@@ -23,7 +23,7 @@ take_listed-value-requires g c = search rules
 
 pub returns-clause-taken : goal.returns-clause-taken
 returns-clause-taken g c =
-    let s = c.requires.stands in
+    let s = c.requires.links in
     let differ = neighbours_differ s.sound s.chained c.args.place c.args.link s.listed s.link_is in
     let before_differs = before_other s.sound s.chained c.args.place c.args.link s.listed s.link_is in
     let behind_differs = behind_other s.sound s.chained c.args.place c.args.link s.listed s.link_is in

@@ -11,7 +11,7 @@ use Rattle.ordered_multimap.proofs.list_ordered_multimap.remove.one.take_pair.Go
 
 pub returns-then-key_link-eq1 : goal.returns-then-key_link-eq1
 returns-then-key_link-eq1 g c =
-    let s = c.requires.stands in
+    let s = c.requires.links in
     let t = c.take_listed-value.ensures in
     let l = c.args.link in
     let values = c.args.values.now.list in
@@ -52,7 +52,7 @@ returns-then-key_link-eq1 g c =
 pub returns : goal.returns
 returns g c =
     let t = c.take_one-value.ensures in
-    let link_is : Some t.taken.link ≡ Some c.args.link = sym t.taken.link_is ∙ c.requires.stands.link_is in
+    let link_is : Some t.taken.link ≡ Some c.args.link = sym t.taken.link_is ∙ c.requires.links.link_is in
     let link : t.taken.link ≡ c.args.link = cc in
     record {
       takes = record { one = t.taken; key_is = ap (λ (l : ValueLink). l.key) link; rows_are = refl };

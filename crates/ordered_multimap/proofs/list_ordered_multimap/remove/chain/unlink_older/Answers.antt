@@ -7,10 +7,10 @@ use Rattle.ordered_multimap.specs.TapeNumbers.{TakesOut, numbers_of}
 use Rattle.ordered_multimap.proofs.Detach.Chains.{holds_gone, mended_drain}
 use Rattle.ordered_multimap.proofs.Remove.WaysOut.{leaving-counts}
 use Rattle.ordered_multimap.proofs.Remove.ValueByValue.{chain_row, taking-last, taking-listed}
-use Rattle.ordered_multimap.proofs.list_ordered_multimap.remove.chain.leave_older.Goals as goal
+use Rattle.ordered_multimap.proofs.list_ordered_multimap.remove.chain.unlink_older.Goals as goal
 
-pub leave_values-left-requires-clause-row : goal.leave_values-left-requires-clause-row
-leave_values-left-requires-clause-row g c =
+pub unlink_values-left-requires-clause-row : goal.unlink_values-left-requires-clause-row
+unlink_values-left-requires-clause-row g c =
     let s = c.requires.stands in let l = c.listed_link_mut-link.result.now in (
       _,
       chain_row s.chains.sound s.chains.chained c.args.place l s.listed c.listed_link_mut-link.ensures.value.link_is (l.length - 1)
@@ -24,12 +24,12 @@ set_previous-requires g c =
     let is = c.listed_link_mut-link.ensures.value.link_is in
     let more = c.requires.more l is in
     let row = chain_row s.chains.sound s.chains.chained c.args.place l s.listed is (l.length - 1) (omega arith) in
-    let left = c.leave_values-left.ensures.left _ row in
+    let left = c.unlink_values-left.ensures.left _ row in
     let last_is = taking-last s.chains.sound s.chains.chained c.args.place
-    (l.length - 1) left.0 c.leave_values-left.new.values.list left.1.taking l s.listed is (omega (arith, more)) in
-    taking-listed row (l.length - 1) l.tail c.leave_values-left.new.values.list
+    (l.length - 1) left.0 c.unlink_values-left.new.values.list left.1.taking l s.listed is (omega (arith, more)) in
+    taking-listed row (l.length - 1) l.tail c.unlink_values-left.new.values.list
     (subst (λ o. IsTaking (chain_of c.args.values.now.list c.args.place)
-    (l.length - 1) o c.args.values.now.list c.leave_values-left.new.values.list) last_is left.1.taking)
+    (l.length - 1) o c.args.values.now.list c.unlink_values-left.new.values.list) last_is left.1.taking)
 
 pub returns : goal.returns
 returns g c =
@@ -38,7 +38,7 @@ returns g c =
     let is = c.listed_link_mut-link.ensures.value.link_is in
     let more = c.requires.more l is in
     let row = chain_row s.chains.sound s.chains.chained c.args.place l s.listed is (l.length - 1) (omega arith) in
-    let t = c.leave_values-left in
+    let t = c.unlink_values-left in
     let left = t.ensures.left _ row in
     let a = left.1.taking in
     let last_is = taking-last s.chains.sound s.chains.chained c.args.place (l.length - 1) left.0 t.new.values.list a l s.listed is

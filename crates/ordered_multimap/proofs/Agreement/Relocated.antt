@@ -14,7 +14,7 @@ use Rattle.multimap_walks.specs.declared.links.ValueLink.{ValueLink}
 use Rattle.multimap_walks.specs.Chained.{IsChained, is_value_of, chain_of, pair_at, pairs_of}
 use Rattle.ordered_multimap.specs.Agrees.{Agrees, items_of, lists_of}
 use Rattle.ordered_multimap.specs.Lists.{lists}
-use Rattle.ordered_multimap.specs.Private.Renames.{AreChained, AreRenamed, Renames, renamed_value, renamed_key}
+use Rattle.ordered_multimap.specs.Private.Relocations.{AreChained, AreRelocated, Relocates, relocated_value, relocated_key}
 use Rattle.ordered_multimap.proofs.Callers.Members.{IsIn-kept}
 use Rattle.ordered_multimap.proofs.Callers.Places.{held, filter_map-agree}
 use Rattle.ordered_multimap.proofs.Agreement.Agreed.{pair_of, pair_at-is, is_value_of-is}
@@ -93,16 +93,16 @@ module _ (name : ℕ → ℕ) where
 
 module _ {K V : Type 0} (name : ℕ → ℕ) {keys keys_after : Slots K KeyLink} {values values_after : Slots V ValueLink}
     (keys_sound : IsSound keys) (values_sound : IsSound values) (chained : IsChained keys values)
-    (r : Renames name keys keys_after values values_after) where
+    (r : Relocates name keys keys_after values values_after) where
   same_owner : (key q : ℕ) → IsIn q values.order → is_value_of values_after key (name q) ≡ is_value_of values key q
   same_owner key q listed =
       let l = held (link_at values q) (values_sound.linked q listed) in
-      is_value_of-is keys_after values_after key (name q) (renamed_value name l.value) (r.links q l.value listed l.is)
+      is_value_of-is keys_after values_after key (name q) (relocated_value name l.value) (r.links q l.value listed l.is)
       ∙ sym (is_value_of-is keys values key q l.value l.is)
 
   -- each chain goes along
-  pub chain_of-renamed : (key : ℕ) → chain_of values_after key ≡ map name (chain_of values key)
-  chain_of-renamed key =
+  pub chain_of-relocated : (key : ℕ) → chain_of values_after key ≡ map name (chain_of values key)
+  chain_of-relocated key =
       ap (filter (is_value_of values_after key)) r.order
       ∙ filter-map name (is_value_of values_after key) (is_value_of values key) values.order (same_owner key)
 
@@ -116,77 +116,77 @@ module _ {K V : Type 0} (name : ℕ → ℕ) {keys keys_after : Slots K KeyLink}
     place_is : place ≡ name old
     link : ValueLink
     link_was : link_at values old ≡ Some link
-    link_is : l ≡ renamed_value name link
+    link_is : l ≡ relocated_value name link
 
   was_at : (place : ℕ) (l : ValueLink) → IsIn place values_after.order → link_at values_after place ≡ Some l → WasAt place l
   was_at place l listed is =
       let n = IsIn-map name place values.order (subst (IsIn place) r.order listed) in
       let m = held (link_at values n.place) (values_sound.linked n.place n.member) in
-      let both : Some l ≡ Some (renamed_value name m.value) = sym is ∙ ap (link_at values_after) n.is
+      let both : Some l ≡ Some (relocated_value name m.value) = sym is ∙ ap (link_at values_after) n.is
       ∙ r.links n.place m.value n.member m.is in
-      let same : l ≡ renamed_value name m.value = cc in
+      let same : l ≡ relocated_value name m.value = cc in
       record { old = n.place; old_listed = n.member; place_is = n.is; link = m.value; link_was = m.is; link_is = same }
 
   record WasKey (key : ℕ) (l : KeyLink) : Type 0 where
     key_listed : IsIn key keys.order
     link : KeyLink
     link_was : link_at keys key ≡ Some link
-    link_is : l ≡ renamed_key name link
+    link_is : l ≡ relocated_key name link
 
   was_key : (key : ℕ) (l : KeyLink) → IsIn key keys_after.order → link_at keys_after key ≡ Some l → WasKey key l
   was_key key l listed is =
       let before = subst (IsIn key) r.key_order listed in
       let m = held (link_at keys key) (keys_sound.linked key before) in
-      let both : Some l ≡ Some (renamed_key name m.value) = sym is ∙ r.key_links key m.value before m.is in
-      record { key_listed = before; link = m.value; link_was = m.is; link_is = let same : l ≡ renamed_key name m.value = cc in same }
+      let both : Some l ≡ Some (relocated_key name m.value) = sym is ∙ r.key_links key m.value before m.is in
+      record { key_listed = before; link = m.value; link_was = m.is; link_is = let same : l ≡ relocated_key name m.value = cc in same }
 
-  pub chained-renamed : IsChained keys_after values_after
-  chained-renamed = record {
+  pub chained-relocated : IsChained keys_after values_after
+  chained-relocated = record {
     owned = λ place l listed is.
         let w = was_at place l listed is in
         rw (r.key_order, ap (λ (x : ValueLink). x.key) w.link_is) (chained.owned w.old w.link w.old_listed w.link_was);
     head = λ key l listed is.
         let w = was_key key l listed is in
-        ap first_of (chain_of-renamed key) ∙ first_of-map name (chain_of values key)
+        ap first_of (chain_of-relocated key) ∙ first_of-map name (chain_of values key)
         ∙ ap (option_map name) (chained.head key w.link w.key_listed w.link_was) ∙ ap (λ (x : KeyLink). Some x.head) (sym w.link_is);
     tail = λ key l listed is.
         let w = was_key key l listed is in
-        ap last_of (chain_of-renamed key) ∙ last_or-map name None (chain_of values key)
+        ap last_of (chain_of-relocated key) ∙ last_or-map name None (chain_of values key)
         ∙ ap (option_map name) (chained.tail key w.link w.key_listed w.link_was) ∙ ap (λ (x : KeyLink). Some x.tail) (sym w.link_is);
     length = λ key l listed is.
         let w = was_key key l listed is in
-        ap length (chain_of-renamed key) ∙ length-map (chain_of values key) name ∙ chained.length key w.link w.key_listed w.link_was
+        ap length (chain_of-relocated key) ∙ length-map (chain_of values key) name ∙ chained.length key w.link w.key_listed w.link_was
         ∙ ap (λ (x : KeyLink). x.length) (sym w.link_is);
     previous = λ place l listed is.
         let w = was_at place l listed is in
         ap (λ (x : ValueLink). previous_of (chain_of values_after x.key) place) w.link_is
-        ∙ (λ i. previous_of (chain_of-renamed w.link.key i) (w.place_is i))
+        ∙ (λ i. previous_of (chain_of-relocated w.link.key i) (w.place_is i))
         ∙ previous_of-map name (chain_of values w.link.key) w.old (told w.link.key w.old w.old_listed)
         ∙ ap (option_map name) (chained.previous w.old w.link w.old_listed w.link_was) ∙ ap (λ (x : ValueLink). x.previous) (sym w.link_is);
     next = λ place l listed is.
         let w = was_at place l listed is in
         ap (λ (x : ValueLink). next_of (chain_of values_after x.key) place) w.link_is
-        ∙ (λ i. next_of (chain_of-renamed w.link.key i) (w.place_is i))
+        ∙ (λ i. next_of (chain_of-relocated w.link.key i) (w.place_is i))
         ∙ next_of-map name (chain_of values w.link.key) w.old (told w.link.key w.old w.old_listed)
         ∙ ap (option_map name) (chained.next w.old w.link w.old_listed w.link_was) ∙ ap (λ (x : ValueLink). x.next) (sym w.link_is);
   }
 
   -- and each pair
-  pub pairs_of-renamed : pairs_of keys_after values_after ≡ pairs_of keys values
-  pairs_of-renamed =
+  pub pairs_of-relocated : pairs_of keys_after values_after ≡ pairs_of keys values
+  pairs_of-relocated =
       ap (filter_map (pair_at keys_after values_after)) r.order
       ∙ filter_map-map name (pair_at keys_after values_after) (pair_at keys values) values.order (λ q listed.
       let p = pair_of keys values keys_sound values_sound chained q listed in
-      pair_at-is keys_after values_after (name q) (renamed_value name p.link) p.key p.value (r.links q p.link listed p.link_is)
+      pair_at-is keys_after values_after (name q) (relocated_value name p.link) p.key p.value (r.links q p.link listed p.link_is)
       (r.key_items p.link.key ∙ p.key_is) (r.items q listed ∙ p.value_is) ∙ sym p.pair_is)
 
-  pub items_of-renamed : items_of keys_after ≡ items_of keys
-  items_of-renamed =
+  pub items_of-relocated : items_of keys_after ≡ items_of keys
+  items_of-relocated =
       ap (filter_map (item_at keys_after)) r.key_order
       ∙ filter_map-agree (item_at keys_after) (item_at keys) keys.order (λ q i. r.key_items q)
 
-  pub keys_sound-renamed : IsSound keys_after
-  keys_sound-renamed = record {
+  pub keys_sound-relocated : IsSound keys_after
+  keys_sound-relocated = record {
     distinct = subst AreDistinct (sym r.key_order) keys_sound.distinct;
     filled = λ q i. rw (r.key_items q) (keys_sound.filled q (subst (IsIn q) r.key_order i));
     linked = λ q i.
@@ -196,8 +196,8 @@ module _ {K V : Type 0} (name : ℕ → ℕ) {keys keys_after : Slots K KeyLink}
     fits = omega (arith, ap length r.key_order, r.key_room);
   }
 
-  pub values_sound-renamed : IsSound values_after
-  values_sound-renamed = record {
+  pub values_sound-relocated : IsSound values_after
+  values_sound-relocated = record {
     distinct = subst AreDistinct (sym r.order) (AreDistinct-map name values.order r.apart values_sound.distinct);
     filled = λ q i.
         let n = IsIn-map name q values.order (subst (IsIn q) r.order i) in
@@ -210,24 +210,24 @@ module _ {K V : Type 0} (name : ℕ → ℕ) {keys keys_after : Slots K KeyLink}
   }
 
 -- so chained lists stay so
-pub chains-renamed : {K V : Type 0} {keys keys_after : Slots K KeyLink} {values values_after : Slots V ValueLink} → AreChained keys values
-    → AreRenamed keys keys_after values values_after → AreChained keys_after values_after
-chains-renamed s r = record {
-  keys_sound = keys_sound-renamed r.name s.keys_sound s.sound s.chained r.renames;
-  sound = values_sound-renamed r.name s.keys_sound s.sound s.chained r.renames;
-  chained = chained-renamed r.name s.keys_sound s.sound s.chained r.renames;
+pub chains-relocated : {K V : Type 0} {keys keys_after : Slots K KeyLink} {values values_after : Slots V ValueLink} → AreChained keys values
+    → AreRelocated keys keys_after values values_after → AreChained keys_after values_after
+chains-relocated s r = record {
+  keys_sound = keys_sound-relocated r.name s.keys_sound s.sound s.chained r.relocates;
+  sound = values_sound-relocated r.name s.keys_sound s.sound s.chained r.relocates;
+  chained = chained-relocated r.name s.keys_sound s.sound s.chained r.relocates;
 }
 
 -- and all three agree, on the same two lists
 module _ {K V : Type 0} (name : ℕ → ℕ) {eq : K → K → Bool} {hash : K
     → ℕ} {keys keys_after : Slots K KeyLink} {rows : FinMap nat_cmp ℕ} {values values_after : Slots V ValueLink}
-    (agrees : Agrees eq hash keys rows values) (r : Renames name keys keys_after values values_after) where
-  pub agrees-renamed : Agrees eq hash keys_after rows values_after
-  agrees-renamed = record {
-    keys_sound = keys_sound-renamed name agrees.keys_sound agrees.values_sound agrees.chained r;
-    values_sound = values_sound-renamed name agrees.keys_sound agrees.values_sound agrees.chained r;
-    chained = chained-renamed name agrees.keys_sound agrees.values_sound agrees.chained r;
-    distinct = rw (items_of-renamed name agrees.keys_sound agrees.values_sound agrees.chained r) agrees.distinct;
+    (agrees : Agrees eq hash keys rows values) (r : Relocates name keys keys_after values values_after) where
+  pub agrees-relocated : Agrees eq hash keys_after rows values_after
+  agrees-relocated = record {
+    keys_sound = keys_sound-relocated name agrees.keys_sound agrees.values_sound agrees.chained r;
+    values_sound = values_sound-relocated name agrees.keys_sound agrees.values_sound agrees.chained r;
+    chained = chained-relocated name agrees.keys_sound agrees.values_sound agrees.chained r;
+    distinct = rw (items_of-relocated name agrees.keys_sound agrees.values_sound agrees.chained r) agrees.distinct;
     hashed = λ place k l listed item is.
         let w = was_key name agrees.keys_sound agrees.values_sound agrees.chained r place l listed is in
         ap (λ (x : KeyLink). x.hash) w.link_is ∙ agrees.hashed place k w.link w.key_listed (sym (r.key_items place) ∙ item) w.link_was;
@@ -238,6 +238,6 @@ module _ {K V : Type 0} (name : ℕ → ℕ) {eq : K → K → Bool} {hash : K
     counted = agrees.counted ∙ sym (ap length r.key_order);
   }
 
-  pub lists_of-renamed : lists_of keys_after values_after ≡ lists_of keys values
-  lists_of-renamed = λ i. lists (items_of-renamed name agrees.keys_sound agrees.values_sound agrees.chained r i)
-      (pairs_of-renamed name agrees.keys_sound agrees.values_sound agrees.chained r i)
+  pub lists_of-relocated : lists_of keys_after values_after ≡ lists_of keys values
+  lists_of-relocated = λ i. lists (items_of-relocated name agrees.keys_sound agrees.values_sound agrees.chained r i)
+      (pairs_of-relocated name agrees.keys_sound agrees.values_sound agrees.chained r i)

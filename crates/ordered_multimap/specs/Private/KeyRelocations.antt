@@ -10,7 +10,7 @@ use Rattle.multimap_slots.specs.Tapes.{Taped}
 use Rattle.multimap_table.specs.Table.{Table}
 use Rattle.multimap_walks.specs.declared.links.KeyLink.{KeyLink}
 use Rattle.multimap_walks.specs.declared.links.ValueLink.{ValueLink}
-use Rattle.ordered_multimap.specs.Private.Renames.{AreRenamed}
+use Rattle.ordered_multimap.specs.Private.Relocations.{AreRelocated}
 use Rattle.ordered_multimap.specs.TapeNumbers.{AreUnused, numbers_of}
 
 -- neither a key nor a row nor a value, on a tape that was not used
@@ -22,8 +22,8 @@ pub record IsNewStorage {K V : Type 0} (keys : Slots K KeyLink) (table : Table)
   pub unused : AreUnused (numbers_of values)
 
 -- the new place of the key at a place, where a list has the new places by the old ones
-abbrev pub name_in : List ℕ → ℕ → ℕ
-name_in names place = get_or names place 0
+abbrev pub new_place_in : List ℕ → ℕ → ℕ
+new_place_in new_places place = get_or new_places place 0
 
 -- the table has the place of each key with the hash of its link, and no other
 pub record HasRows {K : Type 0} (keys : Slots K KeyLink) (rows : FinMap nat_cmp ℕ) : Type 0 where
@@ -63,7 +63,7 @@ module _ (name : ℕ → ℕ) where
 -- the key at the place has gone from one list to the end of the other, with its link and a row of
 -- its hash, and its new place is noted
 pub record MovesKey {K : Type 0} (keys keys_after packed packed_after : Slots K KeyLink)
-    (rows rows_after : FinMap nat_cmp ℕ) (names names_after : List ℕ) (place : ℕ) : Type 0 where
+    (rows rows_after : FinMap nat_cmp ℕ) (new_places new_places_after : List ℕ) (place : ℕ) : Type 0 where
   pub key : K
   pub link : KeyLink
   pub to : ℕ
@@ -71,17 +71,17 @@ pub record MovesKey {K : Type 0} (keys keys_after packed packed_after : Slots K 
   pub link_was : link_at keys place ≡ Some link
   pub pushed : PushesBack packed packed_after to key link
   pub rows_are : rows_after ≡ insert rows to link.hash
-  pub names_are : names_after ≡ set names place to
+  pub new_places_are : new_places_after ≡ set new_places place to
 
 -- the values were taken down over holes, and then keys and values went to new storage
 pub record ArePacked {K V : Type 0} (keys keys_after : Slots K KeyLink)
     (rows_after : FinMap nat_cmp ℕ) (values values_after : Slots V ValueLink) : Type 0 where
-  pub keys_settled : Slots K KeyLink
-  pub values_settled : Slots V ValueLink
-  pub settled : AreRenamed keys keys_settled values values_settled
+  pub keys_dense : Slots K KeyLink
+  pub values_dense : Slots V ValueLink
+  pub dense : AreRelocated keys keys_dense values values_dense
   pub name : ℕ → ℕ
-  pub gone : HaveNewPlaces (AreMoved keys_settled) name keys_settled.order keys_after
+  pub gone : HaveNewPlaces (AreMoved keys_dense) name keys_dense.order keys_after
   pub keys_sound : IsSound keys_after
   pub rows : HasRows keys_after rows_after
-  pub come : HaveCome name values_settled.order values_settled values_after
+  pub come : HaveCome name values_dense.order values_dense values_after
   pub fits : length values.order ≤ values_after.capacity

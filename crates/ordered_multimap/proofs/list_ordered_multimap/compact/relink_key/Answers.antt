@@ -1,5 +1,5 @@
 use Rattle.std.proofs.Common.{rules}
-use Rattle.ordered_multimap.proofs.list_ordered_multimap.compact.mend_key.Goals as goal
+use Rattle.ordered_multimap.proofs.list_ordered_multimap.compact.relink_key.Goals as goal
 
 pub returns : goal.returns
 returns g c = search rules

@@ -4,10 +4,10 @@ use Rattle.multimap_slots.specs.Slots.{Slots, IsSound}
 use Rattle.multimap_walks.specs.declared.links.KeyLink.{KeyLink}
 use Rattle.ordered_multimap.proofs.Append.Steps.{IsSound-with_link}
 use Rattle.ordered_multimap.proofs.Append.Inserted.{chain_some, chained-behind, longer}
-use Rattle.ordered_multimap.proofs.list_ordered_multimap.remove.chain.push_over.Goals as goal
+use Rattle.ordered_multimap.proofs.list_ordered_multimap.remove.chain.replace_chain.Goals as goal
 
-pub leave_older-requires-clause-stands : goal.leave_older-requires-clause-stands
-leave_older-requires-clause-stands g c =
+pub unlink_older-requires-clause-chain : goal.unlink_older-requires-clause-chain
+unlink_older-requires-clause-chain g c =
     let s = c.requires.stands in let h = s.chains in
     let p = c.push_behind.ensures.pushed in
     record {
@@ -19,8 +19,8 @@ leave_older-requires-clause-stands g c =
       };
     }
 
-pub leave_older-requires-clause-more : goal.leave_older-requires-clause-more
-leave_older-requires-clause-more g c = λ l is.
+pub unlink_older-requires-clause-more : goal.unlink_older-requires-clause-more
+unlink_older-requires-clause-more g c = λ l is.
     let s = c.requires.stands in let h = s.chains in
     omega (
       arith,

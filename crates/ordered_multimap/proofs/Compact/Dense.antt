@@ -8,9 +8,9 @@ use Rattle.multimap_slots.specs.Tapes.{Taped, CutsEnd, KeepsTape}
 use Rattle.multimap_slots.proofs.Callers.PlaceLists.{IsIn-append, next_of-split}
 use Rattle.multimap_walks.specs.declared.links.KeyLink.{KeyLink}
 use Rattle.multimap_walks.specs.declared.links.ValueLink.{ValueLink}
-use Rattle.ordered_multimap.specs.Private.Renames.{AreRenamed, Renames, places_below, renamed}
+use Rattle.ordered_multimap.specs.Private.Relocations.{AreRelocated, Relocates, places_below, relocated}
 use Rattle.ordered_multimap.proofs.Chains.LongerLists.{last_or-push}
-use Rattle.ordered_multimap.proofs.Compact.OneMove.{renamed-from, renamed-none}
+use Rattle.ordered_multimap.proofs.Compact.OneMove.{relocated-from, relocated-none}
 
 -- the first n places of the list are those below n, and the next one follows them
 pub record AreSettled (order : List ℕ) (n : ℕ) (following : Option ℕ) : Type 0 where
@@ -54,12 +54,12 @@ pub record Next (order : List ℕ) (n : ℕ) (following : Option ℕ) : Type 0 w
   pub low : (q : ℕ) → IsIn q (places_below n) → q < from
   pub high : (q : ℕ) → IsIn q rest → from < q
 
-pub settled-start : (order : List ℕ) (following : Option ℕ) → following ≡ first_of order → AreSettled order 0 following
-settled-start order following e = record { rest = order; parts = refl; following_is = e }
+pub dense-start : (order : List ℕ) (following : Option ℕ) → following ≡ first_of order → AreSettled order 0 following
+dense-start order following e = record { rest = order; parts = refl; following_is = e }
 
-pub settled-next : (order : List ℕ) (n : ℕ) (following : Option ℕ) → AreSettled order n following → n < length order → Rises order
+pub dense-next : (order : List ℕ) (n : ℕ) (following : Option ℕ) → AreSettled order n following → n < length order → Rises order
     → Next order n following
-settled-next order n following s more rises = go s.rest s.parts s.following_is
+dense-next order n following s more rises = go s.rest s.parts s.following_is
   where
     at_least : (m from : ℕ) → ((q : ℕ) → IsIn q (places_below m) → q < from) → m ≤ from
     at_least zero from low = omega arith
@@ -89,25 +89,25 @@ module _ (order : List ℕ) (n : ℕ) (following : Option ℕ) (x : Next order n
     | inr later ↦ elim later [ inl e ↦ omega (arith, e, below) | inr high ↦ omega (arith, x.high q high, below) ]
   ]
 
-  settled : (now : List ℕ) → now ≡ places_below n ++ n ∷ x.rest → (f : Option ℕ) → f ≡ next_of now n → AreSettled now (suc n) f
-  settled now parts f e = record {
+  dense : (now : List ℕ) → now ≡ places_below n ++ n ∷ x.rest → (f : Option ℕ) → f ≡ next_of now n → AreSettled now (suc n) f
+  dense now parts f e = record {
     rest = x.rest;
     parts = parts ∙ sym (append_assoc (places_below n) (n ∷ []) x.rest);
     following_is = e ∙ ap (λ ps. next_of ps n) parts ∙ next_of-split (places_below n) n x.rest (λ i. omega (arith, below-less n n i));
   }
 
-  pub settled-stay : x.from ≤ n → (f : Option ℕ) → f ≡ next_of order n → AreSettled order (suc n) f
-  settled-stay there = settled order (x.parts ∙ ap (λ p. places_below n ++ p ∷ x.rest) (omega (arith, there, x.above)))
+  pub dense-stay : x.from ≤ n → (f : Option ℕ) → f ≡ next_of order n → AreSettled order (suc n) f
+  dense-stay there = dense order (x.parts ∙ ap (λ p. places_below n ++ p ∷ x.rest) (omega (arith, there, x.above)))
 
-  pub settled-move : (now : List ℕ) → now ≡ map (renamed x.from n) order → (f : Option ℕ) → f ≡ next_of now n → AreSettled now (suc n) f
-  settled-move now is =
-      settled now (is ∙ ap (map (renamed x.from n)) x.parts ∙ map-append (renamed x.from n) (places_below n) (x.from ∷ x.rest)
-      ∙ (λ i. renamed-none x.from n (places_below n) (λ j. omega (arith, x.low x.from j)) i
-      ++ renamed-from x.from n x.from refl i ∷ renamed-none x.from n x.rest (λ j. omega (arith, x.high x.from j)) i))
+  pub dense-move : (now : List ℕ) → now ≡ map (relocated x.from n) order → (f : Option ℕ) → f ≡ next_of now n → AreSettled now (suc n) f
+  dense-move now is =
+      dense now (is ∙ ap (map (relocated x.from n)) x.parts ∙ map-append (relocated x.from n) (places_below n) (x.from ∷ x.rest)
+      ∙ (λ i. relocated-none x.from n (places_below n) (λ j. omega (arith, x.low x.from j)) i
+      ++ relocated-from x.from n x.from refl i ∷ relocated-none x.from n x.rest (λ j. omega (arith, x.high x.from j)) i))
 
 -- at the end the items stand without a hole
-pub settled-end : (order : List ℕ) (n : ℕ) (f : Option ℕ) → AreSettled order n f → length order ≡ n → end_of order ≡ n
-settled-end order n f s count = go s.rest s.parts
+pub dense-end : (order : List ℕ) (n : ℕ) (f : Option ℕ) → AreSettled order n f → length order ≡ n → end_of order ≡ n
+dense-end order n f s count = go s.rest s.parts
   where
     ends_below : (m : ℕ) → end_of (places_below m) ≡ m
     ends_below zero = refl
@@ -118,23 +118,23 @@ settled-end order n f s count = go s.rest s.parts
     go (p ∷ ps) parts = absurd (omega (arith, count, ap length parts, length-append (places_below n) (p ∷ ps), length-below n))
 
 -- which are those below their number
-pub settled-all : (order : List ℕ) (n : ℕ) (f : Option ℕ) → AreSettled order n f → length order ≡ n → order ≡ places_below n
-settled-all order n f s count = go s.rest s.parts
+pub dense-all : (order : List ℕ) (n : ℕ) (f : Option ℕ) → AreSettled order n f → length order ≡ n → order ≡ places_below n
+dense-all order n f s count = go s.rest s.parts
   where
     go : (rest : List ℕ) → order ≡ places_below n ++ rest → order ≡ places_below n
     go [] parts = parts ∙ append-nil (places_below n)
     go (p ∷ ps) parts = absurd (omega (arith, count, ap length parts, length-append (places_below n) (p ∷ ps), length-below n))
 
 -- no place has another name, and only the capacities differ
-pub renamed-room : {K V : Type 0} (keys keys_after : Slots K KeyLink) (values values_after : Slots V ValueLink) → IsSound keys
+pub relocated-room : {K V : Type 0} (keys keys_after : Slots K KeyLink) (values values_after : Slots V ValueLink) → IsSound keys
     → IsSound values
     → KeepsItems keys keys_after → KeepsItems values values_after → keys.capacity ≤ keys_after.capacity
     → values.capacity ≤ values_after.capacity
-    → AreRenamed keys keys_after values values_after
-renamed-room {K} {V} keys keys_after values values_after keys_sound values_sound same_keys same_values key_room value_room =
+    → AreRelocated keys keys_after values values_after
+relocated-room {K} {V} keys keys_after values values_after keys_sound values_sound same_keys same_values key_room value_room =
     let k : Slots K KeyLink = record keys { capacity = keys_after.capacity } in
     let v : Slots V ValueLink = record values { capacity = values_after.capacity } in
-    let base : Renames (λ p. p) keys k values v = record {
+    let base : Relocates (λ p. p) keys k values v = record {
       apart = λ p q i j e. e;
       key_order = refl;
       key_items = λ q. refl;
@@ -147,8 +147,8 @@ renamed-room {K} {V} keys keys_after values values_after keys_sound values_sound
     } in
     record {
       name = λ p. p;
-      renames = subst (λ s. Renames (λ p. p) keys s values values_after) (sym same_keys)
-          (subst (λ s. Renames (λ p. p) keys k values s) (sym same_values) base);
+      relocates = subst (λ s. Relocates (λ p. p) keys s values values_after) (sym same_keys)
+          (subst (λ s. Relocates (λ p. p) keys k values s) (sym same_values) base);
     }
   where
     same_map : (ps : List ℕ) → map (λ p. p) ps ≡ ps
@@ -160,11 +160,11 @@ renamed-room {K} {V} keys keys_after values values_after keys_sound values_sound
     same_option (Some p) = refl
 
 -- one renaming after the other
-pub renames-then : {K V : Type 0} (f g : ℕ → ℕ) {keys keys_mid keys_end : Slots K KeyLink} {values values_mid values_end : Slots V
+pub relocates-then : {K V : Type 0} (f g : ℕ → ℕ) {keys keys_mid keys_end : Slots K KeyLink} {values values_mid values_end : Slots V
     ValueLink}
-    → Renames f keys keys_mid values values_mid → Renames g keys_mid keys_end values_mid values_end
-    → Renames (λ p. g (f p)) keys keys_end values values_end
-renames-then f g {keys} {keys_mid} {keys_end} {values} {values_mid} {values_end} a b = record {
+    → Relocates f keys keys_mid values values_mid → Relocates g keys_mid keys_end values_mid values_end
+    → Relocates (λ p. g (f p)) keys keys_end values values_end
+relocates-then f g {keys} {keys_mid} {keys_end} {values} {values_mid} {values_end} a b = record {
   apart = λ p q i j e. a.apart p q i j (b.apart (f p) (f q) (there p i) (there q j) e);
   key_order = b.key_order ∙ a.key_order;
   key_items = λ q. b.key_items q ∙ a.key_items q;
@@ -195,9 +195,9 @@ renames-then f g {keys} {keys_mid} {keys_end} {values} {values_mid} {values_end}
     there q i = subst (IsIn (f q)) (sym a.order) (in_map q values.order i)
 
 -- the holes at the end are given up
-pub renames-cut : {K V : Type 0} (f : ℕ → ℕ) {keys keys_after : Slots K KeyLink} {values : Slots V ValueLink} (mid end : Taped V ValueLink)
-    → Renames f keys keys_after values mid.list → CutsEnd mid end → Renames f keys keys_after values end.list
-renames-cut f {keys} {keys_after} {values} mid end a cut = record {
+pub relocates-cut : {K V : Type 0} (f : ℕ → ℕ) {keys keys_after : Slots K KeyLink} {values : Slots V ValueLink} (mid end : Taped V ValueLink)
+    → Relocates f keys keys_after values mid.list → CutsEnd mid end → Relocates f keys keys_after values end.list
+relocates-cut f {keys} {keys_after} {values} mid end a cut = record {
   apart = a.apart;
   key_order = a.key_order;
   key_items = a.key_items;
@@ -220,17 +220,17 @@ renames-cut f {keys} {keys_after} {values} mid end a cut = record {
 -- no place has another name where the tape only grew, or not even that
 pub grown_places : {K V : Type 0} {keys : Slots K KeyLink} {values values_after : Taped V ValueLink} → IsSound keys → IsSound values.list
     → KeepsTape values values_after
-    → values.list.capacity ≤ values_after.list.capacity → AreRenamed keys keys values.list values_after.list
+    → values.list.capacity ≤ values_after.list.capacity → AreRelocated keys keys values.list values_after.list
 grown_places {keys = keys} {values} {values_after} keys_sound values_sound same room =
-    renamed-room keys keys values.list values_after.list keys_sound values_sound refl (ap (λ t. t.list) same) (omega arith) room
+    relocated-room keys keys values.list values_after.list keys_sound values_sound refl (ap (λ t. t.list) same) (omega arith) room
 
 pub same_places : {K V : Type 0} {keys : Slots K KeyLink} {values : Slots V ValueLink} → IsSound keys → IsSound values
-    → AreRenamed keys keys values values
-same_places {keys = keys} {values} keys_sound values_sound = renamed-room keys keys values values keys_sound values_sound refl refl
+    → AreRelocated keys keys values values
+same_places {keys = keys} {values} keys_sound values_sound = relocated-room keys keys values values keys_sound values_sound refl refl
     (omega arith) (omega arith)
 
 -- nor where only the keys' slots grew
 pub grown_keys : {K V : Type 0} {keys keys_after : Slots K KeyLink} {values : Slots V ValueLink} → IsSound keys → IsSound values
-    → KeepsItems keys keys_after → keys.capacity ≤ keys_after.capacity → AreRenamed keys keys_after values values
+    → KeepsItems keys keys_after → keys.capacity ≤ keys_after.capacity → AreRelocated keys keys_after values values
 grown_keys {keys = keys} {keys_after} {values} keys_sound values_sound same room =
-    renamed-room keys keys_after values values keys_sound values_sound same refl room (omega arith)
+    relocated-room keys keys_after values values keys_sound values_sound same refl room (omega arith)

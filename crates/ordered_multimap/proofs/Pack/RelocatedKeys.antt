@@ -12,11 +12,11 @@ use Rattle.multimap_walks.specs.declared.links.KeyLink.{KeyLink}
 use Rattle.multimap_walks.specs.declared.links.ValueLink.{ValueLink}
 use Rattle.multimap_walks.specs.Chained.{IsChained, is_value_of, chain_of, pair_at, pairs_of}
 use Rattle.ordered_multimap.specs.Agrees.{Agrees, items_of, lists_of}
-use Rattle.ordered_multimap.specs.Private.KeyRenames.{AreMoved, ArePacked, HasRows, HaveCome, HaveNewPlaces, with_new_key}
+use Rattle.ordered_multimap.specs.Private.KeyRelocations.{AreMoved, ArePacked, HasRows, HaveCome, HaveNewPlaces, with_new_key}
 use Rattle.ordered_multimap.specs.Lists.{lists}
 use Rattle.ordered_multimap.proofs.Agreement.Agreed.{pair_in, pair_at-is, is_value_of-is}
 use Rattle.ordered_multimap.proofs.Callers.Places.{held, filter-agree, filter_map-agree}
-use Rattle.ordered_multimap.proofs.Agreement.Renamed.{IsIn-map, IsIn-name, filter_map-map, agrees-renamed, lists_of-renamed}
+use Rattle.ordered_multimap.proofs.Agreement.Relocated.{IsIn-map, IsIn-name, filter_map-map, agrees-relocated, lists_of-relocated}
 
 module _ {K V : Type 0} (name : ℕ → ℕ) {eq : K → K → Bool} {hash : K
     → ℕ} {keys keys_after : Slots K KeyLink} {rows rows_after : FinMap nat_cmp ℕ} {values values_after : Slots V ValueLink}
@@ -146,21 +146,21 @@ module _ {K V : Type 0} (name : ℕ → ℕ) {eq : K → K → Bool} {hash : K
 module _ {K V : Type 0} {eq : K → K → Bool} {hash : K
     → ℕ} {keys keys_after : Slots K KeyLink} {rows rows_after : FinMap nat_cmp ℕ} {values values_after : Slots V ValueLink}
     (agrees : Agrees eq hash keys rows values) (p : ArePacked keys keys_after rows_after values values_after) where
-  settled : Agrees eq hash p.keys_settled rows p.values_settled
-  settled = agrees-renamed p.settled.name agrees p.settled.renames
+  dense : Agrees eq hash p.keys_dense rows p.values_dense
+  dense = agrees-relocated p.dense.name agrees p.dense.relocates
 
-  same_length : length p.values_settled.order ≡ length values.order
-  same_length = ap length p.settled.renames.order ∙ length-map values.order p.settled.name
+  same_length : length p.values_dense.order ≡ length values.order
+  same_length = ap length p.dense.relocates.order ∙ length-map values.order p.dense.name
 
-  fits_settled : length p.values_settled.order ≤ values_after.capacity
-  fits_settled = omega (arith, same_length, p.fits)
+  fits_dense : length p.values_dense.order ≤ values_after.capacity
+  fits_dense = omega (arith, same_length, p.fits)
 
   pub agrees-packed : Agrees eq hash keys_after rows_after values_after
-  agrees-packed = agrees-gone p.name settled p.gone p.rows p.come p.keys_sound fits_settled
+  agrees-packed = agrees-gone p.name dense p.gone p.rows p.come p.keys_sound fits_dense
 
   pub lists_of-packed : lists_of keys_after values_after ≡ lists_of keys values
-  lists_of-packed = lists_of-gone p.name settled p.gone p.rows p.come p.keys_sound fits_settled
-      ∙ lists_of-renamed p.settled.name agrees p.settled.renames
+  lists_of-packed = lists_of-gone p.name dense p.gone p.rows p.come p.keys_sound fits_dense
+      ∙ lists_of-relocated p.dense.name agrees p.dense.relocates
 
   pub packed_length : length values_after.order ≡ length values.order
   packed_length = ap length p.come.order ∙ same_length

@@ -11,10 +11,10 @@ use Rattle.multimap_slots.proofs.Callers.ListedSlots.{link_at-with_link, KeepsOt
 use Rattle.multimap_walks.specs.declared.links.KeyLink.{KeyLink}
 use Rattle.multimap_walks.specs.declared.links.ValueLink.{ValueLink}
 use Rattle.multimap_walks.specs.Chained.{IsChained, is_value_of, chain_of}
-use Rattle.ordered_multimap.specs.Private.Renames.{MendsLink, renamed, renamed_key}
+use Rattle.ordered_multimap.specs.Private.Relocations.{WritesLink, relocated, relocated_key}
 use Rattle.ordered_multimap.proofs.Callers.Members.{IsIn-kept}
 use Rattle.ordered_multimap.proofs.Callers.Places.{held, ends, AreDistinct-filter}
-use Rattle.ordered_multimap.proofs.Compact.OneMove.{renamed-other, MovesValue}
+use Rattle.ordered_multimap.proofs.Compact.OneMove.{relocated-other, MovesValue}
 use Rattle.ordered_multimap.proofs.Append.Steps.{if_each}
 use Rattle.ordered_multimap.proofs.Chains.Neighbours.{next_of-members, previous_of-members, next_is, no_cycle}
 
@@ -55,10 +55,10 @@ module _ {K V : Type 0} {keys : Slots K KeyLink} {values : Slots V ValueLink} (k
 
   -- a value between two others is no end of its chain
   pub ends-kept : (to : ℕ) → IsSome l.previous → IsSome l.next → (k : KeyLink) → link_at keys l.key ≡ Some k
-      → renamed_key (renamed from to) k ≡ k
+      → relocated_key (relocated from to) k ≡ k
   ends-kept to back forth k is =
-      ap (λ h. record k { head = h; tail = renamed from to k.tail }) (renamed-other from to k.head not_head)
-      ∙ ap (λ t. record k { tail = t }) (renamed-other from to k.tail not_tail)
+      ap (λ h. record k { head = h; tail = relocated from to k.tail }) (relocated-other from to k.head not_head)
+      ∙ ap (λ t. record k { tail = t }) (relocated-other from to k.tail not_tail)
     where
       none_some : (o : Option ℕ) → o ≡ None → IsSome o → ⊥
       none_some o e some = let bad = rw e at some in cc
@@ -90,10 +90,10 @@ module _ {K V : Type 0} {keys : Slots K KeyLink} {values : Slots V ValueLink} (k
 
   module _ (to : ℕ) (first second third : Taped V ValueLink) (down : MovesDown values first.list from to)
       (room : first.list.capacity ≡ values.capacity)
-      (before : MendsLink first second l.previous (λ m. record m { next = Some to }))
-      (behind : MendsLink second third l.next (λ m. record m { previous = Some to }))
+      (before : WritesLink first second l.previous (λ m. record m { next = Some to }))
+      (behind : WritesLink second third l.next (λ m. record m { previous = Some to }))
       (keys_after : Slots K KeyLink) (mends : (k : KeyLink) → link_at keys l.key ≡ Some k
-      → keys_after ≡ with_link keys l.key (renamed_key (renamed from to) k)) where
+      → keys_after ≡ with_link keys l.key (relocated_key (relocated from to) k)) where
     away : (q : ℕ) → IsIn q values.order → q ≢ to
     away q i e = down.was_absent (subst (λ p. IsIn p values.order) e i)
 
@@ -126,9 +126,9 @@ module _ {K V : Type 0} {keys : Slots K KeyLink} {values : Slots V ValueLink} (k
           key_order = ap (λ s. s.order) set;
           key_items = λ q. ap (λ s. item_at s q) set;
           key_link = λ m is. ap (λ s. link_at s l.key) (mends m is)
-              ∙ link_at-with_link keys l.key (renamed_key (renamed from to) m) (keys_sound.linked l.key owner_listed);
+              ∙ link_at-with_link keys l.key (relocated_key (relocated from to) m) (keys_sound.linked l.key owner_listed);
           key_others = λ q differs. ap (λ s. link_at s q) set
-              ∙ (KeepsOthers-with_link keys l.key (renamed_key (renamed from to) k.value)).links q differs;
+              ∙ (KeepsOthers-with_link keys l.key (relocated_key (relocated from to) k.value)).links q differs;
           key_room = omega (arith, keys_sound.fits, ap (λ s. s.capacity) set);
         }
 

@@ -1,4 +1,4 @@
-use Rattle.multimap_slots.proofs.tape.Tape.end_place.Goals as goal
+use Rattle.multimap_slots.proofs.tape.Tape.push_place.Goals as goal
 
 pub returns-clause-within : goal.returns-clause-within
 returns-clause-within g c = rw (← c.self.view_is) c.used.ensures.within

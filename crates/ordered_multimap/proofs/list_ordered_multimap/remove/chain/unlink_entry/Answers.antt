@@ -5,15 +5,15 @@ use Rattle.ordered_multimap.specs.TapeNumbers.{TakesOut, numbers_of}
 use Rattle.ordered_multimap.proofs.Detach.Chains.{holds_whole}
 use Rattle.ordered_multimap.proofs.Remove.WaysOut.{leaving-counts}
 use Rattle.ordered_multimap.proofs.Remove.ValueByValue.{chain_row, taking-end, taking-some}
-use Rattle.ordered_multimap.proofs.list_ordered_multimap.remove.chain.leave_entry.Goals as goal
+use Rattle.ordered_multimap.proofs.list_ordered_multimap.remove.chain.unlink_entry.Goals as goal
 
-pub leave_values-first-requires-clause-some : goal.leave_values-first-requires-clause-some
-leave_values-first-requires-clause-some g c =
+pub unlink_values-first-requires-clause-some : goal.unlink_values-first-requires-clause-some
+unlink_values-first-requires-clause-some g c =
     let s = c.requires.stands in
     taking-some s.chains.sound s.chains.chained c.args.place c.slot_at.result.1 s.listed c.slot_at.ensures.link_is
 
-pub leave_values-first-requires-clause-row : goal.leave_values-first-requires-clause-row
-leave_values-first-requires-clause-row g c =
+pub unlink_values-first-requires-clause-row : goal.unlink_values-first-requires-clause-row
+unlink_values-first-requires-clause-row g c =
     let s = c.requires.stands in let l = c.slot_at.result.1 in
     (_, chain_row s.chains.sound s.chains.chained c.args.place l s.listed c.slot_at.ensures.link_is l.length (omega arith))
 
@@ -22,12 +22,12 @@ returns g c =
     let s = c.requires.stands in
     let l = c.slot_at.result.1 in
     let is = c.slot_at.ensures.link_is in
-    let t = c.leave_values-first.ensures in
+    let t = c.unlink_values-first.ensures in
     let left = t.left _ (chain_row s.chains.sound s.chains.chained c.args.place l s.listed is l.length (omega arith)) in
     let all = sym (s.chains.chained.length c.args.place l s.listed is) in
     record {
       entry = record {
-        taken = taking-end s.chains.sound s.chains.chained c.args.place l.length left.0 c.leave_values-first.new.values.list left.1.taking
+        taken = taking-end s.chains.sound s.chains.chained c.args.place l.length left.0 c.unlink_values-first.new.values.list left.1.taking
             all;
         removed = c.take_key.ensures.removed;
         rows_are = c.take_key.ensures.row.rows;
@@ -36,11 +36,11 @@ returns g c =
           let one : Some k ≡ Some l = sym k_is ∙ is in
           let same : k ≡ l = cc in
           t.given v (ap (λ (m : KeyLink). item_at c.args.values.now.list m.head) (sym same) ∙ v_is);
-      counts = subst (λ n. TakesOut n (numbers_of c.args.values.now) (numbers_of c.leave_values-first.new.values)) all
+      counts = subst (λ n. TakesOut n (numbers_of c.args.values.now) (numbers_of c.unlink_values-first.new.values)) all
           (leaving-counts left.1);
       row_room = c.take_key.ensures.row.capacity;
       drain = λ keeps. holds_whole s.chains.sound s.chains.chained c.args.place l s.listed is l.length left.0
-          c.leave_values-first.new.values.list
-          c.leave_values-first.result.1
+          c.unlink_values-first.new.values.list
+          c.unlink_values-first.result.1
           (ap (λ e. e.first) t.ends) (ap (λ e. e.length) t.ends) left.1.taking left.1.last_is (left.1.kept keeps) all;
     }
