@@ -1,5 +1,5 @@
-pub mod ListedSlots
 pub mod PlaceLists
+pub mod SlotChanges
 pub mod TakenItems
 pub mod TapePlaces
 pub mod Tapes

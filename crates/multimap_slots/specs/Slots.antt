@@ -1,8 +1,7 @@
 -- What a contract sees of a slot list, and what each change of it leaves.
-use Rattle.std.specs.Prelude.{◌≡◌, ◌≢◌, ◌==◌, ℕ, ◌+◌, ◌*◌, ◌<◌, ◌≤◌, not}
+use Rattle.std.specs.Prelude.{◌≡◌, ◌≢◌, ℕ, ◌+◌, ◌*◌, ◌<◌, ◌≤◌}
 use Rattle.std.specs.Prelude.{Option, Some, None, IsSome}
-use Rattle.std.specs.Prelude.{List, [], ◌∷◌, ◌++◌, filter, slice_get, slice_set, get_or, length}
-use Rattle.std.specs.List.{filter_map}
+use Rattle.std.specs.Prelude.{List, [], ◌∷◌, ◌++◌, slice_get, slice_set, get_or, length}
 use Rattle.multimap_slots.specs.Lists.{IsIn, AreDistinct, without}
 
 -- the listed places in order, the item and the link of each place, and how many items fit
@@ -11,12 +10,6 @@ pub record Slots (T L : Type 0) : Type 0 where
   pub items : List (Option T)
   pub links : List L
   pub capacity : ℕ
-
--- a listed item with its place and its link
-pub record Slot (T L : Type 0) : Type 0 where
-  pub place : ℕ
-  pub item : T
-  pub link : L
 
 -- a capacity that rises at least doubles
 abbrev pub DoublesIfGrown : ℕ → ℕ → Type 0
@@ -30,20 +23,6 @@ module _ {T L : Type 0} where
   -- the link of the place, if there is one
   abbrev pub link_at : Slots T L → ℕ → Option L
   link_at s p = slice_get s.links p
-
-  -- a place with an item and a link, where both are there
-  abbrev pub slot_of : ℕ → Option T → Option L → Option (Slot T L)
-  slot_of p None l = None
-  slot_of p (Some x) None = None
-  slot_of p (Some x) (Some l) = Some (record { place = p; item = x; link = l })
-
-  -- the slot of the place, if an item stands there
-  abbrev pub slot_at : Slots T L → ℕ → Option (Slot T L)
-  slot_at s p = slot_of p (item_at s p) (link_at s p)
-
-  -- the list: each listed item with its place and its link, in order
-  abbrev pub listed_slots : Slots T L → List (Slot T L)
-  listed_slots s = filter_map (slot_at s) s.order
 
   -- there is no item, listed or not
   pub record IsEmpty (s : Slots T L) : Type 0 where
@@ -94,8 +73,6 @@ module _ {T L : Type 0} where
     pub item_is : item_at new place ≡ Some item
     pub link_is : link_at new place ≡ Some link
     pub others : KeepsOthers old new place
-    pub slots : listed_slots new
-        ≡ listed_slots old ++ record { place = place; item = item; link = link } ∷ []
 
   -- the place has left the list, the item that stood there has gone, and as many fit as before
   pub record Removes (old new : Slots T L) (place : ℕ) (item : T) : Type 0 where
@@ -105,7 +82,6 @@ module _ {T L : Type 0} where
     pub shorter : length new.order + 1 ≡ length old.order
     pub freed : item_at new place ≡ None
     pub others : KeepsOthers old new place
-    pub slots : listed_slots new ≡ filter (λ e. not (e.place == place)) (listed_slots old)
     pub capacity : new.capacity ≡ old.capacity
 
   -- the place has left the list, and an item is kept there
@@ -130,7 +106,6 @@ module _ {T L : Type 0} where
     pub shorter : length new.order + 1 ≡ length old.order
     pub items : new.items ≡ old.items
     pub links : new.links ≡ old.links
-    pub slots : listed_slots new ≡ filter (λ e. not (e.place == place)) (listed_slots old)
 
   -- the item that was kept at the place has gone, and the list is as it was
   pub record TakesDetached (old new : Slots T L) (place : ℕ) (item : T) : Type 0 where
@@ -138,7 +113,6 @@ module _ {T L : Type 0} where
     pub order : new.order ≡ old.order
     pub freed : item_at new place ≡ None
     pub others : KeepsOthers old new place
-    pub slots : listed_slots new ≡ listed_slots old
 
   -- another item stands at the place
   abbrev pub with_item : Slots T L → ℕ → T → Slots T L

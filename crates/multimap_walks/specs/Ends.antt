@@ -3,6 +3,11 @@ use Rattle.std.specs.Prelude.{ℕ, ◌-◌}
 use Rattle.multimap_walks.specs.declared.End.{End}
 use Rattle.multimap_walks.specs.declared.End.TheVariants.{Front, Back}
 use Rattle.multimap_walks.specs.declared.links.ChainEnds.{ChainEnds}
+use Rattle.multimap_walks.specs.declared.links.KeyLink.{KeyLink}
+
+-- where the values of a key stand, by its link
+abbrev pub ends_of : KeyLink → ChainEnds
+ends_of l = record { first = l.head; last = l.tail; length = l.length }
 
 -- what a step from an end follows: what leads onward, or what leads back
 abbrev pub step_from : {X : Type 0} → End → X → X → X

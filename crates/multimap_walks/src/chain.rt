@@ -59,12 +59,7 @@ impl<'map, K, V, A: Allocator> EntryValues<'map, K, V, A> {
         let Some((_, link)) = key else {
             return EntryValues::along(values, NO_ENDS, false);
         };
-        let ends = ChainEnds {
-            first: link.head,
-            last: link.tail,
-            length: link.length,
-        };
-        EntryValues::along(values, ends, false)
+        EntryValues::along(values, link.ends(), false)
     }
 
     /// The walk over detached values, which are given by the places of the first and the last and

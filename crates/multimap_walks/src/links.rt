@@ -1,6 +1,6 @@
 //! The links of keys in their slot list and of values on their tape.
 ghost use Rattle.std.specs.Prelude.{◌≡◌};
-ghost use Rattle.multimap_walks.specs.Ends.{end_place, ends_after, step_from};
+ghost use Rattle.multimap_walks.specs.Ends.{end_place, ends_after, ends_of, step_from};
 
 use crate::End;
 
@@ -15,6 +15,20 @@ pub struct KeyLink {
     pub tail: usize,
     /// How many values the key has.
     pub length: usize,
+}
+
+impl KeyLink {
+    /// Where the key's values stand.
+    #[inline(always)]
+    pub(crate) fn ends(&self) -> ChainEnds
+        ensures { result ≡ ends_of self.now }
+    {
+        ChainEnds {
+            first: self.head,
+            last: self.tail,
+            length: self.length,
+        }
+    }
 }
 
 /// The link of a value: its key's place, and the neighbours among the key's values.

@@ -4,17 +4,14 @@ use base.Stored.{Gv}
 use Rattle.std.specs.Borrow.{GName, MutBor}
 use Rattle.std.proofs.lemmas.List.{get_or-set_other}
 use Rattle.multimap_slots.specs.Lists.{IsIn}
-use Rattle.multimap_slots.specs.Slots.{Slots, IsSound, IsDetached, item_at}
+use Rattle.multimap_slots.specs.Slots.{Slots, IsDetached, item_at}
 use Rattle.multimap_slots.specs.CellsLends.{with_refilled}
-use Rattle.multimap_slots.specs.SlotCells.{lent_slots, IsLeft, LendsSlots, TakesItem}
+use Rattle.multimap_slots.specs.SlotCells.{IsLeft, LendsSlots, TakesItem}
 use Rattle.multimap_slots.specs.declared.cells_of.SlotCells.{SlotCells}
 use Rattle.multimap_slots.proofs.Lending.Refilled.{some-refilled}
 use Rattle.std.specs.Prelude.{Bool, List, Option, IsSome}
 
 module _ {T L A : Type 0} {old new : SlotCells T L A} {place : ℕ} {r : MutBor T} (t : TakesItem old place r new) where
-  pub IsSound-taken : IsSound (lent_slots old) → IsSound (lent_slots new)
-  IsSound-taken sound = subst IsSound (sym t.slots) sound
-
   -- another item is left still
   pub IsLeft-other : (q : ℕ) → q ≢ place → IsLeft old q → IsLeft new q
   IsLeft-other q differs was = record {

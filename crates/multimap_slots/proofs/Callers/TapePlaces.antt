@@ -42,7 +42,7 @@ places-listed at (zero ∷ runs) (suc i) e = inr (subst (λ p. IsIn p (places_fr
 places-listed at (suc n ∷ runs) zero e = absurd (omega (arith, e))
 places-listed at (suc n ∷ runs) (suc i) e = subst (λ p. IsIn p (places_from (suc at) runs)) (omega arith) (places-listed (suc at) runs i e)
 
--- and no other
+-- a place with another number than 0 is not listed
 pub places-zero : (at : ℕ) (runs : List ℕ) (i : ℕ) → IsIn (at + i) (places_from at runs) → get_or runs i 1 ≡ 0
 places-zero at [] i e = absurd e
 places-zero at (zero ∷ runs) zero e = refl

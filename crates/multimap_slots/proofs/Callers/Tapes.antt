@@ -11,7 +11,7 @@ use Rattle.multimap_slots.specs.Private.ListLayout.{put}
 use Rattle.multimap_slots.specs.Private.Runs.{RunLengths}
 use Rattle.multimap_slots.specs.Private.TapeLayout.{IsTape}
 use Rattle.multimap_slots.proofs.Callers.PlaceLists.{IsIn-append, IsIn-right, IsIn-was, IsIn-besides, IsIn-without, AreDistinct-gone}
-use Rattle.multimap_slots.proofs.Callers.ListedSlots.{slice_get-set_other}
+use Rattle.multimap_slots.proofs.Callers.SlotChanges.{slice_get-set_other}
 use Rattle.multimap_slots.proofs.Changes.Put.{put-push, get_or-put_same, get_or-put_other}
 
 module _ {T L : Type 0} {items : List (Option T)} {links : List L} {runs : RunLengths} {a b : ℕ}

@@ -1,12 +1,11 @@
 -- The changes of a slot list, from what its vectors and its order do.
-use Rattle.std.proofs.Common.{◌≡◌, ℕ, ◌+◌, ◌<◌, ◌≤◌, [], ◌∷◌, ◌++◌, length, get_or, set, slice_get, Option, Some, None, IfSome, refl, ap}
+use Rattle.std.proofs.Common.{◌≡◌, ℕ, ◌+◌, ◌<◌, ◌≤◌, [], ◌∷◌, ◌++◌, length, get_or, set, slice_get, Some, None, ap}
 use Rattle.std.proofs.Common.{◌∙◌}
 use Rattle.std.proofs.lemmas.List.{get_or-set_same, get_or-set_other}
 use Rattle.multimap_slots.specs.Lists.{IsIn, without}
 use Rattle.multimap_slots.specs.Private.ListLayout.{put}
 use Rattle.multimap_slots.specs.Slots.{Slots, item_at, link_at, KeepsOthers, PushesBack, Removes, Detaches, TakesDetached}
 use Rattle.multimap_slots.proofs.Changes.Put.{get_or-put_same, get_or-put_other, slice_get-put_same, slice_get-put_other}
-use Rattle.multimap_slots.proofs.Callers.ListedSlots.{listed_slots-kept, listed_slots-push, listed_slots-remove}
 
 module _ {T L : Type 0} (old new : Slots T L) (place : ℕ) (item : T) where
   pub PushesBack-put : (link : L) → item_at old place ≡ None → (IsIn place old.order → ⊥) → place ≤ length old.items
@@ -21,7 +20,6 @@ module _ {T L : Type 0} (old new : Slots T L) (place : ℕ) (item : T) where
         item_is = item_is;
         link_is = link_is;
         others = others;
-        slots = listed_slots-push old new place item link absent others order item_is link_is;
       }
     where
       item_is : item_at new place ≡ Some item
@@ -55,7 +53,6 @@ module _ {T L : Type 0} (old new : Slots T L) (place : ℕ) (item : T) where
         shorter = shorter;
         freed = ap (λ xs. get_or xs place None) items ∙ get_or-set_same old.items place None None within;
         others = others-set items links;
-        slots = listed_slots-remove old new place (others-set items links) order;
         capacity = capacity;
       }
 
@@ -68,7 +65,6 @@ module _ {T L : Type 0} (old new : Slots T L) (place : ℕ) (item : T) where
         order = order;
         freed = ap (λ xs. get_or xs place None) items ∙ get_or-set_same old.items place None None within;
         others = others-set items links;
-        slots = listed_slots-kept old new place not_listed (others-set items links) order;
       }
 
 pub Detaches-kept : {T L : Type 0} (old new : Slots T L) (place : ℕ) → new.order ≡ without old.order place
@@ -80,13 +76,4 @@ Detaches-kept old new place order shorter items links =
       shorter = shorter;
       items = items;
       links = links;
-      slots = listed_slots-remove old new place (record {
-        items = λ q differs. ap (λ xs. get_or xs q None) items;
-        links = λ q differs. ap (λ xs. slice_get xs q) links;
-      }) order;
     }
-
--- what holds of a value that an option holds
-pub IfSome-each : {X : Type 0} (o : Option X) (P : X → Type 0) → ((x : X) → o ≡ Some x → P x) → IfSome o P
-IfSome-each None P holds = tt
-IfSome-each (Some x) P holds = holds x refl

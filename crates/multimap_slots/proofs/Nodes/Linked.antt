@@ -61,7 +61,7 @@ module _ {L : Type 0} where
     apart-is p absent taken =
         apart-detached (get_or (states nodes) p Free) (λ e. absent (rw walk-order (o.all_in p e))) taken
 
-    -- so one is counted
+    -- where a place is neither free nor listed, one at least counts as detached
     pub apart-some : (p : ℕ) → (IsIn p (walk (after front (nexts nodes)) None len) → ⊥) → get_or (states nodes) p Free ≢ Free
         → 1 ≤ detached
     apart-some p absent taken = rw o.apart (count_detached-some (states nodes) p (apart-is p absent taken))
@@ -122,7 +122,7 @@ module _ {L : Type 0} where
       | inr some ↦ rw (e ∙ some.1) (IsIn-within some.0 (listed some.0 some.2))
     ]
 
-    -- and so is the first
+    -- the first of listed places is in use
     pub first-within : (a : Option ℕ) (ps : List ℕ) → a ≡ first_of ps → ((x : ℕ) → IsIn x ps → IsIn x o.order)
         → IfSome a (λ q. q < length nodes)
     first-within a [] e listed = rw e tt

@@ -22,10 +22,6 @@ module _ {X : Type 0} where
   end_rest-with Front x xs = refl
   end_rest-with Back x xs = take_at xs (x ∷ []) (length (xs ++ x ∷ []) - 1) (omega (arith, length-append xs (x ∷ [])))
 
-  pub length-with : (end : End) (x : X) (xs : List X) → length (with_end end x xs) ≡ length xs + 1
-  length-with Front x xs = omega arith
-  length-with Back x xs = length-append xs (x ∷ [])
-
   pub map-with : {Y : Type 0} (f : X → Y) (end : End) (x : X) (xs : List X)
       → map f (with_end end x xs) ≡ with_end end (f x) (map f xs)
   map-with f Front x xs = refl

@@ -10,7 +10,7 @@ ghost use Rattle.multimap_walks.specs.Walk.{TellsLength};
 
 use super::{EntryValuesMut, chain_after};
 use crate::End;
-use crate::links::{ChainEnds, KeyLink, NO_ENDS, ValueLink};
+use crate::links::{KeyLink, NO_ENDS, ValueLink};
 use crate::show::show_left;
 use crate::writing::rest::chain::EntryValuesRest;
 use multimap_slots::{Cells, SlotCells, SlotList};
@@ -46,15 +46,10 @@ impl<'map, K, V, A: Allocator> EntryValuesMut<'map, K, V, A> {
                 left: NO_ENDS,
             };
         };
-        let left = ChainEnds {
-            first: link.head,
-            last: link.tail,
-            length: link.length,
-        };
         EntryValuesMut {
             keys: PhantomData,
             values,
-            left,
+            left: link.ends(),
         }
     }
 

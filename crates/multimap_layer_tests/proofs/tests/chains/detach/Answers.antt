@@ -1,4 +1,4 @@
-use Rattle.multimap_slots.proofs.Callers.ListedSlots.{IsDetached-detach}
+use Rattle.multimap_slots.proofs.Callers.SlotChanges.{IsDetached-detach}
 use Rattle.multimap_layer_tests.proofs.DetachedLemmas.{IsDetached-kept}
 use Rattle.multimap_layer_tests.proofs.tests.chains.detach.Goals as goal
 

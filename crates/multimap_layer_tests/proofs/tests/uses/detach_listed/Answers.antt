@@ -1,4 +1,4 @@
-use Rattle.multimap_slots.proofs.Callers.ListedSlots.{IsDetached-detach}
+use Rattle.multimap_slots.proofs.Callers.SlotChanges.{IsDetached-detach}
 use Rattle.multimap_layer_tests.proofs.tests.uses.detach_listed.Goals as goal
 
 pub returns : goal.returns

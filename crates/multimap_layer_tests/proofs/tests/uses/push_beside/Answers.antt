@@ -1,4 +1,4 @@
-use Rattle.multimap_slots.proofs.Callers.ListedSlots.{IsDetached-push}
+use Rattle.multimap_slots.proofs.Callers.SlotChanges.{IsDetached-push}
 use Rattle.multimap_layer_tests.proofs.tests.uses.push_beside.Goals as goal
 
 pub returns-clause-kept : goal.returns-clause-kept

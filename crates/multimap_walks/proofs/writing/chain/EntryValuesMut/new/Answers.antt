@@ -10,20 +10,20 @@ returns-clause-values g c =
     let values = lent_slots c.args.values in
     let has = rw c.in-Some.is at c.requires.listed in
     let whole = along_whole c.args.keys.now values c.in-Some.field-0-0 c.in-Some.link c.requires.untaken.sound c.requires.chained has in
-    rw c.in-Some.is (ap (values_at values) whole)
+    rw (c.in-Some.is, c.ends.ensures) (ap (values_at values) whole)
 
 pub returns-clause-positions : goal.returns-clause-positions
 returns-clause-positions g c =
     let values = lent_slots c.args.values in
     let has = rw c.in-Some.is at c.requires.listed in
     let whole = along_whole c.args.keys.now values c.in-Some.field-0-0 c.in-Some.link c.requires.untaken.sound c.requires.chained has in
-    rw c.in-Some.is (ap (positions_at values) whole)
+    rw (c.in-Some.is, c.ends.ensures) (ap (positions_at values) whole)
 
 pub invariant_of-result-2 : goal.invariant_of-result-2
 invariant_of-result-2 g c =
     let r = c.requires in
     let has = rw c.in-Some.is at r.listed in
-    record {
+    rw c.ends.ensures (record {
       readable = ∣ chain_left c.args.keys.now c.args.values c.in-Some.field-0-0 c.in-Some.link r.untaken.sound r.chained has
           r.untaken.left ∣₁;
-    }
+    })
