@@ -62,9 +62,3 @@ module _ {K V S : Type 0} where
     pub ok : OnOk r (IsAppended eq key value old new)
     pub refused : IfErr r (IsRefused eq key value old new)
     pub succeeds : HasPairRoom eq old key → IsOk r
-
-  -- a refused pair is handed back, and it is refused only where there was no room
-  pub record HandsBack (eq : K → K → Bool) (key : K) (value : V) (old : Multimap K V S)
-      {X : Type 0} (r : Result X (Refused K V)) : Type 0 where
-    pub refused : IfErr r (λ pair. pair ≡ record { key = key; value = value })
-    pub succeeds : HasPairRoom eq old key → IsOk r

@@ -111,7 +111,8 @@ module _ (K V S A H : RattleType) (e : equality.Ghosts K.Denot) (k : hashed.Ghos
   EntryWalksAreExact =
       fall (MutBor (OccupiedEntry K.Denot V.Denot S.Denot A.Denot H.Denot e k b h)) (λ o.
       fall (SlotCells V.Denot ValueLink A.Denot) (λ made. fall (Cells V.Denot) (λ c.
-      fall (EndsEntry K V S A H heap o.now made) (λ _. fall (c.lender_context ≡ made.cells.lender_context) (λ _.
+      fall (EndsEntry K V S A H heap o.now made) (λ _.
+      fall (c.lender_context ≡ made.cells.lender_context) (λ _.
       fwand (lends_values_to_entry K V S A H heap o c.lender_loan)
       (fwand (ends_with V c) (entry_ends_exactly K V S A H heap o c)))))))
 

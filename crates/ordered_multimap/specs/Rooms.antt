@@ -13,13 +13,14 @@ module _ {K V S : Type 0} where
     pub empty : m.lists ≡ empty_lists
     pub unused : AreUnused m.tape
 
-  -- the same, with room for so many keys and values
+  -- a new map, with room for so many keys and values
   pub record IsNewMapFor (keys values : ℕ) (m : Multimap K V S) : Type 0 where
     pub new : IsNewMap m
     pub key_room : keys ≤ m.key_room
     pub value_room : values ≤ m.value_room
 
-  -- a new map with such room was made; it is refused only where room was asked for
+  -- a new map with room for so many keys and values was made; it is refused only where room was
+  -- asked for
   pub record StartsWithRoom (keys values : ℕ) {E : Type 0} (r : Result (Multimap K V S) E) : Type 0
     where
       pub new : IfOk r (IsNewMapFor keys values)

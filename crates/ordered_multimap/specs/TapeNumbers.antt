@@ -11,7 +11,7 @@ pub record TapeNumbers : Type 0 where
   pub freed : ℕ
   pub holes : ℕ
 
--- those of a tape
+-- the numbers of a tape
 abbrev pub numbers_of : {V L : Type 0} → Taped V L → TapeNumbers
 numbers_of t = record {
   slots = t.list.capacity;

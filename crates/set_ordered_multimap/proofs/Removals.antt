@@ -73,6 +73,3 @@ module _ {K V : Type 0} (eq : K → K → Bool) (value_eq : V → V → Bool) wh
 -- and one value is taken out
 pub takes_one : (m n : ℕ) (old new : TapeNumbers) → m ≡ n + 1 → TakesOut (m - n) old new → TakesOut 1 old new
 takes_one m n old new one taken = record { freed = omega (arith, taken.freed, one); paid = omega (arith, taken.paid, one) }
-
-pub takes_none : (numbers : TapeNumbers) → TakesOut 0 numbers numbers
-takes_none numbers = record { freed = omega arith; paid = omega arith }

@@ -171,7 +171,7 @@ module _ {K V : Type 0} (name : ℕ → ℕ) {keys keys_after : Slots K KeyLink}
         ∙ ap (option_map name) (chained.next w.old w.link w.old_listed w.link_was) ∙ ap (λ (x : ValueLink). x.next) (sym w.link_is);
   }
 
-  -- and each pair
+  -- the pairs are the same, in the same order
   pub pairs_of-relocated : pairs_of keys_after values_after ≡ pairs_of keys values
   pairs_of-relocated =
       ap (filter_map (pair_at keys_after values_after)) r.order

@@ -155,10 +155,6 @@ pub on_ok-map : {X E P Q : Type 0} → (P → Q) → (r : Result X E) → OnOk r
 on_ok-map f (Ok x) p = f p
 on_ok-map f (Err e) p = tt
 
-pub on_err-map : {X E P Q : Type 0} → (P → Q) → (r : Result X E) → OnErr r P → OnErr r Q
-on_err-map f (Ok x) p = tt
-on_err-map f (Err e) p = f p
-
 -- two facts on a refusal
 pub both_on_err : {X E : Type 0} (P Q : Type 0) (r : Result X E) → OnErr r P → OnErr r Q → OnErr r (P × Q)
 both_on_err P Q (Ok x) p q = tt
@@ -168,8 +164,3 @@ both_on_err P Q (Err e) p q = (p, q)
 pub if_err-map : {X E P : Type 0} {Q R : E → Type 0} → ((e : E) → P → Q e → R e) → (r : Result X E) → OnErr r P → IfErr r Q → IfErr r R
 if_err-map f (Ok x) p q = tt
 if_err-map f (Err e) p q = f e p q
-
--- what holds on success and on a refusal holds
-pub either : {X E P : Type 0} → (r : Result X E) → OnOk r P → OnErr r P → P
-either (Ok x) ok err = ok
-either (Err e) ok err = err

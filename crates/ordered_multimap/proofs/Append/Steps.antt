@@ -6,7 +6,7 @@ use Rattle.multimap_slots.specs.Lists.{IsIn, AreDistinct}
 use Rattle.multimap_slots.specs.Slots.{Slots, IsSound, HasRoomFor, PushesBack, item_at, link_at, with_item, with_link}
 use Rattle.multimap_slots.specs.Tapes.{Taped, KeepsCounts, with_list}
 use Rattle.multimap_slots.proofs.Callers.PlaceLists.{IsIn-append, IsIn-left, IsIn-right, AreDistinct-push}
-use Rattle.multimap_slots.proofs.Callers.ListedSlots.{link_at-with_link, KeepsOthers-with_link}
+use Rattle.multimap_slots.proofs.Callers.SlotChanges.{link_at-with_link, KeepsOthers-with_link}
 use Rattle.multimap_walks.specs.declared.links.KeyLink.{KeyLink}
 use Rattle.multimap_walks.specs.declared.links.ValueLink.{ValueLink}
 use Rattle.ordered_multimap.specs.Private.Append.{KeepsTapeRoom, PushesValue}

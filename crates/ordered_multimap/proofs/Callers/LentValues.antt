@@ -179,7 +179,7 @@ module _ {K V : Type 0} {eq : K → K → Bool} {hash : K → ℕ} {keys : Slots
   pub pairs-ended : revalued (pairs_of keys values) (pairs_of keys new) ≡ pairs_ended (pairs_of keys values) values.order ws
   pairs-ended = ended_along values.order (λ q i. i)
 
--- and so have those of a map
+-- the pairs of a map have the items that the places of its values ended with
 pub map-ended : {K V S : Type 0} {eq : K → K → Bool} {hash : K → ℕ} (m n : Multimap K V S) (rows : FinMap nat_cmp ℕ) → n ≡ m
     → Agrees eq hash n.slots.keys rows n.slots.values → n.lists.pairs ≡ pairs_of n.slots.keys n.slots.values
     → (ws : List (Option V)) → (with_values m ws).lists.pairs ≡ pairs_ended m.lists.pairs m.slots.values.order ws

@@ -10,7 +10,7 @@ use Rattle.multimap_slots.specs.Lists.{IsIn, AreDistinct}
 use Rattle.multimap_slots.specs.Slots.{Slots, IsSound, item_at, link_at, with_item}
 use Rattle.multimap_slots.specs.Tapes.{Taped, with_list}
 use Rattle.multimap_slots.proofs.Callers.PlaceLists.{AreDistinct-gone, IsIn-left}
-use Rattle.multimap_slots.proofs.Callers.ListedSlots.{item_at-with_item, KeepsOthers-with_item}
+use Rattle.multimap_slots.proofs.Callers.SlotChanges.{item_at-with_item, KeepsOthers-with_item}
 use Rattle.multimap_walks.specs.declared.End.{End}
 use Rattle.multimap_walks.specs.declared.End.TheVariants.{Front, Back}
 use Rattle.multimap_walks.specs.declared.links.ChainEnds.{ChainEnds}
@@ -123,7 +123,7 @@ module _ {K V : Type 0} {eq : K → K → Bool} {hash : K → ℕ} {keys : Slots
       (position_in values.order place) w
   pairs_of-with_item = pairs_along values.order agrees.values_sound.distinct (λ q i. i) listed
 
--- so the map stays one
+-- a map with another value at a listed place is a map
 pub IsMap-with_item : {K V : Type 0} {eq : K → K → Bool} {hash : K
     → ℕ} {keys : Slots K KeyLink} {rows : FinMap nat_cmp ℕ} {values : Taped V ValueLink}
     → IsMap eq hash keys rows values → (place : ℕ) → IsIn place values.list.order → (w : V)

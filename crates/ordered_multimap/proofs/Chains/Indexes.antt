@@ -1,10 +1,10 @@
 -- Places by their index in a chain: the ends, the steps along its links, and a list without one item.
-use Rattle.std.proofs.Common.{◌≡◌, ◌+◌, ◌-◌, ◌<◌, ◌≤◌, ℕ, zero, suc, true, List, [], ◌∷◌, ◌++◌, length, length-append, map, slice_get}
-use Rattle.std.proofs.Common.{get_or, Option, option_and_then, unwrap_or, Some, None, IsSome, refl, sym, ap, ◌∙◌, subst, inl, inr, arith}
+use Rattle.std.proofs.Common.{◌≡◌, ◌+◌, ◌-◌, ◌<◌, ℕ, zero, suc, true, List, [], ◌∷◌, ◌++◌, length, length-append, map, slice_get}
+use Rattle.std.proofs.Common.{get_or, Option, option_and_then, unwrap_or, Some, IsSome, refl, sym, ap, ◌∙◌, subst, inl, inr, arith}
 use Rattle.std.proofs.lemmas.Bool.{eq-eqb, ne_eqb}
 use Rattle.std.proofs.lemmas.List.Edits.{remove-append_right}
 use Rattle.std.proofs.lemmas.List.Elements.{filter_map-append}
-use Rattle.std.proofs.lemmas.Option.{slice_get_past, slice_get_within, slice_get-get_or}
+use Rattle.std.proofs.lemmas.Option.{slice_get_within, slice_get-get_or}
 use Rattle.std.specs.List.{filter_map, cons_option, remove}
 use Rattle.multimap_slots.specs.Lists.{IsIn, AreDistinct, first_of, next_of, previous_of, without}
 use Rattle.multimap_slots.specs.Slots.{Slots, IsSound, link_at}
@@ -34,21 +34,11 @@ module _ {X : Type 0} where
   first_indexed [] x e = e
   first_indexed (y ∷ xs) x e = e
 
-  -- of two items or more each is one of several, and of fewer none is
+  -- of two items or more each is one of several
   pub several_all : (xs : List X) → 1 < length xs → several xs ≡ xs
   several_all [] more = refl
   several_all (x ∷ []) more = absurd (omega (arith, more))
   several_all (x ∷ y ∷ xs) more = refl
-
-  pub several_none : (xs : List X) → length xs < 2 → several xs ≡ []
-  several_none [] fewer = refl
-  several_none (x ∷ []) fewer = refl
-  several_none (x ∷ y ∷ xs) fewer = absurd (omega (arith, fewer))
-
-  pub several_past : (xs : List X) (i : ℕ) → length xs ≤ i → slice_get (several xs) i ≡ None
-  several_past [] i past = refl
-  several_past (x ∷ []) i past = refl
-  several_past (x ∷ y ∷ xs) i past = slice_get_past (x ∷ y ∷ xs) i past
 
   pub of_several : (xs : List X) (i : ℕ) (x : X) → slice_get (several xs) i ≡ Some x → slice_get xs i ≡ Some x
   of_several [] i x e = e

@@ -159,7 +159,7 @@ module _ {K V : Type 0} {keys : Slots K KeyLink} {values : Slots V ValueLink} (s
   behind_own q e = IsIn-kept (is_value_of values link.key) q values.order
       (subst (IsIn q) (sym parts.is) (IsIn-right q parts.front (place ∷ parts.back) (inr (in_back q e))))
 
-  -- and other places
+  -- the neighbours of a place are other places
   pub before_other : (q : ℕ) → link.previous ≡ Some q → q ≢ place
   before_other q e same = apart (IsIn-left place parts.front parts.back (subst (λ p. IsIn p parts.front) same (in_front q e)))
 
@@ -190,9 +190,3 @@ module _ {K V : Type 0} {keys : Slots K KeyLink} {values : Slots V ValueLink} (s
         other false e differs = e
         other true e differs = elim (subst (IsIn q) chain-only
             (IsIn-filter (is_value_of values link.key) q values.order e i)) [ inl same ↦ absurd (differs same) | inr never ↦ absurd never ]
-
-    pub head-only : (k : KeyLink) → IsIn link.key keys.order → link_at keys link.key ≡ Some k → k.head ≡ place
-    head-only k i is =
-        let e : Some k.head ≡ Some place = sym (chained.head link.key k i is) ∙ ap first_of chain-only in
-        let same : k.head ≡ place = cc in
-        same

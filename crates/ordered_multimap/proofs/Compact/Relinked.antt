@@ -7,7 +7,7 @@ use Rattle.multimap_slots.specs.Tapes.{Taped, MovesDown}
 use Rattle.multimap_slots.proofs.Callers.PlaceLists.{IsIn-was, IsIn-left, AreDistinct-gone, next_of-split}
 use Rattle.multimap_slots.proofs.Callers.TapePlaces.{previous_of-first}
 use Rattle.multimap_slots.proofs.Callers.PlaceLists.{IsIn-besides}
-use Rattle.multimap_slots.proofs.Callers.ListedSlots.{link_at-with_link, KeepsOthers-with_link}
+use Rattle.multimap_slots.proofs.Callers.SlotChanges.{link_at-with_link, KeepsOthers-with_link}
 use Rattle.multimap_walks.specs.declared.links.KeyLink.{KeyLink}
 use Rattle.multimap_walks.specs.declared.links.ValueLink.{ValueLink}
 use Rattle.multimap_walks.specs.Chained.{IsChained, is_value_of, chain_of}

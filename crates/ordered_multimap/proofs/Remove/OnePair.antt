@@ -59,14 +59,14 @@ has_chain agrees place listed = record { listed = listed; chains = are_chained a
 pub has_fitting_chain : {K V : Type 0} {eq : K → K → Bool} {hash : K → ℕ} {keys : Slots K KeyLink} {rows : FinMap nat_cmp ℕ}
     {values : Taped V ValueLink}
     → IsMap eq hash keys rows values → (place : ℕ) → IsIn place keys.order → HasFittingChain keys values place
-has_fitting_chain m place listed = record { stands = has_chain m.agrees place listed; fits = m.fits }
+has_fitting_chain m place listed = record { chain = has_chain m.agrees place listed; fits = m.fits }
 
--- and it has a row
+-- a listed key has its values, and a row in the table
 pub has_entry : {K V : Type 0} {eq : K → K → Bool} {hash : K → ℕ} {keys : Slots K KeyLink} {rows : FinMap nat_cmp ℕ}
     {values : Slots V ValueLink}
     → Agrees eq hash keys rows values → (place : ℕ) → IsIn place keys.order → HasEntry keys rows values place
 has_entry agrees place listed = record {
-  stands = has_chain agrees place listed;
+  chain = has_chain agrees place listed;
   row = λ l is. agrees.in_table place l listed is;
 }
 

@@ -61,7 +61,7 @@ neither : (a b : Bool) → (a || b) ≡ false → (a ≡ false) × (b ≡ false)
 neither true b e = absurd (true≢false e)
 neither false b e = (refl, e)
 
--- one more that is left out
+-- a list without one more of its items
 filter-without : (gone : ℕ → Bool) (p : ℕ) (qs : List ℕ)
     → without (filter (λ q. not (gone q)) qs) p ≡ filter (λ q. not (gone q || (p == q))) qs
 filter-without gone p [] = refl

@@ -1,7 +1,7 @@
 -- Values leave the list one after another, in any of the ways.
-use Rattle.std.proofs.Common.{◌≡◌, ℕ, ◌+◌, suc, Bool, true, List, length, get_or, slice_get, Option, Some, None, refl, ap, ◌∙◌, arith}
+use Rattle.std.proofs.Common.{◌≡◌, ℕ, ◌+◌, suc, Bool, true, List, length, Option, Some, None, refl, ap, ◌∙◌, arith}
 use Rattle.multimap_slots.specs.Lists.{last_of}
-use Rattle.multimap_slots.specs.Slots.{Detaches, KeepsOthers, Slots}
+use Rattle.multimap_slots.specs.Slots.{Slots}
 use Rattle.multimap_slots.specs.Tapes.{Taped}
 use Rattle.multimap_walks.specs.declared.links.ValueLink.{ValueLink}
 use Rattle.ordered_multimap.specs.Private.Remove.{AreUnlinked, IsRow, IsTaking, KeepsContents, UnlinksValue}
@@ -9,19 +9,12 @@ use Rattle.ordered_multimap.specs.TapeNumbers.{TakesOut, numbers_of}
 use Rattle.ordered_multimap.proofs.Chains.LongerLists.{last_or-push}
 use Rattle.ordered_multimap.proofs.Remove.ValueByValue.{gone-step, taking-first, taking-step}
 
--- what is detached changes no other place
-pub detaches_others : {V : Type 0} {old new : Slots V ValueLink} {place : ℕ} → Detaches old new place → KeepsOthers old new place
-detaches_others {V} detaches = record {
-  items = λ q differs. ap (λ (is : List (Option V)). get_or is q None) detaches.items;
-  links = λ q differs. ap (λ ls. slice_get ls q) detaches.links;
-}
-
 pub same_contents : {V : Type 0} (values : Slots V ValueLink) → KeepsContents values values
 same_contents values = record { items = refl; links = refl }
 
 module _ {V : Type 0} {keeps : Bool} {values : Taped V ValueLink} {first count : ℕ} {row : List ℕ}
     (in_row : IsRow values.list first count row) where
-  -- one more
+  -- the place behind those of the row that have left leaves too
   leaving-next : (n p : ℕ) (mid : Taped V ValueLink)
       (taking : IsTaking row n (Some p) values.list mid.list) → (keeps ≡ true → KeepsContents values.list mid.list)
       → mid.moved ≡ values.moved → mid.freed ≡ values.freed + n → mid.holes ≡ values.holes + n

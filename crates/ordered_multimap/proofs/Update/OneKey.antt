@@ -11,7 +11,7 @@ use Rattle.multimap_slots.specs.Lists.{IsIn, AreDistinct, first_of, next_of}
 use Rattle.multimap_slots.specs.Slots.{Slots, item_at, link_at, with_item}
 use Rattle.multimap_slots.specs.Tapes.{Taped}
 use Rattle.multimap_slots.proofs.Callers.PlaceLists.{AreDistinct-gone, IsIn-left, IsIn-right, next_of-split}
-use Rattle.multimap_slots.proofs.Callers.ListedSlots.{KeepsOthers-with_item}
+use Rattle.multimap_slots.proofs.Callers.SlotChanges.{KeepsOthers-with_item}
 use Rattle.multimap_walks.specs.declared.links.KeyLink.{KeyLink}
 use Rattle.multimap_walks.specs.declared.links.ValueLink.{ValueLink}
 use Rattle.multimap_walks.specs.Chained.{chain_of, pairs_of, position_in, positions_at, values_at}

@@ -8,7 +8,8 @@ use Rattle.multimap_slots.specs.Slots.{Slots, IsSound, PushesBack, item_at, link
 use Rattle.multimap_walks.specs.declared.links.KeyLink.{KeyLink}
 use Rattle.multimap_walks.specs.declared.links.ValueLink.{ValueLink}
 use Rattle.multimap_walks.specs.Chained.{position_in}
-use Rattle.ordered_multimap.specs.Private.KeyRelocations.{HasRows, HaveNewPlaces, new_place_in, with_new_key}
+use Rattle.ordered_multimap.specs.Private.KeyRelocations.{HasRows, HaveNewPlaces}
+use Rattle.ordered_multimap.specs.Private.KeyRelocations.{new_place_in, with_new_key}
 use Rattle.ordered_multimap.specs.Private.Relocations.{relocated_key, relocated_value}
 
 -- at each place of the order its rank: how many places stand before it

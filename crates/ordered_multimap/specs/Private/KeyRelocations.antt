@@ -63,7 +63,8 @@ module _ (name : ℕ → ℕ) where
 -- the key at the place has gone from one list to the end of the other, with its link and a row of
 -- its hash, and its new place is noted
 pub record MovesKey {K : Type 0} (keys keys_after packed packed_after : Slots K KeyLink)
-    (rows rows_after : FinMap nat_cmp ℕ) (new_places new_places_after : List ℕ) (place : ℕ) : Type 0 where
+    (rows rows_after : FinMap nat_cmp ℕ) (new_places new_places_after : List ℕ) (place : ℕ)
+    : Type 0 where
   pub key : K
   pub link : KeyLink
   pub to : ℕ

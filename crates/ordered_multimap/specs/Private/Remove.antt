@@ -59,14 +59,15 @@ pub record IsRow {V : Type 0} (values : Slots V ValueLink) (first count : ℕ) (
 -- a value leaves, or values leave together, in a way that keeps what stands in the slots or not
 module _ {V : Type 0} (keeps : Bool) where
   -- the value at the place has left the list, with this link
-  pub record UnlinksValue (old new : Taped V ValueLink) (place : ℕ) (link : ValueLink) : Type 0 where
-    pub link_is : link_at old.list place ≡ Some link
-    pub order : new.list.order ≡ without old.list.order place
-    pub shorter : length new.list.order + 1 ≡ length old.list.order
-    pub others : KeepsOthers old.list new.list place
-    pub capacity : new.list.capacity ≡ old.list.capacity
-    pub kept : keeps ≡ true → KeepsContents old.list new.list
-    pub frees : Frees old new
+  pub record UnlinksValue (old new : Taped V ValueLink) (place : ℕ) (link : ValueLink) : Type 0
+    where
+      pub link_is : link_at old.list place ≡ Some link
+      pub order : new.list.order ≡ without old.list.order place
+      pub shorter : length new.list.order + 1 ≡ length old.list.order
+      pub others : KeepsOthers old.list new.list place
+      pub capacity : new.list.capacity ≡ old.list.capacity
+      pub kept : keeps ≡ true → KeepsContents old.list new.list
+      pub frees : Frees old new
 
   -- of a row of places the first n have left, up to the last one of these, and each is counted
   pub record AreUnlinked (row : List ℕ) (n last : ℕ) (following : Option ℕ)
@@ -120,20 +121,20 @@ pub record HasChain {K V : Type 0} (keys : Slots K KeyLink) (values : Slots V Va
 -- the same, and the key has a row, with the hash of its link
 pub record HasEntry {K V : Type 0} (keys : Slots K KeyLink) (rows : FinMap nat_cmp ℕ)
     (values : Slots V ValueLink) (place : ℕ) : Type 0 where
-  pub stands : HasChain keys values place
+  pub chain : HasChain keys values place
   pub row : (l : KeyLink) → link_at keys place ≡ Some l → get rows place ≡ Some l.hash
 
 -- the key at the place is listed and both lists are chained, and the values fill no more than half
 -- of the slots
 pub record HasFittingChain {K V : Type 0} (keys : Slots K KeyLink) (values : Taped V ValueLink)
     (place : ℕ) : Type 0 where
-  pub stands : HasChain keys values.list place
+  pub chain : HasChain keys values.list place
   pub fits : HasTapeRoomFor values 0
 
 -- or there is a slot behind the values
 pub record HasChainBeforeRoom {K V : Type 0} (keys : Slots K KeyLink) (values : Taped V ValueLink)
     (place : ℕ) : Type 0 where
-  pub stands : HasChain keys values.list place
+  pub chain : HasChain keys values.list place
   pub room : HasEndRoom values
 
 -- all values of the key at the place have left but its last one, whose link and that of the key

@@ -108,7 +108,7 @@ abbrev pub TakesPair : {K V : Type 0} (keys keys_after : Slots K KeyLink)
 TakesPair keys keys_after rows rows_after values values_after place taken =
     TakesByKey keys keys_after rows rows_after values values_after place taken.value taken.key
 
--- that, and its slot is a hole; no room has changed
+-- the pair at the place has left the map, its slot is a hole, and no room has changed
 pub record LeavesPair {K V : Type 0} (keys keys_after : Slots K KeyLink) (table table_after : Table)
     (values values_after : Taped V ValueLink) (place : ℕ) (taken : Taken K V) : Type 0 where
   pub takes : TakesPair keys keys_after table.rows table_after.rows

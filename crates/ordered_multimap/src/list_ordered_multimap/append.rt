@@ -5,14 +5,15 @@ ghost use Rattle.multimap_slots.specs.Slots.{HasItem};
 ghost use Rattle.multimap_slots.specs.Tapes.{HasTapeRoomFor};
 ghost use Rattle.ordered_multimap.specs.Private.Append.{AppendsBehind, AppendsFirst, FitsOneMore, GrowsFor};
 ghost use Rattle.ordered_multimap.specs.Private.Append.{HandsBackAt, HasCountedChains, HasListedRows, MakesRoom};
-ghost use Rattle.ordered_multimap.specs.Additions.{Appends, IsAppendedAt, RefusesValue};
+ghost use Rattle.ordered_multimap.specs.Additions.{Appends, IsAppended, IsAppendedAt, IsRefused, RefusesValue};
 ghost use Rattle.ordered_multimap.specs.Private.KeySteps.{KeepsPlace};
 ghost use Rattle.ordered_multimap.specs.Agrees.{HasKey, hash_of};
 ghost use Rattle.ordered_multimap.specs.Private.Relocations.{AreRelocated};
 ghost use Rattle.ordered_multimap.specs.Private.Remove.{HasChain};
 ghost use Rattle.ordered_multimap.specs.Keys.{is_listed};
 ghost use Rattle.ordered_multimap.specs.Pairs.{is_present};
-ghost use Rattle.ordered_multimap.specs.Rooms.{HasValueRoom};
+ghost use Rattle.ordered_multimap.specs.Rooms.{HasPairRoom, HasValueRoom};
+ghost use Rattle.ordered_multimap.specs.TapeNumbers.{ArePaid};
 
 pub(crate) mod steps;
 
@@ -46,7 +47,10 @@ impl<K: Eq + Hash, V, S: BuildHasher, A: Allocator + Copy> ListOrderedMultimap<K
         V: Drop,
         ensures present { IfOk result (λ present.
             present ≡ is_present K.eq self.old.lists.pairs key) }
-        ensures appends { Appends K.eq key value self.old self.new result }
+        ensures ok { OnOk result (IsAppended K.eq key value self.old self.new) }
+        ensures refused { IfErr result (IsRefused K.eq key value self.old self.new) }
+        ensures succeeds { HasPairRoom K.eq self.old key → IsOk result }
+        ensures paid { ArePaid self.new.tape }
     {
         let (hash, place) = self.look_up(&key);
         let Some(place) = place else {
@@ -68,6 +72,7 @@ impl<K: Eq + Hash, V, S: BuildHasher, A: Allocator + Copy> ListOrderedMultimap<K
         requires absent { is_listed K.eq self.old.lists.keys key ≡ false }
         ensures found { IfOk result (HasKey K.eq self.new.slots.keys key) }
         ensures appends { Appends K.eq key value self.old self.new result }
+        ensures paid { ArePaid self.new.tape }
     {
         append_first(
             &mut self.keys,
@@ -89,6 +94,7 @@ impl<K: Eq + Hash, V, S: BuildHasher, A: Allocator + Copy> ListOrderedMultimap<K
         ensures ok { OnOk result (IsAppendedAt K.eq place value self.old self.new) }
         ensures refused { IfErr result (RefusesValue value self.old self.new) }
         ensures succeeds { HasValueRoom self.old → IsOk result }
+        ensures paid { ArePaid self.new.tape }
     {
         append_behind(&mut self.keys, &mut self.values, place, value)
     }

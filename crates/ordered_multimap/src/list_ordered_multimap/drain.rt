@@ -124,10 +124,10 @@ impl<K: Eq + Hash, V: Drop, S: BuildHasher, A: Allocator> ListOrderedMultimap<K,
 
 impl<K: Eq + Hash, V: Drop, S: BuildHasher, A: Allocator + Copy> ListOrderedMultimap<K, V, S, A> {
     ghost use Rattle.std.specs.Borrow.{sem};
-    ghost use Rattle.std.specs.Prelude.{IfOk};
+    ghost use Rattle.std.specs.Prelude.{IfErr, IfOk, IsOk};
     ghost use Rattle.ordered_multimap.specs.DrainLends.{ends_inserted};
     ghost use Rattle.ordered_multimap.specs.Drains.{DrainsInserted};
-    ghost use Rattle.ordered_multimap.specs.Additions.{HandsBack};
+    ghost use Rattle.ordered_multimap.specs.Rooms.{HasPairRoom};
 
     /// Takes all pairs of the key out, puts the pair last, and hands the old values out one by
     /// one; none where the key was absent. A present key stays as it was stored, and keeps its
@@ -152,7 +152,8 @@ impl<K: Eq + Hash, V: Drop, S: BuildHasher, A: Allocator + Copy> ListOrderedMult
             K.Hash.own S.BuildHasher S.Hasher.Hasher A.Allocator self.entry key result) }
         ensures drain { IfOk result (DrainsInserted K.eq self.old key value) }
         ensures same_map { IfOk result (λ d. d.map.ghost_name ≡ self.entry.ghost_name) }
-        ensures hands_back { HandsBack K.eq key value self.old result }
+        ensures refused { IfErr result (λ pair. pair ≡ record { key = key; value = value }) }
+        ensures succeeds { HasPairRoom K.eq self.old key → IsOk result }
     {
         self.insert_detaching(key, value)?;
         Ok(EntryValuesDrain { map: self })

@@ -10,6 +10,7 @@ ghost use Rattle.ordered_multimap.specs.Private.Relocations.{KeepsCapacities};
 ghost use Rattle.ordered_multimap.specs.Pairs.{values_of};
 ghost use Rattle.ordered_multimap.specs.Changes.{inserted};
 ghost use Rattle.ordered_multimap.specs.Rooms.{HasInsertRoom};
+ghost use Rattle.ordered_multimap.specs.TapeNumbers.{ArePaid};
 ghost use Rattle.ordered_multimap.specs.Additions.{IsInserted, IsRefused};
 
 use super::remove::chain::replace_chain;
@@ -44,6 +45,7 @@ impl<K: Eq + Hash, V, S: BuildHasher, A: Allocator + Copy> ListOrderedMultimap<K
         ensures ok { OnOk result (IsInserted K.eq key value self.old self.new) }
         ensures refused { IfErr result (IsRefused K.eq key value self.old self.new) }
         ensures succeeds { HasInsertRoom K.eq self.old key → IsOk result }
+        ensures paid { ArePaid self.new.tape }
     {
         let (hash, place) = self.look_up(&key);
         let Some(place) = place else {
@@ -66,6 +68,7 @@ impl<K: Eq + Hash, V, S: BuildHasher, A: Allocator> ListOrderedMultimap<K, V, S,
             → slice_get (values_of K.eq self.old.lists.pairs k) 0 ≡ Some result }
         ensures inserted { (k : K) → HasKey K.eq self.old.slots.keys k place
             → LosesValues K.eq self.old self.new k (inserted K.eq self.old.lists k value) }
+        ensures paid { ArePaid self.new.tape }
     {
         insert_behind(&mut self.keys, &mut self.values, place, value)
     }

@@ -2,7 +2,7 @@
 ghost use Rattle.std.specs.Prelude.{◌≡◌, ◌≤◌, ◌+◌, ℕ, Some};
 ghost use Rattle.std.specs.FinMap.{len};
 ghost use Rattle.multimap_slots.specs.Lists.{IsIn};
-ghost use Rattle.multimap_slots.specs.Slots.{HasRoomFor, PushesBack};
+ghost use Rattle.multimap_slots.specs.Slots.{HasRoomFor};
 ghost use Rattle.multimap_slots.specs.Tapes.{HasEndRoom};
 ghost use Rattle.ordered_multimap.specs.Private.Append.{ComesLast, HasListedRows, KeepsTapeRoom, link_of_one};
 ghost use Rattle.ordered_multimap.specs.Private.Append.{PushesBehind, PushesRow, PushesValue};
@@ -26,20 +26,6 @@ pub(crate) fn new_link(hash: u64, place: usize) -> KeyLink
     }
 }
 
-/// Puts the value in the slot behind those in use, and returns its place.
-#[inline(always)]
-fn push_slot<V, A: Allocator>(
-    values: &mut Tape<V, ValueLink, A>,
-    value: V,
-    link: ValueLink,
-) -> usize
-    requires { HasEndRoom values.old }
-    ensures pushed { PushesBack values.old.list values.new.list result value link }
-    ensures last { ComesLast values.old values.new result }
-{
-    values.push_reserved(value, link)
-}
-
 /// Puts the value last, behind the value at the tail in the chain of its key, and returns its
 /// place.
 #[inline(always)]
@@ -59,7 +45,7 @@ pub(crate) fn push_value<V, A: Allocator>(
         previous: tail,
         next: None,
     };
-    let place = push_slot(values, value, link);
+    let place = values.push_reserved(value, link);
     set_next(values, tail, Some(place));
     place
 }

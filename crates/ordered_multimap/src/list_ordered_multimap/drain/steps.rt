@@ -2,14 +2,13 @@
 ghost use Rattle.std.specs.Prelude.{◌≡◌, find, length, option_map, slice_get};
 ghost use Rattle.std.specs.Prelude.{IfErr, IfNone, IfSome, OnErr, OnOk, IsOk};
 ghost use Rattle.multimap_slots.specs.Lists.{IsIn};
-ghost use Rattle.ordered_multimap.specs.Additions.{HandsBack};
 ghost use Rattle.ordered_multimap.specs.Private.Append.{KeepsTapeRoom};
 ghost use Rattle.ordered_multimap.specs.Agrees.{HasKey};
 ghost use Rattle.ordered_multimap.specs.Changes.{inserted, removed, removed_where};
 ghost use Rattle.ordered_multimap.specs.Keys.{stored_key, stored_where};
 ghost use Rattle.ordered_multimap.specs.Private.KeySteps.{DetachesValues, DetachesWhere, HoldsInRoom, KeepsBothLists};
 ghost use Rattle.ordered_multimap.specs.Pairs.{values_of, values_where};
-ghost use Rattle.ordered_multimap.specs.Rooms.{HasValueRoom, KeepsRooms, RaisesNoRoom, SameRooms};
+ghost use Rattle.ordered_multimap.specs.Rooms.{HasPairRoom, HasValueRoom, KeepsRooms, RaisesNoRoom, SameRooms};
 ghost use Rattle.ordered_multimap.specs.TapeNumbers.{TakesOut};
 ghost use Rattle.multimap_walks.specs.ChainWalk.{detached_walk};
 ghost use Rattle.multimap_walks.specs.Walk.{TakesEnd};
@@ -148,7 +147,8 @@ impl<K: Eq + Hash, V, S: BuildHasher, A: Allocator + Copy> ListOrderedMultimap<K
         ensures ok { OnOk result (DetachesValues K.eq self.old self.new key
             (inserted K.eq self.old.lists key value)) }
         ensures unchanged { OnErr result (KeepsBothLists self.old self.new) }
-        ensures hands_back { HandsBack K.eq key value self.old result }
+        ensures refused { IfErr result (λ pair. pair ≡ record { key = key; value = value }) }
+        ensures succeeds { HasPairRoom K.eq self.old key → IsOk result }
         ensures rooms { KeepsRooms self.old self.new }
         ensures had_room { RaisesNoRoom K.eq key self.old self.new }
     {

@@ -1,8 +1,8 @@
 //! `entry`, and the calls of an entry that is occupied or vacant.
-ghost use Rattle.std.specs.Prelude.{◌≡◌, Some, None, true, false, IfOk, unwrap_or};
+ghost use Rattle.std.specs.Prelude.{◌≡◌, Some, None, true, false, IfErr, IfOk, unwrap_or};
 ghost use Rattle.std.specs.Borrow.{MutBor, sem};
 ghost use Rattle.std.specs.Option.{UnwrapsOrElse};
-ghost use Rattle.ordered_multimap.specs.Entries.{HandsEntryBack, IsEnteredBy, IsEnteredWith, IsEntryOf, IsEntryThere, IsModified};
+ghost use Rattle.ordered_multimap.specs.Entries.{FindsRoom, IsEnteredBy, IsEnteredWith, IsEntryOf, IsEntryThere, IsModified};
 ghost use Rattle.ordered_multimap.specs.Entries.{entry_map, entry_map_ref, first_value, is_occupied};
 ghost use Rattle.ordered_multimap.specs.EntryLends.{lends_entered, rests_with_entry};
 ghost use Rattle.ordered_multimap.specs.Pairs.{is_present};
@@ -80,8 +80,9 @@ impl<'map, K: Eq + Hash, V: Drop, S: BuildHasher, A: Allocator + Copy> Entry<'ma
             A.Allocator self.entry result) }
         ensures value { IfOk result (λ v. (k : K) → IsEntryOf self.entry k
             → v.now ≡ unwrap_or (first_value self.entry k) value) }
-        ensures hands_back { HandsEntryBack self.entry
-            (λ k pair. pair ≡ record { key = k; value = value }) result }
+        ensures refused { IfErr result (λ pair. (k : K) → IsEntryOf self.entry k
+            → pair ≡ record { key = k; value = value }) }
+        ensures succeeds { FindsRoom self.entry result }
     {
         match self {
             Entry::Occupied(entry) => Ok(entry.into_mut()),
@@ -102,8 +103,9 @@ impl<'map, K: Eq + Hash, V: Drop, S: BuildHasher, A: Allocator + Copy> Entry<'ma
             A.Allocator self.entry result) }
         ensures value { IfOk result (λ v. (k : K) → IsEntryOf self.entry k
             → UnwrapsOrElse (first_value self.entry k) (F.post f) v.now) }
-        ensures hands_back { HandsEntryBack self.entry
-            (λ k pair. (pair.key ≡ k) × F.post f pair.value) result }
+        ensures refused { IfErr result (λ pair. (k : K) → IsEntryOf self.entry k
+            → (pair.key ≡ k) × F.post f pair.value) }
+        ensures succeeds { FindsRoom self.entry result }
     {
         match self {
             Entry::Occupied(occupied) => Ok(occupied.into_mut()),
@@ -123,8 +125,9 @@ impl<'map, K: Eq + Hash, V: Drop, S: BuildHasher, A: Allocator + Copy> Entry<'ma
             self.entry result) }
         ensures ok { IfOk result (λ o. IsEnteredBy self.entry value o.map.now) }
         ensures entry { IfOk result (IsEntryThere self.entry) }
-        ensures hands_back { HandsEntryBack self.entry
-            (λ k pair. pair ≡ record { key = k; value = value }) result }
+        ensures refused { IfErr result (λ pair. (k : K) → IsEntryOf self.entry k
+            → pair ≡ record { key = k; value = value }) }
+        ensures succeeds { FindsRoom self.entry result }
     {
         self.or_insert_with_entry(|| value)
     }
@@ -145,8 +148,9 @@ impl<'map, K: Eq + Hash, V: Drop, S: BuildHasher, A: Allocator + Copy> Entry<'ma
             self.entry result) }
         ensures ok { IfOk result (λ o. IsEnteredWith (F.post f) self.entry o.map.now) }
         ensures entry { IfOk result (IsEntryThere self.entry) }
-        ensures hands_back { HandsEntryBack self.entry
-            (λ k pair. (pair.key ≡ k) × F.post f pair.value) result }
+        ensures refused { IfErr result (λ pair. (k : K) → IsEntryOf self.entry k
+            → (pair.key ≡ k) × F.post f pair.value) }
+        ensures succeeds { FindsRoom self.entry result }
     {
         match self {
             Entry::Occupied(entry) => {

@@ -14,6 +14,7 @@ ghost use Rattle.ordered_multimap.specs.Keys.{stored_key};
 ghost use Rattle.ordered_multimap.specs.Pairs.{positions_of, values_of};
 ghost use Rattle.ordered_multimap.specs.Removals.{LosesValues};
 ghost use Rattle.ordered_multimap.specs.Rooms.{HasValueRoom};
+ghost use Rattle.ordered_multimap.specs.TapeNumbers.{ArePaid};
 ghost use Rattle.ordered_multimap.specs.Writes.{IsWritten, with_first};
 
 use super::OccupiedEntry;
@@ -148,6 +149,7 @@ impl<'map, K: Eq + Hash, V, S: BuildHasher, A: Allocator> OccupiedEntry<'map, K,
             self.old.map.now self.new.map.now) }
         ensures refused { IfErr result (RefusesValue value self.old.map.now self.new.map.now) }
         ensures succeeds { HasValueRoom self.old.map.now → IsOk result }
+        ensures paid { ArePaid self.new.map.now.tape }
     {
         let place = self.place;
         self.map.append_at(place, value)
@@ -168,6 +170,7 @@ impl<'map, K: Eq + Hash, V, S: BuildHasher, A: Allocator> OccupiedEntry<'map, K,
             → slice_get (values_of K.eq self.old.map.now.lists.pairs k) 0 ≡ Some result }
         ensures inserted { (k : K) → IsOccupiedBy self.old k → LosesValues K.eq
             self.old.map.now self.new.map.now k (inserted K.eq self.old.map.now.lists k value) }
+        ensures paid { ArePaid self.new.map.now.tape }
     {
         let place = self.place;
         self.map.insert_at(place, value)

@@ -1,8 +1,9 @@
 //! The calls of an entry of a key that is absent.
-ghost use Rattle.std.specs.Prelude.{◌≡◌, IfOk};
+ghost use Rattle.std.specs.Prelude.{◌≡◌, IfErr, IfOk, IsOk};
 ghost use Rattle.std.specs.Borrow.{sem};
-ghost use Rattle.ordered_multimap.specs.Additions.{HandsBack, IsAppended};
+ghost use Rattle.ordered_multimap.specs.Additions.{IsAppended};
 ghost use Rattle.ordered_multimap.specs.Entries.{IsOccupiedBy, Vacant};
+ghost use Rattle.ordered_multimap.specs.Rooms.{HasPairRoom};
 ghost use Rattle.ordered_multimap.specs.EntryLends.{lends_entered, rests_with_entry};
 
 use super::{OccupiedEntry, VacantEntry};
@@ -53,7 +54,9 @@ impl<'map, K: Eq + Hash, V: Drop, S: BuildHasher, A: Allocator + Copy> VacantEnt
         ensures* writes_back { sem 𝓛 (lends_entered K.row V.row S.row A.row S.Hasher.row
             A.Allocator (Vacant self.entry) result) }
         ensures value { IfOk result (λ v. v.now ≡ value) }
-        ensures hands_back { HandsBack K.eq self.entry.key value self.entry.map.now result }
+        ensures refused { IfErr result (λ pair.
+            pair ≡ record { key = self.entry.key; value = value }) }
+        ensures succeeds { HasPairRoom K.eq self.entry.map.now self.entry.key → IsOk result }
     {
         let VacantEntry { map, hash, key } = self;
         match map.append_new(hash, key, value) {
@@ -76,7 +79,9 @@ impl<'map, K: Eq + Hash, V: Drop, S: BuildHasher, A: Allocator + Copy> VacantEnt
             o.map.now) }
         ensures same_map { IfOk result (λ o. o.map.ghost_name ≡ self.entry.map.ghost_name) }
         ensures same_key { IfOk result (λ o. IsOccupiedBy o self.entry.key) }
-        ensures hands_back { HandsBack K.eq self.entry.key value self.entry.map.now result }
+        ensures refused { IfErr result (λ pair.
+            pair ≡ record { key = self.entry.key; value = value }) }
+        ensures succeeds { HasPairRoom K.eq self.entry.map.now self.entry.key → IsOk result }
     {
         let VacantEntry { map, hash, key } = self;
         match map.append_new(hash, key, value) {

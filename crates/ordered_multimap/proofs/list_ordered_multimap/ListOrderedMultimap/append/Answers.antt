@@ -1,5 +1,5 @@
 use Rattle.std.proofs.Common.{rules}
 use Rattle.ordered_multimap.proofs.list_ordered_multimap.ListOrderedMultimap.append.Goals as goal
 
-pub returns-in-Ok-clause-appends : goal.returns-in-Ok-clause-appends
-returns-in-Ok-clause-appends g c = search rules
+pub returns-in-Ok-clause-ok : goal.returns-in-Ok-clause-ok
+returns-in-Ok-clause-ok g c = search rules

@@ -13,7 +13,7 @@ use Rattle.ordered_multimap.proofs.list_ordered_multimap.ListOrderedMultimap.app
 
 pub append_behind-requires : goal.append_behind-requires
 append_behind-requires g c = record {
-  stands = has_chain c.self.invariant.agrees c.args.place
+  chain = has_chain c.self.invariant.agrees c.args.place
       (subst (λ m. IsIn c.args.place m.slots.keys.order) (sym c.self.view_is) c.requires);
 }
 
@@ -92,3 +92,6 @@ returns-clause-succeeds g c =
     subst (λ m. HasValueRoom m → IsOk c.append_behind.result) c.self.view_is
     (λ room. c.append_behind.ensures.hands_back.succeeds
     (fits_value g.met.K.Eq.laws i.keys i.table.rows i.values agrees i.table.capacity i.state i.left own.0 room))
+
+pub returns-clause-paid : goal.returns-clause-paid
+returns-clause-paid g c = stays_paid c.append_behind.ensures.values.taken c.self.invariant.paid

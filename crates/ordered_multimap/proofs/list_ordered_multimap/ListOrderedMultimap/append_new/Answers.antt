@@ -57,3 +57,6 @@ returns-clause-appends g c =
       succeeds = λ room. e.succeeds
           (fits_pair g.met.K.Eq.laws i.keys i.table.rows i.values agrees i.table.capacity i.state i.left c.args.key absent room);
     })
+
+pub returns-clause-paid : goal.returns-clause-paid
+returns-clause-paid g c = stays_paid c.append_first.ensures.values.taken c.self.invariant.paid

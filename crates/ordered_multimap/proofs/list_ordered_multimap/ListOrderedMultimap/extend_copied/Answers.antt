@@ -63,7 +63,7 @@ not_refused : (g : Over) (c : In-Err g) → HasRoomForPairs c.args.self.now (len
 not_refused g c room =
     let eq = g.K.PartialEq.eq in
     let left = room_left eq (map lent_pair c.loop-key.yielded) room c.loop-key.invariant.0 c.loop-key.invariant.1.rooms in
-    true≢false (sym (c.in-Err.ensures.appends.succeeds (has_pair_room eq left c.in-Some.key.now)))
+    true≢false (sym (c.in-Err.ensures.succeeds (has_pair_room eq left c.in-Some.key.now)))
 
 pub returns-in-Err-clause-extends : goal.returns-in-Err-clause-extends
 returns-in-Err-clause-extends g c =
@@ -71,13 +71,13 @@ returns-in-Err-clause-extends g c =
       c.into_iter-key-iterator.result,
       c.loop-key.yielded,
       became g at,
-      c.in-Err.ensures.appends.refused.lists ∙ c.loop-key.invariant.0,
+      c.in-Err.ensures.refused.lists ∙ c.loop-key.invariant.0,
       (
         (c.in-Some.key, c.in-Some.value),
         c.next.new.self,
         given g at,
         ap (λ r. (r.key, r.value))
-            (sym c.in-Err.ensures.appends.refused.returned),
+            (sym c.in-Err.ensures.refused.returned),
       ),
     )
 
@@ -85,7 +85,7 @@ pub returns-in-Err-clause-grows : goal.returns-in-Err-clause-grows
 returns-in-Err-clause-grows g c =
     let at = (goal.at.returns-in-Err-clause-grows g c).In-Some in
     let err = (goal.at.returns-in-Err-clause-grows g c).In-Err in
-    let e = c.in-Err.ensures.appends.refused in
+    let e = c.in-Err.ensures.refused in
     record {
       grows =
           grows_on g.K.PartialEq.eq (map lent_pair c.loop-key.yielded) (room_for_given g at)
@@ -115,7 +115,7 @@ loop-key-init g c =
 pub loop-key-preserved : goal.loop-key-preserved
 loop-key-preserved g c =
     let at = (goal.at.loop-key-preserved g c).In-Some in
-    let e = c.in_default.ensures.appends.ok in (
+    let e = c.in_default.ensures.ok in (
       e.lists
           ∙ ap (λ m. appended g.K.PartialEq.eq m c.in-Some.key.now c.in-Some.value.now) c.loop-key.invariant.0
           ∙ sym (all_appended-push g.K.PartialEq.eq c.args.self.now.lists

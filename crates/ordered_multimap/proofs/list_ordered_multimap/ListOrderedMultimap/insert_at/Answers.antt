@@ -65,3 +65,6 @@ returns-clause-inserted g c =
       taken = subst (λ m. TakesOut m (numbers_of c.self.inside.values) (numbers_of n.values))
           (sym (entry_count g.met.K.Eq.laws c.self.invariant.agrees k c.args.place has)) i.counts;
     })
+
+pub returns-clause-paid : goal.returns-clause-paid
+returns-clause-paid g c = stays_paid c.insert_behind.ensures.inserted.1.counts c.self.invariant.paid

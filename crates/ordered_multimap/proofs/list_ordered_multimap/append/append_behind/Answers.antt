@@ -5,6 +5,6 @@ use Rattle.ordered_multimap.proofs.list_ordered_multimap.append.append_behind.Go
 
 pub push_behind-requires : goal.push_behind-requires
 push_behind-requires g c = let e = c.make_value_room.ensures in record {
-  stands = chain-relocated c.requires.chain e.relocated;
+  chain = chain-relocated c.requires.chain e.relocated;
   room = ok_if c.make_value_room.result (sym c.is_err.ensures.value ∙ c.if-is_err.false) e.end_room;
 }

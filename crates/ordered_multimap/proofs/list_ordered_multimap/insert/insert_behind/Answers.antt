@@ -4,18 +4,18 @@ use Rattle.ordered_multimap.proofs.list_ordered_multimap.insert.insert_behind.Go
 
 pub make_end_room-requires-clause-slots : goal.make_end_room-requires-clause-slots
 make_end_room-requires-clause-slots g c =
-    let s = c.requires.stands in
+    let s = c.requires.chain in
     omega (arith, c.requires.fits, has_value s.chains.keys_sound s.chains.chained c.args.place s.listed)
 
 pub replace_chain-first-requires : goal.replace_chain-first-requires
 replace_chain-first-requires g c = let e = c.make_end_room.ensures in
-    record { stands = chain-relocated c.requires.stands e.relocated; room = e.end_room }
+    record { chain = chain-relocated c.requires.chain e.relocated; room = e.end_room }
 
 pub returns-clause-inserted : goal.returns-clause-inserted
 returns-clause-inserted g c =
     let e = c.make_end_room.ensures in (
       c.replace_chain-first.result.1,
-      inserts-over c.requires.stands e.relocated e.taken
+      inserts-over c.requires.chain e.relocated e.taken
           (omega (arith, c.requires.fits, e.same_length, ap (λ n. n / 2) e.capacities.capacity)) c.replace_chain-first.ensures,
     )
 

@@ -6,14 +6,14 @@ use Rattle.ordered_multimap.proofs.list_ordered_multimap.insert.insert_behind_al
 
 pub replace_chain-requires : goal.replace_chain-requires
 replace_chain-requires g c = let e = c.make_value_room.ensures in record {
-  stands = chain-relocated c.requires.stands e.relocated;
+  chain = chain-relocated c.requires.chain e.relocated;
   room = ok_if c.make_value_room.result (sym c.is_err.ensures.value ∙ c.if-is_err.false) e.end_room;
 }
 
 pub returns-clause-ok : goal.returns-clause-ok
 returns-clause-ok g c =
     let e = c.make_value_room.ensures in
-    inserts-over c.requires.stands e.relocated e.tape.taken (e.tape.fits c.requires.fits) c.replace_chain.ensures
+    inserts-over c.requires.chain e.relocated e.tape.taken (e.tape.fits c.requires.fits) c.replace_chain.ensures
 
 pub returns-clause-grows : goal.returns-clause-grows
 returns-clause-grows g c =

@@ -17,6 +17,7 @@ returns-in-Ok g c =
         writes_back = tt;
         value = new_first g.met.K.Eq.laws x.map.now.lists new.lists x.key c.args.value _ x.unlisted x.absent
             c.in-Ok.ensures.appends.ok.lists (f.value x.key has);
-        hands_back = record { refused = tt; succeeds = λ room. refl };
+        refused = tt;
+        succeeds = λ room. refl;
       },
     )

@@ -8,7 +8,7 @@ use Rattle.ordered_multimap.proofs.list_ordered_multimap.remove.chain.replace_ch
 
 pub unlink_older-requires-clause-chain : goal.unlink_older-requires-clause-chain
 unlink_older-requires-clause-chain g c =
-    let s = c.requires.stands in let h = s.chains in
+    let s = c.requires.chain in let h = s.chains in
     let p = c.push_behind.ensures.pushed in
     record {
       listed = subst (λ (k : Slots g.row.K.Denot KeyLink). IsIn c.args.place k.order) (sym p.keys_are) s.listed;
@@ -21,7 +21,7 @@ unlink_older-requires-clause-chain g c =
 
 pub unlink_older-requires-clause-more : goal.unlink_older-requires-clause-more
 unlink_older-requires-clause-more g c = λ l is.
-    let s = c.requires.stands in let h = s.chains in
+    let s = c.requires.chain in let h = s.chains in
     omega (
       arith,
       longer h.keys_sound h.chained c.args.place s.listed h.sound c.push_behind.ensures.pushed l is,

@@ -9,17 +9,17 @@ use Rattle.ordered_multimap.proofs.list_ordered_multimap.remove.chain.unlink_ent
 
 pub unlink_values-first-requires-clause-some : goal.unlink_values-first-requires-clause-some
 unlink_values-first-requires-clause-some g c =
-    let s = c.requires.stands in
+    let s = c.requires.chain in
     taking-some s.chains.sound s.chains.chained c.args.place c.slot_at.result.1 s.listed c.slot_at.ensures.link_is
 
 pub unlink_values-first-requires-clause-row : goal.unlink_values-first-requires-clause-row
 unlink_values-first-requires-clause-row g c =
-    let s = c.requires.stands in let l = c.slot_at.result.1 in
+    let s = c.requires.chain in let l = c.slot_at.result.1 in
     (_, chain_row s.chains.sound s.chains.chained c.args.place l s.listed c.slot_at.ensures.link_is l.length (omega arith))
 
 pub returns : goal.returns
 returns g c =
-    let s = c.requires.stands in
+    let s = c.requires.chain in
     let l = c.slot_at.result.1 in
     let is = c.slot_at.ensures.link_is in
     let t = c.unlink_values-first.ensures in

@@ -11,7 +11,7 @@ use Rattle.ordered_multimap.proofs.list_ordered_multimap.remove.chain.unlink_old
 
 pub unlink_values-left-requires-clause-row : goal.unlink_values-left-requires-clause-row
 unlink_values-left-requires-clause-row g c =
-    let s = c.requires.stands in let l = c.listed_link_mut-link.result.now in (
+    let s = c.requires.chain in let l = c.listed_link_mut-link.result.now in (
       _,
       chain_row s.chains.sound s.chains.chained c.args.place l s.listed c.listed_link_mut-link.ensures.value.link_is (l.length - 1)
           (omega arith),
@@ -19,7 +19,7 @@ unlink_values-left-requires-clause-row g c =
 
 pub set_previous-requires : goal.set_previous-requires
 set_previous-requires g c =
-    let s = c.requires.stands in
+    let s = c.requires.chain in
     let l = c.listed_link_mut-link.result.now in
     let is = c.listed_link_mut-link.ensures.value.link_is in
     let more = c.requires.more l is in
@@ -33,7 +33,7 @@ set_previous-requires g c =
 
 pub returns : goal.returns
 returns g c =
-    let s = c.requires.stands in
+    let s = c.requires.chain in
     let l = c.listed_link_mut-link.result.now in
     let is = c.listed_link_mut-link.ensures.value.link_is in
     let more = c.requires.more l is in
