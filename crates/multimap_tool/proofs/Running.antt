@@ -1,4 +1,3 @@
-pub mod Groups
 pub mod OrInserted
 pub mod Reserved
 pub mod Rooms

@@ -1,4 +1,3 @@
-pub mod Groups
 pub mod JsonSteps
 pub mod MapSteps
 pub mod Parts

@@ -14,7 +14,7 @@ pub record HasRoomsFor {K V S : Type 0} (m : Multimap K V S) (keys values : ℕ)
   pub values_fit : length m.lists.pairs + values ≤ m.value_room
 
 module _ {K V A : Type 0} where
-  -- the command puts one pair in, and tells no list
+  -- the command puts one pair in, and its reply lists no values
   abbrev pub IsAddition : Command K V A → Type 0
   IsAddition (Append k v) = Unit {0}
   IsAddition (Insert k v) = Unit {0}

@@ -8,7 +8,6 @@ use Rattle.std.specs.List.{AllByRecursion, AllZip, flat_map}
 use Rattle.ordered_multimap.specs.End.{End}
 use Rattle.ordered_multimap.specs.End.TheVariants.{Front, Back}
 use Rattle.ordered_multimap.specs.Pairs.{has_items}
-use Rattle.multimap_tool.specs.declared.commands.Ends.{Ends}
 use Rattle.multimap_tool.specs.declared.commands.Ends.TheVariants.{Forward, Word}
 use Rattle.multimap_tool.specs.declared.commands.Command.{Command}
 use Rattle.multimap_tool.specs.declared.commands.Command.TheVariants as commands
@@ -56,84 +55,50 @@ FitsOperand (inr (inl v)) = FitsSigned w64 v
 FitsOperand (inr (inr word)) = IsTrue (has_items word)
 
 module _ {A : Type 0} where
-  -- the word that a line begins with
+  -- the word that a line begins with, and the operands that follow it
+  abbrev pub shape_of : Command ℕ ℤ A → List ℕ × List Operand
+  shape_of (Append k v) = (codes "append", key_operand k ∷ value_operand v ∷ [])
+  shape_of (Insert k v) = (codes "insert", key_operand k ∷ value_operand v ∷ [])
+  shape_of (InsertAll k v) = (codes "insertall", key_operand k ∷ value_operand v ∷ [])
+  shape_of (SetFirst k v) = (codes "setfirst", key_operand k ∷ value_operand v ∷ [])
+  shape_of (SetFront v) = (codes "setfront", value_operand v ∷ [])
+  shape_of (SetBack v) = (codes "setback", value_operand v ∷ [])
+  shape_of (OrInsert k v) = (codes "orinsert", key_operand k ∷ value_operand v ∷ [])
+  shape_of (Get k) = (codes "get", key_operand k ∷ [])
+  shape_of (All k Forward) = (codes "all", key_operand k ∷ [])
+  shape_of (All k (Word word)) = (codes "walk", key_operand k ∷ word_operand word.items ∷ [])
+  shape_of (Has k) = (codes "has", key_operand k ∷ [])
+  shape_of (Len k) = (codes "len", key_operand k ∷ [])
+  shape_of commands.Front = (codes "front", [])
+  shape_of commands.Back = (codes "back", [])
+  shape_of (Remove k) = (codes "remove", key_operand k ∷ [])
+  shape_of (RemoveAll k) = (codes "removeall", key_operand k ∷ [])
+  shape_of (RemoveEntry k) = (codes "removeentry", key_operand k ∷ [])
+  shape_of (RemoveEntryAll k) = (codes "removeentryall", key_operand k ∷ [])
+  shape_of (RemoveAt k i) = (codes "removeat", key_operand k ∷ key_operand i ∷ [])
+  shape_of PopFront = (codes "popfront", [])
+  shape_of PopBack = (codes "popback", [])
+  shape_of (Retain v) = (codes "retain", value_operand v ∷ [])
+  shape_of (Reserve a b) = (codes "reserve", key_operand a ∷ key_operand b ∷ [])
+  shape_of Clear = (codes "clear", [])
+  shape_of PackToFit = (codes "packtofit", [])
+  shape_of Swap = (codes "swap", [])
+  shape_of Json = (codes "json", [])
+  shape_of Json2 = (codes "json2", [])
+  shape_of (Pairs Forward) = (codes "pairs", [])
+  shape_of (Pairs (Word word)) = (codes "walkpairs", word_operand word.items ∷ [])
+  shape_of (Keys Forward) = (codes "keys", [])
+  shape_of (Keys (Word word)) = (codes "walkkeys", word_operand word.items ∷ [])
+  shape_of (Values Forward) = (codes "values", [])
+  shape_of (Values (Word word)) = (codes "walkvalues", word_operand word.items ∷ [])
+  shape_of KeyLists = (codes "lists", [])
+  shape_of Lengths = (codes "lengths", [])
+
   abbrev pub name_of : Command ℕ ℤ A → List ℕ
-  name_of (Append k v) = codes "append"
-  name_of (Insert k v) = codes "insert"
-  name_of (InsertAll k v) = codes "insertall"
-  name_of (SetFirst k v) = codes "setfirst"
-  name_of (SetFront v) = codes "setfront"
-  name_of (SetBack v) = codes "setback"
-  name_of (OrInsert k v) = codes "orinsert"
-  name_of (Get k) = codes "get"
-  name_of (All k Forward) = codes "all"
-  name_of (All k (Word word)) = codes "walk"
-  name_of (Has k) = codes "has"
-  name_of (Len k) = codes "len"
-  name_of commands.Front = codes "front"
-  name_of commands.Back = codes "back"
-  name_of (Remove k) = codes "remove"
-  name_of (RemoveAll k) = codes "removeall"
-  name_of (RemoveEntry k) = codes "removeentry"
-  name_of (RemoveEntryAll k) = codes "removeentryall"
-  name_of (RemoveAt k i) = codes "removeat"
-  name_of PopFront = codes "popfront"
-  name_of PopBack = codes "popback"
-  name_of (Retain v) = codes "retain"
-  name_of (Reserve a b) = codes "reserve"
-  name_of Clear = codes "clear"
-  name_of PackToFit = codes "packtofit"
-  name_of Swap = codes "swap"
-  name_of Json = codes "json"
-  name_of Json2 = codes "json2"
-  name_of (Pairs Forward) = codes "pairs"
-  name_of (Pairs (Word word)) = codes "walkpairs"
-  name_of (Keys Forward) = codes "keys"
-  name_of (Keys (Word word)) = codes "walkkeys"
-  name_of (Values Forward) = codes "values"
-  name_of (Values (Word word)) = codes "walkvalues"
-  name_of KeyLists = codes "lists"
-  name_of Lengths = codes "lengths"
+  name_of command = (shape_of command).0
 
-  -- the operand of a walk
-  abbrev pub word_of : Ends A → List Operand
-  word_of Forward = []
-  word_of (Word word) = word_operand word.items ∷ []
-
-  -- what follows the word
   abbrev pub operands_of : Command ℕ ℤ A → List Operand
-  operands_of (Append k v) = key_operand k ∷ value_operand v ∷ []
-  operands_of (Insert k v) = key_operand k ∷ value_operand v ∷ []
-  operands_of (InsertAll k v) = key_operand k ∷ value_operand v ∷ []
-  operands_of (SetFirst k v) = key_operand k ∷ value_operand v ∷ []
-  operands_of (SetFront v) = value_operand v ∷ []
-  operands_of (SetBack v) = value_operand v ∷ []
-  operands_of (OrInsert k v) = key_operand k ∷ value_operand v ∷ []
-  operands_of (Get k) = key_operand k ∷ []
-  operands_of (All k ends) = key_operand k ∷ word_of ends
-  operands_of (Has k) = key_operand k ∷ []
-  operands_of (Len k) = key_operand k ∷ []
-  operands_of commands.Front = []
-  operands_of commands.Back = []
-  operands_of (Remove k) = key_operand k ∷ []
-  operands_of (RemoveAll k) = key_operand k ∷ []
-  operands_of (RemoveEntry k) = key_operand k ∷ []
-  operands_of (RemoveEntryAll k) = key_operand k ∷ []
-  operands_of (RemoveAt k i) = key_operand k ∷ key_operand i ∷ []
-  operands_of PopFront = []
-  operands_of PopBack = []
-  operands_of (Retain v) = value_operand v ∷ []
-  operands_of (Reserve a b) = key_operand a ∷ key_operand b ∷ []
-  operands_of Clear = []
-  operands_of PackToFit = []
-  operands_of Swap = []
-  operands_of Json = []
-  operands_of Json2 = []
-  operands_of (Pairs ends) = word_of ends
-  operands_of (Keys ends) = word_of ends
-  operands_of (Values ends) = word_of ends
-  operands_of KeyLists = []
-  operands_of Lengths = []
+  operands_of command = (shape_of command).1
 
   -- the line of a command: its word, and each operand after one space
   abbrev pub spelling_of : Command ℕ ℤ A → List ℕ
@@ -164,7 +129,7 @@ pub record IsFirstBadLine (A : Type 0) (lines : List (List ℕ)) (n : ℕ) : Typ
   pub good : SpellEach commands before
   pub bad : IsBadLine A line
 
--- one more byte at the front of the first line
+-- the byte goes to the front of the first line
 abbrev pub onto_first_line : ℕ → List (List ℕ) → List (List ℕ)
 onto_first_line byte [] = (byte ∷ []) ∷ []
 onto_first_line byte (line ∷ lines) = (byte ∷ line) ∷ lines

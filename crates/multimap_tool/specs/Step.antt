@@ -52,8 +52,8 @@ abbrev pub ListsItem : {X : Type 0} → List X → Type 0
 ListsItem items = IsTrue (has_items items)
 
 -- what a pop returns, read off the reply
-abbrev pub told_pop : {K V : Type 0} → Popped K V → pops.Popped K V
-told_pop p = record { owned = p.owned; key = p.key; value = p.value }
+abbrev pub as_pop : {K V : Type 0} → Popped K V → pops.Popped K V
+as_pop p = record { owned = p.owned; key = p.key; value = p.value }
 
 module _ {K : Type 0} (eq : K → K → Bool) {V : Type 0} where
   -- the stored key with all its values, if it is present
@@ -73,31 +73,6 @@ module _ {K : Type 0} (eq : K → K → Bool) {V : Type 0} where
   -- the pair goes last if the key is absent, and else the lists stay
   abbrev pub entered : Lists K V → K → V → Lists K V
   entered m k v = cond (is_present eq m.pairs k) m (appended eq m k v)
-
--- the command changes nothing
-abbrev pub IsLookUp : {K V A : Type 0} → Command K V A → Type 0
-IsLookUp (Append k v) = ⊥
-IsLookUp (Insert k v) = ⊥
-IsLookUp (InsertAll k v) = ⊥
-IsLookUp (SetFirst k v) = ⊥
-IsLookUp (SetFront v) = ⊥
-IsLookUp (SetBack v) = ⊥
-IsLookUp (OrInsert k v) = ⊥
-IsLookUp (Remove k) = ⊥
-IsLookUp (RemoveAll k) = ⊥
-IsLookUp (RemoveEntry k) = ⊥
-IsLookUp (RemoveEntryAll k) = ⊥
-IsLookUp (RemoveAt k i) = ⊥
-IsLookUp PopFront = ⊥
-IsLookUp PopBack = ⊥
-IsLookUp (Retain x) = ⊥
-IsLookUp Clear = ⊥
-IsLookUp (Reserve a b) = ⊥
-IsLookUp PackToFit = ⊥
-IsLookUp Swap = ⊥
-IsLookUp Json = ⊥
-IsLookUp Json2 = ⊥
-IsLookUp _ = Unit {0}
 
 -- the command reads the map back from a JSON value
 abbrev pub Rereads : {K V A : Type 0} → Command K V A → Type 0
@@ -148,47 +123,51 @@ module _ {K V : Type 0} (keeps : V → K → V → Bool → V → Type 0) (eq : 
   Leaves _ m n = n ≡ m
 
 module _ {K : Type 0} (eq : K → K → Bool) {V A : Type 0} where
-  -- the reply that tells what the command asks for; no other does
-  abbrev pub Tells : Command K V A → Lists K V → Reply K V A → Type 0
-  Tells (Append k v) m (replies.Appended present) = present ≡ is_present eq m.pairs k
-  Tells (Insert k v) m (replies.Old old) = old ≡ slice_get (values_of eq m.pairs k) 0
-  Tells (InsertAll k v) m (replies.Values values) =
+  -- the reply is what the command asks for
+  abbrev pub IsReplyOf : Command K V A → Lists K V → Reply K V A → Type 0
+  IsReplyOf (Append k v) m (replies.Appended present) = present ≡ is_present eq m.pairs k
+  IsReplyOf (Insert k v) m (replies.Old old) = old ≡ slice_get (values_of eq m.pairs k) 0
+  IsReplyOf (InsertAll k v) m (replies.Values values) =
       values.items ≡ map Some (values_of eq m.pairs k)
-  Tells (SetFirst k v) m (replies.Old old) = old ≡ slice_get (values_of eq m.pairs k) 0
-  Tells (SetFront v) m (replies.Pair pair) = pair ≡ end_item ends.Front m.pairs
-  Tells (SetBack v) m (replies.Pair pair) = pair ≡ end_item ends.Back m.pairs
-  Tells (OrInsert k v) m (replies.Value value) =
+  IsReplyOf (SetFirst k v) m (replies.Old old) = old ≡ slice_get (values_of eq m.pairs k) 0
+  IsReplyOf (SetFront v) m (replies.Pair pair) = pair ≡ end_item ends.Front m.pairs
+  IsReplyOf (SetBack v) m (replies.Pair pair) = pair ≡ end_item ends.Back m.pairs
+  IsReplyOf (OrInsert k v) m (replies.Value value) =
       value ≡ Some (unwrap_or (slice_get (values_of eq m.pairs k) 0) v)
-  Tells (Get k) m (replies.Value value) = value ≡ slice_get (values_of eq m.pairs k) 0
-  Tells (All k ends) m (replies.Values values) = values.items ≡ walked (values_of eq m.pairs k) ends
-  Tells (Has k) m (replies.Truth present) = present ≡ is_present eq m.pairs k
-  Tells (Len k) m (replies.Count count) = count ≡ length (values_of eq m.pairs k)
-  Tells Front m (replies.Pair pair) = pair ≡ end_item ends.Front m.pairs
-  Tells Back m (replies.Pair pair) = pair ≡ end_item ends.Back m.pairs
-  Tells (Remove k) m (replies.Value value) = value ≡ slice_get (values_of eq m.pairs k) 0
-  Tells (RemoveAll k) m (replies.Values values) =
+  IsReplyOf (Get k) m (replies.Value value) = value ≡ slice_get (values_of eq m.pairs k) 0
+  IsReplyOf (All k ends) m (replies.Values values) =
+      values.items ≡ walked (values_of eq m.pairs k) ends
+  IsReplyOf (Has k) m (replies.Truth present) = present ≡ is_present eq m.pairs k
+  IsReplyOf (Len k) m (replies.Count count) = count ≡ length (values_of eq m.pairs k)
+  IsReplyOf Front m (replies.Pair pair) = pair ≡ end_item ends.Front m.pairs
+  IsReplyOf Back m (replies.Pair pair) = pair ≡ end_item ends.Back m.pairs
+  IsReplyOf (Remove k) m (replies.Value value) = value ≡ slice_get (values_of eq m.pairs k) 0
+  IsReplyOf (RemoveAll k) m (replies.Values values) =
       values.items ≡ map Some (values_of eq m.pairs k)
-  Tells (RemoveEntry k) m (replies.Pair pair) = pair ≡ first_entry eq m k
-  Tells (RemoveEntryAll k) m (replies.List list) =
+  IsReplyOf (RemoveEntry k) m (replies.Pair pair) = pair ≡ first_entry eq m k
+  IsReplyOf (RemoveEntryAll k) m (replies.List list) =
       option_map (λ p. (p.0, p.1.items)) list ≡ entry_of eq m k
-  Tells (RemoveAt k i) m (replies.Value value) = value ≡ removable_value_at eq m.pairs k i
-  Tells PopFront m (replies.Popped pair) =
-      option_map told_pop pair ≡ popped_pair eq ends.Front m.pairs
-  Tells PopBack m (replies.Popped pair) =
-      option_map told_pop pair ≡ popped_pair eq ends.Back m.pairs
-  Tells (Retain x) m replies.Done = Unit {0}
-  Tells Clear m replies.Done = Unit {0}
-  Tells (Reserve a b) m replies.Done = Unit {0}
-  Tells PackToFit m replies.Done = Unit {0}
-  Tells Swap m replies.Done = Unit {0}
-  Tells Json m replies.Done = Unit {0}
-  Tells Json2 m replies.Done = Unit {0}
-  Tells (Pairs ends) m (replies.Pairs pairs) = pairs.items ≡ walked m.pairs ends
-  Tells (Keys ends) m (replies.Keys keys) = keys.items ≡ walked m.keys ends
-  Tells (Values ends) m (replies.Values values) = values.items ≡ walked (all_values m.pairs) ends
-  Tells KeyLists m (replies.Lists lists) = map (λ p. (p.0, p.1.items)) lists.items ≡ key_lists eq m
-  Tells Lengths m (replies.Counts keys pairs) = (keys ≡ length m.keys) × (pairs ≡ length m.pairs)
-  Tells _ m _ = ⊥
+  IsReplyOf (RemoveAt k i) m (replies.Value value) = value ≡ removable_value_at eq m.pairs k i
+  IsReplyOf PopFront m (replies.Popped pair) =
+      option_map as_pop pair ≡ popped_pair eq ends.Front m.pairs
+  IsReplyOf PopBack m (replies.Popped pair) =
+      option_map as_pop pair ≡ popped_pair eq ends.Back m.pairs
+  IsReplyOf (Retain x) m replies.Done = Unit {0}
+  IsReplyOf Clear m replies.Done = Unit {0}
+  IsReplyOf (Reserve a b) m replies.Done = Unit {0}
+  IsReplyOf PackToFit m replies.Done = Unit {0}
+  IsReplyOf Swap m replies.Done = Unit {0}
+  IsReplyOf Json m replies.Done = Unit {0}
+  IsReplyOf Json2 m replies.Done = Unit {0}
+  IsReplyOf (Pairs ends) m (replies.Pairs pairs) = pairs.items ≡ walked m.pairs ends
+  IsReplyOf (Keys ends) m (replies.Keys keys) = keys.items ≡ walked m.keys ends
+  IsReplyOf (Values ends) m (replies.Values values) =
+      values.items ≡ walked (all_values m.pairs) ends
+  IsReplyOf KeyLists m (replies.Lists lists) =
+      map (λ p. (p.0, p.1.items)) lists.items ≡ key_lists eq m
+  IsReplyOf Lengths m (replies.Counts keys pairs) =
+      (keys ≡ length m.keys) × (pairs ≡ length m.pairs)
+  IsReplyOf _ m _ = ⊥
 
   -- an addition may find no memory, but for one to a present key that replaces or keeps, and so
   -- may a request for any room, a packing, a clone, a JSON value, and a reply that would list an
@@ -217,7 +196,7 @@ module _ {K V : Type 0} (keeps : V → K → V → Bool → V → Type 0) (eq : 
   -- the command may be given this reply, from these lists to those: a refusal changes nothing
   abbrev pub IsStep : Command K V A → Lists K V → Reply K V A → Lists K V → Type 0
   IsStep command m reply n =
-      (Tells eq command m reply × Leaves keeps eq command m n)
+      (IsReplyOf eq command m reply × Leaves keeps eq command m n)
       ⊎ ((reply ≡ replies.NoMemory) × MayLackMemory eq command m × (n ≡ m))
 
 -- the same where no function is called

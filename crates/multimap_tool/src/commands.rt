@@ -18,19 +18,19 @@ pub enum Ends<A: Allocator = Global> {
 pub enum Command<K, V, A: Allocator = Global> {
     /// Appends the pair.
     Append(K, V),
-    /// Puts the pair in the place of all others of its key, and the first value that it replaces is
-    /// told.
+    /// Puts the pair in the place of all others of its key. The reply is the first value that it
+    /// replaces.
     Insert(K, V),
-    /// Puts the pair in the place of all others of its key, and all values that it replaces are
-    /// told.
+    /// Puts the pair in the place of all others of its key. The reply lists the values that it
+    /// replaces.
     InsertAll(K, V),
-    /// Writes the key's first value, if it has one, and the old one is told.
+    /// Writes the key's first value, if it has one. The reply is the old value.
     SetFirst(K, V),
-    /// Writes the value of the first pair, if there is one, and the pair as it was is told.
+    /// Writes the value of the first pair, if there is one. The reply is the pair as it was.
     SetFront(V),
-    /// Writes the value of the last pair, if there is one, and the pair as it was is told.
+    /// Writes the value of the last pair, if there is one. The reply is the pair as it was.
     SetBack(V),
-    /// Appends the pair unless the key is present, and tells the key's first value.
+    /// Appends the pair unless the key is present. The reply is the key's first value then.
     OrInsert(K, V),
     /// The key's first value.
     Get(K),
@@ -44,15 +44,16 @@ pub enum Command<K, V, A: Allocator = Global> {
     Front,
     /// The last pair.
     Back,
-    /// Takes the key out with all its values, of which the first is told.
+    /// Takes the key out with all its values. The reply is the first of them.
     Remove(K),
-    /// Takes the key out with all its values, and these are told.
+    /// Takes the key out with all its values. The reply lists them.
     RemoveAll(K),
-    /// Takes the key out with all its values, and the stored key is told with the first of them.
+    /// Takes the key out with all its values. The reply is the stored key with the first of them.
     RemoveEntry(K),
-    /// Takes the key out with all its values, and the stored key is told with these.
+    /// Takes the key out with all its values. The reply is the stored key with all of them.
     RemoveEntryAll(K),
-    /// Takes the value at an index among the key's values out, if the key has others, and tells it.
+    /// Takes the value at an index among the key's values out, if the key has others. The reply is
+    /// that value.
     RemoveAt(K, usize),
     /// Takes the first pair out.
     PopFront,

@@ -1,15 +1,16 @@
 //! Commands read from the lines of a text.
 ghost use Rattle.std.specs.Prelude.{◌≡◌, ◌<◌, ◌++◌, ◌∷◌, length, IfOk, IfErr, MatchOption};
+ghost use Rattle.std.specs.Fmt.{decimal, signed_decimal};
 ghost use Rattle.multimap_tool.specs.Spelling.{lines_of, SpellEach};
 ghost use Rattle.multimap_tool.specs.Execute.{IsTextFaultOf};
-ghost use Rattle.multimap_tool.specs.Private.Parts.{IsWithout, IsReadingOf, AreWordAndNumber, AreWordAndNumbers};
+ghost use Rattle.multimap_tool.specs.Private.Parts.{IsWithout, IsReadingOf};
 
 mod operands;
 mod words;
 
 use crate::commands::Command;
 use crate::faults::TextFault;
-use crate::parse::operands::{key_of, value_of, word_of};
+use crate::parse::operands::{key_in, key_of, value_of, word_of};
 use crate::parse::words::{
     key_command, key_walk_command, lone_command, number_command, pair_command, value_command,
     walk_command,
@@ -96,8 +97,8 @@ fn with_one_operand<A: Allocator>(
     requires operand { IsWithout 32 operand.now }
     ensures { IfOk result (IsReadingOf (name.now ++ 32 ∷ operand.now)) }
 {
-    if let Some(value) = value_of(operand) {
-        return Ok(with_one_number(name, operand, value));
+    if let Some(number) = value_of(operand) {
+        return Ok(with_one_number(name, number));
     }
     let Some(word) = word_of(alloc, operand)? else {
         return Ok(None);
@@ -105,19 +106,15 @@ fn with_one_operand<A: Allocator>(
     Ok(walk_command(name, word))
 }
 
-/// The command of a word and a number that is a value, and a key where it fits one.
-fn with_one_number<A: Allocator>(
-    name: &[u8],
-    operand: &[u8],
-    value: i64,
-) -> Option<Command<u32, i64, A>>
-    requires { AreWordAndNumber name.now operand.now value }
-    ensures { IsReadingOf (name.now ++ 32 ∷ operand.now) result }
+/// The command of a word and a number: a value, or a key where it fits one.
+fn with_one_number<A: Allocator>(name: &[u8], number: i64) -> Option<Command<u32, i64, A>>
+    requires { IsWithout 32 name.now }
+    ensures { IsReadingOf (name.now ++ 32 ∷ signed_decimal number) result }
 {
-    if let Some(command) = value_command(name, value) {
+    if let Some(command) = value_command(name, number) {
         return Some(command);
     }
-    let Some(key) = key_of(operand) else {
+    let Some(key) = key_of(number) else {
         return None;
     };
     key_command(name, key)
@@ -134,11 +131,11 @@ fn with_two_operands<A: Allocator>(
     requires first { IsWithout 32 first.now }
     ensures { IfOk result (IsReadingOf (name.now ++ 32 ∷ (first.now ++ 32 ∷ second.now))) }
 {
-    let Some(key) = key_of(first) else {
+    let Some(key) = key_in(first) else {
         return Ok(None);
     };
-    if let Some(value) = value_of(second) {
-        return Ok(with_two_numbers(name, first, key, second, value));
+    if let Some(number) = value_of(second) {
+        return Ok(with_two_numbers(name, key, number));
     }
     let Some(word) = word_of(alloc, second)? else {
         return Ok(None);
@@ -146,23 +143,20 @@ fn with_two_operands<A: Allocator>(
     Ok(key_walk_command(name, key, word))
 }
 
-/// The command of a word, a key and a number that is a value, and a number of items where it fits
-/// one.
+/// The command of a word, a key and a number: a value, or a number of items where it fits one.
 fn with_two_numbers<A: Allocator>(
     name: &[u8],
-    first: &[u8],
     key: u32,
-    second: &[u8],
-    value: i64,
+    number: i64,
 ) -> Option<Command<u32, i64, A>>
-    requires { AreWordAndNumbers name.now first.now key second.now value }
-    ensures { IsReadingOf (name.now ++ 32 ∷ (first.now ++ 32 ∷ second.now)) result }
+    requires { IsWithout 32 name.now }
+    ensures { IsReadingOf (name.now ++ 32 ∷ (decimal key ++ 32 ∷ signed_decimal number)) result }
 {
-    if let Some(command) = pair_command(name, key, value) {
+    if let Some(command) = pair_command(name, key, number) {
         return Some(command);
     }
-    let Some(number) = key_of(second) else {
+    let Some(items) = key_of(number) else {
         return None;
     };
-    number_command(name, key, number)
+    number_command(name, key, items)
 }

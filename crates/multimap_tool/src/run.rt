@@ -18,11 +18,16 @@ mod room;
 use crate::commands::Command;
 use crate::json::JsonPart;
 use crate::replies::Reply;
-use crate::run::change::step_in_place;
+use crate::run::ask::lists::list_keys;
+use crate::run::ask::walk::copied_pair;
+use crate::run::ask::{first_value, walk_all_values, walk_keys, walk_pairs, walk_values};
+use crate::run::change::drained::{insert_all, remove_all, remove_entry_all};
+use crate::run::change::written::{or_insert, set_back, set_first, set_front};
+use crate::run::change::{append, clear, insert, pop, remove_at};
 use crate::run::json::{reread, reread_lists};
-use crate::run::keep::{Keep, KeepBy};
-use crate::run::room::pack_to_fit;
-use ordered_multimap::ListOrderedMultimap;
+use crate::run::keep::Keep;
+use crate::run::room::{pack_to_fit, reserve};
+use ordered_multimap::{End, ListOrderedMultimap};
 use std::alloc::{AllocError, Allocator, Global};
 use std::hash::{BuildHasher, Hash};
 
@@ -69,7 +74,6 @@ pub fn run<
         → IfOk result (λ replies. FindsRoom commands.now replies.items) }
     ensures unchanged { OnErr result (map.new ≡ map.old) }
 {
-    let keep = KeepBy { keep };
     let mut replies = Vec::with_capacity(alloc, commands.len())?;
     run_all(alloc, memory, map, commands, &keep, &mut replies);
     Ok(replies)
@@ -124,12 +128,38 @@ fn step<
     ensures { IsMapStep (F.answers keep.now) K.eq S.is_clone command.now map.old map.new result }
 {
     match command {
+        Command::Append(key, value) => append(map, *key, *value),
+        Command::Insert(key, value) => insert(map, *key, *value),
+        Command::InsertAll(key, value) => insert_all(alloc, map, *key, *value),
+        Command::SetFirst(key, value) => set_first(map, key, *value),
+        Command::SetFront(value) => set_front(map, *value),
+        Command::SetBack(value) => set_back(map, *value),
+        Command::OrInsert(key, value) => or_insert(map, *key, *value),
+        Command::Get(key) => first_value(map, key),
+        Command::All(key, ends) => walk_values(alloc, map, key, ends),
+        Command::Has(key) => Reply::Truth(map.contains_key(key)),
+        Command::Len(key) => Reply::Count(map.entry_len(key)),
+        Command::Front => Reply::Pair(copied_pair(map.front())),
+        Command::Back => Reply::Pair(copied_pair(map.back())),
+        Command::Remove(key) => Reply::Value(map.remove(key)),
+        Command::RemoveAll(key) => remove_all(alloc, map, key),
+        Command::RemoveEntry(key) => Reply::Pair(map.remove_entry(key)),
+        Command::RemoveEntryAll(key) => remove_entry_all(alloc, map, key),
+        Command::RemoveAt(key, index) => remove_at(map, *key, *index),
+        Command::PopFront => Reply::Popped(pop(map, End::Front)),
+        Command::PopBack => Reply::Popped(pop(map, End::Back)),
         Command::Retain(operand) => retain(map, *operand, keep),
+        Command::Clear => clear(map),
+        Command::Reserve(keys, values) => reserve(map, *keys, *values),
         Command::PackToFit => pack_to_fit(map),
         Command::Swap => swap(map),
         Command::Json => reread(alloc, memory, map),
         Command::Json2 => reread_lists(alloc, memory, map),
-        _ => step_in_place(alloc, map, command),
+        Command::Pairs(ends) => walk_pairs(alloc, map, ends),
+        Command::Keys(ends) => walk_keys(alloc, map, ends),
+        Command::Values(ends) => walk_all_values(alloc, map, ends),
+        Command::KeyLists => list_keys(alloc, map),
+        Command::Lengths => Reply::Counts(map.keys_len(), map.values_len()),
     }
 }
 

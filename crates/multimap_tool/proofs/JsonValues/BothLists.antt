@@ -167,18 +167,18 @@ module _ {K V : Type 0} (key_json : K → Data) (value_json : V → Data) (keys 
 
 -- the pairs that stand for the keys, before all others
 module _ {K V : Type 0} where
-  record StandsIn (keys : List K) (pairs : List (K × V)) (i : ℕ) : Type 0 where
+  record IsPlaceholder (keys : List K) (pairs : List (K × V)) (i : ℕ) : Type 0 where
     pair : K × V
     pair_is : drop i pairs ≡ pair ∷ drop (suc i) pairs
     key_is : drop i keys ≡ pair.0 ∷ drop (suc i) keys
 
-  stands_in : (keys : List K) (pairs : List (K × V)) (i : ℕ) → keys_of (take (length keys) pairs) ≡ keys → i < length keys
-      → StandsIn keys pairs i
-  stands_in [] pairs i same within = absurd (omega arith)
-  stands_in (k ∷ keys) [] i same within = absurd (grind arith)
-  stands_in (k ∷ keys) (p ∷ pairs) zero same within = record { pair = p; pair_is = refl; key_is = ap (λ j. j ∷ keys) (grind arith) }
-  stands_in (k ∷ keys) (p ∷ pairs) (suc i) same within =
-      let next = stands_in keys pairs i (grind arith) (omega arith) in
+  placeholder_at : (keys : List K) (pairs : List (K × V)) (i : ℕ) → keys_of (take (length keys) pairs) ≡ keys → i < length keys
+      → IsPlaceholder keys pairs i
+  placeholder_at [] pairs i same within = absurd (omega arith)
+  placeholder_at (k ∷ keys) [] i same within = absurd (grind arith)
+  placeholder_at (k ∷ keys) (p ∷ pairs) zero same within = record { pair = p; pair_is = refl; key_is = ap (λ j. j ∷ keys) (grind arith) }
+  placeholder_at (k ∷ keys) (p ∷ pairs) (suc i) same within =
+      let next = placeholder_at keys pairs i (grind arith) (omega arith) in
       record { pair = next.pair; pair_is = next.pair_is; key_is = next.key_is }
 
   keys_behind : (keys : List K) (pairs : List (K × V)) (i : ℕ) → keys_of (take (length keys) pairs) ≡ keys → i ≤ length keys
@@ -192,7 +192,7 @@ module _ {K V : Type 0} where
 
 module _ {K V : Type 0} {eq : K → K → Bool} (laws : IsEquivalence eq) where
   -- the next pair that stands for a key goes: its key goes with it exactly if it is unused
-  pub record StandInGoes (m : Lists K V) (keys : List K) (pairs : List (K × V)) (i : ℕ) : Type 0 where
+  pub record PlaceholderGoes (m : Lists K V) (keys : List K) (pairs : List (K × V)) (i : ℕ) : Type 0 where
     pub some : has_items m.pairs ≡ true
     pub unused : is_owned_pop (popped_pair eq Front m.pairs) ≡ true
         → first_unused eq i (drop i keys) (keys_of (drop (length keys) pairs)) ≡ Some (UnusedKey i)
@@ -201,11 +201,11 @@ module _ {K V : Type 0} {eq : K → K → Bool} (laws : IsEquivalence eq) where
         (keys_of (drop (length keys) pairs))
     pub left : is_owned_pop (popped_pair eq Front m.pairs) ≡ false → popped eq Front m ≡ lists keys (drop (suc i) pairs)
 
-  pub stand_in_goes : (m : Lists K V) (keys : List K) (pairs : List (K × V)) (i : ℕ) → keys_of (take (length keys) pairs) ≡ keys
+  pub placeholder_goes : (m : Lists K V) (keys : List K) (pairs : List (K × V)) (i : ℕ) → keys_of (take (length keys) pairs) ≡ keys
       → i < length keys
-      → m ≡ lists keys (drop i pairs) → IsWellFormed eq m → StandInGoes m keys pairs i
-  stand_in_goes m keys pairs i same within is formed =
-      let next = stands_in keys pairs i same within in
+      → m ≡ lists keys (drop i pairs) → IsWellFormed eq m → PlaceholderGoes m keys pairs i
+  placeholder_goes m keys pairs i same within is formed =
+      let next = placeholder_at keys pairs i same within in
       let p : K × V = next.pair in
       let rest : List (K × V) = drop (suc i) pairs in
       let others : List K = keys_of (drop (length keys) pairs) in
@@ -239,7 +239,7 @@ module _ {K V : Type 0} {eq : K → K → Bool} (laws : IsEquivalence eq) where
       not_false true e = refl
       not_false false e = absurd (true≢false e)
 
--- one more pair under the listed keys
+-- a pair goes last, under the listed keys
 module _ {K V : Type 0} (eq : K → K → Bool) where
   pub one_under : (keys : List K) (first pairs : List (K × V)) (p : K × V) (m n : Lists K V)
       → m ≡ lists keys (first ++ under_listed eq keys pairs)
@@ -259,7 +259,7 @@ module _ {K V : Type 0} (eq : K → K → Bool) where
   each_listed-push keys (q ∷ pairs) p each last k (inl here) = each k (inl here)
   each_listed-push keys (q ∷ pairs) p each last k (inr later) = each_listed-push keys pairs p (λ j member. each j (inr member)) last k later
 
--- one more key or pair in a map
+-- a key or a pair goes into a map
 module _ {K V : Type 0} {eq : K → K → Bool} (laws : IsEquivalence eq) where
   pub appended_new : (m : Lists K V) (k : K) (v : V) → is_listed eq m.keys k ≡ false
       → appended eq m k v ≡ lists (m.keys ++ k ∷ []) (m.pairs ++ (k, v) ∷ [])
@@ -271,9 +271,9 @@ module _ {K V : Type 0} {eq : K → K → Bool} (laws : IsEquivalence eq) where
       → appended eq m k v ≡ lists m.keys (m.pairs ++ (stored_key eq m.keys k, v) ∷ [])
   appended_old m k v listed = ap (λ b. lists (cond b m.keys (m.keys ++ k ∷ [])) (m.pairs ++ (stored_key eq m.keys k, v) ∷ [])) listed
 
-  pub one_stands_in : (m n : Lists K V) (k : K) (v : V) → keys_of m.pairs ≡ m.keys → n ≡ lists (m.keys ++ k ∷ []) (m.pairs ++ (k, v) ∷ [])
+  pub one_placeholder : (m n : Lists K V) (k : K) (v : V) → keys_of m.pairs ≡ m.keys → n ≡ lists (m.keys ++ k ∷ []) (m.pairs ++ (k, v) ∷ [])
       → keys_of n.pairs ≡ n.keys
-  one_stands_in m n k v same is =
+  one_placeholder m n k v same is =
       ap (λ l. keys_of l.pairs) is ∙ keys_of-append m.pairs ((k, v) ∷ []) ∙ ap (λ ks. ks ++ k ∷ []) same ∙ sym (ap (λ l. l.keys) is)
 
   pub listed_if_named : (m : Lists K V) (k : K) → keys_of m.pairs ≡ m.keys → is_present eq m.pairs k ≡ is_listed eq m.keys k

@@ -24,7 +24,7 @@ both true b e = (refl, e)
 both false b e = absurd (true≢false (sym e))
 
 module _ {X : Type 0} (test : X → X → Bool) where
-  -- one more item that passes
+  -- an item that passes goes to the end
   pointwise-push : (xs ys : List X) (x y : X) → pointwise test xs ys ≡ true → test x y ≡ true
       → pointwise test (xs ++ x ∷ []) (ys ++ y ∷ []) ≡ true
   pointwise-push [] [] x y are one = ap (λ b. b && true) one
@@ -111,7 +111,8 @@ module _ {K V : Type 0} {eq : K → K → Bool} (laws : IsEquivalence eq) (value
       ap₂ (λ a b. a && b) (ap₂ (λ a b. a && b) (stored_alike laws xs ys p.0 q.0 keys each.keys) each.values)
       (under_alike xs ys ps qs keys each.rest)
 
-  module _ (key_json : K → Data) (value_json : V → Data) (keys : UnequalDiffer key_json eq) (values : UnequalDiffer value_json value_eq) where
+  module _ (key_json : K → Data) (value_json : V → Data) (keys : UnequalDiffer key_json eq)
+      (values : UnequalDiffer value_json value_eq) where
     equal_pair : UnequalDiffer (pair_json key_json value_json) (λ p q. eq p.0 q.0 && value_eq p.1 q.1)
     equal_pair p q e = ap₂ (λ a b. a && b) (keys p.0 q.0 (grind arith)) (values p.1 q.1 (grind arith))
 

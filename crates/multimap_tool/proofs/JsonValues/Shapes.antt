@@ -64,7 +64,7 @@ module _ (is_key is_value : Data → Bool) where
 pub each_item-behind : (test : Data → Bool) (d : Data) (ds : Items) → test d ≡ true → each_item test (item d ds) ≡ each_item test ds
 each_item-behind test d ds passes = ap (λ b. b && each_item test ds) passes
 
--- one more item that passes
+-- an item that passes goes to the end
 pub each_item-push : (test : Data → Bool) (vs : List Value) (v : Value) → each_item test (items_view vs) ≡ true → test (view v) ≡ true
     → each_item test (items_view (vs ++ v ∷ [])) ≡ true
 each_item-push test [] v each passes = ap (λ b. b && true) passes

@@ -13,11 +13,14 @@ use Rattle.ordered_multimap.specs.Popped.{popped}
 use Rattle.ordered_multimap.specs.RemovedAt.{removed_at}
 use Rattle.ordered_multimap.specs.Retain.{Retains}
 use Rattle.ordered_multimap.proofs.Callers.RemovedAt.{pairs_besides-few}
+use Rattle.ordered_multimap.specs.Multimap.{Multimap}
+use Rattle.ordered_multimap.specs.Rooms.{HasKeyRoom, HasValueRoom}
+use Rattle.multimap_tool.specs.MapRuns.{FindsItsRoom}
 use Rattle.multimap_tool.specs.declared.commands.Command.{Command}
-use Rattle.multimap_tool.specs.declared.commands.Command.TheVariants.{Append, Insert, InsertAll, SetFirst, SetFront, SetBack, OrInsert, Get}
-use Rattle.multimap_tool.specs.declared.commands.Command.TheVariants.{All, Has, Len, Front, Back, Remove, RemoveAll, RemoveEntry}
-use Rattle.multimap_tool.specs.declared.commands.Command.TheVariants.{RemoveEntryAll, RemoveAt, PopFront, PopBack, Retain, Clear, Reserve}
-use Rattle.multimap_tool.specs.declared.commands.Command.TheVariants.{PackToFit, Swap, Json, Json2, Pairs, Keys, Values, KeyLists, Lengths}
+use Rattle.multimap_tool.specs.declared.commands.Command.TheVariants.{Append, Insert, InsertAll, SetFirst, SetFront, SetBack, OrInsert}
+use Rattle.multimap_tool.specs.declared.commands.Command.TheVariants.{Remove, RemoveAll, RemoveEntry}
+use Rattle.multimap_tool.specs.declared.commands.Command.TheVariants.{RemoveEntryAll, RemoveAt, PopFront, PopBack, Retain, Clear}
+use Rattle.multimap_tool.specs.declared.commands.Command.TheVariants.{PackToFit, Swap, Json, Json2}
 use Rattle.multimap_tool.specs.declared.replies.Reply.{Reply}
 use Rattle.multimap_tool.specs.Step.{Leaves, IsStep, KeepsPairs, entered}
 use Rattle.multimap_tool.specs.RunRooms.{FindsRoom, IsAddition, KeepsRoom}
@@ -145,12 +148,6 @@ module _ {K V A : Type 0} (keeps : V → K → V → Bool → V → Type 0) (eq 
   leaves_grow (SetFront v) m n keeps_room left = by_same eq m n (end_written ends.Front m v) left (end_written_grows eq ends.Front m v)
   leaves_grow (SetBack v) m n keeps_room left = by_same eq m n (end_written ends.Back m v) left (end_written_grows eq ends.Back m v)
   leaves_grow (OrInsert k v) m n keeps_room left = by_same eq m n (entered eq m k v) left (entered_grows eq m k v)
-  leaves_grow (Get k) m n keeps_room left = same_grows eq m n left
-  leaves_grow (All k ends) m n keeps_room left = same_grows eq m n left
-  leaves_grow (Has k) m n keeps_room left = same_grows eq m n left
-  leaves_grow (Len k) m n keeps_room left = same_grows eq m n left
-  leaves_grow Front m n keeps_room left = same_grows eq m n left
-  leaves_grow Back m n keeps_room left = same_grows eq m n left
   leaves_grow (Remove k) m n keeps_room left = by_same eq m n (removed eq m k) left (removed_grows eq m k)
   leaves_grow (RemoveAll k) m n keeps_room left = by_same eq m n (removed eq m k) left (removed_grows eq m k)
   leaves_grow (RemoveEntry k) m n keeps_room left = by_same eq m n (removed eq m k) left (removed_grows eq m k)
@@ -160,16 +157,11 @@ module _ {K V A : Type 0} (keeps : V → K → V → Bool → V → Type 0) (eq 
   leaves_grow PopBack m n keeps_room left = by_same eq m n (popped eq ends.Back m) left (popped_grows eq ends.Back m)
   leaves_grow (Retain x) m n keeps_room left = kept_by_grows eq (keeps x) m n left
   leaves_grow Clear m n keeps_room left = by_same eq m n empty_lists left (record { keys = omega arith; pairs = omega arith })
-  leaves_grow (Reserve a b) m n keeps_room left = same_grows eq m n left
   leaves_grow PackToFit m n keeps_room left = absurd keeps_room
   leaves_grow Swap m n keeps_room left = absurd keeps_room
   leaves_grow Json m n keeps_room left = absurd keeps_room
   leaves_grow Json2 m n keeps_room left = absurd keeps_room
-  leaves_grow (Pairs ends) m n keeps_room left = same_grows eq m n left
-  leaves_grow (Keys ends) m n keeps_room left = same_grows eq m n left
-  leaves_grow (Values ends) m n keeps_room left = same_grows eq m n left
-  leaves_grow KeyLists m n keeps_room left = same_grows eq m n left
-  leaves_grow Lengths m n keeps_room left = same_grows eq m n left
+  leaves_grow command m n keeps_room left = same_grows eq m n left
 
   pub step_grows : (command : Command K V A) (m : Lists K V) (reply : Reply K V A) (n : Lists K V) → KeepsRoom command
       → IsStep keeps eq command m reply n → GrowsByOne m n
@@ -180,7 +172,7 @@ module _ {K V A : Type 0} (keeps : V → K → V → Bool → V → Type 0) (eq 
   ]
 
 module _ {K V A : Type 0} where
-  -- one command more
+  -- a run goes on by a command that finds its room
   pub FindsRoom-push : (commands : List (Command K V A)) (replies : List (Reply K V A)) (command : Command K V A) (reply : Reply K V A)
       → FindsRoom commands replies → (IsAddition command → reply ≢ NoMemory) → FindsRoom (commands ++ command ∷ []) (replies ++ reply ∷ [])
   FindsRoom-push [] [] command reply found finds = (finds, tt)
@@ -188,3 +180,12 @@ module _ {K V A : Type 0} where
       (found.0, FindsRoom-push commands replies command reply found.1 finds)
   FindsRoom-push [] (told ∷ replies) command reply found finds = absurd found
   FindsRoom-push (first ∷ commands) [] command reply found finds = absurd found
+
+module _ {K V A S : Type 0} (eq : K → K → Bool) (m : Multimap K V S) (reply : Reply K V A) where
+  -- an addition finds the room that is there
+  pub addition_finds : (command : Command K V A) → FindsItsRoom eq command m reply → IsAddition command → HasKeyRoom m → HasValueRoom m
+      → reply ≢ NoMemory
+  addition_finds (Append k v) finds adds = finds
+  addition_finds (Insert k v) finds adds = finds
+  addition_finds (OrInsert k v) finds adds = finds
+  addition_finds command finds adds = absurd adds

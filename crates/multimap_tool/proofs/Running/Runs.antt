@@ -22,19 +22,19 @@ use Rattle.ordered_multimap.specs.Retain.{Retains}
 use Rattle.ordered_multimap.specs.Lists.{IsIn}
 use Rattle.std.specs.Map.{keys_of}
 use Rattle.multimap_tool.specs.declared.commands.Command.{Command}
-use Rattle.multimap_tool.specs.declared.commands.Command.TheVariants.{Append, Insert, InsertAll, SetFirst, SetFront, SetBack, OrInsert, Get}
-use Rattle.multimap_tool.specs.declared.commands.Command.TheVariants.{All, Has, Len, Front, Back, Remove, RemoveAll, RemoveEntry}
-use Rattle.multimap_tool.specs.declared.commands.Command.TheVariants.{RemoveEntryAll, RemoveAt, PopFront, PopBack, Retain, Clear, Reserve}
-use Rattle.multimap_tool.specs.declared.commands.Command.TheVariants.{PackToFit, Swap, Json, Json2, Pairs, Keys, Values, KeyLists, Lengths}
+use Rattle.multimap_tool.specs.declared.commands.Command.TheVariants.{Append, Insert, InsertAll, SetFirst, SetFront, SetBack, OrInsert}
+use Rattle.multimap_tool.specs.declared.commands.Command.TheVariants.{Remove, RemoveAll, RemoveEntry}
+use Rattle.multimap_tool.specs.declared.commands.Command.TheVariants.{RemoveEntryAll, RemoveAt, PopFront, PopBack, Retain, Clear}
+use Rattle.multimap_tool.specs.declared.commands.Command.TheVariants.{Json}
 use Rattle.multimap_tool.specs.declared.replies.Reply.{Reply}
-use Rattle.multimap_tool.specs.Step.{Leaves, IsOwnStep, IsStep, KeepsPairs, entered}
+use Rattle.multimap_tool.specs.Step.{Leaves, IsStep, KeepsPairs, entered}
 use Rattle.multimap_tool.specs.MapRuns.{IsMapRun, IsMapStep}
 use Rattle.multimap_tool.specs.Runs.{IsRun}
 use Rattle.ordered_multimap.specs.Multimap.{Multimap}
 use Rattle.multimap_tool.specs.Laws.{IsOrderly}
 
 module _ {K V A : Type 0} (keeps : V → K → V → Bool → V → Type 0) (eq : K → K → Bool) where
-  -- one step more
+  -- a run goes on by a step, on the lists
   pub IsRun-push : (commands : List (Command K V A)) (m : Lists K V) (replies : List (Reply K V A)) (n : Lists K V)
       (command : Command K V A) (reply : Reply K V A) (last : Lists K V)
       → IsRun keeps eq commands m replies n → IsStep keeps eq command n reply last
@@ -46,7 +46,7 @@ module _ {K V A : Type 0} (keeps : V → K → V → Bool → V → Type 0) (eq 
   IsRun-push (first ∷ commands) m [] n command reply last run step = absurd run
 
 module _ {K V A S : Type 0} (keeps : V → K → V → Bool → V → Type 0) (eq : K → K → Bool) (state_clone : S → S → Type 0) where
-  -- the same on the whole map
+  -- and on the whole map
   pub IsMapRun-push : (commands : List (Command K V A)) (m : Multimap K V S) (replies : List (Reply K V A)) (n : Multimap K V S)
       (command : Command K V A) (reply : Reply K V A) (last : Multimap K V S) → IsMapRun keeps eq state_clone commands m replies n
       → IsMapStep keeps eq state_clone command n last reply
@@ -150,12 +150,6 @@ module _ {K V A : Type 0} {eq : K → K → Bool} (laws : IsEquivalence eq) (kee
   leaves_orderly (SetFront v) m n formed left = end_written_orderly laws ends.Front m n v formed left
   leaves_orderly (SetBack v) m n formed left = end_written_orderly laws ends.Back m n v formed left
   leaves_orderly (OrInsert k v) m n formed left = entered_orderly laws m n k v formed left
-  leaves_orderly (Get k) m n formed left = unchanged laws m n formed left
-  leaves_orderly (All k ends) m n formed left = unchanged laws m n formed left
-  leaves_orderly (Has k) m n formed left = unchanged laws m n formed left
-  leaves_orderly (Len k) m n formed left = unchanged laws m n formed left
-  leaves_orderly Front m n formed left = unchanged laws m n formed left
-  leaves_orderly Back m n formed left = unchanged laws m n formed left
   leaves_orderly (Remove k) m n formed left = gone_orderly laws m n k formed left
   leaves_orderly (RemoveAll k) m n formed left = gone_orderly laws m n k formed left
   leaves_orderly (RemoveEntry k) m n formed left = gone_orderly laws m n k formed left
@@ -168,19 +162,11 @@ module _ {K V A : Type 0} {eq : K → K → Bool} (laws : IsEquivalence eq) (kee
     well_formed = empty_well_formed eq;
     key_order = λ _. KeepsKeyOrder-none laws m.keys;
   })
-  leaves_orderly (Reserve a b) m n formed left = unchanged laws m n formed left
-  leaves_orderly PackToFit m n formed left = unchanged laws m n formed left
-  leaves_orderly Swap m n formed left = unchanged laws m n formed left
   leaves_orderly Json m n formed left = subst (IsOrderly eq Json m) (sym left) (record {
     well_formed = read_well_formed laws m formed;
     key_order = λ other. absurd (other refl);
   })
-  leaves_orderly Json2 m n formed left = unchanged laws m n formed left
-  leaves_orderly (Pairs ends) m n formed left = unchanged laws m n formed left
-  leaves_orderly (Keys ends) m n formed left = unchanged laws m n formed left
-  leaves_orderly (Values ends) m n formed left = unchanged laws m n formed left
-  leaves_orderly KeyLists m n formed left = unchanged laws m n formed left
-  leaves_orderly Lengths m n formed left = unchanged laws m n formed left
+  leaves_orderly command m n formed left = unchanged laws m n formed left
 
   pub step_orderly : (command : Command K V A) (m : Lists K V) (reply : Reply K V A) (n : Lists K V) → IsWellFormed eq m
       → IsStep keeps eq command m reply n → IsOrderly eq command m n
@@ -209,38 +195,8 @@ module _ {K V : Type 0} (keeps other : V → K → V → Bool → V → Type 0) 
 
   module _ {A : Type 0} where
     leaves_more : (command : Command K V A) (m n : Lists K V) → Leaves keeps eq command m n → Leaves other eq command m n
-    leaves_more (Append k v) m n left = left
-    leaves_more (Insert k v) m n left = left
-    leaves_more (InsertAll k v) m n left = left
-    leaves_more (SetFirst k v) m n left = left
-    leaves_more (SetFront v) m n left = left
-    leaves_more (SetBack v) m n left = left
-    leaves_more (OrInsert k v) m n left = left
-    leaves_more (Get k) m n left = left
-    leaves_more (All k ends) m n left = left
-    leaves_more (Has k) m n left = left
-    leaves_more (Len k) m n left = left
-    leaves_more Front m n left = left
-    leaves_more Back m n left = left
-    leaves_more (Remove k) m n left = left
-    leaves_more (RemoveAll k) m n left = left
-    leaves_more (RemoveEntry k) m n left = left
-    leaves_more (RemoveEntryAll k) m n left = left
-    leaves_more (RemoveAt k i) m n left = left
-    leaves_more PopFront m n left = left
-    leaves_more PopBack m n left = left
     leaves_more (Retain x) m n left = record { keys = left.keys; pairs = retains_more x m.pairs n.pairs left.pairs }
-    leaves_more Clear m n left = left
-    leaves_more (Reserve a b) m n left = left
-    leaves_more PackToFit m n left = left
-    leaves_more Swap m n left = left
-    leaves_more Json m n left = left
-    leaves_more Json2 m n left = left
-    leaves_more (Pairs ends) m n left = left
-    leaves_more (Keys ends) m n left = left
-    leaves_more (Values ends) m n left = left
-    leaves_more KeyLists m n left = left
-    leaves_more Lengths m n left = left
+    leaves_more command m n left = left
 
     step_more : (command : Command K V A) (m : Lists K V) (reply : Reply K V A) (n : Lists K V) → IsStep keeps eq command m reply n
         → IsStep other eq command m reply n
@@ -253,12 +209,6 @@ module _ {K V : Type 0} (keeps other : V → K → V → Bool → V → Type 0) 
         (run.0, step_more command m reply run.0 run.1, IsRun-more commands run.0 replies n run.2)
     IsRun-more [] m (reply ∷ replies) n run = absurd run
     IsRun-more (command ∷ commands) m [] n run = absurd run
-
--- what is a step where no function is called is one with any function
-pub IsStep-own : {K V A : Type 0} (keeps : V → K → V → Bool → V → Type 0) (eq : K → K → Bool) (command : Command K V A) (m : Lists K V)
-    (reply : Reply K V A) (n : Lists K V)
-    → IsOwnStep eq command m reply n → IsStep keeps eq command m reply n
-IsStep-own keeps eq command m reply n step = step_more (λ x k v b w. ⊥) keeps eq (λ x k v b w never. absurd never) command m reply n step
 
 -- what holds of a value where there is one implies what follows from it
 pub if_ok : {T E : Type 0} {P Q : T → Type 0} (r : Result T E) → ((x : T) → P x → Q x) → IfOk r P → IfOk r Q

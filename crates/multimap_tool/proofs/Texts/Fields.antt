@@ -33,12 +33,12 @@ no_letters [] none [] letters = false≢true letters.some
 no_letters [] none (end ∷ word) letters = omega (arith, ap length letters.spelled)
 no_letters (byte ∷ text) none word letters = true≢false (none ∙ ne_eqb (length (byte ∷ text)) 0 (λ same. omega (arith, same)))
 
--- one letter more
+-- the next letter spells the next end
 pub letters_on : (text : List ℕ) (i : ℕ) (word : List End) (end : End) → i < length text → letter_of end ≡ get_or text i 0
     → map letter_of word ≡ take i text → map letter_of (word ++ end ∷ []) ≡ take (i + 1) text
 letters_on text i word end inside here so_far = rw (map-append, take_more text i 0 inside, so_far, here) refl
 
--- all letters, and there is one
+-- the letters of a text that isn't empty
 has_letters : (word : List End) → 0 < length (map letter_of word) → IsTrue (has_items word)
 has_letters [] some = absurd (omega (arith, some))
 has_letters (end ∷ word) some = refl
@@ -48,6 +48,16 @@ pub letters_done : (text : List ℕ) (i : ℕ) (word : List End) → 0 < length 
 letters_done text i word some ended so_far =
     let spelled : map letter_of word ≡ text = so_far ∙ take_all i text ended in
     record { spelled = spelled; some = has_letters word (rw spelled some) }
+
+-- the letters of a text are its own
+pub same_letters : (word other : List End) → map letter_of word ≡ map letter_of other → word ≡ other
+same_letters [] [] same = refl
+same_letters [] (end ∷ other) same = absurd (cc)
+same_letters (end ∷ word) [] same = absurd (cc)
+same_letters (Front ∷ word) (Front ∷ other) same = ap (λ w. Front ∷ w) (same_letters word other (cc))
+same_letters (Back ∷ word) (Back ∷ other) same = ap (λ w. Back ∷ w) (same_letters word other (cc))
+same_letters (Front ∷ word) (Back ∷ other) same = absurd (omega (arith, ap (λ t. get_or t 0 0) same))
+same_letters (Back ∷ word) (Front ∷ other) same = absurd (omega (arith, ap (λ t. get_or t 0 0) same))
 
 -- fields as a line joins them
 abbrev joined : List (List ℕ) → List ℕ

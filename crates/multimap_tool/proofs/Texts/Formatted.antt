@@ -19,7 +19,7 @@ module _ {X : Type 0} (text : X → List ℕ) (c : ℕ) where
   list_after front items item others so_far parts pushed =
       rw (parts, pushed, append_assoc, join_items) refl
 
-  -- one item more, after a separator
+  -- the next item goes behind a separator
   pub items_on : (others : List X) (i : ℕ) (item : X) (front all : List ℕ) → i < length others → item ≡ get_or others i item
       → front ++ flat_map (λ i. c ∷ text i) (drop i others) ≡ all
       → ((front ++ c ∷ []) ++ text item) ++ flat_map (λ i. c ∷ text i) (drop (i + 1) others) ≡ all
@@ -35,7 +35,7 @@ module _ {X : Type 0} (text : X → List ℕ) (c : ℕ) where
       sym (append-nil front) ∙ ap (λ rest. front ++ flat_map (λ i. c ∷ text i) rest) (sym (drop_all i others ended)) ∙ so_far
 
 module _ {A : Type 0} where
-  -- one reply more, and a line feed
+  -- the next reply and its line feed go to the end
   pub replies_on : (replies : List (Reply ℕ ℤ A)) (i : ℕ) (reply : Reply ℕ ℤ A) (front all : List ℕ) → i < length replies
       → reply ≡ get_or replies i reply
       → front ++ text_of (drop i replies) ≡ all → ((front ++ reply_text reply) ++ 10 ∷ []) ++ text_of (drop (i + 1) replies) ≡ all

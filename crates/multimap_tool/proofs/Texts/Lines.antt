@@ -50,7 +50,7 @@ module _ {A : Type 0} where
   pub read_all : (commands : List (Command ℕ ℤ A)) (text : List ℕ) → IsReadTo commands text [] → SpellEach commands (lines_of text)
   read_all commands text read = subst (SpellEach commands) (sym (read.parts ∙ append-nil read.before)) read.good
 
-  -- one line more
+  -- the next line spells the next command
   pub read_more : (commands : List (Command ℕ ℤ A)) (text rest : List ℕ) (line after : List ℕ) (command : Command ℕ ℤ A)
       → IsReadTo commands text rest → lines_of rest ≡ line ∷ lines_of after → Spells command line
       → IsReadTo (commands ++ command ∷ []) text after

@@ -1,20 +1,20 @@
 -- Numbers and their texts.
 use Rattle.std.proofs.Common.{◌≡◌, ℕ, zero, suc, ◌<◌, ◌≤◌, ◌^◌, true, false, nat_eq, List, [], ◌∷◌, length, drop, get_or, Result, Ok, Err}
-use Rattle.std.proofs.Common.{None, refl, sym, ap, ◌∙◌, subst, arith, inl, inr}
+use Rattle.std.proofs.Common.{Option, None, Some, refl, sym, ap, ◌∙◌, subst, arith, inl, inr}
 use Rattle.std.specs.Prelude.{ℤ, pos, negsuc, FitsSigned}
 use Rattle.std.proofs.Math.IntN.{neg_ℤ}
 use Rattle.std.specs.Result.{OkIff, result_ok}
 use Rattle.std.specs.Int.{w64}
 use Rattle.std.specs.Str.{all_ascii_digits, IsUtf8}
-use Rattle.std.specs.Str.Parse.{digits_value, ParsesUnsigned, ParsesSigned}
+use Rattle.std.specs.Str.Parse.{digits_value, ParsesSigned}
 use Rattle.std.specs.Fmt.{decimal, signed_decimal}
 use Rattle.std.proofs.lemmas.Bool.{ne_eqb}
 use Rattle.std.proofs.lemmas.Str.{IsUtf8-from_ascii}
-use Rattle.std.proofs.lemmas.Str.Parse.{IsNumeralModel, numerals_by_value, tells_all_ascii_digits, parse_plain, parse_signed_plain}
+use Rattle.std.proofs.lemmas.Str.Parse.{IsNumeralModel, numerals_by_value, tells_all_ascii_digits, parse_signed_plain}
 use Rattle.std.proofs.lemmas.Str.Parse.{parse_signed_minus, digit_at}
 use Rattle.std.proofs.lemmas.Fmt.{digits_decimal, digits_value-decimal, decimal-digits_value, decimal_nonempty, decimal_digit}
-use Rattle.std.proofs.lemmas.Fmt.{first_decimal, IsAscii-decimal, IsAscii-signed}
-use Rattle.multimap_tool.specs.Private.Parts.{IsWithout, StartsANumber, StartsBelowZero, StartsAValue, IsKeyOf, IsValueOf}
+use Rattle.std.proofs.lemmas.Fmt.{first_decimal, IsAscii-signed}
+use Rattle.multimap_tool.specs.Private.Parts.{IsWithout, StartsANumber, StartsBelowZero, StartsAValue, IsKeyIn, IsKeyOf, IsValueOf}
 
 -- texts of digits, and the numbers that they stand for
 abbrev pub AreDigits : List ℕ → Type 0
@@ -53,30 +53,6 @@ decimal_starts n small =
       ] small zero_first;
     }
 
--- a text that doesn't begin as a number, or is no text at all, spells no key
-pub no_key : (text : List ℕ) → (StartsANumber text → ⊥) → IsKeyOf text None
-no_key text otherwise = λ k small same. otherwise (subst StartsANumber same (decimal_starts k (omega (arith, small))))
-
-pub no_key_text : (text : List ℕ) → (IsUtf8 text → ⊥) → IsKeyOf text None
-no_key_text text otherwise = λ k small same. otherwise
-    (subst IsUtf8 same (IsUtf8-from_ascii (decimal k) (IsAscii-decimal k (omega (arith, small)))))
-
--- where it does, parsing tells the number
-pub key_parsed : {E : Type 0} (text : List ℕ) (r : Result ℕ E) → StartsANumber text → ParsesUnsigned 32 10 text r
-    → IsKeyOf text (result_ok r)
-key_parsed text r starts parses =
-    let read = parse_plain numerals 32 text r parses (λ plus. omega (arith, starts.greatest, starts.least, plus)) in
-    elim r as (λ r. OkIff r (AreDigits text × (0 < length text) × (digits_value 10 text < 2 ^ 32)) (digits_value 10 text)
-    → IsKeyOf text (result_ok r)) [
-      | Ok n ↦ λ found. ap decimal found.1 ∙ decimal-digits_value numerals text found.0.0 starts.some starts.alone
-          (omega (arith, found.0.2))
-      | Err e ↦ λ none k small same. none (
-        subst AreDigits same (digits_decimal numerals k (omega (arith, small))),
-        starts.some,
-        subst (λ ds. digits_value 10 ds < 2 ^ 32) same (rw (digits_value-decimal numerals k (omega (arith, small))) small),
-      )
-    ] read
-
 -- the text of a negative number
 negative_starts : (n : ℕ) → n < 2 ^ 63 → StartsBelowZero (45 ∷ decimal (suc n))
 negative_starts n small =
@@ -88,6 +64,22 @@ negative_starts n small =
       greatest = starts.greatest;
     }
 
+-- different numbers have different texts
+pub decimal_same : (m n : ℕ) → m < 2 ^ 64 → n < 2 ^ 64 → decimal m ≡ decimal n → m ≡ n
+decimal_same m n small fits same =
+    sym (digits_value-decimal numerals m small) ∙ ap (digits_value 10) same ∙ digits_value-decimal numerals n fits
+
+pub signed_same : (v w : ℤ) → FitsSigned w64 v → FitsSigned w64 w → signed_decimal v ≡ signed_decimal w → v ≡ w
+signed_same (pos m) (pos n) small fits same =
+    ap pos (decimal_same m n (omega (arith, small.sfits)) (omega (arith, fits.sfits)) same)
+signed_same (pos m) (negsuc n) small fits same =
+    absurd (omega (arith, (decimal_starts m (omega (arith, small.sfits))).least, ap (λ t. get_or t 0 0) same))
+signed_same (negsuc m) (pos n) small fits same =
+    absurd (omega (arith, (decimal_starts n (omega (arith, fits.sfits))).least, ap (λ t. get_or t 0 0) same))
+signed_same (negsuc m) (negsuc n) small fits same =
+    let e : suc m ≡ suc n = decimal_same (suc m) (suc n) (omega (arith, small.sfits)) (omega (arith, fits.sfits)) (ap (drop 1) same) in
+    ap negsuc (omega (arith, e))
+
 -- a text that begins in neither way, or is no text at all, spells no value
 pub no_value : (text : List ℕ) → (StartsAValue text → ⊥) → IsValueOf text None
 no_value text otherwise = elim [
@@ -98,6 +90,16 @@ no_value text otherwise = elim [
 pub no_value_text : (text : List ℕ) → (IsUtf8 text → ⊥) → IsValueOf text None
 no_value_text text otherwise = λ z fits same. otherwise
     (subst IsUtf8 same (IsUtf8-from_ascii (signed_decimal z) (IsAscii-signed z fits.sfits)))
+
+-- a key is a value from 0 on
+pub no_key_in : (text : List ℕ) → IsValueOf text None → IsKeyIn text None
+no_key_in text not_value = λ k small same. not_value (pos k) (record { sfits = omega (arith, small) }) same
+
+pub key_in_value : (text : List ℕ) (v : ℤ) (found : Option ℕ) → FitsSigned w64 v → signed_decimal v ≡ text → IsKeyOf v found
+    → IsKeyIn text found
+key_in_value text v None fits spelled none = λ k small same.
+    none k small (signed_same (pos k) v (record { sfits = omega (arith, small) }) fits (same ∙ sym spelled))
+key_in_value text v (Some k) fits spelled is = ap signed_decimal is ∙ spelled
 
 -- digits alone are parsed as a number from 0 on
 plain_parsed : {E : Type 0} (text : List ℕ) (r : Result ℤ E) → StartsANumber text → ParsesSigned w64 10 text r

@@ -12,8 +12,8 @@ use Rattle.multimap_tool.specs.Json.{fault_in, item_fault, pair_json, IsReadFrom
 use Rattle.multimap_tool.specs.JsonLists.{AreReadLists, AreReadPairs, IsListsFault}
 use Rattle.multimap_tool.specs.declared.json.faults.ReadFault.{ReadFault}
 
--- what is to be read comes into the map, unless a fault is told; the hash builder stays, and a tape
--- that was unused is unused still
+-- what is to be read comes into the map, unless the answer is a fault; the hash builder stays, and
+-- a tape that was unused is unused still
 pub record ReadsInto {K V S T : Type 0} (old new : Multimap K V S) (IsDone : Type 0)
     (answer : Result T ReadFault) : Type 0 where
   pub read : OnOk answer IsDone
@@ -37,7 +37,7 @@ module _ {K V : Type 0} (key_json : K → Data) (value_json : V → Data)
     pub unused : AreUnused map.tape
 
   -- the map that is answered has this hash builder and the lists of both arrays, and a pair was
-  -- taken out for each key; else it is told what is wrong with them
+  -- taken out for each key; else the answer says what is wrong with them
   pub record AnswersLists {S : Type 0} (js ds : Items) (state : S)
       (answer : Result (Multimap K V S) ReadFault) : Type 0 where
     pub read : IfOk answer (λ map.

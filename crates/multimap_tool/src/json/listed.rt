@@ -41,7 +41,7 @@ pub(super) fn append_keys<
     requires empty { map.old.lists ≡ empty_lists }
     ensures read { ReadsInto map.old map.new
         (AreReadKeys K.json K.is_part K.eq (items_view items.now) map.new.lists.keys) result }
-    ensures stand_ins { OnOk result (keys_of map.new.lists.pairs ≡ map.new.lists.keys) }
+    ensures placeholder_pairs { OnOk result (keys_of map.new.lists.pairs ≡ map.new.lists.keys) }
     ensures fault { IfErr result (UnlessMemory (IsKeysFault K.json K.is_part K.eq 0 []
         (items_view items.now))) }
 {
@@ -67,12 +67,12 @@ fn append_key<
     map: &mut ListOrderedMultimap<K, V, S, A>,
 ) -> Result<(), ReadFault>
     requires value { V.is_part (view value.now) ≡ true }
-    requires stand_ins { keys_of map.old.lists.pairs ≡ map.old.lists.keys }
+    requires placeholder_pairs { keys_of map.old.lists.pairs ≡ map.old.lists.keys }
     ensures read { ReadsInto map.old map.new
         ((k : K) × IsReadKey K.json K.is_part K.eq (view item.now) k
         × (is_listed K.eq map.old.lists.keys k ≡ false)
         × (map.new.lists.keys ≡ map.old.lists.keys ++ k ∷ [])) result }
-    ensures stand_ins { OnOk result (keys_of map.new.lists.pairs ≡ map.new.lists.keys) }
+    ensures placeholder_pairs { OnOk result (keys_of map.new.lists.pairs ≡ map.new.lists.keys) }
     ensures fault { IfErr result (UnlessMemory (IsListedKeyFault K.json K.is_part K.eq index
         map.old.lists.keys (view item.now))) }
 {
@@ -156,7 +156,7 @@ pub(super) fn refused_value<K: Eq + Hash, V, S: BuildHasher, A: Allocator>(
     ensures { result ≡ cond (is_listed K.eq map.now.lists.keys key.now)
         (ReadFault.BadValue index) (ReadFault.UnlistedKey index) }
 {
-    // The number of keys tells the proof that the lists are well formed.
+    // By this call the proof learns that the lists are well formed.
     let _keys = map.keys_len();
     if map.contains_key(key) {
         ReadFault::BadValue(index)
@@ -189,10 +189,10 @@ fn append_under<K: Eq + Hash + Drop, V: Drop, S: BuildHasher, A: Allocator + Cop
 
 /// Takes out the pairs that stand for the keys: the first ones, one for each key. A key that leaves
 /// with one of them is the key of no other pair.
-pub(super) fn take_stand_ins<K: Eq + Hash + Drop, V: Drop, S: BuildHasher, A: Allocator>(
+pub(super) fn take_placeholder_pairs<K: Eq + Hash + Drop, V: Drop, S: BuildHasher, A: Allocator>(
     map: &mut ListOrderedMultimap<K, V, S, A>,
 ) -> Result<(), ReadFault>
-    requires stand_ins { keys_of (take (length map.old.lists.keys) map.old.lists.pairs)
+    requires placeholder_pairs { keys_of (take (length map.old.lists.keys) map.old.lists.pairs)
         ≡ map.old.lists.keys }
     ensures lists { OnOk result (map.new.lists
         ≡ lists map.old.lists.keys (drop (length map.old.lists.keys) map.old.lists.pairs)) }

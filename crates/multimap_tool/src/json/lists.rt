@@ -12,7 +12,7 @@ ghost use Rattle.multimap_tool.specs.Private.JsonSteps.{AnswersLists};
 
 use super::faults::{PartFault, ReadFault};
 use super::items::{read_key, two_parts};
-use super::listed::{append_keys, append_listed_pairs, refused_value, take_stand_ins};
+use super::listed::{append_keys, append_listed_pairs, refused_value, take_placeholder_pairs};
 use super::parts::JsonPart;
 use ordered_multimap::ListOrderedMultimap;
 use serde_json::Value;
@@ -145,7 +145,7 @@ fn append_lists<
 {
     append_keys(memory, keys, value, map)?;
     append_listed_pairs(memory, pairs, map)?;
-    take_stand_ins(map)
+    take_placeholder_pairs(map)
 }
 
 /// Reads both arrays where the first pair has no value, or there is none: unless both are empty

@@ -1,24 +1,12 @@
 //! Operands read from their texts.
 ghost use Rattle.std.specs.Prelude.{◌↔◌, ◌<◌, length, IsTrue, IfOk, MatchOption};
-ghost use Rattle.multimap_tool.specs.Private.Parts.{StartsANumber, StartsBelowZero, StartsAValue, IsKeyOf, IsValueOf, IsEndOf, IsNoWord, AreLettersOf};
+ghost use Rattle.multimap_tool.specs.Private.Parts.{StartsANumber, StartsBelowZero, StartsAValue, IsKeyIn, IsKeyOf, IsValueOf, IsEndOf, IsNoWord, AreLettersOf};
 
 use ordered_multimap::End;
 use std::alloc::{AllocError, Allocator};
 
-/// The key that a text spells: decimal digits, none of them a leading zero.
-pub(crate) fn key_of(text: &[u8]) -> Option<u32>
-    ensures { IsKeyOf text.now result }
-{
-    if !starts_a_number(text) {
-        return None;
-    }
-    let Ok(digits) = str::from_utf8(text) else {
-        return None;
-    };
-    digits.parse().ok()
-}
-
-/// The value that a text spells: digits as a key's, or a minus sign and such digits other than 0.
+/// The value that a text spells: decimal digits, none of them a leading zero, or a minus sign and
+/// such digits other than 0.
 pub(crate) fn value_of(text: &[u8]) -> Option<i64>
     ensures { IsValueOf text.now result }
 {
@@ -29,6 +17,23 @@ pub(crate) fn value_of(text: &[u8]) -> Option<i64>
         return None;
     };
     digits.parse().ok()
+}
+
+/// The key that a text spells: the digits of a number that fits one.
+pub(crate) fn key_in(text: &[u8]) -> Option<u32>
+    ensures { IsKeyIn text.now result }
+{
+    let Some(value) = value_of(text) else {
+        return None;
+    };
+    key_of(value)
+}
+
+/// The key that a number is, if it fits one.
+pub(crate) fn key_of(number: i64) -> Option<u32>
+    ensures { IsKeyOf number result }
+{
+    u32::try_from(number).ok()
 }
 
 /// Whether the text begins as a number does, or a minus sign stands before one that isn't 0.

@@ -1,7 +1,7 @@
 //! Commands found by their words.
 ghost use Rattle.std.specs.Prelude.{◌≡◌, ◌↔◌, [], ◌∷◌, IsTrue};
 ghost use Rattle.multimap_tool.specs.Spelling.{key_operand, value_operand, word_operand};
-ghost use Rattle.multimap_tool.specs.Private.Parts.{IsFoundFor, IsFoundAmong, lone_change_words, lone_look_up_words};
+ghost use Rattle.multimap_tool.specs.Private.Parts.{IsFoundFor};
 
 use crate::commands::{Command, Ends};
 use ordered_multimap::End;
@@ -18,66 +18,37 @@ fn is(name: &[u8], word: &[u8]) -> bool
 pub(crate) fn lone_command<A: Allocator>(name: &[u8]) -> Option<Command<u32, i64, A>>
     ensures { IsFoundFor name.now [] result }
 {
-    if let Some(command) = lone_change(name) {
-        return Some(command);
-    }
-    lone_look_up(name)
-}
-
-/// The change of a word alone.
-fn lone_change<A: Allocator>(name: &[u8]) -> Option<Command<u32, i64, A>>
-    ensures { IsFoundAmong lone_change_words name.now [] result }
-{
     if is(name, b"popfront") {
-        return Some(Command::PopFront);
+        Some(Command::PopFront)
+    } else if is(name, b"popback") {
+        Some(Command::PopBack)
+    } else if is(name, b"clear") {
+        Some(Command::Clear)
+    } else if is(name, b"packtofit") {
+        Some(Command::PackToFit)
+    } else if is(name, b"swap") {
+        Some(Command::Swap)
+    } else if is(name, b"json") {
+        Some(Command::Json)
+    } else if is(name, b"json2") {
+        Some(Command::Json2)
+    } else if is(name, b"front") {
+        Some(Command::Front)
+    } else if is(name, b"back") {
+        Some(Command::Back)
+    } else if is(name, b"pairs") {
+        Some(Command::Pairs(Ends::Forward))
+    } else if is(name, b"keys") {
+        Some(Command::Keys(Ends::Forward))
+    } else if is(name, b"values") {
+        Some(Command::Values(Ends::Forward))
+    } else if is(name, b"lists") {
+        Some(Command::KeyLists)
+    } else if is(name, b"lengths") {
+        Some(Command::Lengths)
+    } else {
+        None
     }
-    if is(name, b"popback") {
-        return Some(Command::PopBack);
-    }
-    if is(name, b"clear") {
-        return Some(Command::Clear);
-    }
-    if is(name, b"packtofit") {
-        return Some(Command::PackToFit);
-    }
-    if is(name, b"swap") {
-        return Some(Command::Swap);
-    }
-    if is(name, b"json") {
-        return Some(Command::Json);
-    }
-    if is(name, b"json2") {
-        return Some(Command::Json2);
-    }
-    None
-}
-
-/// The look-up of a word alone.
-fn lone_look_up<A: Allocator>(name: &[u8]) -> Option<Command<u32, i64, A>>
-    ensures { IsFoundAmong lone_look_up_words name.now [] result }
-{
-    if is(name, b"front") {
-        return Some(Command::Front);
-    }
-    if is(name, b"back") {
-        return Some(Command::Back);
-    }
-    if is(name, b"pairs") {
-        return Some(Command::Pairs(Ends::Forward));
-    }
-    if is(name, b"keys") {
-        return Some(Command::Keys(Ends::Forward));
-    }
-    if is(name, b"values") {
-        return Some(Command::Values(Ends::Forward));
-    }
-    if is(name, b"lists") {
-        return Some(Command::KeyLists);
-    }
-    if is(name, b"lengths") {
-        return Some(Command::Lengths);
-    }
-    None
 }
 
 /// The command of a word and a value.

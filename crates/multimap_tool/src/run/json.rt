@@ -19,7 +19,7 @@ pub(crate) fn reread<
     requires { DifferAsJson K.json V.json }
     ensures { IsOwnMapStep K.eq S.is_clone Command.Json map.old map.new result }
 {
-    // The number of keys tells the proof that the lists are well formed.
+    // By this call the proof learns that the lists are well formed.
     let _keys = map.keys_len();
     let Ok(value) = to_value(memory, map) else {
         return Reply::NoMemory;

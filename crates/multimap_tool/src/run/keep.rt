@@ -4,9 +4,7 @@ ghost use Rattle.std.specs.Borrow.{Bor, MutBor};
 ghost use Rattle.std.specs.Prelude.{Bool};
 ghost use Rattle.multimap_tool.specs.Step.{MayKeep};
 
-use std::marker::Model;
-
-/// Tells which pairs stay.
+/// Decides which pairs stay.
 pub(crate) trait Keep<K, V>: Drop {
     /// It may be asked for this operand, whatever the key and the value.
     ghost accepts: { Self → V → Type 0 };
@@ -20,24 +18,12 @@ pub(crate) trait Keep<K, V>: Drop {
         ensures { answers self.now operand key.now value.old result value.new };
 }
 
-/// A function of an operand, a key and a value.
-#[derive(Drop)]
-pub(crate) struct KeepBy<F> {
-    pub(crate) keep: F,
-}
-
-impl<F> Model for KeepBy<F> {
-    ghost Value = { F };
-
-    ghost view = { λ k. k.keep };
-}
-
-impl<K, V, F: Fn(V, &K, &mut V) -> bool + Drop> Keep<K, V> for KeepBy<F> {
+impl<K, V, F: Fn(V, &K, &mut V) -> bool + Drop> Keep<K, V> for F {
     ghost accepts = { λ f operand. (key : Bor K) (value : MutBor V) → F.pre f operand key value };
 
     ghost answers = { MayKeep F.Fn };
 
     fn keeps(&self, operand: V, key: &K, value: &mut V) -> bool {
-        (self.keep)(operand, key, value)
+        self(operand, key, value)
     }
 }

@@ -23,7 +23,7 @@ pub(crate) fn reserve<K: Eq + Hash + Copy, V: Copy, S: BuildHasher, A: Allocator
     ensures value_room { result ≡ Reply.Done
         → length map.old.lists.pairs + values ≤ map.new.value_room }
 {
-    // Both rooms tell the proof that they hold what is there.
+    // By both calls the proof learns that the rooms hold what is there.
     let _rooms = (map.keys_capacity(), map.values_capacity());
     if map.reserve_keys(keys).is_err() {
         return Reply::NoMemory;

@@ -4,8 +4,7 @@ use Rattle.std.proofs.lemmas.List.{take_more, take_all}
 use Rattle.multimap_tool.specs.MapRuns.{IsMapRun}
 use Rattle.multimap_tool.specs.Runs.{IsRun}
 use Rattle.multimap_tool.specs.RunRooms.{FindsRoom, HasRunRoom}
-use Rattle.multimap_tool.proofs.Running.Rooms.{GrowsByOne, step_grows, FindsRoom-push}
-use Rattle.multimap_tool.proofs.Running.Groups.{addition_finds}
+use Rattle.multimap_tool.proofs.Running.Rooms.{GrowsByOne, step_grows, FindsRoom-push, addition_finds}
 use Rattle.multimap_tool.proofs.Running.Runs.{IsRun-push, IsMapRun-push}
 use Rattle.multimap_tool.proofs.run.run_all.Goals as goal
 

@@ -47,7 +47,7 @@ pub(crate) fn remove_all<K: Eq + Hash + Copy, V: Copy, S: BuildHasher, A: Alloca
     Reply::Values(values)
 }
 
-/// Takes the key out, and tells it with its values.
+/// Takes the key out. The reply is the stored key with its values.
 pub(crate) fn remove_entry_all<K: Eq + Hash + Copy, V: Copy, S: BuildHasher, A: Allocator + Copy>(
     alloc: A,
     map: &mut ListOrderedMultimap<K, V, S, A>,

@@ -50,7 +50,7 @@ pub(crate) fn set_back<K: Eq + Hash + Copy, V: Copy, S: BuildHasher, A: Allocato
     Reply::Pair(Some((*key, replace(last, value))))
 }
 
-/// Appends the pair unless the key is present, and tells the key's first value.
+/// Appends the pair unless the key is present. The reply is the key's first value then.
 pub(crate) fn or_insert<K: Eq + Hash + Copy, V: Copy, S: BuildHasher, A: Allocator + Copy>(
     map: &mut ListOrderedMultimap<K, V, S, A>,
     key: K,

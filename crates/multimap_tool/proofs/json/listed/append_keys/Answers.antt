@@ -47,7 +47,7 @@ loop-index-preserved g c =
       accepted = l.invariant.accepted ∙ ap (λ vs. each_item is_key (items_view vs)) left
           ∙ each_item-behind is_key (view item) (items_view rest) more.1.accepted;
       distinct = subst (IsDistinct eq) (sym more.3) (IsDistinct-push g.met.K.Eq.laws l.map.lists.keys k l.invariant.distinct more.2);
-      stand_ins = c.in_ok-append_key.ensures.stand_ins;
+      placeholder_pairs = c.in_ok-append_key.ensures.placeholder_pairs;
       fault = λ f is. l.invariant.fault f (keys_fault_later json is_key is_key eq l.index
           (l.index + 1) l.map.lists.keys c.append_key.new.map.lists.keys (drop l.index xs) rest item k f left
           (omega arith) more.3 more.1 more.2 is);
@@ -66,7 +66,7 @@ loop-index-init g c =
       json = sym (ap (λ m. map json m.keys) empty);
       accepted = refl;
       distinct = subst (λ ks. IsDistinct eq ks) (sym (ap (λ m. m.keys) empty)) tt;
-      stand_ins = ap (λ m. keys_of m.pairs) empty ∙ sym (ap (λ m. m.keys) empty);
+      placeholder_pairs = ap (λ m. keys_of m.pairs) empty ∙ sym (ap (λ m. m.keys) empty);
       fault = λ f is. subst (λ ks. IsKeysFault json is_key eq 0 ks (items_view c.args.items.now) f) (ap (λ m. m.keys) empty) is;
       hasher = c.reserve_keys-reserved.ensures.grows.rooms.hasher;
       unused = λ unused. subst AreUnused (sym c.reserve_keys-reserved.ensures.tape) unused;

@@ -15,7 +15,7 @@ invariant-loop-index g l = record {
   accepted : let each = each_item g.K.JsonPart.is_part in
       each (items_view l.items) ≡ each (items_view (drop l.index l.items));
   distinct : IsDistinct g.K.PartialEq.eq l.map.lists.keys;
-  stand_ins : keys_of l.map.lists.pairs ≡ l.map.lists.keys;
+  placeholder_pairs : keys_of l.map.lists.pairs ≡ l.map.lists.keys;
   fault : let IsFault = IsKeysFault g.K.JsonPart.json g.K.JsonPart.is_part g.K.PartialEq.eq in
       (f : ReadFault) → IsFault l.index l.map.lists.keys (items_view (drop l.index l.items)) f
       → IsFault 0 [] (items_view l.items) f;

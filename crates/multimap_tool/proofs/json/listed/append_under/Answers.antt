@@ -22,22 +22,22 @@ returns-clause-read g c =
     record {
       read = record {
         listed = listed;
-        appended = c.in-Ok.ensures.appends.ok.lists ∙ appended_old g.met.K.Eq.laws m c.args.key c.args.value listed;
+        appended = c.in-Ok.ensures.ok.lists ∙ appended_old g.met.K.Eq.laws m c.args.key c.args.value listed;
       };
       hasher = search rules;
-      unused = λ unused. still_unused unused c.in-Ok.ensures.appends.ok.taken;
+      unused = λ unused. still_unused unused c.in-Ok.ensures.ok.taken;
     }
 
 pub returns-then-not-present-clause-read : goal.returns-then-not-present-clause-read
 returns-then-not-present-clause-read g c = record {
   read = tt;
   hasher = search rules;
-  unused = λ unused. still_unused unused c.in-Ok.ensures.appends.ok.taken;
+  unused = λ unused. still_unused unused c.in-Ok.ensures.ok.taken;
 }
 
 pub returns-in_default-clause-read : goal.returns-in_default-clause-read
 returns-in_default-clause-read g c = record {
   read = tt;
   hasher = search rules;
-  unused = λ unused. still_unused unused c.in_default.ensures.appends.refused.taken;
+  unused = λ unused. still_unused unused c.in_default.ensures.refused.taken;
 }

@@ -2,7 +2,7 @@ use Rattle.std.proofs.Common.{◌≡◌, ◌+◌, length, drop}
 use Rattle.std.specs.Map.{keys_of}
 use Rattle.ordered_multimap.specs.Lists.{lists}
 use Rattle.multimap_tool.specs.JsonLists.{first_unused}
-use Rattle.multimap_tool.proofs.json.listed.take_stand_ins.Given as goal
+use Rattle.multimap_tool.proofs.json.listed.take_placeholder_pairs.Given as goal
 
 -- so many pairs are gone, and the first unused key is the first one of the others
 abbrev pub invariant-loop-index : goal.invariant-loop-index

@@ -2,15 +2,15 @@ use Rattle.std.proofs.Common.{◌≡◌, suc, ◌+◌, ◌<◌, cond, length, dr
 use Rattle.std.specs.Map.{keys_of}
 use Rattle.ordered_multimap.specs.Lists.{lists}
 use Rattle.multimap_tool.specs.JsonLists.{first_unused}
-use Rattle.multimap_tool.proofs.JsonValues.BothLists.{stand_in_goes}
-use Rattle.multimap_tool.proofs.json.listed.take_stand_ins.Goals as goal
+use Rattle.multimap_tool.proofs.JsonValues.BothLists.{placeholder_goes}
+use Rattle.multimap_tool.proofs.json.listed.take_placeholder_pairs.Goals as goal
 
 pub returns-then-is_last_of_its_key-clause-used : goal.returns-then-is_last_of_its_key-clause-used
 returns-then-is_last_of_its_key-clause-used g c =
     let l = c.loop-index in
     let m = c.args.map.now.lists in
     let within : l.index < length m.keys = omega (arith, c.loop-index-test.true, c.keys_len-index-end.ensures.len) in
-    let goes = stand_in_goes g.met.K.Eq.laws l.map.lists m.keys m.pairs l.index c.requires.stand_ins within l.invariant.left
+    let goes = placeholder_goes g.met.K.Eq.laws l.map.lists m.keys m.pairs l.index c.requires.placeholder_pairs within l.invariant.left
     c.is_last_of_its_key.ensures.well_formed in
     sym (l.invariant.used ∙ goes.unused (sym c.is_last_of_its_key.ensures.last ∙ c.if-is_last_of_its_key.true))
 
@@ -21,7 +21,7 @@ loop-index-preserved g c =
     let eq = g.K.PartialEq.eq in
     let named = keys_of (drop (length m.keys) m.pairs) in
     let within : l.index < length m.keys = omega (arith, c.loop-index-test.true, c.keys_len-index-end.ensures.len) in
-    let goes = stand_in_goes g.met.K.Eq.laws l.map.lists m.keys m.pairs l.index c.requires.stand_ins within l.invariant.left
+    let goes = placeholder_goes g.met.K.Eq.laws l.map.lists m.keys m.pairs l.index c.requires.placeholder_pairs within l.invariant.left
     c.is_last_of_its_key.ensures.well_formed in
     let stays = sym c.is_last_of_its_key.ensures.last ∙ c.if-is_last_of_its_key.false in
     let popped = c.is_last_of_its_key.ensures.popped in
