@@ -1,5 +1,5 @@
 //! Callers of the tape, proved from its public contracts alone.
-ghost use Rattle.std.specs.Prelude.{◌≡◌, ◌≢◌, ◌+◌, ◌≤◌, ◌<◌, ℕ, false, Some, IfSome, IfNone, IsTrue};
+ghost use Rattle.std.specs.Prelude.{◌≡◌, ◌≢◌, ◌+◌, ◌≤◌, ◌<◌, ℕ, false, IfSome, IsTrue};
 ghost use Rattle.multimap_slots.specs.Lists.{IsIn};
 ghost use Rattle.multimap_slots.specs.Slots.{IsDetached, item_at};
 ghost use Rattle.multimap_slots.specs.Tapes.{Frees};
@@ -45,19 +45,6 @@ pub fn detach_listed<T>(tape: &mut Tape<T, u8>, place: usize) -> bool
         tape.detach(place);
     }
     is_there
-}
-
-/// Takes an item out of the list and then out of its slot, if one is there. It is freed once.
-pub fn detach_and_take(tape: &mut Items, place: usize) -> Option<usize>
-    ensures item { IfSome result (λ item. item_at tape.old.list place ≡ Some item) }
-    ensures freed { IfSome result (λ _. Frees tape.old tape.new) }
-    ensures kept { IfNone result (tape.new ≡ tape.old) }
-{
-    if detach_listed(tape, place) {
-        Some(tape.take_detached(place))
-    } else {
-        None
-    }
 }
 
 /// Takes the item at a place out of the list and then out of its slot, if one is there, and returns
