@@ -1,7 +1,5 @@
 //! The tests: each makes one map, or is lent an empty one, for all comparisons of its type, since a
 //! map that is owned costs a proof more than all that it is lent to.
-mod caseless;
-mod clones;
 mod derives;
 mod emptied;
 mod equal;
@@ -38,8 +36,6 @@ fn numbers_answer(test: &Test, map: &mut Numbers) {
     shown::walks_are_shown(test, map);
     test.begin("equal");
     equal::are_compared(test, map);
-    test.begin("clones");
-    clones::are_made(test, map);
 }
 
 #[test]

@@ -85,31 +85,14 @@ const KEY_LINK: KeyLink = KeyLink {
     length: 4,
 };
 
-const KEY_LINKS: &[KeyLink] = &[
-    KeyLink {
-        hash: 0,
-        ..KEY_LINK
-    },
-    KeyLink {
-        head: 0,
-        ..KEY_LINK
-    },
-    KeyLink {
-        tail: 0,
-        ..KEY_LINK
-    },
-    KeyLink {
-        length: 0,
-        ..KEY_LINK
-    },
-];
-
 fn key_links_are_shown_and_compared(test: &Test) {
     let wanted = "KeyLink { hash: 1, head: 2, tail: 3, length: 4 }";
     test.expect(is_shown(test.alloc(), &KEY_LINK, wanted));
-    for (row, other) in KEY_LINKS.iter().enumerate() {
-        test.expect_at(row, is_compared(&KEY_LINK, &KEY_LINK, other));
-    }
+    let other = KeyLink {
+        length: 0,
+        ..KEY_LINK
+    };
+    test.expect(is_compared(&KEY_LINK, &KEY_LINK, &other));
     test.expect(is_copied(&KEY_LINK));
 }
 
@@ -119,28 +102,14 @@ const VALUE_LINK: ValueLink = ValueLink {
     next: None,
 };
 
-const VALUE_LINKS: &[ValueLink] = &[
-    ValueLink {
-        key: 0,
-        ..VALUE_LINK
-    },
-    ValueLink {
-        previous: None,
-        ..VALUE_LINK
-    },
-    ValueLink {
-        next: Some(0),
-        ..VALUE_LINK
-    },
-];
-
 fn value_links_are_shown_and_compared(test: &Test) {
     let wanted = "ValueLink { key: 1, previous: Some(2), next: None }";
     test.expect(is_shown(test.alloc(), &VALUE_LINK, wanted));
-    for (row, other) in VALUE_LINKS.iter().enumerate() {
-        let compared = is_compared(&VALUE_LINK, &VALUE_LINK, other);
-        test.expect_at(row, compared);
-    }
+    let other = ValueLink {
+        next: Some(0),
+        ..VALUE_LINK
+    };
+    test.expect(is_compared(&VALUE_LINK, &VALUE_LINK, &other));
     test.expect(is_copied(&VALUE_LINK));
 }
 
