@@ -11,7 +11,7 @@ use crate::tests::entry::examples::{examples_of_numbers_hold, examples_of_texts_
 use crate::tests::entry::firsts::{keys_are_entered, values_are_counted};
 use ordered_multimap::ListOrderedMultimap;
 use ordered_multimap_callers::maps::Numbers;
-use ordered_multimap_callers::test_refusing;
+use ordered_multimap_callers::test_with_room;
 use ordered_multimap_callers::tested::test_on_empty;
 use refusing_allocator::RefusingAllocator;
 use test_helpers::{Failed, Test};
@@ -39,5 +39,5 @@ fn numbers_are_entered(rt: HostRuntime) -> Result<(), Failed> {
 
 #[test]
 fn an_occupied_entry_takes_no_memory(rt: HostRuntime) -> Result<(), Failed> {
-    test_refusing!(rt.alloc(); values_are_replaced)
+    test_with_room!(rt.alloc(); 0, 0; values_are_replaced)
 }

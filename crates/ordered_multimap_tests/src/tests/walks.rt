@@ -1,10 +1,8 @@
 //! Walks for reading, from both ends, and their clones. Walks of no item and of one are cases of the
 //! program too.
 use ordered_multimap_callers::lists::goes_on;
-use ordered_multimap_callers::maps::{MIXED, Numbers, refill};
+use ordered_multimap_callers::maps::{MIXED, Numbers, ONE_KEY, refill};
 use test_helpers::{End, Test, walk_difference};
-
-const ONE_KEY: &[(u32, u32)] = &[(1, 11), (1, 12), (1, 13), (1, 14)];
 
 const PAIRS: &[(End, (u32, u32))] = &[
     (End::Front, (1, 11)),

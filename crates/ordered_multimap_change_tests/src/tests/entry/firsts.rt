@@ -1,7 +1,7 @@
 //! The first value of a key by its entry, and what Debug shows of entries.
 use ordered_multimap::list_ordered_multimap::Entry;
 use ordered_multimap_callers::lists::inserts;
-use ordered_multimap_callers::maps::{Numbers, refill};
+use ordered_multimap_callers::maps::{Numbers, ONE_KEY, refill};
 use test_helpers::{Test, is_shown};
 
 fn count(test: &Test, map: &mut Numbers, wanted: u32) {
@@ -91,8 +91,6 @@ fn vacant_entry_isnt_modified(test: &Test, map: &mut Numbers) {
     let _ = map.entry(1).and_modify(|value| *value = 12);
     test.expect(map.get(&1).copied() == Some(12));
 }
-
-const ONE_KEY: &[(u32, u32)] = &[(1, 11), (1, 12), (1, 13), (1, 14)];
 
 const OCCUPIED: &str = "OccupiedEntry { key: 1, values: EntryValues([11, 12, 13, 14]) }";
 

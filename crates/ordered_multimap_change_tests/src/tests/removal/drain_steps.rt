@@ -1,6 +1,6 @@
 //! Steps of a drain: what it gives from both ends, and what it shows of the rest.
 use crate::tests::lending::{Drain, drain_of};
-use ordered_multimap_callers::maps::{Numbers, refill};
+use ordered_multimap_callers::maps::{Numbers, ONE_KEY, refill};
 use test_helpers::{End, Test, is_shown, walk_difference};
 
 /// An end, how many values are left before, and the value that is there.
@@ -21,8 +21,6 @@ pub fn steps_answer(test: &Test, drain: &mut Drain<'_>, steps: &[Step]) {
         test.expect_at(row, taken(drain, *end) == *value);
     }
 }
-
-const ONE_KEY: &[(u32, u32)] = &[(1, 11), (1, 12), (1, 13), (1, 14)];
 
 // What a map is made of, and the steps of a drain of its key's values until none is left.
 const DRAINS: &[(&[(u32, u32)], &[Step])] = &[

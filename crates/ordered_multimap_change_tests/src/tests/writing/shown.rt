@@ -1,7 +1,7 @@
 //! The Debug texts of walks for writing, and of what they have left: all, and what is left once an
 //! item was taken.
 use crate::tests::lending::{keys_of, pairs_of, values_of, values_of_key};
-use ordered_multimap_callers::maps::{MIXED, Numbers, refill};
+use ordered_multimap_callers::maps::{MIXED, Numbers, ONE_KEY, refill};
 use test_helpers::{Test, is_shown};
 
 const PAIRS: &str = "IterMut([(1, 11), (2, 12), (2, 13), (1, 14)])";
@@ -50,8 +50,6 @@ fn keys_are_shown(test: &Test, map: &mut Numbers) {
     test.expect(walk.next().is_some());
     test.expect(is_shown(test.alloc(), &walk, KEY_LEFT));
 }
-
-const ONE_KEY: &[(u32, u32)] = &[(1, 11), (1, 12), (1, 13), (1, 14)];
 
 /// Walks are shown.
 pub fn walks_are_shown(test: &Test, map: &mut Numbers) {

@@ -6,7 +6,7 @@ use crate::tests::lending::{
 use ordered_multimap::list_ordered_multimap::EntryValuesMut;
 use ordered_multimap_callers::filled::{fill_all, fill_by_reference};
 use ordered_multimap_callers::lists::{has_lists, has_pairs};
-use ordered_multimap_callers::maps::{MIXED, Numbers, refill};
+use ordered_multimap_callers::maps::{MIXED, Numbers, ONE_KEY, refill};
 use test_helpers::{End, Test, walk_difference};
 
 const VALUES: &[(End, u32)] = &[
@@ -24,8 +24,6 @@ const PAIRS: &[(End, (u32, u32))] = &[
 ];
 
 const ONE_VALUE: &[(End, u32)] = &[(End::Front, 11)];
-
-const ONE_KEY: &[(u32, u32)] = &[(1, 11), (1, 12), (1, 13), (1, 14)];
 
 // The pairs of a map, the items of a walk, each of which is raised by 100, and the pairs then.
 type Row<T> = (
