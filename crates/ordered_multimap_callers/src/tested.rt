@@ -45,16 +45,3 @@ macro_rules! test_with_room {
         test.end()
     }};
 }
-
-/// Runs a test of a check that is lent a value, whose shares it may count.
-#[macro_export]
-macro_rules! test_shares {
-    ($alloc:expr; $check:path) => {{
-        let test = Test::new($alloc);
-        match Rc::new(test.alloc(), 1) {
-            Ok(shared) => $check(&test, &shared),
-            Err(_) => test.fail(),
-        }
-        test.end()
-    }};
-}

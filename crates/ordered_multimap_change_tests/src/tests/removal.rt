@@ -5,7 +5,6 @@ mod examples;
 mod memory;
 mod popped;
 mod retained;
-mod shares;
 mod wrappers;
 
 use crate::tests::removal::drain_steps::values_are_given;

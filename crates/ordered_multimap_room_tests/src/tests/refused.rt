@@ -1,5 +1,5 @@
 //! Each request for memory of each call is refused in turn.
-use crate::tests::additions::{Call, Occupied, Vacant};
+use crate::tests::additions::Call;
 use crate::tests::refused_additions::{OTHERS, OWN, fill_up, puts};
 use crate::tests::refused_pairs::{PAIRS, extend, extend_copied, from_iter_with};
 use crate::tests::refused_room::{Room, is_made, keep_three};
@@ -25,23 +25,20 @@ const TRIES: &[(Try, u64)] = &[
     (Try::PutIntoNew(Call::Append), 3),
     (Try::PutIntoNew(Call::Insert), 3),
     (Try::PutIntoNew(Call::InsertAll), 3),
-    (Try::PutIntoNew(Call::OfVacant(Vacant::OrInsert)), 3),
-    (Try::PutIntoNew(Call::OfVacant(Vacant::OrInsertWith)), 3),
-    (Try::PutIntoNew(Call::OfVacant(Vacant::OrInsertEntry)), 3),
-    (
-        Try::PutIntoNew(Call::OfVacant(Vacant::OrInsertWithEntry)),
-        3,
-    ),
-    (Try::PutIntoNew(Call::OfVacant(Vacant::Insert)), 3),
-    (Try::PutIntoNew(Call::OfVacant(Vacant::InsertEntry)), 3),
+    (Try::PutIntoNew(Call::OrInsert), 3),
+    (Try::PutIntoNew(Call::OrInsertWith), 3),
+    (Try::PutIntoNew(Call::OrInsertEntry), 3),
+    (Try::PutIntoNew(Call::OrInsertWithEntry), 3),
+    (Try::PutIntoNew(Call::VacantInsert), 3),
+    (Try::PutIntoNew(Call::VacantInsertEntry), 3),
     (Try::PutIntoFull(Call::Append), 1),
     (Try::PutIntoFull(Call::InsertAll), 1),
-    (Try::PutIntoFull(Call::OfOccupied(Occupied::Append)), 1),
-    (Try::PutIntoFull(Call::OfOccupied(Occupied::InsertAll)), 1),
+    (Try::PutIntoFull(Call::OccupiedAppend), 1),
+    (Try::PutIntoFull(Call::OccupiedInsertAll), 1),
     (Try::PutBesideOthers(Call::Append), 1),
     (Try::PutBesideOthers(Call::Insert), 1),
     (Try::PutBesideOthers(Call::InsertAll), 1),
-    (Try::PutBesideOthers(Call::OfVacant(Vacant::InsertEntry)), 1),
+    (Try::PutBesideOthers(Call::VacantInsertEntry), 1),
     (Try::Room(Room::ReserveKeys), 2),
     (Try::Room(Room::ReserveValues), 1),
     (Try::Room(Room::PackTo), 4),

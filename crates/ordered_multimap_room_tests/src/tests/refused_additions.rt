@@ -1,6 +1,6 @@
 //! What an addition of a pair with refused memory leaves: the pair comes back, and both lists are as
 //! before.
-use crate::tests::additions::{Answer, Call, Occupied, put};
+use crate::tests::additions::{Answer, Call, put};
 use ordered_multimap::list_ordered_multimap::Refused;
 use ordered_multimap_callers::lists::{copied, has_lists};
 use ordered_multimap_callers::maps::Refusing;
@@ -31,7 +31,7 @@ fn stands_behind<A: Allocator + Copy>(map: &Refusing<A>, pairs: &[(u32, u32)]) -
 
 // Whether the pairs before stay: the pairs of another key, and in an append the pairs of the key.
 fn stay(call: Call, before: &[(u32, u32)]) -> bool {
-    let appends = call == Call::Append || call == Call::OfOccupied(Occupied::Append);
+    let appends = call == Call::Append || call == Call::OccupiedAppend;
     appends || before.first().copied() == Some((2, 0))
 }
 

@@ -21,6 +21,15 @@ const BOTH: &[Step] = &[
 // Behind the first step of BOTH.
 const LAST: &[Step] = &[(End::Front, 1, Some((2, INNER))), (End::Back, 0, None)];
 
+const ALONE: &[Step] = &[
+    (End::Front, 1, Some((1, &[(End::Front, 11)]))),
+    (End::Front, 0, None),
+    (End::Back, 0, None),
+    (End::Front, 0, None),
+    (End::Back, 0, None),
+    (End::Front, 0, None),
+];
+
 const NONE: &[Step] = &[(End::Back, 0, None), (End::Front, 0, None)];
 
 type Item<'a> = (&'a u32, EntryValues<'a, u32, u32>);
@@ -65,6 +74,8 @@ fn clone_goes_on(test: &Test, walk: &mut KeyValues<'_, u32, u32>) {
 pub fn are_taken(test: &Test, map: &mut Numbers) {
     map.clear();
     steps_answer(test, &mut map.pairs(), NONE);
+    refill(test, map, &[(1, 11)]);
+    steps_answer(test, &mut map.pairs(), ALONE);
     refill(test, map, MIXED);
     steps_answer(test, &mut map.pairs(), BOTH);
     clone_goes_on(test, &mut map.pairs());
