@@ -1,3 +1,2 @@
 pub mod CellsLemmas
 pub mod TapedLemmas
-pub mod WalkedLemmas
