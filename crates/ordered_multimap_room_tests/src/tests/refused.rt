@@ -1,7 +1,10 @@
 //! Each request for memory of each call is refused in turn.
 use crate::tests::additions::Call;
 use crate::tests::refused_additions::{OTHERS, OWN, fill_up, puts};
-use crate::tests::refused_pairs::{PAIRS, extend, extend_copied, from_iter_with};
+use crate::tests::refused_pairs::{
+    PAIRS, collect_with, extend, extend_by_trait, extend_copied, extend_copied_by_trait,
+    from_iter_with,
+};
 use crate::tests::refused_room::{Room, is_made, keep_three};
 use ordered_multimap::ListOrderedMultimap;
 use ordered_multimap_callers::maps::{Numbers, Refusing, map_of};
@@ -17,6 +20,8 @@ enum Try {
     Room(Room),
     Extend,
     ExtendCopied,
+    ExtendByTrait,
+    ExtendCopiedByTrait,
 }
 
 /// A call, and how many requests it makes at least. Key slots, table and value slots each ask for a
@@ -45,6 +50,8 @@ const TRIES: &[(Try, u64)] = &[
     (Try::Room(Room::PackToFit), 4),
     (Try::Extend, 3),
     (Try::ExtendCopied, 3),
+    (Try::ExtendByTrait, 3),
+    (Try::ExtendCopiedByTrait, 3),
 ];
 
 fn prepare<A: Allocator + Copy>(test: &Test, map: &mut Refusing<A>, call: Try) {
@@ -68,6 +75,8 @@ fn tries<A: Allocator + Copy>(
         Try::Room(call) => is_made(test, map, call),
         Try::Extend => extend(test, map),
         Try::ExtendCopied => extend_copied(test, map, other),
+        Try::ExtendByTrait => extend_by_trait(test, map),
+        Try::ExtendCopiedByTrait => extend_copied_by_trait(test, map, other),
     }
 }
 
@@ -99,6 +108,8 @@ fn all_are_tried(test: &Test, other: &Numbers) {
         test.expect_at(row, enough.unwrap_or(0) >= *least);
     }
     let enough = requests_until_enough(|granted| from_iter_with(test, granted));
+    test.expect(enough.unwrap_or(0) >= 3);
+    let enough = requests_until_enough(|granted| collect_with(test, granted));
     test.expect(enough.unwrap_or(0) >= 3);
 }
 

@@ -15,7 +15,7 @@ type Pairs = &'static [(u32, u32)];
 
 #[derive(Clone, Copy)]
 enum Try {
-    // Of a new pair of the key 1, where the set has these pairs of this key.
+    // Of a new pair of the key 1, where the set has these pairs, of these keys.
     Insert(Pairs, &'static [u32]),
     Extend,
     Clone,
