@@ -1,6 +1,7 @@
-//! Each request for memory of each call is refused in turn.
+//! Each request for memory of each call is refused in turn. Additions to a full map beside the pairs
+//! of another key are cases of the program.
 use crate::tests::additions::Call;
-use crate::tests::refused_additions::{OTHERS, OWN, fill_up, puts};
+use crate::tests::refused_additions::{fill_up, puts};
 use crate::tests::refused_pairs::{
     PAIRS, collect_with, extend, extend_by_trait, extend_copied, extend_copied_by_trait,
     from_iter_with,
@@ -16,7 +17,6 @@ use test_helpers::{Failed, Test, lend, requests_until_enough};
 enum Try {
     PutIntoNew(Call),
     PutIntoFull(Call),
-    PutBesideOthers(Call),
     Room(Room),
     Extend,
     ExtendCopied,
@@ -40,10 +40,6 @@ const TRIES: &[(Try, u64)] = &[
     (Try::PutIntoFull(Call::InsertAll), 1),
     (Try::PutIntoFull(Call::OccupiedAppend), 1),
     (Try::PutIntoFull(Call::OccupiedInsertAll), 1),
-    (Try::PutBesideOthers(Call::Append), 1),
-    (Try::PutBesideOthers(Call::Insert), 1),
-    (Try::PutBesideOthers(Call::InsertAll), 1),
-    (Try::PutBesideOthers(Call::VacantInsertEntry), 1),
     (Try::Room(Room::ReserveKeys), 2),
     (Try::Room(Room::ReserveValues), 1),
     (Try::Room(Room::PackTo), 4),
@@ -56,8 +52,7 @@ const TRIES: &[(Try, u64)] = &[
 
 fn prepare<A: Allocator + Copy>(test: &Test, map: &mut Refusing<A>, call: Try) {
     match call {
-        Try::PutIntoFull(_) => fill_up(test, map, OWN),
-        Try::PutBesideOthers(_) => fill_up(test, map, OTHERS),
+        Try::PutIntoFull(_) => fill_up(test, map),
         Try::Room(_) => keep_three(test, map),
         _ => {}
     }
@@ -70,8 +65,7 @@ fn tries<A: Allocator + Copy>(
     other: &Numbers,
 ) -> bool {
     match call {
-        Try::PutIntoNew(call) | Try::PutIntoFull(call) => puts(test, map, call, OWN),
-        Try::PutBesideOthers(call) => puts(test, map, call, OTHERS),
+        Try::PutIntoNew(call) | Try::PutIntoFull(call) => puts(test, map, call),
         Try::Room(call) => is_made(test, map, call),
         Try::Extend => extend(test, map),
         Try::ExtendCopied => extend_copied(test, map, other),

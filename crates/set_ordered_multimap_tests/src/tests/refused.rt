@@ -87,12 +87,6 @@ fn insert<A: Allocator + Copy>(
     }
 }
 
-// The pairs before the refused one are there, and no other.
-fn has_those_before<A: Allocator + Copy>(set: &Refusing<A>, count: usize) -> bool {
-    let count = count.min(3);
-    has_lists(set, &FIRST[..count], &KEYS[..count])
-}
-
 // The pair that was refused, if one was, and how many are left in the iterator.
 fn extended<A: Allocator + Copy>(
     set: &mut Refusing<A>,
@@ -106,8 +100,9 @@ fn extended<A: Allocator + Copy>(
 // Inserts all pairs. The refused one is the one behind those that the set has then.
 fn extend<A: Allocator + Copy>(test: &Test, set: &mut Refusing<A>) -> bool {
     let (given, left) = extended(set, PAIRS);
-    let count = set.values_len();
-    test.expect(has_those_before(set, count) && LEFT.get(count).copied() == Some(left));
+    let count = set.values_len().min(3);
+    test.expect(has_lists(set, &FIRST[..count], &KEYS[..count]));
+    test.expect(LEFT.get(count).copied() == Some(left));
     match given {
         Ok(()) => {
             test.expect(count == 3);
@@ -176,7 +171,9 @@ fn tries<A: Allocator + Copy>(test: &Test, set: &mut Refusing<A>, call: Try) -> 
 
 fn tries_with(test: &Test, granted: u64, call: Try) -> bool {
     let allocator = RefusingAllocator::unlimited(test.alloc());
-    tries_by(test, &allocator, &allocator, granted, call)
+    let enough = tries_by(test, &allocator, &allocator, granted, call);
+    test.expect(enough != allocator.refused());
+    enough
 }
 
 fn tries_by<A: Allocator + Copy>(
@@ -187,22 +184,10 @@ fn tries_by<A: Allocator + Copy>(
     call: Try,
 ) -> bool {
     lend(SetOrderedMultimap::new(allocator), |set| {
-        tries_on(test, refusing, set, granted, call)
+        fill(test, set, pairs_before(call));
+        refusing.grant(granted);
+        tries(test, set, call)
     })
-}
-
-fn tries_on<A: Allocator + Copy>(
-    test: &Test,
-    refusing: &RefusingAllocator,
-    set: &mut Refusing<A>,
-    granted: u64,
-    call: Try,
-) -> bool {
-    fill(test, set, pairs_before(call));
-    refusing.grant(granted);
-    let enough = tries(test, set, call);
-    test.expect(enough != refusing.refused());
-    enough
 }
 
 fn from_iter_with(test: &Test, granted: u64) -> bool {
