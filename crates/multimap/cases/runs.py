@@ -139,8 +139,8 @@ ROWS = [
     "| append 4 -1 -> more | append 4 1 -> more | retain 0 -> done | pairs -> 1:1 2:5 4:1 4:1 | keys -> 1 2 4",
     # Walks of no item, of one, and of four, from both ends and past them.
     "walkpairs bf -> - - | walkvalues bf -> - - | walkkeys bf -> - - | walk 1 bf -> - -",
-    "insert 1 1 -> none | walkpairs ffbfb -> 1:1 - - - - | walkvalues ffbfb -> 1 - - - - | walkkeys bfbfb -> 1 - - - - "
-    "| walk 1 ffbfb -> 1 - - - -",
+    "insert 1 1 -> none | walkpairs ffbfbf -> 1:1 - - - - - | walkvalues ffbfbf -> 1 - - - - - | walkkeys ffbfbf -> 1 - - - - - "
+    "| walk 1 ffbfbf -> 1 - - - - -",
     f"{MIXED} | walkpairs fbfbf -> 1:1 1:4 2:2 2:3 - | walkvalues fbfbf -> 1 4 2 3 - | walkkeys fbf -> 1 2 - "
     "| walk 1 fbf -> 1 4 - | walk 2 ff -> 2 3 | walk 3 b -> -",
     f"{MIXED} | pairs -> 1:1 2:2 2:3 1:4 | values -> 1 2 3 4 | keys -> 1 2 | all 2 -> 2 3",

@@ -8,11 +8,14 @@ use test_helpers::{End, Test, walk_difference};
 
 const THREE: &[(u32, u32)] = &[(1, 11), (2, 12), (2, 13)];
 
-// Whether the keys 1 and 2 have their values.
-fn has_both(test: &Test, map: &Numbers) {
-    let first = [(End::Front, 11)];
+const COPIED: &[(u32, u32)] = &[(1, 1), (2, 1), (2, 2)];
+
+// Whether the key 1 has the first value, and the key 2 the others.
+fn has_both(test: &Test, map: &Numbers, values: [u32; 3]) {
+    let [one, two, three] = values;
+    let first = [(End::Front, one)];
     test.expect_same(walk_difference(&mut map.get_all(&1), &first));
-    let second = [(End::Front, 12), (End::Front, 13)];
+    let second = [(End::Front, two), (End::Front, three)];
     test.expect_same(walk_difference(&mut map.get_all(&2), &second));
 }
 
@@ -28,15 +31,15 @@ fn hinted(hint: usize) -> Hinted {
 
 fn copies_come(test: &Test, map: &mut Numbers, other: &Numbers) {
     test.expect(map.extend_copied(other.iter()) == Ok(()));
-    has_both(test, map);
+    has_both(test, map, [1, 1, 2]);
 }
 
 /// Pairs are appended in turn. A hint of more pairs than there can be is ignored.
 pub fn pairs_come(test: &Test, map: &mut Numbers) {
     test.expect(map.extend(THREE.iter().copied()) == Ok(()));
-    has_both(test, map);
+    has_both(test, map, [11, 12, 13]);
     map.clear();
-    copies_come(test, map, &map_of(test, THREE));
+    copies_come(test, map, &map_of(test, COPIED));
     map.clear();
     test.expect(map.extend(hinted(usize::MAX)) == Ok(()));
     test.expect(has_pairs(map, PAIRS));
@@ -45,7 +48,7 @@ pub fn pairs_come(test: &Test, map: &mut Numbers) {
 /// Maps are made of pairs.
 pub fn maps_are_made(test: &Test) {
     match ListOrderedMultimap::from_iter(test.alloc(), DefaultState::new(), THREE.iter().copied()) {
-        Ok(map) => has_both(test, &map),
+        Ok(map) => has_both(test, &map, [11, 12, 13]),
         Err(_) => test.fail(),
     }
 }

@@ -40,27 +40,11 @@ where
     is_shown(alloc, walk, rest)
 }
 
-fn pairs_are_shown(alloc: Global, map: &Numbers) -> bool {
-    is_shown_twice(alloc, &mut map.iter(), PAIRS)
-}
-
-fn values_are_shown(alloc: Global, map: &Numbers) -> bool {
-    is_shown_twice(alloc, &mut map.values(), VALUES)
-}
-
-fn keys_are_shown(alloc: Global, map: &Numbers) -> bool {
-    is_shown_twice(alloc, &mut map.keys(), KEYS)
-}
-
-fn key_values_are_shown(alloc: Global, map: &Numbers) -> bool {
-    is_shown_twice(alloc, &mut map.pairs(), KEY_VALUES)
-}
-
 fn walks_of_all_are_shown(test: &Test, map: &Numbers) {
-    test.expect(pairs_are_shown(test.alloc(), map));
-    test.expect(values_are_shown(test.alloc(), map));
-    test.expect(keys_are_shown(test.alloc(), map));
-    test.expect(key_values_are_shown(test.alloc(), map));
+    test.expect(is_shown_twice(test.alloc(), &mut map.iter(), PAIRS));
+    test.expect(is_shown_twice(test.alloc(), &mut map.values(), VALUES));
+    test.expect(is_shown_twice(test.alloc(), &mut map.keys(), KEYS));
+    test.expect(is_shown_twice(test.alloc(), &mut map.pairs(), KEY_VALUES));
 }
 
 fn walk_of_a_key_is_shown(test: &Test, map: &Numbers) {

@@ -61,8 +61,22 @@ fn clones_go_on(test: &Test, map: &Numbers) {
     test.expect(goes_on(&mut map.get_all(&1), &[(End::Back, 14)]));
 }
 
+const FOUR: &[(End, (u32, u32))] = &[
+    (End::Front, (1, 11)),
+    (End::Front, (2, 11)),
+    (End::Front, (1, 12)),
+    (End::Front, (2, 12)),
+];
+
+// Each step at the front tells how many pairs are left.
+fn four_pairs_are_walked(test: &Test, map: &mut Numbers) {
+    refill(test, map, &[(1, 11), (2, 11), (1, 12), (2, 12)]);
+    test.expect_same(walk_difference(&mut map.iter(), FOUR));
+}
+
 /// Walks from both ends, and their clones.
 pub fn are_taken(test: &Test, map: &mut Numbers) {
     all_walks_answer(test, map);
     clones_go_on(test, map);
+    four_pairs_are_walked(test, map);
 }
