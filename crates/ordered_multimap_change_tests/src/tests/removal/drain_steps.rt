@@ -35,6 +35,15 @@ const DRAINS: &[(&[(u32, u32)], &[Step])] = &[
             (End::Back, 1, Some(13)),
         ],
     ),
+    (
+        ONE_KEY,
+        &[
+            (End::Front, 4, Some(11)),
+            (End::Front, 3, Some(12)),
+            (End::Front, 2, Some(13)),
+            (End::Front, 1, Some(14)),
+        ],
+    ),
 ];
 
 // Further steps at either end give nothing.
