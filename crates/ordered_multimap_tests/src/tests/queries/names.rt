@@ -136,11 +136,18 @@ fn headers_are_kept(test: &Test, headers: &mut Headers) {
     test.expect(headers.values_len() == 2);
 }
 
+fn is_owned(key: KeyWrapper<'_, Name>, text: &str) -> bool {
+    match key {
+        KeyWrapper::Owned(name) => name.text.as_str() == text,
+        KeyWrapper::Borrowed(_) => false,
+    }
+}
+
 // The name that a pop hands out with the value, since its last value goes.
 fn is_popped(headers: &mut Headers, text: &str, value: u32) -> bool {
     match headers.pop_back() {
-        Some((KeyWrapper::Owned(name), last)) => name.text.as_str() == text && last == value,
-        _ => false,
+        Some((key, last)) => is_owned(key, text) && last == value,
+        None => false,
     }
 }
 
