@@ -1,6 +1,14 @@
 #!/usr/bin/env python3
 """Short runs, each from an empty map: lines in, and what is written for them or the first bad line."""
 
+# Four values of one key; two keys with two values each; and seven values of a key with two of another among them.
+FOUR = "append 1 1 -> new | append 1 2 -> more | append 1 3 -> more | append 1 4 -> more"
+MIXED = "append 1 1 -> new | append 2 2 -> new | append 2 3 -> more | append 1 4 -> more"
+SEVEN = (
+    "append 1 10 -> new | append 2 20 -> new | append 1 11 -> more | append 1 12 -> more | append 2 21 -> more "
+    "| append 1 13 -> more | append 1 14 -> more | append 1 15 -> more | append 1 16 -> more"
+)
+
 # Texts with what is written for them.
 GOOD = [
     # The stored run.
@@ -103,6 +111,64 @@ GOOD = [
     (
         "append 1 1\nappend 1 2\nretain 9\npairs\nkeys\nappend 1 5\n",
         "new\nmore\ndone\nempty\nempty\nnew\n",
+    ),
+]
+
+# Runs of lines, each with its reply.
+ROWS = [
+    # Values that replace others, and keys that leave, each call on an absent key too.
+    "insert 5 1 -> none | insert 5 2 -> old 1 | get 5 -> 2",
+    "insertall 5 1 -> empty | insertall 5 2 -> 1 | get 5 -> 2",
+    "remove 5 -> none | append 5 1 -> new | append 5 2 -> more | remove 5 -> 1 | remove 5 -> none",
+    "removeall 5 -> empty | append 5 1 -> new | append 5 2 -> more | removeall 5 -> 1 2 | removeall 5 -> empty",
+    "removeentry 5 -> none | insert 5 1 -> none | append 5 2 -> more | removeentry 5 -> 5:1 | removeentry 5 -> none",
+    "removeentryall 5 -> none | append 5 1 -> new | append 5 2 -> more | removeentryall 5 -> 5=1,2 | removeentryall 5 -> none",
+    # Four values of one key leave at once, and another key stays.
+    f"{FOUR} | append 2 5 -> new | removeall 1 -> 1 2 3 4 | lists -> 2=5 | append 1 6 -> new | keys -> 2 1",
+    # The last value takes its key with it, from the back and from the front.
+    "insert 1 1 -> none | append 1 2 -> more | popback -> borrowed 1 2 | popback -> owned 1 1 | popback -> none",
+    "insert 1 1 -> none | append 1 2 -> more | popfront -> borrowed 1 1 | popfront -> owned 1 2 | popfront -> none",
+    # The first value of a key that comes and goes is written in its place.
+    "setfirst 1 5 -> none | insert 1 1 -> none | setfirst 1 5 -> old 1 | remove 1 -> 5 | setfirst 1 5 -> none",
+    # Neighbours in the middle of a key's values go, and ones at its ends.
+    "append 1 9 -> new | append 1 2 -> more | append 2 9 -> new | append 1 4 -> more | append 1 9 -> more | retain 5 -> done "
+    "| pairs -> 1:9 2:9 1:9 | walk 1 bfb -> 9 9 - | keys -> 1 2",
+    f"{FOUR} | retain 4 -> done | all 1 -> 4 | len 1 -> 1 | append 1 5 -> more | walk 1 bb -> 5 4",
+    # Values above and below zero: a key whose only value is below goes.
+    "insert 1 1 -> none | insert 2 5 -> none | append 1 -1 -> more | insert 3 -10 -> none | insert 4 1 -> none "
+    "| append 4 -1 -> more | append 4 1 -> more | retain 0 -> done | pairs -> 1:1 2:5 4:1 4:1 | keys -> 1 2 4",
+    # Walks of no item, of one, and of four, from both ends and past them.
+    "walkpairs bf -> - - | walkvalues bf -> - - | walkkeys bf -> - - | walk 1 bf -> - -",
+    "insert 1 1 -> none | walkpairs ffbfbf -> 1:1 - - - - - | walkvalues ffbfbf -> 1 - - - - - | walkkeys ffbfbf -> 1 - - - - - "
+    "| walk 1 ffbfbf -> 1 - - - - -",
+    f"{MIXED} | walkpairs fbfbf -> 1:1 1:4 2:2 2:3 - | walkvalues fbfbf -> 1 4 2 3 - | walkkeys fbf -> 1 2 - "
+    "| walk 1 fbf -> 1 4 - | walk 2 ff -> 2 3 | walk 3 b -> -",
+    f"{MIXED} | pairs -> 1:1 2:2 2:3 1:4 | values -> 1 2 3 4 | keys -> 1 2 | all 2 -> 2 3",
+    f"{FOUR} | walk 1 fbfbf -> 1 4 2 3 - | walk 1 bbfff -> 4 3 1 2 - | walkpairs fbbb -> 1:1 1:4 1:3 1:2 | all 1 -> 1 2 3 4",
+    # What is inserted, and what is appended, in order.
+    "insert 1 1 -> none | insert 2 2 -> none | insert 1 3 -> old 1 | insert 3 4 -> none | keys -> 1 2 3 | pairs -> 2:2 1:3 3:4",
+    "insert 1 1 -> none | insert 2 1 -> none | append 1 2 -> more | append 2 2 -> more | pairs -> 1:1 2:1 1:2 2:2",
+    "len 1 -> 0 | append 1 1 -> new | len 1 -> 1 | append 1 2 -> more | len 1 -> 2 | all 1 -> 1 2",
+    "len 1 -> 0 | insert 1 1 -> none | len 1 -> 1 | insert 1 2 -> old 1 | len 1 -> 1 | append 1 3 -> more | len 1 -> 2 "
+    "| insert 1 4 -> old 2 | len 1 -> 1 | remove 1 -> 4 | len 1 -> 0",
+    # The clone of a map with holes among its values, whose keys stand in another order than its pairs name them; and of
+    # an emptied one. The clone takes the map's place.
+    f"{MIXED} | insert 1 5 -> old 1 | append 2 6 -> more | swap -> done | pairs -> 2:2 2:3 1:5 2:6 | keys -> 1 2 "
+    "| walk 2 bfb -> 6 2 3 | remove 2 -> 2 | pairs -> 1:5 | keys -> 1 | remove 1 -> 5 | swap -> done | lengths -> 0 0 "
+    "| pairs -> empty | append 1 7 -> new | get 1 -> 7",
+    f"{MIXED} | swap -> done | popback -> borrowed 1 4 | append 1 4 -> more | pairs -> 1:1 2:2 2:3 1:4",
+    # Each of seven values is taken by its index, and none behind the last.
+    *(
+        f"{SEVEN} | removeat 1 {at} -> {taken} | len 1 -> {len(left.split())} | all 1 -> {left} "
+        f"| walk 1 {'b' * len(left.split())} -> {' '.join(reversed(left.split()))} | all 2 -> 20 21"
+        for at, taken, left in [
+            (0, "10", "11 12 13 14 15 16"),
+            (1, "11", "10 12 13 14 15 16"),
+            (3, "13", "10 11 12 14 15 16"),
+            (4, "14", "10 11 12 13 15 16"),
+            (6, "16", "10 11 12 13 14 15"),
+            (7, "none", "10 11 12 13 14 15 16"),
+        ]
     ),
 ]
 
@@ -252,9 +318,15 @@ def looked_up(rows):
     return "".join(given), "".join(written)
 
 
+def answered(row):
+    """A run of lines, and what is written for them."""
+    lines, replies = zip(*(step.strip().split(" -> ") for step in row.split("|")))
+    return "".join(f"{line}\n" for line in lines), "".join(f"{reply}\n" for reply in replies)
+
+
 def runs():
     """Each input with its output, the text on standard error, and the status."""
-    for given, written in GOOD + LONG + [looked_up(rows) for rows in CHANGES]:
+    for given, written in GOOD + LONG + [answered(row) for row in ROWS] + [looked_up(rows) for rows in CHANGES]:
         yield given.encode(), (written.encode(), b"", 0)
     for given, line in [*((text.encode(), line) for text, line in BAD), *((text, 1) for text in BYTES)]:
         yield given, (b"", b"bad line %d\n" % line, 2)

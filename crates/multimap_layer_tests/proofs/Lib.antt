@@ -1,4 +1,2 @@
 pub mod CellsLemmas
-pub mod DetachedLemmas
 pub mod TapedLemmas
-pub mod WalkedLemmas

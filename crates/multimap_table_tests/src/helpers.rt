@@ -2,7 +2,7 @@
 use std::alloc::Global;
 use std::hash::BuildHasher;
 use test_helpers::{
-    Constant, End, Failed, Sample, Test, Token, expect_text, is_compared, is_copied, is_shown,
+    Constant, End, Failed, Test, expect_text, is_compared, is_copied, is_shown,
     requests_until_enough, walk_difference,
 };
 
@@ -55,14 +55,6 @@ fn walks_differ(test: &Test, items: &[u32]) {
     }
 }
 
-fn samples_tell_their_numbers(test: &Test) {
-    test.expect(usize::of(test, 4).number() == 4);
-    test.expect(String::of(test, 4).number() == 4);
-    test.expect(Token::of(test, 4).number() == 4);
-    test.expect(Token::of(test, 4) != Token::of(test, 5));
-    test.expect(Constant { hash: 7 }.hash_one(&4) == 7);
-}
-
 fn values_are_compared() -> bool {
     is_compared(&5u32, &5, &6)
         && !is_compared(&5u32, &6, &7)
@@ -81,7 +73,7 @@ fn what_differs_is_noticed(rt: HostRuntime) -> Result<(), Failed> {
     let requests = requests_until_enough(|granted| granted >= 5);
     test.expect(requests == Some(5));
     test.expect(requests_until_enough(|_| false).is_none());
-    samples_tell_their_numbers(&test);
+    test.expect(Constant { hash: 7 }.hash_one(&4) == 7);
     test.expect(values_are_compared());
     test.end()
 }

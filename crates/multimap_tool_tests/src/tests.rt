@@ -3,6 +3,7 @@ mod borrowed;
 mod callers;
 mod faults;
 mod letters;
+mod lines;
 mod lists;
 mod maps;
 mod memory;

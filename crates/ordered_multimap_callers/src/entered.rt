@@ -1,11 +1,11 @@
 //! Callers of entries that are proved for every key type: each knows what the map is afterwards.
-ghost use Rattle.std.specs.Prelude.{◌≡◌, true, false, length, nat_eq, slice_get, Some, IfNone, IfOk, IfSome, OnSome, OnErr, OnOk};
+ghost use Rattle.std.specs.Prelude.{◌≡◌, true, false, length, slice_get, Some, IfNone, IfOk, IfSome, OnSome, OnErr, OnOk};
 ghost use Rattle.ordered_multimap.specs.Changes.{appended, first_written, inserted, removed};
 ghost use Rattle.ordered_multimap.specs.Pairs.{is_present, values_of};
 ghost use Rattle.ordered_multimap.specs.RemovedAt.{removed_at, removable_value_at};
 
 use ordered_multimap::ListOrderedMultimap;
-use ordered_multimap::list_ordered_multimap::{Entry, Refused, RefusedValue};
+use ordered_multimap::list_ordered_multimap::{Entry, Refused};
 use std::alloc::{AllocError, Allocator};
 use std::hash::{BuildHasher, Hash};
 
@@ -162,26 +162,5 @@ pub fn replace_or_append<K: Eq + Hash + Drop, V: Drop, S: BuildHasher, A: Alloca
             entry.insert(value)?;
             Ok(None)
         }
-    }
-}
-
-/// Puts a number last under a key, if the key is present.
-pub fn append_number(
-    map: &mut ListOrderedMultimap<u64, u64>,
-    key: u64,
-    value: u64,
-) -> Result<(), RefusedValue<u64>>
-    ensures present { is_present nat_eq map.old.lists.pairs key ≡ true
-        → OnOk result (map.new.lists ≡ appended nat_eq map.old.lists key value) }
-    ensures absent { is_present nat_eq map.old.lists.pairs key ≡ false
-        → map.new.lists ≡ map.old.lists }
-    ensures unchanged { OnErr result (map.new.lists ≡ map.old.lists) }
-{
-    match map.entry(key) {
-        Entry::Occupied(mut entry) => {
-            entry.append(value)?;
-            Ok(())
-        }
-        Entry::Vacant(_entry) => Ok(()),
     }
 }

@@ -165,27 +165,6 @@ pub fn count_inserted<K: Eq + Hash + Drop, V: Drop, S: BuildHasher, A: Allocator
     }
 }
 
-/// If the key is present, its first value is this one afterwards. Returns whether it is.
-pub fn modify_to<K: Eq + Hash + Drop, V: Drop, S: BuildHasher, A: Allocator>(
-    map: &mut ListOrderedMultimap<K, V, S, A>,
-    key: K,
-    value: V,
-) -> bool
-    ensures present { is_present K.eq map.old.lists.pairs key ≡ true
-        → map.new.lists ≡ first_written K.eq map.old.lists key value }
-    ensures absent { is_present K.eq map.old.lists.pairs key ≡ false
-        → map.new.lists ≡ map.old.lists }
-    ensures answer { result ≡ is_present K.eq map.old.lists.pairs key }
-{
-    match map.entry(key).and_modify(|first| *first = value) {
-        Entry::Occupied(_entry) => true,
-        Entry::Vacant(entry) => {
-            drop(entry.into_key());
-            false
-        }
-    }
-}
-
 /// Calls the function on the key's first value, if the key is present. Returns whether it is.
 pub fn modify_by<K, V, S, A, F>(
     map: &mut ListOrderedMultimap<K, V, S, A>,
@@ -214,28 +193,6 @@ where
             false
         }
     }
-}
-
-/// If the key is present, its first value is this one afterwards, and else the fresh one is put
-/// last.
-pub fn modify_or_append<K: Eq + Hash + Drop, V: Drop, S: BuildHasher, A: Allocator + Copy>(
-    map: &mut ListOrderedMultimap<K, V, S, A>,
-    key: K,
-    value: V,
-    fresh: V,
-) -> Result<(), Refused<K, V>>
-    ensures present { is_present K.eq map.old.lists.pairs key ≡ true
-        → map.new.lists ≡ first_written K.eq map.old.lists key value }
-    ensures absent { is_present K.eq map.old.lists.pairs key ≡ false
-        → OnOk result (map.new.lists ≡ appended K.eq map.old.lists key fresh) }
-    ensures unchanged { OnErr result (map.new.lists ≡ map.old.lists) }
-    ensures occupied { is_present K.eq map.old.lists.pairs key ≡ true → IsOk result }
-    ensures refused { IfErr result (λ pair. pair ≡ record { key = key; value = fresh }) }
-{
-    map.entry(key)
-        .and_modify(|first| *first = value)
-        .or_insert(fresh)?;
-    Ok(())
 }
 
 /// The key's first value, where it is absent after the pair with what the function returns was put

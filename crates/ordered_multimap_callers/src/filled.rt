@@ -1,6 +1,6 @@
-//! Callers of the walks for writing that are proved for every key and value type: each but
-//! `fill_first_key` knows afterwards that keys, order, lengths and the key of each pair stay. Which
-//! values a walk left no caller knows, and of a step of `pairs_mut` none knows what it leaves.
+//! Callers of the walks for writing that are proved for every key and value type: each knows
+//! afterwards that keys, order, lengths and the key of each pair stay. Which values a walk left no
+//! caller knows, and of a step of `pairs_mut` none knows what it leaves.
 ghost use Rattle.std.specs.Prelude.{◌≡◌};
 ghost use Rattle.ordered_multimap_callers.specs.Filled.{KeepsKeys};
 
@@ -51,25 +51,6 @@ pub fn fill_key<K: Eq + Hash, V: Copy, S: BuildHasher, A: Allocator>(
     }
 }
 
-/// The first and the last value become a copy of this one, while both references live.
-#[tactic(auto, using(ordered_multimap::proofs::Callers::LentValues::keys_revalued, ordered_multimap::proofs::Callers::LentValues::length_revalued))]
-pub fn fill_ends<K: Eq + Hash, V: Copy, S: BuildHasher, A: Allocator>(
-    map: &mut ListOrderedMultimap<K, V, S, A>,
-    value: V,
-)
-    ensures keeps { KeepsKeys map.old.lists map.new.lists }
-{
-    let mut walk = map.iter_mut();
-    let last = walk.next_back();
-    let first = walk.next();
-    if let Some((_, slot)) = last {
-        *slot = value;
-    }
-    if let Some((_, slot)) = first {
-        *slot = value;
-    }
-}
-
 /// Each value becomes a copy of this one, by a loop over the reference to the map itself.
 #[tactic(auto, using(ordered_multimap::proofs::Callers::LentValues::keys_revalued, ordered_multimap::proofs::Callers::LentValues::length_revalued))]
 pub fn fill_by_reference<K: Eq + Hash, V: Copy, S: BuildHasher, A: Allocator>(
@@ -80,18 +61,5 @@ pub fn fill_by_reference<K: Eq + Hash, V: Copy, S: BuildHasher, A: Allocator>(
 {
     for (_, slot) in map {
         *slot = value;
-    }
-}
-
-/// Each value of the first key becomes a copy of this one.
-pub fn fill_first_key<K: Eq + Hash, V: Copy, S: BuildHasher, A: Allocator>(
-    map: &mut ListOrderedMultimap<K, V, S, A>,
-    value: V,
-) {
-    let mut keys = map.pairs_mut();
-    if let Some((_, values)) = keys.next() {
-        for slot in values {
-            *slot = value;
-        }
     }
 }

@@ -19,20 +19,15 @@ pub type Refusing<A> = ListOrderedMultimap<u32, u32, DefaultState, A>;
 /// Two keys with two values each, one inside the other.
 pub const MIXED: &[(u32, u32)] = &[(1, 11), (2, 12), (2, 13), (1, 14)];
 
-/// The same of texts.
+/// Four values of one key.
+pub const ONE_KEY: &[(u32, u32)] = &[(1, 11), (1, 12), (1, 13), (1, 14)];
+
+/// The mixed pairs as texts.
 pub const MIXED_TEXTS: &[(&str, &str)] = &[
     ("key1", "value1"),
     ("key2", "value2"),
     ("key2", "value3"),
     ("key1", "value4"),
-];
-
-/// Four values of one key.
-pub const ONE_KEY: &[(&str, &str)] = &[
-    ("key", "value1"),
-    ("key", "value2"),
-    ("key", "value3"),
-    ("key", "value4"),
 ];
 
 /// Appends these pairs.

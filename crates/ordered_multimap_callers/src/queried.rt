@@ -43,13 +43,6 @@ pub fn first_of_text<V: Copy, S: BuildHasher, A: Allocator, B: Allocator>(
     map.get(name).copied()
 }
 
-/// Whether the map of texts has a line, looked up without making a text.
-pub fn has_line<V, S: BuildHasher, A: Allocator, B: Allocator>(
-    map: &ListOrderedMultimap<String<B>, V, S, A>,
-) -> bool {
-    map.contains_key("line")
-}
-
 /// Takes out the key that a query stands for, with all its values, and returns it.
 pub fn take_key_by<K: Eq + Hash + Drop, V: Drop, Q: KeyQuery<K>, S: BuildHasher, A: Allocator>(
     map: &mut ListOrderedMultimap<K, V, S, A>,

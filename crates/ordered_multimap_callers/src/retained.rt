@@ -1,7 +1,6 @@
 //! What proved callers know of a map after `retain`.
 ghost use Rattle.std.specs.Prelude.{◌≡◌, filter, map as each, nat_eq, nat_lt};
 ghost use Rattle.ordered_multimap.specs.Changes.{kept};
-ghost use Rattle.ordered_multimap.specs.Lists.{empty_lists};
 
 use ordered_multimap::ListOrderedMultimap;
 use std::alloc::Allocator;
@@ -28,13 +27,4 @@ pub fn write_zeros<K: Eq + Hash + Drop, S: BuildHasher, A: Allocator>(
         *value = 0;
         true
     });
-}
-
-/// Keeps no pair.
-pub fn keep_none<K: Eq + Hash + Drop, V: Drop, S: BuildHasher, A: Allocator>(
-    map: &mut ListOrderedMultimap<K, V, S, A>,
-)
-    ensures { map.new.lists ≡ empty_lists }
-{
-    map.retain(|_key, _value| false);
 }

@@ -30,24 +30,8 @@ pub fn test_on_empty<T: Checked, M: Empty, F: FnOnce(&T, &mut M)>(
     test.finish()
 }
 
-/// Runs a test of checks that are lent the same map in turn, and an allocator that can refuse the
-/// map's memory.
-#[macro_export]
-macro_rules! test_refusing {
-    ($alloc:expr; $($check:path),+) => {{
-        let test = Test::new($alloc);
-        let allocator = RefusingAllocator::unlimited(test.alloc());
-        test_helpers::lend(ListOrderedMultimap::new(&allocator), |map| {
-            $(
-                test.begin(stringify!($check));
-                $check(&test, &allocator, map);
-            )+
-        });
-        test.end()
-    }};
-}
-
-/// The same of one check, with room for so many keys and so many values.
+/// Runs a test of a check that is lent a map with room for so many keys and so many values, and an
+/// allocator that can refuse the map's memory.
 #[macro_export]
 macro_rules! test_with_room {
     ($alloc:expr; $keys:expr, $values:expr; $check:path) => {{
@@ -58,19 +42,6 @@ macro_rules! test_with_room {
             |map| $check(&test, &allocator, map),
             |_refused| {},
         ));
-        test.end()
-    }};
-}
-
-/// Runs a test of a check that is lent a value, whose shares it may count.
-#[macro_export]
-macro_rules! test_shares {
-    ($alloc:expr; $check:path) => {{
-        let test = Test::new($alloc);
-        match Rc::new(test.alloc(), 1) {
-            Ok(shared) => $check(&test, &shared),
-            Err(_) => test.fail(),
-        }
         test.end()
     }};
 }

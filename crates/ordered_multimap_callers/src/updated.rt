@@ -17,14 +17,6 @@ pub fn add_one_to<K: Eq + Hash, S: BuildHasher, A: Allocator>(
     map.update_all(key, |value| *value = value.wrapping_add(1));
 }
 
-/// Adds its key to each value.
-pub fn add_keys<S: BuildHasher, A: Allocator>(map: &mut ListOrderedMultimap<u32, u32, S, A>)
-    ensures { map.new.lists.pairs
-        ≡ each (λ p. (p.0, (p.1 + p.0) % 2 ^ 32)) map.old.lists.pairs }
-{
-    map.update_values(|key, value| *value = value.wrapping_add(*key));
-}
-
 /// Writes one value everywhere.
 pub fn fill_with<K: Eq + Hash, S: BuildHasher, A: Allocator>(
     map: &mut ListOrderedMultimap<K, u32, S, A>,

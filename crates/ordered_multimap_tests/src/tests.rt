@@ -1,7 +1,5 @@
 //! The tests: each makes one map, or is lent an empty one, for all comparisons of its type, since a
 //! map that is owned costs a proof more than all that it is lent to.
-mod caseless;
-mod clones;
 mod derives;
 mod emptied;
 mod equal;
@@ -22,7 +20,7 @@ use ordered_multimap::ListOrderedMultimap;
 use ordered_multimap::list_ordered_multimap::RandomState;
 use ordered_multimap_callers::maps::{MIXED, Numbers, map_of, refill};
 use ordered_multimap_callers::tested::test_on_empty;
-use test_helpers::{Failed, Test, ZERO, test_all};
+use test_helpers::{Failed, Test, ZERO, lend};
 
 #[test]
 fn maps_of_texts_are_shown(rt: HostRuntime) -> Result<(), Failed> {
@@ -38,8 +36,6 @@ fn numbers_answer(test: &Test, map: &mut Numbers) {
     shown::walks_are_shown(test, map);
     test.begin("equal");
     equal::are_compared(test, map);
-    test.begin("clones");
-    clones::are_made(test, map);
 }
 
 #[test]
@@ -47,25 +43,19 @@ fn maps_of_numbers_answer(rt: HostRuntime) -> Result<(), Failed> {
     test_on_empty(rt.alloc(), numbers_answer)
 }
 
-fn collided_keys_are_apart(test: &Test) {
-    collided_keys_come(
-        test,
-        &mut ListOrderedMultimap::with_hasher(test.alloc(), ZERO),
-    );
-}
-
 #[test]
 fn keys_of_one_hash_are_apart(rt: HostRuntime) -> Result<(), Failed> {
-    test_all!(rt.alloc(); collided_keys_are_apart)
+    let test = Test::new(rt.alloc());
+    let map = ListOrderedMultimap::with_hasher(test.alloc(), ZERO);
+    lend(map, |map| collided_keys_come(&test, map));
+    test.end()
 }
 
 fn a_builder_serves(test: &Test, state: Option<RandomState>) {
     match state {
         Some(state) => {
-            keys_are_found(
-                test,
-                &mut ListOrderedMultimap::with_hasher(test.alloc(), state),
-            );
+            let map = ListOrderedMultimap::with_hasher(test.alloc(), state);
+            lend(map, |map| keys_are_found(test, map));
         }
         None => test.fail(),
     }

@@ -1,9 +1,7 @@
-//! The worked rows, refused requests, a comparison with plain lists, each call once, and proved
-//! callers.
+//! The worked rows, refused requests, each call once, and proved callers.
 mod callers;
 mod caseless;
 mod examples;
 mod lists;
-mod plain;
 mod refused;
 mod rows;

@@ -6,16 +6,16 @@
 #![tactic(auto)]
 
 mod frames;
+mod hashes;
 mod lent;
 mod requests;
-mod samples;
 mod steps;
 mod values;
 mod walks;
 
+pub use hashes::{Constant, ZERO};
 pub use lent::{lend, lend_made, test_on_new};
 pub use requests::requests_until_enough;
-pub use samples::{Constant, Sample, Token, ZERO};
 pub use steps::{Checked, Failed, Test, expect_text};
 pub use values::{is_compared, is_copied, is_shown};
 pub use walks::{End, Plain, taken, walk_difference};

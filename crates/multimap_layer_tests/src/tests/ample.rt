@@ -3,7 +3,6 @@ use crate::tests::listed_uses::{
     Used, push_at_end, push_with_room, take_from, take_from_tape, use_listed, use_listed_on_tape,
 };
 use crate::tests::slots::{Items, List, expect_on, expect_slots};
-use crate::tests::uses::{push_two, read_all, relink};
 use multimap_slots::{Reads, SlotList, Tape};
 use std::mem::size_of;
 use test_helpers::{Failed, Test, is_shown};
@@ -36,12 +35,9 @@ fn one_comes_and_the_first_goes(test: &Test, list: &mut List, a: usize, c: usize
     test.expect(list.front_place() == Some(c));
 }
 
-fn two_are_pushed_and_read(test: &Test, list: &mut List) {
-    let places = push_two(list, 10, 20);
-    test.expect(places == Some((0, 1)));
-    test.expect(relink(list, 1, 7));
-    test.expect(!relink(list, NOWHERE, 7));
-    read_all(list, &mut Reads::new());
+fn two_are_pushed(test: &Test, list: &mut List) {
+    test.expect(push(test, list, 10) == 0);
+    test.expect(push(test, list, 20) == 1);
     test.expect(is_shown(test.alloc(), list, "{0: 10, 1: 20}"));
 }
 
@@ -50,7 +46,13 @@ fn an_item_is_written(test: &Test, list: &mut List) {
         Some(item) => *item = 11,
         None => test.fail(),
     }
+    match list.link_mut(0) {
+        Some(link) => *link = 9,
+        None => test.fail(),
+    }
     test.expect(list.get_mut(NOWHERE).is_none());
+    test.expect(list.link_mut(NOWHERE).is_none());
+    expect_slots(test, list, &[(0, 11, 9), (1, 20, 1)]);
 }
 
 fn a_list_is_cleared(test: &Test, list: &mut List) {
@@ -80,7 +82,7 @@ fn listed_slots_answer(test: &Test, list: &mut List) {
 fn calls_of_a_list_answer(test: &Test, list: &mut List) {
     listed_slots_answer(test, list);
     a_list_is_cleared(test, list);
-    two_are_pushed_and_read(test, list);
+    two_are_pushed(test, list);
     an_item_is_written(test, list);
     list.clear();
     items_keep_their_places(test, list);

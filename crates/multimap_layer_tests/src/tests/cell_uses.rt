@@ -68,22 +68,9 @@ fn write_ends(cells: &mut SlotCells<'_, usize, u8>, first: usize, last: usize) -
     Some(were)
 }
 
-/// Reads the order and both ends of a list that lends its items, and writes the items at both ends
-/// while both references live. What is detached stays so.
-pub fn write_list_ends(list: &mut List, first: usize, last: usize) -> Lending
-    ensures order { list.new.order ≡ list.old.order }
-    ensures links { list.new.links ≡ list.old.links }
-    ensures capacity { list.new.capacity ≡ list.old.capacity }
-    ensures detached { (p : ℕ) → IsDetached list.old p → IsDetached list.new p }
-{
-    let mut cells = list.cells();
-    let lent = lent_of(&cells);
-    let second = second_of(&cells);
-    let read = read_ends(&cells);
-    (lent, second, read, write_ends(&mut cells, first, last))
-}
-
-/// The same on a tape, where the right to write the item between is given up.
+/// Reads the order and both ends of a tape that lends its items, and writes the items at both ends
+/// while both references live. The right to write the others is given up, and what is detached stays
+/// so.
 pub fn write_tape_ends(tape: &mut Items, first: usize, last: usize) -> Lending
     ensures order { tape.new.list.order ≡ tape.old.list.order }
     ensures links { tape.new.list.links ≡ tape.old.list.links }

@@ -2,7 +2,8 @@
 //! others, each once.
 ghost use Rattle.multimap_slots.specs.Slots.{IsDetached};
 
-use crate::tests::cell_uses::{Lending, write_last, write_list_ends, write_slots, write_tape_ends};
+use crate::tests::cell_uses::{Lending, write_last, write_slots, write_tape_ends};
+use crate::tests::holes::push_four;
 use crate::tests::slots::{Items, List, expect_on, expect_slots};
 use crate::tests::{tape_uses, uses};
 use multimap_slots::{SlotList, Tape};
@@ -13,12 +14,26 @@ fn it_has_left_the_list(test: &Test, list: &mut List, detached: usize)
     requires { IsDetached list.old detached }
     ensures { IsDetached list.new detached }
 {
+    expect_slots(test, list, &[(0, 10, 1), (2, 30, 3)]);
     test.expect(uses::remove_none(list, detached));
     let (item, link) = list.get_detached(detached);
     test.expect((*item, link) == (20, 2));
     let place = uses::push_beside(list, 40, detached);
     test.expect(place == Some(3));
-    expect_slots(test, list, &[(0, 10, 1), (2, 30, 3), (3, 40, 4)]);
+    test.expect(write_last(list, 42) == Some(40));
+    expect_slots(test, list, &[(0, 10, 1), (2, 30, 3), (3, 42, 4)]);
+}
+
+// Items 10, 20 and 30: the second is detached, and 40 comes.
+fn items_leave_and_are_written(test: &Test, list: &mut List) {
+    let _first = list.push_back(10, 1);
+    let detached = list.push_back(20, 2).unwrap_or(9);
+    let _third = list.push_back(30, 3);
+    if !uses::detach_listed(list, detached) {
+        return test.fail();
+    }
+    it_has_left_the_list(test, list, detached);
+    test.expect(list.take_detached(detached) == 20);
 }
 
 // Of three items that are lent: the ends, the second one's link and neighbours, and both ends
@@ -31,53 +46,23 @@ fn expect_lent(test: &Test, lending: Lending) {
     test.expect(were == Some((10, 40)));
 }
 
-fn both_ends_are_written(test: &Test, list: &mut List, detached: usize)
-    requires { IsDetached list.old detached }
-    ensures { IsDetached list.new detached }
+fn it_has_left_the_tape(test: &Test, tape: &Items, detached: usize)
+    requires { IsDetached tape.now.list detached }
 {
-    expect_lent(test, write_list_ends(list, 11, 41));
-    test.expect(write_last(list, 42) == Some(41));
-    expect_slots(test, list, &[(0, 11, 1), (2, 30, 3), (3, 42, 4)]);
-}
-
-// Pushes items 10, 20 and 30, and detaches the second: its place.
-macro_rules! detached {
-    ($test:ident, $items:ident, $detach:path) => {{
-        let _first = $items.push_back(10, 1);
-        let detached = $items.push_back(20, 2).unwrap_or(9);
-        let _third = $items.push_back(30, 3);
-        if !$detach($items, detached) {
-            return $test.fail();
-        }
-        detached
-    }};
-}
-
-// Items 10, 20 and 30: the second is detached, 40 comes, and the ends of the others are written.
-fn items_leave_and_are_written(test: &Test, list: &mut List) {
-    let detached = detached!(test, list, uses::detach_listed);
-    it_has_left_the_list(test, list, detached);
-    both_ends_are_written(test, list, detached);
-    test.expect(list.take_detached(detached) == 20);
-}
-
-fn it_has_left_the_tape(test: &Test, tape: &mut Items, detached: usize)
-    requires { IsDetached tape.old.list detached }
-    ensures { IsDetached tape.new.list detached }
-{
-    test.expect(tape_uses::removes_nothing(tape, detached));
     let (item, link) = tape.get_detached(detached);
     test.expect((*item, link) == (20, 2));
-    let place = tape_uses::push_beside(tape, detached, 40);
-    test.expect(place == Some(3));
 }
 
+// Items 10, 20, 30 and 40: the second is detached, and the ends of the others are written.
 fn items_of_a_tape_leave_and_are_written(test: &Test, tape: &mut Items) {
-    let detached = detached!(test, tape, tape_uses::detach_listed);
-    it_has_left_the_tape(test, tape, detached);
+    let places = push_four(tape);
+    if !tape_uses::detach_listed(tape, places.1) {
+        return test.fail();
+    }
+    it_has_left_the_tape(test, tape, places.1);
     expect_lent(test, write_tape_ends(tape, 11, 41));
     expect_on(test, tape, &[(0, 11, 1), (2, 30, 3), (3, 41, 4)]);
-    test.expect(tape.take_detached(detached) == 20);
+    test.expect(tape.take_detached(places.1) == 20);
     test.expect(tape_uses::take_with_links(tape, 2) == Some((30, 3, 3)));
     expect_on(test, tape, &[(0, 11, 1), (3, 41, 4)]);
 }

@@ -7,10 +7,11 @@ use crate::tests::tape_uses::{cut_to_no_hole, move_if_free, remove_both};
 use multimap_slots::Tape;
 use test_helpers::{Failed, Test};
 
-// The places of 10, 20, 30 and 40.
-type Four = (usize, usize, usize, usize);
+/// The places of 10, 20, 30 and 40.
+pub type Four = (usize, usize, usize, usize);
 
-fn push_four(tape: &mut Items) -> Four
+/// Pushes 10, 20, 30 and 40.
+pub fn push_four(tape: &mut Items) -> Four
     ensures { KeepsCounts tape.old tape.new }
 {
     let p0 = tape.push_back(10, 1).unwrap_or(9);

@@ -18,35 +18,31 @@ fn slot_of(place: usize, found: Option<(&usize, u8)>) -> Slot {
     }
 }
 
+macro_rules! add_slots {
+    ($test:ident, $items:ident, $slots:ident, $previous:ident, $next:ident) => {
+        let mut following = $items.front_place();
+        let mut earlier = None;
+        for _ in 0..$items.len() {
+            let place = following.unwrap_or(0);
+            let before = $items.$previous(place);
+            $test.expect(before == earlier);
+            let slot = slot_of(place, $items.get(place, &mut Reads::new()));
+            $test.expect($slots.push(slot).is_ok());
+            earlier = following;
+            following = $items.$next(place);
+        }
+        $test.expect($items.back_place() == earlier);
+    };
+}
+
 /// Adds each slot from the front. The places have to be the same from the back.
 pub fn add_slots<A: Allocator>(test: &Test, list: &SlotList<usize, u8, A>, slots: &mut Vec<Slot>) {
-    let mut following = list.front_place();
-    let mut earlier = None;
-    for _ in 0..list.len() {
-        let place = following.unwrap_or(0);
-        test.expect(list.previous_place(place) == earlier);
-        let slot = slot_of(place, list.get(place, &mut Reads::new()));
-        test.expect(slots.push(slot).is_ok());
-        earlier = following;
-        following = list.next_place(place);
-    }
-    test.expect(list.back_place() == earlier);
+    add_slots!(test, list, slots, previous_place, next_place);
 }
 
 /// The same of a tape.
 pub fn add_slots_on<A: Allocator>(test: &Test, tape: &Tape<usize, u8, A>, slots: &mut Vec<Slot>) {
-    let mut following = tape.front_place();
-    let mut earlier = None;
-    for _ in 0..tape.len() {
-        let place = following.unwrap_or(0);
-        let before = tape.previous_place_before(place);
-        test.expect(before == earlier);
-        let slot = slot_of(place, tape.get(place, &mut Reads::new()));
-        test.expect(slots.push(slot).is_ok());
-        earlier = following;
-        following = tape.next_place_after(place);
-    }
-    test.expect(tape.back_place() == earlier);
+    add_slots!(test, tape, slots, previous_place_before, next_place_after);
 }
 
 /// Expects these slots and no others.

@@ -1,5 +1,5 @@
 //! Callers of the tape, proved from its public contracts alone.
-ghost use Rattle.std.specs.Prelude.{◌≡◌, ◌≢◌, ◌+◌, ◌≤◌, ◌<◌, ℕ, false, Some, IfSome, IfNone, IsTrue};
+ghost use Rattle.std.specs.Prelude.{◌≡◌, ◌+◌, ◌≤◌, ◌<◌, ℕ, false, IsTrue};
 ghost use Rattle.multimap_slots.specs.Lists.{IsIn};
 ghost use Rattle.multimap_slots.specs.Slots.{IsDetached, item_at};
 ghost use Rattle.multimap_slots.specs.Tapes.{Frees};
@@ -47,19 +47,6 @@ pub fn detach_listed<T>(tape: &mut Tape<T, u8>, place: usize) -> bool
     is_there
 }
 
-/// Takes an item out of the list and then out of its slot, if one is there. It is freed once.
-pub fn detach_and_take(tape: &mut Items, place: usize) -> Option<usize>
-    ensures item { IfSome result (λ item. item_at tape.old.list place ≡ Some item) }
-    ensures freed { IfSome result (λ _. Frees tape.old tape.new) }
-    ensures kept { IfNone result (tape.new ≡ tape.old) }
-{
-    if detach_listed(tape, place) {
-        Some(tape.take_detached(place))
-    } else {
-        None
-    }
-}
-
 /// Takes the item at a place out of the list and then out of its slot, if one is there, and returns
 /// it with its link, as each of the two calls returns it.
 pub fn take_with_links(tape: &mut Items, place: usize) -> Option<(usize, u8, u8)> {
@@ -71,27 +58,6 @@ pub fn take_with_links(tape: &mut Items, place: usize) -> Option<(usize, u8, u8)
     let link = tape.detach_linked(place);
     let (item, same) = tape.take_detached_linked(place);
     Some((item, link, same))
-}
-
-/// Tries to remove what is detached already, and returns whether nothing was there.
-pub fn removes_nothing(tape: &mut Items, place: usize) -> bool
-    requires { IsDetached tape.old.list place }
-    ensures none { IsTrue result }
-    ensures unchanged { tape.new ≡ tape.old }
-{
-    tape.remove(place).is_none()
-}
-
-/// Pushes an item, and returns its place, which is another than a detached item's.
-pub fn push_beside(tape: &mut Items, place: usize, item: usize) -> Option<usize>
-    requires { IsDetached tape.old.list place }
-    ensures kept { IsDetached tape.new.list place }
-    ensures apart { IfSome result (λ at. place ≢ at) }
-{
-    let Ok(at) = tape.push_back(item, 4) else {
-        return None;
-    };
-    Some(at)
 }
 
 /// Takes both items out, and returns whether both were there.

@@ -18,7 +18,6 @@ const TOOL_FAULTS: Faults<ToolFault> = &[
 
 const TEXT_FAULTS: Faults<TextFault> = &[
     (TextFault::BadLine(7), "BadLine(7)", "bad line 7"),
-    (TextFault::BadLine(8), "BadLine(8)", "bad line 8"),
     (TextFault::OutOfMemory, "OutOfMemory", "out of memory"),
 ];
 
@@ -54,11 +53,6 @@ const READ_FAULTS: Faults<ReadFault> = &[
         "pair 7 is no array of a key and a value",
     ),
     (
-        ReadFault::NotPair(8),
-        "NotPair(8)",
-        "pair 8 is no array of a key and a value",
-    ),
-    (
         ReadFault::BadKey(0),
         "BadKey(0)",
         "the key of pair 0 is no key of the map's type",
@@ -77,11 +71,6 @@ const READ_FAULTS: Faults<ReadFault> = &[
         ReadFault::UnusedKey(0),
         "UnusedKey(0)",
         "item 0 of \"keys\" is the key of no pair",
-    ),
-    (
-        ReadFault::UnusedKey(1),
-        "UnusedKey(1)",
-        "item 1 of \"keys\" is the key of no pair",
     ),
     (ReadFault::OutOfMemory, "OutOfMemory", "out of memory"),
 ];

@@ -15,8 +15,6 @@ use test_helpers::{Constant, Failed, Test, ZERO, lend_made, requests_until_enoug
 // costs a proof more.
 type Numbers<S, A> = ListOrderedMultimap<u32, i64, S, A>;
 
-type Texts<A> = ListOrderedMultimap<String, i64, DefaultState, A>;
-
 const PAIRS: &[(u32, i64)] = &[(1, 5), (2, 6), (1, 7)];
 
 fn has_pairs<S: BuildHasher, A: Allocator>(map: &Numbers<S, A>, pairs: &[(u32, i64)]) -> bool {
@@ -84,55 +82,6 @@ fn requests_are_refused(test: &Test, value: &Value, ample: Option<ReadFault>) {
     test.expect(enough.unwrap_or(0) >= 3);
 }
 
-const TEXT_KEYS: &[&str] = &[
-    "[[\"a\",1],[\"b\",2],[\"a\",3]]",
-    "{\"keys\":[\"b\",\"a\"],\"pairs\":[[\"a\",1],[\"b\",2],[\"a\",3]]}",
-];
-
-fn has_texts<A: Allocator>(map: &Texts<A>) -> bool {
-    let mut walk = map.iter();
-    let mut same = map.keys_len() == 2;
-    for (text, value) in [("a", 1), ("b", 2), ("a", 3)] {
-        same = same
-            && match walk.next() {
-                Some((key, found)) => key.as_str() == text && *found == value,
-                None => false,
-            };
-    }
-    same && walk.next().is_none()
-}
-
-// The same of a map whose keys are texts.
-fn read_texts_with(test: &Test, value: &Value, granted: u64) -> bool {
-    let budget = RefusingAllocator::new(test.alloc(), granted);
-    read_texts_by(test, &budget, &budget, value)
-}
-
-fn read_texts_by<A: Allocator + Copy>(
-    test: &Test,
-    budget: &RefusingAllocator,
-    allocator: A,
-    value: &Value,
-) -> bool {
-    let read = from_value(allocator, test.alloc(), DefaultState::new(), value);
-    let refused = budget.refused();
-    lend_made(
-        read,
-        |map: &mut Texts<A>| test.expect(has_texts(map)),
-        |fault| test.expect(fault == ReadFault::OutOfMemory && refused),
-    )
-}
-
-fn requests_for_texts_are_refused(test: &Test, text: &str) {
-    match Value::from_str(test.alloc(), text) {
-        Ok(value) => {
-            let enough = requests_until_enough(|granted| read_texts_with(test, &value, granted));
-            test.expect(enough.unwrap_or(0) >= 3);
-        }
-        Err(_) => test.fail(),
-    }
-}
-
 /// A hash builder that ends the refusals of an allocator: once a key is hashed, as the first append
 /// does, all requests are granted.
 #[derive(Drop)]
@@ -185,9 +134,6 @@ fn a_map_that_is_read_finds_no_memory(rt: HostRuntime) -> Result<(), Failed> {
     let test = Test::new(rt.alloc());
     for (text, ample) in TEXTS {
         a_value_is_read(&test, text, *ample);
-    }
-    for text in TEXT_KEYS {
-        requests_for_texts_are_refused(&test, text);
     }
     test.end()
 }

@@ -73,9 +73,9 @@ impl Write for FailingWriter {
 }
 
 /// A run in which the read after this many fails. It returns whether the input ended before.
-fn read_with(test: &Test, kind: ErrorKind, reads_before: u64) -> bool {
+fn read_with(test: &Test, text: &[u8], kind: ErrorKind, reads_before: u64) -> bool {
     let mut input = FailingReader {
-        rest: INPUT,
+        rest: text,
         reads_before,
         kind,
         failed: false,
@@ -98,22 +98,19 @@ const KINDS: &[ErrorKind] = &[ErrorKind::Other, ErrorKind::Interrupted];
 // The input has 68 bytes, and a last read meets its end.
 fn each_read_fails(test: &Test) {
     for kind in KINDS {
-        let reads = requests_until_enough(|reads_before| read_with(test, *kind, reads_before));
+        let reads = requests_until_enough(|reads_before| read_with(
+            test,
+            INPUT,
+            *kind,
+            reads_before,
+        ));
         test.expect(reads == Some(15));
     }
 }
 
 fn a_failed_read_is_told_before_a_bad_line(test: &Test) {
-    let mut input = FailingReader {
-        rest: b"unknown\nget 1\n",
-        reads_before: 3,
-        kind: ErrorKind::Other,
-        failed: false,
-    };
-    let mut output = Vec::new(test.alloc());
-    let fault = execute(test.alloc(), test.alloc(), &mut input, &mut output).err();
-    test.expect(fault == Some(ToolFault::Read));
-    test.expect(output.is_empty());
+    let text = b"unknown\nget 1\n";
+    test.expect(!read_with(test, text, ErrorKind::Other, 3));
 }
 
 #[test]
@@ -122,8 +119,13 @@ fn a_failed_read_is_told_and_nothing_is_written(rt: HostRuntime) -> Result<(), F
 }
 
 /// A run in which the write after this many fails. It returns whether all was written before.
-fn write_with(test: &Test, trouble: Trouble, writes_before: u64) -> bool {
-    let mut input = INPUT;
+fn write_with(
+    test: &Test,
+    mut input: &[u8],
+    wanted: &[u8],
+    trouble: Trouble,
+    writes_before: u64,
+) -> bool {
     let mut output = FailingWriter {
         taken: Vec::new(test.alloc()),
         writes_before,
@@ -133,61 +135,27 @@ fn write_with(test: &Test, trouble: Trouble, writes_before: u64) -> bool {
     let fault = execute(test.alloc(), test.alloc(), &mut input, &mut output).err();
     if output.met {
         test.expect(fault == Some(ToolFault::Write));
-        test.expect(OUTPUT.starts_with(&output.taken));
+        test.expect(wanted.starts_with(&output.taken));
         return false;
     }
     test.expect(fault.is_none());
-    test.expect(output.taken.as_slice() == OUTPUT);
+    test.expect(output.taken.as_slice() == wanted);
     true
 }
 
 // The output has 45 bytes.
 fn each_write_has_trouble(test: &Test) {
     for trouble in [Trouble::Fails, Trouble::TakesNothing] {
-        let writes = requests_until_enough(|before| write_with(test, trouble, before));
+        let writes = requests_until_enough(|before| write_with(
+            test, INPUT, OUTPUT, trouble, before,
+        ));
         test.expect(writes == Some(15));
     }
 }
 
-/// Lines that are longer than two pieces of 32 KiB, all answered alike.
-fn many_lines_are_read(test: &Test, input: &mut Vec<u8>) {
-    for _ in 0..12000 {
-        test.expect(input.extend_from_slice(b"get 1\n").is_ok());
-    }
-    let mut output = Vec::new(test.alloc());
-    let ended = execute(
-        test.alloc(),
-        test.alloc(),
-        &mut input.as_slice(),
-        &mut output,
-    );
-    test.expect(ended.is_ok());
-    let lines = str::from_utf8(&output).unwrap_or("");
-    test.expect(lines.lines().all(|line| line == "none"));
-    test.expect(lines.lines().count() == 12000);
-}
-
-fn long_input_is_read(test: &Test) {
-    many_lines_are_read(test, &mut Vec::new(test.alloc()));
-}
-
 // Nothing is to be written, so a writer that takes nothing is no fault.
 fn no_line_is_answered(test: &Test) {
-    let mut output = FailingWriter {
-        taken: Vec::new(test.alloc()),
-        writes_before: 0,
-        trouble: Trouble::TakesNothing,
-        met: false,
-    };
-    let mut input: &[u8] = b"";
-    let ended = execute(test.alloc(), test.alloc(), &mut input, &mut output);
-    test.expect(ended.is_ok());
-    test.expect(output.taken.is_empty());
-}
-
-#[test]
-fn all_is_read_and_nothing_more_is_written(rt: HostRuntime) -> Result<(), Failed> {
-    test_all!(rt.alloc(); long_input_is_read, no_line_is_answered)
+    test.expect(write_with(test, b"", b"", Trouble::TakesNothing, 0));
 }
 
 /// A writer that takes all, and can't flush it.
@@ -212,5 +180,5 @@ fn a_failed_flush_is_told(test: &Test) {
 
 #[test]
 fn a_failed_write_is_told(rt: HostRuntime) -> Result<(), Failed> {
-    test_all!(rt.alloc(); each_write_has_trouble, a_failed_flush_is_told)
+    test_all!(rt.alloc(); each_write_has_trouble, no_line_is_answered, a_failed_flush_is_told)
 }

@@ -1,21 +1,17 @@
 //! References for writing and entries. Each test makes one map, or is lent an empty one, for all
 //! comparisons of its type, since a map that is owned costs a proof more than all that it is lent to.
-mod called;
 mod entries;
 mod examples;
 mod firsts;
-mod taken;
 
-use crate::tests::entry::called::callers_answer;
 use crate::tests::entry::entries::{
     entries_are_filled, functions_are_called_once, values_are_replaced,
 };
 use crate::tests::entry::examples::{examples_of_numbers_hold, examples_of_texts_hold};
 use crate::tests::entry::firsts::{keys_are_entered, values_are_counted};
-use crate::tests::entry::taken::{one_of_many_is_taken, values_are_taken};
 use ordered_multimap::ListOrderedMultimap;
 use ordered_multimap_callers::maps::Numbers;
-use ordered_multimap_callers::test_refusing;
+use ordered_multimap_callers::test_with_room;
 use ordered_multimap_callers::tested::test_on_empty;
 use refusing_allocator::RefusingAllocator;
 use test_helpers::{Failed, Test};
@@ -34,8 +30,6 @@ fn entries_answer(test: &Test, map: &mut Numbers) {
     functions_are_called_once(test, map);
     test.begin("examples");
     examples_of_numbers_hold(test, map);
-    test.begin("called");
-    callers_answer(test, map);
 }
 
 #[test]
@@ -45,5 +39,5 @@ fn numbers_are_entered(rt: HostRuntime) -> Result<(), Failed> {
 
 #[test]
 fn an_occupied_entry_takes_no_memory(rt: HostRuntime) -> Result<(), Failed> {
-    test_refusing!(rt.alloc(); values_are_replaced, values_are_taken, one_of_many_is_taken)
+    test_with_room!(rt.alloc(); 0, 0; values_are_replaced)
 }

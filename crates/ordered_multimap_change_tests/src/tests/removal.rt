@@ -4,15 +4,12 @@ mod drained;
 mod examples;
 mod memory;
 mod popped;
-mod removed;
 mod retained;
-mod shares;
 mod wrappers;
 
-use crate::tests::removal::drain_steps::{keys_are_drained, values_are_given};
+use crate::tests::removal::drain_steps::values_are_given;
 use crate::tests::removal::drained::lists_are_final;
-use crate::tests::removal::popped::{collided_keys_leave, key_is_lent_and_handed_out, pairs_leave};
-use crate::tests::removal::removed::keys_leave;
+use crate::tests::removal::popped::{appends_are_undone, collided_keys_leave};
 use crate::tests::removal::retained::pairs_stay;
 use ordered_multimap::ListOrderedMultimap;
 use ordered_multimap_callers::maps::Numbers;
@@ -20,31 +17,19 @@ use ordered_multimap_callers::tested::test_on_empty;
 use test_helpers::{Failed, Test, ZERO, test_all};
 
 fn numbers_leave(test: &Test, map: &mut Numbers) {
-    test.begin("removed");
-    keys_leave(test, map);
     test.begin("popped");
-    key_is_lent_and_handed_out(test, map);
-    pairs_leave(test, map);
+    appends_are_undone(test, map);
     test.begin("retained");
     pairs_stay(test, map);
-}
-
-#[test]
-fn pairs_of_numbers_leave(rt: HostRuntime) -> Result<(), Failed> {
-    test_on_empty(rt.alloc(), numbers_leave)
-}
-
-fn numbers_are_drained(test: &Test, map: &mut Numbers) {
     test.begin("drain_steps");
     values_are_given(test, map);
-    keys_are_drained(test, map);
     test.begin("drained");
     lists_are_final(test, map);
 }
 
 #[test]
-fn pairs_of_numbers_are_drained(rt: HostRuntime) -> Result<(), Failed> {
-    test_on_empty(rt.alloc(), numbers_are_drained)
+fn pairs_of_numbers_leave(rt: HostRuntime) -> Result<(), Failed> {
+    test_on_empty(rt.alloc(), numbers_leave)
 }
 
 fn alike_keys_leave(test: &Test) {

@@ -4,8 +4,6 @@ mod examples;
 mod held;
 mod keys;
 mod rest;
-mod shown;
-mod unread;
 mod updated;
 mod walks;
 
@@ -13,8 +11,6 @@ use crate::tests::writing::ended::walks_leave_values;
 use crate::tests::writing::held::held_walks_end;
 use crate::tests::writing::keys::keys_lend_their_values;
 use crate::tests::writing::rest::walks_have_left;
-use crate::tests::writing::shown::walks_are_shown;
-use crate::tests::writing::unread::one_key_is_written;
 use crate::tests::writing::updated::values_are_updated;
 use crate::tests::writing::walks::values_are_lent_once;
 use ordered_multimap_callers::maps::Numbers;
@@ -26,7 +22,6 @@ fn numbers_are_written(test: &Test, map: &mut Numbers) {
     values_are_lent_once(test, map);
     test.begin("keys");
     keys_lend_their_values(test, map);
-    one_key_is_written(test, map);
     test.begin("rest");
     walks_have_left(test, map);
     test.begin("updated");
@@ -35,8 +30,6 @@ fn numbers_are_written(test: &Test, map: &mut Numbers) {
     walks_leave_values(test, map);
     test.begin("held");
     held_walks_end(test, map);
-    test.begin("shown");
-    walks_are_shown(test, map);
 }
 
 #[test]

@@ -7,45 +7,34 @@ use std::alloc::Allocator;
 /// Nothing, or the pair that comes back.
 pub type Answer = Result<(), Refused<u32, u32>>;
 
-/// Calls on a key that is absent or present.
+/// Calls on a key that is absent or present; of the entry of one that is absent; and of the entry of
+/// one that is present.
 #[derive(PartialEq, Eq, Clone, Copy)]
 pub enum Call {
     Append,
     Insert,
     InsertAll,
-    OfVacant(Vacant),
-    OfOccupied(Occupied),
-}
-
-/// Calls of the entry of a key that is absent.
-#[derive(PartialEq, Eq, Clone, Copy)]
-pub enum Vacant {
     OrInsert,
     OrInsertWith,
     OrInsertEntry,
     OrInsertWithEntry,
-    Insert,
-    InsertEntry,
-}
-
-/// Calls of the entry of a key that is present.
-#[derive(PartialEq, Eq, Clone, Copy)]
-pub enum Occupied {
-    Append,
-    InsertAll,
+    VacantInsert,
+    VacantInsertEntry,
+    OccupiedAppend,
+    OccupiedInsertAll,
 }
 
 /// Makes the call.
 pub fn put<A: Allocator + Copy>(map: &mut Refusing<A>, call: Call) -> Answer {
     match call {
-        Call::Append => appended(map),
-        Call::Insert => inserted(map),
-        Call::InsertAll => all_replaced(map),
-        Call::OfVacant(call) => put_by_vacant(map, call),
-        Call::OfOccupied(call) => match put_by_occupied(map, call) {
+        Call::Append => done(map.append(1, 77)),
+        Call::Insert => done(map.insert(1, 77)),
+        Call::InsertAll => done(map.insert_all(1, 77)),
+        Call::OccupiedAppend | Call::OccupiedInsertAll => match put_by_occupied(map, call) {
             Ok(()) => Ok(()),
             Err(RefusedValue { value }) => Err(Refused { key: 1, value }),
         },
+        _ => put_by_vacant(map, call),
     }
 }
 
@@ -57,51 +46,31 @@ fn done<G: Drop, R>(given: Result<G, R>) -> Result<(), R> {
     }
 }
 
-fn appended<A: Allocator + Copy>(map: &mut Refusing<A>) -> Answer {
-    done(map.append(1, 77))
-}
-
-fn inserted<A: Allocator + Copy>(map: &mut Refusing<A>) -> Answer {
-    done(map.insert(1, 77))
-}
-
-fn all_replaced<A: Allocator + Copy>(map: &mut Refusing<A>) -> Answer {
-    done(map.insert_all(1, 77))
-}
-
-fn put_by_vacant<A: Allocator + Copy>(map: &mut Refusing<A>, call: Vacant) -> Answer {
+fn put_by_vacant<A: Allocator + Copy>(map: &mut Refusing<A>, call: Call) -> Answer {
     match call {
-        Vacant::OrInsert => done(map.entry(1).or_insert(77)),
-        Vacant::OrInsertWith => done(map.entry(1).or_insert_with(|| 77)),
-        Vacant::OrInsertEntry => done(map.entry(1).or_insert_entry(77)),
-        Vacant::OrInsertWithEntry => done(map.entry(1).or_insert_with_entry(|| 77)),
-        Vacant::Insert => filled(map, false),
-        Vacant::InsertEntry => filled(map, true),
+        Call::OrInsert => done(map.entry(1).or_insert(77)),
+        Call::OrInsertWith => done(map.entry(1).or_insert_with(|| 77)),
+        Call::OrInsertEntry => done(map.entry(1).or_insert_entry(77)),
+        Call::OrInsertWithEntry => done(map.entry(1).or_insert_with_entry(|| 77)),
+        _ => filled(map, call),
     }
 }
 
-fn filled<A: Allocator + Copy>(map: &mut Refusing<A>, for_entry: bool) -> Answer {
+fn filled<A: Allocator + Copy>(map: &mut Refusing<A>, call: Call) -> Answer {
     match map.entry(1) {
-        Entry::Vacant(entry) => {
-            if for_entry {
-                done(entry.insert_entry(77))
-            } else {
-                done(entry.insert(77))
-            }
-        }
+        Entry::Vacant(entry) if call == Call::VacantInsert => done(entry.insert(77)),
+        Entry::Vacant(entry) => done(entry.insert_entry(77)),
         Entry::Occupied(_) => Ok(()),
     }
 }
 
 fn put_by_occupied<A: Allocator + Copy>(
     map: &mut Refusing<A>,
-    call: Occupied,
+    call: Call,
 ) -> Result<(), RefusedValue<u32>> {
     match map.entry(1) {
-        Entry::Occupied(mut entry) => match call {
-            Occupied::Append => entry.append(77),
-            Occupied::InsertAll => done(entry.insert_all(77)),
-        },
+        Entry::Occupied(mut entry) if call == Call::OccupiedAppend => entry.append(77),
+        Entry::Occupied(entry) => done(entry.insert_all(77)),
         Entry::Vacant(_) => Ok(()),
     }
 }

@@ -8,40 +8,15 @@ use test_helpers::{End, Test, walk_difference};
 
 const THREE: &[(u32, u32)] = &[(1, 11), (2, 12), (2, 13)];
 
-// Whether the keys 1 and 2 have these values.
-fn have_values(test: &Test, map: &Numbers, first: &[(End, u32)], second: &[(End, u32)]) {
-    test.expect_same(walk_difference(&mut map.get_all(&1), first));
-    test.expect_same(walk_difference(&mut map.get_all(&2), second));
-}
+const COPIED: &[(u32, u32)] = &[(1, 1), (2, 1), (2, 2)];
 
-fn has_both(test: &Test, map: &Numbers) {
-    let second = [(End::Front, 12), (End::Front, 13)];
-    have_values(test, map, &[(End::Front, 11)], &second);
-}
-
-fn pairs_are_appended(test: &Test, map: &mut Numbers) {
-    map.clear();
-    test.expect(map.extend(THREE.iter().copied()) == Ok(()));
-    has_both(test, map);
-}
-
-fn copies_are_appended(test: &Test, map: &mut Numbers, other: &Numbers) {
-    map.clear();
-    test.expect(map.extend_copied(other.iter()) == Ok(()));
-    let second = [(End::Front, 1), (End::Front, 2)];
-    have_values(test, map, &[(End::Front, 1)], &second);
-}
-
-fn copies_come(test: &Test, map: &mut Numbers) {
-    copies_are_appended(test, map, &map_of(test, &[(1, 1), (2, 1), (2, 2)]));
-}
-
-/// Maps are made of pairs.
-pub fn maps_are_made(test: &Test) {
-    match ListOrderedMultimap::from_iter(test.alloc(), DefaultState::new(), THREE.iter().copied()) {
-        Ok(map) => has_both(test, &map),
-        Err(_) => test.fail(),
-    }
+// Whether the key 1 has the first value, and the key 2 the others.
+fn has_both(test: &Test, map: &Numbers, values: [u32; 3]) {
+    let [one, two, three] = values;
+    let first = [(End::Front, one)];
+    test.expect_same(walk_difference(&mut map.get_all(&1), &first));
+    let second = [(End::Front, two), (End::Front, three)];
+    test.expect_same(walk_difference(&mut map.get_all(&2), &second));
 }
 
 const PAIRS: &[(u32, u32)] = &[(1, 1), (2, 2), (1, 3)];
@@ -54,18 +29,28 @@ fn hinted(hint: usize) -> Hinted {
     }
 }
 
-// A hint of more pairs than there can be is ignored.
-fn wish_is_ignored(test: &Test, map: &mut Numbers) {
+fn copies_come(test: &Test, map: &mut Numbers, other: &Numbers) {
+    test.expect(map.extend_copied(other.iter()) == Ok(()));
+    has_both(test, map, [1, 1, 2]);
+}
+
+/// Pairs are appended in turn. A hint of more pairs than there can be is ignored.
+pub fn pairs_come(test: &Test, map: &mut Numbers) {
+    test.expect(map.extend(THREE.iter().copied()) == Ok(()));
+    has_both(test, map, [11, 12, 13]);
+    map.clear();
+    copies_come(test, map, &map_of(test, COPIED));
     map.clear();
     test.expect(map.extend(hinted(usize::MAX)) == Ok(()));
     test.expect(has_pairs(map, PAIRS));
 }
 
-/// Pairs are appended in turn.
-pub fn pairs_come(test: &Test, map: &mut Numbers) {
-    pairs_are_appended(test, map);
-    copies_come(test, map);
-    wish_is_ignored(test, map);
+/// Maps are made of pairs.
+pub fn maps_are_made(test: &Test) {
+    match ListOrderedMultimap::from_iter(test.alloc(), DefaultState::new(), THREE.iter().copied()) {
+        Ok(map) => has_both(test, &map, [11, 12, 13]),
+        Err(_) => test.fail(),
+    }
 }
 
 /// A map is made of pairs whose hint says nothing.

@@ -1,7 +1,11 @@
-//! Each request for memory of each call is refused in turn.
-use crate::tests::additions::{Call, Occupied, Vacant};
-use crate::tests::refused_additions::{OTHERS, OWN, fill_up, puts};
-use crate::tests::refused_pairs::{PAIRS, extend, extend_copied, from_iter_with};
+//! Each request for memory of each call is refused in turn. Additions to a full map beside the pairs
+//! of another key are cases of the program.
+use crate::tests::additions::Call;
+use crate::tests::refused_additions::{fill_up, puts};
+use crate::tests::refused_pairs::{
+    PAIRS, collect_with, extend, extend_by_trait, extend_copied, extend_copied_by_trait,
+    from_iter_with,
+};
 use crate::tests::refused_room::{Room, is_made, keep_three};
 use ordered_multimap::ListOrderedMultimap;
 use ordered_multimap_callers::maps::{Numbers, Refusing, map_of};
@@ -13,10 +17,11 @@ use test_helpers::{Failed, Test, lend, requests_until_enough};
 enum Try {
     PutIntoNew(Call),
     PutIntoFull(Call),
-    PutBesideOthers(Call),
     Room(Room),
     Extend,
     ExtendCopied,
+    ExtendByTrait,
+    ExtendCopiedByTrait,
 }
 
 /// A call, and how many requests it makes at least. Key slots, table and value slots each ask for a
@@ -25,35 +30,29 @@ const TRIES: &[(Try, u64)] = &[
     (Try::PutIntoNew(Call::Append), 3),
     (Try::PutIntoNew(Call::Insert), 3),
     (Try::PutIntoNew(Call::InsertAll), 3),
-    (Try::PutIntoNew(Call::OfVacant(Vacant::OrInsert)), 3),
-    (Try::PutIntoNew(Call::OfVacant(Vacant::OrInsertWith)), 3),
-    (Try::PutIntoNew(Call::OfVacant(Vacant::OrInsertEntry)), 3),
-    (
-        Try::PutIntoNew(Call::OfVacant(Vacant::OrInsertWithEntry)),
-        3,
-    ),
-    (Try::PutIntoNew(Call::OfVacant(Vacant::Insert)), 3),
-    (Try::PutIntoNew(Call::OfVacant(Vacant::InsertEntry)), 3),
+    (Try::PutIntoNew(Call::OrInsert), 3),
+    (Try::PutIntoNew(Call::OrInsertWith), 3),
+    (Try::PutIntoNew(Call::OrInsertEntry), 3),
+    (Try::PutIntoNew(Call::OrInsertWithEntry), 3),
+    (Try::PutIntoNew(Call::VacantInsert), 3),
+    (Try::PutIntoNew(Call::VacantInsertEntry), 3),
     (Try::PutIntoFull(Call::Append), 1),
     (Try::PutIntoFull(Call::InsertAll), 1),
-    (Try::PutIntoFull(Call::OfOccupied(Occupied::Append)), 1),
-    (Try::PutIntoFull(Call::OfOccupied(Occupied::InsertAll)), 1),
-    (Try::PutBesideOthers(Call::Append), 1),
-    (Try::PutBesideOthers(Call::Insert), 1),
-    (Try::PutBesideOthers(Call::InsertAll), 1),
-    (Try::PutBesideOthers(Call::OfVacant(Vacant::InsertEntry)), 1),
+    (Try::PutIntoFull(Call::OccupiedAppend), 1),
+    (Try::PutIntoFull(Call::OccupiedInsertAll), 1),
     (Try::Room(Room::ReserveKeys), 2),
     (Try::Room(Room::ReserveValues), 1),
     (Try::Room(Room::PackTo), 4),
     (Try::Room(Room::PackToFit), 4),
     (Try::Extend, 3),
     (Try::ExtendCopied, 3),
+    (Try::ExtendByTrait, 3),
+    (Try::ExtendCopiedByTrait, 3),
 ];
 
 fn prepare<A: Allocator + Copy>(test: &Test, map: &mut Refusing<A>, call: Try) {
     match call {
-        Try::PutIntoFull(_) => fill_up(test, map, OWN),
-        Try::PutBesideOthers(_) => fill_up(test, map, OTHERS),
+        Try::PutIntoFull(_) => fill_up(test, map),
         Try::Room(_) => keep_three(test, map),
         _ => {}
     }
@@ -66,11 +65,12 @@ fn tries<A: Allocator + Copy>(
     other: &Numbers,
 ) -> bool {
     match call {
-        Try::PutIntoNew(call) | Try::PutIntoFull(call) => puts(test, map, call, OWN),
-        Try::PutBesideOthers(call) => puts(test, map, call, OTHERS),
+        Try::PutIntoNew(call) | Try::PutIntoFull(call) => puts(test, map, call),
         Try::Room(call) => is_made(test, map, call),
         Try::Extend => extend(test, map),
         Try::ExtendCopied => extend_copied(test, map, other),
+        Try::ExtendByTrait => extend_by_trait(test, map),
+        Try::ExtendCopiedByTrait => extend_copied_by_trait(test, map, other),
     }
 }
 
@@ -102,6 +102,8 @@ fn all_are_tried(test: &Test, other: &Numbers) {
         test.expect_at(row, enough.unwrap_or(0) >= *least);
     }
     let enough = requests_until_enough(|granted| from_iter_with(test, granted));
+    test.expect(enough.unwrap_or(0) >= 3);
+    let enough = requests_until_enough(|granted| collect_with(test, granted));
     test.expect(enough.unwrap_or(0) >= 3);
 }
 

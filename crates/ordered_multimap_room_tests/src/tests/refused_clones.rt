@@ -3,7 +3,7 @@ use ordered_multimap::ListOrderedMultimap;
 use ordered_multimap::list_ordered_multimap::DefaultState;
 use refusing_allocator::RefusingAllocator;
 use std::alloc::Allocator;
-use test_helpers::{Failed, Test, lend, lend_made, requests_until_enough};
+use test_helpers::{Failed, Test, is_shown, lend, lend_made, requests_until_enough};
 
 type Texts<A> = ListOrderedMultimap<String<A>, String<A>, DefaultState, A>;
 
@@ -19,35 +19,10 @@ fn insert<A: Allocator + Copy>(test: &Test, allocator: A, map: &mut Texts<A>, pa
     test.expect(map.insert(key, value).is_ok());
 }
 
-// The key and the value of a pair are these.
-fn is_pair<A: Allocator>(pair: Option<(&String<A>, &String<A>)>, key: &str, value: &str) -> bool {
-    match pair {
-        Some((k, v)) => k.as_str() == key && v.as_str() == value,
-        None => false,
-    }
-}
-
-fn is_key<A: Allocator>(key: Option<&String<A>>, wanted: &str) -> bool {
-    match key {
-        Some(key) => key.as_str() == wanted,
-        None => false,
-    }
-}
-
-fn has_keys<A: Allocator + Copy>(map: &Texts<A>) -> bool {
-    let mut keys = map.keys();
-    is_key(keys.next(), "a") && is_key(keys.next(), "b") && keys.next().is_none()
-}
-
-fn has_pairs<A: Allocator + Copy>(map: &Texts<A>) -> bool {
-    let mut pairs = map.iter();
-    is_pair(pairs.next(), "b", "y") && is_pair(pairs.next(), "a", "z") && pairs.next().is_none()
-}
-
 // The keys a, b and the pairs (b, y), (a, z).
 fn has_both<A: Allocator + Copy>(test: &Test, map: &Texts<A>) {
-    test.expect(has_keys(map));
-    test.expect(has_pairs(map));
+    test.expect(is_shown(test.alloc(), &map.keys(), r#"Keys(["a", "b"])"#));
+    test.expect(is_shown(test.alloc(), map, r#"{"b": "y", "a": "z"}"#));
 }
 
 const PAIRS: &[(char, char)] = &[('a', 'x'), ('b', 'y'), ('a', 'z')];

@@ -6,7 +6,7 @@ use ordered_multimap::list_ordered_multimap::{DefaultState, Refused};
 use ordered_multimap_callers::lists::has_lists;
 use ordered_multimap_callers::maps::{Numbers, Refusing};
 use refusing_allocator::RefusingAllocator;
-use std::alloc::Allocator;
+use std::alloc::{AllocError, Allocator};
 use test_helpers::{Test, lend_made};
 
 /// The pairs.
@@ -59,6 +59,48 @@ pub fn extend_copied<A: Allocator + Copy>(
 ) -> bool {
     let answer = map.extend_copied(other.iter());
     is_extended(test, map, answer)
+}
+
+// What std's `Extend` leaves, by which code over any collection extends. It drops the refused pair.
+fn is_extended_by_trait<A: Allocator + Copy>(
+    test: &Test,
+    map: &Refusing<A>,
+    answer: Result<(), AllocError>,
+) -> bool {
+    let count = map.values_len();
+    let lists = has_lists(map, first(PAIRS, count), first(KEYS, count));
+    test.expect(lists && (answer.is_err() || count == 3));
+    answer.is_ok()
+}
+
+/// Extends the map by the trait. It returns whether there was memory for all pairs.
+pub fn extend_by_trait<A: Allocator + Copy>(test: &Test, map: &mut Refusing<A>) -> bool {
+    let answer = Extend::extend(map, PAIRS.iter().copied());
+    is_extended_by_trait(test, map, answer)
+}
+
+/// The same by copies of the pairs of another.
+pub fn extend_copied_by_trait<A: Allocator + Copy>(
+    test: &Test,
+    map: &mut Refusing<A>,
+    other: &Numbers,
+) -> bool {
+    let answer = Extend::extend(map, other.iter());
+    is_extended_by_trait(test, map, answer)
+}
+
+/// Collects a map. It returns whether there was memory for all pairs.
+pub fn collect_with(test: &Test, granted: u64) -> bool {
+    let allocator = RefusingAllocator::new(test.alloc(), granted);
+    collect_by(test, &allocator)
+}
+
+fn collect_by<A: Allocator + Copy>(test: &Test, allocator: A) -> bool {
+    lend_made(
+        PAIRS.iter().copied().collect(allocator),
+        |map: &mut Refusing<A>| test.expect(has_lists(map, PAIRS, KEYS)),
+        |_refused: AllocError| {},
+    )
 }
 
 /// Makes a map. A refused pair comes back, and those behind it are left in the iterator.

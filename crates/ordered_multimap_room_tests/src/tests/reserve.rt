@@ -6,15 +6,6 @@ use refusing_allocator::RefusingAllocator;
 use std::alloc::Allocator;
 use test_helpers::Test;
 
-// Whether the key went, the key and the value of the first pair, which leaves.
-fn popped<A: Allocator + Copy>(map: &mut Refusing<A>) -> Option<(bool, u32, u32)> {
-    match map.pop_front() {
-        Some((KeyWrapper::Owned(key), value)) => Some((true, key, value)),
-        Some((KeyWrapper::Borrowed(key), value)) => Some((false, *key, value)),
-        None => None,
-    }
-}
-
 fn three_are_added<A: Allocator + Copy>(
     test: &Test,
     allocator: &RefusingAllocator,
@@ -25,10 +16,18 @@ fn three_are_added<A: Allocator + Copy>(
         test.expect(appends(map, number, number, false));
     }
     test.expect(inserts(map, 2, 9, &Some(2)));
-    test.expect(popped(map) == Some((true, 1, 1)));
+    test.expect(map.pop_front() == Some((KeyWrapper::Owned(1), 1)));
     map.retain(|_key, value| *value < 9);
     test.expect(has_lists(map, &[(3, 3)], &[3]));
     test.expect(!allocator.refused());
+}
+
+// Whether the key's first value leaves, and is this one.
+fn leaves<A: Allocator + Copy>(map: &mut Refusing<A>, value: u32) -> bool {
+    match map.pop_front() {
+        Some((KeyWrapper::Borrowed(key), first)) => *key == 1 && first == value,
+        _ => false,
+    }
 }
 
 // A key whose oldest value leaves as each new one comes.
@@ -41,7 +40,7 @@ fn values_pass_through<A: Allocator + Copy>(
     test.expect(appends(map, 1, 0, false));
     for number in 1..101u32 {
         test.expect(appends(map, 1, number, true));
-        test.expect(popped(map) == Some((false, 1, number - 1)));
+        test.expect(leaves(map, number - 1));
     }
     test.expect(has_lists(map, &[(1, 100)], &[1]));
     test.expect(!allocator.refused());

@@ -3,13 +3,14 @@
 use ordered_multimap::ListOrderedMultimap;
 use ordered_multimap::list_ordered_multimap::Entry;
 use ordered_multimap_callers::maps::{Numbers, Refusing};
+use ordered_multimap_callers::test_with_room;
 use ordered_multimap_callers::tested::test_on_empty;
 use refusing_allocator::RefusingAllocator;
 use std::alloc::Allocator;
 use std::collections::HashMap;
 use std::hash::BuildHasher;
 use std::{io, mem};
-use test_helpers::{Failed, Test};
+use test_helpers::{Failed, Test, test_on_new};
 
 fn append_two<S: BuildHasher, A: Allocator + Copy>(
     map: &mut ListOrderedMultimap<u32, u32, S, A>,
@@ -28,7 +29,12 @@ fn is_out_of_memory(answer: io::Result<()>) -> bool {
     }
 }
 
-fn a_refusal_is_an_io_error<A: Allocator + Copy>(test: &Test, map: &mut Refusing<A>) {
+fn a_refusal_is_an_io_error<A: Allocator + Copy>(
+    test: &Test,
+    allocator: &RefusingAllocator,
+    map: &mut Refusing<A>,
+) {
+    allocator.refuse_all();
     test.expect(is_out_of_memory(append_two(map)));
     test.expect(map.is_empty());
 }
@@ -67,20 +73,12 @@ fn an_empty_map_stands_in(rt: HostRuntime) -> Result<(), Failed> {
     test_on_empty(rt.alloc(), a_map_is_taken)
 }
 
-fn without_memory(test: &Test, allocator: &RefusingAllocator) {
-    a_refusal_is_an_io_error(test, &mut ListOrderedMultimap::new(allocator));
-}
-
 #[test]
 fn errors_are_taken_to_others(rt: HostRuntime) -> Result<(), Failed> {
-    let test = Test::new(rt.alloc());
-    without_memory(&test, &RefusingAllocator::new(test.alloc(), 0));
-    test.end()
+    test_with_room!(rt.alloc(); 0, 0; a_refusal_is_an_io_error)
 }
 
 #[test]
 fn maps_are_values_of_a_map(rt: HostRuntime) -> Result<(), Failed> {
-    let test = Test::new(rt.alloc());
-    maps_are_values(&test, &mut HashMap::new(test.alloc()));
-    test.end()
+    test_on_new(rt.alloc(), HashMap::new, maps_are_values)
 }

@@ -14,15 +14,11 @@ fn last_pair_goes_and_comes(test: &Test, map: &Numbers, copy: &mut Numbers) {
     test.expect(are_equal(map, copy));
 }
 
-fn insert(test: &Test, map: &mut Numbers, pair: (u32, u32), old: Option<u32>) {
-    test.expect(inserts(map, pair.0, pair.1, &old));
-}
-
 fn insert_three(test: &Test, map: &mut Numbers) {
     map.clear();
-    insert(test, map, (1, 10), None);
-    insert(test, map, (2, 20), None);
-    insert(test, map, (1, 30), Some(10));
+    test.expect(inserts(map, 1, 10, &None));
+    test.expect(inserts(map, 2, 20, &None));
+    test.expect(inserts(map, 1, 30, &Some(10)));
 }
 
 const PAIRS: &[(u32, u32)] = &[(2, 20), (1, 30)];

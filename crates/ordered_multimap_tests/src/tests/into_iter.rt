@@ -18,15 +18,6 @@ const WALKS: &[(Pairs, &[(End, Option<(u32, u32)>)])] = &[
             (End::Back, Some((2, 13))),
         ],
     ),
-    (
-        MIXED,
-        &[
-            (End::Front, Some((1, 11))),
-            (End::Front, Some((2, 12))),
-            (End::Front, Some((2, 13))),
-            (End::Front, Some((1, 14))),
-        ],
-    ),
 ];
 
 fn is_taken_apart(map: Numbers, wanted: &[(End, Option<(u32, u32)>)]) -> bool {

@@ -10,40 +10,27 @@ const OUTER: &[(End, u32)] = &[(End::Front, 11), (End::Front, 14)];
 
 const INNER: &[(End, u32)] = &[(End::Back, 13), (End::Front, 12)];
 
-const ONE: &[(End, u32)] = &[(End::Back, 11)];
-
-// What a map is made of, and the walk over its keys.
-const WALKS: &[(&[(u32, u32)], &[Step])] = &[
-    (&[], &[(End::Back, 0, None), (End::Front, 0, None)]),
-    (
-        &[(1, 11)],
-        &[
-            (End::Front, 1, Some((1, ONE))),
-            (End::Front, 0, None),
-            (End::Back, 0, None),
-            (End::Front, 0, None),
-            (End::Back, 0, None),
-            (End::Front, 0, None),
-        ],
-    ),
-    (
-        MIXED,
-        &[
-            (End::Front, 2, Some((1, OUTER))),
-            (End::Back, 1, Some((2, INNER))),
-            (End::Front, 0, None),
-            (End::Back, 0, None),
-        ],
-    ),
-    (
-        MIXED,
-        &[
-            (End::Front, 2, Some((1, OUTER))),
-            (End::Front, 1, Some((2, INNER))),
-            (End::Front, 0, None),
-        ],
-    ),
+const BOTH: &[Step] = &[
+    (End::Front, 2, Some((1, OUTER))),
+    (End::Back, 1, Some((2, INNER))),
+    (End::Front, 0, None),
+    (End::Back, 0, None),
+    (End::Front, 0, None),
 ];
+
+// Behind the first step of BOTH.
+const LAST: &[Step] = &[(End::Front, 1, Some((2, INNER))), (End::Back, 0, None)];
+
+const ALONE: &[Step] = &[
+    (End::Front, 1, Some((1, &[(End::Front, 11)]))),
+    (End::Front, 0, None),
+    (End::Back, 0, None),
+    (End::Front, 0, None),
+    (End::Back, 0, None),
+    (End::Front, 0, None),
+];
+
+const NONE: &[Step] = &[(End::Back, 0, None), (End::Front, 0, None)];
 
 type Item<'a> = (&'a u32, EntryValues<'a, u32, u32>);
 
@@ -75,31 +62,21 @@ fn steps_answer(test: &Test, walk: &mut KeyValues<'_, u32, u32>, steps: &[Step])
     }
 }
 
-fn walk_answers(test: &Test, map: &Numbers, steps: &[Step]) {
-    steps_answer(test, &mut map.pairs(), steps);
-}
-
-fn rows_answer(test: &Test, map: &mut Numbers) {
-    for (pairs, steps) in WALKS {
-        refill(test, map, pairs);
-        walk_answers(test, map, steps);
-    }
-}
-
-const LAST: &[Step] = &[(End::Front, 1, Some((2, INNER))), (End::Back, 0, None)];
-
 fn clone_goes_on(test: &Test, walk: &mut KeyValues<'_, u32, u32>) {
     test.expect(walk.next().is_some());
     match walk.clone() {
         Ok(mut copy) => steps_answer(test, &mut copy, LAST),
         Err(_) => test.fail(),
     }
-    steps_answer(test, walk, LAST);
 }
 
-/// Walks from both ends, and their clones.
+/// Walks from both ends, and a clone.
 pub fn are_taken(test: &Test, map: &mut Numbers) {
-    rows_answer(test, map);
+    map.clear();
+    steps_answer(test, &mut map.pairs(), NONE);
+    refill(test, map, &[(1, 11)]);
+    steps_answer(test, &mut map.pairs(), ALONE);
     refill(test, map, MIXED);
+    steps_answer(test, &mut map.pairs(), BOTH);
     clone_goes_on(test, &mut map.pairs());
 }

@@ -1,6 +1,6 @@
 //! What Debug shows of a map and of the walks for reading: all, and what is left once an item was
 //! taken.
-use ordered_multimap_callers::maps::{MIXED, MIXED_TEXTS, Numbers, Texts, refill};
+use ordered_multimap_callers::maps::{MIXED, MIXED_TEXTS, Numbers, ONE_KEY, Texts, refill};
 use std::alloc::Global;
 use std::fmt;
 use test_helpers::{Test, is_shown};
@@ -40,27 +40,11 @@ where
     is_shown(alloc, walk, rest)
 }
 
-fn pairs_are_shown(alloc: Global, map: &Numbers) -> bool {
-    is_shown_twice(alloc, &mut map.iter(), PAIRS)
-}
-
-fn values_are_shown(alloc: Global, map: &Numbers) -> bool {
-    is_shown_twice(alloc, &mut map.values(), VALUES)
-}
-
-fn keys_are_shown(alloc: Global, map: &Numbers) -> bool {
-    is_shown_twice(alloc, &mut map.keys(), KEYS)
-}
-
-fn key_values_are_shown(alloc: Global, map: &Numbers) -> bool {
-    is_shown_twice(alloc, &mut map.pairs(), KEY_VALUES)
-}
-
 fn walks_of_all_are_shown(test: &Test, map: &Numbers) {
-    test.expect(pairs_are_shown(test.alloc(), map));
-    test.expect(values_are_shown(test.alloc(), map));
-    test.expect(keys_are_shown(test.alloc(), map));
-    test.expect(key_values_are_shown(test.alloc(), map));
+    test.expect(is_shown_twice(test.alloc(), &mut map.iter(), PAIRS));
+    test.expect(is_shown_twice(test.alloc(), &mut map.values(), VALUES));
+    test.expect(is_shown_twice(test.alloc(), &mut map.keys(), KEYS));
+    test.expect(is_shown_twice(test.alloc(), &mut map.pairs(), KEY_VALUES));
 }
 
 fn walk_of_a_key_is_shown(test: &Test, map: &Numbers) {
@@ -68,8 +52,6 @@ fn walk_of_a_key_is_shown(test: &Test, map: &Numbers) {
     let shown = is_shown_twice(test.alloc(), &mut values, VALUES_OF_A_KEY);
     test.expect(shown);
 }
-
-const ONE_KEY: &[(u32, u32)] = &[(1, 11), (1, 12), (1, 13), (1, 14)];
 
 /// The texts of a map's walks.
 pub fn walks_are_shown(test: &Test, map: &mut Numbers) {

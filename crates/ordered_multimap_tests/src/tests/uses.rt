@@ -1,4 +1,2 @@
-//! What a program that is new to the map writes first: errors by `?`, and maps that are collected.
-mod collected;
-mod errors;
+//! What a program that is new to the map writes first.
 mod examples;

@@ -1,6 +1,6 @@
 //! Each request for memory of each call that grows is refused in turn: what was to be stored comes
 //! back, and both lists are as before. What needs no memory is done where all is refused.
-use crate::tests::lists::has_lists;
+use crate::tests::lists::{copied, has_lists};
 use ordered_multimap::list_ordered_multimap::{DefaultState, Refused};
 use refusing_allocator::RefusingAllocator;
 use set_ordered_multimap::SetOrderedMultimap;
@@ -11,17 +11,12 @@ use test_helpers::{Failed, Test, lend, lend_made, requests_until_enough};
 // of a type with a reference costs a proof twice as much.
 type Refusing<A> = SetOrderedMultimap<u32, u32, DefaultState, A>;
 
-/// What a set has before the call, and the pair that is to come.
-#[derive(Clone, Copy)]
-struct Start {
-    pairs: &'static [(u32, u32)],
-    keys: &'static [u32],
-    new: (u32, u32),
-}
+type Pairs = &'static [(u32, u32)];
 
 #[derive(Clone, Copy)]
 enum Try {
-    Insert(Start),
+    // Of a new pair of the key 1, where the set has these pairs, of these keys.
+    Insert(Pairs, &'static [u32]),
     Extend,
     Clone,
     // Calls that make no request.
@@ -33,33 +28,14 @@ enum Try {
 // A call, and how many requests it makes at least. A new set makes key slots, a table and value
 // slots. Four pairs fill the first value slots, so that a fifth one wants more.
 const TRIES: &[(Try, u64)] = &[
-    (
-        Try::Insert(Start {
-            pairs: &[],
-            keys: &[],
-            new: (1, 5),
-        }),
-        3,
-    ),
-    (
-        Try::Insert(Start {
-            pairs: FULL,
-            keys: &[1],
-            new: (1, 5),
-        }),
-        1,
-    ),
-    (
-        Try::Insert(Start {
-            pairs: &[(2, 1), (2, 2), (2, 3), (2, 4)],
-            keys: &[2],
-            new: (1, 5),
-        }),
-        1,
-    ),
+    (Try::Insert(&[], &[]), 3),
+    (Try::Insert(FULL, &[1]), 1),
+    (Try::Insert(&[(2, 1), (2, 2), (2, 3), (2, 4)], &[2]), 1),
     (Try::Extend, 3),
     (Try::Clone, 3),
 ];
+
+const NEW: (u32, u32) = (1, 5);
 
 // Pairs of which one comes twice, the set of them, and how many are left behind the one that comes
 // next to so many of the set.
@@ -80,52 +56,35 @@ fn fill<A: Allocator + Copy>(test: &Test, set: &mut Refusing<A>, pairs: &[(u32, 
     }
 }
 
-fn last_pair<A: Allocator + Copy>(set: &Refusing<A>) -> Option<(u32, u32)> {
-    match set.iter().next_back() {
-        Some((key, value)) => Some((*key, *value)),
-        None => None,
-    }
-}
-
-// Whether the pair stands last, once.
-fn stands_last<A: Allocator + Copy>(set: &Refusing<A>, start: Start) -> bool {
-    let count = start.pairs.len().saturating_add(1);
-    set.values_len() == count
-        && last_pair(set) == Some(start.new)
-        && set.contains(&start.new.0, &start.new.1)
+// Whether the new pair stands last, once.
+fn stands_last<A: Allocator + Copy>(set: &Refusing<A>, before: Pairs) -> bool {
+    set.values_len() == before.len().saturating_add(1)
+        && copied(set.iter().next_back()) == Some(NEW)
+        && set.contains(&NEW.0, &NEW.1)
 }
 
 fn refused_pair(refused: Refused<u32, u32>) -> (u32, u32) {
     (refused.key, refused.value)
 }
 
-// Whether the pair was new, or the pair that was refused.
-fn inserted<A: Allocator + Copy>(
+// Inserts the new pair. It returns whether there was memory.
+fn insert<A: Allocator + Copy>(
+    test: &Test,
     set: &mut Refusing<A>,
-    pair: (u32, u32),
-) -> Result<bool, (u32, u32)> {
-    set.insert(pair.0, pair.1).map_err(refused_pair)
-}
-
-// Inserts the pair. It returns whether there was memory.
-fn insert<A: Allocator + Copy>(test: &Test, set: &mut Refusing<A>, start: Start) -> bool {
-    match inserted(set, start.new) {
+    before: Pairs,
+    keys: &[u32],
+) -> bool {
+    match set.insert(NEW.0, NEW.1) {
         Ok(new) => {
-            test.expect(new && stands_last(set, start));
+            test.expect(new && stands_last(set, before));
             true
         }
-        Err(pair) => {
-            test.expect(pair == start.new);
-            test.expect(has_lists(set, start.pairs, start.keys));
+        Err(refused) => {
+            test.expect(refused_pair(refused) == NEW);
+            test.expect(has_lists(set, before, keys));
             false
         }
     }
-}
-
-// The pairs before the refused one are there, and no other.
-fn has_those_before<A: Allocator + Copy>(set: &Refusing<A>, count: usize) -> bool {
-    let count = count.min(3);
-    has_lists(set, &FIRST[..count], &KEYS[..count])
 }
 
 // The pair that was refused, if one was, and how many are left in the iterator.
@@ -141,8 +100,9 @@ fn extended<A: Allocator + Copy>(
 // Inserts all pairs. The refused one is the one behind those that the set has then.
 fn extend<A: Allocator + Copy>(test: &Test, set: &mut Refusing<A>) -> bool {
     let (given, left) = extended(set, PAIRS);
-    let count = set.values_len();
-    test.expect(has_those_before(set, count) && LEFT.get(count).copied() == Some(left));
+    let count = set.values_len().min(3);
+    test.expect(has_lists(set, &FIRST[..count], &KEYS[..count]));
+    test.expect(LEFT.get(count).copied() == Some(left));
     match given {
         Ok(()) => {
             test.expect(count == 3);
@@ -191,7 +151,7 @@ fn ends_leave<A: Allocator + Copy>(test: &Test, set: &mut Refusing<A>) {
 // The pairs that a set has before the call.
 fn pairs_before(call: Try) -> &'static [(u32, u32)] {
     match call {
-        Try::Insert(start) => start.pairs,
+        Try::Insert(pairs, _) => pairs,
         Try::ExtendByPresent => FULL,
         Try::Extend => &[],
         Try::Clone | Try::NeedNone => FIRST,
@@ -201,7 +161,7 @@ fn pairs_before(call: Try) -> &'static [(u32, u32)] {
 // Makes the call. It returns whether there was memory enough.
 fn tries<A: Allocator + Copy>(test: &Test, set: &mut Refusing<A>, call: Try) -> bool {
     match call {
-        Try::Insert(start) => insert(test, set, start),
+        Try::Insert(before, keys) => insert(test, set, before, keys),
         Try::Extend => extend(test, set),
         Try::Clone => clone_of(test, set),
         Try::NeedNone => need_none(test, set),
@@ -211,7 +171,9 @@ fn tries<A: Allocator + Copy>(test: &Test, set: &mut Refusing<A>, call: Try) -> 
 
 fn tries_with(test: &Test, granted: u64, call: Try) -> bool {
     let allocator = RefusingAllocator::unlimited(test.alloc());
-    tries_by(test, &allocator, &allocator, granted, call)
+    let enough = tries_by(test, &allocator, &allocator, granted, call);
+    test.expect(enough != allocator.refused());
+    enough
 }
 
 fn tries_by<A: Allocator + Copy>(
@@ -222,22 +184,10 @@ fn tries_by<A: Allocator + Copy>(
     call: Try,
 ) -> bool {
     lend(SetOrderedMultimap::new(allocator), |set| {
-        tries_on(test, refusing, set, granted, call)
+        fill(test, set, pairs_before(call));
+        refusing.grant(granted);
+        tries(test, set, call)
     })
-}
-
-fn tries_on<A: Allocator + Copy>(
-    test: &Test,
-    refusing: &RefusingAllocator,
-    set: &mut Refusing<A>,
-    granted: u64,
-    call: Try,
-) -> bool {
-    fill(test, set, pairs_before(call));
-    refusing.grant(granted);
-    let enough = tries(test, set, call);
-    test.expect(enough != refusing.refused());
-    enough
 }
 
 fn from_iter_with(test: &Test, granted: u64) -> bool {
@@ -250,31 +200,19 @@ fn from_iter_by<A: Allocator + Copy>(test: &Test, allocator: A) -> bool {
     lend_made(
         SetOrderedMultimap::from_iter(allocator, DefaultState::new(), pairs),
         |set| test.expect(has_lists(set, FIRST, KEYS)),
-        |refused| test.expect(is_given(refused_pair(refused))),
+        |refused| test.expect(FIRST.contains(&refused_pair(refused))),
     )
-}
-
-fn is_given(wanted: (u32, u32)) -> bool {
-    let mut found = false;
-    for pair in PAIRS {
-        found = found || *pair == wanted;
-    }
-    found
-}
-
-fn calls_are_refused(test: &Test) {
-    for (row, (call, least)) in TRIES.iter().enumerate() {
-        let enough = requests_until_enough(|granted| tries_with(test, granted, *call));
-        test.expect_at(row, enough.unwrap_or(0) >= *least);
-    }
-    let made = requests_until_enough(|granted| from_iter_with(test, granted));
-    test.expect(made.unwrap_or(0) >= 3);
 }
 
 #[test]
 fn a_refused_request_changes_nothing(rt: HostRuntime) -> Result<(), Failed> {
     let test = Test::new(rt.alloc());
-    calls_are_refused(&test);
+    for (row, (call, least)) in TRIES.iter().enumerate() {
+        let enough = requests_until_enough(|granted| tries_with(&test, granted, *call));
+        test.expect_at(row, enough.unwrap_or(0) >= *least);
+    }
+    let made = requests_until_enough(|granted| from_iter_with(&test, granted));
+    test.expect(made.unwrap_or(0) >= 3);
     test.end()
 }
 

@@ -1,8 +1,7 @@
-//! The first value of a key, by its entry and by a reference for writing, and what Debug shows of
-//! entries.
+//! The first value of a key by its entry, and what Debug shows of entries.
 use ordered_multimap::list_ordered_multimap::Entry;
 use ordered_multimap_callers::lists::inserts;
-use ordered_multimap_callers::maps::{Numbers, refill};
+use ordered_multimap_callers::maps::{Numbers, ONE_KEY, refill};
 use test_helpers::{Test, is_shown};
 
 fn count(test: &Test, map: &mut Numbers, wanted: u32) {
@@ -93,24 +92,6 @@ fn vacant_entry_isnt_modified(test: &Test, map: &mut Numbers) {
     test.expect(map.get(&1).copied() == Some(12));
 }
 
-// The first value of the key, as it is lent for writing.
-fn lent(map: &mut Numbers) -> Option<u32> {
-    match map.get_mut(&1) {
-        Some(value) => Some(*value),
-        None => None,
-    }
-}
-
-fn value_is_lent(test: &Test, map: &mut Numbers) {
-    test.expect(lent(map).is_none());
-    test.expect(inserts(map, 1, 11, &None));
-    test.expect(lent(map) == Some(11));
-    test.expect(map.remove(&1) == Some(11));
-    test.expect(lent(map).is_none());
-}
-
-const ONE_KEY: &[(u32, u32)] = &[(1, 11), (1, 12), (1, 13), (1, 14)];
-
 const OCCUPIED: &str = "OccupiedEntry { key: 1, values: EntryValues([11, 12, 13, 14]) }";
 
 const VACANT: &str = "VacantEntry(1)";
@@ -132,14 +113,12 @@ fn entries_are_shown(test: &Test, map: &mut Numbers) {
     is_shown_as(test, map, OCCUPIED);
 }
 
-/// Entries and references to a key's first value.
+/// Calls of entries that put a first value, or change it, and what Debug shows.
 pub fn keys_are_entered(test: &Test, map: &mut Numbers) {
     for (row, call) in CALLS.iter().enumerate() {
         first_value_stays(test, map, row, *call);
     }
     map.clear();
     vacant_entry_isnt_modified(test, map);
-    map.clear();
-    value_is_lent(test, map);
     entries_are_shown(test, map);
 }

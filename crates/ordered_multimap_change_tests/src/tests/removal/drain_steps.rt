@@ -1,7 +1,6 @@
 //! Steps of a drain: what it gives from both ends, and what it shows of the rest.
-use crate::tests::lending::{Drain, drain_of, entry_drain_of, replaced_by};
-use ordered_multimap_callers::lists::appends;
-use ordered_multimap_callers::maps::{Numbers, refill};
+use crate::tests::lending::{Drain, drain_of};
+use ordered_multimap_callers::maps::{Numbers, ONE_KEY, refill};
 use test_helpers::{End, Test, is_shown, walk_difference};
 
 /// An end, how many values are left before, and the value that is there.
@@ -22,8 +21,6 @@ pub fn steps_answer(test: &Test, drain: &mut Drain<'_>, steps: &[Step]) {
         test.expect_at(row, taken(drain, *end) == *value);
     }
 }
-
-const ONE_KEY: &[(u32, u32)] = &[(1, 11), (1, 12), (1, 13), (1, 14)];
 
 // What a map is made of, and the steps of a drain of its key's values until none is left.
 const DRAINS: &[(&[(u32, u32)], &[Step])] = &[
@@ -107,68 +104,4 @@ pub fn values_are_given(test: &Test, map: &mut Numbers) {
     }
     refill(test, map, ONE_KEY);
     drain_is_shown(test, map);
-}
-
-const NO_VALUE: &[Step] = &[(End::Front, 0, None)];
-
-const BOTH: &[Step] = &[
-    (End::Front, 2, Some(1)),
-    (End::Front, 1, Some(2)),
-    (End::Front, 0, None),
-];
-
-fn values_are_removed(test: &Test, map: &mut Numbers) {
-    steps_answer(test, &mut drain_of(map, 5), NO_VALUE);
-    test.expect(appends(map, 5, 1, false));
-    test.expect(appends(map, 5, 2, true));
-    steps_answer(test, &mut drain_of(map, 5), BOTH);
-    steps_answer(test, &mut drain_of(map, 5), NO_VALUE);
-}
-
-fn entry_is_removed(test: &Test, map: &mut Numbers) {
-    match entry_drain_of(map, 5) {
-        Some((key, mut drain)) => {
-            test.expect(key == 5);
-            steps_answer(test, &mut drain, BOTH);
-        }
-        None => test.fail(),
-    }
-}
-
-fn no_entry_is_removed(test: &Test, map: &mut Numbers) {
-    test.expect(entry_drain_of(map, 5).is_none());
-}
-
-fn entries_are_removed(test: &Test, map: &mut Numbers) {
-    no_entry_is_removed(test, map);
-    test.expect(appends(map, 5, 1, false));
-    test.expect(appends(map, 5, 2, true));
-    entry_is_removed(test, map);
-    no_entry_is_removed(test, map);
-}
-
-fn is_replaced(test: &Test, map: &mut Numbers, value: u32, old: &[Step]) {
-    match replaced_by(map, 5, value) {
-        Some(mut drain) => steps_answer(test, &mut drain, old),
-        None => test.fail(),
-    }
-}
-
-fn values_are_replaced(test: &Test, map: &mut Numbers) {
-    is_replaced(test, map, 1, NO_VALUE);
-    is_replaced(
-        test,
-        map,
-        2,
-        &[(End::Front, 1, Some(1)), (End::Front, 0, None)],
-    );
-    test.expect(map.get(&5).copied() == Some(2));
-}
-
-/// Values of present and absent keys are drained.
-pub fn keys_are_drained(test: &Test, map: &mut Numbers) {
-    map.clear();
-    values_are_removed(test, map);
-    entries_are_removed(test, map);
-    values_are_replaced(test, map);
 }

@@ -8,19 +8,10 @@ use std::alloc::Allocator;
 use std::mem;
 use test_helpers::{End, Failed, Test, walk_difference};
 
-fn append<A: Allocator + Copy>(
-    test: &Test,
-    map: &mut Refusing<A>,
-    pair: (u32, u32),
-    present: bool,
-) {
-    test.expect(appends(map, pair.0, pair.1, present));
-}
-
 // Two values come and leave by a drain that is dropped after one step.
 fn two_come_and_leave<A: Allocator + Copy>(test: &Test, map: &mut Refusing<A>) {
-    append(test, map, (1, 1), false);
-    append(test, map, (1, 2), true);
+    test.expect(appends(map, 1, 1, false));
+    test.expect(appends(map, 1, 2, true));
     test.expect(map.remove_all(&1).next() == Some(1));
 }
 
@@ -39,8 +30,8 @@ fn drains_are_dropped<A: Allocator + Copy>(
 
 fn two_come_behind_forgotten_ones<A: Allocator + Copy>(test: &Test, map: &mut Refusing<A>) {
     mem::forget(map.remove_all(&1));
-    append(test, map, (1, 1), false);
-    append(test, map, (1, 2), true);
+    test.expect(appends(map, 1, 1, false));
+    test.expect(appends(map, 1, 2, true));
 }
 
 fn drains_are_forgotten<A: Allocator + Copy>(
@@ -49,9 +40,9 @@ fn drains_are_forgotten<A: Allocator + Copy>(
     map: &mut Refusing<A>,
 ) {
     reserve_anew(test, allocator, map, 2, 4);
-    append(test, map, (1, 1), false);
-    append(test, map, (1, 2), true);
-    append(test, map, (2, 3), false);
+    test.expect(appends(map, 1, 1, false));
+    test.expect(appends(map, 1, 2, true));
+    test.expect(appends(map, 2, 3, false));
     for _ in 0..30 {
         two_come_behind_forgotten_ones(test, map);
     }
@@ -62,7 +53,7 @@ fn drains_are_forgotten<A: Allocator + Copy>(
 
 // A pair comes, and an older one of its key goes.
 fn one_goes_for_one<A: Allocator + Copy>(test: &Test, map: &mut Refusing<A>, number: u32) {
-    append(test, map, (1, number), true);
+    test.expect(appends(map, 1, number, true));
     let gone = number.saturating_sub(2);
     map.retain(|key, value| *key != 1 || *value != gone);
 }
@@ -73,9 +64,9 @@ fn pairs_come_and_go<A: Allocator + Copy>(
     map: &mut Refusing<A>,
 ) {
     reserve_anew(test, allocator, map, 2, 4);
-    append(test, map, (1, 0), false);
-    append(test, map, (2, 0), false);
-    append(test, map, (1, 1), true);
+    test.expect(appends(map, 1, 0, false));
+    test.expect(appends(map, 2, 0, false));
+    test.expect(appends(map, 1, 1, true));
     for number in 2..=60u32 {
         one_goes_for_one(test, map, number);
     }
@@ -98,8 +89,8 @@ fn values_are_replaced<A: Allocator + Copy>(
     map: &mut Refusing<A>,
 ) {
     reserve_anew(test, allocator, map, 2, 2);
-    append(test, map, (1, 0), false);
-    append(test, map, (2, 0), false);
+    test.expect(appends(map, 1, 0, false));
+    test.expect(appends(map, 2, 0, false));
     for number in 1..=50u32 {
         both_are_replaced(test, map, number);
     }

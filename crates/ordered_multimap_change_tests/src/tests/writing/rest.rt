@@ -1,48 +1,65 @@
-//! What the walks for writing have left, for reading.
-
-use crate::tests::lending::{pairs_of, values_of, values_of_key};
-use ordered_multimap::list_ordered_multimap::{EntryValuesMut, IterMut, ValuesMut};
+//! What the walks for writing have left, for reading: walked from both ends, cloned, and shown. And
+//! what Debug shows of the walks themselves.
+use crate::tests::lending::{keys_of, pairs_of, values_of, values_of_key};
+use ordered_multimap::list_ordered_multimap::{EntryValuesMut, IterMut, KeyValuesMut, ValuesMut};
 use ordered_multimap_callers::lists::goes_on;
-use ordered_multimap_callers::maps::{MIXED, Numbers, refill};
-use test_helpers::{End, Test};
+use ordered_multimap_callers::maps::{MIXED, Numbers, ONE_KEY, refill};
+use test_helpers::{End, Test, is_shown};
 
-const PAIRS: &[(End, (u32, u32))] = &[(End::Back, (2, 13)), (End::Front, (2, 12))];
+const PAIRS: &str = "IterMut([(1, 11), (2, 12), (2, 13), (1, 14)])";
 
-const VALUES: &[(End, u32)] = &[(End::Front, 12), (End::Front, 13)];
+const PAIRS_LEFT: &str = "IterRest([(1, 11), (2, 12), (2, 13)])";
 
-const LAST: &[(End, u32)] = &[(End::Front, 14)];
+const PAIRS_BEHIND: &[(End, (u32, u32))] = &[(End::Back, (2, 13)), (End::Front, (2, 12))];
 
 // The last pair is handed out, and the first is passed over before the comparison.
 fn pairs_are_left(test: &Test, walk: &mut IterMut<'_, u32, u32>) {
-    let _last = walk.next_back();
-    test.expect(goes_on(&mut walk.iter(), PAIRS));
+    test.expect(is_shown(test.alloc(), walk, PAIRS));
+    test.expect(walk.next_back().is_some());
+    test.expect(is_shown(test.alloc(), &walk.iter(), PAIRS_LEFT));
+    test.expect(goes_on(&mut walk.iter(), PAIRS_BEHIND));
 }
+
+const VALUES: &str = "ValuesMut([11, 12, 13, 14])";
+
+const VALUES_LEFT: &str = "ValuesRest([11, 12, 13])";
+
+const VALUES_BEHIND: &[(End, u32)] = &[(End::Front, 12), (End::Front, 13)];
 
 fn values_are_left(test: &Test, walk: &mut ValuesMut<'_, u32, u32>) {
-    let _last = walk.next_back();
-    test.expect(goes_on(&mut walk.iter(), VALUES));
+    test.expect(is_shown(test.alloc(), walk, VALUES));
+    test.expect(walk.next_back().is_some());
+    test.expect(is_shown(test.alloc(), &walk.iter(), VALUES_LEFT));
+    test.expect(goes_on(&mut walk.iter(), VALUES_BEHIND));
 }
 
-fn values_of_a_key_are_left(test: &Test, walk: &EntryValuesMut<'_, u32, u32>) {
-    test.expect(goes_on(&mut walk.iter(), LAST));
+const OF_KEY: &str = "EntryValuesMut([11, 12, 13, 14])";
+
+const LEFT_OF_KEY: &str = "EntryValuesRest([11, 12, 13])";
+
+fn values_of_a_key_are_left(test: &Test, walk: &mut EntryValuesMut<'_, u32, u32>) {
+    test.expect(is_shown(test.alloc(), walk, OF_KEY));
+    test.expect(walk.next_back().is_some());
+    test.expect(is_shown(test.alloc(), &walk.iter(), LEFT_OF_KEY));
+    test.expect(goes_on(&mut walk.iter(), VALUES_BEHIND));
 }
 
-fn pairs(test: &Test, map: &mut Numbers) {
-    pairs_are_left(test, &mut pairs_of(map));
+const KEYS: &str = "KeyValuesMut([(1, EntryValues([11, 14])), (2, EntryValues([12, 13]))])";
+
+const KEY_LEFT: &str = "KeyValuesMut([(2, EntryValues([12, 13]))])";
+
+fn keys_are_left(test: &Test, walk: &mut KeyValuesMut<'_, u32, u32>) {
+    test.expect(is_shown(test.alloc(), walk, KEYS));
+    test.expect(walk.next().is_some());
+    test.expect(is_shown(test.alloc(), walk, KEY_LEFT));
 }
 
-fn values(test: &Test, map: &mut Numbers) {
-    values_are_left(test, &mut values_of(map));
-}
-
-fn values_of_a_key(test: &Test, map: &mut Numbers) {
-    values_of_a_key_are_left(test, &values_of_key(map, 1));
-}
-
-/// What is left is walked and cloned.
+/// What is left is walked and cloned, and all walks are shown.
 pub fn walks_have_left(test: &Test, map: &mut Numbers) {
     refill(test, map, MIXED);
-    pairs(test, map);
-    values(test, map);
-    values_of_a_key(test, map);
+    pairs_are_left(test, &mut pairs_of(map));
+    values_are_left(test, &mut values_of(map));
+    keys_are_left(test, &mut keys_of(map));
+    refill(test, map, ONE_KEY);
+    values_of_a_key_are_left(test, &mut values_of_key(map, 1));
 }

@@ -38,14 +38,10 @@ fn finds<K: Eq + Hash + Drop, Q: KeyQuery<K>, E: Drop>(
 }
 
 fn texts_are_found(test: &Test) {
-    finds(test, String::from_str(test.alloc(), "line"), "line", "lime");
-    finds(
-        test,
-        BoxedStr::from_str(test.alloc(), "line"),
-        "line",
-        "lime",
-    );
-    finds(test, RcStr::from_str(test.alloc(), "line"), "line", "lime");
+    let alloc = test.alloc();
+    finds(test, String::from_str(alloc, "line"), "line", "lime");
+    finds(test, BoxedStr::from_str(alloc, "line"), "line", "lime");
+    finds(test, RcStr::from_str(alloc, "line"), "line", "lime");
 }
 
 fn lent_texts_are_found(test: &Test) {
@@ -60,13 +56,9 @@ const ITEMS: &[u8] = &[1, 2, 3];
 const OTHERS: &[u8] = &[1, 2];
 
 fn lists_are_found(test: &Test) {
-    finds(test, Vec::from_slice(test.alloc(), ITEMS), ITEMS, OTHERS);
-    finds(
-        test,
-        BoxedSlice::from_slice(test.alloc(), ITEMS),
-        ITEMS,
-        OTHERS,
-    );
+    let alloc = test.alloc();
+    finds(test, Vec::from_slice(alloc, ITEMS), ITEMS, OTHERS);
+    finds(test, BoxedSlice::from_slice(alloc, ITEMS), ITEMS, OTHERS);
 }
 
 fn lent_lists_are_found(test: &Test) {

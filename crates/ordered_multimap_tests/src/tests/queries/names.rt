@@ -1,4 +1,5 @@
-//! A query of one's own: a header's name, looked up by a text in any case.
+//! A query of one's own: a header's name, looked up by a text in any case; and which of several
+//! spellings stays.
 ghost use Rattle.std.proofs.Common.{ap};
 ghost use Rattle.std.specs.Cmp.{on_equiv, partial_equiv_from_equiv, on_per};
 ghost use Rattle.std.specs.Cmp.Lexicographic.{bytes_decides, nat_list_eq_equiv};
@@ -7,6 +8,7 @@ ghost use Rattle.std.specs.Prelude.{◌≡◌, None, length};
 ghost use Rattle.std.specs.Str.{str_eq_ignore_ascii_case, str_to_ascii_lowercase};
 ghost use Rattle.std.specs.String.{string_bytes};
 
+use ordered_multimap::list_ordered_multimap::KeyWrapper;
 use ordered_multimap::{KeyQuery, ListOrderedMultimap};
 use ordered_multimap_callers::tested::test_on_empty;
 use std::hash::{Hash, Hasher};
@@ -89,50 +91,94 @@ impl<'q> KeyQuery<Name> for AnyCase<'q> {
     }
 }
 
-type Headers = ListOrderedMultimap<Name, &'static str>;
+type Headers = ListOrderedMultimap<Name, u32>;
 
-const SENT: &[(&str, &str)] = &[
-    ("Accept", "text/html"),
-    ("Cookie", "a=1"),
-    ("ACCEPT", "text/plain"),
-    ("Origin", "null"),
-];
+const SENT: &[(&str, u32)] = &[("Accept", 1), ("Cookie", 2), ("ACCEPT", 3), ("Origin", 4)];
 
-fn add(test: &Test, headers: &mut Headers, header: &(&str, &'static str)) {
-    match String::from_str(test.alloc(), header.0) {
-        Ok(text) => test.expect(headers.append(Name { text }, header.1).is_ok()),
-        Err(_) => test.fail(),
+fn name_of(test: &Test, text: &str) -> Name {
+    let text = String::from_str(test.alloc(), text);
+    test.expect(text.is_ok());
+    Name {
+        text: text.unwrap_or(String::new(test.alloc())),
     }
+}
+
+// Whether the name was there.
+fn appended(test: &Test, headers: &mut Headers, text: &str, value: u32) -> Option<bool> {
+    headers.append(name_of(test, text), value).ok()
 }
 
 fn names_are_found(test: &Test, headers: &Headers) {
     let name = AnyCase { text: "accept" };
-    let both = [(End::Front, "text/html"), (End::Front, "text/plain")];
+    let both = [(End::Front, 1), (End::Front, 3)];
     test.expect_same(walk_difference(&mut headers.get_all(name), &both));
     let cookie = AnyCase { text: "cOOKIE" };
-    test.expect(headers.get(cookie).copied() == Some("a=1"));
+    test.expect(headers.get(cookie).copied() == Some(2));
     test.expect(!headers.contains_key(AnyCase { text: "accep" }));
     test.expect(headers.entry_len(AnyCase { text: "accepu" }) == 0);
 }
 
-// The spelling that came first.
-fn is_spelled(headers: &mut Headers, text: &str, wanted: &str) -> bool {
-    match headers.remove_entry(AnyCase { text }) {
-        Some((name, _)) => name.text.as_str() == wanted,
+// The spelling that came first, and the first value.
+fn is_spelled(removed: Option<(Name, u32)>, text: &str, value: u32) -> bool {
+    match removed {
+        Some((name, first)) => name.text.as_str() == text && first == value,
         None => false,
     }
 }
 
 fn headers_are_kept(test: &Test, headers: &mut Headers) {
-    for header in SENT {
-        add(test, headers, header);
+    for (text, value) in SENT {
+        test.expect(appended(test, headers, text, *value).is_some());
     }
     names_are_found(test, headers);
-    test.expect(is_spelled(headers, "accept", "Accept"));
+    let removed = headers.remove_entry(AnyCase { text: "accept" });
+    test.expect(is_spelled(removed, "Accept", 1));
     test.expect(headers.values_len() == 2);
+}
+
+fn is_owned(key: KeyWrapper<'_, Name>, text: &str) -> bool {
+    match key {
+        KeyWrapper::Owned(name) => name.text.as_str() == text,
+        KeyWrapper::Borrowed(_) => false,
+    }
+}
+
+// The name that a pop hands out with the value, since its last value goes.
+fn is_popped(headers: &mut Headers, text: &str, value: u32) -> bool {
+    match headers.pop_back() {
+        Some((key, last)) => is_owned(key, text) && last == value,
+        None => false,
+    }
+}
+
+fn first_spellings_stay(test: &Test, headers: &mut Headers) {
+    headers.clear();
+    test.expect(appended(test, headers, "Key", 1) == Some(false));
+    test.expect(appended(test, headers, "KEY", 2) == Some(true));
+    let removed = headers.remove_entry(&name_of(test, "key"));
+    test.expect(is_spelled(removed, "Key", 1));
+    test.expect(headers.values_len() == 0 && headers.keys_len() == 0);
+}
+
+// A name that is replaced stays as it was, and one that comes again is new.
+fn replaced_spelling_stays(test: &Test, headers: &mut Headers) {
+    test.expect(appended(test, headers, "Key", 1) == Some(false));
+    let old = headers.insert(name_of(test, "KEY"), 2);
+    test.expect(old.ok() == Some(Some(1)));
+    test.expect(headers.values_len() == 1);
+    test.expect(is_popped(headers, "Key", 2));
+    test.expect(appended(test, headers, "kEY", 3) == Some(false));
+    let stored = headers.keys().next();
+    test.expect(stored.is_some_and(|name| name.text.as_str() == "kEY"));
+}
+
+fn names_answer(test: &Test, headers: &mut Headers) {
+    headers_are_kept(test, headers);
+    first_spellings_stay(test, headers);
+    replaced_spelling_stays(test, headers);
 }
 
 #[test]
 fn names_are_found_in_any_case(rt: HostRuntime) -> Result<(), Failed> {
-    test_on_empty(rt.alloc(), headers_are_kept)
+    test_on_empty(rt.alloc(), names_answer)
 }

@@ -1,7 +1,7 @@
 //! Keys that own their text, looked up by texts that are lent: no look-up makes a text.
 use ordered_multimap::ListOrderedMultimap;
 use std::hash::BuildHasher;
-use test_helpers::{End, Test, walk_difference};
+use test_helpers::{End, Test, is_shown, walk_difference};
 
 /// A map whose keys own their text.
 pub type Owned<S> = ListOrderedMultimap<String, u32, S>;
@@ -45,42 +45,30 @@ fn is_found<S: BuildHasher>(
     test.expect_at(at, map.get_all(name).len() == count);
 }
 
-fn difference<S: BuildHasher>(map: &Owned<S>, wanted: &[(End, u32)]) -> Option<usize> {
-    walk_difference(&mut map.get_all("line"), wanted)
-}
-
-fn values_are_walked<S: BuildHasher>(test: &Test, map: &Owned<S>) {
-    test.expect_same(difference(map, &[(End::Front, 1), (End::Back, 2)]));
-}
-
-fn first_is_written<S: BuildHasher>(test: &Test, map: &mut Owned<S>) {
+// What stands under a name is written, the first value alone and then all.
+fn values_are_written<S: BuildHasher>(test: &Test, map: &mut Owned<S>) {
     if let Some(value) = map.get_mut("line") {
         *value = 3;
     }
-    test.expect(map.get("line").copied() == Some(3));
     test.expect(map.get_mut("none").is_none());
-}
-
-fn write_all<S: BuildHasher>(map: &mut Owned<S>) {
+    let both = [(End::Front, 3), (End::Back, 2)];
+    test.expect_same(walk_difference(&mut map.get_all("line"), &both));
     for value in map.get_all_mut("line") {
         *value = 9;
     }
+    is_shown_as(test, map, r#"{"line": 9, "page": 8, "line": 9}"#);
 }
 
-fn all_are_written<S: BuildHasher>(test: &Test, map: &mut Owned<S>) {
-    write_all(map);
-    test.expect_same(difference(map, &[(End::Front, 9), (End::Front, 9)]));
-    test.expect(map.get("page").copied() == Some(8));
+fn is_shown_as<S: BuildHasher>(test: &Test, map: &Owned<S>, wanted: &str) {
+    test.expect(is_shown(test.alloc(), map, wanted));
 }
 
-fn lengths<S: BuildHasher>(map: &Owned<S>) -> (usize, usize) {
-    (map.keys_len(), map.values_len())
-}
+const PAGE: &str = r#"{"page": 8}"#;
 
 fn removed<S: BuildHasher>(test: &Test, map: &mut Owned<S>) {
     test.expect(map.remove("line") == Some(1));
     test.expect(map.remove("line").is_none());
-    test.expect(lengths(map) == (1, 1));
+    is_shown_as(test, map, PAGE);
 }
 
 // What a removal hands out, and how long the key is.
@@ -94,30 +82,26 @@ fn entry_of<S: BuildHasher>(map: &mut Owned<S>, name: &str) -> Option<(usize, u3
 fn entries_are_removed<S: BuildHasher>(test: &Test, map: &mut Owned<S>) {
     test.expect(entry_of(map, "line") == Some((4, 1)));
     test.expect(entry_of(map, "line").is_none());
-    test.expect(lengths(map) == (1, 1));
+    is_shown_as(test, map, PAGE);
 }
 
 fn all_are_drained<S: BuildHasher>(test: &Test, map: &mut Owned<S>) {
     test.expect(map.remove_all("line").next_back() == Some(2));
     test.expect(map.remove_all("none").len() == 0);
-    test.expect(lengths(map) == (1, 1));
+    is_shown_as(test, map, PAGE);
+}
+
+// The first value that a removal hands out, and how long the key is.
+fn drained<S: BuildHasher>(map: &mut Owned<S>, name: &str) -> (Option<u32>, Option<usize>) {
+    let mut stored = None;
+    let first = map.remove_entry_with_all(name, &mut stored).next();
+    (first, stored.map(|key| key.len()))
 }
 
 fn drained_with_the_key<S: BuildHasher>(test: &Test, map: &mut Owned<S>) {
-    let mut stored = None;
-    let first = map.remove_entry_with_all("line", &mut stored).next();
-    test.expect(first == Some(1));
-    match stored {
-        Some(key) => test.expect(key.as_str() == "line"),
-        None => test.fail(),
-    }
-}
-
-fn none_is_drained<S: BuildHasher>(test: &Test, map: &mut Owned<S>) {
-    let mut stored = None;
-    let count = map.remove_entry_with_all("none", &mut stored).len();
-    test.expect(count == 0);
-    test.expect(stored.is_none());
+    test.expect(drained(map, "line") == (Some(1), Some(4)));
+    test.expect(drained(map, "none") == (None, None));
+    is_shown_as(test, map, PAGE);
 }
 
 /// What each call finds, writes and takes out by a text.
@@ -126,9 +110,7 @@ pub fn texts_are_queries<S: BuildHasher>(test: &Test, map: &mut Owned<S>) {
     for (at, row) in FOUND.iter().enumerate() {
         is_found(test, map, at, row);
     }
-    values_are_walked(test, map);
-    first_is_written(test, map);
-    all_are_written(test, map);
+    values_are_written(test, map);
     refill(test, map);
     removed(test, map);
     refill(test, map);
@@ -137,5 +119,4 @@ pub fn texts_are_queries<S: BuildHasher>(test: &Test, map: &mut Owned<S>) {
     all_are_drained(test, map);
     refill(test, map);
     drained_with_the_key(test, map);
-    none_is_drained(test, map);
 }
