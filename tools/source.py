@@ -157,6 +157,23 @@ def sources(crate, top=TOP):
     return [Source(it) for it in files_of(crate, ["src"], ".rt", top=top)]
 
 
+def public_files(crate, module="lib"):
+    """The files of the modules that callers can name."""
+    path = TOP / "crates" / crate / "src" / f"{module}.rt"
+    if path.is_file():
+        yield path
+        for below in re.findall(r"^pub mod (\w+);", path.read_text(), re.M):
+            yield from public_files(crate, below if module == "lib" else f"{module}/{below}")
+
+
+def public_types(files):
+    """The types that these files declare or pass on."""
+    for text in (it.read_text() for it in files):
+        yield from re.findall(r"^pub (?:struct|enum|trait) (\w+)", text, re.M)
+        for names in re.findall(r"^pub use ([^;]*);", text, re.M):
+            yield from re.findall(r"\w+", names)
+
+
 def encoded(kind, parameters):
     """A type as the prover's names spell it: type parameters and lifetimes are left out."""
     kind = kind.strip()

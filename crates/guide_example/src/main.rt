@@ -1,8 +1,5 @@
-//! The program of docs/GUIDE.md: it prints what the snippets of the guide's tour find, and then
-//! three pairs in their order.
+//! The program of README.md and docs/GUIDE.md: it prints three pairs in their order.
 #![tactic(auto)]
-
-mod tour;
 
 use ordered_multimap::ListOrderedMultimap;
 use std::alloc::AllocError;
@@ -26,7 +23,6 @@ fn print_pairs(rt: &impl Print, map: &Words) -> io::Result<()> {
 }
 
 fn main(rt: HostRuntime) -> io::Result<()> {
-    tour::print_all(&rt)?;
     let mut map = ListOrderedMultimap::new(rt.alloc());
     add_three(&mut map)?;
     print_pairs(&rt, &map)

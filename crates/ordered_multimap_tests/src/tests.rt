@@ -2,15 +2,14 @@
 //! map that is owned costs a proof more than all that it is lent to.
 mod derives;
 mod emptied;
+mod ends;
 mod equal;
-mod examples;
 mod hashes;
 mod into_iter;
 mod key_values;
 mod queries;
 mod shown;
 mod uncloned;
-mod uses;
 mod walks;
 
 use crate::tests::hashes::{collided_keys_come, keys_are_found};
@@ -28,6 +27,8 @@ fn maps_of_texts_are_shown(rt: HostRuntime) -> Result<(), Failed> {
 }
 
 fn numbers_answer(test: &Test, map: &mut Numbers) {
+    test.begin("ends");
+    ends::ends_answer(test, map);
     test.begin("walks");
     walks::are_taken(test, map);
     test.begin("key_values");

@@ -1,7 +1,7 @@
-//! The worked rows, refused requests, each call once, and proved callers.
+//! The worked rows, refused requests, calls that these leave out, and proved callers.
 mod callers;
+mod calls;
 mod caseless;
-mod examples;
 mod lists;
 mod refused;
 mod rows;

@@ -1,7 +1,7 @@
 //! Insertions, removals, pops, drains and `retain`, each test over one map.
+mod below_zero;
 mod drain_steps;
 mod drained;
-mod examples;
 mod memory;
 mod popped;
 mod retained;

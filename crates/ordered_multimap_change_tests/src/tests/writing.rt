@@ -1,6 +1,5 @@
 //! Walks that lend values for writing, over one map that is lent to all comparisons.
 mod ended;
-mod examples;
 mod held;
 mod keys;
 mod rest;

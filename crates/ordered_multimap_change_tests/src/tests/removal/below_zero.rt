@@ -1,19 +1,10 @@
-//! The example of `retain`, and values below zero that go, as tests. `tools/examples` says whether
-//! the line of the example stands here.
+//! Values below zero go by `retain`.
 use ordered_multimap::ListOrderedMultimap;
-use ordered_multimap_callers::lists::{appends, has_lists, has_pairs, inserts};
-use ordered_multimap_callers::maps::fill;
+use ordered_multimap_callers::lists::{appends, has_pairs, inserts};
 use ordered_multimap_callers::tested::test_on_empty;
 use test_helpers::{Failed, Test};
 
 type Texts = ListOrderedMultimap<&'static str, i64>;
-
-fn page_goes(test: &Test, map: &mut Texts) {
-    fill(test, map, &[("line", 1), ("page", 8), ("line", 2)]);
-    map.retain(|_key, value| *value != 8);
-    let left = has_lists(map, &[("line", 1), ("line", 2)], &["line"]);
-    test.expect(left);
-}
 
 // A pair, and whether it is appended; else it takes the place of others.
 const ADDED: &[(&str, i64, bool)] = &[
@@ -41,19 +32,13 @@ fn add_all(test: &Test, map: &mut Texts) {
 }
 
 fn values_below_zero_go(test: &Test, map: &mut Texts) {
-    map.clear();
     add_all(test, map);
     map.retain(|_key, value| *value >= 0);
     let kept = [("key1", 1), ("key2", 5), ("key4", 1), ("key4", 1)];
     test.expect(has_pairs(map, &kept));
 }
 
-fn texts_stay(test: &Test, map: &mut Texts) {
-    page_goes(test, map);
-    values_below_zero_go(test, map);
-}
-
 #[test]
-fn texts_stay_by_their_values(rt: HostRuntime) -> Result<(), Failed> {
-    test_on_empty(rt.alloc(), texts_stay)
+fn pairs_of_texts_stay_by_their_values(rt: HostRuntime) -> Result<(), Failed> {
+    test_on_empty(rt.alloc(), values_below_zero_go)
 }
