@@ -1,4 +1,4 @@
-//! Pairs that come last.
+//! Appending one pair.
 ghost use Rattle.std.specs.Prelude.{◌≡◌, false, IfOk, IfErr, OnOk, OnErr, IsOk};
 ghost use Rattle.multimap_slots.specs.Lists.{IsIn};
 ghost use Rattle.multimap_slots.specs.Slots.{HasItem};
@@ -27,17 +27,38 @@ use std::alloc::Allocator;
 use std::hash::{BuildHasher, Hash};
 
 impl<K: Eq + Hash, V, S: BuildHasher, A: Allocator + Copy> ListOrderedMultimap<K, V, S, A> {
-    /// Puts the pair last, and returns whether the key was present. A present key stays as it was
-    /// stored, and the one handed in is dropped.
+    /// Appends the pair at the end, and returns whether the key was already present.
     ///
-    /// Where memory is refused, it hands back the pair, and both lists are as before. One look-up;
-    /// it writes the slots of the key, of the new value and of the value before it under the same
-    /// key. A growth costs the slots or rows that are moved. Where one more value fits but the last
-    /// slot is in use, the values are moved over the holes that removals left, and no memory is
-    /// taken: over all calls that is no more than one move for each removal.
+    /// A present key keeps its stored form and its place among the keys, and the given key is
+    /// dropped. A new key goes last among the keys. To replace the values of a key see
+    /// [`insert`](Self::insert), to append many pairs [`extend`](Self::extend), and to add a value
+    /// only if the key is absent [`entry`](Self::entry).
+    ///
+    /// # Errors
+    ///
+    /// Returns [`Refused`] with the key and the value if an allocation fails. Both lists are
+    /// unchanged; capacities may have grown. It never fails if there is room for one more value
+    /// and, where the key is absent, for one more key.
+    ///
+    /// # Complexity
+    ///
+    /// *O*(1) expected, amortized. The key is hashed once. A growth at least doubles the capacity,
+    /// and moves the slots or rows of what grows. If there is room but the last slot is in use,
+    /// values are moved into the slots that removals left, without allocating: over all calls at
+    /// most one move for each removed value.
+    ///
+    /// # Examples
     ///
     /// ```
-    /// map.append("page", 8)?;
+    /// use ordered_multimap::ListOrderedMultimap;
+    ///
+    /// let mut map = ListOrderedMultimap::new(rt.alloc());
+    /// assert_eq!(rt; map.append("line", 1)?, false);
+    /// assert_eq!(rt; map.append("page", 8)?, false);
+    /// assert_eq!(rt; map.append("line", 2)?, true);
+    /// assert!(rt; map.iter().eq([(&"line", &1), (&"page", &8), (&"line", &2)]));
+    /// assert!(rt; map.get_all("line").eq(&[1, 2]));
+    /// assert!(rt; map.keys().eq(&["line", "page"]));
     /// ```
     #[tactic(auto, using(crate::proofs::Append::Rooms::appended_there, crate::proofs::Append::Rooms::refused_there))]
     #[inline(always)]

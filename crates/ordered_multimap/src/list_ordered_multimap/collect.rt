@@ -1,4 +1,4 @@
-//! What code over any collection calls: a map that is collected, and one that is extended.
+//! The traits by which an iterator is collected into a map, and by which a map is extended.
 ghost use Rattle.std.specs.Iterator.{IsFinite};
 ghost use Rattle.ordered_multimap.specs.Extends.{AppendsAll, ExtendsInRoom, IsCollected, lent_pair};
 
@@ -6,12 +6,29 @@ use super::ListOrderedMultimap;
 use std::alloc::{AllocError, Allocator};
 use std::hash::{BuildHasher, Hash};
 
-/// Lets `collect(alloc)` make a map of the pairs of an iterator, appended in turn, with a default
-/// hash builder. A refused pair is dropped, with the map; the map's own
-/// [`from_iter`](ListOrderedMultimap::from_iter) hands it back.
+/// Lets `pairs.collect(alloc)?` make a map of the pairs of an iterator, with a default of the hash
+/// builder.
+///
+/// Each pair is added as by [`append`](ListOrderedMultimap::append). The map's own
+/// [`from_iter`](ListOrderedMultimap::from_iter) takes a hash builder, and its error has the pair
+/// for which an allocation fails.
+///
+/// # Errors
+///
+/// Returns [`AllocError`] if an allocation fails. The pairs that were read are dropped.
+///
+/// # Requires
+///
+/// The iterator ends.
+///
+/// # Examples
 ///
 /// ```
-/// let map: Numbers = pairs.collect(alloc)?;
+/// use ordered_multimap::ListOrderedMultimap;
+///
+/// let pairs = [("line", 1), ("page", 8), ("line", 2)].into_iter();
+/// let map: ListOrderedMultimap<&str, u32> = pairs.collect(rt.alloc())?;
+/// assert!(rt; map.iter().eq([(&"line", &1), (&"page", &8), (&"line", &2)]));
 /// ```
 impl<
     K: Eq + Hash + Drop,
@@ -28,8 +45,30 @@ impl<
     }
 }
 
-/// Appends each pair in turn, for code over any collection. A refused pair is dropped, and those
-/// before it stay; [`extend`](ListOrderedMultimap::extend) of the map's own hands it back.
+/// Appends all pairs of an iterator, for generic code over collections.
+///
+/// It does what the map's own [`extend`](ListOrderedMultimap::extend) does, but its error doesn't
+/// have the pair.
+///
+/// # Errors
+///
+/// Returns [`AllocError`] if an allocation fails. The pair is dropped, and those before it stay in
+/// the map.
+///
+/// # Requires
+///
+/// The iterator ends.
+///
+/// # Examples
+///
+/// ```
+/// use ordered_multimap::ListOrderedMultimap;
+///
+/// let mut map = ListOrderedMultimap::new(rt.alloc());
+/// map.append("line", 1)?;
+/// Extend::extend(&mut map, [("page", 8), ("line", 2)])?;
+/// assert!(rt; map.iter().eq([(&"line", &1), (&"page", &8), (&"line", &2)]));
+/// ```
 impl<K: Eq + Hash + Drop, V: Drop, S: BuildHasher, A: Allocator + Copy> Extend<(K, V)>
     for ListOrderedMultimap<K, V, S, A> {
     ghost extend_gives = { AppendsAll K.eq };
@@ -47,8 +86,32 @@ impl<K: Eq + Hash + Drop, V: Drop, S: BuildHasher, A: Allocator + Copy> Extend<(
     }
 }
 
-/// Appends a copy of each pair in turn, for code over any collection, as
-/// [`extend_copied`](ListOrderedMultimap::extend_copied) of the map's own does.
+/// Appends a copy of each pair of an iterator, for generic code over collections.
+///
+/// It does what the map's own [`extend_copied`](ListOrderedMultimap::extend_copied) does, but its
+/// error doesn't have the pair.
+///
+/// # Errors
+///
+/// Returns [`AllocError`] if an allocation fails. The pairs before it stay in the map.
+///
+/// # Requires
+///
+/// The iterator ends.
+///
+/// # Examples
+///
+/// ```
+/// use ordered_multimap::ListOrderedMultimap;
+///
+/// let mut other = ListOrderedMultimap::new(rt.alloc());
+/// other.append("line", 2)?;
+///
+/// let mut map = ListOrderedMultimap::new(rt.alloc());
+/// map.append("line", 1)?;
+/// Extend::extend(&mut map, &other)?;
+/// assert!(rt; map.get_all("line").eq(&[1, 2]));
+/// ```
 impl<'a, K: Eq + Hash + Copy + 'a, V: Copy + 'a, S: BuildHasher, A: Allocator + Copy> Extend<
     (&'a K, &'a V),
 > for ListOrderedMultimap<K, V, S, A> {

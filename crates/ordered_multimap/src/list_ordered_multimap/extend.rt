@@ -1,4 +1,4 @@
-//! Many pairs that come last.
+//! Appending many pairs.
 ghost use Rattle.std.specs.Prelude.{◌≡◌, IfOk, IfErr};
 ghost use Rattle.std.specs.Iterator.{IsFinite};
 ghost use Rattle.ordered_multimap.specs.Extends.{Extends, ExtendsCopied, IsBuilt, IsLastRead};
@@ -16,16 +16,40 @@ impl<K: Eq + Hash + Drop, V: Drop, S: BuildHasher, A: Allocator + Copy> ListOrde
     S,
     A,
 > {
-    /// Appends each pair in turn. `iter` has to end. It refuses no pair that `append` would take, so
-    /// it succeeds if there is room for a key and a value for each pair.
+    /// Appends all pairs of the iterator, in its order.
     ///
-    /// It first asks for room for as many values as the iterator says that it has at least, and
-    /// goes on if this is refused. If memory is refused for a pair, it hands that pair back, and
-    /// the pairs before it stay. A caller who passes `&mut iter` keeps the pairs behind it. Each
-    /// pair costs what `append` costs.
+    /// Each pair is added as by [`append`](Self::append), so a present key keeps its old values.
+    /// For copies of pairs that are borrowed, as those of another map, see
+    /// [`extend_copied`](Self::extend_copied). [`Extend::extend`] does the same for generic code,
+    /// but its error doesn't contain the pair.
+    ///
+    /// # Errors
+    ///
+    /// Returns [`Refused`] with the first pair for which an allocation fails. The pairs before it
+    /// stay in the map; capacities may have grown. The iterator isn't read further: pass
+    /// `&mut iter` to keep the pairs after it. It never fails where [`append`](Self::append) would
+    /// take the pair, so it succeeds if there is room for a key and a value for each pair.
+    ///
+    /// # Complexity
+    ///
+    /// Each pair costs what [`append`](Self::append) costs. It first reserves room for as many
+    /// values as the lower bound of the iterator's `size_hint`, and goes on if that allocation
+    /// fails.
+    ///
+    /// # Requires
+    ///
+    /// The iterator ends.
+    ///
+    /// # Examples
     ///
     /// ```
-    /// map.extend(pairs)?;
+    /// use ordered_multimap::ListOrderedMultimap;
+    ///
+    /// let mut map = ListOrderedMultimap::new(rt.alloc());
+    /// map.append("line", 1)?;
+    /// map.extend([("page", 8), ("line", 2)])?;
+    /// assert!(rt; map.iter().eq([(&"line", &1), (&"page", &8), (&"line", &2)]));
+    /// assert!(rt; map.get_all("line").eq(&[1, 2]));
     /// ```
     pub fn extend<I: IntoIterator<Item = (K, V)>>(&mut self, iter: I) -> Result<(), Refused<K, V>>
         requires { (it : I.IntoIter) → I.into_iter_gives iter it
@@ -49,10 +73,38 @@ impl<K: Eq + Hash + Drop, V: Drop, S: BuildHasher, A: Allocator + Copy> ListOrde
         Ok(())
     }
 
-    /// Appends a copy of each pair in turn. Room, refusals and costs are as for `extend`.
+    /// Appends a copy of each pair of the iterator, in its order.
+    ///
+    /// It does for borrowed pairs, as those of another map's [`iter`](Self::iter), what
+    /// [`extend`](Self::extend) does for owned ones.
+    ///
+    /// # Errors
+    ///
+    /// Returns [`Refused`] with a copy of the first pair for which an allocation fails. The pairs
+    /// before it stay in the map; capacities may have grown. The iterator isn't read further. It
+    /// never fails where [`append`](Self::append) would take the pair.
+    ///
+    /// # Complexity
+    ///
+    /// Same as [`extend`](Self::extend).
+    ///
+    /// # Requires
+    ///
+    /// The iterator ends.
+    ///
+    /// # Examples
     ///
     /// ```
-    /// map.extend_copied(other.iter())?;
+    /// use ordered_multimap::ListOrderedMultimap;
+    ///
+    /// let mut other = ListOrderedMultimap::new(rt.alloc());
+    /// other.append("page", 8)?;
+    /// other.append("line", 2)?;
+    ///
+    /// let mut map = ListOrderedMultimap::new(rt.alloc());
+    /// map.append("line", 1)?;
+    /// map.extend_copied(&other)?;
+    /// assert!(rt; map.iter().eq([(&"line", &1), (&"page", &8), (&"line", &2)]));
     /// ```
     pub fn extend_copied<'a, I: IntoIterator<Item = (&'a K, &'a V)>>(
         &mut self,
@@ -82,12 +134,34 @@ impl<K: Eq + Hash + Drop, V: Drop, S: BuildHasher, A: Allocator + Copy> ListOrde
         Ok(())
     }
 
-    /// A map with this hash builder, of the pairs in turn, as `extend` appends them. `alloc` gives
-    /// its memory. Where memory is refused for a pair, it reads no more of `iter` and hands that pair
-    /// back; the pairs before it are dropped, and there is no map. `iter` has to end.
+    /// Creates a map of the pairs of the iterator, in its order, with the given hash builder.
+    ///
+    /// Each pair is added as by [`append`](Self::append). All memory comes from `alloc`, now and
+    /// later. `pairs.collect(alloc)?` does the same with a default hash builder, but its error
+    /// doesn't contain the pair.
+    ///
+    /// # Errors
+    ///
+    /// Returns [`Refused`] with the pair for which an allocation fails. The iterator isn't read
+    /// further. The pairs before that one are dropped, and so is the hash builder.
+    ///
+    /// # Complexity
+    ///
+    /// Same as [`extend`](Self::extend).
+    ///
+    /// # Requires
+    ///
+    /// The iterator ends.
+    ///
+    /// # Examples
     ///
     /// ```
-    /// ListOrderedMultimap::from_iter(alloc, DefaultState::new(), pairs)?
+    /// use ordered_multimap::{DefaultState, ListOrderedMultimap};
+    ///
+    /// let pairs = [("line", 1), ("page", 8), ("line", 2)];
+    /// let map = ListOrderedMultimap::from_iter(rt.alloc(), DefaultState::new(), pairs)?;
+    /// assert!(rt; map.get_all("line").eq(&[1, 2]));
+    /// assert!(rt; map.keys().eq(&["line", "page"]));
     /// ```
     pub fn from_iter<I: IntoIterator<Item = (K, V)>>(
         alloc: A,

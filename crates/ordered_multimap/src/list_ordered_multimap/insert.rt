@@ -1,4 +1,4 @@
-//! Pairs that come last and take the place of all others of their key.
+//! Inserting a pair in the place of all others of its key.
 ghost use Rattle.std.specs.Prelude.{◌≡◌, true, false, Some, slice_get, IfOk, IfErr, OnOk, OnErr, IsOk, ⊤};
 ghost use Rattle.multimap_slots.specs.Lists.{IsIn};
 ghost use Rattle.ordered_multimap.specs.Private.Append.{HandsBackAt};
@@ -23,17 +23,41 @@ use std::alloc::Allocator;
 use std::hash::{BuildHasher, Hash};
 
 impl<K: Eq + Hash, V, S: BuildHasher, A: Allocator + Copy> ListOrderedMultimap<K, V, S, A> {
-    /// Takes all pairs of the key out, puts the pair last, and returns the first of the old values,
-    /// or none where the key was absent. A present key stays as it was stored, and keeps its place
-    /// among the keys; the one handed in is dropped.
+    /// Removes all pairs of the key, appends the pair at the end, and returns the first of the old
+    /// values, or `None` if the key was absent.
     ///
-    /// On a present key it takes no memory and can't be refused. For an absent one it is as
-    /// `append`: where memory is refused, it hands back the pair, and both lists are as before. One
-    /// look-up; then the slots of the key, of its values and of the new one, and now and then a
-    /// compaction, as for `append`.
+    /// The new pair goes last in the order of the pairs. A present key keeps its stored form and
+    /// its place among the keys. The given key and the other old values are dropped.
+    ///
+    /// To get all old values see [`insert_all`](Self::insert_all), to keep the old pairs
+    /// [`append`](Self::append), and to write values in place [`get_mut`](Self::get_mut) and
+    /// [`update_all`](Self::update_all).
+    ///
+    /// # Errors
+    ///
+    /// Returns [`Refused`] with the key and the value if the key is absent and an allocation fails.
+    /// Both lists are unchanged; capacities may have grown. It never fails if the key is present,
+    /// since it doesn't allocate then, or if there is room for one more key and one more value.
+    ///
+    /// # Complexity
+    ///
+    /// *O*(*v*) expected, amortized, where *v* is the number of old values of the key. A growth,
+    /// and the moving of values into slots that removals left, cost what they cost in
+    /// [`append`](Self::append).
+    ///
+    /// # Examples
     ///
     /// ```
-    /// map.insert("page", 9) == Ok(Some(8))
+    /// use ordered_multimap::ListOrderedMultimap;
+    ///
+    /// let mut map = ListOrderedMultimap::new(rt.alloc());
+    /// map.append("line", 1)?;
+    /// map.append("page", 8)?;
+    /// map.append("line", 2)?;
+    /// assert_eq!(rt; map.insert("line", 3)?, Some(1));
+    /// assert_eq!(rt; map.insert("word", 5)?, None);
+    /// assert!(rt; map.iter().eq([(&"page", &8), (&"line", &3), (&"word", &5)]));
+    /// assert!(rt; map.keys().eq(&["line", "page", "word"]));
     /// ```
     #[tactic(auto, using(crate::proofs::Agreement::AbsentKeys::inserted_there))]
     pub fn insert(&mut self, key: K, value: V) -> Result<Option<V>, Refused<K, V>>
