@@ -1,12 +1,13 @@
-//! The drain of one key's values, and the calls that make one.
+//! Removing all values of a key, and the iterator that returns them.
 ghost use Rattle.std.specs.Prelude.{◌≡◌, Some, length, IfSome};
 ghost use Rattle.std.specs.Iterator.{at_most, UpTo};
 ghost use Rattle.std.specs.Iterator.SizeHint.{IsWithinCount};
 ghost use Rattle.ordered_multimap.specs.Detaches.{HoldsDrain};
 
+mod insert_all;
 pub(crate) mod steps;
 
-use super::{DefaultState, EntryValues, ListOrderedMultimap, Refused};
+use super::{DefaultState, EntryValues, ListOrderedMultimap};
 use crate::KeyQuery;
 use multimap_walks::End;
 use std::alloc::{Allocator, Global};
@@ -14,8 +15,18 @@ use std::fmt;
 use std::hash::{BuildHasher, Hash};
 use std::iter::FusedIterator;
 
-/// The values of one key, which have left the map, from both ends. It borrows the map. What it has
-/// not given is dropped with it, slot by slot.
+/// A double-ended iterator over the removed values of one key.
+///
+/// This type is returned by [`ListOrderedMultimap::remove_all`],
+/// [`ListOrderedMultimap::remove_entry_all`], [`ListOrderedMultimap::insert_all`] and the calls of
+/// these names of an [`OccupiedEntry`](super::OccupiedEntry); see there for examples. It borrows
+/// the map, which no longer has the pairs. When it is dropped, it drops the values that it hasn't
+/// returned, in *O*(1) for each.
+///
+/// If it is leaked, as by `mem::forget`, both lists of the map are the same as if it had been
+/// dropped. The map drops the remaining values when it reuses their slots, in
+/// [`clear`](ListOrderedMultimap::clear) and [`pack_to_fit`](ListOrderedMultimap::pack_to_fit), or
+/// when it is dropped itself.
 pub struct EntryValuesDrain<
     'map,
     K: Eq + Hash,
@@ -35,15 +46,40 @@ impl<K: Eq + Hash, V: Drop, S: BuildHasher, A: Allocator> ListOrderedMultimap<K,
     ghost use Rattle.ordered_multimap.specs.Keys.{stored_key, stored_where};
     ghost use Rattle.ordered_multimap.specs.Pairs.{values_of, values_where};
 
-    /// Takes the key out with all its values, and returns a drain that hands the values out one by
-    /// one. The pairs leave at the call, whatever happens to the drain, and the stored key is
-    /// dropped. The drain of an absent key is empty. The other keys and pairs keep their order.
+    /// Removes the key with all its values, and returns a double-ended iterator over the removed
+    /// values.
     ///
-    /// One look-up, then the slots of the key and of its values; each step of the drain reads one
-    /// slot. No memory is taken or given back.
+    /// The call itself removes the pairs, even if the iterator is never used, and drops the stored
+    /// key. If the key is absent, the iterator is empty. The other keys and pairs keep their order.
+    /// The key may be a query, as `&str` for `String` keys ([`KeyQuery`]).
+    ///
+    /// The iterator borrows the map mutably. If it is dropped before it has returned all values, it
+    /// drops the rest. If it is leaked, as by `mem::forget`, both lists are correct all the same,
+    /// and the map drops the rest later: see [`EntryValuesDrain`].
+    ///
+    /// To get the stored key as well see [`remove_entry_all`](Self::remove_entry_all), to get the
+    /// first value only [`remove`](Self::remove), and to put a new value in the place of the old
+    /// ones [`insert_all`](Self::insert_all).
+    ///
+    /// No memory is freed: later additions reuse the slots.
+    ///
+    /// # Complexity
+    ///
+    /// *O*(*v*) expected for the call, where *v* is the number of values of the key, and *O*(1) for
+    /// each step of the iterator.
+    ///
+    /// # Examples
     ///
     /// ```
-    /// map.remove_all("line").next_back() == Some(2)
+    /// use ordered_multimap::ListOrderedMultimap;
+    ///
+    /// let mut map = ListOrderedMultimap::new(rt.alloc());
+    /// map.append("line", 1)?;
+    /// map.append("page", 8)?;
+    /// map.append("line", 2)?;
+    /// assert!(rt; map.remove_all("line").eq([1, 2]));
+    /// assert!(rt; map.iter().eq([(&"page", &8)]));
+    /// assert_eq!(rt; map.remove_all("line").len(), 0);
     /// ```
     pub fn remove_all<Q: KeyQuery<K>>(&mut self, key: Q) -> EntryValuesDrain<'_, K, V, S, A>
     where
@@ -55,16 +91,32 @@ impl<K: Eq + Hash, V: Drop, S: BuildHasher, A: Allocator> ListOrderedMultimap<K,
         EntryValuesDrain { map: self }
     }
 
-    /// Takes the key out with all its values, as `remove_all` does, and puts the stored key into
-    /// `stored`, or none for an absent key; what was in it is dropped. In the example `page` is a
-    /// query for that key.
+    /// Removes the key with all its values, puts the removed key into `stored`, and returns a
+    /// double-ended iterator over the removed values.
     ///
-    /// A caller that is proved learns from it what the map is once the drain has ended, as from
-    /// `remove_all`; of `remove_entry_all` a starred clause says it, which such a caller doesn't
-    /// learn.
+    /// If the key is absent, `stored` is set to `None`. What it held before is dropped.
+    /// [`remove_all`](Self::remove_all) says what happens to the iterator. The key may be a query
+    /// ([`KeyQuery`]).
+    ///
+    /// It is for proved callers: see docs/PROVED_CALLERS.md.
+    ///
+    /// # Complexity
+    ///
+    /// Same as [`remove_all`](Self::remove_all).
+    ///
+    /// # Examples
     ///
     /// ```
-    /// map.remove_entry_with_all(page, &mut stored).next() == Some(8)
+    /// use ordered_multimap::ListOrderedMultimap;
+    ///
+    /// let mut map = ListOrderedMultimap::new(rt.alloc());
+    /// map.append("line", 1)?;
+    /// map.append("page", 8)?;
+    /// map.append("line", 2)?;
+    /// let mut stored = None;
+    /// assert!(rt; map.remove_entry_with_all("line", &mut stored).eq([1, 2]));
+    /// assert_eq!(rt; stored, Some("line"));
+    /// assert!(rt; map.iter().eq([(&"page", &8)]));
     /// ```
     pub fn remove_entry_with_all<'map, Q: KeyQuery<K>>(
         &'map mut self,
@@ -86,13 +138,32 @@ impl<K: Eq + Hash, V: Drop, S: BuildHasher, A: Allocator> ListOrderedMultimap<K,
         EntryValuesDrain { map: self }
     }
 
-    /// Takes the key out as [`remove_all`](Self::remove_all) does, and returns the stored key with
-    /// the drain. For an absent key it returns None, and the map stays as it was. A caller whose
-    /// proof has to know the map afterwards takes
-    /// [`remove_entry_with_all`](Self::remove_entry_with_all).
+    /// Removes the key with all its values, and returns the stored key with a double-ended iterator
+    /// over the removed values, or `None` if the key is absent.
+    ///
+    /// The call itself removes the pairs; [`remove_all`](Self::remove_all) says what happens to the
+    /// iterator. The key is a `&K`, not a query. To get the first value only see
+    /// [`remove_entry`](Self::remove_entry).
+    ///
+    /// Proved callers: see docs/PROVED_CALLERS.md.
+    ///
+    /// # Complexity
+    ///
+    /// Same as [`remove_all`](Self::remove_all).
+    ///
+    /// # Examples
     ///
     /// ```
-    /// map.remove_entry_all(&"page").is_some()
+    /// use ordered_multimap::ListOrderedMultimap;
+    ///
+    /// let mut map = ListOrderedMultimap::new(rt.alloc());
+    /// map.append("line", 1)?;
+    /// map.append("line", 2)?;
+    /// if let Some((key, values)) = map.remove_entry_all(&"line") {
+    ///     assert_eq!(rt; key, "line");
+    ///     assert!(rt; values.eq([1, 2]));
+    /// }
+    /// assert!(rt; map.is_empty());
     /// ```
     pub fn remove_entry_all(&mut self, key: &K) -> Option<(K, EntryValuesDrain<'_, K, V, S, A>)>
     where
@@ -122,52 +193,27 @@ impl<K: Eq + Hash, V: Drop, S: BuildHasher, A: Allocator> ListOrderedMultimap<K,
     }
 }
 
-impl<K: Eq + Hash, V: Drop, S: BuildHasher, A: Allocator + Copy> ListOrderedMultimap<K, V, S, A> {
-    ghost use Rattle.std.specs.Borrow.{sem};
-    ghost use Rattle.std.specs.Prelude.{IfErr, IfOk, IsOk};
-    ghost use Rattle.ordered_multimap.specs.DrainLends.{ends_inserted};
-    ghost use Rattle.ordered_multimap.specs.Drains.{DrainsInserted};
-    ghost use Rattle.ordered_multimap.specs.Rooms.{HasPairRoom};
-
-    /// Takes all pairs of the key out, puts the pair last, and hands the old values out one by
-    /// one; none where the key was absent. A present key stays as it was stored, and keeps its
-    /// place among the keys; the one handed in is dropped.
-    ///
-    /// The pair is put last before the old ones leave, so a present key needs room for a value too.
-    /// If memory is refused, it hands the pair back, and both lists are as before. One look-up;
-    /// then the slots of the key, of its values and of the new one, and now and then a compaction
-    /// or a growth, as for `append`.
-    ///
-    /// ```
-    /// map.insert_all("line", 3)?.next_back() == Some(2)
-    /// ```
-    pub fn insert_all(
-        &mut self,
-        key: K,
-        value: V,
-    ) -> Result<EntryValuesDrain<'_, K, V, S, A>, Refused<K, V>>
-    where
-        K: Drop,
-        ensures* rest { sem 𝓛 (ends_inserted K.row V.row S.row A.row S.Hasher.row K.PartialEq
-            K.Hash.own S.BuildHasher S.Hasher.Hasher A.Allocator self.entry key result) }
-        ensures drain { IfOk result (DrainsInserted K.eq self.old key value) }
-        ensures same_map { IfOk result (λ d. d.map.ghost_name ≡ self.entry.ghost_name) }
-        ensures refused { IfErr result (λ pair. pair ≡ record { key = key; value = value }) }
-        ensures succeeds { HasPairRoom K.eq self.old key → IsOk result }
-    {
-        self.insert_detaching(key, value)?;
-        Ok(EntryValuesDrain { map: self })
-    }
-}
-
 impl<'map, K: Eq + Hash, V: Drop, S: BuildHasher, A: Allocator> EntryValuesDrain<'map, K, V, S, A> {
     ghost use Rattle.multimap_walks.specs.ChainWalk.{detached_walk};
     ghost use Rattle.ordered_multimap.specs.Drains.{drain_left};
 
-    /// A walk over the values that are left, for reading. Its steps count no read.
+    /// Returns an iterator over references to the values that are left.
+    ///
+    /// Proved callers: see docs/PROVED_CALLERS.md.
+    ///
+    /// # Examples
     ///
     /// ```
-    /// map.remove_all(&"line").iter().len() == 2
+    /// use ordered_multimap::ListOrderedMultimap;
+    ///
+    /// let mut map = ListOrderedMultimap::new(rt.alloc());
+    /// map.append("line", 1)?;
+    /// map.append("line", 2)?;
+    /// map.append("line", 3)?;
+    /// let mut values = map.remove_all("line");
+    /// assert_eq!(rt; values.next(), Some(1));
+    /// assert!(rt; values.iter().eq(&[2, 3]));
+    /// assert_eq!(rt; values.next_back(), Some(3));
     /// ```
     pub fn iter(&self) -> EntryValues<'_, K, V, A>
         ensures { result ≡ detached_walk (drain_left self.now) }

@@ -1,4 +1,4 @@
-//! Pairs that leave at an end of the map.
+//! Removing the pair at an end of the map.
 ghost use Rattle.std.specs.Prelude.{◌≡◌, option_map};
 ghost use Rattle.std.specs.Borrow.{sem};
 ghost use Rattle.multimap_walks.specs.declared.End.TheVariants.{Front, Back};
@@ -102,17 +102,35 @@ impl<K: Eq + Hash, V, S: BuildHasher, A: Allocator> ListOrderedMultimap<K, V, S,
         map.as_shared().wrapped(taken)
     }
 
-    /// Takes the first pair out, and returns its key and its value. The key is handed out if that
-    /// was its last value; else the map lends it, and it keeps its place among the keys. None where
-    /// there is no pair.
+    /// Removes the first pair and returns its key and its value, or `None` if the map is empty.
     ///
-    /// It takes no memory and gives none back. It reads and writes the slots of the value, of its
-    /// key and of the next value of that key; where the key goes too, it takes out the key's row.
-    /// A caller whose proof has to know the map afterwards takes
-    /// [`pop_front_with`](Self::pop_front_with).
+    /// If that was the last value of its key, the key is removed too, and returned as
+    /// [`KeyWrapper::Owned`]. Otherwise the key keeps its place among the keys, and is returned by
+    /// reference, as [`KeyWrapper::Borrowed`]. To read the pair without removing it see
+    /// [`front`](Self::front), and to remove a key with all its values [`remove`](Self::remove).
+    ///
+    /// No memory is freed: later additions reuse the slots.
+    ///
+    /// Proved callers: see docs/PROVED_CALLERS.md.
+    ///
+    /// # Complexity
+    ///
+    /// *O*(1) expected. It reads and writes the slots of the value, of its key and of the next
+    /// value of that key.
+    ///
+    /// # Examples
     ///
     /// ```
-    /// map.pop_front() == Some((KeyWrapper::Borrowed(&"line"), 1))
+    /// use ordered_multimap::{KeyWrapper, ListOrderedMultimap};
+    ///
+    /// let mut map = ListOrderedMultimap::new(rt.alloc());
+    /// map.append("line", 1)?;
+    /// map.append("page", 8)?;
+    /// map.append("line", 2)?;
+    /// assert_eq!(rt; map.pop_front(), Some((KeyWrapper::Borrowed(&"line"), 1)));
+    /// assert_eq!(rt; map.pop_front(), Some((KeyWrapper::Owned("page"), 8)));
+    /// assert_eq!(rt; map.pop_front(), Some((KeyWrapper::Owned("line"), 2)));
+    /// assert_eq!(rt; map.pop_front(), None);
     /// ```
     pub fn pop_front(&mut self) -> Option<(KeyWrapper<'_, K>, V)>
         ensures* map { sem 𝓛 (ends_popped K.row V.row S.row A.row S.Hasher.row K.Hash
@@ -122,13 +140,34 @@ impl<K: Eq + Hash, V, S: BuildHasher, A: Allocator> ListOrderedMultimap<K, V, S,
         self.pop_end(End::Front)
     }
 
-    /// Takes the last pair out, as [`pop_front`](Self::pop_front) takes the first one. It reads and
-    /// writes the slots of the value, of its key and of the value before it under that key. A
-    /// caller whose proof has to know the map afterwards takes
-    /// [`pop_back_with`](Self::pop_back_with).
+    /// Removes the last pair and returns its key and its value, or `None` if the map is empty.
+    ///
+    /// If that was the last value of its key, the key is removed too, and returned as
+    /// [`KeyWrapper::Owned`]. Otherwise the key keeps its place among the keys, and is returned by
+    /// reference, as [`KeyWrapper::Borrowed`]. To read the pair without removing it see
+    /// [`back`](Self::back).
+    ///
+    /// No memory is freed: later additions reuse the slots.
+    ///
+    /// Proved callers: see docs/PROVED_CALLERS.md.
+    ///
+    /// # Complexity
+    ///
+    /// *O*(1) expected. It reads and writes the slots of the value, of its key and of the previous
+    /// value of that key.
+    ///
+    /// # Examples
     ///
     /// ```
-    /// map.pop_back() == Some((KeyWrapper::Borrowed(&"line"), 2))
+    /// use ordered_multimap::{KeyWrapper, ListOrderedMultimap};
+    ///
+    /// let mut map = ListOrderedMultimap::new(rt.alloc());
+    /// map.append("line", 1)?;
+    /// map.append("page", 8)?;
+    /// map.append("line", 2)?;
+    /// assert_eq!(rt; map.pop_back(), Some((KeyWrapper::Borrowed(&"line"), 2)));
+    /// assert_eq!(rt; map.pop_back(), Some((KeyWrapper::Owned("page"), 8)));
+    /// assert!(rt; map.iter().eq([(&"line", &1)]));
     /// ```
     pub fn pop_back(&mut self) -> Option<(KeyWrapper<'_, K>, V)>
         ensures* map { sem 𝓛 (ends_popped K.row V.row S.row A.row S.Hasher.row K.Hash
@@ -138,12 +177,31 @@ impl<K: Eq + Hash, V, S: BuildHasher, A: Allocator> ListOrderedMultimap<K, V, S,
         self.pop_end(End::Back)
     }
 
-    /// Takes the first pair out, hands the result of [`pop_front`](Self::pop_front) to the
-    /// function, and returns what it returns. It is for callers that are proved: they know both
-    /// lists afterwards.
+    /// Removes the first pair, calls the function on the result of [`pop_front`](Self::pop_front),
+    /// and returns what the function returns.
+    ///
+    /// It is for proved callers: see docs/PROVED_CALLERS.md. Others use
+    /// [`pop_front`](Self::pop_front).
+    ///
+    /// # Complexity
+    ///
+    /// That of [`pop_front`](Self::pop_front), plus the function's.
+    ///
+    /// # Requires
+    ///
+    /// The function's own `requires` clauses, if it has any, hold for that result.
+    ///
+    /// # Examples
     ///
     /// ```
-    /// map.pop_front_with(|popped| popped.is_some())
+    /// use ordered_multimap::ListOrderedMultimap;
+    ///
+    /// let mut map = ListOrderedMultimap::new(rt.alloc());
+    /// map.append("line", 1)?;
+    /// map.append("page", 8)?;
+    /// let value = map.pop_front_with(|popped| popped.map(|(_key, value)| value));
+    /// assert_eq!(rt; value, Some(1));
+    /// assert!(rt; map.iter().eq([(&"page", &8)]));
     /// ```
     pub fn pop_front_with<R, F: FnOnce(Option<(KeyWrapper<'_, K>, V)>) -> R>(&mut self, f: F) -> R
         requires { (x : _) → option_map popped_of x ≡ popped_pair K.eq Front self.old.lists.pairs
@@ -157,12 +215,31 @@ impl<K: Eq + Hash, V, S: BuildHasher, A: Allocator> ListOrderedMultimap<K, V, S,
         f(self.wrapped(taken))
     }
 
-    /// Takes the last pair out, hands the result of [`pop_back`](Self::pop_back) to the function,
-    /// and returns what it returns. It is for callers that are proved: they know both lists
-    /// afterwards.
+    /// Removes the last pair, calls the function on the result of [`pop_back`](Self::pop_back), and
+    /// returns what the function returns.
+    ///
+    /// It is for proved callers: see docs/PROVED_CALLERS.md. Others use
+    /// [`pop_back`](Self::pop_back).
+    ///
+    /// # Complexity
+    ///
+    /// That of [`pop_back`](Self::pop_back), plus the function's.
+    ///
+    /// # Requires
+    ///
+    /// The function's own `requires` clauses, if it has any, hold for that result.
+    ///
+    /// # Examples
     ///
     /// ```
-    /// map.pop_back_with(|popped| popped.is_some())
+    /// use ordered_multimap::ListOrderedMultimap;
+    ///
+    /// let mut map = ListOrderedMultimap::new(rt.alloc());
+    /// map.append("line", 1)?;
+    /// map.append("page", 8)?;
+    /// let value = map.pop_back_with(|popped| popped.map(|(_key, value)| value));
+    /// assert_eq!(rt; value, Some(8));
+    /// assert!(rt; map.iter().eq([(&"line", &1)]));
     /// ```
     pub fn pop_back_with<R, F: FnOnce(Option<(KeyWrapper<'_, K>, V)>) -> R>(&mut self, f: F) -> R
         requires { (x : _) → option_map popped_of x ≡ popped_pair K.eq Back self.old.lists.pairs

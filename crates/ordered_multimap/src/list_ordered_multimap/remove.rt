@@ -1,4 +1,4 @@
-//! Keys that leave with all their values, and all pairs at once.
+//! Removing a key with all its values, and removing all pairs.
 ghost use Rattle.std.specs.Prelude.{◌≡◌, IfSome, Some, find, length, slice_get, option_map};
 ghost use Rattle.multimap_slots.specs.Lists.{IsIn};
 ghost use Rattle.ordered_multimap.specs.Agrees.{HasKey};
@@ -23,15 +23,37 @@ use std::alloc::Allocator;
 use std::hash::{BuildHasher, Hash};
 
 impl<K: Eq + Hash, V, S: BuildHasher, A: Allocator> ListOrderedMultimap<K, V, S, A> {
-    /// Takes the key out with all its values, and returns the first of them; the others are
-    /// dropped, and so is the stored key. None for an absent key. The other keys and pairs keep
-    /// their order.
+    /// Removes the key with all its values, and returns the first of them, or `None` if the key is
+    /// absent.
     ///
-    /// One look-up, then the slots of the key and of its values. No memory is taken or given back:
-    /// the slots are free for other pairs.
+    /// The other values and the stored key are dropped. The other keys and pairs keep their order.
+    /// The key may be a query, as `&str` for `String` keys ([`KeyQuery`]).
+    ///
+    /// To get the stored key as well see [`remove_entry`](Self::remove_entry), and to get all
+    /// values [`remove_all`](Self::remove_all). To remove a pair at an end of the map see
+    /// [`pop_front`](Self::pop_front) and [`pop_back`](Self::pop_back), one value of several
+    /// [`OccupiedEntry::remove_at`](super::OccupiedEntry::remove_at), and pairs by a condition
+    /// [`retain`](Self::retain).
+    ///
+    /// No memory is freed: later additions reuse the slots.
+    ///
+    /// # Complexity
+    ///
+    /// *O*(*v*) expected, where *v* is the number of values of the key. It reads the slots of the
+    /// key and of its values, and no others.
+    ///
+    /// # Examples
     ///
     /// ```
-    /// map.remove("line") == Some(1)
+    /// use ordered_multimap::ListOrderedMultimap;
+    ///
+    /// let mut map = ListOrderedMultimap::new(rt.alloc());
+    /// map.append("line", 1)?;
+    /// map.append("page", 8)?;
+    /// map.append("line", 2)?;
+    /// assert_eq!(rt; map.remove("line"), Some(1));
+    /// assert_eq!(rt; map.remove("line"), None);
+    /// assert!(rt; map.iter().eq([(&"page", &8)]));
     /// ```
     pub fn remove<Q: KeyQuery<K>>(&mut self, key: Q) -> Option<V>
     where
@@ -47,11 +69,30 @@ impl<K: Eq + Hash, V, S: BuildHasher, A: Allocator> ListOrderedMultimap<K, V, S,
         }
     }
 
-    /// Takes the key out with all its values, and returns the stored key with the first of them; the
-    /// others are dropped. None for an absent key. It costs what `remove` costs.
+    /// Removes the key with all its values, and returns the stored key with the first of them, or
+    /// `None` if the key is absent.
+    ///
+    /// The other values are dropped. The other keys and pairs keep their order. For the value alone
+    /// see [`remove`](Self::remove), and for the stored key with all values
+    /// [`remove_entry_all`](Self::remove_entry_all). The key may be a query ([`KeyQuery`]).
+    ///
+    /// No memory is freed: later additions reuse the slots.
+    ///
+    /// # Complexity
+    ///
+    /// *O*(*v*) expected, where *v* is the number of values of the key.
+    ///
+    /// # Examples
     ///
     /// ```
-    /// map.remove_entry("page") == Some(("page", 8))
+    /// use ordered_multimap::ListOrderedMultimap;
+    ///
+    /// let mut map = ListOrderedMultimap::new(rt.alloc());
+    /// map.append("line", 1)?;
+    /// map.append("page", 8)?;
+    /// map.append("line", 2)?;
+    /// assert_eq!(rt; map.remove_entry("line"), Some(("line", 1)));
+    /// assert!(rt; map.iter().eq([(&"page", &8)]));
     /// ```
     pub fn remove_entry<Q: KeyQuery<K>>(&mut self, key: Q) -> Option<(K, V)>
     where
@@ -94,12 +135,27 @@ impl<K: Eq + Hash, V, S: BuildHasher, A: Allocator> ListOrderedMultimap<K, V, S,
         (key, first.value)
     }
 
-    /// Takes all pairs out, and drops them. The memory stays, and no hole is left among the slots.
+    /// Removes all pairs, and keeps the allocated memory for reuse.
     ///
-    /// It goes over the slots in use and the lanes of the table.
+    /// All keys and values are dropped, among them the values that a leaked
+    /// [`EntryValuesDrain`](super::EntryValuesDrain) left. No capacity is lowered: to free memory
+    /// see [`pack_to_fit`](Self::pack_to_fit). The slots have no holes afterwards.
+    ///
+    /// # Complexity
+    ///
+    /// *O*(slots in use + capacity of the hash table).
+    ///
+    /// # Examples
     ///
     /// ```
+    /// use ordered_multimap::ListOrderedMultimap;
+    ///
+    /// let mut map = ListOrderedMultimap::new(rt.alloc());
+    /// map.append("line", 1)?;
+    /// map.append("page", 8)?;
     /// map.clear();
+    /// assert!(rt; map.is_empty());
+    /// assert!(rt; map.values_capacity() >= 2);
     /// ```
     pub fn clear(&mut self)
     where

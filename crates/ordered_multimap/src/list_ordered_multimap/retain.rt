@@ -1,4 +1,4 @@
-//! One pass over all pairs that keeps those for which a function returns true.
+//! Keeping the pairs for which a function returns `true`.
 ghost use Rattle.std.specs.Prelude.{◌≡◌, ◌≤◌, ◌-◌, ℕ, Some, length};
 ghost use Rattle.std.specs.Map.Calls.{CallableOnEachPair, CalledAtPair, TakesPair as MayCall};
 ghost use Rattle.multimap_slots.specs.Slots.{link_at};
@@ -92,15 +92,43 @@ fn retain_pairs<K: Eq + Drop, V: Drop, A: Allocator, F: FnMut(&K, &mut V) -> boo
 }
 
 impl<K: Eq + Hash, V, S: BuildHasher, A: Allocator> ListOrderedMultimap<K, V, S, A> {
-    /// Calls the function once on each pair, in the order of the pairs. Those for which it returns
-    /// true stay, with the value as the call left it; the others are dropped, and so is a key with
-    /// its last pair. What stays keeps its order.
+    /// Retains only the pairs for which the function returns `true`.
     ///
-    /// It takes no memory and gives none back. For each pair it reads the slots of its value and of
-    /// its key; for each pair that goes it writes the slots of its neighbours under that key.
+    /// In other words, removes all pairs `(k, v)` for which `f(&k, &mut v)` returns `false`. It
+    /// works in place, visits each pair exactly once in insertion order, and keeps the order of the
+    /// pairs and keys that stay. So the function may decide by what it has seen before. It may also
+    /// write the value: a retained pair has the value that the call left. The removed pairs are
+    /// dropped, and a key is removed with its last pair.
+    ///
+    /// To write values only see [`update_values`](Self::update_values) and
+    /// [`iter_mut`](Self::iter_mut), to remove one key [`remove`](Self::remove), and to remove all
+    /// pairs [`clear`](Self::clear).
+    ///
+    /// No memory is freed: later additions reuse the slots.
+    ///
+    /// # Complexity
+    ///
+    /// *O*(*n*) expected, where *n* is the number of pairs, whatever the capacity. For each pair it
+    /// reads the slots of the value and of its key, and for each removed pair it writes the slots
+    /// of its neighbours under that key.
+    ///
+    /// # Requires
+    ///
+    /// The function's own `requires` clauses, if it has any, hold for each pair.
+    ///
+    /// # Examples
     ///
     /// ```
-    /// map.retain(|_key, value| *value != 8);
+    /// use ordered_multimap::ListOrderedMultimap;
+    ///
+    /// let mut map = ListOrderedMultimap::new(rt.alloc());
+    /// map.append("line", 1)?;
+    /// map.append("page", 8)?;
+    /// map.append("line", 2)?;
+    /// map.append("word", 5)?;
+    /// map.retain(|_key, value| *value < 5);
+    /// assert!(rt; map.iter().eq([(&"line", &1), (&"line", &2)]));
+    /// assert!(rt; map.keys().eq(&["line"]));
     /// ```
     pub fn retain<F: FnMut(&K, &mut V) -> bool>(&mut self, f: F)
     where
