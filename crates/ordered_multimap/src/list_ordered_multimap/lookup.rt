@@ -1,4 +1,4 @@
-//! Look-ups by key, and the first and the last pair.
+//! Lookups by key, and the first and the last pair.
 ghost use Rattle.std.specs.Prelude.{◌≡◌, ◌<◌, false, length, slice_get, IfSome, IfNone, Some, is_some, option_copied, option_map};
 ghost use Rattle.multimap_slots.specs.Lists.{IsIn};
 ghost use Rattle.multimap_slots.specs.Slots.{HasSlot};
@@ -129,14 +129,26 @@ impl<K: Eq + Hash, V, S: BuildHasher, A: Allocator> ListOrderedMultimap<K, V, S,
         link.length
     }
 
-    /// The key's first value, or None where the key is absent. One look-up, and the slots of the key
-    /// and of that value.
+    /// Returns the first value of the key, or `None` if the key is absent.
     ///
-    /// `key` is a `&K`, or another [`KeyQuery`] that stands for the key, such as a `&str` where the
-    /// keys are of type `String`.
+    /// For all values of the key see [`get_all`](Self::get_all), and to change the value in place
+    /// see [`get_mut`](Self::get_mut). The key may be a query, as `&str` for `String` keys
+    /// ([`KeyQuery`]).
+    ///
+    /// # Complexity
+    ///
+    /// *O*(1) expected. It reads the slots of the key and of the value.
+    ///
+    /// # Examples
     ///
     /// ```
-    /// map.get("line").copied() == Some(1)
+    /// use ordered_multimap::ListOrderedMultimap;
+    ///
+    /// let mut map = ListOrderedMultimap::new(rt.alloc());
+    /// map.append("line", 1)?;
+    /// map.append("line", 2)?;
+    /// assert_eq!(rt; map.get("line"), Some(&1));
+    /// assert_eq!(rt; map.get("word"), None);
     /// ```
     #[inline(always)]
     pub fn get<Q: KeyQuery<K>>(&self, key: Q) -> Option<&V>
@@ -149,10 +161,24 @@ impl<K: Eq + Hash, V, S: BuildHasher, A: Allocator> ListOrderedMultimap<K, V, S,
         }
     }
 
-    /// Whether the key has a value. One look-up.
+    /// Returns `true` if the map contains the key.
+    ///
+    /// A key is in the map as long as it has a value. For the number of its values see
+    /// [`entry_len`](Self::entry_len). The key may be a query ([`KeyQuery`]).
+    ///
+    /// # Complexity
+    ///
+    /// *O*(1) expected.
+    ///
+    /// # Examples
     ///
     /// ```
-    /// map.contains_key("page")
+    /// use ordered_multimap::ListOrderedMultimap;
+    ///
+    /// let mut map = ListOrderedMultimap::new(rt.alloc());
+    /// map.append("page", 8)?;
+    /// assert!(rt; map.contains_key("page"));
+    /// assert!(rt; !map.contains_key("word"));
     /// ```
     #[inline]
     pub fn contains_key<Q: KeyQuery<K>>(&self, key: Q) -> bool
@@ -161,10 +187,25 @@ impl<K: Eq + Hash, V, S: BuildHasher, A: Allocator> ListOrderedMultimap<K, V, S,
         self.look_up(key).1.is_some()
     }
 
-    /// How many values the key has. One look-up, and the slot of the key.
+    /// Returns the number of values of the key, or 0 if the key is absent.
+    ///
+    /// For the numbers of all keys and of all pairs see [`keys_len`](Self::keys_len) and
+    /// [`values_len`](Self::values_len). The key may be a query ([`KeyQuery`]).
+    ///
+    /// # Complexity
+    ///
+    /// *O*(1) expected. It reads the slot of the key, and no value.
+    ///
+    /// # Examples
     ///
     /// ```
-    /// map.entry_len("line") == 2
+    /// use ordered_multimap::ListOrderedMultimap;
+    ///
+    /// let mut map = ListOrderedMultimap::new(rt.alloc());
+    /// map.append("line", 1)?;
+    /// map.append("line", 2)?;
+    /// assert_eq!(rt; map.entry_len("line"), 2);
+    /// assert_eq!(rt; map.entry_len("word"), 0);
     /// ```
     #[inline]
     pub fn entry_len<Q: KeyQuery<K>>(&self, key: Q) -> usize
@@ -176,10 +217,25 @@ impl<K: Eq + Hash, V, S: BuildHasher, A: Allocator> ListOrderedMultimap<K, V, S,
         }
     }
 
-    /// The first pair, or None where there is none. Reads the slots of its value and of its key.
+    /// Returns the first pair, or `None` if the map is empty.
+    ///
+    /// The first pair is the one that was added first. To write its value see
+    /// [`front_mut`](Self::front_mut), and to remove it [`pop_front`](Self::pop_front).
+    ///
+    /// # Complexity
+    ///
+    /// *O*(1). It reads the slots of the value and of its key.
+    ///
+    /// # Examples
     ///
     /// ```
-    /// map.front() == Some((&"line", &1))
+    /// use ordered_multimap::ListOrderedMultimap;
+    ///
+    /// let mut map = ListOrderedMultimap::new(rt.alloc());
+    /// assert_eq!(rt; map.front(), None);
+    /// map.append("line", 1)?;
+    /// map.append("page", 8)?;
+    /// assert_eq!(rt; map.front(), Some((&"line", &1)));
     /// ```
     pub fn front(&self) -> Option<(&K, &V)>
         ensures { option_map (λ r. (r.0.now, r.1.now)) result
@@ -188,10 +244,25 @@ impl<K: Eq + Hash, V, S: BuildHasher, A: Allocator> ListOrderedMultimap<K, V, S,
         self.iter().next()
     }
 
-    /// The last pair, or None where there is none. Reads the slots of its value and of its key.
+    /// Returns the last pair, or `None` if the map is empty.
+    ///
+    /// The last pair is the one that was added last. To write its value see
+    /// [`back_mut`](Self::back_mut), and to remove it [`pop_back`](Self::pop_back).
+    ///
+    /// # Complexity
+    ///
+    /// *O*(1). It reads the slots of the value and of its key.
+    ///
+    /// # Examples
     ///
     /// ```
-    /// map.back() == Some((&"line", &2))
+    /// use ordered_multimap::ListOrderedMultimap;
+    ///
+    /// let mut map = ListOrderedMultimap::new(rt.alloc());
+    /// assert_eq!(rt; map.back(), None);
+    /// map.append("line", 1)?;
+    /// map.append("page", 8)?;
+    /// assert_eq!(rt; map.back(), Some((&"page", &8)));
     /// ```
     pub fn back(&self) -> Option<(&K, &V)>
         ensures { option_map (λ r. (r.0.now, r.1.now)) result ≡ end_item Back self.now.lists.pairs }

@@ -1,4 +1,4 @@
-//! Walks over all pairs, over the keys, over all values, and over the values of a key.
+//! Iterators over all pairs, over the keys, over all values, and over the values of a key.
 ghost use Rattle.std.specs.Prelude.{◌≡◌};
 ghost use Rattle.multimap_slots.specs.Lists.{IsIn};
 ghost use Rattle.ordered_multimap.specs.Agrees.{HasKey};
@@ -13,10 +13,29 @@ use std::alloc::Allocator;
 use std::hash::{BuildHasher, Hash};
 
 impl<K: Eq + Hash, V, S: BuildHasher, A: Allocator> ListOrderedMultimap<K, V, S, A> {
-    /// A walk over all pairs, in order. Each step reads the slots of its value and of its key.
+    /// Returns an iterator over all pairs, in insertion order.
+    ///
+    /// The items have the type `(&K, &V)`. The iterator is double-ended and knows its length.
+    /// `for (key, value) in &map` iterates over the same pairs. To write the values see
+    /// [`iter_mut`](Self::iter_mut), and for pairs grouped by key [`pairs`](Self::pairs).
+    ///
+    /// # Complexity
+    ///
+    /// *O*(1), and *O*(1) for each step, whatever the capacity. A step reads the slots of a value
+    /// and of its key.
+    ///
+    /// # Examples
     ///
     /// ```
-    /// map.iter().next() == Some((&"line", &1))
+    /// use ordered_multimap::ListOrderedMultimap;
+    ///
+    /// let mut map = ListOrderedMultimap::new(rt.alloc());
+    /// map.append("line", 1)?;
+    /// map.append("page", 8)?;
+    /// map.append("line", 2)?;
+    /// assert!(rt; map.iter().eq([(&"line", &1), (&"page", &8), (&"line", &2)]));
+    /// assert_eq!(rt; map.iter().len(), 3);
+    /// assert_eq!(rt; map.iter().next_back(), Some((&"line", &2)));
     /// ```
     pub fn iter(&self) -> Iter<'_, K, V, A>
         ensures { result ≡ self.now.lists.pairs }
@@ -24,11 +43,30 @@ impl<K: Eq + Hash, V, S: BuildHasher, A: Allocator> ListOrderedMultimap<K, V, S,
         Iter::new(&self.keys, &self.values)
     }
 
-    /// A walk over the keys, in the order in which they last became present. Each step reads the slot
-    /// of its key.
+    /// Returns an iterator over the keys, in the order in which each last became present.
+    ///
+    /// Each key is yielded once, however many values it has. The iterator is double-ended and knows
+    /// its length. For the values as well see [`pairs`](Self::pairs).
+    ///
+    /// # Complexity
+    ///
+    /// *O*(1), and *O*(1) for each step, whatever the capacity. A step reads the slot of a key.
+    ///
+    /// # Examples
     ///
     /// ```
-    /// map.keys().next_back() == Some(&"page")
+    /// use ordered_multimap::ListOrderedMultimap;
+    ///
+    /// let mut map = ListOrderedMultimap::new(rt.alloc());
+    /// map.append("line", 1)?;
+    /// map.append("page", 8)?;
+    /// map.append("line", 2)?;
+    /// assert!(rt; map.keys().eq(&["line", "page"]));
+    ///
+    /// // A key that is removed and added again goes last.
+    /// map.remove("line");
+    /// map.append("line", 3)?;
+    /// assert!(rt; map.keys().eq(&["page", "line"]));
     /// ```
     pub fn keys(&self) -> Keys<'_, K, A>
         ensures { result ≡ self.now.lists.keys }
@@ -36,10 +74,25 @@ impl<K: Eq + Hash, V, S: BuildHasher, A: Allocator> ListOrderedMultimap<K, V, S,
         Keys::new(&self.keys)
     }
 
-    /// A walk over the values of all pairs, in order. Each step reads the slot of its value.
+    /// Returns an iterator over the values of all pairs, in insertion order.
+    ///
+    /// The iterator is double-ended and knows its length. For the values of one key see
+    /// [`get_all`](Self::get_all), and to write values [`values_mut`](Self::values_mut).
+    ///
+    /// # Complexity
+    ///
+    /// *O*(1), and *O*(1) for each step, whatever the capacity. A step reads the slot of a value.
+    ///
+    /// # Examples
     ///
     /// ```
-    /// map.values().next_back() == Some(&2)
+    /// use ordered_multimap::ListOrderedMultimap;
+    ///
+    /// let mut map = ListOrderedMultimap::new(rt.alloc());
+    /// map.append("line", 1)?;
+    /// map.append("page", 8)?;
+    /// map.append("line", 2)?;
+    /// assert!(rt; map.values().eq(&[1, 8, 2]));
     /// ```
     pub fn values(&self) -> Values<'_, K, V, A>
         ensures { result ≡ all_values self.now.lists.pairs }
@@ -47,11 +100,33 @@ impl<K: Eq + Hash, V, S: BuildHasher, A: Allocator> ListOrderedMultimap<K, V, S,
         Values::new(&self.values)
     }
 
-    /// A walk over the keys, in the order in which they last became present, each with a walk over
-    /// its values. Each step reads the slot of its key, and no slot of a value.
+    /// Returns an iterator over the keys, each with an iterator over its values.
+    ///
+    /// The keys come in the order in which each last became present, and the values of each in
+    /// insertion order. The iterator is double-ended and knows its length. To write the values see
+    /// [`pairs_mut`](Self::pairs_mut), and for all pairs in insertion order [`iter`](Self::iter).
+    ///
+    /// # Complexity
+    ///
+    /// *O*(1), and *O*(1) for each step, whatever the capacity. A step reads the slot of a key, and
+    /// no value.
+    ///
+    /// # Examples
     ///
     /// ```
-    /// map.pairs().len() == 2
+    /// use ordered_multimap::ListOrderedMultimap;
+    ///
+    /// let mut map = ListOrderedMultimap::new(rt.alloc());
+    /// map.append("line", 1)?;
+    /// map.append("page", 8)?;
+    /// map.append("line", 2)?;
+    /// for (key, values) in map.pairs() {
+    ///     if *key == "line" {
+    ///         assert!(rt; values.eq(&[1, 2]));
+    ///     } else {
+    ///         assert!(rt; values.eq(&[8]));
+    ///     }
+    /// }
     /// ```
     pub fn pairs(&self) -> KeyValues<'_, K, V, A>
         ensures { result ≡ keys_with_values K.eq self.now.lists }
@@ -59,11 +134,31 @@ impl<K: Eq + Hash, V, S: BuildHasher, A: Allocator> ListOrderedMultimap<K, V, S,
         KeyValues::new(&self.keys, &self.values)
     }
 
-    /// A walk over the key's values, in order, which is empty for an absent key. One look-up and
-    /// the slot of the key; then each step reads the slot of its value, and no other.
+    /// Returns an iterator over the values of the key, in insertion order, which is empty if the
+    /// key is absent.
+    ///
+    /// The iterator is double-ended and knows its length. For the first value only see
+    /// [`get`](Self::get), to write the values [`get_all_mut`](Self::get_all_mut), and to remove
+    /// them [`remove_all`](Self::remove_all). The key may be a query, as `&str` for `String` keys
+    /// ([`KeyQuery`]).
+    ///
+    /// # Complexity
+    ///
+    /// *O*(1) expected, and *O*(1) for each step. The call reads the slot of the key, and a step
+    /// that of its value and no other.
+    ///
+    /// # Examples
     ///
     /// ```
-    /// map.get_all("line").next_back() == Some(&2)
+    /// use ordered_multimap::ListOrderedMultimap;
+    ///
+    /// let mut map = ListOrderedMultimap::new(rt.alloc());
+    /// map.append("line", 1)?;
+    /// map.append("page", 8)?;
+    /// map.append("line", 2)?;
+    /// assert!(rt; map.get_all("line").eq(&[1, 2]));
+    /// assert_eq!(rt; map.get_all("line").next_back(), Some(&2));
+    /// assert_eq!(rt; map.get_all("word").len(), 0);
     /// ```
     #[inline]
     pub fn get_all<Q: KeyQuery<K>>(&self, key: Q) -> EntryValues<'_, K, V, A>
@@ -93,7 +188,21 @@ impl<K: Eq + Hash, V, S: BuildHasher, A: Allocator> ListOrderedMultimap<K, V, S,
     }
 }
 
-/// The walk of `iter`.
+/// Iterates over all pairs in insertion order, as [`iter`](ListOrderedMultimap::iter) does.
+///
+/// # Examples
+///
+/// ```
+/// use ordered_multimap::ListOrderedMultimap;
+///
+/// let mut map = ListOrderedMultimap::new(rt.alloc());
+/// map.append("line", 1)?;
+/// map.append("line", 2)?;
+/// for (key, value) in &map {
+///     assert_eq!(rt; *key, "line");
+///     assert!(rt; *value < 3);
+/// }
+/// ```
 impl<'map, K: Eq + Hash, V, S: BuildHasher, A: Allocator> IntoIterator
     for &'map ListOrderedMultimap<K, V, S, A> {
     type Item = (&'map K, &'map V);
