@@ -1,4 +1,4 @@
-//! Passes that write values by a function: one over all pairs, and one over the values of a key.
+//! Writing values by a function: those of all pairs, and those of a key.
 ghost use Rattle.std.specs.Prelude.{◌≡◌, ℕ, if◌then◌else◌, true, Some, map as each};
 ghost use Rattle.std.specs.Map.Calls.{CallableOnEachPair};
 ghost use Rattle.multimap_slots.specs.Lists.{IsIn};
@@ -103,19 +103,40 @@ fn rewrite_chain<K: Eq, V, A: Allocator, F: FnMut(&mut V)>(
 }
 
 impl<K: Eq + Hash, V, S: BuildHasher, A: Allocator> ListOrderedMultimap<K, V, S, A> {
-    /// Calls the function once on each pair, in the order of the pairs. Each value is afterwards as
-    /// the call left it. Keys, their order, and the order and number of pairs stay.
+    /// Calls the function once on each pair, in insertion order, with a mutable reference to the
+    /// value.
     ///
-    /// It takes no memory and refuses nothing. For each pair it reads the slots of its value and of
-    /// its key.
+    /// The keys, their order, and the number and order of the pairs stay the same. For the values
+    /// of one key see [`update_all`](Self::update_all), and to remove pairs as well
+    /// [`retain`](Self::retain). With [`iter_mut`](Self::iter_mut) a loop can stop early, begin at
+    /// the back, or keep the references.
     ///
-    /// A caller that is to be proved takes this where it writes values of all pairs: it knows all
-    /// pairs afterwards. [`retain`](Self::retain) is for a pass that also takes pairs out, and
-    /// [`iter_mut`](Self::iter_mut) for one that ends early, begins at the back, or keeps the
-    /// references.
+    /// Proved callers: see docs/PROVED_CALLERS.md.
+    ///
+    /// # Complexity
+    ///
+    /// *O*(*n*), where *n* is the number of pairs. For each pair it reads the slots of the value
+    /// and of its key. It doesn't allocate.
+    ///
+    /// # Requires
+    ///
+    /// The function's own `requires` clauses, if it has any, hold for each pair.
+    ///
+    /// # Examples
     ///
     /// ```
-    /// map.update_values(|_key, value| *value = value.wrapping_add(1));
+    /// use ordered_multimap::ListOrderedMultimap;
+    ///
+    /// let mut map = ListOrderedMultimap::new(rt.alloc());
+    /// map.append("line", 1)?;
+    /// map.append("page", 8)?;
+    /// map.append("line", 2)?;
+    /// map.update_values(|key, value| {
+    ///     if *key == "line" {
+    ///         *value = 7;
+    ///     }
+    /// });
+    /// assert!(rt; map.iter().eq([(&"line", &7), (&"page", &8), (&"line", &7)]));
     /// ```
     pub fn update_values<F: FnMut(&K, &mut V)>(&mut self, f: F)
         requires { CallableOnEachPair (Updates F.FnMut) (MayUpdate F.FnMut) f
@@ -130,18 +151,36 @@ impl<K: Eq + Hash, V, S: BuildHasher, A: Allocator> ListOrderedMultimap<K, V, S,
         update_pairs(&self.keys, &self.table, &mut self.values, f);
     }
 
-    /// Calls the function once on each value of the key, in order, and never for an absent key. Each
-    /// of these values is afterwards as the call left it, and all else stays.
+    /// Calls the function once on each value of the key, in insertion order, with a mutable
+    /// reference to it.
     ///
-    /// It takes no memory and refuses nothing. One look-up and the slot of the key; then it reads
-    /// the slots of the key's values, and no others.
+    /// If the key is absent, the function isn't called. All else in the map stays the same. The key
+    /// is a `&K`, not a query. For the values of all pairs see
+    /// [`update_values`](Self::update_values). With [`get_all_mut`](Self::get_all_mut) a loop can
+    /// stop early, begin at the back, or keep the references.
     ///
-    /// A caller that is to be proved takes this where it writes the values of one key: it knows all
-    /// pairs afterwards. [`get_all_mut`](Self::get_all_mut) is for a pass that ends early, begins at
-    /// the back, or keeps the references.
+    /// Proved callers: see docs/PROVED_CALLERS.md.
+    ///
+    /// # Complexity
+    ///
+    /// *O*(*v*) expected, where *v* is the number of values of the key. It reads the slots of the
+    /// key and of its values, and no others. It doesn't allocate.
+    ///
+    /// # Requires
+    ///
+    /// The function's own `requires` clauses, if it has any, hold for each value of the key.
+    ///
+    /// # Examples
     ///
     /// ```
-    /// map.update_all(&"line", |value| *value = value.wrapping_add(1));
+    /// use ordered_multimap::ListOrderedMultimap;
+    ///
+    /// let mut map = ListOrderedMultimap::new(rt.alloc());
+    /// map.append("line", 1)?;
+    /// map.append("page", 8)?;
+    /// map.append("line", 2)?;
+    /// map.update_all(&"line", |value| *value = 7);
+    /// assert!(rt; map.iter().eq([(&"line", &7), (&"page", &8), (&"line", &7)]));
     /// ```
     pub fn update_all<F: FnMut(&mut V)>(&mut self, key: &K, f: F)
         requires { CallableOnEach F.FnMut f (values_of K.eq self.old.lists.pairs key.now) }

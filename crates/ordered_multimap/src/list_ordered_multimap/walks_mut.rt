@@ -1,4 +1,4 @@
-//! Walks that lend values for writing.
+//! Iterators with mutable references to values.
 ghost use Rattle.std.specs.Prelude.{◌≡◌, Some};
 ghost use Rattle.std.specs.Borrow.{sem};
 ghost use Rattle.multimap_slots.specs.Lists.{IsIn};
@@ -19,19 +19,44 @@ use std::alloc::Allocator;
 use std::hash::{BuildHasher, Hash};
 
 impl<K: Eq + Hash, V, S: BuildHasher, A: Allocator> ListOrderedMultimap<K, V, S, A> {
-    /// A walk over all pairs, in order, with each value for writing. Keys, their order, and the
-    /// order and number of pairs stay; a value that isn't handed out stays too. Each step takes the
-    /// slot of a value and reads the slot of its key.
+    /// Returns an iterator over all pairs, in insertion order, with mutable references to the
+    /// values.
     ///
-    /// A walk for writing has a `Drop`. So a walk in a variable borrows the map to the end of its
-    /// block, or up to `drop(walk)`, also behind its last use. One that the condition of an `if let`
-    /// makes does so to the end of the statement; a `let` before the `if let` ends it sooner. A
-    /// `for` loop over the call, and `get_mut`, need none of this.
+    /// The items have the type `(&K, &mut V)`. The iterator is double-ended and knows its length.
+    /// The keys, their order, and the number and order of the pairs stay the same, and so does a
+    /// value that isn't yielded. `for (key, value) in &mut map` iterates over the same pairs. For
+    /// the values only see [`values_mut`](Self::values_mut), to write by a function
+    /// [`update_values`](Self::update_values), and to remove pairs as well
+    /// [`retain`](Self::retain).
+    ///
+    /// The iterator implements `Drop`. So an iterator in a variable borrows the map until the end
+    /// of the block or until `drop(iter)`, even after its last use. One in the condition of an
+    /// `if let` borrows the map until the end of the statement; with a `let` before the `if let`
+    /// the borrow ends sooner. A `for` loop over the call itself, and [`get_mut`](Self::get_mut),
+    /// need none of this.
+    ///
+    /// Proved callers: see docs/PROVED_CALLERS.md.
+    ///
+    /// # Complexity
+    ///
+    /// *O*(1), and *O*(1) for each step, whatever the capacity. A step reads the slots of a value
+    /// and of its key.
+    ///
+    /// # Examples
     ///
     /// ```
-    /// if let Some((_, value)) = map.iter_mut().next_back() {
-    ///     *value = 7;
+    /// use ordered_multimap::ListOrderedMultimap;
+    ///
+    /// let mut map = ListOrderedMultimap::new(rt.alloc());
+    /// map.append("line", 1)?;
+    /// map.append("page", 8)?;
+    /// map.append("line", 2)?;
+    /// for (key, value) in map.iter_mut() {
+    ///     if *key == "line" {
+    ///         *value = 7;
+    ///     }
     /// }
+    /// assert!(rt; map.iter().eq([(&"line", &7), (&"page", &8), (&"line", &7)]));
     /// ```
     pub fn iter_mut(&mut self) -> IterMut<'_, K, V, A>
         ensures* writes_back { sem 𝓛 (lends_values K.row V.row S.row A.row S.Hasher.row K.Hash
@@ -44,13 +69,29 @@ impl<K: Eq + Hash, V, S: BuildHasher, A: Allocator> ListOrderedMultimap<K, V, S,
         IterMut::new(keys, cells)
     }
 
-    /// A walk over the values of all pairs, in order, each for writing. What stays is what stays of
-    /// `iter_mut`, and so is what ends the borrow. Each step takes the slot of its value.
+    /// Returns an iterator over the values of all pairs, in insertion order, as mutable references.
+    ///
+    /// [`iter_mut`](Self::iter_mut) says what stays the same, and how long the map is borrowed. For
+    /// the values of one key see [`get_all_mut`](Self::get_all_mut).
+    ///
+    /// Proved callers: see docs/PROVED_CALLERS.md.
+    ///
+    /// # Complexity
+    ///
+    /// *O*(1), and *O*(1) for each step, whatever the capacity. A step reads the slot of a value.
+    ///
+    /// # Examples
     ///
     /// ```
+    /// use ordered_multimap::ListOrderedMultimap;
+    ///
+    /// let mut map = ListOrderedMultimap::new(rt.alloc());
+    /// map.append("line", 1)?;
+    /// map.append("page", 8)?;
     /// for value in map.values_mut() {
     ///     *value = 7;
     /// }
+    /// assert!(rt; map.values().eq(&[7, 7]));
     /// ```
     pub fn values_mut(&mut self) -> ValuesMut<'_, K, V, A>
         ensures* writes_back { sem 𝓛 (lends_values K.row V.row S.row A.row S.Hasher.row K.Hash
@@ -63,14 +104,34 @@ impl<K: Eq + Hash, V, S: BuildHasher, A: Allocator> ListOrderedMultimap<K, V, S,
         ValuesMut::new(cells)
     }
 
-    /// A walk over the key's values, in order, each for writing, which is empty for an absent key.
-    /// What stays is what stays of `iter_mut`, and so is what ends the borrow. One look-up and the
-    /// slot of the key; then each step takes the slot of its value, and no other.
+    /// Returns an iterator over the values of the key, in insertion order, as mutable references,
+    /// which is empty if the key is absent.
+    ///
+    /// [`iter_mut`](Self::iter_mut) says what stays the same, and how long the map is borrowed. For
+    /// the first value only see [`get_mut`](Self::get_mut), and to write by a function
+    /// [`update_all`](Self::update_all). The key may be a query, as `&str` for `String` keys
+    /// ([`KeyQuery`]).
+    ///
+    /// Proved callers: see docs/PROVED_CALLERS.md.
+    ///
+    /// # Complexity
+    ///
+    /// *O*(1) expected, and *O*(1) for each step. The call reads the slot of the key, and a step
+    /// that of its value and no other.
+    ///
+    /// # Examples
     ///
     /// ```
+    /// use ordered_multimap::ListOrderedMultimap;
+    ///
+    /// let mut map = ListOrderedMultimap::new(rt.alloc());
+    /// map.append("line", 1)?;
+    /// map.append("page", 8)?;
+    /// map.append("line", 2)?;
     /// for value in map.get_all_mut("line") {
     ///     *value = 9;
     /// }
+    /// assert!(rt; map.iter().eq([(&"line", &9), (&"page", &8), (&"line", &9)]));
     /// ```
     pub fn get_all_mut<Q: KeyQuery<K>>(&mut self, key: Q) -> EntryValuesMut<'_, K, V, A>
         ensures* writes_back { sem 𝓛 (lends_values K.row V.row S.row A.row S.Hasher.row K.Hash
@@ -124,7 +185,22 @@ impl<K: Eq + Hash, V, S: BuildHasher, A: Allocator> ListOrderedMultimap<K, V, S,
     }
 }
 
-/// The walk of `iter_mut`.
+/// Iterates over all pairs with mutable references to the values, as
+/// [`iter_mut`](ListOrderedMultimap::iter_mut) does.
+///
+/// # Examples
+///
+/// ```
+/// use ordered_multimap::ListOrderedMultimap;
+///
+/// let mut map = ListOrderedMultimap::new(rt.alloc());
+/// map.append("line", 1)?;
+/// map.append("page", 8)?;
+/// for (_key, value) in &mut map {
+///     *value = 7;
+/// }
+/// assert!(rt; map.values().eq(&[7, 7]));
+/// ```
 impl<'map, K: Eq + Hash, V, S: BuildHasher, A: Allocator> IntoIterator
     for &'map mut ListOrderedMultimap<K, V, S, A> {
     type Item = (&'map K, &'map mut V);

@@ -1,4 +1,4 @@
-//! References for writing one value.
+//! Mutable references to one value.
 ghost use Rattle.std.specs.Prelude.{◌≡◌, ◌<◌, length, nat_lt, slice_get, option_map, Some};
 ghost use Rattle.std.specs.Borrow.{sem};
 ghost use Rattle.std.specs.Option.{option_copied_mut};
@@ -48,13 +48,29 @@ impl<K: Eq + Hash, V, S: BuildHasher, A: Allocator> ListOrderedMultimap<K, V, S,
         self.value_mut_at(link.head)
     }
 
-    /// The key's first value, to write. None where the key is absent. One look-up, and the slots of
-    /// the key and of that value.
+    /// Returns a mutable reference to the first value of the key, or `None` if the key is absent.
+    ///
+    /// For all values of the key see [`get_all_mut`](Self::get_all_mut), and to replace them by one
+    /// value [`insert`](Self::insert). The key may be a query, as `&str` for `String` keys
+    /// ([`KeyQuery`]).
+    ///
+    /// # Complexity
+    ///
+    /// *O*(1) expected. It reads the slots of the key and of the value.
+    ///
+    /// # Examples
     ///
     /// ```
+    /// use ordered_multimap::ListOrderedMultimap;
+    ///
+    /// let mut map = ListOrderedMultimap::new(rt.alloc());
+    /// map.append("line", 1)?;
+    /// map.append("page", 8)?;
+    /// map.append("line", 2)?;
     /// if let Some(value) = map.get_mut("line") {
     ///     *value = 3;
     /// }
+    /// assert!(rt; map.iter().eq([(&"line", &3), (&"page", &8), (&"line", &2)]));
     /// ```
     #[inline]
     pub fn get_mut<Q: KeyQuery<K>>(&mut self, key: Q) -> Option<&mut V>
@@ -95,15 +111,30 @@ impl<K: Eq + Hash, V, S: BuildHasher, A: Allocator> ListOrderedMultimap<K, V, S,
         }
     }
 
-    /// Requires that the map has a pair. The first pair, its value to write. Reads the slots of its
-    /// value and of its key.
+    /// Returns the first pair of a map that isn't empty, with a mutable reference to the value.
     ///
-    /// It is for callers that are to be proved: they know both lists afterwards. Others take
-    /// [`front_mut`](Self::front_mut), which returns None where there is no pair.
+    /// It is for proved callers: see docs/PROVED_CALLERS.md. Others use
+    /// [`front_mut`](Self::front_mut), which returns `None` if the map is empty.
+    ///
+    /// # Complexity
+    ///
+    /// *O*(1). It reads the slots of the value and of its key.
+    ///
+    /// # Requires
+    ///
+    /// The map has a pair.
+    ///
+    /// # Examples
     ///
     /// ```
+    /// use ordered_multimap::ListOrderedMultimap;
+    ///
+    /// let mut map = ListOrderedMultimap::new(rt.alloc());
+    /// map.append("line", 1)?;
+    /// map.append("page", 8)?;
     /// let (_key, value) = map.first_mut();
     /// *value = 4;
+    /// assert_eq!(rt; map.front(), Some((&"line", &4)));
     /// ```
     pub fn first_mut(&mut self) -> (&K, &mut V)
         requires { 0 < length self.old.lists.pairs }
@@ -116,13 +147,30 @@ impl<K: Eq + Hash, V, S: BuildHasher, A: Allocator> ListOrderedMultimap<K, V, S,
         self.end_mut(End::Front)
     }
 
-    /// Requires that the map has a pair. The last pair, its value to write, as
-    /// [`first_mut`](Self::first_mut) lends the first one. Others take
-    /// [`back_mut`](Self::back_mut).
+    /// Returns the last pair of a map that isn't empty, with a mutable reference to the value.
+    ///
+    /// It is for proved callers: see docs/PROVED_CALLERS.md. Others use
+    /// [`back_mut`](Self::back_mut), which returns `None` if the map is empty.
+    ///
+    /// # Complexity
+    ///
+    /// *O*(1). It reads the slots of the value and of its key.
+    ///
+    /// # Requires
+    ///
+    /// The map has a pair.
+    ///
+    /// # Examples
     ///
     /// ```
+    /// use ordered_multimap::ListOrderedMultimap;
+    ///
+    /// let mut map = ListOrderedMultimap::new(rt.alloc());
+    /// map.append("line", 1)?;
+    /// map.append("page", 8)?;
     /// let (_key, value) = map.last_mut();
     /// *value = 9;
+    /// assert_eq!(rt; map.back(), Some((&"page", &9)));
     /// ```
     pub fn last_mut(&mut self) -> (&K, &mut V)
         requires { 0 < length self.old.lists.pairs }
@@ -156,15 +204,29 @@ impl<K: Eq + Hash, V, S: BuildHasher, A: Allocator> ListOrderedMultimap<K, V, S,
         if some { Some(map.end_mut(end)) } else { None }
     }
 
-    /// The first pair, its value to write. None where there is no pair. Reads the slots of its
-    /// value and of its key.
+    /// Returns the first pair with a mutable reference to its value, or `None` if the map is empty.
     ///
-    /// A caller whose proof has to know the map afterwards takes [`first_mut`](Self::first_mut).
+    /// To read the value only see [`front`](Self::front), and to remove the pair
+    /// [`pop_front`](Self::pop_front).
+    ///
+    /// Proved callers: see docs/PROVED_CALLERS.md.
+    ///
+    /// # Complexity
+    ///
+    /// *O*(1). It reads the slots of the value and of its key.
+    ///
+    /// # Examples
     ///
     /// ```
+    /// use ordered_multimap::ListOrderedMultimap;
+    ///
+    /// let mut map = ListOrderedMultimap::new(rt.alloc());
+    /// map.append("line", 1)?;
+    /// map.append("page", 8)?;
     /// if let Some((_key, value)) = map.front_mut() {
     ///     *value = 4;
     /// }
+    /// assert_eq!(rt; map.front(), Some((&"line", &4)));
     /// ```
     pub fn front_mut(&mut self) -> Option<(&K, &mut V)>
         ensures* writes_back { sem 𝓛 (lends_end_if K.row V.row S.row A.row S.Hasher.row K.Hash
@@ -175,15 +237,29 @@ impl<K: Eq + Hash, V, S: BuildHasher, A: Allocator> ListOrderedMultimap<K, V, S,
         self.end_mut_if(End::Front)
     }
 
-    /// The last pair, its value to write. None where there is no pair. Reads the slots of its value
-    /// and of its key.
+    /// Returns the last pair with a mutable reference to its value, or `None` if the map is empty.
     ///
-    /// A caller whose proof has to know the map afterwards takes [`last_mut`](Self::last_mut).
+    /// To read the value only see [`back`](Self::back), and to remove the pair
+    /// [`pop_back`](Self::pop_back).
+    ///
+    /// Proved callers: see docs/PROVED_CALLERS.md.
+    ///
+    /// # Complexity
+    ///
+    /// *O*(1). It reads the slots of the value and of its key.
+    ///
+    /// # Examples
     ///
     /// ```
+    /// use ordered_multimap::ListOrderedMultimap;
+    ///
+    /// let mut map = ListOrderedMultimap::new(rt.alloc());
+    /// map.append("line", 1)?;
+    /// map.append("page", 8)?;
     /// if let Some((_key, value)) = map.back_mut() {
     ///     *value = 9;
     /// }
+    /// assert_eq!(rt; map.back(), Some((&"page", &9)));
     /// ```
     pub fn back_mut(&mut self) -> Option<(&K, &mut V)>
         ensures* writes_back { sem 𝓛 (lends_end_if K.row V.row S.row A.row S.Hasher.row K.Hash
