@@ -1,4 +1,4 @@
-//! Clones of a map.
+//! Cloning a map.
 ghost use Rattle.std.specs.Prelude.{◌≡◌, ◌≤◌, [], true, length, IfOk, IsOk};
 ghost use Rattle.multimap_slots.specs.Lists.{IsIn};
 ghost use Rattle.ordered_multimap.specs.Clones.{AreClones};
@@ -18,18 +18,40 @@ impl<
     S: BuildHasher + Clone,
     A: Allocator + Copy,
 > ListOrderedMultimap<K, V, S, A> {
-    /// A map with a clone of each key and of each value, in the same orders. The hashes are
-    /// computed again, with a clone of the hash builder.
+    /// Returns a map with a clone of each key and of each value, in the same orders.
     ///
-    /// A clone of a key must be equal to it. Memory may be refused for the clone of the builder, for
-    /// the room of the new map, which is made before any key is cloned, and for the clones of keys
-    /// and values. Then what was made is dropped.
+    /// The hash builder is cloned too, and hashes the keys again. The new map has room for at least
+    /// its keys and values, and no holes among its slots. This isn't the method of the trait
+    /// `Clone`, since it can fail.
     ///
-    /// It reads each pair once, hashes each key once, and looks nothing up. During the call it
-    /// takes memory for one number for each slot in use.
+    /// # Errors
+    ///
+    /// Returns [`AllocError`] if an allocation fails: for the new map, or for the clone of the hash
+    /// builder, of a key or of a value. What was cloned is dropped. It never fails if the map is
+    /// empty and the clone of its hash builder can't fail.
+    ///
+    /// # Complexity
+    ///
+    /// *O*(slots in use) expected. It reads each pair once and hashes each key once. All room of
+    /// the clone is allocated before a key is cloned. During the call it allocates a number for
+    /// each slot in use.
+    ///
+    /// # Requires
+    ///
+    /// A clone of a key is equal to the key.
+    ///
+    /// # Examples
     ///
     /// ```
-    /// map.clone()?.values_len() == 3
+    /// use ordered_multimap::ListOrderedMultimap;
+    ///
+    /// let mut map = ListOrderedMultimap::new(rt.alloc());
+    /// map.append("line", 1)?;
+    /// map.append("page", 8)?;
+    /// let copy = map.clone()?;
+    /// map.remove("line");
+    /// assert!(rt; map.iter().eq([(&"page", &8)]));
+    /// assert!(rt; copy.iter().eq([(&"line", &1), (&"page", &8)]));
     /// ```
     pub fn clone(&self) -> Result<Self, AllocError>
         requires { (k c : K) → IsIn k self.now.lists.keys → K.is_clone k c → K.eq k c ≡ true }

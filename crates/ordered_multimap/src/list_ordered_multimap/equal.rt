@@ -36,12 +36,33 @@ fn are_same<K: PartialEq, V: PartialEq, A: Allocator>(
     right.next().is_none()
 }
 
-/// Two maps are equal if they have the same number of pairs, with equal keys and equal values at
-/// each position. The order of their keys may differ. The lengths are compared first, then the
-/// pairs up to the first difference.
+/// Two maps are equal if they have the same number of pairs, and equal keys and equal values at
+/// each position in insertion order.
+///
+/// The order of their keys may differ, and so may their hash builders and capacities.
+///
+/// # Complexity
+///
+/// *O*(*n*), where *n* is the number of pairs. It compares the lengths first, and then the pairs up
+/// to the first difference.
+///
+/// # Examples
 ///
 /// ```
-/// map == map.clone()?
+/// use ordered_multimap::ListOrderedMultimap;
+///
+/// let mut map = ListOrderedMultimap::new(rt.alloc());
+/// map.append("line", 1)?;
+/// map.append("page", 8)?;
+/// map.insert("line", 3)?;
+///
+/// let mut other = ListOrderedMultimap::new(rt.alloc());
+/// other.append("page", 8)?;
+/// assert!(rt; map != other);
+/// other.append("line", 3)?;
+/// assert!(rt; map == other);
+/// assert!(rt; map.keys().eq(&["line", "page"]));
+/// assert!(rt; other.keys().eq(&["page", "line"]));
 /// ```
 impl<K: Eq + Hash, V: PartialEq, S: BuildHasher, A: Allocator> PartialEq
     for ListOrderedMultimap<K, V, S, A> {

@@ -128,17 +128,42 @@ fn pack<K: Drop, V: Drop, A: Allocator>(
 }
 
 impl<K: Eq + Hash, V, S: BuildHasher, A: Allocator + Copy> ListOrderedMultimap<K, V, S, A> {
-    /// Requires that the map has no more than `keys_minimum_capacity` keys and no more than
-    /// `values_minimum_capacity` values. Takes them all, in their orders, to new memory with room
-    /// for at least these numbers. What a forgotten drain has left is dropped, and no hole stays.
+    /// Moves the map to new memory with room for at least the given numbers of keys and values.
     ///
-    /// It is refused when out of memory, or for a number of slots past the greatest `usize`. All
-    /// new memory is taken before anything is moved, so the map is then as it was. It goes over the
-    /// slots in use and the lanes of the new table; for the time of the call it takes a number for
-    /// each slot of a key that is in use. No key is hashed or compared.
+    /// Both lists stay the same, and the old memory is freed. Unlike std's `shrink_to` it can both
+    /// lower and raise capacities. It also closes the holes that removals left among the slots, and
+    /// drops what a leaked [`EntryValuesDrain`](super::EntryValuesDrain) left. For room for just
+    /// the keys and values that there are see [`pack_to_fit`](Self::pack_to_fit), and to raise
+    /// capacities only [`reserve_keys`](Self::reserve_keys) and
+    /// [`reserve_values`](Self::reserve_values).
+    ///
+    /// # Errors
+    ///
+    /// Returns [`AllocError`] if an allocation fails, or if the number of slots overflows `usize`.
+    /// The map is unchanged then, since all new memory is allocated before anything is moved.
+    ///
+    /// # Complexity
+    ///
+    /// *O*(slots in use + capacity of the new hash table). No key is hashed or compared. During the
+    /// call it allocates a number for each slot of a key that is in use.
+    ///
+    /// # Requires
+    ///
+    /// The map has at most `keys_minimum_capacity` keys and at most `values_minimum_capacity`
+    /// values.
+    ///
+    /// # Examples
     ///
     /// ```
+    /// use ordered_multimap::ListOrderedMultimap;
+    ///
+    /// let mut map = ListOrderedMultimap::with_capacity(rt.alloc(), 100, 100)?;
+    /// map.append("line", 1)?;
+    /// map.append("page", 8)?;
     /// map.pack_to(5, 5)?;
+    /// assert!(rt; map.keys_capacity() >= 5);
+    /// assert!(rt; map.values_capacity() >= 5);
+    /// assert!(rt; map.iter().eq([(&"line", &1), (&"page", &8)]));
     /// ```
     pub fn pack_to(
         &mut self,
@@ -168,11 +193,31 @@ impl<K: Eq + Hash, V, S: BuildHasher, A: Allocator + Copy> ListOrderedMultimap<K
         Ok(())
     }
 
-    /// Packs the map as [`pack_to`](Self::pack_to) does, with room for at least its keys and
-    /// values. The cost and the refusal are those of `pack_to`.
+    /// Moves the map to new memory with room for at least its own keys and values.
+    ///
+    /// It does what [`pack_to`](Self::pack_to) does for the numbers of keys and values that the map
+    /// has. So it gives back memory that removals left unused, as std's `shrink_to_fit` does.
+    ///
+    /// # Errors
+    ///
+    /// Returns [`AllocError`] if an allocation fails, or if the number of slots overflows `usize`.
+    /// The map is unchanged then.
+    ///
+    /// # Complexity
+    ///
+    /// Same as [`pack_to`](Self::pack_to).
+    ///
+    /// # Examples
     ///
     /// ```
+    /// use ordered_multimap::ListOrderedMultimap;
+    ///
+    /// let mut map = ListOrderedMultimap::with_capacity(rt.alloc(), 100, 100)?;
+    /// map.append("line", 1)?;
+    /// map.append("page", 8)?;
     /// map.pack_to_fit()?;
+    /// assert!(rt; map.values_capacity() >= 2);
+    /// assert!(rt; map.iter().eq([(&"line", &1), (&"page", &8)]));
     /// ```
     pub fn pack_to_fit(&mut self) -> Result<(), AllocError>
     where

@@ -1,4 +1,4 @@
-//! Room that is asked for ahead.
+//! Reserving capacity.
 ghost use Rattle.std.specs.Prelude.{◌≡◌, ◌≤◌, ◌+◌, OnOk, IsOk, length};
 ghost use Rattle.ordered_multimap.specs.Rooms.{OnlyGrows, SameRooms};
 ghost use Rattle.ordered_multimap.specs.TapeNumbers.{TakesOut};
@@ -9,15 +9,33 @@ use std::alloc::{AllocError, Allocator};
 use std::hash::{BuildHasher, Hash};
 
 impl<K: Eq + Hash, V, S: BuildHasher, A: Allocator + Copy> ListOrderedMultimap<K, V, S, A> {
-    /// Makes room for at least `additional` more keys, in the list of keys and in the table. If
-    /// they fit already, it takes no memory.
+    /// Reserves capacity for at least `additional` more keys.
     ///
-    /// It is refused when out of memory, or for a number of keys past the greatest `usize`. Both
-    /// lists are then as before. A growth moves the slots of the keys and the rows, and at least
-    /// doubles the room.
+    /// After a success `keys_capacity()` is at least `keys_len() + additional`. The map may reserve
+    /// more, to avoid frequent allocations. It does nothing if the capacity is already sufficient.
+    /// Values have a capacity of their own: see [`reserve_values`](Self::reserve_values). To make
+    /// room in a new map see [`with_capacity`](Self::with_capacity), and to lower capacities
+    /// [`pack_to`](Self::pack_to).
+    ///
+    /// # Errors
+    ///
+    /// Returns [`AllocError`] if an allocation fails, or if the number of keys overflows `usize`.
+    /// Both lists are unchanged. It never fails if the capacity is already sufficient.
+    ///
+    /// # Complexity
+    ///
+    /// *O*(1) if the capacity is sufficient. Otherwise *O*(new capacity): a growth moves the slots
+    /// of the keys and the rows of the hash table, and at least doubles the capacity.
+    ///
+    /// # Examples
     ///
     /// ```
+    /// use ordered_multimap::ListOrderedMultimap;
+    ///
+    /// let mut map = ListOrderedMultimap::new(rt.alloc());
+    /// map.append("line", 1)?;
     /// map.reserve_keys(10)?;
+    /// assert!(rt; map.keys_capacity() >= 11);
     /// ```
     pub fn reserve_keys(&mut self, additional: usize) -> Result<(), AllocError>
         ensures room { OnOk result
@@ -35,15 +53,33 @@ impl<K: Eq + Hash, V, S: BuildHasher, A: Allocator + Copy> ListOrderedMultimap<K
         make_key_room(&mut self.keys, &mut self.table, additional)
     }
 
-    /// Makes room for at least `additional` more values: two slots for each value, old or new. If
-    /// they fit already, it takes no memory.
+    /// Reserves capacity for at least `additional` more values.
     ///
-    /// It is refused when out of memory, or for a number of slots past the greatest `usize`. Both
-    /// lists are then as before. A growth moves the slots of the values, and at least doubles the
-    /// room.
+    /// After a success `values_capacity()` is at least `values_len() + additional`. The map may
+    /// reserve more, to avoid frequent allocations. It does nothing if the capacity is already
+    /// sufficient. There are two slots for each value of the capacity. Keys have a capacity of
+    /// their own: see [`reserve_keys`](Self::reserve_keys). To make room in a new map see
+    /// [`with_capacity`](Self::with_capacity), and to lower capacities [`pack_to`](Self::pack_to).
+    ///
+    /// # Errors
+    ///
+    /// Returns [`AllocError`] if an allocation fails, or if the number of slots overflows `usize`.
+    /// Both lists are unchanged. It never fails if the capacity is already sufficient.
+    ///
+    /// # Complexity
+    ///
+    /// *O*(1) if the capacity is sufficient. Otherwise *O*(slots in use): a growth moves the slots
+    /// of the values, and at least doubles the capacity.
+    ///
+    /// # Examples
     ///
     /// ```
+    /// use ordered_multimap::ListOrderedMultimap;
+    ///
+    /// let mut map = ListOrderedMultimap::new(rt.alloc());
+    /// map.append("line", 1)?;
     /// map.reserve_values(10)?;
+    /// assert!(rt; map.values_capacity() >= 11);
     /// ```
     pub fn reserve_values(&mut self, additional: usize) -> Result<(), AllocError>
         ensures room { OnOk result
