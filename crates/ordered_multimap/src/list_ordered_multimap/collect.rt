@@ -6,7 +6,7 @@ use super::ListOrderedMultimap;
 use std::alloc::{AllocError, Allocator};
 use std::hash::{BuildHasher, Hash};
 
-/// Lets `pairs.collect(alloc)?` make a map of the pairs of an iterator, with a default of the hash
+/// Lets `pairs.collect(alloc)?` make a map of the pairs of an iterator, with a default hash
 /// builder.
 ///
 /// Each pair is added as by [`append`](ListOrderedMultimap::append). The map's own
@@ -19,7 +19,7 @@ use std::hash::{BuildHasher, Hash};
 ///
 /// # Requires
 ///
-/// The iterator ends.
+/// The iterator is finite.
 ///
 /// # Examples
 ///
@@ -57,7 +57,7 @@ impl<
 ///
 /// # Requires
 ///
-/// The iterator ends.
+/// The iterator is finite.
 ///
 /// # Examples
 ///
@@ -97,7 +97,7 @@ impl<K: Eq + Hash + Drop, V: Drop, S: BuildHasher, A: Allocator + Copy> Extend<(
 ///
 /// # Requires
 ///
-/// The iterator ends.
+/// The iterator is finite.
 ///
 /// # Examples
 ///

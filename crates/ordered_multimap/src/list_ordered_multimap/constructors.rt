@@ -11,7 +11,7 @@ use std::hash::{BuildHasher, BuildHasherDefault, Hash};
 impl<K: Eq + Hash, V, A: Allocator + Copy> ListOrderedMultimap<K, V, DefaultState, A> {
     /// Creates an empty map with the default hash builder.
     ///
-    /// It doesn't allocate. All memory comes from `alloc`, later. To make room ahead see
+    /// It doesn't allocate; additions allocate from `alloc`. To reserve capacity up front see
     /// [`with_capacity`](Self::with_capacity). The default hash builder has a fixed seed: for keys
     /// from untrusted sources see [`with_hasher`](Self::with_hasher).
     ///
@@ -35,13 +35,14 @@ impl<K: Eq + Hash, V, A: Allocator + Copy> ListOrderedMultimap<K, V, DefaultStat
     /// and `value_capacity` values.
     ///
     /// The map holds that many keys and values without allocating again, and may hold more. A
-    /// capacity of 0 allocates nothing. All memory comes from `alloc`, now and later. To make room
-    /// later see [`reserve_keys`](Self::reserve_keys) and [`reserve_values`](Self::reserve_values).
+    /// capacity of 0 allocates nothing. All memory comes from `alloc`, now and later. To reserve
+    /// more later see [`reserve_keys`](Self::reserve_keys) and
+    /// [`reserve_values`](Self::reserve_values).
     ///
     /// # Errors
     ///
-    /// Returns [`AllocError`] if an allocation fails, or if a capacity is greater than any memory
-    /// has room for. It never fails if both capacities are 0.
+    /// Returns [`AllocError`] if an allocation fails, or if a capacity is more than any memory can
+    /// hold. It never fails if both capacities are 0.
     ///
     /// # Complexity
     ///
@@ -80,7 +81,7 @@ impl<K: Eq + Hash, V, A: Allocator + Copy> ListOrderedMultimap<K, V, DefaultStat
 impl<K: Eq + Hash, V, S: BuildHasher, A: Allocator + Copy> ListOrderedMultimap<K, V, S, A> {
     /// Creates an empty map with the given hash builder.
     ///
-    /// It doesn't allocate. All memory comes from `alloc`, later. To make room ahead see
+    /// It doesn't allocate; additions allocate from `alloc`. To reserve capacity up front see
     /// [`with_capacity_and_hasher`](Self::with_capacity_and_hasher).
     ///
     /// With a hash builder of a fixed seed, as [`DefaultState`], an attacker who chooses the keys
@@ -119,8 +120,8 @@ impl<K: Eq + Hash, V, S: BuildHasher, A: Allocator + Copy> ListOrderedMultimap<K
     ///
     /// # Errors
     ///
-    /// Returns [`AllocError`] if an allocation fails, or if a capacity is greater than any memory
-    /// has room for. The hash builder is dropped then. It never fails if both capacities are 0.
+    /// Returns [`AllocError`] if an allocation fails, or if a capacity is more than any memory can
+    /// hold. The hash builder is dropped then. It never fails if both capacities are 0.
     ///
     /// # Complexity
     ///

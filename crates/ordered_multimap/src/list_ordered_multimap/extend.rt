@@ -38,7 +38,7 @@ impl<K: Eq + Hash + Drop, V: Drop, S: BuildHasher, A: Allocator + Copy> ListOrde
     ///
     /// # Requires
     ///
-    /// The iterator ends.
+    /// The iterator is finite.
     ///
     /// # Examples
     ///
@@ -90,7 +90,7 @@ impl<K: Eq + Hash + Drop, V: Drop, S: BuildHasher, A: Allocator + Copy> ListOrde
     ///
     /// # Requires
     ///
-    /// The iterator ends.
+    /// The iterator is finite.
     ///
     /// # Examples
     ///
@@ -151,7 +151,7 @@ impl<K: Eq + Hash + Drop, V: Drop, S: BuildHasher, A: Allocator + Copy> ListOrde
     ///
     /// # Requires
     ///
-    /// The iterator ends.
+    /// The iterator is finite.
     ///
     /// # Examples
     ///

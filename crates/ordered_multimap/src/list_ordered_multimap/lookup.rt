@@ -219,7 +219,7 @@ impl<K: Eq + Hash, V, S: BuildHasher, A: Allocator> ListOrderedMultimap<K, V, S,
 
     /// Returns the first pair, or `None` if the map is empty.
     ///
-    /// The first pair is the one that was added first. To write its value see
+    /// The first pair is the oldest one in the map. To write its value see
     /// [`front_mut`](Self::front_mut), and to remove it [`pop_front`](Self::pop_front).
     ///
     /// # Complexity
@@ -246,7 +246,7 @@ impl<K: Eq + Hash, V, S: BuildHasher, A: Allocator> ListOrderedMultimap<K, V, S,
 
     /// Returns the last pair, or `None` if the map is empty.
     ///
-    /// The last pair is the one that was added last. To write its value see
+    /// The last pair is the newest one in the map. To write its value see
     /// [`back_mut`](Self::back_mut), and to remove it [`pop_back`](Self::pop_back).
     ///
     /// # Complexity

@@ -132,10 +132,9 @@ impl<K: Eq + Hash, V, S: BuildHasher, A: Allocator + Copy> ListOrderedMultimap<K
     ///
     /// Both lists stay the same, and the old memory is freed. Unlike std's `shrink_to` it can both
     /// lower and raise capacities. It also closes the holes that removals left among the slots, and
-    /// drops what a leaked [`EntryValuesDrain`](super::EntryValuesDrain) left. For room for just
-    /// the keys and values that there are see [`pack_to_fit`](Self::pack_to_fit), and to raise
-    /// capacities only [`reserve_keys`](Self::reserve_keys) and
-    /// [`reserve_values`](Self::reserve_values).
+    /// drops what a leaked [`EntryValuesDrain`](super::EntryValuesDrain) left. For just the room
+    /// that the map needs see [`pack_to_fit`](Self::pack_to_fit), and to raise capacities only
+    /// [`reserve_keys`](Self::reserve_keys) and [`reserve_values`](Self::reserve_values).
     ///
     /// # Errors
     ///

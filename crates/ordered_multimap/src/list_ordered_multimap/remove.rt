@@ -72,7 +72,7 @@ impl<K: Eq + Hash, V, S: BuildHasher, A: Allocator> ListOrderedMultimap<K, V, S,
     /// Removes the key with all its values, and returns the stored key with the first of them, or
     /// `None` if the key is absent.
     ///
-    /// The other values are dropped. The other keys and pairs keep their order. For the value alone
+    /// The other values are dropped. The other keys and pairs keep their order. For the value only
     /// see [`remove`](Self::remove), and for the stored key with all values
     /// [`remove_entry_all`](Self::remove_entry_all). The key may be a query ([`KeyQuery`]).
     ///
@@ -139,7 +139,7 @@ impl<K: Eq + Hash, V, S: BuildHasher, A: Allocator> ListOrderedMultimap<K, V, S,
     ///
     /// All keys and values are dropped, among them the values that a leaked
     /// [`EntryValuesDrain`](super::EntryValuesDrain) left. No capacity is lowered: to free memory
-    /// see [`pack_to_fit`](Self::pack_to_fit). The slots have no holes afterwards.
+    /// see [`pack_to_fit`](Self::pack_to_fit). No hole is left among the slots.
     ///
     /// # Complexity
     ///

@@ -4,8 +4,7 @@ use std::alloc::Allocator;
 use std::fmt;
 use std::hash::{BuildHasher, Hash};
 
-/// Shows all pairs in insertion order, in the form of std's maps. A key with several values is
-/// shown with each of them.
+/// Formats the map as std formats a map: all pairs in insertion order, each value with its key.
 ///
 /// # Examples
 ///
