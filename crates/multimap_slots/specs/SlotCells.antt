@@ -11,7 +11,7 @@ module _ {T L A : Type 0} where
   abbrev pub cells_name : SlotCells T L A → GName
   cells_name c = c.cells.lender_loan
 
-  -- the list as it was lent
+  -- the list as it was when it was lent
   abbrev pub lent_slots : SlotCells T L A → Slots T L
   lent_slots c = record {
     order = c.order.order;
@@ -24,7 +24,7 @@ module _ {T L A : Type 0} where
   abbrev pub end_names : SlotCells T L A → List GName
   end_names c = c.cells.names
 
-  -- the place is in the list, and its item stands there and wasn't taken
+  -- the place is in the list, and its item is there and wasn't taken
   pub record IsLeft (c : SlotCells T L A) (p : ℕ) : Type 0 where
     pub listed : IsIn p (lent_slots c).order
     pub filled : IsSome (item_at (lent_slots c) p)

@@ -16,7 +16,7 @@ abbrev pub DoublesIfGrown : ℕ → ℕ → Type 0
 DoublesIfGrown old new = old < new → old * 2 ≤ new
 
 module _ {T L : Type 0} where
-  -- the item that stands at the place, if there is one
+  -- the item at the place, if there is one
   abbrev pub item_at : Slots T L → ℕ → Option T
   item_at s p = get_or s.items p None
 
@@ -65,7 +65,7 @@ module _ {T L : Type 0} where
     pub items : (q : ℕ) → q ≢ place → item_at new q ≡ item_at old q
     pub links : (q : ℕ) → q ≢ place → link_at new q ≡ link_at old q
 
-  -- the item stands last in the list, at a place that had none
+  -- the item is the last in the list, at a place that had none
   pub record PushesBack (old new : Slots T L) (place : ℕ) (item : T) (link : L) : Type 0 where
     pub was_absent : ¬ IsIn place old.order
     pub was_free : item_at old place ≡ None

@@ -35,7 +35,7 @@ module _ (T L A : RattleType) (alloc : Ghosts A.Denot) (s : MutBor (Slots T.Deno
       follows (the_row T L A alloc) (the_row T L A alloc) s.ghost_name c.lender_loan
       (λ n. with_refilled s.now n.items)
 
-  -- once the loan of items and order ends, only the items of the list may differ, and they stand
-  -- where items stood
+  -- once the loan of items and order ends, only the items of the list may differ, and they are
+  -- where items were
   abbrev pub lends_cells : SlotCells T.Denot L.Denot A.Denot → Fml
   lends_cells c = lends_whole c.cells

@@ -126,7 +126,8 @@ impl<L: Copy, A: Allocator> Order<L, A> {
 
     pub(crate) fn link_mut(&mut self, place: usize) -> &mut L
         requires { IsIn place self.old.order }
-        ensures* lends { sem 𝓛 (lends_place_link L.row A.row A.Allocator self.entry place result) }
+        ensures* writes_back { sem 𝓛 (lends_place_link L.row A.row A.Allocator self.entry
+            place result) }
         ensures value { slice_get self.old.links place ≡ Some result.now }
     {
         &mut self.nodes[place].link

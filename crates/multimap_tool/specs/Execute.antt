@@ -24,7 +24,7 @@ pub record IsAnswered (A : Type 0) (old_input new_input old_output new_output : 
   pub answer : IsAnsweredBy A bytes text
   pub written : Appends old_output new_output text
 
--- what a fault of a text's lines tells of the text
+-- what a fault of a text's lines says of the text
 abbrev pub IsTextFaultOf : (A : Type 0) → List ℕ → TextFault → Type 0
 IsTextFaultOf A text (text_faults.BadLine line) = IsFirstBadLine A (lines_of text) line
 IsTextFaultOf A text text_faults.OutOfMemory = Unit {0}
@@ -37,7 +37,7 @@ IsFaultOf A bytes OutOfMemory = Unit {0}
 IsFaultOf A bytes Read = ⊥
 IsFaultOf A bytes Write = ⊥
 
--- what a fault tells of the input
+-- what a fault says of the input
 abbrev pub FaultTells : (A : Type 0) → Option (List ℕ) → Option (List ℕ) → ToolFault → Type 0
 FaultTells A old new (BadLine line) =
     (bytes : List ℕ) × ReadsAll old new bytes × IsFirstBadLine A (lines_of bytes) line

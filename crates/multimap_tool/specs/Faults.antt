@@ -18,7 +18,7 @@ fault_text Read = codes "read failed"
 fault_text Write = codes "write failed"
 fault_text OutOfMemory = codes "out of memory"
 
--- the exit status that tells it
+-- its exit status
 abbrev pub status_of : ToolFault → ℕ
 status_of (BadLine line) = 2
 status_of Read = 3

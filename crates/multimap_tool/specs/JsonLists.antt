@@ -72,7 +72,7 @@ module _ {K V : Type 0} (key_json : K → Data) (value_json : V → Data) where
       (member (codes "pairs") (pairs_json key_json value_json m.pairs) no_members))
 
 module _ {K : Type 0} (key_json : K → Data) (is_key : Data → Bool) (eq : K → K → Bool) where
-  -- this key is read of the JSON value
+  -- the key is what the JSON value holds
   pub record IsReadKey (d : Data) (k : K) : Type 0 where
     pub json : d ≡ key_json k
     pub accepted : is_key d ≡ true

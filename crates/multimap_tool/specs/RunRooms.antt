@@ -21,7 +21,7 @@ module _ {K V A : Type 0} where
   IsAddition (OrInsert k v) = Unit {0}
   IsAddition _ = ⊥
 
-  -- the command lowers no room: it gives none back, and puts no other map in the map's place
+  -- the command lowers no capacity: it gives none back, and doesn't replace the map
   abbrev pub KeepsRoom : Command K V A → Type 0
   KeepsRoom PackToFit = ⊥
   KeepsRoom Swap = ⊥

@@ -134,8 +134,7 @@ abbrev pub onto_first_line : ℕ → List (List ℕ) → List (List ℕ)
 onto_first_line byte [] = (byte ∷ []) ∷ []
 onto_first_line byte (line ∷ lines) = (byte ∷ line) ∷ lines
 
--- the pieces of a text that a line feed ends, and what stands behind the last one unless that is
--- empty
+-- the pieces of a text that a line feed ends, and what is behind the last one unless that is empty
 abbrev pub lines_of : List ℕ → List (List ℕ)
 lines_of [] = []
 lines_of (byte ∷ bytes) =

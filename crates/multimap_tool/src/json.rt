@@ -164,7 +164,7 @@ fn append_items<
     ensures fault { IfErr result
         (IsFound (fault_in K.is_part V.is_part (array (items_view items.now)))) }
 {
-    // A wish: each append makes the room that it needs.
+    // Ignored if refused: each append makes the room that it needs.
     let _reserved = map.reserve_values(items.len());
     for (index, item) in items.iter().enumerate() {
         append_item(memory, index, item, map)?;

@@ -31,7 +31,7 @@ module _ {V : Type 0} where
     reads = reads;
   }
 
-  -- a walk at its start, over values that have left the list
+  -- an iterator at its start, over values that have left the list
   abbrev pub detached_walk : List V → ChainWalk V
   detached_walk values = record { left = values; positions = []; reads = 0 }
 

@@ -23,7 +23,7 @@ module _ {V : Type 0} (values : Slots V ValueLink) where
   abbrev pub chain_of : ℕ → List ℕ
   chain_of key = filter (is_value_of key) values.order
 
-  -- the items that stand at places
+  -- the items at places
   abbrev pub values_at : List ℕ → List V
   values_at places = filter_map (item_at values) places
 

@@ -22,7 +22,7 @@ abbrev pub deref_key : {K X : Type 0} → Bor K × X → K × X
 deref_key p = (p.0.now, p.1)
 
 module _ {K V : Type 0} (keys : Slots K KeyLink) (values : Slots V ValueLink) where
-  -- the key at the place, with the walk over its values
+  -- the key at the place, with the iterator over its values
   abbrev pub key_values_at : ℕ → Option (K × ChainWalk V)
   key_values_at place = option_map (λ k. (k, whole_walk values place)) (item_at keys place)
 

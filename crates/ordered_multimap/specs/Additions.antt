@@ -28,8 +28,8 @@ module _ {K V S : Type 0} where
     pub had_room : InsertRaisesNoRoom eq key old new
     pub taken : TakesOut (length (values_of eq old.lists.pairs key)) old.tape new.tape
 
-  -- a pair of the key was refused and handed back, for want of room that the map still lacks; both
-  -- lists stay, and no value was taken out
+  -- the pair comes back, since there was no memory for room that the map still lacks; both lists
+  -- stay, and no value was removed
   pub record IsRefused (eq : K → K → Bool) (key : K) (value : V) (old new : Multimap K V S)
       (pair : Refused K V) : Type 0 where
     pub returned : pair ≡ record { key = key; value = value }
@@ -47,8 +47,8 @@ module _ {K V S : Type 0} where
     pub grows : GrowsForValue old new
     pub taken : TakesOut 0 old.tape new.tape
 
-  -- a value of a present key was refused and handed back, for want of room that the map still
-  -- lacks; both lists stay, and no value was taken out
+  -- the value comes back, since there was no memory for room that the map still lacks; both lists
+  -- stay, and no value was removed
   pub record RefusesValue (value : V) (old new : Multimap K V S) (r : RefusedValue V) : Type 0 where
     pub returned : r.value ≡ value
     pub lists : new.lists ≡ old.lists

@@ -27,7 +27,7 @@ items_of s = filter_map (item_at s) s.order
 
 -- What is found of the keys that a test accepts.
 module _ {K : Type 0} (accepts : K → Bool) where
-  -- such a key is listed at the place
+  -- a key that the test accepts is listed at the place
   pub record HasKeyWhere (keys : Slots K KeyLink) (place : ℕ) : Type 0 where
     pub listed : IsIn place keys.order
     pub stored : K

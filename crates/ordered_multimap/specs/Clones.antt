@@ -9,7 +9,7 @@ module _ {K : Type 0} (eq : K → K → Bool) (key_clone : K → K → Type 0) w
   IsKeyClone k c = key_clone k c × (eq k c ≡ true)
 
   module _ {V : Type 0} (value_clone : V → V → Type 0) where
-    -- such a clone of the pair's key, with a clone of its value
+    -- a pair of a clone of the key that is equal to it, and a clone of the value
     abbrev pub IsPairClone : K × V → K × V → Type 0
     IsPairClone p c = IsKeyClone p.0 c.0 × value_clone p.1 c.1
 

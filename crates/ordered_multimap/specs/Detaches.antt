@@ -49,7 +49,7 @@ pub record LeavesDrain {K V S : Type 0} (old new : Multimap K V S) : Type 0 wher
   pub holds : HoldsDrain new
   pub kept : KeepsListed old new
 
--- the same, and nothing is left of the drain
+-- only what was left of a drain may differ, and nothing is left of it now
 pub record EndsDrain {K V S : Type 0} (old new : Multimap K V S) : Type 0 where
   pub drain : LeavesDrain old new
   pub none : left_of new ≡ []
@@ -58,7 +58,7 @@ pub record EndsDrain {K V S : Type 0} (old new : Multimap K V S) : Type 0 where
 abbrev pub AreDropped : {V : Type 0} → Slots V ValueLink → ChainEnds → Slots V ValueLink → Type 0
 AreDropped old ends new = (p : ℕ) → IsIn p (drained_places old ends) → item_at new p ≡ None
 
--- no item stands at a place that the drain still held
+-- no item is at a place that the drain still held
 abbrev pub DropsRest : {K V S : Type 0} → Multimap K V S → Multimap K V S → Type 0
 DropsRest old new = AreDropped old.slots.values old.slots.left new.slots.values
 

@@ -51,7 +51,7 @@ ends_exactly K V S m γ c = ends_by_items V c
 module _ (K V S A H : RattleType) (key : HashMembers K.Denot)
     (build : builder.Ghosts S.Denot H.Denot) (hash : hasher.Ghosts H.Denot)
     (heap : alloc.Ghosts A.Denot) where
-  -- where a map follows the loan of a walk that has its values: once the walk and all its
+  -- where a map follows the loan of an iterator that has its values: once the iterator and all its
   -- references have ended, the map has ended exactly
   abbrev pub WalksAreExact : Fml
   WalksAreExact =

@@ -16,7 +16,7 @@ module _ {K : Type 0} (eq : K → K → Bool) {V : Type 0} where
     },
   )
 
-  -- each of some keys with the walk over its values
+  -- each of some keys with the iterator over its values
   abbrev pub each_with_values : List (K × V) → List K → List (K × ChainWalk V)
   each_with_values pairs keys = map (with_values pairs) keys
 

@@ -51,8 +51,8 @@ module _ {K : Type 0} (eq : K → K → Bool) {V : Type 0} where
   abbrev pub marked_values : List (Bool × (K × V)) → K → List (Bool × V)
   marked_values marked k = map (λ m. (m.0, m.1.1)) (filter (λ m. eq k m.1.0) marked)
 
--- whichever pairs are dropped, a key keeps its values but those of dropped pairs; a walk with as
--- many letters as items gives each item once
+-- whichever pairs are dropped, a key keeps its values but those of dropped pairs; as many steps as
+-- there are items give each item once
 pub record FiltersChains {K : Type 0} (eq : K → K → Bool) (V : Type 0) : Type 0 where
   pub before : (pairs : List (Bool × (K × V))) (k : K)
       → values_of eq (all_of pairs) k ≡ all_of (marked_values eq pairs k)

@@ -41,7 +41,7 @@ module _ {K V : Type 0} where
   IsTakenKey keys p (Kept place) = (p.owned ≡ false) × HasItem keys place p.key
   IsTakenKey keys p (Gone k) = (p.owned ≡ true) × (k ≡ p.key)
 
-  -- this pair was taken out, or none
+  -- what a step took out is this pair, or there is none
   abbrev pub IsTaken : Slots K KeyLink → Option (Popped K V) → Option (Taken K V) → Type 0
   IsTaken keys None None = ⊤
   IsTaken keys None (Some t) = ⊥

@@ -14,7 +14,7 @@ module _ {K V S : Type 0} (accepts : K → Bool) (old new : Multimap K V S) wher
     pub lists : new.lists ≡ after
     pub taken : TakesOut (length (values_where accepts old.lists.pairs)) old.tape new.tape
 
--- the key was taken out with all its values, if it was there, and no room has changed
+-- the key was removed with all its values, if it was there, and no room has changed
 pub record IsRemovedWhere {K V S : Type 0} (accepts : K → Bool) (eq : K → K → Bool)
     (old new : Multimap K V S) : Type 0 where
   pub loses : LosesWhere accepts old new (removed_where eq accepts old.lists)
@@ -25,6 +25,6 @@ module _ {K V S : Type 0} (eq : K → K → Bool) (old new : Multimap K V S) (k 
   abbrev pub LosesValues : Lists K V → Type 0
   LosesValues after = LosesWhere (eq k) old new after
 
-  -- the key was taken out with all its values, if it was there, and no room has changed
+  -- the key was removed with all its values, if it was there, and no room has changed
   abbrev pub IsRemoved : Type 0
   IsRemoved = IsRemovedWhere (eq k) eq old new

@@ -62,7 +62,7 @@ module _ {F V : Type 0} (g : Mut F (MutBor V × Unit {0}) (Unit {0} × (MutBor V
   AlwaysRewrites f step = (q left : MutBor V) (f' : F)
       → Called g f (q, tt) (tt, (left, tt)) f' → (left.now ≡ step q.now) × (f' ≡ f)
 
-  -- f was called on each value of the key in turn, and what it left stands at that value's position
+  -- f was called on each value of the key in turn, and what it left is at that value's position
   pub record UpdatesKey {K : Type 0} (eq : K → K → Bool) (old : List (K × V)) (k : K) (f : F)
       (new : List (K × V)) (last : F) : Type 0 where
     pub values : List V

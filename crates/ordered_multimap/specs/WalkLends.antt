@@ -75,8 +75,8 @@ module _ (K V S A H : RattleType) {e : equality.Ghosts K.Denot} {k : hash.Ghosts
   EndsWalk w c = EndsAs w.map.now c (final V c.cells.lender_context)
       (λ ws. (walk_row K V S A H e k b h alloc).coded.code (with_walk_items w ws))
 
-  -- a walk has stepped, and its map's values are lent; once their slots end with some items, the
-  -- loan of the walk after the step ends with the walk that has them
+  -- an iterator has stepped, and its map's values are lent; once their slots end with some items,
+  -- the loan of the iterator after the step ends with the iterator that has them
   pub record EndsStepped (end : End)
       (old : KeyValuesMut K.Denot V.Denot S.Denot A.Denot H.Denot e k b h)
       (r : Bor K.Denot × EntryValuesMut K.Denot V.Denot A.Denot) : Type 0 where
@@ -85,8 +85,8 @@ module _ (K V S A H : RattleType) {e : equality.Ghosts K.Denot} {k : hash.Ghosts
     pub keys : keys_left walk ≡ end_rest end (keys_left old)
     pub ends : EndsWalk walk (entry_values_mut_values r.1)
 
-  -- once the walk over the values ends, the key at the end is no longer left; at `None` the walk
-  -- stays
+  -- once the iterator over the values ends, the key at the end is no longer left; at `None` the
+  -- iterator stays
   abbrev pub lends_key_values : End
       → MutBor (KeyValuesMut K.Denot V.Denot S.Denot A.Denot H.Denot e k b h)
       → Option (Bor K.Denot × EntryValuesMut K.Denot V.Denot A.Denot) → Fml

@@ -19,7 +19,7 @@ module _ {K : Type 0} (eq : K → K → Bool) {V : Type 0} (value_eq : V → V �
     pub popped : (end : End) (m : Lists K V) → IsSet eq value_eq m
         → IsSet eq value_eq (popped eq end m)
 
-  -- of pairs inserted in turn into an empty set, each stands once, at its first occurrence
+  -- of pairs inserted in turn into an empty set, each occurs once, at its first occurrence
   abbrev pub KeepsFirstPairs : List (K × V) → Type 0
   KeepsFirstPairs pairs =
       all_inserted eq value_eq empty_lists pairs ≡ built_from eq (first_pairs eq value_eq pairs)

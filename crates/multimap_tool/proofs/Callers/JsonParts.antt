@@ -144,9 +144,6 @@ still_unused unused taken = record {
 }
 
 -- different numbers have different JSON values
-pub same_unsigned : (m n : ℕ) → number (unsigned m) ≡ number (unsigned n) → m ≡ n
-same_unsigned m n e = grind arith
-
 pub same_signed : (y z : ℤ) → number (of_integer y) ≡ number (of_integer z) → y ≡ z
 same_signed (pos m) (pos n) e = grind arith
 same_signed (pos m) (negsuc n) e = absurd (grind arith)

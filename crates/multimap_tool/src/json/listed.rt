@@ -45,7 +45,7 @@ pub(super) fn append_keys<
     ensures fault { IfErr result (UnlessMemory (IsKeysFault K.json K.is_part K.eq 0 []
         (items_view items.now))) }
 {
-    // A wish: each append makes the room that it needs.
+    // Ignored if refused: each append makes the room that it needs.
     let _reserved = map.reserve_keys(items.len());
     for (index, item) in items.iter().enumerate() {
         append_key(memory, index, item, value, map)?;
@@ -110,7 +110,7 @@ pub(super) fn append_listed_pairs<
     ensures fault { IfErr result (UnlessMemory (IsPairsFault K.json K.is_part V.is_part K.eq
         0 map.old.lists.keys (items_view items.now))) }
 {
-    // A wish, as for the keys.
+    // Ignored if refused, as for the keys.
     let _reserved = map.reserve_values(items.len());
     for (index, item) in items.iter().enumerate() {
         append_listed_pair(memory, index, item, map)?;

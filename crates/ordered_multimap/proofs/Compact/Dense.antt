@@ -1,4 +1,4 @@
--- The values settle at the lowest places, one after the other, and renamings in a row are one renaming.
+-- The values come to the lowest places, one after the other, and relocations in a row are one relocation.
 use Rattle.std.proofs.Common.{◌≡◌, ℕ, zero, suc, ◌<◌, ◌≤◌, List, [], ◌∷◌, ◌++◌, map, length, Option, Some, None, option_map, refl, sym, ap}
 use Rattle.std.proofs.Common.{◌∙◌, subst, inl, inr, arith, length-append, append_assoc}
 use Rattle.std.proofs.lemmas.List.{length-map, map-append, append-nil}
@@ -44,7 +44,7 @@ rises_around (x ∷ xs) p ys r =
     in_middle [] = inl refl
     in_middle (z ∷ zs) = inr (in_middle zs)
 
--- the next place to settle
+-- the lowest place that no value has come to
 pub record Next (order : List ℕ) (n : ℕ) (following : Option ℕ) : Type 0 where
   pub from : ℕ
   pub rest : List ℕ

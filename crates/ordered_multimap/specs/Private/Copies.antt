@@ -41,7 +41,7 @@ module _ {K : Type 0} (is_clone : K → K → Type 0) (hash : K → ℕ) (rank :
     pub item_is : item ≡ Some copy
     pub link_is : link ≡ Some (record (relocated_key rank key_link) { hash = hash copy })
 
-  -- such a clone stands last, with a row of its hash, and its place is noted
+  -- a clone of the key at the place stands last, with a row of its hash, and its place is noted
   pub record CopiesKey (copies copies_after : Slots K KeyLink) (rows rows_after : FinMap nat_cmp ℕ)
       (new_places new_places_after : List ℕ) (place : ℕ) : Type 0 where
     pub copy : K
@@ -65,7 +65,7 @@ module _ {V : Type 0} (is_clone : V → V → Type 0) (name rank : ℕ → ℕ)
     pub item_is : item ≡ Some copy
     pub link_is : link ≡ Some (with_new_key name (relocated_value rank value_link))
 
-  -- such a clone stands last
+  -- a clone of the value at the place stands last
   pub record CopiesValue (copies copies_after : Slots V ValueLink) (place to : ℕ) : Type 0 where
     pub copy : V
     pub link : ValueLink

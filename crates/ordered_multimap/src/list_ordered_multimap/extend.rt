@@ -63,7 +63,7 @@ impl<K: Eq + Hash + Drop, V: Drop, S: BuildHasher, A: Allocator + Copy> ListOrde
             iter self.old self.new result }
     {
         let pairs = iter.into_iter();
-        // That this is refused is ignored: each append makes the room that it needs.
+        // Ignored if refused: each append makes the room that it needs.
         let _reserved = self.reserve_values(pairs.size_hint().0);
         for (key, value) in pairs {
             if let Err(refused) = self.append(key, value) {
@@ -124,7 +124,7 @@ impl<K: Eq + Hash + Drop, V: Drop, S: BuildHasher, A: Allocator + Copy> ListOrde
             iter self.old self.new result }
     {
         let pairs = iter.into_iter();
-        // Its refusal is ignored, as in `extend`.
+        // Ignored if refused, as in `extend`.
         let _reserved = self.reserve_values(pairs.size_hint().0);
         for (key, value) in pairs {
             if let Err(refused) = self.append(*key, *value) {

@@ -47,7 +47,7 @@ impl<K: Eq + Hash, V, S: BuildHasher, A: Allocator> ListOrderedMultimap<K, V, S,
 
     /// Takes the pair at an end out, as `take_end` does, and hands the map back.
     fn take_end_on(&mut self, end: End) -> (Option<Taken<K, V>>, &mut Self)
-        ensures same { result.1.ghost_name ≡ self.entry.ghost_name }
+        ensures same_map { result.1.ghost_name ≡ self.entry.ghost_name }
         ensures popped { IsPopped K.eq end self.old result.1.now }
         ensures taken { IsTaken result.1.now.slots.keys
             (popped_pair K.eq end self.old.lists.pairs) result.0 }
@@ -58,7 +58,7 @@ impl<K: Eq + Hash, V, S: BuildHasher, A: Allocator> ListOrderedMultimap<K, V, S,
 
     /// The map, which is only read from now on until the loan ends.
     fn as_shared(&mut self) -> &Self
-        ensures* rests { sem 𝓛 (ends_same K.row V.row S.row A.row S.Hasher.row K.Hash
+        ensures* rest { sem 𝓛 (ends_same K.row V.row S.row A.row S.Hasher.row K.Hash
             S.BuildHasher S.Hasher.Hasher A.Allocator self.entry) }
         ensures same { result.now ≡ self.old }
     {
@@ -94,7 +94,7 @@ impl<K: Eq + Hash, V, S: BuildHasher, A: Allocator> ListOrderedMultimap<K, V, S,
 
     /// Takes the pair at an end out, and returns it with its key.
     fn pop_end(&mut self, end: End) -> Option<(KeyWrapper<'_, K>, V)>
-        ensures* map { sem 𝓛 (ends_popped K.row V.row S.row A.row S.Hasher.row K.Hash
+        ensures* ends { sem 𝓛 (ends_popped K.row V.row S.row A.row S.Hasher.row K.Hash
             S.BuildHasher S.Hasher.Hasher A.Allocator end self.entry) }
         ensures popped { option_map popped_of result ≡ popped_pair K.eq end self.old.lists.pairs }
     {
@@ -133,7 +133,7 @@ impl<K: Eq + Hash, V, S: BuildHasher, A: Allocator> ListOrderedMultimap<K, V, S,
     /// assert_eq!(rt; map.pop_front(), None);
     /// ```
     pub fn pop_front(&mut self) -> Option<(KeyWrapper<'_, K>, V)>
-        ensures* map { sem 𝓛 (ends_popped K.row V.row S.row A.row S.Hasher.row K.Hash
+        ensures* ends { sem 𝓛 (ends_popped K.row V.row S.row A.row S.Hasher.row K.Hash
             S.BuildHasher S.Hasher.Hasher A.Allocator Front self.entry) }
         ensures popped { option_map popped_of result ≡ popped_pair K.eq Front self.old.lists.pairs }
     {
@@ -170,7 +170,7 @@ impl<K: Eq + Hash, V, S: BuildHasher, A: Allocator> ListOrderedMultimap<K, V, S,
     /// assert!(rt; map.iter().eq([(&"line", &1)]));
     /// ```
     pub fn pop_back(&mut self) -> Option<(KeyWrapper<'_, K>, V)>
-        ensures* map { sem 𝓛 (ends_popped K.row V.row S.row A.row S.Hasher.row K.Hash
+        ensures* ends { sem 𝓛 (ends_popped K.row V.row S.row A.row S.Hasher.row K.Hash
             S.BuildHasher S.Hasher.Hasher A.Allocator Back self.entry) }
         ensures popped { option_map popped_of result ≡ popped_pair K.eq Back self.old.lists.pairs }
     {

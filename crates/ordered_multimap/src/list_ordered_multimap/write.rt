@@ -186,7 +186,7 @@ impl<K: Eq + Hash, V, S: BuildHasher, A: Allocator> ListOrderedMultimap<K, V, S,
     /// Whether there is a pair, and the map is handed back.
     fn has_pair_on(&mut self) -> (bool, &mut Self)
         ensures some { result.0 ≡ nat_lt 0 (length self.old.lists.pairs) }
-        ensures same { result.1.ghost_name ≡ self.entry.ghost_name }
+        ensures same_map { result.1.ghost_name ≡ self.entry.ghost_name }
         ensures now { result.1.now ≡ self.old }
     {
         let some = 0 < self.values_len();

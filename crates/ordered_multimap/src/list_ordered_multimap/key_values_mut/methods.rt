@@ -165,7 +165,7 @@ impl<'map, K: Eq + Hash, V, S: BuildHasher, A: Allocator> KeyValuesMut<'map, K, 
     /// Takes the place of the key at the end, if one is left, and hands the walk back.
     #[inline(always)]
     fn step(&mut self, end: End) -> (Option<usize>, &mut Self)
-        ensures same { result.1.ghost_name ≡ self.entry.ghost_name }
+        ensures same_map { result.1.ghost_name ≡ self.entry.ghost_name }
         ensures map { result.1.now.map ≡ self.old.map }
         ensures listed { IfSome result.0 (λ place. IsIn place self.old.map.now.slots.keys.order) }
         ensures key { option_and_then (item_at self.old.map.now.slots.keys) result.0

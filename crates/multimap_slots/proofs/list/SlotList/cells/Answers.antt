@@ -7,7 +7,7 @@ returns g c =
     let l = c.lend-cells.ensures.lent in (
       (refl, λ w. refl),
       record {
-        lends = tt;
+        writes_back = tt;
         lent = lends_slots _ _ l.made l.order_is l.links_are c.len-len.ensures.sound;
         sound = c.len-len.ensures.sound;
         ends = l.ends;

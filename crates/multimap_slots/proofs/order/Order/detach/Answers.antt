@@ -5,7 +5,7 @@ use Rattle.multimap_slots.proofs.Nodes.Detached.{detached-apart}
 use Rattle.multimap_slots.proofs.Nodes.OneField.{field_read, length-states, within_more}
 use Rattle.multimap_slots.proofs.Nodes.Linked.{split_at, split_in, split_within, neighbours, first-within, last-within, listed-within}
 use Rattle.multimap_slots.proofs.Nodes.Linked.{walk-length}
-use Rattle.multimap_slots.proofs.Nodes.Left.{IsOrdered-detach, walk-removed, length-walk_removed, was_before, was_behind}
+use Rattle.multimap_slots.proofs.Nodes.Unlinked.{IsOrdered-detach, walk-removed, length-walk_removed, was_before, was_behind}
 use Rattle.multimap_slots.proofs.order.Order.detach.Goals as goal
 
 pub index-requires : goal.index-requires

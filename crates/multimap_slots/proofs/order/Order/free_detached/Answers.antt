@@ -1,7 +1,7 @@
 use Rattle.std.proofs.Common.{arith, rules}
 use Rattle.std.proofs.lemmas.List.{length-map}
 use Rattle.multimap_slots.proofs.Nodes.Linked.{taken-within, apart-is, apart-some}
-use Rattle.multimap_slots.proofs.Nodes.Left.{IsOrdered-free, walk-kept}
+use Rattle.multimap_slots.proofs.Nodes.Unlinked.{IsOrdered-free, walk-kept}
 use Rattle.multimap_slots.proofs.order.Order.free_detached.Goals as goal
 
 pub overflow_sub-self : goal.overflow_sub-self

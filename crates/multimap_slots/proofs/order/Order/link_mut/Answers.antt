@@ -27,7 +27,7 @@ returns g c =
         ),
       ),
       record {
-        lends = tt;
+        writes_back = tt;
         value = rw (← c.self.view_is) (link_read c.self.inside.nodes.items c.args.place c.index_mut.result.now within read);
       },
     )

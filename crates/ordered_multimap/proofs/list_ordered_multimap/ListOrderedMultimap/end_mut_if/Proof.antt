@@ -1,5 +1,5 @@
 -- `end_mut_if` holds the map for writing, and an end. Assumes `Logic`.
--- It calls `checked`, which tells whether there is a pair, and where there is one `end_mut`, which lends its value.
+-- It calls `has_pair_on`, which tells whether there is a pair, and where there is one `end_mut`, which lends its value.
 -- It gives back that value and how the map then ends, or nothing, and that the map ends as it is.
 use Rattle.std.proofs.Common.{◌≡◌, ◌<◌, Bool, true, false, not, List, [], ◌∷◌, refl, sym, ap, ◌∙◌, subst, length, nat_lt, option_map, lit<}
 use Rattle.std.proofs.Common.{arith}

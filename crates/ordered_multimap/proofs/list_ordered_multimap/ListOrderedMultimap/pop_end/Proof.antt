@@ -1,5 +1,5 @@
 -- `pop_end` holds the map for writing, and an end. Assumes `Logic`.
--- It calls `take_end_on`, which takes the pair out, `settle`, which makes the map one to read, and `wrapped`, which hands out the key.
+-- It calls `take_end_on`, which takes the pair out, `as_shared`, from which on the map is only read, and `wrapped`, which hands out the key.
 -- It gives back that pair, and that the map ends without it.
 use Rattle.std.proofs.Common.{◌≡◌, List, [], ◌∷◌, refl, sym, ap, ◌∙◌, subst, Option, option_map}
 use mathlib.Core.Option.{none}

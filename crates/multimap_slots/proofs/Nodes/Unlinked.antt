@@ -109,8 +109,8 @@ module _ {L : Type 0} where
     ]
 
     -- the free places are as they were
-    left_frees : IsFreeList (nexts new) (states new) o.vacant free
-    left_frees =
+    frees_kept : IsFreeList (nexts new) (states new) o.vacant free
+    frees_kept =
         marks-frees m (λ e. let bad = sym was_listed ∙ e in cc) o.vacant free
         (free-agree (nexts old) (nexts both) (states old) (states both) o.vacant free (λ q k below later.
         let here = free_here (nexts old) (states old) k q later in
@@ -121,10 +121,10 @@ module _ {L : Type 0} where
         }) o.frees)
 
     -- the neighbours are tied to each other, and the place has a state of its own
-    IsOrdered-leave : state ≢ Listed → (free' : Option ℕ) (vacant' : ℕ) → vacant' + one_if_detached state ≡ o.vacant + 1
+    IsOrdered-unlink : state ≢ Listed → (free' : Option ℕ) (vacant' : ℕ) → vacant' + one_if_detached state ≡ o.vacant + 1
         → IsFreeList (nexts new) (states new) vacant' free'
         → HasOrder new front' back' free' (len - 1) (detached + one_if_detached state) (s.front ++ s.back)
-    IsOrdered-leave unlisted free' vacant' one_more frees = record {
+    IsOrdered-unlink unlisted free' vacant' one_more frees = record {
       ordered = record {
         order = s.front ++ s.back;
         path = path-agree (after front' (nexts tied)) (after back' (previouses both)) (after front' (nexts new))
@@ -179,7 +179,7 @@ module _ {L : Type 0} where
     -- the place that has left is neither listed nor free
     pub IsOrdered-detach : SetsDetached both new place → HasOrder new front' back' free (len - 1) (detached + 1) (s.front ++ s.back)
     IsOrdered-detach written =
-        IsOrdered-leave o s forth backward m before behind (λ e. cc) free o.vacant refl (left_frees o s forth backward m before behind)
+        IsOrdered-unlink o s forth backward m before behind (λ e. cc) free o.vacant refl (frees_kept o s forth backward m before behind)
       where
         m : Marks both new place Detached
         m = Marks-detached both new place written
