@@ -3,9 +3,9 @@
 //! Standard input holds settings up to a line `---`, and a question on each line below it. A line
 //! `[SECTION]` opens a section, and `KEY = VALUE` is a setting of the section that is open, or above
 //! the first one of none. A key has no dot, and may stand several times; sections of one name are
-//! one. Blanks around a line, a name, a key or a value count for nothing, nor do empty lines, a byte
+//! one. Blanks around a line, a name, a key or a value are ignored, and so are empty lines, a byte
 //! order mark at the start of the input, and above `---` lines that begin with `;` or `#`. What
-//! stands behind `=` is the value, a `;` or `#` in it too.
+//! follows `=` is the value, with any `;` or `#` in it.
 //!
 //! | Question | The answer |
 //! |---|---|

@@ -8,15 +8,15 @@
 //! | `get NAME` | writes the name's first header |
 //! | `all NAME` | writes each header of the name |
 //! | `joined NAME` | writes one header with the name's values, a comma and a space between them |
-//! | `set NAME VALUE` | takes the headers of the name out, and puts this one last |
-//! | `add NAME VALUE` | puts a header last |
-//! | `remove NAME` | takes the headers of the name out |
+//! | `set NAME VALUE` | removes the headers of the name, and adds this one at the end |
+//! | `add NAME VALUE` | adds a header at the end |
+//! | `remove NAME` | removes the headers of the name |
 //! | `write` | writes all headers in order, each name as it was first spelled |
 //!
 //! The values of `set-cookie` can't be joined, so `joined` writes them as `all` does. Headers are
 //! written as `NAME: VALUE`, and by the first three commands with the name as the command spells
 //! it. Of an absent name they write `no NAME`, which is no header. Empty lines among the commands
-//! count for nothing.
+//! are ignored.
 //!
 //! The exit status is 0, or 2 where a line is bad, as one with a name or a value that RFC 9110
 //! forbids, 3 when out of memory, or 4 where the system gave no random seed or where standard

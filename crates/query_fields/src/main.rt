@@ -8,14 +8,14 @@
 //! |---|---|
 //! | `get NAME` | writes the name's first value, or `none` |
 //! | `all NAME` | writes each value of the name |
-//! | `set NAME=VALUE` | gives the name's first field this value, and takes its others out |
-//! | `add NAME=VALUE` | puts a field last |
-//! | `remove NAME` | takes the fields of the name out |
+//! | `set NAME=VALUE` | gives the name's first field this value, and removes its others |
+//! | `add NAME=VALUE` | adds a field at the end |
+//! | `remove NAME` | removes the fields of the name |
 //! | `write` | writes the query of all fields, in order |
 //!
-//! `set` of an absent name puts a field last. A name without `=` has the empty value. `get` and `all`
-//! write a value as it is, with a line feed in it too. Empty lines among the commands count for
-//! nothing.
+//! `set` of an absent name adds a field at the end. A name without `=` has the empty value. `get` and
+//! `all` write a value as it is, with a line feed in it too. Empty lines among the commands are
+//! ignored.
 //!
 //! The exit status is 0, or 2 where a line is bad, as one with an escape that stands for no UTF-8
 //! text, 3 when out of memory, or 4 where the system gave no random seed or where standard input or
