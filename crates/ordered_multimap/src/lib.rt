@@ -1,4 +1,138 @@
-//! `ListOrderedMultimap`, a multimap that remembers the order of its pairs and of its keys.
+//! A hash multimap that keeps its pairs in insertion order, and its keys in an order of their own.
+//!
+//! A [`ListOrderedMultimap`] maps each key to one or more values, and keeps two lists:
+//!
+//! - the pairs, in insertion order;
+//! - the keys, in the order in which each last became present.
+//!
+//! ```text
+//! append line 1, append page 8, append line 2
+//!     pairs      line=1  page=8  line=2      iter, values, front, back, pop_front
+//!     keys       line  page                  keys, pairs
+//!     line       1, 2                        get, get_all
+//! insert line 3, which replaces the values of line
+//!     pairs      page=8  line=3
+//!     keys       line  page
+//! append page 9, but out of memory
+//!     Err(Refused { key: page, value: 9 }), and both lists are as before
+//! ```
+//!
+//! # When to use it
+//!
+//! Use `ListOrderedMultimap` when
+//!
+//! - a key may have several values, and the order of all pairs matters: headers, the query of a
+//!   URL, forms, configuration files;
+//! - you group by a key, and want the groups in the order in which they first came;
+//! - running out of memory has to be an error that you handle, without losing the pair.
+//!
+//! Use `SetOrderedMultimap` of the crate `set_ordered_multimap` when no pair may occur twice, as
+//! for tags of a document: it inserts a pair only if no equal one is there, and lends no value for
+//! writing.
+//!
+//! Use the kit's `IndexMap<K, Vec<V>>` when the order of all pairs doesn't matter, and its
+//! `HashMap<K, Vec<V>>` when no order does.
+//!
+//! # What the calls cost
+//!
+//! Here *n* is the number of pairs, and *v* the number of values of the key. A lookup hashes the
+//! key once.
+//!
+//! | Calls | Cost |
+//! |---|---|
+//! | `get`, `get_mut`, `contains_key`, `entry_len`, `entry` | *O*(1) expected |
+//! | `front`, `back`, `front_mut`, `back_mut`, `is_empty`, lengths, capacities | *O*(1) |
+//! | `iter`, `keys`, `values`, `pairs`, and their `_mut` | *O*(1), *O*(1) for each item |
+//! | `get_all`, `get_all_mut` | *O*(1) expected, *O*(1) for each item |
+//! | `append`, `entry(..).or_insert` | *O*(1) expected, amortized |
+//! | `insert`, `insert_all` | *O*(*v*) expected, amortized |
+//! | `remove`, `remove_entry`, `remove_all`, `remove_entry_all` | *O*(*v*) expected |
+//! | `pop_front`, `pop_back` | *O*(1) expected |
+//! | `retain`, `update_values`, `clear`, `clone`, `==`, `pack_to`, `pack_to_fit` | *O*(*n*) |
+//!
+//! Removals leave holes among the values. A call that makes room may move values into them, at most
+//! one for each value that was removed before.
+//!
+//! # When memory runs out
+//!
+//! A call that may allocate returns a `Result`, and the others can't fail: lookups, removals,
+//! writes in place, and iteration. An addition never fails where the capacities suffice.
+//!
+//! - An addition returns [`Refused`] with the key and the value, or [`RefusedValue`] with the value
+//!   where an [`OccupiedEntry`] has the key. Both lists are as before; capacities may have grown.
+//! - `extend` returns the refused pair, and keeps the pairs before it. `from_iter` returns the
+//!   refused pair, and drops those before it. std's `Extend` and `FromIterator` drop the refused
+//!   pair too.
+//! - The constructors with capacities, `reserve_keys`, `reserve_values`, `pack_to`, `pack_to_fit`
+//!   and `clone` return `AllocError`.
+//! - An item of [`IntoIter`] is a `Result`, because each key is cloned: [`UnclonedKey`] has the
+//!   value.
+//!
+//! `?` converts each of these errors into an `AllocError` or an `io::Error`.
+//!
+//! # Keys that others choose
+//!
+//! The default hash builder, [`DefaultState`], has a fixed seed. So whoever chooses the keys can
+//! choose keys of equal hashes, and a lookup then compares all of them: *O*(*n*). For keys from
+//! people whom you don't trust, make the map by `with_hasher` with a [`RandomState`], whose seed
+//! `RandomState::new(&rt)` takes from the operating system.
+//!
+//! # Examples
+//!
+//! In the examples of this crate `rt` is the runtime that `main` or a test is given, as in `fn
+//! main(rt: HostRuntime)`. Each example is the body of a function that returns `Result<(),
+//! AllocError>`.
+//!
+//! ```
+//! use ordered_multimap::{KeyWrapper, ListOrderedMultimap, Refused};
+//!
+//! let mut map = ListOrderedMultimap::new(rt.alloc());
+//! map.append("line", 1)?;
+//! map.append("page", 8)?;
+//! map.append("line", 2)?;
+//!
+//! // All pairs, the keys, and the values of one key.
+//! assert!(rt; map.iter().eq([(&"line", &1), (&"page", &8), (&"line", &2)]));
+//! assert!(rt; map.keys().eq(&["line", "page"]));
+//! assert!(rt; map.get_all("line").eq(&[1, 2]));
+//!
+//! // Replaces the values of `line`: the new pair comes last, and the key keeps its place.
+//! assert_eq!(rt; map.insert("line", 3)?, Some(1));
+//! assert!(rt; map.iter().eq([(&"page", &8), (&"line", &3)]));
+//! assert!(rt; map.keys().eq(&["line", "page"]));
+//!
+//! // Writes in place.
+//! if let Some(value) = map.get_mut("page") {
+//!     *value = 9;
+//! }
+//!
+//! // Keeps a pair that wasn't added.
+//! let mut kept = None;
+//! if let Err(Refused { key, value }) = map.append("page", 10) {
+//!     kept = Some((key, value));
+//! }
+//! assert_eq!(rt; kept, None);
+//!
+//! // Removes from an end, or by the key.
+//! assert_eq!(rt; map.pop_front(), Some((KeyWrapper::Borrowed(&"page"), 9)));
+//! assert_eq!(rt; map.remove("page"), Some(10));
+//! assert!(rt; map.iter().eq([(&"line", &3)]));
+//! ```
+//!
+//! A map with a random seed:
+//!
+//! ```
+//! use ordered_multimap::{ListOrderedMultimap, RandomState};
+//! use std::alloc::AllocError;
+//!
+//! let state = RandomState::new(&rt).map_err(|_| AllocError)?;
+//! let mut map = ListOrderedMultimap::with_hasher(rt.alloc(), state);
+//! map.append("line", 1)?;
+//! assert_eq!(rt; map.get("line"), Some(&1));
+//! ```
+//!
+//! Proved callers: see docs/PROVED_CALLERS.md, on which the comments of calls have a line where a
+//! proof needs more than they say.
 #![tactic(auto)]
 
 pub mod laws;

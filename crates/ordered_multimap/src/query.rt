@@ -1,4 +1,4 @@
-//! What a look-up takes in the place of a key.
+//! What a lookup takes in the place of a key.
 ghost use Rattle.std.specs.Prelude.{◌≡◌, Bool, IsTrue, Option, Some};
 
 mod slices;
@@ -6,15 +6,33 @@ mod texts;
 
 use std::hash::Hash;
 
-/// What a look-up takes in the place of a key of type `K`.
+/// A query: what a lookup takes in the place of a reference to a key of type `K`.
 ///
-/// It is given for a `&K` at any keys, for a `&str` at keys that are texts (`String`, `&str`,
-/// `BoxedStr`, `RcStr`, `CowStr`), and for a `&[T]` at keys that are lists (`Vec<T>`, `&[T]`,
-/// `BoxedSlice<T>`, `CowSlice<T>`). So `map.get("line")` looks up a `String` without making one.
+/// It is implemented for
 ///
-/// A type of your own can be a query too, as long as it is copied at no cost: say by `equivalent`
-/// which keys it stands for, and hash it as each of these keys is hashed. Its laws are proved where
-/// it is declared.
+/// - `&K`, for keys of any type `K`;
+/// - `&str`, for keys that are strings: `String`, `&str`, `BoxedStr`, `RcStr`, `CowStr`;
+/// - `&[T]`, for keys that are slices: `Vec<T>`, `&[T]`, `BoxedSlice<T>`, `CowSlice<T>`.
+///
+/// So `map.get("line")` looks up a `String` key without allocating a `String`. It is what `Borrow`
+/// is to std's maps, and is passed by value.
+///
+/// Your own `Copy` type can be a query too. Its `equivalent` says for which keys it stands, and it
+/// has to be hashed as each of those keys is. The file
+/// `crates/ordered_multimap_tests/src/tests/queries/names.rt` looks up header names in any case.
+///
+/// Proved callers: see docs/PROVED_CALLERS.md.
+///
+/// # Examples
+///
+/// ```
+/// use ordered_multimap::ListOrderedMultimap;
+///
+/// let mut map = ListOrderedMultimap::new(rt.alloc());
+/// map.append(String::from_str(rt.alloc(), "line")?, 1)?;
+/// assert_eq!(rt; map.get("line"), Some(&1));
+/// assert!(rt; !map.contains_key("word"));
+/// ```
 pub trait KeyQuery<K: Eq + Hash>: Copy + Hash {
     // The keys that the query stands for.
     ghost equivalent: { Self → K → Bool };
@@ -22,7 +40,23 @@ pub trait KeyQuery<K: Eq + Hash>: Copy + Hash {
     // The key that the query itself is, where it is one. What a call says of an absent key names it.
     ghost as_key: { Self → Option K };
 
-    /// Whether the query stands for the key.
+    /// Returns `true` if the query stands for the key.
+    ///
+    /// # Requires
+    ///
+    /// An implementation has to be lawful: a query has the hash of each key for which it stands,
+    /// and if it stands for a key, it stands for all keys that are equal to that one, and for no
+    /// other. Both are proved where the implementation is declared.
+    ///
+    /// # Examples
+    ///
+    /// ```
+    /// use ordered_multimap::KeyQuery;
+    ///
+    /// let key = String::from_str(rt.alloc(), "line")?;
+    /// assert!(rt; "line".equivalent(&key));
+    /// assert!(rt; !"word".equivalent(&key));
+    /// ```
     fn equivalent(&self, key: &K) -> bool
         ensures { result ≡ equivalent self.now key.now };
 
@@ -35,7 +69,7 @@ pub trait KeyQuery<K: Eq + Hash>: Copy + Hash {
         → equivalent q y ≡ K.eq x y };
 }
 
-/// A key stands for the keys that are equal to it.
+/// A reference to a key stands for all keys that are equal to it.
 impl<K: Eq + Hash> KeyQuery<K> for &K {
     ghost equivalent = { λ q. K.eq q.now };
 

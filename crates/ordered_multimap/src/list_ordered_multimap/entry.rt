@@ -1,10 +1,12 @@
-//! A key's place in the map: occupied where the key is present, and else vacant.
+//! The entry of a key: a view of it that was looked up once.
 ghost use Rattle.std.specs.Prelude.{◌≡◌, true, false};
 ghost use Rattle.ordered_multimap.specs.Agrees.{hash_of};
 ghost use Rattle.ordered_multimap.specs.Keys.{is_listed};
 ghost use Rattle.ordered_multimap.specs.Pairs.{is_present};
 ghost use Rattle.ordered_multimap.specs.Private.Remove.{among};
 
+mod changed;
+mod drained;
 mod methods;
 mod occupied;
 mod remove_at;
@@ -15,17 +17,37 @@ use super::{DefaultState, ListOrderedMultimap};
 use std::alloc::{Allocator, Global};
 use std::hash::{BuildHasher, Hash};
 
-/// The entry of a key: of one that is present, or of one that isn't. It borrows the map.
+/// A view of one key of a map, which is either occupied or vacant.
+///
+/// This enum is created by [`ListOrderedMultimap::entry`], which looks the key up once. It borrows
+/// the map mutably.
+///
+/// # Examples
+///
+/// ```
+/// use ordered_multimap::{Entry, ListOrderedMultimap};
+///
+/// let mut map = ListOrderedMultimap::new(rt.alloc());
+/// map.append("line", 1)?;
+/// match map.entry("line") {
+///     Entry::Occupied(mut entry) => entry.append(2)?,
+///     Entry::Vacant(entry) => *entry.insert(0)? = 1,
+/// }
+/// assert!(rt; map.get_all("line").eq(&[1, 2]));
+/// ```
 #[derive(Drop)]
 pub enum Entry<'map, K: Eq + Hash, V, S: BuildHasher = DefaultState, A: Allocator = Global> {
-    /// The key is present.
+    /// An occupied entry: the key is present, and has one or more values.
     Occupied(OccupiedEntry<'map, K, V, S, A>),
-    /// The key is absent.
+    /// A vacant entry: the key is absent.
     Vacant(VacantEntry<'map, K, V, S, A>),
 }
 
-/// The entry of a key that is present. It keeps the place of the stored key, so that none of its
-/// calls looks the key up again.
+/// The entry of a key that is present. It is part of the [`Entry`] enum.
+///
+/// The entry keeps the position of the stored key, so none of its calls looks the key up again. Its
+/// key has at least one value for as long as the entry lives: see [`len`](Self::len). See [`Entry`]
+/// for an example.
 #[derive(Drop)]
 pub struct OccupiedEntry<
     'map,
@@ -39,7 +61,10 @@ pub struct OccupiedEntry<
     ghost listed: { among map.now.slots.keys.order place ≡ true },
 }
 
-/// The entry of a key that is absent. It keeps the key and its hash.
+/// The entry of a key that is absent. It is part of the [`Entry`] enum.
+///
+/// The entry keeps the key that was passed to [`ListOrderedMultimap::entry`], and its hash, so that
+/// an insertion doesn't hash it again. See [`Entry`] for an example.
 #[derive(Drop)]
 pub struct VacantEntry<
     'map,

@@ -1,4 +1,4 @@
-//! The pairs of a map that is given up, handed out one by one.
+//! The iterator that takes a map apart.
 ghost use Rattle.std.specs.Prelude.{◌≡◌, length, MatchOption};
 ghost use Rattle.std.specs.Iterator.{at_most};
 ghost use Rattle.multimap_slots.specs.Lists.{without};
@@ -18,10 +18,13 @@ use std::hash::{BuildHasher, Hash};
 use std::iter::FusedIterator;
 use std::marker::Model;
 
-/// The pairs of a map that was given up, oldest first, from both ends.
+/// An owning iterator over the pairs of a map, in insertion order.
 ///
-/// Each item has a clone of its key, or the value alone where the clone was refused memory; the
-/// walk goes on behind it. What it has not given is dropped with it.
+/// This struct is created by the `into_iter` method of [`ListOrderedMultimap`]. It iterates from
+/// both ends, and knows its length. Each item is a `Result`: a pair with a clone of its key, or
+/// [`UnclonedKey`] with the value alone where the clone ran out of memory. The iterator goes on
+/// behind such an item. A key is cloned for each of its values, the last one included. Pairs that
+/// weren't taken are dropped with the iterator.
 #[derive(Drop)]
 pub struct IntoIter<K, V, A: Allocator = Global> {
     keys: SlotList<K, KeyLink, A>,
@@ -47,10 +50,35 @@ impl<K: Eq + Hash + Clone, V: Drop, S: BuildHasher + Drop, A: Allocator> IntoIte
 
     ghost into_iter_gives = { λ m r. r ≡ m.lists.pairs };
 
-    /// All pairs, oldest first, each handed out with a clone of its key. The map is given up.
+    /// Consumes the map, and returns an iterator over its pairs, in insertion order.
+    ///
+    /// For the pairs by reference see [`iter`](Self::iter).
+    ///
+    /// # Errors
+    ///
+    /// The call can't fail. Each item is a `Result`: an item whose key can't be cloned is
+    /// [`UnclonedKey`] with the value, and the iterator goes on behind it. A clone that doesn't
+    /// allocate, as that of a number or a `&str`, never fails.
+    ///
+    /// # Complexity
+    ///
+    /// *O*(1), and *O*(1) and a clone of the key for each pair.
+    ///
+    /// # Examples
     ///
     /// ```
-    /// map.into_iter().next() == Some(Ok(("line", 1)))
+    /// use ordered_multimap::ListOrderedMultimap;
+    ///
+    /// let mut map = ListOrderedMultimap::new(rt.alloc());
+    /// map.append("line", 1)?;
+    /// map.append("page", 8)?;
+    /// map.append("line", 2)?;
+    /// let mut sum: u32 = 0;
+    /// for pair in map {
+    ///     let (_key, value) = pair?;
+    ///     sum = sum.saturating_add(value);
+    /// }
+    /// assert_eq!(rt; sum, 11);
     /// ```
     fn into_iter(self) -> IntoIter<K, V, A> {
         let ListOrderedMultimap {
@@ -65,10 +93,25 @@ impl<K: Eq + Hash + Clone, V: Drop, S: BuildHasher + Drop, A: Allocator> IntoIte
 }
 
 impl<K, V, A: Allocator> IntoIter<K, V, A> {
-    /// A walk over the pairs that are left, for reading.
+    /// Returns an iterator over the pairs that are left, by reference.
+    ///
+    /// It clones no key, and this iterator goes on where it is.
+    ///
+    /// # Complexity
+    ///
+    /// *O*(1), and *O*(1) for each pair.
+    ///
+    /// # Examples
     ///
     /// ```
-    /// map.into_iter().iter().len() == 3
+    /// use ordered_multimap::ListOrderedMultimap;
+    ///
+    /// let mut map = ListOrderedMultimap::new(rt.alloc());
+    /// map.append("line", 1)?;
+    /// map.append("page", 8)?;
+    /// let mut pairs = map.into_iter();
+    /// assert_eq!(rt; pairs.next(), Some(Ok(("line", 1))));
+    /// assert!(rt; pairs.iter().eq([(&"page", &8)]));
     /// ```
     pub fn iter(&self) -> Iter<'_, K, V, A>
         ensures { result ≡ self.now }

@@ -1,4 +1,4 @@
-//! The walk over all keys, each with a walk over its values for writing.
+//! The iterator of `pairs_mut`: the keys, each with an iterator over its values for writing.
 ghost use Rattle.multimap_walks.specs.Along.{AreLeft};
 
 mod methods;
@@ -8,8 +8,12 @@ use multimap_walks::ChainEnds;
 use std::alloc::{Allocator, Global};
 use std::hash::{BuildHasher, Hash};
 
-/// The keys of a map, in their order, each with a walk over its values for writing. It borrows the
-/// map, and lends it to one walk over values at a time.
+/// An iterator-like type over the keys of a map, each with an iterator over its values for writing.
+///
+/// This struct is created by [`ListOrderedMultimap::pairs_mut`]; see there for an example. It goes
+/// over the keys in their order, by [`next`](Self::next) and [`next_back`](Self::next_back). It
+/// doesn't implement `Iterator`, because each step borrows it until the values of that key are
+/// done.
 #[derive(Drop)]
 pub struct KeyValuesMut<
     'map,

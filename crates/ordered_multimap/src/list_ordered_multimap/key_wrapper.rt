@@ -1,13 +1,27 @@
-//! The key that a pop hands out with the value.
+//! The key that `pop_front` and `pop_back` return.
 ghost use Rattle.std.specs.Prelude.{◌≡◌, not, IfOk, IsOk};
 ghost use Rattle.ordered_multimap.specs.KeyWrappers.{is_owned, IsOwnKey, IsNeverRefused};
 
 use std::alloc::AllocError;
 
-/// The key of a pair that was popped: the map lends it while it has more values of it, and else
-/// hands it out.
+/// The key of a pair that was popped: borrowed if it stays in the map, and owned otherwise.
 ///
-/// A lent key and an owned one aren't equal, even where the keys are.
+/// This enum is returned by
+/// [`ListOrderedMultimap::pop_front`](crate::ListOrderedMultimap::pop_front) and
+/// [`pop_back`](crate::ListOrderedMultimap::pop_back). It is like a `Cow` of the key, but a
+/// borrowed key and an owned key are never equal, even where the keys are.
+///
+/// # Examples
+///
+/// ```
+/// use ordered_multimap::{KeyWrapper, ListOrderedMultimap};
+///
+/// let mut map = ListOrderedMultimap::new(rt.alloc());
+/// map.append("line", 1)?;
+/// map.append("line", 2)?;
+/// assert_eq!(rt; map.pop_front(), Some((KeyWrapper::Borrowed(&"line"), 1)));
+/// assert_eq!(rt; map.pop_front(), Some((KeyWrapper::Owned("line"), 2)));
+/// ```
 #[derive(Debug, Clone, Copy, PartialEq, Eq, Hash, Drop)]
 pub enum KeyWrapper<'map, K> {
     /// The key still has a value, and stays in the map.
@@ -17,10 +31,19 @@ pub enum KeyWrapper<'map, K> {
 }
 
 impl<K> KeyWrapper<'_, K> {
-    /// Whether the key was handed out.
+    /// Returns `true` if the key is owned, because its last value was popped.
+    ///
+    /// # Complexity
+    ///
+    /// *O*(1).
+    ///
+    /// # Examples
     ///
     /// ```
-    /// KeyWrapper::Owned("line").is_owned()
+    /// use ordered_multimap::KeyWrapper;
+    ///
+    /// assert!(rt; KeyWrapper::Owned("line").is_owned());
+    /// assert!(rt; !KeyWrapper::Borrowed(&"line").is_owned());
     /// ```
     pub fn is_owned(&self) -> bool
         ensures { result ≡ is_owned self.now }
@@ -31,10 +54,19 @@ impl<K> KeyWrapper<'_, K> {
         }
     }
 
-    /// Whether the key was lent, and the map has more values of it.
+    /// Returns `true` if the key is borrowed, because the map has more values of it.
+    ///
+    /// # Complexity
+    ///
+    /// *O*(1).
+    ///
+    /// # Examples
     ///
     /// ```
-    /// KeyWrapper::Borrowed(&"line").is_borrowed()
+    /// use ordered_multimap::KeyWrapper;
+    ///
+    /// assert!(rt; KeyWrapper::Borrowed(&"line").is_borrowed());
+    /// assert!(rt; !KeyWrapper::Owned("line").is_borrowed());
     /// ```
     pub fn is_borrowed(&self) -> bool
         ensures { result ≡ not (is_owned self.now) }
@@ -44,10 +76,28 @@ impl<K> KeyWrapper<'_, K> {
 }
 
 impl<K: Clone> KeyWrapper<'_, K> {
-    /// The key itself, which is cloned where it was lent. An owned key is never refused.
+    /// Returns the key itself, cloning it if it is borrowed.
+    ///
+    /// # Errors
+    ///
+    /// If the key is borrowed and its clone runs out of memory, returns `AllocError`. An owned key
+    /// never fails.
+    ///
+    /// # Complexity
+    ///
+    /// *O*(1), and a clone of a borrowed key.
+    ///
+    /// # Examples
     ///
     /// ```
-    /// KeyWrapper::Borrowed(&"line").into_owned() == Ok("line")
+    /// use ordered_multimap::ListOrderedMultimap;
+    ///
+    /// let mut map = ListOrderedMultimap::new(rt.alloc());
+    /// map.append("line", 1)?;
+    /// map.append("line", 2)?;
+    /// if let Some((key, value)) = map.pop_front() {
+    ///     assert_eq!(rt; (key.into_owned()?, value), ("line", 1));
+    /// }
     /// ```
     pub fn into_owned(self) -> Result<K, AllocError>
         ensures ok { IfOk result (IsOwnKey K.is_clone self.entry) }

@@ -1,20 +1,37 @@
-//! The errors of calls that found no memory. Their `Debug` asks nothing of keys and values, and
-//! shows none.
+//! The errors of calls that ran out of memory.
+//!
+//! Their `Debug` asks nothing of keys and values, and shows none.
 ghost use Rattle.std.specs.Prelude.{◌≡◌};
 
 use std::alloc::AllocError;
 use std::error::Error;
 use std::{fmt, io};
 
-/// Want of memory, with the pair that was to be stored.
+/// The error of an insertion that ran out of memory, with the pair that wasn't inserted.
 ///
-/// By `?` it becomes an [`AllocError`] or an [`io::Error`], which lets the pair go. An error type
-/// of your own that has a `From<AllocError>` takes it by `map_err(AllocError::from)?`.
+/// `?` converts it into an [`AllocError`] or an [`io::Error`], and drops the pair. For an error
+/// type of your own that has a `From<AllocError>`, write `map_err(AllocError::from)?`. `Debug`
+/// shows neither key nor value, so `unwrap` and `expect` ask nothing of their types.
+///
+/// # Examples
+///
+/// ```
+/// use ordered_multimap::{ListOrderedMultimap, Refused};
+///
+/// let mut map = ListOrderedMultimap::new(rt.alloc());
+/// let mut kept = None;
+/// match map.append("line", 1) {
+///     Ok(_present) => {}
+///     Err(Refused { key, value }) => kept = Some((key, value)),
+/// }
+/// assert_eq!(rt; kept, None);
+/// assert_eq!(rt; map.get("line"), Some(&1));
+/// ```
 #[derive(PartialEq, Eq, Drop)]
 pub struct Refused<K, V> {
-    /// The key that was handed in.
+    /// The key that was passed to the call.
     pub key: K,
-    /// The value that was handed in.
+    /// The value that was to be stored.
     pub value: V,
 }
 
@@ -53,13 +70,32 @@ impl<K: Drop, V: Drop> From<Refused<K, V>> for io::Error {
     }
 }
 
-/// Out of memory, with the value that was to be stored under a present key.
+/// The error of an insertion under a present key that ran out of memory, with the value.
 ///
-/// By `?` it becomes an [`AllocError`] or an [`io::Error`], which lets the value go. An error type
-/// of your own that has a `From<AllocError>` takes it by `map_err(AllocError::from)?`.
+/// It is returned by [`OccupiedEntry::append`](crate::OccupiedEntry::append) and
+/// [`OccupiedEntry::insert_all`](crate::OccupiedEntry::insert_all). `?` converts it into an
+/// [`AllocError`] or an [`io::Error`], and drops the value. For an error type of your own that has
+/// a `From<AllocError>`, write `map_err(AllocError::from)?`.
+///
+/// # Examples
+///
+/// ```
+/// use ordered_multimap::{Entry, ListOrderedMultimap, RefusedValue};
+///
+/// let mut map = ListOrderedMultimap::new(rt.alloc());
+/// map.append("line", 1)?;
+/// let mut kept = None;
+/// if let Entry::Occupied(mut entry) = map.entry("line") {
+///     if let Err(RefusedValue { value }) = entry.append(2) {
+///         kept = Some(value);
+///     }
+/// }
+/// assert_eq!(rt; kept, None);
+/// assert_eq!(rt; map.entry_len("line"), 2);
+/// ```
 #[derive(PartialEq, Eq, Drop)]
 pub struct RefusedValue<V> {
-    /// The value that was handed in.
+    /// The value that was passed to the call.
     pub value: V,
 }
 
@@ -98,13 +134,29 @@ impl<V: Drop> From<RefusedValue<V>> for io::Error {
     }
 }
 
-/// Out of memory for the clone of a key, with the value that was to be handed out with it.
+/// The error of a clone of a key that ran out of memory, with the value of that key.
 ///
-/// By `?` it becomes an [`AllocError`] or an [`io::Error`], which lets the value go. An error type
-/// of your own that has a `From<AllocError>` takes it by `map_err(AllocError::from)?`.
+/// It is an item of [`IntoIter`](crate::IntoIter). `?` converts it into an [`AllocError`] or an
+/// [`io::Error`], and drops the value. For an error type of your own that has a `From<AllocError>`,
+/// write `map_err(AllocError::from)?`.
+///
+/// # Examples
+///
+/// ```
+/// use ordered_multimap::{ListOrderedMultimap, UnclonedKey};
+///
+/// let mut map = ListOrderedMultimap::new(rt.alloc());
+/// map.append("line", 1)?;
+/// for pair in map {
+///     match pair {
+///         Ok((key, value)) => assert_eq!(rt; (key, value), ("line", 1)),
+///         Err(UnclonedKey { value }) => assert_eq!(rt; value, 1),
+///     }
+/// }
+/// ```
 #[derive(PartialEq, Eq, Drop)]
 pub struct UnclonedKey<V> {
-    /// The value of the pair.
+    /// The value of the pair, which has left the map.
     pub value: V,
 }
 

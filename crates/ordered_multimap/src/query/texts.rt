@@ -1,4 +1,4 @@
-//! Texts as queries for keys that are texts.
+//! Strings as queries for keys that are strings.
 ghost use Rattle.std.proofs.Common.{ap};
 ghost use Rattle.std.specs.Box.{boxed_str_bytes};
 ghost use Rattle.std.specs.Cmp.Lexicographic.{bytes_decides, nat_list_eq_equiv};
@@ -15,7 +15,7 @@ use std::borrow::CowStr;
 use std::boxed::BoxedStr;
 use std::rc::RcStr;
 
-/// A text stands for the `String` of the same bytes.
+/// A string slice stands for each `String` of the same bytes.
 impl<B: Allocator> KeyQuery<String<B>> for &str {
     ghost equivalent = { λ q k. bytes_eq q.now (string_bytes k) };
 
@@ -30,7 +30,7 @@ impl<B: Allocator> KeyQuery<String<B>> for &str {
     }
 }
 
-/// A text stands for the `&str` of the same bytes, however long either lives.
+/// A string slice stands for each `&str` of the same bytes, of any lifetime.
 impl<'k> KeyQuery<&'k str> for &str {
     ghost equivalent = { λ q k. bytes_eq q.now k.now };
 
@@ -45,7 +45,7 @@ impl<'k> KeyQuery<&'k str> for &str {
     }
 }
 
-/// A text stands for the `BoxedStr` of the same bytes.
+/// A string slice stands for each `BoxedStr` of the same bytes.
 impl<B: Allocator> KeyQuery<BoxedStr<B>> for &str {
     ghost equivalent = { λ q k. bytes_eq q.now (boxed_str_bytes k) };
 
@@ -62,7 +62,7 @@ impl<B: Allocator> KeyQuery<BoxedStr<B>> for &str {
     }
 }
 
-/// A text stands for the `RcStr` of the same bytes.
+/// A string slice stands for each `RcStr` of the same bytes.
 impl<B: Allocator> KeyQuery<RcStr<B>> for &str {
     ghost equivalent = { λ q k. bytes_eq q.now (rc_str_bytes k) };
 
@@ -78,7 +78,7 @@ impl<B: Allocator> KeyQuery<RcStr<B>> for &str {
     }
 }
 
-/// A text stands for the `CowStr` of the same bytes, lent or owned.
+/// A string slice stands for each `CowStr` of the same bytes, borrowed or owned.
 impl<'k, B: Allocator> KeyQuery<CowStr<'k, B>> for &str {
     ghost equivalent = { λ q k. bytes_eq q.now (cow_str_bytes k) };
 

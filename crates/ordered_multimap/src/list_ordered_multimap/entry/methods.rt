@@ -1,4 +1,4 @@
-//! `entry`, and the calls of an entry that is occupied or vacant.
+//! `ListOrderedMultimap::entry`, and the methods of `Entry`.
 ghost use Rattle.std.specs.Prelude.{◌≡◌, Some, None, true, false, IfErr, IfOk, unwrap_or};
 ghost use Rattle.std.specs.Borrow.{MutBor, sem};
 ghost use Rattle.std.specs.Option.{UnwrapsOrElse};
@@ -13,13 +13,27 @@ use std::alloc::Allocator;
 use std::hash::{BuildHasher, Hash};
 
 impl<K: Eq + Hash, V, S: BuildHasher, A: Allocator> ListOrderedMultimap<K, V, S, A> {
-    /// The entry of the key, occupied if it is present. Of an occupied entry the key that was
-    /// handed in is dropped: the map keeps the stored one.
+    /// Returns the entry of the key, for several operations after one lookup.
     ///
-    /// One look-up; no call of the entry needs another.
+    /// The entry is occupied if the key is present, and vacant otherwise. If it is occupied, the
+    /// `key` that was passed is dropped, since the map keeps the stored one. The call doesn't
+    /// allocate, and changes nothing.
+    ///
+    /// # Complexity
+    ///
+    /// *O*(1) expected. No call on the entry needs another lookup.
+    ///
+    /// # Examples
     ///
     /// ```
-    /// map.entry("line").or_insert(7)?;
+    /// use ordered_multimap::ListOrderedMultimap;
+    ///
+    /// let mut counts: ListOrderedMultimap<&str, u32> = ListOrderedMultimap::new(rt.alloc());
+    /// for word in ["line", "page", "line"] {
+    ///     let entry = counts.entry(word);
+    ///     entry.and_modify(|count| *count = count.saturating_add(1)).or_insert(1)?;
+    /// }
+    /// assert!(rt; counts.iter().eq([(&"line", &2), (&"page", &1)]));
     /// ```
     pub fn entry(&mut self, key: K) -> Entry<'_, K, V, S, A>
     where
@@ -42,11 +56,28 @@ impl<K: Eq + Hash, V, S: BuildHasher, A: Allocator> ListOrderedMultimap<K, V, S,
 }
 
 impl<'map, K: Eq + Hash, V, S: BuildHasher, A: Allocator> Entry<'map, K, V, S, A> {
-    /// Calls the function on the key's first value if the entry is occupied, and doesn't if it is
-    /// vacant. Returns the entry.
+    /// Calls `f` on the key's first value if the entry is occupied, and returns the entry.
+    ///
+    /// `f` isn't called if the entry is vacant. The pair keeps its place in both lists.
+    ///
+    /// # Complexity
+    ///
+    /// *O*(1), and one call of `f` at most.
+    ///
+    /// # Requires
+    ///
+    /// `f` may be called on the key's first value.
+    ///
+    /// # Examples
     ///
     /// ```
-    /// map.entry("line").and_modify(|value| *value = 9)
+    /// use ordered_multimap::ListOrderedMultimap;
+    ///
+    /// let mut map = ListOrderedMultimap::new(rt.alloc());
+    /// map.entry("line").and_modify(|value| *value = 9).or_insert(42)?;
+    /// assert_eq!(rt; map.get("line"), Some(&42));
+    /// map.entry("line").and_modify(|value| *value = 9).or_insert(42)?;
+    /// assert_eq!(rt; map.get("line"), Some(&9));
     /// ```
     pub fn and_modify<F: FnOnce(&mut V)>(self, f: F) -> Self
         requires { (p : MutBor V) → is_occupied self ≡ true
@@ -68,12 +99,31 @@ impl<'map, K: Eq + Hash, V, S: BuildHasher, A: Allocator> Entry<'map, K, V, S, A
 }
 
 impl<'map, K: Eq + Hash, V: Drop, S: BuildHasher, A: Allocator + Copy> Entry<'map, K, V, S, A> {
-    /// The key's first value, to write, if the entry is occupied; the value handed in is dropped
-    /// then. Else puts the pair last, as `append` does without a look-up, and lends its value.
-    /// Where memory is refused, it hands back the pair, and both lists are as before.
+    /// Returns a mutable reference to the key's first value, appending one if the entry is vacant.
+    ///
+    /// A new pair comes last in both lists, as by [`append`](crate::ListOrderedMultimap::append).
+    /// If the entry is occupied, `value` is dropped, and nothing changes. To build the value only
+    /// where it is needed, see [`or_insert_with`](Self::or_insert_with).
+    ///
+    /// # Errors
+    ///
+    /// If the entry is vacant and memory allocation fails, returns [`Refused`] with the key and
+    /// `value`. Both lists are unchanged; capacities may have grown. An occupied entry never fails.
+    ///
+    /// # Complexity
+    ///
+    /// *O*(1) amortized, without a lookup.
+    ///
+    /// # Examples
     ///
     /// ```
-    /// *map.entry("page").or_insert(0)? = 9;
+    /// use ordered_multimap::ListOrderedMultimap;
+    ///
+    /// let mut map = ListOrderedMultimap::new(rt.alloc());
+    /// map.append("line", 1)?;
+    /// assert_eq!(rt; map.entry("line").or_insert(7)?, &1);
+    /// *map.entry("page").or_insert(0)? = 8;
+    /// assert!(rt; map.iter().eq([(&"line", &1), (&"page", &8)]));
     /// ```
     pub fn or_insert(self, value: V) -> Result<&'map mut V, Refused<K, V>>
         ensures* writes_back { sem 𝓛 (lends_entered K.row V.row S.row A.row S.Hasher.row
@@ -90,12 +140,35 @@ impl<'map, K: Eq + Hash, V: Drop, S: BuildHasher, A: Allocator + Copy> Entry<'ma
         }
     }
 
-    /// The key's first value, to write, as [`or_insert`](Self::or_insert) lends it. The value of a
-    /// pair that is put last is the one that the function returns; it is called only if the entry
-    /// is vacant.
+    /// Returns a mutable reference to the key's first value, appending the result of `f` if vacant.
+    ///
+    /// `f` is called only if the entry is vacant. The new pair comes last in both lists, as by
+    /// [`or_insert`](Self::or_insert).
+    ///
+    /// # Errors
+    ///
+    /// If the entry is vacant and memory allocation fails, returns [`Refused`] with the key and the
+    /// value that `f` returned. Both lists are unchanged; capacities may have grown. An occupied
+    /// entry never fails.
+    ///
+    /// # Complexity
+    ///
+    /// *O*(1) amortized, without a lookup, and one call of `f` at most.
+    ///
+    /// # Requires
+    ///
+    /// `f` may be called if the entry is vacant.
+    ///
+    /// # Examples
     ///
     /// ```
+    /// use ordered_multimap::ListOrderedMultimap;
+    ///
+    /// let mut map = ListOrderedMultimap::new(rt.alloc());
+    /// map.append("line", 1)?;
+    /// map.entry("line").or_insert_with(|| 7)?;
     /// map.entry("page").or_insert_with(|| 42)?;
+    /// assert!(rt; map.iter().eq([(&"line", &1), (&"page", &42)]));
     /// ```
     pub fn or_insert_with<F: FnOnce() -> V>(self, f: F) -> Result<&'map mut V, Refused<K, V>>
         requires { is_occupied self ≡ false → F.pre f }
@@ -113,12 +186,29 @@ impl<'map, K: Eq + Hash, V: Drop, S: BuildHasher, A: Allocator + Copy> Entry<'ma
         }
     }
 
-    /// The entry, if it is occupied; the value handed in is dropped then. Else puts the pair last,
-    /// and returns the entry, which is occupied now. Where memory is refused, it hands back the
-    /// pair, and both lists are as before.
+    /// Returns the occupied entry of the key, appending the pair if the entry is vacant.
+    ///
+    /// A new pair comes last in both lists. If the entry is occupied, `value` is dropped, and
+    /// nothing changes. For a reference to the first value see [`or_insert`](Self::or_insert).
+    ///
+    /// # Errors
+    ///
+    /// If the entry is vacant and memory allocation fails, returns [`Refused`] with the key and
+    /// `value`. Both lists are unchanged; capacities may have grown. An occupied entry never fails.
+    ///
+    /// # Complexity
+    ///
+    /// *O*(1) amortized, without a lookup.
+    ///
+    /// # Examples
     ///
     /// ```
-    /// map.entry("page").or_insert_entry(42)?.len() == 1
+    /// use ordered_multimap::ListOrderedMultimap;
+    ///
+    /// let mut map = ListOrderedMultimap::new(rt.alloc());
+    /// let mut entry = map.entry("line").or_insert_entry(1)?;
+    /// entry.append(2)?;
+    /// assert!(rt; map.get_all("line").eq(&[1, 2]));
     /// ```
     pub fn or_insert_entry(self, value: V) -> Result<OccupiedEntry<'map, K, V, S, A>, Refused<K, V>>
         ensures* rest { sem 𝓛 (rests_with_entry K.row V.row S.row A.row S.Hasher.row A.Allocator
@@ -132,12 +222,33 @@ impl<'map, K: Eq + Hash, V: Drop, S: BuildHasher, A: Allocator + Copy> Entry<'ma
         self.or_insert_with_entry(|| value)
     }
 
-    /// The entry, occupied, as [`or_insert_entry`](Self::or_insert_entry) returns it. The value of
-    /// a pair that is put last is the one that the function returns; it is called only if the entry
-    /// is vacant.
+    /// Returns the occupied entry of the key, appending the result of `f` if vacant.
+    ///
+    /// `f` is called only if the entry is vacant. The new pair comes last in both lists, as by
+    /// [`or_insert_entry`](Self::or_insert_entry).
+    ///
+    /// # Errors
+    ///
+    /// If the entry is vacant and memory allocation fails, returns [`Refused`] with the key and the
+    /// value that `f` returned. Both lists are unchanged; capacities may have grown. An occupied
+    /// entry never fails.
+    ///
+    /// # Complexity
+    ///
+    /// *O*(1) amortized, without a lookup, and one call of `f` at most.
+    ///
+    /// # Requires
+    ///
+    /// `f` may be called if the entry is vacant.
+    ///
+    /// # Examples
     ///
     /// ```
-    /// map.entry("page").or_insert_with_entry(|| 42)?.len() == 1
+    /// use ordered_multimap::ListOrderedMultimap;
+    ///
+    /// let mut map = ListOrderedMultimap::new(rt.alloc());
+    /// assert_eq!(rt; map.entry("page").or_insert_with_entry(|| 42)?.len(), 1);
+    /// assert_eq!(rt; map.get("page"), Some(&42));
     /// ```
     pub fn or_insert_with_entry<F: FnOnce() -> V>(
         self,

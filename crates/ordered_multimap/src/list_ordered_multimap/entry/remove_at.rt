@@ -1,4 +1,4 @@
-//! The call of an entry of a key that is present which takes one of several values out.
+//! `OccupiedEntry::remove_at`.
 #![tactic(auto, using(crate::proofs::Remove::ValueByValue::among_in, crate::proofs::Remove::ValueByValue::in_among))]
 
 ghost use Rattle.std.specs.Prelude.{◌≡◌, cond, is_some};
@@ -11,16 +11,32 @@ use std::alloc::Allocator;
 use std::hash::{BuildHasher, Hash};
 
 impl<'map, K: Eq + Hash, V, S: BuildHasher, A: Allocator> OccupiedEntry<'map, K, V, S, A> {
-    /// Takes the value at an index among the key's values out, with its pair, and returns it. They
-    /// are counted from 0, in their order. None, and nothing changes, where the key has no value at
-    /// the index, or has one value alone: so the key stays, and keeps its place among the keys.
+    /// Removes the value at an index among the key's values, and returns it.
     ///
-    /// It takes no memory and gives none back, and can't be refused. It reads the slot of the key
-    /// and goes along the links of its values from the nearer end, over half of them at most; then
-    /// it writes the slots of the key and of the value's neighbours among them.
+    /// The values are counted from 0, in insertion order. Returns `None`, and changes nothing, if
+    /// the index is out of bounds, or if the key has one value alone. So the key stays present, and
+    /// keeps its place in the order of keys. To remove the key see [`remove`](Self::remove). The
+    /// call doesn't allocate.
+    ///
+    /// # Complexity
+    ///
+    /// *O*(*v*) for the *v* values of the key: it follows the values from the nearer end, over half
+    /// of them at most.
+    ///
+    /// # Examples
     ///
     /// ```
-    /// entry.remove_at(1) == Some(2)
+    /// use ordered_multimap::{Entry, ListOrderedMultimap};
+    ///
+    /// let mut map = ListOrderedMultimap::new(rt.alloc());
+    /// map.append("line", 1)?;
+    /// map.append("line", 2)?;
+    /// if let Entry::Occupied(mut entry) = map.entry("line") {
+    ///     assert_eq!(rt; entry.remove_at(2), None);
+    ///     assert_eq!(rt; entry.remove_at(0), Some(1));
+    ///     assert_eq!(rt; entry.remove_at(0), None);
+    /// }
+    /// assert!(rt; map.get_all("line").eq(&[2]));
     /// ```
     pub fn remove_at(&mut self, index: usize) -> Option<V>
         ensures same_entry { IsSameEntryInRoom self.old self.new }

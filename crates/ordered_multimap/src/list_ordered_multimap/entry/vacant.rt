@@ -1,4 +1,4 @@
-//! The calls of an entry of a key that is absent.
+//! The methods of `VacantEntry`.
 ghost use Rattle.std.specs.Prelude.{◌≡◌, IfErr, IfOk, IsOk};
 ghost use Rattle.std.specs.Borrow.{sem};
 ghost use Rattle.ordered_multimap.specs.Additions.{IsAppended};
@@ -12,10 +12,23 @@ use std::alloc::Allocator;
 use std::hash::{BuildHasher, Hash};
 
 impl<'map, K: Eq + Hash, V, S: BuildHasher, A: Allocator> VacantEntry<'map, K, V, S, A> {
-    /// The key that was handed in.
+    /// Returns a reference to the key that was passed to `entry`.
+    ///
+    /// An insertion through the entry stores this key.
+    ///
+    /// # Complexity
+    ///
+    /// *O*(1).
+    ///
+    /// # Examples
     ///
     /// ```
-    /// *entry.key() == "none"
+    /// use ordered_multimap::{Entry, ListOrderedMultimap};
+    ///
+    /// let mut map: ListOrderedMultimap<&str, u32> = ListOrderedMultimap::new(rt.alloc());
+    /// if let Entry::Vacant(entry) = map.entry("line") {
+    ///     assert_eq!(rt; entry.key(), &"line");
+    /// }
     /// ```
     pub fn key(&self) -> &K
         ensures { result.now ≡ self.now.key }
@@ -23,10 +36,24 @@ impl<'map, K: Eq + Hash, V, S: BuildHasher, A: Allocator> VacantEntry<'map, K, V
         &self.key
     }
 
-    /// Hands the key back. The map is as it was.
+    /// Takes ownership of the key that was passed to `entry`.
+    ///
+    /// The map is unchanged.
+    ///
+    /// # Complexity
+    ///
+    /// *O*(1).
+    ///
+    /// # Examples
     ///
     /// ```
-    /// entry.into_key() == "none"
+    /// use ordered_multimap::{Entry, ListOrderedMultimap};
+    ///
+    /// let mut map: ListOrderedMultimap<&str, u32> = ListOrderedMultimap::new(rt.alloc());
+    /// if let Entry::Vacant(entry) = map.entry("line") {
+    ///     assert_eq!(rt; entry.into_key(), "line");
+    /// }
+    /// assert!(rt; map.is_empty());
     /// ```
     pub fn into_key(self) -> K
         ensures key { result ≡ self.entry.key }
@@ -43,12 +70,31 @@ impl<'map, K: Eq + Hash, V: Drop, S: BuildHasher, A: Allocator + Copy> VacantEnt
     S,
     A,
 > {
-    /// Puts a pair of the key last, and lends its value to write. Where memory is refused, it hands
-    /// back the pair, and both lists are as before. It costs what `append` costs without the
-    /// look-up.
+    /// Appends the pair with the entry's key, and returns a mutable reference to the value.
+    ///
+    /// The pair comes last in the order of pairs, and the key last in the order of keys.
+    ///
+    /// # Errors
+    ///
+    /// If memory allocation fails, returns [`Refused`] with the key and `value`. Both lists are
+    /// unchanged; capacities may have grown. The call succeeds where the map has room for one more
+    /// key and value.
+    ///
+    /// # Complexity
+    ///
+    /// *O*(1) amortized, without a lookup.
+    ///
+    /// # Examples
     ///
     /// ```
-    /// entry.insert(5)?;
+    /// use ordered_multimap::{Entry, ListOrderedMultimap};
+    ///
+    /// let mut map = ListOrderedMultimap::new(rt.alloc());
+    /// map.append("line", 1)?;
+    /// if let Entry::Vacant(entry) = map.entry("page") {
+    ///     *entry.insert(0)? = 8;
+    /// }
+    /// assert!(rt; map.iter().eq([(&"line", &1), (&"page", &8)]));
     /// ```
     pub fn insert(self, value: V) -> Result<&'map mut V, Refused<K, V>>
         ensures* writes_back { sem 𝓛 (lends_entered K.row V.row S.row A.row S.Hasher.row
@@ -65,12 +111,31 @@ impl<'map, K: Eq + Hash, V: Drop, S: BuildHasher, A: Allocator + Copy> VacantEnt
         }
     }
 
-    /// Puts a pair of the key last, as [`insert`](Self::insert) does, and returns the entry, which
-    /// is occupied now. Where memory is refused, it hands back the pair, and both lists are as
-    /// before.
+    /// Appends the pair with the entry's key, and returns the entry, which is now occupied.
+    ///
+    /// The pair comes last in both lists, as by [`insert`](Self::insert).
+    ///
+    /// # Errors
+    ///
+    /// If memory allocation fails, returns [`Refused`] with the key and `value`. Both lists are
+    /// unchanged; capacities may have grown. The call succeeds where the map has room for one more
+    /// key and value.
+    ///
+    /// # Complexity
+    ///
+    /// *O*(1) amortized, without a lookup.
+    ///
+    /// # Examples
     ///
     /// ```
-    /// entry.insert_entry(5)?.len() == 1
+    /// use ordered_multimap::{Entry, ListOrderedMultimap};
+    ///
+    /// let mut map = ListOrderedMultimap::new(rt.alloc());
+    /// if let Entry::Vacant(entry) = map.entry("line") {
+    ///     let mut occupied = entry.insert_entry(1)?;
+    ///     occupied.append(2)?;
+    /// }
+    /// assert!(rt; map.get_all("line").eq(&[1, 2]));
     /// ```
     pub fn insert_entry(self, value: V) -> Result<OccupiedEntry<'map, K, V, S, A>, Refused<K, V>>
         ensures* rest { sem 𝓛 (rests_with_entry K.row V.row S.row A.row S.Hasher.row A.Allocator

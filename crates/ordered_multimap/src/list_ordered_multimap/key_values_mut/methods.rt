@@ -1,4 +1,4 @@
-//! `pairs_mut`, and the calls of its walk.
+//! `ListOrderedMultimap::pairs_mut`, and the methods of `KeyValuesMut`.
 ghost use Rattle.std.specs.Prelude.{◌≡◌, length, Some, IfSome, IfNone, OnSome, option_map};
 ghost use Rattle.std.specs.Prelude.{option_and_then};
 ghost use Rattle.std.specs.Borrow.{sem};
@@ -22,15 +22,28 @@ use std::fmt;
 use std::hash::{BuildHasher, Hash};
 
 impl<K: Eq + Hash, V, S: BuildHasher, A: Allocator> ListOrderedMultimap<K, V, S, A> {
-    /// A walk over the keys, in the order in which they last became present, each with a walk over
-    /// its values for writing. Keys, their order, and the order and number of pairs stay. Each step
-    /// reads the slot of its key, and no slot of a value.
+    /// Returns the keys in their order, each with an iterator over its values for writing.
     ///
-    /// The walk is no `Iterator`, since each step borrows it: up to the end of the walk over the
-    /// key's values, which borrows as one of [`iter_mut`](Self::iter_mut) does. A loop counts the
-    /// keys:
+    /// Keys, and the order and number of pairs, stay. The result is no `Iterator`: each step
+    /// borrows it until the iterator over the key's values ends, and a loop counts the keys, as
+    /// below. To read see [`pairs`](Self::pairs), and to write all values see
+    /// [`values_mut`](Self::values_mut).
+    ///
+    /// Proved callers: see docs/PROVED_CALLERS.md.
+    ///
+    /// # Complexity
+    ///
+    /// *O*(1), and *O*(1) for each key. A step reads the slot of its key, and of no value.
+    ///
+    /// # Examples
     ///
     /// ```
+    /// use ordered_multimap::ListOrderedMultimap;
+    ///
+    /// let mut map = ListOrderedMultimap::new(rt.alloc());
+    /// map.append("line", 1)?;
+    /// map.append("page", 8)?;
+    /// map.append("line", 2)?;
     /// let mut keys = map.pairs_mut();
     /// for _ in 0..keys.size_hint().0 {
     ///     if let Some((_key, values)) = keys.next() {
@@ -39,6 +52,8 @@ impl<K: Eq + Hash, V, S: BuildHasher, A: Allocator> ListOrderedMultimap<K, V, S,
     ///         }
     ///     }
     /// }
+    /// drop(keys);
+    /// assert!(rt; map.values().eq(&[7, 7, 7]));
     /// ```
     pub fn pairs_mut(&mut self) -> KeyValuesMut<'_, K, V, S, A>
         ensures same_map { result.map.ghost_name ≡ self.entry.ghost_name }
@@ -89,15 +104,28 @@ impl<K: Eq + Hash, V, S: BuildHasher, A: Allocator> ListOrderedMultimap<K, V, S,
 }
 
 impl<'map, K: Eq + Hash, V, S: BuildHasher, A: Allocator> KeyValuesMut<'map, K, V, S, A> {
-    /// The next key from the front, with a walk over its values. The next call may follow once that
-    /// walk has ended.
+    /// Returns the next key from the front, with an iterator over its values for writing.
+    ///
+    /// The next step may follow once that iterator has ended.
+    ///
+    /// # Complexity
+    ///
+    /// *O*(1).
+    ///
+    /// # Examples
     ///
     /// ```
+    /// use ordered_multimap::ListOrderedMultimap;
+    ///
+    /// let mut map = ListOrderedMultimap::new(rt.alloc());
+    /// map.append("line", 1)?;
+    /// map.append("page", 8)?;
     /// if let Some((_key, values)) = map.pairs_mut().next() {
     ///     for value in values {
     ///         *value = 3;
     ///     }
     /// }
+    /// assert!(rt; map.values().eq(&[3, 8]));
     /// ```
     pub fn next(&mut self) -> Option<(&K, EntryValuesMut<'_, K, V, A>)>
         ensures* writes_back { sem 𝓛 (lends_key_values K.row V.row S.row A.row S.Hasher.row
@@ -113,15 +141,26 @@ impl<'map, K: Eq + Hash, V, S: BuildHasher, A: Allocator> KeyValuesMut<'map, K, 
         self.step_mut(End::Front)
     }
 
-    /// The next key from the back, with a walk over its values. The next call may follow once that
-    /// walk has ended.
+    /// Returns the next key from the back, with an iterator over its values for writing.
+    ///
+    /// # Complexity
+    ///
+    /// *O*(1).
+    ///
+    /// # Examples
     ///
     /// ```
+    /// use ordered_multimap::ListOrderedMultimap;
+    ///
+    /// let mut map = ListOrderedMultimap::new(rt.alloc());
+    /// map.append("line", 1)?;
+    /// map.append("page", 8)?;
     /// if let Some((_key, values)) = map.pairs_mut().next_back() {
     ///     for value in values {
-    ///         *value = 8;
+    ///         *value = 9;
     ///     }
     /// }
+    /// assert!(rt; map.values().eq(&[1, 9]));
     /// ```
     pub fn next_back(&mut self) -> Option<(&K, EntryValuesMut<'_, K, V, A>)>
         ensures* writes_back { sem 𝓛 (lends_key_values K.row V.row S.row A.row S.Hasher.row
@@ -137,10 +176,21 @@ impl<'map, K: Eq + Hash, V, S: BuildHasher, A: Allocator> KeyValuesMut<'map, K, 
         self.step_mut(End::Back)
     }
 
-    /// How many keys are left, as the least and as the greatest number.
+    /// Returns the exact number of keys that are left, as lower and as upper bound.
+    ///
+    /// # Complexity
+    ///
+    /// *O*(1).
+    ///
+    /// # Examples
     ///
     /// ```
-    /// map.pairs_mut().size_hint() == (2, Some(2))
+    /// use ordered_multimap::ListOrderedMultimap;
+    ///
+    /// let mut map = ListOrderedMultimap::new(rt.alloc());
+    /// map.append("line", 1)?;
+    /// map.append("line", 2)?;
+    /// assert_eq!(rt; map.pairs_mut().size_hint(), (1, Some(1)));
     /// ```
     pub fn size_hint(&self) -> (usize, Option<usize>)
         ensures least { result.0 ≡ length (keys_left self.now) }
@@ -150,10 +200,25 @@ impl<'map, K: Eq + Hash, V, S: BuildHasher, A: Allocator> KeyValuesMut<'map, K, 
         (left, Some(left))
     }
 
-    /// A walk over the keys that are left, each with a walk over its values, for reading.
+    /// Returns an iterator over the keys that are left, each with an iterator over its values.
+    ///
+    /// It only reads, and this type goes on where it is.
+    ///
+    /// # Complexity
+    ///
+    /// *O*(1), and *O*(1) for each key.
+    ///
+    /// # Examples
     ///
     /// ```
-    /// map.pairs_mut().iter().len() == 2
+    /// use ordered_multimap::ListOrderedMultimap;
+    ///
+    /// let mut map = ListOrderedMultimap::new(rt.alloc());
+    /// map.append("line", 1)?;
+    /// map.append("page", 8)?;
+    /// let mut keys = map.pairs_mut();
+    /// drop(keys.next());
+    /// assert_eq!(rt; keys.iter().len(), 1);
     /// ```
     pub fn iter(&self) -> KeyValues<'_, K, V, A>
         ensures { result
