@@ -1,5 +1,98 @@
-//! `SetOrderedMultimap`, a multimap in which no pair stands twice. It stands on
-//! `ListOrderedMultimap` alone, and knows no more of it than its public contracts say.
+//! A multimap in which no pair occurs twice, and that keeps its pairs in insertion order.
+//!
+//! A [`SetOrderedMultimap`] is an `ordered_multimap::ListOrderedMultimap` that adds a pair only if
+//! no pair with an equal key and an equal value is there. It keeps the same two lists:
+//!
+//! - the pairs, in insertion order;
+//! - the keys, in the order in which each last became present.
+//!
+//! ```text
+//! insert plan draft, insert note draft, insert plan long
+//!     pairs      plan=draft  note=draft  plan=long     iter, pop_front, pop_back
+//!     keys       plan  note                            keys
+//!     plan       draft, long                           get_all
+//! insert plan draft: Ok(false), and both lists are as before
+//! insert note long, but out of memory
+//!     Err(Refused { key: note, value: long }), and both lists are as before
+//! ```
+//!
+//! # When to use it
+//!
+//! Use the set when a pair is there or not, as a tag of a document, a follower or a permission. Use
+//! `ListOrderedMultimap` when
+//!
+//! - a pair may occur twice;
+//! - a value has to be written in place: the set lends no value for writing, since a written value
+//!   could become equal to another one of its key;
+//! - a key is looked up by a query, as a `String` key by a `&str`: the calls of the set take a
+//!   `&K`.
+//!
+//! `contains`, `insert` and `remove_value` compare the value with the values of its key, one after
+//! another. If a key has many values, make each pair a key of a `ListOrderedMultimap`, which finds
+//! it by its hash, or swap keys and values if a value has few keys.
+//!
+//! # What differs from the map
+//!
+//! - `insert` adds a pair beside the key's other pairs, and returns whether it is new. The map's
+//!   `insert` replaces the key's pairs; its `append` is the like of the set's `insert`.
+//! - `remove_value` removes one pair. It is *O*(*n*) if the key has other values.
+//! - The function of `retain` gets each value for reading alone.
+//! - There is no `get`, `remove` or `entry`: see `get_all` and `remove_all`.
+//!
+//! # What the calls cost
+//!
+//! Here *n* is the number of pairs, and *v* the number of values of the key. A lookup hashes the
+//! key once.
+//!
+//! | Calls | Cost |
+//! |---|---|
+//! | `contains_key`, `entry_len` | *O*(1) expected |
+//! | `contains` | *O*(*v*) expected |
+//! | `insert` | *O*(*v*) expected, amortized |
+//! | `is_empty`, lengths, capacities | *O*(1) |
+//! | `iter`, `keys` | *O*(1), *O*(1) for each item |
+//! | `get_all` | *O*(1) expected, *O*(1) for each item |
+//! | `pop_front`, `pop_back` | *O*(1) expected |
+//! | `remove_all` | *O*(*v*) expected |
+//! | `remove_value` of a key's only value | *O*(1) expected |
+//! | `remove_value` otherwise, `retain`, `clear`, `clone`, `==` | *O*(*n*) |
+//!
+//! # When memory runs out
+//!
+//! An insertion returns a `Refused` with the key and the value, and both lists are as before;
+//! capacities may have grown. It never fails if an equal pair is there, or where the capacities
+//! suffice. `extend` keeps the pairs before the refused one, and `from_iter` drops them. `clone`
+//! returns `AllocError`. Removals and lookups can't fail.
+//!
+//! # Keys that others choose
+//!
+//! The default hash builder has a fixed seed. So whoever chooses the keys can choose keys of equal
+//! hashes, and a lookup then compares all of them. For keys from people whom you don't trust, make
+//! the set by `with_hasher` with an `ordered_multimap::RandomState`.
+//!
+//! # Examples
+//!
+//! In the examples `rt` is the runtime that `main` or a test is given. Each example is the body of
+//! a function that returns `Result<(), AllocError>`.
+//!
+//! ```
+//! use set_ordered_multimap::SetOrderedMultimap;
+//!
+//! let mut tags = SetOrderedMultimap::new(rt.alloc());
+//! tags.insert("plan", "draft")?;
+//! tags.insert("note", "draft")?;
+//! tags.insert("plan", "long")?;
+//! assert_eq!(rt; tags.insert("plan", "draft"), Ok(false));
+//!
+//! assert!(rt; tags.contains(&"plan", &"long"));
+//! assert!(rt; tags.get_all(&"plan").eq(&["draft", "long"]));
+//! assert!(rt; tags.keys().eq(&["plan", "note"]));
+//!
+//! assert!(rt; tags.remove_value(&"plan", &"draft"));
+//! assert!(rt; tags.iter().eq([(&"note", &"draft"), (&"plan", &"long")]));
+//! ```
+//!
+//! Proved callers: see docs/PROVED_CALLERS.md.
 #![tactic(auto)]
 
 pub mod laws;

@@ -1,4 +1,4 @@
-//! The set: its field, what contracts see of it, constructors and lengths.
+//! The set: its field, its constructors, its lengths and its capacities.
 ghost use Rattle.std.specs.Prelude.{◌≡◌, length};
 ghost use Rattle.set_ordered_multimap.specs.SetChanges.{IsNewSet, IsNewSetWith};
 ghost use Rattle.set_ordered_multimap.specs.SetReads.{TellsEmpty, TellsKeys, TellsRoom};
@@ -16,26 +16,23 @@ use std::alloc::{Allocator, Global};
 use std::hash::{BuildHasher, BuildHasherDefault, Hash};
 use std::marker::Model;
 
-/// A multimap that remembers the order of its pairs and of its keys, and in which no pair stands
-/// twice: no two pairs have equal keys and equal values. Tags of a document, followers and
-/// permissions are such pairs.
+/// A multimap that keeps its pairs in insertion order, and in which no pair occurs twice.
 ///
-/// It is a [`ListOrderedMultimap`] to which a pair comes only where no equal one is there. No value
-/// is lent for writing, since a written value could become equal to another one of its key. Of
-/// equal keys the set keeps the one that came first, and so it does of equal pairs.
+/// No two pairs have equal keys and equal values. Of equal pairs the set keeps the one that was
+/// inserted first, and so it does of equal keys. No value is lent for writing, since a written
+/// value could become equal to another one of its key. See the [crate's page](crate) for when to
+/// use it, and for what its calls cost.
 ///
-/// A call that says nothing else of its cost costs what the map's call of that name does.
-/// `contains`, `insert` and `remove_value` compare the value with the values of its key, one after
-/// another. Who has many values under one key makes each pair a key of a [`ListOrderedMultimap`],
-/// which finds it by its hash, or swaps keys and values where a value has few keys.
-///
-/// The examples of the calls are about a set with these pairs; `alloc` is an allocator, as
-/// `rt.alloc()` of a program's `HostRuntime` gives it:
+/// # Examples
 ///
 /// ```
-/// set.insert("plan", "draft")?;
-/// set.insert("note", "draft")?;
-/// set.insert("plan", "long")?;
+/// use set_ordered_multimap::SetOrderedMultimap;
+///
+/// let mut set = SetOrderedMultimap::new(rt.alloc());
+/// assert_eq!(rt; set.insert("plan", "draft"), Ok(true));
+/// assert_eq!(rt; set.insert("plan", "long"), Ok(true));
+/// assert_eq!(rt; set.insert("plan", "draft"), Ok(false));
+/// assert!(rt; set.iter().eq([(&"plan", &"draft"), (&"plan", &"long")]));
 /// ```
 #[derive(Drop)]
 pub struct SetOrderedMultimap<
@@ -58,11 +55,23 @@ impl<K: Eq + Hash, V, S: BuildHasher, A: Allocator> Model for SetOrderedMultimap
 }
 
 impl<K: Eq + Hash, V: Eq, A: Allocator + Copy> SetOrderedMultimap<K, V, DefaultState, A> {
-    /// An empty set with the default hash builder, which takes no memory. `alloc` gives its memory
-    /// later.
+    /// Creates an empty set with the default hash builder.
+    ///
+    /// The call doesn't allocate. The set allocates from `alloc` later. The default hash builder
+    /// has a fixed seed: for keys that others choose see [`with_hasher`](Self::with_hasher).
+    ///
+    /// # Complexity
+    ///
+    /// *O*(1).
+    ///
+    /// # Examples
     ///
     /// ```
-    /// SetOrderedMultimap::new(alloc)
+    /// use set_ordered_multimap::SetOrderedMultimap;
+    ///
+    /// let mut set = SetOrderedMultimap::new(rt.alloc());
+    /// set.insert("plan", "draft")?;
+    /// assert_eq!(rt; set.values_len(), 1);
     /// ```
     pub fn new(alloc: A) -> Self
         ensures new { IsNewSet K.eq V.eq result }
@@ -72,10 +81,26 @@ impl<K: Eq + Hash, V: Eq, A: Allocator + Copy> SetOrderedMultimap<K, V, DefaultS
 }
 
 impl<K: Eq + Hash, V: Eq, S: BuildHasher, A: Allocator + Copy> SetOrderedMultimap<K, V, S, A> {
-    /// An empty set with this hash builder, which takes no memory. `alloc` gives its memory later.
+    /// Creates an empty set with the given hash builder.
+    ///
+    /// The call doesn't allocate. The set allocates from `alloc` later. For keys that others choose
+    /// give it an `ordered_multimap::RandomState`, which has a random seed.
+    ///
+    /// # Complexity
+    ///
+    /// *O*(1).
+    ///
+    /// # Examples
     ///
     /// ```
-    /// SetOrderedMultimap::with_hasher(alloc, DefaultState::new())
+    /// use ordered_multimap::RandomState;
+    /// use set_ordered_multimap::SetOrderedMultimap;
+    /// use std::alloc::AllocError;
+    ///
+    /// let state = RandomState::new(&rt).map_err(|_| AllocError)?;
+    /// let mut set = SetOrderedMultimap::with_hasher(rt.alloc(), state);
+    /// set.insert("plan", "draft")?;
+    /// assert!(rt; set.contains(&"plan", &"draft"));
     /// ```
     pub fn with_hasher(alloc: A, state: S) -> Self
         ensures new { IsNewSetWith K.eq V.eq state result }
@@ -87,10 +112,21 @@ impl<K: Eq + Hash, V: Eq, S: BuildHasher, A: Allocator + Copy> SetOrderedMultima
 }
 
 impl<K: Eq + Hash, V, S: BuildHasher, A: Allocator> SetOrderedMultimap<K, V, S, A> {
-    /// The hash builder.
+    /// Returns a reference to the set's hash builder.
+    ///
+    /// # Complexity
+    ///
+    /// *O*(1).
+    ///
+    /// # Examples
     ///
     /// ```
-    /// set.hasher().hash_one(&"plan")
+    /// use ordered_multimap::DefaultState;
+    /// use set_ordered_multimap::SetOrderedMultimap;
+    /// use std::hash::BuildHasher;
+    ///
+    /// let set: SetOrderedMultimap<&str, u32> = SetOrderedMultimap::new(rt.alloc());
+    /// assert_eq!(rt; set.hasher().hash_one(&"plan"), DefaultState::new().hash_one(&"plan"));
     /// ```
     pub fn hasher(&self) -> &S
         ensures { result.now ≡ self.now.hasher }
@@ -98,10 +134,24 @@ impl<K: Eq + Hash, V, S: BuildHasher, A: Allocator> SetOrderedMultimap<K, V, S, 
         self.map.hasher()
     }
 
-    /// How many keys the set has.
+    /// Returns the number of keys in the set.
+    ///
+    /// For the number of pairs see [`values_len`](Self::values_len), and for the number of values
+    /// of one key see [`entry_len`](Self::entry_len).
+    ///
+    /// # Complexity
+    ///
+    /// *O*(1).
+    ///
+    /// # Examples
     ///
     /// ```
-    /// set.keys_len() == 2
+    /// use set_ordered_multimap::SetOrderedMultimap;
+    ///
+    /// let mut set = SetOrderedMultimap::new(rt.alloc());
+    /// set.insert("plan", "draft")?;
+    /// set.insert("plan", "long")?;
+    /// assert_eq!(rt; set.keys_len(), 1);
     /// ```
     pub fn keys_len(&self) -> usize
         ensures keys { TellsKeys K.eq self.now.lists result }
@@ -109,10 +159,22 @@ impl<K: Eq + Hash, V, S: BuildHasher, A: Allocator> SetOrderedMultimap<K, V, S, 
         self.map.keys_len()
     }
 
-    /// How many pairs the set has.
+    /// Returns the number of pairs in the set.
+    ///
+    /// # Complexity
+    ///
+    /// *O*(1).
+    ///
+    /// # Examples
     ///
     /// ```
-    /// set.values_len() == 3
+    /// use set_ordered_multimap::SetOrderedMultimap;
+    ///
+    /// let mut set = SetOrderedMultimap::new(rt.alloc());
+    /// set.insert("plan", "draft")?;
+    /// set.insert("plan", "draft")?;
+    /// set.insert("plan", "long")?;
+    /// assert_eq!(rt; set.values_len(), 2);
     /// ```
     pub fn values_len(&self) -> usize
         ensures { result ≡ length self.now.lists.pairs }
@@ -120,10 +182,21 @@ impl<K: Eq + Hash, V, S: BuildHasher, A: Allocator> SetOrderedMultimap<K, V, S, 
         self.map.values_len()
     }
 
-    /// Whether the set has no pair.
+    /// Returns `true` if the set has no pair.
+    ///
+    /// # Complexity
+    ///
+    /// *O*(1).
+    ///
+    /// # Examples
     ///
     /// ```
-    /// !set.is_empty()
+    /// use set_ordered_multimap::SetOrderedMultimap;
+    ///
+    /// let mut set = SetOrderedMultimap::new(rt.alloc());
+    /// assert!(rt; set.is_empty());
+    /// set.insert("plan", "draft")?;
+    /// assert!(rt; !set.is_empty());
     /// ```
     pub fn is_empty(&self) -> bool
         ensures empty { TellsEmpty K.eq self.now.lists result }
@@ -131,10 +204,21 @@ impl<K: Eq + Hash, V, S: BuildHasher, A: Allocator> SetOrderedMultimap<K, V, S, 
         self.map.is_empty()
     }
 
-    /// How many keys fit before the set must grow.
+    /// Returns the number of keys that the set can hold without allocating.
+    ///
+    /// # Complexity
+    ///
+    /// *O*(1).
+    ///
+    /// # Examples
     ///
     /// ```
-    /// set.keys_capacity() >= set.keys_len()
+    /// use set_ordered_multimap::SetOrderedMultimap;
+    ///
+    /// let mut set = SetOrderedMultimap::new(rt.alloc());
+    /// assert_eq!(rt; set.keys_capacity(), 0);
+    /// set.insert("plan", "draft")?;
+    /// assert!(rt; set.keys_capacity() >= 1);
     /// ```
     pub fn keys_capacity(&self) -> usize
         ensures room { TellsRoom self.now.key_room (length self.now.lists.keys) result }
@@ -142,10 +226,21 @@ impl<K: Eq + Hash, V, S: BuildHasher, A: Allocator> SetOrderedMultimap<K, V, S, 
         self.map.keys_capacity()
     }
 
-    /// How many pairs fit before the set must grow.
+    /// Returns the number of pairs that the set can hold without allocating.
+    ///
+    /// # Complexity
+    ///
+    /// *O*(1).
+    ///
+    /// # Examples
     ///
     /// ```
-    /// set.values_capacity() >= set.values_len()
+    /// use set_ordered_multimap::SetOrderedMultimap;
+    ///
+    /// let mut set = SetOrderedMultimap::new(rt.alloc());
+    /// assert_eq!(rt; set.values_capacity(), 0);
+    /// set.insert("plan", "draft")?;
+    /// assert!(rt; set.values_capacity() >= 1);
     /// ```
     pub fn values_capacity(&self) -> usize
         ensures room { TellsRoom self.now.value_room (length self.now.lists.pairs) result }

@@ -1,4 +1,4 @@
-//! Pairs that come last, where no equal one is there.
+//! Insertions, of a pair and of many.
 ghost use Rattle.std.specs.Prelude.{◌≡◌, not, true, false, IfErr, IfOk, IsOk, OnOk};
 ghost use Rattle.ordered_multimap.specs.Additions.{Appends, IsRefused};
 ghost use Rattle.ordered_multimap.specs.Extends.{IsLastRead};
@@ -18,15 +18,34 @@ impl<K: Eq + Hash + Drop, V: Eq + Drop, S: BuildHasher, A: Allocator + Copy> Set
     S,
     A,
 > {
-    /// Puts the pair last and returns true, where no pair with an equal key and an equal value is
-    /// there. Else it changes nothing, drops what was handed in, takes no memory, and returns false.
-    /// A present key stays as it was stored, and the one handed in is dropped.
+    /// Inserts the pair if no equal one is there, and returns whether it is new.
     ///
-    /// Where memory is refused, it hands back the pair, and both lists are as before. It costs what
-    /// `contains` does, and for a new pair what `append` of the map does.
+    /// A new pair comes last in the order of pairs, and a new key last in the order of keys. Where
+    /// a pair with an equal key and an equal value is there, both arguments are dropped, and
+    /// nothing changes. A present key stays as it was stored, and `key` is dropped. Unlike the
+    /// map's `insert`, the call replaces no other pair of the key.
+    ///
+    /// # Errors
+    ///
+    /// If the pair is new and memory allocation fails, returns [`Refused`] with the key and the
+    /// value. Both lists are unchanged; capacities may have grown. The call never fails if an equal
+    /// pair is there.
+    ///
+    /// # Complexity
+    ///
+    /// *O*(*v*) expected and amortized for the *v* values of the key, with which the value is
+    /// compared.
+    ///
+    /// # Examples
     ///
     /// ```
-    /// set.insert("plan", "draft") == Ok(false)
+    /// use set_ordered_multimap::SetOrderedMultimap;
+    ///
+    /// let mut set = SetOrderedMultimap::new(rt.alloc());
+    /// assert_eq!(rt; set.insert("plan", "draft"), Ok(true));
+    /// assert_eq!(rt; set.insert("plan", "long"), Ok(true));
+    /// assert_eq!(rt; set.insert("plan", "draft"), Ok(false));
+    /// assert!(rt; set.get_all(&"plan").eq(&["draft", "long"]));
     /// ```
     pub fn insert(&mut self, key: K, value: V) -> Result<bool, Refused<K, V>>
         ensures new { IfOk result (λ new.
@@ -54,14 +73,33 @@ impl<K: Eq + Hash + Drop, V: Eq + Drop, S: BuildHasher, A: Allocator + Copy> Set
         }
     }
 
-    /// Inserts each pair in turn. `iter` has to end. It refuses no pair that `insert` would take. If
-    /// there is room for a key and a value for each pair, it succeeds, and no room grows.
+    /// Inserts the pairs of an iterator, in order, each if no equal one is there.
     ///
-    /// Where memory is refused for a pair, it hands that pair back; those before it stay. A caller
-    /// who hands in `&mut iter` keeps those behind it. It costs what `insert` costs for each pair.
+    /// It inserts as [`insert`](Self::insert) does, and fails for no pair that `insert` would take.
+    /// If the set has room for a key and a value for each pair, it succeeds, and no capacity grows.
+    ///
+    /// # Errors
+    ///
+    /// If memory allocation fails for a pair, returns [`Refused`] with that pair, and reads no more
+    /// of the iterator. The pairs before it stay. If you pass `&mut iter`, you keep the pairs
+    /// behind it.
+    ///
+    /// # Complexity
+    ///
+    /// What `insert` costs, for each pair.
+    ///
+    /// # Requires
+    ///
+    /// The iterator ends.
+    ///
+    /// # Examples
     ///
     /// ```
-    /// set.extend(pairs)?;
+    /// use set_ordered_multimap::SetOrderedMultimap;
+    ///
+    /// let mut set = SetOrderedMultimap::new(rt.alloc());
+    /// set.extend([("plan", "draft"), ("note", "draft"), ("plan", "draft")].iter().copied())?;
+    /// assert!(rt; set.iter().eq([(&"plan", &"draft"), (&"note", &"draft")]));
     /// ```
     pub fn extend<I: IntoIterator<Item = (K, V)>>(&mut self, iter: I) -> Result<(), Refused<K, V>>
         requires { ComesToAnEnd I.into_iter_gives I.IntoIter.can_next I.IntoIter.remaining iter }
@@ -81,13 +119,34 @@ impl<K: Eq + Hash + Drop, V: Eq + Drop, S: BuildHasher, A: Allocator + Copy> Set
         Ok(())
     }
 
-    /// A set with this hash builder, of the pairs in turn, as `extend` inserts them: each stands
-    /// once, at its first occurrence. `alloc` gives its memory. Where memory is refused for a pair,
-    /// it reads no more of `iter` and hands that pair back; the pairs before it are dropped, and
-    /// there is no set. `iter` has to end.
+    /// Creates a set from the pairs of an iterator, with the given hash builder.
+    ///
+    /// The pairs are inserted in order, so each is kept once, at its first occurrence. The set
+    /// allocates from `alloc`.
+    ///
+    /// # Errors
+    ///
+    /// If memory allocation fails for a pair, returns [`Refused`] with that pair, and reads no more
+    /// of the iterator. The pairs before it are dropped. To keep them, see
+    /// [`extend`](Self::extend).
+    ///
+    /// # Complexity
+    ///
+    /// What `insert` costs, for each pair.
+    ///
+    /// # Requires
+    ///
+    /// The iterator ends.
+    ///
+    /// # Examples
     ///
     /// ```
-    /// SetOrderedMultimap::from_iter(alloc, DefaultState::new(), pairs)?
+    /// use ordered_multimap::DefaultState;
+    /// use set_ordered_multimap::SetOrderedMultimap;
+    ///
+    /// let pairs = [("plan", "draft"), ("note", "draft"), ("plan", "draft")].iter().copied();
+    /// let set = SetOrderedMultimap::from_iter(rt.alloc(), DefaultState::new(), pairs)?;
+    /// assert!(rt; set.iter().eq([(&"plan", &"draft"), (&"note", &"draft")]));
     /// ```
     pub fn from_iter<I: IntoIterator<Item = (K, V)>>(
         alloc: A,

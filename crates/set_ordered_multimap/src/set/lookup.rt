@@ -1,4 +1,4 @@
-//! Look-ups, and walks for reading.
+//! Lookups, and iterators for reading.
 ghost use Rattle.std.specs.Prelude.{◌≡◌, length};
 ghost use Rattle.std.specs.List.{list_any};
 ghost use Rattle.ordered_multimap.specs.Pairs.{is_present, positions_of, values_of};
@@ -22,11 +22,24 @@ fn has_value<K, V: PartialEq, A: Allocator>(values: EntryValues<'_, K, V, A>, va
 }
 
 impl<K: Eq + Hash, V: Eq, S: BuildHasher, A: Allocator> SetOrderedMultimap<K, V, S, A> {
-    /// Whether the set has a pair with an equal key and an equal value. One look-up; then it reads
-    /// the values of the key up to the one that is equal, and compares each.
+    /// Returns `true` if the set has a pair with an equal key and an equal value.
+    ///
+    /// To ask for the key alone see [`contains_key`](Self::contains_key).
+    ///
+    /// # Complexity
+    ///
+    /// *O*(*v*) expected for the *v* values of the key: it compares them in order, up to the equal
+    /// one.
+    ///
+    /// # Examples
     ///
     /// ```
-    /// set.contains(&"plan", &"long")
+    /// use set_ordered_multimap::SetOrderedMultimap;
+    ///
+    /// let mut set = SetOrderedMultimap::new(rt.alloc());
+    /// set.insert("plan", "draft")?;
+    /// assert!(rt; set.contains(&"plan", &"draft"));
+    /// assert!(rt; !set.contains(&"plan", &"long"));
     /// ```
     pub fn contains(&self, key: &K, value: &V) -> bool
         ensures { result ≡ has_pair K.eq V.eq self.now.lists.pairs key.now value.now }
@@ -36,10 +49,23 @@ impl<K: Eq + Hash, V: Eq, S: BuildHasher, A: Allocator> SetOrderedMultimap<K, V,
 }
 
 impl<K: Eq + Hash, V, S: BuildHasher, A: Allocator> SetOrderedMultimap<K, V, S, A> {
-    /// Whether the key has a value. One look-up.
+    /// Returns `true` if the key has a value.
+    ///
+    /// To ask for a pair see [`contains`](Self::contains).
+    ///
+    /// # Complexity
+    ///
+    /// *O*(1) expected.
+    ///
+    /// # Examples
     ///
     /// ```
-    /// set.contains_key(&"note")
+    /// use set_ordered_multimap::SetOrderedMultimap;
+    ///
+    /// let mut set = SetOrderedMultimap::new(rt.alloc());
+    /// set.insert("plan", "draft")?;
+    /// assert!(rt; set.contains_key(&"plan"));
+    /// assert!(rt; !set.contains_key(&"note"));
     /// ```
     pub fn contains_key(&self, key: &K) -> bool
         ensures { result ≡ is_present K.eq self.now.lists.pairs key.now }
@@ -47,10 +73,22 @@ impl<K: Eq + Hash, V, S: BuildHasher, A: Allocator> SetOrderedMultimap<K, V, S, 
         self.map.contains_key(key)
     }
 
-    /// How many values the key has. One look-up, and the slot of the key.
+    /// Returns the number of values of the key, which is 0 if the key is absent.
+    ///
+    /// # Complexity
+    ///
+    /// *O*(1) expected.
+    ///
+    /// # Examples
     ///
     /// ```
-    /// set.entry_len(&"plan") == 2
+    /// use set_ordered_multimap::SetOrderedMultimap;
+    ///
+    /// let mut set = SetOrderedMultimap::new(rt.alloc());
+    /// set.insert("plan", "draft")?;
+    /// set.insert("plan", "long")?;
+    /// assert_eq!(rt; set.entry_len(&"plan"), 2);
+    /// assert_eq!(rt; set.entry_len(&"note"), 0);
     /// ```
     pub fn entry_len(&self, key: &K) -> usize
         ensures { result ≡ length (values_of K.eq self.now.lists.pairs key.now) }
@@ -58,11 +96,27 @@ impl<K: Eq + Hash, V, S: BuildHasher, A: Allocator> SetOrderedMultimap<K, V, S, 
         self.map.entry_len(key)
     }
 
-    /// A walk over the key's values, in order, which is empty for an absent key. One look-up and
-    /// the slot of the key; then each step reads the slot of its value, and no other.
+    /// Returns an iterator over the key's values, in insertion order.
+    ///
+    /// The iterator is empty if the key is absent. It iterates from both ends, and knows its
+    /// length.
+    ///
+    /// # Complexity
+    ///
+    /// *O*(1) expected, and *O*(1) for each value. A step reads the slot of its value, and no
+    /// other.
+    ///
+    /// # Examples
     ///
     /// ```
-    /// set.get_all(&"plan").next_back() == Some(&"long")
+    /// use set_ordered_multimap::SetOrderedMultimap;
+    ///
+    /// let mut set = SetOrderedMultimap::new(rt.alloc());
+    /// set.insert("plan", "draft")?;
+    /// set.insert("note", "draft")?;
+    /// set.insert("plan", "long")?;
+    /// assert!(rt; set.get_all(&"plan").eq(&["draft", "long"]));
+    /// assert_eq!(rt; set.get_all(&"word").len(), 0);
     /// ```
     pub fn get_all(&self, key: &K) -> EntryValues<'_, K, V, A>
         ensures values { result.left ≡ values_of K.eq self.now.lists.pairs key.now }
@@ -72,11 +126,25 @@ impl<K: Eq + Hash, V, S: BuildHasher, A: Allocator> SetOrderedMultimap<K, V, S, 
         self.map.get_all(key)
     }
 
-    /// A walk over all pairs, in the order in which they came. Each step reads the slots of its value
-    /// and of its key.
+    /// Returns an iterator over all pairs, in insertion order.
+    ///
+    /// It iterates from both ends, and knows its length. A loop `for (key, value) in &set` uses it
+    /// too.
+    ///
+    /// # Complexity
+    ///
+    /// *O*(1), and *O*(1) for each pair.
+    ///
+    /// # Examples
     ///
     /// ```
-    /// set.iter().next() == Some((&"plan", &"draft"))
+    /// use set_ordered_multimap::SetOrderedMultimap;
+    ///
+    /// let mut set = SetOrderedMultimap::new(rt.alloc());
+    /// set.insert("plan", "draft")?;
+    /// set.insert("note", "draft")?;
+    /// assert!(rt; set.iter().eq([(&"plan", &"draft"), (&"note", &"draft")]));
+    /// assert_eq!(rt; set.iter().next_back(), Some((&"note", &"draft")));
     /// ```
     pub fn iter(&self) -> Iter<'_, K, V, A>
         ensures { result ≡ self.now.lists.pairs }
@@ -84,11 +152,24 @@ impl<K: Eq + Hash, V, S: BuildHasher, A: Allocator> SetOrderedMultimap<K, V, S, 
         self.map.iter()
     }
 
-    /// A walk over the keys, in the order in which they last became present. Each step reads the
-    /// slot of its key.
+    /// Returns an iterator over the keys, in the order in which each last became present.
+    ///
+    /// It iterates from both ends, and knows its length. Each key occurs once.
+    ///
+    /// # Complexity
+    ///
+    /// *O*(1), and *O*(1) for each key.
+    ///
+    /// # Examples
     ///
     /// ```
-    /// set.keys().next_back() == Some(&"note")
+    /// use set_ordered_multimap::SetOrderedMultimap;
+    ///
+    /// let mut set = SetOrderedMultimap::new(rt.alloc());
+    /// set.insert("plan", "draft")?;
+    /// set.insert("note", "draft")?;
+    /// set.insert("plan", "long")?;
+    /// assert!(rt; set.keys().eq(&["plan", "note"]));
     /// ```
     pub fn keys(&self) -> Keys<'_, K, A>
         ensures { result ≡ self.now.lists.keys }
@@ -97,7 +178,7 @@ impl<K: Eq + Hash, V, S: BuildHasher, A: Allocator> SetOrderedMultimap<K, V, S, 
     }
 }
 
-/// The walk of `iter`.
+/// Iterates over all pairs, as [`iter`](SetOrderedMultimap::iter) does.
 impl<'set, K: Eq + Hash, V, S: BuildHasher, A: Allocator> IntoIterator
     for &'set SetOrderedMultimap<K, V, S, A> {
     type Item = (&'set K, &'set V);

@@ -1,4 +1,4 @@
-//! Pairs that leave at an end of the set.
+//! Removals of the first and of the last pair.
 ghost use Rattle.std.specs.Borrow.{sem};
 ghost use Rattle.ordered_multimap.specs.End.TheVariants.{Front, Back};
 ghost use Rattle.set_ordered_multimap.specs.Asked.{AnswersPopped, GivesPopped, TakesPopped};
@@ -11,15 +11,31 @@ use std::alloc::Allocator;
 use std::hash::{BuildHasher, Hash};
 
 impl<K: Eq + Hash, V, S: BuildHasher, A: Allocator> SetOrderedMultimap<K, V, S, A> {
-    /// Takes the first pair out, and returns its key and its value. The key is handed out if that
-    /// was its last value; else the set lends it, and it keeps its place among the keys. None where
-    /// there is no pair.
+    /// Removes the first pair, and returns its key and its value, or `None` if the set is empty.
     ///
-    /// It costs what `pop_front` of the map does, and takes no memory. A caller whose proof has to
-    /// know the set afterwards takes [`pop_front_with`](Self::pop_front_with).
+    /// The key is [`KeyWrapper::Owned`] if that was its last value. Otherwise it is
+    /// [`KeyWrapper::Borrowed`]: the key stays in the set, and keeps its place in the order of
+    /// keys. The call doesn't allocate. To remove a pair by its key and value see
+    /// [`remove_value`](Self::remove_value).
+    ///
+    /// Proved callers: see docs/PROVED_CALLERS.md.
+    ///
+    /// # Complexity
+    ///
+    /// *O*(1) expected.
+    ///
+    /// # Examples
     ///
     /// ```
-    /// set.pop_front() == Some((KeyWrapper::Borrowed(&"plan"), "draft"))
+    /// use ordered_multimap::KeyWrapper;
+    /// use set_ordered_multimap::SetOrderedMultimap;
+    ///
+    /// let mut set = SetOrderedMultimap::new(rt.alloc());
+    /// set.insert("plan", "draft")?;
+    /// set.insert("plan", "long")?;
+    /// assert_eq!(rt; set.pop_front(), Some((KeyWrapper::Borrowed(&"plan"), "draft")));
+    /// assert_eq!(rt; set.pop_front(), Some((KeyWrapper::Owned("plan"), "long")));
+    /// assert_eq!(rt; set.pop_front(), None);
     /// ```
     pub fn pop_front(&mut self) -> Option<(KeyWrapper<'_, K>, V)>
         ensures* ends { sem 𝓛 (ends_set_popped K.row V.row S.row A.row S.Hasher.row K.Hash
@@ -30,12 +46,28 @@ impl<K: Eq + Hash, V, S: BuildHasher, A: Allocator> SetOrderedMultimap<K, V, S, 
         map.pop_front()
     }
 
-    /// Takes the last pair out, as [`pop_front`](Self::pop_front) takes the first one, and at the
-    /// cost of `pop_back` of the map. A caller whose proof has to know the set afterwards takes
-    /// [`pop_back_with`](Self::pop_back_with).
+    /// Removes the last pair, and returns its key and its value, or `None` if the set is empty.
+    ///
+    /// The key is owned or borrowed as that of [`pop_front`](Self::pop_front). The call doesn't
+    /// allocate.
+    ///
+    /// Proved callers: see docs/PROVED_CALLERS.md.
+    ///
+    /// # Complexity
+    ///
+    /// *O*(1) expected.
+    ///
+    /// # Examples
     ///
     /// ```
-    /// set.pop_back() == Some((KeyWrapper::Borrowed(&"plan"), "long"))
+    /// use ordered_multimap::KeyWrapper;
+    /// use set_ordered_multimap::SetOrderedMultimap;
+    ///
+    /// let mut set = SetOrderedMultimap::new(rt.alloc());
+    /// set.insert("plan", "draft")?;
+    /// set.insert("note", "draft")?;
+    /// assert_eq!(rt; set.pop_back(), Some((KeyWrapper::Owned("note"), "draft")));
+    /// assert_eq!(rt; set.keys_len(), 1);
     /// ```
     pub fn pop_back(&mut self) -> Option<(KeyWrapper<'_, K>, V)>
         ensures* ends { sem 𝓛 (ends_set_popped K.row V.row S.row A.row S.Hasher.row K.Hash
@@ -48,12 +80,29 @@ impl<K: Eq + Hash, V, S: BuildHasher, A: Allocator> SetOrderedMultimap<K, V, S, 
 }
 
 impl<K: Eq + Hash, V: Eq, S: BuildHasher, A: Allocator> SetOrderedMultimap<K, V, S, A> {
-    /// Takes the first pair out, hands what [`pop_front`](Self::pop_front) returns to the function,
-    /// and returns what that returns. It is for callers that are proved: they know both lists
-    /// afterwards.
+    /// Removes the first pair, and returns the result of `f` on what `pop_front` returns.
+    ///
+    /// It is for proved callers; others take [`pop_front`](Self::pop_front), which costs the same.
+    /// See docs/PROVED_CALLERS.md.
+    ///
+    /// # Complexity
+    ///
+    /// *O*(1) expected, and one call of `f`.
+    ///
+    /// # Requires
+    ///
+    /// `f` may be called on the first pair, or on `None` if the set is empty.
+    ///
+    /// # Examples
     ///
     /// ```
-    /// set.pop_front_with(|popped| popped.is_some())
+    /// use set_ordered_multimap::SetOrderedMultimap;
+    ///
+    /// let mut set = SetOrderedMultimap::new(rt.alloc());
+    /// set.insert("plan", "draft")?;
+    /// let is_some = set.pop_front_with(|popped| popped.is_some());
+    /// assert!(rt; is_some);
+    /// assert!(rt; set.is_empty());
     /// ```
     pub fn pop_front_with<R, F: FnOnce(Option<(KeyWrapper<'_, K>, V)>) -> R>(&mut self, f: F) -> R
         requires { TakesPopped F.FnOnce K.eq Front self.old.lists.pairs f }
@@ -63,12 +112,30 @@ impl<K: Eq + Hash, V: Eq, S: BuildHasher, A: Allocator> SetOrderedMultimap<K, V,
         self.map.pop_front_with(f)
     }
 
-    /// Takes the last pair out, hands what [`pop_back`](Self::pop_back) returns to the function, and
-    /// returns what that returns. It is for callers that are proved: they know both lists
-    /// afterwards.
+    /// Removes the last pair, and returns the result of `f` on what `pop_back` returns.
+    ///
+    /// It is for proved callers; others take [`pop_back`](Self::pop_back), which costs the same.
+    /// See docs/PROVED_CALLERS.md.
+    ///
+    /// # Complexity
+    ///
+    /// *O*(1) expected, and one call of `f`.
+    ///
+    /// # Requires
+    ///
+    /// `f` may be called on the last pair, or on `None` if the set is empty.
+    ///
+    /// # Examples
     ///
     /// ```
-    /// set.pop_back_with(|popped| popped.is_some())
+    /// use set_ordered_multimap::SetOrderedMultimap;
+    ///
+    /// let mut set = SetOrderedMultimap::new(rt.alloc());
+    /// set.insert("plan", "draft")?;
+    /// set.insert("note", "draft")?;
+    /// let is_some = set.pop_back_with(|popped| popped.is_some());
+    /// assert!(rt; is_some);
+    /// assert!(rt; set.keys().eq(&["plan"]));
     /// ```
     pub fn pop_back_with<R, F: FnOnce(Option<(KeyWrapper<'_, K>, V)>) -> R>(&mut self, f: F) -> R
         requires { TakesPopped F.FnOnce K.eq Back self.old.lists.pairs f }

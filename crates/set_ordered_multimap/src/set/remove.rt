@@ -1,4 +1,4 @@
-//! Pairs that leave: one pair, all pairs of a key, or all.
+//! Removals of one pair, of all pairs of a key, and of all pairs.
 ghost use Rattle.std.specs.Prelude.{◌≡◌, ◌+◌, ◌&&◌, cond, false, length, true};
 ghost use Rattle.std.specs.Borrow.{sem};
 ghost use Rattle.std.specs.List.{FoldsTo};
@@ -63,17 +63,31 @@ fn hand_out<K: Eq + Hash + Drop, V: Drop, S: BuildHasher, A: Allocator, F: FnMut
 }
 
 impl<K: Eq + Hash, V: Eq, S: BuildHasher, A: Allocator> SetOrderedMultimap<K, V, S, A> {
-    /// Takes the pair with an equal key and an equal value out, and drops it; the stored key is
-    /// dropped with its last value. Returns whether the pair was there: without it nothing changes.
-    /// The other keys and pairs keep their order.
+    /// Removes the pair with an equal key and an equal value, and returns whether it was there.
     ///
-    /// It takes no memory and gives none back, and can't be refused. It costs what `contains` does,
-    /// and two look-ups more where the key has that value alone. Where the key has other values too,
-    /// it goes over all pairs of the set once, since the map has no call that takes one of several
-    /// values out by a borrowed key.
+    /// The stored value is dropped, and the stored key with its last value. Without such a pair
+    /// nothing changes. The other keys and pairs keep their order. The call doesn't allocate, and
+    /// leaves the capacities as they are. To remove a key with all its values see
+    /// [`remove_all`](Self::remove_all).
+    ///
+    /// # Complexity
+    ///
+    /// *O*(1) expected if the key has that value alone, and *O*(*n*) for the *n* pairs of the set
+    /// if it has other values too. If the pair isn't there, *O*(*v*) expected for the *v* values of
+    /// the key.
+    ///
+    /// # Examples
     ///
     /// ```
-    /// set.remove_value(&"plan", &"draft")
+    /// use set_ordered_multimap::SetOrderedMultimap;
+    ///
+    /// let mut set = SetOrderedMultimap::new(rt.alloc());
+    /// set.insert("plan", "draft")?;
+    /// set.insert("note", "draft")?;
+    /// set.insert("plan", "long")?;
+    /// assert!(rt; set.remove_value(&"plan", &"draft"));
+    /// assert!(rt; !set.remove_value(&"plan", &"draft"));
+    /// assert!(rt; set.iter().eq([(&"note", &"draft"), (&"plan", &"long")]));
     /// ```
     pub fn remove_value(&mut self, key: &K, value: &V) -> bool
     where
@@ -96,10 +110,24 @@ impl<K: Eq + Hash, V: Eq, S: BuildHasher, A: Allocator> SetOrderedMultimap<K, V,
         true
     }
 
-    /// Takes all pairs out, and drops them. The memory stays. It costs what `clear` of the map does.
+    /// Removes all pairs, and drops them.
+    ///
+    /// The capacities stay, for pairs that come later. The call doesn't allocate.
+    ///
+    /// # Complexity
+    ///
+    /// *O*(*n*) for the *n* pairs.
+    ///
+    /// # Examples
     ///
     /// ```
+    /// use set_ordered_multimap::SetOrderedMultimap;
+    ///
+    /// let mut set = SetOrderedMultimap::new(rt.alloc());
+    /// set.insert("plan", "draft")?;
     /// set.clear();
+    /// assert!(rt; set.is_empty());
+    /// assert!(rt; set.values_capacity() >= 1);
     /// ```
     pub fn clear(&mut self)
     where
@@ -123,15 +151,30 @@ impl<K: Eq + Hash, V, S: BuildHasher, A: Allocator> SetOrderedMultimap<K, V, S, 
 }
 
 impl<K: Eq + Hash, V: Eq + Drop, S: BuildHasher, A: Allocator> SetOrderedMultimap<K, V, S, A> {
-    /// Takes the key out with all its values, and hands these out one by one. The pairs leave at
-    /// the call, whatever becomes of the drain, and the stored key is dropped. The drain of an
-    /// absent key is empty. The other keys and pairs keep their order.
+    /// Removes the key with all its values, and returns a draining iterator over the values.
     ///
-    /// It costs what `remove_all` of the map does, and takes no memory. A caller whose proof has to
-    /// know the set afterwards takes [`remove_all_with`](Self::remove_all_with).
+    /// The pairs leave the set at this call, even if the iterator is leaked. Values that weren't
+    /// taken are dropped with the iterator. The stored key is dropped. The iterator is empty if the
+    /// key is absent. The other keys and pairs keep their order. The call doesn't allocate. To
+    /// remove one pair see [`remove_value`](Self::remove_value).
+    ///
+    /// Proved callers: see docs/PROVED_CALLERS.md.
+    ///
+    /// # Complexity
+    ///
+    /// *O*(*v*) expected for the *v* values of the key, and *O*(1) for each step of the iterator.
+    ///
+    /// # Examples
     ///
     /// ```
-    /// set.remove_all(&"plan").next_back() == Some("long")
+    /// use set_ordered_multimap::SetOrderedMultimap;
+    ///
+    /// let mut set = SetOrderedMultimap::new(rt.alloc());
+    /// set.insert("plan", "draft")?;
+    /// set.insert("note", "draft")?;
+    /// set.insert("plan", "long")?;
+    /// assert!(rt; set.remove_all(&"plan").eq(["draft", "long"]));
+    /// assert!(rt; set.iter().eq([(&"note", &"draft")]));
     /// ```
     pub fn remove_all(&mut self, key: &K) -> EntryValuesDrain<'_, K, V, S, A>
     where
@@ -145,14 +188,32 @@ impl<K: Eq + Hash, V: Eq + Drop, S: BuildHasher, A: Allocator> SetOrderedMultima
         map.remove_all(key)
     }
 
-    /// Takes the key out with all its values, drops the stored key, and hands the values to the
-    /// function, in order. It is for callers that are proved: they know both lists afterwards. The
-    /// function has to be one that may be called with any value, however often it was called.
+    /// Removes the key with all its values, and passes each value to `f`, in insertion order.
     ///
-    /// It costs what `remove_all` does and as many calls as the key had values.
+    /// It is for proved callers; others take [`remove_all`](Self::remove_all). The stored key is
+    /// dropped. See docs/PROVED_CALLERS.md.
+    ///
+    /// # Complexity
+    ///
+    /// *O*(*v*) expected for the *v* values of the key, and as many calls of `f`.
+    ///
+    /// # Requires
+    ///
+    /// `f` may be called on any value, however often it was called.
+    ///
+    /// # Examples
     ///
     /// ```
-    /// set.remove_all_with(&"plan", |value| drop(value));
+    /// use set_ordered_multimap::SetOrderedMultimap;
+    ///
+    /// let mut set = SetOrderedMultimap::new(rt.alloc());
+    /// set.insert("plan", 1)?;
+    /// set.insert("note", 8)?;
+    /// set.insert("plan", 2)?;
+    /// let mut last = None;
+    /// set.remove_all_with(&"plan", |value| last = Some(value));
+    /// assert_eq!(rt; last, Some(2));
+    /// assert!(rt; set.iter().eq([(&"note", &8)]));
     /// ```
     pub fn remove_all_with<F: FnMut(V)>(&mut self, key: &K, f: F)
     where

@@ -1,4 +1,4 @@
-//! One pass over all pairs that keeps those for which a function returns true.
+//! `SetOrderedMultimap::retain`.
 ghost use Rattle.std.specs.Prelude.{◌≡◌, Bool};
 ghost use Rattle.ordered_multimap.specs.Retain.{Retains};
 ghost use Rattle.set_ordered_multimap.specs.Asked.{AskedOnPair, AsksOnPair};
@@ -66,15 +66,32 @@ impl<K: Eq + Hash, V: Eq, S: BuildHasher, A: Allocator> SetOrderedMultimap<K, V,
         );
     }
 
-    /// Calls the function once on each pair, in the order of the pairs. Those for which it returns
-    /// true stay; the others are dropped, and so is a key with its last pair. What stays keeps its
-    /// order. The function has to be callable on any pair, however often it was called.
+    /// Keeps the pairs for which `f` returns `true`, and removes the others.
     ///
-    /// It takes no memory and gives none back, and costs what `retain` of the map does. The function
-    /// is lent the value for reading alone, since a written value could become equal to another one.
+    /// `f` is called once on each pair, in insertion order. A key is dropped with its last pair.
+    /// The pairs and keys that stay keep their order. Unlike the map's `retain`, it gets each value
+    /// for reading alone, since a written value could become equal to another one. The call doesn't
+    /// allocate, and leaves the capacities as they are.
+    ///
+    /// # Complexity
+    ///
+    /// *O*(*n*) for the *n* pairs, and as many calls of `f`.
+    ///
+    /// # Requires
+    ///
+    /// `f` may be called on any pair, however often it was called.
+    ///
+    /// # Examples
     ///
     /// ```
+    /// use set_ordered_multimap::SetOrderedMultimap;
+    ///
+    /// let mut set = SetOrderedMultimap::new(rt.alloc());
+    /// set.insert("plan", "draft")?;
+    /// set.insert("note", "draft")?;
+    /// set.insert("plan", "long")?;
     /// set.retain(|_key, value| *value != "draft");
+    /// assert!(rt; set.iter().eq([(&"plan", &"long")]));
     /// ```
     pub fn retain<F: FnMut(&K, &V) -> bool>(&mut self, f: F)
     where

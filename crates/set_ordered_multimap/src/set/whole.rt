@@ -1,4 +1,4 @@
-//! Calls on the set as a whole: equality, clones, its text, and the walk that takes it apart.
+//! Calls on the set as a whole: equality, clones, `Debug`, and the iterator that takes it apart.
 ghost use Rattle.std.specs.Cmp.{and_equiv, and_per, on_equiv, on_per, partial_equiv_from_equiv};
 ghost use Rattle.std.specs.Cmp.Lexicographic.{lists_equiv, lists_per};
 ghost use Rattle.std.specs.Prelude.{◌≡◌, true};
@@ -12,11 +12,28 @@ use std::alloc::{AllocError, Allocator};
 use std::fmt;
 use std::hash::{BuildHasher, Hash};
 
+/// Compares the pairs, position by position.
+///
 /// Two sets are equal if they have the same number of pairs, with equal keys and equal values at
-/// each position, as maps are. The order of their keys may differ.
+/// each position. So unlike std's sets, equal pairs in another order are unequal. The order of the
+/// keys may differ.
+///
+/// # Complexity
+///
+/// *O*(*n*) for the *n* pairs.
+///
+/// # Examples
 ///
 /// ```
-/// set == set.clone()?
+/// use set_ordered_multimap::SetOrderedMultimap;
+///
+/// let mut set = SetOrderedMultimap::new(rt.alloc());
+/// set.insert("plan", "draft")?;
+/// set.insert("note", "draft")?;
+/// let mut other = SetOrderedMultimap::new(rt.alloc());
+/// other.insert("note", "draft")?;
+/// other.insert("plan", "draft")?;
+/// assert!(rt; set != other);
 /// ```
 impl<K: Eq + Hash, V: PartialEq, S: BuildHasher, A: Allocator> PartialEq
     for SetOrderedMultimap<K, V, S, A> {
@@ -42,12 +59,31 @@ impl<
     S: BuildHasher + Clone,
     A: Allocator + Copy,
 > SetOrderedMultimap<K, V, S, A> {
-    /// A set with a clone of each key and of each value, in the same orders, and a clone of the hash
-    /// builder. A clone of a key must be equal to it. It costs what `clone` of the map does, and is
-    /// refused memory where that is.
+    /// Returns a set of clones of the keys and values, in the same orders.
+    ///
+    /// The hash builder is cloned too. This is a method of its own, and not that of `Clone`.
+    ///
+    /// # Errors
+    ///
+    /// If memory allocation fails, for the set or for a clone, returns `AllocError`.
+    ///
+    /// # Complexity
+    ///
+    /// *O*(*n*) for the *n* pairs, and a clone of each key and value.
+    ///
+    /// # Requires
+    ///
+    /// A clone of a key is equal to it.
+    ///
+    /// # Examples
     ///
     /// ```
-    /// set.clone()?.values_len() == 3
+    /// use set_ordered_multimap::SetOrderedMultimap;
+    ///
+    /// let mut set = SetOrderedMultimap::new(rt.alloc());
+    /// set.insert("plan", "draft")?;
+    /// let copy = set.clone()?;
+    /// assert!(rt; copy == set);
     /// ```
     pub fn clone(&self) -> Result<Self, AllocError>
         requires { (k c : K) → IsIn k self.now.lists.keys → K.is_clone k c → K.eq k c ≡ true }
@@ -59,7 +95,7 @@ impl<
     }
 }
 
-/// The pairs, shown as the pairs of a map are: `{"plan": "draft", "note": "draft", "plan": "long"}`.
+/// Shows the pairs as those of a map: `{"plan": "draft", "note": "draft", "plan": "long"}`.
 impl<K: Eq + Hash + fmt::Debug, V: fmt::Debug, S: BuildHasher, A: Allocator> fmt::Debug
     for SetOrderedMultimap<K, V, S, A> {
     fn fmt<W: fmt::Write>(&self, f: &mut fmt::Formatter<W>) -> fmt::Result {
@@ -75,10 +111,31 @@ impl<K: Eq + Hash + Clone, V: Drop, S: BuildHasher + Drop, A: Allocator> IntoIte
 
     ghost into_iter_gives = { λ m r. r ≡ m.lists.pairs };
 
-    /// All pairs, oldest first, each handed out with a clone of its key. The set is given up.
+    /// Consumes the set, and returns an iterator over its pairs, in insertion order.
+    ///
+    /// # Errors
+    ///
+    /// The call can't fail. Each item is a `Result`: an item whose key can't be cloned is
+    /// [`UnclonedKey`] with the value, and the iterator goes on behind it.
+    ///
+    /// # Complexity
+    ///
+    /// *O*(1), and *O*(1) and a clone of the key for each pair.
+    ///
+    /// # Examples
     ///
     /// ```
-    /// set.into_iter().next() == Some(Ok(("plan", "draft")))
+    /// use set_ordered_multimap::SetOrderedMultimap;
+    ///
+    /// let mut set = SetOrderedMultimap::new(rt.alloc());
+    /// set.insert("plan", "draft")?;
+    /// set.insert("note", "draft")?;
+    /// let mut keys = Vec::new(rt.alloc());
+    /// for pair in set {
+    ///     let (key, _value) = pair?;
+    ///     keys.push(key)?;
+    /// }
+    /// assert!(rt; keys.iter().eq(&["plan", "note"]));
     /// ```
     fn into_iter(self) -> IntoIter<K, V, A> {
         let SetOrderedMultimap { map } = self;
