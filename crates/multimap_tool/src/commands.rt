@@ -2,86 +2,125 @@
 use ordered_multimap::End;
 use std::alloc::{Allocator, Global};
 
-/// Which items a walk takes, and from which end.
+/// Which items an iterating command takes, and from which end.
+///
+/// # Examples
+///
+/// ```
+/// use multimap_tool::commands::{Command, Ends};
+/// use multimap_tool::parse::parse_commands;
+/// use ordered_multimap::End;
+///
+/// let alloc = rt.alloc();
+/// let word = Ends::Word(vec![in alloc; End::Front, End::Back]?);
+/// let commands = vec![in alloc; Command::Pairs(Ends::Forward), Command::Pairs(word)]?;
+/// assert_eq!(rt; parse_commands(alloc, b"pairs\nwalkpairs fb\n"), Ok(commands));
+/// ```
 #[derive_where(Debug, PartialEq, Eq)]
 #[derive(Drop)]
 pub enum Ends<A: Allocator = Global> {
     /// Each item once, from the front.
     Forward,
-    /// One item for each letter, from its end of what remains.
+    /// One item for each letter, from that end of what is left.
     Word(Vec<End, A>),
 }
 
-/// A call on a map with its operands.
+/// A command: a call on a map, with its arguments.
+///
+/// It is made by [`parse_commands`](crate::parse::parse_commands) and run by
+/// [`run`](crate::run::run). Each variant says which [`Reply`](crate::replies::Reply) it gets. A
+/// command that runs out of memory gets `Reply::NoMemory` in its place, and changes neither keys
+/// nor pairs.
+///
+/// # Examples
+///
+/// ```
+/// use multimap_tool::commands::Command;
+/// use multimap_tool::replies::Reply;
+/// use multimap_tool::run::run;
+/// use ordered_multimap::ListOrderedMultimap;
+///
+/// let alloc = rt.alloc();
+/// let mut map = ListOrderedMultimap::new(alloc);
+/// let commands = [Command::Append(1, 10), Command::Append(1, 20), Command::RemoveAt(1, 0)];
+/// let replies = run(alloc, alloc, &mut map, &commands, |least, _key, value| *value >= least)?;
+/// assert_eq!(rt; replies.last(), Some(&Reply::Value(Some(10))));
+/// assert!(rt; map.iter().eq([(&1, &20)]));
+/// ```
 #[derive_where(Debug, PartialEq, Eq; K, V)]
 #[derive(Drop)]
 pub enum Command<K, V, A: Allocator = Global> {
-    /// Appends the pair.
+    /// Appends the pair. The reply is `Appended`: whether the key was present.
     Append(K, V),
-    /// Puts the pair in the place of all others of its key. The reply is the first value that it
-    /// replaces.
+    /// Replaces all pairs of the key with this one, which comes last. The reply is `Old`: the first
+    /// value that was replaced.
     Insert(K, V),
-    /// Puts the pair in the place of all others of its key. The reply lists the values that it
-    /// replaces.
+    /// Replaces all pairs of the key with this one, which comes last. The reply is `Values`: the
+    /// values that were replaced.
     InsertAll(K, V),
-    /// Writes the key's first value, if it has one. The reply is the old value.
+    /// Overwrites the key's first value, if it has one. The reply is `Old`: the old value.
     SetFirst(K, V),
-    /// Writes the value of the first pair, if there is one. The reply is the pair as it was.
+    /// Overwrites the value of the first pair, if there is one. The reply is `Pair`: the pair as it
+    /// was.
     SetFront(V),
-    /// Writes the value of the last pair, if there is one. The reply is the pair as it was.
+    /// Overwrites the value of the last pair, if there is one. The reply is `Pair`: the pair as it
+    /// was.
     SetBack(V),
-    /// Appends the pair unless the key is present. The reply is the key's first value then.
+    /// Appends the pair if the key is absent. The reply is `Value`: the key's first value then.
     OrInsert(K, V),
-    /// The key's first value.
+    /// Asks for the key's first value. The reply is `Value`.
     Get(K),
-    /// The key's values.
+    /// Asks for the key's values. The reply is `Values`.
     All(K, Ends<A>),
-    /// Whether the key is present.
+    /// Asks whether the key is present. The reply is `Truth`.
     Has(K),
-    /// How many values the key has.
+    /// Asks how many values the key has. The reply is `Count`.
     Len(K),
-    /// The first pair.
+    /// Asks for the first pair. The reply is `Pair`.
     Front,
-    /// The last pair.
+    /// Asks for the last pair. The reply is `Pair`.
     Back,
-    /// Takes the key out with all its values. The reply is the first of them.
+    /// Removes the key with all its values. The reply is `Value`: the first of them.
     Remove(K),
-    /// Takes the key out with all its values. The reply lists them.
+    /// Removes the key with all its values. The reply is `Values`: all of them.
     RemoveAll(K),
-    /// Takes the key out with all its values. The reply is the stored key with the first of them.
+    /// Removes the key with all its values. The reply is `Pair`: the stored key and the first of
+    /// them.
     RemoveEntry(K),
-    /// Takes the key out with all its values. The reply is the stored key with all of them.
+    /// Removes the key with all its values. The reply is `List`: the stored key and all of them.
     RemoveEntryAll(K),
-    /// Takes the value at an index among the key's values out, if the key has others. The reply is
-    /// that value.
+    /// Removes the value at an index among the key's values, if the key has others. The reply is
+    /// `Value`: that value.
     RemoveAt(K, usize),
-    /// Takes the first pair out.
+    /// Removes the first pair. The reply is `Popped`.
     PopFront,
-    /// Takes the last pair out.
+    /// Removes the last pair. The reply is `Popped`.
     PopBack,
-    /// Keeps the pairs for which a function of this value, of the key and of the value returns
-    /// true.
+    /// Keeps the pairs for which the function of `run` returns `true`, given this value, the key
+    /// and the value. The reply is `Done`.
     Retain(V),
-    /// Takes all pairs out.
+    /// Removes all pairs. The reply is `Done`.
     Clear,
-    /// Makes room for this many more keys, and for this many more values.
+    /// Makes room for this many more keys, and this many more values. The reply is `Done`.
     Reserve(usize, usize),
-    /// Moves the map to new memory, without holes.
+    /// Moves the map to new memory, without holes. The reply is `Done`.
     PackToFit,
-    /// Puts a clone of the map in its place.
+    /// Replaces the map with its clone. The reply is `Done`.
     Swap,
-    /// Puts in the map's place what is read of its JSON value.
+    /// Replaces the map with what is read of its `to_value`. The keys are then in the order of
+    /// their first pairs. The reply is `Done`.
     Json,
-    /// Puts in the map's place what is read of the JSON value that holds both its lists.
+    /// Replaces the map with what is read of its `to_value_2`. Both lists stay. The reply is
+    /// `Done`.
     Json2,
-    /// All pairs.
+    /// Asks for the pairs. The reply is `Pairs`.
     Pairs(Ends<A>),
-    /// All keys.
+    /// Asks for the keys. The reply is `Keys`.
     Keys(Ends<A>),
-    /// The values of all pairs.
+    /// Asks for the values of all pairs. The reply is `Values`.
     Values(Ends<A>),
-    /// Each key with its values.
+    /// Asks for each key with its values. The reply is `Lists`.
     KeyLists,
-    /// How many keys and how many pairs there are.
+    /// Asks how many keys and how many pairs there are. The reply is `Counts`.
     Lengths,
 }

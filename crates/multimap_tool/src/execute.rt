@@ -20,13 +20,40 @@ use std::io::{Read, Write};
 /// How many bytes one read asks for.
 const PIECE: usize = 32768;
 
-/// Reads all of the input, runs the commands that its lines spell on an empty map, and writes the
-/// text of their replies. `memory` gives the memory of JSON values, and `alloc` all other memory.
+/// Reads commands, runs them on an empty map, and writes their replies.
 ///
-/// All input is read before a line is looked at, and all replies are complete before the first
-/// byte is written, so nothing is written before a fault other than [`ToolFault::Write`]. Any
-/// error of a read is a failed read, and an input that doesn't end within 4294967295 reads is one
-/// too; a write that takes no bytes is a failed write.
+/// The input is read to its end before a line is looked at, and all replies are complete before the
+/// first byte is written. So nothing is written before a fault other than [`ToolFault::Write`].
+/// JSON values are allocated from `memory`, and all else from `alloc`. `retain V` keeps the pairs
+/// whose value is V or more.
+///
+/// # Errors
+///
+/// - [`ToolFault::BadLine`] with the number of the first line that is no command, counted from 1.
+/// - [`ToolFault::Read`] if a read fails, or if the input doesn't end within 4294967295 reads.
+/// - [`ToolFault::Write`] if a write or the flush fails, or if a write takes no bytes.
+/// - [`ToolFault::OutOfMemory`] if memory allocation fails for input, commands or replies. A
+///   command that runs out of memory itself has the reply `no memory`.
+///
+/// # Complexity
+///
+/// *O*(*b*) for *b* bytes of input and output, and what the map's calls cost.
+///
+/// # Examples
+///
+/// ```
+/// use multimap_tool::execute::execute;
+/// use multimap_tool::faults::ToolFault;
+///
+/// let alloc = rt.alloc();
+/// let mut output = Vec::new(alloc);
+/// let mut input: &[u8] = b"append 1 10\nappend 1 20\nall 1\n";
+/// assert_eq!(rt; execute(alloc, alloc, &mut input, &mut output), Ok(()));
+/// assert_eq!(rt; output.as_slice(), b"new\nmore\n10 20\n".as_slice());
+///
+/// let mut input: &[u8] = b"append 1\n";
+/// assert_eq!(rt; execute(alloc, alloc, &mut input, &mut output), Err(ToolFault::BadLine(1)));
+/// ```
 pub fn execute<A: Allocator + Copy, R: Read, W: Write>(
     alloc: A,
     memory: Global,

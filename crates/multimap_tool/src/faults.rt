@@ -1,36 +1,64 @@
-//! What can go wrong, with its text and its exit status.
+//! What can go wrong, with its message and its exit status.
 ghost use Rattle.std.specs.Prelude.{◌≡◌};
 
 use std::alloc::{AllocError, AllocFailed};
 use std::error::Error;
 use std::fmt;
 
-/// Why a text gave no commands.
+/// The error of [`parse_commands`](crate::parse::parse_commands).
+///
+/// `?` converts it into a [`ToolFault`].
 #[derive(Debug, PartialEq, Eq, Clone, Copy)]
 pub enum TextFault {
-    /// The first line that spells no command, counted from 1.
+    /// The number of the first line that is no command, counted from 1.
     BadLine(u64),
-    /// Memory was wanting at that line or before it.
+    /// Memory ran out at that line or before it.
     OutOfMemory,
 }
 
-/// Why a run of the program gave no output, or not all of it.
+/// The error of [`execute`](crate::execute::execute).
+///
+/// # Examples
+///
+/// ```
+/// use multimap_tool::faults::ToolFault;
+///
+/// let fault = ToolFault::BadLine(7);
+/// assert_eq!(rt; fault.status(), 2);
+/// assert!(rt; format!(in rt.alloc(); "{fault}")?.as_str() == "bad line 7");
+/// ```
 #[derive(Debug, PartialEq, Eq, Clone, Copy)]
 pub enum ToolFault {
-    /// The first line that spells no command, counted from 1. Nothing was run or written.
+    /// The number of the first line that is no command, counted from 1. Nothing was run or written.
     BadLine(u64),
     /// The input couldn't be read to its end. Nothing was run or written.
     Read,
-    /// The output couldn't be written. How much of it went out is unknown.
+    /// The output couldn't be written. It is unknown how much of it was.
     Write,
-    /// Memory was wanting. Nothing was written.
+    /// Memory ran out. Nothing was written.
     OutOfMemory,
 }
 
 impl ToolFault {
     ghost use Rattle.multimap_tool.specs.Faults.{status_of};
 
-    /// The exit status of a program that ends with this fault.
+    /// Returns the exit status of a program that ends with this fault.
+    ///
+    /// It is 2 for a bad line, 3 for a failed read or write, and 4 for want of memory.
+    ///
+    /// # Complexity
+    ///
+    /// *O*(1).
+    ///
+    /// # Examples
+    ///
+    /// ```
+    /// use multimap_tool::faults::ToolFault;
+    ///
+    /// assert_eq!(rt; ToolFault::BadLine(7).status(), 2);
+    /// assert_eq!(rt; ToolFault::Read.status(), 3);
+    /// assert_eq!(rt; ToolFault::OutOfMemory.status(), 4);
+    /// ```
     pub fn status(&self) -> u8
         ensures status { result ≡ status_of self.now }
     {

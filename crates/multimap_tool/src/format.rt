@@ -7,10 +7,30 @@ ghost use Rattle.multimap_tool.specs.Texts.{text_of_option, old_text, list_text,
 use crate::replies::{Popped, Reply};
 use std::alloc::{AllocError, Allocator};
 
-/// The text of the replies, each followed by a line feed.
+/// Returns the text of the replies, each followed by a line feed.
 ///
-/// Takes memory for the text alone, from `alloc`; it is refused when out of it. The cost is linear
-/// in the length of the text.
+/// docs/GUIDE.md says what is written for each reply.
+///
+/// # Errors
+///
+/// Returns `AllocError` if memory allocation fails. Only the text is allocated, from `alloc`.
+///
+/// # Complexity
+///
+/// *O*(*b*) for a text of *b* bytes.
+///
+/// # Examples
+///
+/// ```
+/// use multimap_tool::format::format_replies;
+/// use multimap_tool::replies::Reply;
+///
+/// let alloc = rt.alloc();
+/// let pairs = vec![in alloc; Some((1, 10)), Some((2, 20)), None]?;
+/// let replies = [Reply::Appended(false), Reply::Pairs(pairs), Reply::NoMemory];
+/// let text = format_replies(alloc, &replies)?;
+/// assert_eq!(rt; text.as_slice(), b"new\n1:10 2:20 -\nno memory\n".as_slice());
+/// ```
 pub fn format_replies<A: Allocator + Copy>(
     alloc: A,
     replies: &[Reply<u32, i64, A>],

@@ -1,5 +1,9 @@
-//! Maps as JSON values: an array with an array of the key and the value for each pair, in order, or
-//! an object of such an array and of the keys in their order.
+//! Maps as JSON values.
+//!
+//! A map is an array of one array `[key, value]` for each pair, in order ([`to_value`]), or an
+//! object of such an array and of the keys in their order ([`to_value_2`]). [`from_value`] reads
+//! both. Keys and values are of the types that are [`JsonPart`]s: `u8` to `u64`, `i8` to `i64`,
+//! `bool`, `char`, `String`, and your own.
 ghost use Rattle.std.specs.Prelude.{◌≡◌, ℕ, true, None, IfOk, IfErr, OnOk, IsSome, length};
 ghost use Rattle.serde_json.specs.Data.{array};
 ghost use Rattle.serde_json.specs.Find.{as_array};
@@ -32,13 +36,32 @@ use std::hash::{BuildHasher, Hash};
 pub use to_json::ToJson;
 pub use written::to_value_2;
 
-/// The map as a JSON value: an array with one array `[key, value]` for each pair, in order.
+/// Returns the map as a JSON value: an array of one array `[key, value]` for each pair, in order.
 ///
-/// `alloc` gives the memory of the JSON value: one request for the whole, one for each pair, and
-/// those of its texts. It is refused when out of memory; the map stays as it is.
+/// The order of the keys isn't written. To keep it too see [`to_value_2`].
+///
+/// # Errors
+///
+/// Returns `AllocError` if memory allocation fails. The JSON value is allocated from `alloc`: once
+/// for the whole, once for each pair, and for its strings.
+///
+/// # Complexity
+///
+/// *O*(*n*) for the *n* pairs.
+///
+/// # Examples
 ///
 /// ```
-/// to_value(alloc, &map)?.to_string(alloc)? == "[[\"b\",20],[\"a\",10]]"
+/// use multimap_tool::json::to_value;
+/// use ordered_multimap::ListOrderedMultimap;
+///
+/// let alloc = rt.alloc();
+/// let mut map = ListOrderedMultimap::new(alloc);
+/// map.append("line", 1)?;
+/// map.append("page", 8)?;
+/// map.append("line", 2)?;
+/// let text = to_value(alloc, &map)?.to_string(alloc)?;
+/// assert!(rt; text.as_str() == r#"[["line",1],["page",8],["line",2]]"#);
 /// ```
 pub fn to_value<K: ToJson + Eq + Hash, V: ToJson, S: BuildHasher, A: Allocator>(
     alloc: Global,
@@ -69,20 +92,41 @@ fn item_of<K: ToJson, V: ToJson>(alloc: Global, key: &K, value: &V) -> Result<Va
     Ok(Value::from(parts))
 }
 
-/// A map with this hash builder, of what a JSON value holds, which [`to_value`] or [`to_value_2`]
-/// gives.
+/// Reads a map from a JSON value, as [`to_value`] or [`to_value_2`] writes it.
 ///
-/// `alloc` gives the memory of the map, and `memory` the memory of keys and values that are read.
-/// An array has to have arrays `[key, value]` as items: these pairs are appended in order. An
-/// object has to have the members `keys`, an array of different keys, and `pairs`, such an array of
-/// pairs of these keys, each of which occurs: the map has the keys in the order of `keys`. The
-/// first item that isn't as it has to be decides which fault is told, and there is then no map.
-/// That there is no room for as many keys and pairs at the start is no fault: each append makes the
-/// room that it needs. One look-up for each item; of an object each key also takes a value slot
-/// until all pairs have come, which is a hole afterwards.
+/// The map has the hash builder `state` and allocates from `alloc`; its keys and values are read
+/// into `memory`.
+///
+/// - An array has to have arrays `[key, value]` as items. These pairs are appended in order.
+/// - An object has to have exactly the members `keys`, an array of different keys, and `pairs`,
+///   such an array of pairs of these keys, each of which occurs. The map has the keys in the order
+///   of `keys`.
+///
+/// # Errors
+///
+/// Returns the [`ReadFault`] of the first item that isn't as it has to be, or
+/// [`ReadFault::OutOfMemory`]. There is then no map.
+///
+/// # Complexity
+///
+/// *O*(*n*) expected for the *n* items, with one lookup for each. Of an object each key takes a
+/// value slot until all pairs are read, which is a hole afterwards.
+///
+/// # Examples
 ///
 /// ```
-/// from_value(alloc, memory, DefaultState::new(), &value)?
+/// use multimap_tool::json::{ReadFault, from_value, to_value};
+/// use ordered_multimap::{DefaultState, ListOrderedMultimap};
+///
+/// let alloc = rt.alloc();
+/// let mut map = ListOrderedMultimap::new(alloc);
+/// map.append(1u32, 10i64)?;
+/// map.append(2, -1)?;
+/// let value = to_value(alloc, &map)?;
+/// assert_eq!(rt; from_value(alloc, alloc, DefaultState::new(), &value), Ok(map));
+///
+/// let unsigned = from_value::<u32, u64, _, _>(alloc, alloc, DefaultState::new(), &value);
+/// assert_eq!(rt; unsigned, Err(ReadFault::BadValue(1)));
 /// ```
 pub fn from_value<
     K: JsonPart + Eq + Hash + Drop,

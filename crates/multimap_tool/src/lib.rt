@@ -1,7 +1,67 @@
-//! Commands on an insertion-ordered multimap: read from text, run in order, and replied to as text.
+//! Commands on a multimap, read from text, run in order, and replied to as text; and maps as JSON.
 //!
-//! [`execute::execute`] goes from bytes to bytes; [`parse::parse_commands`], [`run::run`] and
-//! [`format::format_replies`] are its three parts.
+//! The crate has two parts, which need nothing of each other:
+//!
+//! - a small command language for an `ordered_multimap::ListOrderedMultimap`. [`execute::execute`]
+//!   goes from the bytes of a reader to the bytes of a writer; its three steps are
+//!   [`parse::parse_commands`], [`run::run`] and [`format::format_replies`].
+//! - [`json`], which writes a map as a `serde_json::Value` and reads it again.
+//!
+//! ```text
+//! append 1 10     new            1:10
+//! append 2 20     new            1:10 2:20
+//! append 1 30     more           1:10 2:20 1:30
+//! lists           1=10,30 2=20
+//! insert 1 40     old 10         2:20 1:40        the new pair comes last
+//! keys            1 2                             and the key keeps its place
+//! ```
+//!
+//! The left column has the commands, the next one the replies, and the right one the pairs then.
+//! The commands are listed in docs/GUIDE.md; as values they are [`commands::Command`], and the
+//! replies [`replies::Reply`]. A map is the place for pairs that may occur twice; the crate
+//! `set_ordered_multimap` has a set of pairs, for which there are no commands.
+//!
+//! # What the calls cost
+//!
+//! | Call | Cost |
+//! |---|---|
+//! | `parse_commands` | *O*(*b*) for a text of *b* bytes |
+//! | `run` | what the map's calls cost, one for each command |
+//! | `format_replies` | *O*(*b*) for a text of *b* bytes |
+//! | `execute` | the sum of these three |
+//! | `to_value`, `to_value_2` | *O*(*n*) for *n* pairs |
+//! | `from_value` | *O*(*n*) expected for *n* items |
+//!
+//! # When memory runs out
+//!
+//! `run` needs memory for its list of replies at the start. If it fails there, it returns
+//! `AllocError` and has run nothing. A command that runs out of memory later gets the reply
+//! [`Reply::NoMemory`](replies::Reply::NoMemory), and changes neither list of the map. The other
+//! calls return a fault or an `AllocError`, and there is then no result: see [`faults`] and
+//! [`json::ReadFault`].
+//!
+//! # Keys that others choose
+//!
+//! `execute` makes a map with the default hash builder, which has a fixed seed. Whoever chooses the
+//! keys can choose keys of equal hashes, and each command then compares all of them. For input from
+//! people whom you don't trust call `run` on a map with an `ordered_multimap::RandomState`.
+//!
+//! # Examples
+//!
+//! In the examples `rt` is the runtime that `main` or a test is given. Each example is the body of
+//! a function that returns `Result<(), AllocError>`.
+//!
+//! ```
+//! use multimap_tool::execute::execute;
+//!
+//! let alloc = rt.alloc();
+//! let mut input: &[u8] = b"append 1 10\nappend 2 20\ninsert 1 40\npairs\nkeys\n";
+//! let mut output = Vec::new(alloc);
+//! assert_eq!(rt; execute(alloc, alloc, &mut input, &mut output), Ok(()));
+//! assert_eq!(rt; output.as_slice(), b"new\nnew\nold 10\n2:20 1:40\n1 2\n".as_slice());
+//! ```
+//!
+//! Proved callers: see docs/PROVED_CALLERS.md.
 #![tactic(auto)]
 
 pub mod commands;

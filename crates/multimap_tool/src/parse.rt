@@ -17,11 +17,34 @@ use crate::parse::words::{
 };
 use std::alloc::{AllocError, Allocator};
 
-/// The commands that the lines of a text spell, in order, or the first line that spells none.
+/// Reads the commands of a text, one of each line.
 ///
-/// A line is a command's word and its operands, each after one space, in the one spelling that
-/// each command has; `text` may hold any bytes. What stands behind the last line feed is a line
-/// unless it is empty. A refusal gives no command. The cost is linear in the length of the text.
+/// A line is a command's word and its arguments, each after one space. Each command has one
+/// spelling, which docs/GUIDE.md lists. The text may have any bytes. What follows the last line
+/// feed is a line unless it is empty.
+///
+/// # Errors
+///
+/// Returns [`TextFault::BadLine`] with the number of the first line that is no command, counted
+/// from 1. Returns [`TextFault::OutOfMemory`] if memory allocation fails at that line or before it.
+/// There are then no commands.
+///
+/// # Complexity
+///
+/// *O*(*b*) for a text of *b* bytes.
+///
+/// # Examples
+///
+/// ```
+/// use multimap_tool::commands::Command;
+/// use multimap_tool::faults::TextFault;
+/// use multimap_tool::parse::parse_commands;
+///
+/// let alloc = rt.alloc();
+/// let commands = vec![in alloc; Command::Append(1, 10), Command::Get(1)]?;
+/// assert_eq!(rt; parse_commands(alloc, b"append 1 10\nget 1\n"), Ok(commands));
+/// assert_eq!(rt; parse_commands(alloc, b"get 1\nget one\n"), Err(TextFault::BadLine(2)));
+/// ```
 pub fn parse_commands<A: Allocator + Copy>(
     alloc: A,
     text: &[u8],

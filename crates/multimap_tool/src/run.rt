@@ -31,22 +31,51 @@ use ordered_multimap::{End, ListOrderedMultimap};
 use std::alloc::{AllocError, Allocator, Global};
 use std::hash::{BuildHasher, Hash};
 
-/// Runs the commands on the map, in order, and gives one reply to each.
+/// Runs the commands on the map, in order, and returns one reply for each.
 ///
-/// `alloc` gives the memory of the replies, and `memory` the memory of the JSON value that a
-/// [`Command::Json`] or [`Command::Json2`] makes and reads. `keep` tells which pairs a
-/// [`Command::Retain`] keeps: it is handed the command's value, a key and its value, which it may
-/// write, and has to be callable with the value of each of these commands and any key and value.
-/// The room for all replies is taken at the start: where it is refused, nothing was done. A command
-/// that finds no memory for itself gets [`Reply::NoMemory`] and changes neither keys nor pairs.
-/// No append, insert or or-insert gets it where the map has room at the start for as many more keys
-/// and as many more values as there are commands, and none is a [`Command::PackToFit`],
-/// [`Command::Swap`], [`Command::Json`] or [`Command::Json2`]; nor does one get it where the map has
-/// room for a key and a value once the run comes to it. A [`Command::Reserve`] is done where its room
-/// is there once the run comes to it, and where it is done its room is there then. Clones of keys
-/// and values must be the same keys and values; where a [`Command::Json`] or [`Command::Json2`] is
-/// among the commands, different keys must have different JSON values, and different values too.
-/// Each command costs what the map's call of its name does.
+/// The replies are allocated from `alloc`, and the JSON value that a [`Command::Json`] or
+/// [`Command::Json2`] makes and reads from `memory`. `keep` says which pairs a [`Command::Retain`]
+/// keeps: it gets the command's value, the key, and the value, which it may write.
+///
+/// A command that runs out of memory gets [`Reply::NoMemory`], and changes neither keys nor pairs.
+/// No append, insert or or-insert gets it if the map has room for one more key and one more value
+/// at that command. So none gets it if the map has room at the start for as many more keys and
+/// values as there are commands, and none of these is a [`Command::PackToFit`], [`Command::Swap`],
+/// [`Command::Json`] or [`Command::Json2`]. A [`Command::Reserve`] whose room is there already is
+/// done, and one that is done has made its room.
+///
+/// # Errors
+///
+/// Returns `AllocError` if the room for all replies, which is allocated at the start, can't be
+/// allocated. No command was run then.
+///
+/// # Complexity
+///
+/// What the map's call of the same name costs, for each command.
+///
+/// # Requires
+///
+/// - `keep` may be called with the value of each [`Command::Retain`], and any key and value.
+/// - Clones of keys and values are the same keys and values, as those of numbers are.
+/// - If a [`Command::Json`] or [`Command::Json2`] is among the commands, different keys have
+///   different JSON values, and different values too.
+///
+/// # Examples
+///
+/// ```
+/// use multimap_tool::commands::Command;
+/// use multimap_tool::replies::Reply;
+/// use multimap_tool::run::run;
+/// use ordered_multimap::ListOrderedMultimap;
+///
+/// let alloc = rt.alloc();
+/// let mut map = ListOrderedMultimap::new(alloc);
+/// let commands = [Command::Append(1, 10), Command::Append(2, 20), Command::Retain(15)];
+/// let replies = run(alloc, alloc, &mut map, &commands, |least, _key, value| *value >= least)?;
+/// let wanted = [Reply::Appended(false), Reply::Appended(false), Reply::Done];
+/// assert!(rt; replies.iter().eq(&wanted));
+/// assert!(rt; map.iter().eq([(&2, &20)]));
+/// ```
 pub fn run<
     K: JsonPart + Eq + Hash + Copy,
     V: JsonPart + Copy,

@@ -1,43 +1,53 @@
-//! Why a JSON value gave no key, no value or no map, with the text that says so.
+//! Why a JSON value is no key, no value or no map, with a message.
 use std::error::Error;
 use std::fmt;
 
-/// Why a JSON value gave no key or value.
+/// The error of [`JsonPart::from_part`](crate::json::JsonPart::from_part).
 #[derive(Debug, PartialEq, Eq, Clone, Copy)]
 pub enum PartFault {
     /// No value of the type is written as this JSON value.
     Refused,
-    /// Memory was wanting.
+    /// Memory ran out.
     OutOfMemory,
 }
 
-/// Why a JSON value gave no map. The pairs are the items of the array, or of the member `pairs` of
-/// an object. Items are counted from 0, and the first bad one decides, items of `keys` before items
-/// of `pairs`.
+/// The error of [`from_value`](crate::json::from_value): why a JSON value is no map.
+///
+/// The pairs are the items of the array, or of the member `pairs` of an object. Items are counted
+/// from 0, and the first bad one decides, items of `keys` before items of `pairs`.
+///
+/// # Examples
+///
+/// ```
+/// use multimap_tool::json::ReadFault;
+///
+/// let message = format!(in rt.alloc(); "{}", ReadFault::NotPair(7))?;
+/// assert!(rt; message.as_str() == "pair 7 is no array of a key and a value");
+/// ```
 #[derive(Debug, PartialEq, Eq, Clone, Copy)]
 pub enum ReadFault {
-    /// It is neither an array nor an object.
+    /// The value is neither an array nor an object.
     NotArray,
     /// It is an object whose members aren't exactly `keys` and `pairs`, or one of them is no array.
     NotVersion2,
-    /// The first bad item of `keys` is refused as a key.
+    /// The first bad item of `keys` is no key of the map's type.
     BadListedKey(usize),
     /// The first bad item of `keys` is a key that equals an earlier one.
     RepeatedKey(usize),
     /// The first bad pair is no array of exactly two.
     NotPair(usize),
-    /// The first bad pair is an array of two whose first part is refused as a key.
+    /// The first bad pair is an array of two, and its key is no key of the map's type.
     BadKey(usize),
-    /// The first bad pair is an array of two whose first part is a key that equals no item of
-    /// `keys`.
+    /// The first bad pair is an array of two, and its key equals no item of `keys`.
     UnlistedKey(usize),
-    /// The first bad pair is an array of two whose first part is a key, in an object one of those
-    /// in `keys`, and whose second is refused as a value.
+    /// The first bad pair is an array of two with a good key, and its value is no value of the
+    /// map's type. In an object the key is one of `keys`.
     BadValue(usize),
     /// No pair is bad, and this item of `keys` is the first that is the key of no pair.
     UnusedKey(usize),
-    /// Memory was wanting, at the first bad item or before it, or at any item if none is bad; of an
-    /// object also at the value of the first pair, which is read before all else.
+    /// Memory ran out, at the first bad item or before it, or at any item if none is bad. Of an
+    /// object it may also have run out at the value of the first pair, which is read before all
+    /// else.
     OutOfMemory,
 }
 

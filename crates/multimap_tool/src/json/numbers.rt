@@ -6,7 +6,7 @@ use super::parts::JsonPart;
 use serde_json::Value;
 use std::alloc::{AllocError, Global};
 
-/// A whole number of 8 bits.
+/// Written as a number. Reads whole numbers from 0 to 255.
 impl JsonPart for u8 {
     ghost use Rattle.serde_json.specs.Data.{number, unsigned};
     ghost use Rattle.multimap_tool.specs.Json.{is_unsigned};
@@ -31,7 +31,7 @@ impl JsonPart for u8 {
     }
 }
 
-/// A whole number of 16 bits.
+/// Written as a number. Reads whole numbers from 0 to 65,535.
 impl JsonPart for u16 {
     ghost use Rattle.serde_json.specs.Data.{number, unsigned};
     ghost use Rattle.multimap_tool.specs.Json.{is_unsigned};
@@ -56,7 +56,7 @@ impl JsonPart for u16 {
     }
 }
 
-/// A whole number of 32 bits.
+/// Written as a number. Reads whole numbers from 0 to 4,294,967,295.
 impl JsonPart for u32 {
     ghost use Rattle.serde_json.specs.Data.{number, unsigned};
     ghost use Rattle.multimap_tool.specs.Json.{is_unsigned};
@@ -81,7 +81,7 @@ impl JsonPart for u32 {
     }
 }
 
-/// A whole number of 64 bits.
+/// Written as a number. Reads whole numbers of 64 bits, from 0.
 impl JsonPart for u64 {
     ghost use Rattle.serde_json.specs.Data.{number, unsigned};
     ghost use Rattle.multimap_tool.specs.Json.{is_unsigned};
@@ -103,7 +103,7 @@ impl JsonPart for u64 {
     }
 }
 
-/// A whole number of 8 bits, one of them for its sign.
+/// Written as a number. Reads whole numbers from -128 to 127.
 impl JsonPart for i8 {
     ghost use Rattle.serde_json.specs.Data.{number};
     ghost use Rattle.serde_json.specs.Find.{of_integer};
@@ -129,7 +129,7 @@ impl JsonPart for i8 {
     }
 }
 
-/// A whole number of 16 bits, one of them for its sign.
+/// Written as a number. Reads whole numbers from -32,768 to 32,767.
 impl JsonPart for i16 {
     ghost use Rattle.serde_json.specs.Data.{number};
     ghost use Rattle.serde_json.specs.Find.{of_integer};
@@ -155,7 +155,7 @@ impl JsonPart for i16 {
     }
 }
 
-/// A whole number of 32 bits, one of them for its sign.
+/// Written as a number. Reads whole numbers from -2,147,483,648 to 2,147,483,647.
 impl JsonPart for i32 {
     ghost use Rattle.serde_json.specs.Data.{number};
     ghost use Rattle.serde_json.specs.Find.{of_integer};
@@ -181,7 +181,7 @@ impl JsonPart for i32 {
     }
 }
 
-/// A whole number of 64 bits, one of them for its sign.
+/// Written as a number. Reads whole numbers of 64 bits, one of them for the sign.
 impl JsonPart for i64 {
     ghost use Rattle.serde_json.specs.Data.{number};
     ghost use Rattle.serde_json.specs.Find.{of_integer};

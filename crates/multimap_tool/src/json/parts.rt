@@ -6,10 +6,13 @@ use super::faults::PartFault;
 use serde_json::Value;
 use std::alloc::{AllocError, Global};
 
-/// A type whose values can be the keys or the values of a map that is written as JSON.
+/// A type whose values can be keys or values of a map that is written as JSON and read again.
 ///
-/// What `to_part` wrote `from_part` reads as a value with the same JSON value, or it finds no
-/// memory.
+/// What `to_part` writes, `from_part` reads as a value with the same JSON value, or it runs out of
+/// memory. A type of your own that is written alone implements [`ToJson`](crate::json::ToJson).
+/// There is no implementation for floats: JSON has no NaN.
+///
+/// Proved callers: see docs/PROVED_CALLERS.md.
 pub trait JsonPart {
     ghost use Rattle.std.specs.Prelude.{Bool};
     ghost use Rattle.serde_json.specs.Data.{Data};
@@ -25,14 +28,44 @@ pub trait JsonPart {
 
     ghost is_read_freely: { Bool };
 
-    /// The JSON value that it is written as. Takes memory from `alloc`, for texts alone.
+    /// Returns the JSON value of this key or value.
+    ///
+    /// # Errors
+    ///
+    /// Returns `AllocError` if memory allocation fails. Strings and characters alone allocate, from
+    /// `alloc`.
+    ///
+    /// # Examples
+    ///
+    /// ```
+    /// use multimap_tool::json::JsonPart;
+    ///
+    /// let alloc = rt.alloc();
+    /// assert_eq!(rt; 7u32.to_part(alloc)?.as_u64(), Some(7));
+    /// assert_eq!(rt; 'b'.to_part(alloc)?.as_str(), Some("b"));
+    /// ```
     fn to_part(&self, alloc: Global) -> Result<Value, AllocError>
         ensures written { IfOk result (λ part. view part ≡ json self.now) }
         ensures accepted { IfOk result (λ part. is_part (view part) ≡ true) }
         ensures free { is_written_freely ≡ true → IsOk result };
 
-    /// The value that is written as this JSON value. It is refused exactly where there is none.
-    /// Takes memory from `alloc`, for texts alone.
+    /// Returns the key or value that is written as this JSON value.
+    ///
+    /// # Errors
+    ///
+    /// Returns [`PartFault::Refused`] if no value of the type is written so, and
+    /// [`PartFault::OutOfMemory`] if memory allocation fails. Strings alone allocate, from `alloc`.
+    ///
+    /// # Examples
+    ///
+    /// ```
+    /// use multimap_tool::json::{JsonPart, PartFault};
+    ///
+    /// let alloc = rt.alloc();
+    /// let value = 300u32.to_part(alloc)?;
+    /// assert_eq!(rt; u32::from_part(alloc, &value), Ok(300));
+    /// assert_eq!(rt; u8::from_part(alloc, &value), Err(PartFault::Refused));
+    /// ```
     fn from_part(alloc: Global, value: &Value) -> Result<Self, PartFault>
         ensures read { IfOk result (λ part. view value.now ≡ json part) }
         ensures accepted { OnOk result (is_part (view value.now) ≡ true) }
@@ -41,7 +74,7 @@ pub trait JsonPart {
         ensures free { is_read_freely ≡ true → IfErr result (λ fault. fault ≡ PartFault.Refused) };
 }
 
-/// `true` or `false`.
+/// Written as `true` or `false`.
 impl JsonPart for bool {
     ghost use Rattle.serde_json.specs.Data.{boolean};
     ghost use Rattle.multimap_tool.specs.Json.{is_truth};
@@ -63,7 +96,7 @@ impl JsonPart for bool {
     }
 }
 
-/// A text of one character.
+/// Written as a string of one character.
 impl JsonPart for char {
     ghost use Rattle.std.specs.Char.{encode_utf8};
     ghost use Rattle.serde_json.specs.Data.{string};
@@ -95,7 +128,7 @@ impl JsonPart for char {
     }
 }
 
-/// A text.
+/// Written as a string.
 impl JsonPart for String {
     ghost use Rattle.std.specs.String.{string_bytes};
     ghost use Rattle.serde_json.specs.Data.{string};

@@ -6,10 +6,12 @@ use super::parts::JsonPart;
 use serde_json::Value;
 use std::alloc::{AllocError, Global};
 
-/// A type whose values can be the keys or the values of a map that is written as JSON.
+/// A type whose values can be keys or values of a map that is written as JSON.
 ///
 /// Each [`JsonPart`] is one. A type of your own that can't be read implements this trait alone, as
 /// `&str` does.
+///
+/// Proved callers: see docs/PROVED_CALLERS.md.
 pub trait ToJson {
     ghost use Rattle.std.specs.Prelude.{Bool};
     ghost use Rattle.serde_json.specs.Data.{Data};
@@ -23,14 +25,29 @@ pub trait ToJson {
     /// Whether it is written without memory.
     ghost is_written_freely: { Bool };
 
-    /// The JSON value that it is written as. Takes memory from `alloc`, for texts alone.
+    /// Returns the JSON value of this key or value.
+    ///
+    /// # Errors
+    ///
+    /// Returns `AllocError` if memory allocation fails. Strings and characters alone allocate, from
+    /// `alloc`.
+    ///
+    /// # Examples
+    ///
+    /// ```
+    /// use multimap_tool::json::ToJson;
+    ///
+    /// let alloc = rt.alloc();
+    /// assert_eq!(rt; "line".to_json(alloc)?.as_str(), Some("line"));
+    /// assert_eq!(rt; 7u32.to_json(alloc)?.as_u64(), Some(7));
+    /// ```
     fn to_json(&self, alloc: Global) -> Result<Value, AllocError>
         ensures written { IfOk result (λ part. view part ≡ json self.now) }
         ensures accepted { IfOk result (λ part. is_part (view part) ≡ true) }
         ensures free { is_written_freely ≡ true → IsOk result };
 }
 
-/// What `to_part` writes.
+/// Writes what [`JsonPart::to_part`] writes.
 impl<T: JsonPart> ToJson for T {
     ghost json = { T.json };
 
@@ -43,7 +60,7 @@ impl<T: JsonPart> ToJson for T {
     }
 }
 
-/// A text.
+/// Written as a string.
 impl ToJson for &str {
     ghost use Rattle.serde_json.specs.Data.{string};
     ghost use Rattle.multimap_tool.specs.Json.{is_text};

@@ -11,14 +11,32 @@ use serde_json::{Value, json};
 use std::alloc::{AllocError, Allocator, Global};
 use std::hash::{BuildHasher, Hash};
 
-/// The map as a JSON value that keeps both orders: an object of `keys`, the array of the keys in
-/// order, and `pairs`, the array that [`to_value`](crate::json::to_value) gives.
+/// Returns the map as a JSON value that keeps both orders: an object of its keys and its pairs.
 ///
-/// `alloc` gives the memory of the JSON value: two requests for `keys`, what `to_value` takes, and
-/// those of the object. It is refused when out of memory; the map stays as it is.
+/// The member `keys` is the array of the keys, in order, and `pairs` is the array that
+/// [`to_value`](crate::json::to_value) returns.
+///
+/// # Errors
+///
+/// Returns `AllocError` if memory allocation fails. The JSON value is allocated from `alloc`.
+///
+/// # Complexity
+///
+/// *O*(*n*) for the *n* pairs.
+///
+/// # Examples
 ///
 /// ```
-/// to_value_2(alloc, &map)?.to_string(alloc)? == "{\"keys\":[1,2],\"pairs\":[[2,20],[1,30]]}"
+/// use multimap_tool::json::to_value_2;
+/// use ordered_multimap::ListOrderedMultimap;
+///
+/// let alloc = rt.alloc();
+/// let mut map = ListOrderedMultimap::new(alloc);
+/// map.append(1, 10)?;
+/// map.append(2, 20)?;
+/// map.insert(1, 30)?;
+/// let text = to_value_2(alloc, &map)?.to_string(alloc)?;
+/// assert!(rt; text.as_str() == r#"{"keys":[1,2],"pairs":[[2,20],[1,30]]}"#);
 /// ```
 pub fn to_value_2<K: ToJson + Eq + Hash, V: ToJson, S: BuildHasher, A: Allocator>(
     alloc: Global,
