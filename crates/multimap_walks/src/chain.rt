@@ -1,4 +1,4 @@
-//! The walk over one key's values.
+//! The iterator over one key's values.
 ghost use Rattle.std.specs.Prelude.{◌≡◌, [], length, MatchOption, ⊤};
 ghost use Rattle.std.specs.Iterator.{at_most};
 ghost use Rattle.multimap_slots.specs.Slots.{HasLink};
@@ -16,7 +16,12 @@ use std::fmt;
 use std::iter::FusedIterator;
 use std::marker::{Model, PhantomData};
 
-/// The values of one key, in order. Each item reads one value slot.
+/// An iterator over the values of one key, in insertion order.
+///
+/// This struct is created by `ListOrderedMultimap::get_all`; see there for an example. It is also
+/// created by `OccupiedEntry::iter` and by each step of [`KeyValues`](crate::KeyValues). Its items
+/// are `&value`. It iterates from both ends, knows its length, and can be cloned without
+/// allocating. Each item reads one value slot, so other keys' values cost nothing.
 #[derive(Drop)]
 pub struct EntryValues<'map, K, V, A: Allocator = Global> {
     keys: PhantomData<&'map K>,
@@ -39,8 +44,17 @@ impl<'map, K, V, A: Allocator> Model for EntryValues<'map, K, V, A> {
 }
 
 impl<'map, K, V, A: Allocator> EntryValues<'map, K, V, A> {
-    /// The walk over the values of a key, which is given by its place and its link in `keys`. None
-    /// is the empty walk.
+    /// Creates an iterator over the values of a key, or an empty one for `None`.
+    ///
+    /// The key is given by its place and its link in `keys`.
+    ///
+    /// # Complexity
+    ///
+    /// *O*(1).
+    ///
+    /// # Requires
+    ///
+    /// The links of keys and values are chained, and the key is listed in `keys` with this link.
     pub fn new(
         keys: &'map SlotList<K, KeyLink, A>,
         values: &'map Tape<V, ValueLink, A>,
@@ -62,8 +76,18 @@ impl<'map, K, V, A: Allocator> EntryValues<'map, K, V, A> {
         EntryValues::along(values, link.ends(), false)
     }
 
-    /// The walk over detached values, which are given by the places of the first and the last and
-    /// by their number. None is the empty walk. Its steps count no read.
+    /// Creates an iterator over detached values, or an empty one for `None`.
+    ///
+    /// They are given by the places of the first and the last and by their number. Its steps count
+    /// no read.
+    ///
+    /// # Complexity
+    ///
+    /// *O*(1).
+    ///
+    /// # Requires
+    ///
+    /// The values at these places are detached, and follow each other by their links.
     pub fn new_detached(values: &'map Tape<V, ValueLink, A>, ends: Option<ChainEnds>) -> Self
         requires { MatchOption ends ⊤
             (λ e. IsDetachedChain values.now.list e.first e.last e.length) }

@@ -1,4 +1,4 @@
-//! The walk over all keys, each with a walk over its values.
+//! The iterator over all keys, each with an iterator over its values.
 ghost use Rattle.std.specs.Prelude.{◌≡◌, [], length, MatchOption, ⊤};
 ghost use Rattle.std.specs.Iterator.{at_most};
 ghost use Rattle.std.specs.List.{filter_map};
@@ -20,8 +20,12 @@ use std::fmt;
 use std::iter::FusedIterator;
 use std::marker::Model;
 
-/// The keys of a map, in their order, each with a walk over its values. Each item reads the slot of
-/// its key, and no slot of a value.
+/// An iterator over the keys of a map, each with an iterator over its values.
+///
+/// This struct is created by `ListOrderedMultimap::pairs`; see there for an example. The keys come
+/// in the order in which each last became present. Its items are `(&key, EntryValues)`. It iterates
+/// from both ends, knows its length, and can be cloned without allocating. Each item reads the slot
+/// of its key, and of no value.
 #[derive(Drop)]
 pub struct KeyValues<'map, K, V, A: Allocator = Global> {
     keys: &'map SlotList<K, KeyLink, A>,
@@ -45,8 +49,17 @@ impl<'map, K, V, A: Allocator> Model for KeyValues<'map, K, V, A> {
 }
 
 impl<'map, K, V, A: Allocator> KeyValues<'map, K, V, A> {
-    /// The walk over all keys of a slot list of keys and a tape of values, whose links are chained.
-    /// No slot is read.
+    /// Creates an iterator over all keys of a slot list of keys, with their values on a tape.
+    ///
+    /// It reads no slot.
+    ///
+    /// # Complexity
+    ///
+    /// *O*(1).
+    ///
+    /// # Requires
+    ///
+    /// The links of keys and values are chained.
     pub fn new(keys: &'map SlotList<K, KeyLink, A>, values: &'map Tape<V, ValueLink, A>) -> Self
         requires { IsChained keys.now values.now.list }
         ensures keys { result
@@ -55,8 +68,17 @@ impl<'map, K, V, A: Allocator> KeyValues<'map, K, V, A> {
         KeyValues::along(keys, values, keys.all())
     }
 
-    /// The walk over the keys from one place of the list to another; the number of keys comes with
-    /// the two places. None is the empty walk.
+    /// Creates an iterator over the keys from one place to another, or an empty one for `None`.
+    ///
+    /// The number of keys comes with the two places.
+    ///
+    /// # Complexity
+    ///
+    /// *O*(1).
+    ///
+    /// # Requires
+    ///
+    /// The links of keys and values are chained, and the places are places of the list of keys.
     pub fn new_between(
         keys: &'map SlotList<K, KeyLink, A>,
         values: &'map Tape<V, ValueLink, A>,

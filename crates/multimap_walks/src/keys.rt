@@ -1,4 +1,4 @@
-//! The walk over all keys.
+//! The iterator over all keys.
 ghost use Rattle.std.specs.Prelude.{◌≡◌, length, ⊤};
 ghost use Rattle.std.specs.Iterator.{at_most};
 ghost use Rattle.std.specs.List.{filter_map};
@@ -17,7 +17,11 @@ use std::fmt;
 use std::iter::FusedIterator;
 use std::marker::Model;
 
-/// The keys of a map, in their order. Each item reads the slot of its key.
+/// An iterator over the keys of a map, in the order in which each last became present.
+///
+/// This struct is created by `ListOrderedMultimap::keys`; see there for an example. Its items are
+/// `&key`, each key once. It iterates from both ends, knows its length, and can be cloned without
+/// allocating. Each item reads the slot of its key.
 #[derive(Drop)]
 pub struct Keys<'map, K, A: Allocator = Global> {
     keys: &'map SlotList<K, KeyLink, A>,
@@ -38,7 +42,13 @@ impl<'map, K, A: Allocator> Model for Keys<'map, K, A> {
 }
 
 impl<'map, K, A: Allocator> Keys<'map, K, A> {
-    /// The walk over all items of a slot list.
+    /// Creates an iterator over all items of a slot list.
+    ///
+    /// It reads no slot.
+    ///
+    /// # Complexity
+    ///
+    /// *O*(1).
     pub fn new(keys: &'map SlotList<K, KeyLink, A>) -> Self
         ensures keys { result ≡ filter_map (item_at keys.now) keys.now.order }
     {

@@ -1,5 +1,6 @@
-//! The places of a list that a walk has left, and its step from either end. What a walk gives for a
-//! place is the walk's own.
+//! The places of a list that an iterator has left, and its step from either end.
+//!
+//! What an iterator yields for a place is its own.
 ghost use Rattle.std.specs.Prelude.{◌≡◌, ℕ, List, IfSome};
 ghost use Rattle.multimap_slots.specs.Lists.{IsIn};
 ghost use Rattle.multimap_slots.specs.Slots.{IsSound};
@@ -11,20 +12,32 @@ use crate::links::ChainEnds;
 use multimap_slots::{SlotList, Tape};
 use std::alloc::Allocator;
 
-/// A list whose places stand in an order.
+/// A list whose places have an order.
 pub trait Ordered {
     ghost order: { Self → List ℕ };
 
     ghost is_sound: { Self → Type 0 };
 
-    /// All its places.
+    /// Returns all its places.
+    ///
+    /// # Complexity
+    ///
+    /// *O*(1).
     fn all(&self) -> ChainEnds
         ensures all { result ≡ all_places (order self.now) }
         ensures are_left { AreLeft (order self.now) result }
         ensures whole { places_left (order self.now) result ≡ order self.now }
         ensures sound { is_sound self.now };
 
-    /// The place that a step from an end reaches, from a place of the list.
+    /// Returns the place that a step from an end reaches, from a place of the list.
+    ///
+    /// # Complexity
+    ///
+    /// *O*(1).
+    ///
+    /// # Requires
+    ///
+    /// `place` is a place of the list.
     fn neighbour(&self, end: End, place: usize) -> Option<usize>
         requires { IsIn place (order self.now) }
         ensures { result ≡ neighbour_of (order self.now) end place };
@@ -74,8 +87,17 @@ impl<T, L: Copy, A: Allocator> Ordered for Tape<T, L, A> {
     }
 }
 
-/// Takes the place at an end from those that are left of a list, or returns None where none is
-/// left. It asks the list for one neighbour. The time is constant.
+/// Takes the place at an end from those that are left of a list, or returns `None` if none is left.
+///
+/// It asks the list for one neighbour.
+///
+/// # Complexity
+///
+/// *O*(1).
+///
+/// # Requires
+///
+/// `left` are places of the list that follow each other.
 #[inline(always)]
 pub fn take<O: Ordered>(end: End, list: &O, left: &mut ChainEnds) -> Option<usize>
     requires { AreLeft (O.order list.now) left.old }

@@ -1,5 +1,20 @@
-//! Walks over the keys and values of a multimap: a slot list and a tape, and the links that chain
-//! each key's values.
+//! Iterators over a multimap that is kept as a slot list of keys and a tape of values.
+//!
+//! The crate `ordered_multimap` hands these types to its users, by the methods of
+//! `ListOrderedMultimap` that each type names. The constructors are for that crate alone. A link
+//! with each key and each value chains the values of one key.
+//!
+//! | Type | Items | Method of the map |
+//! |---|---|---|
+//! | [`Iter`], [`IterMut`] | all pairs | `iter`, `iter_mut` |
+//! | [`Values`], [`ValuesMut`] | the values of all pairs | `values`, `values_mut` |
+//! | [`Keys`] | the keys | `keys` |
+//! | [`KeyValues`] | the keys, each with its values | `pairs` |
+//! | [`EntryValues`], [`EntryValuesMut`] | the values of one key | `get_all`, `get_all_mut` |
+//! | [`IterRest`], [`ValuesRest`], [`EntryValuesRest`] | what is left | `iter` of the `Mut` types |
+//!
+//! Each iterates from both ends, knows its length, and goes on returning `None` once it is
+//! exhausted.
 #![tactic(auto)]
 
 mod chain;
@@ -27,11 +42,11 @@ pub use writing::rest::pairs::IterRest;
 pub use writing::rest::values::ValuesRest;
 pub use writing::values::ValuesMut;
 
-/// An end of a list, and with it the direction of one step of a walk.
+/// An end of a list, and with it the direction of a step.
 #[derive(Debug, PartialEq, Eq, Clone, Copy)]
 pub enum End {
-    /// The first item of what remains.
+    /// The first item of what is left.
     Front,
-    /// The last item of what remains.
+    /// The last item of what is left.
     Back,
 }

@@ -1,10 +1,12 @@
-//! The links of keys in their slot list and of values on their tape.
+//! The links of keys in their slot list, and of values on their tape.
 ghost use Rattle.std.specs.Prelude.{◌≡◌};
 ghost use Rattle.multimap_walks.specs.Ends.{end_place, ends_after, ends_of, step_from};
 
 use crate::End;
 
-/// The link of a key: its hash, and where its values stand.
+/// The link of a key: its hash, and where its values are.
+///
+/// It is a part of the map's storage, of which no call of the map returns one.
 #[derive(Debug, PartialEq, Eq, Clone, Copy)]
 pub struct KeyLink {
     /// The key's hash.
@@ -13,7 +15,7 @@ pub struct KeyLink {
     pub head: usize,
     /// The place of the key's last value.
     pub tail: usize,
-    /// How many values the key has.
+    /// The number of the key's values.
     pub length: usize,
 }
 
@@ -31,19 +33,25 @@ impl KeyLink {
     }
 }
 
-/// The link of a value: its key's place, and the neighbours among the key's values.
+/// The link of a value: its key's place, and its neighbours among the key's values.
+///
+/// It is a part of the map's storage, of which no call of the map returns one.
 #[derive(Debug, PartialEq, Eq, Clone, Copy)]
 pub struct ValueLink {
     /// The place of the key.
     pub key: usize,
-    /// The place of the value before it under the same key, if it isn't the first.
+    /// The place of the value before it under the same key, or `None` for the first.
     pub previous: Option<usize>,
-    /// The place of the value behind it under the same key, if it isn't the last.
+    /// The place of the value after it under the same key, or `None` for the last.
     pub next: Option<usize>,
 }
 
 impl ValueLink {
-    /// The place that a step from an end reaches, if the value isn't the last one there.
+    /// Returns the place that a step from an end reaches, or `None` at the last value.
+    ///
+    /// # Complexity
+    ///
+    /// *O*(1).
     #[inline(always)]
     pub fn step_from(&self, end: End) -> Option<usize>
         ensures { result ≡ step_from end self.now.next self.now.previous }
@@ -55,20 +63,25 @@ impl ValueLink {
     }
 }
 
-/// Where a row of items stands that follow each other in order: values of one key that name each
-/// other, or what a walk along a list has left.
+/// Where a row of items is that follow each other in order.
+///
+/// They are values of one key that name each other, or what an iterator along a list has left.
 #[derive(Clone, Copy)]
 pub struct ChainEnds {
     /// The place of the first item.
     pub first: usize,
     /// The place of the last item.
     pub last: usize,
-    /// How many items there are.
+    /// The number of items.
     pub length: usize,
 }
 
 impl ChainEnds {
-    /// The place at an end.
+    /// Returns the place at an end.
+    ///
+    /// # Complexity
+    ///
+    /// *O*(1).
     #[inline(always)]
     pub fn place_at(&self, end: End) -> usize
         ensures { result ≡ end_place end self.now }
@@ -79,8 +92,15 @@ impl ChainEnds {
         }
     }
 
-    /// What is left, of one place at least, once that at an end has gone, where `place` is at that
-    /// end then.
+    /// Returns what is left once the place at an end has gone, where `place` is at that end then.
+    ///
+    /// # Complexity
+    ///
+    /// *O*(1).
+    ///
+    /// # Requires
+    ///
+    /// There is at least one item.
     #[inline(always)]
     pub fn after(&self, end: End, place: usize) -> ChainEnds
         requires more { ¬ (self.now.length ≡ 0) }

@@ -1,4 +1,4 @@
-//! The walk over all pairs.
+//! The iterator over all pairs.
 ghost use Rattle.std.specs.Prelude.{◌≡◌, length, ⊤};
 ghost use Rattle.std.specs.Iterator.{at_most};
 ghost use Rattle.std.specs.Map.Iter.{TakesFirst, TakesLast, deref_pair};
@@ -16,7 +16,11 @@ use std::fmt;
 use std::iter::FusedIterator;
 use std::marker::Model;
 
-/// All pairs of a map, oldest first. Each item reads the slots of its value and of its key.
+/// An iterator over the pairs of a map, in insertion order.
+///
+/// This struct is created by `ListOrderedMultimap::iter`, and by a loop over `&map`; see there for
+/// an example. Its items are `(&key, &value)`. It iterates from both ends, knows its length, and
+/// can be cloned without allocating. Each item reads the slots of its value and of its key.
 #[derive(Drop)]
 pub struct Iter<'map, K, V, A: Allocator = Global> {
     keys: &'map SlotList<K, KeyLink, A>,
@@ -37,8 +41,17 @@ impl<'map, K, V, A: Allocator> Model for Iter<'map, K, V, A> {
 }
 
 impl<'map, K, V, A: Allocator> Iter<'map, K, V, A> {
-    /// The walk over all pairs of a slot list of keys and a tape of values, where the key of each
-    /// value is listed. No slot is read.
+    /// Creates an iterator over all pairs of a slot list of keys and a tape of values.
+    ///
+    /// It reads no slot.
+    ///
+    /// # Complexity
+    ///
+    /// *O*(1).
+    ///
+    /// # Requires
+    ///
+    /// The key of each value is listed.
     pub fn new(keys: &'map SlotList<K, KeyLink, A>, values: &'map Tape<V, ValueLink, A>) -> Self
         requires { AreOwned keys.now values.now.list }
         ensures pairs { result ≡ pairs_of keys.now values.now.list }

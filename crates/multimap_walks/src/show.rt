@@ -1,4 +1,4 @@
-//! How walks are shown: the type's name, and the items that are left.
+//! How iterators are shown: the type's name, and the items that are left.
 ghost use Rattle.std.specs.Iterator.{IsFinite};
 
 use std::fmt;

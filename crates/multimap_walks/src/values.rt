@@ -1,4 +1,4 @@
-//! The walk over the values of all pairs.
+//! The iterator over the values of all pairs.
 ghost use Rattle.std.specs.Prelude.{◌≡◌, length, ⊤};
 ghost use Rattle.std.specs.Iterator.{at_most};
 ghost use Rattle.std.specs.Map.Iter.{TakesFirst, TakesLast, deref};
@@ -16,7 +16,11 @@ use std::fmt;
 use std::iter::FusedIterator;
 use std::marker::{Model, PhantomData};
 
-/// The values of all pairs of a map, oldest first. Each item reads the slot of its value.
+/// An iterator over the values of all pairs of a map, in insertion order.
+///
+/// This struct is created by `ListOrderedMultimap::values`; see there for an example. Its items are
+/// `&value`. It iterates from both ends, knows its length, and can be cloned without allocating.
+/// Each item reads the slot of its value.
 #[derive(Drop)]
 pub struct Values<'map, K, V, A: Allocator = Global> {
     keys: PhantomData<&'map K>,
@@ -38,7 +42,13 @@ impl<'map, K, V, A: Allocator> Model for Values<'map, K, V, A> {
 }
 
 impl<'map, K, V, A: Allocator> Values<'map, K, V, A> {
-    /// The walk over all items of a tape.
+    /// Creates an iterator over all items of a tape.
+    ///
+    /// It reads no slot.
+    ///
+    /// # Complexity
+    ///
+    /// *O*(1).
     pub fn new(values: &'map Tape<V, ValueLink, A>) -> Self
         ensures values { result ≡ values_at values.now.list values.now.list.order }
     {

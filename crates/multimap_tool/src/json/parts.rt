@@ -17,13 +17,13 @@ pub trait JsonPart {
     ghost use Rattle.std.specs.Prelude.{Bool};
     ghost use Rattle.serde_json.specs.Data.{Data};
 
-    /// The JSON value that it is written as.
+    /// The JSON value of a key or value.
     ghost json: { Self → Data };
 
-    /// Whether a value of this type is written as this JSON value.
+    /// Whether a value of this type has this JSON value.
     ghost is_part: { Data → Bool };
 
-    /// Whether it is written without memory, and whether it is read without.
+    /// Whether writing never allocates, and whether reading never does.
     ghost is_written_freely: { Bool };
 
     ghost is_read_freely: { Bool };

@@ -16,13 +16,13 @@ pub trait ToJson {
     ghost use Rattle.std.specs.Prelude.{Bool};
     ghost use Rattle.serde_json.specs.Data.{Data};
 
-    /// The JSON value that it is written as.
+    /// The JSON value of a key or value.
     ghost json: { Self → Data };
 
-    /// Whether a value of this type is written as this JSON value.
+    /// Whether a value of this type has this JSON value.
     ghost is_part: { Data → Bool };
 
-    /// Whether it is written without memory.
+    /// Whether writing never allocates.
     ghost is_written_freely: { Bool };
 
     /// Returns the JSON value of this key or value.

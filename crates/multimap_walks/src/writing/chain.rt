@@ -1,4 +1,4 @@
-//! The walk over one key's values, for writing, and where it goes on.
+//! The iterator over one key's values for writing.
 ghost use Rattle.std.specs.Prelude.{◌≡◌};
 ghost use Rattle.multimap_slots.specs.SlotCells.{lent_slots};
 ghost use Rattle.multimap_walks.specs.Chained.{places_along};
@@ -13,8 +13,13 @@ use multimap_slots::SlotCells;
 use std::alloc::{Allocator, Global};
 use std::marker::PhantomData;
 
-/// The values of one key, in order, each for writing. Each item takes one value slot and reads its
-/// link, and no other slot.
+/// A mutable iterator over the values of one key, in insertion order.
+///
+/// This struct is created by `ListOrderedMultimap::get_all_mut`; see there for an example. It is
+/// also created by `OccupiedEntry::iter_mut` and by the steps of `KeyValuesMut`. Its items are
+/// `&mut value`. It iterates from both ends, and knows its length. It has a `Drop`, so one that is
+/// held in a variable borrows the map to the end of its block; `drop` ends it sooner. Each item
+/// reads one value slot.
 pub struct EntryValuesMut<'map, K, V, A: Allocator = Global> {
     keys: PhantomData<&'map K>,
     values: SlotCells<'map, V, ValueLink, A>,
@@ -39,7 +44,7 @@ pub(crate) fn chain_after<V, A: Allocator>(
     left.after(end, cells.link(place).step_from(end).unwrap_or(place))
 }
 
-/// The values that the walk has not given stay as they are.
+/// Leaves the values that weren't yielded as they are.
 impl<'map, K, V, A: Allocator> Drop for EntryValuesMut<'map, K, V, A> {
     ghost use Rattle.std.specs.Borrow.{sem};
     ghost use Rattle.multimap_slots.specs.Ended.{ends_with};

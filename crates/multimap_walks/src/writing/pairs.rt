@@ -1,4 +1,4 @@
-//! The walk over all pairs, the values for writing.
+//! The iterator over all pairs, with their values for writing.
 ghost use Rattle.multimap_walks.specs.RestWalk.{CanReadPairs};
 
 mod methods;
@@ -8,8 +8,12 @@ use crate::slots::end_reads;
 use multimap_slots::{Reads, SlotCells, SlotList};
 use std::alloc::{Allocator, Global};
 
-/// All pairs of a map, oldest first, each value for writing. Each item takes the slot of its value,
-/// and reads its link and the slot of its key.
+/// A mutable iterator over the pairs of a map, in insertion order.
+///
+/// This struct is created by `ListOrderedMultimap::iter_mut`; see there for an example. Its items
+/// are `(&key, &mut value)`. It iterates from both ends, and knows its length. It has a `Drop`, so
+/// one that is held in a variable borrows the map to the end of its block; `drop` ends it sooner.
+/// Each item reads the slots of its value and of its key.
 pub struct IterMut<'map, K, V, A: Allocator = Global> {
     reads: Reads,
     keys: &'map SlotList<K, KeyLink, A>,
@@ -18,7 +22,7 @@ pub struct IterMut<'map, K, V, A: Allocator = Global> {
     ghost readable: { ∥ CanReadPairs values left keys.now ∥₁ },
 }
 
-/// The values that the walk has not given stay as they are.
+/// Leaves the values that weren't yielded as they are.
 impl<'map, K, V, A: Allocator> Drop for IterMut<'map, K, V, A> {
     ghost use Rattle.std.specs.Borrow.{sem};
     ghost use Rattle.multimap_slots.specs.Ended.{ends_with};

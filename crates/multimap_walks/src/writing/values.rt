@@ -1,4 +1,4 @@
-//! The walk over the values of all pairs, for writing.
+//! The iterator over the values of all pairs, for writing.
 ghost use Rattle.multimap_walks.specs.Lending.{CanLend};
 
 mod methods;
@@ -8,8 +8,12 @@ use multimap_slots::SlotCells;
 use std::alloc::{Allocator, Global};
 use std::marker::PhantomData;
 
-/// The values of all pairs of a map, oldest first, each for writing. Each item takes the slot of
-/// its value, and reads its link.
+/// A mutable iterator over the values of all pairs of a map, in insertion order.
+///
+/// This struct is created by `ListOrderedMultimap::values_mut`; see there for an example. Its items
+/// are `&mut value`. It iterates from both ends, and knows its length. It has a `Drop`, so one that
+/// is held in a variable borrows the map to the end of its block; `drop` ends it sooner. Each item
+/// reads the slot of its value.
 pub struct ValuesMut<'map, K, V, A: Allocator = Global> {
     keys: PhantomData<&'map K>,
     values: SlotCells<'map, V, ValueLink, A>,
@@ -17,7 +21,7 @@ pub struct ValuesMut<'map, K, V, A: Allocator = Global> {
     ghost readable: { ∥ CanLend values left ∥₁ },
 }
 
-/// The values that the walk has not given stay as they are.
+/// Leaves the values that weren't yielded as they are.
 impl<'map, K, V, A: Allocator> Drop for ValuesMut<'map, K, V, A> {
     ghost use Rattle.std.specs.Borrow.{sem};
     ghost use Rattle.multimap_slots.specs.Ended.{ends_with};

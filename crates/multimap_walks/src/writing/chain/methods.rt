@@ -1,4 +1,4 @@
-//! The calls of the walk over one key's values for writing.
+//! The methods of the iterator over one key's values for writing.
 ghost use Rattle.std.specs.Prelude.{◌≡◌, [], length, MatchOption, ⊤};
 ghost use Rattle.std.specs.Iterator.{at_most};
 ghost use Rattle.multimap_slots.specs.Slots.{HasLink};
@@ -20,8 +20,18 @@ use std::iter::FusedIterator;
 use std::marker::PhantomData;
 
 impl<'map, K, V, A: Allocator> EntryValuesMut<'map, K, V, A> {
-    /// The walk over the values of a key, which is given by its place and its link in `keys`, where
-    /// `values` are lent and none was taken. None is the empty walk. No slot is read.
+    /// Creates an iterator over the values of a key, or an empty one for `None`.
+    ///
+    /// The key is given by its place and its link in `keys`. It reads no slot.
+    ///
+    /// # Complexity
+    ///
+    /// *O*(1).
+    ///
+    /// # Requires
+    ///
+    /// The links of keys and values are chained, the key is listed in `keys` with this link, and no
+    /// value was lent.
     pub fn new(
         keys: &'map SlotList<K, KeyLink, A>,
         values: SlotCells<'map, V, ValueLink, A>,
@@ -53,8 +63,30 @@ impl<'map, K, V, A: Allocator> EntryValuesMut<'map, K, V, A> {
         }
     }
 
-    /// Ends the walk, and keeps the right to write the values that it has not given. Its
-    /// `Cells::end` tells what all values end as.
+    /// Ends the iterator, and returns the right to write the values that it hasn't yielded.
+    ///
+    /// It is for proved callers: `Cells::end` says what all values end as. See
+    /// docs/PROVED_CALLERS.md.
+    ///
+    /// # Complexity
+    ///
+    /// *O*(1).
+    ///
+    /// # Examples
+    ///
+    /// ```
+    /// use ordered_multimap::ListOrderedMultimap;
+    ///
+    /// let mut map = ListOrderedMultimap::new(rt.alloc());
+    /// map.append("line", 1)?;
+    /// map.append("line", 2)?;
+    /// let mut values = map.get_all_mut("line");
+    /// if let Some(first) = values.next() {
+    ///     *first = 7;
+    /// }
+    /// values.into_cells().end();
+    /// assert!(rt; map.get_all("line").eq(&[7, 2]));
+    /// ```
     pub fn into_cells(self) -> Cells<'map, V>
         ensures { result ≡ entry_values_mut_cells self.entry }
     {
@@ -66,8 +98,27 @@ impl<'map, K, V, A: Allocator> EntryValuesMut<'map, K, V, A> {
         values.into_cells()
     }
 
-    /// The walk over the values that are left, for reading. It lends none of them for writing, and
-    /// this walk goes on where it is. No slot is read.
+    /// Returns an iterator over the values that are left, for reading.
+    ///
+    /// It lends none of them for writing, and this iterator goes on where it is. It reads no slot.
+    ///
+    /// # Complexity
+    ///
+    /// *O*(1), and *O*(1) for each value.
+    ///
+    /// # Examples
+    ///
+    /// ```
+    /// use ordered_multimap::ListOrderedMultimap;
+    ///
+    /// let mut map = ListOrderedMultimap::new(rt.alloc());
+    /// map.append("line", 1)?;
+    /// map.append("line", 2)?;
+    /// let mut values = map.get_all_mut("line");
+    /// assert_eq!(rt; values.next(), Some(&mut 1));
+    /// assert!(rt; values.iter().eq(&[2]));
+    /// assert_eq!(rt; values.len(), 1);
+    /// ```
     pub fn iter(&self) -> EntryValuesRest<'_, 'map, K, V, A>
         ensures { result ≡ entry_values_mut_rest self.now }
     {

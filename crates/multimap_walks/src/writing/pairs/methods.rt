@@ -1,4 +1,4 @@
-//! The calls of the walk over all pairs with their values for writing.
+//! The methods of the iterator over all pairs with their values for writing.
 ghost use Rattle.std.specs.Prelude.{◌≡◌, length};
 ghost use Rattle.std.specs.Iterator.{at_most};
 ghost use Rattle.multimap_slots.specs.SlotCells.{cells_name, lent_slots};
@@ -20,8 +20,17 @@ use std::fmt;
 use std::iter::FusedIterator;
 
 impl<'map, K, V, A: Allocator> IterMut<'map, K, V, A> {
-    /// The walk over all pairs of a list of keys and of values that are lent, where the key of each
-    /// value is listed and no value was taken. No slot is read.
+    /// Creates an iterator over all pairs of a list of keys and of values that are lent.
+    ///
+    /// It reads no slot.
+    ///
+    /// # Complexity
+    ///
+    /// *O*(1).
+    ///
+    /// # Requires
+    ///
+    /// The key of each value is listed, and no value was lent.
     pub fn new(
         keys: &'map SlotList<K, KeyLink, A>,
         values: SlotCells<'map, V, ValueLink, A>,
@@ -45,8 +54,30 @@ impl<'map, K, V, A: Allocator> IterMut<'map, K, V, A> {
         }
     }
 
-    /// Ends the walk, and keeps the right to write the values that it has not given. Its
-    /// `Cells::end` tells what all values end as.
+    /// Ends the iterator, and returns the right to write the values that it hasn't yielded.
+    ///
+    /// It is for proved callers: `Cells::end` says what all values end as. See
+    /// docs/PROVED_CALLERS.md.
+    ///
+    /// # Complexity
+    ///
+    /// *O*(1).
+    ///
+    /// # Examples
+    ///
+    /// ```
+    /// use ordered_multimap::ListOrderedMultimap;
+    ///
+    /// let mut map = ListOrderedMultimap::new(rt.alloc());
+    /// map.append("line", 1)?;
+    /// map.append("page", 8)?;
+    /// let mut pairs = map.iter_mut();
+    /// if let Some((_key, value)) = pairs.next_back() {
+    ///     *value = 9;
+    /// }
+    /// pairs.into_cells().end();
+    /// assert!(rt; map.values().eq(&[1, 9]));
+    /// ```
     pub fn into_cells(self) -> Cells<'map, V>
         ensures { result ≡ iter_mut_cells self.entry }
     {
@@ -59,8 +90,28 @@ impl<'map, K, V, A: Allocator> IterMut<'map, K, V, A> {
         values.into_cells()
     }
 
-    /// The walk over the pairs that are left, for reading. It lends none of their values for writing,
-    /// and this walk goes on where it is. No slot is read.
+    /// Returns an iterator over the pairs that are left, for reading.
+    ///
+    /// It lends none of their values for writing, and this iterator goes on where it is. It reads
+    /// no slot.
+    ///
+    /// # Complexity
+    ///
+    /// *O*(1), and *O*(1) for each pair.
+    ///
+    /// # Examples
+    ///
+    /// ```
+    /// use ordered_multimap::ListOrderedMultimap;
+    ///
+    /// let mut map = ListOrderedMultimap::new(rt.alloc());
+    /// map.append("line", 1)?;
+    /// map.append("page", 8)?;
+    /// let mut pairs = map.iter_mut();
+    /// assert_eq!(rt; pairs.next(), Some((&"line", &mut 1)));
+    /// assert!(rt; pairs.iter().eq([(&"page", &8)]));
+    /// assert_eq!(rt; pairs.len(), 1);
+    /// ```
     pub fn iter(&self) -> IterRest<'_, 'map, K, V, A>
         ensures { result ≡ iter_mut_rest self.now }
     {

@@ -1,4 +1,4 @@
-//! The walk over the values that an `EntryValuesMut` has left, for reading.
+//! The iterator over the values that an `EntryValuesMut` has left, for reading.
 ghost use Rattle.std.specs.Prelude.{◌≡◌, length, ⊤};
 ghost use Rattle.std.specs.Iterator.{at_most};
 ghost use Rattle.std.specs.Map.Iter.{TakesFirst, TakesLast, deref};
@@ -15,8 +15,11 @@ use std::fmt;
 use std::iter::FusedIterator;
 use std::marker::{Model, PhantomData};
 
-/// The values that an `EntryValuesMut` has left, in order, for reading. Each item reads one value
-/// slot and its link.
+/// An iterator over the values that an `EntryValuesMut` has left, in insertion order.
+///
+/// This struct is created by [`EntryValuesMut::iter`](crate::EntryValuesMut::iter); see there for
+/// an example. Its items are `&value`. It iterates from both ends, knows its length, and can be
+/// cloned without allocating. Each item reads one value slot.
 #[derive(Drop)]
 pub struct EntryValuesRest<'walk, 'map, K, V, A: Allocator = Global> {
     keys: PhantomData<&'map K>,
@@ -36,8 +39,17 @@ impl<'walk, 'map, K, V, A: Allocator> Model for EntryValuesRest<'walk, 'map, K, 
 }
 
 impl<'walk, 'map, K, V, A: Allocator> EntryValuesRest<'walk, 'map, K, V, A> {
-    /// The walk over values of a key that follow each other by their links, none of which was taken.
-    /// No slot is read.
+    /// Creates an iterator over values of a key that follow each other by their links.
+    ///
+    /// It reads no slot.
+    ///
+    /// # Complexity
+    ///
+    /// *O*(1).
+    ///
+    /// # Requires
+    ///
+    /// None of these values was lent.
     pub fn new(values: &'walk SlotCells<'map, V, ValueLink, A>, left: ChainEnds) -> Self
         requires { CanReadChain values.now left }
         ensures values { result ≡ entry_rest values.now left }

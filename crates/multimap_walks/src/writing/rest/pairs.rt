@@ -1,4 +1,4 @@
-//! The walk over the pairs that an `IterMut` has left, for reading.
+//! The iterator over the pairs that an `IterMut` has left, for reading.
 ghost use Rattle.std.specs.Prelude.{◌≡◌, length, ⊤};
 ghost use Rattle.std.specs.Iterator.{at_most};
 ghost use Rattle.std.specs.Map.Iter.{TakesFirst, TakesLast, deref_pair};
@@ -19,8 +19,11 @@ use std::fmt;
 use std::iter::FusedIterator;
 use std::marker::Model;
 
-/// The pairs that an `IterMut` has left, oldest first, for reading. Each item reads the slot of its
-/// value, its link and the slot of its key.
+/// An iterator over the pairs that an `IterMut` has left, in insertion order.
+///
+/// This struct is created by [`IterMut::iter`](crate::IterMut::iter); see there for an example. Its
+/// items are `(&key, &value)`. It iterates from both ends, knows its length, and can be cloned
+/// without allocating. Each item reads the slots of its value and of its key.
 #[derive(Drop)]
 pub struct IterRest<'walk, 'map, K, V, A: Allocator = Global> {
     keys: &'walk SlotList<K, KeyLink, A>,
@@ -41,8 +44,17 @@ impl<'walk, 'map, K, V, A: Allocator> Model for IterRest<'walk, 'map, K, V, A> {
 }
 
 impl<'walk, 'map, K, V, A: Allocator> IterRest<'walk, 'map, K, V, A> {
-    /// The walk over the pairs at places that are left, where the key of each value is listed and no
-    /// value of these places was taken. No slot is read.
+    /// Creates an iterator over the pairs at places that are left.
+    ///
+    /// It reads no slot.
+    ///
+    /// # Complexity
+    ///
+    /// *O*(1).
+    ///
+    /// # Requires
+    ///
+    /// The key of each value is listed, and no value of these places was lent.
     pub fn new(
         keys: &'walk SlotList<K, KeyLink, A>,
         values: &'walk SlotCells<'map, V, ValueLink, A>,

@@ -1,4 +1,4 @@
-//! The walk over the values that a `ValuesMut` has left, for reading.
+//! The iterator over the values that a `ValuesMut` has left, for reading.
 ghost use Rattle.std.specs.Prelude.{◌≡◌, length, ⊤};
 ghost use Rattle.std.specs.Iterator.{at_most};
 ghost use Rattle.std.specs.Map.Iter.{TakesFirst, TakesLast, deref};
@@ -16,8 +16,11 @@ use std::fmt;
 use std::iter::FusedIterator;
 use std::marker::{Model, PhantomData};
 
-/// The values that a `ValuesMut` has left, oldest first, for reading. Each item reads the slot of
-/// its value, and its link.
+/// An iterator over the values that a `ValuesMut` has left, in insertion order.
+///
+/// This struct is created by [`ValuesMut::iter`](crate::ValuesMut::iter); see there for an example.
+/// Its items are `&value`. It iterates from both ends, knows its length, and can be cloned without
+/// allocating. Each item reads the slot of its value.
 #[derive(Drop)]
 pub struct ValuesRest<'walk, 'map, K, V, A: Allocator = Global> {
     keys: PhantomData<&'map K>,
@@ -38,7 +41,17 @@ impl<'walk, 'map, K, V, A: Allocator> Model for ValuesRest<'walk, 'map, K, V, A>
 }
 
 impl<'walk, 'map, K, V, A: Allocator> ValuesRest<'walk, 'map, K, V, A> {
-    /// The walk over the values at places that are left, none of which was taken. No slot is read.
+    /// Creates an iterator over the values at places that are left.
+    ///
+    /// It reads no slot.
+    ///
+    /// # Complexity
+    ///
+    /// *O*(1).
+    ///
+    /// # Requires
+    ///
+    /// None of these values was lent.
     pub fn new(values: &'walk SlotCells<'map, V, ValueLink, A>, left: ChainEnds) -> Self
         requires { CanLend values.now left }
         ensures values { result ≡ values_rest values.now left }

@@ -1,4 +1,4 @@
-//! The calls of the walk over all values for writing.
+//! The methods of the iterator over all values for writing.
 ghost use Rattle.std.specs.Prelude.{◌≡◌, length};
 ghost use Rattle.std.specs.Iterator.{at_most};
 ghost use Rattle.multimap_slots.specs.SlotCells.{cells_name, lent_slots};
@@ -20,7 +20,17 @@ use std::iter::FusedIterator;
 use std::marker::PhantomData;
 
 impl<'map, K, V, A: Allocator> ValuesMut<'map, K, V, A> {
-    /// The walk over all values that are lent, none of which was taken. No slot is read.
+    /// Creates an iterator over all values that are lent.
+    ///
+    /// It reads no slot.
+    ///
+    /// # Complexity
+    ///
+    /// *O*(1).
+    ///
+    /// # Requires
+    ///
+    /// No value was lent yet.
     pub fn new(values: SlotCells<'map, V, ValueLink, A>) -> Self
         requires untaken { NoneIsTaken values }
         ensures values { values_mut_rest result
@@ -38,8 +48,30 @@ impl<'map, K, V, A: Allocator> ValuesMut<'map, K, V, A> {
         }
     }
 
-    /// Ends the walk, and keeps the right to write the values that it has not given. Its
-    /// `Cells::end` tells what all values end as.
+    /// Ends the iterator, and returns the right to write the values that it hasn't yielded.
+    ///
+    /// It is for proved callers: `Cells::end` says what all values end as. See
+    /// docs/PROVED_CALLERS.md.
+    ///
+    /// # Complexity
+    ///
+    /// *O*(1).
+    ///
+    /// # Examples
+    ///
+    /// ```
+    /// use ordered_multimap::ListOrderedMultimap;
+    ///
+    /// let mut map = ListOrderedMultimap::new(rt.alloc());
+    /// map.append("line", 1)?;
+    /// map.append("page", 8)?;
+    /// let mut values = map.values_mut();
+    /// if let Some(first) = values.next() {
+    ///     *first = 7;
+    /// }
+    /// values.into_cells().end();
+    /// assert!(rt; map.values().eq(&[7, 8]));
+    /// ```
     pub fn into_cells(self) -> Cells<'map, V>
         ensures { result ≡ values_mut_cells self.entry }
     {
@@ -51,8 +83,27 @@ impl<'map, K, V, A: Allocator> ValuesMut<'map, K, V, A> {
         values.into_cells()
     }
 
-    /// The walk over the values that are left, for reading. It lends none of them for writing, and
-    /// this walk goes on where it is. No slot is read.
+    /// Returns an iterator over the values that are left, for reading.
+    ///
+    /// It lends none of them for writing, and this iterator goes on where it is. It reads no slot.
+    ///
+    /// # Complexity
+    ///
+    /// *O*(1), and *O*(1) for each value.
+    ///
+    /// # Examples
+    ///
+    /// ```
+    /// use ordered_multimap::ListOrderedMultimap;
+    ///
+    /// let mut map = ListOrderedMultimap::new(rt.alloc());
+    /// map.append("line", 1)?;
+    /// map.append("page", 8)?;
+    /// let mut values = map.values_mut();
+    /// assert_eq!(rt; values.next(), Some(&mut 1));
+    /// assert!(rt; values.iter().eq(&[8]));
+    /// assert_eq!(rt; values.len(), 1);
+    /// ```
     pub fn iter(&self) -> ValuesRest<'_, 'map, K, V, A>
         ensures { result ≡ values_mut_rest self.now }
     {
