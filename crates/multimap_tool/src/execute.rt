@@ -30,7 +30,8 @@ const PIECE: usize = 32768;
 /// # Errors
 ///
 /// - [`ToolFault::BadLine`] with the number of the first line that is no command, counted from 1.
-/// - [`ToolFault::Read`] if a read fails, or if the input doesn't end within 4294967295 reads.
+/// - [`ToolFault::Read`] if a read fails, be it only interrupted, or if the input doesn't end
+///   within 4294967295 reads.
 /// - [`ToolFault::Write`] if a write or the flush fails, or if a write takes no bytes.
 /// - [`ToolFault::OutOfMemory`] if memory allocation fails for input, commands or replies. A
 ///   command that runs out of memory itself has the reply `no memory`.

@@ -104,8 +104,10 @@ fn item_of<K: ToJson, V: ToJson>(alloc: Global, key: &K, value: &V) -> Result<Va
 ///
 /// # Errors
 ///
-/// Returns the [`ReadFault`] of the first item that isn't as it has to be, or
-/// [`ReadFault::OutOfMemory`]. There is then no map.
+/// Returns [`ReadFault::NotArray`] or [`ReadFault::NotVersion2`] if the value has neither form, the
+/// fault of the first item that isn't as it has to be, or [`ReadFault::OutOfMemory`]. There is then
+/// no map. The room for all keys and pairs is only asked for: if it isn't there, each addition
+/// makes its own.
 ///
 /// # Complexity
 ///

@@ -1,6 +1,6 @@
 //! Commands on a multimap, read from text, run in order, and replied to as text; and maps as JSON.
 //!
-//! The crate has two parts, which need nothing of each other:
+//! The crate has two parts:
 //!
 //! - a small command language for an `ordered_multimap::ListOrderedMultimap`. [`execute::execute`]
 //!   goes from the bytes of a reader to the bytes of a writer; its three steps are
@@ -18,8 +18,9 @@
 //!
 //! The left column has the commands, the next one the replies, and the right one the pairs then.
 //! The commands are listed in docs/GUIDE.md; as values they are [`commands::Command`], and the
-//! replies [`replies::Reply`]. A map is the place for pairs that may occur twice; the crate
-//! `set_ordered_multimap` has a set of pairs, for which there are no commands.
+//! replies [`replies::Reply`]. The map keeps its pairs in insertion order, and its keys in the
+//! order in which each last became present (see the crate `ordered_multimap`). There are no
+//! commands for the set of the crate `set_ordered_multimap`, in which no pair occurs twice.
 //!
 //! # What the calls cost
 //!
@@ -43,7 +44,7 @@
 //! # Keys that others choose
 //!
 //! `execute` makes a map with the default hash builder, which has a fixed seed. Whoever chooses the
-//! keys can choose keys of equal hashes, and each command then compares all of them. For input from
+//! keys can choose keys of equal hashes, and each lookup then compares all of them. For input from
 //! people whom you don't trust call `run` on a map with an `ordered_multimap::RandomState`.
 //!
 //! # Examples

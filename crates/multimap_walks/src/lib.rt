@@ -1,8 +1,8 @@
 //! Iterators over a multimap that is kept as a slot list of keys and a tape of values.
 //!
-//! The crate `ordered_multimap` hands these types to its users, by the methods of
-//! `ListOrderedMultimap` that each type names. The constructors are for that crate alone. A link
-//! with each key and each value chains the values of one key.
+//! These are the types that the methods of `ordered_multimap::ListOrderedMultimap` return. The
+//! constructors are for that crate alone. A link with each key and each value chains the values of
+//! one key.
 //!
 //! | Type | Items | Method of the map |
 //! |---|---|---|

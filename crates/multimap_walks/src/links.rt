@@ -63,7 +63,7 @@ impl ValueLink {
     }
 }
 
-/// Where a row of items is that follow each other in order.
+/// The ends of a row of items that follow each other in order.
 ///
 /// They are values of one key that name each other, or what an iterator along a list has left.
 #[derive(Clone, Copy)]

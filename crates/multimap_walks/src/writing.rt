@@ -1,4 +1,4 @@
-//! Iterators that lend values for writing, and the step of those along the order of a list.
+//! Iterators over mutable references, and the step of those along the order of a list.
 ghost use Rattle.std.specs.Prelude.{◌≡◌, IfSome, IsSome, Some};
 ghost use Rattle.multimap_slots.specs.SlotCells.{lent_slots, IsLeft};
 ghost use Rattle.multimap_walks.specs.Along.{AreLeft, neighbour_of, places_left};

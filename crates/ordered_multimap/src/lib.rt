@@ -3,7 +3,8 @@
 //! A [`ListOrderedMultimap`] maps each key to one or more values, and keeps two lists:
 //!
 //! - the pairs, in insertion order;
-//! - the keys, in the order in which each last became present.
+//! - the keys, in the order in which each last became present: a key that is removed and added
+//!   again goes last.
 //!
 //! ```text
 //! append line 1, append page 8, append line 2
@@ -17,6 +18,10 @@
 //!     Err(Refused { key: page, value: 9 }), and both lists are as before
 //! ```
 //!
+//! As in std's maps, keys implement `Eq` and `Hash`, and equal keys have equal hashes; here this is
+//! proved where the type of the keys is declared. Of equal keys the map keeps the one that was
+//! added first.
+//!
 //! # When to use it
 //!
 //! Use `ListOrderedMultimap` when
@@ -27,8 +32,7 @@
 //! - running out of memory has to be an error that you handle, without losing the pair.
 //!
 //! Use `SetOrderedMultimap` of the crate `set_ordered_multimap` when no pair may occur twice, as
-//! for tags of a document: it inserts a pair only if no equal one is there, and lends no value for
-//! writing.
+//! for tags of a document: it adds a pair only if no equal one is there.
 //!
 //! Use the kit's `IndexMap<K, Vec<V>>` when the order of all pairs doesn't matter, and its
 //! `HashMap<K, Vec<V>>` when no order does.
@@ -56,12 +60,13 @@
 //! # When memory runs out
 //!
 //! A call that may allocate returns a `Result`, and the others can't fail: lookups, removals,
-//! writes in place, and iteration. An addition never fails where the capacities suffice.
+//! writes in place, and iteration. An addition never fails where the capacities suffice, and
+//! `insert` never fails for a present key.
 //!
 //! - An addition returns [`Refused`] with the key and the value, or [`RefusedValue`] with the value
 //!   where an [`OccupiedEntry`] has the key. Both lists are as before; capacities may have grown.
-//! - `extend` returns the refused pair, and keeps the pairs before it. `from_iter` returns the
-//!   refused pair, and drops those before it. std's `Extend` and `FromIterator` drop the refused
+//! - `extend` and `from_iter` return a `Refused` with the pair that wasn't added. `extend` keeps
+//!   the pairs before it, and `from_iter` drops them. std's `Extend` and `FromIterator` drop that
 //!   pair too.
 //! - The constructors with capacities, `reserve_keys`, `reserve_values`, `pack_to`, `pack_to_fit`
 //!   and `clone` return `AllocError`.
@@ -79,9 +84,9 @@
 //!
 //! # Examples
 //!
-//! In the examples of this crate `rt` is the runtime that `main` or a test is given, as in `fn
-//! main(rt: HostRuntime)`. Each example is the body of a function that returns `Result<(),
-//! AllocError>`.
+//! In the examples of this crate `rt` is the runtime that `main` or a test is given, as in
+//! `fn main(rt: HostRuntime)`. Each example is the body of a function that returns
+//! `Result<(), AllocError>`.
 //!
 //! ```
 //! use ordered_multimap::{KeyWrapper, ListOrderedMultimap, Refused};
@@ -131,8 +136,8 @@
 //! assert_eq!(rt; map.get("line"), Some(&1));
 //! ```
 //!
-//! Proved callers: see docs/PROVED_CALLERS.md, on which the comments of calls have a line where a
-//! proof needs more than they say.
+//! Proved callers: what a proof needs beyond these comments is on the page docs/PROVED_CALLERS.md.
+//! The comment of a call that has a section there says so.
 #![tactic(auto)]
 
 pub mod laws;

@@ -14,11 +14,11 @@ use std::hash::Hash;
 /// - `&str`, for keys that are strings: `String`, `&str`, `BoxedStr`, `RcStr`, `CowStr`;
 /// - `&[T]`, for keys that are slices: `Vec<T>`, `&[T]`, `BoxedSlice<T>`, `CowSlice<T>`.
 ///
-/// So `map.get("line")` looks up a `String` key without allocating a `String`. It is what `Borrow`
-/// is to std's maps, and is passed by value.
+/// So `map.get("line")` looks up a `String` key without allocating a `String`. It takes the place
+/// of the `Borrow` of std's lookups, and is passed by value.
 ///
-/// Your own `Copy` type can be a query too. Its `equivalent` says for which keys it stands, and it
-/// has to be hashed as each of those keys is. The file
+/// A `Copy` type of your own can be a query too. Its `equivalent` says to which keys it is
+/// equivalent, and it has to be hashed as each of those keys is. The file
 /// `crates/ordered_multimap_tests/src/tests/queries/names.rt` looks up header names in any case.
 ///
 /// Proved callers: see docs/PROVED_CALLERS.md.
@@ -40,13 +40,13 @@ pub trait KeyQuery<K: Eq + Hash>: Copy + Hash {
     // The key that the query itself is, where it is one. What a call says of an absent key names it.
     ghost as_key: { Self → Option K };
 
-    /// Returns `true` if the query stands for the key.
+    /// Returns `true` if the query is equivalent to the key.
     ///
     /// # Requires
     ///
-    /// An implementation has to be lawful: a query has the hash of each key for which it stands,
-    /// and if it stands for a key, it stands for all keys that are equal to that one, and for no
-    /// other. Both are proved where the implementation is declared.
+    /// An implementation has to be lawful: a query has the hash of each key to which it is
+    /// equivalent, and if it is equivalent to a key, then to all keys that are equal to that one,
+    /// and to no other. Both are proved where the implementation is declared.
     ///
     /// # Examples
     ///
@@ -69,7 +69,7 @@ pub trait KeyQuery<K: Eq + Hash>: Copy + Hash {
         → equivalent q y ≡ K.eq x y };
 }
 
-/// A reference to a key stands for all keys that are equal to it.
+/// A reference to a key is equivalent to all keys that are equal to it.
 impl<K: Eq + Hash> KeyQuery<K> for &K {
     ghost equivalent = { λ q. K.eq q.now };
 

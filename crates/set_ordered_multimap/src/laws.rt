@@ -11,7 +11,7 @@ pub fn changes_keep_sets<K: Eq, V: Eq>()
 
 /// States that of pairs that are inserted in turn into an empty set, each is kept once.
 ///
-/// Each stands at its first occurrence: the lists are the same as those of a map to which just
+/// Each is kept at its first occurrence: the lists are the same as those of a map to which just
 /// these pairs were appended.
 pub fn insertions_keep_first_pairs<K: Eq, V: Eq>()
     ensures { (pairs : List (K × V)) → KeepsFirstPairs K.eq V.eq pairs }

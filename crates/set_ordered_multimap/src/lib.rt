@@ -4,7 +4,8 @@
 //! no pair with an equal key and an equal value is there. It keeps the same two lists:
 //!
 //! - the pairs, in insertion order;
-//! - the keys, in the order in which each last became present.
+//! - the keys, in the order in which each last became present: a key that is removed and inserted
+//!   again goes last.
 //!
 //! ```text
 //! insert plan draft, insert note draft, insert plan long
@@ -22,8 +23,8 @@
 //! `ListOrderedMultimap` when
 //!
 //! - a pair may occur twice;
-//! - a value has to be written in place: the set lends no value for writing, since a written value
-//!   could become equal to another one of its key;
+//! - a value has to be written in place: the set returns no mutable references, since a written
+//!   value could become equal to another one of its key;
 //! - a key is looked up by a query, as a `String` key by a `&str`: the calls of the set take a
 //!   `&K`.
 //!
@@ -34,7 +35,7 @@
 //! # What differs from the map
 //!
 //! - `insert` adds a pair beside the key's other pairs, and returns whether it is new. The map's
-//!   `insert` replaces the key's pairs; its `append` is the like of the set's `insert`.
+//!   `insert` replaces the key's pairs; its `append` is the counterpart of the set's `insert`.
 //! - `remove_value` removes one pair. It is *O*(*n*) if the key has other values.
 //! - The function of `retain` gets each value for reading alone.
 //! - There is no `get`, `remove` or `entry`: see `get_all` and `remove_all`.
@@ -61,8 +62,8 @@
 //!
 //! An insertion returns a `Refused` with the key and the value, and both lists are as before;
 //! capacities may have grown. It never fails if an equal pair is there, or where the capacities
-//! suffice. `extend` keeps the pairs before the refused one, and `from_iter` drops them. `clone`
-//! returns `AllocError`. Removals and lookups can't fail.
+//! suffice. `extend` keeps the pairs before that one, and `from_iter` drops them. `clone` returns
+//! `AllocError`. Removals and lookups can't fail.
 //!
 //! # Keys that others choose
 //!

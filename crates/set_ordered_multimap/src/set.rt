@@ -19,9 +19,9 @@ use std::marker::Model;
 /// A multimap that keeps its pairs in insertion order, and in which no pair occurs twice.
 ///
 /// No two pairs have equal keys and equal values. Of equal pairs the set keeps the one that was
-/// inserted first, and so it does of equal keys. No value is lent for writing, since a written
-/// value could become equal to another one of its key. See the [crate's page](crate) for when to
-/// use it, and for what its calls cost.
+/// inserted first, and so it does of equal keys. It returns no mutable references to values, since
+/// a written value could become equal to another one of its key. See the [crate's page](crate) for
+/// when to use it, and for what its calls cost.
 ///
 /// # Examples
 ///

@@ -1,5 +1,5 @@
-//! Iterators that read what an iterator for writing hasn't lent yet, and the step of those along
-//! the order of a list.
+//! Iterators that read what a mutable iterator has left, and the step of those along the order of a
+//! list.
 ghost use Rattle.std.specs.Prelude.{IfSome};
 ghost use Rattle.multimap_slots.specs.Slots.{HasSlot};
 ghost use Rattle.multimap_slots.specs.SlotCells.{lent_slots};

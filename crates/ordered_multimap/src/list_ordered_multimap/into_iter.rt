@@ -23,7 +23,7 @@ use std::marker::Model;
 /// This struct is created by the `into_iter` method of [`ListOrderedMultimap`]. It iterates from
 /// both ends, and knows its length. Each item is a `Result`: a pair with a clone of its key, or
 /// [`UnclonedKey`] with the value alone where the clone ran out of memory. The iterator goes on
-/// behind such an item. A key is cloned for each of its values, the last one included. Pairs that
+/// after such an item. A key is cloned for each of its values, the last one included. Pairs that
 /// weren't taken are dropped with the iterator.
 #[derive(Drop)]
 pub struct IntoIter<K, V, A: Allocator = Global> {
@@ -57,7 +57,7 @@ impl<K: Eq + Hash + Clone, V: Drop, S: BuildHasher + Drop, A: Allocator> IntoIte
     /// # Errors
     ///
     /// The call can't fail. Each item is a `Result`: an item whose key can't be cloned is
-    /// [`UnclonedKey`] with the value, and the iterator goes on behind it. A clone that doesn't
+    /// [`UnclonedKey`] with the value, and the iterator goes on after it. A clone that doesn't
     /// allocate, as that of a number or a `&str`, never fails.
     ///
     /// # Complexity

@@ -12,8 +12,8 @@ use std::hash::{BuildHasher, Hash};
 ///
 /// This struct is created by [`ListOrderedMultimap::pairs_mut`]; see there for an example. It goes
 /// over the keys in their order, by [`next`](Self::next) and [`next_back`](Self::next_back). It
-/// doesn't implement `Iterator`, because each step borrows it until the values of that key are
-/// done.
+/// doesn't implement `Iterator`, because each step borrows it until the iterator over that key's
+/// values ends.
 #[derive(Drop)]
 pub struct KeyValuesMut<
     'map,

@@ -7,7 +7,7 @@ use std::alloc::AllocError;
 use std::error::Error;
 use std::{fmt, io};
 
-/// The error of an insertion that ran out of memory, with the pair that wasn't inserted.
+/// The error of an addition that ran out of memory, with the pair that wasn't added.
 ///
 /// `?` converts it into an [`AllocError`] or an [`io::Error`], and drops the pair. For an error
 /// type of your own that has a `From<AllocError>`, write `map_err(AllocError::from)?`. `Debug`
@@ -70,7 +70,7 @@ impl<K: Drop, V: Drop> From<Refused<K, V>> for io::Error {
     }
 }
 
-/// The error of an insertion under a present key that ran out of memory, with the value.
+/// The error of an addition under a present key that ran out of memory, with the value.
 ///
 /// It is returned by [`OccupiedEntry::append`](crate::OccupiedEntry::append) and
 /// [`OccupiedEntry::insert_all`](crate::OccupiedEntry::insert_all). `?` converts it into an

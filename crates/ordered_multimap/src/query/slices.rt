@@ -11,7 +11,7 @@ use std::borrow::CowSlice;
 use std::boxed::BoxedSlice;
 use std::hash::Hash;
 
-/// A slice stands for each `Vec` of equal items.
+/// A slice is equivalent to each `Vec` of equal items.
 impl<T: Eq + Hash, B: Allocator> KeyQuery<Vec<T, B>> for &[T] {
     ghost equivalent = { λ q k. pointwise T.eq q.now k.items };
 
@@ -26,7 +26,7 @@ impl<T: Eq + Hash, B: Allocator> KeyQuery<Vec<T, B>> for &[T] {
     }
 }
 
-/// A slice stands for each slice of equal items, of any lifetime.
+/// A slice is equivalent to each slice of equal items, of any lifetime.
 impl<'k, T: Eq + Hash> KeyQuery<&'k [T]> for &[T] {
     ghost equivalent = { λ q k. pointwise T.eq q.now k.now };
 
@@ -41,7 +41,7 @@ impl<'k, T: Eq + Hash> KeyQuery<&'k [T]> for &[T] {
     }
 }
 
-/// A slice stands for each `BoxedSlice` of equal items.
+/// A slice is equivalent to each `BoxedSlice` of equal items.
 impl<T: Eq + Hash, B: Allocator> KeyQuery<BoxedSlice<T, B>> for &[T] {
     ghost equivalent = { λ q k. pointwise T.eq q.now (boxed_slice_items k) };
 
@@ -58,7 +58,7 @@ impl<T: Eq + Hash, B: Allocator> KeyQuery<BoxedSlice<T, B>> for &[T] {
     }
 }
 
-/// A slice stands for each `CowSlice` of equal items, borrowed or owned.
+/// A slice is equivalent to each `CowSlice` of equal items, borrowed or owned.
 impl<'k, T: Eq + Hash, B: Allocator> KeyQuery<CowSlice<'k, T, B>> for &[T] {
     ghost equivalent = { λ q k. pointwise T.eq q.now (cow_slice_items k) };
 

@@ -15,7 +15,7 @@ use std::borrow::CowStr;
 use std::boxed::BoxedStr;
 use std::rc::RcStr;
 
-/// A string slice stands for each `String` of the same bytes.
+/// A string slice is equivalent to each `String` of the same bytes.
 impl<B: Allocator> KeyQuery<String<B>> for &str {
     ghost equivalent = { λ q k. bytes_eq q.now (string_bytes k) };
 
@@ -30,7 +30,7 @@ impl<B: Allocator> KeyQuery<String<B>> for &str {
     }
 }
 
-/// A string slice stands for each `&str` of the same bytes, of any lifetime.
+/// A string slice is equivalent to each `&str` of the same bytes, of any lifetime.
 impl<'k> KeyQuery<&'k str> for &str {
     ghost equivalent = { λ q k. bytes_eq q.now k.now };
 
@@ -45,7 +45,7 @@ impl<'k> KeyQuery<&'k str> for &str {
     }
 }
 
-/// A string slice stands for each `BoxedStr` of the same bytes.
+/// A string slice is equivalent to each `BoxedStr` of the same bytes.
 impl<B: Allocator> KeyQuery<BoxedStr<B>> for &str {
     ghost equivalent = { λ q k. bytes_eq q.now (boxed_str_bytes k) };
 
@@ -62,7 +62,7 @@ impl<B: Allocator> KeyQuery<BoxedStr<B>> for &str {
     }
 }
 
-/// A string slice stands for each `RcStr` of the same bytes.
+/// A string slice is equivalent to each `RcStr` of the same bytes.
 impl<B: Allocator> KeyQuery<RcStr<B>> for &str {
     ghost equivalent = { λ q k. bytes_eq q.now (rc_str_bytes k) };
 
@@ -78,7 +78,7 @@ impl<B: Allocator> KeyQuery<RcStr<B>> for &str {
     }
 }
 
-/// A string slice stands for each `CowStr` of the same bytes, borrowed or owned.
+/// A string slice is equivalent to each `CowStr` of the same bytes, borrowed or owned.
 impl<'k, B: Allocator> KeyQuery<CowStr<'k, B>> for &str {
     ghost equivalent = { λ q k. bytes_eq q.now (cow_str_bytes k) };
 

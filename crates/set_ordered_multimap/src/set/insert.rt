@@ -81,8 +81,8 @@ impl<K: Eq + Hash + Drop, V: Eq + Drop, S: BuildHasher, A: Allocator + Copy> Set
     /// # Errors
     ///
     /// If memory allocation fails for a pair, returns [`Refused`] with that pair, and reads no more
-    /// of the iterator. The pairs before it stay. If you pass `&mut iter`, you keep the pairs
-    /// behind it.
+    /// of the iterator. The pairs before it stay. If you pass `&mut iter`, you keep the pairs after
+    /// it.
     ///
     /// # Complexity
     ///

@@ -153,10 +153,11 @@ impl<K: Eq + Hash, V, S: BuildHasher, A: Allocator> SetOrderedMultimap<K, V, S, 
 impl<K: Eq + Hash, V: Eq + Drop, S: BuildHasher, A: Allocator> SetOrderedMultimap<K, V, S, A> {
     /// Removes the key with all its values, and returns a draining iterator over the values.
     ///
-    /// The pairs leave the set at this call, even if the iterator is leaked. Values that weren't
-    /// taken are dropped with the iterator. The stored key is dropped. The iterator is empty if the
-    /// key is absent. The other keys and pairs keep their order. The call doesn't allocate. To
-    /// remove one pair see [`remove_value`](Self::remove_value).
+    /// The pairs leave the set at this call, whatever becomes of the iterator. Values that weren't
+    /// taken are dropped with it; if it is leaked, they are dropped when their slots are used
+    /// again, or with the set. The stored key is dropped. The iterator is empty if the key is
+    /// absent. The other keys and pairs keep their order. The call doesn't allocate. To remove one
+    /// pair see [`remove_value`](Self::remove_value).
     ///
     /// Proved callers: see docs/PROVED_CALLERS.md.
     ///

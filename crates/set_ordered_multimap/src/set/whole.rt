@@ -116,7 +116,7 @@ impl<K: Eq + Hash + Clone, V: Drop, S: BuildHasher + Drop, A: Allocator> IntoIte
     /// # Errors
     ///
     /// The call can't fail. Each item is a `Result`: an item whose key can't be cloned is
-    /// [`UnclonedKey`] with the value, and the iterator goes on behind it.
+    /// [`UnclonedKey`] with the value, and the iterator goes on after it.
     ///
     /// # Complexity
     ///

@@ -31,7 +31,7 @@ impl<'map, K, V, A: Allocator> EntryValuesMut<'map, K, V, A> {
     /// # Requires
     ///
     /// The links of keys and values are chained, the key is listed in `keys` with this link, and no
-    /// value was lent.
+    /// value was taken from `values`.
     pub fn new(
         keys: &'map SlotList<K, KeyLink, A>,
         values: SlotCells<'map, V, ValueLink, A>,
@@ -100,7 +100,7 @@ impl<'map, K, V, A: Allocator> EntryValuesMut<'map, K, V, A> {
 
     /// Returns an iterator over the values that are left, for reading.
     ///
-    /// It lends none of them for writing, and this iterator goes on where it is. It reads no slot.
+    /// This iterator goes on where it is. The call reads no slot.
     ///
     /// # Complexity
     ///

@@ -20,7 +20,7 @@ use std::fmt;
 use std::iter::FusedIterator;
 
 impl<'map, K, V, A: Allocator> IterMut<'map, K, V, A> {
-    /// Creates an iterator over all pairs of a list of keys and of values that are lent.
+    /// Creates an iterator over all pairs of a list of keys and of cells of values.
     ///
     /// It reads no slot.
     ///
@@ -30,7 +30,7 @@ impl<'map, K, V, A: Allocator> IterMut<'map, K, V, A> {
     ///
     /// # Requires
     ///
-    /// The key of each value is listed, and no value was lent.
+    /// The key of each value is listed, and no value was taken from `values`.
     pub fn new(
         keys: &'map SlotList<K, KeyLink, A>,
         values: SlotCells<'map, V, ValueLink, A>,
@@ -92,8 +92,7 @@ impl<'map, K, V, A: Allocator> IterMut<'map, K, V, A> {
 
     /// Returns an iterator over the pairs that are left, for reading.
     ///
-    /// It lends none of their values for writing, and this iterator goes on where it is. It reads
-    /// no slot.
+    /// This iterator goes on where it is. The call reads no slot.
     ///
     /// # Complexity
     ///

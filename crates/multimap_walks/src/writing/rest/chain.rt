@@ -49,7 +49,7 @@ impl<'walk, 'map, K, V, A: Allocator> EntryValuesRest<'walk, 'map, K, V, A> {
     ///
     /// # Requires
     ///
-    /// None of these values was lent.
+    /// None of these values was taken.
     pub fn new(values: &'walk SlotCells<'map, V, ValueLink, A>, left: ChainEnds) -> Self
         requires { CanReadChain values.now left }
         ensures values { result ≡ entry_rest values.now left }

@@ -54,7 +54,7 @@ impl<'walk, 'map, K, V, A: Allocator> IterRest<'walk, 'map, K, V, A> {
     ///
     /// # Requires
     ///
-    /// The key of each value is listed, and no value of these places was lent.
+    /// The key of each value is listed, and no value of these places was taken.
     pub fn new(
         keys: &'walk SlotList<K, KeyLink, A>,
         values: &'walk SlotCells<'map, V, ValueLink, A>,

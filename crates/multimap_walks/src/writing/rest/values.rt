@@ -51,7 +51,7 @@ impl<'walk, 'map, K, V, A: Allocator> ValuesRest<'walk, 'map, K, V, A> {
     ///
     /// # Requires
     ///
-    /// None of these values was lent.
+    /// None of these values was taken.
     pub fn new(values: &'walk SlotCells<'map, V, ValueLink, A>, left: ChainEnds) -> Self
         requires { CanLend values.now left }
         ensures values { result ≡ values_rest values.now left }

@@ -20,7 +20,7 @@ use std::iter::FusedIterator;
 use std::marker::PhantomData;
 
 impl<'map, K, V, A: Allocator> ValuesMut<'map, K, V, A> {
-    /// Creates an iterator over all values that are lent.
+    /// Creates an iterator over all values of the cells.
     ///
     /// It reads no slot.
     ///
@@ -30,7 +30,7 @@ impl<'map, K, V, A: Allocator> ValuesMut<'map, K, V, A> {
     ///
     /// # Requires
     ///
-    /// No value was lent yet.
+    /// No value was taken from `values`.
     pub fn new(values: SlotCells<'map, V, ValueLink, A>) -> Self
         requires untaken { NoneIsTaken values }
         ensures values { values_mut_rest result
@@ -85,7 +85,7 @@ impl<'map, K, V, A: Allocator> ValuesMut<'map, K, V, A> {
 
     /// Returns an iterator over the values that are left, for reading.
     ///
-    /// It lends none of them for writing, and this iterator goes on where it is. It reads no slot.
+    /// This iterator goes on where it is. The call reads no slot.
     ///
     /// # Complexity
     ///

@@ -17,8 +17,9 @@ use std::hash::{BuildHasher, Hash};
 impl<'map, K: Eq + Hash, V: Drop, S: BuildHasher, A: Allocator> OccupiedEntry<'map, K, V, S, A> {
     /// Removes the key with all its values, and returns a draining iterator over the values.
     ///
-    /// The pairs leave the map at this call, even if the iterator is leaked. Values that weren't
-    /// taken are dropped with the iterator. The stored key is dropped. The call doesn't allocate.
+    /// The pairs leave the map at this call, whatever becomes of the iterator. Values that weren't
+    /// taken are dropped with it; if it is leaked, they are dropped when their slots are used
+    /// again, or with the map. The stored key is dropped. The call doesn't allocate.
     ///
     /// Proved callers: see docs/PROVED_CALLERS.md.
     ///
@@ -92,10 +93,10 @@ impl<'map, K: Eq + Hash, V: Drop, S: BuildHasher, A: Allocator> OccupiedEntry<'m
 
     /// Replaces all values of the key with one, and returns a draining iterator over the old ones.
     ///
-    /// All old pairs of the key leave the map at this call, even if the iterator is leaked, and the
-    /// new pair comes last in the order of pairs. The key keeps its place in the order of keys. The
-    /// call takes the entry by value, and the iterator borrows the map as long as the entry did.
-    /// For the first old value alone see [`insert`](Self::insert), which can't fail.
+    /// All old pairs of the key leave the map at this call, whatever becomes of the iterator, and
+    /// the new pair comes last in the order of pairs. The key keeps its place in the order of keys.
+    /// The call takes the entry by value, and the iterator borrows the map as long as the entry
+    /// did. For the first old value alone see [`insert`](Self::insert), which can't fail.
     ///
     /// # Errors
     ///

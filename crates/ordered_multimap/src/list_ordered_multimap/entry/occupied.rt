@@ -1,4 +1,4 @@
-//! The methods of `OccupiedEntry` that read values or lend them for writing.
+//! The methods of `OccupiedEntry` that return references to its key and values.
 #![tactic(auto, using(crate::proofs::Remove::ValueByValue::among_in, crate::proofs::Remove::ValueByValue::in_among))]
 
 ghost use Rattle.std.specs.Prelude.{◌≡◌, ◌<◌, Some, length, slice_get};
