@@ -7,7 +7,7 @@ use std::fmt;
 
 /// The error of [`parse_commands`](crate::parse::parse_commands).
 ///
-/// `?` converts it into a [`ToolFault`].
+/// `?` converts an `AllocError` into it, and it into a [`ToolFault`].
 #[derive(Debug, PartialEq, Eq, Clone, Copy)]
 pub enum TextFault {
     /// The number of the first line that is no command, counted from 1.
@@ -17,6 +17,8 @@ pub enum TextFault {
 }
 
 /// The error of [`execute`](crate::execute::execute).
+///
+/// `?` converts an `AllocError` or a [`TextFault`] into it.
 ///
 /// # Examples
 ///

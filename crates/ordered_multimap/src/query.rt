@@ -42,6 +42,10 @@ pub trait KeyQuery<K: Eq + Hash>: Copy + Hash {
 
     /// Returns `true` if the query is equivalent to the key.
     ///
+    /// # Complexity
+    ///
+    /// What a comparison of the key costs.
+    ///
     /// # Requires
     ///
     /// An implementation has to be lawful: a query has the hash of each key to which it is

@@ -38,7 +38,8 @@
 //!   `insert` replaces the key's pairs; its `append` is the counterpart of the set's `insert`.
 //! - `remove_value` removes one pair. It is *O*(*n*) if the key has other values.
 //! - The function of `retain` gets each value for reading alone.
-//! - There is no `get`, `remove` or `entry`: see `get_all` and `remove_all`.
+//! - There is no `get`, `front`, `values`, `pairs`, `remove` or `entry`, nor a call that reserves
+//!   or gives up room: see `get_all`, `iter` and `remove_all`.
 //!
 //! # What the calls cost
 //!

@@ -35,6 +35,10 @@ pub trait JsonPart {
     /// Returns `AllocError` if memory allocation fails. Strings and characters alone allocate, from
     /// `alloc`.
     ///
+    /// # Complexity
+    ///
+    /// *O*(1), and *O*(*b*) for a string of *b* bytes.
+    ///
     /// # Examples
     ///
     /// ```
@@ -55,6 +59,10 @@ pub trait JsonPart {
     ///
     /// Returns [`PartFault::Refused`] if no value of the type is written so, and
     /// [`PartFault::OutOfMemory`] if memory allocation fails. Strings alone allocate, from `alloc`.
+    ///
+    /// # Complexity
+    ///
+    /// *O*(1), and *O*(*b*) for a string of *b* bytes.
     ///
     /// # Examples
     ///

@@ -32,6 +32,10 @@ pub trait ToJson {
     /// Returns `AllocError` if memory allocation fails. Strings and characters alone allocate, from
     /// `alloc`.
     ///
+    /// # Complexity
+    ///
+    /// *O*(1), and *O*(*b*) for a string of *b* bytes.
+    ///
     /// # Examples
     ///
     /// ```

@@ -51,7 +51,8 @@ impl<K: Eq + Hash, V: Eq, S: BuildHasher, A: Allocator> SetOrderedMultimap<K, V,
 impl<K: Eq + Hash, V, S: BuildHasher, A: Allocator> SetOrderedMultimap<K, V, S, A> {
     /// Returns `true` if the key has a value.
     ///
-    /// To ask for a pair see [`contains`](Self::contains).
+    /// To ask for a pair see [`contains`](Self::contains). Unlike the map's call it takes a `&K`,
+    /// and no other query.
     ///
     /// # Complexity
     ///
@@ -74,6 +75,8 @@ impl<K: Eq + Hash, V, S: BuildHasher, A: Allocator> SetOrderedMultimap<K, V, S, 
     }
 
     /// Returns the number of values of the key, which is 0 if the key is absent.
+    ///
+    /// Unlike the map's call it takes a `&K`, and no other query.
     ///
     /// # Complexity
     ///
@@ -99,7 +102,7 @@ impl<K: Eq + Hash, V, S: BuildHasher, A: Allocator> SetOrderedMultimap<K, V, S, 
     /// Returns an iterator over the key's values, in insertion order.
     ///
     /// The iterator is empty if the key is absent. It iterates from both ends, and knows its
-    /// length.
+    /// length. Unlike the map's call it takes a `&K`, and no other query.
     ///
     /// # Complexity
     ///

@@ -112,7 +112,7 @@ impl<'map, K: Eq + Hash, V: Drop, S: BuildHasher, A: Allocator + Copy> Entry<'ma
     ///
     /// # Complexity
     ///
-    /// *O*(1) amortized, without a lookup.
+    /// *O*(1) expected and amortized, without a lookup.
     ///
     /// # Examples
     ///
@@ -153,7 +153,7 @@ impl<'map, K: Eq + Hash, V: Drop, S: BuildHasher, A: Allocator + Copy> Entry<'ma
     ///
     /// # Complexity
     ///
-    /// *O*(1) amortized, without a lookup, and one call of `f` at most.
+    /// *O*(1) expected and amortized, without a lookup, and one call of `f` at most.
     ///
     /// # Requires
     ///
@@ -198,7 +198,7 @@ impl<'map, K: Eq + Hash, V: Drop, S: BuildHasher, A: Allocator + Copy> Entry<'ma
     ///
     /// # Complexity
     ///
-    /// *O*(1) amortized, without a lookup.
+    /// *O*(1) expected and amortized, without a lookup.
     ///
     /// # Examples
     ///
@@ -235,7 +235,7 @@ impl<'map, K: Eq + Hash, V: Drop, S: BuildHasher, A: Allocator + Copy> Entry<'ma
     ///
     /// # Complexity
     ///
-    /// *O*(1) amortized, without a lookup, and one call of `f` at most.
+    /// *O*(1) expected and amortized, without a lookup, and one call of `f` at most.
     ///
     /// # Requires
     ///

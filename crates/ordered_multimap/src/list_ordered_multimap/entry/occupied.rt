@@ -203,7 +203,7 @@ impl<'map, K: Eq + Hash, V, S: BuildHasher, A: Allocator> OccupiedEntry<'map, K,
     /// Returns an iterator over mutable references to the key's values, in insertion order.
     ///
     /// The pairs keep their places in both lists. The iterator has a `Drop`, so one that is held in
-    /// a variable borrows the entry to the end of its block.
+    /// a variable borrows the entry to the end of its block; `drop` ends it sooner.
     ///
     /// Proved callers: see docs/PROVED_CALLERS.md.
     ///

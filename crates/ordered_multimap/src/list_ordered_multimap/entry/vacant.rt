@@ -82,7 +82,7 @@ impl<'map, K: Eq + Hash, V: Drop, S: BuildHasher, A: Allocator + Copy> VacantEnt
     ///
     /// # Complexity
     ///
-    /// *O*(1) amortized, without a lookup.
+    /// *O*(1) expected and amortized, without a lookup.
     ///
     /// # Examples
     ///
@@ -123,7 +123,7 @@ impl<'map, K: Eq + Hash, V: Drop, S: BuildHasher, A: Allocator + Copy> VacantEnt
     ///
     /// # Complexity
     ///
-    /// *O*(1) amortized, without a lookup.
+    /// *O*(1) expected and amortized, without a lookup.
     ///
     /// # Examples
     ///
