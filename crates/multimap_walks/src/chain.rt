@@ -20,8 +20,8 @@ use std::marker::{Model, PhantomData};
 ///
 /// This struct is created by `ListOrderedMultimap::get_all`; see there for an example. It is also
 /// created by `OccupiedEntry::iter` and by each step of [`KeyValues`](crate::KeyValues). Its items
-/// are `&value`. It iterates from both ends, knows its length, and can be cloned without
-/// allocating. Each item reads one value slot, so other keys' values cost nothing.
+/// are `&value`. It iterates from both ends, knows its length, and can be cloned, which never
+/// fails. Each item reads one value slot, so other keys' values cost nothing.
 #[derive(Drop)]
 pub struct EntryValues<'map, K, V, A: Allocator = Global> {
     keys: PhantomData<&'map K>,

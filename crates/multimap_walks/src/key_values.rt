@@ -24,7 +24,7 @@ use std::marker::Model;
 ///
 /// This struct is created by `ListOrderedMultimap::pairs`; see there for an example. The keys come
 /// in the order in which each last became present. Its items are `(&key, EntryValues)`. It iterates
-/// from both ends, knows its length, and can be cloned without allocating. Each item reads the slot
+/// from both ends, knows its length, and can be cloned, which never fails. Each item reads the slot
 /// of its key, and of no value.
 #[derive(Drop)]
 pub struct KeyValues<'map, K, V, A: Allocator = Global> {

@@ -20,8 +20,8 @@ use std::marker::Model;
 /// An iterator over the keys of a map, in the order in which each last became present.
 ///
 /// This struct is created by `ListOrderedMultimap::keys`; see there for an example. Its items are
-/// `&key`, each key once. It iterates from both ends, knows its length, and can be cloned without
-/// allocating. Each item reads the slot of its key.
+/// `&key`, each key once. It iterates from both ends, knows its length, and can be cloned, which
+/// never fails. Each item reads the slot of its key.
 #[derive(Drop)]
 pub struct Keys<'map, K, A: Allocator = Global> {
     keys: &'map SlotList<K, KeyLink, A>,
@@ -43,8 +43,6 @@ impl<'map, K, A: Allocator> Model for Keys<'map, K, A> {
 
 impl<'map, K, A: Allocator> Keys<'map, K, A> {
     /// Creates an iterator over all items of a slot list.
-    ///
-    /// It reads no slot.
     ///
     /// # Complexity
     ///

@@ -20,7 +20,7 @@ use std::marker::Model;
 ///
 /// This struct is created by `ListOrderedMultimap::iter`, and by a loop over `&map`; see there for
 /// an example. Its items are `(&key, &value)`. It iterates from both ends, knows its length, and
-/// can be cloned without allocating. Each item reads the slots of its value and of its key.
+/// can be cloned, which never fails. Each item reads the slots of its value and of its key.
 #[derive(Drop)]
 pub struct Iter<'map, K, V, A: Allocator = Global> {
     keys: &'map SlotList<K, KeyLink, A>,

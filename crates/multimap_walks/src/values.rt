@@ -19,7 +19,7 @@ use std::marker::{Model, PhantomData};
 /// An iterator over the values of all pairs of a map, in insertion order.
 ///
 /// This struct is created by `ListOrderedMultimap::values`; see there for an example. Its items are
-/// `&value`. It iterates from both ends, knows its length, and can be cloned without allocating.
+/// `&value`. It iterates from both ends, knows its length, and can be cloned, which never fails.
 /// Each item reads the slot of its value.
 #[derive(Drop)]
 pub struct Values<'map, K, V, A: Allocator = Global> {
@@ -43,8 +43,6 @@ impl<'map, K, V, A: Allocator> Model for Values<'map, K, V, A> {
 
 impl<'map, K, V, A: Allocator> Values<'map, K, V, A> {
     /// Creates an iterator over all items of a tape.
-    ///
-    /// It reads no slot.
     ///
     /// # Complexity
     ///

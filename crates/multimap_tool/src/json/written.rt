@@ -18,7 +18,8 @@ use std::hash::{BuildHasher, Hash};
 ///
 /// # Errors
 ///
-/// Returns `AllocError` if memory allocation fails. The JSON value is allocated from `alloc`.
+/// Returns `AllocError` if memory allocation fails. The JSON value is allocated from `alloc`: what
+/// `to_value` allocates, twice for `keys`, and for the object.
 ///
 /// # Complexity
 ///

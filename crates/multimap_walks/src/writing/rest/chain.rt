@@ -19,7 +19,7 @@ use std::marker::{Model, PhantomData};
 ///
 /// This struct is created by [`EntryValuesMut::iter`](crate::EntryValuesMut::iter); see there for
 /// an example. Its items are `&value`. It iterates from both ends, knows its length, and can be
-/// cloned without allocating. Each item reads one value slot.
+/// cloned, which never fails. Each item reads one value slot.
 #[derive(Drop)]
 pub struct EntryValuesRest<'walk, 'map, K, V, A: Allocator = Global> {
     keys: PhantomData<&'map K>,

@@ -22,8 +22,8 @@ use std::marker::Model;
 /// An iterator over the pairs that an `IterMut` has left, in insertion order.
 ///
 /// This struct is created by [`IterMut::iter`](crate::IterMut::iter); see there for an example. Its
-/// items are `(&key, &value)`. It iterates from both ends, knows its length, and can be cloned
-/// without allocating. Each item reads the slots of its value and of its key.
+/// items are `(&key, &value)`. It iterates from both ends, knows its length, and can be cloned,
+/// which never fails. Each item reads the slots of its value and of its key.
 #[derive(Drop)]
 pub struct IterRest<'walk, 'map, K, V, A: Allocator = Global> {
     keys: &'walk SlotList<K, KeyLink, A>,

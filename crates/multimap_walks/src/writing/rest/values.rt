@@ -19,8 +19,8 @@ use std::marker::{Model, PhantomData};
 /// An iterator over the values that a `ValuesMut` has left, in insertion order.
 ///
 /// This struct is created by [`ValuesMut::iter`](crate::ValuesMut::iter); see there for an example.
-/// Its items are `&value`. It iterates from both ends, knows its length, and can be cloned without
-/// allocating. Each item reads the slot of its value.
+/// Its items are `&value`. It iterates from both ends, knows its length, and can be cloned, which
+/// never fails. Each item reads the slot of its value.
 #[derive(Drop)]
 pub struct ValuesRest<'walk, 'map, K, V, A: Allocator = Global> {
     keys: PhantomData<&'map K>,
