@@ -15,6 +15,10 @@ impl<K: Eq + Hash, V, A: Allocator + Copy> ListOrderedMultimap<K, V, DefaultStat
     /// [`with_capacity`](Self::with_capacity). The default hash builder has a fixed seed: for keys
     /// from untrusted sources see [`with_hasher`](Self::with_hasher).
     ///
+    /// # Complexity
+    ///
+    /// *O*(1).
+    ///
     /// # Examples
     ///
     /// ```
@@ -88,6 +92,10 @@ impl<K: Eq + Hash, V, S: BuildHasher, A: Allocator + Copy> ListOrderedMultimap<K
     /// can make all of them collide, which makes lookups linear. For keys from untrusted sources
     /// use a [`RandomState`](super::RandomState), made by `RandomState::new(&rt)?`: its seed is the
     /// system's.
+    ///
+    /// # Complexity
+    ///
+    /// *O*(1).
     ///
     /// # Examples
     ///

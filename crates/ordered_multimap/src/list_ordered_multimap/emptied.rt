@@ -7,8 +7,8 @@ use std::alloc::{AllocError, Allocator};
 use std::default::{Emptied, MadeWith};
 use std::hash::{BuildHasher, Hash};
 
-/// What `mem::try_take` leaves in the place of a map: an empty one, with a clone of the hash builder
-/// and the same allocator. It takes no memory but for that clone.
+/// Makes the empty map that `mem::try_take` leaves in the place of a map, with a clone of the hash
+/// builder and the same allocator. Only the clone may allocate.
 impl<K: Eq + Hash, V, S: BuildHasher + Clone, A: Allocator + Copy> Emptied
     for ListOrderedMultimap<K, V, S, A> {
     ghost is_emptied = { IsNewMap };
@@ -24,7 +24,7 @@ impl<K: Eq + Hash, V, S: BuildHasher + Clone, A: Allocator + Copy> Emptied
     }
 }
 
-/// The map that `or_default` of another map's entry puts in: an empty one, which takes no memory.
+/// Makes the empty map that `or_default` of another map's entry inserts. It doesn't allocate.
 impl<K: Eq + Hash, V, S: BuildHasher + Default, A: Allocator + Copy> MadeWith<A>
     for ListOrderedMultimap<K, V, S, A> {
     ghost is_made_with = { λ m. IsNewMap m × S.is_default m.hasher };
