@@ -1,5 +1,6 @@
 pub mod Append
 pub mod Copies
+pub mod Extends
 pub mod KeyRelocations
 pub mod KeySteps
 pub mod Remove

@@ -1,10 +1,13 @@
 -- Pairs that are appended in turn.
-use Rattle.std.proofs.Common.{◌≡◌, ◌≤◌, ◌+◌, Bool, List, [], ◌∷◌, ◌++◌, length, length-append, refl, ap, arith}
+use Rattle.std.proofs.Common.{◌≡◌, ◌≤◌, ◌+◌, Bool, List, [], ◌∷◌, ◌++◌, length, length-append, Ok, Err, refl, ap, ◌∙◌, subst, arith}
 use Rattle.std.specs.Iterator.{Count, Yields}
+use Rattle.std.proofs.lemmas.List.{map-id}
 use Rattle.std.specs.Prelude.{IsOk, Option, Result}
 use Rattle.ordered_multimap.specs.Lists.{Lists}
 use Rattle.ordered_multimap.specs.Changes.{appended, all_appended}
-use Rattle.ordered_multimap.specs.Extends.{AppendsAll, GrowsForAll, GrowsForPairs}
+use Rattle.ordered_multimap.specs.Extends.{AppendsAll, Extends, GrowsForAll, GrowsForPairs}
+use Rattle.ordered_multimap.specs.Private.Extends.{AppendsPairsOf}
+use Rattle.ordered_multimap.specs.declared.list_ordered_multimap.refused.Refused.{Refused}
 use Rattle.ordered_multimap.specs.Keys.{stored_key}
 use Rattle.ordered_multimap.specs.Multimap.{Multimap}
 use Rattle.ordered_multimap.specs.Rooms.{HasRoomForPairs, KeepsRooms, RaisesNoRoom}
@@ -69,3 +72,16 @@ pub Yields-before : {S A : Type 0} (steps : S → Option A → S → Type 0) (s 
     → Yields steps s (xs ++ x ∷ []) t → (u : S) × Yields steps s xs u
 Yields-before steps s [] x t given = (s, refl)
 Yields-before steps s (y ∷ ys) x t given = let rest = Yields-before steps given.0 ys x t given.2 in (rest.0, (given.0, given.1, rest.1))
+
+-- items that are their own pairs were appended: so these pairs were
+module _ {K V I T : Type 0} (eq : K → K → Bool) (becomes : I → T → Type 0) (steps : T → Option (K × V) → T → Type 0) where
+  pub extends-own : {iter : I} {old new : Lists K V} (r : Result (Unit {0}) (Refused K V))
+      → AppendsPairsOf (λ pair. pair) eq becomes steps iter old new r → Extends eq becomes steps iter old new r
+  extends-own {old} (Ok u) all = (all.0, all.1, all.2, all.3 ∙ ap (all_appended eq old) (map-id all.1), all.4)
+  extends-own {old} (Err refused) all = (
+    all.0,
+    all.1,
+    all.2,
+    all.3 ∙ ap (all_appended eq old) (map-id all.1),
+    (all.4.1, subst (λ pair. Yields steps all.0 (all.1 ++ pair ∷ []) all.4.1) all.4.3 all.4.2),
+  )

@@ -2,13 +2,41 @@
 ghost use Rattle.std.specs.Prelude.{◌≡◌, IfOk, IfErr};
 ghost use Rattle.std.specs.Iterator.{IsFinite};
 ghost use Rattle.ordered_multimap.specs.Extends.{Extends, ExtendsCopied, IsBuilt, IsLastRead};
-ghost use Rattle.ordered_multimap.specs.Extends.{GrowsForAll};
+ghost use Rattle.ordered_multimap.specs.Extends.{GrowsForAll, lent_pair};
+ghost use Rattle.ordered_multimap.specs.Private.Extends.{AppendsPairsOf};
 ghost use Rattle.ordered_multimap.specs.Rooms.{HasPairRoom};
 ghost use Rattle.ordered_multimap.specs.TapeNumbers.{AreUnused};
 
 use super::{ListOrderedMultimap, Refused};
 use std::alloc::Allocator;
 use std::hash::{BuildHasher, Hash};
+
+/// An item that gives a pair to append.
+trait IntoPair<K, V> {
+    /// The pair that an item gives.
+    ghost pair_of: { Self → K × V };
+
+    fn into_pair(self) -> (K, V)
+        ensures { result ≡ pair_of self };
+}
+
+impl<K, V> IntoPair<K, V> for (K, V) {
+    ghost pair_of = { λ pair. pair };
+
+    #[inline(always)]
+    fn into_pair(self) -> (K, V) {
+        self
+    }
+}
+
+impl<'a, K: Copy, V: Copy> IntoPair<K, V> for (&'a K, &'a V) {
+    ghost pair_of = { lent_pair };
+
+    #[inline(always)]
+    fn into_pair(self) -> (K, V) {
+        (*self.0, *self.1)
+    }
+}
 
 impl<K: Eq + Hash + Drop, V: Drop, S: BuildHasher, A: Allocator + Copy> ListOrderedMultimap<
     K,
@@ -62,15 +90,8 @@ impl<K: Eq + Hash + Drop, V: Drop, S: BuildHasher, A: Allocator + Copy> ListOrde
         ensures grows { GrowsForAll I.into_iter_gives I.IntoIter.next_gives I.IntoIter.remaining
             iter self.old self.new result }
     {
-        let pairs = iter.into_iter();
-        // Ignored if refused: each append makes the room that it needs.
-        let _reserved = self.reserve_values(pairs.size_hint().0);
-        for (key, value) in pairs {
-            if let Err(refused) = self.append(key, value) {
-                return Err(refused);
-            }
-        }
-        Ok(())
+        // Each item is its pair.
+        self.append_all(iter)
     }
 
     /// Appends a copy of each pair of the iterator, in its order.
@@ -123,11 +144,29 @@ impl<K: Eq + Hash + Drop, V: Drop, S: BuildHasher, A: Allocator + Copy> ListOrde
         ensures grows { GrowsForAll I.into_iter_gives I.IntoIter.next_gives I.IntoIter.remaining
             iter self.old self.new result }
     {
-        let pairs = iter.into_iter();
-        // Ignored if refused, as in `extend`.
-        let _reserved = self.reserve_values(pairs.size_hint().0);
-        for (key, value) in pairs {
-            if let Err(refused) = self.append(*key, *value) {
+        // Each item lends its pair.
+        self.append_all(iter)
+    }
+
+    /// Appends the pair of each item of the iterator, in its order.
+    fn append_all<X: IntoPair<K, V>, I: IntoIterator<Item = X>>(
+        &mut self,
+        iter: I,
+    ) -> Result<(), Refused<K, V>>
+        requires { (it : I.IntoIter) → I.into_iter_gives iter it
+            → I.IntoIter.can_next it × IsFinite (I.IntoIter.remaining it) }
+        ensures extends { AppendsPairsOf X.pair_of K.eq I.into_iter_gives I.IntoIter.next_gives iter
+            self.old.lists self.new.lists result }
+        ensures full { IfErr result (λ pair. ¬ HasPairRoom K.eq self.new pair.key) }
+        ensures grows { GrowsForAll I.into_iter_gives I.IntoIter.next_gives I.IntoIter.remaining
+            iter self.old self.new result }
+    {
+        let items = iter.into_iter();
+        // Ignored if refused: each append makes the room that it needs.
+        let _reserved = self.reserve_values(items.size_hint().0);
+        for item in items {
+            let (key, value) = item.into_pair();
+            if let Err(refused) = self.append(key, value) {
                 return Err(refused);
             }
         }
