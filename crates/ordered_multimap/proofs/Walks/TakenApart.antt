@@ -1,7 +1,8 @@
 -- The pairs that are left of a map that was taken apart, and what a step at either end hands out.
-use Rattle.std.proofs.Common.{◌≡◌, ◌≢◌, ℕ, ◌<◌, ◌-◌, List, [], ◌∷◌, length, Option, Some, None, Result, refl, sym, ap, ◌∙◌, subst, arith}
-use Rattle.std.proofs.Common.{length-drop}
+use Rattle.std.proofs.Common.{◌≡◌, ◌≢◌, ℕ, ◌<◌, ◌-◌, List, [], ◌∷◌, length, Option, Some, None, Result, refl, sym, ap, ◌∙◌, subst}
+use Rattle.std.proofs.Common.{length-drop, arith, rules}
 use Rattle.std.specs.Prelude.{MatchOption}
+use Rattle.std.specs.Iterator.{MakesProgress, at_most}
 use Rattle.std.specs.List.{filter_map}
 use Rattle.std.proofs.lemmas.List.{length-take}
 use Rattle.multimap_slots.specs.Lists.{IsIn, AreDistinct, without}
@@ -54,9 +55,15 @@ module _ {K V : Type 0} (keys : Slots K KeyLink) (values : Slots V ValueLink) (p
             (subst (λ o. MatchOption o ⊥ (IsHanded is_clone is_infallible given)) (sym e.item) pair_handed, pairs_left ∙ e.left)
 
 -- fewer pairs are left behind a step that hands one out
-module _ {K V : Type 0} (is_clone : K → K → Type 0) (is_infallible : K → Type 0) (given : Result (K × V) (UnclonedKey V)) where
-  pub fewer_left : (end : End) (old new : List (K × V)) → HandsOut is_clone is_infallible end old (Some given) new → length new < length old
-  fewer_left Front [] new hands = absurd hands.0
-  fewer_left Back [] new hands = absurd hands.0
-  fewer_left Front (p ∷ old) new hands = omega (arith, ap length hands.1, length-drop 1 (p ∷ old))
-  fewer_left Back (p ∷ old) new hands = omega (arith, ap length hands.1, length-take (length (p ∷ old) - 1) (p ∷ old))
+module _ {K V : Type 0} (is_clone : K → K → Type 0) (is_infallible : K → Type 0) where
+  fewer_left : (end : End) (given : Result (K × V) (UnclonedKey V)) (old new : List (K × V))
+      → HandsOut is_clone is_infallible end old (Some given) new → length new < length old
+  fewer_left Front given [] new hands = absurd hands.0
+  fewer_left Back given [] new hands = absurd hands.0
+  fewer_left Front given (p ∷ old) new hands = omega (arith, ap length hands.1, length-drop 1 (p ∷ old))
+  fewer_left Back given (p ∷ old) new hands = omega (arith, ap length hands.1, length-take (length (p ∷ old) - 1) (p ∷ old))
+
+  pub progress : (end : End) (given : Option (Result (K × V) (UnclonedKey V))) (old new : List (K × V))
+      → HandsOut is_clone is_infallible end old given new → MakesProgress (λ _. Unit {0}) (λ s. at_most (length s)) old given new
+  progress end None old new hands = search rules
+  progress end (Some given) old new hands = let falls = fewer_left end given old new hands in search rules

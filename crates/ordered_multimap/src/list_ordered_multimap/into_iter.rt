@@ -6,12 +6,13 @@ ghost use Rattle.multimap_slots.specs.Slots.{KeepsOthers};
 ghost use Rattle.multimap_walks.specs.Chained.{pair_at};
 ghost use Rattle.ordered_multimap.specs.Private.Retain.{IsOwnedAt};
 ghost use Rattle.multimap_walks.specs.Walk.{TellsLength};
-ghost use Rattle.ordered_multimap.specs.IntoIters.{HandsFirst, HandsLast, IsHanded};
+ghost use Rattle.ordered_multimap.specs.IntoIters.{HandsFirst, HandsLast, HandsOut, IsHanded};
 
 use super::lookup::slot_at;
+use super::pop::place_at_end;
 use super::{ListOrderedMultimap, UnclonedKey};
 use multimap_slots::{SlotList, Tape};
-use multimap_walks::{Iter, KeyLink, ValueLink};
+use multimap_walks::{End, Iter, KeyLink, ValueLink};
 use std::alloc::{Allocator, Global};
 use std::fmt;
 use std::hash::{BuildHasher, Hash};
@@ -140,6 +141,21 @@ fn take_cloning<K: Clone, V, A: Allocator>(
     }
 }
 
+impl<K: Clone, V: Drop, A: Allocator> IntoIter<K, V, A> {
+    /// Hands out the pair at an end.
+    #[inline(always)]
+    fn hand_out(&mut self, end: End) -> Option<Result<(K, V), UnclonedKey<V>>>
+        ensures { HandsOut K.is_clone K.is_infallible end self.old result self.new }
+    {
+        // The length tells the proof that the list is sound.
+        let _values = self.values.len();
+        let Some(place) = place_at_end(&self.values, end) else {
+            return None;
+        };
+        Some(take_cloning(&self.keys, &mut self.values, place))
+    }
+}
+
 impl<K: Clone, V: Drop, A: Allocator> Iterator for IntoIter<K, V, A> {
     type Item = Result<(K, V), UnclonedKey<V>>;
 
@@ -148,12 +164,7 @@ impl<K: Clone, V: Drop, A: Allocator> Iterator for IntoIter<K, V, A> {
     ghost remaining = { λ s. at_most (length s) };
 
     fn next(&mut self) -> Option<Result<(K, V), UnclonedKey<V>>> {
-        // The length tells the proof that the list is sound.
-        let _values = self.values.len();
-        let Some(place) = self.values.front_place() else {
-            return None;
-        };
-        Some(take_cloning(&self.keys, &mut self.values, place))
+        self.hand_out(End::Front)
     }
 
     fn size_hint(&self) -> (usize, Option<usize>)
@@ -167,12 +178,7 @@ impl<K: Clone, V: Drop, A: Allocator> DoubleEndedIterator for IntoIter<K, V, A> 
     ghost next_back_gives = { HandsLast K.is_clone K.is_infallible };
 
     fn next_back(&mut self) -> Option<Result<(K, V), UnclonedKey<V>>> {
-        // The length tells the proof that the list is sound.
-        let _values = self.values.len();
-        let Some(place) = self.values.back_place() else {
-            return None;
-        };
-        Some(take_cloning(&self.keys, &mut self.values, place))
+        self.hand_out(End::Back)
     }
 }
 
