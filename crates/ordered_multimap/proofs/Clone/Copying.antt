@@ -1,8 +1,8 @@
 -- What one step of a clone leaves of the copies: one more stands last.
-use Rattle.std.proofs.Common.{◌≡◌, ℕ, ◌<◌, List, [], ◌∷◌, ◌++◌, length, Option, None, Some, refl, sym, ◌∙◌, subst}
+use Rattle.std.proofs.Common.{◌≡◌, ℕ, ◌<◌, List, [], ◌∷◌, ◌++◌, length, Option, None, Some, refl, sym, ◌∙◌, subst, arith}
 use Rattle.std.specs.Ordering.{nat_cmp}
 use Rattle.std.specs.FinMap.{FinMap}
-use Rattle.multimap_slots.specs.Lists.{AreDistinct, first_of, next_of}
+use Rattle.multimap_slots.specs.Lists.{AreDistinct, IsIn, first_of, next_of}
 use Rattle.multimap_slots.specs.Slots.{Slots, IsEmpty}
 use Rattle.multimap_walks.specs.declared.links.KeyLink.{KeyLink}
 use Rattle.multimap_walks.specs.declared.links.ValueLink.{ValueLink}
@@ -10,7 +10,8 @@ use Rattle.ordered_multimap.specs.Private.Copies.{AreRanks, CopiesKey, CopiesVal
 use Rattle.ordered_multimap.specs.Private.KeyRelocations.{HaveNewPlaces, new_place_in}
 use Rattle.ordered_multimap.proofs.Agreement.NewPlaces.{noted-step, places-length, places-start, places-step}
 use Rattle.ordered_multimap.proofs.Clone.Passing.{HasPassed, passing-end, passing-listed, passing-new, passing-position, passing-start}
-use Rattle.ordered_multimap.proofs.Clone.Passing.{passing-step}
+use Rattle.ordered_multimap.proofs.Clone.Passing.{passing-fewer, passing-smaller, passing-step}
+use Rattle.ordered_multimap.proofs.Callers.Places.{places_from}
 
 -- the places that are passed were copied, and this one follows
 pub record AreCopying {T L : Type 0} (Stands : ℕ → Option T → Option L → Type 0) (name : ℕ → ℕ) (order : List ℕ)
@@ -32,6 +33,21 @@ module _ {T L : Type 0} {Stands : ℕ → Option T → Option L → Type 0} wher
       → AreCopying Stands name order following copies → following ≡ None → HaveNewPlaces Stands name order copies
   copying-end {name} {copies = copies} w none = subst (λ ps. HaveNewPlaces Stands name ps copies) (passing-end w.passed none) w.have
 
+-- the place that follows is listed, fewer items were copied than are listed, and a step on leaves fewer
+pub record FollowsNext {T L : Type 0} (order : List ℕ) (following : Option ℕ) (copies : Slots T L) (place : ℕ) : Type 0 where
+  pub listed : IsIn place order
+  pub fewer : length copies.order < length order
+  pub smaller : (next : Option ℕ) → next ≡ next_of order place → places_from order next < places_from order following
+
+pub follows_next : {T L : Type 0} {Stands : ℕ → Option T → Option L → Type 0} {name : ℕ → ℕ} {order : List ℕ} {following : Option ℕ}
+    {copies : Slots T L} → AreDistinct order → AreCopying Stands name order following copies → (place : ℕ) → following ≡ Some place
+    → FollowsNext order following copies place
+follows_next distinct w place here = record {
+  listed = passing-listed distinct w.passed place here;
+  fewer = omega (arith, places-length w.have, passing-fewer distinct w.passed place here);
+  smaller = passing-smaller distinct w.passed place here;
+}
+
 module _ {order : List ℕ} {following : Option ℕ} (distinct : AreDistinct order) (place : ℕ) (here : following ≡ Some place)
     (next : Option ℕ)
     (next_is : next ≡ next_of order place) where
@@ -50,7 +66,8 @@ module _ {order : List ℕ} {following : Option ℕ} (distinct : AreDistinct ord
   -- one more value, at the place of its rank
   pub values-step : {V : Type 0} {is_clone : V → V → Type 0} {name : ℕ
       → ℕ} {values copies copies_after : Slots V ValueLink} {ranks : List ℕ}
-      {to : ℕ} → AreRanks order ranks → AreCopying (IsValueCopy is_clone name (new_place_in ranks) values) (new_place_in ranks) order following copies
+      {to : ℕ} → AreRanks order ranks
+      → AreCopying (IsValueCopy is_clone name (new_place_in ranks) values) (new_place_in ranks) order following copies
       → CopiesValue is_clone name (new_place_in ranks) values copies copies_after place to → to ≡ length copies.order
       → AreCopying (IsValueCopy is_clone name (new_place_in ranks) values) (new_place_in ranks) order next copies_after
   values-step {copies = copies} {to = to} are w copied behind = record {

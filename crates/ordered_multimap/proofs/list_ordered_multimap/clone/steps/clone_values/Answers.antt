@@ -1,8 +1,8 @@
 use Rattle.std.proofs.Common.{arith}
 use Rattle.ordered_multimap.proofs.Append.Steps.{room_on, room_same}
-use Rattle.ordered_multimap.proofs.Agreement.NewPlaces.{places-length}
-use Rattle.ordered_multimap.proofs.Clone.Copying.{copying-end, copying-start, values-step}
-use Rattle.ordered_multimap.proofs.Clone.Passing.{passing-fewer, passing-listed, passing-smaller}
+use Rattle.ordered_multimap.proofs.Clone.Copying.{FollowsNext, copying-end, copying-start, follows_next, values-step}
+use Rattle.ordered_multimap.proofs.list_ordered_multimap.clone.steps.clone_values.Given.{Over}
+use Rattle.ordered_multimap.proofs.list_ordered_multimap.clone.steps.clone_values.Goals.{In-Some}
 use Rattle.ordered_multimap.proofs.list_ordered_multimap.clone.steps.clone_values.Goals as goal
 
 pub loop-following-init : goal.loop-following-init
@@ -11,36 +11,26 @@ loop-following-init g c = record {
   room = room_same;
 }
 
+abbrev at : (g : Over) (c : In-Some g)
+    → FollowsNext c.args.values.now.list.order c.loop-following.following c.loop-following.copies.list c.in-Some.place
+at g c = follows_next c.len-len.ensures.sound.distinct c.loop-following.invariant.copying c.in-Some.place c.in-Some.is
+
 pub next_listed_place-following-requires : goal.next_listed_place-following-requires
-next_listed_place-following-requires g c =
-    passing-listed c.len-len.ensures.sound.distinct c.loop-following.invariant.copying.passed c.in-Some.place c.in-Some.is
+next_listed_place-following-requires g c = (at g c).listed
 
-pub clone_value-requires-clause-listed : goal.clone_value-requires-clause-listed
-clone_value-requires-clause-listed g c =
-    passing-listed c.len-len.ensures.sound.distinct c.loop-following.invariant.copying.passed c.in-Some.place c.in-Some.is
-
-pub clone_value-requires-clause-ranked : goal.clone_value-requires-clause-ranked
-clone_value-requires-clause-ranked g c =
-    λ l is. c.requires.ranked c.in-Some.place l
-    (passing-listed c.len-len.ensures.sound.distinct c.loop-following.invariant.copying.passed c.in-Some.place c.in-Some.is) is
-
-pub clone_value-requires-clause-end_room : goal.clone_value-requires-clause-end_room
-clone_value-requires-clause-end_room g c =
-    let w = c.loop-following.invariant in
-    omega (
-      arith,
-      passing-fewer c.len-len.ensures.sound.distinct w.copying.passed c.in-Some.place c.in-Some.is,
-      places-length w.copying.have,
-      w.room.counts.holes,
-      w.room.capacity,
-      c.requires.no_hole,
-      c.requires.room,
-    )
+pub clone_value-requires : goal.clone_value-requires
+clone_value-requires g c =
+    let room = c.loop-following.invariant.room in
+    let a = at g (goal.at.clone_value-requires g c).In-Some in
+    record {
+      listed = a.listed;
+      ranked = λ l is. c.requires.ranked c.in-Some.place l a.listed is;
+      end_room = omega (arith, a.fewer, room.counts.holes, room.capacity, c.requires.no_hole, c.requires.room);
+    }
 
 pub loop-following-smaller : goal.loop-following-smaller
 loop-following-smaller g c =
-    passing-smaller c.len-len.ensures.sound.distinct c.loop-following.invariant.copying.passed c.in-Some.place c.in-Some.is
-    c.next_listed_place-following.result c.next_listed_place-following.ensures
+    (at g (goal.at.loop-following-smaller g c).In-Some).smaller c.next_listed_place-following.result c.next_listed_place-following.ensures
 
 pub loop-following-preserved : goal.loop-following-preserved
 loop-following-preserved g c =
