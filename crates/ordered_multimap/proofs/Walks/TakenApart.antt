@@ -18,41 +18,34 @@ use Rattle.ordered_multimap.specs.Private.RemoveOne.{end_of_list}
 use Rattle.ordered_multimap.specs.declared.list_ordered_multimap.refused.UnclonedKey.{UnclonedKey}
 use Rattle.ordered_multimap.proofs.Remove.AtEnds.{at_end, pairs_of-without}
 
-module _ {K V : Type 0} (keys : Slots K KeyLink) (values : Slots V ValueLink) (place : ℕ) where
-  -- the pair of a value by its link
-  pub pair_here : (l : ValueLink) (k : K) (v : V) → link_at values place ≡ Some l → item_at keys l.key ≡ Some k
-      → item_at values place ≡ Some v
-      → pair_at keys values place ≡ Some (k, v)
-  pair_here l k v link_is key_is value_is = rw (value_is, link_is, key_is) refl
+module _ {K V : Type 0} (keys : Slots K KeyLink) (values : Slots V ValueLink) (place : ℕ) (values_after : Slots V ValueLink)
+    (order : values_after.order ≡ without values.order place) (others : KeepsOthers values values_after place) where
+  stays : (q : ℕ) → IsIn q values_after.order → IsIn q values.order × (q ≢ place)
+  stays q member = IsIn-without q values.order place (subst (IsIn q) order member)
 
-  module _ (values_after : Slots V ValueLink) (order : values_after.order ≡ without values.order place)
-      (others : KeepsOthers values values_after place) where
-    stays : (q : ℕ) → IsIn q values_after.order → IsIn q values.order × (q ≢ place)
-    stays q member = IsIn-without q values.order place (subst (IsIn q) order member)
+  -- the keys of those that are left are still listed
+  pub owned_left : AreOwned keys values → AreOwned keys values_after
+  owned_left owned q l member is = let was = stays q member in owned q l was.0 (sym (others.links q was.1) ∙ is)
 
-    -- the keys of those that are left are still listed
-    pub owned_left : AreOwned keys values → AreOwned keys values_after
-    owned_left owned q l member is = let was = stays q member in owned q l was.0 (sym (others.links q was.1) ∙ is)
+  pair_at-kept : (q : ℕ) → q ≢ place → pair_at keys values_after q ≡ pair_at keys values q
+  pair_at-kept q differs = rw (others.items q differs, others.links q differs) refl
 
-    pair_at-kept : (q : ℕ) → q ≢ place → pair_at keys values_after q ≡ pair_at keys values q
-    pair_at-kept q differs = rw (others.items q differs, others.links q differs) refl
+  pairs_left : pairs_of keys values_after ≡ filter_map (pair_at keys values) (without values.order place)
+  pairs_left = pairs_of-without keys keys values values_after place order (λ q member. pair_at-kept q (stays q member).1)
 
-    pairs_left : pairs_of keys values_after ≡ filter_map (pair_at keys values) (without values.order place)
-    pairs_left = pairs_of-without keys keys values values_after place order (λ q member. pair_at-kept q (stays q member).1)
-
-    -- the pair at an end is handed out, and the others are left
-    pub hands_out : (is_clone : K → K → Type 0) (is_infallible : K → Type 0) (end : End) → AreDistinct values.order
-        → end_of_list end values.order ≡ Some place
-        → (given : Result (K × V) (UnclonedKey V)) → MatchOption (pair_at keys values place) ⊥ (IsHanded is_clone is_infallible given)
-        → HandsOut is_clone is_infallible end (pairs_of keys values) (Some given) (pairs_of keys values_after)
-    hands_out is_clone is_infallible end distinct at given handed = from (pair_at keys values place) refl handed
-      where
-        from : (o : Option (K × V)) → pair_at keys values place ≡ o → MatchOption o ⊥ (IsHanded is_clone is_infallible given)
-            → HandsOut is_clone is_infallible end (pairs_of keys values) (Some given) (pairs_of keys values_after)
-        from None is none = absurd none
-        from (Some pair) is pair_handed =
-            let e = at_end (pair_at keys values) end values.order place pair distinct at is in
-            (subst (λ o. MatchOption o ⊥ (IsHanded is_clone is_infallible given)) (sym e.item) pair_handed, pairs_left ∙ e.left)
+  -- the pair at an end is handed out, and the others are left
+  pub hands_out : (is_clone : K → K → Type 0) (is_infallible : K → Type 0) (end : End) → AreDistinct values.order
+      → end_of_list end values.order ≡ Some place
+      → (given : Result (K × V) (UnclonedKey V)) → MatchOption (pair_at keys values place) ⊥ (IsHanded is_clone is_infallible given)
+      → HandsOut is_clone is_infallible end (pairs_of keys values) (Some given) (pairs_of keys values_after)
+  hands_out is_clone is_infallible end distinct at given handed = from (pair_at keys values place) refl handed
+    where
+      from : (o : Option (K × V)) → pair_at keys values place ≡ o → MatchOption o ⊥ (IsHanded is_clone is_infallible given)
+          → HandsOut is_clone is_infallible end (pairs_of keys values) (Some given) (pairs_of keys values_after)
+      from None is none = absurd none
+      from (Some pair) is pair_handed =
+          let e = at_end (pair_at keys values) end values.order place pair distinct at is in
+          (subst (λ o. MatchOption o ⊥ (IsHanded is_clone is_infallible given)) (sym e.item) pair_handed, pairs_left ∙ e.left)
 
 -- fewer pairs are left behind a step that hands one out
 module _ {K V : Type 0} (is_clone : K → K → Type 0) (is_infallible : K → Type 0) where
