@@ -19,12 +19,18 @@ use Rattle.multimap_walks.specs.Chained.{position_in, is_value_of, chain_of, pos
 use Rattle.ordered_multimap.specs.Pairs.{all_positions, values_of, values_where, positions_of, is_present}
 use Rattle.ordered_multimap.specs.Keys.{is_listed, stored_key}
 use Rattle.ordered_multimap.specs.Agrees.{Agrees, HasKey, items_of, lists_of}
+use Rattle.ordered_multimap.specs.Multimap.{Multimap}
 use Rattle.ordered_multimap.proofs.Callers.Members.{IsIn-kept}
 use Rattle.ordered_multimap.proofs.Callers.Places.{held, length-filter_map, IsIn-filter_map, begins}
 use Rattle.ordered_multimap.proofs.Callers.Laws.{end_item-push}
 use Rattle.ordered_multimap.proofs.Callers.ListedKeys.{is_listed-member, stored_key_only}
 use Rattle.ordered_multimap.proofs.Callers.WellFormed.{is_present-keys}
 use Rattle.ordered_multimap.proofs.Agreement.Agreed.{PairAt, pair_in, is_value_of-is, well_formed}
+
+-- a place that is listed in a map is listed in the storage that the map shows
+pub listed_inside : {K V S : Type 0} {shown m : Multimap K V S} (place : ℕ) → shown ≡ m → IsIn place m.slots.keys.order
+    → IsIn place shown.slots.keys.order
+listed_inside place view_is listed = subst (λ m. IsIn place m.slots.keys.order) (sym view_is) listed
 
 -- the table finds each key by the hash of its link, which is that of the key
 pub record AreKeyed {K : Type 0} (eq : K → K → Bool) (hash : K → ℕ) (keys : Slots K KeyLink)

@@ -28,6 +28,7 @@ use Rattle.ordered_multimap.proofs.Append.Appended.{stays_paid}
 use Rattle.ordered_multimap.proofs.Agreement.Kept.{filter-among, keys_of-without, is_listed-equal}
 use Rattle.ordered_multimap.proofs.Callers.ListedKeys.{is_listed-self, is_listed-member, stored_key_member}
 use Rattle.ordered_multimap.proofs.Callers.Members.{filter-all}
+use Rattle.ordered_multimap.proofs.Agreement.LookUps.{own_key}
 use Rattle.ordered_multimap.proofs.Remove.OneValue.{agrees-one, items_of-one, has_item-one, pair_at-one}
 use Rattle.ordered_multimap.proofs.Callers.Places.{IsIn-filter_map}
 use Rattle.ordered_multimap.proofs.Remove.WholeKeys.{agrees-taken, fits-taken, lists_of-taken, pair_at-taken}
@@ -73,11 +74,13 @@ has_entry agrees place listed = record {
 -- a map stays one where a key has left with its values
 pub map_left : {K V : Type 0} {eq : K → K → Bool} (laws : IsEquivalence eq) {hash : K → ℕ} {keys keys_after : Slots K KeyLink}
     {table table_after : Table} {values values_after : Taped V ValueLink} {keeps : Bool} {gives : V → Type 0} {key : K} {ends : ChainEnds}
-    → IsMap eq hash keys table.rows values → (k : K) (place : ℕ) → HasKey eq keys k place
+    → IsMap eq hash keys table.rows values → (place : ℕ) → IsIn place keys.order
     → UnlinksEntry keeps gives keys keys_after table table_after values values_after place key ends
     → IsMap eq hash keys_after table_after.rows values_after
-map_left laws {table_after = table_after} {values = values} {values_after = values_after} m k place has t = record {
-  agrees = agrees-taken laws m.agrees k place has t.entry.taken t.entry.removed table_after.rows t.entry.rows_are;
+map_left laws {table_after = table_after} {values = values} {values_after = values_after} m place listed t = record {
+  agrees =
+      let own = own_key laws m.agrees place listed in
+      agrees-taken laws m.agrees own.0 place own.1 t.entry.taken t.entry.removed table_after.rows t.entry.rows_are;
   fits = fits-taken values values_after t.entry.taken m.fits;
   paid = stays_paid t.counts m.paid;
 }

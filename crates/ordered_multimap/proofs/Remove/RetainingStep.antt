@@ -4,18 +4,34 @@ use Rattle.std.specs.Cmp.{IsEquivalence}
 use Rattle.std.specs.Ordering.{nat_cmp}
 use Rattle.std.specs.FinMap.{FinMap}
 use Rattle.multimap_slots.specs.Lists.{next_of}
-use Rattle.multimap_slots.specs.Slots.{Slots, with_item}
-use Rattle.multimap_slots.specs.Tapes.{Taped}
+use Rattle.multimap_slots.specs.Slots.{Slots, item_at, link_at, with_item}
+use Rattle.multimap_slots.specs.Tapes.{Taped, with_list}
 use Rattle.multimap_table.specs.Table.{Table}
 use Rattle.multimap_walks.specs.declared.links.KeyLink.{KeyLink}
 use Rattle.multimap_walks.specs.declared.links.ValueLink.{ValueLink}
 use Rattle.ordered_multimap.specs.Agrees.{Agrees}
 use Rattle.ordered_multimap.specs.Private.RemoveOne.{TakesPair}
 use Rattle.ordered_multimap.specs.Private.Retain.{Asks, RetainsAt, StaysIf}
+use Rattle.ordered_multimap.proofs.Agreement.Agreed.{pair_at-is}
 use Rattle.ordered_multimap.proofs.Callers.Places.{places_from}
 use Rattle.ordered_multimap.proofs.Remove.OnePair.{leaves_at}
 use Rattle.ordered_multimap.proofs.Remove.Retaining.{IsRetaining, Continues, Turned, continues, turned_stays, turned_leaves}
 use Rattle.ordered_multimap.proofs.Remove.Retaining.{listed_place, one_fewer, places_from-rest}
+
+-- a call on the key that the link of a value names, and on the value, is one on their pair
+module _ {F K V : Type 0} (calls : F → K → V → Bool → V → F → Type 0) {keys : Slots K KeyLink} {values asked : Taped V ValueLink}
+    {place : ℕ} {f g : F} {b : Bool} {link : ValueLink} {key : K} {was left : V} where
+  pub asks_by_link : link_at values.list place ≡ Some link → item_at keys link.key ≡ Some key → item_at values.list place ≡ Some was
+      → calls f key was b left g → asked ≡ with_list values (with_item values.list place left)
+      → Asks calls keys values asked place f b g
+  asks_by_link link_is key_is was_is called written = record {
+    key = key;
+    was = was;
+    left = left;
+    pair = pair_at-is keys values.list place link key was link_is key_is was_is;
+    called = called;
+    written = written;
+  }
 
 -- a pair that was only written stays
 pub stays_written : {F K V : Type 0} {calls : F → K → V → Bool → V → F → Type 0} {keys : Slots K KeyLink} {table : Table}

@@ -1,27 +1,27 @@
 use Rattle.std.proofs.Common.{◌/◌, IfErr, OnOk, IsOk, refl, sym, subst}
-use Rattle.multimap_slots.specs.Lists.{IsIn}
 use Rattle.ordered_multimap.specs.Additions.{IsAppendedAt, RefusesValue}
 use Rattle.ordered_multimap.specs.Private.KeySteps.{KeepsPlace}
-use Rattle.ordered_multimap.specs.Rooms.{HasValueRoom}
+use Rattle.ordered_multimap.specs.Rooms.{GrowsForValue, HasValueRoom}
 use Rattle.ordered_multimap.proofs.Remove.OnePair.{has_chain}
-use Rattle.ordered_multimap.proofs.Agreement.LookUps.{own_key}
+use Rattle.ordered_multimap.proofs.Agreement.LookUps.{listed_inside, own_key}
 use Rattle.ordered_multimap.proofs.Append.Appended.{behind_agrees, behind_lists, refused_lists, stays_paid}
 use Rattle.ordered_multimap.proofs.Agreement.StayingKeys.{behind_stays}
 use Rattle.ordered_multimap.proofs.Agreement.Agreed.{value_room}
 use Rattle.ordered_multimap.proofs.Append.Rooms.{both_on_err, fits_value, grows_there, if_err-map, map_of, on_ok-map}
+use Rattle.ordered_multimap.proofs.list_ordered_multimap.ListOrderedMultimap.append_at.Given.{Over}
+use Rattle.ordered_multimap.proofs.list_ordered_multimap.ListOrderedMultimap.append_at.Goals.{After-append_behind}
 use Rattle.ordered_multimap.proofs.list_ordered_multimap.ListOrderedMultimap.append_at.Goals as goal
 
 pub append_behind-requires : goal.append_behind-requires
 append_behind-requires g c = record {
   chain = has_chain c.self.invariant.agrees c.args.place
-      (subst (λ m. IsIn c.args.place m.slots.keys.order) (sym c.self.view_is) c.requires);
+      (listed_inside _ c.self.view_is c.requires);
 }
 
 pub invariant_of-self : goal.invariant_of-self
 invariant_of-self g c =
     let agrees = c.self.invariant.agrees in
-    let own = own_key g.met.K.Eq.laws agrees c.args.place
-    (subst (λ m. IsIn c.args.place m.slots.keys.order) (sym c.self.view_is) c.requires) in
+    let own = own_key g.met.K.Eq.laws agrees c.args.place (listed_inside _ c.self.view_is c.requires) in
     let e = c.append_behind.ensures in
     record {
       agrees = behind_agrees g.met.K.Eq.laws agrees own.0 c.args.value _ _ c.args.place own.1 c.append_behind.result e.ok e.unchanged;
@@ -31,8 +31,7 @@ invariant_of-self g c =
 
 pub returns-clause-stays : goal.returns-clause-stays
 returns-clause-stays g c =
-    let own = own_key g.met.K.Eq.laws c.self.invariant.agrees c.args.place
-    (subst (λ m. IsIn c.args.place m.slots.keys.order) (sym c.self.view_is) c.requires) in
+    let own = own_key g.met.K.Eq.laws c.self.invariant.agrees c.args.place (listed_inside _ c.self.view_is c.requires) in
     let e = c.append_behind.ensures in
     let n = c.append_behind.new in
     subst (λ m. KeepsPlace g.K.PartialEq.eq m (map_of n.keys c.self.inside.table.capacity n.values c.self.inside.state c.self.inside.left)
@@ -44,6 +43,17 @@ returns-clause-stays g c =
           e.unchanged;
     })
 
+-- whether the value was appended or refused
+abbrev grows : (g : Over) (c : After-append_behind g) → GrowsForValue
+    (map_of c.self.inside.keys c.self.inside.table.capacity c.self.inside.values c.self.inside.state c.self.inside.left)
+    (map_of c.append_behind.new.keys c.self.inside.table.capacity c.append_behind.new.values c.self.inside.state c.self.inside.left)
+grows g c =
+    let i = c.self.inside in
+    let n = c.append_behind.new in
+    let e = c.append_behind.ensures in
+    grows_there i.keys i.table.rows i.values c.self.invariant.agrees i.table.capacity i.state i.left n.keys i.table.capacity n.values i.left
+    e.values.no_less e.values.had_room e.values.doubles e.keys_capacity refl
+
 pub returns-clause-ok : goal.returns-clause-ok
 returns-clause-ok g c =
     let i = c.self.inside in
@@ -54,9 +64,7 @@ returns-clause-ok g c =
     (map_of n.keys i.table.capacity n.values i.state i.left))) c.self.view_is
     (on_ok-map (λ lists. record {
       lists = lists;
-      grows =
-          grows_there i.keys i.table.rows i.values agrees i.table.capacity i.state i.left n.keys i.table.capacity n.values i.left
-          e.values.no_less e.values.had_room e.values.doubles e.keys_capacity refl;
+      grows = grows g c;
       taken = e.values.taken;
     }) c.append_behind.result (behind_lists g.met.K.Eq.laws agrees _ _ c.args.value c.args.place c.append_behind.result e.ok))
 
@@ -66,17 +74,14 @@ returns-clause-refused g c =
     let n = c.append_behind.new in
     let e = c.append_behind.ensures in
     let agrees = c.self.invariant.agrees in
-    let own = own_key g.met.K.Eq.laws agrees c.args.place
-    (subst (λ m. IsIn c.args.place m.slots.keys.order) (sym c.self.view_is) c.requires) in
+    let own = own_key g.met.K.Eq.laws agrees c.args.place (listed_inside _ c.self.view_is c.requires) in
     let after = behind_agrees g.met.K.Eq.laws agrees own.0 c.args.value _ _ c.args.place own.1 c.append_behind.result e.ok e.unchanged in
     subst (λ m. IfErr c.append_behind.result (RefusesValue c.args.value m
     (map_of n.keys i.table.capacity n.values i.state i.left))) c.self.view_is
     (if_err-map (λ r kept returned. record {
       returned = returned;
       lists = kept.0;
-      grows =
-          grows_there i.keys i.table.rows i.values agrees i.table.capacity i.state i.left n.keys i.table.capacity n.values i.left
-          e.values.no_less e.values.had_room e.values.doubles e.keys_capacity refl;
+      grows = grows g c;
       taken = e.values.taken;
       full = λ room. kept.1 (value_room after (n.values.list.capacity / 2) room);
     }) c.append_behind.result (both_on_err _ _ c.append_behind.result
@@ -87,8 +92,7 @@ pub returns-clause-succeeds : goal.returns-clause-succeeds
 returns-clause-succeeds g c =
     let i = c.self.inside in
     let agrees = c.self.invariant.agrees in
-    let own = own_key g.met.K.Eq.laws agrees c.args.place
-    (subst (λ m. IsIn c.args.place m.slots.keys.order) (sym c.self.view_is) c.requires) in
+    let own = own_key g.met.K.Eq.laws agrees c.args.place (listed_inside _ c.self.view_is c.requires) in
     subst (λ m. HasValueRoom m → IsOk c.append_behind.result) c.self.view_is
     (λ room. c.append_behind.ensures.hands_back.succeeds
     (fits_value g.met.K.Eq.laws i.keys i.table.rows i.values agrees i.table.capacity i.state i.left own.0 room))

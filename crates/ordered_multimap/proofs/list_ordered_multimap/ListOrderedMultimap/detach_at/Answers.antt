@@ -1,5 +1,4 @@
 use Rattle.std.proofs.Common.{◌≡◌, refl, sym, ◌∙◌, subst}
-use Rattle.multimap_slots.specs.Lists.{IsIn}
 use Rattle.ordered_multimap.specs.Keys.{stored_key}
 use Rattle.ordered_multimap.specs.Changes.{removed}
 use Rattle.ordered_multimap.specs.TapeNumbers.{TakesOut, numbers_of}
@@ -7,19 +6,17 @@ use Rattle.ordered_multimap.specs.Agrees.{HasKey}
 use Rattle.ordered_multimap.specs.Private.KeySteps.{DetachesValues, HoldsInRoom}
 use Rattle.ordered_multimap.proofs.Remove.OnePair.{has_entry, map_left}
 use Rattle.ordered_multimap.proofs.Append.Rooms.{map_of, same_rooms}
-use Rattle.ordered_multimap.proofs.Agreement.LookUps.{own_key, values_of-chain}
+use Rattle.ordered_multimap.proofs.Agreement.LookUps.{listed_inside, values_of-chain}
 use Rattle.ordered_multimap.proofs.Remove.WholeKeys.{entry_count, lists_of-taken, removed_key}
 use Rattle.ordered_multimap.proofs.list_ordered_multimap.ListOrderedMultimap.detach_at.Goals as goal
 
 pub unlink_entry-key-requires : goal.unlink_entry-key-requires
 unlink_entry-key-requires g c =
-    has_entry c.self.invariant.agrees c.args.place (subst (λ m. IsIn c.args.place m.slots.keys.order) (sym c.self.view_is) c.requires)
+    has_entry c.self.invariant.agrees c.args.place (listed_inside _ c.self.view_is c.requires)
 
 pub invariant_of-self : goal.invariant_of-self
 invariant_of-self g c =
-    let own = own_key g.met.K.Eq.laws c.self.invariant.agrees c.args.place
-    (subst (λ m. IsIn c.args.place m.slots.keys.order) (sym c.self.view_is) c.requires) in
-    map_left g.met.K.Eq.laws c.self.invariant own.0 c.args.place own.1 c.unlink_entry-key.ensures
+    map_left g.met.K.Eq.laws c.self.invariant c.args.place (listed_inside _ c.self.view_is c.requires) c.unlink_entry-key.ensures
 
 pub returns-clause-detached : goal.returns-clause-detached
 returns-clause-detached g c =

@@ -1,5 +1,4 @@
 use Rattle.std.proofs.Common.{◌≡◌, Some, slice_get, refl, sym, subst}
-use Rattle.multimap_slots.specs.Lists.{IsIn}
 use Rattle.ordered_multimap.specs.Pairs.{values_of}
 use Rattle.ordered_multimap.specs.Changes.{inserted}
 use Rattle.ordered_multimap.specs.TapeNumbers.{TakesOut, numbers_of}
@@ -8,7 +7,7 @@ use Rattle.ordered_multimap.specs.Private.KeySteps.{StaysInRoom}
 use Rattle.ordered_multimap.specs.Removals.{LosesValues}
 use Rattle.ordered_multimap.proofs.Remove.OnePair.{has_fitting_chain}
 use Rattle.ordered_multimap.proofs.Append.Rooms.{map_of, same_rooms}
-use Rattle.ordered_multimap.proofs.Agreement.LookUps.{own_key}
+use Rattle.ordered_multimap.proofs.Agreement.LookUps.{listed_inside, own_key}
 use Rattle.ordered_multimap.proofs.Agreement.StayingKeys.{inserted_stays}
 use Rattle.ordered_multimap.proofs.Append.Appended.{stays_paid}
 use Rattle.ordered_multimap.proofs.Append.Inserted.{agrees-inserted, lists_of-inserted, first_of-inserted}
@@ -17,13 +16,12 @@ use Rattle.ordered_multimap.proofs.list_ordered_multimap.ListOrderedMultimap.ins
 
 pub insert_behind-requires : goal.insert_behind-requires
 insert_behind-requires g c = has_fitting_chain c.self.invariant c.args.place
-    (subst (λ m. IsIn c.args.place m.slots.keys.order) (sym c.self.view_is) c.requires)
+    (listed_inside _ c.self.view_is c.requires)
 
 pub invariant_of-self : goal.invariant_of-self
 invariant_of-self g c =
     let i = c.insert_behind.ensures.inserted.1 in
-    let own = own_key g.met.K.Eq.laws c.self.invariant.agrees c.args.place
-    (subst (λ m. IsIn c.args.place m.slots.keys.order) (sym c.self.view_is) c.requires) in
+    let own = own_key g.met.K.Eq.laws c.self.invariant.agrees c.args.place (listed_inside _ c.self.view_is c.requires) in
     record {
       agrees = agrees-inserted g.met.K.Eq.laws c.self.invariant.agrees own.0 c.args.value c.args.place own.1 i.done;
       fits = i.fits;
@@ -35,8 +33,7 @@ returns-clause-stays g c =
     let e = c.insert_behind.ensures in
     let n = c.insert_behind.new in
     let i = c.self.inside in
-    let own = own_key g.met.K.Eq.laws c.self.invariant.agrees c.args.place
-    (subst (λ m. IsIn c.args.place m.slots.keys.order) (sym c.self.view_is) c.requires) in
+    let own = own_key g.met.K.Eq.laws c.self.invariant.agrees c.args.place (listed_inside _ c.self.view_is c.requires) in
     subst (λ m. StaysInRoom g.K.PartialEq.eq m (map_of n.keys i.table.capacity n.values i.state i.left) c.args.place) c.self.view_is
     (record {
       place_stays = record {

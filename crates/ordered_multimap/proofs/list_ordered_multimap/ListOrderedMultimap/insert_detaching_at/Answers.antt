@@ -1,12 +1,11 @@
 use Rattle.std.proofs.Common.{sym, subst, true≢false, refl}
-use Rattle.multimap_slots.specs.Lists.{IsIn}
 use Rattle.ordered_multimap.specs.Changes.{inserted}
 use Rattle.ordered_multimap.specs.TapeNumbers.{TakesOut, numbers_of}
 use Rattle.ordered_multimap.specs.Rooms.{HasValueRoom, RaisesNoRoom}
 use Rattle.ordered_multimap.specs.Agrees.{HasKey}
 use Rattle.ordered_multimap.specs.Private.KeySteps.{DetachesValues, KeepsBothLists}
 use Rattle.ordered_multimap.proofs.Remove.OnePair.{has_fitting_chain}
-use Rattle.ordered_multimap.proofs.Agreement.LookUps.{own_key}
+use Rattle.ordered_multimap.proofs.Agreement.LookUps.{listed_inside, own_key}
 use Rattle.ordered_multimap.proofs.Agreement.StayingKeys.{inserted_stays, relocated_stays}
 use Rattle.ordered_multimap.proofs.Append.Appended.{agrees_reserved, lists_reserved, stays_paid}
 use Rattle.ordered_multimap.proofs.Append.Rooms.{map_of, fits_value, grows_there, on_err, raises_none}
@@ -17,7 +16,7 @@ use Rattle.ordered_multimap.proofs.list_ordered_multimap.ListOrderedMultimap.ins
 
 pub insert_behind_all-requires : goal.insert_behind_all-requires
 insert_behind_all-requires g c = has_fitting_chain c.self.invariant c.args.place
-    (subst (λ m. IsIn c.args.place m.slots.keys.order) (sym c.self.view_is) c.requires)
+    (listed_inside _ c.self.view_is c.requires)
 
 -- refused
 
@@ -41,7 +40,8 @@ returns-in_err-left-clause-unchanged g c =
     let u = (c.in_err-left.ensures {u = tt}).unchanged in
     let n = c.insert_behind_all.new in
     on_err c.from_residual.result
-    (subst (λ m. KeepsBothLists m (map_of n.keys c.self.inside.table.capacity n.values c.self.inside.state c.self.inside.left)) c.self.view_is
+    (subst (λ m. KeepsBothLists m (map_of n.keys c.self.inside.table.capacity n.values c.self.inside.state c.self.inside.left))
+    c.self.view_is
     (record { lists = lists_reserved g.met.K.Eq.laws c.self.invariant.agrees u.relocated; taken = u.counts }))
 
 pub returns-in_err-left-clause-succeeds : goal.returns-in_err-left-clause-succeeds
@@ -49,7 +49,7 @@ returns-in_err-left-clause-succeeds g c = λ room. absurd (true≢false (sym ((c
     (fits_value g.met.K.Eq.laws c.self.inside.keys c.self.inside.table.rows c.self.inside.values c.self.invariant.agrees
     c.self.inside.table.capacity c.self.inside.state c.self.inside.left
     (own_key g.met.K.Eq.laws c.self.invariant.agrees c.args.place
-    (subst (λ m. IsIn c.args.place m.slots.keys.order) (sym c.self.view_is) c.requires)).0
+    (listed_inside _ c.self.view_is c.requires)).0
     (subst (λ m. HasValueRoom m) (sym c.self.view_is) room)))))
 
 pub returns-in_err-left-clause-had_room : goal.returns-in_err-left-clause-had_room
@@ -71,8 +71,7 @@ returns-clause-holds g c = (c.in_ok-left.ensures.ok.drain refl).chain
 pub invariant_of-self-2 : goal.invariant_of-self-2
 invariant_of-self-2 g c =
     let e = c.in_ok-left.ensures in
-    let own = own_key g.met.K.Eq.laws c.self.invariant.agrees c.args.place
-    (subst (λ m. IsIn c.args.place m.slots.keys.order) (sym c.self.view_is) c.requires) in
+    let own = own_key g.met.K.Eq.laws c.self.invariant.agrees c.args.place (listed_inside _ c.self.view_is c.requires) in
     record {
       agrees = agrees-inserted g.met.K.Eq.laws c.self.invariant.agrees own.0 c.args.value c.args.place own.1 e.ok.done;
       fits = e.ok.fits;

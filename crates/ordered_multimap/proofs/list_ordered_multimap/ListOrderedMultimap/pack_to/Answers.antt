@@ -1,44 +1,22 @@
 use Rattle.std.proofs.Common.{◌/◌, length, ap, ◌∙◌, arith}
 use Rattle.ordered_multimap.proofs.Agreement.Agreed.{length-keys, length-pairs}
+use Rattle.ordered_multimap.proofs.Remove.OnePair.{are_chained}
 use Rattle.ordered_multimap.proofs.Pack.RelocatedKeys.{agrees-packed, lists_of-packed, packed_length}
 use Rattle.ordered_multimap.proofs.list_ordered_multimap.ListOrderedMultimap.pack_to.Goals as goal
 
-pub pack-requires-clause-key_room : goal.pack-requires-clause-key_room
-pack-requires-clause-key_room g c =
-    omega (
-      arith,
-      c.requires.keys,
-      ap (λ m. length m.lists.keys) c.self.view_is,
-      length-keys
-          c.self.invariant.agrees,
-      c.in_ok-storage.ensures.key_room,
-    )
-
-pub pack-requires-clause-row_room : goal.pack-requires-clause-row_room
-pack-requires-clause-row_room g c =
-    omega (
-      arith,
-      c.requires.keys,
-      ap (λ m. length m.lists.keys) c.self.view_is,
-      length-keys
-          c.self.invariant.agrees,
-      c.in_ok-storage.ensures.row_room,
-    )
-
-pub pack-requires-clause-value_room : goal.pack-requires-clause-value_room
-pack-requires-clause-value_room g c =
-    omega (
-      arith,
-      c.requires.values,
-      ap (λ m. length m.lists.pairs) c.self.view_is,
-      length-pairs
-          c.self.invariant.agrees,
-      c.in_ok-storage.ensures.value_room,
-    )
-
-pub pack-requires-clause-new_places : goal.pack-requires-clause-new_places
-pack-requires-clause-new_places g c =
-    λ q listed. omega (arith, c.used_slots-places.ensures.above q listed, c.in_ok-storage.ensures.new_places)
+pub pack-requires : goal.pack-requires
+pack-requires g c =
+    let agrees = c.self.invariant.agrees in
+    let s = c.in_ok-storage.ensures in
+    let keys = ap (λ m. length m.lists.keys) c.self.view_is in
+    record {
+      chains = are_chained agrees;
+      empty = s.empty;
+      key_room = omega (arith, c.requires.keys, keys, length-keys agrees, s.key_room);
+      row_room = omega (arith, c.requires.keys, keys, length-keys agrees, s.row_room);
+      value_room = omega (arith, c.requires.values, ap (λ m. length m.lists.pairs) c.self.view_is, length-pairs agrees, s.value_room);
+      new_places = λ q listed. omega (arith, c.used_slots-places.ensures.above q listed, s.new_places);
+    }
 
 pub invariant_of-self : goal.invariant_of-self
 invariant_of-self g c =

@@ -1,5 +1,4 @@
 use Rattle.std.proofs.Common.{◌≡◌, Some, slice_get, option_map, sym, subst}
-use Rattle.multimap_slots.specs.Lists.{IsIn}
 use Rattle.ordered_multimap.specs.Pairs.{values_of}
 use Rattle.ordered_multimap.specs.Keys.{stored_key}
 use Rattle.ordered_multimap.specs.Changes.{removed}
@@ -8,19 +7,17 @@ use Rattle.ordered_multimap.specs.Agrees.{HasKey}
 use Rattle.ordered_multimap.specs.Removals.{LosesValues}
 use Rattle.ordered_multimap.proofs.Remove.OnePair.{has_entry, map_left}
 use Rattle.ordered_multimap.proofs.Append.Rooms.{map_of}
-use Rattle.ordered_multimap.proofs.Agreement.LookUps.{own_key}
+use Rattle.ordered_multimap.proofs.Agreement.LookUps.{listed_inside}
 use Rattle.ordered_multimap.proofs.Remove.WholeKeys.{lists_of-taken, entry_is, entry_count}
 use Rattle.ordered_multimap.proofs.list_ordered_multimap.ListOrderedMultimap.take_entry_at.Goals as goal
 
 pub unlink_entry-key-requires : goal.unlink_entry-key-requires
 unlink_entry-key-requires g c =
-    has_entry c.self.invariant.agrees c.args.place (subst (λ m. IsIn c.args.place m.slots.keys.order) (sym c.self.view_is) c.requires)
+    has_entry c.self.invariant.agrees c.args.place (listed_inside _ c.self.view_is c.requires)
 
 pub invariant_of-self : goal.invariant_of-self
 invariant_of-self g c =
-    let own = own_key g.met.K.Eq.laws c.self.invariant.agrees c.args.place
-    (subst (λ m. IsIn c.args.place m.slots.keys.order) (sym c.self.view_is) c.requires) in
-    map_left g.met.K.Eq.laws c.self.invariant own.0 c.args.place own.1 c.unlink_entry-key.ensures
+    map_left g.met.K.Eq.laws c.self.invariant c.args.place (listed_inside _ c.self.view_is c.requires) c.unlink_entry-key.ensures
 
 pub returns-clause-entry : goal.returns-clause-entry
 returns-clause-entry g c =

@@ -1,8 +1,7 @@
 use Rattle.std.proofs.Common.{◌≡◌, refl, sym, subst}
-use Rattle.multimap_slots.specs.Lists.{IsIn}
 use Rattle.ordered_multimap.specs.Agrees.{HasKey, lists_of}
 use Rattle.ordered_multimap.specs.Private.KeySteps.{StaysInRoom}
-use Rattle.ordered_multimap.proofs.Agreement.LookUps.{own_key}
+use Rattle.ordered_multimap.proofs.Agreement.LookUps.{listed_inside, own_key}
 use Rattle.ordered_multimap.proofs.Append.Rooms.{map_of, same_rooms}
 use Rattle.ordered_multimap.specs.RemovedAt.{removed_at, removable_value_at}
 use Rattle.ordered_multimap.proofs.Append.Appended.{stays_paid}
@@ -25,8 +24,7 @@ returns-clause-stays g c =
     let n = c.take_at.new in
     let i = c.self.inside in
     let stays = stays-at i.keys n.keys c.args.place c.args.index i.values.list n.values.list c.take_at.result c.take_at.ensures.taken in
-    let own = own_key g.met.K.Eq.laws c.self.invariant.agrees c.args.place
-    (subst (λ m. IsIn c.args.place m.slots.keys.order) (sym c.self.view_is) c.requires) in
+    let own = own_key g.met.K.Eq.laws c.self.invariant.agrees c.args.place (listed_inside _ c.self.view_is c.requires) in
     subst (λ m. StaysInRoom g.K.PartialEq.eq m (map_of n.keys i.table.capacity n.values i.state i.left) c.args.place) c.self.view_is
     (record {
       place_stays = record {

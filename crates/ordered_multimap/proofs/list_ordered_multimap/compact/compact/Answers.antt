@@ -19,25 +19,19 @@ loop-to-init g c = record {
   capacities = record { keys_capacity = refl; capacity = refl };
 }
 
-pub move_value-requires-clause-chains : goal.move_value-requires-clause-chains
-move_value-requires-clause-chains g c = chains-relocated c.requires.chains c.loop-to.invariant.relocated
-
-pub move_value-requires-clause-listed : goal.move_value-requires-clause-listed
-move_value-requires-clause-listed g c =
+pub move_value-requires : goal.move_value-requires
+move_value-requires g c =
     let w = c.loop-to.invariant in
-    let x = dense-next c.loop-to.values.list.order c.loop-to.to c.loop-to.following w.dense
+    let order = c.loop-to.values.list.order in
+    let x = dense-next order c.loop-to.to c.loop-to.following w.dense
     (omega (arith, w.same_length, c.loop-to-test.true)) c.len-len.ensures.rises in
     let from_is : c.unwrap_or-from.result ≡ x.from = c.unwrap_or-from.ensures ∙ ap (λ o. unwrap_or o c.loop-to.to) x.is in
-    subst (λ p. IsIn p c.loop-to.values.list.order) (sym from_is)
-    (next-listed c.loop-to.values.list.order c.loop-to.to c.loop-to.following x)
-
-pub move_value-requires-clause-holes : goal.move_value-requires-clause-holes
-move_value-requires-clause-holes g c =
-    let w = c.loop-to.invariant in
-    let x = dense-next c.loop-to.values.list.order c.loop-to.to c.loop-to.following w.dense
-    (omega (arith, w.same_length, c.loop-to-test.true)) c.len-len.ensures.rises in
-    let from_is : c.unwrap_or-from.result ≡ x.from = c.unwrap_or-from.ensures ∙ ap (λ o. unwrap_or o c.loop-to.to) x.is in
-    λ q above below. next-holes c.loop-to.values.list.order c.loop-to.to c.loop-to.following x q above (omega (arith, below, from_is))
+    record {
+      chains = chains-relocated c.requires.chains w.relocated;
+      listed = subst (λ p. IsIn p order) (sym from_is) (next-listed order c.loop-to.to c.loop-to.following x);
+      down = c.if-to-from.true;
+      holes = λ q above below. next-holes order c.loop-to.to c.loop-to.following x q above (omega (arith, below, from_is));
+    }
 
 pub loop-to-preserved : goal.loop-to-preserved
 loop-to-preserved g c =
@@ -53,7 +47,8 @@ loop-to-preserved g c =
           rw (add-one, b.keys-is, b.values-is) (record {
             relocated = record {
               name = λ p. relocated c.unwrap_or-from.result c.loop-to.to (w.relocated.name p);
-              relocates = relocates-then w.relocated.name (relocated c.unwrap_or-from.result c.loop-to.to) w.relocated.relocates m.relocates;
+              relocates = relocates-then w.relocated.name
+                  (relocated c.unwrap_or-from.result c.loop-to.to) w.relocated.relocates m.relocates;
             };
             dense = dense-move order c.loop-to.to c.loop-to.following x _
                 (m.relocates.order ∙ ap (λ p. map (relocated p c.loop-to.to) order) from_is) _ next;
@@ -87,7 +82,11 @@ returns g c =
     (arith, c.len-count.ensures.len, c.loop-to.auto.to-end, c.loop-to-test.false) in
     let same : length c.loop-to.values.list.order ≡ c.loop-to.to = omega (arith, w.same_length, all, c.len-count.ensures.len) in
     record {
-      relocated = record { name = w.relocated.name; relocates = relocates-cut w.relocated.name c.loop-to.values _ w.relocated.relocates cut };
+      relocated = record {
+        name = w.relocated.name;
+        relocates = relocates-cut w.relocated.name c.loop-to.values _ w.relocated.relocates
+            cut;
+      };
       dense = cut.order ∙ dense-all c.loop-to.values.list.order c.loop-to.to c.loop-to.following w.dense same
           ∙ ap places_below all;
       no_hole =
