@@ -140,6 +140,20 @@ module _ {K V : Type 0} (name : ℕ → ℕ) {keys keys_after : Slots K KeyLink}
       let both : Some l ≡ Some (relocated_key name m.value) = sym is ∙ r.key_links key m.value before m.is in
       record { key_listed = before; link = m.value; link_was = m.is; link_is = let same : l ≡ relocated_key name m.value = cc in same }
 
+  -- what is beside a value under its key, on either side, goes along
+  beside : (of : List ℕ → ℕ → Option ℕ) (side : ValueLink → Option ℕ)
+      → ((ps : List ℕ) (q : ℕ) → IsTold name ps q → of (map name ps) (name q) ≡ option_map name (of ps q))
+      → ((l : ValueLink) → side (relocated_value name l) ≡ option_map name (side l))
+      → ((q : ℕ) (l : ValueLink) → IsIn q values.order → link_at values q ≡ Some l → of (chain_of values l.key) q ≡ side l)
+      → (place : ℕ) (l : ValueLink) → IsIn place values_after.order → link_at values_after place ≡ Some l
+      → of (chain_of values_after l.key) place ≡ side l
+  beside of side of-map side_is was place l listed is =
+      let w = was_at place l listed is in
+      ap (λ (x : ValueLink). of (chain_of values_after x.key) place) w.link_is
+      ∙ (λ i. of (chain_of-relocated w.link.key i) (w.place_is i))
+      ∙ of-map (chain_of values w.link.key) w.old (told w.link.key w.old w.old_listed)
+      ∙ ap (option_map name) (was w.old w.link w.old_listed w.link_was) ∙ sym (side_is w.link) ∙ ap side (sym w.link_is)
+
   pub chained-relocated : IsChained keys_after values_after
   chained-relocated = record {
     owned = λ place l listed is.
@@ -157,18 +171,8 @@ module _ {K V : Type 0} (name : ℕ → ℕ) {keys keys_after : Slots K KeyLink}
         let w = was_key key l listed is in
         ap length (chain_of-relocated key) ∙ length-map (chain_of values key) name ∙ chained.length key w.link w.key_listed w.link_was
         ∙ ap (λ (x : KeyLink). x.length) (sym w.link_is);
-    previous = λ place l listed is.
-        let w = was_at place l listed is in
-        ap (λ (x : ValueLink). previous_of (chain_of values_after x.key) place) w.link_is
-        ∙ (λ i. previous_of (chain_of-relocated w.link.key i) (w.place_is i))
-        ∙ previous_of-map name (chain_of values w.link.key) w.old (told w.link.key w.old w.old_listed)
-        ∙ ap (option_map name) (chained.previous w.old w.link w.old_listed w.link_was) ∙ ap (λ (x : ValueLink). x.previous) (sym w.link_is);
-    next = λ place l listed is.
-        let w = was_at place l listed is in
-        ap (λ (x : ValueLink). next_of (chain_of values_after x.key) place) w.link_is
-        ∙ (λ i. next_of (chain_of-relocated w.link.key i) (w.place_is i))
-        ∙ next_of-map name (chain_of values w.link.key) w.old (told w.link.key w.old w.old_listed)
-        ∙ ap (option_map name) (chained.next w.old w.link w.old_listed w.link_was) ∙ ap (λ (x : ValueLink). x.next) (sym w.link_is);
+    previous = beside previous_of (λ l. l.previous) (previous_of-map name) (λ l. refl) chained.previous;
+    next = beside next_of (λ l. l.next) (next_of-map name) (λ l. refl) chained.next;
   }
 
   -- the pairs are the same, in the same order

@@ -149,6 +149,32 @@ module _ {K V : Type 0} {key_clone : K → K → Type 0} {value_clone : V → V 
   told : (key q : ℕ) → IsIn q values.order → IsTold c.rank (chain_of values key) q
   told key q listed p i = c.values_copied.apart p q (IsIn-kept (is_value_of values key) p values.order i).0 listed
 
+  -- what stands at either end of a key's values, and beside a value, goes along
+  at_end : (of : List ℕ → Option ℕ) (end : KeyLink → ℕ) → ((ps : List ℕ) → of (map c.rank ps) ≡ option_map c.rank (of ps))
+      → ((l : KeyLink) (hash : ℕ) → end (record (relocated_key c.rank l) { hash = hash }) ≡ c.rank (end l))
+      → ((key : ℕ) (l : KeyLink) → IsIn key keys.order → link_at keys key ≡ Some l → of (chain_of values key) ≡ Some (end l))
+      → (key : ℕ) (l : KeyLink) → IsIn key copies.order → link_at copies key ≡ Some l → of (chain_of value_copies key) ≡ Some (end l)
+  at_end of end of-map end_is was key l listed is =
+      let w = of_key key listed in
+      ap of (chain_at key w) ∙ of-map (chain_of values w.old)
+      ∙ ap (option_map c.rank) (was w.old w.stands.key_link w.old_listed w.stands.link_was)
+      ∙ ap Some (sym (end_is w.stands.key_link (hash_after w.stands.copy)))
+      ∙ ap (λ (x : KeyLink). Some (end x)) (sym (key_link_is key l w is))
+
+  beside : (of : List ℕ → ℕ → Option ℕ) (side : ValueLink → Option ℕ)
+      → ((ps : List ℕ) (q : ℕ) → IsTold c.rank ps q → of (map c.rank ps) (c.rank q) ≡ option_map c.rank (of ps q))
+      → ((l : ValueLink) → side (with_new_key c.name (relocated_value c.rank l)) ≡ option_map c.rank (side l))
+      → ((q : ℕ) (l : ValueLink) → IsIn q values.order → link_at values q ≡ Some l → of (chain_of values l.key) q ≡ side l)
+      → (place : ℕ) (l : ValueLink) → IsIn place value_copies.order → link_at value_copies place ≡ Some l
+      → of (chain_of value_copies l.key) place ≡ side l
+  beside of side of-map side_is was place l listed is =
+      let w = of_value place listed in
+      let s = w.stands.value_link in
+      (λ i. of (chain_by place l w is i) (w.place_is i))
+      ∙ of-map (chain_of values s.key) w.old (told s.key w.old w.old_listed)
+      ∙ ap (option_map c.rank) (was w.old s w.old_listed w.stands.link_was)
+      ∙ sym (side_is s) ∙ ap side (sym (value_link_is place l w is))
+
   chained : IsChained copies value_copies
   chained = record {
     owned = λ place l listed is.
@@ -156,35 +182,15 @@ module _ {K V : Type 0} {key_clone : K → K → Type 0} {value_clone : V → V 
         subst (λ q. IsIn q copies.order) (sym (ap (λ (x : ValueLink). x.key) (value_link_is place l w is)))
         (subst (IsIn (c.name w.stands.value_link.key)) (sym c.keys_copied.order)
         (IsIn-name c.name w.stands.value_link.key keys.order (owner place w)));
-    head = λ key l listed is.
-        let w = of_key key listed in
-        ap first_of (chain_at key w) ∙ first_of-map c.rank (chain_of values w.old)
-        ∙ ap (option_map c.rank) (agrees.chained.head w.old w.stands.key_link w.old_listed w.stands.link_was)
-        ∙ ap (λ (x : KeyLink). Some x.head) (sym (key_link_is key l w is));
-    tail = λ key l listed is.
-        let w = of_key key listed in
-        ap last_of (chain_at key w) ∙ last_or-map c.rank None (chain_of values w.old)
-        ∙ ap (option_map c.rank) (agrees.chained.tail w.old w.stands.key_link w.old_listed w.stands.link_was)
-        ∙ ap (λ (x : KeyLink). Some x.tail) (sym (key_link_is key l w is));
+    head = at_end first_of (λ l. l.head) (first_of-map c.rank) (λ l hash. refl) agrees.chained.head;
+    tail = at_end last_of (λ l. l.tail) (last_or-map c.rank None) (λ l hash. refl) agrees.chained.tail;
     length = λ key l listed is.
         let w = of_key key listed in
         ap length (chain_at key w) ∙ length-map (chain_of values w.old) c.rank
         ∙ agrees.chained.length w.old w.stands.key_link w.old_listed w.stands.link_was
         ∙ ap (λ (x : KeyLink). x.length) (sym (key_link_is key l w is));
-    previous = λ place l listed is.
-        let w = of_value place listed in
-        let s = w.stands.value_link in
-        (λ i. previous_of (chain_by place l w is i) (w.place_is i))
-        ∙ previous_of-map c.rank (chain_of values s.key) w.old (told s.key w.old w.old_listed)
-        ∙ ap (option_map c.rank) (agrees.chained.previous w.old s w.old_listed w.stands.link_was)
-        ∙ ap (λ (x : ValueLink). x.previous) (sym (value_link_is place l w is));
-    next = λ place l listed is.
-        let w = of_value place listed in
-        let s = w.stands.value_link in
-        (λ i. next_of (chain_by place l w is i) (w.place_is i))
-        ∙ next_of-map c.rank (chain_of values s.key) w.old (told s.key w.old w.old_listed)
-        ∙ ap (option_map c.rank) (agrees.chained.next w.old s w.old_listed w.stands.link_was)
-        ∙ ap (λ (x : ValueLink). x.next) (sym (value_link_is place l w is));
+    previous = beside previous_of (λ l. l.previous) (previous_of-map c.rank) (λ l. refl) agrees.chained.previous;
+    next = beside next_of (λ l. l.next) (next_of-map c.rank) (λ l. refl) agrees.chained.next;
   }
 
   module _ (laws : IsEquivalence eq) (equal : (k d : K) → IsIn k (items_of keys) → key_clone k d → eq k d ≡ true) where

@@ -34,7 +34,7 @@ use Rattle.ordered_multimap.proofs.Callers.Places.{begins, ends, last_of-member,
 use Rattle.ordered_multimap.proofs.Chains.Neighbours.{first_of-member}
 use Rattle.ordered_multimap.proofs.Agreement.Agreed.{PairAt, pair_in}
 use Rattle.ordered_multimap.proofs.Callers.Laws.{has_items-push, end_item-push, end_rest-push}
-use Rattle.ordered_multimap.proofs.Remove.OnePair.{beside_at, last_at, last_key_is, no_longer_named, still_named}
+use Rattle.ordered_multimap.proofs.Remove.OnePair.{LeavesAt, beside_at, last_at, last_key_is, no_longer_named, still_named}
 use Rattle.ordered_multimap.proofs.Remove.OneValue.{has_item-one}
 
 -- the pairs without that of one place, where the others are the same
@@ -142,6 +142,21 @@ module _ {K V : Type 0} {eq : K → K → Bool} {hash : K → ℕ} {keys : Slots
         ∙ ap (λ b. Some (record { owned = not b; key = pair.key; value = pair.value }))
         (ap (λ ps. is_listed eq (keys_of ps) pair.key) (sym left_at_end.left) ∙ is)
 
+  -- what is taken is owned where no pair that is left names its key
+  leaves_naming : {keys_after : Slots K KeyLink} {rows_after : FinMap nat_cmp ℕ} {values_after : Slots V ValueLink} (taken : Taken K V)
+      → LeavesAt eq hash keys keys_after rows_after values values_after place → (named : Bool)
+      → is_listed eq (keys_of (pairs_of keys_after values_after)) pair.key ≡ named
+      → IsTaken keys_after (Some (record { owned = not named; key = pair.key; value = pair.value })) (Some taken)
+      → Leaves eq hash end keys keys_after rows_after values values_after taken
+  leaves_naming {keys_after} {values_after = values_after} taken left named named_is is = record {
+    agrees = left.agrees;
+    lists_are = ap (λ ks. lists ks (pairs_of keys_after values_after)) left.keys_are
+        ∙ popped_is keys_after values_after left.order left.same;
+    some = (left_at_end keys_after values_after left.order left.same).some;
+    is_taken = subst (λ p. IsTaken keys_after p (Some taken))
+        (sym (pair_is keys_after values_after left.order left.same named named_is)) is;
+  }
+
 module _ {K V : Type 0} {eq : K → K → Bool} (laws : IsEquivalence eq) {hash : K
     → ℕ} {keys keys_after : Slots K KeyLink} {rows rows_after : FinMap nat_cmp ℕ} {values values_after : Slots V ValueLink}
     (agrees : Agrees eq hash keys rows values) (end : End) (place : ℕ) (at : end_of_list end values.order ≡ Some place) {v : V} where
@@ -150,53 +165,30 @@ module _ {K V : Type 0} {eq : K → K → Bool} (laws : IsEquivalence eq) {hash 
       → Leaves eq hash end keys keys_after rows_after values values_after (record { key = Kept key; value = v })
   leaves_beside key beside =
       let listed = end_listed end values.order place at in
-      let pair = pair_in agrees place listed in
-      let link_is : Some beside.one.link ≡ Some pair.link = sym beside.one.link_is ∙ pair.link_is in
-      let link : beside.one.link ≡ pair.link = cc in
-      let own : item_at keys beside.one.link.key ≡ Some pair.key = ap (λ (l : ValueLink). item_at keys l.key) link ∙ pair.key_is in
-      let value_is : Some v ≡ Some pair.value = sym beside.one.had ∙ pair.value_is in
-      let value : v ≡ pair.value = cc in
-      let left = beside_at laws agrees place listed v key beside in
-      record {
-        agrees = left.agrees;
-        lists_are = ap (λ ks. lists ks (pairs_of keys_after values_after)) left.keys_are
-            ∙ popped_is agrees end place at keys_after values_after left.order left.same;
-        some = (left_at_end agrees end place at keys_after values_after left.order left.same).some;
-        is_taken =
-            subst (λ p. IsTaken keys_after p (Some (record { key = Kept key; value = v })))
-            (sym (pair_is agrees end place at keys_after values_after left.order left.same true
-            (still_named laws agrees place listed beside.one pair.key own))) (
-              value,
-              (
-                refl,
-                subst (λ q. HasItem keys_after q pair.key) beside.key_is
-                    (has_item-one agrees place listed beside.one pair.key own),
-              ),
-            );
-      }
+      let its = pair agrees end place at in
+      let link_is : Some beside.one.link ≡ Some its.link = sym beside.one.link_is ∙ its.link_is in
+      let link : beside.one.link ≡ its.link = cc in
+      let own : item_at keys beside.one.link.key ≡ Some its.key = ap (λ (l : ValueLink). item_at keys l.key) link ∙ its.key_is in
+      let value_is : Some v ≡ Some its.value = sym beside.one.had ∙ its.value_is in
+      let value : v ≡ its.value = cc in
+      leaves_naming agrees end place at (record { key = Kept key; value = v }) (beside_at laws agrees place listed v key beside) true
+      (still_named laws agrees place listed beside.one its.key own) (
+        value,
+        (refl, subst (λ q. HasItem keys_after q its.key) beside.key_is (has_item-one agrees place listed beside.one its.key own)),
+      )
 
   -- it was the key's only value, and the key goes too
   leaves_last : (key : K) → TakesLast keys keys_after rows rows_after values values_after place key v
       → Leaves eq hash end keys keys_after rows_after values values_after (record { key = Gone key; value = v })
   leaves_last key last =
       let listed = end_listed end values.order place at in
-      let pair = pair_in agrees place listed in
-      let key_is : Some key ≡ Some pair.key = sym last.entry.removed.had ∙ last_key_is agrees place listed v key last in
-      let stored : key ≡ pair.key = cc in
-      let value_is : Some v ≡ Some pair.value = sym last.had ∙ pair.value_is in
-      let value : v ≡ pair.value = cc in
-      let left = last_at laws agrees place listed v key last in
-      record {
-        agrees = left.agrees;
-        lists_are = ap (λ ks. lists ks (pairs_of keys_after values_after)) left.keys_are
-            ∙ popped_is agrees end place at keys_after values_after left.order left.same;
-        some = (left_at_end agrees end place at keys_after values_after left.order left.same).some;
-        is_taken =
-            subst (λ p. IsTaken keys_after p (Some (record { key = Gone key; value = v })))
-            (sym (pair_is agrees end place at keys_after values_after left.order left.same false
-            (no_longer_named laws agrees place listed v key last)))
-            (value, (refl, stored));
-      }
+      let its = pair agrees end place at in
+      let key_is : Some key ≡ Some its.key = sym last.entry.removed.had ∙ last_key_is agrees place listed v key last in
+      let stored : key ≡ its.key = cc in
+      let value_is : Some v ≡ Some its.value = sym last.had ∙ its.value_is in
+      let value : v ≡ its.value = cc in
+      leaves_naming agrees end place at (record { key = Gone key; value = v }) (last_at laws agrees place listed v key last) false
+      (no_longer_named laws agrees place listed v key last) (value, (refl, stored))
 
   leaves_by : (key : TakenKey K) → TakesByKey keys keys_after rows rows_after values values_after place v key
       → Leaves eq hash end keys keys_after rows_after values values_after (record { key = key; value = v })

@@ -23,6 +23,7 @@ use Rattle.ordered_multimap.proofs.Callers.Places.{held, filter-agree, filter_ma
 use Rattle.ordered_multimap.proofs.Agreement.Agreed.{PairAt, value_owner, pair_in, is_value_of-is}
 use Rattle.ordered_multimap.proofs.Agreement.LookUps.{owns}
 use Rattle.ordered_multimap.proofs.Remove.OneLink.{Relinks, StaysLinked, same_owner, same_pair, agrees-relinked, chained-relinked}
+use Rattle.ordered_multimap.proofs.Remove.OneLink.{stays_linked}
 use Rattle.ordered_multimap.proofs.Remove.WholeKeys.{not_true, still_listed, values_sound-taken}
 use Rattle.ordered_multimap.proofs.Remove.ValueByValue.{among-none, among-filter, not_among, taking-whole}
 
@@ -81,16 +82,8 @@ module _ {K V : Type 0} {eq : K → K → Bool} (laws : IsEquivalence eq) {hash 
       let left = still_listed takes.taking.taken q (subst (λ (s : Slots V ValueLink). IsIn q s.order) takes.rest i) in
       let l = held (link_at values q) (agrees.values_sound.linked q left.0) in
       let left_is : link_at takes.left q ≡ Some l.value = takes.taking.taken.links q left.1 ∙ l.is in
-      let kept : (now : ValueLink) → link_at values_after q ≡ Some now → now.key ≡ l.value.key → StaysLinked values values_after q =
-      λ now now_is same_key. record {
-        listed = left.0;
-        old = l.value;
-        old_is = l.is;
-        now = now;
-        now_is = now_is;
-        same_key = same_key;
-        item = ap (λ (s : Slots V ValueLink). item_at s q) takes.rest ∙ takes.taking.taken.items q left.1;
-      } in
+      let item = ap (λ (s : Slots V ValueLink). item_at s q) takes.rest ∙ takes.taking.taken.items q left.1 in
+      let kept = stays_linked q left.0 l.value l.is item in
       elim (cases_eq q takes.link.tail) [
         | inl same ↦
             let alone = takes.alone l.value (ap (link_at takes.left) (sym same) ∙ left_is) in

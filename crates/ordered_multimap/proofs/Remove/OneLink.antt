@@ -31,6 +31,12 @@ pub record StaysLinked {V : Type 0} (values values_after : Slots V ValueLink) (q
   pub same_key : now.key ≡ old.key
   pub item : item_at values_after q ≡ item_at values q
 
+abbrev pub stays_linked : {V : Type 0} {values values_after : Slots V ValueLink} (q : ℕ) → IsIn q values.order → (old : ValueLink)
+    → link_at values q ≡ Some old → item_at values_after q ≡ item_at values q → (now : ValueLink) → link_at values_after q ≡ Some now
+    → now.key ≡ old.key → StaysLinked values values_after q
+stays_linked q listed old old_is item now now_is same_key =
+    record { listed = listed; old = old; old_is = old_is; now = now; now_is = now_is; same_key = same_key; item = item }
+
 module _ {K : Type 0} {keys keys_after : Slots K KeyLink} {place : ℕ} {was now : KeyLink} (r : Relinks keys keys_after place was now) where
   old_listed : (key : ℕ) → IsIn key keys_after.order → IsIn key keys.order
   old_listed key i = subst (λ (s : Slots K KeyLink). IsIn key s.order) r.keys_are i

@@ -1,6 +1,6 @@
 -- Where one of several values of a key leaves, key list, table and values agree, and the other pairs are as they were.
-use Rattle.std.proofs.Common.{◌≡◌, ◌≢◌, ◌==◌, ◌<◌, ℕ, Bool, true, not, ◌∷◌, ◌++◌, length, filter, Some, IsSome, refl, sym, ap}
-use Rattle.std.proofs.Common.{◌∙◌, subst, inl, inr, arith, length-append}
+use Rattle.std.proofs.Common.{◌≡◌, ◌≢◌, ◌==◌, ◌<◌, ℕ, Bool, true, not, List, ◌∷◌, ◌++◌, length, filter, Option, Some, IsSome, refl, sym}
+use Rattle.std.proofs.Common.{ap, ◌∙◌, subst, inl, inr, arith, length-append}
 use Rattle.std.proofs.lemmas.Bool.{cases_eq}
 use Rattle.std.specs.Ordering.{nat_cmp}
 use Rattle.std.specs.FinMap.{FinMap}
@@ -18,7 +18,7 @@ use Rattle.ordered_multimap.proofs.Chains.LongerLists.{cases_some}
 use Rattle.ordered_multimap.proofs.Agreement.Agreed.{value_owner}
 use Rattle.ordered_multimap.proofs.Chains.Parts.{filter-commute, head_left, tail_left, next_left, previous_left}
 use Rattle.ordered_multimap.proofs.Chains.Parts.{parts, apart, last_before, first_behind, before_own, behind_own, neighbours_differ}
-use Rattle.ordered_multimap.proofs.Remove.OneLink.{Relinks, StaysLinked, now_listed, same_item, same_owner, same_pair}
+use Rattle.ordered_multimap.proofs.Remove.OneLink.{Relinks, StaysLinked, now_listed, same_item, same_owner, same_pair, stays_linked}
 use Rattle.ordered_multimap.proofs.Remove.OneLink.{agrees-relinked, chained-relinked}
 
 module _ {K V : Type 0} {eq : K → K → Bool} {hash : K → ℕ} {keys keys_after : Slots K KeyLink} {rows : FinMap nat_cmp ℕ}
@@ -50,16 +50,7 @@ module _ {K V : Type 0} {eq : K → K → Bool} {hash : K → ℕ} {keys keys_af
   stays_at q i =
       let left = IsIn-without q values.order place (subst (IsIn q) takes.order i) in
       let l = held (link_at values q) (agrees.values_sound.linked q left.0) in
-      let kept : (now : ValueLink) → link_at values_after q ≡ Some now → now.key ≡ l.value.key → StaysLinked values values_after q =
-      λ now now_is same_key. record {
-        listed = left.0;
-        old = l.value;
-        old_is = l.is;
-        now = now;
-        now_is = now_is;
-        same_key = same_key;
-        item = takes.items q left.1;
-      } in
+      let kept = stays_linked q left.0 l.value l.is (takes.items q left.1) in
       elim (cases_some takes.link.previous q) [
         | inl before ↦ record {
           kept = kept (record l.value { next = takes.link.next }) (takes.before q l.value before l.is) refl;
@@ -128,44 +119,38 @@ module _ {K V : Type 0} {eq : K → K → Bool} {hash : K → ℕ} {keys keys_af
   same_key : (q : ℕ) (s : StaysLinked values values_after q) → is_value_of values takes.link.key q ≡ true → s.old.key ≡ takes.link.key
   same_key q s own = value_owner keys values takes.link.key q s.old s.old_is own
 
-  -- what is before a place that stays, and what is behind it
+  -- what is beside a place that stays, on either side
+  relinked : (beside : List ℕ → ℕ → Option ℕ) (side : ValueLink → Option ℕ) (q : ℕ) (s : StaysLinked values values_after q)
+      → beside (chain_of values s.old.key) q ≡ side s.old
+      → (beside (chain.front ++ place ∷ chain.back) q ≡ side s.old → beside (chain.front ++ chain.back) q ≡ side s.now)
+      → (s.old.key ≢ takes.link.key → side s.now ≡ side s.old) → beside (chain_of values_after s.now.key) q ≡ side s.now
+  relinked beside side q s was here_left there_same =
+      let left : beside (chain_of values_after s.old.key) q ≡ side s.now =
+      elim (cases_eq s.old.key takes.link.key) [
+        | inl here ↦
+            ap (λ key. beside (chain_of values_after key) q) here ∙ ap (λ ps. beside ps q) chain_here
+            ∙ here_left (ap (λ ps. beside ps q) (sym chain.is) ∙ ap (λ key. beside (chain_of values key) q) (sym here) ∙ was)
+        | inr there ↦ ap (λ ps. beside ps q) (chain_there s.old.key there) ∙ was ∙ sym (there_same there)
+      ] in
+      ap (λ key. beside (chain_of values_after key) q) s.same_key ∙ left
+
   before : (q : ℕ) (i : IsIn q values_after.order)
       → previous_of (chain_of values_after (kept_at q i).now.key) q ≡ (kept_at q i).now.previous
   before q i =
       let s = stays_at q i in
-      let was = agrees.chained.previous q s.kept.old s.kept.listed s.kept.old_is in
-      let relinked : previous_of (chain_of values_after s.kept.old.key) q ≡ s.kept.now.previous =
-      elim (cases_eq s.kept.old.key takes.link.key) [
-        | inl here ↦
-            let whole : previous_of (chain.front ++ place ∷ chain.back) q ≡ s.kept.old.previous =
-            ap (λ ps. previous_of ps q) (sym chain.is) ∙ ap (λ key. previous_of (chain_of values key) q) (sym here) ∙ was in
-            ap (λ key. previous_of (chain_of values_after key) q) here ∙ ap (λ ps. previous_of ps q) chain_here
-            ∙ previous_left chain.front chain.back place q left_distinct s.other before_is behind_is whole s.behind s.not_behind
-        | inr there ↦
-            let neighbour = behind_own agrees.values_sound agrees.chained place takes.link listed takes.link_is q in
-            ap (λ ps. previous_of ps q) (chain_there s.kept.old.key there) ∙ was
-            ∙ sym (s.not_behind (λ e. there (same_key q s.kept (neighbour e).1)))
-      ] in
-      ap (λ key. previous_of (chain_of values_after key) q) s.kept.same_key ∙ relinked
+      let neighbour = behind_own agrees.values_sound agrees.chained place takes.link listed takes.link_is q in
+      relinked previous_of (λ l. l.previous) q s.kept (agrees.chained.previous q s.kept.old s.kept.listed s.kept.old_is)
+      (λ whole. previous_left chain.front chain.back place q left_distinct s.other before_is behind_is whole s.behind s.not_behind)
+      (λ there. s.not_behind (λ e. there (same_key q s.kept (neighbour e).1)))
 
   behind : (q : ℕ) (i : IsIn q values_after.order)
       → next_of (chain_of values_after (kept_at q i).now.key) q ≡ (kept_at q i).now.next
   behind q i =
       let s = stays_at q i in
-      let was = agrees.chained.next q s.kept.old s.kept.listed s.kept.old_is in
-      let relinked : next_of (chain_of values_after s.kept.old.key) q ≡ s.kept.now.next =
-      elim (cases_eq s.kept.old.key takes.link.key) [
-        | inl here ↦
-            let whole : next_of (chain.front ++ place ∷ chain.back) q ≡ s.kept.old.next =
-            ap (λ ps. next_of ps q) (sym chain.is) ∙ ap (λ key. next_of (chain_of values key) q) (sym here) ∙ was in
-            ap (λ key. next_of (chain_of values_after key) q) here ∙ ap (λ ps. next_of ps q) chain_here
-            ∙ next_left chain.front chain.back place q left_distinct s.other before_is behind_is whole s.before s.not_before
-        | inr there ↦
-            let neighbour = before_own agrees.values_sound agrees.chained place takes.link listed takes.link_is q in
-            ap (λ ps. next_of ps q) (chain_there s.kept.old.key there) ∙ was
-            ∙ sym (s.not_before (λ e. there (same_key q s.kept (neighbour e).1)))
-      ] in
-      ap (λ key. next_of (chain_of values_after key) q) s.kept.same_key ∙ relinked
+      let neighbour = before_own agrees.values_sound agrees.chained place takes.link listed takes.link_is q in
+      relinked next_of (λ l. l.next) q s.kept (agrees.chained.next q s.kept.old s.kept.listed s.kept.old_is)
+      (λ whole. next_left chain.front chain.back place q left_distinct s.other before_is behind_is whole s.before s.not_before)
+      (λ there. s.not_before (λ e. there (same_key q s.kept (neighbour e).1)))
 
   -- the key's link names the ends and the length of what is left of its chain
   chained-one : IsChained keys_after values_after
