@@ -7,10 +7,29 @@ use Rattle.multimap_slots.specs.Slots.{Slots, IsEmpty, PushesBack, item_at, link
 use Rattle.multimap_slots.proofs.Callers.PlaceLists.{IsIn-append}
 use Rattle.ordered_multimap.specs.Private.KeyRelocations.{HaveNewPlaces, new_place_in}
 use Rattle.ordered_multimap.proofs.Agreement.LookUps.{map-agree}
-use Rattle.ordered_multimap.proofs.Agreement.Relocated.{IsIn-name}
+use Rattle.ordered_multimap.proofs.Agreement.Relocated.{IsIn-map, IsIn-name}
 use Rattle.ordered_multimap.proofs.Append.Steps.{old_other}
 
+-- the old place of what stands at a place
+pub record CameFrom {T L : Type 0} (Stands : ℕ → Option T → Option L → Type 0) (name : ℕ → ℕ) (places : List ℕ) (after : Slots T L)
+    (place : ℕ) : Type 0 where
+  pub old : ℕ
+  pub old_listed : IsIn old places
+  pub place_is : place ≡ name old
+  pub stands : Stands old (item_at after place) (link_at after place)
+
 module _ {T L : Type 0} {Stands : ℕ → Option T → Option L → Type 0} where
+  pub came_from : {name : ℕ → ℕ} {places : List ℕ} {after : Slots T L} → HaveNewPlaces Stands name places after → (place : ℕ)
+      → IsIn place after.order → CameFrom Stands name places after place
+  came_from {name} {places} {after} have place listed =
+      let n = IsIn-map name place places (subst (IsIn place) have.order listed) in
+      record {
+        old = n.place;
+        old_listed = n.member;
+        place_is = n.is;
+        stands = subst (λ p. Stands n.place (item_at after p) (link_at after p)) (sym n.is) (have.slots n.place n.member);
+      }
+
   pub places-start : (name : ℕ → ℕ) (after : Slots T L) → IsEmpty after → HaveNewPlaces Stands name [] after
   places-start name after none = record { apart = λ p q i. absurd i; order = none.order; slots = λ q i. absurd i }
 
@@ -60,7 +79,8 @@ module _ {T L : Type 0} {Stands : ℕ → Option T → Option L → Type 0} wher
 
   -- the new place is noted in a list
   pub noted-step : (new_places : List ℕ) {new_places_after places : List ℕ} {place to : ℕ} {before after : Slots T L} {item : T} {link : L}
-      → HaveNewPlaces Stands (new_place_in new_places) places before → PushesBack before after to item link → Stands place (Some item) (Some link)
+      → HaveNewPlaces Stands (new_place_in new_places) places before → PushesBack before after to item link
+      → Stands place (Some item) (Some link)
       → new_places_after ≡ set new_places place to → (IsIn place places → ⊥) → place < length new_places
       → HaveNewPlaces Stands (new_place_in new_places_after) (places ++ place ∷ []) after
   noted-step new_places {places = places} {place} {to} have pushed stands new_places_are new within =

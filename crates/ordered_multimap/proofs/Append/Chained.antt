@@ -142,48 +142,42 @@ module _ {K V : Type 0} {keys keys_after : Slots K KeyLink} {values values_after
               })
         ])
 
-    value_facts : (q : ℕ) (l : ValueLink) → IsIn q values_after.order → link_at values_after q ≡ Some l
-        → ValueFacts (chain_of values_after l.key) q l
-    value_facts q l listed is = elim (IsIn-append q values.order (last ∷ []) (subst (IsIn q) pushes.order listed)) [
+    abbrev fresh : ValueLink
+    fresh = record { key = place; previous = last_of (chain_of values place); next = None }
+
+    -- what holds of each old link as it is now, and of the new one, holds of each
+    of_each : (P : ℕ → ValueLink → Type 0)
+        → ((q : ℕ) (l : ValueLink) (old : IsIn q values.order) (is : link_at values q ≡ Some l) → P q (kept q l old is).now) → P last fresh
+        → (q : ℕ) (l : ValueLink) → IsIn q values_after.order → link_at values_after q ≡ Some l → P q l
+    of_each P of_old of_new q l listed is = elim (IsIn-append q values.order (last ∷ []) (subst (IsIn q) pushes.order listed)) [
       | inl old ↦
           let was = held (link_at values q) (values_sound.linked q old) in
           let n = kept q was.value old was.is in
           let both : Some n.now ≡ Some l = sym n.is ∙ is in
           let own : n.now ≡ l = cc in
-          subst (λ m. ValueFacts (chain_of values_after m.key) q m) own (old_value_facts q was.value old was.is n)
+          subst (P q) own (of_old q was.value old was.is)
       | inr new ↦ elim new [
         | inl same ↦
-            let fresh : ValueLink = record { key = place; previous = last_of (chain_of values place); next = None } in
             let both : Some fresh ≡ Some l = sym pushes.link_is ∙ ap (link_at values_after) (sym same) ∙ is in
             let own : fresh ≡ l = cc in
-            subst (λ m. ValueFacts (chain_of values_after m.key) q m) own
-            (subst (λ p. ValueFacts (chain_of values_after place) p fresh) (sym same)
-            (subst (λ ps. ValueFacts ps last fresh) (sym chain_longer) (record {
-              previous = previous_of-pushed (chain_of values place) last;
-              next = next_of-pushed (chain_of values place) last (λ i. pushes.was_absent (in_chain place last i).0);
-            })))
+            subst (P q) own (subst (λ p. P p fresh) (sym same) of_new)
         | inr none ↦ absurd none
       ]
     ]
 
+    value_facts : (q : ℕ) (l : ValueLink) → IsIn q values_after.order → link_at values_after q ≡ Some l
+        → ValueFacts (chain_of values_after l.key) q l
+    value_facts = of_each (λ q l. ValueFacts (chain_of values_after l.key) q l)
+        (λ q l old is. old_value_facts q l old is (kept q l old is))
+        (subst (λ ps. ValueFacts ps last fresh) (sym chain_longer) (record {
+          previous = previous_of-pushed (chain_of values place) last;
+          next = next_of-pushed (chain_of values place) last (λ i. pushes.was_absent (in_chain place last i).0);
+        }))
+
     owned : (q : ℕ) (l : ValueLink) → IsIn q values_after.order → link_at values_after q ≡ Some l → IsIn l.key keys_after.order
-    owned q l listed is = elim (IsIn-append q values.order (last ∷ []) (subst (IsIn q) pushes.order listed)) [
-      | inl old ↦
-          let was = held (link_at values q) (values_sound.linked q old) in
-          let n = kept q was.value old was.is in
-          let both : Some n.now ≡ Some l = sym n.is ∙ is in
-          let own : n.now ≡ l = cc in
-          subst (λ key. IsIn key keys_after.order) (sym n.key ∙ ap (λ (m : ValueLink). m.key) own)
-          (sets.kept was.value.key (chained.owned q was.value old was.is))
-      | inr new ↦ elim new [
-        | inl same ↦
-            let fresh : ValueLink = record { key = place; previous = last_of (chain_of values place); next = None } in
-            let both : Some fresh ≡ Some l = sym pushes.link_is ∙ ap (link_at values_after) (sym same) ∙ is in
-            let own : fresh ≡ l = cc in
-            subst (λ key. IsIn key keys_after.order) (ap (λ (m : ValueLink). m.key) own) sets.listed
-        | inr none ↦ absurd none
-      ]
-    ]
+    owned = of_each (λ q l. IsIn l.key keys_after.order)
+        (λ q l old is. subst (λ key. IsIn key keys_after.order) (sym (kept q l old is).key) (sets.kept l.key (chained.owned q l old is)))
+        sets.listed
 
     pub chained-append : first_of (chain_of values place ++ last ∷ []) ≡ Some link.head → link.tail ≡ last
         → link.length ≡ length (chain_of values place) + 1 → IsChained keys_after values_after

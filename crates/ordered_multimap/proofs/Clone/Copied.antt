@@ -18,7 +18,8 @@ use Rattle.ordered_multimap.specs.Private.Copies.{AreCopied, IsKeyCopy, IsValueC
 use Rattle.ordered_multimap.specs.Private.KeyRelocations.{with_new_key}
 use Rattle.ordered_multimap.specs.Private.Relocations.{relocated_key, relocated_value}
 use Rattle.ordered_multimap.proofs.Agreement.Agreed.{is_value_of-is, pair_at-is}
-use Rattle.ordered_multimap.proofs.Agreement.Relocated.{IsIn-map, IsIn-name, IsTold, filter-map, first_of-map, last_or-map, next_of-map}
+use Rattle.ordered_multimap.proofs.Agreement.NewPlaces.{CameFrom, came_from}
+use Rattle.ordered_multimap.proofs.Agreement.Relocated.{IsIn-name, IsTold, filter-map, first_of-map, last_or-map, next_of-map}
 use Rattle.ordered_multimap.proofs.Agreement.Relocated.{previous_of-map}
 use Rattle.ordered_multimap.proofs.Callers.Members.{IsIn-kept}
 use Rattle.ordered_multimap.proofs.Callers.Places.{IsIn-filter_map}
@@ -67,48 +68,18 @@ module _ {K V : Type 0} {key_clone : K → K → Type 0} {value_clone : V → V 
     {keys copies : Slots K KeyLink} {rows rows_after : FinMap nat_cmp ℕ} {values value_copies : Slots V ValueLink}
     (agrees : Agrees eq hash keys rows values)
     (c : AreCopied key_clone value_clone hash_after keys copies rows_after values value_copies) where
-  -- the key of which there is a clone at the place
-  record OfKey (place : ℕ) : Type 0 where
-    old : ℕ
-    old_listed : IsIn old keys.order
-    place_is : place ≡ c.name old
-    stands : IsKeyCopy key_clone hash_after c.rank keys old (item_at copies place) (link_at copies place)
+  -- the key, or the value, of which there is a clone at the place
+  abbrev OfKey : ℕ → Type 0
+  OfKey = CameFrom (IsKeyCopy key_clone hash_after c.rank keys) c.name keys.order copies
 
-  of_key : (place : ℕ) → IsIn place copies.order → OfKey place
-  of_key place listed =
-      let n = IsIn-map c.name place keys.order (subst (IsIn place) c.keys_copied.order listed) in
-      record {
-        old = n.place;
-        old_listed = n.member;
-        place_is = n.is;
-        stands = subst (λ p. IsKeyCopy key_clone hash_after c.rank keys n.place (item_at copies p) (link_at copies p)) (sym n.is)
-            (c.keys_copied.slots n.place n.member);
-      }
+  abbrev OfValue : ℕ → Type 0
+  OfValue = CameFrom (IsValueCopy value_clone c.name c.rank values) c.rank values.order value_copies
 
   key_link_is : (place : ℕ) (l : KeyLink) (w : OfKey place) → link_at copies place ≡ Some l
       → l ≡ record (relocated_key c.rank w.stands.key_link) { hash = hash_after w.stands.copy }
   key_link_is place l w is =
       let both : Some l ≡ Some (record (relocated_key c.rank w.stands.key_link) { hash = hash_after w.stands.copy })
       = sym is ∙ w.stands.link_is in cc
-
-  -- the value of which there is a clone at the place
-  record OfValue (place : ℕ) : Type 0 where
-    old : ℕ
-    old_listed : IsIn old values.order
-    place_is : place ≡ c.rank old
-    stands : IsValueCopy value_clone c.name c.rank values old (item_at value_copies place) (link_at value_copies place)
-
-  of_value : (place : ℕ) → IsIn place value_copies.order → OfValue place
-  of_value place listed =
-      let n = IsIn-map c.rank place values.order (subst (IsIn place) c.values_copied.order listed) in
-      record {
-        old = n.place;
-        old_listed = n.member;
-        place_is = n.is;
-        stands = subst
-            (λ p. IsValueCopy value_clone c.name c.rank values n.place (item_at value_copies p) (link_at value_copies p)) (sym n.is)
-            (c.values_copied.slots n.place n.member);
-      }
 
   value_link_is : (place : ℕ) (l : ValueLink) (w : OfValue place) → link_at value_copies place ≡ Some l
       → l ≡ with_new_key c.name (relocated_value c.rank w.stands.value_link)
@@ -155,7 +126,7 @@ module _ {K V : Type 0} {key_clone : K → K → Type 0} {value_clone : V → V 
       → ((key : ℕ) (l : KeyLink) → IsIn key keys.order → link_at keys key ≡ Some l → of (chain_of values key) ≡ Some (end l))
       → (key : ℕ) (l : KeyLink) → IsIn key copies.order → link_at copies key ≡ Some l → of (chain_of value_copies key) ≡ Some (end l)
   at_end of end of-map end_is was key l listed is =
-      let w = of_key key listed in
+      let w = came_from c.keys_copied key listed in
       ap of (chain_at key w) ∙ of-map (chain_of values w.old)
       ∙ ap (option_map c.rank) (was w.old w.stands.key_link w.old_listed w.stands.link_was)
       ∙ ap Some (sym (end_is w.stands.key_link (hash_after w.stands.copy)))
@@ -168,7 +139,7 @@ module _ {K V : Type 0} {key_clone : K → K → Type 0} {value_clone : V → V 
       → (place : ℕ) (l : ValueLink) → IsIn place value_copies.order → link_at value_copies place ≡ Some l
       → of (chain_of value_copies l.key) place ≡ side l
   beside of side of-map side_is was place l listed is =
-      let w = of_value place listed in
+      let w = came_from c.values_copied place listed in
       let s = w.stands.value_link in
       (λ i. of (chain_by place l w is i) (w.place_is i))
       ∙ of-map (chain_of values s.key) w.old (told s.key w.old w.old_listed)
@@ -178,14 +149,14 @@ module _ {K V : Type 0} {key_clone : K → K → Type 0} {value_clone : V → V 
   chained : IsChained copies value_copies
   chained = record {
     owned = λ place l listed is.
-        let w = of_value place listed in
+        let w = came_from c.values_copied place listed in
         subst (λ q. IsIn q copies.order) (sym (ap (λ (x : ValueLink). x.key) (value_link_is place l w is)))
         (subst (IsIn (c.name w.stands.value_link.key)) (sym c.keys_copied.order)
         (IsIn-name c.name w.stands.value_link.key keys.order (owner place w)));
     head = at_end first_of (λ l. l.head) (first_of-map c.rank) (λ l hash. refl) agrees.chained.head;
     tail = at_end last_of (λ l. l.tail) (last_or-map c.rank None) (λ l hash. refl) agrees.chained.tail;
     length = λ key l listed is.
-        let w = of_key key listed in
+        let w = came_from c.keys_copied key listed in
         ap length (chain_at key w) ∙ length-map (chain_of values w.old) c.rank
         ∙ agrees.chained.length w.old w.stands.key_link w.old_listed w.stands.link_was
         ∙ ap (λ (x : KeyLink). x.length) (sym (key_link_is key l w is));
@@ -233,7 +204,7 @@ module _ {K V : Type 0} {key_clone : K → K → Type 0} {value_clone : V → V 
       chained = chained;
       distinct = clones_distinct laws key_clone (items_of keys) (items_of copies) key_clones agrees.distinct;
       hashed = λ place k l listed item is.
-          let w = of_key place listed in
+          let w = came_from c.keys_copied place listed in
           let both : Some w.stands.copy ≡ Some k = sym w.stands.item_is ∙ item in
           let same : w.stands.copy ≡ k = cc in
           ap (λ (x : KeyLink). x.hash) (key_link_is place l w is) ∙ ap hash_after same;

@@ -6,7 +6,7 @@ use Rattle.std.specs.Iterator.{MakesProgress, at_most}
 use Rattle.std.specs.List.{filter_map}
 use Rattle.std.proofs.lemmas.List.{length-take}
 use Rattle.multimap_slots.specs.Lists.{IsIn, AreDistinct, without}
-use Rattle.multimap_slots.specs.Slots.{KeepsOthers, Slots, item_at, link_at}
+use Rattle.multimap_slots.specs.Slots.{KeepsOthers, Slots}
 use Rattle.multimap_slots.proofs.Callers.PlaceLists.{IsIn-without}
 use Rattle.multimap_walks.specs.declared.End.{End}
 use Rattle.multimap_walks.specs.declared.End.TheVariants.{Front, Back}

@@ -1,6 +1,7 @@
-use Rattle.std.proofs.Common.{◌/◌, IfErr, OnOk, IsOk, refl, sym, subst}
+use Rattle.std.proofs.Common.{◌/◌, IfErr, OnOk, IsOk, refl, subst}
 use Rattle.ordered_multimap.specs.Additions.{IsAppendedAt, RefusesValue}
 use Rattle.ordered_multimap.specs.Private.KeySteps.{KeepsPlace}
+use Rattle.ordered_multimap.specs.Multimap.{Multimap}
 use Rattle.ordered_multimap.specs.Rooms.{GrowsForValue, HasValueRoom}
 use Rattle.ordered_multimap.proofs.Remove.OnePair.{has_chain}
 use Rattle.ordered_multimap.proofs.Agreement.LookUps.{listed_inside, own_key}
@@ -29,13 +30,15 @@ invariant_of-self g c =
       paid = stays_paid e.values.taken c.self.invariant.paid;
     }
 
+-- the map as it is left
+abbrev new_map : (g : Over) (c : After-append_behind g) → Multimap g.row.K.Denot g.row.V.Denot g.row.S.Denot
+new_map g c = map_of c.append_behind.new.keys c.self.inside.table.capacity c.append_behind.new.values c.self.inside.state c.self.inside.left
+
 pub returns-clause-stays : goal.returns-clause-stays
 returns-clause-stays g c =
     let own = own_key g.met.K.Eq.laws c.self.invariant.agrees c.args.place (listed_inside _ c.self.view_is c.requires) in
     let e = c.append_behind.ensures in
-    let n = c.append_behind.new in
-    subst (λ m. KeepsPlace g.K.PartialEq.eq m (map_of n.keys c.self.inside.table.capacity n.values c.self.inside.state c.self.inside.left)
-    c.args.place) c.self.view_is
+    subst (λ m. KeepsPlace g.K.PartialEq.eq m (new_map g c) c.args.place) c.self.view_is
     (record {
       listed = (behind_stays (g.K.PartialEq.eq own.0) c.args.place _ _ _ _ c.args.value c.args.place own.1 c.append_behind.result e.ok
           e.unchanged).listed;
@@ -43,10 +46,9 @@ returns-clause-stays g c =
           e.unchanged;
     })
 
--- whether the value was appended or refused
+-- it grows so whether the value was appended or refused
 abbrev grows : (g : Over) (c : After-append_behind g) → GrowsForValue
-    (map_of c.self.inside.keys c.self.inside.table.capacity c.self.inside.values c.self.inside.state c.self.inside.left)
-    (map_of c.append_behind.new.keys c.self.inside.table.capacity c.append_behind.new.values c.self.inside.state c.self.inside.left)
+    (map_of c.self.inside.keys c.self.inside.table.capacity c.self.inside.values c.self.inside.state c.self.inside.left) (new_map g c)
 grows g c =
     let i = c.self.inside in
     let n = c.append_behind.new in
@@ -56,34 +58,24 @@ grows g c =
 
 pub returns-clause-ok : goal.returns-clause-ok
 returns-clause-ok g c =
-    let i = c.self.inside in
-    let n = c.append_behind.new in
     let e = c.append_behind.ensures in
-    let agrees = c.self.invariant.agrees in
-    subst (λ m. OnOk c.append_behind.result (IsAppendedAt g.K.PartialEq.eq c.args.place c.args.value m
-    (map_of n.keys i.table.capacity n.values i.state i.left))) c.self.view_is
-    (on_ok-map (λ lists. record {
-      lists = lists;
-      grows = grows g c;
-      taken = e.values.taken;
-    }) c.append_behind.result (behind_lists g.met.K.Eq.laws agrees _ _ c.args.value c.args.place c.append_behind.result e.ok))
+    subst (λ m. OnOk c.append_behind.result (IsAppendedAt g.K.PartialEq.eq c.args.place c.args.value m (new_map g c))) c.self.view_is
+    (on_ok-map (λ lists. record { lists = lists; grows = grows g c; taken = e.values.taken }) c.append_behind.result
+    (behind_lists g.met.K.Eq.laws c.self.invariant.agrees _ _ c.args.value c.args.place c.append_behind.result e.ok))
 
 pub returns-clause-refused : goal.returns-clause-refused
 returns-clause-refused g c =
-    let i = c.self.inside in
-    let n = c.append_behind.new in
     let e = c.append_behind.ensures in
     let agrees = c.self.invariant.agrees in
     let own = own_key g.met.K.Eq.laws agrees c.args.place (listed_inside _ c.self.view_is c.requires) in
     let after = behind_agrees g.met.K.Eq.laws agrees own.0 c.args.value _ _ c.args.place own.1 c.append_behind.result e.ok e.unchanged in
-    subst (λ m. IfErr c.append_behind.result (RefusesValue c.args.value m
-    (map_of n.keys i.table.capacity n.values i.state i.left))) c.self.view_is
+    subst (λ m. IfErr c.append_behind.result (RefusesValue c.args.value m (new_map g c))) c.self.view_is
     (if_err-map (λ r kept returned. record {
       returned = returned;
       lists = kept.0;
       grows = grows g c;
       taken = e.values.taken;
-      full = λ room. kept.1 (value_room after (n.values.list.capacity / 2) room);
+      full = λ room. kept.1 (value_room after (c.append_behind.new.values.list.capacity / 2) room);
     }) c.append_behind.result (both_on_err _ _ c.append_behind.result
     (refused_lists g.met.K.Eq.laws agrees own.0 c.args.value _ _ c.append_behind.result e.unchanged) e.full)
     e.hands_back.refused)

@@ -1,4 +1,4 @@
-use Rattle.std.proofs.Common.{◌≡◌, refl, sym, subst}
+use Rattle.std.proofs.Common.{◌≡◌, refl, subst}
 use Rattle.ordered_multimap.specs.Agrees.{HasKey, lists_of}
 use Rattle.ordered_multimap.specs.Private.KeySteps.{StaysInRoom}
 use Rattle.ordered_multimap.proofs.Agreement.LookUps.{listed_inside, own_key}
