@@ -62,7 +62,7 @@ module _ {K : Type 0} {eq : K → K → Bool} (laws : IsEquivalence eq) (accepts
 
 module _ {K V : Type 0} {eq : K → K → Bool} {hash : K → ℕ} {keys : Slots K KeyLink} {rows : FinMap nat_cmp ℕ} {values : Slots V ValueLink}
     (agrees : Agrees eq hash keys rows values) where
-  present_where : (accepts : K → Bool) → is_present_where accepts (pairs_of keys values) ≡ list_any accepts (items_of keys)
+  pub present_where : (accepts : K → Bool) → is_present_where accepts (pairs_of keys values) ≡ list_any accepts (items_of keys)
   present_where accepts = is_present-any accepts (pairs_of keys values) ∙ same_any accepts (lists_of keys values) (well_formed agrees)
 
   -- whether a key that a test accepts is listed
@@ -71,11 +71,6 @@ module _ {K V : Type 0} {eq : K → K → Bool} {hash : K → ℕ} {keys : Slots
   listed_as_found accepts None found unlisted = sym unlisted
   listed_as_found accepts (Some place) has unlisted = sym (any_member accepts has.stored (items_of keys)
       (IsIn-filter_map (item_at keys) place has.stored keys.order has.listed has.item_is) has.equal)
-
-  -- and whether it is present
-  pub present_as_found : (accepts : K → Bool) (o : Option ℕ) → IfSome o (HasKeyWhere accepts keys)
-      → IfNone o (list_any accepts (items_of keys) ≡ false) → is_some o ≡ is_present_where accepts (pairs_of keys values)
-  present_as_found accepts o found unlisted = listed_as_found accepts o found unlisted ∙ sym (present_where accepts)
 
   -- where a test accepts no key
   pub lacks_where : (accepts : K → Bool) (o : Option ℕ) → IfNone o (list_any accepts (items_of keys) ≡ false)

@@ -1,5 +1,5 @@
--- What appending the pairs of an iterator's items makes of the two lists. No public clause cites this
--- module.
+-- What a call makes of the two lists that appends the pair of each item of an iterator. No public
+-- clause cites this module.
 use Rattle.std.specs.Prelude.{◌≡◌, Bool, List, [], ◌∷◌, ◌++◌, map, Option, Result, MatchResult}
 use Rattle.std.specs.Iterator.{Drains, Yields}
 use Rattle.ordered_multimap.specs.Lists.{Lists}

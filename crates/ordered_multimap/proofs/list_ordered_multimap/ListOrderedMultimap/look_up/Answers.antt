@@ -1,10 +1,12 @@
-use Rattle.std.proofs.Common.{sym, ap, ◌∙◌, subst}
-use Rattle.std.specs.Prelude.{IfSome, IfNone}
+use Rattle.std.proofs.Common.{◌≡◌, sym, ap, ◌∙◌, subst}
+use Rattle.std.specs.Prelude.{IfSome, IfNone, is_some}
 use Rattle.std.specs.List.{list_any}
-use Rattle.ordered_multimap.specs.Agrees.{HasKeyWhere, IsFoundBy, LacksWhere, StandsAt, hash_of}
+use Rattle.ordered_multimap.specs.Agrees.{HasKeyWhere, IsFoundBy, LacksWhere, StandsAt, hash_of, items_of}
 use Rattle.ordered_multimap.specs.Pairs.{is_present_where}
 use Rattle.ordered_multimap.proofs.Agreement.LookUps.{keyed}
-use Rattle.ordered_multimap.proofs.Agreement.Queries.{found_by, lacks_where, listed_as_found, present_as_found, stands_at}
+use Rattle.ordered_multimap.proofs.Agreement.Queries.{found_by, lacks_where, listed_as_found, present_where, stands_at}
+use Rattle.ordered_multimap.proofs.list_ordered_multimap.ListOrderedMultimap.look_up.Given.{Over}
+use Rattle.ordered_multimap.proofs.list_ordered_multimap.ListOrderedMultimap.look_up.Goals.{After-place_of}
 use Rattle.ordered_multimap.proofs.list_ordered_multimap.ListOrderedMultimap.look_up.Goals as goal
 
 pub place_of-requires : goal.place_of-requires
@@ -37,16 +39,18 @@ returns-clause-absent g c =
     subst (λ m. IfNone c.place_of.result (LacksWhere accepts g.K.PartialEq.eq m.lists)) c.self.view_is
     (lacks_where c.self.invariant.agrees accepts c.place_of.result c.place_of.ensures.absent)
 
-pub returns-clause-listed : goal.returns-clause-listed
-returns-clause-listed g c =
-    let accepts = g.Q.KeyQuery.equivalent c.args.query in
-    listed_as_found c.self.invariant.agrees accepts c.place_of.result c.place_of.ensures.found
+-- a place is found where a key is listed that the query stands for
+found_is : (g : Over) (c : After-place_of g)
+    → is_some c.place_of.result ≡ list_any (g.Q.KeyQuery.equivalent c.args.query) (items_of c.self.inside.keys)
+found_is g c =
+    listed_as_found c.self.invariant.agrees (g.Q.KeyQuery.equivalent c.args.query) c.place_of.result c.place_of.ensures.found
     c.place_of.ensures.absent
-    ∙ ap (λ m. list_any accepts m.lists.keys) c.self.view_is
+
+pub returns-clause-listed : goal.returns-clause-listed
+returns-clause-listed g c = found_is g c ∙ ap (λ m. list_any (g.Q.KeyQuery.equivalent c.args.query) m.lists.keys) c.self.view_is
 
 pub returns-clause-present : goal.returns-clause-present
 returns-clause-present g c =
     let accepts = g.Q.KeyQuery.equivalent c.args.query in
-    present_as_found c.self.invariant.agrees accepts c.place_of.result c.place_of.ensures.found
-    c.place_of.ensures.absent
+    found_is g c ∙ sym (present_where c.self.invariant.agrees accepts)
     ∙ ap (λ m. is_present_where accepts m.lists.pairs) c.self.view_is
