@@ -1,4 +1,4 @@
-//! Compaction: values go down to the holes before them, and the links that name them are mended.
+//! Compaction: values go down to the holes before them, and the links to them are written anew.
 ghost use Rattle.std.specs.Prelude.{◌≡◌, ◌≤◌, ◌<◌, ℕ, Some, IsSome};
 ghost use Rattle.multimap_slots.specs.Lists.{IsIn};
 ghost use Rattle.multimap_slots.specs.Slots.{link_at};
@@ -47,7 +47,8 @@ fn relink_ends<K, A: Allocator>(
 )
     requires listed { IsIn link.key keys.old.order }
     requires between { IsSome link.previous → IsSome link.next
-        → (l : KeyLink) → link_at keys.old link.key ≡ Some l → relocated_key (relocated from to) l ≡ l }
+        → (l : KeyLink) → link_at keys.old link.key ≡ Some l
+        → relocated_key (relocated from to) l ≡ l }
     ensures { RelinksKey keys.old keys.new link.key from to }
 {
     if link.previous.is_some() && link.next.is_some() {
@@ -56,7 +57,7 @@ fn relink_ends<K, A: Allocator>(
     relink_key(keys, link.key, from, to);
 }
 
-/// Takes the value at `from` down to the hole at `to`, and mends the links that name its place.
+/// Takes the value at `from` down to the hole at `to`, and writes the links to its place anew.
 fn move_value<K, V: Drop, A: Allocator>(
     keys: &mut SlotList<K, KeyLink, A>,
     values: &mut Tape<V, ValueLink, A>,
@@ -67,7 +68,8 @@ fn move_value<K, V: Drop, A: Allocator>(
     requires listed { IsIn from values.old.list.order }
     requires down { to < from }
     requires holes { (q : ℕ) → to ≤ q → q < from → ¬ IsIn q values.old.list.order }
-    ensures relocates { Relocates (relocated from to) keys.old keys.new values.old.list values.new.list }
+    ensures relocates { Relocates (relocated from to) keys.old keys.new
+        values.old.list values.new.list }
     ensures counts { CountsMove values.old values.new }
     ensures capacities { KeepsCapacities keys.old keys.new values.old values.new }
 {

@@ -56,8 +56,8 @@ fn move_keys<K, A: Allocator>(
     requires key_room { length keys.old.order ≤ packed.old.capacity }
     requires row_room { length keys.old.order ≤ table.old.capacity }
     requires within { (q : ℕ) → IsIn q keys.old.order → q < length new_places.old.items }
-    ensures gone { HaveNewPlaces (AreMoved keys.old) (new_place_in new_places.new.items) keys.old.order
-        packed.new }
+    ensures gone { HaveNewPlaces (AreMoved keys.old) (new_place_in new_places.new.items)
+        keys.old.order packed.new }
     ensures rows { HasRows packed.new table.new.rows }
     ensures sound { IsSound packed.new }
     ensures new_places { length new_places.new.items ≡ length new_places.old.items }

@@ -115,7 +115,8 @@ fn clone_keys<K: Hash + Clone, S: BuildHasher, A: Allocator>(
     requires within { (q : ℕ) → IsIn q keys.now.order → q < length new_places.old.items }
     ensures copied { OnOk result (HaveNewPlaces (IsKeyCopy K.is_clone
         (λ k. hash_of S.BuildHasher S.Hasher.Hasher state.now (K.hash_input k))
-        (new_place_in ranks.now.items) keys.now) (new_place_in new_places.new.items) keys.now.order copies.new) }
+        (new_place_in ranks.now.items) keys.now) (new_place_in new_places.new.items)
+        keys.now.order copies.new) }
     ensures rows { OnOk result (HasRows copies.new table.new.rows) }
     ensures sound { OnOk result (IsSound copies.new) }
     ensures new_places { OnOk result (length new_places.new.items ≡ length new_places.old.items) }
@@ -181,9 +182,10 @@ fn clone_values<V: Clone, A: Allocator>(
     requires no_value { IsEmpty copies.old.list }
     requires no_hole { copies.old.holes ≡ 0 }
     requires room { length values.now.list.order ≤ copies.old.list.capacity }
-    ensures copied { OnOk result (HaveNewPlaces (IsValueCopy V.is_clone (new_place_in new_places.now.items)
-        (new_place_in ranks.now.items) values.now.list) (new_place_in ranks.now.items)
-        values.now.list.order copies.new.list) }
+    ensures copied { OnOk result (HaveNewPlaces
+        (IsValueCopy V.is_clone (new_place_in new_places.now.items)
+        (new_place_in ranks.now.items) values.now.list)
+        (new_place_in ranks.now.items) values.now.list.order copies.new.list) }
     ensures sound { OnOk result (IsSound copies.new.list) }
     ensures room { KeepsTapeRoom copies.old copies.new }
 {
@@ -212,7 +214,8 @@ fn clone_into<K: Hash + Clone, V: Clone, S: BuildHasher, A: Allocator>(
     requires key_room { length keys.now.order ≤ storage.old.keys.capacity }
     requires row_room { length keys.now.order ≤ storage.old.table.capacity }
     requires value_room { length values.now.list.order ≤ storage.old.values.list.capacity }
-    requires new_places { (q : ℕ) → IsIn q keys.now.order → q < length storage.old.new_places.items }
+    requires new_places { (q : ℕ) → IsIn q keys.now.order
+        → q < length storage.old.new_places.items }
     ensures copied { OnOk result (AreCopied K.is_clone V.is_clone
         (λ k. hash_of S.BuildHasher S.Hasher.Hasher state.now (K.hash_input k))
         keys.now storage.new.keys storage.new.table.rows values.now.list storage.new.values.list) }

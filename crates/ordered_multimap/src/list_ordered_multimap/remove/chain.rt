@@ -16,7 +16,7 @@ use multimap_walks::{ChainEnds, KeyLink, ValueLink};
 use std::alloc::Allocator;
 
 /// Lets the first `count` values along the links from a place on leave, and returns what the first
-/// gives, and where they stood. No link is mended.
+/// gives, and where they stood. No link is written.
 #[inline(always)]
 fn unlink_values<V, W: Unlink<V>, A: Allocator>(
     values: &mut Tape<V, ValueLink, A>,
@@ -69,7 +69,7 @@ pub(crate) fn take_key<K, A: Allocator>(
     key
 }
 
-/// Takes the key at the place out, and lets all its values leave. No link is mended, since the
+/// Takes the key at the place out, and unlinks all its values. No link is written, since the
 /// links of a chain name only each other.
 #[inline(always)]
 pub(crate) fn unlink_entry<K, V, W: Unlink<V>, A: Allocator>(
