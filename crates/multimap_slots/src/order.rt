@@ -162,17 +162,11 @@ impl<L: Copy, A: Allocator> InOrder for Order<L, A> {
     }
 
     fn following(&self, place: usize) -> usize {
-        match self.next(place) {
-            Some(following) => following,
-            None => unreachable!(),
-        }
+        self.nodes[place].next.place()
     }
 
     fn preceding(&self, place: usize) -> usize {
-        match self.previous(place) {
-            Some(preceding) => preceding,
-            None => unreachable!(),
-        }
+        self.nodes[place].previous.place()
     }
 }
 

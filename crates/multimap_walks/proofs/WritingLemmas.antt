@@ -1,6 +1,6 @@
 -- What is left to be taken, and what a step of a walk for writing leaves of it.
 use Rattle.std.proofs.Common.{◌≡◌, ℕ, ◌+◌, ◌-◌, List, false, Option, Some, None, unwrap_or, refl, sym, ap, subst}
-use Rattle.std.specs.Prelude.{IfSome, IsSome}
+use Rattle.std.specs.Prelude.{IfSome}
 use Rattle.std.specs.Borrow.{MutBor}
 use Rattle.multimap_slots.specs.Lists.{IsIn, AreDistinct}
 use Rattle.multimap_slots.specs.Slots.{Slots, HasLink, IsSound}
@@ -24,10 +24,6 @@ use Rattle.multimap_walks.proofs.Callers.Ends.{AreDistinct-end, AreDistinct-rest
 each_some : {P : ℕ → Type 0} (o : Option ℕ) → ((x : ℕ) → o ≡ Some x → P x) → IfSome o P
 each_some None each = tt
 each_some (Some x) each = each x refl
-
-some_or : (o : Option ℕ) → (o ≡ None → ⊥) → IsSome o
-some_or None never = absurd (never refl)
-some_or (Some x) never = refl
 
 module _ {T L A : Type 0} where
   -- what is left with one more at an end
@@ -84,15 +80,6 @@ module _ {T L A : Type 0} where
           ap (λ o. unwrap_or o (end_place end left)) (sym is) in
           let all = takes_end order left more can.are_left end x told in
           can.untaken.each x (subst (IsIn x) (sym all) (IsIn-rest end (end_place end left) x _ (reached x told))))
-
-      -- and there is one, since no place is left twice
-      pub neighbour_stands : IsSome (neighbour_of order end (end_place end left))
-      neighbour_stands =
-          some_or (neighbour_of order end (end_place end left)) (λ none.
-          let place = end_place end left in
-          let told : place ≡ unwrap_or (neighbour_of order end place) place = ap (λ o. unwrap_or o place) (sym none) in
-          let all = takes_end order left more can.are_left end place told in
-          AreDistinct-end end place _ (subst AreDistinct all can.untaken.distinct) (reached place told))
 
   module _ (old new : SlotCells T L A) (place : ℕ) (item : MutBor T) (takes : TakesItem old place item new) where
     -- each other item is left as before

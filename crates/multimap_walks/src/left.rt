@@ -1,7 +1,7 @@
 //! The places of a list that an iterator has left, and its step from either end.
 //!
 //! What an iterator yields for a place is its own.
-ghost use Rattle.std.specs.Prelude.{◌≡◌, ℕ, List, IfSome};
+ghost use Rattle.std.specs.Prelude.{◌≡◌, ℕ, List, Some, IfSome, IsSome};
 ghost use Rattle.multimap_slots.specs.Lists.{IsIn};
 ghost use Rattle.multimap_slots.specs.Slots.{IsSound};
 ghost use Rattle.multimap_walks.specs.Along.{AreLeft, all_places, neighbour_of, places_left};
@@ -37,10 +37,11 @@ pub trait Ordered {
     ///
     /// # Requires
     ///
-    /// `place` is a place of the list.
-    fn neighbour(&self, end: End, place: usize) -> Option<usize>
-        requires { IsIn place (order self.now) }
-        ensures { result ≡ neighbour_of (order self.now) end place };
+    /// `place` is a place of the list, and not the last one that such steps reach.
+    fn neighbour(&self, end: End, place: usize) -> usize
+        requires listed { IsIn place (order self.now) }
+        requires more { IsSome (neighbour_of (order self.now) end place) }
+        ensures { neighbour_of (order self.now) end place ≡ Some result };
 }
 
 impl<T, L: Copy, A: Allocator> Ordered for SlotList<T, L, A> {
@@ -57,10 +58,10 @@ impl<T, L: Copy, A: Allocator> Ordered for SlotList<T, L, A> {
     }
 
     #[inline(always)]
-    fn neighbour(&self, end: End, place: usize) -> Option<usize> {
+    fn neighbour(&self, end: End, place: usize) -> usize {
         match end {
-            End::Front => self.next_listed_place(place),
-            End::Back => self.previous_listed_place(place),
+            End::Front => self.following_listed_place(place),
+            End::Back => self.preceding_listed_place(place),
         }
     }
 }
@@ -79,17 +80,17 @@ impl<T, L: Copy, A: Allocator> Ordered for Tape<T, L, A> {
     }
 
     #[inline(always)]
-    fn neighbour(&self, end: End, place: usize) -> Option<usize> {
+    fn neighbour(&self, end: End, place: usize) -> usize {
         match end {
-            End::Front => self.next_listed_place(place),
-            End::Back => self.previous_listed_place(place),
+            End::Front => self.following_listed_place(place),
+            End::Back => self.preceding_listed_place(place),
         }
     }
 }
 
 /// Takes the place at an end from those that are left of a list, or returns `None` if none is left.
 ///
-/// It asks the list for one neighbour.
+/// It asks the list for one neighbour, and for none if one place is left.
 ///
 /// # Complexity
 ///
@@ -110,7 +111,11 @@ pub fn take<O: Ordered>(end: End, list: &O, left: &mut ChainEnds) -> Option<usiz
         return None;
     }
     let place = left.place_at(end);
-    let neighbour = list.neighbour(end, place).unwrap_or(place);
+    let neighbour = if left.length == 1 {
+        place
+    } else {
+        list.neighbour(end, place)
+    };
     *left = left.after(end, neighbour);
     Some(place)
 }

@@ -38,8 +38,14 @@ macro_rules! used {
         }
         *$items.get_listed_mut($place) = $slot.0;
         *$items.listed_link_mut($place) = $slot.1;
-        let before = $items.previous_listed_place($place);
-        let behind = $items.next_listed_place($place);
+        let before = match $items.previous_listed_place($place) {
+            Some(_) => Some($items.preceding_listed_place($place)),
+            None => None,
+        };
+        let behind = match $items.next_listed_place($place) {
+            Some(_) => Some($items.following_listed_place($place)),
+            None => None,
+        };
         let (item, link) = $items.get_listed($place, $reads);
         Some((before, (*item, link), behind))
     }};

@@ -1,5 +1,5 @@
 //! The order of the list: both ends, and the neighbours of a place. None of these counts as a read.
-ghost use Rattle.std.specs.Prelude.{◌≡◌};
+ghost use Rattle.std.specs.Prelude.{◌≡◌, Some, IsSome};
 ghost use Rattle.multimap_slots.specs.Lists.{IsIn, first_of, last_of, next_of, previous_of};
 
 use super::SlotList;
@@ -61,5 +61,27 @@ impl<T, L: Copy, A: Allocator> SlotList<T, L, A> {
         ensures { result ≡ previous_of self.now.order place }
     {
         self.order.previous(place)
+    }
+
+    /// The place behind `place`, where an item of the list must stand that isn't the last one. It
+    /// tests nothing.
+    #[inline(always)]
+    pub fn following_listed_place(&self, place: usize) -> usize
+        requires listed { IsIn place self.now.order }
+        requires more { IsSome (next_of self.now.order place) }
+        ensures { next_of self.now.order place ≡ Some result }
+    {
+        self.order.following(place)
+    }
+
+    /// The place before `place`, where an item of the list must stand that isn't the first one. It
+    /// tests nothing.
+    #[inline(always)]
+    pub fn preceding_listed_place(&self, place: usize) -> usize
+        requires listed { IsIn place self.now.order }
+        requires more { IsSome (previous_of self.now.order place) }
+        ensures { previous_of self.now.order place ≡ Some result }
+    {
+        self.order.preceding(place)
     }
 }

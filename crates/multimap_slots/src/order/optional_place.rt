@@ -1,5 +1,5 @@
 //! A place or none, in one word.
-ghost use Rattle.std.specs.Prelude.{◌≡◌, ◌+◌, ◌<◌, ◌^◌, None, Some, Option};
+ghost use Rattle.std.specs.Prelude.{◌≡◌, ◌+◌, ◌<◌, ◌^◌, None, Some, Option, IsSome};
 
 use std::marker::Model;
 
@@ -45,5 +45,14 @@ impl OptionalPlace {
         } else {
             Some(self.above - 1)
         }
+    }
+
+    /// The place of one that isn't none.
+    #[inline(always)]
+    pub(crate) fn place(self) -> usize
+        requires { IsSome self }
+        ensures { self ≡ Some result }
+    {
+        self.above - 1
     }
 }

@@ -1,5 +1,6 @@
 -- Lists with one item more at an end, and a step from either end of a path.
 use Rattle.std.proofs.Common.{◌≡◌, ℕ, ◌+◌, ◌-◌, List, [], ◌∷◌, ◌++◌, length, map, Option, Some, unwrap_or, refl, inl, inr, arith}
+use Rattle.std.proofs.Common.{◌<◌, IsSome}
 use Rattle.std.specs.List.{filter_map}
 use Rattle.std.proofs.lemmas.List.{map-append, length-append, take_at}
 use Rattle.multimap_slots.specs.Lists.{IsIn, AreDistinct}
@@ -11,7 +12,7 @@ use Rattle.multimap_walks.specs.Ends.{end_place, ends_after, step_from}
 use Rattle.multimap_walks.specs.Path.{path, IsPath}
 use Rattle.multimap_walks.specs.Walk.{end_rest, with_end}
 use Rattle.multimap_walks.proofs.Callers.Paths.{front_stands, back_stands, front_rest, back_rest, front_taken, back_taken, shown_first}
-use Rattle.multimap_walks.proofs.Callers.Paths.{shown_last}
+use Rattle.multimap_walks.proofs.Callers.Paths.{shown_last, front_named, back_named}
 
 module _ {X : Type 0} where
   pub end_rest-none : (end : End) → end_rest end (let none : List X = [] in none) ≡ []
@@ -72,6 +73,10 @@ module _ (stands : ℕ → Type 0) (next previous : ℕ → Option ℕ) (left : 
   pub end_stands : (end : End) → stands (end_place end left)
   end_stands Front = front_stands stands next previous left.first left.last left.length n more walk
   end_stands Back = back_stands stands next previous left.first left.last left.length n more walk
+
+  pub end_named : 0 < n → (end : End) → IsSome (step_from end next previous (end_place end left))
+  end_named some Front = front_named stands next previous left.first left.last left.length n more walk some
+  end_named some Back = back_named stands next previous left.first left.last left.length n more walk some
 
   module _ (place : ℕ) where
     abbrev AreAfter : End → Type 0

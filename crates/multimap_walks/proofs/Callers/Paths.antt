@@ -1,6 +1,6 @@
 -- Steps along a path, from either end, and what is shown along it.
 use Rattle.std.proofs.Common.{◌≡◌, ℕ, ◌+◌, List, [], ◌∷◌, ◌++◌, length, reverse, Option, Some, None, unwrap_or, refl, sym, ap, ◌∙◌, subst}
-use Rattle.std.proofs.Common.{inl, inr, arith}
+use Rattle.std.proofs.Common.{inl, inr, arith, ◌<◌}
 use Rattle.std.specs.Prelude.{IfSome, IsSome}
 use Rattle.std.specs.List.{filter_map, cons_option}
 use Rattle.std.proofs.lemmas.Bool.{eq-eqb, ne_eqb}
@@ -130,6 +130,13 @@ module _ (stands : ℕ → Type 0) (next previous : ℕ → Option ℕ) where
           taken = ap (λ x. x ∷ places) first;
         }
 
+-- the first of several places names the next
+names_on : (names : ℕ → Option ℕ) (front : ℕ) (places : List ℕ) → Leads names places → IfSome (first_of places) (λ p. p ≡ front)
+    → 1 < length places → IsSome (names front)
+names_on names front [] leads first several = absurd (omega (arith, several))
+names_on names front (p ∷ []) leads first several = absurd (omega (arith, several))
+names_on names front (p ∷ q ∷ places) leads first several = subst IsSome (sym (ap names (sym first) ∙ leads.0)) refl
+
 -- a step at either end: what stands there, the path that is left, and the place that is taken
 module _ (stands : ℕ → Type 0) (next previous : ℕ → Option ℕ) (front back m n : ℕ) (more : m ≡ n + 1)
     (walk : IsPath stands next previous front back m) where
@@ -150,6 +157,13 @@ module _ (stands : ℕ → Type 0) (next previous : ℕ → Option ℕ) (front b
 
   pub back_stands : stands back
   back_stands = backward.there back (subst (IsIn back) (sym (at_back _ refl).taken) (inl refl))
+
+  -- where another place is left, each end names its neighbour
+  pub front_named : 0 < n → IsSome (next front)
+  front_named some = names_on next front grown.places grown.onward grown.first (omega (arith, grown.count, some))
+
+  pub back_named : 0 < n → IsSome (previous back)
+  back_named some = names_on previous back backward.places backward.onward backward.first (omega (arith, backward.count, some))
 
   pub front_rest : (behind : ℕ) → behind ≡ unwrap_or (next front) front → IsPath stands next previous behind back n
   front_rest behind told = (at_front behind told).rest

@@ -1,8 +1,8 @@
 use Rattle.std.proofs.Common.{arith, ap, rules, sym, unwrap_or}
 use Rattle.multimap_slots.specs.SlotCells.{lent_slots}
 use Rattle.multimap_walks.specs.Ends.{end_place}
-use Rattle.multimap_walks.proofs.Callers.Along.{left_after, takes_end}
-use Rattle.multimap_walks.proofs.WritingLemmas.{end_is_left, neighbour_is_left, neighbour_stands}
+use Rattle.multimap_walks.proofs.Callers.Along.{left_after, neighbour_stands, takes_end}
+use Rattle.multimap_walks.proofs.WritingLemmas.{end_is_left, neighbour_is_left}
 use Rattle.multimap_walks.proofs.writing.rest_after.Goals as goal
 
 pub neighbour-requires-clause-left : goal.neighbour-requires-clause-left
@@ -18,8 +18,8 @@ neighbour-requires-clause-neighbour g c =
 pub neighbour-requires-clause-more : goal.neighbour-requires-clause-more
 neighbour-requires-clause-more g c =
     rw c.place_at-place.ensures
-    (neighbour_stands c.args.cells.now c.args.left (omega (arith, c.requires.more)) c.requires.can c.args.end
-    (omega (arith, c.if-left-gt1.true)))
+    (neighbour_stands (lent_slots c.args.cells.now).order c.args.left (omega (arith, c.requires.more)) c.requires.can.are_left
+    c.args.end (omega (arith, c.if-left-gt1.true)))
 
 pub returns-then-left-gt1-clause-are_left : goal.returns-then-left-gt1-clause-are_left
 returns-then-left-gt1-clause-are_left g c =
