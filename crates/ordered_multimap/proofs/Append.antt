@@ -4,5 +4,6 @@ pub mod Entered
 pub mod Entries
 pub mod Extended
 pub mod Inserted
+pub mod Replaced
 pub mod Rooms
 pub mod Steps

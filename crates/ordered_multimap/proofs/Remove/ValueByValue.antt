@@ -16,7 +16,7 @@ use Rattle.ordered_multimap.proofs.Callers.Places.{begins, AreDistinct-filter, f
 use Rattle.ordered_multimap.proofs.Agreement.Agreed.{is_value_of-is}
 use Rattle.ordered_multimap.proofs.Chains.LongerLists.{last_or-push}
 
-nothing : (rest : List ℕ) → length rest ≡ 0 → rest ≡ []
+pub nothing : (rest : List ℕ) → length rest ≡ 0 → rest ≡ []
 nothing [] e = refl
 nothing (q ∷ rest) e = absurd (omega (arith, e))
 

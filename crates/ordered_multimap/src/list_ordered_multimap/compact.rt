@@ -5,8 +5,7 @@ ghost use Rattle.multimap_slots.specs.Slots.{link_at};
 ghost use Rattle.multimap_slots.specs.Tapes.{CountsMove};
 ghost use Rattle.ordered_multimap.specs.Private.Relocations.{AreChained, Compacts, KeepsCapacities, RelinksKey, Relocates, relocated, relocated_key};
 
-use super::links::{link_of, set_link, set_next, set_previous};
-use super::lookup::slot_at;
+use super::links::{link_of, set_next, set_previous};
 use multimap_slots::{SlotList, Tape};
 use multimap_walks::{KeyLink, ValueLink};
 use std::alloc::Allocator;
@@ -28,13 +27,9 @@ fn relink_key<K, A: Allocator>(
     requires { IsIn place keys.old.order }
     ensures { RelinksKey keys.old keys.new place from to }
 {
-    let (_, link) = slot_at(keys, place);
-    let relinked = KeyLink {
-        head: new_place(link.head, from, to),
-        tail: new_place(link.tail, from, to),
-        ..link
-    };
-    set_link(keys, place, relinked);
+    let link = keys.listed_link_mut(place);
+    link.head = new_place(link.head, from, to);
+    link.tail = new_place(link.tail, from, to);
 }
 
 /// Mends the link of the key that the value's link names. Where the value has neighbours on both

@@ -13,6 +13,7 @@ ghost use Rattle.ordered_multimap.specs.Rooms.{HasInsertRoom};
 ghost use Rattle.ordered_multimap.specs.TapeNumbers.{ArePaid};
 ghost use Rattle.ordered_multimap.specs.Additions.{IsInserted, IsRefused};
 
+use super::append::steps::push_value;
 use super::remove::chain::replace_chain;
 use super::remove::unlink::{KeptInPlace, TakenOut};
 use super::room::{make_end_room, make_value_room};
@@ -99,7 +100,8 @@ impl<K: Eq + Hash, V, S: BuildHasher, A: Allocator> ListOrderedMultimap<K, V, S,
 }
 
 /// Puts the value last, behind the others of the key at the place, takes these out, and returns the
-/// first of them. There is a slot for it, since a tape has two for each value of the map.
+/// first of them. There is a slot for it, since a tape has two for each value of the map. Where there
+/// is one other, no link of it is written.
 #[inline(always)]
 fn insert_behind<K, V: Drop, A: Allocator>(
     keys: &mut SlotList<K, KeyLink, A>,
@@ -113,6 +115,14 @@ fn insert_behind<K, V: Drop, A: Allocator>(
     ensures capacities { KeepsCapacities keys.old keys.new values.old values.new }
 {
     make_end_room(keys, values);
+    let link = keys.listed_link_mut(place);
+    if link.length == 1 {
+        let end = push_value(values, value, place, None);
+        let (old, _) = values.take_listed(link.head);
+        link.head = end;
+        link.tail = end;
+        return old;
+    }
     let (first, _) = replace_chain::<K, V, TakenOut<V>, A>(keys, values, place, value);
     first.value
 }
