@@ -64,12 +64,11 @@ module _ {order : List ℕ} {following : Option ℕ} (distinct : AreDistinct ord
   }
 
   -- one more value, at the place of its rank
-  pub values-step : {V : Type 0} {is_clone : V → V → Type 0} {name : ℕ
-      → ℕ} {values copies copies_after : Slots V ValueLink} {ranks : List ℕ}
-      {to : ℕ} → AreRanks order ranks
-      → AreCopying (IsValueCopy is_clone name (new_place_in ranks) values) (new_place_in ranks) order following copies
-      → CopiesValue is_clone name (new_place_in ranks) values copies copies_after place to → to ≡ length copies.order
-      → AreCopying (IsValueCopy is_clone name (new_place_in ranks) values) (new_place_in ranks) order next copies_after
+  pub values-step : {V : Type 0} {is_clone : V → V → Type 0} {name rank : ℕ → ℕ} {values copies copies_after : Slots V ValueLink}
+      {has_rank : ℕ → Type 0} {to : ℕ} → AreRanks order has_rank rank
+      → AreCopying (IsValueCopy is_clone name rank values) rank order following copies
+      → CopiesValue is_clone name rank values copies copies_after place to → to ≡ length copies.order
+      → AreCopying (IsValueCopy is_clone name rank values) rank order next copies_after
   values-step {copies = copies} {to = to} are w copied behind = record {
     done = w.done ++ place ∷ [];
     passed = passing-step distinct w.passed place here next next_is;

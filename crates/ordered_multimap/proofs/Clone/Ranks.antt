@@ -109,7 +109,7 @@ module _ {order ranks : List ℕ} {rank place : ℕ} (rises : Rises order) (note
 
 -- all places in use are behind
 pub ranks-end : {order ranks : List ℕ} {rank place : ℕ} → AreNoted order ranks rank place → ((q : ℕ) → IsIn q order → q < place)
-    → AreRanks order ranks
+    → AreRanks order (λ q. q < length ranks) (new_place_in ranks)
 ranks-end {order} {ranks} {place = place} noted within = record {
   within = λ q i. omega (arith, within q i, noted.length_is);
   each = λ q i. elim (IsIn-append q noted.done noted.rest (subst (IsIn q) noted.order_is i)) [
@@ -119,21 +119,19 @@ ranks-end {order} {ranks} {place = place} noted within = record {
 }
 
 -- each place of a value that a link names has a rank
-module _ {K V : Type 0} {keys : Slots K KeyLink} {values : Slots V ValueLink} {ranks : List ℕ} (chains : AreChained keys values)
-    (are : AreRanks values.order ranks) where
-  in_chain : (key q : ℕ) → IsIn q (chain_of values key) → q < length ranks
+module _ {K V : Type 0} {keys : Slots K KeyLink} {values : Slots V ValueLink} {has_rank : ℕ → Type 0} {rank : ℕ → ℕ}
+    (chains : AreChained keys values) (are : AreRanks values.order has_rank rank) where
+  in_chain : (key q : ℕ) → IsIn q (chain_of values key) → has_rank q
   in_chain key q i = are.within q (IsIn-kept (is_value_of values key) q values.order i).0
 
-  pub ranked_ends : (q : ℕ) (l : KeyLink) → IsIn q keys.order → link_at keys q ≡ Some l → HasRankedEnds ranks l
+  pub ranked_ends : (q : ℕ) (l : KeyLink) → IsIn q keys.order → link_at keys q ≡ Some l → HasRankedEnds has_rank l
   ranked_ends q l listed is = record {
     head = in_chain q l.head (first_of-member (chain_of values q) l.head (chains.chained.head q l listed is));
     tail = in_chain q l.tail (last_of-member (chain_of values q) l.tail (chains.chained.tail q l listed is));
   }
 
-  pub ranked_neighbours : (new_places : List ℕ) → ((q : ℕ) → IsIn q keys.order → q < length new_places) → (q : ℕ) (l : ValueLink)
-      → IsIn q values.order → link_at values q ≡ Some l → HasRankedNeighbours new_places ranks l
-  ranked_neighbours new_places within q l listed is = record {
-    key = within l.key (chains.chained.owned q l listed is);
+  pub ranked_neighbours : (q : ℕ) (l : ValueLink) → IsIn q values.order → link_at values q ≡ Some l → HasRankedNeighbours has_rank l
+  ranked_neighbours q l listed is = record {
     previous = λ p e. in_chain l.key p (previous_of-members (chain_of values l.key) q p (chains.chained.previous q l listed is ∙ e)).1;
     next = λ p e. in_chain l.key p (next_of-members (chain_of values l.key) q p (chains.chained.next q l listed is ∙ e)).1;
   }

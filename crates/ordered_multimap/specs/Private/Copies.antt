@@ -1,6 +1,6 @@
 -- Clones of keys and values in new storage, in the order of the originals. No public clause cites
 -- this module.
-use Rattle.std.specs.Prelude.{◌≡◌, ℕ, ◌<◌, List, length, set, Option, Some}
+use Rattle.std.specs.Prelude.{◌≡◌, ℕ, List, set, Option, Some}
 use Rattle.std.specs.Ordering.{nat_cmp}
 use Rattle.std.specs.FinMap.{FinMap, insert}
 use Rattle.multimap_slots.specs.Lists.{IsIn}
@@ -9,24 +9,23 @@ use Rattle.multimap_walks.specs.declared.links.KeyLink.{KeyLink}
 use Rattle.multimap_walks.specs.declared.links.ValueLink.{ValueLink}
 use Rattle.multimap_walks.specs.Chained.{position_in}
 use Rattle.ordered_multimap.specs.Private.KeyRelocations.{HasRows, HaveNewPlaces}
-use Rattle.ordered_multimap.specs.Private.KeyRelocations.{new_place_in, with_new_key}
+use Rattle.ordered_multimap.specs.Private.KeyRelocations.{with_new_key}
 use Rattle.ordered_multimap.specs.Private.Relocations.{relocated_key, relocated_value}
 
--- at each place of the order its rank: how many places stand before it
-pub record AreRanks (order ranks : List ℕ) : Type 0 where
-  pub within : (q : ℕ) → IsIn q order → q < length ranks
-  pub each : (q : ℕ) → IsIn q order → new_place_in ranks q ≡ position_in order q
+-- each place of the order has its rank: how many places stand before it
+pub record AreRanks (order : List ℕ) (has_rank : ℕ → Type 0) (rank : ℕ → ℕ) : Type 0 where
+  pub within : (q : ℕ) → IsIn q order → has_rank q
+  pub each : (q : ℕ) → IsIn q order → rank q ≡ position_in order q
 
 -- both ends that the link names have a rank
-pub record HasRankedEnds (ranks : List ℕ) (link : KeyLink) : Type 0 where
-  pub head : link.head < length ranks
-  pub tail : link.tail < length ranks
+pub record HasRankedEnds (has_rank : ℕ → Type 0) (link : KeyLink) : Type 0 where
+  pub head : has_rank link.head
+  pub tail : has_rank link.tail
 
--- the key that the link names has a new place, and each neighbour a rank
-pub record HasRankedNeighbours (new_places ranks : List ℕ) (link : ValueLink) : Type 0 where
-  pub key : link.key < length new_places
-  pub previous : (q : ℕ) → link.previous ≡ Some q → q < length ranks
-  pub next : (q : ℕ) → link.next ≡ Some q → q < length ranks
+-- each neighbour that the link names has a rank
+pub record HasRankedNeighbours (has_rank : ℕ → Type 0) (link : ValueLink) : Type 0 where
+  pub previous : (q : ℕ) → link.previous ≡ Some q → has_rank q
+  pub next : (q : ℕ) → link.next ≡ Some q → has_rank q
 
 module _ {K : Type 0} (is_clone : K → K → Type 0) (hash : K → ℕ) (rank : ℕ → ℕ)
     (keys : Slots K KeyLink) where

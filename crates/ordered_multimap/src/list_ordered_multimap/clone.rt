@@ -5,6 +5,7 @@ ghost use Rattle.ordered_multimap.specs.Clones.{AreClones};
 ghost use Rattle.ordered_multimap.specs.Pairs.{all_values};
 ghost use Rattle.ordered_multimap.specs.TapeNumbers.{AreUnused};
 
+mod ranks;
 mod steps;
 
 use super::{ListOrderedMultimap, NO_CHAIN};
@@ -34,7 +35,8 @@ impl<
     ///
     /// *O*(slots in use) expected. It reads each pair once and hashes each key once. All room of
     /// the clone is allocated before a key is cloned. During the call it allocates a number for
-    /// each slot in use.
+    /// each slot of a key that is in use. If there are holes among the values' slots, it also
+    /// allocates one for each of these slots that is in use.
     ///
     /// # Requires
     ///

@@ -19,16 +19,24 @@ fn insert<A: Allocator + Copy>(test: &Test, allocator: A, map: &mut Texts<A>, pa
     test.expect(map.insert(key, value).is_ok());
 }
 
-// The keys a, b and the pairs (b, y), (a, z).
+// The keys a, b and the pairs (a, z), (b, y).
 fn has_both<A: Allocator + Copy>(test: &Test, map: &Texts<A>) {
     test.expect(is_shown(test.alloc(), &map.keys(), r#"Keys(["a", "b"])"#));
-    test.expect(is_shown(test.alloc(), map, r#"{"b": "y", "a": "z"}"#));
+    test.expect(is_shown(test.alloc(), map, r#"{"a": "z", "b": "y"}"#));
 }
 
-const PAIRS: &[(char, char)] = &[('a', 'x'), ('b', 'y'), ('a', 'z')];
+const WITHOUT_HOLES: &[(char, char)] = &[('a', 'z'), ('b', 'y')];
 
-fn fill<A: Allocator + Copy>(test: &Test, allocator: A, map: &mut Texts<A>) {
-    for pair in PAIRS {
+// The second pair replaces the first, which leaves a hole.
+const WITH_A_HOLE: &[(char, char)] = &[('a', 'x'), ('a', 'z'), ('b', 'y')];
+
+fn fill<A: Allocator + Copy>(
+    test: &Test,
+    allocator: A,
+    map: &mut Texts<A>,
+    pairs: &[(char, char)],
+) {
+    for pair in pairs {
         insert(test, allocator, map, *pair);
     }
 }
@@ -51,25 +59,35 @@ fn clone_by<A: Allocator + Copy>(
     test: &Test,
     refusing: &RefusingAllocator,
     allocator: A,
+    pairs: &[(char, char)],
     granted: u64,
 ) -> bool {
     lend(ListOrderedMultimap::new(allocator), |map| {
-        fill(test, allocator, map);
+        fill(test, allocator, map, pairs);
         refusing.grant(granted);
         clones_of_it(test, refusing, map)
     })
 }
 
-fn clone_with(test: &Test, granted: u64) -> bool {
+fn clone_with(test: &Test, pairs: &[(char, char)], granted: u64) -> bool {
     let allocator = RefusingAllocator::unlimited(test.alloc());
-    clone_by(test, &allocator, &allocator, granted)
+    clone_by(test, &allocator, &allocator, pairs, granted)
 }
 
 #[test]
 fn a_refused_clone_leaves_the_map(rt: HostRuntime) -> Result<(), Failed> {
     let test = Test::new(rt.alloc());
-    let enough = requests_until_enough(|granted| clone_with(&test, granted));
-    // Both lists, the table and four texts.
-    test.expect(enough.unwrap_or(0) >= 7);
+    let enough = requests_until_enough(|granted| clone_with(&test, WITHOUT_HOLES, granted));
+    // One for the keys' new places, two each for keys and table, three for values, four for texts.
+    test.expect(enough == Some(12));
+    test.end()
+}
+
+#[test]
+fn a_refused_clone_leaves_the_map_with_a_hole(rt: HostRuntime) -> Result<(), Failed> {
+    let test = Test::new(rt.alloc());
+    let enough = requests_until_enough(|granted| clone_with(&test, WITH_A_HOLE, granted));
+    // And one for the values' ranks.
+    test.expect(enough == Some(13));
     test.end()
 }

@@ -9,6 +9,9 @@ pub clone_keys-requires-clause-room : goal.clone_keys-requires-clause-room
 clone_keys-requires-clause-room g c = omega (arith, c.requires.key_room, c.requires.row_room)
 
 pub clone_values-requires-clause-ranked : goal.clone_values-requires-clause-ranked
-clone_values-requires-clause-ranked g c =
-    ranked_neighbours c.requires.chains c.requires.ranks _
-    (λ q listed. omega (arith, c.in_ok-clone_keys.ensures.new_places, c.requires.new_places q listed))
+clone_values-requires-clause-ranked g c = ranked_neighbours c.requires.chains c.requires.ranks
+
+pub clone_values-requires-clause-named : goal.clone_values-requires-clause-named
+clone_values-requires-clause-named g c =
+    λ q l listed is.
+    omega (arith, c.in_ok-clone_keys.ensures.new_places, c.requires.new_places l.key (c.requires.chains.chained.owned q l listed is))

@@ -10,7 +10,7 @@ use Rattle.ordered_multimap.proofs.list_ordered_multimap.clone.steps.clone_keys.
 abbrev pub invariant-loop-following : goal.invariant-loop-following
 invariant-loop-following g l = record {
   copying : AreCopying (IsKeyCopy g.K.Clone.is_clone
-      (λ k. hash_of g.S.BuildHasher g.S.Hasher.Hasher l.state (g.K.Hash.hash_input k)) (new_place_in l.ranks.items) l.keys)
+      (λ k. hash_of g.S.BuildHasher g.S.Hasher.Hasher l.state (g.K.Hash.hash_input k)) (g.R.Ranks.rank l.ranks) l.keys)
       (new_place_in l.new_places.items) l.keys.order l.following l.copies;
   rows : HasRows l.copies l.table.rows;
   new_places : length l.new_places.items ≡ length l.fn.new_places.items;

@@ -10,9 +10,10 @@ returns-clause-copied g c =
     let p = c.push_reserved.ensures in
     let old : ValueLink = c.value_at.result.1 in
     let new_places = c.args.new_places.now.items in
-    let link : ValueLink = record { key = c.index-key.result.now; previous = c.rank_of-previous.result; next = c.rank_of-next.result } in
+    let ranked : ValueLink = c.ranked_value-link.result in
+    let link : ValueLink = record ranked { key = c.index-key.result.now } in
     let key_is : c.index-key.result.now ≡ get_or new_places old.key 0 =
-    c.index-key.ensures ∙ sym (get_or_default new_places old.key 0 c.index-key.result.now (c.requires.ranked old v.link_is).key) in
+    c.index-key.ensures ∙ sym (get_or_default new_places old.key 0 c.index-key.result.now (c.requires.named old v.link_is)) in
     record {
       copy = c.in_ok-copy.copy;
       link = link;
@@ -24,7 +25,7 @@ returns-clause-copied g c =
         link_was = v.link_is;
         cloned = c.in_ok-copy.ensures.cases;
         item_is = refl;
-        link_is = λ i. Some (record { key = key_is i; previous = c.rank_of-previous.ensures i; next = c.rank_of-next.ensures i });
+        link_is = λ i. Some (record (c.ranked_value-link.ensures i) { key = key_is i });
       };
       pushed = subst (λ to. PushesBack c.args.copies.now.list c.push_reserved.new.self.list to c.in_ok-copy.copy link) p.behind p.pushed;
     }

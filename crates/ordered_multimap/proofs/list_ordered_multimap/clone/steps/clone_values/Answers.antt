@@ -15,8 +15,8 @@ abbrev at : (g : Over) (c : In-Some g)
     → FollowsNext c.args.values.now.list.order c.loop-following.following c.loop-following.copies.list c.in-Some.place
 at g c = follows_next c.len-len.ensures.sound.distinct c.loop-following.invariant.copying c.in-Some.place c.in-Some.is
 
-pub next_listed_place-following-requires : goal.next_listed_place-following-requires
-next_listed_place-following-requires g c = (at g c).listed
+pub next_place-following-requires-clause-listed : goal.next_place-following-requires-clause-listed
+next_place-following-requires-clause-listed g c = (at g c).listed
 
 pub clone_value-requires : goal.clone_value-requires
 clone_value-requires g c =
@@ -25,20 +25,21 @@ clone_value-requires g c =
     record {
       listed = a.listed;
       ranked = λ l is. c.requires.ranked c.in-Some.place l a.listed is;
+      named = λ l is. c.requires.named c.in-Some.place l a.listed is;
       end_room = omega (arith, a.fewer, room.counts.holes, room.capacity, c.requires.no_hole, c.requires.room);
     }
 
 pub loop-following-smaller : goal.loop-following-smaller
 loop-following-smaller g c =
-    (at g (goal.at.loop-following-smaller g c).In-Some).smaller c.next_listed_place-following.result c.next_listed_place-following.ensures
+    (at g (goal.at.loop-following-smaller g c).In-Some).smaller c.next_place-following.result c.next_place-following.ensures
 
 pub loop-following-preserved : goal.loop-following-preserved
 loop-following-preserved g c =
     let w = c.loop-following.invariant in
     record {
       copying =
-          values-step c.len-len.ensures.sound.distinct c.in-Some.place c.in-Some.is c.next_listed_place-following.result
-          c.next_listed_place-following.ensures c.requires.ranks w.copying c.in_ok-clone_value.ensures.copied
+          values-step c.len-len.ensures.sound.distinct c.in-Some.place c.in-Some.is c.next_place-following.result
+          c.next_place-following.ensures c.requires.ranks w.copying c.in_ok-clone_value.ensures.copied
           (omega (arith, w.room.counts.holes, c.requires.no_hole));
       room = room_on w.room c.clone_value.ensures.room.counts c.clone_value.ensures.room.capacity;
     }

@@ -7,8 +7,8 @@ use Rattle.ordered_multimap.proofs.list_ordered_multimap.clone.steps.clone_value
 
 abbrev pub invariant-loop-following : goal.invariant-loop-following
 invariant-loop-following g l = record {
-  copying : AreCopying (IsValueCopy g.V.Clone.is_clone (new_place_in l.new_places.items) (new_place_in l.ranks.items) l.values.list)
-      (new_place_in l.ranks.items) l.values.list.order l.following l.copies.list;
+  copying : AreCopying (IsValueCopy g.V.Clone.is_clone (new_place_in l.new_places.items) (g.R.Ranks.rank l.ranks) l.values.list)
+      (g.R.Ranks.rank l.ranks) l.values.list.order l.following l.copies.list;
   room : KeepsTapeRoom l.fn.copies l.copies;
 }
 

@@ -1,6 +1,8 @@
 use Rattle.std.proofs.Common.{arith}
+use Rattle.ordered_multimap.proofs.Clone.NoHoles.{no_holes}
 use Rattle.ordered_multimap.proofs.list_ordered_multimap.clone.steps.cloned_storage.Goals as goal
 
-pub clone_into-requires-clause-new_places : goal.clone_into-requires-clause-new_places
-clone_into-requires-clause-new_places g c =
-    λ q listed. omega (arith, c.used_slots.ensures.above q listed, c.in_ok-storage.ensures.new_places)
+pub cloned_by_ranks-requires-clause-ranks : goal.cloned_by_ranks-requires-clause-ranks
+cloned_by_ranks-requires-clause-ranks g c =
+    no_holes c.args.values.now.list.order c.len.ensures.rises
+    (λ q i. omega (arith, c.push_place.ensures.within q i, c.if-push_place-len.true, c.len.ensures.len))

@@ -1,5 +1,5 @@
 use Rattle.ordered_multimap.proofs.Clone.Ranks.{AreNoted}
-use Rattle.ordered_multimap.proofs.list_ordered_multimap.clone.steps.ranks_of.Given as goal
+use Rattle.ordered_multimap.proofs.list_ordered_multimap.clone.ranks.ranks_of.Given as goal
 
 abbrev pub invariant-loop-place : goal.invariant-loop-place
 invariant-loop-place g l = record {

@@ -1,7 +1,7 @@
 use Rattle.std.proofs.Common.{◌+◌, [], ◌∷◌, ◌++◌, sym, subst, ◌∙◌, true≢false, arith}
 use Rattle.ordered_multimap.proofs.Clone.Ranks.{AreNoted, ranks-end, ranks-hole, ranks-listed, ranks-start}
-use Rattle.ordered_multimap.proofs.list_ordered_multimap.clone.steps.ranks_of.Goals as goal
-use Rattle.ordered_multimap.proofs.list_ordered_multimap.clone.steps.ranks_of.Goals.{then-is_listed, else-is_listed}
+use Rattle.ordered_multimap.proofs.list_ordered_multimap.clone.ranks.ranks_of.Goals as goal
+use Rattle.ordered_multimap.proofs.list_ordered_multimap.clone.ranks.ranks_of.Goals.{then-is_listed, else-is_listed}
 
 pub loop-place-init : goal.loop-place-init
 loop-place-init g c = record {
