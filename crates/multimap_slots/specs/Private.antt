@@ -6,5 +6,6 @@ pub mod OrderCells
 pub mod OrderLends
 pub mod Paths
 pub mod Runs
+pub mod Standings
 pub mod TapeLayout
 pub mod Vectors

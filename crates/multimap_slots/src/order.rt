@@ -10,7 +10,7 @@ mod write;
 
 use crate::grow::grow_to;
 use crate::in_order::{InOrder, Linked, Stored};
-use node::{Node, State};
+use node::{Node, Standing, State};
 use optional_place::OptionalPlace;
 use std::alloc::{AllocError, Allocator};
 use std::marker::Model;
@@ -91,9 +91,8 @@ impl<L: Copy, A: Allocator> Order<L, A> {
     {
         let node = Node {
             next: OptionalPlace::none(),
-            previous: self.back,
+            standing: Standing::listed(self.back),
             link,
-            state: State::Listed,
         };
         let place = claim(&mut self.nodes, &mut self.free, node);
         let end = OptionalPlace::some(place);
@@ -158,7 +157,7 @@ impl<L: Copy, A: Allocator> InOrder for Order<L, A> {
     }
 
     fn previous(&self, place: usize) -> Option<usize> {
-        self.nodes[place].previous.get()
+        self.nodes[place].standing.previous().get()
     }
 
     fn following(&self, place: usize) -> usize {
@@ -166,7 +165,7 @@ impl<L: Copy, A: Allocator> InOrder for Order<L, A> {
     }
 
     fn preceding(&self, place: usize) -> usize {
-        self.nodes[place].previous.place()
+        self.nodes[place].standing.previous().place()
     }
 }
 
@@ -189,7 +188,7 @@ impl<L: Copy, A: Allocator> Stored for Order<L, A> {
         if place >= self.nodes.len() {
             return false;
         }
-        match self.nodes[place].state {
+        match self.nodes[place].standing.state() {
             State::Listed => true,
             State::Detached | State::Free => false,
         }

@@ -71,7 +71,7 @@ module _ {L : Type 0} where
             )) in
             record {
               within = rw (length-map, length-set) (rw length-map at here.0);
-              state = rw map-set (get_or-set_other (states old) place q node.state Free differs ∙ here.1);
+              state = rw map-set (get_or-set_other (states old) place q node.standing.state Free differs ∙ here.1);
               next = rw map-set (get_or-set_other (nexts old) place q node.next None differs);
             })
             (subst (IsFreeList (nexts old) (states old) n) (ap (λ x. get_or (nexts old) x None) same ∙ reads) l.4) in
@@ -96,7 +96,7 @@ module _ {L : Type 0} where
   Claims-push old node =
       record {
         within = omega arith;
-        was_free = get_or_past (states old) (length old) Free (omega (arith, length-map old (λ (n : Node L). n.state)));
+        was_free = get_or_past (states old) (length old) Free (omega (arith, length-map old (λ (n : Node L). n.standing.state)));
         written = sym (put-push old (length old) node (omega arith));
         fills = λ _. free-none (nexts old) (states old);
         frees = λ k whole. (0, omega (arith, length_push old node, free-none (nexts old) (states old) k whole), refl);

@@ -109,9 +109,9 @@ module _ {L : Type 0} where
           field_read (λ n. n.next) nodes p read None (listed-within p i) reading ∙ next-is (split_at p i)
           ∙ ap (λ ps. next_of ps p) (sym walk-order)
 
-      pub previous-read : read.previous ≡ previous_of (walk (after front (nexts nodes)) None len) p
+      pub previous-read : read.standing.previous ≡ previous_of (walk (after front (nexts nodes)) None len) p
       previous-read =
-          field_read (λ n. n.previous) nodes p read None (listed-within p i) reading ∙ previous-is (split_at p i)
+          field_read (λ n. n.standing.previous) nodes p read None (listed-within p i) reading ∙ previous-is (split_at p i)
           ∙ ap (λ ps. previous_of ps p) (sym walk-order)
 
     -- the last of some listed places is within the nodes
@@ -122,19 +122,19 @@ module _ {L : Type 0} where
       | inr some ↦ rw (e ∙ some.1) (IsIn-within some.0 (listed some.0 some.2))
     ]
 
-    -- the first of listed places is in use
-    pub first-within : (a : Option ℕ) (ps : List ℕ) → a ≡ first_of ps → ((x : ℕ) → IsIn x ps → IsIn x o.order)
-        → IfSome a (λ q. q < length nodes)
-    first-within a [] e listed = rw e tt
-    first-within a (p ∷ ps) e listed = rw e (IsIn-within p (listed p (inl refl)))
+    -- the first of some listed places is marked so
+    pub first-listed : (a : Option ℕ) (ps : List ℕ) → a ≡ first_of ps → ((x : ℕ) → IsIn x ps → IsIn x o.order)
+        → IfSome a (λ q. get_or (states nodes) q Free ≡ Listed)
+    first-listed a [] e listed = rw e tt
+    first-listed a (p ∷ ps) e listed = rw e (o.listed p (listed p (inl refl)))
 
     -- what the state of a node that was read says
     pub state_tells : (p : ℕ) (read : Node L) → p < length nodes → read ≡ get_or nodes p read
-        → (IsIn p (walk (after front (nexts nodes)) None len) → read.state ≡ Listed)
-        × (read.state ≡ Listed → IsIn p (walk (after front (nexts nodes)) None len))
+        → (IsIn p (walk (after front (nexts nodes)) None len) → read.standing.state ≡ Listed)
+        × (read.standing.state ≡ Listed → IsIn p (walk (after front (nexts nodes)) None len))
     state_tells p read within reading = (
-      λ i. field_read (λ n. n.state) nodes p read Free within reading ∙ o.listed p (rw walk-order at i),
-      λ e. rw walk-order (o.all_in p (sym (field_read (λ n. n.state) nodes p read Free within reading) ∙ e)),
+      λ i. field_read (λ n. n.standing.state) nodes p read Free within reading ∙ o.listed p (rw walk-order at i),
+      λ e. rw walk-order (o.all_in p (sym (field_read (λ n. n.standing.state) nodes p read Free within reading) ∙ e)),
     )
 
 module _ {L : Type 0} {nodes : List (Node L)} {front back free : Option ℕ} {len detached : ℕ} where

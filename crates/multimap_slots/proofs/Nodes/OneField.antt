@@ -1,12 +1,15 @@
 -- A write or a read of one field of one node.
 use Rattle.std.proofs.Common.{◌≡◌, ◌≢◌, ℕ, ◌<◌, ◌≤◌, IfSome, List, map, length, get_or, set, Option, Some, None, refl, sym, ap, ◌∙◌, arith}
-use Rattle.std.proofs.lemmas.List.{map-set, length-map, get_or-map, get_or-set_same, get_or-set_other}
+use Rattle.std.proofs.Common.{◌+◌, ◌^◌, inl, inr}
+use Rattle.std.proofs.lemmas.Bool.{cases_lt}
+use Rattle.std.proofs.lemmas.List.{map-set, length-map, get_or-map, get_or-set_same, get_or-set_other, get_or_past}
 use Rattle.std.proofs.lemmas.Option.{slice_get-get_or}
 use Rattle.std.proofs.Math.Seq.{map-set_same}
 use Rattle.std.specs.Prelude.{slice_get}
 use Rattle.multimap_slots.specs.Private.Paths.{after, IsMoved}
 use Rattle.multimap_slots.specs.Private.ListLayout.{nexts, previouses, states, links}
 use Rattle.multimap_slots.specs.declared.order.node.Node.{Node}
+use Rattle.multimap_slots.specs.declared.order.node.State.TheVariants.{Listed, Free}
 
 -- one field is written, of those that say where to go
 pub IsMoved-field : {A : Type 0} (f : A → Option ℕ) (first : Option ℕ) (xs : List A) (p : ℕ) (y : A) → p < length xs
@@ -42,12 +45,24 @@ link_read {L} nodes p read within reading =
 -- as many states, as many nodes
 pub length-states : {L : Type 0} (xs ys : List (Node L)) → states xs ≡ states ys → length xs ≡ length ys
 length-states {L} xs ys same =
-    sym (length-map xs (λ (n : Node L). n.state)) ∙ ap length same ∙ length-map ys (λ (n : Node L). n.state)
+    sym (length-map xs (λ (n : Node L). n.standing.state)) ∙ ap length same ∙ length-map ys (λ (n : Node L). n.standing.state)
 
 -- what is within one bound is within a greater one
 pub within_more : (o : Option ℕ) (m n : ℕ) → m ≤ n → IfSome o (λ p. p < m) → IfSome o (λ p. p < n)
 within_more None m n le h = tt
 within_more (Some x) m n le h = omega arith
+
+-- a place below such a bound leaves room for the two words that stand for no place
+pub within_low : (o : Option ℕ) (n : ℕ) → n + 2 < 2 ^ 64 → IfSome o (λ p. p < n) → IfSome o (λ p. p + 3 < 2 ^ 64)
+within_low None n low h = tt
+within_low (Some x) n low h = omega (arith, low)
+
+-- a listed place is one of a node
+pub within_listed : {L : Type 0} (nodes : List (Node L)) (p : ℕ) → get_or (states nodes) p Free ≡ Listed → p < length nodes
+within_listed {L} nodes p listed = elim (cases_lt p (length nodes)) [
+  | inl below ↦ below
+  | inr past ↦ absurd (let bad = sym listed ∙ get_or_past (states nodes) p Free (rw length-map past) in cc)
+]
 
 -- another link in a node that was read
 module _ {L : Type 0} (nodes : List (Node L)) (p : ℕ) (read : Node L) (link : L) (reading : read ≡ get_or nodes p read) where
@@ -55,7 +70,7 @@ module _ {L : Type 0} (nodes : List (Node L)) (p : ℕ) (read : Node L) (link : 
   nexts-relink = map-set_same (λ n. n.next) nodes p (record read { link = link }) read (ap (λ n. n.next) reading)
 
   pub previouses-relink : previouses (set nodes p (record read { link = link })) ≡ previouses nodes
-  previouses-relink = map-set_same (λ n. n.previous) nodes p (record read { link = link }) read (ap (λ n. n.previous) reading)
+  previouses-relink = map-set_same (λ n. n.standing.previous) nodes p (record read { link = link }) read (ap (λ n. n.standing.previous) reading)
 
   pub states-relink : states (set nodes p (record read { link = link })) ≡ states nodes
-  states-relink = map-set_same (λ n. n.state) nodes p (record read { link = link }) read (ap (λ n. n.state) reading)
+  states-relink = map-set_same (λ n. n.standing.state) nodes p (record read { link = link }) read (ap (λ n. n.standing.state) reading)

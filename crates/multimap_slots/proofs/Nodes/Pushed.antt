@@ -46,12 +46,12 @@ module _ {L : Type 0} where
     previous_other : (q : ℕ) → q ≢ place → get_or (previouses written) q None ≡ get_or (previouses old) q None
     previous_other q d =
         ap (λ xs. get_or xs q None) enters.previouses_are
-        ∙ get_or-put_other (previouses old) place q back None (omega (arith, enters.within, length-map old (λ (n : Node L). n.previous))) d
+        ∙ get_or-put_other (previouses old) place q back None (omega (arith, enters.within, length-map old (λ (n : Node L). n.standing.previous))) d
 
     state_other : (q : ℕ) → q ≢ place → get_or (states written) q Free ≡ get_or (states old) q Free
     state_other q d =
         ap (λ xs. get_or xs q Free) enters.states_are
-        ∙ get_or-put_other (states old) place q Listed Free (omega (arith, enters.within, length-map old (λ (n : Node L). n.state))) d
+        ∙ get_or-put_other (states old) place q Listed Free (omega (arith, enters.within, length-map old (λ (n : Node L). n.standing.state))) d
 
     next_here : get_or (nexts written) place None ≡ None
     next_here =
@@ -61,12 +61,12 @@ module _ {L : Type 0} where
     previous_here : get_or (previouses written) place None ≡ back
     previous_here =
         ap (λ xs. get_or xs place None) enters.previouses_are
-        ∙ get_or-put_same (previouses old) place back None (omega (arith, enters.within, length-map old (λ (n : Node L). n.previous)))
+        ∙ get_or-put_same (previouses old) place back None (omega (arith, enters.within, length-map old (λ (n : Node L). n.standing.previous)))
 
     state_here : get_or (states written) place Free ≡ Listed
     state_here =
         ap (λ xs. get_or xs place Free) enters.states_are
-        ∙ get_or-put_same (states old) place Listed Free (omega (arith, enters.within, length-map old (λ (n : Node L). n.state)))
+        ∙ get_or-put_same (states old) place Listed Free (omega (arith, enters.within, length-map old (λ (n : Node L). n.standing.state)))
 
     -- the place is tied behind the last
     IsOrdered-enter : {new : List (Node L)} {front' : Option ℕ} → SetsNext written new front front' back (Some place)
@@ -130,7 +130,7 @@ module _ {L : Type 0} where
   -- a place that was claimed comes last
   pub IsOrdered-push : {old claimed new : List (Node L)} {front back free front' free' : Option ℕ} {len detached place : ℕ} {node : Node L}
       (o : IsOrdered old front back free len detached) → Claims old claimed free free' node place
-      → node.next ≡ None → node.previous ≡ back → node.state ≡ Listed
+      → node.next ≡ None → node.standing.previous ≡ back → node.standing.state ≡ Listed
       → SetsNext claimed new front front' back (Some place)
       → HasOrder new front' (Some place) free' (len + 1) detached (o.order ++ place ∷ [])
   IsOrdered-push {old} {claimed} {front = front} {back} {free} {free' = free'} {len} {detached} {place} {node} o cl is_last is_behind
@@ -143,12 +143,12 @@ module _ {L : Type 0} where
         frees = left.2;
         apart = o.apart ∙ sym kept_apart;
         nexts_are = ap nexts cl.written ∙ map-put (λ n. n.next) old place node ∙ ap (put (nexts old) place) is_last;
-        previouses_are = ap previouses cl.written ∙ map-put (λ n. n.previous) old place node ∙ ap (put (previouses old) place) is_behind;
+        previouses_are = ap previouses cl.written ∙ map-put (λ n. n.standing.previous) old place node ∙ ap (put (previouses old) place) is_behind;
         states_are = made ∙ ap (put (states old) place) is_listed;
       }) tied
     where
-      made : states claimed ≡ put (states old) place node.state
-      made = ap states cl.written ∙ map-put (λ n. n.state) old place node
+      made : states claimed ≡ put (states old) place node.standing.state
+      made = ap states cl.written ∙ map-put (λ n. n.standing.state) old place node
 
       kept_apart : count_detached (states claimed) ≡ count_detached (states old)
       kept_apart =
@@ -156,7 +156,7 @@ module _ {L : Type 0} where
             arith,
             ap count_detached made,
             count_detached-put
-                (states old) place node.state,
+                (states old) place node.standing.state,
             ap one_if_detached cl.was_free,
             ap one_if_detached is_listed,
           )

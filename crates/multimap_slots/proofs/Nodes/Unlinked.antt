@@ -22,7 +22,7 @@ use Rattle.multimap_slots.proofs.Nodes.Linked.{HasOrder, walk-order, split_in, s
 -- the place has this state, and each other node keeps its own and the place behind it
 pub record Marks {L : Type 0} (old new : List (Node L)) (place : ℕ) (state : State) : Type 0 where
   pub nexts : (q : ℕ) → q ≢ place → get_or (nexts new) q None ≡ get_or (nexts old) q None
-  pub previouses : previouses new ≡ previouses old
+  pub previouses : (q : ℕ) → q ≢ place → get_or (previouses new) q None ≡ get_or (previouses old) q None
   pub states : states new ≡ set (states old) place state
 
 -- what stands before a place stands in the whole list
@@ -51,8 +51,8 @@ module _ {L : Type 0} where
   module _ {old new : List (Node L)} {place : ℕ} {state : State} (m : Marks old new place state) where
     marks-length : length new ≡ length old
     marks-length =
-        sym (length-map new (λ (n : Node L). n.state)) ∙ ap length m.states ∙ length-set (states old) place state
-        ∙ length-map old (λ (n : Node L). n.state)
+        sym (length-map new (λ (n : Node L). n.standing.state)) ∙ ap length m.states ∙ length-set (states old) place state
+        ∙ length-map old (λ (n : Node L). n.standing.state)
 
     marks-same : place < length old → get_or (states new) place Free ≡ state
     marks-same within = ap (λ xs. get_or xs place Free) m.states ∙ get_or-set_same (states old) place state Free (rw length-map within)
@@ -130,7 +130,7 @@ module _ {L : Type 0} where
         path = path-agree (after front' (nexts tied)) (after back' (previouses both)) (after front' (nexts new))
             (after back' (previouses new)) None (s.front ++ s.back)
             refl refl
-            (λ x j. (m.nexts x (differs_in x j) ∙ ap (λ ns. get_or ns x None) backward.nexts, ap (λ ps. get_or ps x None) m.previouses))
+            (λ x j. (m.nexts x (differs_in x j) ∙ ap (λ ns. get_or ns x None) backward.nexts, m.previouses x (differs_in x j)))
             (path-remove (after front (nexts old)) (after back (previouses old)) (after front' (nexts tied))
             (after back' (previouses both)) None s.front place s.back
             (λ x j e. cc) (split_distinct o s)
@@ -194,7 +194,7 @@ module _ {L : Type 0} where
       order = o.order;
       path = path-agree (after front (nexts old)) (after back (previouses old)) (after front (nexts new))
           (after back (previouses new)) None o.order
-          refl refl (λ x j. (m.nexts x (differs_in x j), ap (λ ps. get_or ps x None) m.previouses)) o.path;
+          refl refl (λ x j. (m.nexts x (differs_in x j), m.previouses x (differs_in x j))) o.path;
       distinct = o.distinct;
       listed = λ p i. marks-other m p (differs_in p i) ∙ o.listed p i;
       all_in = λ p e. elim (cases_eq p place) [

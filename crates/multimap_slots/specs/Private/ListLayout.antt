@@ -117,11 +117,11 @@ module _ {L : Type 0} where
 
   -- the place before each node
   abbrev pub previouses : List (Node L) → List (Option ℕ)
-  previouses nodes = map (λ n. n.previous) nodes
+  previouses nodes = map (λ n. n.standing.previous) nodes
 
   -- the state of each node
   abbrev pub states : List (Node L) → List State
-  states nodes = map (λ n. n.state) nodes
+  states nodes = map (λ n. n.standing.state) nodes
 
   -- the link of each node
   abbrev pub links : List (Node L) → List L
@@ -141,17 +141,20 @@ module _ {L : Type 0} where
     pub states : states new ≡ states old
     pub links : links new ≡ links old
 
-  -- the place is free, ahead of the free places from `free` on, and nothing else changes
+  -- the place is free, ahead of the free places from `free` on, and nothing else changes but what
+  -- stood before it
   pub record Releases (old new : List (Node L)) (place : ℕ) (free : Option ℕ) : Type 0 where
     pub nexts : nexts new ≡ slice_set (nexts old) place free
-    pub previouses : previouses new ≡ previouses old
+    pub previouses : (q : ℕ) → q ≢ place
+        → get_or (previouses new) q None ≡ get_or (previouses old) q None
     pub states : states new ≡ slice_set (states old) place Free
     pub links : links new ≡ links old
 
-  -- the place is detached, and nothing else changes
+  -- the place is detached, and nothing else changes but what stood before it
   pub record SetsDetached (old new : List (Node L)) (place : ℕ) : Type 0 where
     pub nexts : nexts new ≡ nexts old
-    pub previouses : previouses new ≡ previouses old
+    pub previouses : (q : ℕ) → q ≢ place
+        → get_or (previouses new) q None ≡ get_or (previouses old) q None
     pub states : states new ≡ slice_set (states old) place Detached
     pub links : links new ≡ links old
 

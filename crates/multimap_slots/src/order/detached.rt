@@ -30,7 +30,7 @@ impl<L: Copy, A: Allocator> Order<L, A> {
         if self.detached == 0 || place >= self.nodes.len() {
             return false;
         }
-        match self.nodes[place].state {
+        match self.nodes[place].standing.state() {
             State::Detached => true,
             State::Listed | State::Free => false,
         }
@@ -48,7 +48,7 @@ impl<L: Copy, A: Allocator> Order<L, A> {
         requires { IsIn place self.old.order }
         ensures { DetachesPlace self.old self.new place }
     {
-        let previous = self.nodes[place].previous;
+        let previous = self.nodes[place].standing.previous();
         let next = self.nodes[place].next;
         set_next(&mut self.nodes, &mut self.front, previous, next);
         set_previous(&mut self.nodes, &mut self.back, next, previous);

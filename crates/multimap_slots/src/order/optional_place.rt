@@ -21,6 +21,8 @@ impl Model for OptionalPlace {
 }
 
 impl OptionalPlace {
+    ghost use Rattle.multimap_slots.specs.Private.OptionalPlace.{place_below, number_above};
+
     #[inline(always)]
     pub(crate) fn none() -> OptionalPlace
         ensures { result ≡ None }
@@ -45,6 +47,22 @@ impl OptionalPlace {
         } else {
             Some(self.above - 1)
         }
+    }
+
+    /// The number that stands for it.
+    #[inline(always)]
+    pub(crate) fn word(self) -> usize
+        ensures { result ≡ number_above self }
+    {
+        self.above
+    }
+
+    /// What the number stands for.
+    #[inline(always)]
+    pub(crate) fn of_word(word: usize) -> OptionalPlace
+        ensures { result ≡ place_below word }
+    {
+        OptionalPlace { above: word }
     }
 
     /// The place of one that isn't none.

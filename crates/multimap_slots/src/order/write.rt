@@ -1,9 +1,10 @@
 //! Writes of single nodes. Each leaves the fields that it doesn't name as they were.
-ghost use Rattle.std.specs.Prelude.{◌<◌, length, IfSome, vec_capacity};
-ghost use Rattle.multimap_slots.specs.Private.ListLayout.{SetsNext, SetsPrevious, SetsDetached, Releases, CanClaim, Claims};
+ghost use Rattle.std.specs.Prelude.{◌≡◌, ◌+◌, ◌<◌, ◌^◌, length, get_or, IfSome, vec_capacity};
+ghost use Rattle.multimap_slots.specs.Private.ListLayout.{SetsNext, SetsPrevious, SetsDetached, Releases, CanClaim, Claims, states};
+ghost use Rattle.multimap_slots.specs.declared.order.node.State.TheVariants.{Listed, Free};
 ghost use Rattle.multimap_slots.specs.Private.Vectors.{Rewrites};
 
-use super::node::{Node, State};
+use super::node::{Node, Standing};
 use super::optional_place::OptionalPlace;
 use std::alloc::Allocator;
 
@@ -34,14 +35,15 @@ pub(super) fn set_previous<L, A: Allocator>(
     from: OptionalPlace,
     to: OptionalPlace,
 )
-    requires { IfSome from (λ p. p < length nodes.old.items) }
+    requires listed { IfSome from (λ p. get_or (states nodes.old.items) p Free ≡ Listed) }
+    requires low { IfSome to (λ p. p + 3 < 2 ^ 64) }
     ensures { Rewrites nodes.old nodes.new
         (λ old new. SetsPrevious old new back.old back.new from to) }
 {
     match from.get() {
         Some(place) => {
             let node = &mut nodes[place];
-            node.previous = to;
+            node.standing = Standing::listed(to);
         }
         None => *back = to,
     }
@@ -53,7 +55,7 @@ pub(super) fn set_detached<L, A: Allocator>(nodes: &mut Vec<Node<L>, A>, place: 
     ensures { Rewrites nodes.old nodes.new (λ old new. SetsDetached old new place) }
 {
     let node = &mut nodes[place];
-    node.state = State::Detached;
+    node.standing = Standing::detached();
 }
 
 /// Makes the place free, ahead of the free places from `free` on.
@@ -67,7 +69,7 @@ pub(super) fn release<L, A: Allocator>(
 {
     let node = &mut nodes[place];
     node.next = free;
-    node.state = State::Free;
+    node.standing = Standing::free();
 }
 
 /// Writes the node at a free place: the one that was freed last, else the one behind the nodes.

@@ -9,10 +9,11 @@ index-requires g c =
 pub place-requires : goal.place-requires
 place-requires g c =
     let listed = rw (← c.self.view_is) at c.requires.listed in
-    subst IsSome (sym (previous-read c.self.invariant c.args.place listed c.index.result.now c.index.ensures))
+    subst IsSome (sym (c.previous.ensures ∙ previous-read c.self.invariant c.args.place listed c.index.result.now c.index.ensures))
     (rw (← c.self.view_is) at c.requires.more)
 
 pub returns : goal.returns
 returns g c =
     let listed = rw (← c.self.view_is) at c.requires.listed in
-    rw (← c.self.view_is) (sym (previous-read c.self.invariant c.args.place listed c.index.result.now c.index.ensures) ∙ c.place.ensures)
+    rw (← c.self.view_is) (sym (previous-read c.self.invariant c.args.place listed c.index.result.now c.index.ensures)
+    ∙ sym c.previous.ensures ∙ c.place.ensures)

@@ -9,4 +9,4 @@ index-requires g c =
 pub returns : goal.returns
 returns g c =
     let listed = rw (← c.self.view_is) at c.requires in
-    rw (← c.self.view_is) (c.get.ensures ∙ previous-read c.self.invariant c.args.place listed c.index.result.now c.index.ensures)
+    rw (← c.self.view_is) (c.get.ensures ∙ c.previous.ensures ∙ previous-read c.self.invariant c.args.place listed c.index.result.now c.index.ensures)

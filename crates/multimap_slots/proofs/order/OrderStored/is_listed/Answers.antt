@@ -18,7 +18,7 @@ returns-then-place-len g c = (
 pub returns-in-Listed : goal.returns-in-Listed
 returns-in-Listed g c = (
   λ _. rw (← c.self.view_is) ((state_tells c.self.invariant c.args.place c.index.result.now
-      (omega (arith, c.self.inside.nodes.ok)) c.index.ensures).1 c.in-Listed.is),
+      (omega (arith, c.self.inside.nodes.ok)) c.index.ensures).1 (sym c.state.ensures ∙ c.in-Listed.is)),
   λ _. refl,
 )
 
@@ -28,5 +28,8 @@ returns-in-Detached g c = (
   λ i. absurd (
       let listed = (state_tells c.self.invariant c.args.place c.index.result.now (omega (arith, c.self.inside.nodes.ok)) c.index.ensures).0
       (rw (← c.self.view_is) at i) in
-      elim c.in-Detached.is [ inl e ↦ let bad = sym e ∙ listed in cc | inr e ↦ let bad = sym e ∙ listed in cc ]),
+      elim c.in-Detached.is [
+        | inl e ↦ let bad = sym e ∙ c.state.ensures ∙ listed in cc
+        | inr e ↦ let bad = sym e ∙ c.state.ensures ∙ listed in cc
+      ]),
 )

@@ -9,8 +9,8 @@ returns-in-Some g c =
     record {
       items = record {
         nexts = rw (← c.in-Some.ensures) (IsMoved-field (λ n. n.next) _ _ _ _ within);
-        previouses = map-set_same _ _ _ _ _ (ap (λ n. n.previous) c.index_mut-node.ensures.value);
-        states = map-set_same _ _ _ _ _ (ap (λ n. n.state) c.index_mut-node.ensures.value);
+        previouses = map-set_same _ _ _ _ _ (ap (λ n. n.standing.previous) c.index_mut-node.ensures.value);
+        states = map-set_same _ _ _ _ _ (ap (λ n. n.standing.state) c.index_mut-node.ensures.value);
         links = map-set_same _ _ _ _ _ (ap (λ n. n.link) c.index_mut-node.ensures.value);
       };
       capacity = refl;
