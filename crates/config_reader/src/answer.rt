@@ -1,7 +1,7 @@
 //! Questions and their answers.
-use crate::bad;
 use crate::config::{Config, Settings, add_line};
 use ordered_multimap::{EntryValues, Keys};
+use program_parts::{bad, text_of};
 use std::alloc::Global;
 use std::fmt::Write;
 use std::io;
@@ -20,10 +20,7 @@ pub fn add_answers<'t>(
     let input = input.strip_prefix(b"\xef\xbb\xbf").unwrap_or(input);
     for (index, line) in input.split(|byte| *byte == b'\n').enumerate() {
         *number = index.saturating_add(1);
-        let Ok(line) = str::from_utf8(line) else {
-            return Err(bad("not UTF-8"));
-        };
-        let line = line.trim();
+        let line = text_of(line)?.trim();
         if asks {
             add_answer(config, line, answers)?;
         } else if line == "---" {

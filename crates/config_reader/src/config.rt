@@ -1,6 +1,6 @@
 //! Sections and settings, as the lines of an INI text say them.
-use crate::bad;
 use ordered_multimap::ListOrderedMultimap;
+use program_parts::bad;
 use std::alloc::Global;
 use std::io;
 

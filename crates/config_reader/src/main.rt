@@ -27,49 +27,19 @@ mod answer;
 mod config;
 
 use crate::answer::add_answers;
-use crate::config::Config;
 use ordered_multimap::ListOrderedMultimap;
+use program_parts::run_program;
 use std::io;
-use std::io::{ErrorKind, Read};
 use std::process::ExitCode;
 
 fn main(rt: HostRuntime) -> ExitCode {
-    let mut line = 0usize;
-    let Err(error) = run(&rt, &mut line) else {
-        return ExitCode::SUCCESS;
-    };
-    let _ = match error.kind() {
-        ErrorKind::InvalidData => eprintln!(rt; "config_reader: line {line}: {error}"),
-        _ => eprintln!(rt; "config_reader: {error}"),
-    };
-    ExitCode::from(match error.kind() {
-        ErrorKind::InvalidData => 2,
-        ErrorKind::OutOfMemory => 3,
-        _ => 4,
-    })
+    run_program(&rt, "config_reader", write_answers)
 }
 
-/// Reads all of the input, and writes the answers. `line` is the number of the line that is looked
-/// at, from 1.
-fn run(rt: &(impl Input + Print + AllocGlobal), line: &mut usize) -> io::Result<()> {
-    let mut input = Vec::new(rt.alloc());
-    rt.reader().read_to_end(&mut input)?;
-    write_answers(rt, &mut ListOrderedMultimap::new(rt.alloc()), &input, line)
-}
-
-/// Writes the answers once all of them are there. `config` is empty at first.
-fn write_answers<'t>(
-    rt: &(impl Print + AllocGlobal),
-    config: &mut Config<'t>,
-    input: &'t [u8],
-    line: &mut usize,
-) -> io::Result<()> {
+/// Writes the answers once all of them are there.
+fn write_answers(rt: &HostRuntime, input: &[u8], line: &mut usize) -> io::Result<()> {
+    let config = &mut ListOrderedMultimap::new(rt.alloc());
     let mut answers = String::new(rt.alloc());
     add_answers(rt.alloc(), config, input, &mut answers, line)?;
     print!(rt; "{answers}")
-}
-
-/// The error of a line that is bad for this reason.
-pub fn bad(reason: &str) -> io::Error {
-    io::Error::new(ErrorKind::InvalidData, reason)
 }

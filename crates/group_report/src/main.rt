@@ -22,9 +22,10 @@ mod summary;
 
 use crate::report::{Summaries, add_reports};
 use ordered_multimap::ListOrderedMultimap;
+use program_parts::status_of;
 use std::alloc::AllocError;
 use std::io;
-use std::io::{ErrorKind, Read};
+use std::io::Read;
 use std::process::ExitCode;
 
 /// Why there is no report.
@@ -82,8 +83,7 @@ fn fail(rt: &HostRuntime, fault: &Fault<'_>) -> ExitCode {
         Fault::System(error) => eprintln!(rt; "group_report: {error}"),
     };
     ExitCode::from(match fault {
-        Fault::System(error) if error.kind() == ErrorKind::OutOfMemory => 3,
-        Fault::System(_) => 4,
-        _ => 2,
+        Fault::Line(_) | Fault::Sum(_) => 2,
+        Fault::System(error) => status_of(error),
     })
 }

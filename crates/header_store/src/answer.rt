@@ -3,11 +3,11 @@ ghost use Rattle.std.specs.Prelude.{◌≡◌, ℕ, List};
 ghost use Rattle.std.specs.Str.{str_eq_ignore_ascii_case, str_to_ascii_lowercase};
 ghost use Rattle.ordered_multimap.specs.Pairs.{values_where};
 
-use crate::bad;
 use crate::field::{field_of, name_of, split_at_byte};
 use crate::name::{Name, SET_COOKIE};
 use ordered_multimap::list_ordered_multimap::RandomState;
 use ordered_multimap::{EntryValues, ListOrderedMultimap};
+use program_parts::bad;
 use std::alloc::AllocError;
 use std::io;
 

@@ -5,8 +5,8 @@ ghost use Rattle.std.specs.IoError.{error_kind};
 ghost use Rattle.std.specs.declared.io.ErrorKind.TheVariants.{InvalidData};
 ghost use Rattle.header_store.specs.Fields as rfc;
 
-use crate::bad;
 use crate::name::Name;
+use program_parts::bad;
 use std::io;
 
 /// The name and the value that stand before and behind the first separator, the value without the

@@ -24,65 +24,29 @@
 //! the output that failed.
 #![tactic(auto)]
 
-ghost use Rattle.std.specs.IoError.{error_kind};
-ghost use Rattle.std.specs.Prelude.{◌≡◌};
-ghost use Rattle.std.specs.declared.io.ErrorKind.TheVariants.{InvalidData};
-
 mod answer;
 mod field;
 mod name;
 
-use crate::answer::{Headers, add_answers};
+use crate::answer::add_answers;
 use ordered_multimap::ListOrderedMultimap;
 use ordered_multimap::list_ordered_multimap::RandomState;
+use program_parts::run_program;
 use std::io;
-use std::io::{ErrorKind, Read, Write};
+use std::io::Write;
 use std::process::ExitCode;
 
 fn main(rt: HostRuntime) -> ExitCode {
-    let mut line = 0usize;
-    let Err(error) = run(&rt, &mut line) else {
-        return ExitCode::SUCCESS;
-    };
-    let _ = match error.kind() {
-        ErrorKind::InvalidData => eprintln!(rt; "header_store: line {line}: {error}"),
-        _ => eprintln!(rt; "header_store: {error}"),
-    };
-    ExitCode::from(match error.kind() {
-        ErrorKind::InvalidData => 2,
-        ErrorKind::OutOfMemory => 3,
-        _ => 4,
-    })
+    run_program(&rt, "header_store", write_answers)
 }
 
-/// Reads all of the input, and writes the answers. `line` is the number of the line that is looked
-/// at, from 1.
-fn run(rt: &HostRuntime, line: &mut usize) -> io::Result<()> {
+/// Writes the answers once all of them are there.
+fn write_answers(rt: &HostRuntime, input: &[u8], line: &mut usize) -> io::Result<()> {
     // Who sends headers may choose names that share a hash, so the hash has a seed of its own.
-    let state = RandomState::new(rt)?;
-    let mut input = Vec::new(rt.alloc());
-    rt.reader().read_to_end(&mut input)?;
-    let headers = &mut ListOrderedMultimap::with_hasher(rt.alloc(), state);
-    write_answers(rt, headers, &input, line)
-}
-
-/// Writes the answers once all of them are there. `headers` is empty at first.
-fn write_answers<'t>(
-    rt: &HostRuntime,
-    headers: &mut Headers<'t>,
-    input: &'t [u8],
-    line: &mut usize,
-) -> io::Result<()> {
+    let headers = &mut ListOrderedMultimap::with_hasher(rt.alloc(), RandomState::new(rt)?);
     let mut answers = Vec::new(rt.alloc());
     add_answers(headers, input, &mut answers, line)?;
     let mut output = io::writer(rt);
     output.write_all(&answers)?;
     output.flush()
-}
-
-/// The error of a line that is bad for this reason.
-pub fn bad(reason: &str) -> io::Error
-    ensures { error_kind result ≡ InvalidData }
-{
-    io::Error::new(ErrorKind::InvalidData, reason)
 }

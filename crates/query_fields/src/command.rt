@@ -1,6 +1,6 @@
 //! Commands and their answers.
-use crate::bad;
 use crate::fields::{Fields, Text, add_query, read_query, set};
+use program_parts::{bad, text_of};
 use std::alloc::{AllocError, Global};
 use std::io;
 
@@ -16,9 +16,7 @@ pub fn add_answers<'t>(
 ) -> io::Result<()> {
     for (index, line) in input.split(|byte| *byte == b'\n').enumerate() {
         *number = index.saturating_add(1);
-        let Ok(line) = str::from_utf8(line) else {
-            return Err(bad("not UTF-8"));
-        };
+        let line = text_of(line)?;
         let line = line.strip_suffix('\r').unwrap_or(line);
         if index == 0 {
             read_query(alloc, line, fields)?;

@@ -8,7 +8,7 @@ ghost use Rattle.std.specs.declared.io.ErrorKind.TheVariants.{InvalidData};
 ghost use Rattle.std.specs.String.{string_bytes};
 ghost use Rattle.query_fields.specs.Escape.{is_unreserved, written_byte, written, read, before};
 
-use crate::bad;
+use program_parts::bad;
 use std::alloc::{AllocError, Global};
 use std::borrow::CowStr;
 use std::fmt::Write;

@@ -28,53 +28,21 @@ mod escape;
 mod fields;
 
 use crate::command::add_answers;
-use crate::fields::Fields;
 use ordered_multimap::ListOrderedMultimap;
 use ordered_multimap::list_ordered_multimap::RandomState;
+use program_parts::run_program;
 use std::io;
-use std::io::{ErrorKind, Read};
 use std::process::ExitCode;
 
 fn main(rt: HostRuntime) -> ExitCode {
-    let mut line = 0usize;
-    let Err(error) = run(&rt, &mut line) else {
-        return ExitCode::SUCCESS;
-    };
-    let _ = match error.kind() {
-        ErrorKind::InvalidData => eprintln!(rt; "query_fields: line {line}: {error}"),
-        _ => eprintln!(rt; "query_fields: {error}"),
-    };
-    ExitCode::from(match error.kind() {
-        ErrorKind::InvalidData => 2,
-        ErrorKind::OutOfMemory => 3,
-        _ => 4,
-    })
+    run_program(&rt, "query_fields", write_answers)
 }
 
-/// Reads all of the input, and writes the answers. `line` is the number of the line that is looked
-/// at, from 1.
-fn run(rt: &HostRuntime, line: &mut usize) -> io::Result<()> {
+/// Writes the answers once all of them are there.
+fn write_answers(rt: &HostRuntime, input: &[u8], line: &mut usize) -> io::Result<()> {
     // Who sends a query may choose names that share a hash, so the hash has a seed of its own.
-    let state = RandomState::new(rt)?;
-    let mut input = Vec::new(rt.alloc());
-    rt.reader().read_to_end(&mut input)?;
-    let fields = &mut ListOrderedMultimap::with_hasher(rt.alloc(), state);
-    write_answers(rt, fields, &input, line)
-}
-
-/// Writes the answers once all of them are there. `fields` is empty at first.
-fn write_answers<'t>(
-    rt: &HostRuntime,
-    fields: &mut Fields<'t>,
-    input: &'t [u8],
-    line: &mut usize,
-) -> io::Result<()> {
+    let fields = &mut ListOrderedMultimap::with_hasher(rt.alloc(), RandomState::new(rt)?);
     let mut answers = String::new(rt.alloc());
     add_answers(rt.alloc(), fields, input, &mut answers, line)?;
     print!(rt; "{answers}")
-}
-
-/// The error of a line that is bad for this reason.
-pub fn bad(reason: &str) -> io::Error {
-    io::Error::new(ErrorKind::InvalidData, reason)
 }
