@@ -1,4 +1,5 @@
 pub mod OrInserted
+pub mod Reread
 pub mod Reserved
 pub mod Rooms
 pub mod Runs

@@ -1,5 +1,5 @@
 //! What can go wrong, with its message and its exit status.
-ghost use Rattle.std.specs.Prelude.{◌≡◌};
+ghost use Rattle.std.specs.Prelude.{◌≡◌, Some};
 
 use std::alloc::{AllocError, AllocFailed};
 use std::error::Error;
@@ -73,21 +73,16 @@ impl ToolFault {
 }
 
 impl fmt::Display for TextFault {
-    ghost use Rattle.std.specs.Prelude.{Some};
     ghost use Rattle.multimap_tool.specs.Faults.{text_fault_text};
 
     ghost output = { λ fault. Some (text_fault_text fault) };
 
     fn fmt<W: fmt::Write>(&self, f: &mut fmt::Formatter<W>) -> fmt::Result {
-        match self {
-            TextFault::BadLine(line) => write!(f, "bad line {line}"),
-            TextFault::OutOfMemory => write!(f, "out of memory"),
-        }
+        ToolFault::from(*self).fmt(f)
     }
 }
 
 impl fmt::Display for ToolFault {
-    ghost use Rattle.std.specs.Prelude.{Some};
     ghost use Rattle.multimap_tool.specs.Faults.{fault_text};
 
     ghost output = { λ fault. Some (fault_text fault) };
@@ -107,7 +102,6 @@ impl Error for TextFault {}
 impl Error for ToolFault {}
 
 impl From<AllocError> for TextFault {
-    ghost use Rattle.std.specs.Prelude.{◌≡◌};
     ghost use Rattle.multimap_tool.specs.declared.faults.TextFault.TheVariants.{OutOfMemory};
 
     ghost from_gives = { λ _ fault. fault ≡ OutOfMemory };
@@ -118,7 +112,6 @@ impl From<AllocError> for TextFault {
 }
 
 impl<T: Drop> From<AllocFailed<T>> for TextFault {
-    ghost use Rattle.std.specs.Prelude.{◌≡◌};
     ghost use Rattle.multimap_tool.specs.declared.faults.TextFault.TheVariants.{OutOfMemory};
 
     ghost from_gives = { λ _ fault. fault ≡ OutOfMemory };
@@ -129,7 +122,6 @@ impl<T: Drop> From<AllocFailed<T>> for TextFault {
 }
 
 impl From<AllocError> for ToolFault {
-    ghost use Rattle.std.specs.Prelude.{◌≡◌};
     ghost use Rattle.multimap_tool.specs.declared.faults.ToolFault.TheVariants.{OutOfMemory};
 
     ghost from_gives = { λ _ fault. fault ≡ OutOfMemory };
@@ -140,7 +132,6 @@ impl From<AllocError> for ToolFault {
 }
 
 impl From<TextFault> for ToolFault {
-    ghost use Rattle.std.specs.Prelude.{◌≡◌};
     ghost use Rattle.multimap_tool.specs.Faults.{as_tool_fault};
 
     ghost from_gives = { λ text_fault fault. fault ≡ as_tool_fault text_fault };

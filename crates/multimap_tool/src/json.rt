@@ -219,6 +219,7 @@ fn append_items<
 }
 
 /// Appends the pair of the item at a position.
+#[tactic(auto, using(crate::proofs::Callers::JsonParts::still_unused))]
 fn append_item<
     K: JsonPart + Eq + Hash + Drop,
     V: JsonPart + Drop,

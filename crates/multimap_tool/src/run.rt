@@ -22,7 +22,7 @@ use crate::run::ask::lists::list_keys;
 use crate::run::ask::walk::copied_pair;
 use crate::run::ask::{first_value, walk_all_values, walk_keys, walk_pairs, walk_values};
 use crate::run::change::drained::{insert_all, remove_all, remove_entry_all};
-use crate::run::change::written::{or_insert, set_back, set_first, set_front};
+use crate::run::change::written::{or_insert, set_end, set_first};
 use crate::run::change::{append, clear, insert, pop, remove_at};
 use crate::run::json::{reread, reread_lists};
 use crate::run::keep::Keep;
@@ -161,8 +161,8 @@ fn step<
         Command::Insert(key, value) => insert(map, *key, *value),
         Command::InsertAll(key, value) => insert_all(alloc, map, *key, *value),
         Command::SetFirst(key, value) => set_first(map, key, *value),
-        Command::SetFront(value) => set_front(map, *value),
-        Command::SetBack(value) => set_back(map, *value),
+        Command::SetFront(value) => set_end(map, End::Front, *value),
+        Command::SetBack(value) => set_end(map, End::Back, *value),
         Command::OrInsert(key, value) => or_insert(map, *key, *value),
         Command::Get(key) => first_value(map, key),
         Command::All(key, ends) => walk_values(alloc, map, key, ends),

@@ -1,14 +1,15 @@
 -- JSON values of keys, values and maps.
-use Rattle.std.proofs.Common.{◌≡◌, ℕ, suc, ◌==◌, ◌+◌, Bool, true, false, List, [], ◌∷◌, ◌++◌, length, map, slice_get, Option, Some, None}
+use Rattle.std.proofs.Common.{◌≡◌, ℕ, suc, ◌==◌, ◌+◌, ◌<◌, ◌≤◌, Bool, true, false, List, [], ◌∷◌, ◌++◌, length, length-append, map, take}
+use Rattle.std.proofs.Common.{drop, get_or, slice_get, Option, Some, None}
 use Rattle.std.proofs.Common.{chars, encode_utf8, ℤ, pos, negsuc, refl, sym, ap, ap₂, ◌∙◌, append_assoc, append-nil, subst, arith, Result}
 use Rattle.std.proofs.Common.{Ok, Err, IfErr, IsErrAnd}
 use lib.Utf8.{scalars}
 use Rattle.std.specs.Str.{IsUtf8}
 use Rattle.std.specs.Option.{option_or}
 use Rattle.std.proofs.lemmas.Bool.{ne_eqb}
-use Rattle.std.proofs.lemmas.List.{map-append}
+use Rattle.std.proofs.lemmas.List.{map-append, take_more, drop_more}
 use Rattle.std.proofs.lemmas.Str.{chars-encodes, chars_past_char}
-use Rattle.serde_json.specs.Data.{Data, null, boolean, number, unsigned, string, array, object, Items}
+use Rattle.serde_json.specs.Data.{Data, number, string, array, Items}
 use Rattle.serde_json.specs.Find.{as_array, as_str, of_integer}
 use Rattle.serde_json.specs.View.{view, items_of, items_view}
 use Rattle.serde_json.specs.declared.value.Value.{Value}
@@ -19,25 +20,16 @@ use Rattle.ordered_multimap.proofs.Callers.Laws.{rebuilt}
 use Rattle.ordered_multimap.specs.TapeNumbers.{TapeNumbers, AreUnused, TakesOut}
 use Rattle.multimap_tool.specs.Json.{is_character, item_fault, first_fault, IsFound, UnlessMemory, pair_json, pairs_json, IsReadFrom}
 use Rattle.multimap_tool.specs.declared.json.faults.ReadFault.{ReadFault}
-use Rattle.multimap_tool.specs.declared.json.faults.ReadFault.TheVariants.{NotArray, NotVersion2, BadListedKey, RepeatedKey, NotPair}
-use Rattle.multimap_tool.specs.declared.json.faults.ReadFault.TheVariants.{BadKey, UnlistedKey, BadValue, UnusedKey, OutOfMemory}
+use Rattle.multimap_tool.specs.declared.json.faults.ReadFault.TheVariants.{OutOfMemory}
 
 -- what a look into a JSON value found is all that it is
 pub array_is : (d : Data) (ds : Items) → as_array d ≡ Some ds → d ≡ array ds
-array_is null ds e = absurd (grind arith)
-array_is (boolean b) ds e = absurd (grind arith)
-array_is (number n) ds e = absurd (grind arith)
-array_is (string s) ds e = absurd (grind arith)
 array_is (array es) ds e = ap array (grind arith)
-array_is (object ms) ds e = absurd (grind arith)
+array_is d ds e = absurd (grind arith)
 
 pub string_is : (d : Data) (s : List ℕ) → as_str d ≡ Some s → d ≡ string s
-string_is null s e = absurd (grind arith)
-string_is (boolean b) s e = absurd (grind arith)
-string_is (number n) s e = absurd (grind arith)
 string_is (string t) s e = ap string (grind arith)
-string_is (array ds) s e = absurd (grind arith)
-string_is (object ms) s e = absurd (grind arith)
+string_is d s e = absurd (grind arith)
 
 -- texts of one character, and others
 pub encoded_character : (c : ℕ) → scalars (c ∷ []) ≡ true → is_character (string (encode_utf8 c)) ≡ true
@@ -84,29 +76,13 @@ module _ (is_key is_value : Data → Bool) where
 
 -- a fault of one kind is one of another
 pub unless_other : (P Q : ReadFault → Type 0) → ((f : ReadFault) → P f → Q f) → (f : ReadFault) → UnlessMemory P f → UnlessMemory Q f
-unless_other P Q other NotArray is = other NotArray is
-unless_other P Q other NotVersion2 is = other NotVersion2 is
-unless_other P Q other (BadListedKey i) is = other (BadListedKey i) is
-unless_other P Q other (RepeatedKey i) is = other (RepeatedKey i) is
-unless_other P Q other (NotPair i) is = other (NotPair i) is
-unless_other P Q other (BadKey i) is = other (BadKey i) is
-unless_other P Q other (UnlistedKey i) is = other (UnlistedKey i) is
-unless_other P Q other (BadValue i) is = other (BadValue i) is
-unless_other P Q other (UnusedKey i) is = other (UnusedKey i) is
 unless_other P Q other OutOfMemory is = tt
+unless_other P Q other fault is = other fault is
 
 -- a fault that wants no memory is of its kind
 pub unless_is : (P : ReadFault → Type 0) (f : ReadFault) → (f ≡ OutOfMemory → ⊥) → UnlessMemory P f → P f
-unless_is P NotArray other is = is
-unless_is P NotVersion2 other is = is
-unless_is P (BadListedKey i) other is = is
-unless_is P (RepeatedKey i) other is = is
-unless_is P (NotPair i) other is = is
-unless_is P (BadKey i) other is = is
-unless_is P (UnlistedKey i) other is = is
-unless_is P (BadValue i) other is = is
-unless_is P (UnusedKey i) other is = is
 unless_is P OutOfMemory other is = absurd (other refl)
+unless_is P fault other is = is
 
 -- the fault of an item before others
 pub found_first : (o p : Option ReadFault) (f : ReadFault) → IsFound o f → IsFound (option_or o p) f
@@ -117,12 +93,24 @@ pub passed_on : {T : Type 0} (r : Result T ReadFault) (P : ReadFault → Type 0)
 passed_on (Ok x) P f e p = tt
 passed_on (Err g) P f e p = subst P (sym e) p
 
--- a pair was written behind others
-pub one_written : {P : Type 0} (f : P → Data) (done : List Value) (v : Value) (p : P) (left all : List P) → view v ≡ f p
-    → map view done ++ map f (p ∷ left) ≡ map f all → map view (done ++ v ∷ []) ++ map f left ≡ map f all
-one_written f done v p left all is before =
-    ap (λ ds. ds ++ map f left) (map-append view done (v ∷ [])) ∙ append_assoc (map view done) (view v ∷ []) (map f left)
-    ∙ ap (λ d. map view done ++ d ∷ map f left) is ∙ before
+-- an item that a walk gave was written behind others: what is written and what is left are all, and
+-- there is room for what is left
+pub one_written : {P : Type 0} (f : P → Data) (done : List Value) (v : Value) (all : List P) {more : List Value} {p : P} {was left : List P}
+    {room new : ℕ} → more ≡ done ++ v ∷ [] → new ≡ room → was ≡ p ∷ left → view v ≡ f p → map view done ++ map f was ≡ map f all
+    → length done + length was ≤ room → (map view more ++ map f left ≡ map f all) × (length more + length left ≤ new)
+one_written f done v all {more} {p} {was} {left} pushed same given is before fits = (
+  ap (λ vs. map view vs ++ map f left) pushed
+      ∙ ap (λ ds. ds ++ map f left) (map-append view done (v ∷ [])) ∙ append_assoc (map view done) (view v ∷ []) (map f left)
+      ∙ ap (λ d. map view done ++ d ∷ map f left) is ∙ ap (λ ps. map view done ++ map f ps) (sym given) ∙ before,
+  omega (arith, ap length pushed ∙ length-append done (v ∷ []), ap length given, same, fits),
+)
+
+-- what a walk over items has behind it and ahead of it once it has read one
+pub seen_at : {X : Type 0} (xs : List X) (i : ℕ) (x : X) → i < length xs → x ≡ get_or xs i x → take (i + 1) xs ≡ take i xs ++ x ∷ []
+seen_at xs i x inside is = take_more xs i x inside ∙ ap (λ y. take i xs ++ y ∷ []) (sym is)
+
+pub left_at : {X : Type 0} (xs : List X) (i : ℕ) (x : X) → i < length xs → x ≡ get_or xs i x → drop i xs ≡ x ∷ drop (i + 1) xs
+left_at xs i x inside is = drop_more xs i x inside ∙ ap (λ y. y ∷ drop (i + 1) xs) (sym is)
 
 -- a pair was read behind others
 pub one_read : {P : Type 0} (f : P → Data) (done : List Value) (v : Value) (pairs : List P) (p : P) → view v ≡ f p

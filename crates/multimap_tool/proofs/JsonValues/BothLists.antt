@@ -278,3 +278,10 @@ module _ {K V : Type 0} {eq : K → K → Bool} (laws : IsEquivalence eq) where
 
   pub listed_if_named : (m : Lists K V) (k : K) → keys_of m.pairs ≡ m.keys → is_present eq m.pairs k ≡ is_listed eq m.keys k
   listed_if_named m k same = is_present-is_listed eq k m.pairs ∙ ap (λ ks. is_listed eq ks k) same
+
+  pub comes_new : (m n : Lists K V) (k : K) (v : V) (present : Bool) → keys_of m.pairs ≡ m.keys → present ≡ is_present eq m.pairs k
+      → present ≡ false → n ≡ appended eq m k v
+      → (is_listed eq m.keys k ≡ false) × (n ≡ lists (m.keys ++ k ∷ []) (m.pairs ++ (k, v) ∷ []))
+  comes_new m n k v present same told absent is =
+      let unlisted = sym (listed_if_named m k same) ∙ sym told ∙ absent in
+      (unlisted, is ∙ appended_new m k v unlisted)

@@ -47,18 +47,11 @@ both_are d ms keys pairs is two are_keys are_pairs =
 module _ (is_key is_value : Data → Bool) where
   -- a fault of the shape or of the key, whatever the value is
   pub fault_of_key : (i : ℕ) (d : Data) (f : ReadFault) → item_fault is_key any i d ≡ Some f → item_fault is_key is_value i d ≡ Some f
-  fault_of_key i null f e = e
-  fault_of_key i (boolean x) f e = e
-  fault_of_key i (number n) f e = e
-  fault_of_key i (string s) f e = e
-  fault_of_key i (object ms) f e = e
-  fault_of_key i (array no_items) f e = e
-  fault_of_key i (array (item c no_items)) f e = e
   fault_of_key i (array (item c (item d no_items))) f e =
       let P : Bool → Type 0 = λ b. cond b None (Some (BadKey i)) ≡ Some f
       → cond b (cond (is_value d) None (Some (BadValue i))) (Some (BadKey i)) ≡ Some f in
       elim (is_key c) as P [ true ↦ λ never. absurd (grind arith) | false ↦ λ is. is ] e
-  fault_of_key i (array (item c (item d (item g ds)))) f e = e
+  fault_of_key i d f e = e
 
 -- an array behind a good item
 pub each_item-behind : (test : Data → Bool) (d : Data) (ds : Items) → test d ≡ true → each_item test (item d ds) ≡ each_item test ds

@@ -12,21 +12,10 @@ of_size one two three c =
 same_of_size : (a b f x y z : Bool) (c d : ℕ) → of_size a b f c ≡ of_size x y z d → c ≡ d
 unfolding of_size
 same_of_size true b f true y z c d e = grind arith
-same_of_size true b f false true z c d e = absurd (grind arith)
-same_of_size true b f false false true c d e = absurd (grind arith)
-same_of_size true b f false false false c d e = absurd (grind arith)
-same_of_size false true f true y z c d e = absurd (grind arith)
 same_of_size false true f false true z c d e = grind arith
-same_of_size false true f false false true c d e = absurd (grind arith)
-same_of_size false true f false false false c d e = absurd (grind arith)
-same_of_size false false true true y z c d e = absurd (grind arith)
-same_of_size false false true false true z c d e = absurd (grind arith)
 same_of_size false false true false false true c d e = grind arith
-same_of_size false false true false false false c d e = absurd (grind arith)
-same_of_size false false false true y z c d e = absurd (grind arith)
-same_of_size false false false false true z c d e = absurd (grind arith)
-same_of_size false false false false false true c d e = absurd (grind arith)
 same_of_size false false false false false false c d e = grind arith
+same_of_size one two three x y z c d e = absurd (grind arith)
 
 same_bytes : (c d : ℕ) → encode c ≡ encode d → c ≡ d
 unfolding encode of_size

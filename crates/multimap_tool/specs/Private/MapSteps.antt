@@ -2,15 +2,22 @@
 -- module.
 use Rattle.std.specs.Prelude.{◌≡◌, Bool}
 use Rattle.serde_json.specs.Data.{Data}
+use Rattle.ordered_multimap.specs.End.{End}
+use Rattle.ordered_multimap.specs.End.TheVariants.{Front, Back}
 use Rattle.ordered_multimap.specs.Multimap.{Multimap}
 use Rattle.ordered_multimap.specs.Rooms.{KeepsRooms}
 use Rattle.multimap_tool.specs.declared.commands.Command.{Command}
-use Rattle.multimap_tool.specs.declared.commands.Command.TheVariants.{Retain}
+use Rattle.multimap_tool.specs.declared.commands.Command.TheVariants.{Retain, SetBack, SetFront}
 use Rattle.multimap_tool.specs.declared.replies.Reply.{Reply}
 use Rattle.multimap_tool.specs.Json.{DifferAsJson}
 use Rattle.multimap_tool.specs.MapRuns.{FindsItsRoom, MakesItsRoom, IsMapStep}
 use Rattle.multimap_tool.specs.Runs.{ClonesAreSame}
 use Rattle.multimap_tool.specs.Step.{IsStep, Rereads}
+
+-- the command that writes the value of the pair at an end
+abbrev pub sets_end : {K V A : Type 0} → End → V → Command K V A
+sets_end Front v = SetFront v
+sets_end Back v = SetBack v
 
 -- what a command asks that is run: its function may be called, and where it reads the map anew,
 -- different keys and values differ as JSON

@@ -1,4 +1,10 @@
 //! Why a JSON value is no key, no value or no map, with a message.
+ghost use Rattle.std.specs.Prelude.{Some};
+
+use ReadFault::{
+    BadKey, BadListedKey, BadValue, NotArray, NotPair, NotVersion2, OutOfMemory, RepeatedKey,
+    UnlistedKey, UnusedKey,
+};
 use std::error::Error;
 use std::fmt;
 
@@ -52,56 +58,43 @@ pub enum ReadFault {
 }
 
 impl fmt::Display for PartFault {
-    ghost use Rattle.std.specs.Prelude.{Some};
     ghost use Rattle.multimap_tool.specs.Faults.{part_fault_text};
 
     ghost output = { λ fault. Some (part_fault_text fault) };
 
     fn fmt<W: fmt::Write>(&self, f: &mut fmt::Formatter<W>) -> fmt::Result {
-        match self {
-            PartFault::Refused => write!(f, "refused"),
-            PartFault::OutOfMemory => write!(f, "out of memory"),
-        }
+        f.write_str(match self {
+            PartFault::Refused => "refused",
+            PartFault::OutOfMemory => "out of memory",
+        })
     }
 }
 
 impl fmt::Display for ReadFault {
-    ghost use Rattle.std.specs.Prelude.{Some};
     ghost use Rattle.multimap_tool.specs.Faults.{read_fault_text};
 
     ghost output = { λ fault. Some (read_fault_text fault) };
 
     fn fmt<W: fmt::Write>(&self, f: &mut fmt::Formatter<W>) -> fmt::Result {
         match self {
-            ReadFault::NotArray => write!(f, "the value is neither an array nor an object"),
-            ReadFault::NotVersion2 => {
+            NotArray => write!(f, "the value is neither an array nor an object"),
+            NotVersion2 => {
                 write!(
                     f,
                     "the object isn't made of two arrays \"keys\" and \"pairs\" alone"
                 )
             }
-            ReadFault::BadListedKey(index) => {
-                write!(f, "item {index} of \"keys\" is no key of the map's type")
-            }
-            ReadFault::RepeatedKey(index) => {
-                write!(f, "item {index} of \"keys\" equals an earlier one")
-            }
-            ReadFault::NotPair(index) => {
-                write!(f, "pair {index} is no array of a key and a value")
-            }
-            ReadFault::BadKey(index) => {
-                write!(f, "the key of pair {index} is no key of the map's type")
-            }
-            ReadFault::UnlistedKey(index) => {
-                write!(f, "the key of pair {index} equals no item of \"keys\"")
-            }
-            ReadFault::BadValue(index) => {
-                write!(f, "the value of pair {index} is no value of the map's type")
-            }
-            ReadFault::UnusedKey(index) => {
-                write!(f, "item {index} of \"keys\" is the key of no pair")
-            }
-            ReadFault::OutOfMemory => write!(f, "out of memory"),
+            BadListedKey(index) => write!(
+                f,
+                "item {index} of \"keys\" is no key of the map's type"
+            ),
+            RepeatedKey(index) => write!(f, "item {index} of \"keys\" equals an earlier one"),
+            NotPair(index) => write!(f, "pair {index} is no array of a key and a value"),
+            BadKey(index) => write!(f, "the key of pair {index} is no key of the map's type"),
+            UnlistedKey(index) => write!(f, "the key of pair {index} equals no item of \"keys\""),
+            BadValue(index) => write!(f, "the value of pair {index} is no value of the map's type"),
+            UnusedKey(index) => write!(f, "item {index} of \"keys\" is the key of no pair"),
+            OutOfMemory => write!(f, "out of memory"),
         }
     }
 }

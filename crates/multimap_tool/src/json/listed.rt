@@ -54,6 +54,7 @@ pub(super) fn append_keys<
 }
 
 /// Appends the key of the item at a position, with this value.
+#[tactic(auto, using(crate::proofs::Callers::JsonParts::still_unused))]
 fn append_key<
     K: JsonPart + Eq + Hash + Drop,
     V: JsonPart + Drop,
@@ -166,6 +167,7 @@ pub(super) fn refused_value<K: Eq + Hash, V, S: BuildHasher, A: Allocator>(
 }
 
 /// Appends a pair whose key is listed.
+#[tactic(auto, using(crate::proofs::Callers::JsonParts::still_unused))]
 fn append_under<K: Eq + Hash + Drop, V: Drop, S: BuildHasher, A: Allocator + Copy>(
     index: usize,
     key: K,

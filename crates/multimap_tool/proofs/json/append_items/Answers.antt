@@ -1,10 +1,9 @@
 use Rattle.std.proofs.Common.{suc, ◌+◌, ◌∷◌, [], ◌++◌, map, take, drop, ap, sym, ◌∙◌, subst}
-use Rattle.std.proofs.lemmas.List.{take_more, drop_more}
 use Rattle.serde_json.specs.View.{view, items_view}
 use Rattle.ordered_multimap.specs.Lists.{empty_lists}
 use Rattle.ordered_multimap.specs.Changes.{appended}
 use Rattle.multimap_tool.specs.Json.{pair_json, item_fault, first_fault, IsFound}
-use Rattle.multimap_tool.proofs.Callers.JsonParts.{fault_behind, found_first, passed_on, one_read, appended_last}
+use Rattle.multimap_tool.proofs.Callers.JsonParts.{fault_behind, found_first, passed_on, one_read, appended_last, seen_at, left_at}
 use Rattle.multimap_tool.proofs.json.append_items.Goals as goal
 
 pub returns-in_err-append_item-clause-fault : goal.returns-in_err-append_item-clause-fault
@@ -16,7 +15,7 @@ returns-in_err-append_item-clause-fault g c =
     let xs = c.args.items.now in
     let item = c.index-items-index.result in
     let behind = first_fault is_key is_value (suc l.index) (items_view (drop (l.index + 1) xs)) in
-    let left = drop_more xs l.index item c.loop-index-test.true ∙ ap (λ x. x ∷ drop (l.index + 1) xs) (sym c.index-items-index.is) in
+    let left = left_at xs l.index item c.loop-index-test.true c.index-items-index.is in
     let same = l.invariant.accepted ∙ ap (λ vs. first_fault is_key is_value l.index (items_view vs)) left in
     let found = found_first (item_fault is_key is_value l.index (view item)) behind fault c.in_err-append_item.ensures.fault in
     passed_on c.from_residual.result _ fault c.from_residual.ensures.1 (subst (λ o. IsFound o fault) (sym same) found)
@@ -30,8 +29,8 @@ loop-index-preserved g c =
     let read = l.invariant.read in
     let more = c.in_ok-append_item.ensures.read.read in
     let p : g.row.K.Denot × g.row.V.Denot = more.0 in
-    let seen = take_more xs l.index item c.loop-index-test.true ∙ ap (λ x. take l.index xs ++ x ∷ []) (sym c.index-items-index.is) in
-    let left = drop_more xs l.index item c.loop-index-test.true ∙ ap (λ x. x ∷ drop (l.index + 1) xs) (sym c.index-items-index.is) in
+    let seen = seen_at xs l.index item c.loop-index-test.true c.index-items-index.is in
+    let left = left_at xs l.index item c.loop-index-test.true c.index-items-index.is in
     record {
       read = (
         read.0 ++ p ∷ [],

@@ -1,9 +1,9 @@
 //! Commands that write a value in its place, or a pair where its key is absent.
-ghost use Rattle.multimap_tool.specs.Private.MapSteps.{IsOwnStepInPlace};
+ghost use Rattle.multimap_tool.specs.Private.MapSteps.{IsOwnStepInPlace, sets_end};
 
 use crate::commands::Command;
 use crate::replies::Reply;
-use ordered_multimap::ListOrderedMultimap;
+use ordered_multimap::{End, ListOrderedMultimap};
 use std::alloc::Allocator;
 use std::hash::{BuildHasher, Hash};
 use std::mem::replace;
@@ -22,32 +22,27 @@ pub(crate) fn set_first<K: Eq + Hash + Copy, V: Copy, S: BuildHasher, A: Allocat
     }
 }
 
-/// Writes the value of the first pair.
-pub(crate) fn set_front<K: Eq + Hash + Copy, V: Copy, S: BuildHasher, A: Allocator + Copy>(
+/// Writes the value of the pair at an end.
+pub(crate) fn set_end<K: Eq + Hash + Copy, V: Copy, S: BuildHasher, A: Allocator + Copy>(
     map: &mut ListOrderedMultimap<K, V, S, A>,
+    end: End,
     value: V,
 ) -> Reply<K, V, A>
-    ensures { IsOwnStepInPlace K.eq (Command.SetFront value) map.old map.new result }
+    ensures { IsOwnStepInPlace K.eq (sets_end end value) map.old map.new result }
 {
     if map.is_empty() {
         return Reply::Pair(None);
     }
-    let (key, first) = map.first_mut();
-    Reply::Pair(Some((*key, replace(first, value))))
-}
-
-/// Writes the value of the last pair.
-pub(crate) fn set_back<K: Eq + Hash + Copy, V: Copy, S: BuildHasher, A: Allocator + Copy>(
-    map: &mut ListOrderedMultimap<K, V, S, A>,
-    value: V,
-) -> Reply<K, V, A>
-    ensures { IsOwnStepInPlace K.eq (Command.SetBack value) map.old map.new result }
-{
-    if map.is_empty() {
-        return Reply::Pair(None);
+    match end {
+        End::Front => {
+            let (key, first) = map.first_mut();
+            Reply::Pair(Some((*key, replace(first, value))))
+        }
+        End::Back => {
+            let (key, last) = map.last_mut();
+            Reply::Pair(Some((*key, replace(last, value))))
+        }
     }
-    let (key, last) = map.last_mut();
-    Reply::Pair(Some((*key, replace(last, value))))
 }
 
 /// Appends the pair unless the key is present. The reply is the key's first value then.

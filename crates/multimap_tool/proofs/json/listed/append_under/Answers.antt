@@ -27,17 +27,3 @@ returns-clause-read g c =
       hasher = search rules;
       unused = λ unused. still_unused unused c.in-Ok.ensures.ok.taken;
     }
-
-pub returns-then-not-present-clause-read : goal.returns-then-not-present-clause-read
-returns-then-not-present-clause-read g c = record {
-  read = tt;
-  hasher = search rules;
-  unused = λ unused. still_unused unused c.in-Ok.ensures.ok.taken;
-}
-
-pub returns-in_default-clause-read : goal.returns-in_default-clause-read
-returns-in_default-clause-read g c = record {
-  read = tt;
-  hasher = search rules;
-  unused = λ unused. still_unused unused c.in_default.ensures.refused.taken;
-}

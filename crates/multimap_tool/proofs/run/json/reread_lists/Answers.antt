@@ -2,6 +2,8 @@ use Rattle.std.proofs.Common.{inl, IfSome, subst, ◌∙◌}
 use Rattle.multimap_tool.specs.Json.{UnlessMemory}
 use Rattle.multimap_tool.specs.JsonLists.{both_arrays, AreAccepted, IsRead, IsFaultIn}
 use Rattle.multimap_tool.proofs.JsonValues.BothLists.{read_lists_back, no_fault_in_lists}
+use Rattle.multimap_tool.specs.declared.commands.Command.TheVariants.{Json2}
+use Rattle.multimap_tool.proofs.Running.Reread.{read_anew}
 use Rattle.multimap_tool.proofs.run.json.reread_lists.Goals as goal
 
 pub returns-in-Ok-from_value : goal.returns-in-Ok-from_value
@@ -12,18 +14,11 @@ returns-in-Ok-from_value g c =
     let value = g.V.JsonPart in
     let read = subst (λ d. IsRead key.json value.json key.is_part value.is_part g.K.PartialEq.eq d n) c.in-Ok.ensures.written
     c.in-Ok-from_value.ensures.read in
-    record {
-      step = inl (
-        tt,
-        read_lists_back key.json value.json c.requires.keys c.requires.values key.is_part value.is_part g.met.K.Eq.laws m n
-            c.keys_len-keys.ensures.well_formed read,
-      );
-      hasher = λ same. c.in-Ok-from_value.ensures.hasher ∙ same _ _ c.in-Ok-clone.ensures.cases ∙ c.hasher.ensures;
-      rooms = λ never. absurd never;
-      finds_room = tt;
-      makes_room = tt;
-      unused = λ never. absurd never;
-    }
+    read_anew g.K.PartialEq.eq _ c.args.map.now c.in-Ok-from_value.copy Json2 tt (inl (
+      tt,
+      read_lists_back key.json value.json c.requires.keys c.requires.values key.is_part value.is_part g.met.K.Eq.laws m n
+          c.keys_len-keys.ensures.well_formed read,
+    )) (λ same. c.in-Ok-from_value.ensures.hasher ∙ same _ _ c.in-Ok-clone.ensures.cases ∙ c.hasher.ensures)
 
 pub unreachable-requires : goal.unreachable-requires
 unreachable-requires g c =
