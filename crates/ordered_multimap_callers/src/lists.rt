@@ -4,7 +4,7 @@
 use ordered_multimap::ListOrderedMultimap;
 use std::alloc::Allocator;
 use std::hash::{BuildHasher, Hash};
-use test_helpers::{End, Plain, walk_difference};
+use test_helpers::{End, Plain, gives, walk_difference};
 
 /// Whether a map has these pairs and these keys, each in this order, and no others.
 pub fn has_lists<K: Eq + Hash + Copy, V: PartialEq + Copy, S: BuildHasher, A: Allocator>(
@@ -20,32 +20,14 @@ pub fn has_pairs<K: Eq + Hash + Copy, V: PartialEq + Copy, S: BuildHasher, A: Al
     map: &ListOrderedMultimap<K, V, S, A>,
     pairs: &[(K, V)],
 ) -> bool {
-    let mut walk = map.iter();
-    let mut same = map.values_len() == pairs.len();
-    for pair in pairs {
-        same = same && copied(walk.next()) == Some(*pair);
-    }
-    same && walk.next().is_none()
-}
-
-/// The key and the value of a pair.
-pub fn copied<K: Copy, V: Copy>(pair: Option<(&K, &V)>) -> Option<(K, V)> {
-    match pair {
-        Some((key, value)) => Some((*key, *value)),
-        None => None,
-    }
+    map.values_len() == pairs.len() && gives(&mut map.iter(), pairs)
 }
 
 fn has_keys<K: Eq + Hash + Copy, V, S: BuildHasher, A: Allocator>(
     map: &ListOrderedMultimap<K, V, S, A>,
     keys: &[K],
 ) -> bool {
-    let mut walk = map.keys();
-    let mut same = map.keys_len() == keys.len();
-    for key in keys {
-        same = same && walk.next().copied() == Some(*key);
-    }
-    same && walk.next().is_none()
+    map.keys_len() == keys.len() && gives(&mut map.keys(), keys)
 }
 
 /// Appends a pair. It returns whether there was memory, and whether the key was there as is said.

@@ -61,8 +61,8 @@ pub fn map_of<K: Eq + Hash + Copy, V: Copy>(
     map
 }
 
-/// Takes all pairs out and gives all room up, asks for room for so many keys and values, and refuses
-/// all memory from then on.
+/// Expects that no memory was refused, takes all pairs out and gives all room up, asks for room for so
+/// many keys and values, and refuses all memory from then on.
 pub fn reserve_anew<A: Allocator + Copy>(
     test: &Test,
     allocator: &RefusingAllocator,
@@ -70,6 +70,7 @@ pub fn reserve_anew<A: Allocator + Copy>(
     keys: usize,
     values: usize,
 ) {
+    test.expect(!allocator.refused());
     allocator.refuse_none();
     map.clear();
     test.expect(map.pack_to_fit().is_ok());

@@ -45,3 +45,16 @@ macro_rules! test_with_room {
         test.end()
     }};
 }
+
+/// Runs each part on the emptied map with room for so many keys and values, where all memory is
+/// refused, and expects that none was asked for.
+#[macro_export]
+macro_rules! run_in_room {
+    ($test:expr, $allocator:expr, $map:expr; $($keys:expr, $values:expr => $part:path),+) => {{
+        $(
+            reserve_anew($test, $allocator, $map, $keys, $values);
+            $part($test, $map);
+        )+
+        $test.expect(!$allocator.refused());
+    }};
+}

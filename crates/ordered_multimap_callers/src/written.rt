@@ -2,40 +2,27 @@
 //! map's lists afterwards.
 ghost use Rattle.std.specs.Prelude.{◌≡◌, option_map};
 ghost use Rattle.ordered_multimap.specs.Changes.{end_written};
-ghost use Rattle.ordered_multimap.specs.End.TheVariants.{Front, Back};
 ghost use Rattle.ordered_multimap.specs.Walk.{end_item};
 
-use ordered_multimap::ListOrderedMultimap;
+use ordered_multimap::{End, ListOrderedMultimap};
 use std::alloc::Allocator;
 use std::hash::{BuildHasher, Hash};
 use std::mem;
 
-/// Sets the first pair's value, if there is a pair, and returns the one before.
-pub fn set_front<K: Eq + Hash, V: Drop, S: BuildHasher, A: Allocator>(
+/// Sets the value of the pair at an end, if there is a pair, and returns the one before.
+pub fn set_end<K: Eq + Hash, V: Drop, S: BuildHasher, A: Allocator>(
     map: &mut ListOrderedMultimap<K, V, S, A>,
+    end: End,
     value: V,
 ) -> Option<V>
-    ensures lists { map.new.lists ≡ end_written Front map.old.lists value }
-    ensures value { result ≡ option_map (λ p. p.1) (end_item Front map.old.lists.pairs) }
+    ensures lists { map.new.lists ≡ end_written end map.old.lists value }
+    ensures value { result ≡ option_map (λ p. p.1) (end_item end map.old.lists.pairs) }
 {
     if map.values_len() == 0 {
         return None;
     }
-    let (_key, first) = map.first_mut();
-    Some(mem::replace(first, value))
-}
-
-/// The same with the last pair.
-pub fn set_back<K: Eq + Hash, V: Drop, S: BuildHasher, A: Allocator>(
-    map: &mut ListOrderedMultimap<K, V, S, A>,
-    value: V,
-) -> Option<V>
-    ensures lists { map.new.lists ≡ end_written Back map.old.lists value }
-    ensures value { result ≡ option_map (λ p. p.1) (end_item Back map.old.lists.pairs) }
-{
-    if map.values_len() == 0 {
-        return None;
-    }
-    let (_key, last) = map.last_mut();
-    Some(mem::replace(last, value))
+    Some(match end {
+        End::Front => mem::replace(map.first_mut().1, value),
+        End::Back => mem::replace(map.last_mut().1, value),
+    })
 }

@@ -15,15 +15,12 @@ mod reserve;
 mod shares;
 
 use crate::tests::extend::{map_is_made_without_hint, maps_are_made, pairs_come};
-use crate::tests::full::present_keys_find_room;
 use crate::tests::made::room_is_refused;
 use crate::tests::pack::pairs_are_packed;
-use crate::tests::reserve::{room_grows, room_is_used};
+use crate::tests::reserve::room_grows;
 use ordered_multimap::ListOrderedMultimap;
 use ordered_multimap_callers::maps::Numbers;
-use ordered_multimap_callers::test_with_room;
 use ordered_multimap_callers::tested::test_on_empty;
-use refusing_allocator::RefusingAllocator;
 use test_helpers::{Failed, Test, test_all};
 
 fn room_comes_and_goes(test: &Test, map: &mut Numbers) {
@@ -47,14 +44,4 @@ fn room_is_made_and_maps_are_made_of_pairs(rt: HostRuntime) -> Result<(), Failed
 #[test]
 fn pairs_come_at_once(rt: HostRuntime) -> Result<(), Failed> {
     test_on_empty(rt.alloc(), pairs_come)
-}
-
-#[test]
-fn room_is_used_without_memory(rt: HostRuntime) -> Result<(), Failed> {
-    test_with_room!(rt.alloc(); 5, 5; room_is_used)
-}
-
-#[test]
-fn full_keys_refuse_only_new_ones(rt: HostRuntime) -> Result<(), Failed> {
-    test_with_room!(rt.alloc(); 3, 70; present_keys_find_room)
 }

@@ -12,14 +12,12 @@ mod shown;
 mod uncloned;
 mod walks;
 
-use crate::tests::hashes::{collided_keys_come, keys_are_found};
 use crate::tests::into_iter::{pairs_are_handed_out, rest_is_walked, sum_of};
 use crate::tests::shown::is_shown_apart;
 use ordered_multimap::ListOrderedMultimap;
-use ordered_multimap::list_ordered_multimap::RandomState;
 use ordered_multimap_callers::maps::{MIXED, Numbers, map_of, refill};
 use ordered_multimap_callers::tested::test_on_empty;
-use test_helpers::{Failed, Test, ZERO, lend};
+use test_helpers::{Failed, Test, run_parts};
 
 #[test]
 fn maps_of_texts_are_shown(rt: HostRuntime) -> Result<(), Failed> {
@@ -27,46 +25,13 @@ fn maps_of_texts_are_shown(rt: HostRuntime) -> Result<(), Failed> {
 }
 
 fn numbers_answer(test: &Test, map: &mut Numbers) {
-    test.begin("ends");
-    ends::ends_answer(test, map);
-    test.begin("walks");
-    walks::are_taken(test, map);
-    test.begin("key_values");
-    key_values::are_taken(test, map);
-    test.begin("shown");
-    shown::walks_are_shown(test, map);
-    test.begin("equal");
-    equal::are_compared(test, map);
+    run_parts!(test, map; ends::ends_answer, walks::are_taken, key_values::are_taken,
+        shown::walks_are_shown, equal::are_compared)
 }
 
 #[test]
 fn maps_of_numbers_answer(rt: HostRuntime) -> Result<(), Failed> {
     test_on_empty(rt.alloc(), numbers_answer)
-}
-
-#[test]
-fn keys_of_one_hash_are_apart(rt: HostRuntime) -> Result<(), Failed> {
-    let test = Test::new(rt.alloc());
-    let map = ListOrderedMultimap::with_hasher(test.alloc(), ZERO);
-    lend(map, |map| collided_keys_come(&test, map));
-    test.end()
-}
-
-fn a_builder_serves(test: &Test, state: Option<RandomState>) {
-    match state {
-        Some(state) => {
-            let map = ListOrderedMultimap::with_hasher(test.alloc(), state);
-            lend(map, |map| keys_are_found(test, map));
-        }
-        None => test.fail(),
-    }
-}
-
-#[test]
-fn a_random_builder_serves(rt: HostRuntime) -> Result<(), Failed> {
-    let test = Test::new(rt.alloc());
-    a_builder_serves(&test, RandomState::new(&rt).ok());
-    test.end()
 }
 
 // The map of numbers is looped over, and then taken apart.

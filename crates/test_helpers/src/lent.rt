@@ -1,6 +1,7 @@
 //! Values that are owned here and lent to checks.
 use crate::steps::{Checked, Failed};
 use std::alloc::Global;
+use std::rc::Rc;
 
 /// Runs a test whose checks are lent what `new` makes of the allocator.
 // The types of test and value are parameters since the borrow checker covers no call of a closure
@@ -15,6 +16,21 @@ pub fn test_on_new<T: Checked, M: Drop, N: FnOnce(Global) -> M, F: FnOnce(&T, &m
 {
     let test = T::begin(alloc);
     checks(&test, &mut new(alloc));
+    test.finish()
+}
+
+/// Runs a test whose checks are lent the only share of a number.
+pub fn test_on_share<T: Checked, F: FnOnce(&T, &Rc<u8>)>(
+    alloc: Global,
+    checks: F,
+) -> Result<(), Failed>
+    requires { F.IsAlwaysCallable checks }
+{
+    let test = T::begin(alloc);
+    match Rc::new(alloc, 1) {
+        Ok(share) => checks(&test, &share),
+        Err(_) => test.fail(),
+    }
     test.finish()
 }
 

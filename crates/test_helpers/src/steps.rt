@@ -96,6 +96,9 @@ pub trait Checked {
     /// One of which no check failed. `alloc` gives the memory of what it makes.
     fn begin(alloc: Global) -> Self;
 
+    /// Fails it.
+    fn fail(&self);
+
     /// Ends it: an error tells the first check that failed.
     fn finish(self) -> Result<(), Failed>;
 }
@@ -103,6 +106,10 @@ pub trait Checked {
 impl Checked for Test {
     fn begin(alloc: Global) -> Test {
         Test::new(alloc)
+    }
+
+    fn fail(&self) {
+        self.note(None, false);
     }
 
     fn finish(self) -> Result<(), Failed> {

@@ -103,14 +103,33 @@ where
     requires next { (state : W) → W.can_next state }
     requires next_back { (state : W) → W.can_next_back state }
 {
-    let item = match end {
+    copied(match end {
         End::Front => walk.next(),
         End::Back => walk.next_back(),
-    };
+    })
+}
+
+/// The values of an item, if there is one.
+pub fn copied<T: Plain>(item: Option<T>) -> Option<T::Value> {
     match item {
         Some(item) => Some(item.plain()),
         None => None,
     }
+}
+
+/// Whether a walk from the front gives these items, and then ends.
+pub fn gives<W: DoubleEndedIterator>(walk: &mut W, items: &[<W::Item as Plain>::Value]) -> bool
+where
+    W::Item: Plain,
+    requires next { (state : W) → W.can_next state }
+    requires next_back { (state : W) → W.can_next_back state }
+{
+    for item in items {
+        if taken(walk, End::Front) != Some(*item) {
+            return false;
+        }
+    }
+    taken(walk, End::Front).is_none()
 }
 
 /// Whether both tellings of how many items are left are this number.

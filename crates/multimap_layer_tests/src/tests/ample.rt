@@ -41,15 +41,20 @@ fn two_are_pushed(test: &Test, list: &mut List) {
     test.expect(is_shown(test.alloc(), list, "{0: 10, 1: 20}"));
 }
 
+// Writes the value at a place, and returns whether there is one.
+fn is_written<T: Copy>(place: Option<&mut T>, value: T) -> bool {
+    match place {
+        Some(old) => {
+            *old = value;
+            true
+        }
+        None => false,
+    }
+}
+
 fn an_item_is_written(test: &Test, list: &mut List) {
-    match list.get_mut(0) {
-        Some(item) => *item = 11,
-        None => test.fail(),
-    }
-    match list.link_mut(0) {
-        Some(link) => *link = 9,
-        None => test.fail(),
-    }
+    test.expect(is_written(list.get_mut(0), 11));
+    test.expect(is_written(list.link_mut(0), 9));
     test.expect(list.get_mut(NOWHERE).is_none());
     test.expect(list.link_mut(NOWHERE).is_none());
     expect_slots(test, list, &[(0, 11, 9), (1, 20, 1)]);
@@ -113,14 +118,8 @@ fn listed_slots_of_a_tape_answer(test: &Test, tape: &mut Items) {
 }
 
 fn an_item_of_a_tape_is_written(test: &Test, tape: &mut Items) {
-    match tape.get_mut(0) {
-        Some(item) => *item = 11,
-        None => test.fail(),
-    }
-    match tape.link_mut(0) {
-        Some(link) => *link = 9,
-        None => test.fail(),
-    }
+    test.expect(is_written(tape.get_mut(0), 11));
+    test.expect(is_written(tape.link_mut(0), 9));
     expect_on(test, tape, &[(0, 11, 9), (1, 21, 3)]);
 }
 

@@ -2,20 +2,33 @@
 use crate::tests::{tape_uses, uses};
 use multimap_slots::{SlotList, Tape};
 use std::rc::Rc;
-use test_helpers::{Failed, Test};
+use test_helpers::{Failed, Test, test_on_share};
 
 type Shared = SlotList<Rc<u8>, u8>;
 
 type Shares = Tape<Rc<u8>, u8>;
 
+// The place at which a share of the item is pushed; one at which none is where memory was refused.
+fn share_pushed<F: FnOnce(Rc<u8>) -> Result<usize, Rc<u8>> + Drop>(item: &Rc<u8>, push: F) -> usize
+    requires { F.IsAlwaysCallable push }
+{
+    match item.clone() {
+        Ok(share) => push(share).unwrap_or(9),
+        Err(_) => 9,
+    }
+}
+
 // Pushes a share of the item and detaches it.
 fn add_detached(test: &Test, list: &mut Shared, item: &Rc<u8>) {
-    let place = match item.clone() {
-        Ok(share) => list.push_back(share, 0).ok(),
-        Err(_) => None,
-    };
-    test.expect(uses::detach_listed(list, place.unwrap_or(9)));
-    test.expect(Rc::strong_count(item) == 2);
+    let place = share_pushed(item, |share| list.push_back(share, 0));
+    let detached = uses::detach_listed(list, place);
+    test.expect(detached && Rc::strong_count(item) == 2);
+}
+
+fn add_detached_to_tape(test: &Test, tape: &mut Shares, item: &Rc<u8>) {
+    let place = share_pushed(item, |share| tape.push_back(share, 0));
+    let detached = tape_uses::detach_listed(tape, place);
+    test.expect(detached && Rc::strong_count(item) == 2);
 }
 
 // The list ends here.
@@ -24,15 +37,6 @@ fn a_list_drops_what_is_detached(test: &Test, mut list: Shared, item: &Rc<u8>) {
     list.clear();
     test.expect(Rc::strong_count(item) == 1);
     add_detached(test, &mut list, item);
-}
-
-fn add_detached_to_tape(test: &Test, tape: &mut Shares, item: &Rc<u8>) {
-    let place = match item.clone() {
-        Ok(share) => tape.push_back(share, 0).ok(),
-        Err(_) => None,
-    };
-    test.expect(tape_uses::detach_listed(tape, place.unwrap_or(9)));
-    test.expect(Rc::strong_count(item) == 2);
 }
 
 // The tape ends here.
@@ -55,10 +59,5 @@ fn all_is_dropped(test: &Test, item: &Rc<u8>) {
 
 #[test]
 fn what_is_detached_is_dropped(rt: HostRuntime) -> Result<(), Failed> {
-    let test = Test::new(rt.alloc());
-    match Rc::new(test.alloc(), 7) {
-        Ok(item) => all_is_dropped(&test, &item),
-        Err(_) => test.fail(),
-    }
-    test.end()
+    test_on_share(rt.alloc(), all_is_dropped)
 }

@@ -14,17 +14,10 @@ use crate::tests::removal::retained::pairs_stay;
 use ordered_multimap::ListOrderedMultimap;
 use ordered_multimap_callers::maps::Numbers;
 use ordered_multimap_callers::tested::test_on_empty;
-use test_helpers::{Failed, Test, ZERO, test_all};
+use test_helpers::{Failed, Test, ZERO, run_parts, test_all};
 
 fn numbers_leave(test: &Test, map: &mut Numbers) {
-    test.begin("popped");
-    appends_are_undone(test, map);
-    test.begin("retained");
-    pairs_stay(test, map);
-    test.begin("drain_steps");
-    values_are_given(test, map);
-    test.begin("drained");
-    lists_are_final(test, map);
+    run_parts!(test, map; appends_are_undone, pairs_stay, values_are_given, lists_are_final)
 }
 
 #[test]

@@ -14,21 +14,11 @@ use crate::tests::writing::updated::values_are_updated;
 use crate::tests::writing::walks::values_are_lent_once;
 use ordered_multimap_callers::maps::Numbers;
 use ordered_multimap_callers::tested::test_on_empty;
-use test_helpers::{Failed, Test};
+use test_helpers::{Failed, Test, run_parts};
 
 fn numbers_are_written(test: &Test, map: &mut Numbers) {
-    test.begin("walks");
-    values_are_lent_once(test, map);
-    test.begin("keys");
-    keys_lend_their_values(test, map);
-    test.begin("rest");
-    walks_have_left(test, map);
-    test.begin("updated");
-    values_are_updated(test, map);
-    test.begin("ended");
-    walks_leave_values(test, map);
-    test.begin("held");
-    held_walks_end(test, map);
+    run_parts!(test, map; values_are_lent_once, keys_lend_their_values, walks_have_left,
+        values_are_updated, walks_leave_values, held_walks_end)
 }
 
 #[test]

@@ -1,11 +1,13 @@
 //! Many pairs for a map whose keys are full, with room for values: those of present keys come, and
 //! the first of a new key is refused.
+use ordered_multimap::ListOrderedMultimap;
 use ordered_multimap::list_ordered_multimap::Refused;
 use ordered_multimap_callers::lists::appends;
 use ordered_multimap_callers::maps::{Refusing, reserve_anew};
+use ordered_multimap_callers::test_with_room;
 use refusing_allocator::RefusingAllocator;
 use std::alloc::Allocator;
-use test_helpers::Test;
+use test_helpers::{Failed, Test};
 
 // Appends pairs of new keys, each with the value 0, until no new key fits. It returns how many.
 fn fill_keys<A: Allocator + Copy>(test: &Test, map: &mut Refusing<A>) -> usize {
@@ -38,8 +40,8 @@ fn told<A: Allocator + Copy>(map: &Refusing<A>) -> (usize, usize, Option<u32>, O
     (map.keys_len(), map.values_len(), first, third)
 }
 
-/// Pairs of present keys find room where no new key does.
-pub fn present_keys_find_room<A: Allocator + Copy>(
+// Pairs of present keys find room where no new key does.
+fn present_keys_find_room<A: Allocator + Copy>(
     test: &Test,
     allocator: &RefusingAllocator,
     map: &mut Refusing<A>,
@@ -52,4 +54,9 @@ pub fn present_keys_find_room<A: Allocator + Copy>(
     let pairs = extended(map, &[(2, 1), (99, 1), (2, 2)]);
     test.expect(pairs == (Some((99, 1)), 1) && allocator.refused());
     test.expect(told(map) == (keys, keys.saturating_add(4), Some(2), Some(1)));
+}
+
+#[test]
+fn full_keys_refuse_only_new_ones(rt: HostRuntime) -> Result<(), Failed> {
+    test_with_room!(rt.alloc(); 3, 70; present_keys_find_room)
 }

@@ -3,8 +3,7 @@
 use crate::tests::additions::Call;
 use crate::tests::refused_additions::{fill_up, puts};
 use crate::tests::refused_pairs::{
-    PAIRS, collect_with, extend, extend_by_trait, extend_copied, extend_copied_by_trait,
-    from_iter_with,
+    PAIRS, collect_with, extend, from_iter_with, is_extended, is_extended_by_trait,
 };
 use crate::tests::refused_room::{Room, is_made, keep_three};
 use ordered_multimap::ListOrderedMultimap;
@@ -68,9 +67,18 @@ fn tries<A: Allocator + Copy>(
         Try::PutIntoNew(call) | Try::PutIntoFull(call) => puts(test, map, call),
         Try::Room(call) => is_made(test, map, call),
         Try::Extend => extend(test, map),
-        Try::ExtendCopied => extend_copied(test, map, other),
-        Try::ExtendByTrait => extend_by_trait(test, map),
-        Try::ExtendCopiedByTrait => extend_copied_by_trait(test, map, other),
+        Try::ExtendCopied => {
+            let answer = map.extend_copied(other.iter());
+            is_extended(test, map, answer)
+        }
+        Try::ExtendByTrait => {
+            let answer = Extend::extend(map, PAIRS.iter().copied());
+            is_extended_by_trait(test, map, answer)
+        }
+        Try::ExtendCopiedByTrait => {
+            let answer = Extend::extend(map, other.iter());
+            is_extended_by_trait(test, map, answer)
+        }
     }
 }
 

@@ -2,10 +2,10 @@
 //! before.
 use crate::tests::additions::{Answer, Call, put};
 use ordered_multimap::list_ordered_multimap::Refused;
-use ordered_multimap_callers::lists::{copied, has_lists};
+use ordered_multimap_callers::lists::has_lists;
 use ordered_multimap_callers::maps::Refusing;
 use std::alloc::Allocator;
-use test_helpers::Test;
+use test_helpers::{Test, copied};
 
 /// The pairs of a full map.
 const PAIRS: &[(u32, u32)] = &[(1, 0), (1, 1), (1, 2), (1, 3), (1, 4), (1, 5)];

@@ -4,7 +4,7 @@ use crate::tests::refused_additions::first;
 use ordered_multimap::ListOrderedMultimap;
 use ordered_multimap::list_ordered_multimap::{DefaultState, Refused};
 use ordered_multimap_callers::lists::has_lists;
-use ordered_multimap_callers::maps::{Numbers, Refusing};
+use ordered_multimap_callers::maps::Refusing;
 use refusing_allocator::RefusingAllocator;
 use std::alloc::{AllocError, Allocator};
 use test_helpers::{Test, lend_made};
@@ -20,8 +20,8 @@ fn comes_back(test: &Test, count: usize, refused: Refused<u32, u32>) {
     test.expect(PAIRS.get(count).copied() == Some(pair));
 }
 
-// What an extension leaves; whether there was memory for all pairs.
-fn is_extended<A: Allocator + Copy>(
+/// What an extension leaves; whether there was memory for all pairs.
+pub fn is_extended<A: Allocator + Copy>(
     test: &Test,
     map: &Refusing<A>,
     answer: Result<(), Refused<u32, u32>>,
@@ -51,18 +51,8 @@ pub fn extend<A: Allocator + Copy>(test: &Test, map: &mut Refusing<A>) -> bool {
     is_extended(test, map, answer)
 }
 
-/// The same by copies of the pairs of another.
-pub fn extend_copied<A: Allocator + Copy>(
-    test: &Test,
-    map: &mut Refusing<A>,
-    other: &Numbers,
-) -> bool {
-    let answer = map.extend_copied(other.iter());
-    is_extended(test, map, answer)
-}
-
-// What std's `Extend` leaves, by which code over any collection extends. It drops the refused pair.
-fn is_extended_by_trait<A: Allocator + Copy>(
+/// What std's `Extend` leaves, by which code over any collection extends. It drops the refused pair.
+pub fn is_extended_by_trait<A: Allocator + Copy>(
     test: &Test,
     map: &Refusing<A>,
     answer: Result<(), AllocError>,
@@ -71,22 +61,6 @@ fn is_extended_by_trait<A: Allocator + Copy>(
     let lists = has_lists(map, first(PAIRS, count), first(KEYS, count));
     test.expect(lists && (answer.is_err() || count == 3));
     answer.is_ok()
-}
-
-/// Extends the map by the trait. It returns whether there was memory for all pairs.
-pub fn extend_by_trait<A: Allocator + Copy>(test: &Test, map: &mut Refusing<A>) -> bool {
-    let answer = Extend::extend(map, PAIRS.iter().copied());
-    is_extended_by_trait(test, map, answer)
-}
-
-/// The same by copies of the pairs of another.
-pub fn extend_copied_by_trait<A: Allocator + Copy>(
-    test: &Test,
-    map: &mut Refusing<A>,
-    other: &Numbers,
-) -> bool {
-    let answer = Extend::extend(map, other.iter());
-    is_extended_by_trait(test, map, answer)
 }
 
 /// Collects a map. It returns whether there was memory for all pairs.

@@ -1,17 +1,14 @@
 //! Room that is asked for ahead, and what needs no memory then.
+use ordered_multimap::ListOrderedMultimap;
 use ordered_multimap::list_ordered_multimap::KeyWrapper;
 use ordered_multimap_callers::lists::{appends, has_lists, has_room, inserts};
 use ordered_multimap_callers::maps::{Numbers, Refusing, reserve, reserve_anew};
+use ordered_multimap_callers::{run_in_room, test_with_room};
 use refusing_allocator::RefusingAllocator;
 use std::alloc::Allocator;
-use test_helpers::Test;
+use test_helpers::{Failed, Test};
 
-fn three_are_added<A: Allocator + Copy>(
-    test: &Test,
-    allocator: &RefusingAllocator,
-    map: &mut Refusing<A>,
-) {
-    reserve_anew(test, allocator, map, 3, 3);
+fn three_are_added<A: Allocator + Copy>(test: &Test, map: &mut Refusing<A>) {
     for number in 1..4u32 {
         test.expect(appends(map, number, number, false));
     }
@@ -19,7 +16,6 @@ fn three_are_added<A: Allocator + Copy>(
     test.expect(map.pop_front() == Some((KeyWrapper::Owned(1), 1)));
     map.retain(|_key, value| *value < 9);
     test.expect(has_lists(map, &[(3, 3)], &[3]));
-    test.expect(!allocator.refused());
 }
 
 // Whether the key's first value leaves, and is this one.
@@ -31,19 +27,13 @@ fn leaves<A: Allocator + Copy>(map: &mut Refusing<A>, value: u32) -> bool {
 }
 
 // A key whose oldest value leaves as each new one comes.
-fn values_pass_through<A: Allocator + Copy>(
-    test: &Test,
-    allocator: &RefusingAllocator,
-    map: &mut Refusing<A>,
-) {
-    reserve_anew(test, allocator, map, 1, 2);
+fn values_pass_through<A: Allocator + Copy>(test: &Test, map: &mut Refusing<A>) {
     test.expect(appends(map, 1, 0, false));
     for number in 1..101u32 {
         test.expect(appends(map, 1, number, true));
         test.expect(leaves(map, number - 1));
     }
     test.expect(has_lists(map, &[(1, 100)], &[1]));
-    test.expect(!allocator.refused());
 }
 
 // Room that is there already is never refused, and nothing grows.
@@ -59,16 +49,20 @@ fn reserves_nothing<A: Allocator + Copy>(
     test.expect(left == room);
 }
 
-/// Room is used without memory. There is room for five at first.
-pub fn room_is_used<A: Allocator + Copy>(
+// Room is used without memory. There is room for five at first.
+fn room_is_used<A: Allocator + Copy>(
     test: &Test,
     allocator: &RefusingAllocator,
     map: &mut Refusing<A>,
 ) {
     allocator.refuse_all();
     reserves_nothing(test, allocator, map);
-    three_are_added(test, allocator, map);
-    values_pass_through(test, allocator, map);
+    run_in_room!(test, allocator, map; 3, 3 => three_are_added, 1, 2 => values_pass_through)
+}
+
+#[test]
+fn room_is_used_without_memory(rt: HostRuntime) -> Result<(), Failed> {
+    test_with_room!(rt.alloc(); 5, 5; room_is_used)
 }
 
 /// Room comes with a pair, and with a call that asks for it.

@@ -4,7 +4,7 @@ use crate::tests::pack::pack_to;
 use ordered_multimap::ListOrderedMultimap;
 use std::mem;
 use std::rc::Rc;
-use test_helpers::{Failed, Test};
+use test_helpers::{Failed, Test, test_on_share};
 
 type Shares = ListOrderedMultimap<u8, Rc<u8>>;
 
@@ -62,10 +62,5 @@ fn shares_are_dropped(test: &Test, shared: &Rc<u8>) {
 
 #[test]
 fn what_a_drain_left_is_dropped_once(rt: HostRuntime) -> Result<(), Failed> {
-    let test = Test::new(rt.alloc());
-    match Rc::new(test.alloc(), 1) {
-        Ok(shared) => shares_are_dropped(&test, &shared),
-        Err(_) => test.fail(),
-    }
-    test.end()
+    test_on_share(rt.alloc(), shares_are_dropped)
 }

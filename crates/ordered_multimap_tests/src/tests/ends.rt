@@ -1,9 +1,9 @@
 //! The pairs at both ends, which are read, written, and popped by functions; and the hash builder.
 use ordered_multimap::list_ordered_multimap::DefaultState;
-use ordered_multimap_callers::lists::{copied, has_lists, has_pairs};
+use ordered_multimap_callers::lists::{has_lists, has_pairs};
 use ordered_multimap_callers::maps::{MIXED, Numbers, refill};
 use std::hash::BuildHasher;
-use test_helpers::Test;
+use test_helpers::{Test, copied};
 
 fn ends_are_read(test: &Test, map: &Numbers) {
     test.expect(copied(map.front()) == Some((1, 11)));

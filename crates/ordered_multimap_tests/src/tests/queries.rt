@@ -3,10 +3,10 @@ mod kinds;
 mod names;
 mod texts;
 
-use crate::tests::queries::texts::{Owned, texts_are_queries};
+use crate::tests::queries::texts::texts_are_queries;
 use ordered_multimap::ListOrderedMultimap;
 use ordered_multimap_callers::tested::test_on_empty;
-use test_helpers::{Constant, Failed, Test, ZERO};
+use test_helpers::{Failed, ZERO, test_on_new};
 
 #[test]
 fn owned_texts_are_found_by_lent_ones(rt: HostRuntime) -> Result<(), Failed> {
@@ -15,9 +15,6 @@ fn owned_texts_are_found_by_lent_ones(rt: HostRuntime) -> Result<(), Failed> {
 
 #[test]
 fn collided_texts_are_found_by_lent_ones(rt: HostRuntime) -> Result<(), Failed> {
-    let test = Test::new(rt.alloc());
-    let mut map: Owned<Constant> = ListOrderedMultimap::with_hasher(test.alloc(), ZERO);
-    texts_are_queries(&test, &mut map);
-    drop(map);
-    test.end()
+    let collided = |alloc| ListOrderedMultimap::with_hasher(alloc, ZERO);
+    test_on_new(rt.alloc(), collided, texts_are_queries)
 }

@@ -3,7 +3,7 @@ use ordered_multimap::ListOrderedMultimap;
 use ordered_multimap::list_ordered_multimap::{IntoIter, UnclonedKey};
 use refusing_allocator::RefusingAllocator;
 use std::alloc::Allocator;
-use test_helpers::{Failed, Test, lend, requests_until_enough};
+use test_helpers::{Failed, Test, lend, requests_until_enough, test_all};
 
 // The allocator's type is a parameter, since a map of a type with a reference costs a proof more.
 type Texts<A> = ListOrderedMultimap<String<A>, u32>;
@@ -60,10 +60,12 @@ fn taken_apart_with(test: &Test, granted: u64) -> bool {
     taken_apart(test, &allocator, &allocator, granted)
 }
 
+fn one_request_a_clone(test: &Test) {
+    let enough = requests_until_enough(|granted| taken_apart_with(test, granted));
+    test.expect(enough == Some(2));
+}
+
 #[test]
 fn a_refused_clone_of_a_key_gives_the_value(rt: HostRuntime) -> Result<(), Failed> {
-    let test = Test::new(rt.alloc());
-    let enough = requests_until_enough(|granted| taken_apart_with(&test, granted));
-    test.expect(enough == Some(2));
-    test.end()
+    test_all!(rt.alloc(); one_request_a_clone)
 }

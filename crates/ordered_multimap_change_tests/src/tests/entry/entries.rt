@@ -1,13 +1,15 @@
 //! Entries of keys that are present and of keys that aren't: what each call returns, and what the
 //! map is then.
 use crate::tests::lending::entered;
+use ordered_multimap::ListOrderedMultimap;
 use ordered_multimap::list_ordered_multimap::{Entry, KeyWrapper};
 use ordered_multimap_callers::lists::has_lists;
 use ordered_multimap_callers::maps::{Numbers, Refusing, fill};
+use ordered_multimap_callers::test_with_room;
 use refusing_allocator::RefusingAllocator;
 use std::alloc::Allocator;
 use std::cell::Cell;
-use test_helpers::Test;
+use test_helpers::{Failed, Test};
 
 fn value_is_inserted<A: Allocator + Copy>(test: &Test, map: &mut Refusing<A>) {
     match map.entry(1) {
@@ -21,8 +23,8 @@ fn value_is_inserted<A: Allocator + Copy>(test: &Test, map: &mut Refusing<A>) {
     }
 }
 
-/// An occupied entry replaces its values without memory.
-pub fn values_are_replaced<A: Allocator + Copy>(
+// An occupied entry replaces its values without memory.
+fn values_are_replaced<A: Allocator + Copy>(
     test: &Test,
     allocator: &RefusingAllocator,
     map: &mut Refusing<A>,
@@ -32,6 +34,11 @@ pub fn values_are_replaced<A: Allocator + Copy>(
     value_is_inserted(test, map);
     test.expect(!allocator.refused());
     test.expect(has_lists(map, &[(2, 3), (1, 9)], &[1, 2]));
+}
+
+#[test]
+fn an_occupied_entry_takes_no_memory(rt: HostRuntime) -> Result<(), Failed> {
+    test_with_room!(rt.alloc(); 0, 0; values_are_replaced)
 }
 
 fn key_comes_back(test: &Test, map: &mut Numbers) {

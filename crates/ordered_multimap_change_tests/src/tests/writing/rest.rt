@@ -6,42 +6,41 @@ use ordered_multimap_callers::lists::goes_on;
 use ordered_multimap_callers::maps::{MIXED, Numbers, ONE_KEY, refill};
 use test_helpers::{End, Test, is_shown};
 
-const PAIRS: &str = "IterMut([(1, 11), (2, 12), (2, 13), (1, 14)])";
+// Expects what Debug shows of a walk for writing; and of the rest for reading, once the walk has handed
+// out its last item, what it shows, and that it gives this behind its first item.
+macro_rules! expect_rest {
+    ($test:expr, $walk:expr; $shown:expr, $rest:expr, $behind:expr) => {{
+        $test.expect(is_shown($test.alloc(), $walk, $shown));
+        $test.expect($walk.next_back().is_some());
+        $test.expect(is_shown($test.alloc(), &$walk.iter(), $rest));
+        $test.expect(goes_on(&mut $walk.iter(), $behind));
+    }};
+}
 
-const PAIRS_LEFT: &str = "IterRest([(1, 11), (2, 12), (2, 13)])";
+const PAIRS: &str = "IterMut([(1, 11), (2, 12), (2, 13), (1, 14)])";
 
 const PAIRS_BEHIND: &[(End, (u32, u32))] = &[(End::Back, (2, 13)), (End::Front, (2, 12))];
 
-// The last pair is handed out, and the first is passed over before the comparison.
-fn pairs_are_left(test: &Test, walk: &mut IterMut<'_, u32, u32>) {
-    test.expect(is_shown(test.alloc(), walk, PAIRS));
-    test.expect(walk.next_back().is_some());
-    test.expect(is_shown(test.alloc(), &walk.iter(), PAIRS_LEFT));
-    test.expect(goes_on(&mut walk.iter(), PAIRS_BEHIND));
-}
-
-const VALUES: &str = "ValuesMut([11, 12, 13, 14])";
-
-const VALUES_LEFT: &str = "ValuesRest([11, 12, 13])";
-
 const VALUES_BEHIND: &[(End, u32)] = &[(End::Front, 12), (End::Front, 13)];
 
-fn values_are_left(test: &Test, walk: &mut ValuesMut<'_, u32, u32>) {
-    test.expect(is_shown(test.alloc(), walk, VALUES));
-    test.expect(walk.next_back().is_some());
-    test.expect(is_shown(test.alloc(), &walk.iter(), VALUES_LEFT));
-    test.expect(goes_on(&mut walk.iter(), VALUES_BEHIND));
+fn pairs_are_left(test: &Test, walk: &mut IterMut<'_, u32, u32>) {
+    expect_rest!(test, walk; PAIRS, "IterRest([(1, 11), (2, 12), (2, 13)])", PAIRS_BEHIND)
 }
 
-const OF_KEY: &str = "EntryValuesMut([11, 12, 13, 14])";
-
-const LEFT_OF_KEY: &str = "EntryValuesRest([11, 12, 13])";
+fn values_are_left(test: &Test, walk: &mut ValuesMut<'_, u32, u32>) {
+    expect_rest!(test, walk;
+        "ValuesMut([11, 12, 13, 14])",
+        "ValuesRest([11, 12, 13])",
+        VALUES_BEHIND
+    )
+}
 
 fn values_of_a_key_are_left(test: &Test, walk: &mut EntryValuesMut<'_, u32, u32>) {
-    test.expect(is_shown(test.alloc(), walk, OF_KEY));
-    test.expect(walk.next_back().is_some());
-    test.expect(is_shown(test.alloc(), &walk.iter(), LEFT_OF_KEY));
-    test.expect(goes_on(&mut walk.iter(), VALUES_BEHIND));
+    expect_rest!(test, walk;
+        "EntryValuesMut([11, 12, 13, 14])",
+        "EntryValuesRest([11, 12, 13])",
+        VALUES_BEHIND
+    )
 }
 
 const KEYS: &str = "KeyValuesMut([(1, EntryValues([11, 14])), (2, EntryValues([12, 13]))])";

@@ -12,7 +12,7 @@ use ordered_multimap::list_ordered_multimap::KeyWrapper;
 use ordered_multimap::{KeyQuery, ListOrderedMultimap};
 use ordered_multimap_callers::tested::test_on_empty;
 use std::hash::{Hash, Hasher};
-use test_helpers::{End, Failed, Test, walk_difference};
+use test_helpers::{End, Failed, Test, run_parts, walk_difference};
 
 /// A header's name. Case counts for nothing when names are compared, and names of one length have one
 /// hash, so that some of them collide.
@@ -173,9 +173,7 @@ fn replaced_spelling_stays(test: &Test, headers: &mut Headers) {
 }
 
 fn names_answer(test: &Test, headers: &mut Headers) {
-    headers_are_kept(test, headers);
-    first_spellings_stay(test, headers);
-    replaced_spelling_stays(test, headers);
+    run_parts!(test, headers; headers_are_kept, first_spellings_stay, replaced_spelling_stays)
 }
 
 #[test]
