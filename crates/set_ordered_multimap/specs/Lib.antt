@@ -1,6 +1,7 @@
 pub mod Asked
 pub mod Insertions
 pub mod Laws
+pub mod PairLaws
 pub mod Set
 pub mod SetChanges
 pub mod SetClones

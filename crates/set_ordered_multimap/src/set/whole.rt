@@ -1,9 +1,9 @@
 //! Calls on the set as a whole: equality, clones, `Debug`, and the iterator that takes it apart.
-ghost use Rattle.std.specs.Cmp.{and_equiv, and_per, on_equiv, on_per, partial_equiv_from_equiv};
-ghost use Rattle.std.specs.Cmp.Lexicographic.{lists_equiv, lists_per};
+ghost use Rattle.std.specs.Cmp.{on_equiv, on_per};
 ghost use Rattle.std.specs.Prelude.{◌≡◌, true};
 ghost use Rattle.ordered_multimap.specs.Lists.{IsIn};
 ghost use Rattle.ordered_multimap.specs.Pairs.{same_pairs};
+ghost use Rattle.set_ordered_multimap.specs.PairLaws.{pairs_equiv, pairs_per};
 ghost use Rattle.set_ordered_multimap.specs.SetClones.{ClonesSet};
 
 use super::SetOrderedMultimap;
@@ -39,9 +39,7 @@ impl<K: Eq + Hash, V: PartialEq, S: BuildHasher, A: Allocator> PartialEq
     for SetOrderedMultimap<K, V, S, A> {
     ghost eq = { λ m n. same_pairs K.eq V.eq m.lists.pairs n.lists.pairs };
 
-    ghost laws = { on_per (λ m. m.lists.pairs) (lists_per
-        (and_per (on_per (λ p. p.0) (partial_equiv_from_equiv K.Eq.laws))
-        (on_per (λ p. p.1) V.laws))) };
+    ghost laws = { on_per (λ m. m.lists.pairs) (pairs_per K.Eq.laws V.laws) };
 
     fn eq(&self, other: &Self) -> bool {
         self.map == other.map
@@ -49,8 +47,7 @@ impl<K: Eq + Hash, V: PartialEq, S: BuildHasher, A: Allocator> PartialEq
 }
 
 impl<K: Eq + Hash, V: Eq, S: BuildHasher, A: Allocator> Eq for SetOrderedMultimap<K, V, S, A> {
-    ghost laws = { on_equiv (λ m. m.lists.pairs) (lists_equiv
-        (and_equiv (on_equiv (λ p. p.0) K.Eq.laws) (on_equiv (λ p. p.1) V.Eq.laws))) };
+    ghost laws = { on_equiv (λ m. m.lists.pairs) (pairs_equiv K.Eq.laws V.Eq.laws) };
 }
 
 impl<
