@@ -1,11 +1,11 @@
 //! Each request for memory of each call that grows is refused in turn: what was to be stored comes
 //! back, and both lists are as before. What needs no memory is done where all is refused.
-use crate::tests::lists::{copied, has_lists};
+use crate::tests::lists::has_lists;
 use ordered_multimap::list_ordered_multimap::{DefaultState, Refused};
 use refusing_allocator::RefusingAllocator;
 use set_ordered_multimap::SetOrderedMultimap;
 use std::alloc::Allocator;
-use test_helpers::{Failed, Test, lend, lend_made, requests_until_enough};
+use test_helpers::{Failed, Test, copied, lend, lend_made, requests_until_enough};
 
 // A set whose memory may be refused. The allocator's type is a parameter all over here, since a set
 // of a type with a reference costs a proof twice as much.
