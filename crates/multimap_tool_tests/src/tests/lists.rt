@@ -9,7 +9,7 @@ use ordered_multimap::ListOrderedMultimap;
 use ordered_multimap::list_ordered_multimap::DefaultState;
 use serde_json::Value;
 use std::alloc::Global;
-use test_helpers::{Failed, Test};
+use test_helpers::{Failed, Test, test_all, test_on_new};
 
 type Numbers = ListOrderedMultimap<u32, i64>;
 
@@ -64,35 +64,51 @@ const EMPTY: &str = r#"{"keys":[],"pairs":[]}"#;
 
 const MIXED: &str = r#"{"keys":[2,1],"pairs":[[1,5],[2,6],[1,7]]}"#;
 
-/// Texts of no map, with the fault.
-const BAD: &[(&str, ReadFault)] = &[
-    ("{}", NotVersion2),
-    (r#"{"keys":[1]}"#, NotVersion2),
-    (r#"{"keys":[1],"pairs":[[1,2]],"v":2}"#, NotVersion2),
-    (r#"{"keys":["x"],"pairs":7}"#, NotVersion2),
-    (r#"{"keys":{},"pairs":[]}"#, NotVersion2),
-    (r#"{"keys":[1],"values":[[1,2]]}"#, NotVersion2),
-    (r#"{"keys":["x"],"pairs":[[1]]}"#, BadListedKey(0)),
-    (r#"{"keys":[1,1,"x"],"pairs":[[1,2]]}"#, RepeatedKey(1)),
-    (r#"{"keys":[1,1],"pairs":[[1,2]]}"#, RepeatedKey(1)),
-    (r#"{"keys":[1],"pairs":[[1,5],[3]]}"#, NotPair(1)),
-    (r#"{"keys":[1],"pairs":[[2,2.5]]}"#, UnlistedKey(0)),
-    (r#"{"keys":[1,2],"pairs":[[1,5]]}"#, UnusedKey(1)),
-    (r#"{"keys":[1],"pairs":[]}"#, UnusedKey(0)),
-    (r#"{"keys":[],"pairs":[[1,5]]}"#, UnlistedKey(0)),
-];
-
-/// The same where the first pair has no value, and where a later pair is bad.
-const BAD_PAIRS: &[(&str, ReadFault)] = &[
-    (r#"{"keys":[1,1],"pairs":[]}"#, RepeatedKey(1)),
-    (r#"{"keys":[2,1,2],"pairs":[[1]]}"#, RepeatedKey(2)),
-    (r#"{"keys":[1],"pairs":[7]}"#, NotPair(0)),
-    (r#"{"keys":[1],"pairs":[["x",2.5]]}"#, BadKey(0)),
-    (r#"{"keys":[1,2],"pairs":[[1,2.5],7]}"#, BadValue(0)),
-    (r#"{"keys":[1],"pairs":[[1,5],[-1,6]]}"#, BadKey(1)),
-    (r#"{"keys":[1],"pairs":[[1,5],[2,true]]}"#, UnlistedKey(1)),
-    (r#"{"keys":[1],"pairs":[[1,5],[2,6],[3]]}"#, UnlistedKey(1)),
-    (r#"{"keys":[1,2],"pairs":[[1,5],[1,true]]}"#, BadValue(1)),
+/// Faults, each with texts of no map in which it is the first one.
+const BAD: &[(ReadFault, &[&str])] = &[
+    (
+        NotVersion2,
+        &[
+            "{}",
+            r#"{"keys":[1]}"#,
+            r#"{"keys":[1],"pairs":[[1,2]],"v":2}"#,
+            r#"{"keys":["x"],"pairs":7}"#,
+            r#"{"keys":{},"pairs":[]}"#,
+            r#"{"keys":[1],"values":[[1,2]]}"#,
+        ],
+    ),
+    (BadListedKey(0), &[r#"{"keys":["x"],"pairs":[[1]]}"#]),
+    (
+        RepeatedKey(1),
+        &[
+            r#"{"keys":[1,1,"x"],"pairs":[[1,2]]}"#,
+            r#"{"keys":[1,1],"pairs":[[1,2]]}"#,
+            r#"{"keys":[1,1],"pairs":[]}"#,
+        ],
+    ),
+    (RepeatedKey(2), &[r#"{"keys":[2,1,2],"pairs":[[1]]}"#]),
+    (NotPair(0), &[r#"{"keys":[1],"pairs":[7]}"#]),
+    (NotPair(1), &[r#"{"keys":[1],"pairs":[[1,5],[3]]}"#]),
+    (BadKey(0), &[r#"{"keys":[1],"pairs":[["x",2.5]]}"#]),
+    (BadKey(1), &[r#"{"keys":[1],"pairs":[[1,5],[-1,6]]}"#]),
+    (
+        UnlistedKey(0),
+        &[
+            r#"{"keys":[1],"pairs":[[2,2.5]]}"#,
+            r#"{"keys":[],"pairs":[[1,5]]}"#,
+        ],
+    ),
+    (
+        UnlistedKey(1),
+        &[
+            r#"{"keys":[1],"pairs":[[1,5],[2,true]]}"#,
+            r#"{"keys":[1],"pairs":[[1,5],[2,6],[3]]}"#,
+        ],
+    ),
+    (BadValue(0), &[r#"{"keys":[1,2],"pairs":[[1,2.5],7]}"#]),
+    (BadValue(1), &[r#"{"keys":[1,2],"pairs":[[1,5],[1,true]]}"#]),
+    (UnusedKey(0), &[r#"{"keys":[1],"pairs":[]}"#]),
+    (UnusedKey(1), &[r#"{"keys":[1,2],"pairs":[[1,5]]}"#]),
 ];
 
 fn maps_are_read(test: &Test) {
@@ -102,10 +118,15 @@ fn maps_are_read(test: &Test) {
     }
 }
 
-fn faults_are_found(test: &Test, rows: &[(&str, ReadFault)]) {
-    for (row, (text, fault)) in rows.iter().enumerate() {
-        let told = read(test.alloc(), text, &[], "");
-        test.expect_at(row, told == Err(*fault));
+fn fault_is_found(test: &Test, row: usize, fault: ReadFault, texts: &[&str]) {
+    for text in texts {
+        test.expect_at(row, read(test.alloc(), text, &[], "") == Err(fault));
+    }
+}
+
+fn faults_are_found(test: &Test) {
+    for (row, (fault, texts)) in BAD.iter().enumerate() {
+        fault_is_found(test, row, *fault, texts);
     }
 }
 
@@ -127,11 +148,11 @@ fn a_map_is_written(test: &Test, map: &mut Numbers) {
 }
 
 #[test]
-fn maps_are_written_and_read_with_both_lists(rt: HostRuntime) -> Result<(), Failed> {
-    let test = Test::new(rt.alloc());
-    maps_are_read(&test);
-    faults_are_found(&test, BAD);
-    faults_are_found(&test, BAD_PAIRS);
-    a_map_is_written(&test, &mut ListOrderedMultimap::new(test.alloc()));
-    test.end()
+fn maps_are_read_with_both_lists(rt: HostRuntime) -> Result<(), Failed> {
+    test_all!(rt.alloc(); maps_are_read, faults_are_found)
+}
+
+#[test]
+fn maps_are_written_with_both_lists(rt: HostRuntime) -> Result<(), Failed> {
+    test_on_new(rt.alloc(), ListOrderedMultimap::new, a_map_is_written)
 }
