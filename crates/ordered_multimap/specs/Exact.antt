@@ -21,7 +21,8 @@ use Rattle.ordered_multimap.specs.EntryLends.{EndsEntry, entry_row, lends_values
 use Rattle.ordered_multimap.specs.KeysLeft.{keys_left}
 use Rattle.ordered_multimap.specs.Lists.{lists}
 use Rattle.ordered_multimap.specs.Multimap.{Multimap, multimap_code}
-use Rattle.ordered_multimap.specs.ValuesLent.{EndsMap, map_row, pairs_ended, with_values_of}
+use Rattle.ordered_multimap.specs.PopAnswers.{map_row}
+use Rattle.ordered_multimap.specs.ValuesLent.{EndsMap, pairs_ended, with_values_of}
 use Rattle.ordered_multimap.specs.WalkLends.{EndsStepped, lends_key_values, walk_row}
 use Rattle.ordered_multimap.specs.declared.list_ordered_multimap.entry.OccupiedEntry.{OccupiedEntry}
 use Rattle.ordered_multimap.specs.declared.list_ordered_multimap.key_values_mut as walks

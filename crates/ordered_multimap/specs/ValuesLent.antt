@@ -25,7 +25,7 @@ use Rattle.multimap_walks.specs.Lending.{AllAreLeft}
 use Rattle.ordered_multimap.specs.Lists.{lists}
 use Rattle.ordered_multimap.specs.Multimap.{Multimap, multimap_code}
 use Rattle.ordered_multimap.specs.Agrees.{Agrees, lists_of}
-use Rattle.ordered_multimap.specs.contracts.list_ordered_multimap.ListOrderedMultimap.{the_row}
+use Rattle.ordered_multimap.specs.PopAnswers.{map_row}
 
 module _ {K V : Type 0} where
   -- the pairs, each with the value at its position in the other list, where there is one
@@ -98,11 +98,7 @@ lends_tape_values V A heap t cells = lends_cells V link_row A heap t cells
 module _ (K V S A H : RattleType) (key : HashMembers K.Denot)
     (build : builder.Ghosts S.Denot H.Denot) (hash : hasher.Ghosts H.Denot)
     (heap : alloc.Ghosts A.Denot) where
-  -- the map's type, as the logic holds it
-  abbrev pub map_row : RattleType
-  map_row = the_row K V S A H (record { eq = key.eq }) (record { hash_input = key.hash_input })
-      build hash heap
-
   -- once the loan with this name ends, the map is as before but for its values
   abbrev pub lends_values : MutBor (Multimap K.Denot V.Denot S.Denot) → GName → Fml
-  lends_values m r = follows map_row map_row m.ghost_name r (with_values_of m.now)
+  lends_values m r = follows (map_row K V S A H key build hash heap)
+      (map_row K V S A H key build hash heap) m.ghost_name r (with_values_of m.now)

@@ -40,7 +40,8 @@ use Rattle.ordered_multimap.specs.Pairs.{all_positions, all_values, with_value_a
 use Rattle.ordered_multimap.specs.Changes.{end_written}
 use Rattle.ordered_multimap.specs.Exact.{ended_map, ends_exactly, WalksAreExact}
 use Rattle.ordered_multimap.specs.Lists.{Lists, lists}
-use Rattle.ordered_multimap.specs.ValuesLent.{EndsMap, map_row, pairs_ended, with_values_of}
+use Rattle.ordered_multimap.specs.PopAnswers.{map_row}
+use Rattle.ordered_multimap.specs.ValuesLent.{EndsMap, pairs_ended, with_values_of}
 use Rattle.ordered_multimap.proofs.Callers.Places.{held}
 use Rattle.ordered_multimap_callers.specs.Ends.{ends_first_written, ends_with_lists}
 

@@ -32,7 +32,8 @@ use Rattle.ordered_multimap.specs.Exact.{EntryWalksAreExact, InnerWalksAreExact,
 use Rattle.ordered_multimap.specs.Exact.{ended_entry, ended_map, ends_by_items, ends_exactly, entry_ends_exactly, walk_ends_exactly}
 use Rattle.ordered_multimap.specs.Lists.{lists}
 use Rattle.ordered_multimap.specs.Multimap.{Multimap}
-use Rattle.ordered_multimap.specs.ValuesLent.{EndsMap, map_row, pairs_ended, with_items, with_values, with_values_of}
+use Rattle.ordered_multimap.specs.PopAnswers.{map_row}
+use Rattle.ordered_multimap.specs.ValuesLent.{EndsMap, pairs_ended, with_items, with_values, with_values_of}
 use Rattle.ordered_multimap.specs.WalkLends.{EndsStepped, IsStepped, lends_key_values, walk_row, with_walk_items}
 use Rattle.ordered_multimap.proofs.Loans.Rested.{SoMet, so_out}
 

@@ -74,20 +74,17 @@ fn clone_with(test: &Test, pairs: &[(char, char)], granted: u64) -> bool {
     clone_by(test, &allocator, &allocator, pairs, granted)
 }
 
-#[test]
-fn a_refused_clone_leaves_the_map(rt: HostRuntime) -> Result<(), Failed> {
-    let test = Test::new(rt.alloc());
-    let enough = requests_until_enough(|granted| clone_with(&test, WITHOUT_HOLES, granted));
-    // One for the keys' new places, two each for keys and table, three for values, four for texts.
-    test.expect(enough == Some(12));
-    test.end()
+fn clone_needs(test: &Test, pairs: &[(char, char)], requests: u64) {
+    let enough = requests_until_enough(|granted| clone_with(test, pairs, granted));
+    test.expect(enough == Some(requests));
 }
 
 #[test]
-fn a_refused_clone_leaves_the_map_with_a_hole(rt: HostRuntime) -> Result<(), Failed> {
+fn a_refused_clone_leaves_the_map(rt: HostRuntime) -> Result<(), Failed> {
     let test = Test::new(rt.alloc());
-    let enough = requests_until_enough(|granted| clone_with(&test, WITH_A_HOLE, granted));
+    // One for the keys' new places, two each for keys and table, three for values, four for texts.
+    clone_needs(&test, WITHOUT_HOLES, 12);
     // And one for the values' ranks.
-    test.expect(enough == Some(13));
+    clone_needs(&test, WITH_A_HOLE, 13);
     test.end()
 }
