@@ -4,6 +4,7 @@ pub mod Laws
 pub mod LentValues
 pub mod ListedKeys
 pub mod Members
+pub mod OneValue
 pub mod PairsByValue
 pub mod Places
 pub mod RemovedAt

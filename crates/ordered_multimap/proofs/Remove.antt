@@ -4,6 +4,7 @@ pub mod OlderValues
 pub mod OneLink
 pub mod OnePair
 pub mod OneValue
+pub mod OneValueOut
 pub mod Retaining
 pub mod RetainingStep
 pub mod ValueByValue

@@ -18,6 +18,7 @@ pub mod Laws
 pub mod Lists
 pub mod MapSlots
 pub mod Multimap
+pub mod OneValue
 pub mod Pairs
 pub mod Popped
 pub mod PopAnswers

@@ -1,5 +1,6 @@
 -- Members of lists: a value is in a list if it itself stands there.
-use Rattle.std.proofs.Common.{◌≡◌, Bool, true, false, cond, List, [], ◌∷◌, ◌++◌, filter, refl, sym, ap, ◌∙◌, subst, inl, inr}
+use Rattle.std.proofs.Common.{◌≡◌, ◌||◌, Bool, true, false, cond, List, [], ◌∷◌, ◌++◌, filter, refl, sym, ap, ◌∙◌, subst, inl, inr}
+use Rattle.std.specs.List.{list_any}
 use Rattle.std.specs.Map.{keys_of}
 use Rattle.multimap_slots.specs.Lists.{IsIn}
 
@@ -52,3 +53,11 @@ keys_of-filter test k (p ∷ pairs) member =
       | true ↦ λ among. elim among [ inl here ↦ inl here | inr later ↦ inr (keys_of-filter test k pairs later) ]
       | false ↦ λ among. inr (keys_of-filter test k pairs among)
     ] member
+
+-- whether an item passes, by the first one and the others
+pub any_first : {X : Type 0} (test : X → Bool) (xs rest : List X) (x : X) → xs ≡ x ∷ rest → test x ≡ true → list_any test xs ≡ true
+any_first test xs rest x is passes = ap (list_any test) is ∙ ap (λ b. b || list_any test rest) passes
+
+pub any_later : {X : Type 0} (test : X → Bool) (xs rest : List X) (x : X) → xs ≡ x ∷ rest → test x ≡ false
+    → list_any test xs ≡ list_any test rest
+any_later test xs rest x is fails = ap (list_any test) is ∙ ap (λ b. b || list_any test rest) fails

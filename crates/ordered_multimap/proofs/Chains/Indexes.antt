@@ -52,7 +52,7 @@ module _ {X : Type 0} where
 
   module _ {Y : Type 0} (f : X → Option Y) where
     -- what is made of an item at an index
-    indexed_shown : (xs : List X) (i : ℕ) → ((x : X) → IsIn x xs → IsSome (f x))
+    pub indexed_shown : (xs : List X) (i : ℕ) → ((x : X) → IsIn x xs → IsSome (f x))
         → slice_get (filter_map f xs) i ≡ option_and_then f (slice_get xs i)
     indexed_shown [] i all = refl
     indexed_shown (x ∷ xs) zero all =

@@ -10,6 +10,8 @@ ghost use Rattle.ordered_multimap.specs.Keys.{stored_key};
 ghost use Rattle.ordered_multimap.specs.Agrees.{HasKey, HasKeyWhere, LacksWhere, StandsAt, items_of, hash_of};
 ghost use Rattle.ordered_multimap.specs.Agrees.{IsFoundBy, SaysWhetherAccepted};
 
+mod values;
+
 use super::ListOrderedMultimap;
 use crate::KeyQuery;
 use multimap_slots::{Reads, SlotList, Tape};

@@ -14,6 +14,7 @@ pub(crate) mod at;
 pub(crate) mod chain;
 pub(crate) mod one;
 pub(crate) mod unlink;
+pub(crate) mod value;
 
 use super::ListOrderedMultimap;
 use super::remove::chain::unlink_entry;

@@ -21,7 +21,7 @@ use std::hash::{BuildHasher, Hash};
 
 /// The place of the value at an index in the chain of the key at the place, along the links from
 /// the nearer end.
-fn place_at<K, V, A: Allocator>(
+pub(crate) fn place_at<K, V, A: Allocator>(
     keys: &SlotList<K, KeyLink, A>,
     values: &Tape<V, ValueLink, A>,
     place: usize,

@@ -1,0 +1,96 @@
+-- One value of a key goes: what is left where there is none, and what the first accepted value's index says.
+use Rattle.std.proofs.Common.{◌≡◌, ◌+◌, ◌&&◌, ℕ, suc, Bool, true, false, cond, List, [], ◌∷◌, filter, find, map, slice_get, Option, Some, None}
+use Rattle.std.proofs.Common.{option_map, refl, sym, ap, ◌∙◌, arith}
+use Rattle.std.proofs.lemmas.Option.{slice_get-map}
+use Rattle.std.specs.Cmp.{IsEquivalence}
+use Rattle.std.specs.List.{enumerate_from, remove}
+use Rattle.std.specs.Map.{keys_of}
+use Rattle.ordered_multimap.specs.Changes.{kept}
+use Rattle.ordered_multimap.specs.Keys.{is_listed}
+use Rattle.ordered_multimap.specs.Lists.{IsWellFormed, Lists, lists}
+use Rattle.ordered_multimap.specs.OneValue.{index_of, index_removed, pairs_without_first, pairs_without_index}
+use Rattle.ordered_multimap.specs.Pairs.{positions_where, values_where}
+use Rattle.ordered_multimap.proofs.Callers.ListedKeys.{is_listed-self}
+use Rattle.ordered_multimap.proofs.Callers.Members.{filter-all}
+use Rattle.ordered_multimap.proofs.Callers.WellFormed.{same_keys}
+
+-- well-formed lists are what all their pairs leave
+pub kept-all : {K V : Type 0} {eq : K → K → Bool} → IsEquivalence eq → (m : Lists K V) → IsWellFormed eq m → kept eq m m.pairs ≡ m
+kept-all {eq = eq} laws m formed =
+    ap (λ ks. lists ks m.pairs) (filter-all (is_listed eq (keys_of m.pairs)) m.keys
+    (λ j i. same_keys laws m j formed ∙ is_listed-self laws j m.keys i))
+
+-- keys without a position have no value that can go
+pub index_removed-lacking : {K V : Type 0} {eq : K → K → Bool} → IsEquivalence eq → (m : Lists K V) → IsWellFormed eq m
+    → (accepts : K → Bool) → positions_where accepts m.pairs ≡ [] → (index : ℕ) → index_removed eq accepts m index ≡ m
+index_removed-lacking {K} {V} {eq} laws m formed accepts none index =
+    ap (λ ps. kept eq m (elim (slice_get {X = ℕ} ps index) as (λ _. List (K × V)) [ None ↦ m.pairs | Some i ↦ remove m.pairs i ])) none
+    ∙ kept-all laws m formed
+
+-- the index of the first accepted item, by the first one and the others
+pub index_of-first : {X : Type 0} (is : X → Bool) (xs rest : List X) (x : X) → xs ≡ x ∷ rest → is x ≡ true → index_of is xs ≡ 0
+index_of-first is xs rest x same passes = ap (index_of is) same ∙ ap (λ b. cond b 0 (suc (index_of is rest))) passes
+
+pub index_of-later : {X : Type 0} (is : X → Bool) (xs rest : List X) (x : X) → xs ≡ x ∷ rest → is x ≡ false
+    → index_of is xs ≡ suc (index_of is rest)
+index_of-later is xs rest x same fails = ap (index_of is) same ∙ ap (λ b. cond b 0 (suc (index_of is rest))) fails
+
+-- it is the one at its index
+pub find-index : {X : Type 0} (is : X → Bool) (xs : List X) → slice_get xs (index_of is xs) ≡ find is xs
+find-index is [] = refl
+find-index {X} is (x ∷ xs) =
+    elim (is x) as (λ b. slice_get (x ∷ xs) (cond b 0 (suc (index_of is xs))) ≡ cond b (Some x) (find is xs)) [
+      | true ↦ refl
+      | false ↦ find-index is xs
+    ]
+
+module _ {K V : Type 0} (accepts : K → Bool) where
+  abbrev positions_from : ℕ → List (K × V) → List ℕ
+  positions_from at pairs = map (λ e. e.0) (filter (λ e. accepts e.1.0) (enumerate_from at pairs))
+
+  -- behind one more pair each position is one higher
+  later_positions : (at : ℕ) (pairs : List (K × V)) → positions_from (at + 1) pairs ≡ map suc (positions_from at pairs)
+  later_positions at [] = refl
+  later_positions at (p ∷ pairs) =
+      elim (accepts p.0) as (λ b. map (λ (e : ℕ × (K × V)). e.0) (cond b ((at + 1, p) ∷ filter (λ e. accepts e.1.0) (enumerate_from (at + 1 + 1) pairs))
+      (filter (λ e. accepts e.1.0) (enumerate_from (at + 1 + 1) pairs)))
+      ≡ map suc (map (λ (e : ℕ × (K × V)). e.0) (cond b ((at, p) ∷ filter (λ e. accepts e.1.0) (enumerate_from (at + 1) pairs))
+      (filter (λ e. accepts e.1.0) (enumerate_from (at + 1) pairs))))) [
+        | true ↦ (λ i. one i ∷ later_positions (at + 1) pairs i)
+        | false ↦ later_positions (at + 1) pairs
+      ]
+    where
+      one : at + 1 ≡ suc at
+      one = omega arith
+
+  abbrev without : List (K × V) → Option ℕ → List (K × V)
+  without pairs o = elim o as (λ _. List (K × V)) [ None ↦ pairs | Some i ↦ remove pairs i ]
+
+  -- the pairs without the first accepted value are those without the value at its index
+  pub without_first-index : (is : V → Bool) (pairs : List (K × V))
+      → pairs_without_index accepts pairs (index_of is (values_where accepts pairs)) ≡ pairs_without_first accepts is pairs
+  without_first-index is [] = refl
+  without_first-index is (p ∷ pairs) =
+      elim (accepts p.0) as (λ b. without (p ∷ pairs) (slice_get
+      (map (λ (e : ℕ × (K × V)). e.0) (cond b ((0, p) ∷ filter (λ e. accepts e.1.0) (enumerate_from 1 pairs))
+      (filter (λ e. accepts e.1.0) (enumerate_from 1 pairs))))
+      (index_of is (map (λ (q : K × V). q.1) (cond b (p ∷ filter (λ q. accepts q.0) pairs) (filter (λ q. accepts q.0) pairs)))))
+      ≡ cond (b && is p.1) pairs (p ∷ pairs_without_first accepts is pairs)) [
+        | true ↦ elim (is p.1) as (λ d. without (p ∷ pairs) (slice_get (0 ∷ positions_from 1 pairs)
+            (cond d 0 (suc (index_of is (values_where accepts pairs)))))
+            ≡ cond d pairs (p ∷ pairs_without_first accepts is pairs)) [ true ↦ refl | false ↦ later (without_first-index is pairs) ]
+        | false ↦ later (without_first-index is pairs)
+      ]
+    where
+      behind : (o : Option ℕ) → without (p ∷ pairs) (option_map suc o) ≡ p ∷ without pairs o
+      behind None = refl
+      behind (Some j) = refl
+
+      later : pairs_without_index accepts pairs (index_of is (values_where accepts pairs)) ≡ pairs_without_first accepts is pairs
+          → without (p ∷ pairs) (slice_get (positions_from 1 pairs) (index_of is (values_where accepts pairs)))
+          ≡ p ∷ pairs_without_first accepts is pairs
+      later rest =
+          let i : ℕ = index_of is (values_where accepts pairs) in
+          ap (λ ps. without (p ∷ pairs) (slice_get {X = ℕ} ps i)) (later_positions 0 pairs)
+          ∙ ap (without (p ∷ pairs)) (slice_get-map suc (positions_where accepts pairs) i)
+          ∙ behind (slice_get (positions_where accepts pairs) i) ∙ ap (λ ps. p ∷ ps) rest
