@@ -5,6 +5,7 @@ pub mod LentValues
 pub mod ListedKeys
 pub mod Members
 pub mod OneValue
+pub mod OnlyValue
 pub mod PairsByValue
 pub mod Places
 pub mod RemovedAt

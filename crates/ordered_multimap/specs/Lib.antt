@@ -27,6 +27,7 @@ pub mod Removals
 pub mod RemovedAt
 pub mod Retain
 pub mod Rooms
+pub mod Sets
 pub mod TapeNumbers
 pub mod Updates
 pub mod ValuesLent

@@ -10,6 +10,7 @@ ghost use Rattle.ordered_multimap.specs.Keys.{stored_key};
 ghost use Rattle.ordered_multimap.specs.Pairs.{values_of};
 ghost use Rattle.ordered_multimap.specs.Removals.{LosesValues};
 ghost use Rattle.ordered_multimap.specs.Rooms.{HasValueRoom};
+ghost use Rattle.ordered_multimap.specs.Sets.{LeavesOnly};
 ghost use Rattle.ordered_multimap.specs.TapeNumbers.{ArePaid};
 
 use super::OccupiedEntry;
@@ -97,6 +98,45 @@ impl<'map, K: Eq + Hash, V, S: BuildHasher, A: Allocator> OccupiedEntry<'map, K,
     {
         let place = self.place;
         self.map.insert_at(place, value)
+    }
+
+    /// Sets the key's first value, removes its other values, and returns the first of the old ones.
+    ///
+    /// The first pair of the key keeps its place in the order of pairs, and the key in the order of
+    /// keys. The other old values are dropped. To put the new pair last see
+    /// [`insert`](Self::insert), and to keep the other values [`get_mut`](Self::get_mut). The call
+    /// doesn't allocate, and can't fail.
+    ///
+    /// # Complexity
+    ///
+    /// *O*(*v*) for the *v* values of the key, without a lookup.
+    ///
+    /// # Examples
+    ///
+    /// ```
+    /// use ordered_multimap::{Entry, ListOrderedMultimap};
+    ///
+    /// let mut map = ListOrderedMultimap::new(rt.alloc());
+    /// map.append("line", 1)?;
+    /// map.append("page", 8)?;
+    /// map.append("line", 2)?;
+    /// if let Entry::Occupied(mut entry) = map.entry("line") {
+    ///     assert_eq!(rt; entry.set(3), 1);
+    /// }
+    /// assert!(rt; map.iter().eq([(&"line", &3), (&"page", &8)]));
+    /// ```
+    pub fn set(&mut self, value: V) -> V
+    where
+        V: Drop,
+        ensures same_entry { IsSameEntryInRoom self.old self.new }
+        ensures value { (k : K) → IsOccupiedBy self.old k
+            → slice_get (values_of K.eq self.old.map.now.lists.pairs k) 0 ≡ Some result }
+        ensures only { (k : K) → IsOccupiedBy self.old k
+            → LeavesOnly K.eq k value self.old.map.now self.new.map.now }
+        ensures paid { ArePaid self.new.map.now.tape }
+    {
+        let place = self.place;
+        self.map.set_at(place, value)
     }
 
     /// Removes the key with all its values, and returns the stored key and the first value.

@@ -8,7 +8,7 @@ ghost use Rattle.ordered_multimap.specs.Private.KeySteps.{StaysInRoom};
 ghost use Rattle.ordered_multimap.specs.RemovedAt.{removed_at, removable_value_at};
 ghost use Rattle.ordered_multimap.specs.Private.Remove.{HasChain};
 ghost use Rattle.ordered_multimap.specs.Private.RemoveAt.{TakesAt};
-ghost use Rattle.ordered_multimap.specs.TapeNumbers.{TakesOut, numbers_of};
+ghost use Rattle.ordered_multimap.specs.TapeNumbers.{ArePaid, TakesOut, numbers_of};
 
 use crate::list_ordered_multimap::ListOrderedMultimap;
 use crate::list_ordered_multimap::links::link_of;
@@ -79,6 +79,7 @@ impl<K: Eq + Hash, V, S: BuildHasher, A: Allocator> ListOrderedMultimap<K, V, S,
         ensures lists { (k : K) → HasKey K.eq self.old.slots.keys k place
             → self.new.lists ≡ removed_at K.eq self.old.lists k index }
         ensures taken { TakesOut (cond (is_some result) 1 0) self.old.tape self.new.tape }
+        ensures paid { ArePaid self.new.tape }
     {
         take_at(&mut self.keys, &mut self.values, place, index)
     }

@@ -49,3 +49,6 @@ returns-clause-lists g c =
     → lists_of c.take_at.new.keys c.take_at.new.values.list ≡ removed_at g.K.PartialEq.eq m.lists k c.args.index) c.self.view_is
     (λ k has. lists_of-at c.self.invariant.agrees c.args.place c.args.index c.take_at.new.keys c.take_at.new.values.list g.met.K.Eq.laws k
     has c.take_at.result c.take_at.ensures.taken)
+
+pub returns-clause-paid : goal.returns-clause-paid
+returns-clause-paid g c = stays_paid c.take_at.ensures.counts c.self.invariant.paid
