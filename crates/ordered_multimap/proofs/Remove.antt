@@ -6,6 +6,7 @@ pub mod OnePair
 pub mod OneValue
 pub mod OneValueOut
 pub mod Retaining
+pub mod RetainingKey
 pub mod RetainingStep
 pub mod ValueByValue
 pub mod WaysOut

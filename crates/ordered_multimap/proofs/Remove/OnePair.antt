@@ -95,7 +95,7 @@ module _ {F K V : Type 0} {calls : F → K → V → Bool → V → F → Type 0
       same : at.asked.list.capacity ≡ values.list.capacity
       same = ap (λ (t : Taped V ValueLink). t.list.capacity) at.asks.written
 
-      by : (b : Bool) → StaysIf calls keys keys_after table table_after at.asked values_after place b
+      by : (b : Bool) → StaysIf keys keys_after table table_after at.asked values_after place b
           → KeepsRoom keys keys_after table table_after values values_after
       by true stays = record {
         key_room = ap (λ (s : Slots K KeyLink). s.capacity) stays.keys_are;

@@ -50,6 +50,9 @@ module _ {F K V : Type 0} {eq : K → K → Bool} {calls : F → K → V → Boo
       (g : F) (next : Option ℕ) : Type 0 where
     pub retaining : IsRetaining calls eq accepts old_keys keys_after old_rows rows_after old_values values_after first g next
     pub fewer : length retaining.rest + 1 ≡ length r.rest
+    -- they are behind the one that was asked for, and their pairs are as they were
+    pub passed : (p : ℕ) × (r.rest ≡ p ∷ retaining.rest)
+    pub same : (q : ℕ) → IsIn q retaining.rest → pair_at keys_after values_after q ≡ pair_at keys values q
 
   -- so many places are left
   pub places_from-rest : {keys : Slots K KeyLink} {rows : FinMap nat_cmp ℕ} {values : Slots V ValueLink} {f : F} {following : Option ℕ}
@@ -82,6 +85,13 @@ module _ {F K V : Type 0} {eq : K → K → Bool} {calls : F → K → V → Boo
     callable = callable;
     goes_on = λ later last r. r;
   }
+
+  pub retaining-start-rest : (laws : IsEquivalence eq) {hash : K → ℕ} (agrees : Agrees eq hash old_keys old_rows old_values)
+      (following : Option ℕ) (is : following ≡ first_of old_values.order)
+      (callable : CallableOnEachPair calls accepts first (pairs_of old_keys old_values))
+      → (retaining-start laws agrees following is callable).rest ≡ old_values.order
+  unfolding retaining-start
+  retaining-start-rest laws agrees following is callable = refl
 
   module _ (laws : IsEquivalence eq) {hash : K → ℕ} (old_agrees : Agrees eq hash old_keys old_rows old_values)
       {keys : Slots K KeyLink} {rows : FinMap nat_cmp ℕ} {values : Slots V ValueLink} {f : F} {place : ℕ}
@@ -200,6 +210,8 @@ module _ {F K V : Type 0} {eq : K → K → Bool} {calls : F → K → V → Boo
               (subst (λ ps. Retains calls f ps (cond b ((k, w) ∷ later) later) last) (sym rest_pairs) here));
         };
         fewer = omega (arith, ap length rest_is);
+        passed = (place, rest_is);
+        same = λ q i. t.others q (IsIn-right q r.done back i);
       }
 
     module _ (k : K) (was w : V) (pair_is : pair_at keys values place ≡ Some (k, was)) where

@@ -60,7 +60,7 @@ module _ {F K V : Type 0} {eq : K → K → Bool} {calls : F → K → V → Boo
   asked_list : at.asked.list ≡ with_item values.list place at.asks.left
   asked_list = ap (λ (t : Taped V ValueLink). t.list) at.asks.written
 
-  turns : (b : Bool) → StaysIf calls keys keys_after table table_after at.asked values_after place b
+  turns : (b : Bool) → StaysIf keys keys_after table table_after at.asked values_after place b
       → Turned laws old_agrees r b at.asks.left at.asks.key keys_after table_after.rows values_after.list
   turns true stays =
       let lists : with_item values.list place at.asks.left ≡ values_after.list =
@@ -93,7 +93,7 @@ module _ {F K V : Type 0} {eq : K → K → Bool} {calls : F → K → V → Boo
   pub retaining-counts : CountsLeft values values_after
   retaining-counts = by at.answer at.rest
     where
-      by : (b : Bool) → StaysIf calls keys keys_after table table_after at.asked values_after place b → CountsLeft values values_after
+      by : (b : Bool) → StaysIf keys keys_after table table_after at.asked values_after place b → CountsLeft values values_after
       by true stays =
           let same = stays.values_are ∙ at.asks.written in
           record {

@@ -1,6 +1,8 @@
 -- One pass of `retain`, step by step. No public clause cites this module.
 use Rattle.std.specs.Prelude.{◌≡◌, ℕ, Bool, true, false}
 use Rattle.std.specs.Prelude.{Some}
+use Rattle.std.specs.Borrow.{MutBor}
+use Rattle.std.specs.Fn.{Mut}
 use Rattle.multimap_slots.specs.Lists.{IsIn}
 use Rattle.multimap_slots.specs.Slots.{Slots, with_item}
 use Rattle.multimap_slots.specs.Tapes.{Taped, with_list}
@@ -9,6 +11,7 @@ use Rattle.multimap_walks.specs.declared.links.KeyLink.{KeyLink}
 use Rattle.multimap_walks.specs.declared.links.ValueLink.{ValueLink}
 use Rattle.multimap_walks.specs.Chained.{AreOwned, pair_at}
 use Rattle.ordered_multimap.specs.Private.RemoveOne.{LeavesPair}
+use Rattle.ordered_multimap.specs.Retain.{AsksValue}
 use Rattle.ordered_multimap.specs.declared.list_ordered_multimap.remove.one.Taken.{Taken}
 
 -- a value is listed at the place, and the key that the link of each value names is there
@@ -16,6 +19,21 @@ pub record IsOwnedAt {K V : Type 0} (keys : Slots K KeyLink) (values : Slots V V
     (place : ℕ) : Type 0 where
   pub listed : IsIn place values.order
   pub owned : AreOwned keys values
+
+module _ {K V : Type 0} (keys keys_after : Slots K KeyLink) (table table_after : Table)
+    (values values_after : Taped V ValueLink) (place : ℕ) where
+  -- the pair stays, and all is as it was
+  pub record KeepsPair : Type 0 where
+    pub keys_are : keys_after ≡ keys
+    pub table_is : table_after ≡ table
+    pub values_are : values_after ≡ values
+
+  -- it stays, or has left
+  abbrev pub StaysIf : Bool → Type 0
+  StaysIf true = KeepsPair
+  StaysIf false =
+      (pair : Taken K V)
+      × LeavesPair keys keys_after table table_after values values_after place pair
 
 module _ {F K V : Type 0} (calls : F → K → V → Bool → V → F → Type 0) where
   -- a call on the pair at the place returns b, and its value is the one that the call left
@@ -28,21 +46,6 @@ module _ {F K V : Type 0} (calls : F → K → V → Bool → V → F → Type 0
     pub called : calls f key was b left g
     pub written : values_after ≡ with_list values (with_item values.list place left)
 
-  module _ (keys keys_after : Slots K KeyLink) (table table_after : Table)
-      (values values_after : Taped V ValueLink) (place : ℕ) where
-    -- the pair stays, and all is as it was
-    pub record KeepsPair : Type 0 where
-      pub keys_are : keys_after ≡ keys
-      pub table_is : table_after ≡ table
-      pub values_are : values_after ≡ values
-
-    -- it stays, or has left
-    abbrev pub StaysIf : Bool → Type 0
-    StaysIf true = KeepsPair
-    StaysIf false =
-        (pair : Taken K V)
-        × LeavesPair keys keys_after table table_after values values_after place pair
-
   -- a call on the pair at the place has told whether it stays
   pub record RetainsAt (keys keys_after : Slots K KeyLink) (table table_after : Table)
       (values values_after : Taped V ValueLink) (place : ℕ) (f g : F) : Type 0 where
@@ -50,3 +53,8 @@ module _ {F K V : Type 0} (calls : F → K → V → Bool → V → F → Type 0
     pub asked : Taped V ValueLink
     pub asks : Asks keys values asked place f answer g
     pub rest : StaysIf keys keys_after table table_after asked values_after place answer
+
+-- a call of f on the value alone, whatever the key
+abbrev pub AsksAny : {F K V : Type 0} → Mut F (MutBor V × Unit {0}) (Bool × (MutBor V × Unit {0}))
+    → F → K → V → Bool → V → F → Type 0
+AsksAny g f k v b w next = AsksValue g f v b w next

@@ -12,6 +12,8 @@ ghost use Rattle.ordered_multimap.specs.Private.Remove.{KeepsRoom};
 ghost use Rattle.ordered_multimap.specs.Private.RemoveOne.{HasPair};
 ghost use Rattle.ordered_multimap.specs.TapeNumbers.{TakesOut, numbers_of};
 
+mod values;
+
 use super::ListOrderedMultimap;
 use super::lookup::{slot_at, value_at};
 use super::remove::one::take_pair;

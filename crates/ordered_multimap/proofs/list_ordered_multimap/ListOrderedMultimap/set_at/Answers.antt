@@ -49,10 +49,10 @@ loop-preserved g c =
 pub returns-clause-only : goal.returns-clause-only
 returns-clause-only g c =
     λ k has.
-        let s = c.replace_first-first.ensures in let old = c.args.self.now in
-        let start = leaving-start g.K.PartialEq.eq c.args.value old c.replace_first-first.new.self k
-        (slice_get_within (values_of g.K.PartialEq.eq old.lists.pairs k) 0 c.replace_first-first.result (s.value k has)) (s.lists k has)
-        s.numbers in
-        let r = c.loop.invariant.leaving k has in
-        leaving-end g.K.PartialEq.eq c.args.value old c.loop.self k c.loop.counter r
-        (omega (arith, r.fewer, start.fewer, c.len_at-others.ensures.len k (s.stays.stays k has), c.len_at-others.ensures.some))
+    let s = c.replace_first-first.ensures in let old = c.args.self.now in
+    let start = leaving-start g.K.PartialEq.eq c.args.value old c.replace_first-first.new.self k
+    (slice_get_within (values_of g.K.PartialEq.eq old.lists.pairs k) 0 c.replace_first-first.result (s.value k has)) (s.lists k has)
+    s.numbers in
+    let r = c.loop.invariant.leaving k has in
+    leaving-end g.K.PartialEq.eq c.args.value old c.loop.self k c.loop.counter r
+    (omega (arith, r.fewer, start.fewer, c.len_at-others.ensures.len k (s.stays.stays k has), c.len_at-others.ensures.some))
