@@ -20,14 +20,6 @@ use Rattle.set_ordered_multimap.specs.Set.{same_pair, has_pair, pairs_but, IsSet
 pub or_false : (b : Bool) → (b || false) ≡ b
 or_false b = elim b as (λ c. (c || false) ≡ c) [ true ↦ refl | false ↦ refl ]
 
--- whether an item passes, by the first one and the others
-pub any_first : {X : Type 0} (test : X → Bool) (xs rest : List X) (x : X) → xs ≡ x ∷ rest → test x ≡ true → list_any test xs ≡ true
-any_first test xs rest x is passes = ap (list_any test) is ∙ ap (λ b. b || list_any test rest) passes
-
-pub any_later : {X : Type 0} (test : X → Bool) (xs rest : List X) (x : X) → xs ≡ x ∷ rest → test x ≡ false
-    → list_any test xs ≡ list_any test rest
-any_later test xs rest x is fails = ap (list_any test) is ∙ ap (λ b. b || list_any test rest) fails
-
 -- the pair is there exactly if an equal value is among those of its key
 pub has_pair-values : {K V : Type 0} (eq : K → K → Bool) (value_eq : V → V → Bool) (pairs : List (K × V)) (k : K) (v : V)
     → list_any (value_eq v) (values_of eq pairs k) ≡ has_pair eq value_eq pairs k v

@@ -9,18 +9,6 @@ use ordered_multimap::list_ordered_multimap::{EntryValues, Iter, Keys};
 use std::alloc::Allocator;
 use std::hash::{BuildHasher, Hash};
 
-/// Whether a walk over a key's values gives one that is equal to `value`.
-fn has_value<K, V: PartialEq, A: Allocator>(values: EntryValues<'_, K, V, A>, value: &V) -> bool
-    ensures { result ≡ list_any (V.eq value.now) values.entry.left }
-{
-    for stored in values {
-        if value == stored {
-            return true;
-        }
-    }
-    false
-}
-
 impl<K: Eq + Hash, V: Eq, S: BuildHasher, A: Allocator> SetOrderedMultimap<K, V, S, A> {
     /// Returns `true` if the set has a pair with an equal key and an equal value.
     ///
@@ -44,7 +32,7 @@ impl<K: Eq + Hash, V: Eq, S: BuildHasher, A: Allocator> SetOrderedMultimap<K, V,
     pub fn contains(&self, key: &K, value: &V) -> bool
         ensures { result ≡ has_pair K.eq V.eq self.now.lists.pairs key.now value.now }
     {
-        has_value(self.map.get_all(key), value)
+        self.map.contains(key, value)
     }
 }
 

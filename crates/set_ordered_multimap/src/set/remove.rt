@@ -18,15 +18,7 @@ use ordered_multimap::list_ordered_multimap::EntryValuesDrain;
 use std::alloc::Allocator;
 use std::hash::{BuildHasher, Hash};
 
-/// Whether two pairs have equal keys and equal values.
-fn is_same<K: PartialEq, V: PartialEq>(key: &K, other_key: &K, value: &V, other_value: &V) -> bool
-    ensures { result ≡ (K.eq key.now other_key.now && V.eq value.now other_value.now) }
-{
-    key == other_key && value == other_value
-}
-
-/// Takes the pair out that is equal to this one. A key's only value goes with the key, by a look-up;
-/// for one of several all pairs are gone over.
+/// Takes the pair out that is equal to this one. Only the values of its key are gone over.
 fn take_equal<K: Eq + Hash + Drop, V: Eq + Drop, S: BuildHasher, A: Allocator>(
     map: &mut ListOrderedMultimap<K, V, S, A>,
     key: &K,
@@ -38,11 +30,7 @@ fn take_equal<K: Eq + Hash + Drop, V: Eq + Drop, S: BuildHasher, A: Allocator>(
     ensures taken { IsSet K.eq V.eq map.old.lists → TakesOut 1 map.old.tape map.new.tape }
     ensures rooms { SameRooms map.old map.new }
 {
-    if map.entry_len(key) == 1 {
-        drop(map.remove(key));
-        return;
-    }
-    map.retain(|stored, other| !is_same(key, stored, value, other));
+    map.retain_all(key, |other| *value != *other);
 }
 
 /// Takes the key out with all its values, and hands these to the function, in order.
@@ -72,9 +60,7 @@ impl<K: Eq + Hash, V: Eq, S: BuildHasher, A: Allocator> SetOrderedMultimap<K, V,
     ///
     /// # Complexity
     ///
-    /// *O*(1) expected if the key has that value alone, and *O*(*n*) for the *n* pairs of the set
-    /// if it has other values too. If the pair isn't there, *O*(*v*) expected for the *v* values of
-    /// the key.
+    /// *O*(*v*) expected for the *v* values of the key, and twice that if the pair is there.
     ///
     /// # Examples
     ///

@@ -1,8 +1,0 @@
-use Rattle.std.proofs.Common.{◌≡◌}
-use Rattle.std.specs.List.{list_any}
-use Rattle.set_ordered_multimap.proofs.set.lookup.has_value.Given as goal
-
--- there was an equal value if there is one among those that are left
-abbrev pub invariant-loop-stored : goal.invariant-loop-stored
-invariant-loop-stored g l =
-    list_any (g.V.PartialEq.eq l.value) l.fn.values.left ≡ list_any (g.V.PartialEq.eq l.value) l.stored-iterator.left
