@@ -12,6 +12,7 @@ pub mod entry_calls;
 pub mod filled;
 pub mod lists;
 pub mod maps;
+pub mod one_value;
 pub mod queried;
 pub mod retained;
 pub mod stopped;

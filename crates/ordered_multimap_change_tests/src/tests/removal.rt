@@ -3,12 +3,16 @@ mod below_zero;
 mod drain_steps;
 mod drained;
 mod memory;
+mod one_value;
 mod popped;
 mod retained;
 mod wrappers;
 
 use crate::tests::removal::drain_steps::values_are_given;
 use crate::tests::removal::drained::lists_are_final;
+use crate::tests::removal::one_value::{
+    values_are_found, values_are_retained, values_are_set, values_are_taken,
+};
 use crate::tests::removal::popped::{appends_are_undone, collided_keys_leave};
 use crate::tests::removal::retained::pairs_stay;
 use ordered_multimap::ListOrderedMultimap;
@@ -18,6 +22,15 @@ use test_helpers::{Failed, Test, ZERO, run_parts, test_all};
 
 fn numbers_leave(test: &Test, map: &mut Numbers) {
     run_parts!(test, map; appends_are_undone, pairs_stay, values_are_given, lists_are_final)
+}
+
+fn one_value_changes(test: &Test, map: &mut Numbers) {
+    run_parts!(test, map; values_are_found, values_are_set, values_are_taken, values_are_retained)
+}
+
+#[test]
+fn one_value_of_a_key_changes(rt: HostRuntime) -> Result<(), Failed> {
+    test_on_empty(rt.alloc(), one_value_changes)
 }
 
 #[test]

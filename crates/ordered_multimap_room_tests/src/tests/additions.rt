@@ -14,6 +14,7 @@ pub enum Call {
     Append,
     Insert,
     InsertAll,
+    Set,
     OrInsert,
     OrInsertWith,
     OrInsertEntry,
@@ -30,6 +31,7 @@ pub fn put<A: Allocator + Copy>(map: &mut Refusing<A>, call: Call) -> Answer {
         Call::Append => done(map.append(1, 77)),
         Call::Insert => done(map.insert(1, 77)),
         Call::InsertAll => done(map.insert_all(1, 77)),
+        Call::Set => done(map.set(1, 77)),
         Call::OccupiedAppend | Call::OccupiedInsertAll => match put_by_occupied(map, call) {
             Ok(()) => Ok(()),
             Err(RefusedValue { value }) => Err(Refused { key: 1, value }),

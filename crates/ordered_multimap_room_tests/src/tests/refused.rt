@@ -29,6 +29,7 @@ const TRIES: &[(Try, u64)] = &[
     (Try::PutIntoNew(Call::Append), 3),
     (Try::PutIntoNew(Call::Insert), 3),
     (Try::PutIntoNew(Call::InsertAll), 3),
+    (Try::PutIntoNew(Call::Set), 3),
     (Try::PutIntoNew(Call::OrInsert), 3),
     (Try::PutIntoNew(Call::OrInsertWith), 3),
     (Try::PutIntoNew(Call::OrInsertEntry), 3),
