@@ -27,15 +27,7 @@ index_removed-lacking {K} {V} {eq} laws m formed accepts none index =
     ap (λ ps. kept eq m (elim (slice_get {X = ℕ} ps index) as (λ _. List (K × V)) [ None ↦ m.pairs | Some i ↦ remove m.pairs i ])) none
     ∙ kept-all laws m formed
 
--- the index of the first accepted item, by the first one and the others
-pub index_of-first : {X : Type 0} (is : X → Bool) (xs rest : List X) (x : X) → xs ≡ x ∷ rest → is x ≡ true → index_of is xs ≡ 0
-index_of-first is xs rest x same passes = ap (index_of is) same ∙ ap (λ b. cond b 0 (suc (index_of is rest))) passes
-
-pub index_of-later : {X : Type 0} (is : X → Bool) (xs rest : List X) (x : X) → xs ≡ x ∷ rest → is x ≡ false
-    → index_of is xs ≡ suc (index_of is rest)
-index_of-later is xs rest x same fails = ap (index_of is) same ∙ ap (λ b. cond b 0 (suc (index_of is rest))) fails
-
--- it is the one at its index
+-- the first accepted item is the one at its index
 pub find-index : {X : Type 0} (is : X → Bool) (xs : List X) → slice_get xs (index_of is xs) ≡ find is xs
 find-index is [] = refl
 find-index {X} is (x ∷ xs) =

@@ -25,8 +25,7 @@ use std::hash::{BuildHasher, Hash};
 fn index_of<K, V: PartialEq, A: Allocator>(values: EntryValues<'_, K, V, A>, value: &V) -> usize
     ensures { result ≡ index_of (V.eq value.now) values.entry.left }
 {
-    // No index is above the length, which fits.
-    let _len = values.len();
+    let len = values.len();
     let mut index = 0;
     for stored in values {
         if value == stored {
@@ -34,7 +33,7 @@ fn index_of<K, V: PartialEq, A: Allocator>(values: EntryValues<'_, K, V, A>, val
         }
         index += 1;
     }
-    index
+    len
 }
 
 /// Takes the pair of the value at an index in the chain of the key at the place out, and the key
