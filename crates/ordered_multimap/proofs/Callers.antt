@@ -10,5 +10,6 @@ pub mod PairsByValue
 pub mod Places
 pub mod RemovedAt
 pub mod Retained
+pub mod TakenEnds
 pub mod WellFormed
 pub mod Writes

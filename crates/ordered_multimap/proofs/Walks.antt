@@ -1,3 +1,4 @@
 pub mod EqualPairs
 pub mod TakenApart
+pub mod TakenOut
 pub mod WalkedLists

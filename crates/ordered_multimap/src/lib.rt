@@ -46,12 +46,15 @@
 //! |---|---|
 //! | `get`, `get_mut`, `contains_key`, `entry_len`, `entry` | *O*(1) expected |
 //! | `front`, `back`, `front_mut`, `back_mut`, `is_empty`, lengths, capacities | *O*(1) |
+//! | `hasher`, `allocator` | *O*(1) |
 //! | `iter`, `keys`, `values`, `pairs`, and their `_mut` | *O*(1), *O*(1) for each item |
 //! | `get_all`, `get_all_mut` | *O*(1) expected, *O*(1) for each item |
-//! | `append`, `entry(..).or_insert` | *O*(1) expected, amortized |
+//! | `append`, `entry(..).or_insert`, `entry(..).or_default` | *O*(1) expected, amortized |
 //! | `insert`, `insert_all` | *O*(*v*) expected, amortized |
 //! | `remove`, `remove_entry`, `remove_all`, `remove_entry_all` | *O*(*v*) expected |
 //! | `pop_front`, `pop_back` | *O*(1) expected |
+//! | `into_iter` | *O*(1), *O*(1) and a clone of the key for each item |
+//! | `into_keys`, `into_values` | *O*(*n*), *O*(1) for each item |
 //! | `retain`, `update_values`, `clear`, `clone`, `==`, `pack_to`, `pack_to_fit` | *O*(*n*) |
 //!
 //! Removals leave holes among the values. A call that makes room may move values into them, at most
@@ -146,8 +149,8 @@ mod query;
 
 pub use list_ordered_multimap::{
     DefaultState, Entry, EntryValues, EntryValuesDrain, EntryValuesMut, EntryValuesRest, IntoIter,
-    Iter, IterMut, IterRest, KeyLink, KeyValues, KeyValuesMut, KeyWrapper, Keys,
-    ListOrderedMultimap, OccupiedEntry, RandomState, Refused, RefusedValue, UnclonedKey,
+    IntoKeys, IntoValues, Iter, IterMut, IterRest, KeyLink, KeyValues, KeyValuesMut, KeyWrapper,
+    Keys, ListOrderedMultimap, OccupiedEntry, RandomState, Refused, RefusedValue, UnclonedKey,
     VacantEntry, ValueLink, Values, ValuesMut, ValuesRest,
 };
 pub use multimap_walks::End;

@@ -2,9 +2,8 @@
 use Rattle.std.proofs.Common.{◌≡◌, ◌==◌, ◌/◌, ℕ, Bool, true, false, not, cond, List, [], ◌∷◌, ◌++◌, length, option_map, Option, Some, None}
 use Rattle.std.proofs.Common.{refl, sym, ap, ◌∙◌, subst, arith}
 use Rattle.std.proofs.lemmas.List.{append-nil}
-use Rattle.std.proofs.lemmas.List.Elements.{filter_map-append}
 use Rattle.std.specs.Cmp.{IsEquivalence}
-use Rattle.std.specs.List.{filter_map, cons_option}
+use Rattle.std.specs.List.{filter_map}
 use Rattle.std.specs.Map.{keys_of}
 use Rattle.std.specs.Ordering.{nat_cmp}
 use Rattle.std.specs.FinMap.{FinMap}
@@ -14,10 +13,11 @@ use Rattle.multimap_slots.specs.Tapes.{Taped, HasTapeRoomFor, Frees}
 use Rattle.multimap_slots.proofs.Callers.PlaceLists.{AreDistinct-gone, without-split}
 use Rattle.multimap_walks.specs.declared.End.{End}
 use Rattle.multimap_walks.specs.declared.End.TheVariants.{Front, Back}
-use Rattle.multimap_walks.specs.Walk.{end_item, end_rest}
+use Rattle.multimap_walks.specs.Walk.{end_item, end_rest, with_end}
 use Rattle.multimap_walks.specs.declared.links.KeyLink.{KeyLink}
 use Rattle.multimap_walks.specs.declared.links.ValueLink.{ValueLink}
 use Rattle.multimap_walks.specs.Chained.{pair_at, pairs_of}
+use Rattle.multimap_walks.proofs.Callers.Ends.{end_rest-with, shows_end}
 use Rattle.ordered_multimap.specs.Lists.{Lists, lists}
 use Rattle.ordered_multimap.specs.Keys.{is_listed}
 use Rattle.ordered_multimap.specs.Pairs.{has_items}
@@ -33,7 +33,7 @@ use Rattle.ordered_multimap.specs.declared.list_ordered_multimap.remove.one.Take
 use Rattle.ordered_multimap.proofs.Callers.Places.{begins, ends, last_of-member, filter_map-agree, filter_shorter}
 use Rattle.ordered_multimap.proofs.Chains.Neighbours.{first_of-member}
 use Rattle.ordered_multimap.proofs.Agreement.Agreed.{PairAt, pair_in}
-use Rattle.ordered_multimap.proofs.Callers.Laws.{has_items-push, end_item-push, end_rest-push}
+use Rattle.ordered_multimap.proofs.Callers.TakenEnds.{end_item-with, has_items-with}
 use Rattle.ordered_multimap.proofs.Remove.OnePair.{LeavesAt, beside_at, last_at, last_key_is, no_longer_named, still_named}
 use Rattle.ordered_multimap.proofs.Remove.OneValue.{has_item-one}
 
@@ -57,30 +57,32 @@ pub record AtEnd {X : Type 0} (end : End) (all rest : List X) (x : X) : Type 0 w
   pub left : rest ≡ end_rest end all
   pub some : has_items all ≡ true
 
-pub at_end : {X : Type 0} (f : ℕ → Option X) (end : End) (order : List ℕ) (place : ℕ) (x : X) → AreDistinct order
-    → end_of_list end order ≡ Some place → f place ≡ Some x
-    → AtEnd end (filter_map f order) (filter_map f (without order place)) x
-at_end f Front order place x distinct e is =
+-- the place at an end, and then the others
+pub order_at_end : (end : End) (order : List ℕ) (place : ℕ) → AreDistinct order → end_of_list end order ≡ Some place
+    → order ≡ with_end end place (without order place)
+order_at_end Front order place distinct e =
     let b = begins order place e in
-    let all : filter_map f order ≡ x ∷ filter_map f b.rest = ap (filter_map f) b.is ∙ ap (λ o. cons_option o (filter_map f b.rest)) is in
     let left : without order place ≡ b.rest = ap (λ ps. without ps place) b.is
     ∙ without-split [] place b.rest (AreDistinct-gone [] place b.rest (subst AreDistinct b.is distinct)) in
-    record {
-      item = ap (end_item Front) all;
-      left = ap (filter_map f) left ∙ sym (ap (end_rest Front) all);
-      some = ap has_items all;
-    }
-at_end f Back order place x distinct e is =
+    b.is ∙ ap (λ ps. place ∷ ps) (sym left)
+order_at_end Back order place distinct e =
     let b = ends order place e in
-    let all : filter_map f order ≡ filter_map f b.front ++ x ∷ [] =
-    ap (filter_map f) b.is ∙ filter_map-append f b.front (place ∷ []) ∙ ap (λ o. filter_map f b.front ++ cons_option o []) is in
     let left : without order place ≡ b.front =
     ap (λ ps. without ps place) b.is ∙ without-split b.front place [] (AreDistinct-gone b.front place [] (subst AreDistinct b.is distinct))
     ∙ append-nil b.front in
+    b.is ∙ ap (λ ps. ps ++ place ∷ []) (sym left)
+
+pub at_end : {X : Type 0} (f : ℕ → Option X) (end : End) (order : List ℕ) (place : ℕ) (x : X) → AreDistinct order
+    → end_of_list end order ≡ Some place → f place ≡ Some x
+    → AtEnd end (filter_map f order) (filter_map f (without order place)) x
+at_end f end order place x distinct e is =
+    let rest = filter_map f (without order place) in
+    let all : filter_map f order ≡ with_end end x rest =
+    shows_end f end order place (without order place) x (order_at_end end order place distinct e) is in
     record {
-      item = ap (end_item Back) all ∙ end_item-push (filter_map f b.front) x;
-      left = ap (filter_map f) left ∙ sym (ap (end_rest Back) all ∙ end_rest-push (filter_map f b.front) x);
-      some = ap has_items all ∙ has_items-push (filter_map f b.front) x;
+      item = ap (end_item end) all ∙ end_item-with end x rest;
+      left = sym (ap (end_rest end) all ∙ end_rest-with end x rest);
+      some = ap has_items all ∙ has_items-with end x rest;
     }
 
 -- where there is no place at an end there is no pair

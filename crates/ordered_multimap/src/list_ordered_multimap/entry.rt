@@ -9,6 +9,7 @@ mod changed;
 mod drained;
 mod methods;
 mod occupied;
+mod or_default;
 mod remove_at;
 mod show;
 mod vacant;

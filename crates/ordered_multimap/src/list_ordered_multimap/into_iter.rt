@@ -53,7 +53,8 @@ impl<K: Eq + Hash + Clone, V: Drop, S: BuildHasher + Drop, A: Allocator> IntoIte
 
     /// Consumes the map, and returns an iterator over its pairs, in insertion order.
     ///
-    /// For the pairs by reference see [`iter`](Self::iter).
+    /// For the pairs by reference see [`iter`](Self::iter), and for the keys or the values alone,
+    /// without a clone, [`into_keys`](Self::into_keys) and [`into_values`](Self::into_values).
     ///
     /// # Errors
     ///

@@ -1,0 +1,4 @@
+use Rattle.ordered_multimap.proofs.list_ordered_multimap.into_keys.IntoKeysDoubleEndedIterator.next_back.Goals as goal
+
+pub returns-clause-steps : goal.returns-clause-steps
+returns-clause-steps g c = c.take_out.ensures
