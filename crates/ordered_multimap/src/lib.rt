@@ -74,7 +74,7 @@
 //! - The constructors with capacities, `reserve_keys`, `reserve_values`, `pack_to`, `pack_to_fit`
 //!   and `clone` return `AllocError`.
 //! - An item of [`IntoIter`] is a `Result`, because each key is cloned: [`UnclonedKey`] has the
-//!   value.
+//!   value. [`IntoKeys`] and [`IntoValues`] clone nothing.
 //!
 //! `?` converts each of these errors into an `AllocError` or an `io::Error`.
 //!

@@ -17,6 +17,7 @@ pub mod queried;
 pub mod retained;
 pub mod stopped;
 pub mod stopped_keys;
+pub mod taken;
 pub mod tested;
 pub mod undone;
 pub mod updated;

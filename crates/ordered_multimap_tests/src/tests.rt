@@ -1,5 +1,6 @@
 //! The tests: each makes one map, or is lent an empty one, for all comparisons of its type, since a
 //! map that is owned costs a proof more than all that it is lent to.
+mod defaults;
 mod derives;
 mod emptied;
 mod ends;
@@ -9,6 +10,7 @@ mod into_iter;
 mod key_values;
 mod queries;
 mod shown;
+mod taken;
 mod uncloned;
 mod walks;
 

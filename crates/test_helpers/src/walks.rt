@@ -42,6 +42,15 @@ impl<K: PartialEq + Copy, V: PartialEq + Copy> Plain for (&K, &V) {
     }
 }
 
+/// A number that a walk hands out.
+impl Plain for u32 {
+    type Value = u32;
+
+    fn plain(self) -> u32 {
+        self
+    }
+}
+
 impl Plain for &mut u32 {
     type Value = u32;
 

@@ -26,8 +26,12 @@ const KEY_VALUES: [&str; 2] = [
 
 const VALUES_OF_A_KEY: [&str; 2] = ["EntryValues([11, 12, 13, 14])", "EntryValues([12, 13, 14])"];
 
-// Whether a walk is shown by both texts, the second one once its first item was taken.
-fn is_shown_twice<W: Iterator + fmt::Debug>(alloc: Global, walk: &mut W, texts: [&str; 2]) -> bool
+/// Whether a walk is shown by both texts, the second one once its first item was taken.
+pub fn is_shown_twice<W: Iterator + fmt::Debug>(
+    alloc: Global,
+    walk: &mut W,
+    texts: [&str; 2],
+) -> bool
 where
     W::Item: Drop,
     requires { (state : W) → W.can_next state }
