@@ -140,9 +140,10 @@ fn tries_with(test: &Test, granted: u64) -> bool {
     enough
 }
 
+// Key slots, table and value slots each ask for a block.
 fn each_request_is_refused(test: &Test) {
     let enough = requests_until_enough(|granted| tries_with(test, granted));
-    test.expect(enough.unwrap_or(0) >= 1);
+    test.expect(enough.unwrap_or(0) >= 3);
 }
 
 #[test]
