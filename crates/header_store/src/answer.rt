@@ -53,7 +53,7 @@ fn carry_out<'t>(
         }
         b"set" => {
             let (name, value) = field_of(operands, b' ')?;
-            headers.insert(name, value)?;
+            headers.set(name, value)?;
         }
         b"add" => {
             let (name, value) = field_of(operands, b' ')?;

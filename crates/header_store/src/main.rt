@@ -8,10 +8,12 @@
 //! | `get NAME` | writes the name's first header |
 //! | `all NAME` | writes each header of the name |
 //! | `joined NAME` | writes one header with the name's values, a comma and a space between them |
-//! | `set NAME VALUE` | removes the headers of the name, and adds this one at the end |
+//! | `set NAME VALUE` | gives the name's first header this value, and removes its others |
 //! | `add NAME VALUE` | adds a header at the end |
 //! | `remove NAME` | removes the headers of the name |
 //! | `write` | writes all headers in order, each name as it was first spelled |
+//!
+//! `set` of an absent name adds a header at the end.
 //!
 //! The values of `set-cookie` can't be joined, so `joined` writes them as `all` does. Headers are
 //! written as `NAME: VALUE`, and by the first three commands with the name as the command spells

@@ -1,5 +1,5 @@
 //! Commands and their answers.
-use crate::fields::{Fields, Text, add_query, read_query, set};
+use crate::fields::{Fields, Text, add_query, read_query};
 use program_parts::{bad, text_of};
 use std::alloc::{AllocError, Global};
 use std::io;
@@ -50,7 +50,9 @@ fn carry_out<'t>(
 fn change<'t>(fields: &mut Fields<'t>, word: &str, operand: &'t str) -> io::Result<()> {
     let (name, value) = operand.split_once('=').unwrap_or((operand, ""));
     match word {
-        "set" => set(fields, Text::Borrowed(name), Text::Borrowed(value))?,
+        "set" => {
+            fields.set(Text::Borrowed(name), Text::Borrowed(value))?;
+        }
         "add" => {
             fields.append(Text::Borrowed(name), Text::Borrowed(value))?;
         }

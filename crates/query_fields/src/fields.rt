@@ -1,7 +1,7 @@
 //! The fields of a query, in order.
 use crate::escape::{add_encoded, decoded};
+use ordered_multimap::ListOrderedMultimap;
 use ordered_multimap::list_ordered_multimap::RandomState;
-use ordered_multimap::{Entry, ListOrderedMultimap};
 use std::alloc::{AllocError, Global};
 use std::borrow::CowStr;
 use std::io;
@@ -37,23 +37,6 @@ fn read_field<'t>(
     let name = decoded(alloc, name, position)?;
     let value = decoded(alloc, value, behind)?;
     fields.append(name, value)?;
-    Ok(())
-}
-
-/// Gives the first field of this name the value, and takes the others out. Puts it last where there
-/// is none.
-pub fn set<'t>(fields: &mut Fields<'t>, name: Text<'t>, value: Text<'t>) -> io::Result<()> {
-    match fields.entry(name) {
-        Entry::Occupied(mut entry) => {
-            *entry.get_mut() = value;
-            for _ in 1..entry.len() {
-                let _ = entry.remove_at(1);
-            }
-        }
-        Entry::Vacant(entry) => {
-            entry.insert(value)?;
-        }
-    }
     Ok(())
 }
 
