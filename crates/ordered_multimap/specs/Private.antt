@@ -1,4 +1,5 @@
 pub mod Append
+pub mod AppendMap
 pub mod Copies
 pub mod Extends
 pub mod KeyRelocations

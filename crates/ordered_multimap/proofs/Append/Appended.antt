@@ -251,6 +251,12 @@ module _ {K V : Type 0} {eq : K → K → Bool} (laws : IsEquivalence eq) {hash 
     behind : AppendsBehind keys keys_after values values_after place v → AppendsOne eq hash keys values key v keys_after rows values_after
     behind done = present_step laws agrees done.relocated key v place has done.pushed
 
+    -- no key comes
+    pub behind_keys : {X E : Type 0} (r : Result X E) → OnOk r (AppendsBehind keys keys_after values values_after place v)
+        → OnErr r (AreRelocated keys keys_after values values_after) → items_of keys_after ≡ items_of keys
+    behind_keys (Ok x) done relocated = ap items_of done.pushed.keys_are ∙ ap (λ m. m.keys) (lists_reserved laws agrees done.relocated)
+    behind_keys (Err e) done relocated = ap (λ m. m.keys) (lists_reserved laws agrees relocated)
+
     pub behind_agrees : {X E : Type 0} (r : Result X E) → OnOk r (AppendsBehind keys keys_after values values_after place v)
         → OnErr r (AreRelocated keys keys_after values values_after) → Agrees eq hash keys_after rows values_after
     behind_agrees (Ok x) done relocated = (behind done).agrees

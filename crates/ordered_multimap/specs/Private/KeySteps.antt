@@ -17,6 +17,11 @@ pub record DetachesWhere {K V S : Type 0} (accepts : K → Bool) (old new : Mult
   pub loses : LosesWhere accepts old new after
 
 module _ {K V S : Type 0} (eq : K → K → Bool) (old new : Multimap K V S) where
+  -- each key stands where it stood
+  abbrev pub KeepsPlaces : Type 0
+  KeepsPlaces = (k : K) (place : ℕ) → HasKey eq old.slots.keys k place
+      → HasKey eq new.slots.keys k place
+
   -- a key stands at the place as before, and each key that is equal to it
   pub record KeepsPlace (place : ℕ) : Type 0 where
     pub listed : IsIn place new.slots.keys.order

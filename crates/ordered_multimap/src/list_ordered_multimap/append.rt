@@ -6,7 +6,7 @@ ghost use Rattle.multimap_slots.specs.Tapes.{HasTapeRoomFor};
 ghost use Rattle.ordered_multimap.specs.Private.Append.{AppendsBehind, AppendsFirst, FitsOneMore, GrowsFor};
 ghost use Rattle.ordered_multimap.specs.Private.Append.{HandsBackAt, HasCountedChains, HasListedRows, MakesRoom};
 ghost use Rattle.ordered_multimap.specs.Additions.{Appends, IsAppended, IsAppendedAt, IsRefused, RefusesValue};
-ghost use Rattle.ordered_multimap.specs.Private.KeySteps.{KeepsPlace};
+ghost use Rattle.ordered_multimap.specs.Private.KeySteps.{KeepsPlace, KeepsPlaces};
 ghost use Rattle.ordered_multimap.specs.Agrees.{HasKey, hash_of};
 ghost use Rattle.ordered_multimap.specs.Private.Relocations.{AreRelocated};
 ghost use Rattle.ordered_multimap.specs.Private.Remove.{HasChain};
@@ -92,6 +92,7 @@ impl<K: Eq + Hash, V, S: BuildHasher, A: Allocator + Copy> ListOrderedMultimap<K
             (K.hash_input key) }
         requires absent { is_listed K.eq self.old.lists.keys key ≡ false }
         ensures found { IfOk result (HasKey K.eq self.new.slots.keys key) }
+        ensures places { KeepsPlaces K.eq self.old self.new }
         ensures appends { Appends K.eq key value self.old self.new result }
         ensures paid { ArePaid self.new.tape }
     {
@@ -112,6 +113,8 @@ impl<K: Eq + Hash, V, S: BuildHasher, A: Allocator + Copy> ListOrderedMultimap<K
         V: Drop,
         requires { IsIn place self.old.slots.keys.order }
         ensures stays { KeepsPlace K.eq self.old self.new place }
+        ensures places { KeepsPlaces K.eq self.old self.new }
+        ensures keys { self.new.lists.keys ≡ self.old.lists.keys }
         ensures ok { OnOk result (IsAppendedAt K.eq place value self.old self.new) }
         ensures refused { IfErr result (RefusesValue value self.old self.new) }
         ensures succeeds { HasValueRoom self.old → IsOk result }

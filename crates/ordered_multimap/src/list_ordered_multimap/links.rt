@@ -64,3 +64,18 @@ pub(super) fn set_previous<V, A: Allocator>(
         values.listed_link_mut(place).previous = previous;
     }
 }
+
+/// Writes that the value at the place, if there is one, is of the key at this place.
+#[inline(always)]
+pub(super) fn set_key<V, A: Allocator>(
+    values: &mut Tape<V, ValueLink, A>,
+    place: Option<usize>,
+    key: usize,
+)
+    requires { IfSome place (λ p. IsIn p values.old.list.order) }
+    ensures { WritesLink values.old values.new place (λ l. record l { key = key }) }
+{
+    if let Some(place) = place {
+        values.listed_link_mut(place).key = key;
+    }
+}

@@ -1,11 +1,11 @@
-use Rattle.std.proofs.Common.{◌/◌, IfErr, OnOk, IsOk, refl, subst}
+use Rattle.std.proofs.Common.{◌/◌, IfErr, OnOk, IsOk, refl, ap, ◌∙◌, subst}
 use Rattle.ordered_multimap.specs.Additions.{IsAppendedAt, RefusesValue}
 use Rattle.ordered_multimap.specs.Private.KeySteps.{KeepsPlace}
 use Rattle.ordered_multimap.specs.Multimap.{Multimap}
 use Rattle.ordered_multimap.specs.Rooms.{GrowsForValue, HasValueRoom}
 use Rattle.ordered_multimap.proofs.Remove.OnePair.{has_chain}
 use Rattle.ordered_multimap.proofs.Agreement.LookUps.{listed_inside, own_key}
-use Rattle.ordered_multimap.proofs.Append.Appended.{behind_agrees, behind_lists, refused_lists, stays_paid}
+use Rattle.ordered_multimap.proofs.Append.Appended.{behind_agrees, behind_keys, behind_lists, refused_lists, stays_paid}
 use Rattle.ordered_multimap.proofs.Agreement.StayingKeys.{behind_stays}
 use Rattle.ordered_multimap.proofs.Agreement.Agreed.{value_room}
 use Rattle.ordered_multimap.proofs.Append.Rooms.{both_on_err, fits_value, grows_there, if_err-map, map_of, on_ok-map}
@@ -45,6 +45,14 @@ returns-clause-stays g c =
       stays = λ k has. behind_stays (g.K.PartialEq.eq k) c.args.place _ _ _ _ c.args.value c.args.place has c.append_behind.result e.ok
           e.unchanged;
     })
+
+pub returns-clause-keys : goal.returns-clause-keys
+returns-clause-keys g c =
+    let agrees = c.self.invariant.agrees in
+    let own = own_key g.met.K.Eq.laws agrees c.args.place (listed_inside _ c.self.view_is c.requires) in
+    let e = c.append_behind.ensures in
+    behind_keys g.met.K.Eq.laws agrees own.0 c.args.value _ _ c.args.place own.1 c.append_behind.result e.ok e.unchanged
+    ∙ ap (λ m. m.lists.keys) c.self.view_is
 
 -- it grows so whether the value was appended or refused
 abbrev grows : (g : Over) (c : After-append_behind g) → GrowsForValue

@@ -4,6 +4,8 @@ use Rattle.ordered_multimap.specs.Keys.{is_listed}
 use Rattle.ordered_multimap.specs.Agrees.{hash_of}
 use Rattle.ordered_multimap.proofs.Append.Appended.{first_agrees, first_lists, refused_lists, stays_paid}
 use Rattle.ordered_multimap.proofs.Agreement.LookUps.{new_key}
+use Rattle.ordered_multimap.proofs.Agreement.StayingKeys.{first_stays}
+use Rattle.ordered_multimap.specs.Private.KeySteps.{KeepsPlaces}
 use Rattle.ordered_multimap.proofs.Append.Rooms.{both_on_err, keeps_rooms, fits_pair, raises_none_absent, first_on_err, if_err-map, map_of}
 use Rattle.ordered_multimap.proofs.Append.Rooms.{on_ok-map}
 use Rattle.ordered_multimap.proofs.list_ordered_multimap.ListOrderedMultimap.append_new.Goals as goal
@@ -22,6 +24,15 @@ invariant_of-self g c = record {
 
 pub returns-clause-found : goal.returns-clause-found
 returns-clause-found g c = new_key g.met.K.Eq.laws _ c.args.key c.append_first.result c.append_first.ensures.found
+
+pub returns-clause-places : goal.returns-clause-places
+returns-clause-places g c =
+    let i = c.self.inside in
+    let n = c.append_first.new in
+    let e = c.append_first.ensures in
+    subst (λ m. KeepsPlaces g.K.PartialEq.eq m (map_of n.keys n.table.capacity n.values i.state i.left)) c.self.view_is
+    (λ k place has. first_stays (g.K.PartialEq.eq k) place _ _ _ _ _ _ c.args.hash c.args.key c.args.value has c.append_first.result e.ok
+    e.unchanged)
 
 pub returns-clause-appends : goal.returns-clause-appends
 returns-clause-appends g c =

@@ -1,0 +1,37 @@
+-- What appending all pairs of another map leaves of both.
+use Rattle.std.specs.Prelude.{◌≡◌, ◌+◌, ◌≤◌, Bool, length}
+use Rattle.ordered_multimap.specs.Changes.{all_appended}
+use Rattle.ordered_multimap.specs.Lists.{empty_lists}
+use Rattle.ordered_multimap.specs.Multimap.{Multimap}
+use Rattle.ordered_multimap.specs.Rooms.{DoublesRooms, KeepsRooms, OnlyGrows}
+use Rattle.ordered_multimap.specs.TapeNumbers.{TakesOut}
+
+-- no pair is left, no room is lower, the tape has as many slots as before, and none is a hole
+pub record IsCleared {K V S : Type 0} (old new : Multimap K V S) : Type 0 where
+  pub lists : new.lists ≡ empty_lists
+  pub rooms : KeepsRooms old new
+  pub slots : new.tape.slots ≡ old.tape.slots
+  pub taken : TakesOut (length old.lists.pairs) old.tape new.tape
+  pub holes : new.tape.holes ≡ 0
+
+module _ {K V S T : Type 0} where
+  -- as many more keys fit as the other map has, and as many more values
+  pub record HasRoomForMap (m : Multimap K V S) (other : Multimap K V T) : Type 0 where
+    pub keys : length m.lists.keys + length other.lists.keys ≤ m.key_room
+    pub values : length m.lists.pairs + length other.lists.pairs ≤ m.value_room
+
+  -- each pair of the other map was appended in turn, and that map was cleared
+  pub record AppendsMap (eq : K → K → Bool) (old new : Multimap K V S)
+      (other other_after : Multimap K V T) : Type 0 where
+    pub lists : new.lists ≡ all_appended eq old.lists other.lists.pairs
+    pub rooms : KeepsRooms old new
+    pub doubles : DoublesRooms old new
+    pub taken : TakesOut 0 old.tape new.tape
+    pub cleared : IsCleared other other_after
+
+  -- there was no memory for room; the other map is as it was, and so are the lists
+  pub record RefusesMap (old new : Multimap K V S) (other other_after : Multimap K V T) : Type 0
+    where
+      pub grows : OnlyGrows old new
+      pub taken : TakesOut 0 old.tape new.tape
+      pub other_is : other_after ≡ other
