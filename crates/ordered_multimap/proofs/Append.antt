@@ -4,6 +4,9 @@ pub mod Entered
 pub mod Entries
 pub mod Extended
 pub mod Inserted
+pub mod OtherFront
+pub mod OtherLinks
+pub mod OtherMap
 pub mod Replaced
 pub mod Rooms
 pub mod Steps

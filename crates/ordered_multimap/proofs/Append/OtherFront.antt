@@ -1,0 +1,324 @@
+-- The pair of another map at the front, which is appended.
+use Rattle.std.proofs.Common.{◌≡◌, ◌≢◌, ◌⊎◌, ◌==◌, ◌+◌, ◌<◌, ◌≤◌, ℕ, Bool, true, false, not, cond, List, [], ◌∷◌, ◌++◌, filter, length, length-append}
+use Rattle.std.proofs.Common.{Option, Some, None, refl, sym, ap, ◌∙◌, subst, inl, inr, arith, append_assoc, true≢false}
+use Rattle.std.proofs.lemmas.Bool.{ne_eqb}
+use Rattle.std.proofs.lemmas.List.{append-nil}
+use Rattle.std.proofs.lemmas.List.Elements.{filter-append, filter_map-append}
+use Rattle.std.specs.List.{filter_map, cons_option}
+use Rattle.std.specs.Prelude.{IfSome}
+use Rattle.multimap_slots.specs.Lists.{IsIn, first_of, without}
+use Rattle.multimap_slots.specs.Slots.{Slots, Removes, item_at, link_at}
+use Rattle.multimap_slots.specs.Tapes.{Taped, Frees}
+use Rattle.multimap_slots.proofs.Callers.PlaceLists.{IsIn-append, IsIn-left, IsIn-right, without-split}
+use Rattle.multimap_walks.specs.declared.links.KeyLink.{KeyLink}
+use Rattle.multimap_walks.specs.declared.links.ValueLink.{ValueLink}
+use Rattle.multimap_walks.specs.Chained.{is_value_of, pair_at, pairs_of}
+use Rattle.ordered_multimap.specs.Agrees.{HasKey}
+use Rattle.ordered_multimap.specs.Changes.{appended, all_appended}
+use Rattle.ordered_multimap.specs.Keys.{keys_with, stored_key}
+use Rattle.ordered_multimap.specs.Multimap.{Multimap}
+use Rattle.ordered_multimap.specs.Private.AppendMap.{AppendsAfter, AppendsFirstOf, AppendsKeyAt, AppendsLaterOf, AppendsTaken, CanAppendTaken}
+use Rattle.ordered_multimap.specs.Private.AppendMap.{IsKeyAt, IsUsedUp}
+use Rattle.ordered_multimap.specs.Private.Relocations.{AreChained, WritesLink}
+use Rattle.ordered_multimap.specs.Rooms.{HasKeyRoom, SameRooms}
+use Rattle.ordered_multimap.specs.TapeNumbers.{TakesOut}
+use Rattle.ordered_multimap.proofs.Agreement.Agreed.{PairAt, is_value_of-is, pair_of}
+use Rattle.ordered_multimap.proofs.Append.Extended.{all_appended-push}
+use Rattle.ordered_multimap.proofs.Append.OtherLinks as links
+use Rattle.ordered_multimap.proofs.Append.OtherMap.{HasLinkLeft, IsAppending, IsHandedOn}
+use Rattle.ordered_multimap.proofs.Callers.ListedKeys.{length-keys_with}
+use Rattle.ordered_multimap.proofs.Callers.Members.{IsIn-filter}
+use Rattle.ordered_multimap.proofs.Callers.Places.{begins}
+
+-- a place that is listed makes the list no shorter than one
+some_listed : (q : ℕ) (ps : List ℕ) → IsIn q ps → 0 < length ps
+some_listed q [] i = absurd i
+some_listed q (p ∷ ps) i = omega arith
+
+same_some : {X : Type 0} (x y : X) → Some x ≡ Some y → x ≡ y
+same_some x y e = cc
+
+no_parts : {X : Type 0} (xs ys : List X) → xs ++ ys ≡ [] → (xs ≡ []) × (ys ≡ [])
+no_parts [] ys e = (refl, e)
+no_parts (x ∷ xs) ys e = absurd (let bad = e in cc)
+
+module _ {K V S : Type 0} {eq : K → K → Bool} {old : Multimap K V S} {keys : Slots K KeyLink} {values : Taped V ValueLink} where
+  module _ (chains : AreChained keys values.list) {now : Multimap K V S} {keys_now : Slots K KeyLink} {values_now : Taped V ValueLink}
+      (w : IsAppending eq old now keys keys_now values values_now) (p : ℕ) (front : first_of values_now.list.order ≡ Some p) where
+    abbrev rest : List ℕ
+    rest = (begins values_now.list.order p front).rest
+
+    rest_is : values_now.list.order ≡ p ∷ rest
+    rest_is = (begins values_now.list.order p front).is
+
+    pub front_listed : IsIn p values_now.list.order
+    front_listed = subst (IsIn p) (sym rest_is) (inl refl)
+
+    order : values.list.order ≡ w.taken ++ p ∷ rest
+    order = w.order ∙ ap (λ ps. w.taken ++ ps) rest_is
+
+    was_listed : (q : ℕ) → IsIn q rest → IsIn q values_now.list.order
+    was_listed q i = subst (IsIn q) (sym rest_is) (inr i)
+
+    rest_left : {mid : Slots V ValueLink} {value : V} → Removes values_now.list mid p value → mid.order ≡ rest
+    rest_left removed = removed.order ∙ ap (λ ps. without ps p) rest_is
+        ∙ without-split [] p rest (λ i. links.gone chains w.taken p rest order (IsIn-right p w.taken rest i))
+
+    -- the pair at the front
+    abbrev at : PairAt keys values.list p
+    at = pair_of keys values.list chains.keys_sound chains.sound chains.chained p (links.listed_here chains w.taken p rest order)
+
+    -- the key at another place has not this value
+    not_own : (q : ℕ) → q ≡ at.link.key → filter (is_value_of values.list q) (p ∷ []) ≡ [] → ⊥
+    not_own q same none =
+        let own : is_value_of values.list q p ≡ true = ap (λ r. is_value_of values.list r p) same
+        ∙ links.own_here chains w.taken p rest order at.link at.link_is in
+        absurd (let bad = sym (ap (λ b. cond b (p ∷ []) []) own) ∙ none in cc)
+
+    module _ (link : ValueLink) (link_is : link_at values_now.list p ≡ Some link) where
+      -- the key of the pair is still among those of the other map
+      record IsFirst : Type 0 where
+        none : at.link.previous ≡ None
+        same : link ≡ at.link
+
+      -- or the link names where it stands
+      record IsLater : Type 0 where
+        previous : ℕ
+        some : at.link.previous ≡ Some previous
+        same : link ≡ record at.link { key = link.key }
+        stands : HasKey eq now.slots.keys at.key link.key
+
+      first_or_later : IsFirst ⊎ IsLater
+      first_or_later =
+          let left = w.links p at.link front_listed at.link_is in
+          let P : Option ℕ → Type 0 = λ o. at.link.previous ≡ o → IsFirst ⊎ IsLater in
+          elim at.link.previous as P [
+            | None ↦ λ e. inl (record {
+              none = e;
+              same = same_some link at.link (sym link_is ∙ left.waits (λ q some i. absurd (let bad = sym e ∙ some in cc)));
+            })
+            | Some q ↦ λ e.
+                let on = left.handed_on q e (links.before chains w.taken p rest order at.link at.link_is q e) in
+                let is : link ≡ record at.link { key = on.place } = same_some link (record at.link { key = on.place }) (sym link_is ∙ on.link_is) in
+                let place : link.key ≡ on.place = ap (λ (l : ValueLink). l.key) is in
+                inr (record {
+                  previous = q;
+                  some = e;
+                  same = is ∙ ap (λ n. record at.link { key = n }) (sym place);
+                  stands = subst (HasKey eq now.slots.keys at.key) (sym place) (on.stands at.key at.key_is);
+                })
+          ] refl
+
+      -- there is room for the pair, and its key is found
+      pub can_append : CanAppendTaken now keys_now link
+      can_append = record {
+        value_room = omega (arith, w.value_room, ap length rest_is);
+        key_at = elim first_or_later [
+          | inl first ↦
+              let names = ap (λ (l : ValueLink). l.key) first.same in
+              let left = w.keys_left at.link.key at.key_listed
+              (links.none_before chains w.taken p rest order at.link at.link_is first.none) in
+              subst (IsKeyAt keys_now now link.key) (sym (ap (λ (l : ValueLink). l.previous) first.same ∙ first.none))
+              (subst (λ q. IsIn q keys_now.order) (sym names) left.0, omega (arith, w.key_room, some_listed _ _ left.0))
+          | inr later ↦
+              subst (IsKeyAt keys_now now link.key) (sym (ap (λ (l : ValueLink). l.previous) later.same ∙ later.some)) later.stands.listed
+        ];
+      }
+
+      same_next : link.next ≡ at.link.next
+      same_next = elim first_or_later [
+        | inl first ↦ ap (λ (l : ValueLink). l.next) first.same
+        | inr later ↦ ap (λ (l : ValueLink). l.next) later.same
+      ]
+
+      -- the next value under the key is still there once this one is taken
+      pub next_left : {mid : Slots V ValueLink} {value : V} → Removes values_now.list mid p value
+          → IfSome link.next (λ q. IsIn q mid.order)
+      next_left {mid} removed = by link.next (λ q e. subst (IsIn q) (sym (rest_left removed))
+          (links.behind chains w.taken p rest order at.link at.link_is q (sym same_next ∙ e)))
+        where
+          by : (o : Option ℕ) → ((q : ℕ) → o ≡ Some q → IsIn q mid.order) → IfSome o (λ q. IsIn q mid.order)
+          by None each = tt
+          by (Some q) each = each q refl
+
+      -- the pair was appended
+      module _ (value : V) (new : Multimap K V S) (keys_new : Slots K KeyLink) (place : ℕ) where
+        -- which keys of the other map are left, and that there is room for them
+        record AppendsPair : Type 0 where
+          pair : AppendsKeyAt eq at.key value now new place
+          key_room : length new.lists.keys + length keys_new.order ≤ length now.lists.keys + length keys_now.order
+          others : (q : ℕ) → q ≢ at.link.key → IsIn q keys_now.order → IsIn q keys_new.order × (item_at keys_new q ≡ item_at keys_now q)
+          capacity : keys_new.capacity ≡ keys_now.capacity
+
+        first_pair : AppendsTaken eq value link now new keys_now keys_new place → IsFirst → AppendsPair
+        first_pair done first =
+            let names = ap (λ (l : ValueLink). l.key) first.same in
+            let left = w.keys_left at.link.key at.key_listed
+            (links.none_before chains w.taken p rest order at.link at.link_is first.none) in
+            let none = ap (λ (l : ValueLink). l.previous) first.same ∙ first.none in
+            let taken : AppendsFirstOf eq value link now new keys_now keys_new place =
+            subst (AppendsAfter eq value link now new keys_now keys_new place) none done in
+            let removed : Removes keys_now keys_new at.link.key taken.key = subst (λ q. Removes keys_now keys_new q taken.key) names taken.removed in
+            let key : taken.key ≡ at.key = same_some taken.key at.key (sym removed.had ∙ left.1 ∙ at.key_is) in
+            let pair : AppendsKeyAt eq at.key value now new place = subst (λ k. AppendsKeyAt eq k value now new place) key taken.appended in
+            record {
+              pair = pair;
+              key_room = omega (
+                arith,
+                ap (λ m. length m.keys) pair.appended.lists,
+                length-keys_with eq now.lists.keys at.key,
+                removed.shorter,
+              );
+              others = λ q differs i. (
+                subst (IsIn q) (sym removed.order) (IsIn-filter (λ r. not (r == at.link.key)) q keys_now.order (ap not (ne_eqb q at.link.key differs)) i),
+                removed.others.items q differs,
+              );
+              capacity = removed.capacity;
+            }
+
+        later_pair : AppendsTaken eq value link now new keys_now keys_new place → IsLater → AppendsPair
+        later_pair done later =
+            let some = ap (λ (l : ValueLink). l.previous) later.same ∙ later.some in
+            let taken : AppendsLaterOf eq value link now new keys_now keys_new place =
+            subst (AppendsAfter eq value link now new keys_now keys_new place) some done in
+            record {
+              pair = taken.appended at.key later.stands;
+              key_room = omega (arith, ap length taken.same_keys, ap (λ (s : Slots K KeyLink). length s.order) taken.keys_are);
+              others = λ q differs i. (
+                subst (λ (s : Slots K KeyLink). IsIn q s.order) (sym taken.keys_are) i,
+                ap (λ (s : Slots K KeyLink). item_at s q) taken.keys_are,
+              );
+              capacity = ap (λ (s : Slots K KeyLink). s.capacity) taken.keys_are;
+            }
+
+        appends_pair : AppendsTaken eq value link now new keys_now keys_new place → AppendsPair
+        appends_pair done = elim first_or_later [ inl first ↦ first_pair done first | inr later ↦ later_pair done later ]
+
+        -- the value was taken out, and the next one names the key's place
+        module _ (done : AppendsTaken eq value link now new keys_now keys_new place) {mid after : Taped V ValueLink}
+            (removed : Removes values_now.list mid.list p value) (frees : Frees values_now mid)
+            (writes : WritesLink mid after link.next (λ l. record l { key = place })) where
+          abbrev pair : AppendsKeyAt eq at.key value now new place
+          pair = (appends_pair done).pair
+
+          order_after : after.list.order ≡ rest
+          order_after = ap (λ (t : Taped V ValueLink). t.list.order) writes.rest ∙ rest_left removed
+
+          link_mid : (q : ℕ) → IsIn q rest → link_at mid.list q ≡ link_at values_now.list q
+          link_mid q i = removed.others.links q (links.behind_other chains w.taken p rest order q i)
+
+          -- the link of a value that isn't the next one is as it was
+          link_kept : (q : ℕ) (l : ValueLink) → IsIn q rest → link_at values.list q ≡ Some l → l.previous ≢ Some p
+              → link_at after.list q ≡ link_at values_now.list q
+          link_kept q l i is other =
+              writes.others q (λ e. other (links.by_next chains p q at.link l (links.listed_here chains w.taken p rest order) at.link_is
+              (sym same_next ∙ e) is).0)
+              ∙ link_mid q i
+
+          links_after : (q : ℕ) (l : ValueLink) → IsIn q rest → link_at values.list q ≡ Some l
+              → HasLinkLeft eq new keys after.list (w.taken ++ p ∷ []) q l
+          links_after q l i is =
+              let was = w.links q l (was_listed q i) is in
+              record {
+                waits = λ none.
+                    link_kept q l i is (λ e. none p e (IsIn-right p w.taken (p ∷ []) (inl refl)))
+                    ∙ was.waits (λ r e j. none r e (IsIn-left r w.taken (p ∷ []) j));
+                handed_on = λ r e j. elim (IsIn-append r w.taken (p ∷ []) j) [
+                  | inl earlier ↦
+                      let on = was.handed_on r e earlier in
+                      record {
+                        place = on.place;
+                        link_is =
+                            link_kept q l i is
+                            (λ here. links.taken_other chains w.taken p rest order r earlier (same_some r p (sym e ∙ here)))
+                            ∙ on.link_is;
+                        stands = λ k key_is. pair.appended.places k on.place (on.stands k key_is);
+                      }
+                  | inr last ↦ elim last [
+                    | inl here ↦
+                        let previous : l.previous ≡ Some p = e ∙ ap Some here in
+                        let next = links.by_previous chains p q at.link l (links.listed_behind chains w.taken p rest order q i) is previous
+                        at.link_is in
+                        record {
+                          place = place;
+                          link_is = writes.here q l (same_next ∙ next.0) (link_mid q i ∙ was.waits (λ s some taken.
+                          links.taken_other chains w.taken p rest order s taken (same_some s p (sym some ∙ previous))));
+                          stands = λ k key_is. subst (λ j. HasKey eq new.slots.keys j place)
+                          (same_some at.key k (sym at.key_is ∙ ap (item_at keys) (sym next.1) ∙ key_is)) pair.found;
+                        }
+                    | inr none ↦ absurd none
+                  ]
+                ];
+              }
+
+          -- keys of other values are left
+          keys_after : (q : ℕ) → IsIn q keys.order → filter (is_value_of values.list q) (w.taken ++ p ∷ []) ≡ []
+              → IsIn q keys_new.order × (item_at keys_new q ≡ item_at keys q)
+          keys_after q listed none =
+              let parts = no_parts (filter (is_value_of values.list q) w.taken) (filter (is_value_of values.list q) (p ∷ []))
+              (sym (filter-append (is_value_of values.list q) w.taken (p ∷ [])) ∙ none) in
+              let was = w.keys_left q listed parts.0 in
+              let now_left = (appends_pair done).others q (λ same. not_own q same parts.1) was.0 in
+              (now_left.0, now_left.1 ∙ was.1)
+
+          value_is : value ≡ at.value
+          value_is = same_some value at.value (sym removed.had ∙ w.items p front_listed ∙ at.value_is)
+
+          lists_after : new.lists ≡ all_appended eq old.lists (filter_map (pair_at keys values.list) (w.taken ++ p ∷ []))
+          lists_after =
+              let pairs : List (K × V) = filter_map (pair_at keys values.list) w.taken in
+              pair.appended.lists
+              ∙ ap (λ m. appended eq m at.key value) w.lists
+              ∙ ap (appended eq (all_appended eq old.lists pairs) at.key) value_is
+              ∙ sym (all_appended-push eq old.lists pairs at.key at.value)
+              ∙ ap (λ o. all_appended eq old.lists (pairs ++ cons_option o [])) (sym at.pair_is)
+              ∙ ap (all_appended eq old.lists) (sym (filter_map-append (pair_at keys values.list) w.taken (p ∷ [])))
+
+          pub appending-step : IsAppending eq old new keys keys_new values after
+          appending-step =
+              let done_pair = appends_pair done in
+              let rooms = pair.appended.rooms in
+              let shorter = ap (λ (t : Taped V ValueLink). t.freed) writes.rest in
+              record {
+                taken = w.taken ++ p ∷ [];
+                order = order ∙ sym (append_assoc w.taken (p ∷ []) rest) ∙ ap (λ ps. (w.taken ++ p ∷ []) ++ ps) (sym order_after);
+                lists = lists_after;
+                rooms = record {
+                  keys = rooms.keys ∙ w.rooms.keys;
+                  values = rooms.values ∙ w.rooms.values;
+                  slots = rooms.slots ∙ w.rooms.slots;
+                  hasher = rooms.hasher ∙ w.rooms.hasher;
+                };
+                tape = record {
+                  freed = omega (arith, pair.appended.taken.freed, w.tape.freed);
+                  paid = omega (arith, pair.appended.taken.paid, w.tape.paid);
+                };
+                key_room = omega (arith, done_pair.key_room, w.key_room, rooms.keys);
+                value_room = omega (
+                  arith,
+                  ap (λ m. length m.pairs) pair.appended.lists,
+                  length-append now.lists.pairs ((stored_key eq now.lists.keys at.key, value) ∷ []),
+                  w.value_room,
+                  ap length order_after,
+                  ap length rest_is,
+                  rooms.values,
+                );
+                items = λ q i.
+                    let behind = subst (IsIn q) order_after i in
+                    ap (λ (t : Taped V ValueLink). item_at t.list q) writes.rest
+                    ∙ removed.others.items q (links.behind_other chains w.taken p rest order q behind)
+                    ∙ w.items q (was_listed q behind);
+                links = λ q l i is. links_after q l (subst (IsIn q) order_after i) is;
+                keys_left = keys_after;
+                keys_capacity = done_pair.capacity ∙ w.keys_capacity;
+                capacity = ap (λ (t : Taped V ValueLink). t.list.capacity) writes.rest ∙ removed.capacity ∙ w.capacity;
+                moved = ap (λ (t : Taped V ValueLink). t.moved) writes.rest ∙ frees.moved ∙ w.moved;
+                freed = omega (
+                  arith,
+                  ap (λ (t : Taped V ValueLink). t.freed) writes.rest,
+                  frees.freed,
+                  w.freed,
+                  ap length order_after,
+                  ap length rest_is,
+                );
+              }

@@ -1,0 +1,87 @@
+-- Pairs of another map that are appended one by one, from the front on: what is left of that map.
+use Rattle.std.proofs.Common.{◌≡◌, ◌+◌, ◌≤◌, ℕ, Bool, List, [], ◌++◌, filter, length, Some, refl, sym, ap, ◌∙◌, arith}
+use Rattle.std.proofs.lemmas.List.{append-nil}
+use Rattle.std.specs.List.{filter_map}
+use Rattle.multimap_slots.specs.Lists.{IsIn}
+use Rattle.multimap_slots.specs.Slots.{Slots, item_at, link_at}
+use Rattle.multimap_slots.specs.Tapes.{Taped}
+use Rattle.multimap_walks.specs.declared.links.KeyLink.{KeyLink}
+use Rattle.multimap_walks.specs.declared.links.ValueLink.{ValueLink}
+use Rattle.multimap_walks.specs.Chained.{is_value_of, pair_at, pairs_of}
+use Rattle.ordered_multimap.specs.Agrees.{HasKey}
+use Rattle.ordered_multimap.specs.Changes.{all_appended}
+use Rattle.ordered_multimap.specs.Multimap.{Multimap}
+use Rattle.ordered_multimap.specs.Private.AppendMap.{IsUsedUp}
+use Rattle.ordered_multimap.specs.Rooms.{SameRooms}
+use Rattle.ordered_multimap.specs.TapeNumbers.{TakesOut}
+
+module _ {K V S : Type 0} (eq : K → K → Bool) (now : Multimap K V S) (keys : Slots K KeyLink) where
+  -- the link names the place of the key in the map
+  pub record IsHandedOn (values_now : Slots V ValueLink) (p : ℕ) (l : ValueLink) : Type 0 where
+    pub place : ℕ
+    pub link_is : link_at values_now p ≡ Some (record l { key = place })
+    pub stands : (k : K) → item_at keys l.key ≡ Some k → HasKey eq now.slots.keys k place
+
+  -- the link is as it was while the value before it is still there, or where there is none; and
+  -- then it names the place of the key in the map
+  pub record HasLinkLeft (values_now : Slots V ValueLink) (taken : List ℕ) (p : ℕ) (l : ValueLink) : Type 0 where
+    pub waits : ((q : ℕ) → l.previous ≡ Some q → IsIn q taken → ⊥) → link_at values_now p ≡ Some l
+    pub handed_on : (q : ℕ) → l.previous ≡ Some q → IsIn q taken → IsHandedOn values_now p l
+
+-- the pairs at these places were appended, and the others are still there
+pub record IsAppending {K V S : Type 0} (eq : K → K → Bool) (old now : Multimap K V S) (keys keys_now : Slots K KeyLink)
+    (values values_now : Taped V ValueLink) : Type 0 where
+  pub taken : List ℕ
+  pub order : values.list.order ≡ taken ++ values_now.list.order
+  pub lists : now.lists ≡ all_appended eq old.lists (filter_map (pair_at keys values.list) taken)
+  pub rooms : SameRooms old now
+  pub tape : TakesOut 0 old.tape now.tape
+  pub key_room : length now.lists.keys + length keys_now.order ≤ now.key_room
+  pub value_room : length now.lists.pairs + length values_now.list.order ≤ now.value_room
+  pub items : (p : ℕ) → IsIn p values_now.list.order → item_at values_now.list p ≡ item_at values.list p
+  pub links : (p : ℕ) (l : ValueLink) → IsIn p values_now.list.order → link_at values.list p ≡ Some l
+      → HasLinkLeft eq now keys values_now.list taken p l
+  pub keys_left : (q : ℕ) → IsIn q keys.order → filter (is_value_of values.list q) taken ≡ []
+      → IsIn q keys_now.order × (item_at keys_now q ≡ item_at keys q)
+  pub keys_capacity : keys_now.capacity ≡ keys.capacity
+  pub capacity : values_now.list.capacity ≡ values.list.capacity
+  pub moved : values_now.moved ≡ values.moved
+  pub freed : values_now.freed + length values_now.list.order ≡ values.freed + length values.list.order
+
+module _ {K V S : Type 0} {eq : K → K → Bool} {old : Multimap K V S} {keys : Slots K KeyLink} {values : Taped V ValueLink} where
+  pub appending-start : length old.lists.keys + length keys.order ≤ old.key_room
+      → length old.lists.pairs + length values.list.order ≤ old.value_room
+      → IsAppending eq old old keys keys values values
+  appending-start key_room value_room = record {
+    taken = [];
+    order = refl;
+    lists = refl;
+    rooms = record { keys = refl; values = refl; slots = refl; hasher = refl };
+    tape = record { freed = omega arith; paid = omega arith };
+    key_room = key_room;
+    value_room = value_room;
+    items = λ p i. refl;
+    links = λ p l i is. record { waits = λ none. is; handed_on = λ q e i. absurd i };
+    keys_left = λ q i none. (i, refl);
+    keys_capacity = refl;
+    capacity = refl;
+    moved = refl;
+    freed = refl;
+  }
+
+  pub appending-end : {now : Multimap K V S} {keys_now : Slots K KeyLink} {values_now : Taped V ValueLink}
+      → IsAppending eq old now keys keys_now values values_now → values_now.list.order ≡ []
+      → (now.lists ≡ all_appended eq old.lists (pairs_of keys values.list)) × IsUsedUp keys keys_now values values_now
+  appending-end w none = (
+    w.lists
+        ∙ ap (λ ps. all_appended eq old.lists (filter_map (pair_at keys values.list) ps))
+        (sym (w.order ∙ ap (λ ps. w.taken ++ ps) none ∙ append-nil w.taken)),
+    record {
+      none = none;
+      keys_capacity = w.keys_capacity;
+      capacity = w.capacity;
+      moved = w.moved;
+      freed = omega (arith, w.freed, ap length none);
+    },
+  )
+
