@@ -36,6 +36,8 @@ impl<K: Eq + Hash + Drop, V: Drop, S: BuildHasher, A: Allocator + Copy> ListOrde
         ensures had_room { HasRoomForMap self.old other.old → SameRooms self.old self.new }
         ensures paid { ArePaid self.new.tape }
     {
+        // The field tells the proof that the moves are paid for.
+        let _state = &self.state;
         self.reserve_keys(other.keys_len())?;
         self.reserve_values(other.values_len())?;
         self.append_parts(&mut other.keys, &mut other.values);

@@ -1,0 +1,114 @@
+use Rattle.std.proofs.Common.{length, refl, ap, sym, ◌∙◌, subst, arith}
+use Rattle.std.specs.List.{filter_map}
+use Rattle.multimap_slots.specs.Slots.{item_at}
+use Rattle.multimap_walks.specs.Chained.{pair_at, pairs_of}
+use Rattle.ordered_multimap.specs.Lists.{lists}
+use Rattle.ordered_multimap.specs.AppendMap.{AppendsMap}
+use Rattle.ordered_multimap.specs.Changes.{all_appended}
+use Rattle.ordered_multimap.specs.TapeNumbers.{ArePaid, TakesOut}
+use Rattle.ordered_multimap.proofs.Agreement.Agreed.{agrees_empty, length-keys, length-pairs}
+use Rattle.ordered_multimap.proofs.Append.Appended.{stays_paid}
+use Rattle.ordered_multimap.proofs.Append.Rooms.{map_of}
+use Rattle.ordered_multimap.proofs.list_ordered_multimap.ListOrderedMultimap.append_map.Goals as goal
+
+pub returns-in_err-reserve_keys-clause-paid : goal.returns-in_err-reserve_keys-clause-paid
+returns-in_err-reserve_keys-clause-paid g c =
+    subst ArePaid (sym c.reserve_keys.ensures.tape) (subst (λ m. ArePaid m.tape) c.self.view_is c.self.invariant.paid)
+
+pub returns-in_err-reserve_values-clause-paid : goal.returns-in_err-reserve_values-clause-paid
+returns-in_err-reserve_values-clause-paid g c =
+    stays_paid c.reserve_values.ensures.taken
+    (subst ArePaid (sym c.reserve_keys.ensures.tape) (subst (λ m. ArePaid m.tape) c.self.view_is c.self.invariant.paid))
+
+pub append_parts-requires-clause-key_room : goal.append_parts-requires-clause-key_room
+append_parts-requires-clause-key_room g c = omega (
+  arith,
+  c.in_ok-reserve_keys.ensures.room,
+  c.keys_len.ensures.len,
+  ap (λ m. length m.lists.keys) c.other.view_is,
+  length-keys c.other.invariant.agrees,
+  ap (λ m. length m.keys) c.reserve_keys.ensures.grows.lists,
+  ap (λ m. length m.keys) c.reserve_values.ensures.grows.lists,
+  c.reserve_values.ensures.keys,
+)
+
+pub append_parts-requires-clause-value_room : goal.append_parts-requires-clause-value_room
+append_parts-requires-clause-value_room g c = omega (
+  arith,
+  c.in_ok-reserve_values.ensures.room,
+  c.values_len.ensures,
+  ap (λ m. length m.lists.pairs) c.other.view_is,
+  length-pairs c.other.invariant.agrees,
+  ap (λ m. length m.pairs) c.reserve_values.ensures.grows.lists,
+)
+
+pub invariant_of-other : goal.invariant_of-other
+invariant_of-other g c =
+    let keys = c.clear.ensures in
+    let values = c.clear-3.ensures in
+    let used = c.append_parts.ensures.used_up in
+    record {
+      agrees = agrees_empty c.clear.new.self c.clear-3.new.self.list keys.empty values.empty _ _ _ c.clear-2.ensures.empty;
+      fits = omega (arith, ap length values.empty.order);
+      paid = omega (
+        arith,
+        values.moved,
+        values.freed,
+        values.holes,
+        used.moved,
+        used.freed,
+        c.other.invariant.paid,
+      );
+    }
+
+pub returns-clause-ok : goal.returns-clause-ok
+returns-clause-ok g c =
+    let keys = c.reserve_keys.ensures in
+    let values = c.reserve_values.ensures in
+    let parts = c.append_parts.ensures in
+    let used = parts.used_up in
+    let i = c.other.inside in
+    let after = map_of c.clear.new.self c.clear-2.new.self.capacity c.clear-3.new.self i.state i.left in
+    subst (λ m. AppendsMap g.K.PartialEq.eq c.args.self.now c.append_parts.new.self m after) c.other.view_is (record {
+      lists =
+          parts.lists
+          ∙ ap (λ m. all_appended g.K.PartialEq.eq m (pairs_of i.keys i.values.list)) (values.grows.lists ∙ keys.grows.lists);
+      rooms = record {
+        keys = omega (arith, keys.grows.rooms.keys, values.keys, parts.rooms.keys);
+        values = omega (arith, values.grows.rooms.values, keys.values, parts.rooms.values);
+        hasher = parts.rooms.hasher ∙ values.grows.rooms.hasher ∙ keys.grows.rooms.hasher;
+      };
+      doubles = record {
+        keys = λ more. omega (arith, keys.grows.doubles.keys (omega (arith, more, values.keys, parts.rooms.keys)), values.keys, parts.rooms.keys);
+        values = λ more. omega (
+          arith,
+          values.grows.doubles.values (omega (arith, more, keys.values, parts.rooms.values)),
+          keys.values,
+          parts.rooms.values,
+        );
+      };
+      taken = record {
+        freed = omega (arith, parts.taken.freed, values.taken.freed, ap (λ t. t.freed) keys.tape);
+        paid = omega (arith, parts.taken.paid, values.taken.paid, ap (λ t. t.moved) keys.tape, ap (λ t. t.holes) keys.tape);
+      };
+      cleared = record {
+        lists = λ j. lists (filter_map (item_at c.clear.new.self) (c.clear.ensures.empty.order j))
+            (filter_map (pair_at c.clear.new.self c.clear-3.new.self.list) (c.clear-3.ensures.empty.order j));
+        rooms = record {
+          keys = omega (arith, c.clear.ensures.capacity, c.clear-2.ensures.capacity, used.keys_capacity);
+          values = omega (arith, c.clear-3.ensures.capacity, used.capacity);
+          hasher = refl;
+        };
+        slots = c.clear-3.ensures.capacity ∙ used.capacity;
+        taken = record {
+          freed = omega (arith, c.clear-3.ensures.freed, used.freed, ap length used.none, length-pairs c.other.invariant.agrees);
+          paid = omega (arith, c.clear-3.ensures.moved, c.clear-3.ensures.holes, used.moved);
+        };
+        holes = c.clear-3.ensures.holes;
+      };
+    })
+
+pub returns-clause-paid : goal.returns-clause-paid
+returns-clause-paid g c =
+    stays_paid c.append_parts.ensures.taken (stays_paid c.reserve_values.ensures.taken
+    (subst ArePaid (sym c.reserve_keys.ensures.tape) (subst (λ m. ArePaid m.tape) c.self.view_is c.self.invariant.paid)))
