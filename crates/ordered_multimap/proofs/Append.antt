@@ -7,6 +7,7 @@ pub mod Inserted
 pub mod OtherFront
 pub mod OtherLinks
 pub mod OtherMap
+pub mod OtherStep
 pub mod Replaced
 pub mod Rooms
 pub mod Steps

@@ -1,9 +1,9 @@
 -- What appending all pairs of another map leaves of both.
 use Rattle.std.specs.Prelude.{◌≡◌, ◌+◌, ◌≤◌, Bool, length}
-use Rattle.ordered_multimap.specs.Changes.{all_appended}
+use Rattle.ordered_multimap.specs.Extends.{AppendsAll}
 use Rattle.ordered_multimap.specs.Lists.{empty_lists}
 use Rattle.ordered_multimap.specs.Multimap.{Multimap}
-use Rattle.ordered_multimap.specs.Rooms.{DoublesRooms, KeepsRooms, OnlyGrows}
+use Rattle.ordered_multimap.specs.Rooms.{KeepsRooms, OnlyGrows}
 use Rattle.ordered_multimap.specs.TapeNumbers.{TakesOut}
 
 -- no pair is left, no room is lower, the tape has as many slots as before, and none is a hole
@@ -23,10 +23,7 @@ module _ {K V S T : Type 0} where
   -- each pair of the other map was appended in turn, and that map was cleared
   pub record AppendsMap (eq : K → K → Bool) (old new : Multimap K V S)
       (other other_after : Multimap K V T) : Type 0 where
-    pub lists : new.lists ≡ all_appended eq old.lists other.lists.pairs
-    pub rooms : KeepsRooms old new
-    pub doubles : DoublesRooms old new
-    pub taken : TakesOut 0 old.tape new.tape
+    pub appended : AppendsAll eq old other.lists.pairs new
     pub cleared : IsCleared other other_after
 
   -- there was no memory for room; the other map is as it was, and so are the lists

@@ -35,41 +35,37 @@ some_listed : (q : ℕ) (ps : List ℕ) → IsIn q ps → 0 < length ps
 some_listed q [] i = absurd i
 some_listed q (p ∷ ps) i = omega arith
 
-same_some : {X : Type 0} (x y : X) → Some x ≡ Some y → x ≡ y
+pub same_some : {X : Type 0} (x y : X) → Some x ≡ Some y → x ≡ y
 same_some x y e = cc
-
-no_parts : {X : Type 0} (xs ys : List X) → xs ++ ys ≡ [] → (xs ≡ []) × (ys ≡ [])
-no_parts [] ys e = (refl, e)
-no_parts (x ∷ xs) ys e = absurd (let bad = e in cc)
 
 module _ {K V S : Type 0} {eq : K → K → Bool} {old : Multimap K V S} {keys : Slots K KeyLink} {values : Taped V ValueLink} where
   module _ (chains : AreChained keys values.list) {now : Multimap K V S} {keys_now : Slots K KeyLink} {values_now : Taped V ValueLink}
       (w : IsAppending eq old now keys keys_now values values_now) (p : ℕ) (front : first_of values_now.list.order ≡ Some p) where
-    abbrev rest : List ℕ
+    abbrev pub rest : List ℕ
     rest = (begins values_now.list.order p front).rest
 
-    rest_is : values_now.list.order ≡ p ∷ rest
+    pub rest_is : values_now.list.order ≡ p ∷ rest
     rest_is = (begins values_now.list.order p front).is
 
     pub front_listed : IsIn p values_now.list.order
     front_listed = subst (IsIn p) (sym rest_is) (inl refl)
 
-    order : values.list.order ≡ w.taken ++ p ∷ rest
+    pub order : values.list.order ≡ w.taken ++ p ∷ rest
     order = w.order ∙ ap (λ ps. w.taken ++ ps) rest_is
 
-    was_listed : (q : ℕ) → IsIn q rest → IsIn q values_now.list.order
+    pub was_listed : (q : ℕ) → IsIn q rest → IsIn q values_now.list.order
     was_listed q i = subst (IsIn q) (sym rest_is) (inr i)
 
-    rest_left : {mid : Slots V ValueLink} {value : V} → Removes values_now.list mid p value → mid.order ≡ rest
+    pub rest_left : {mid : Slots V ValueLink} {value : V} → Removes values_now.list mid p value → mid.order ≡ rest
     rest_left removed = removed.order ∙ ap (λ ps. without ps p) rest_is
         ∙ without-split [] p rest (λ i. links.gone chains w.taken p rest order (IsIn-right p w.taken rest i))
 
     -- the pair at the front
-    abbrev at : PairAt keys values.list p
+    abbrev pub at : PairAt keys values.list p
     at = pair_of keys values.list chains.keys_sound chains.sound chains.chained p (links.listed_here chains w.taken p rest order)
 
     -- the key at another place has not this value
-    not_own : (q : ℕ) → q ≡ at.link.key → filter (is_value_of values.list q) (p ∷ []) ≡ [] → ⊥
+    pub not_own : (q : ℕ) → q ≡ at.link.key → filter (is_value_of values.list q) (p ∷ []) ≡ [] → ⊥
     not_own q same none =
         let own : is_value_of values.list q p ≡ true = ap (λ r. is_value_of values.list r p) same
         ∙ links.own_here chains w.taken p rest order at.link at.link_is in
@@ -125,7 +121,7 @@ module _ {K V S : Type 0} {eq : K → K → Bool} {old : Multimap K V S} {keys :
         ];
       }
 
-      same_next : link.next ≡ at.link.next
+      pub same_next : link.next ≡ at.link.next
       same_next = elim first_or_later [
         | inl first ↦ ap (λ (l : ValueLink). l.next) first.same
         | inr later ↦ ap (λ (l : ValueLink). l.next) later.same
@@ -144,11 +140,11 @@ module _ {K V S : Type 0} {eq : K → K → Bool} {old : Multimap K V S} {keys :
       -- the pair was appended
       module _ (value : V) (new : Multimap K V S) (keys_new : Slots K KeyLink) (place : ℕ) where
         -- which keys of the other map are left, and that there is room for them
-        record AppendsPair : Type 0 where
-          pair : AppendsKeyAt eq at.key value now new place
-          key_room : length new.lists.keys + length keys_new.order ≤ length now.lists.keys + length keys_now.order
-          others : (q : ℕ) → q ≢ at.link.key → IsIn q keys_now.order → IsIn q keys_new.order × (item_at keys_new q ≡ item_at keys_now q)
-          capacity : keys_new.capacity ≡ keys_now.capacity
+        pub record AppendsPair : Type 0 where
+          pub pair : AppendsKeyAt eq at.key value now new place
+          pub key_room : length new.lists.keys + length keys_new.order ≤ length now.lists.keys + length keys_now.order
+          pub others : (q : ℕ) → q ≢ at.link.key → IsIn q keys_now.order → IsIn q keys_new.order × (item_at keys_new q ≡ item_at keys_now q)
+          pub capacity : keys_new.capacity ≡ keys_now.capacity
 
         first_pair : AppendsTaken eq value link now new keys_now keys_new place → IsFirst → AppendsPair
         first_pair done first =
@@ -191,134 +187,5 @@ module _ {K V S : Type 0} {eq : K → K → Bool} {old : Multimap K V S} {keys :
               capacity = ap (λ (s : Slots K KeyLink). s.capacity) taken.keys_are;
             }
 
-        appends_pair : AppendsTaken eq value link now new keys_now keys_new place → AppendsPair
+        pub appends_pair : AppendsTaken eq value link now new keys_now keys_new place → AppendsPair
         appends_pair done = elim first_or_later [ inl first ↦ first_pair done first | inr later ↦ later_pair done later ]
-
-        -- the value was taken out, and the next one names the key's place
-        module _ (done : AppendsTaken eq value link now new keys_now keys_new place) {mid after : Taped V ValueLink}
-            (removed : Removes values_now.list mid.list p value) (frees : Frees values_now mid)
-            (writes : WritesLink mid after link.next (λ l. record l { key = place })) where
-          abbrev pair : AppendsKeyAt eq at.key value now new place
-          pair = (appends_pair done).pair
-
-          order_after : after.list.order ≡ rest
-          order_after = ap (λ (t : Taped V ValueLink). t.list.order) writes.rest ∙ rest_left removed
-
-          link_mid : (q : ℕ) → IsIn q rest → link_at mid.list q ≡ link_at values_now.list q
-          link_mid q i = removed.others.links q (links.behind_other chains w.taken p rest order q i)
-
-          -- the link of a value that isn't the next one is as it was
-          link_kept : (q : ℕ) (l : ValueLink) → IsIn q rest → link_at values.list q ≡ Some l → l.previous ≢ Some p
-              → link_at after.list q ≡ link_at values_now.list q
-          link_kept q l i is other =
-              writes.others q (λ e. other (links.by_next chains p q at.link l (links.listed_here chains w.taken p rest order) at.link_is
-              (sym same_next ∙ e) is).0)
-              ∙ link_mid q i
-
-          links_after : (q : ℕ) (l : ValueLink) → IsIn q rest → link_at values.list q ≡ Some l
-              → HasLinkLeft eq new keys after.list (w.taken ++ p ∷ []) q l
-          links_after q l i is =
-              let was = w.links q l (was_listed q i) is in
-              record {
-                waits = λ none.
-                    link_kept q l i is (λ e. none p e (IsIn-right p w.taken (p ∷ []) (inl refl)))
-                    ∙ was.waits (λ r e j. none r e (IsIn-left r w.taken (p ∷ []) j));
-                handed_on = λ r e j. elim (IsIn-append r w.taken (p ∷ []) j) [
-                  | inl earlier ↦
-                      let on = was.handed_on r e earlier in
-                      record {
-                        place = on.place;
-                        link_is =
-                            link_kept q l i is
-                            (λ here. links.taken_other chains w.taken p rest order r earlier (same_some r p (sym e ∙ here)))
-                            ∙ on.link_is;
-                        stands = λ k key_is. pair.appended.places k on.place (on.stands k key_is);
-                      }
-                  | inr last ↦ elim last [
-                    | inl here ↦
-                        let previous : l.previous ≡ Some p = e ∙ ap Some here in
-                        let next = links.by_previous chains p q at.link l (links.listed_behind chains w.taken p rest order q i) is previous
-                        at.link_is in
-                        record {
-                          place = place;
-                          link_is = writes.here q l (same_next ∙ next.0) (link_mid q i ∙ was.waits (λ s some taken.
-                          links.taken_other chains w.taken p rest order s taken (same_some s p (sym some ∙ previous))));
-                          stands = λ k key_is. subst (λ j. HasKey eq new.slots.keys j place)
-                          (same_some at.key k (sym at.key_is ∙ ap (item_at keys) (sym next.1) ∙ key_is)) pair.found;
-                        }
-                    | inr none ↦ absurd none
-                  ]
-                ];
-              }
-
-          -- keys of other values are left
-          keys_after : (q : ℕ) → IsIn q keys.order → filter (is_value_of values.list q) (w.taken ++ p ∷ []) ≡ []
-              → IsIn q keys_new.order × (item_at keys_new q ≡ item_at keys q)
-          keys_after q listed none =
-              let parts = no_parts (filter (is_value_of values.list q) w.taken) (filter (is_value_of values.list q) (p ∷ []))
-              (sym (filter-append (is_value_of values.list q) w.taken (p ∷ [])) ∙ none) in
-              let was = w.keys_left q listed parts.0 in
-              let now_left = (appends_pair done).others q (λ same. not_own q same parts.1) was.0 in
-              (now_left.0, now_left.1 ∙ was.1)
-
-          value_is : value ≡ at.value
-          value_is = same_some value at.value (sym removed.had ∙ w.items p front_listed ∙ at.value_is)
-
-          lists_after : new.lists ≡ all_appended eq old.lists (filter_map (pair_at keys values.list) (w.taken ++ p ∷ []))
-          lists_after =
-              let pairs : List (K × V) = filter_map (pair_at keys values.list) w.taken in
-              pair.appended.lists
-              ∙ ap (λ m. appended eq m at.key value) w.lists
-              ∙ ap (appended eq (all_appended eq old.lists pairs) at.key) value_is
-              ∙ sym (all_appended-push eq old.lists pairs at.key at.value)
-              ∙ ap (λ o. all_appended eq old.lists (pairs ++ cons_option o [])) (sym at.pair_is)
-              ∙ ap (all_appended eq old.lists) (sym (filter_map-append (pair_at keys values.list) w.taken (p ∷ [])))
-
-          pub appending-step : IsAppending eq old new keys keys_new values after
-          appending-step =
-              let done_pair = appends_pair done in
-              let rooms = pair.appended.rooms in
-              let shorter = ap (λ (t : Taped V ValueLink). t.freed) writes.rest in
-              record {
-                taken = w.taken ++ p ∷ [];
-                order = order ∙ sym (append_assoc w.taken (p ∷ []) rest) ∙ ap (λ ps. (w.taken ++ p ∷ []) ++ ps) (sym order_after);
-                lists = lists_after;
-                rooms = record {
-                  keys = rooms.keys ∙ w.rooms.keys;
-                  values = rooms.values ∙ w.rooms.values;
-                  slots = rooms.slots ∙ w.rooms.slots;
-                  hasher = rooms.hasher ∙ w.rooms.hasher;
-                };
-                tape = record {
-                  freed = omega (arith, pair.appended.taken.freed, w.tape.freed);
-                  paid = omega (arith, pair.appended.taken.paid, w.tape.paid);
-                };
-                key_room = omega (arith, done_pair.key_room, w.key_room, rooms.keys);
-                value_room = omega (
-                  arith,
-                  ap (λ m. length m.pairs) pair.appended.lists,
-                  length-append now.lists.pairs ((stored_key eq now.lists.keys at.key, value) ∷ []),
-                  w.value_room,
-                  ap length order_after,
-                  ap length rest_is,
-                  rooms.values,
-                );
-                items = λ q i.
-                    let behind = subst (IsIn q) order_after i in
-                    ap (λ (t : Taped V ValueLink). item_at t.list q) writes.rest
-                    ∙ removed.others.items q (links.behind_other chains w.taken p rest order q behind)
-                    ∙ w.items q (was_listed q behind);
-                links = λ q l i is. links_after q l (subst (IsIn q) order_after i) is;
-                keys_left = keys_after;
-                keys_capacity = done_pair.capacity ∙ w.keys_capacity;
-                capacity = ap (λ (t : Taped V ValueLink). t.list.capacity) writes.rest ∙ removed.capacity ∙ w.capacity;
-                moved = ap (λ (t : Taped V ValueLink). t.moved) writes.rest ∙ frees.moved ∙ w.moved;
-                freed = omega (
-                  arith,
-                  ap (λ (t : Taped V ValueLink). t.freed) writes.rest,
-                  frees.freed,
-                  w.freed,
-                  ap length order_after,
-                  ap length rest_is,
-                );
-              }

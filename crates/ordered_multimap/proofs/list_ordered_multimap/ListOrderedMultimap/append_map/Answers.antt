@@ -70,26 +70,28 @@ returns-clause-ok g c =
     let i = c.other.inside in
     let after = map_of c.clear.new.self c.clear-2.new.self.capacity c.clear-3.new.self i.state i.left in
     subst (λ m. AppendsMap g.K.PartialEq.eq c.args.self.now c.append_parts.new.self m after) c.other.view_is (record {
-      lists =
-          parts.lists
-          ∙ ap (λ m. all_appended g.K.PartialEq.eq m (pairs_of i.keys i.values.list)) (values.grows.lists ∙ keys.grows.lists);
-      rooms = record {
-        keys = omega (arith, keys.grows.rooms.keys, values.keys, parts.rooms.keys);
-        values = omega (arith, values.grows.rooms.values, keys.values, parts.rooms.values);
-        hasher = parts.rooms.hasher ∙ values.grows.rooms.hasher ∙ keys.grows.rooms.hasher;
-      };
-      doubles = record {
-        keys = λ more. omega (arith, keys.grows.doubles.keys (omega (arith, more, values.keys, parts.rooms.keys)), values.keys, parts.rooms.keys);
-        values = λ more. omega (
-          arith,
-          values.grows.doubles.values (omega (arith, more, keys.values, parts.rooms.values)),
-          keys.values,
-          parts.rooms.values,
-        );
-      };
-      taken = record {
-        freed = omega (arith, parts.taken.freed, values.taken.freed, ap (λ t. t.freed) keys.tape);
-        paid = omega (arith, parts.taken.paid, values.taken.paid, ap (λ t. t.moved) keys.tape, ap (λ t. t.holes) keys.tape);
+      appended = record {
+        lists =
+            parts.lists
+            ∙ ap (λ m. all_appended g.K.PartialEq.eq m (pairs_of i.keys i.values.list)) (values.grows.lists ∙ keys.grows.lists);
+        rooms = record {
+          keys = omega (arith, keys.grows.rooms.keys, values.keys, parts.rooms.keys);
+          values = omega (arith, values.grows.rooms.values, keys.values, parts.rooms.values);
+          hasher = parts.rooms.hasher ∙ values.grows.rooms.hasher ∙ keys.grows.rooms.hasher;
+        };
+        doubles = record {
+          keys = λ more. omega (arith, keys.grows.doubles.keys (omega (arith, more, values.keys, parts.rooms.keys)), values.keys, parts.rooms.keys);
+          values = λ more. omega (
+            arith,
+            values.grows.doubles.values (omega (arith, more, keys.values, parts.rooms.values)),
+            keys.values,
+            parts.rooms.values,
+          );
+        };
+        taken = record {
+          freed = omega (arith, parts.taken.freed, values.taken.freed, ap (λ t. t.freed) keys.tape);
+          paid = omega (arith, parts.taken.paid, values.taken.paid, ap (λ t. t.moved) keys.tape, ap (λ t. t.holes) keys.tape);
+        };
       };
       cleared = record {
         lists = λ j. lists (filter_map (item_at c.clear.new.self) (c.clear.ensures.empty.order j))
