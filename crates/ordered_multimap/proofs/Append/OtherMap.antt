@@ -84,4 +84,3 @@ module _ {K V S : Type 0} {eq : K → K → Bool} {old : Multimap K V S} {keys :
       freed = omega (arith, w.freed, ap length none);
     },
   )
-

@@ -95,9 +95,9 @@ module _ {K V S : Type 0} {eq : K → K → Bool} {old : Multimap K V S} {keys :
                 record {
                   place = place;
                   link_is = writes.here q l (same_next ∙ next.0) (link_mid q i ∙ was.waits (λ s some taken.
-                  links.taken_other chains w.taken p rest order s taken (same_some s p (sym some ∙ previous))));
+                      links.taken_other chains w.taken p rest order s taken (same_some s p (sym some ∙ previous))));
                   stands = λ k key_is. subst (λ j. HasKey eq new.slots.keys j place)
-                  (same_some at.key k (sym at.key_is ∙ ap (item_at keys) (sym next.1) ∙ key_is)) pair.found;
+                      (same_some at.key k (sym at.key_is ∙ ap (item_at keys) (sym next.1) ∙ key_is)) pair.found;
                 }
             | inr none ↦ absurd none
           ]

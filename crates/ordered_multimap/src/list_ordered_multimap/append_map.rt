@@ -23,7 +23,45 @@ impl<K: Eq + Hash + Drop, V: Drop, S: BuildHasher, A: Allocator + Copy> ListOrde
     S,
     A,
 > {
-    /// Moves all pairs of the other map to the end of this one, in their order.
+    /// Moves all pairs of the other map to the end of this one, in their order, and leaves the other
+    /// one empty.
+    ///
+    /// Each pair is added as by [`append`](Self::append): a present key keeps its stored form and
+    /// its place among the keys, and the other map's key is dropped. New keys go last, in the order
+    /// in which they first occur among the other map's pairs. So that order is not the one of its
+    /// [`keys`](Self::keys) where a key lost its first value. Nothing is cloned, and the keys are
+    /// hashed by this map's builder. The other map keeps its capacities, as after
+    /// [`clear`](Self::clear). To append copies of its pairs see
+    /// [`extend_copied`](Self::extend_copied).
+    ///
+    /// # Errors
+    ///
+    /// Returns [`AllocError`] if an allocation fails. Both lists of both maps are unchanged;
+    /// capacities of this map may have grown. It never fails if there is room for as many more keys
+    /// and values as the other map has.
+    ///
+    /// # Complexity
+    ///
+    /// *O*(*n*) expected for the *n* pairs of the other map, and *O*(*m*) for its capacities, which
+    /// are cleared. It first reserves room for all keys and values of the other map, and asks for
+    /// no other memory. Each key is hashed once.
+    ///
+    /// # Examples
+    ///
+    /// ```
+    /// use ordered_multimap::ListOrderedMultimap;
+    ///
+    /// let mut map = ListOrderedMultimap::new(rt.alloc());
+    /// map.append("line", 1)?;
+    /// let mut other = ListOrderedMultimap::new(rt.alloc());
+    /// other.append("page", 8)?;
+    /// other.append("line", 2)?;
+    ///
+    /// map.append_map(&mut other)?;
+    /// assert!(rt; map.iter().eq([(&"line", &1), (&"page", &8), (&"line", &2)]));
+    /// assert!(rt; map.keys().eq(&["line", "page"]));
+    /// assert!(rt; other.is_empty());
+    /// ```
     pub fn append_map<T: BuildHasher>(
         &mut self,
         other: &mut ListOrderedMultimap<K, V, T, A>,
