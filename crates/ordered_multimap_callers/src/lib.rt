@@ -10,6 +10,7 @@ pub mod drains;
 pub mod entered;
 pub mod entry_calls;
 pub mod filled;
+pub mod joined;
 pub mod lists;
 pub mod maps;
 pub mod one_value;

@@ -5,8 +5,9 @@ mod letters;
 mod refused;
 
 use ordered_multimap::ListOrderedMultimap;
+use ordered_multimap_callers::joined::move_all;
 use ordered_multimap_callers::lists::has_lists;
-use ordered_multimap_callers::maps::Numbers;
+use ordered_multimap_callers::maps::{Numbers, map_of};
 use ordered_multimap_callers::tested::test_on_empty;
 use std::hash::BuildHasher;
 use test_helpers::{Failed, Test, ZERO, lend, run_parts};
@@ -146,8 +147,17 @@ fn join_other_builders(test: &Test, map: &mut Numbers) {
     });
 }
 
+// The pairs of the map go to an emptied one by a proved caller.
+fn move_to_emptied(test: &Test, map: &mut Numbers) {
+    let mut to = map_of(test, &[(5, 51)]);
+    fill_anew(test, map, &[(1, 11), (2, 12)], &[(1, 13)]);
+    test.expect(has_lists(map, &[(2, 12), (1, 13)], &[1, 2]));
+    test.expect(move_all(map, &mut to).is_ok() && map.is_empty());
+    test.expect(has_lists(&to, &[(2, 12), (1, 13)], &[2, 1]));
+}
+
 fn maps_are_joined(test: &Test, map: &mut Numbers) {
-    run_parts!(test, map; join_same_builders, join_other_builders)
+    run_parts!(test, map; join_same_builders, join_other_builders, move_to_emptied)
 }
 
 #[test]
