@@ -1,31 +1,23 @@
 -- The pair of another map at the front, which is appended.
-use Rattle.std.proofs.Common.{◌≡◌, ◌≢◌, ◌⊎◌, ◌==◌, ◌+◌, ◌<◌, ◌≤◌, ℕ, Bool, true, false, not, cond, List, [], ◌∷◌, ◌++◌, filter, length, length-append}
-use Rattle.std.proofs.Common.{Option, Some, None, refl, sym, ap, ◌∙◌, subst, inl, inr, arith, append_assoc, true≢false}
+use Rattle.std.proofs.Common.{◌≡◌, ◌≢◌, ◌⊎◌, ◌==◌, ◌+◌, ◌<◌, ◌≤◌, ℕ, Bool, true, not, cond, List, [], ◌∷◌, ◌++◌, filter, length}
+use Rattle.std.proofs.Common.{Option, Some, None, refl, sym, ap, ◌∙◌, subst, inl, inr, arith}
 use Rattle.std.proofs.lemmas.Bool.{ne_eqb}
-use Rattle.std.proofs.lemmas.List.{append-nil}
-use Rattle.std.proofs.lemmas.List.Elements.{filter-append, filter_map-append}
-use Rattle.std.specs.List.{filter_map, cons_option}
 use Rattle.std.specs.Prelude.{IfSome}
 use Rattle.multimap_slots.specs.Lists.{IsIn, first_of, without}
 use Rattle.multimap_slots.specs.Slots.{Slots, Removes, item_at, link_at}
-use Rattle.multimap_slots.specs.Tapes.{Taped, Frees}
-use Rattle.multimap_slots.proofs.Callers.PlaceLists.{IsIn-append, IsIn-left, IsIn-right, without-split}
+use Rattle.multimap_slots.specs.Tapes.{Taped}
+use Rattle.multimap_slots.proofs.Callers.PlaceLists.{IsIn-right, without-split}
 use Rattle.multimap_walks.specs.declared.links.KeyLink.{KeyLink}
 use Rattle.multimap_walks.specs.declared.links.ValueLink.{ValueLink}
-use Rattle.multimap_walks.specs.Chained.{is_value_of, pair_at, pairs_of}
+use Rattle.multimap_walks.specs.Chained.{is_value_of}
 use Rattle.ordered_multimap.specs.Agrees.{HasKey}
-use Rattle.ordered_multimap.specs.Changes.{appended, all_appended}
-use Rattle.ordered_multimap.specs.Keys.{keys_with, stored_key}
 use Rattle.ordered_multimap.specs.Multimap.{Multimap}
 use Rattle.ordered_multimap.specs.Private.AppendMap.{AppendsAfter, AppendsFirstOf, AppendsKeyAt, AppendsLaterOf, AppendsTaken, CanAppendTaken}
-use Rattle.ordered_multimap.specs.Private.AppendMap.{IsKeyAt, IsUsedUp}
-use Rattle.ordered_multimap.specs.Private.Relocations.{AreChained, WritesLink}
-use Rattle.ordered_multimap.specs.Rooms.{HasKeyRoom, SameRooms}
-use Rattle.ordered_multimap.specs.TapeNumbers.{TakesOut}
-use Rattle.ordered_multimap.proofs.Agreement.Agreed.{PairAt, is_value_of-is, pair_of}
-use Rattle.ordered_multimap.proofs.Append.Extended.{all_appended-push}
+use Rattle.ordered_multimap.specs.Private.AppendMap.{IsKeyAt}
+use Rattle.ordered_multimap.specs.Private.Relocations.{AreChained}
+use Rattle.ordered_multimap.proofs.Agreement.Agreed.{PairAt, pair_of}
 use Rattle.ordered_multimap.proofs.Append.OtherLinks as links
-use Rattle.ordered_multimap.proofs.Append.OtherMap.{HasLinkLeft, IsAppending, IsHandedOn}
+use Rattle.ordered_multimap.proofs.Append.OtherMap.{IsAppending}
 use Rattle.ordered_multimap.proofs.Callers.ListedKeys.{length-keys_with}
 use Rattle.ordered_multimap.proofs.Callers.Members.{IsIn-filter}
 use Rattle.ordered_multimap.proofs.Callers.Places.{begins}

@@ -2,7 +2,7 @@
 -- module.
 use Rattle.std.specs.Prelude.{◌≡◌, ◌+◌, ℕ, Bool, [], length, Option, Some, None}
 use Rattle.multimap_slots.specs.Lists.{IsIn}
-use Rattle.multimap_slots.specs.Slots.{Slots, Removes, item_at}
+use Rattle.multimap_slots.specs.Slots.{Slots, Removes}
 use Rattle.multimap_slots.specs.Tapes.{Taped}
 use Rattle.multimap_walks.specs.declared.links.KeyLink.{KeyLink}
 use Rattle.multimap_walks.specs.declared.links.ValueLink.{ValueLink}

@@ -5,7 +5,7 @@ use Rattle.multimap_walks.specs.Chained.{pair_at, pairs_of}
 use Rattle.ordered_multimap.specs.Lists.{lists}
 use Rattle.ordered_multimap.specs.AppendMap.{AppendsMap}
 use Rattle.ordered_multimap.specs.Changes.{all_appended}
-use Rattle.ordered_multimap.specs.TapeNumbers.{ArePaid, TakesOut}
+use Rattle.ordered_multimap.specs.TapeNumbers.{ArePaid}
 use Rattle.ordered_multimap.proofs.Agreement.Agreed.{agrees_empty, length-keys, length-pairs}
 use Rattle.ordered_multimap.proofs.Append.Appended.{stays_paid}
 use Rattle.ordered_multimap.proofs.Append.Rooms.{map_of}

@@ -1,5 +1,5 @@
 use Rattle.std.proofs.Common.{sym, ◌∙◌}
-use Rattle.ordered_multimap.proofs.Append.OtherMap.{appending-start, appending-end}
+use Rattle.ordered_multimap.proofs.Append.OtherMap.{appending-start}
 use Rattle.ordered_multimap.proofs.Append.OtherFront.{can_append, next_left}
 use Rattle.ordered_multimap.proofs.Append.OtherStep.{appending-step}
 use Rattle.ordered_multimap.proofs.list_ordered_multimap.ListOrderedMultimap.append_parts.Goals as goal
