@@ -28,10 +28,9 @@ impl<K: Eq + Hash + Drop, V: Drop, S: BuildHasher, A: Allocator + Copy> ListOrde
     ///
     /// Each pair is added as by [`append`](Self::append): a present key keeps its stored form and
     /// its place among the keys, and the other map's key is dropped. New keys go last, in the order
-    /// in which they first occur among the other map's pairs. So that order is not the one of its
-    /// [`keys`](Self::keys) where a key lost its first value. Nothing is cloned, and the keys are
-    /// hashed by this map's builder. The other map keeps its capacities, as after
-    /// [`clear`](Self::clear). To append copies of its pairs see
+    /// of their first pairs, which can differ from that of the other map's [`keys`](Self::keys).
+    /// Nothing is cloned, and the keys are hashed anew, by the builder of this map. The other map
+    /// keeps its capacities, as after [`clear`](Self::clear). To append copies of its pairs see
     /// [`extend_copied`](Self::extend_copied).
     ///
     /// # Errors
@@ -42,9 +41,10 @@ impl<K: Eq + Hash + Drop, V: Drop, S: BuildHasher, A: Allocator + Copy> ListOrde
     ///
     /// # Complexity
     ///
-    /// *O*(*n*) expected for the *n* pairs of the other map, and *O*(*m*) for its capacities, which
-    /// are cleared. It first reserves room for all keys and values of the other map, and asks for
-    /// no other memory. Each key is hashed once.
+    /// *O*(slots in use + capacity of the hash table) of the other map, expected. Each of its keys
+    /// is hashed once. Room for all is reserved first, as by [`reserve_keys`](Self::reserve_keys)
+    /// and [`reserve_values`](Self::reserve_values), and no other memory is asked for. In this map
+    /// values may be moved into the slots that removals left, as by [`append`](Self::append).
     ///
     /// # Examples
     ///

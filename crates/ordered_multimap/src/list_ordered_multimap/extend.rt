@@ -48,8 +48,9 @@ impl<K: Eq + Hash + Drop, V: Drop, S: BuildHasher, A: Allocator + Copy> ListOrde
     ///
     /// Each pair is added as by [`append`](Self::append), so a present key keeps its old values.
     /// For copies of pairs that are borrowed, as those of another map, see
-    /// [`extend_copied`](Self::extend_copied). [`Extend::extend`] does the same for generic code,
-    /// but its error doesn't contain the pair.
+    /// [`extend_copied`](Self::extend_copied), and to move all pairs of another map
+    /// [`append_map`](Self::append_map). [`Extend::extend`] does the same for generic code, but its
+    /// error doesn't contain the pair.
     ///
     /// # Errors
     ///

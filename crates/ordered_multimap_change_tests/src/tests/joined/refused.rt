@@ -58,7 +58,8 @@ fn joins_by<A: Allocator + Copy>(
 fn a_refused_request_changes_neither_map(rt: HostRuntime) -> Result<(), Failed> {
     let test = Test::new(rt.alloc());
     let enough = requests_until_enough(|granted| joins_with(&test, granted));
-    test.expect(enough.unwrap_or(0) >= 2);
+    // Two for the slots of keys, and three for those of values.
+    test.expect(enough == Some(5));
     test.end()
 }
 
