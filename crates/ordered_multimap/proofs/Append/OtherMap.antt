@@ -22,8 +22,8 @@ module _ {K V S : Type 0} (eq : K → K → Bool) (now : Multimap K V S) (keys :
     pub link_is : link_at values_now p ≡ Some (record l { key = place })
     pub stands : (k : K) → item_at keys l.key ≡ Some k → HasKey eq now.slots.keys k place
 
-  -- the link is as it was while the value before it is still there, or where there is none; and
-  -- then it names the place of the key in the map
+  -- the link is as it was where the value before it wasn't taken, and else it names the place of
+  -- the key in the map
   pub record HasLinkLeft (values_now : Slots V ValueLink) (taken : List ℕ) (p : ℕ) (l : ValueLink) : Type 0 where
     pub waits : ((q : ℕ) → l.previous ≡ Some q → IsIn q taken → ⊥) → link_at values_now p ≡ Some l
     pub handed_on : (q : ℕ) → l.previous ≡ Some q → IsIn q taken → IsHandedOn values_now p l

@@ -80,7 +80,13 @@ returns-clause-ok g c =
           hasher = parts.rooms.hasher ∙ values.grows.rooms.hasher ∙ keys.grows.rooms.hasher;
         };
         doubles = record {
-          keys = λ more. omega (arith, keys.grows.doubles.keys (omega (arith, more, values.keys, parts.rooms.keys)), values.keys, parts.rooms.keys);
+          keys = λ more. omega (
+            arith,
+            keys.grows.doubles.keys
+                (omega (arith, more, values.keys, parts.rooms.keys)),
+            values.keys,
+            parts.rooms.keys,
+          );
           values = λ more. omega (
             arith,
             values.grows.doubles.values (omega (arith, more, keys.values, parts.rooms.values)),
