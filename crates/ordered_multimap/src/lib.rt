@@ -44,13 +44,15 @@
 //!
 //! | Calls | Cost |
 //! |---|---|
-//! | `get`, `get_mut`, `contains_key`, `entry_len`, `entry` | *O*(1) expected |
+//! | `get`, `get_mut`, `get_last`, `get_key_value` | *O*(1) expected |
+//! | `contains_key`, `entry_len`, `entry` | *O*(1) expected |
 //! | `front`, `back`, `front_mut`, `back_mut`, `is_empty`, lengths, capacities | *O*(1) |
 //! | `hasher`, `allocator` | *O*(1) |
 //! | `iter`, `keys`, `values`, `pairs`, and their `_mut` | *O*(1), *O*(1) for each item |
 //! | `get_all`, `get_all_mut` | *O*(1) expected, *O*(1) for each item |
 //! | `append`, `entry(..).or_insert`, `entry(..).or_default` | *O*(1) expected, amortized |
-//! | `insert`, `insert_all` | *O*(*v*) expected, amortized |
+//! | `set`, `insert`, `insert_all` | *O*(*v*) expected, amortized |
+//! | `contains`, `remove_index`, `remove_value`, `retain_all` | *O*(*v*) expected |
 //! | `remove`, `remove_entry`, `remove_all`, `remove_entry_all` | *O*(*v*) expected |
 //! | `pop_front`, `pop_back` | *O*(1) expected |
 //! | `into_iter` | *O*(1), *O*(1) and a clone of the key for each item |
@@ -64,7 +66,8 @@
 //!
 //! A call that may allocate returns a `Result`, and the others can't fail: lookups, removals,
 //! writes in place, and iteration. An addition never fails where the capacities suffice, and
-//! `insert` never fails for a present key.
+//! `insert` and `set` never fail for a
+//! present key.
 //!
 //! - An addition returns [`Refused`] with the key and the value, or [`RefusedValue`] with the value
 //!   where an [`OccupiedEntry`] has the key. Both lists are as before; capacities may have grown.

@@ -1,5 +1,5 @@
 -- A pass over the values of one key is one over all pairs, in which those of the other keys are passed over.
-use Rattle.std.proofs.Common.{◌≡◌, ◌<◌, ◌≤◌, ◌+◌, ℕ, Bool, true, false, cond, List, [], ◌∷◌, ◌++◌, filter, map, length, Option, Some, None, refl}
+use Rattle.std.proofs.Common.{◌≡◌, ◌<◌, ◌≤◌, ℕ, Bool, true, false, cond, List, [], ◌∷◌, ◌++◌, filter, map, length, Option, Some, None, refl}
 use Rattle.std.proofs.Common.{sym, ap, ◌∙◌, subst, inl, inr, arith, append_assoc}
 use Rattle.std.proofs.lemmas.List.Elements.{filter-append, filter_map-append}
 use Rattle.std.specs.Borrow.{MutBor}
@@ -16,13 +16,13 @@ use Rattle.multimap_slots.proofs.Callers.PlaceLists.{AreDistinct-gone, IsIn-left
 use Rattle.multimap_table.specs.Table.{Table}
 use Rattle.multimap_walks.specs.declared.links.KeyLink.{KeyLink}
 use Rattle.multimap_walks.specs.declared.links.ValueLink.{ValueLink}
-use Rattle.multimap_walks.specs.Chained.{chain_of, is_value_of, pair_at, pairs_of}
+use Rattle.multimap_walks.specs.Chained.{is_value_of, pair_at, pairs_of}
 use Rattle.ordered_multimap.specs.Agrees.{Agrees, HasKey}
 use Rattle.ordered_multimap.specs.Pairs.{values_where}
 use Rattle.ordered_multimap.specs.Private.Remove.{KeepsRoom}
 use Rattle.ordered_multimap.specs.Private.Retain.{AsksAny, RetainsAt}
 use Rattle.ordered_multimap.specs.Retain.{AsksAccepted, AsksIf, MayAskEach, MayAskValue, Retains, SomeAnswer}
-use Rattle.ordered_multimap.proofs.Agreement.Agreed.{PairAt, pair_in}
+use Rattle.ordered_multimap.proofs.Agreement.Agreed.{pair_in}
 use Rattle.ordered_multimap.proofs.Agreement.LookUps.{owns}
 use Rattle.ordered_multimap.proofs.Callers.Members.{IsIn-kept}
 use Rattle.ordered_multimap.proofs.Callers.Places.{places_from}

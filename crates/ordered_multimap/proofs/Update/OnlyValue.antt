@@ -1,13 +1,11 @@
 -- A loop takes the second value of a key while there is one, behind a new first value.
-use Rattle.std.proofs.Common.{◌≡◌, ◌+◌, ◌-◌, ◌<◌, ◌≤◌, ℕ, Bool, true, cond, is_some, length, slice_get, Option, Some, None, sym, ap, ◌∙◌, subst, arith}
-use Rattle.std.proofs.lemmas.Option.{slice_get_past, slice_get-get_or}
-use Rattle.ordered_multimap.specs.Agrees.{HasKey}
+use Rattle.std.proofs.Common.{◌≡◌, ◌+◌, ◌<◌, ◌≤◌, ℕ, Bool, true, cond, is_some, length, slice_get, Option, Some, sym, ap, ◌∙◌, subst, arith}
+use Rattle.std.proofs.lemmas.Option.{slice_get-get_or}
 use Rattle.ordered_multimap.specs.Changes.{first_written}
 use Rattle.ordered_multimap.specs.Lists.{Lists, lists}
 use Rattle.ordered_multimap.specs.Multimap.{Multimap}
-use Rattle.ordered_multimap.specs.OneValue.{only_written, pairs_with_only, pairs_without_index}
+use Rattle.ordered_multimap.specs.OneValue.{pairs_with_only, pairs_without_index}
 use Rattle.ordered_multimap.specs.Pairs.{values_of}
-use Rattle.ordered_multimap.specs.Private.KeySteps.{KeepsPlace, StaysInRoom}
 use Rattle.ordered_multimap.specs.RemovedAt.{removable_value_at, removed_at}
 use Rattle.ordered_multimap.specs.Rooms.{SameNumbers}
 use Rattle.ordered_multimap.specs.Sets.{LeavesOnly}

@@ -31,8 +31,9 @@ impl<K: Eq + Hash, V, S: BuildHasher, A: Allocator + Copy> ListOrderedMultimap<K
     ///
     /// A present key keeps its stored form and its place among the keys, and the given key is
     /// dropped. A new key goes last among the keys. To replace the values of a key see
-    /// [`insert`](Self::insert), to append many pairs [`extend`](Self::extend), and to add a value
-    /// only if the key is absent [`entry`](Self::entry).
+    /// [`insert`](Self::insert) and [`set`](Self::set), to append many pairs
+    /// [`extend`](Self::extend) and [`append_map`](Self::append_map), and to add a value only if the
+    /// key is absent [`entry`](Self::entry).
     ///
     /// # Errors
     ///

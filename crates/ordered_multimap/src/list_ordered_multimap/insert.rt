@@ -30,9 +30,9 @@ impl<K: Eq + Hash, V, S: BuildHasher, A: Allocator + Copy> ListOrderedMultimap<K
     /// The new pair goes last in the order of the pairs. A present key keeps its stored form and
     /// its place among the keys. The given key and the other old values are dropped.
     ///
-    /// To get all old values see [`insert_all`](Self::insert_all), to keep the old pairs
-    /// [`append`](Self::append), and to write values in place [`get_mut`](Self::get_mut) and
-    /// [`update_all`](Self::update_all).
+    /// To put the value at the place of the first old pair see [`set`](Self::set), to get all old
+    /// values [`insert_all`](Self::insert_all), to keep the old pairs [`append`](Self::append), and
+    /// to write values in place [`get_mut`](Self::get_mut) and [`update_all`](Self::update_all).
     ///
     /// # Errors
     ///

@@ -133,9 +133,9 @@ impl<K: Eq + Hash, V, S: BuildHasher, A: Allocator> ListOrderedMultimap<K, V, S,
 
     /// Returns the first value of the key, or `None` if the key is absent.
     ///
-    /// For all values of the key see [`get_all`](Self::get_all), and to change the value in place
-    /// see [`get_mut`](Self::get_mut). The key may be a query, as `&str` for `String` keys
-    /// ([`KeyQuery`]).
+    /// For the last value see [`get_last`](Self::get_last), for all values of the key
+    /// [`get_all`](Self::get_all), and to change the value in place [`get_mut`](Self::get_mut). The
+    /// key may be a query, as `&str` for `String` keys ([`KeyQuery`]).
     ///
     /// # Complexity
     ///
@@ -165,8 +165,9 @@ impl<K: Eq + Hash, V, S: BuildHasher, A: Allocator> ListOrderedMultimap<K, V, S,
 
     /// Returns `true` if the map contains the key.
     ///
-    /// A key is in the map as long as it has a value. For the number of its values see
-    /// [`entry_len`](Self::entry_len). The key may be a query ([`KeyQuery`]).
+    /// A key is in the map as long as it has a value. To ask for a value see
+    /// [`contains`](Self::contains), and for the number of values [`entry_len`](Self::entry_len).
+    /// The key may be a query ([`KeyQuery`]).
     ///
     /// # Complexity
     ///

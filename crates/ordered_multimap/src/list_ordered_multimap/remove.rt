@@ -32,9 +32,9 @@ impl<K: Eq + Hash, V, S: BuildHasher, A: Allocator> ListOrderedMultimap<K, V, S,
     ///
     /// To get the stored key as well see [`remove_entry`](Self::remove_entry), and to get all
     /// values [`remove_all`](Self::remove_all). To remove a pair at an end of the map see
-    /// [`pop_front`](Self::pop_front) and [`pop_back`](Self::pop_back), one value of several
-    /// [`OccupiedEntry::remove_at`](super::OccupiedEntry::remove_at), and pairs by a condition
-    /// [`retain`](Self::retain).
+    /// [`pop_front`](Self::pop_front) and [`pop_back`](Self::pop_back), one value of the key
+    /// [`remove_index`](Self::remove_index) and [`remove_value`](Self::remove_value), and pairs by a
+    /// condition [`retain`](Self::retain) and [`retain_all`](Self::retain_all).
     ///
     /// No memory is freed: later additions reuse the slots.
     ///

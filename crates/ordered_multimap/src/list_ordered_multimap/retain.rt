@@ -102,9 +102,9 @@ impl<K: Eq + Hash, V, S: BuildHasher, A: Allocator> ListOrderedMultimap<K, V, S,
     /// write the value: a retained pair has the value that the call left. The removed pairs are
     /// dropped, and a key is removed with its last pair.
     ///
-    /// To write values only see [`update_values`](Self::update_values) and
-    /// [`iter_mut`](Self::iter_mut), to remove one key [`remove`](Self::remove), and to remove all
-    /// pairs [`clear`](Self::clear).
+    /// For the values of one key see [`retain_all`](Self::retain_all), to write values only
+    /// [`update_values`](Self::update_values) and [`iter_mut`](Self::iter_mut), to remove one key
+    /// [`remove`](Self::remove), and to remove all pairs [`clear`](Self::clear).
     ///
     /// No memory is freed: later additions reuse the slots.
     ///

@@ -11,7 +11,8 @@ use std::alloc::Allocator;
 use std::hash::{BuildHasher, Hash};
 
 impl<'map, K: Eq + Hash, V, S: BuildHasher, A: Allocator> OccupiedEntry<'map, K, V, S, A> {
-    /// Removes the value at an index among the key's values, and returns it.
+    /// Removes the value at an index among the key's values, but never the only one, for which see
+    /// [`remove_index`](crate::ListOrderedMultimap::remove_index), and returns it.
     ///
     /// The values are counted from 0, in insertion order. Returns `None`, and changes nothing, if
     /// the index is out of bounds, or if the key has one value alone. So the key stays present, and
