@@ -5,6 +5,7 @@ pub mod OneLink
 pub mod OnePair
 pub mod OneValue
 pub mod OneValueOut
+pub mod PassedOver
 pub mod Retaining
 pub mod RetainingKey
 pub mod RetainingStep

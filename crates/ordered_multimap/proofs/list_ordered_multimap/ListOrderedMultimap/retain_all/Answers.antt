@@ -8,7 +8,7 @@ use Rattle.ordered_multimap.proofs.Agreement.Agreed.{length-pairs}
 use Rattle.ordered_multimap.proofs.Agreement.LookUps.{values_of-chain}
 use Rattle.ordered_multimap.proofs.Append.Appended.{stays_paid}
 use Rattle.ordered_multimap.proofs.Callers.OneValue.{kept-all}
-use Rattle.ordered_multimap.proofs.Remove.RetainingKey.{none_asked}
+use Rattle.ordered_multimap.proofs.Remove.PassedOver.{none_asked}
 use Rattle.ordered_multimap.proofs.list_ordered_multimap.ListOrderedMultimap.retain_all.Goals as goal
 
 pub retain_chain-requires-clause-callable : goal.retain_chain-requires-clause-callable
