@@ -1,15 +1,15 @@
 //! Callers that look up, set and take out one value of a key, and are proved for every key type,
 //! value type and query.
-ghost use Rattle.std.specs.Prelude.{◌≡◌, ◌&&◌, IfOk, filter, find, not, slice_get};
+ghost use Rattle.std.specs.Prelude.{◌≡◌, ◌&&◌, true, false, IfOk, filter, find, not, slice_get};
 ghost use Rattle.std.specs.List.{list_any};
 ghost use Rattle.ordered_multimap.specs.Changes.{kept};
-ghost use Rattle.ordered_multimap.specs.OneValue.{first_removed, index_removed};
-ghost use Rattle.ordered_multimap.specs.Pairs.{values_of, values_where};
+ghost use Rattle.ordered_multimap.specs.OneValue.{first_removed, index_removed, only_written};
+ghost use Rattle.ordered_multimap.specs.Pairs.{is_present, values_of, values_where};
 ghost use Rattle.ordered_multimap.specs.Sets.{IsSet};
 ghost use Rattle.ordered_multimap.specs.Walk.{end_item};
 ghost use Rattle.ordered_multimap.specs.End.TheVariants.{Back};
 
-use ordered_multimap::list_ordered_multimap::Refused;
+use ordered_multimap::list_ordered_multimap::{Entry, Refused};
 use ordered_multimap::{KeyQuery, ListOrderedMultimap};
 use std::alloc::Allocator;
 use std::hash::{BuildHasher, Hash};
@@ -92,4 +92,26 @@ pub fn take_equal_by<
         (filter (λ p. not (Q.equivalent query p.0 && V.eq value.now p.1)) map.old.lists.pairs) }
 {
     map.retain_all(query, |other| *value != *other);
+}
+
+/// Sets the value of a key by its entry, if the key is present, and returns the first of the old
+/// ones.
+pub fn set_if_present<K: Eq + Hash + Drop, V: Drop, S: BuildHasher, A: Allocator>(
+    map: &mut ListOrderedMultimap<K, V, S, A>,
+    key: K,
+    value: V,
+) -> Option<V>
+    ensures present { is_present K.eq map.old.lists.pairs key ≡ true
+        → map.new.lists ≡ only_written (K.eq key) map.old.lists value }
+    ensures absent { is_present K.eq map.old.lists.pairs key ≡ false
+        → map.new.lists ≡ map.old.lists }
+    ensures first { result ≡ slice_get (values_of K.eq map.old.lists.pairs key) 0 }
+{
+    match map.entry(key) {
+        Entry::Occupied(mut entry) => Some(entry.set(value)),
+        Entry::Vacant(entry) => {
+            drop(entry.into_key());
+            None
+        }
+    }
 }

@@ -2,6 +2,9 @@
 use ordered_multimap::list_ordered_multimap::Entry;
 use ordered_multimap_callers::lists::has_lists;
 use ordered_multimap_callers::maps::{Numbers, refill};
+use ordered_multimap_callers::one_value::{
+    last_by, set_if_present, set_value, stored_by, take_equal_by, take_if_there, take_second_by,
+};
 use test_helpers::Test;
 
 /// Three values of the key 1, two of them equal, two of the key 2, one of the key 3.
@@ -229,4 +232,16 @@ pub fn values_are_found(test: &Test, map: &mut Numbers) {
             map.contains(key, &5) == *five && map.contains(key, &6) == *six,
         );
     }
+}
+
+/// Proved callers look values up, set them and take them out.
+pub fn callers_change_one_value(test: &Test, map: &mut Numbers) {
+    refill(test, map, PAIRS);
+    test.expect(last_by(map, &1) == Some(5) && stored_by(map, &4).is_none());
+    test.expect(take_second_by(map, &1) == Some(7));
+    test.expect(take_if_there(map, &3, &8) && !take_if_there(map, &3, &8));
+    test.expect(set_value(map, 4, 9) == Ok(None));
+    test.expect(set_if_present(map, 2, 7) == Some(6));
+    take_equal_by(map, &1, &5);
+    test.expect(has_lists(map, &[(2, 7), (4, 9)], &[2, 4]));
 }
