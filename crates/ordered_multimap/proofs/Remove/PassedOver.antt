@@ -125,11 +125,12 @@ module _ {F K V : Type 0} (eq : K → K → Bool) (calls : F → K → V → Boo
           ∙ ap (λ o. pairs_at r.done ++ cons_option o []) pair_is)
           ∙ append_assoc (pairs_at r.done) ((k, v) ∷ []) later
 
-  pub advance : (places : List ℕ) (following : Option ℕ) (r : Pass following) → r.rest ≡ places
-      → ((q : ℕ) → IsIn q places → own q ≡ false → PassesOver q) → Advances places
-  advance [] following r is over = record {
-    next = None;
-    next_is = refl;
+  -- none is passed over where the first place is an own one, or there is none
+  stays_here : (places : List ℕ) (following : Option ℕ) (r : Pass following) → r.rest ≡ places
+      → first_of places ≡ first_of (filter own places) → Advances places
+  stays_here places following r is first_is = record {
+    next = first_of places;
+    next_is = first_is;
     pass = record {
       done = r.done;
       rest = r.rest;
@@ -142,23 +143,13 @@ module _ {F K V : Type 0} (eq : K → K → Bool) (calls : F → K → V → Boo
     };
     shorter = omega (arith, ap length is);
   }
+
+  pub advance : (places : List ℕ) (following : Option ℕ) (r : Pass following) → r.rest ≡ places
+      → ((q : ℕ) → IsIn q places → own q ≡ false → PassesOver q) → Advances places
+  advance [] following r is over = stays_here [] following r is refl
   advance (q ∷ places) following r is over =
       elim (own q) as (λ b. own q ≡ b → Advances (q ∷ places)) [
-        | true ↦ λ e. record {
-          next = Some q;
-          next_is = rw e refl;
-          pass = record {
-            done = r.done;
-            rest = r.rest;
-            order = r.order;
-            following_is = sym (ap first_of is);
-            agrees = r.agrees;
-            keys_are = r.keys_are;
-            callable = r.callable;
-            goes_on = r.goes_on;
-          };
-          shorter = omega (arith, ap length is);
-        }
+        | true ↦ λ e. stays_here (q ∷ places) following r is (rw e refl)
         | false ↦ λ e.
             let s = skip q places following r is (over q (inl refl) e) in
             let later = advance places (first_of places) s.0 s.1 (λ p i. over p (inr i)) in
