@@ -1,0 +1,173 @@
+#!/usr/bin/env python3
+"""Random calls, always the same ones, and the replies that two plain lists give to them."""
+import random
+import sys
+
+LINES, KEYS, SEED = 6_000, 9, 41
+
+
+def lines(seed):
+    draw = random.Random(seed)
+    for _ in range(LINES):
+        key, value, index = "0" * draw.randrange(3) + str(draw.randrange(KEYS)), draw.randrange(-4, 5), draw.randrange(-1, 5)
+        yield draw.choice(
+            [f"append {key} {value}"] * 9
+            + [f"{it} {key} {value}" for it in ("insert", "set", "entry_set", "contains", "remove_value", "retain_all")]
+            + [f"remove_index {key} {index}"] * 2
+            + [f"{it} {key}" for it in ("or_default", "get_last", "get_key_value", "remove")]
+            + ["pop_front", "lists", draw.choice(["swap", "swap", "append_map", draw.choice(["lists", "into_keys", "into_values"])])]
+        )
+
+
+def shown(pair):
+    return f"{pair[0]} {pair[1]}"
+
+
+def by_turns(items):
+    left = list(items)
+    return [left.pop(0 if turn % 2 == 0 else -1) for turn in range(len(left))]
+
+
+class Lists:
+    """The keys in the order in which each last became present, and all pairs, each under its stored key."""
+
+    def __init__(self):
+        self.keys, self.pairs = [], []
+
+    def places(self, key):
+        return [place for place, it in enumerate(self.pairs) if int(it[0]) == int(key)]
+
+    def values(self, key):
+        return [self.pairs[place][1] for place in self.places(key)]
+
+    def append(self, key, value):
+        stored = next((it for it in self.keys if int(it) == int(key)), None)
+        if stored is None:
+            self.keys.append(key)
+        self.pairs.append((stored or key, value))
+        return "more" if stored else "new"
+
+    def without(self, places):
+        """Takes the pairs at these places out, and the keys that have none then."""
+        self.pairs = [it for place, it in enumerate(self.pairs) if place not in places]
+        self.keys = [it for it in self.keys if self.places(it)]
+
+    def insert(self, key, value):
+        places = self.places(key)
+        self.append(key, value)
+        self.without(places)
+
+    def set(self, key, value):
+        places = self.places(key)
+        if places:
+            self.pairs[places[0]] = self.pairs[places[0]][0], value
+            self.without(places[1:])
+        else:
+            self.append(key, value)
+
+    def default(self, key):
+        if not self.places(key):
+            self.append(key, 0)
+        place = self.places(key)[0]
+        stored, value = self.pairs[place]
+        self.pairs[place] = stored, value + 1
+        return value + 1
+
+    def retain(self, key, bound):
+        places = self.places(key)
+        gone = [it for it in places if self.pairs[it][1] < bound]
+        for place in places:
+            self.pairs[place] = self.pairs[place][0], self.pairs[place][1] + 1
+        self.without(gone)
+
+    def take(self, places):
+        """Takes the first pair out of those at these places, and gives its value."""
+        if not places:
+            return "none"
+        value = self.pairs[places[0]][1]
+        self.without(places[:1])
+        return value
+
+    def pop(self):
+        if not self.pairs:
+            return "none"
+        pair = self.pairs[0]
+        self.without([0])
+        return f"{'borrowed' if self.places(pair[0]) else 'owned'} {shown(pair)}"
+
+    def lengths(self):
+        return f"{len(self.keys)} {len(self.pairs)}"
+
+    def shown(self):
+        return "\n".join(
+            " ".join(map(str, it))
+            for it in [
+                ["pairs", *(f"{key}:{value}" for key, value in self.pairs)],
+                ["keys", *self.keys],
+                *([key, "front", *self.values(key), "back", *reversed(self.values(key))] for key in self.keys),
+            ]
+        )
+
+
+def whole(lists, other, word):
+    """The reply to a command that names no key."""
+    if word == "pop_front":
+        return lists.pop()
+    if word == "lists":
+        return lists.shown()
+    if word in ("into_keys", "into_values"):
+        items = lists.keys if word == "into_keys" else [value for _, value in lists.pairs]
+        lists.keys, lists.pairs = [], []
+        return " ".join(map(str, [word, *by_turns(items)]))
+    if word == "swap":
+        lists.keys, lists.pairs, other.keys, other.pairs = other.keys, other.pairs, lists.keys, lists.pairs
+        return lists.lengths()
+    for pair in other.pairs:
+        lists.append(*pair)
+    other.keys, other.pairs = [], []
+    return other.lengths()
+
+
+def of_key(lists, word, key, number):
+    """The reply to a command that names a key, and the lists that it leaves."""
+    places, old = lists.places(key), lists.values(key)
+    first = str(old[0]) if old else "none"
+    if word == "append":
+        return lists.append(key, number)
+    if word in ("insert", "remove"):
+        lists.insert(key, number) if word == "insert" else lists.without(places)
+    elif word == "set" or word == "entry_set" and old:
+        lists.set(key, number)
+    elif word == "or_default":
+        return lists.default(key)
+    elif word == "get_last":
+        return old[-1] if old else "none"
+    elif word == "get_key_value":
+        return shown(lists.pairs[places[0]]) if old else "none"
+    elif word == "contains":
+        return "true" if number in old else "false"
+    elif word == "remove_index":
+        return lists.take(places[number:number + 1] if number >= 0 else [])
+    elif word == "remove_value":
+        return lists.take([it for it in places if lists.pairs[it][1] == number])
+    elif word == "retain_all":
+        lists.retain(key, number)
+        return "done"
+    return first
+
+
+def reply(lists, other, line):
+    word, *operands = line.split()
+    if not operands:
+        return whole(lists, other, word)
+    return of_key(lists, word, operands[0], int(operands[1]) if operands[1:] else None)
+
+
+def main():
+    lists, other = Lists(), Lists()
+    for line in lines(int(sys.argv[2]) if sys.argv[2:] else SEED):
+        print(line if sys.argv[1] == "in" else reply(lists, other, line))
+
+
+if __name__ == "__main__":
+    main()

@@ -1,0 +1,73 @@
+//! Commands, read from lines.
+use crate::key::Key;
+use crate::one::{call_with_key, call_with_number};
+use crate::whole::{add_keys_taken, add_lists, add_popped, add_values_taken, join, swap_maps};
+use ordered_multimap::ListOrderedMultimap;
+use program_parts::{bad, text_of};
+use std::io;
+
+/// A map whose keys are spelled as in the input.
+pub type Map<'t> = ListOrderedMultimap<Key<'t>, i64>;
+
+/// Carries out the commands on the maps, which are empty, and adds what each writes. A bad line
+/// ends this. `number` is the number of the line that is read.
+pub fn carry_out_all<'t>(
+    map: &mut Map<'t>,
+    other: &mut Map<'t>,
+    input: &'t [u8],
+    replies: &mut String,
+    number: &mut usize,
+) -> io::Result<()> {
+    for (index, line) in input.split(|byte| *byte == b'\n').enumerate() {
+        *number = index.saturating_add(1);
+        let line = text_of(line)?;
+        if !line.is_empty() {
+            carry_out(map, other, line, replies)?;
+        }
+    }
+    Ok(())
+}
+
+/// The first word, and what stands behind it.
+fn parted(text: &str) -> (&str, &str) {
+    text.split_once(' ').unwrap_or((text, ""))
+}
+
+fn carry_out<'t>(
+    map: &mut Map<'t>,
+    other: &mut Map<'t>,
+    line: &'t str,
+    replies: &mut String,
+) -> io::Result<()> {
+    let (word, operands) = parted(line);
+    if operands.is_empty() {
+        return call_on_whole(map, other, word, replies);
+    }
+    let (key, number) = parted(operands);
+    let key = Key::new(key)?;
+    if number.is_empty() {
+        return call_with_key(map, word, key, replies);
+    }
+    match number.parse() {
+        Ok(number) => call_with_number(map, word, key, number, replies),
+        Err(_) => Err(bad("not a number")),
+    }
+}
+
+/// Carries out a command that names no key.
+fn call_on_whole<'t>(
+    map: &mut Map<'t>,
+    other: &mut Map<'t>,
+    word: &str,
+    replies: &mut String,
+) -> io::Result<()> {
+    match word {
+        "swap" => swap_maps(map, other, replies),
+        "append_map" => join(map, other, replies),
+        "pop_front" => add_popped(map, replies),
+        "into_keys" => add_keys_taken(map, replies),
+        "into_values" => add_values_taken(map, replies),
+        "lists" => add_lists(map, replies),
+        _ => Err(bad("not a command")),
+    }
+}
