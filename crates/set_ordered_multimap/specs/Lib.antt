@@ -1,3 +1,4 @@
+pub mod AppendSet
 pub mod Asked
 pub mod Insertions
 pub mod Laws

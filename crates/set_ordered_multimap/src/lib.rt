@@ -58,13 +58,15 @@
 //! | `remove_all` | *O*(*v*) expected |
 //! | `remove_value` of a key's only value | *O*(1) expected |
 //! | `remove_value` otherwise, `retain`, `clear`, `clone`, `==` | *O*(*n*) |
+//! | `append_map` | what `clear` of the other set costs, and for each of its pairs *O*(*v*) expected |
 //!
 //! # When memory runs out
 //!
 //! An insertion returns a `Refused` with the key and the value, and both lists are as before;
 //! capacities may have grown. It never fails if an equal pair is there, or where the capacities
-//! suffice. `extend` keeps the pairs before that one, and `from_iter` drops them. `clone` returns
-//! `AllocError`. Removals and lookups can't fail.
+//! suffice. `extend` keeps the pairs before that one, and `from_iter` drops them. `append_map`
+//! returns `AllocError`, and both lists of both sets are as before. `clone` returns `AllocError`.
+//! Removals and lookups can't fail.
 //!
 //! # Keys that others choose
 //!

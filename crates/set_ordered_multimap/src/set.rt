@@ -3,6 +3,7 @@ ghost use Rattle.std.specs.Prelude.{◌≡◌, length};
 ghost use Rattle.set_ordered_multimap.specs.SetChanges.{IsNewSet, IsNewSetWith};
 ghost use Rattle.set_ordered_multimap.specs.SetReads.{TellsEmpty, TellsKeys, TellsRoom};
 
+mod append_set;
 mod insert;
 mod lookup;
 mod pop;
