@@ -2,6 +2,7 @@
 mod callers;
 mod calls;
 mod caseless;
+mod joined;
 mod lists;
 mod refused;
 mod rows;

@@ -3,3 +3,4 @@
 //! that it makes.
 pub mod changed;
 pub mod gathered;
+pub mod joined;
