@@ -92,7 +92,8 @@ impl<K: Eq + Hash + Drop, V: Eq + Drop, S: BuildHasher, A: Allocator + Copy> Set
     ///
     /// *O*(slots in use + capacity of the hash table) of the other set, expected, and for each of
     /// its pairs *O*(*v*) for the *v* values that this set has of the key, with which the value is
-    /// compared. Room for all pairs is made first, and no other memory is asked for.
+    /// compared. Room for all pairs is made first: a capacity that grows at least doubles, and the
+    /// slots of this set are moved. No other memory is asked for.
     ///
     /// # Examples
     ///
