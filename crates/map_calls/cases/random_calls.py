@@ -19,13 +19,34 @@ def lines(seed):
         )
 
 
-def shown(pair):
-    return f"{pair[0]} {pair[1]}"
+def some(value):
+    """How `Debug` shows an `Option`."""
+    return "None" if value is None else f"Some({value})"
 
 
-def by_turns(items):
-    left = list(items)
-    return [left.pop(0 if turn % 2 == 0 else -1) for turn in range(len(left))]
+def same(key, other):
+    return int(key) == int(other)
+
+
+def shown(keys, pairs):
+    """What the command `lists` writes of these two lists."""
+    of = {key: [value for it, value in pairs if same(it, key)] for key in keys}
+    return "\n".join(
+        [
+            "{" + ", ".join(f"{key}: {value}" for key, value in pairs) + "}",
+            f"Keys([{', '.join(keys)}])",
+            f"KeyValues([{', '.join(f'({key}, EntryValues({of[key]}))' for key in keys)}])",
+            *(" ".join(map(str, [key, *reversed(of[key])])) for key in keys),
+        ]
+    )
+
+
+def taken_apart(name, items):
+    """The first item, the last of the others, and the rest."""
+    rest = list(items)
+    first = rest.pop(0) if rest else None
+    last = rest.pop() if rest else None
+    return f"{some(first)} {some(last)} {name}([{', '.join(map(str, rest))}])"
 
 
 class Lists:
@@ -35,17 +56,17 @@ class Lists:
         self.keys, self.pairs = [], []
 
     def places(self, key):
-        return [place for place, it in enumerate(self.pairs) if int(it[0]) == int(key)]
+        return [place for place, it in enumerate(self.pairs) if same(it[0], key)]
 
     def values(self, key):
         return [self.pairs[place][1] for place in self.places(key)]
 
     def append(self, key, value):
-        stored = next((it for it in self.keys if int(it) == int(key)), None)
+        stored = next((it for it in self.keys if same(it, key)), None)
         if stored is None:
             self.keys.append(key)
         self.pairs.append((stored or key, value))
-        return "more" if stored else "new"
+        return None if stored is None else value
 
     def without(self, places):
         """Takes the pairs at these places out, and the keys that have none then."""
@@ -74,64 +95,54 @@ class Lists:
         return value + 1
 
     def retain(self, key, bound):
-        places = self.places(key)
+        """Gives the last value that was asked about."""
+        places, old = self.places(key), self.values(key)
         gone = [it for it in places if self.pairs[it][1] < bound]
         for place in places:
             self.pairs[place] = self.pairs[place][0], self.pairs[place][1] + 1
         self.without(gone)
+        return old[-1] if old else None
 
     def take(self, places):
         """Takes the first pair out of those at these places, and gives its value."""
         if not places:
-            return "none"
+            return None
         value = self.pairs[places[0]][1]
         self.without(places[:1])
         return value
 
     def pop(self):
         if not self.pairs:
-            return "none"
-        pair = self.pairs[0]
+            return "None"
+        key, value = self.pairs[0]
         self.without([0])
-        return f"{'borrowed' if self.places(pair[0]) else 'owned'} {shown(pair)}"
-
-    def lengths(self):
-        return f"{len(self.keys)} {len(self.pairs)}"
-
-    def shown(self):
-        return "\n".join(
-            " ".join(map(str, it))
-            for it in [
-                ["pairs", *(f"{key}:{value}" for key, value in self.pairs)],
-                ["keys", *self.keys],
-                *([key, "front", *self.values(key), "back", *reversed(self.values(key))] for key in self.keys),
-            ]
-        )
+        return f"Some(({'Borrowed' if self.places(key) else 'Owned'}({key}), {value}))"
 
 
 def whole(lists, other, word):
-    """The reply to a command that names no key."""
+    """The reply to a command that names no key, or None if there is none."""
     if word == "pop_front":
         return lists.pop()
     if word == "lists":
-        return lists.shown()
+        return shown(lists.keys, lists.pairs)
     if word in ("into_keys", "into_values"):
-        items = lists.keys if word == "into_keys" else [value for _, value in lists.pairs]
+        is_of_keys = word == "into_keys"
+        items = lists.keys if is_of_keys else [value for _, value in lists.pairs]
         lists.keys, lists.pairs = [], []
-        return " ".join(map(str, [word, *by_turns(items)]))
+        return taken_apart("IntoKeys" if is_of_keys else "IntoValues", items)
     if word == "swap":
         lists.keys, lists.pairs, other.keys, other.pairs = other.keys, other.pairs, lists.keys, lists.pairs
-        return lists.lengths()
+        return None
     for pair in other.pairs:
         lists.append(*pair)
     other.keys, other.pairs = [], []
-    return other.lengths()
+    return "{}"
 
 
 def of_key(lists, word, key, number):
-    """The reply to a command that names a key, and the lists that it leaves."""
+    """What a command that names a key gives, and the lists that it leaves."""
     places, old = lists.places(key), lists.values(key)
-    first = str(old[0]) if old else "none"
+    first = old[0] if old else None
     if word == "append":
         return lists.append(key, number)
     if word in ("insert", "remove"):
@@ -141,18 +152,17 @@ def of_key(lists, word, key, number):
     elif word == "or_default":
         return lists.default(key)
     elif word == "get_last":
-        return old[-1] if old else "none"
+        return old[-1] if old else None
     elif word == "get_key_value":
-        return shown(lists.pairs[places[0]]) if old else "none"
+        return "({}, {})".format(*lists.pairs[places[0]]) if old else None
     elif word == "contains":
-        return "true" if number in old else "false"
+        return number if number in old else None
     elif word == "remove_index":
         return lists.take(places[number:number + 1] if number >= 0 else [])
     elif word == "remove_value":
         return lists.take([it for it in places if lists.pairs[it][1] == number])
     elif word == "retain_all":
-        lists.retain(key, number)
-        return "done"
+        return lists.retain(key, number)
     return first
 
 
@@ -160,13 +170,16 @@ def reply(lists, other, line):
     word, *operands = line.split()
     if not operands:
         return whole(lists, other, word)
-    return of_key(lists, word, operands[0], int(operands[1]) if operands[1:] else None)
+    given = of_key(lists, word, operands[0], int(operands[1]) if operands[1:] else None)
+    return str(given) if word == "or_default" else some(given)
 
 
 def main():
     lists, other = Lists(), Lists()
     for line in lines(int(sys.argv[2]) if sys.argv[2:] else SEED):
-        print(line if sys.argv[1] == "in" else reply(lists, other, line))
+        said = line if sys.argv[1] == "in" else reply(lists, other, line)
+        if said is not None:
+            print(said)
 
 
 if __name__ == "__main__":

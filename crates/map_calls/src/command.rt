@@ -1,7 +1,6 @@
 //! Commands, read from lines.
+use crate::calls::{call_on_whole, call_with_key, call_with_number};
 use crate::key::Key;
-use crate::one::{call_with_key, call_with_number};
-use crate::whole::{add_keys_taken, add_lists, add_popped, add_values_taken, join, swap_maps};
 use ordered_multimap::ListOrderedMultimap;
 use program_parts::{bad, text_of};
 use std::io;
@@ -48,26 +47,10 @@ fn carry_out<'t>(
     if number.is_empty() {
         return call_with_key(map, word, key, replies);
     }
-    match number.parse() {
-        Ok(number) => call_with_number(map, word, key, number, replies),
-        Err(_) => Err(bad("not a number")),
-    }
-}
-
-/// Carries out a command that names no key.
-fn call_on_whole<'t>(
-    map: &mut Map<'t>,
-    other: &mut Map<'t>,
-    word: &str,
-    replies: &mut String,
-) -> io::Result<()> {
-    match word {
-        "swap" => swap_maps(map, other, replies),
-        "append_map" => join(map, other, replies),
-        "pop_front" => add_popped(map, replies),
-        "into_keys" => add_keys_taken(map, replies),
-        "into_values" => add_values_taken(map, replies),
-        "lists" => add_lists(map, replies),
-        _ => Err(bad("not a command")),
-    }
+    let Ok(number) = number.parse() else {
+        return Err(bad("not a number"));
+    };
+    let reply = call_with_number(map, word, key, number)?;
+    writeln!(replies, "{reply:?}")?;
+    Ok(())
 }

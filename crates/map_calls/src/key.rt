@@ -7,7 +7,7 @@ ghost use Rattle.std.specs.Prelude.{nat_eq};
 
 use program_parts::bad;
 use std::hash::{Hash, Hasher};
-use std::io;
+use std::{fmt, io};
 
 /// A number as it is spelled. Its spelling counts for nothing where keys are compared.
 #[derive(Clone, Copy)]
@@ -24,10 +24,11 @@ impl<'t> Key<'t> {
             Err(_) => Err(bad("not a key")),
         }
     }
+}
 
-    /// How it is spelled.
-    pub fn as_str(self) -> &'t str {
-        self.text
+impl<'t> fmt::Debug for Key<'t> {
+    fn fmt<W: fmt::Write>(&self, f: &mut fmt::Formatter<W>) -> fmt::Result {
+        f.write_str(self.text)
     }
 }
 

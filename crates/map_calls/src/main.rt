@@ -7,26 +7,26 @@
 //!
 //! | Command | What it does | What it writes |
 //! |---|---|---|
-//! | `append KEY VALUE` | `append` | `new` or `more` |
+//! | `append KEY VALUE` | `append` | the value if the key was there |
 //! | `insert KEY VALUE` | `insert` | the old first value |
 //! | `set KEY VALUE` | `set` | the old first value |
 //! | `entry_set KEY VALUE` | `OccupiedEntry::set`, nothing for an absent key | the old first value |
 //! | `or_default KEY` | `Entry::or_default`, then adds 1 to the value | the value |
-//! | `contains KEY VALUE` | `contains` | `true` or `false` |
+//! | `contains KEY VALUE` | `contains` | the value if it is there |
 //! | `get_last KEY` | `get_last` | the value |
 //! | `get_key_value KEY` | `get_key_value` | the key and the value |
 //! | `remove KEY` | `remove` | the value |
 //! | `remove_index KEY INDEX` | `remove_index` | the value |
 //! | `remove_value KEY VALUE` | `remove_value` | the value |
-//! | `retain_all KEY BOUND` | `retain_all` of what is at least the bound, with 1 added | `done` |
-//! | `pop_front` | `pop_front` | `owned` or `borrowed`, the key and the value |
-//! | `append_map` | `append_map` of the second map | the second map's lengths |
-//! | `swap` | swaps the maps | the lengths |
-//! | `into_keys` | `into_keys`, which leaves an empty map | the keys, from both ends by turns |
-//! | `into_values` | `into_values`, which leaves an empty map | the values, from both ends by turns |
-//! | `lists` | walks | pairs, keys, and each key's values from the front and from the back |
+//! | `retain_all KEY BOUND` | `retain_all` of what is at least the bound, with 1 added | the last value that it was called on |
+//! | `pop_front` | `pop_front` | the key and the value |
+//! | `append_map` | `append_map` of the second map | the second map |
+//! | `swap` | swaps the maps | nothing |
+//! | `into_keys` | `into_keys`, which leaves an empty map | the first key, the last of the others, and the rest |
+//! | `into_values` | `into_values`, which leaves an empty map | the first value, the last of the others, and the rest |
+//! | `lists` | iterates | the pairs, the keys, the values of each key, and those from the back |
 //!
-//! `none` is written where there is no such key or value. Keys are written as they are stored.
+//! Replies are written as `Debug` shows them, keys as they are stored.
 //! Empty lines are ignored.
 //!
 //! The exit status is 0, or 2 where a line is bad, 3 when out of memory, or 4 where standard input
@@ -34,12 +34,11 @@
 //! output that failed.
 #![tactic(auto)]
 
+mod calls;
 mod command;
 mod key;
-mod one;
-mod whole;
 
-use crate::command::carry_out_all;
+use crate::command::{Map, carry_out_all};
 use ordered_multimap::ListOrderedMultimap;
 use program_parts::run_program;
 use std::io;
@@ -62,7 +61,21 @@ fn add_replies(
     replies: &mut String,
     line: &mut usize,
 ) -> io::Result<()> {
-    let map = &mut ListOrderedMultimap::new(rt.alloc());
-    let other = &mut ListOrderedMultimap::new(rt.alloc());
-    carry_out_all(map, other, input, replies, line)
+    add_beside(
+        &mut ListOrderedMultimap::new(rt.alloc()),
+        input,
+        replies,
+        line,
+    )
+}
+
+/// Adds the replies of this map, and of a second one.
+fn add_beside<'t>(
+    map: &mut Map<'t>,
+    input: &'t [u8],
+    replies: &mut String,
+    line: &mut usize,
+) -> io::Result<()> {
+    let mut other = ListOrderedMultimap::new(*map.allocator());
+    carry_out_all(map, &mut other, input, replies, line)
 }

@@ -11,8 +11,7 @@ mod wrappers;
 use crate::tests::removal::drain_steps::values_are_given;
 use crate::tests::removal::drained::lists_are_final;
 use crate::tests::removal::one_value::{
-    callers_change_one_value, values_are_found, values_are_retained, values_are_set,
-    values_are_taken,
+    callers_change_one_value, values_are_found, values_are_retained, values_change,
 };
 use crate::tests::removal::popped::{appends_are_undone, collided_keys_leave};
 use crate::tests::removal::retained::pairs_stay;
@@ -26,7 +25,7 @@ fn numbers_leave(test: &Test, map: &mut Numbers) {
 }
 
 fn one_value_changes(test: &Test, map: &mut Numbers) {
-    run_parts!(test, map; values_are_found, values_are_set, values_are_taken, values_are_retained,
+    run_parts!(test, map; values_are_found, values_change, values_are_retained,
         callers_change_one_value)
 }
 

@@ -1,5 +1,5 @@
 //! Default values that `or_default` puts behind an absent key, with and without memory; and maps that
-//! take their memory from another one's allocator.
+//! take their memory from another one's allocator. More rows are cases of the program `map_calls`.
 use ordered_multimap::ListOrderedMultimap;
 use ordered_multimap::list_ordered_multimap::{DefaultState, Refused};
 use ordered_multimap_callers::lists::has_lists;
@@ -11,24 +11,6 @@ use refusing_allocator::RefusingAllocator;
 use std::alloc::{AllocError, Allocator};
 use test_helpers::{Failed, Test, lend, requests_until_enough, test_all};
 
-type Pairs = &'static [(u32, u32)];
-
-// A map's pairs, a key, its first value then, and both lists.
-const ROWS: &[(Pairs, u32, u32, Pairs, &[u32])] = &[
-    (&[], 1, 0, &[(1, 0)], &[1]),
-    (&[(1, 11)], 1, 11, &[(1, 11)], &[1]),
-    (&[(1, 11)], 2, 0, &[(1, 11), (2, 0)], &[1, 2]),
-    (&[(2, 0), (1, 11)], 2, 0, &[(2, 0), (1, 11)], &[2, 1]),
-    (MIXED, 2, 12, MIXED, &[1, 2]),
-    (
-        MIXED,
-        3,
-        0,
-        &[(1, 11), (2, 12), (2, 13), (1, 14), (3, 0)],
-        &[1, 2, 3],
-    ),
-];
-
 fn or_default<A: Allocator + Copy>(
     map: &mut Refusing<A>,
     key: u32,
@@ -39,21 +21,14 @@ fn or_default<A: Allocator + Copy>(
     }
 }
 
-fn values_come(test: &Test, map: &mut Numbers) {
-    for (row, (pairs, key, first, lists, keys)) in ROWS.iter().enumerate() {
-        refill(test, map, pairs);
-        test.expect_at(row, or_default(map, *key) == Ok(*first));
-        test.expect_at(row, has_lists(map, lists, keys));
-    }
-}
-
 // By the proved caller.
 fn caller_is_answered(test: &Test, map: &mut Numbers) {
-    for (row, (pairs, key, first, lists, keys)) in ROWS.iter().enumerate() {
-        refill(test, map, pairs);
-        test.expect_at(row, first_or_default(map, *key) == Ok(*first));
-        test.expect_at(row, has_lists(map, lists, keys));
-    }
+    refill(test, map, MIXED);
+    test.expect(first_or_default(map, 2) == Ok(12));
+    test.expect(has_lists(map, MIXED, &[1, 2]));
+    test.expect(first_or_default(map, 3) == Ok(0));
+    let pairs = [(1, 11), (2, 12), (2, 13), (1, 14), (3, 0)];
+    test.expect(has_lists(map, &pairs, &[1, 2, 3]));
 }
 
 fn count(test: &Test, map: &mut Numbers, key: u32) {
@@ -72,7 +47,6 @@ fn keys_are_counted(test: &Test, map: &mut Numbers) {
 }
 
 fn values_are_put_last(test: &Test, map: &mut Numbers) {
-    values_come(test, map);
     caller_is_answered(test, map);
     keys_are_counted(test, map);
 }

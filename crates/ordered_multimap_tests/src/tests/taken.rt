@@ -1,4 +1,5 @@
-//! Maps that are taken apart for their keys or for their values alone, from both ends.
+//! Maps that are taken apart for their keys or for their values alone, from both ends. More rows are
+//! cases of the program `map_calls`.
 use crate::tests::shown::is_shown_twice;
 use ordered_multimap::ListOrderedMultimap;
 use ordered_multimap_callers::maps::{MIXED, Numbers, ONE_KEY, fill, map_of};
@@ -7,121 +8,29 @@ use std::mem;
 use std::rc::Rc;
 use test_helpers::{End, Failed, Test, test_all, test_on_share, walk_difference};
 
-type Pairs = &'static [(u32, u32)];
+// Pairs whose map has a hole in front and one between, once the key 1 was removed and came again.
+const HOLES: &[(u32, u32)] = &[(1, 11), (2, 21), (1, 12), (3, 31), (2, 22)];
 
-type Walk = &'static [(End, u32)];
-
-// What a map is made of: pairs, keys that are removed then, and pairs that are appended behind. And
-// the walks over its keys and over its values.
-struct Row {
-    pairs: Pairs,
-    removed: &'static [u32],
-    appended: Pairs,
-    keys: Walk,
-    values: Walk,
-}
-
-const ROWS: &[Row] = &[
-    Row {
-        pairs: &[],
-        removed: &[],
-        appended: &[],
-        keys: &[],
-        values: &[],
-    },
-    Row {
-        pairs: &[(1, 11)],
-        removed: &[],
-        appended: &[],
-        keys: &[(End::Front, 1)],
-        values: &[(End::Back, 11)],
-    },
-    Row {
-        pairs: ONE_KEY,
-        removed: &[],
-        appended: &[],
-        keys: &[(End::Back, 1)],
-        values: &[
-            (End::Front, 11),
-            (End::Back, 14),
-            (End::Back, 13),
-            (End::Front, 12),
-        ],
-    },
-    Row {
-        pairs: MIXED,
-        removed: &[],
-        appended: &[],
-        keys: &[(End::Back, 2), (End::Back, 1)],
-        values: &[
-            (End::Back, 14),
-            (End::Front, 11),
-            (End::Front, 12),
-            (End::Front, 13),
-        ],
-    },
-    // A hole in front, one between, and a key that was removed and came again.
-    Row {
-        pairs: &[(1, 11), (2, 21), (1, 12), (3, 31), (2, 22)],
-        removed: &[1],
-        appended: &[(1, 13)],
-        keys: &[(End::Front, 2), (End::Back, 1), (End::Back, 3)],
-        values: &[
-            (End::Front, 21),
-            (End::Back, 13),
-            (End::Front, 31),
-            (End::Front, 22),
-        ],
-    },
-    // Holes at the end, and then none but holes.
-    Row {
-        pairs: &[(1, 11), (2, 21), (3, 31)],
-        removed: &[3, 2],
-        appended: &[],
-        keys: &[(End::Front, 1)],
-        values: &[(End::Front, 11)],
-    },
-    Row {
-        pairs: &[(1, 11), (2, 21), (1, 12)],
-        removed: &[2, 1],
-        appended: &[],
-        keys: &[],
-        values: &[],
-    },
-];
-
-fn change(test: &Test, map: &mut Numbers, row: &Row) {
-    fill(test, map, row.pairs);
-    for key in row.removed {
-        test.expect(map.remove(key).is_some());
-    }
-    fill(test, map, row.appended);
-}
-
-fn made(test: &Test, row: &Row) -> Numbers {
-    let mut map = ListOrderedMultimap::new(test.alloc());
-    change(test, &mut map, row);
+fn made_with_holes(test: &Test) -> Numbers {
+    let mut map = map_of(test, HOLES);
+    test.expect(map.remove(&1) == Some(11));
+    fill(test, &mut map, &[(1, 13)]);
     map
 }
 
-fn gives_keys(map: Numbers, wanted: Walk) -> bool {
-    walk_difference(&mut map.into_keys(), wanted).is_none()
-}
-
-fn gives_values(map: Numbers, wanted: Walk) -> bool {
-    walk_difference(&mut map.into_values(), wanted).is_none()
-}
-
 fn keys_are_handed_out(test: &Test) {
-    for (row, wanted) in ROWS.iter().enumerate() {
-        test.expect_at(row, gives_keys(made(test, wanted), wanted.keys));
-    }
+    let wanted = [(End::Front, 2), (End::Back, 1), (End::Back, 3)];
+    test.expect_same(walk_difference(&mut made_with_holes(test).into_keys(), &wanted));
 }
 
 fn values_are_handed_out(test: &Test) {
-    for (row, wanted) in ROWS.iter().enumerate() {
-        test.expect_at(row, gives_values(made(test, wanted), wanted.values));
-    }
+    let wanted = [
+        (End::Front, 21),
+        (End::Back, 13),
+        (End::Back, 22),
+        (End::Front, 31),
+    ];
+    test.expect_same(walk_difference(&mut made_with_holes(test).into_values(), &wanted));
 }
 
 const KEYS: [&str; 2] = ["IntoKeys([1, 2])", "IntoKeys([2])"];

@@ -1,0 +1,115 @@
+#!/usr/bin/env python3
+"""One call each, on maps that are filled first: its reply, and the lists that it leaves."""
+from random_calls import shown
+
+# Three values of the key 1, two of them equal, two of the key 2, one of the key 3.
+PAIRS = "1:5 2:6 1:7 3:8 1:5 2:6"
+
+# A call on these pairs, its reply, and both lists then.
+CALLS = [
+    ("set 1 9", "Some(5)", "1:9 2:6 3:8 2:6", "1 2 3"),
+    ("set 2 9", "Some(6)", "1:5 2:9 1:7 3:8 1:5", "1 2 3"),
+    ("set 3 9", "Some(8)", "1:5 2:6 1:7 3:9 1:5 2:6", "1 2 3"),
+    ("set 03 9", "Some(8)", "1:5 2:6 1:7 3:9 1:5 2:6", "1 2 3"),
+    ("set 04 9", "None", "1:5 2:6 1:7 3:8 1:5 2:6 04:9", "1 2 3 04"),
+    ("entry_set 1 9", "Some(5)", "1:9 2:6 3:8 2:6", "1 2 3"),
+    ("entry_set 3 9", "Some(8)", "1:5 2:6 1:7 3:9 1:5 2:6", "1 2 3"),
+    ("entry_set 4 9", "None", PAIRS, "1 2 3"),
+    ("remove_index 1 0", "Some(5)", "2:6 1:7 3:8 1:5 2:6", "1 2 3"),
+    ("remove_index 1 1", "Some(7)", "1:5 2:6 3:8 1:5 2:6", "1 2 3"),
+    ("remove_index 1 2", "Some(5)", "1:5 2:6 1:7 3:8 2:6", "1 2 3"),
+    ("remove_index 1 3", "None", PAIRS, "1 2 3"),
+    ("remove_index 1 9223372036854775807", "None", PAIRS, "1 2 3"),
+    ("remove_index 3 0", "Some(8)", "1:5 2:6 1:7 1:5 2:6", "1 2"),
+    ("remove_index 3 1", "None", PAIRS, "1 2 3"),
+    ("remove_index 4 0", "None", PAIRS, "1 2 3"),
+    ("remove_value 1 5", "Some(5)", "2:6 1:7 3:8 1:5 2:6", "1 2 3"),
+    ("remove_value 1 7", "Some(7)", "1:5 2:6 3:8 1:5 2:6", "1 2 3"),
+    ("remove_value 1 6", "None", PAIRS, "1 2 3"),
+    ("remove_value 3 8", "Some(8)", "1:5 2:6 1:7 1:5 2:6", "1 2"),
+    ("remove_value 4 5", "None", PAIRS, "1 2 3"),
+    # The values below the number go, and 1 is added to the others; the reply is the last value that was asked about.
+    ("retain_all 1 6", "Some(5)", "2:6 1:8 3:8 2:6", "1 2 3"),
+    ("retain_all 1 5", "Some(5)", "1:6 2:6 1:8 3:8 1:6 2:6", "1 2 3"),
+    ("retain_all 1 8", "Some(5)", "2:6 3:8 2:6", "2 3"),
+    ("retain_all 2 7", "Some(6)", "1:5 1:7 3:8 1:5", "1 3"),
+    ("retain_all 4 0", "None", PAIRS, "1 2 3"),
+    ("contains 1 7", "Some(7)", PAIRS, "1 2 3"),
+    ("contains 1 6", "None", PAIRS, "1 2 3"),
+    ("contains 4 5", "None", PAIRS, "1 2 3"),
+    ("get_last 2", "Some(6)", PAIRS, "1 2 3"),
+    ("get_last 4", "None", PAIRS, "1 2 3"),
+    ("get_key_value 03", "Some((3, 8))", PAIRS, "1 2 3"),
+    ("get_key_value 4", "None", PAIRS, "1 2 3"),
+    ("or_default 03", "9", "1:5 2:6 1:7 3:9 1:5 2:6", "1 2 3"),
+    ("or_default 04", "1", "1:5 2:6 1:7 3:8 1:5 2:6 04:1", "1 2 3 04"),
+]
+
+# Pairs of a map; pairs of another one, and pairs that then replace those of their key there; and both lists of the first
+# map once all went to it.
+JOINED = [
+    ("", "", "", "", ""),
+    ("1:11 2:12 1:13", "", "", "1:11 2:12 1:13", "1 2"),
+    ("", "1:11 2:12 2:13 1:14 3:15 1:16", "", "1:11 2:12 2:13 1:14 3:15 1:16", "1 2 3"),
+    ("1:11 2:12 1:13", "2:21 3:22 1:23 3:24 2:25", "", "1:11 2:12 1:13 2:21 3:22 1:23 3:24 2:25", "1 2 3"),
+    # The key 1 is the first of the other map, and its pair the last.
+    ("", "1:11 2:12 3:13", "1:14", "2:12 3:13 1:14", "2 3 1"),
+    ("3:1", "1:11 2:12 3:13 2:14", "1:15 2:16", "3:1 3:13 1:15 2:16", "3 1 2"),
+    # Of equal keys the one that was there first stays.
+    ("1:1 2:2", "03:3 01:4 02:5 3:6", "", "1:1 2:2 03:3 1:4 2:5 03:6", "1 2 03"),
+]
+
+# Pairs, keys that are removed then, pairs behind them; and what a map of these gives, taken apart for its keys and for its
+# values: the first, the last of the others, and the rest.
+TAKEN = [
+    ("", "", "", "None None IntoKeys([])", "None None IntoValues([])"),
+    ("1:11", "", "", "Some(1) None IntoKeys([])", "Some(11) None IntoValues([])"),
+    ("1:11 1:12 1:13 1:14", "", "", "Some(1) None IntoKeys([])", "Some(11) Some(14) IntoValues([12, 13])"),
+    ("1:11 2:12 2:13 1:14", "", "", "Some(1) Some(2) IntoKeys([])", "Some(11) Some(14) IntoValues([12, 13])"),
+    # A hole in front, one between, and a key that was removed and came again.
+    ("1:11 2:21 1:12 3:31 2:22", "1", "1:13", "Some(2) Some(1) IntoKeys([3])", "Some(21) Some(13) IntoValues([31, 22])"),
+    # Holes at the end, and then none but holes.
+    ("1:11 2:21 3:31", "3 2", "", "Some(1) None IntoKeys([])", "Some(11) None IntoValues([])"),
+    ("1:11 2:21 1:12", "2 1", "", "None None IntoKeys([])", "None None IntoValues([])"),
+]
+
+
+def pairs_of(texts):
+    return [(key, int(value)) for key, value in (it.split(":") for it in texts.split())]
+
+
+def filled(texts, old=""):
+    """Lines that append these pairs behind those, and their replies."""
+    there = {int(key) for key, _ in pairs_of(old)}
+    for key, value in pairs_of(texts):
+        yield f"append {key} {value}", f"Some({value})" if int(key) in there else "None"
+        there.add(int(key))
+
+
+def listed(pairs, keys):
+    return "lists", shown(keys.split(), pairs_of(pairs))
+
+
+def removed(pairs, keys):
+    """Lines that remove these keys, each of which has a value, and their replies."""
+    return [(f"remove {key}", f"Some({next(value for it, value in pairs_of(pairs) if it == key)})") for key in keys.split()]
+
+
+def replaced(pairs, texts):
+    """Lines that replace the values of a key by one, and their replies."""
+    old = pairs_of(pairs)
+    return [(f"insert {key} {value}", f"Some({next(value for it, value in old if it == key)})") for key, value in pairs_of(texts)]
+
+
+def runs():
+    runs = [[*filled(PAIRS), (call, reply), listed(pairs, keys)] for call, reply, pairs, keys in CALLS]
+    for pairs, other, inserted, joined, keys in JOINED:
+        lines = [*filled(other), *replaced(other, inserted), ("swap", None), *filled(pairs), ("append_map", "{}")]
+        runs.append([*lines, listed(joined, keys), ("swap", None), listed("", "")])
+    for pairs, gone, behind, *taken in TAKEN:
+        for word, reply in zip(("into_keys", "into_values"), taken):
+            left = " ".join(it for it in pairs.split() if it.split(":")[0] not in gone.split())
+            runs.append([*filled(pairs), *removed(pairs, gone), *filled(behind, left), (word, reply), listed("", "")])
+    for run in runs:
+        given = "".join(f"{line}\n" for line, _ in run)
+        yield given.encode(), ("".join(f"{reply}\n" for _, reply in run if reply is not None).encode(), b"", 0)

@@ -1,0 +1,144 @@
+//! The calls, and what each writes.
+use crate::command::Map;
+use crate::key::Key;
+use ordered_multimap::{Entry, EntryValues, ListOrderedMultimap};
+use program_parts::bad;
+use std::alloc::AllocError;
+use std::fmt::Debug;
+use std::io;
+use std::mem::{replace, swap};
+
+fn add<T: Debug + Drop>(reply: T, replies: &mut String) -> io::Result<()> {
+    writeln!(replies, "{reply:?}")?;
+    Ok(())
+}
+
+/// Carries out a command that names no key.
+pub fn call_on_whole<'t>(
+    map: &mut Map<'t>,
+    other: &mut Map<'t>,
+    word: &str,
+    replies: &mut String,
+) -> io::Result<()> {
+    match word {
+        "swap" => {
+            swap(map, other);
+            Ok(())
+        }
+        "append_map" => {
+            map.append_map(other)?;
+            add(other, replies)
+        }
+        "pop_front" => add(map.pop_front(), replies),
+        "into_keys" => Ok(add_keys(taken(map), replies)?),
+        "into_values" => Ok(add_values(taken(map), replies)?),
+        "lists" => Ok(add_lists(map, replies)?),
+        _ => Err(bad("not a command")),
+    }
+}
+
+/// Takes the map out, and puts an empty one in its place.
+fn taken<'t>(map: &mut Map<'t>) -> Map<'t> {
+    replace(map, ListOrderedMultimap::new(*map.allocator()))
+}
+
+// The first key, the last of the others, and the rest.
+fn add_keys(map: Map<'_>, replies: &mut String) -> Result<(), AllocError> {
+    let mut keys = map.into_keys();
+    let first = keys.next();
+    let last = keys.next_back();
+    writeln!(replies, "{first:?} {last:?} {keys:?}")
+}
+
+fn add_values(map: Map<'_>, replies: &mut String) -> Result<(), AllocError> {
+    let mut values = map.into_values();
+    let first = values.next();
+    let last = values.next_back();
+    writeln!(replies, "{first:?} {last:?} {values:?}")
+}
+
+/// Adds the pairs, the keys, and the values of each key from the front and from the back.
+fn add_lists(map: &Map<'_>, replies: &mut String) -> Result<(), AllocError> {
+    writeln!(replies, "{map:?}\n{:?}\n{:?}", map.keys(), map.pairs())?;
+    for (key, values) in map.pairs() {
+        add_reversed(key, values, replies)?;
+    }
+    Ok(())
+}
+
+fn add_reversed<'t>(
+    key: &Key<'t>,
+    values: EntryValues<'_, Key<'t>, i64>,
+    replies: &mut String,
+) -> Result<(), AllocError> {
+    write!(replies, "{key:?}")?;
+    for value in values.rev() {
+        write!(replies, " {value}")?;
+    }
+    writeln!(replies)
+}
+
+/// Carries out a command that names a key alone.
+pub fn call_with_key<'t>(
+    map: &mut Map<'t>,
+    word: &str,
+    key: Key<'t>,
+    replies: &mut String,
+) -> io::Result<()> {
+    match word {
+        "get_last" => add(map.get_last(&key), replies),
+        "get_key_value" => add(map.get_key_value(&key), replies),
+        "remove" => add(map.remove(&key), replies),
+        "or_default" => add(default_raised(map, key)?, replies),
+        _ => Err(bad("not a command")),
+    }
+}
+
+fn default_raised<'t>(map: &mut Map<'t>, key: Key<'t>) -> Result<i64, AllocError> {
+    let value = map.entry(key).or_default()?;
+    *value = value.saturating_add(1);
+    Ok(*value)
+}
+
+/// Carries out a command that names a key and a number.
+pub fn call_with_number<'t>(
+    map: &mut Map<'t>,
+    word: &str,
+    key: Key<'t>,
+    number: i64,
+) -> io::Result<Option<i64>> {
+    match word {
+        "append" => Ok(map.append(key, number)?.then_some(number)),
+        "insert" => Ok(map.insert(key, number)?),
+        "set" => Ok(map.set(key, number)?),
+        "entry_set" => Ok(entry_set(map, key, number)),
+        "contains" => Ok(map.contains(&key, &number).then_some(number)),
+        "remove_index" => Ok(remove_index(map, key, number)),
+        "remove_value" => Ok(map.remove_value(&key, &number)),
+        "retain_all" => Ok(retain_all(map, key, number)),
+        _ => Err(bad("not a command")),
+    }
+}
+
+fn entry_set<'t>(map: &mut Map<'t>, key: Key<'t>, value: i64) -> Option<i64> {
+    match map.entry(key) {
+        Entry::Occupied(mut entry) => Some(entry.set(value)),
+        Entry::Vacant(_) => None,
+    }
+}
+
+fn remove_index<'t>(map: &mut Map<'t>, key: Key<'t>, index: i64) -> Option<i64> {
+    map.remove_index(&key, usize::try_from(index).ok()?)
+}
+
+// The last value that it was called on.
+fn retain_all<'t>(map: &mut Map<'t>, key: Key<'t>, bound: i64) -> Option<i64> {
+    let mut last = None;
+    map.retain_all(&key, |value| {
+        let keeps = *value >= bound;
+        last = Some(*value);
+        *value = value.saturating_add(1);
+        keeps
+    });
+    last
+}
