@@ -19,6 +19,6 @@ module _ {K V S : Type 0} (eq : K → K → Bool) (key : K) (value : V) (old new
     pub rooms : SameRooms old new
 
   -- an old value comes back where the key was there, and else the pair was put last
-  abbrev pub IsSet : Option V → Type 0
-  IsSet (Some first) = IsOnlyValue
-  IsSet None = IsAppended eq key value old new
+  abbrev pub SetsValue : Option V → Type 0
+  SetsValue (Some first) = IsOnlyValue
+  SetsValue None = IsAppended eq key value old new

@@ -5,7 +5,7 @@ ghost use Rattle.std.specs.List.{list_any};
 ghost use Rattle.ordered_multimap.specs.Changes.{kept};
 ghost use Rattle.ordered_multimap.specs.OneValue.{first_removed, index_removed, only_written};
 ghost use Rattle.ordered_multimap.specs.Pairs.{is_present, values_of, values_where};
-ghost use Rattle.ordered_multimap.specs.Sets.{IsSet};
+ghost use Rattle.ordered_multimap.specs.Sets.{SetsValue};
 ghost use Rattle.ordered_multimap.specs.Walk.{end_item};
 ghost use Rattle.ordered_multimap.specs.End.TheVariants.{Back};
 
@@ -73,7 +73,7 @@ pub fn set_value<K: Eq + Hash + Drop, V: Drop, S: BuildHasher, A: Allocator + Co
     key: K,
     value: V,
 ) -> Result<Option<V>, Refused<K, V>>
-    ensures set { IfOk result (IsSet K.eq key value map.old map.new) }
+    ensures set { IfOk result (SetsValue K.eq key value map.old map.new) }
     ensures first { IfOk result (λ first. first
         ≡ slice_get (values_of K.eq map.old.lists.pairs key) 0) }
 {

@@ -9,7 +9,7 @@ ghost use Rattle.ordered_multimap.specs.Changes.{first_written};
 ghost use Rattle.ordered_multimap.specs.Pairs.{values_of};
 ghost use Rattle.ordered_multimap.specs.Private.KeySteps.{KeepsPlace, StaysInRoom};
 ghost use Rattle.ordered_multimap.specs.Rooms.{HasInsertRoom, SameNumbers};
-ghost use Rattle.ordered_multimap.specs.Sets.{IsSet, LeavesOnly};
+ghost use Rattle.ordered_multimap.specs.Sets.{SetsValue, LeavesOnly};
 ghost use Rattle.ordered_multimap.specs.TapeNumbers.{ArePaid};
 
 use super::lookup::slot_at;
@@ -69,7 +69,7 @@ impl<K: Eq + Hash, V, S: BuildHasher, A: Allocator + Copy> ListOrderedMultimap<K
         V: Drop,
         ensures value { IfOk result (λ first. first
             ≡ slice_get (values_of K.eq self.old.lists.pairs key) 0) }
-        ensures ok { IfOk result (IsSet K.eq key value self.old self.new) }
+        ensures ok { IfOk result (SetsValue K.eq key value self.old self.new) }
         ensures refused { IfErr result (IsRefused K.eq key value self.old self.new) }
         ensures succeeds { HasInsertRoom K.eq self.old key → IsOk result }
         ensures paid { ArePaid self.new.tape }
