@@ -66,16 +66,16 @@
 //!
 //! A call that may allocate returns a `Result`, and the others can't fail: lookups, removals,
 //! writes in place, and iteration. An addition never fails where the capacities suffice, and
-//! `insert` and `set` never fail for a
-//! present key.
+//! `insert` and `set` never fail for a present key.
 //!
 //! - An addition returns [`Refused`] with the key and the value, or [`RefusedValue`] with the value
 //!   where an [`OccupiedEntry`] has the key. Both lists are as before; capacities may have grown.
 //! - `extend` and `from_iter` return a `Refused` with the pair that wasn't added. `extend` keeps
 //!   the pairs before it, and `from_iter` drops them. std's `Extend` and `FromIterator` drop that
 //!   pair too.
-//! - The constructors with capacities, `reserve_keys`, `reserve_values`, `pack_to`, `pack_to_fit`
-//!   and `clone` return `AllocError`.
+//! - The constructors with capacities, `reserve_keys`, `reserve_values`, `pack_to`, `pack_to_fit`,
+//!   `clone` and `append_map` return `AllocError`. After `append_map` both maps are as before;
+//!   capacities may have grown.
 //! - An item of [`IntoIter`] is a `Result`, because each key is cloned: [`UnclonedKey`] has the
 //!   value. [`IntoKeys`] and [`IntoValues`] clone nothing.
 //!
@@ -157,4 +157,4 @@ pub use list_ordered_multimap::{
     VacantEntry, ValueLink, Values, ValuesMut, ValuesRest,
 };
 pub use multimap_walks::End;
-pub use query::KeyQuery;
+pub use query::{KeyByPart, KeyQuery, Part};

@@ -1,9 +1,11 @@
 //! What a lookup takes in the place of a key.
 ghost use Rattle.std.specs.Prelude.{◌≡◌, Bool, IsTrue, Option, Some};
 
+mod part;
 mod slices;
 mod texts;
 
+pub use part::{KeyByPart, Part};
 use std::hash::Hash;
 
 /// A query: what a lookup takes in the place of a reference to a key of type `K`.
@@ -17,9 +19,11 @@ use std::hash::Hash;
 /// So `map.get("line")` looks up a `String` key without allocating a `String`. It takes the place
 /// of the `Borrow` of std's lookups, and is passed by value.
 ///
-/// A `Copy` type of your own can be a query too. Its `equivalent` says to which keys it is
-/// equivalent, and it has to be hashed as each of those keys is. The file
-/// `crates/ordered_multimap_tests/src/tests/queries/names.rt` looks up header names in any case.
+/// Where a key is compared and hashed by one part of it alone, [`KeyByPart`] makes a query for the
+/// key of each query for the part. Any other `Copy` type of your own can be a query too. Its
+/// `equivalent` says to which keys it is equivalent, and it has to be hashed as each of those keys
+/// is. The file `crates/ordered_multimap_tests/src/tests/queries/names.rt` looks up header names in
+/// any case.
 ///
 /// Proved callers: see docs/PROVED_CALLERS.md.
 ///

@@ -1,6 +1,7 @@
 //! Look-ups by queries: by a text that is lent, by a slice, and by a query of one's own.
 mod kinds;
 mod names;
+mod parts;
 mod texts;
 
 use crate::tests::queries::texts::texts_are_queries;
