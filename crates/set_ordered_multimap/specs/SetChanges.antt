@@ -5,10 +5,10 @@ use Rattle.ordered_multimap.specs.Keys.{keys_named_by}
 use Rattle.ordered_multimap.specs.Lists.{empty_lists}
 use Rattle.ordered_multimap.specs.Multimap.{Multimap}
 use Rattle.ordered_multimap.specs.PopAnswers.{IsPopped}
-use Rattle.ordered_multimap.specs.Removals.{IsRemoved}
+use Rattle.ordered_multimap.specs.Removals.{IsRemovedWhere}
 use Rattle.ordered_multimap.specs.Rooms.{IsNewMap, KeepsRooms, SameRooms}
 use Rattle.ordered_multimap.specs.TapeNumbers.{TakesOut}
-use Rattle.set_ordered_multimap.specs.Set.{IsSet, value_removed}
+use Rattle.set_ordered_multimap.specs.Set.{IsSet, value_removed_where}
 
 module _ {K V S : Type 0} (eq : K → K → Bool) (value_eq : V → V → Bool) where
   -- a set without pairs, on a tape that was not used
@@ -39,16 +39,16 @@ module _ {K V S : Type 0} (eq : K → K → Bool) (value_eq : V → V → Bool) 
       pub taken : TakesOut (length old.lists.pairs - length new.lists.pairs) old.tape new.tape
       pub fewer : length new.lists.pairs ≤ length old.lists.pairs
 
-    -- the equal pair has left, if there was one, with a key that no pair names then; rooms stay,
-    -- and so does a set
-    pub record LosesValue (k : K) (v : V) : Type 0 where
-      pub lists : new.lists ≡ value_removed eq value_eq old.lists k v
+    -- the pair of the accepted keys with an equal value has left, if there was one, with a key that
+    -- no pair names then; rooms stay, and so does a set
+    pub record LosesValueWhere (accepts : K → Bool) (v : V) : Type 0 where
+      pub lists : new.lists ≡ value_removed_where eq value_eq accepts old.lists v
       pub set : IsSet eq value_eq old.lists → IsSet eq value_eq new.lists
       pub rooms : SameRooms old new
 
-    -- the key has left with all its values, if it was there; rooms stay, and so does a set
-    pub record LosesKey (k : K) : Type 0 where
-      pub removed : IsRemoved eq old new k
+    -- the accepted key has left with all its values, if it was there; rooms stay, and so does a set
+    pub record LosesKeyWhere (accepts : K → Bool) : Type 0 where
+      pub removed : IsRemovedWhere accepts eq old new
       pub set : IsSet eq value_eq old.lists → IsSet eq value_eq new.lists
 
     -- the pair at an end has left, if there was one, and its key with its last value; rooms stay,

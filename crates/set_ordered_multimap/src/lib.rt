@@ -24,9 +24,7 @@
 //!
 //! - a pair may occur twice;
 //! - a value has to be written in place: the set returns no mutable references, since a written
-//!   value could become equal to another one of its key;
-//! - a key is looked up by a query, as a `String` key by a `&str`: the calls of the set take a
-//!   `&K`.
+//!   value could become equal to another one of its key.
 //!
 //! `contains`, `insert` and `remove_value` compare the value with the values of its key, one after
 //! another. If a key has many values, make each pair a key of a `ListOrderedMultimap`, which finds
@@ -36,10 +34,13 @@
 //!
 //! - `insert` adds a pair beside the key's other pairs, and returns whether it is new. The map's
 //!   `insert` replaces the key's pairs; its `append` is the counterpart of the set's `insert`.
-//! - `remove_value` removes one pair. It is *O*(*n*) if the key has other values.
+//! - `remove_value` returns whether the pair was there; the map's returns the value.
 //! - The function of `retain` gets each value for reading alone.
-//! - There is no `get`, `front`, `values`, `pairs`, `remove` or `entry`, nor a call that reserves
-//!   or gives up room: see `get_all`, `iter` and `remove_all`.
+//! - There is no `get`, `remove` or `entry`, nor a call that reserves or gives up room: see
+//!   `get_last`, `get_all` and `remove_all`.
+//!
+//! The calls that take a key take a query, an `ordered_multimap::KeyQuery`, as the map's do: a
+//! `String` key is looked up by a `&str`. `insert` takes the key itself.
 //!
 //! # What the calls cost
 //!
@@ -48,16 +49,14 @@
 //!
 //! | Calls | Cost |
 //! |---|---|
-//! | `contains_key`, `entry_len` | *O*(1) expected |
-//! | `contains` | *O*(*v*) expected |
+//! | `contains_key`, `entry_len`, `get_last` | *O*(1) expected |
+//! | `contains`, `remove_value`, `remove_all` | *O*(*v*) expected |
 //! | `insert` | *O*(*v*) expected, amortized |
-//! | `is_empty`, lengths, capacities | *O*(1) |
-//! | `iter`, `keys` | *O*(1), *O*(1) for each item |
+//! | `front`, `back`, `is_empty`, lengths, capacities | *O*(1) |
+//! | `iter`, `keys`, `values`, `pairs` | *O*(1), *O*(1) for each item |
 //! | `get_all` | *O*(1) expected, *O*(1) for each item |
 //! | `pop_front`, `pop_back` | *O*(1) expected |
-//! | `remove_all` | *O*(*v*) expected |
-//! | `remove_value` of a key's only value | *O*(1) expected |
-//! | `remove_value` otherwise, `retain`, `clear`, `clone`, `==` | *O*(*n*) |
+//! | `retain`, `clear`, `clone`, `==` | *O*(*n*) |
 //! | `append_map` | what `clear` of the other set costs, and for each of its pairs *O*(*v*) expected |
 //!
 //! # When memory runs out
@@ -88,11 +87,11 @@
 //! tags.insert("plan", "long")?;
 //! assert_eq!(rt; tags.insert("plan", "draft"), Ok(false));
 //!
-//! assert!(rt; tags.contains(&"plan", &"long"));
-//! assert!(rt; tags.get_all(&"plan").eq(&["draft", "long"]));
+//! assert!(rt; tags.contains("plan", &"long"));
+//! assert!(rt; tags.get_all("plan").eq(&["draft", "long"]));
 //! assert!(rt; tags.keys().eq(&["plan", "note"]));
 //!
-//! assert!(rt; tags.remove_value(&"plan", &"draft"));
+//! assert!(rt; tags.remove_value("plan", &"draft"));
 //! assert!(rt; tags.iter().eq([(&"note", &"draft"), (&"plan", &"long")]));
 //! ```
 //!

@@ -9,6 +9,7 @@ mod lookup;
 mod pop;
 mod remove;
 mod retain;
+mod walks;
 mod whole;
 
 use ordered_multimap::ListOrderedMultimap;
@@ -101,7 +102,7 @@ impl<K: Eq + Hash, V: Eq, S: BuildHasher, A: Allocator + Copy> SetOrderedMultima
     /// let state = RandomState::new(&rt).map_err(|_| AllocError)?;
     /// let mut set = SetOrderedMultimap::with_hasher(rt.alloc(), state);
     /// set.insert("plan", "draft")?;
-    /// assert!(rt; set.contains(&"plan", &"draft"));
+    /// assert!(rt; set.contains("plan", &"draft"));
     /// ```
     pub fn with_hasher(alloc: A, state: S) -> Self
         ensures new { IsNewSetWith K.eq V.eq state result }
@@ -113,6 +114,29 @@ impl<K: Eq + Hash, V: Eq, S: BuildHasher, A: Allocator + Copy> SetOrderedMultima
 }
 
 impl<K: Eq + Hash, V, S: BuildHasher, A: Allocator> SetOrderedMultimap<K, V, S, A> {
+    /// Returns a reference to the allocator of the set.
+    ///
+    /// It is the one that the set was made with, of which the set takes its memory.
+    ///
+    /// # Complexity
+    ///
+    /// *O*(1).
+    ///
+    /// # Examples
+    ///
+    /// ```
+    /// use set_ordered_multimap::SetOrderedMultimap;
+    ///
+    /// let mut set = SetOrderedMultimap::new(rt.alloc());
+    /// set.insert("plan", "draft")?;
+    /// let mut other = SetOrderedMultimap::new(*set.allocator());
+    /// other.insert("plan", "draft")?;
+    /// assert!(rt; other == set);
+    /// ```
+    pub fn allocator(&self) -> &A {
+        self.map.allocator()
+    }
+
     /// Returns a reference to the set's hash builder.
     ///
     /// # Complexity

@@ -5,32 +5,32 @@ use Rattle.std.proofs.lemmas.Map.Keys.{IsDistinct-push}
 use Rattle.std.specs.Cmp.{IsEquivalence, and_equiv, on_equiv}
 use Rattle.std.specs.List.{AllByRecursion, AllZip, IsDistinct, list_any}
 use Rattle.ordered_multimap.proofs.Callers.ListedKeys.{IsDistinct-filter, stored_key_absent, stored_key_member}
-use Rattle.ordered_multimap.specs.Changes.{appended, kept, removed}
+use Rattle.ordered_multimap.specs.Changes.{appended, kept, removed_where}
 use Rattle.ordered_multimap.specs.Clones.{AreClones, IsPairClone}
 use Rattle.ordered_multimap.specs.End.{End}
 use Rattle.ordered_multimap.specs.End.TheVariants.{Front, Back}
 use Rattle.ordered_multimap.specs.Keys.{is_listed, stored_key}
 use Rattle.ordered_multimap.specs.Lists.{Lists, empty_lists}
-use Rattle.ordered_multimap.specs.Pairs.{has_items, values_of}
+use Rattle.ordered_multimap.specs.Pairs.{has_items, values_where}
 use Rattle.ordered_multimap.specs.Popped.{popped}
 use Rattle.ordered_multimap.specs.Walk.{end_rest}
 use Rattle.set_ordered_multimap.specs.Laws.{ChangesKeepSets}
-use Rattle.set_ordered_multimap.specs.Set.{same_pair, has_pair, pairs_but, IsSet, set_inserted, value_removed, all_inserted}
+use Rattle.set_ordered_multimap.specs.Set.{same_pair, has_pair, has_pair_where, pairs_but_where, IsSet, set_inserted, value_removed_where, all_inserted}
 
 pub or_false : (b : Bool) → (b || false) ≡ b
 or_false b = elim b as (λ c. (c || false) ≡ c) [ true ↦ refl | false ↦ refl ]
 
 -- the pair is there exactly if an equal value is among those of its key
-pub has_pair-values : {K V : Type 0} (eq : K → K → Bool) (value_eq : V → V → Bool) (pairs : List (K × V)) (k : K) (v : V)
-    → list_any (value_eq v) (values_of eq pairs k) ≡ has_pair eq value_eq pairs k v
-has_pair-values eq value_eq [] k v = refl
-has_pair-values {K} {V} eq value_eq (p ∷ pairs) k v =
-    let rest : List (K × V) = filter (λ q. eq k q.0) pairs in
+pub has_pair-values : {K V : Type 0} (accepts : K → Bool) (value_eq : V → V → Bool) (pairs : List (K × V)) (v : V)
+    → list_any (value_eq v) (values_where accepts pairs) ≡ has_pair_where accepts value_eq pairs v
+has_pair-values accepts value_eq [] v = refl
+has_pair-values {K} {V} accepts value_eq (p ∷ pairs) v =
+    let rest : List (K × V) = filter (λ q. accepts q.0) pairs in
     let P : Bool → Type 0 = λ b. list_any (value_eq v) (map (λ q. q.1) (cond b (p ∷ rest) rest))
-    ≡ ((b && value_eq v p.1) || has_pair eq value_eq pairs k v) in
-    elim (eq k p.0) as P [
-      | true ↦ ap (λ b. value_eq v p.1 || b) (has_pair-values eq value_eq pairs k v)
-      | false ↦ has_pair-values eq value_eq pairs k v
+    ≡ ((b && value_eq v p.1) || has_pair_where accepts value_eq pairs v) in
+    elim (accepts p.0) as P [
+      | true ↦ ap (λ b. value_eq v p.1 || b) (has_pair-values accepts value_eq pairs v)
+      | false ↦ has_pair-values accepts value_eq pairs v
     ]
 
 module _ {X : Type 0} where
@@ -121,15 +121,16 @@ module _ {K V : Type 0} {eq : K → K → Bool} {value_eq : V → V → Bool} (k
   pub IsSet-kept : (m : Lists K V) (test : K × V → Bool) → IsSet eq value_eq m → IsSet eq value_eq (kept eq m (filter test m.pairs))
   IsSet-kept m test set = IsDistinct-filter pair_laws test m.pairs set
 
-  pub IsSet-value_removed : (m : Lists K V) (k : K) (v : V) → IsSet eq value_eq m → IsSet eq value_eq (value_removed eq value_eq m k v)
-  IsSet-value_removed m k v set = elim (has_pair eq value_eq m.pairs k v) as
-      (λ b. IsSet eq value_eq (cond b (kept eq m (pairs_but eq value_eq m.pairs k v)) m)) [
-        | true ↦ IsSet-kept m (λ p. not (same_pair eq value_eq (k, v) p)) set
+  pub IsSet-value_removed : (accepts : K → Bool) (m : Lists K V) (v : V) → IsSet eq value_eq m
+      → IsSet eq value_eq (value_removed_where eq value_eq accepts m v)
+  IsSet-value_removed accepts m v set = elim (has_pair_where accepts value_eq m.pairs v) as
+      (λ b. IsSet eq value_eq (cond b (kept eq m (pairs_but_where accepts value_eq m.pairs v)) m)) [
+        | true ↦ IsSet-kept m (λ p. not (accepts p.0 && value_eq v p.1)) set
         | false ↦ set
       ]
 
-  pub IsSet-removed : (m : Lists K V) (k : K) → IsSet eq value_eq m → IsSet eq value_eq (removed eq m k)
-  IsSet-removed m k set = IsSet-kept m (λ p. not (eq k p.0)) set
+  pub IsSet-removed : (accepts : K → Bool) (m : Lists K V) → IsSet eq value_eq m → IsSet eq value_eq (removed_where eq accepts m)
+  IsSet-removed accepts m set = IsSet-kept m (λ p. not (accepts p.0)) set
 
   -- the pairs but the one at an end
   pub IsSet-popped : (end : End) (m : Lists K V) → IsSet eq value_eq m → IsSet eq value_eq (popped eq end m)
@@ -141,8 +142,8 @@ module _ {K V : Type 0} {eq : K → K → Bool} {value_eq : V → V → Bool} (k
   pub changes_keep_sets : ChangesKeepSets eq value_eq
   changes_keep_sets = record {
     inserted = IsSet-inserted;
-    value_removed = IsSet-value_removed;
-    removed = IsSet-removed;
+    value_removed = λ m k v. IsSet-value_removed (eq k) m v;
+    removed = λ m k. IsSet-removed (eq k) m;
     popped = IsSet-popped;
   }
 

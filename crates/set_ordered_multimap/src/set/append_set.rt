@@ -109,7 +109,7 @@ impl<K: Eq + Hash + Drop, V: Eq + Drop, S: BuildHasher, A: Allocator + Copy> Set
     ///
     /// set.append_map(&mut other)?;
     /// assert_eq!(rt; set.values_len(), 3);
-    /// assert!(rt; set.get_all(&"plan").eq(&["draft", "long"]));
+    /// assert!(rt; set.get_all("plan").eq(&["draft", "long"]));
     /// assert!(rt; set.keys().eq(&["plan", "note"]));
     /// assert!(rt; other.is_empty());
     /// ```

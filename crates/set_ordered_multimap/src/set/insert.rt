@@ -45,7 +45,7 @@ impl<K: Eq + Hash + Drop, V: Eq + Drop, S: BuildHasher, A: Allocator + Copy> Set
     /// assert_eq!(rt; set.insert("plan", "draft"), Ok(true));
     /// assert_eq!(rt; set.insert("plan", "long"), Ok(true));
     /// assert_eq!(rt; set.insert("plan", "draft"), Ok(false));
-    /// assert!(rt; set.get_all(&"plan").eq(&["draft", "long"]));
+    /// assert!(rt; set.get_all("plan").eq(&["draft", "long"]));
     /// ```
     pub fn insert(&mut self, key: K, value: V) -> Result<bool, Refused<K, V>>
         ensures new { IfOk result (λ new.

@@ -1,32 +1,32 @@
 //! Removals of one pair, of all pairs of a key, and of all pairs.
-ghost use Rattle.std.specs.Prelude.{◌≡◌, ◌+◌, ◌&&◌, cond, false, length, true};
+ghost use Rattle.std.specs.Prelude.{◌≡◌, ◌+◌, cond, false, length, true};
 ghost use Rattle.std.specs.Borrow.{sem};
 ghost use Rattle.std.specs.List.{FoldsTo};
 ghost use Rattle.ordered_multimap.specs.Changes.{kept};
-ghost use Rattle.ordered_multimap.specs.Drains.{DrainsEntry};
-ghost use Rattle.ordered_multimap.specs.Pairs.{values_of};
-ghost use Rattle.ordered_multimap.specs.Removals.{IsRemoved};
+ghost use Rattle.ordered_multimap.specs.Drains.{DrainsWhere};
+ghost use Rattle.ordered_multimap.specs.Pairs.{values_where};
+ghost use Rattle.ordered_multimap.specs.Removals.{IsRemovedWhere};
 ghost use Rattle.ordered_multimap.specs.Rooms.{SameRooms};
 ghost use Rattle.ordered_multimap.specs.TapeNumbers.{TakesOut};
-ghost use Rattle.set_ordered_multimap.specs.Set.{IsSet, has_pair, pairs_but};
-ghost use Rattle.set_ordered_multimap.specs.SetChanges.{IsCleared, LosesKey, LosesValue};
+ghost use Rattle.set_ordered_multimap.specs.Set.{IsSet, has_pair_where, pairs_but_where};
+ghost use Rattle.set_ordered_multimap.specs.SetChanges.{IsCleared, LosesKeyWhere, LosesValueWhere};
 ghost use Rattle.set_ordered_multimap.specs.SetLends.{ends_as_map, lends_map};
 
 use super::SetOrderedMultimap;
-use ordered_multimap::ListOrderedMultimap;
 use ordered_multimap::list_ordered_multimap::EntryValuesDrain;
+use ordered_multimap::{KeyQuery, ListOrderedMultimap};
 use std::alloc::Allocator;
 use std::hash::{BuildHasher, Hash};
 
 /// Takes the pair out that is equal to this one. Only the values of its key are gone over.
-fn take_equal<K: Eq + Hash + Drop, V: Eq + Drop, S: BuildHasher, A: Allocator>(
+fn take_equal<K: Eq + Hash + Drop, V: Eq + Drop, S: BuildHasher, A: Allocator, Q: KeyQuery<K>>(
     map: &mut ListOrderedMultimap<K, V, S, A>,
-    key: &K,
+    key: Q,
     value: &V,
 )
-    requires { has_pair K.eq V.eq map.old.lists.pairs key.now value.now ≡ true }
+    requires { has_pair_where (Q.equivalent key) V.eq map.old.lists.pairs value.now ≡ true }
     ensures lists { map.new.lists ≡ kept K.eq map.old.lists
-        (pairs_but K.eq V.eq map.old.lists.pairs key.now value.now) }
+        (pairs_but_where (Q.equivalent key) V.eq map.old.lists.pairs value.now) }
     ensures taken { IsSet K.eq V.eq map.old.lists → TakesOut 1 map.old.tape map.new.tape }
     ensures rooms { SameRooms map.old map.new }
 {
@@ -34,15 +34,18 @@ fn take_equal<K: Eq + Hash + Drop, V: Eq + Drop, S: BuildHasher, A: Allocator>(
 }
 
 /// Takes the key out with all its values, and hands these to the function, in order.
-fn hand_out<K: Eq + Hash + Drop, V: Drop, S: BuildHasher, A: Allocator, F: FnMut(V)>(
-    map: &mut ListOrderedMultimap<K, V, S, A>,
-    key: &K,
-    mut f: F,
-)
+fn hand_out<
+    K: Eq + Hash + Drop,
+    V: Drop,
+    S: BuildHasher,
+    A: Allocator,
+    Q: KeyQuery<K>,
+    F: FnMut(V),
+>(map: &mut ListOrderedMultimap<K, V, S, A>, key: Q, mut f: F)
     requires { F.IsAlwaysCallable f }
     ensures called { (last : F) × FoldsTo (λ g v h. F.step g v tt h) f
-        (values_of K.eq map.old.lists.pairs key.now) last }
-    ensures removed { IsRemoved K.eq map.old map.new key.now }
+        (values_where (Q.equivalent key) map.old.lists.pairs) last }
+    ensures removed { IsRemovedWhere (Q.equivalent key) K.eq map.old map.new }
 {
     let mut drain = map.remove_all(key);
     while let Some(value) = drain.next() {
@@ -56,7 +59,7 @@ impl<K: Eq + Hash, V: Eq, S: BuildHasher, A: Allocator> SetOrderedMultimap<K, V,
     /// The stored value is dropped, and the stored key with its last value. Without such a pair
     /// nothing changes. The other keys and pairs keep their order. The call doesn't allocate, and
     /// leaves the capacities as they are. To remove a key with all its values see
-    /// [`remove_all`](Self::remove_all).
+    /// [`remove_all`](Self::remove_all). The key may be a query ([`KeyQuery`]).
     ///
     /// # Complexity
     ///
@@ -71,16 +74,18 @@ impl<K: Eq + Hash, V: Eq, S: BuildHasher, A: Allocator> SetOrderedMultimap<K, V,
     /// set.insert("plan", "draft")?;
     /// set.insert("note", "draft")?;
     /// set.insert("plan", "long")?;
-    /// assert!(rt; set.remove_value(&"plan", &"draft"));
-    /// assert!(rt; !set.remove_value(&"plan", &"draft"));
+    /// assert!(rt; set.remove_value("plan", &"draft"));
+    /// assert!(rt; !set.remove_value("plan", &"draft"));
     /// assert!(rt; set.iter().eq([(&"note", &"draft"), (&"plan", &"long")]));
     /// ```
-    pub fn remove_value(&mut self, key: &K, value: &V) -> bool
+    pub fn remove_value<Q: KeyQuery<K>>(&mut self, key: Q, value: &V) -> bool
     where
         K: Drop,
         V: Drop,
-        ensures there { result ≡ has_pair K.eq V.eq self.old.lists.pairs key.now value.now }
-        ensures loses { LosesValue K.eq V.eq self.old self.new key.now value.now }
+        ensures there { result
+            ≡ has_pair_where (Q.equivalent key) V.eq self.old.lists.pairs value.now }
+        ensures loses { LosesValueWhere K.eq V.eq self.old self.new
+            (Q.equivalent key) value.now }
 
         // The one equal pair of a set goes, and nothing changes where there is none.
         ensures one { IsSet K.eq V.eq self.old.lists → length self.old.lists.pairs
@@ -143,7 +148,7 @@ impl<K: Eq + Hash, V: Eq + Drop, S: BuildHasher, A: Allocator> SetOrderedMultima
     /// taken are dropped with it; if it is leaked, they are dropped when their slots are used
     /// again, or with the set. The stored key is dropped. The iterator is empty if the key is
     /// absent. The other keys and pairs keep their order. The call doesn't allocate. To remove one
-    /// pair see [`remove_value`](Self::remove_value).
+    /// pair see [`remove_value`](Self::remove_value). The key may be a query ([`KeyQuery`]).
     ///
     /// Proved callers: see docs/PROVED_CALLERS.md.
     ///
@@ -160,15 +165,15 @@ impl<K: Eq + Hash, V: Eq + Drop, S: BuildHasher, A: Allocator> SetOrderedMultima
     /// set.insert("plan", "draft")?;
     /// set.insert("note", "draft")?;
     /// set.insert("plan", "long")?;
-    /// assert!(rt; set.remove_all(&"plan").eq(["draft", "long"]));
+    /// assert!(rt; set.remove_all("plan").eq(["draft", "long"]));
     /// assert!(rt; set.iter().eq([(&"note", &"draft")]));
     /// ```
-    pub fn remove_all(&mut self, key: &K) -> EntryValuesDrain<'_, K, V, S, A>
+    pub fn remove_all<Q: KeyQuery<K>>(&mut self, key: Q) -> EntryValuesDrain<'_, K, V, S, A>
     where
         K: Drop,
         ensures* rest { sem 𝓛 (ends_as_map K.row V.row S.row A.row S.Hasher.row K.Hash
             S.BuildHasher S.Hasher.Hasher A.Allocator self.entry result.map.ghost_name) }
-        ensures drain { DrainsEntry K.eq self.old key.now result }
+        ensures drain { DrainsWhere (Q.equivalent key) K.eq self.old result }
         ensures set { IsSet K.eq V.eq self.old.lists → IsSet K.eq V.eq result.map.now.lists }
     {
         let map = self.lend();
@@ -178,7 +183,7 @@ impl<K: Eq + Hash, V: Eq + Drop, S: BuildHasher, A: Allocator> SetOrderedMultima
     /// Removes the key with all its values, and passes each value to `f`, in insertion order.
     ///
     /// It is for proved callers; others take [`remove_all`](Self::remove_all). The stored key is
-    /// dropped. See docs/PROVED_CALLERS.md.
+    /// dropped. The key may be a query ([`KeyQuery`]). See docs/PROVED_CALLERS.md.
     ///
     /// # Complexity
     ///
@@ -198,17 +203,17 @@ impl<K: Eq + Hash, V: Eq + Drop, S: BuildHasher, A: Allocator> SetOrderedMultima
     /// set.insert("note", 8)?;
     /// set.insert("plan", 2)?;
     /// let mut last = None;
-    /// set.remove_all_with(&"plan", |value| last = Some(value));
+    /// set.remove_all_with("plan", |value| last = Some(value));
     /// assert_eq!(rt; last, Some(2));
     /// assert!(rt; set.iter().eq([(&"note", &8)]));
     /// ```
-    pub fn remove_all_with<F: FnMut(V)>(&mut self, key: &K, f: F)
+    pub fn remove_all_with<Q: KeyQuery<K>, F: FnMut(V)>(&mut self, key: Q, f: F)
     where
         K: Drop,
         requires { F.IsAlwaysCallable f }
         ensures called { (last : F) × FoldsTo (λ g v h. F.step g v tt h) f
-            (values_of K.eq self.old.lists.pairs key.now) last }
-        ensures removed { LosesKey K.eq V.eq self.old self.new key.now }
+            (values_where (Q.equivalent key) self.old.lists.pairs) last }
+        ensures removed { LosesKeyWhere K.eq V.eq self.old self.new (Q.equivalent key) }
     {
         hand_out(&mut self.map, key, f);
     }

@@ -4,4 +4,4 @@ use Rattle.set_ordered_multimap.proofs.set.append_set.lacks.Goals as goal
 
 pub returns : goal.returns
 returns g c =
-    ap not (c.contains.ensures ∙ has_pair-values g.K.PartialEq.eq g.V.PartialEq.eq c.args.map.now.lists.pairs c.args.key.now c.args.value.now)
+    ap not (c.contains.ensures ∙ has_pair-values (g.K.PartialEq.eq c.args.key.now) g.V.PartialEq.eq c.args.map.now.lists.pairs c.args.value.now)
