@@ -4,6 +4,7 @@ ghost use Rattle.set_ordered_multimap.specs.SetChanges.{IsNewSet, IsNewSetWith};
 ghost use Rattle.set_ordered_multimap.specs.SetReads.{TellsEmpty, TellsKeys, TellsRoom};
 
 mod append_set;
+mod collect;
 mod insert;
 mod lookup;
 mod pop;
