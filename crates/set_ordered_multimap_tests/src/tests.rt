@@ -1,8 +1,9 @@
-//! The worked rows, refused requests, calls that these leave out, and proved callers.
+//! The worked rows, look-ups by texts, refused requests, calls that these leave out, and proved callers.
 mod callers;
 mod calls;
 mod caseless;
 mod joined;
 mod lists;
+mod queries;
 mod refused;
 mod rows;

@@ -4,3 +4,4 @@
 pub mod changed;
 pub mod gathered;
 pub mod joined;
+pub mod queried;

@@ -1,8 +1,7 @@
 //! The calls of a set that no other test makes, and proved callers.
-use crate::tests::callers::changed::{
-    exchange, insert_in_room, keep_below, remove_key, take_first,
-};
+use crate::tests::callers::changed::{exchange, insert_in_room, keep_below, take_first};
 use crate::tests::callers::gathered::gathered;
+use crate::tests::callers::queried::remove_key;
 use crate::tests::lists::has_lists;
 use ordered_multimap::list_ordered_multimap::{DefaultState, KeyWrapper};
 use set_ordered_multimap::SetOrderedMultimap;
@@ -15,10 +14,33 @@ type Numbers = SetOrderedMultimap<u32, u32>;
 
 const NUMBERS: &[(u32, u32)] = &[(1, 1), (2, 2), (1, 1), (3, 3)];
 
-fn look_ups_return(test: &Test, set: &Numbers) {
-    test.expect(set.contains_key(&2));
-    test.expect(set.entry_len(&1) == 1);
-    test.expect(set.get_all(&3).next_back() == Some(&3));
+// Pairs that are inserted, and each key with its values.
+type Row = (&'static [(u32, u32)], &'static str);
+
+const ROWS: &[Row] = &[
+    (&[], "KeyValues([])"),
+    (&[(1, 5)], "KeyValues([(1, EntryValues([5]))])"),
+    (
+        &[(2, 5), (1, 5), (2, 6), (2, 5)],
+        "KeyValues([(2, EntryValues([5, 6])), (1, EntryValues([5]))])",
+    ),
+];
+
+fn keys_are_walked(test: &Test, set: &mut Numbers, row: &Row) {
+    set.clear();
+    test.expect(set.extend(row.0.iter().copied()).is_ok());
+    test.expect(is_shown(test.alloc(), &set.pairs(), row.1));
+}
+
+fn rows_are_walked(test: &Test, set: &mut Numbers) {
+    for row in ROWS {
+        keys_are_walked(test, set, row);
+    }
+}
+
+fn parts_return(test: &Test, set: &Numbers) {
+    let twin = Numbers::new(*set.allocator());
+    test.expect(twin.is_empty());
     test.expect(set.hasher().hash_one(&1u32) == DefaultState::new().hash_one(&1u32));
 }
 
@@ -53,10 +75,11 @@ fn the_last_leaves(test: &Test, set: &mut Numbers) {
 
 fn gathered_numbers_return(test: &Test, set: &mut Numbers) {
     test.expect(has_lists(set, &[(1, 1), (2, 2), (3, 3)], &[1, 2, 3]));
-    look_ups_return(test, set);
+    parts_return(test, set);
     walks_return(test, set);
     callers_return(test, set);
     the_last_leaves(test, set);
+    rows_are_walked(test, set);
 }
 
 fn numbers_are_gathered(test: &Test) {

@@ -89,14 +89,6 @@ fn letters_stay(test: &Test, set: &mut Letters) {
     let gone = set.remove_value(&Letter::new(b'a'), &Letter::new(b'Y'));
     test.expect(gone);
     test.expect(has_letters(set, &[(b'A', b'x'), (b'B', b'X')]));
-    the_first_pair_is_alone(test, set);
-}
-
-fn the_first_pair_is_alone(test: &Test, set: &mut Letters) {
-    set.clear();
-    test.expect(inserts(set, b'A', b'x', true));
-    test.expect(inserts(set, b'a', b'X', false));
-    test.expect(has_letters(set, &[(b'A', b'x')]));
 }
 
 #[test]

@@ -12,69 +12,42 @@ use test_helpers::{Failed, Test, ZERO, lend, test_all};
 
 type Pairs = &'static [(u32, u32)];
 
-struct Row {
-    pairs: Pairs,
-    other: Pairs,
-    /// Pairs that leave the other set, and then come again as its last ones.
-    again: Pairs,
-    joined: Pairs,
-    keys: &'static [u32],
-}
+// The pairs of a set and of the other one, pairs that leave the other set and then come again as its
+// last ones, and the pairs and the keys of both.
+type Row = (Pairs, Pairs, Pairs, Pairs, &'static [u32]);
+
+const THREE: Pairs = &[(1, 11), (2, 12), (1, 13)];
 
 const ROWS: &[Row] = &[
-    Row {
-        pairs: &[],
-        other: &[],
-        again: &[],
-        joined: &[],
-        keys: &[],
-    },
-    Row {
-        pairs: &[(1, 11), (2, 12), (1, 13)],
-        other: &[],
-        again: &[],
-        joined: &[(1, 11), (2, 12), (1, 13)],
-        keys: &[1, 2],
-    },
-    Row {
-        pairs: &[],
-        other: &[(1, 11), (2, 12), (1, 13)],
-        again: &[],
-        joined: &[(1, 11), (2, 12), (1, 13)],
-        keys: &[1, 2],
-    },
+    (&[], &[], &[], &[], &[]),
+    (THREE, &[], &[], THREE, &[1, 2]),
+    (&[], THREE, &[], THREE, &[1, 2]),
     // Some pairs of a key are in both sets.
-    Row {
-        pairs: &[(1, 11), (2, 12), (1, 13)],
-        other: &[(3, 12), (1, 13), (2, 13), (1, 12), (2, 12)],
-        again: &[],
-        joined: &[(1, 11), (2, 12), (1, 13), (3, 12), (2, 13), (1, 12)],
-        keys: &[1, 2, 3],
-    },
+    (
+        THREE,
+        &[(3, 12), (1, 13), (2, 13), (1, 12), (2, 12)],
+        &[],
+        &[(1, 11), (2, 12), (1, 13), (3, 12), (2, 13), (1, 12)],
+        &[1, 2, 3],
+    ),
     // All are, in another order.
-    Row {
-        pairs: &[(1, 11), (2, 12), (1, 13)],
-        other: &[(1, 13), (2, 12), (1, 11)],
-        again: &[],
-        joined: &[(1, 11), (2, 12), (1, 13)],
-        keys: &[1, 2],
-    },
+    (THREE, &[(1, 13), (2, 12), (1, 11)], &[], THREE, &[1, 2]),
     // The keys have other values.
-    Row {
-        pairs: &[(1, 11), (2, 12)],
-        other: &[(2, 11), (1, 12)],
-        again: &[],
-        joined: &[(1, 11), (2, 12), (2, 11), (1, 12)],
-        keys: &[1, 2],
-    },
+    (
+        &[(1, 11), (2, 12)],
+        &[(2, 11), (1, 12)],
+        &[],
+        &[(1, 11), (2, 12), (2, 11), (1, 12)],
+        &[1, 2],
+    ),
     // The other set has the keys in the order 1, 2, 3, and pairs that first name 2, 3 and then 1.
-    Row {
-        pairs: &[(4, 11), (3, 13)],
-        other: &[(1, 11), (2, 12), (3, 13), (3, 14), (1, 15)],
-        again: &[(1, 11)],
-        joined: &[(4, 11), (3, 13), (2, 12), (3, 14), (1, 15), (1, 11)],
-        keys: &[4, 3, 2, 1],
-    },
+    (
+        &[(4, 11), (3, 13)],
+        &[(1, 11), (2, 12), (3, 13), (3, 14), (1, 15)],
+        &[(1, 11)],
+        &[(4, 11), (3, 13), (2, 12), (3, 14), (1, 15), (1, 11)],
+        &[4, 3, 2, 1],
+    ),
 ];
 
 pub type NumbersBy<S, A> = SetOrderedMultimap<u32, u32, S, A>;
@@ -116,12 +89,13 @@ fn join_row<S: BuildHasher, T: BuildHasher>(
     at: usize,
     row: &Row,
 ) {
-    fill_anew(test, set, row.pairs, &[]);
-    fill_anew(test, other, row.other, row.again);
+    let (pairs, others, again, joined, keys) = *row;
+    fill_anew(test, set, pairs, &[]);
+    fill_anew(test, other, others, again);
     let room = rooms(other);
     test.expect_at(at, set.append_map(other).is_ok());
-    test.expect_at(at, has_lists(set, row.joined, row.keys));
-    test.expect_at(at, finds(set, row.joined));
+    test.expect_at(at, has_lists(set, joined, keys));
+    test.expect_at(at, finds(set, joined));
     test.expect_at(at, has_lists(other, &[], &[]) && rooms(other) == room);
 }
 

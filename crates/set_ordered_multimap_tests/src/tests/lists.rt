@@ -3,7 +3,21 @@
 use set_ordered_multimap::SetOrderedMultimap;
 use std::alloc::Allocator;
 use std::hash::{BuildHasher, Hash};
-use test_helpers::gives;
+use test_helpers::{copied, gives};
+
+// Whether the first and the last pair, and all values, are those of these pairs.
+fn has_ends<K: Eq + Hash + Copy, V: PartialEq + Copy, S: BuildHasher, A: Allocator>(
+    set: &SetOrderedMultimap<K, V, S, A>,
+    pairs: &[(K, V)],
+) -> bool {
+    let mut values = set.values();
+    let mut same = values.len() == pairs.len();
+    for (_key, value) in pairs {
+        same = same && copied(values.next()) == Some(*value);
+    }
+    same && copied(set.front()) == pairs.first().copied()
+        && copied(set.back()) == pairs.last().copied()
+}
 
 /// Whether a set has these pairs and these keys, each in this order, and no others.
 pub fn has_lists<K: Eq + Hash + Copy, V: PartialEq + Copy, S: BuildHasher, A: Allocator>(
@@ -12,5 +26,6 @@ pub fn has_lists<K: Eq + Hash + Copy, V: PartialEq + Copy, S: BuildHasher, A: Al
     keys: &[K],
 ) -> bool {
     let same_len = set.values_len() == pairs.len() && set.keys_len() == keys.len();
-    same_len && gives(&mut set.iter(), pairs) && gives(&mut set.keys(), keys)
+    let same_pairs = gives(&mut set.iter(), pairs) && has_ends(set, pairs);
+    same_len && same_pairs && gives(&mut set.keys(), keys)
 }

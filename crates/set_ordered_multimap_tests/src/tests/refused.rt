@@ -4,7 +4,7 @@ use crate::tests::lists::has_lists;
 use ordered_multimap::list_ordered_multimap::{DefaultState, Refused};
 use refusing_allocator::RefusingAllocator;
 use set_ordered_multimap::SetOrderedMultimap;
-use std::alloc::Allocator;
+use std::alloc::{AllocError, Allocator};
 use test_helpers::{Failed, Test, copied, lend, lend_made, requests_until_enough};
 
 // A set whose memory may be refused. The allocator's type is a parameter all over here, since a set
@@ -18,6 +18,8 @@ enum Try {
     // Of a new pair of the key 1, where the set has these pairs, of these keys.
     Insert(Pairs, &'static [u32]),
     Extend,
+    // By std's trait.
+    ExtendByTrait,
     Clone,
     // Calls that make no request.
     NeedNone,
@@ -32,6 +34,7 @@ const TRIES: &[(Try, u64)] = &[
     (Try::Insert(FULL, &[1]), 1),
     (Try::Insert(&[(2, 1), (2, 2), (2, 3), (2, 4)], &[2]), 1),
     (Try::Extend, 3),
+    (Try::ExtendByTrait, 3),
     (Try::Clone, 3),
 ];
 
@@ -74,17 +77,12 @@ fn insert<A: Allocator + Copy>(
     before: Pairs,
     keys: &[u32],
 ) -> bool {
-    match set.insert(NEW.0, NEW.1) {
-        Ok(new) => {
-            test.expect(new && stands_last(set, before));
-            true
-        }
-        Err(refused) => {
-            test.expect(refused_pair(refused) == NEW);
-            test.expect(has_lists(set, before, keys));
-            false
-        }
-    }
+    let given = set.insert(NEW.0, NEW.1).map_err(refused_pair);
+    test.expect(match given {
+        Ok(new) => new && stands_last(set, before),
+        Err(pair) => pair == NEW && has_lists(set, before, keys),
+    });
+    given.is_ok()
 }
 
 // The pair that was refused, if one was, and how many are left in the iterator.
@@ -97,22 +95,28 @@ fn extended<A: Allocator + Copy>(
     (given, pairs.len())
 }
 
-// Inserts all pairs. The refused one is the one behind those that the set has then.
-fn extend<A: Allocator + Copy>(test: &Test, set: &mut Refusing<A>) -> bool {
-    let (given, left) = extended(set, PAIRS);
+// How many of the pairs the set has, of which the one behind these was the last that was read.
+fn stopped<A: Allocator>(test: &Test, set: &Refusing<A>, left: usize) -> usize {
     let count = set.values_len().min(3);
     test.expect(has_lists(set, &FIRST[..count], &KEYS[..count]));
     test.expect(LEFT.get(count).copied() == Some(left));
-    match given {
-        Ok(()) => {
-            test.expect(count == 3);
-            true
-        }
-        Err(pair) => {
-            test.expect(FIRST.get(count).copied() == Some(pair));
-            false
-        }
-    }
+    count
+}
+
+// Inserts all pairs. The refused one is the one behind those that the set has then.
+fn extend<A: Allocator + Copy>(test: &Test, set: &mut Refusing<A>) -> bool {
+    let (given, left) = extended(set, PAIRS);
+    let count = stopped(test, set, left);
+    test.expect(FIRST.get(count).copied() == given.err());
+    given.is_ok()
+}
+
+// The same by the trait, whose error has no pair.
+fn extend_by_trait<A: Allocator + Copy>(test: &Test, set: &mut Refusing<A>) -> bool {
+    let mut pairs = PAIRS.iter().copied();
+    let enough = Extend::extend(set, &mut pairs).is_ok();
+    test.expect(enough == (stopped(test, set, pairs.len()) == 3));
+    enough
 }
 
 // Inserts pairs that a full set has. There is no room for one that it doesn't have.
@@ -153,7 +157,7 @@ fn pairs_before(call: Try) -> &'static [(u32, u32)] {
     match call {
         Try::Insert(pairs, _) => pairs,
         Try::ExtendByPresent => FULL,
-        Try::Extend => &[],
+        Try::Extend | Try::ExtendByTrait => &[],
         Try::Clone | Try::NeedNone => FIRST,
     }
 }
@@ -163,6 +167,7 @@ fn tries<A: Allocator + Copy>(test: &Test, set: &mut Refusing<A>, call: Try) -> 
     match call {
         Try::Insert(before, keys) => insert(test, set, before, keys),
         Try::Extend => extend(test, set),
+        Try::ExtendByTrait => extend_by_trait(test, set),
         Try::Clone => clone_of(test, set),
         Try::NeedNone => need_none(test, set),
         Try::ExtendByPresent => extend_by_present(test, set),
@@ -192,7 +197,10 @@ fn tries_by<A: Allocator + Copy>(
 
 fn from_iter_with(test: &Test, granted: u64) -> bool {
     let allocator = RefusingAllocator::new(test.alloc(), granted);
-    from_iter_by(test, &allocator)
+    let enough = from_iter_by(test, &allocator);
+    allocator.grant(granted);
+    test.expect(collect_by(test, &allocator) == enough);
+    enough
 }
 
 fn from_iter_by<A: Allocator + Copy>(test: &Test, allocator: A) -> bool {
@@ -201,6 +209,14 @@ fn from_iter_by<A: Allocator + Copy>(test: &Test, allocator: A) -> bool {
         SetOrderedMultimap::from_iter(allocator, DefaultState::new(), pairs),
         |set| test.expect(has_lists(set, FIRST, KEYS)),
         |refused| test.expect(FIRST.contains(&refused_pair(refused))),
+    )
+}
+
+fn collect_by<A: Allocator + Copy>(test: &Test, allocator: A) -> bool {
+    lend_made(
+        PAIRS.iter().copied().collect(allocator),
+        |set: &mut Refusing<A>| test.expect(has_lists(set, FIRST, KEYS)),
+        |_refused: AllocError| {},
     )
 }
 

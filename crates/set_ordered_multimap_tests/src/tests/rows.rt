@@ -3,13 +3,12 @@ use crate::tests::lists::has_lists;
 use ordered_multimap::list_ordered_multimap::KeyWrapper;
 use set_ordered_multimap::SetOrderedMultimap;
 use std::hash::BuildHasher;
-use test_helpers::{Failed, Test, ZERO, lend, test_all};
+use test_helpers::{Failed, Test, ZERO, test_on_new};
 
 // A call with its key and its value, and what it returns.
 #[derive(Clone, Copy)]
 enum Call {
     Insert(u32, u32, bool),
-    Contains(u32, u32, bool),
     RemoveValue(u32, u32, bool),
     // The pair that leaves, whose key goes with it.
     PopFront(u32, u32),
@@ -25,8 +24,6 @@ const ROWS: &[Row] = &[
     (Call::Insert(1, 5, false), &[(1, 5)], &[1]),
     (Call::Insert(2, 5, true), &[(1, 5), (2, 5)], &[1, 2]),
     (Call::Insert(1, 6, true), THREE, &[1, 2]),
-    (Call::Contains(1, 6, true), THREE, &[1, 2]),
-    (Call::Contains(2, 6, false), THREE, &[1, 2]),
     (Call::RemoveValue(1, 5, true), &[(2, 5), (1, 6)], &[1, 2]),
     (Call::RemoveValue(1, 6, true), &[(2, 5)], &[2]),
     (Call::RemoveValue(1, 6, false), &[(2, 5)], &[2]),
@@ -38,7 +35,6 @@ const ROWS: &[Row] = &[
 fn is_called<S: BuildHasher>(set: &mut SetOrderedMultimap<u32, u32, S>, call: Call) -> bool {
     match call {
         Call::Insert(key, value, new) => set.insert(key, value) == Ok(new),
-        Call::Contains(key, value, there) => set.contains(&key, &value) == there,
         Call::RemoveValue(key, value, there) => set.remove_value(&key, &value) == there,
         Call::PopFront(key, value) => set.pop_front() == Some((KeyWrapper::Owned(key), value)),
     }
@@ -51,17 +47,13 @@ fn rows_hold<S: BuildHasher>(test: &Test, set: &mut SetOrderedMultimap<u32, u32,
     }
 }
 
-fn numbers_stand_once(test: &Test) {
-    let set = SetOrderedMultimap::new(test.alloc());
-    lend(set, |set| rows_hold(test, set));
-}
-
-fn numbers_of_one_hash_stand_once(test: &Test) {
-    let set = SetOrderedMultimap::with_hasher(test.alloc(), ZERO);
-    lend(set, |set| rows_hold(test, set));
+#[test]
+fn no_pair_stands_twice(rt: HostRuntime) -> Result<(), Failed> {
+    test_on_new(rt.alloc(), SetOrderedMultimap::new, rows_hold)
 }
 
 #[test]
-fn no_pair_stands_twice(rt: HostRuntime) -> Result<(), Failed> {
-    test_all!(rt.alloc(); numbers_stand_once, numbers_of_one_hash_stand_once)
+fn no_pair_of_one_hash_stands_twice(rt: HostRuntime) -> Result<(), Failed> {
+    let collided = |alloc| SetOrderedMultimap::with_hasher(alloc, ZERO);
+    test_on_new(rt.alloc(), collided, rows_hold)
 }

@@ -1,6 +1,6 @@
-//! What proved callers know of a set after a removal, a pop or a retain.
+//! What proved callers know of a set after a pop, an exchange or a retain.
 ghost use Rattle.std.specs.Prelude.{◌≡◌, filter, nat_eq, nat_lt, true, OnOk};
-ghost use Rattle.ordered_multimap.specs.Changes.{kept, removed};
+ghost use Rattle.ordered_multimap.specs.Changes.{kept};
 ghost use Rattle.ordered_multimap.specs.End.TheVariants.{Front};
 ghost use Rattle.ordered_multimap.specs.Popped.{popped};
 ghost use Rattle.set_ordered_multimap.specs.Set.{IsSet, set_inserted, value_removed};
@@ -9,17 +9,6 @@ use ordered_multimap::list_ordered_multimap::Refused;
 use set_ordered_multimap::SetOrderedMultimap;
 use std::alloc::Allocator;
 use std::hash::{BuildHasher, Hash};
-
-/// Takes a key out with all its values, and drops them.
-pub fn remove_key<K: Eq + Hash + Drop, V: Eq + Drop, S: BuildHasher, A: Allocator>(
-    set: &mut SetOrderedMultimap<K, V, S, A>,
-    key: &K,
-)
-    ensures lists { set.new.lists ≡ removed K.eq set.old.lists key.now }
-    ensures set { IsSet K.eq V.eq set.old.lists → IsSet K.eq V.eq set.new.lists }
-{
-    set.remove_all_with(key, |_value| {});
-}
 
 /// Takes the first pair out, and returns its value.
 pub fn take_first<K: Eq + Hash + Drop, V: Eq, S: BuildHasher, A: Allocator>(
