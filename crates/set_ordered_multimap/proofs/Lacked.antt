@@ -4,8 +4,7 @@ use Rattle.std.specs.Cmp.{IsEquivalence}
 use Rattle.std.specs.List.{AllByRecursion, IsDistinct}
 use Rattle.std.specs.Map.{keys_of}
 use Rattle.ordered_multimap.proofs.Callers.Places.{filter_shorter}
-use Rattle.ordered_multimap.specs.AppendMap.{HasRoomForMap}
-use Rattle.ordered_multimap.specs.AppendMap.{IsCleared as IsClearedMap}
+use Rattle.ordered_multimap.specs.AppendMap.{HasRoomForMap, IsCleared}
 use Rattle.ordered_multimap.specs.Changes.{all_appended, kept}
 use Rattle.ordered_multimap.specs.Keys.{is_listed}
 use Rattle.ordered_multimap.specs.Lists.{Lists}
@@ -16,7 +15,7 @@ use Rattle.set_ordered_multimap.proofs.Callers.FirstPairs.{all_inserted-first_pa
 use Rattle.set_ordered_multimap.proofs.Callers.Sets.{IsSet-empty}
 use Rattle.set_ordered_multimap.specs.AppendSet.{lacked}
 use Rattle.set_ordered_multimap.specs.Set.{IsSet, same_pair, all_inserted, first_pairs, has_pair}
-use Rattle.set_ordered_multimap.specs.SetChanges.{IsCleared}
+use Rattle.set_ordered_multimap.specs.SetChanges.{IsClearedSet}
 
 -- items that a test passes over stay where what it picks goes
 filter_apart : {X : Type 0} (test : X → Bool) (xs : List X) → AllByRecursion (λ x. test x ≡ false) xs
@@ -66,7 +65,7 @@ module _ {K V : Type 0} (eq : K → K → Bool) (value_eq : V → V → Bool) wh
   -- some pairs have left, and then all the others
   pub cleared-then : {S : Type 0} {old left new : Multimap K V S} → SameRooms old left
       → TakesOut (length old.lists.pairs - length left.lists.pairs) old.tape left.tape
-      → length left.lists.pairs ≤ length old.lists.pairs → IsClearedMap left new → IsCleared eq value_eq old new
+      → length left.lists.pairs ≤ length old.lists.pairs → IsCleared left new → IsClearedSet eq value_eq old new
   cleared-then rooms taken fewer cleared = record {
     lists = cleared.lists;
     set = subst (IsSet eq value_eq) (sym cleared.lists) (IsSet-empty eq value_eq);

@@ -4,7 +4,7 @@ use Rattle.ordered_multimap.specs.Extends.{AppendsAll}
 use Rattle.ordered_multimap.specs.Lists.{Lists}
 use Rattle.ordered_multimap.specs.Multimap.{Multimap}
 use Rattle.set_ordered_multimap.specs.Set.{has_pair}
-use Rattle.set_ordered_multimap.specs.SetChanges.{IsCleared}
+use Rattle.set_ordered_multimap.specs.SetChanges.{IsClearedSet}
 
 module _ {K V : Type 0} (eq : K → K → Bool) (value_eq : V → V → Bool) where
   -- the pairs that are equal to none of the lists
@@ -16,4 +16,4 @@ module _ {K V : Type 0} (eq : K → K → Bool) (value_eq : V → V → Bool) wh
   pub record AppendsLacked {S T : Type 0} (old new : Multimap K V S)
       (other other_after : Multimap K V T) : Type 0 where
     pub appended : AppendsAll eq old (lacked old.lists other.lists.pairs) new
-    pub cleared : IsCleared eq value_eq other other_after
+    pub cleared : IsClearedSet eq value_eq other other_after

@@ -57,7 +57,7 @@ module _ {K V S : Type 0} (eq : K → K → Bool) (value_eq : V → V → Bool) 
     pub doubles : DoublesRooms old new
     pub taken : TakesOut 0 old.tape new.tape
 
-  -- the set is built of the pairs, of equal ones of the first alone, on a tape that was not used,
+  -- the set is built of the pairs, of equal ones the first alone, on a tape that was not used,
   -- with a default of the hash builder
   pub record IsCollectedSet (is_default : S → Type 0) (pairs : List (K × V)) (s : Multimap K V S)
       : Type 0 where

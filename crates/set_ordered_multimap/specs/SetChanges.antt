@@ -23,7 +23,7 @@ module _ {K V S : Type 0} (eq : K → K → Bool) (value_eq : V → V → Bool) 
 
   module _ (old new : Multimap K V S) where
     -- no pair is left; no room is lower, and the tape has as many slots and no hole
-    pub record IsCleared : Type 0 where
+    pub record IsClearedSet : Type 0 where
       pub lists : new.lists ≡ empty_lists
       pub set : IsSet eq value_eq new.lists
       pub rooms : KeepsRooms old new

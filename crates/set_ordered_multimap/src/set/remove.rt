@@ -9,7 +9,7 @@ ghost use Rattle.ordered_multimap.specs.Removals.{IsRemovedWhere};
 ghost use Rattle.ordered_multimap.specs.Rooms.{SameRooms};
 ghost use Rattle.ordered_multimap.specs.TapeNumbers.{TakesOut};
 ghost use Rattle.set_ordered_multimap.specs.Set.{IsSet, has_pair_where, pairs_but_where};
-ghost use Rattle.set_ordered_multimap.specs.SetChanges.{IsCleared, LosesKeyWhere, LosesValueWhere};
+ghost use Rattle.set_ordered_multimap.specs.SetChanges.{IsClearedSet, LosesKeyWhere, LosesValueWhere};
 ghost use Rattle.set_ordered_multimap.specs.SetLends.{ends_as_map, lends_map};
 
 use super::SetOrderedMultimap;
@@ -124,7 +124,7 @@ impl<K: Eq + Hash, V: Eq, S: BuildHasher, A: Allocator> SetOrderedMultimap<K, V,
     where
         K: Drop,
         V: Drop,
-        ensures cleared { IsCleared K.eq V.eq self.old self.new }
+        ensures cleared { IsClearedSet K.eq V.eq self.old self.new }
     {
         self.map.clear();
     }
