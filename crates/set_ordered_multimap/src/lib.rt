@@ -63,8 +63,8 @@
 //!
 //! An insertion returns a `Refused` with the key and the value, and both lists are as before;
 //! capacities may have grown. It never fails if an equal pair is there, or where the capacities
-//! suffice. `extend` keeps the pairs before that one, and `from_iter` drops them. So do the calls of
-//! the traits `Extend` and `FromIterator`, which return `AllocError`. `append_map` returns
+//! suffice. `extend` keeps the pairs before that one, and `from_iter` drops them. The calls of the
+//! traits `Extend` and `FromIterator` do the same, and return `AllocError`. `append_map` returns
 //! `AllocError`, and both lists of both sets are as before. `clone` returns `AllocError`. Removals
 //! and lookups can't fail.
 //!

@@ -17,13 +17,11 @@ enum Call {
 // A call, and the pairs and the keys after it.
 type Row = (Call, &'static [(u32, u32)], &'static [u32]);
 
-const THREE: &[(u32, u32)] = &[(1, 5), (2, 5), (1, 6)];
-
 const ROWS: &[Row] = &[
     (Call::Insert(1, 5, true), &[(1, 5)], &[1]),
     (Call::Insert(1, 5, false), &[(1, 5)], &[1]),
     (Call::Insert(2, 5, true), &[(1, 5), (2, 5)], &[1, 2]),
-    (Call::Insert(1, 6, true), THREE, &[1, 2]),
+    (Call::Insert(1, 6, true), &[(1, 5), (2, 5), (1, 6)], &[1, 2]),
     (Call::RemoveValue(1, 5, true), &[(2, 5), (1, 6)], &[1, 2]),
     (Call::RemoveValue(1, 6, true), &[(2, 5)], &[2]),
     (Call::RemoveValue(1, 6, false), &[(2, 5)], &[2]),
