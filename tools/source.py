@@ -6,7 +6,7 @@ import pathlib
 import re
 
 TOP = pathlib.Path(__file__).resolve().parent.parent
-LAYERS = ["multimap_slots", "multimap_table", "multimap_walks", "ordered_multimap", "set_ordered_multimap", "multimap_tool"]
+LAYERS = ["multimap_slots", "multimap_table", "multimap_walks", "ordered_multimap", "set_ordered_multimap", "ascii_caseless", "multimap_tool"]
 BLOCK = re.compile(r"(?:pub(?:\([a-z]+\))? )?(?:unsafe )?(impl|trait)\b")
 HEAD = re.compile(r'( *)(pub(?:\([a-z]+\))? )?(?:const )?(?:unsafe )?(?:extern "C" )?fn (\w+)')
 CLAUSE = re.compile(r"\s*(ensures\*?|requires)(?!\w)\s*(\w*)")
