@@ -75,12 +75,12 @@ fn values_of<'m, 't>(
     name: Name<'t>,
 ) -> EntryValues<'m, Name<'t>, &'t [u8]>
     ensures found { result.left ≡ values_where
-        (λ stored. str_eq_ignore_ascii_case name.entry.text.now stored.text.now)
+        (λ stored. str_eq_ignore_ascii_case name.entry.text.0.now stored.text.0.now)
         headers.now.lists.pairs }
     ensures any_spelling { (other : List ℕ)
-        → str_to_ascii_lowercase other ≡ str_to_ascii_lowercase name.entry.text.now
+        → str_to_ascii_lowercase other ≡ str_to_ascii_lowercase name.entry.text.0.now
         → result.left ≡ values_where
-        (λ stored. str_eq_ignore_ascii_case other stored.text.now)
+        (λ stored. str_eq_ignore_ascii_case other stored.text.0.now)
         headers.now.lists.pairs }
 {
     headers.get_all(&name)

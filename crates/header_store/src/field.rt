@@ -17,7 +17,7 @@ pub fn field_of(text: &[u8], separator: u8) -> io::Result<(Name<'_>, &[u8])>
     ensures allowed { IsOk result ↔ rfc.IsToken (rfc.before_byte separator text.now)
         × rfc.IsValue (rfc.behind_byte separator text.now) }
     ensures named { IfOk result (λ field.
-        field.0.text.now ≡ rfc.before_byte separator text.now) }
+        field.0.text.0.now ≡ rfc.before_byte separator text.now) }
     ensures trimmed { IfOk result (λ field.
         IsTrimAscii (rfc.behind_byte separator text.now) field.1.now) }
     ensures fault { IfErr result (λ error. error_kind error ≡ InvalidData) }
@@ -33,7 +33,7 @@ pub fn field_of(text: &[u8], separator: u8) -> io::Result<(Name<'_>, &[u8])>
 /// The name that the text is.
 pub fn name_of(text: &[u8]) -> io::Result<Name<'_>>
     ensures token { IsOk result ↔ rfc.IsToken text.now }
-    ensures named { IfOk result (λ name. name.text.now ≡ text.now) }
+    ensures named { IfOk result (λ name. name.text.0.now ≡ text.now) }
     ensures fault { IfErr result (λ error. error_kind error ≡ InvalidData) }
 {
     match Name::new(text) {
