@@ -11,14 +11,14 @@ use crate::AsciiCaseless;
 use std::convert::AsSlice;
 use std::hash::{Hash, Hasher};
 
-// Whether two texts differ in the case of ASCII letters alone.
+// Whether two texts differ at most in the case of ASCII letters.
 pub(crate) fn are_alike(one: &[u8], other: &[u8]) -> bool
     ensures { result ≡ str_eq_ignore_ascii_case one.now other.now }
 {
     one.eq_ignore_ascii_case(other)
 }
 
-/// Texts are equal if they differ in the case of ASCII letters alone.
+/// Texts are equal if they differ at most in the case of ASCII letters.
 impl<T: AsSlice<u8>> PartialEq for AsciiCaseless<T> {
     ghost eq = { λ a b. str_eq_ignore_ascii_case (T.items a.0) (T.items b.0) };
 
@@ -35,7 +35,7 @@ impl<T: AsSlice<u8>> Eq for AsciiCaseless<T> {
         nat_list_eq_equiv };
 }
 
-/// A text is hashed as the slice of its bytes in lower case, whatever it is in.
+/// A text is hashed as the slice of its bytes in lower case, whatever type it is in.
 impl<T: AsSlice<u8>> Hash for AsciiCaseless<T> {
     ghost hash_input = { λ text. fed.slice fed.u8 (str_to_ascii_lowercase (T.items text.0)) };
 

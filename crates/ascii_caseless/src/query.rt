@@ -10,8 +10,8 @@ use crate::compare::are_alike;
 use ordered_multimap::KeyQuery;
 use std::convert::AsSlice;
 
-/// A borrowed text is equivalent to each key that differs from it in the case of ASCII letters
-/// alone, whatever the key's text is in.
+/// A borrowed text is equivalent to each key that differs from it at most in the case of ASCII
+/// letters, whatever type the key's text is in.
 ///
 /// So `map.get(AsciiCaseless("accept"))` looks up an `AsciiCaseless<String>` key without allocating
 /// a `String`. A bare `&str` can't be such a query, since its hash depends on its case.

@@ -3,7 +3,7 @@ use crate::AsciiCaseless;
 use std::fmt;
 use std::fmt::{Debug, Display, Formatter};
 
-/// The text as it is spelled.
+/// What `T` shows: the text, as it is spelled.
 impl<T: Display> Display for AsciiCaseless<T> {
     ghost output = { λ text. T.output text.0 };
 
@@ -14,7 +14,7 @@ impl<T: Display> Display for AsciiCaseless<T> {
     }
 }
 
-/// What the text is in, as it is spelled.
+/// What `T` shows: a text in quotes, or a list of bytes, as it is spelled.
 impl<T: Debug> Debug for AsciiCaseless<T> {
     ghost debug_output = { λ text. T.debug_output text.0 };
 

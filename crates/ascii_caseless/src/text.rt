@@ -6,14 +6,14 @@ use std::convert::{AsSlice, AsStr};
 /// Text that is compared and hashed without the case of ASCII letters.
 ///
 /// `T` is a `String`, a `&str`, a `Vec<u8>` or a `&[u8]`, or any other type that lends itself as
-/// bytes by std's `AsSlice<u8>`. Two texts are equal if their bytes are, once ASCII letters are in
-/// lower case. Letters beyond ASCII are compared as they are spelled. Equal texts have equal hashes,
-/// whatever they are in.
+/// bytes by std's `AsSlice<u8>`. Two texts are equal if their bytes are equal once ASCII letters
+/// are in lower case; letters beyond ASCII differ if their cases do. Equal texts have equal hashes,
+/// whatever type they are in.
 ///
-/// It is shown as the text is spelled: `Display` and `Debug` are those of `T`.
+/// `Display` and `Debug` are those of `T`, which show the text as it is spelled.
 ///
-/// A map with such keys is looked up by an `AsciiCaseless("accept")`, and not by a bare `&str`: the
-/// hash of a `&str` depends on its case ([`KeyQuery`](ordered_multimap::KeyQuery)).
+/// A map with such keys is looked up by `AsciiCaseless("accept")`, not by a bare `&str`: the hash of
+/// a `&str` depends on its case ([`KeyQuery`](ordered_multimap::KeyQuery)).
 ///
 /// # Examples
 ///
@@ -28,7 +28,7 @@ use std::convert::{AsSlice, AsStr};
 pub struct AsciiCaseless<T>(pub T);
 
 impl<T> AsciiCaseless<T> {
-    /// Returns what the text is in, as it is spelled.
+    /// Returns the wrapped text, as it is spelled.
     ///
     /// # Complexity
     ///

@@ -19,6 +19,10 @@ use std::hash::Hash;
 /// So `map.get("line")` looks up a `String` key without allocating a `String`. It takes the place
 /// of the `Borrow` of std's lookups, and is passed by value.
 ///
+/// A bare `&str` is hashed as it is spelled, so it finds no key in another case. For names of which
+/// the case doesn't matter, as those of headers, the crate `ascii_caseless` has keys and queries:
+/// `headers.get(AsciiCaseless("accept"))`.
+///
 /// Where a key is compared and hashed by one part of it alone, [`KeyByPart`] makes a query for the
 /// key of each query for the part. Any other `Copy` type of your own can be a query too. Its
 /// `equivalent` says to which keys it is equivalent, and it has to be hashed as each of those keys
