@@ -28,7 +28,7 @@ pub fn values_of_any_spelling<'m, V, S: BuildHasher, A: Allocator, B: Allocator>
     map.get_all(AsciiCaseless(name))
 }
 
-/// The first values of a name under two spellings, which are the same.
+/// The first values of two names, which are the same if these are spellings of one name.
 pub fn first_of_both_spellings<V: Copy, S: BuildHasher, A: Allocator, B: Allocator>(
     map: &ListOrderedMultimap<AsciiCaseless<String<B>>, V, S, A>,
     one: &str,
@@ -44,8 +44,8 @@ pub fn first_of_both_spellings<V: Copy, S: BuildHasher, A: Allocator, B: Allocat
     (first, map.get(AsciiCaseless(other)).copied())
 }
 
-/// Appends a value under one spelling of a name, and returns the last value under another one,
-/// which is that value.
+/// Appends a value under a name, and returns the last value of another one: the same value, if
+/// these are spellings of one name.
 pub fn append_and_find<V: Copy, S: BuildHasher, A: Allocator + Copy, B: Allocator + Drop>(
     map: &mut ListOrderedMultimap<AsciiCaseless<String<B>>, V, S, A>,
     name: String<B>,

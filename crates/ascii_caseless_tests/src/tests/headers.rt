@@ -69,6 +69,23 @@ fn names_answer(test: &Test, headers: &mut Headers) {
     one_is_removed(test, headers);
 }
 
+fn is_spelled(removed: Option<(AsciiCaseless<String>, u32)>, name: &str, value: u32) -> bool {
+    match removed {
+        Some((stored, first)) => stored.as_str() == name && first == value,
+        None => false,
+    }
+}
+
+// A name that is replaced stays as it was, and one that comes again is new.
+fn first_spelling_stays(test: &Test, headers: &mut Headers) {
+    headers.clear();
+    test.expect(headers.append(text_of(test, "Key"), 1).ok() == Some(false));
+    test.expect(headers.insert(text_of(test, "KEY"), 2).ok() == Some(Some(1)));
+    test.expect(is_spelled(headers.remove_entry(&text_of(test, "key")), "Key", 2));
+    test.expect(headers.append(text_of(test, "kEY"), 3).ok() == Some(false));
+    are_stored(test, headers, &[("kEY", 3)]);
+}
+
 fn callers_find_any_spelling(test: &Test, headers: &mut Headers) {
     headers_are_sent(test, headers);
     let both = [(End::Back, 3), (End::Back, 1)];
@@ -88,7 +105,7 @@ fn caller_finds_what_it_appended(test: &Test, headers: &mut Headers) {
 fn headers_are_kept(test: &Test, headers: &mut Headers) {
     run_parts!(
         test, headers;
-        names_answer, callers_find_any_spelling, caller_finds_what_it_appended
+        names_answer, first_spelling_stays, callers_find_any_spelling, caller_finds_what_it_appended
     )
 }
 

@@ -1,5 +1,4 @@
-//! A query of one's own: a header's name, looked up by a text in any case; and which of several
-//! spellings stays.
+//! A query of one's own: a header's name, looked up by a text in any case, where names collide.
 ghost use Rattle.std.proofs.Common.{ap};
 ghost use Rattle.std.specs.Cmp.{on_equiv, partial_equiv_from_equiv, on_per};
 ghost use Rattle.std.specs.Cmp.Lexicographic.{bytes_decides, nat_list_eq_equiv};
@@ -8,11 +7,10 @@ ghost use Rattle.std.specs.Prelude.{◌≡◌, None, length};
 ghost use Rattle.std.specs.Str.{str_eq_ignore_ascii_case, str_to_ascii_lowercase};
 ghost use Rattle.std.specs.String.{string_bytes};
 
-use ordered_multimap::list_ordered_multimap::KeyWrapper;
 use ordered_multimap::{KeyQuery, ListOrderedMultimap};
 use ordered_multimap_callers::tested::test_on_empty;
 use std::hash::{Hash, Hasher};
-use test_helpers::{End, Failed, Test, run_parts, walk_difference};
+use test_helpers::{End, Failed, Test, walk_difference};
 
 /// A header's name. Case counts for nothing when names are compared, and names of one length have one
 /// hash, so that some of them collide.
@@ -136,47 +134,7 @@ fn headers_are_kept(test: &Test, headers: &mut Headers) {
     test.expect(headers.values_len() == 2);
 }
 
-fn is_owned(key: KeyWrapper<'_, Name>, text: &str) -> bool {
-    match key {
-        KeyWrapper::Owned(name) => name.text.as_str() == text,
-        KeyWrapper::Borrowed(_) => false,
-    }
-}
-
-// The name that a pop hands out with the value, since its last value goes.
-fn is_popped(headers: &mut Headers, text: &str, value: u32) -> bool {
-    match headers.pop_back() {
-        Some((key, last)) => is_owned(key, text) && last == value,
-        None => false,
-    }
-}
-
-fn first_spellings_stay(test: &Test, headers: &mut Headers) {
-    headers.clear();
-    test.expect(appended(test, headers, "Key", 1) == Some(false));
-    test.expect(appended(test, headers, "KEY", 2) == Some(true));
-    let removed = headers.remove_entry(&name_of(test, "key"));
-    test.expect(is_spelled(removed, "Key", 1));
-    test.expect(headers.values_len() == 0 && headers.keys_len() == 0);
-}
-
-// A name that is replaced stays as it was, and one that comes again is new.
-fn replaced_spelling_stays(test: &Test, headers: &mut Headers) {
-    test.expect(appended(test, headers, "Key", 1) == Some(false));
-    let old = headers.insert(name_of(test, "KEY"), 2);
-    test.expect(old.ok() == Some(Some(1)));
-    test.expect(headers.values_len() == 1);
-    test.expect(is_popped(headers, "Key", 2));
-    test.expect(appended(test, headers, "kEY", 3) == Some(false));
-    let stored = headers.keys().next();
-    test.expect(stored.is_some_and(|name| name.text.as_str() == "kEY"));
-}
-
-fn names_answer(test: &Test, headers: &mut Headers) {
-    run_parts!(test, headers; headers_are_kept, first_spellings_stay, replaced_spelling_stays)
-}
-
 #[test]
 fn names_are_found_in_any_case(rt: HostRuntime) -> Result<(), Failed> {
-    test_on_empty(rt.alloc(), names_answer)
+    test_on_empty(rt.alloc(), headers_are_kept)
 }
