@@ -142,7 +142,8 @@ impl<K: Eq + Hash, V: Drop, S: BuildHasher, A: Allocator> ListOrderedMultimap<K,
     /// over the removed values, or `None` if the key is absent.
     ///
     /// The call itself removes the pairs; [`remove_all`](Self::remove_all) says what happens to the
-    /// iterator. The key is a `&K`, not a query. To get the first value only see
+    /// iterator. The key is a `&K`. For a query see
+    /// [`remove_entry_with_all`](Self::remove_entry_with_all). To get the first value only see
     /// [`remove_entry`](Self::remove_entry).
     ///
     /// Proved callers: see docs/PROVED_CALLERS.md.

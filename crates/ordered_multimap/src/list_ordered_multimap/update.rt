@@ -155,9 +155,9 @@ impl<K: Eq + Hash, V, S: BuildHasher, A: Allocator> ListOrderedMultimap<K, V, S,
     /// reference to it.
     ///
     /// If the key is absent, the function isn't called. All else in the map stays the same. The key
-    /// is a `&K`, not a query. For the values of all pairs see
-    /// [`update_values`](Self::update_values). With [`get_all_mut`](Self::get_all_mut) a loop can
-    /// stop early, begin at the back, or keep the references.
+    /// is a `&K`. For a query see [`get_all_mut`](Self::get_all_mut), with which a loop can also
+    /// stop early, begin at the back, or keep the references. For the values of all pairs see
+    /// [`update_values`](Self::update_values).
     ///
     /// Proved callers: see docs/PROVED_CALLERS.md.
     ///
