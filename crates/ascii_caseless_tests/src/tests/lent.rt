@@ -27,7 +27,10 @@ fn texts_are_lent(test: &Test) {
     let text = AsciiCaseless("Ok");
     test.expect(text.as_str() == "Ok" && text.as_bytes() == b"Ok".as_slice());
     test.expect(text.into_inner() == "Ok");
-    test.expect(is_copied(&text));
+}
+
+fn texts_are_copied(test: &Test) {
+    test.expect(is_copied(&AsciiCaseless("Ok")));
     test.expect(AsciiCaseless::from("Ok").as_str() == "Ok");
 }
 
@@ -58,6 +61,7 @@ fn texts_are_shown_as_they_are_spelled(rt: HostRuntime) -> Result<(), Failed> {
 fn texts_are_lent_as_they_are_spelled(rt: HostRuntime) -> Result<(), Failed> {
     let test = Test::new(rt.alloc());
     texts_are_lent(&test);
+    texts_are_copied(&test);
     strings_are_lent(&test);
     bytes_are_lent(&test);
     test.end()
