@@ -33,13 +33,22 @@ fn append(test: &Test, names: &mut Names, text: &str, value: u32) {
     }
 }
 
-fn parts_are_queries(test: &Test, names: &mut Names) {
+fn fill(test: &Test, names: &mut Names) {
     append(test, names, "line", 1);
     append(test, names, "page", 8);
     append(test, names, "line", 2);
-    test.expect(names.get(Part("page")) == Some(&8) && names.get(Part("pag")).is_none());
+}
+
+fn names_are_found(test: &Test, names: &Names) {
+    test.expect(names.get(Part("page")).copied() == Some(8));
+    test.expect(names.get(Part("pag")).is_none());
     let both = [(End::Front, 1), (End::Front, 2)];
     test.expect_same(walk_difference(&mut names.get_all(Part("line")), &both));
+}
+
+fn parts_are_queries(test: &Test, names: &mut Names) {
+    fill(test, names);
+    names_are_found(test, names);
     test.expect(names.remove(Part("line")) == Some(1));
     test.expect(names.keys_len() == 1);
 }
