@@ -14,9 +14,9 @@ fn add<T: Debug + Drop>(reply: T, replies: &mut String) -> io::Result<()> {
 }
 
 /// Carries out a command that names no key.
-pub fn call_on_whole<'t>(
-    map: &mut Map<'t>,
-    other: &mut Map<'t>,
+pub fn call_on_whole(
+    map: &mut Map,
+    other: &mut Map,
     word: &str,
     replies: &mut String,
 ) -> io::Result<()> {
@@ -38,19 +38,19 @@ pub fn call_on_whole<'t>(
 }
 
 /// Takes the map out, and puts an empty one in its place.
-fn taken<'t>(map: &mut Map<'t>) -> Map<'t> {
+fn taken(map: &mut Map) -> Map {
     replace(map, ListOrderedMultimap::new(*map.allocator()))
 }
 
 // The first key, the last of the others, and the rest.
-fn add_keys(map: Map<'_>, replies: &mut String) -> Result<(), AllocError> {
+fn add_keys(map: Map, replies: &mut String) -> Result<(), AllocError> {
     let mut keys = map.into_keys();
     let first = keys.next();
     let last = keys.next_back();
     writeln!(replies, "{first:?} {last:?} {keys:?}")
 }
 
-fn add_values(map: Map<'_>, replies: &mut String) -> Result<(), AllocError> {
+fn add_values(map: Map, replies: &mut String) -> Result<(), AllocError> {
     let mut values = map.into_values();
     let first = values.next();
     let last = values.next_back();
@@ -58,7 +58,7 @@ fn add_values(map: Map<'_>, replies: &mut String) -> Result<(), AllocError> {
 }
 
 /// Adds the pairs, the keys, and the values of each key from the front and from the back.
-fn add_lists(map: &Map<'_>, replies: &mut String) -> Result<(), AllocError> {
+fn add_lists(map: &Map, replies: &mut String) -> Result<(), AllocError> {
     writeln!(replies, "{map:?}\n{:?}\n{:?}", map.keys(), map.pairs())?;
     for (key, values) in map.pairs() {
         add_reversed(key, values, replies)?;
@@ -66,9 +66,9 @@ fn add_lists(map: &Map<'_>, replies: &mut String) -> Result<(), AllocError> {
     Ok(())
 }
 
-fn add_reversed<'t>(
-    key: &Key<'t>,
-    values: EntryValues<'_, Key<'t>, i64>,
+fn add_reversed(
+    key: &Key,
+    values: EntryValues<'_, Key, i64>,
     replies: &mut String,
 ) -> Result<(), AllocError> {
     write!(replies, "{key:?}")?;
@@ -79,12 +79,7 @@ fn add_reversed<'t>(
 }
 
 /// Carries out a command that names a key alone.
-pub fn call_with_key<'t>(
-    map: &mut Map<'t>,
-    word: &str,
-    key: Key<'t>,
-    replies: &mut String,
-) -> io::Result<()> {
+pub fn call_with_key(map: &mut Map, word: &str, key: Key, replies: &mut String) -> io::Result<()> {
     match word {
         "get_last" => add(map.get_last(&key), replies),
         "get_key_value" => add(map.get_key_value(&key), replies),
@@ -94,17 +89,17 @@ pub fn call_with_key<'t>(
     }
 }
 
-fn default_raised<'t>(map: &mut Map<'t>, key: Key<'t>) -> Result<i64, AllocError> {
+fn default_raised(map: &mut Map, key: Key) -> Result<i64, AllocError> {
     let value = map.entry(key).or_default()?;
     *value = value.saturating_add(1);
     Ok(*value)
 }
 
 /// Carries out a command that names a key and a number.
-pub fn call_with_number<'t>(
-    map: &mut Map<'t>,
+pub fn call_with_number(
+    map: &mut Map,
     word: &str,
-    key: Key<'t>,
+    key: Key,
     number: i64,
 ) -> io::Result<Option<i64>> {
     match word {
@@ -120,19 +115,19 @@ pub fn call_with_number<'t>(
     }
 }
 
-fn entry_set<'t>(map: &mut Map<'t>, key: Key<'t>, value: i64) -> Option<i64> {
+fn entry_set(map: &mut Map, key: Key, value: i64) -> Option<i64> {
     match map.entry(key) {
         Entry::Occupied(mut entry) => Some(entry.set(value)),
         Entry::Vacant(_) => None,
     }
 }
 
-fn remove_index<'t>(map: &mut Map<'t>, key: Key<'t>, index: i64) -> Option<i64> {
+fn remove_index(map: &mut Map, key: Key, index: i64) -> Option<i64> {
     map.remove_index(&key, usize::try_from(index).ok()?)
 }
 
 // The last value that it was called on.
-fn retain_all<'t>(map: &mut Map<'t>, key: Key<'t>, bound: i64) -> Option<i64> {
+fn retain_all(map: &mut Map, key: Key, bound: i64) -> Option<i64> {
     let mut last = None;
     map.retain_all(&key, |value| {
         let keeps = *value >= bound;

@@ -6,14 +6,14 @@ use program_parts::{bad, text_of};
 use std::io;
 
 /// A map whose keys are spelled as in the input.
-pub type Map<'t> = ListOrderedMultimap<Key<'t>, i64>;
+pub type Map = ListOrderedMultimap<Key, i64>;
 
 /// Carries out the commands on the maps, which are empty, and adds what each writes. A bad line
 /// ends this. `number` is the number of the line that is read.
-pub fn carry_out_all<'t>(
-    map: &mut Map<'t>,
-    other: &mut Map<'t>,
-    input: &'t [u8],
+pub fn carry_out_all(
+    map: &mut Map,
+    other: &mut Map,
+    input: &[u8],
     replies: &mut String,
     number: &mut usize,
 ) -> io::Result<()> {
@@ -32,12 +32,7 @@ fn parted(text: &str) -> (&str, &str) {
     text.split_once(' ').unwrap_or((text, ""))
 }
 
-fn carry_out<'t>(
-    map: &mut Map<'t>,
-    other: &mut Map<'t>,
-    line: &'t str,
-    replies: &mut String,
-) -> io::Result<()> {
+fn carry_out(map: &mut Map, other: &mut Map, line: &str, replies: &mut String) -> io::Result<()> {
     let (word, operands) = parted(line);
     if operands.is_empty() {
         return call_on_whole(map, other, word, replies);

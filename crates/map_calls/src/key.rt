@@ -9,30 +9,35 @@ use program_parts::bad;
 use std::hash::{Hash, Hasher};
 use std::{fmt, io};
 
-/// A number as it is spelled. Its spelling counts for nothing where keys are compared.
+/// A number as it is spelled, with zeros in front. The spelling counts for nothing where keys are
+/// compared.
 #[derive(Clone, Copy)]
-pub struct Key<'t> {
-    text: &'t str,
+pub struct Key {
     number: u32,
+    digits: usize,
 }
 
-impl<'t> Key<'t> {
+impl Key {
     /// The key that the text spells.
-    pub fn new(text: &'t str) -> io::Result<Key<'t>> {
+    pub fn new(text: &str) -> io::Result<Key> {
         match text.parse() {
-            Ok(number) => Ok(Key { text, number }),
-            Err(_) => Err(bad("not a key")),
+            Ok(number) if !text.starts_with('+') => Ok(Key {
+                number,
+                digits: text.len(),
+            }),
+            _ => Err(bad("not a key")),
         }
     }
 }
 
-impl<'t> fmt::Debug for Key<'t> {
+impl fmt::Debug for Key {
     fn fmt<W: fmt::Write>(&self, f: &mut fmt::Formatter<W>) -> fmt::Result {
-        f.write_str(self.text)
+        let digits = self.digits;
+        write!(f, "{:0digits$}", self.number)
     }
 }
 
-impl<'t> PartialEq for Key<'t> {
+impl PartialEq for Key {
     ghost eq = { on (λ key. key.number) nat_eq };
 
     ghost laws = { Prim.search (comparing, rules) };
@@ -42,11 +47,11 @@ impl<'t> PartialEq for Key<'t> {
     }
 }
 
-impl<'t> Eq for Key<'t> {
+impl Eq for Key {
     ghost laws = { Prim.search (comparing, rules) };
 }
 
-impl<'t> Hash for Key<'t> {
+impl Hash for Key {
     ghost hash_input = { λ key. fed.u32 key.number };
 
     ghost respects_eq = { Prim.search (hashing, rules) };

@@ -70,9 +70,9 @@ fn add_replies(
 }
 
 /// Adds the replies of this map, and of a second one.
-fn add_beside<'t>(
-    map: &mut Map<'t>,
-    input: &'t [u8],
+fn add_beside(
+    map: &mut Map,
+    input: &[u8],
     replies: &mut String,
     line: &mut usize,
 ) -> io::Result<()> {
