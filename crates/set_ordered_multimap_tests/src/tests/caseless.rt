@@ -1,17 +1,12 @@
 //! Keys and values that are equal but not the same: of equal pairs the first one stays.
-ghost use Rattle.std.proofs.Common.{rules};
-ghost use Rattle.std.specs.Cmp.Rules.{comparing, hashing};
-ghost use Rattle.std.specs.Hash as fed;
-ghost use Rattle.std.specs.Ordering.{on};
-ghost use Rattle.std.specs.Prelude.{nat_eq};
-
 use set_ordered_multimap::SetOrderedMultimap;
-use std::hash::{Hash, Hasher};
 use test_helpers::{Failed, Test, test_on_new};
 
 /// An ASCII letter, whose case counts for nothing.
 #[derive(Clone, Copy)]
+#[derive_where(PartialEq, Eq, Hash)]
 struct Letter {
+    #[derive_where(skip(EqHashOrd))]
     letter: u8,
     folded: u8,
 }
@@ -22,30 +17,6 @@ impl Letter {
             letter,
             folded: letter.to_ascii_lowercase(),
         }
-    }
-}
-
-impl PartialEq for Letter {
-    ghost eq = { on (λ letter. letter.folded) nat_eq };
-
-    ghost laws = { Prim.search (comparing, rules) };
-
-    fn eq(&self, other: &Letter) -> bool {
-        self.folded == other.folded
-    }
-}
-
-impl Eq for Letter {
-    ghost laws = { Prim.search (comparing, rules) };
-}
-
-impl Hash for Letter {
-    ghost hash_input = { λ letter. fed.u8 letter.folded };
-
-    ghost respects_eq = { Prim.search (hashing, rules) };
-
-    fn hash<H: Hasher>(&self, state: &mut H) {
-        self.folded.hash(state);
     }
 }
 
