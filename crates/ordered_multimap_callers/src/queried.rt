@@ -7,7 +7,7 @@ ghost use Rattle.std.specs.String.{string_bytes};
 ghost use Rattle.ordered_multimap.specs.Changes.{first_written_where, removed_where};
 ghost use Rattle.ordered_multimap.specs.Pairs.{values_of, values_where};
 
-use ordered_multimap::{KeyQuery, ListOrderedMultimap};
+use ordered_multimap::{KeyByPart, KeyQuery, ListOrderedMultimap, Part};
 use std::alloc::Allocator;
 use std::hash::{BuildHasher, Hash};
 use std::mem;
@@ -41,6 +41,17 @@ pub fn first_of_text<V: Copy, S: BuildHasher, A: Allocator, B: Allocator>(
         (values_where (λ k. bytes_eq name.now (string_bytes k)) map.now.lists.pairs) 0 }
 {
     map.get(name).copied()
+}
+
+/// The first value of the key for whose part a query stands.
+pub fn first_by_part<K: KeyByPart, V: Copy, Q: KeyQuery<K::Part>, S: BuildHasher, A: Allocator>(
+    map: &ListOrderedMultimap<K, V, S, A>,
+    query: Q,
+) -> Option<V>
+    ensures { result ≡ slice_get
+        (values_where (λ k. Q.equivalent query (K.part_of k)) map.now.lists.pairs) 0 }
+{
+    map.get(Part(query)).copied()
 }
 
 /// Takes out the key that a query stands for, with all its values, and returns it.

@@ -2,6 +2,7 @@
 ghost use Rattle.std.specs.Prelude.{refl};
 
 use ordered_multimap::{KeyByPart, ListOrderedMultimap, Part};
+use ordered_multimap_callers::queried::first_by_part;
 use ordered_multimap_callers::tested::test_on_empty;
 use test_helpers::{End, Failed, Test, walk_difference};
 
@@ -42,6 +43,7 @@ fn fill(test: &Test, names: &mut Names) {
 fn names_are_found(test: &Test, names: &Names) {
     test.expect(names.get(Part("page")).copied() == Some(8));
     test.expect(names.get(Part("pag")).is_none());
+    test.expect(first_by_part(names, "line") == Some(1));
     let both = [(End::Front, 1), (End::Front, 2)];
     test.expect_same(walk_difference(&mut names.get_all(Part("line")), &both));
 }
