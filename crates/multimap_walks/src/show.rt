@@ -22,10 +22,6 @@ where
     };
     f.write_str(name)?;
     f.write_str("(")?;
-    let mut list = f.debug_list();
-    for item in rest {
-        list.entry(&item);
-    }
-    list.finish()?;
+    f.debug_list().entries(rest).finish()?;
     f.write_str(")")
 }

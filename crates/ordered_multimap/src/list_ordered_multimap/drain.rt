@@ -7,6 +7,7 @@ ghost use Rattle.ordered_multimap.specs.Detaches.{HoldsDrain};
 mod insert_all;
 pub(crate) mod steps;
 
+use super::show::show_left;
 use super::{DefaultState, EntryValues, ListOrderedMultimap};
 use crate::KeyQuery;
 use multimap_walks::End;
@@ -289,12 +290,6 @@ impl<'map, K: Eq + Hash, V: Drop, S: BuildHasher, A: Allocator> Drop
 impl<'map, K: Eq + Hash, V: fmt::Debug + Drop, S: BuildHasher, A: Allocator> fmt::Debug
     for EntryValuesDrain<'map, K, V, S, A> {
     fn fmt<W: fmt::Write>(&self, f: &mut fmt::Formatter<W>) -> fmt::Result {
-        f.write_str("EntryValuesDrain(")?;
-        let mut list = f.debug_list();
-        for value in self.iter() {
-            list.entry(&value);
-        }
-        list.finish()?;
-        f.write_str(")")
+        show_left(f, "EntryValuesDrain", self.iter())
     }
 }

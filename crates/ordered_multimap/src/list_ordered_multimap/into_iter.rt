@@ -10,6 +10,7 @@ ghost use Rattle.ordered_multimap.specs.IntoIters.{HandsFirst, HandsLast, HandsO
 
 use super::lookup::slot_at;
 use super::pop::place_at_end;
+use super::show::show_left;
 use super::{ListOrderedMultimap, UnclonedKey};
 use multimap_slots::{SlotList, Tape};
 use multimap_walks::{End, Iter, KeyLink, ValueLink};
@@ -193,12 +194,6 @@ impl<K: Clone, V: Drop, A: Allocator> FusedIterator for IntoIter<K, V, A> {}
 
 impl<K: fmt::Debug, V: fmt::Debug, A: Allocator> fmt::Debug for IntoIter<K, V, A> {
     fn fmt<W: fmt::Write>(&self, f: &mut fmt::Formatter<W>) -> fmt::Result {
-        f.write_str("IntoIter(")?;
-        let mut list = f.debug_list();
-        for pair in self.iter() {
-            list.entry(&pair);
-        }
-        list.finish()?;
-        f.write_str(")")
+        show_left(f, "IntoIter", self.iter())
     }
 }

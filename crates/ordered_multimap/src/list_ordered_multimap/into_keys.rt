@@ -6,6 +6,7 @@ ghost use Rattle.multimap_walks.specs.Walk.{TakesEnd, TellsLength};
 ghost use Rattle.ordered_multimap.specs.Private.RemoveOne.{end_of_list};
 
 use super::ListOrderedMultimap;
+use super::show::show_left;
 use multimap_slots::SlotList;
 use multimap_walks::{End, KeyLink, Keys};
 use std::alloc::{Allocator, Global};
@@ -142,12 +143,6 @@ impl<K: Drop, A: Allocator> FusedIterator for IntoKeys<K, A> {}
 
 impl<K: fmt::Debug, A: Allocator> fmt::Debug for IntoKeys<K, A> {
     fn fmt<W: fmt::Write>(&self, f: &mut fmt::Formatter<W>) -> fmt::Result {
-        f.write_str("IntoKeys(")?;
-        let mut list = f.debug_list();
-        for key in self.left() {
-            list.entry(key);
-        }
-        list.finish()?;
-        f.write_str(")")
+        show_left(f, "IntoKeys", self.left())
     }
 }

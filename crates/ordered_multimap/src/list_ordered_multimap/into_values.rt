@@ -7,6 +7,7 @@ ghost use Rattle.ordered_multimap.specs.Pairs.{all_values};
 
 use super::ListOrderedMultimap;
 use super::pop::place_at_end;
+use super::show::show_left;
 use multimap_slots::Tape;
 use multimap_walks::{End, ValueLink, Values};
 use std::alloc::{Allocator, Global};
@@ -132,12 +133,6 @@ impl<V: Drop, A: Allocator> FusedIterator for IntoValues<V, A> {}
 
 impl<V: fmt::Debug, A: Allocator> fmt::Debug for IntoValues<V, A> {
     fn fmt<W: fmt::Write>(&self, f: &mut fmt::Formatter<W>) -> fmt::Result {
-        f.write_str("IntoValues(")?;
-        let mut list = f.debug_list();
-        for value in self.left() {
-            list.entry(value);
-        }
-        list.finish()?;
-        f.write_str(")")
+        show_left(f, "IntoValues", self.left())
     }
 }

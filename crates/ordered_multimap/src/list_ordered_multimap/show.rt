@@ -1,4 +1,6 @@
-//! The `Debug` format of a map.
+//! The `Debug` formats of a map, and of what takes its items out or lends them.
+ghost use Rattle.std.specs.Iterator.{IsFinite};
+
 use super::ListOrderedMultimap;
 use std::alloc::Allocator;
 use std::fmt;
@@ -21,10 +23,23 @@ use std::hash::{BuildHasher, Hash};
 impl<K: Eq + Hash + fmt::Debug, V: fmt::Debug, S: BuildHasher, A: Allocator> fmt::Debug
     for ListOrderedMultimap<K, V, S, A> {
     fn fmt<W: fmt::Write>(&self, f: &mut fmt::Formatter<W>) -> fmt::Result {
-        let mut map = f.debug_map();
-        for (key, value) in self.iter() {
-            map.entry(key, value);
-        }
-        map.finish()
+        f.debug_map().entries(self.iter()).finish()
     }
+}
+
+/// Writes the name, and in parentheses the list of the items that are left.
+pub(super) fn show_left<I: Iterator + Drop, W: fmt::Write>(
+    f: &mut fmt::Formatter<W>,
+    name: &str,
+    left: I,
+) -> fmt::Result
+where
+    I::Item: fmt::Debug + Drop,
+    requires next { I.can_next left }
+    requires ends { IsFinite (I.remaining left) }
+{
+    f.write_str(name)?;
+    f.write_str("(")?;
+    f.debug_list().entries(left).finish()?;
+    f.write_str(")")
 }

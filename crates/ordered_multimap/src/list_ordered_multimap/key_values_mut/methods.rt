@@ -16,6 +16,7 @@ ghost use Rattle.ordered_multimap.specs.WalkLends.{EndsStepped, EndsWalk, lends_
 
 use super::KeyValuesMut;
 use crate::list_ordered_multimap::ListOrderedMultimap;
+use crate::list_ordered_multimap::show::show_left;
 use multimap_walks::{ChainEnds, End, EntryValuesMut, KeyValues, Ordered, take};
 use std::alloc::Allocator;
 use std::fmt;
@@ -288,12 +289,6 @@ impl<'map, K: Eq + Hash, V, S: BuildHasher, A: Allocator> KeyValuesMut<'map, K, 
 impl<K: Eq + Hash + fmt::Debug, V: fmt::Debug, S: BuildHasher, A: Allocator> fmt::Debug
     for KeyValuesMut<'_, K, V, S, A> {
     fn fmt<W: fmt::Write>(&self, f: &mut fmt::Formatter<W>) -> fmt::Result {
-        f.write_str("KeyValuesMut(")?;
-        let mut list = f.debug_list();
-        for pair in self.iter() {
-            list.entry(&pair);
-        }
-        list.finish()?;
-        f.write_str(")")
+        show_left(f, "KeyValuesMut", self.iter())
     }
 }
