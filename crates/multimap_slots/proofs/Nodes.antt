@@ -4,4 +4,5 @@ pub mod Linked
 pub mod OneField
 pub mod Paths
 pub mod Pushed
+pub mod Reordered
 pub mod Unlinked

@@ -5,6 +5,7 @@ pub mod OptionalPlace
 pub mod OrderCells
 pub mod OrderLends
 pub mod Paths
+pub mod Reorders
 pub mod Runs
 pub mod Standings
 pub mod TapeLayout

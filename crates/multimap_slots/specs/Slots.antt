@@ -114,6 +114,10 @@ module _ {T L : Type 0} where
     pub freed : item_at new place ≡ None
     pub others : KeepsOthers old new place
 
+  -- the listed places stand in this order, and nothing else differs
+  abbrev pub in_order : Slots T L → List ℕ → Slots T L
+  in_order s places = record s { order = places }
+
   -- another item stands at the place
   abbrev pub with_item : Slots T L → ℕ → T → Slots T L
   with_item s place item = record s { items = slice_set s.items place (Some item) }

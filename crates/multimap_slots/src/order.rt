@@ -6,6 +6,7 @@ ghost use Rattle.multimap_slots.specs.Private.Vectors.{GrowsTo};
 mod detached;
 mod node;
 mod optional_place;
+mod reorder;
 mod write;
 
 use crate::grow::grow_to;
