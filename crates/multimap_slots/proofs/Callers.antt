@@ -1,3 +1,4 @@
+pub mod MovedPlaces
 pub mod PlaceLists
 pub mod SlotChanges
 pub mod TakenItems

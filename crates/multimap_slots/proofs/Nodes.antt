@@ -1,6 +1,7 @@
 pub mod Detached
 pub mod FreePlaces
 pub mod Linked
+pub mod Moved
 pub mod OneField
 pub mod Paths
 pub mod Pushed

@@ -4,6 +4,7 @@ ghost use Rattle.multimap_slots.specs.Lists.{IsIn};
 ghost use Rattle.multimap_slots.specs.Private.Vectors.{GrowsTo};
 
 mod detached;
+mod ends;
 mod node;
 mod optional_place;
 mod reorder;

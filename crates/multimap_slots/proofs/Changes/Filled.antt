@@ -33,6 +33,15 @@ module _ {T : Type 0} where
     pub some_not_free : (p : ℕ) → IsSome (get_or items p None) → get_or states p Free ≢ Free
     some_not_free p some e = no_item (get_or items p None) (f.empty p e) some
 
+    -- the same places are listed in another order
+    pub IsFilled-reorder : (order' : List ℕ) → ((p : ℕ) → IsIn p order' → IsIn p order) → IsFilled items order' states
+    IsFilled-reorder order' into = record {
+      same_length = f.same_length;
+      filled = λ p i. f.filled p (into p i);
+      kept = f.kept;
+      empty = f.empty;
+    }
+
     -- a place is freed, and its item goes
     pub IsFilled-free : (place : ℕ) (left : List ℕ) → place < length items → ((p : ℕ) → IsIn p left → IsIn p order × (p ≢ place))
         → IsFilled (set items place None) left (set states place Free)

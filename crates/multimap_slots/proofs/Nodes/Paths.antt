@@ -73,6 +73,31 @@ module _ (forth back : Option ℕ → Option ℕ) where
           (away_rest p ps distinct.0) distinct.1 keeps_forth last end keeps_back before top path.2,
     )
 
+    -- a new place goes before the first
+    pub path-lead : (ps : List ℕ) (n : ℕ) → (IsIn n ps → ⊥) → AreDistinct ps
+        → ((x : ℕ) → x ≢ n → forth' (Some x) ≡ forth (Some x)) → forth' (Some n) ≡ first_of ps → forth' None ≡ Some n
+        → ((x : Option ℕ) → x ≢ first_of ps → x ≢ Some n → back' x ≡ back x) → back' (first_of ps) ≡ Some n → back' (Some n) ≡ None
+        → IsPath forth back None ps → IsPath forth' back' None (n ∷ ps)
+    path-lead [] n absent distinct keeps_forth ahead top keeps_back first before path = (top, before, (ahead, first))
+    path-lead (p ∷ ps) n absent distinct keeps_forth ahead top keeps_back first before path = (
+      top,
+      before,
+      (
+        ahead,
+        first,
+        path-agree (Some p) ps
+            (keeps_forth p (λ e. absent (inl (sym e))))
+            (keeps_back None (λ e. cc) (λ e. cc))
+            (λ x i. (
+              keeps_forth x (λ e. absent (inr (subst (λ y. IsIn y ps) e i))),
+              keeps_back (Some x)
+                  (λ e. distinct.0 (subst (λ y. IsIn y ps) (same_place x p e) i))
+                  (λ e. absent (inr (subst (λ y. IsIn y ps) (same_place x n e) i))),
+            ))
+            path.2,
+      ),
+    )
+
     -- the places beside `r` are tied to each other
     pub path-remove : (a : Option ℕ) (xs : List ℕ) (r : ℕ) (ys : List ℕ) → IsAway a (xs ++ r ∷ ys) → AreDistinct (xs ++ r ∷ ys)
         → IsMoved forth forth' (last_or a xs) (first_of ys) → IsMoved back back' (first_of ys) (last_or a xs)

@@ -78,6 +78,32 @@ module _ {L : Type 0} where
         ap (λ ss. count_detached ss + one_if_detached (get_or (states old) place Free)) m.states
         ∙ sum_by-set one_if_detached (states old) place state Free (rw length-map within)
 
+  module _ {old tied both : List (Node L)} {front back free front' back' previous next : Option ℕ} {len detached place : ℕ}
+      (o : IsOrdered old front back free len detached) (s : Split place o.order)
+      (forth : SetsNext old tied front front' previous next) (backward : SetsPrevious tied both back back' next previous)
+      (before : previous ≡ get_or (previouses old) place None) (behind : next ≡ get_or (nexts old) place None) where
+    -- once the neighbours are tied to each other, the path leads around the place
+    pub path-unlinked : IsPath (after front' (nexts tied)) (after back' (previouses both)) None (s.front ++ s.back)
+    path-unlinked =
+        path-remove (after front (nexts old)) (after back (previouses old)) (after front' (nexts tied))
+        (after back' (previouses both)) None s.front place s.back
+        (λ x j e. cc) (split_distinct o s)
+        (record {
+          moved = ap (after front' (nexts tied)) (sym from) ∙ forth.nexts.moved ∙ to;
+          kept = λ x d. forth.nexts.kept x (λ e. d (e ∙ from));
+        })
+        (record {
+          moved = ap (after back' (previouses both)) (sym to) ∙ backward.previouses.moved ∙ from;
+          kept = λ x d. backward.previouses.kept x (λ e. d (e ∙ to)) ∙ ap (λ ps. after back ps x) forth.previouses;
+        })
+        (subst (IsPath (after front (nexts old)) (after back (previouses old)) None) s.is o.path)
+      where
+        from : previous ≡ last_of s.front
+        from = before ∙ (neighbours o s).0
+
+        to : next ≡ first_of s.back
+        to = behind ∙ (neighbours o s).1
+
   module _ {old tied both new : List (Node L)} {front back free front' back' previous next : Option ℕ} {len detached
       place : ℕ} {state : State} (o : IsOrdered old front back free len detached) (s : Split place o.order)
       (forth : SetsNext old tied front front' previous next) (backward : SetsPrevious tied both back back' next previous)
@@ -131,20 +157,7 @@ module _ {L : Type 0} where
             (after back' (previouses new)) None (s.front ++ s.back)
             refl refl
             (λ x j. (m.nexts x (differs_in x j) ∙ ap (λ ns. get_or ns x None) backward.nexts, m.previouses x (differs_in x j)))
-            (path-remove (after front (nexts old)) (after back (previouses old)) (after front' (nexts tied))
-            (after back' (previouses both)) None s.front place s.back
-            (λ x j e. cc) (split_distinct o s)
-            (record {
-              moved = ap (after front' (nexts tied)) (sym from) ∙ forth.nexts.moved
-                  ∙ to;
-              kept = λ x d. forth.nexts.kept x (λ e. d (e ∙ from));
-            })
-            (record {
-              moved = ap (after back' (previouses both)) (sym to) ∙ backward.previouses.moved
-                  ∙ from;
-              kept = λ x d. backward.previouses.kept x (λ e. d (e ∙ to)) ∙ ap (λ ps. after back ps x) forth.previouses;
-            })
-            (subst (IsPath (after front (nexts old)) (after back (previouses old)) None) s.is o.path));
+            (path-unlinked o s forth backward before behind);
         distinct = AreDistinct-remove s.front place s.back (split_distinct o s);
         listed = λ p j. state_other p (differs_in p j) ∙ o.listed p (rw s.is (IsIn-was p s.front place s.back j));
         all_in = λ p e. elim (cases_eq p place) [
@@ -162,9 +175,6 @@ module _ {L : Type 0} where
       where
         differs_in : (x : ℕ) → IsIn x (s.front ++ s.back) → x ≢ place
         differs_in x j e = split_gone o s (subst (λ y. IsIn y (s.front ++ s.back)) e j)
-
-        to : next ≡ first_of s.back
-        to = behind ∙ (neighbours o s).1
 
         longer : length o.order ≡ length s.front + suc (length s.back)
         longer = ap length s.is ∙ length-append s.front (place ∷ s.back)
