@@ -2,6 +2,7 @@ pub mod AbsentKeys
 pub mod Agreed
 pub mod Kept
 pub mod LookUps
+pub mod MovedKeys
 pub mod NewPlaces
 pub mod Queries
 pub mod Relocated

@@ -12,6 +12,7 @@ pub mod Exact
 pub mod Extends
 pub mod IntoIters
 pub mod KeyLists
+pub mod KeyMoves
 pub mod KeyWrappers
 pub mod Keys
 pub mod KeysLeft

@@ -1,5 +1,5 @@
--- What a multimap means: its keys, in the order in which they last became present, and all its
--- pairs, oldest first.
+-- What a multimap means: its keys, in the order in which they last became present unless a call
+-- moved one, and all its pairs, oldest first.
 use Rattle.std.specs.Prelude.{Bool, List, []}
 use Rattle.std.specs.List.{IsDistinct}
 use Rattle.std.specs.Map.{keys_of}

@@ -3,8 +3,8 @@
 //! A [`ListOrderedMultimap`] maps each key to one or more values, and keeps two lists:
 //!
 //! - the pairs, in insertion order;
-//! - the keys, in the order in which each last became present: a key that is removed and added
-//!   again goes last.
+//! - the keys, in the order in which each last became present, unless `move_key_to_back` or
+//!   `move_key_to_front` moved it: a key that is removed and added again goes last.
 //!
 //! ```text
 //! append line 1, append page 8, append line 2
@@ -54,6 +54,7 @@
 //! | `set`, `insert`, `insert_all` | *O*(*v*) expected, amortized |
 //! | `contains`, `remove_index`, `remove_value`, `retain_all` | *O*(*v*) expected |
 //! | `remove`, `remove_entry`, `remove_all`, `remove_entry_all` | *O*(*v*) expected |
+//! | `move_key_to_back`, `move_key_to_front` | *O*(1) expected |
 //! | `pop_front`, `pop_back` | *O*(1) expected |
 //! | `into_iter` | *O*(1), *O*(1) and a clone of the key for each item |
 //! | `into_keys`, `into_values` | *O*(*n*), *O*(1) for each item |

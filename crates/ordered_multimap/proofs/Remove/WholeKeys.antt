@@ -80,7 +80,7 @@ module _ {K : Type 0} {keys keys_after : Slots K KeyLink} {place : ℕ} {stored 
 -- the keys at the other places are those that aren't equal
 module _ {K : Type 0} {eq : K → K → Bool} (laws : IsEquivalence eq) {keys : Slots K KeyLink} (distinct : IsDistinct eq (items_of keys))
     (k : K) (place : ℕ) (has : HasKey eq keys k place) where
-  items_besides : filter_map (item_at keys) (without keys.order place) ≡ filter (λ j. not (eq k j)) (items_of keys)
+  pub items_besides : filter_map (item_at keys) (without keys.order place) ≡ filter (λ j. not (eq k j)) (items_of keys)
   items_besides =
       filter_map-filter (item_at keys) (λ q. not (q == place)) (λ j. not (eq k j)) keys.order
       (λ q listed j is. ap not (own q listed j is (cases_eq q place)))
