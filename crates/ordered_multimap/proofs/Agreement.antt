@@ -6,4 +6,6 @@ pub mod MovedKeys
 pub mod NewPlaces
 pub mod Queries
 pub mod Relocated
+pub mod Renamed
 pub mod StayingKeys
+pub mod TakenKeys

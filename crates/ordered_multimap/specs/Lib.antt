@@ -27,6 +27,7 @@ pub mod PopAnswers
 pub mod Private
 pub mod Removals
 pub mod RemovedAt
+pub mod Renames
 pub mod Retain
 pub mod Rooms
 pub mod Sets

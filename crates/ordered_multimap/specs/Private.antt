@@ -8,5 +8,6 @@ pub mod Remove
 pub mod RemoveAt
 pub mod RemoveOne
 pub mod Relocations
+pub mod Renames
 pub mod Retain
 pub mod Update

@@ -54,7 +54,7 @@
 //! | `set`, `insert`, `insert_all` | *O*(*v*) expected, amortized |
 //! | `contains`, `remove_index`, `remove_value`, `retain_all` | *O*(*v*) expected |
 //! | `remove`, `remove_entry`, `remove_all`, `remove_entry_all` | *O*(*v*) expected |
-//! | `move_key_to_back`, `move_key_to_front` | *O*(1) expected |
+//! | `move_key_to_back`, `move_key_to_front`, `rename_key` | *O*(1) expected |
 //! | `pop_front`, `pop_back` | *O*(1) expected |
 //! | `into_iter` | *O*(1), *O*(1) and a clone of the key for each item |
 //! | `into_keys`, `into_values` | *O*(*n*), *O*(1) for each item |
@@ -154,8 +154,8 @@ mod query;
 pub use list_ordered_multimap::{
     DefaultState, Entry, EntryValues, EntryValuesDrain, EntryValuesMut, EntryValuesRest, IntoIter,
     IntoKeys, IntoValues, Iter, IterMut, IterRest, KeyLink, KeyValues, KeyValuesMut, KeyWrapper,
-    Keys, ListOrderedMultimap, OccupiedEntry, RandomState, Refused, RefusedValue, UnclonedKey,
-    VacantEntry, ValueLink, Values, ValuesMut, ValuesRest,
+    Keys, ListOrderedMultimap, OccupiedEntry, RandomState, Refused, RefusedValue, RenameFault,
+    UnclonedKey, VacantEntry, ValueLink, Values, ValuesMut, ValuesRest,
 };
 pub use multimap_walks::End;
 pub use query::{KeyByPart, KeyQuery, Part};

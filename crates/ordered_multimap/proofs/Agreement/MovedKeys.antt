@@ -1,5 +1,5 @@
 -- Where a key moves to an end of the keys, key list, table and values agree as before.
-use Rattle.std.proofs.Common.{◌≡◌, ℕ, Bool, true, false, not, List, [], ◌∷◌, ◌++◌, cond, filter, length, Some, refl, sym, ap, ◌∙◌, subst, inl, inr}
+use Rattle.std.proofs.Common.{◌≡◌, ℕ, Bool, true, false, not, List, [], ◌∷◌, ◌++◌, cond, filter, refl, sym, ap, ◌∙◌, subst, inl, inr}
 use Rattle.std.proofs.Common.{arith, true≢false}
 use Rattle.std.proofs.lemmas.List.{append-nil}
 use Rattle.std.proofs.lemmas.List.Elements.{filter_map-append}
@@ -9,8 +9,7 @@ use Rattle.std.specs.List.{filter_map, cons_option, AllByRecursion, IsDistinct}
 use Rattle.std.specs.Ordering.{nat_cmp}
 use Rattle.std.specs.FinMap.{FinMap}
 use Rattle.multimap_slots.specs.Lists.{IsIn, without, moved_last, moved_first}
-use Rattle.multimap_slots.specs.Slots.{Slots, IsSound, item_at}
-use Rattle.multimap_slots.specs.Tapes.{Taped}
+use Rattle.multimap_slots.specs.Slots.{Slots, item_at}
 use Rattle.multimap_slots.proofs.Callers.MovedPlaces.{IsReordered, moved_last-reordered, moved_first-reordered}
 use Rattle.multimap_walks.specs.declared.links.KeyLink.{KeyLink}
 use Rattle.multimap_walks.specs.declared.links.ValueLink.{ValueLink}

@@ -1,5 +1,5 @@
 -- Where a key goes with all its values, key list, table and values agree, and the lists are without its pairs.
-use Rattle.std.proofs.Common.{◌≡◌, ◌≢◌, ◌⊎◌, ◌==◌, ◌-◌, ◌/◌, ℕ, Bool, true, false, not, cond, length, filter, slice_get, option_map, Some}
+use Rattle.std.proofs.Common.{◌≡◌, ◌≢◌, ◌==◌, ◌-◌, ◌/◌, ℕ, Bool, true, false, not, cond, length, filter, slice_get, option_map, Some}
 use Rattle.std.proofs.Common.{None, IsSome, is_some, refl, sym, ap, ◌∙◌, subst, inl, inr, true≢false, arith}
 use Rattle.std.proofs.lemmas.Bool.{cases_eq, eq-eqb, ne_eqb}
 use Rattle.std.specs.Cmp.{IsEquivalence, nat_cmp_total, unsigned_tied}
@@ -80,24 +80,26 @@ module _ {K : Type 0} {keys keys_after : Slots K KeyLink} {place : ℕ} {stored 
 -- the keys at the other places are those that aren't equal
 module _ {K : Type 0} {eq : K → K → Bool} (laws : IsEquivalence eq) {keys : Slots K KeyLink} (distinct : IsDistinct eq (items_of keys))
     (k : K) (place : ℕ) (has : HasKey eq keys k place) where
+  -- a key is equal exactly at the place
+  pub own_place : (q : ℕ) → IsIn q keys.order → (j : K) → item_at keys q ≡ Some j → (q == place) ≡ eq k j
+  own_place q listed j is = elim (cases_eq q place) [
+    | inl same ↦
+        let one : Some has.stored ≡ Some j = sym has.item_is ∙ ap (item_at keys) (sym same) ∙ is in
+        let is_stored : has.stored ≡ j = cc in
+        eq-eqb q place same ∙ sym (ap (eq k) (sym is_stored) ∙ has.equal)
+    | inr differs ↦
+        let P : Bool → Type 0 = λ b. eq k j ≡ b → false ≡ b in
+        ne_eqb q place differs ∙ elim (eq k j) as P [
+          | true ↦ λ e. absurd (differs (sym (same_place laws keys keys.order distinct place q has.stored j has.listed listed has.item_is is
+              (sym (laws.congr k has.stored j has.equal) ∙ e))))
+          | false ↦ λ _. refl
+        ] refl
+  ]
+
   pub items_besides : filter_map (item_at keys) (without keys.order place) ≡ filter (λ j. not (eq k j)) (items_of keys)
   items_besides =
       filter_map-filter (item_at keys) (λ q. not (q == place)) (λ j. not (eq k j)) keys.order
-      (λ q listed j is. ap not (own q listed j is (cases_eq q place)))
-    where
-      own : (q : ℕ) → IsIn q keys.order → (j : K) → item_at keys q ≡ Some j → (q ≡ place) ⊎ (q ≢ place) → (q == place) ≡ eq k j
-      own q listed j is (inl same) =
-          let one : Some has.stored ≡ Some j = sym has.item_is ∙ ap (item_at keys) (sym same) ∙ is in
-          let is_stored : has.stored ≡ j = cc in
-          eq-eqb q place same ∙ sym (ap (eq k) (sym is_stored) ∙ has.equal)
-      own q listed j is (inr differs) =
-          let P : Bool → Type 0 = λ b. eq k j ≡ b → false ≡ b in
-          ne_eqb q place differs ∙ elim (eq k j) as P [
-            | true ↦ λ e. absurd (differs (sym (same_place laws keys keys.order distinct place q has.stored j has.listed listed has.item_is
-                is
-                (sym (laws.congr k has.stored j has.equal) ∙ e))))
-            | false ↦ λ _. refl
-          ] refl
+      (λ q listed j is. ap not (own_place q listed j is))
 
 -- a key leaves with all its values
 module _ {K V : Type 0} {eq : K → K → Bool} (laws : IsEquivalence eq) {hash : K

@@ -1,5 +1,5 @@
-use Rattle.std.proofs.Common.{◌≡◌, ap, ◌∙◌, subst, sym}
-use Rattle.ordered_multimap.specs.Agrees.{Agrees, HasKey, hash_of, lists_of}
+use Rattle.std.proofs.Common.{◌≡◌, ap, ◌∙◌, subst}
+use Rattle.ordered_multimap.specs.Agrees.{HasKey, lists_of}
 use Rattle.ordered_multimap.specs.KeyMoves.{moved_to_front_where}
 use Rattle.ordered_multimap.proofs.Agreement.LookUps.{listed_inside, own_key}
 use Rattle.ordered_multimap.proofs.Agreement.MovedKeys.{Agrees-first, lists_of-first}
