@@ -1,4 +1,5 @@
 pub mod MovedPlaces
+pub mod Permuted
 pub mod PlaceLists
 pub mod SlotChanges
 pub mod TakenItems

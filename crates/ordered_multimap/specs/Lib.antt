@@ -13,6 +13,7 @@ pub mod Extends
 pub mod IntoIters
 pub mod KeyLists
 pub mod KeyMoves
+pub mod KeySorts
 pub mod KeyWrappers
 pub mod Keys
 pub mod KeysLeft

@@ -3,6 +3,7 @@ pub mod AppendMap
 pub mod Copies
 pub mod Extends
 pub mod KeyRelocations
+pub mod KeySorts
 pub mod KeySteps
 pub mod Remove
 pub mod RemoveAt

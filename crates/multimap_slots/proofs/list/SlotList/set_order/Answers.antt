@@ -1,4 +1,4 @@
-use Rattle.multimap_slots.proofs.Nodes.Reordered.{permuted_was_in}
+use Rattle.multimap_slots.proofs.Callers.Permuted.{permuted_was_in}
 use Rattle.multimap_slots.proofs.list.SlotList.set_order.Goals as goal
 
 pub invariant_of-self : goal.invariant_of-self

@@ -1,6 +1,7 @@
 use Rattle.std.proofs.Common.{refl}
 use Rattle.multimap_slots.proofs.Nodes.Linked.{walk-order}
-use Rattle.multimap_slots.proofs.Nodes.Reordered.{permuted_was_in, permuted_distinct, IsOrdered-reorder, Places-same, walk-reordered}
+use Rattle.multimap_slots.proofs.Callers.Permuted.{permuted_was_in, permuted_distinct}
+use Rattle.multimap_slots.proofs.Nodes.Reordered.{IsOrdered-reorder, Places-same, walk-reordered}
 use Rattle.multimap_slots.proofs.order.Order.set_order.Goals as goal
 
 pub link_in_order-requires-clause-listed : goal.link_in_order-requires-clause-listed
