@@ -2,6 +2,7 @@
 use Rattle.std.proofs.Common.{◌≡◌, ◌⊎◌, ◌+◌, ◌<◌, Bool, true, false, not, ◌&&◌, List, [], ◌∷◌, map, filter, length}
 use Rattle.std.proofs.Common.{if◌then◌else◌, refl, sym, ap, ◌∙◌, inl, inr, arith}
 use Rattle.std.proofs.lemmas.List.{length-map, get_or-map}
+use Rattle.std.specs.Prelude.{Result, Ok, Err, OnOk}
 use Rattle.std.specs.Cmp.{IsStrictWeakOrder}
 use Rattle.std.specs.Fn.{AlwaysReturns, Called, Mut}
 use Rattle.std.specs.List.Sorted.{IsSortedBy, IsStableBy, ties}
@@ -85,3 +86,8 @@ module _ {X Y : Type 0} (f : X → Y) where
 pub answers_now : {F X R : Type 0} (g : Mut F X R) (P : X → R → Type 0) {f f' : F} {a : X} {r : R} → Called g f a r f' → AlwaysReturns g P f
     → P a r
 answers_now g P {f} {f'} {a} {r} called always = (always.at (a ∷ []) r f' called).0
+
+-- what a success says, said otherwise
+pub OnOk-then : {X E : Type 0} (r : Result X E) {P Q : Type 0} → (P → Q) → OnOk r P → OnOk r Q
+OnOk-then (Ok x) says p = says p
+OnOk-then (Err e) says p = tt

@@ -1,7 +1,7 @@
 //! Sorting the keys.
 ghost use Rattle.std.specs.Prelude.{◌≡◌, ◌≤◌, Bool, length, IfOk, OnOk, OnErr, IsOk, IsSorted};
 ghost use Rattle.std.specs.Fn.{ComparesAs};
-ghost use Rattle.std.specs.List.Sorted.{IsSortedByClosure, IsStableByClosure};
+ghost use Rattle.std.specs.List.Sorted.{IsSortedByClosure, IsStable, IsStableByClosure};
 ghost use Rattle.std.specs.Ordering.{is_lt};
 ghost use Rattle.multimap_slots.specs.Lists.{IsIn};
 ghost use Rattle.ordered_multimap.specs.Agrees.{items_of};
@@ -95,6 +95,52 @@ fn sort_listed_by<K, A: Allocator + Copy, F: Fn(&K, &K) -> Ordering>(
 }
 
 impl<K: Eq + Hash, V, S: BuildHasher, A: Allocator + Copy> ListOrderedMultimap<K, V, S, A> {
+    /// Sorts the keys, and leaves the pairs where they are.
+    ///
+    /// The order of all pairs stays as it is, and so does the order of each key's values. A key
+    /// that is added later goes last. To sort by another order see
+    /// [`sort_keys_by`](Self::sort_keys_by).
+    ///
+    /// # Errors
+    ///
+    /// Returns [`AllocError`] if an allocation fails. Both lists are unchanged. It never fails for
+    /// a map of no key or of one. It allocates a list of the keys' places, and what std's stable
+    /// sort of that list does.
+    ///
+    /// # Complexity
+    ///
+    /// *O*(*k* log *k*) comparisons for *k* keys. It reads the slots of the keys, writes their
+    /// links, and reads no value.
+    ///
+    /// # Examples
+    ///
+    /// ```
+    /// use ordered_multimap::ListOrderedMultimap;
+    ///
+    /// let mut map = ListOrderedMultimap::new(rt.alloc());
+    /// map.append("page", 8)?;
+    /// map.append("line", 1)?;
+    /// map.append("page", 9)?;
+    /// map.sort_keys()?;
+    /// assert!(rt; map.keys().eq(&["line", "page"]));
+    /// assert!(rt; map.values().eq(&[8, 1, 9]));
+    /// ```
+    pub fn sort_keys(&mut self) -> Result<(), AllocError>
+    where
+        K: Ord,
+        ensures sorted { OnOk result (IsSorted K.cmp self.new.lists.keys) }
+        ensures stable { IsStable K.cmp self.old.lists.keys self.new.lists.keys }
+        ensures reordered { ReordersKeys self.old self.new }
+        ensures unchanged { OnErr result (self.new ≡ self.old) }
+        ensures succeeds { length self.old.lists.keys ≤ 1 → IsOk result }
+    {
+        self.sort_keys_by(
+            |a: &K, b: &K| -> Ordering
+                ensures { result ≡ K.cmp a.now b.now }
+            { a.cmp(b) },
+        )
+    }
+
     /// Sorts the keys by a comparison function, and leaves the pairs where they are.
     ///
     /// The sort is stable: keys for which `cmp` returns `Equal` keep their order. The order of all
