@@ -58,13 +58,17 @@ fn join_builders(test: &Test, map: &mut Numbers) {
     });
 }
 
-// The pairs of the map go to an emptied one by a proved caller.
+// By a proved caller.
+fn move_to(test: &Test, map: &mut Numbers, to: &mut Numbers) {
+    test.expect(move_all(map, to).is_ok() && map.is_empty());
+    test.expect(has_lists(to, &[(2, 12), (1, 13)], &[2, 1]));
+}
+
+// The pairs of the map go to one that is emptied first.
 fn move_to_emptied(test: &Test, map: &mut Numbers) {
-    let mut to = map_of(test, &[(5, 51)]);
     map.clear();
     fill(test, map, &[(2, 12), (1, 13)]);
-    test.expect(move_all(map, &mut to).is_ok() && map.is_empty());
-    test.expect(has_lists(&to, &[(2, 12), (1, 13)], &[2, 1]));
+    lend(map_of(test, &[(5, 51)]), |to| move_to(test, map, to));
 }
 
 fn maps_are_joined(test: &Test, map: &mut Numbers) {
