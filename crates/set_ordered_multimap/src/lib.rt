@@ -4,8 +4,8 @@
 //! no pair with an equal key and an equal value is there. It keeps the same two lists:
 //!
 //! - the pairs, in insertion order;
-//! - the keys, in the order in which each last became present: a key that is removed and inserted
-//!   again goes last.
+//! - the keys, in the order in which each last became present, unless `move_key_to_back` or
+//!   `move_key_to_front` moved it: a key that is removed and inserted again goes last.
 //!
 //! ```text
 //! insert plan draft, insert note draft, insert plan long
@@ -50,6 +50,7 @@
 //! | Calls | Cost |
 //! |---|---|
 //! | `contains_key`, `entry_len`, `get_last` | *O*(1) expected |
+//! | `move_key_to_back`, `move_key_to_front` | *O*(1) expected |
 //! | `contains`, `remove_value`, `remove_all` | *O*(*v*) expected |
 //! | `insert` | *O*(*v*) expected, amortized |
 //! | `front`, `back`, `is_empty`, lengths, capacities | *O*(1) |

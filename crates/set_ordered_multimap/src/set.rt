@@ -7,6 +7,7 @@ mod append_set;
 mod collect;
 mod insert;
 mod lookup;
+mod move_key;
 mod pop;
 mod remove;
 mod retain;

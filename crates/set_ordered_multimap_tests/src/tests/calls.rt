@@ -54,6 +54,14 @@ fn walks_return(test: &Test, set: &Numbers) {
     test.expect(clone_is_equal(set) == Ok(true));
 }
 
+// Keys move to an end, and back.
+fn keys_move(test: &Test, set: &mut Numbers) {
+    test.expect(set.move_key_to_back(&1) && !set.move_key_to_back(&4));
+    test.expect(set.move_key_to_front(&3));
+    test.expect(has_lists(set, &[(1, 1), (2, 2), (3, 3)], &[3, 2, 1]));
+    test.expect(set.move_key_to_front(&1) && set.move_key_to_back(&3));
+}
+
 // What is proved of callers holds where they are called.
 fn callers_return(test: &Test, set: &mut Numbers) {
     changes_keep_sets::<u32, u32>();
@@ -77,6 +85,7 @@ fn gathered_numbers_return(test: &Test, set: &mut Numbers) {
     test.expect(has_lists(set, &[(1, 1), (2, 2), (3, 3)], &[1, 2, 3]));
     parts_return(test, set);
     walks_return(test, set);
+    keys_move(test, set);
     callers_return(test, set);
     the_last_leaves(test, set);
     rows_are_walked(test, set);
