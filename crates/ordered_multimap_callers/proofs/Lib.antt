@@ -1,4 +1,5 @@
 pub mod FirstLemmas
+pub mod MovedLemmas
 pub mod StoppedKeysLemmas
 pub mod StoppedLemmas
 pub mod WalkShows

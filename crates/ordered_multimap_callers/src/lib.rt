@@ -13,6 +13,7 @@ pub mod filled;
 pub mod joined;
 pub mod lists;
 pub mod maps;
+pub mod moved_keys;
 pub mod one_value;
 pub mod queried;
 pub mod retained;
