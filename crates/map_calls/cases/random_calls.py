@@ -15,6 +15,7 @@ def lines(seed):
             + [f"{it} {key} {value}" for it in ("insert", "set", "entry_set", "contains", "remove_value", "retain_all")]
             + [f"remove_index {key} {index}"] * 2
             + [f"{it} {key}" for it in ("or_default", "get_last", "get_key_value", "remove")]
+            + [draw.choice([f"move_back {key}", f"move_front {key}", f"rename {key} {'0' * draw.randrange(3)}{draw.randrange(KEYS)}"])]
             + ["pop_front", "lists", draw.choice(["swap", "swap", "append_map", draw.choice(["lists", "into_keys", "into_values"])])]
         )
 
@@ -50,7 +51,7 @@ def taken_apart(name, items):
 
 
 class Lists:
-    """The keys in the order in which each last became present, and all pairs, each under its stored key."""
+    """The keys in the order in which each last became present, unless one was moved, and all pairs, each under its stored key."""
 
     def __init__(self):
         self.keys, self.pairs = [], []
@@ -111,6 +112,23 @@ class Lists:
         self.without(places[:1])
         return value
 
+    def move(self, key, is_to_front):
+        """Puts the key before or behind all others, and says whether it is there."""
+        moved, others = ([it for it in self.keys if same(it, key) == own] for own in (True, False))
+        self.keys = moved + others if is_to_front else others + moved
+        return "true" if moved else "false"
+
+    def rename(self, key, new):
+        """Puts the new key in the place of the key, and gives what the call returns."""
+        old = next((it for it in self.keys if same(it, key)), None)
+        if old is None:
+            return "Err(Absent(..))"
+        if any(same(it, new) for it in self.keys if it != old):
+            return "Err(Taken(..))"
+        self.keys = [new if it == old else it for it in self.keys]
+        self.pairs = [(new if it == old else it, value) for it, value in self.pairs]
+        return f"Ok({old})"
+
     def pop(self):
         if not self.pairs:
             return "None"
@@ -170,6 +188,10 @@ def reply(lists, other, line):
     word, *operands = line.split()
     if not operands:
         return whole(lists, other, word)
+    if word == "rename":
+        return lists.rename(*operands)
+    if word in ("move_back", "move_front"):
+        return lists.move(operands[0], word == "move_front")
     given = of_key(lists, word, operands[0], int(operands[1]) if operands[1:] else None)
     return str(given) if word == "or_default" else some(given)
 

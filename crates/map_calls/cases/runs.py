@@ -43,6 +43,44 @@ CALLS = [
     ("get_key_value 4", "None", PAIRS, "1 2 3"),
     ("or_default 03", "9", "1:5 2:6 1:7 3:9 1:5 2:6", "1 2 3"),
     ("or_default 04", "1", "1:5 2:6 1:7 3:8 1:5 2:6 04:1", "1 2 3 04"),
+    ("move_back 1", "true", PAIRS, "2 3 1"),
+    ("move_back 02", "true", PAIRS, "1 3 2"),
+    ("move_back 3", "true", PAIRS, "1 2 3"),
+    ("move_back 4", "false", PAIRS, "1 2 3"),
+    ("move_front 1", "true", PAIRS, "1 2 3"),
+    ("move_front 02", "true", PAIRS, "2 1 3"),
+    ("move_front 3", "true", PAIRS, "3 1 2"),
+    ("move_front 4", "false", PAIRS, "1 2 3"),
+    ("rename 1 4", "Ok(1)", "4:5 2:6 4:7 3:8 4:5 2:6", "4 2 3"),
+    ("rename 02 4", "Ok(2)", "1:5 4:6 1:7 3:8 1:5 4:6", "1 4 3"),
+    ("rename 3 4", "Ok(3)", "1:5 2:6 1:7 4:8 1:5 2:6", "1 2 4"),
+    # Another spelling of the key itself.
+    ("rename 1 01", "Ok(1)", "01:5 2:6 01:7 3:8 01:5 2:6", "01 2 3"),
+    ("rename 003 3", "Ok(3)", PAIRS, "1 2 3"),
+    ("rename 1 02", "Err(Taken(..))", PAIRS, "1 2 3"),
+    ("rename 3 1", "Err(Taken(..))", PAIRS, "1 2 3"),
+    ("rename 4 5", "Err(Absent(..))", PAIRS, "1 2 3"),
+    ("rename 4 1", "Err(Absent(..))", PAIRS, "1 2 3"),
+]
+
+# Calls on the pairs of an only key, of two values, and on none: the reply, and both lists then.
+ALONE = [
+    ("1:5 1:7", "move_back 1", "true", "1:5 1:7", "1"),
+    ("1:5 1:7", "move_front 01", "true", "1:5 1:7", "1"),
+    ("1:5 1:7", "rename 1 2", "Ok(1)", "2:5 2:7", "2"),
+    ("1:5 1:7", "rename 1 001", "Ok(1)", "001:5 001:7", "001"),
+    ("", "move_back 1", "false", "", ""),
+    ("", "move_front 1", "false", "", ""),
+    ("", "rename 1 1", "Err(Absent(..))", "", ""),
+]
+
+# Calls after each other on the first pairs, whose replies are true or the old key, then one that finds the keys where
+# they are, and both lists.
+MOVED = [
+    ("move_front 3;move_front 2;move_back 3", "true true true", "get_last 3", "Some(8)", PAIRS, "2 1 3"),
+    ("rename 1 4;rename 2 1;rename 4 2", "Ok(1) Ok(2) Ok(4)", "get_last 1", "Some(6)", "2:5 1:6 2:7 3:8 2:5 1:6", "2 1 3"),
+    ("rename 2 7;move_front 7", "Ok(2) true", "get_last 2", "None", "1:5 7:6 1:7 3:8 1:5 7:6", "7 1 3"),
+    ("move_back 1;rename 1 9", "true Ok(1)", "append 9 0", "Some(0)", "9:5 2:6 9:7 3:8 9:5 2:6 9:0", "2 3 9"),
 ]
 
 # Pairs of a map; pairs of another one, and pairs that then replace those of their key there; and both lists of the first
@@ -103,6 +141,9 @@ def replaced(pairs, texts):
 
 def runs():
     runs = [[*filled(PAIRS), (call, reply), listed(pairs, keys)] for call, reply, pairs, keys in CALLS]
+    runs += [[*filled(old), (call, reply), listed(pairs, keys)] for old, call, reply, pairs, keys in ALONE]
+    for calls, replies, *found, pairs, keys in MOVED:
+        runs.append([*filled(PAIRS), *zip(calls.split(";"), replies.split()), tuple(found), listed(pairs, keys)])
     for pairs, other, inserted, joined, keys in JOINED:
         lines = [*filled(other), *replaced(other, inserted), ("swap", None), *filled(pairs), ("append_map", "{}")]
         runs.append([*lines, listed(joined, keys), ("swap", None), listed("", "")])

@@ -84,9 +84,16 @@ pub fn call_with_key(map: &mut Map, word: &str, key: Key, replies: &mut String) 
         "get_last" => add(map.get_last(&key), replies),
         "get_key_value" => add(map.get_key_value(&key), replies),
         "remove" => add(map.remove(&key), replies),
+        "move_back" => add(map.move_key_to_back(&key), replies),
+        "move_front" => add(map.move_key_to_front(&key), replies),
         "or_default" => add(default_raised(map, key)?, replies),
         _ => Err(bad("not a command")),
     }
+}
+
+/// Carries out the command that names two keys.
+pub fn rename(map: &mut Map, key: Key, new_key: Key, replies: &mut String) -> io::Result<()> {
+    add(map.rename_key(&key, new_key), replies)
 }
 
 fn default_raised(map: &mut Map, key: Key) -> Result<i64, AllocError> {

@@ -1,5 +1,5 @@
 //! Commands, read from lines.
-use crate::calls::{call_on_whole, call_with_key, call_with_number};
+use crate::calls::{call_on_whole, call_with_key, call_with_number, rename};
 use crate::key::Key;
 use ordered_multimap::ListOrderedMultimap;
 use program_parts::{bad, text_of};
@@ -41,6 +41,9 @@ fn carry_out(map: &mut Map, other: &mut Map, line: &str, replies: &mut String) -
     let key = Key::new(key)?;
     if number.is_empty() {
         return call_with_key(map, word, key, replies);
+    }
+    if word == "rename" {
+        return rename(map, key, Key::new(number)?, replies);
     }
     let Ok(number) = number.parse() else {
         return Err(bad("not a number"));

@@ -16,6 +16,8 @@
 //! | `get_last KEY` | `get_last` | the value |
 //! | `get_key_value KEY` | `get_key_value` | the key and the value |
 //! | `remove KEY` | `remove` | the value |
+//! | `move_back KEY`, `move_front KEY` | `move_key_to_back`, `move_key_to_front` | whether the key was there |
+//! | `rename KEY KEY` | `rename_key` to the second key | the old key, or why not |
 //! | `remove_index KEY INDEX` | `remove_index` | the value |
 //! | `remove_value KEY VALUE` | `remove_value` | the value |
 //! | `retain_all KEY BOUND` | `retain_all` of what is at least the bound, with 1 added | the last value that it was called on |
