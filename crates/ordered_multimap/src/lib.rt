@@ -82,6 +82,9 @@
 //!
 //! `?` converts each of these errors into an `AllocError` or an `io::Error`.
 //!
+//! `rename_key` doesn't allocate. Its error, a [`RenameFault`], says that the key is absent, or that
+//! another key is equal to the new one.
+//!
 //! # Keys that others choose
 //!
 //! The default hash builder, [`DefaultState`], has a fixed seed. So whoever chooses the keys can
