@@ -4,7 +4,7 @@ use Rattle.std.proofs.Common.{if◌then◌else◌, refl, sym, ap, ◌∙◌, inl
 use Rattle.std.proofs.lemmas.List.{length-map, get_or-map}
 use Rattle.std.specs.Prelude.{Result, Ok, Err, OnOk}
 use Rattle.std.specs.Cmp.{IsStrictWeakOrder}
-use Rattle.std.specs.Fn.{AlwaysReturns, Called, Mut}
+use Rattle.std.specs.Fn.{AlwaysReturns, Called, Mut, ReturnsEach}
 use Rattle.std.specs.List.Sorted.{IsSortedBy, IsStableBy, ties}
 
 -- tests that are false of the same are the same
@@ -91,3 +91,12 @@ answers_now g P {f} {f'} {a} {r} called always = (always.at (a ∷ []) r f' call
 pub OnOk-then : {X E : Type 0} (r : Result X E) {P Q : Type 0} → (P → Q) → OnOk r P → OnOk r Q
 OnOk-then (Ok x) says p = says p
 OnOk-then (Err e) says p = tt
+
+-- what is so of each call as long as something is so of the function, which each call keeps
+pub always_returns_kept : {F X R : Type 0} (g : Mut F X R) (P : X → R → Type 0) (kept : F → Type 0)
+    → ((f : F) (a : X) (r : R) (f' : F) → kept f → Called g f a r f' → P a r × kept f') → (f : F) → kept f → AlwaysReturns g P f
+always_returns_kept {F} {X} g P kept step f holds = record { at = λ xs. each xs f holds }
+  where
+    each : (xs : List X) (f : F) → kept f → ReturnsEach g P f xs
+    each [] f holds = tt
+    each (a ∷ xs) f holds = λ r f' called. let s = step f a r f' holds called in (s.0, each xs f' s.1)

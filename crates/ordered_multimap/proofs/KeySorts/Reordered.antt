@@ -1,6 +1,6 @@
 -- Keys that stand in another order: what is read at their places, and how they still agree.
-use Rattle.std.proofs.Common.{◌≡◌, ◌≢◌, ℕ, ◌≤◌, Bool, true, false, List, [], ◌∷◌, map, length, Option, Some, unwrap_or}
-use Rattle.std.proofs.Common.{if◌then◌else◌, refl, sym, ap, ◌∙◌, subst, inl, inr, arith, rules, ◌||◌}
+use Rattle.std.proofs.Common.{◌≡◌, ℕ, Bool, true, false, List, [], ◌∷◌, map, length, Option, Some, unwrap_or}
+use Rattle.std.proofs.Common.{IfSome, if◌then◌else◌, refl, sym, ap, ◌∙◌, subst, inl, inr, arith, rules, ◌||◌}
 use Rattle.std.proofs.lemmas.Bool.{cases_eq, ne_eqb}
 use Rattle.std.proofs.lemmas.List.Sorted.{IsPermutation-map, IsPermutation-refl, length_permutation}
 use Rattle.std.proofs.lemmas.Map.Keys.{IsDistinct-IsPermutation}
@@ -15,10 +15,9 @@ use Rattle.multimap_slots.specs.Slots.{Slots, IsSound, item_at, in_order}
 use Rattle.multimap_slots.proofs.Callers.Permuted.{permuted_in, permuted_was_in, permuted_distinct}
 use Rattle.multimap_walks.specs.declared.links.KeyLink.{KeyLink}
 use Rattle.multimap_walks.specs.declared.links.ValueLink.{ValueLink}
-use Rattle.multimap_walks.specs.Chained.{pairs_of}
-use Rattle.ordered_multimap.specs.Agrees.{Agrees, items_of}
-use Rattle.ordered_multimap.specs.Private.KeySorts.{is_among, key_or, Reorders}
-use Rattle.ordered_multimap.proofs.Callers.Places.{held, length-filter_map}
+use Rattle.ordered_multimap.specs.Agrees.{Agrees, HasKey, items_of}
+use Rattle.ordered_multimap.specs.Private.KeySorts.{is_among, key_or}
+use Rattle.ordered_multimap.proofs.Callers.Places.{held}
 use Rattle.ordered_multimap.proofs.KeySorts.Mapped.{sorted-mapped, stable-mapped}
 
 no_places : (ps : List ℕ) → length ps ≡ 0 → ps ≡ []
@@ -95,19 +94,10 @@ permuted-found {K} keys sound {places} same = by keys.order refl
         let h = held (item_at keys p) (sound.filled p (subst (IsIn p) (sym some) (inl refl))) in
         permuted-items keys sound h.value same
 
--- more than one place, where the first is one and there isn't just one
-pub many-places : {K : Type 0} (keys : Slots K KeyLink) (front : Option ℕ) (place : ℕ) → IsSound keys → front ≡ first_of keys.order
-    → front ≡ Some place → length keys.order ≢ 1 → length (items_of keys) ≤ 1 → ⊥
-many-places keys front place sound first some many few =
-    let same = length-filter_map (item_at keys) keys.order sound.filled in
-    let none : keys.order ≡ [] = no_places keys.order (omega (arith, same, few, many)) in
-    let bad = sym some ∙ first ∙ ap first_of none in
-    absurd cc
-
 -- what the map keeps
 module _ {K V : Type 0} {eq : K → K → Bool} {hash : K → ℕ} {keys : Slots K KeyLink} {rows : FinMap nat_cmp ℕ} {values : Slots V ValueLink}
     (laws : IsEquivalence eq) (a : Agrees eq hash keys rows values) where
-  agrees-in_order : (places : List ℕ) → IsPermutation keys.order places → Agrees eq hash (in_order keys places) rows values
+  pub agrees-in_order : (places : List ℕ) → IsPermutation keys.order places → Agrees eq hash (in_order keys places) rows values
   agrees-in_order places same = record {
     keys_sound = record {
       distinct = permuted_distinct same a.keys_sound.distinct;
@@ -132,11 +122,15 @@ module _ {K V : Type 0} {eq : K → K → Bool} {hash : K → ℕ} {keys : Slots
     counted = a.counted ∙ sym (length_permutation keys.order places same);
   }
 
-  pub agrees-reordered : (new : Slots K KeyLink) → Reorders keys new → Agrees eq hash new rows values
-  agrees-reordered new r = rw r.rest (agrees-in_order new.order r.permutation)
+pub same_item : {X : Type 0} {o : Option X} {x y : X} → o ≡ Some x → o ≡ Some y → x ≡ y
+same_item e f = let both = sym e ∙ f in cc
 
-  pub permuted-keys : (new : Slots K KeyLink) → Reorders keys new → IsPermutation (items_of keys) (items_of new)
-  permuted-keys new r = subst (λ s. IsPermutation (items_of keys) (items_of s)) (sym r.rest) (permuted-found keys a.keys_sound r.permutation)
+-- a key that is listed stands at its place
+pub has-key : {K : Type 0} {eq : K → K → Bool} → IsEquivalence eq → {keys : Slots K KeyLink} {place : ℕ} {k : K} → IsIn place keys.order
+    → item_at keys place ≡ Some k → HasKey eq keys k place
+has-key laws {k = k} listed is = record { listed = listed; stored = k; item_is = is; equal = laws.refl k }
 
-  pub same-pairs : (new : Slots K KeyLink) → Reorders keys new → pairs_of new values ≡ pairs_of keys values
-  same-pairs new r = ap (λ s. pairs_of s values) r.rest
+-- the first place, beside what is so anyway
+pub first-listed : {X : Type 0} (ps : List ℕ) → X → IfSome (first_of ps) (λ p. IsIn p ps × X)
+first-listed [] x = tt
+first-listed (p ∷ ps) x = (inl refl, x)

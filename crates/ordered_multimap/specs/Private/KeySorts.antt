@@ -1,5 +1,5 @@
 -- The places of the keys, sorted by the keys that stand there. No public clause cites this module.
-use Rattle.std.specs.Prelude.{◌≡◌, ◌==◌, ℕ, Bool, List, unwrap_or, if◌then◌else◌, IsPermutation}
+use Rattle.std.specs.Prelude.{◌==◌, ℕ, Bool, List, unwrap_or, if◌then◌else◌, IsPermutation}
 use Rattle.std.specs.Borrow.{Bor}
 use Rattle.std.specs.Fn.{Mut}
 use Rattle.std.specs.List.{list_any}
@@ -7,7 +7,11 @@ use Rattle.std.specs.List.Sorted.{IsSortedByClosure, IsStableByClosure}
 use Rattle.std.specs.declared.cmp.Ordering.{Ordering}
 use Rattle.multimap_slots.specs.Slots.{Slots, item_at, in_order}
 use Rattle.multimap_walks.specs.declared.links.KeyLink.{KeyLink}
+use Rattle.multimap_walks.specs.ChainWalk.{ChainWalk}
 use Rattle.ordered_multimap.specs.Agrees.{items_of}
+use Rattle.ordered_multimap.specs.KeySorts.{IsSortedByCachedKey, IsStableByCachedKey}
+use Rattle.ordered_multimap.specs.Lists.{lists}
+use Rattle.ordered_multimap.specs.Multimap.{Multimap}
 
 -- whether the place is one of these
 abbrev pub is_among : List ℕ → ℕ → Bool
@@ -19,14 +23,20 @@ module _ {K : Type 0} where
   key_or keys other p =
       if is_among keys.order p then unwrap_or (item_at keys p) other else other
 
-  -- the places of the keys stand in another order, and nothing else differs
-  pub record Reorders (old new : Slots K KeyLink) : Type 0 where
-    pub permutation : IsPermutation old.order new.order
-    pub rest : new ≡ in_order old new.order
-
   -- these are the places of the keys, in the order that the function answers by
   pub record ArePlacesBy {F : Type 0} (g : Mut F (Bor K × (Bor K × Unit {0})) Ordering) (cmp : F)
       (keys : Slots K KeyLink) (places : List ℕ) : Type 0 where
     pub permutation : IsPermutation keys.order places
     pub sorted : IsSortedByClosure g cmp (items_of (in_order keys places))
     pub stable : IsStableByClosure g cmp (items_of keys) (items_of (in_order keys places))
+
+-- these are the places of the keys, in the order of what the function gives of each key with its
+-- values
+pub record ArePlacesByKey {F K V S T : Type 0} (g : Mut F (Bor K × (ChainWalk V × Unit {0})) T)
+    (cmp : T → T → Ordering) (eq : K → K → Bool) (f : F) (m : Multimap K V S) (places : List ℕ)
+    : Type 0 where
+  pub permutation : IsPermutation m.slots.keys.order places
+  pub sorted : IsSortedByCachedKey g cmp eq f
+      (lists (items_of (in_order m.slots.keys places)) m.lists.pairs)
+  pub stable : IsStableByCachedKey g cmp eq f m.lists
+      (lists (items_of (in_order m.slots.keys places)) m.lists.pairs)

@@ -1,12 +1,16 @@
 //! Sorting the keys.
-ghost use Rattle.std.specs.Prelude.{◌≡◌, ◌≤◌, Bool, length, IfOk, OnOk, OnErr, IsOk, IsSorted};
+ghost use Rattle.std.specs.Prelude.{◌≡◌, ◌<◌, ◌≤◌, Bool, length, IfOk, IfNone, IfSome, OnOk, OnErr, IsOk, IsPermutation, IsSorted};
 ghost use Rattle.std.specs.Fn.{ComparesAs};
 ghost use Rattle.std.specs.List.Sorted.{IsSortedByClosure, IsStable, IsStableByClosure};
 ghost use Rattle.std.specs.Ordering.{is_lt};
 ghost use Rattle.multimap_slots.specs.Lists.{IsIn};
+ghost use Rattle.multimap_slots.specs.Slots.{in_order};
 ghost use Rattle.ordered_multimap.specs.Agrees.{items_of};
 ghost use Rattle.ordered_multimap.specs.KeySorts.{ReordersKeys};
-ghost use Rattle.ordered_multimap.specs.Private.KeySorts.{ArePlacesBy, Reorders, key_or};
+ghost use Rattle.ordered_multimap.specs.Lists.{lists};
+ghost use Rattle.ordered_multimap.specs.Private.KeySorts.{ArePlacesBy, key_or};
+
+mod cached;
 
 use super::ListOrderedMultimap;
 use super::lookup::slot_at;
@@ -71,27 +75,28 @@ fn places_by<K, A: Allocator + Copy, F: Fn(&K, &K) -> Ordering>(
     Ok(places)
 }
 
-/// Sorts the listed keys by the function.
-fn sort_listed_by<K, A: Allocator + Copy, F: Fn(&K, &K) -> Ordering>(
-    keys: &mut SlotList<K, KeyLink, A>,
-    cmp: F,
-) -> Result<(), AllocError>
-    requires { F.IsAlwaysCallable cmp }
-    ensures sorted { OnOk result (IsSortedByClosure F.FnMut cmp (items_of keys.new)) }
-    ensures stable { IsStableByClosure F.FnMut cmp (items_of keys.old) (items_of keys.new) }
-    ensures reordered { Reorders keys.old keys.new }
-    ensures unchanged { OnErr result (keys.new ≡ keys.old) }
-    ensures succeeds { length (items_of keys.old) ≤ 1 → IsOk result }
-{
-    let Some(front) = keys.front_place() else {
-        return Ok(());
-    };
-    if keys.len() == 1 {
-        return Ok(());
+impl<K: Eq + Hash, V, S: BuildHasher, A: Allocator> ListOrderedMultimap<K, V, S, A> {
+    /// The place of the first key, where there are several.
+    fn front_of_many(&self) -> Option<usize>
+        ensures few { IfNone result (length self.now.lists.keys ≤ 1) }
+        ensures many { IfSome result (λ place. IsIn place self.now.slots.keys.order
+            × (1 < length self.now.lists.keys)) }
+    {
+        if self.keys.len() <= 1 {
+            return None;
+        }
+        self.keys.front_place()
     }
-    let places = places_by(keys, front, cmp)?;
-    keys.set_order(places.as_slice());
-    Ok(())
+
+    /// Puts the keys in the order of these places.
+    fn set_key_order(&mut self, places: &[usize])
+        requires { IsPermutation self.old.slots.keys.order places.now }
+        ensures lists { self.new.lists
+            ≡ lists (items_of (in_order self.old.slots.keys places.now)) self.old.lists.pairs }
+        ensures reordered { ReordersKeys self.old self.new }
+    {
+        self.keys.set_order(places);
+    }
 }
 
 impl<K: Eq + Hash, V, S: BuildHasher, A: Allocator + Copy> ListOrderedMultimap<K, V, S, A> {
@@ -99,7 +104,8 @@ impl<K: Eq + Hash, V, S: BuildHasher, A: Allocator + Copy> ListOrderedMultimap<K
     ///
     /// The order of all pairs stays as it is, and so does the order of each key's values. A key
     /// that is added later goes last. To sort by another order see
-    /// [`sort_keys_by`](Self::sort_keys_by).
+    /// [`sort_keys_by`](Self::sort_keys_by), and by what the values say
+    /// [`sort_keys_by_cached_key`](Self::sort_keys_by_cached_key).
     ///
     /// # Errors
     ///
@@ -148,7 +154,8 @@ impl<K: Eq + Hash, V, S: BuildHasher, A: Allocator + Copy> ListOrderedMultimap<K
     /// goes last.
     ///
     /// If `cmp` is no order, the keys come in some order, each once. To sort by the keys' own order
-    /// see [`sort_keys`](Self::sort_keys).
+    /// see [`sort_keys`](Self::sort_keys), and by what the values say
+    /// [`sort_keys_by_cached_key`](Self::sort_keys_by_cached_key).
     ///
     /// Proved callers: see docs/PROVED_CALLERS.md.
     ///
@@ -190,6 +197,11 @@ impl<K: Eq + Hash, V, S: BuildHasher, A: Allocator + Copy> ListOrderedMultimap<K
         ensures unchanged { OnErr result (self.new ≡ self.old) }
         ensures succeeds { length self.old.lists.keys ≤ 1 → IsOk result }
     {
-        sort_listed_by(&mut self.keys, cmp)
+        let Some(front) = self.front_of_many() else {
+            return Ok(());
+        };
+        let places = places_by(&self.keys, front, cmp)?;
+        self.set_key_order(places.as_slice());
+        Ok(())
     }
 }
