@@ -2,6 +2,7 @@
 use Rattle.std.specs.Prelude.{◌≡◌, ◌≤◌, ◌-◌, Bool, length}
 use Rattle.ordered_multimap.specs.End.{End}
 use Rattle.ordered_multimap.specs.Keys.{keys_named_by}
+use Rattle.ordered_multimap.specs.KeySorts.{ReordersKeys}
 use Rattle.ordered_multimap.specs.Lists.{empty_lists}
 use Rattle.ordered_multimap.specs.Multimap.{Multimap}
 use Rattle.ordered_multimap.specs.PopAnswers.{IsPopped}
@@ -55,4 +56,9 @@ module _ {K V S : Type 0} (eq : K → K → Bool) (value_eq : V → V → Bool) 
     -- and so does a set
     pub record LosesEnd (end : End) : Type 0 where
       pub popped : IsPopped eq end old new
+      pub set : IsSet eq value_eq old.lists → IsSet eq value_eq new.lists
+
+    -- the keys are the same in another order; pairs, rooms and numbers stay, and so does a set
+    pub record ReordersSet : Type 0 where
+      pub reordered : ReordersKeys old new
       pub set : IsSet eq value_eq old.lists → IsSet eq value_eq new.lists

@@ -11,6 +11,7 @@ mod move_key;
 mod pop;
 mod remove;
 mod retain;
+mod sort;
 mod walks;
 mod whole;
 

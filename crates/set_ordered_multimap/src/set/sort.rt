@@ -1,0 +1,89 @@
+//! Sorting the keys of a set.
+ghost use Rattle.std.specs.Prelude.{◌≡◌, ◌≤◌, length, OnOk, OnErr, IsOk, IsSorted};
+ghost use Rattle.std.specs.List.Sorted.{IsSortedByClosure, IsStable, IsStableByClosure};
+ghost use Rattle.set_ordered_multimap.specs.SetChanges.{ReordersSet};
+
+use super::SetOrderedMultimap;
+use std::alloc::{AllocError, Allocator};
+use std::cmp::Ordering;
+use std::hash::{BuildHasher, Hash};
+
+impl<K: Eq + Hash, V: Eq, S: BuildHasher, A: Allocator + Copy> SetOrderedMultimap<K, V, S, A> {
+    /// Sorts the keys, and leaves the pairs where they are.
+    ///
+    /// The order of all pairs stays as it is. A key that is added later goes last. To sort by
+    /// another order see [`sort_keys_by`](Self::sort_keys_by).
+    ///
+    /// # Errors
+    ///
+    /// Returns [`AllocError`] if an allocation fails. Both lists are unchanged. It never fails for
+    /// a set of no key or of one.
+    ///
+    /// # Complexity
+    ///
+    /// *O*(*k* log *k*) comparisons for *k* keys. It reads no value.
+    ///
+    /// # Examples
+    ///
+    /// ```
+    /// use set_ordered_multimap::SetOrderedMultimap;
+    ///
+    /// let mut set = SetOrderedMultimap::new(rt.alloc());
+    /// set.insert("plan", "draft")?;
+    /// set.insert("note", "short")?;
+    /// set.sort_keys()?;
+    /// assert!(rt; set.keys().eq(&["note", "plan"]));
+    /// assert!(rt; set.iter().eq([(&"plan", &"draft"), (&"note", &"short")]));
+    /// ```
+    pub fn sort_keys(&mut self) -> Result<(), AllocError>
+    where
+        K: Ord,
+        ensures sorted { OnOk result (IsSorted K.cmp self.new.lists.keys) }
+        ensures stable { IsStable K.cmp self.old.lists.keys self.new.lists.keys }
+        ensures reordered { ReordersSet K.eq V.eq self.old self.new }
+        ensures unchanged { OnErr result (self.new ≡ self.old) }
+        ensures succeeds { length self.old.lists.keys ≤ 1 → IsOk result }
+    {
+        self.map.sort_keys()
+    }
+
+    /// Sorts the keys by a comparison function, and leaves the pairs where they are.
+    ///
+    /// The sort is stable: keys for which `cmp` returns `Equal` keep their order. The order of all
+    /// pairs stays as it is. If `cmp` is no order, the keys come in some order, each once.
+    ///
+    /// # Errors
+    ///
+    /// Returns [`AllocError`] if an allocation fails. Both lists are unchanged. It never fails for
+    /// a set of no key or of one.
+    ///
+    /// # Complexity
+    ///
+    /// *O*(*k* log *k*) comparisons for *k* keys. It reads no value.
+    ///
+    /// # Requires
+    ///
+    /// `cmp` may be called on any two keys.
+    ///
+    /// # Examples
+    ///
+    /// ```
+    /// use set_ordered_multimap::SetOrderedMultimap;
+    ///
+    /// let mut set = SetOrderedMultimap::new(rt.alloc());
+    /// set.insert("note", "short")?;
+    /// set.insert("plan", "draft")?;
+    /// set.sort_keys_by(|a, b| b.cmp(a))?;
+    /// assert!(rt; set.keys().eq(&["plan", "note"]));
+    /// ```
+    pub fn sort_keys_by<F: Fn(&K, &K) -> Ordering>(&mut self, cmp: F) -> Result<(), AllocError>
+        requires { F.IsAlwaysCallable cmp }
+        ensures sorted { OnOk result (IsSortedByClosure F.FnMut cmp self.new.lists.keys) }
+        ensures stable { IsStableByClosure F.FnMut cmp self.old.lists.keys self.new.lists.keys }
+        ensures reordered { ReordersSet K.eq V.eq self.old self.new }
+        ensures unchanged { OnErr result (self.new ≡ self.old) }
+        ensures succeeds { length self.old.lists.keys ≤ 1 → IsOk result }
+    {
+        self.map.sort_keys_by(cmp)
+    }
+}
