@@ -55,7 +55,8 @@ module _ {L : Type 0} where
     -- the same places are listed in another order, and the free ones are linked as they were
     reordered : {new : List (Node L)} {front' back' : Option ℕ} (order : List ℕ)
         → IsPath (after front' (nexts new)) (after back' (previouses new)) None order → AreDistinct order
-        → ((x : ℕ) → IsIn x order → (x ≡ place) ⊎ IsIn x (s.front ++ s.back)) → ((x : ℕ) → (x ≡ place) ⊎ IsIn x (s.front ++ s.back) → IsIn x order)
+        → ((x : ℕ) → IsIn x order → (x ≡ place) ⊎ IsIn x (s.front ++ s.back))
+        → ((x : ℕ) → (x ≡ place) ⊎ IsIn x (s.front ++ s.back) → IsIn x order)
         → length order ≡ length (s.front ++ s.back) + 1 → states new ≡ states both
         → ((q : ℕ) → (IsIn q o.order → ⊥) → get_or (nexts new) q None ≡ get_or (nexts both) q None)
         → HasOrder new front' back' free len detached order

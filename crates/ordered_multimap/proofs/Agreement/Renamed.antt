@@ -1,5 +1,6 @@
 -- Where another key stands at a place, key list, table and values agree, and the lists have the new key.
-use Rattle.std.proofs.Common.{◌≡◌, ◌≢◌, ◌==◌, ◌&&◌, ℕ, ◌-◌, ◌+◌, ◌<◌, Bool, true, false, not, List, [], ◌∷◌, cond, map, length, refl, sym, ap}
+use Rattle.std.proofs.Common.{◌≡◌, ◌≢◌, ◌==◌, ◌&&◌, ℕ, ◌-◌, ◌+◌, ◌<◌, Bool, true, false, not, List, [], ◌∷◌, cond, map, length, refl, sym}
+use Rattle.std.proofs.Common.{ap}
 use Rattle.std.proofs.Common.{Option, Some, None, IsSome, is_some, option_map, ◌∙◌, subst, inl, inr, arith, true≢false}
 use Rattle.std.proofs.lemmas.Bool.{cases_eq, eq-eqb, ne_eqb}
 use Rattle.std.specs.Cmp.{IsEquivalence, nat_cmp_total, unsigned_tied}

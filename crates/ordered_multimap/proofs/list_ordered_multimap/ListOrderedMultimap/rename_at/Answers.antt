@@ -25,7 +25,8 @@ invariant_of-self g c =
     let hash_is = c.requires.hash
     ∙ ap (λ m. hash_of g.S.BuildHasher g.S.Hasher.Hasher m.hasher (g.K.Hash.hash_input c.args.key)) (sym c.self.view_is) in
     record {
-      agrees = Agrees-renamed g.met.K.Eq.laws is_map.agrees own.0 c.args.place own.1 c.replace_key.ensures.replaced hash_is (free own.0 own.1);
+      agrees = Agrees-renamed g.met.K.Eq.laws is_map.agrees own.0 c.args.place own.1 c.replace_key.ensures.replaced hash_is
+          (free own.0 own.1);
       fits = is_map.fits;
       paid = is_map.paid;
     }
