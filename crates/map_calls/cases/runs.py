@@ -1,6 +1,6 @@
 #!/usr/bin/env python3
 """One call each, on maps that are filled first: its reply, and the lists that it leaves."""
-from random_calls import shown
+from random_calls import by_remainder, shown
 
 # Three values of the key 1, two of them equal, two of the key 2, one of the key 3.
 PAIRS = "1:5 2:6 1:7 3:8 1:5 2:6"
@@ -83,6 +83,17 @@ MOVED = [
     ("move_back 1;rename 1 9", "true Ok(1)", "append 9 0", "Some(0)", "9:5 2:6 9:7 3:8 9:5 2:6 9:0", "2 3 9"),
 ]
 
+# Pairs, the keys once they are sorted, and once they are sorted by what is left of each divided by three, the greatest first.
+SORTED = [
+    ("", "", ""),
+    ("5:1 5:2", "5", "5"),
+    ("2:1 1:2 2:3", "1 2", "2 1"),
+    ("5:1 3:2 1:3 5:4 2:5 04:6", "1 2 3 04 5", "5 2 1 04 3"),
+]
+
+# More keys than are sorted without memory.
+MANY = [str(7 * number % 25) for number in range(25)]
+
 # Pairs of a map; pairs of another one, and pairs that then replace those of their key there; and both lists of the first
 # map once all went to it.
 JOINED = [
@@ -144,6 +155,10 @@ def runs():
     runs += [[*filled(old), (call, reply), listed(pairs, keys)] for old, call, reply, pairs, keys in ALONE]
     for calls, replies, *found, pairs, keys in MOVED:
         runs.append([*filled(PAIRS), *zip(calls.split(";"), replies.split()), tuple(found), listed(pairs, keys)])
+    many = " ".join(f"{key}:1" for key in MANY)
+    for pairs, *sorts in [*SORTED, (many, " ".join(sorted(MANY, key=int)), " ".join(sorted(MANY, key=by_remainder)))]:
+        for word, keys in zip(("sort_keys", "sort_keys_by"), sorts):
+            runs.append([*filled(pairs), (word, None), listed(pairs, keys)])
     for pairs, other, inserted, joined, keys in JOINED:
         lines = [*filled(other), *replaced(other, inserted), ("swap", None), *filled(pairs), ("append_map", "{}")]
         runs.append([*lines, listed(joined, keys), ("swap", None), listed("", "")])

@@ -5,7 +5,7 @@ use std::{fmt, io};
 /// A number as it is spelled, with zeros in front. The spelling counts for nothing where keys are
 /// compared.
 #[derive(Clone, Copy)]
-#[derive_where(PartialEq, Eq, Hash)]
+#[derive_where(PartialEq, Eq, Hash, PartialOrd, Ord)]
 pub struct Key {
     number: u32,
     #[derive_where(skip(EqHashOrd))]
@@ -22,6 +22,11 @@ impl Key {
             }),
             _ => Err(bad("not a key")),
         }
+    }
+
+    /// What is left of the number when it is divided by three.
+    pub fn remainder(&self) -> u32 {
+        self.number % 3
     }
 }
 
