@@ -17,6 +17,7 @@ pub mod moved_keys;
 pub mod one_value;
 pub mod queried;
 pub mod retained;
+pub mod sorted;
 pub mod stopped;
 pub mod stopped_keys;
 pub mod taken;
