@@ -3,8 +3,9 @@
 //! A [`ListOrderedMultimap`] maps each key to one or more values, and keeps two lists:
 //!
 //! - the pairs, in insertion order;
-//! - the keys, in the order in which each last became present, unless `move_key_to_back` or
-//!   `move_key_to_front` moved it: a key that is removed and added again goes last.
+//! - the keys, in the order in which each last became present, unless `move_key_to_back`,
+//!   `move_key_to_front` or a sort of the keys moved it: a key that is removed and added again goes
+//!   last.
 //!
 //! ```text
 //! append line 1, append page 8, append line 2
@@ -58,6 +59,7 @@
 //! | `pop_front`, `pop_back` | *O*(1) expected |
 //! | `into_iter` | *O*(1), *O*(1) and a clone of the key for each item |
 //! | `into_keys`, `into_values` | *O*(*n*), *O*(1) for each item |
+//! | `sort_keys`, `sort_keys_by`, `sort_keys_by_cached_key` | *O*(*k* log *k*) for *k* keys |
 //! | `retain`, `update_values`, `clear`, `clone`, `==`, `pack_to`, `pack_to_fit` | *O*(*n*) |
 //!
 //! Removals leave holes among the values. A call that makes room may move values into them, at most
@@ -77,6 +79,7 @@
 //! - The constructors with capacities, `reserve_keys`, `reserve_values`, `pack_to`, `pack_to_fit`,
 //!   `clone` and `append_map` return `AllocError`. After `append_map` both maps are as before;
 //!   capacities may have grown.
+//! - The sorts of the keys return `AllocError`, and both lists are as before.
 //! - An item of [`IntoIter`] is a `Result`, because each key is cloned: [`UnclonedKey`] has the
 //!   value. [`IntoKeys`] and [`IntoValues`] clone nothing.
 //!

@@ -4,4 +4,5 @@ mod joined;
 mod keys_moved;
 mod lending;
 mod removal;
+mod sorted;
 mod writing;

@@ -57,6 +57,7 @@
 //! | `iter`, `keys`, `values`, `pairs` | *O*(1), *O*(1) for each item |
 //! | `get_all` | *O*(1) expected, *O*(1) for each item |
 //! | `pop_front`, `pop_back` | *O*(1) expected |
+//! | `sort_keys`, `sort_keys_by` | *O*(*k* log *k*) for *k* keys |
 //! | `retain`, `clear`, `clone`, `==` | *O*(*n*) |
 //! | `append_map` | what `clear` of the other set costs, and for each of its pairs *O*(*v*) expected |
 //!

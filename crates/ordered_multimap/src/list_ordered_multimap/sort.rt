@@ -69,7 +69,8 @@ fn places_by<K, A: Allocator + Copy, F: Fn(&K, &K) -> Ordering>(
         |a: &usize, b: &usize| -> Ordering
             requires { F.IsAlwaysCallable cmp }
             ensures { (lt : K → K → Bool) → ComparesAs F.FnMut lt cmp → is_lt result
-                ≡ lt (key_or keys.entry.now first.entry.now a.now) (key_or keys.entry.now first.entry.now b.now) }
+                ≡ lt (key_or keys.entry.now first.entry.now a.now)
+                (key_or keys.entry.now first.entry.now b.now) }
         { cmp(key_or(keys, *a, first), key_or(keys, *b, first)) },
     )?;
     Ok(places)
