@@ -4,8 +4,9 @@
 //! no pair with an equal key and an equal value is there. It keeps the same two lists:
 //!
 //! - the pairs, in insertion order;
-//! - the keys, in the order in which each last became present, unless `move_key_to_back` or
-//!   `move_key_to_front` moved it: a key that is removed and inserted again goes last.
+//! - the keys, in the order in which each last became present, unless `move_key_to_back`,
+//!   `move_key_to_front` or a sort of the keys moved it: a key that is removed and inserted again
+//!   goes last.
 //!
 //! ```text
 //! insert plan draft, insert note draft, insert plan long
