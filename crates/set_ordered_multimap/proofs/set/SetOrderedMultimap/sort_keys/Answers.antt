@@ -1,4 +1,4 @@
-use Rattle.std.proofs.Common.{sym, ap, subst}
+use Rattle.std.proofs.Common.{sym, subst}
 use Rattle.std.specs.List.{IsDistinct}
 use Rattle.set_ordered_multimap.specs.Set.{same_pair}
 use Rattle.set_ordered_multimap.proofs.set.SetOrderedMultimap.sort_keys.Goals as goal
