@@ -1,5 +1,6 @@
 -- Nodes that are linked in another order of the same places.
-use Rattle.std.proofs.Common.{◌≡◌, ℕ, zero, suc, ◌-◌, IfSome, ◌<◌, ◌≤◌, List, [], ◌∷◌, length, get_or, drop, Option, Some, None, refl, sym, ap}
+use Rattle.std.proofs.Common.{◌≡◌, ℕ, zero, suc, ◌-◌, IfSome, ◌<◌, ◌≤◌, List, [], ◌∷◌, length, get_or, drop, Option, Some, None, refl, sym}
+use Rattle.std.proofs.Common.{ap}
 use Rattle.std.proofs.Common.{subst, ◌∙◌, inl, inr, arith}
 use Rattle.std.proofs.lemmas.List.Sorted.{length_permutation}
 use Rattle.std.proofs.Math.Seq.{drop-cons}
@@ -119,7 +120,8 @@ first_so P ps n first e each = first_of_some (drop n ps) first e (λ x i. each x
     first_of_some [] first e each = rw e tt
     first_of_some (q ∷ qs) first e each = rw e (each q (inl refl))
 
-module _ {L : Type 0} {nodes : List (Node L)} {front back free : Option ℕ} {len detached : ℕ} (o : IsOrdered nodes front back free len detached)
+module _ {L : Type 0} {nodes : List (Node L)} {front back free : Option ℕ} {len detached : ℕ}
+    (o : IsOrdered nodes front back free len detached)
   where
     -- the listed places are linked in another order
     pub IsOrdered-reorder : {new : List (Node L)} {front' back' : Option ℕ} {places : List ℕ} → IsPermutation o.order places

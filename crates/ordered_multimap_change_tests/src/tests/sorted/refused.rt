@@ -1,5 +1,4 @@
-//! Keys that are sorted with each request for memory refused, and one key, or none, with no memory at
-//! all.
+//! Keys that are sorted with each request for memory refused, and one key, or none, with no memory.
 use ordered_multimap_callers::lists::{appends, has_lists};
 use ordered_multimap_callers::maps::{Refusing, fill};
 use refusing_allocator::RefusingAllocator;
