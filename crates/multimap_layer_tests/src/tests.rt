@@ -7,6 +7,7 @@ mod dropped;
 mod ends;
 mod holes;
 mod listed_uses;
+mod moved;
 mod refused;
 mod slots;
 mod tape_uses;
