@@ -28,18 +28,31 @@ mod config;
 
 use crate::answer::add_answers;
 use ordered_multimap::ListOrderedMultimap;
-use program_parts::run_program;
-use std::io;
+use program_parts::{Arguments, Fault, Program, run_program};
 use std::process::ExitCode;
 
+const PROGRAM: Program = Program {
+    name: "config_reader",
+    help: "usage: config_reader < FILE\n",
+    flags: &[],
+    valued: &[],
+    text: None,
+};
+
 fn main(rt: HostRuntime) -> ExitCode {
-    run_program(&rt, "config_reader", write_answers)
+    run_program(&rt, &PROGRAM, answers_of)
 }
 
-/// Writes the answers once all of them are there.
-fn write_answers(rt: &HostRuntime, input: &[u8], line: &mut usize) -> io::Result<()> {
+fn answers_of(
+    rt: &HostRuntime,
+    _arguments: &Arguments<'_>,
+    input: &[u8],
+) -> Result<Vec<u8>, Fault> {
     let config = &mut ListOrderedMultimap::new(rt.alloc());
     let mut answers = String::new(rt.alloc());
-    add_answers(rt.alloc(), config, input, &mut answers, line)?;
-    print!(rt; "{answers}")
+    let mut line = 0usize;
+    match add_answers(rt.alloc(), config, input, &mut answers, &mut line) {
+        Ok(()) => Ok(answers.into_bytes()),
+        Err(error) => Err(Fault::at_line(line, error)),
+    }
 }

@@ -33,22 +33,32 @@ mod name;
 use crate::answer::add_answers;
 use ordered_multimap::ListOrderedMultimap;
 use ordered_multimap::list_ordered_multimap::RandomState;
-use program_parts::run_program;
-use std::io;
-use std::io::Write;
+use program_parts::{Arguments, Fault, Program, run_program};
 use std::process::ExitCode;
 
+const PROGRAM: Program = Program {
+    name: "header_store",
+    help: "usage: header_store < FILE\n",
+    flags: &[],
+    valued: &[],
+    text: None,
+};
+
 fn main(rt: HostRuntime) -> ExitCode {
-    run_program(&rt, "header_store", write_answers)
+    run_program(&rt, &PROGRAM, answers_of)
 }
 
-/// Writes the answers once all of them are there.
-fn write_answers(rt: &HostRuntime, input: &[u8], line: &mut usize) -> io::Result<()> {
+fn answers_of(
+    rt: &HostRuntime,
+    _arguments: &Arguments<'_>,
+    input: &[u8],
+) -> Result<Vec<u8>, Fault> {
     // Who sends headers may choose names that share a hash, so the hash has a seed of its own.
     let headers = &mut ListOrderedMultimap::with_hasher(rt.alloc(), RandomState::new(rt)?);
     let mut answers = Vec::new(rt.alloc());
-    add_answers(headers, input, &mut answers, line)?;
-    let mut output = io::writer(rt);
-    output.write_all(&answers)?;
-    output.flush()
+    let mut line = 0usize;
+    match add_answers(headers, input, &mut answers, &mut line) {
+        Ok(()) => Ok(answers),
+        Err(error) => Err(Fault::at_line(line, error)),
+    }
 }

@@ -42,19 +42,33 @@ mod key;
 
 use crate::command::{Map, carry_out_all};
 use ordered_multimap::ListOrderedMultimap;
-use program_parts::run_program;
+use program_parts::{Arguments, Fault, Program, run_program};
 use std::io;
 use std::process::ExitCode;
 
+const PROGRAM: Program = Program {
+    name: "map_calls",
+    help: "usage: map_calls < FILE\n",
+    flags: &[],
+    valued: &[],
+    text: None,
+};
+
 fn main(rt: HostRuntime) -> ExitCode {
-    run_program(&rt, "map_calls", write_replies)
+    run_program(&rt, &PROGRAM, replies_to)
 }
 
-/// Writes the replies once all of them are there.
-fn write_replies(rt: &HostRuntime, input: &[u8], line: &mut usize) -> io::Result<()> {
+fn replies_to(
+    rt: &HostRuntime,
+    _arguments: &Arguments<'_>,
+    input: &[u8],
+) -> Result<Vec<u8>, Fault> {
     let mut replies = String::new(rt.alloc());
-    add_replies(rt, input, &mut replies, line)?;
-    print!(rt; "{replies}")
+    let mut line = 0usize;
+    match add_replies(rt, input, &mut replies, &mut line) {
+        Ok(()) => Ok(replies.into_bytes()),
+        Err(error) => Err(Fault::at_line(line, error)),
+    }
 }
 
 fn add_replies(

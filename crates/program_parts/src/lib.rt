@@ -1,68 +1,138 @@
-//! What the programs share: they read all of standard input, name the line that is bad, and end with
-//! one of four exit statuses.
+//! What the programs share: their arguments, their input, and how they end.
+//!
+//! A program reads a file or standard input, writes its answers at once when all of them are there, and
+//! ends with one of these statuses:
+//!
+//! | Status | Why |
+//! |---|---|
+//! | 0 | the answers are written |
+//! | 1 | what was asked for is absent; nothing is written |
+//! | 2 | an argument or a line of the input is bad |
+//! | 3 | out of memory |
+//! | 4 | reading or writing failed |
+//!
+//! From 2 on, a line on standard error says why: `NAME: FILE: line N: REASON`, where `FILE` is
+//! `standard input` if that was read, or `NAME: REASON`.
 #![tactic(auto)]
 
-ghost use Rattle.std.specs.IoError.{error_kind};
-ghost use Rattle.std.specs.Prelude.{◌≡◌};
-ghost use Rattle.std.specs.declared.io.ErrorKind.TheVariants.{InvalidData};
+mod arguments;
+mod fault;
+mod lines;
 
-use std::io;
-use std::io::{ErrorKind, Read};
+pub use crate::arguments::{Arguments, Program};
+pub use crate::fault::{Fault, bad, status_of, unknown, usage};
+pub use crate::lines::{text_of, without_mark, without_return};
+use std::alloc::Global;
+use std::io::{Read, Write};
 use std::process::ExitCode;
+use std::{env, fs, io};
 
-/// Runs a program. `write_answers` is handed all of the input, and sets the number of the line that
-/// it looks at, from 1. What it fails of is written on standard error, below the name.
-pub fn run_program<F: FnOnce(&HostRuntime, &[u8], &mut usize) -> io::Result<()>>(
+/// Runs a program. `answer` is handed the arguments and all of the input, and returns what the program
+/// writes on standard output.
+///
+/// # Requires
+///
+/// `answer` can be called on any arguments and input.
+pub fn run_program<F: FnOnce(&HostRuntime, &Arguments<'_>, &[u8]) -> Result<Vec<u8>, Fault>>(
     rt: &HostRuntime,
-    name: &str,
-    write_answers: F,
+    program: &Program,
+    answer: F,
 ) -> ExitCode
-    requires { F.IsAlwaysCallable write_answers }
+    requires { F.IsAlwaysCallable answer }
 {
-    let mut line = 0usize;
-    let Err(error) = answer_input(rt, write_answers, &mut line) else {
-        return ExitCode::SUCCESS;
-    };
-    let _ = match error.kind() {
-        ErrorKind::InvalidData => eprintln!(rt; "{name}: line {line}: {error}"),
-        _ => eprintln!(rt; "{name}: {error}"),
-    };
-    ExitCode::from(status_of(&error))
+    match read_words(rt) {
+        Ok(words) => run_with_words(rt, program, words.get(1..).unwrap_or(&[]), answer),
+        Err(error) => fail(rt, program, "", &Fault::System(error)),
+    }
 }
 
-fn answer_input<F: FnOnce(&HostRuntime, &[u8], &mut usize) -> io::Result<()>>(
+/// The path of the program, and its arguments.
+fn read_words(rt: &HostRuntime) -> io::Result<Vec<String>> {
+    Ok(env::args(rt)?.collect(rt.alloc())?)
+}
+
+fn run_with_words<F: FnOnce(&HostRuntime, &Arguments<'_>, &[u8]) -> Result<Vec<u8>, Fault>>(
     rt: &HostRuntime,
-    write_answers: F,
-    line: &mut usize,
-) -> io::Result<()>
-    requires { F.IsAlwaysCallable write_answers }
+    program: &Program,
+    words: &[String],
+    answer: F,
+) -> ExitCode
+    requires { F.IsAlwaysCallable answer }
 {
+    let arguments = match Arguments::parse(rt.alloc(), program, words) {
+        Ok(arguments) => arguments,
+        Err(fault) => return fail(rt, program, "", &fault),
+    };
+    match write_answers(rt, program, &arguments, answer) {
+        Ok(()) => ExitCode::SUCCESS,
+        Err(fault) => fail(rt, program, program.source_of(&arguments), &fault),
+    }
+}
+
+/// Writes the answers once all of them are there, or the help.
+fn write_answers<F: FnOnce(&HostRuntime, &Arguments<'_>, &[u8]) -> Result<Vec<u8>, Fault>>(
+    rt: &HostRuntime,
+    program: &Program,
+    arguments: &Arguments<'_>,
+    answer: F,
+) -> Result<(), Fault>
+    requires { F.IsAlwaysCallable answer }
+{
+    if arguments.has("--help") {
+        return Ok(write_out(rt, program.help.as_bytes())?);
+    }
+    let input = read_input(rt, program, arguments)?;
+    let answers = answer(rt, arguments, &input)?;
+    Ok(write_out(rt, &answers)?)
+}
+
+fn write_out(rt: &HostRuntime, answers: &[u8]) -> io::Result<()> {
+    let mut output = io::writer(rt);
+    output.write_all(answers)?;
+    output.flush()
+}
+
+/// The whole of the file that the first word names, or of standard input, or that word itself.
+fn read_input(
+    rt: &HostRuntime,
+    program: &Program,
+    arguments: &Arguments<'_>,
+) -> Result<Vec<u8>, Fault> {
+    let read = match arguments.first {
+        Some(text) if program.text.is_some() => copied(rt.alloc(), text),
+        Some("-") | None => read_standard_input(rt),
+        Some(file) => fs::read(rt, file),
+    };
+    match read {
+        Ok(input) => Ok(input),
+        Err(error) => Err(Fault::unread(error)),
+    }
+}
+
+fn copied(alloc: Global, text: &str) -> io::Result<Vec<u8>> {
+    let mut bytes = Vec::new(alloc);
+    bytes.extend_from_slice(text.as_bytes())?;
+    Ok(bytes)
+}
+
+fn read_standard_input(rt: &HostRuntime) -> io::Result<Vec<u8>> {
     let mut input = Vec::new(rt.alloc());
     rt.reader().read_to_end(&mut input)?;
-    write_answers(rt, &input, line)
+    Ok(input)
 }
 
-/// The exit status of a program that failed: 2 where a line is bad, 3 when out of memory, and 4
-/// where reading or writing failed.
-pub fn status_of(error: &io::Error) -> u8 {
-    match error.kind() {
-        ErrorKind::InvalidData => 2,
-        ErrorKind::OutOfMemory => 3,
-        _ => 4,
-    }
-}
-
-/// The error of a line that is bad for this reason.
-pub fn bad(reason: &str) -> io::Error
-    ensures { error_kind result ≡ InvalidData }
-{
-    io::Error::new(ErrorKind::InvalidData, reason)
-}
-
-/// A line as a text.
-pub fn text_of(line: &[u8]) -> io::Result<&str> {
-    match str::from_utf8(line) {
-        Ok(text) => Ok(text),
-        Err(_) => Err(bad("not UTF-8")),
-    }
+/// Says on standard error why the program failed, and returns its status.
+fn fail(rt: &HostRuntime, program: &Program, source: &str, fault: &Fault) -> ExitCode {
+    let name = program.name;
+    // Nothing is left to be told where standard error fails.
+    let _ = match fault {
+        Fault::Absent => Ok(()),
+        Fault::Usage(reason) => eprintln!(rt; "{name}: {reason}; see {name} --help"),
+        Fault::Line(number, reason) => {
+            eprintln!(rt; "{name}: {source}: line {number}: {reason}")
+        }
+        Fault::Unread(error) => eprintln!(rt; "{name}: {source}: {error}"),
+        Fault::System(error) => eprintln!(rt; "{name}: {error}"),
+    };
+    ExitCode::from(fault.status())
 }

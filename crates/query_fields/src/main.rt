@@ -30,19 +30,32 @@ mod fields;
 use crate::command::add_answers;
 use ordered_multimap::ListOrderedMultimap;
 use ordered_multimap::list_ordered_multimap::RandomState;
-use program_parts::run_program;
-use std::io;
+use program_parts::{Arguments, Fault, Program, run_program};
 use std::process::ExitCode;
 
+const PROGRAM: Program = Program {
+    name: "query_fields",
+    help: "usage: query_fields < FILE\n",
+    flags: &[],
+    valued: &[],
+    text: None,
+};
+
 fn main(rt: HostRuntime) -> ExitCode {
-    run_program(&rt, "query_fields", write_answers)
+    run_program(&rt, &PROGRAM, answers_of)
 }
 
-/// Writes the answers once all of them are there.
-fn write_answers(rt: &HostRuntime, input: &[u8], line: &mut usize) -> io::Result<()> {
+fn answers_of(
+    rt: &HostRuntime,
+    _arguments: &Arguments<'_>,
+    input: &[u8],
+) -> Result<Vec<u8>, Fault> {
     // Who sends a query may choose names that share a hash, so the hash has a seed of its own.
     let fields = &mut ListOrderedMultimap::with_hasher(rt.alloc(), RandomState::new(rt)?);
     let mut answers = String::new(rt.alloc());
-    add_answers(rt.alloc(), fields, input, &mut answers, line)?;
-    print!(rt; "{answers}")
+    let mut line = 0usize;
+    match add_answers(rt.alloc(), fields, input, &mut answers, &mut line) {
+        Ok(()) => Ok(answers.into_bytes()),
+        Err(error) => Err(Fault::at_line(line, error)),
+    }
 }

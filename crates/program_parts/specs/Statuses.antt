@@ -1,0 +1,25 @@
+-- With which status a program ends.
+use Rattle.std.specs.Prelude.{ℕ}
+use Rattle.std.specs.IoError.{error_kind}
+use Rattle.std.specs.declared.io.Error.{Error}
+use Rattle.std.specs.declared.io.ErrorKind.{ErrorKind}
+use Rattle.std.specs.declared.io.ErrorKind.TheVariants.{InvalidData, OutOfMemory}
+use Rattle.program_parts.specs.declared.fault.Fault.{Fault}
+use Rattle.program_parts.specs.declared.fault.Fault.TheVariants.{Absent, Usage, Line, Unread, System}
+
+abbrev pub status_of_kind : ErrorKind → ℕ
+status_of_kind InvalidData = 2
+status_of_kind OutOfMemory = 3
+status_of_kind _ = 4
+
+-- 2 where the input is bad, 3 when out of memory, 4 where reading or writing failed
+abbrev pub status_of_error : Error → ℕ
+status_of_error error = status_of_kind (error_kind error)
+
+-- 1 where what was asked for is absent, 2 where an argument or a line is bad, and else as the error has it
+abbrev pub status_of_fault : Fault → ℕ
+status_of_fault Absent = 1
+status_of_fault (Usage reason) = 2
+status_of_fault (Line number reason) = 2
+status_of_fault (Unread error) = status_of_error error
+status_of_fault (System error) = status_of_error error

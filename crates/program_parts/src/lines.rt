@@ -1,0 +1,28 @@
+//! The lines of an input. A byte order mark at its start is no part of the first line, and a carriage
+//! return at the end of a line no part of that. The last line needs no line feed.
+ghost use Rattle.std.specs.IoError.{error_kind};
+ghost use Rattle.std.specs.Prelude.{◌≡◌, IfErr, IfOk};
+ghost use Rattle.std.specs.declared.io.ErrorKind.TheVariants.{InvalidData};
+
+use crate::fault::bad;
+use std::io;
+
+/// The input without a byte order mark at its start.
+pub fn without_mark(input: &[u8]) -> &[u8] {
+    input.strip_prefix(b"\xef\xbb\xbf").unwrap_or(input)
+}
+
+/// The line without a carriage return at its end.
+pub fn without_return(line: &[u8]) -> &[u8] {
+    line.strip_suffix(b"\r").unwrap_or(line)
+}
+
+/// The line as a text, without a carriage return at its end.
+pub fn text_of(line: &[u8]) -> io::Result<&str>
+    ensures bad { IfErr result (λ error. error_kind error ≡ InvalidData) }
+{
+    match str::from_utf8(without_return(line)) {
+        Ok(text) => Ok(text),
+        Err(_) => Err(bad("not UTF-8")),
+    }
+}
