@@ -1,69 +1,97 @@
-//! What commands do and write.
-ghost use Rattle.std.specs.Prelude.{◌≡◌, ℕ, List};
+//! What commands do to the headers, and what they show of them.
+ghost use Rattle.std.specs.Prelude.{◌≡◌, ◌↔◌, ◌++◌, ℕ, List, [], map, IfOk, IsTrue, OnOk};
 ghost use Rattle.std.specs.Str.{str_eq_ignore_ascii_case, str_to_ascii_lowercase};
-ghost use Rattle.ordered_multimap.specs.Pairs.{values_where};
+ghost use Rattle.ordered_multimap.specs.Pairs.{has_items, values_where};
+ghost use Rattle.header_store.specs.Written.{all_behind, header_lines, line_of, shown, value_lines};
+ghost use Rattle.header_store.specs.Changed.{changed, label_of};
 
-use crate::field::{field_of, name_of, split_at_byte};
-use crate::name::{Name, SET_COOKIE};
-use ordered_multimap::list_ordered_multimap::RandomState;
-use ordered_multimap::{EntryValues, ListOrderedMultimap};
-use program_parts::bad;
+use crate::command::{Command, Form};
+use crate::message::{Frame, Headers, read_message};
+use crate::name::Name;
+use ordered_multimap::EntryValues;
+use program_parts::{Fault, without_return};
 use std::alloc::AllocError;
 use std::io;
 
-/// The headers of a message, in their order. Names and values are parts of the input.
-pub type Headers<'t> = ListOrderedMultimap<Name<'t>, &'t [u8], RandomState>;
-
-/// Reads headers up to an empty line into `headers`, which is empty, and adds what the commands
-/// below it write, one after another. `number` is the number of the line that is read.
+/// Reads a message up to an empty line into `headers`, which is empty, and adds what the commands
+/// below that line show, one after another.
 pub fn add_answers<'t>(
     headers: &mut Headers<'t>,
     input: &'t [u8],
     answers: &mut Vec<u8>,
-    number: &mut usize,
-) -> io::Result<()> {
-    let mut are_read = false;
-    for (index, line) in input.split(|byte| *byte == b'\n').enumerate() {
-        *number = index.saturating_add(1);
-        let line = line.strip_suffix(b"\r").unwrap_or(line);
-        if line.is_empty() {
-            are_read = true;
-        } else if are_read {
-            carry_out(headers, line, answers)?;
-        } else if line.contains(&b':') {
-            let (name, value) = field_of(line, b':')?;
-            headers.append(name, value)?;
-        } else {
-            return Err(bad("not a header"));
+) -> Result<(), Fault> {
+    let frame = read_message(headers, input)?;
+    for (index, line) in frame.rest.split(|byte| *byte == b'\n').enumerate() {
+        if let Err(error) = add_answer(headers, frame.start, without_return(line), answers) {
+            let number = frame.lines.saturating_add(index).saturating_add(1);
+            return Err(Fault::at_line(number, error));
         }
     }
     Ok(())
 }
 
-/// Does what a line commands, and adds what that writes.
-fn carry_out<'t>(
+/// Does what a line commands, and adds what that shows.
+fn add_answer<'t>(
     headers: &mut Headers<'t>,
+    start: Option<&[u8]>,
     line: &'t [u8],
     answers: &mut Vec<u8>,
 ) -> io::Result<()> {
-    let (word, operands) = split_at_byte(line, b' ');
-    match word {
-        b"get" | b"all" | b"joined" => {
-            add_values(headers, word, name_of(operands)?, answers)?;
+    if line.is_empty() {
+        return Ok(());
+    }
+    let command = Command::of_line(line)?;
+    match command {
+        Command::Show(name, form) => {
+            if !add_values(answers, form, Some(name), values_of(headers, name))? {
+                add_absence(answers, name)?;
+            }
         }
-        b"set" => {
-            let (name, value) = field_of(operands, b' ')?;
+        Command::Write => add_message(answers, start, headers)?,
+        _ => change(headers, command)?,
+    }
+    Ok(())
+}
+
+/// Reads a message into `headers`, which is empty, and adds what the command shows of them, or the
+/// whole message as the command leaves it.
+///
+/// # Errors
+///
+/// [`Fault::Absent`] if the command shows the values of a name that no header has.
+pub fn add_answer_of_words<'t>(
+    headers: &mut Headers<'t>,
+    input: &'t [u8],
+    words: &'t [String],
+    answers: &mut Vec<u8>,
+) -> Result<(), Fault> {
+    let command = Command::of_words(words)?;
+    let frame = read_message(headers, input)?;
+    if let Command::Show(name, form) = command {
+        let found = add_values(answers, form, None, values_of(headers, name))?;
+        return if found { Ok(()) } else { Err(Fault::Absent) };
+    }
+    change(headers, command)?;
+    add_message(answers, frame.start, headers)?;
+    answers.extend_from_slice(frame.rest)?;
+    Ok(())
+}
+
+/// Does to the headers what the command says.
+fn change<'t>(headers: &mut Headers<'t>, command: Command<'t>) -> Result<(), AllocError>
+    ensures { OnOk result (headers.new.lists ≡ changed command.entry headers.old.lists) }
+{
+    match command {
+        Command::Set(name, value) => {
             headers.set(name, value)?;
         }
-        b"add" => {
-            let (name, value) = field_of(operands, b' ')?;
+        Command::Add(name, value) => {
             headers.append(name, value)?;
         }
-        b"remove" => {
-            headers.remove(&name_of(operands)?);
+        Command::Remove(name) => {
+            headers.remove(&name);
         }
-        b"write" if operands.is_empty() => add_headers(headers, answers)?,
-        _ => return Err(bad("not a command")),
+        Command::Show(_, _) | Command::Write => {}
     }
     Ok(())
 }
@@ -86,49 +114,111 @@ fn values_of<'m, 't>(
     headers.get_all(&name)
 }
 
-// `word` is get, all or joined.
+/// Adds the values in this form, each line with the name in front if there is one, and returns
+/// whether there is a value.
 fn add_values<'t>(
-    headers: &Headers<'t>,
-    word: &[u8],
-    name: Name<'t>,
     answers: &mut Vec<u8>,
-) -> Result<(), AllocError> {
-    let mut values = values_of(headers, name);
+    form: Form,
+    name: Option<Name<'t>>,
+    mut values: EntryValues<'_, Name<'t>, &'t [u8]>,
+) -> Result<bool, AllocError>
+    ensures found { IfOk result (λ found. found ≡ has_items values.entry.left) }
+    ensures shown { OnOk result (answers.new.items ≡ answers.old.items
+        ++ shown form (label_of name.entry) (map (λ v. v.now) values.entry.left)) }
+{
     let Some(first) = values.next() else {
-        return add_parts(answers, &[b"no ", name.as_bytes(), b"\n"]);
+        return Ok(false);
     };
-    add_parts(answers, &[name.as_bytes(), b": ", *first])?;
-    match word {
-        b"get" => {}
-        b"joined" if name != SET_COOKIE => add_all(answers, values, &[b", "])?,
-        _ => add_all(answers, values, &[b"\n", name.as_bytes(), b": "])?,
+    add_label(answers, name)?;
+    answers.extend_from_slice(first)?;
+    if let Form::Joined(separator) = form {
+        add_all_behind(answers, separator, values)?;
+        answers.push(b'\n')?;
+        return Ok(true);
     }
-    add_parts(answers, &[b"\n"])
+    answers.push(b'\n')?;
+    if let Form::Lines = form {
+        add_lines(answers, name, values)?;
+    }
+    Ok(true)
 }
 
-// Adds the values, each with these parts in front.
-fn add_all<'t>(
+/// Adds each value on a line, with the name in front if there is one.
+fn add_lines<'t>(
     answers: &mut Vec<u8>,
+    name: Option<Name<'t>>,
     values: EntryValues<'_, Name<'t>, &'t [u8]>,
-    front: &[&[u8]],
-) -> Result<(), AllocError> {
+) -> Result<(), AllocError>
+    ensures { OnOk result (answers.new.items ≡ answers.old.items
+        ++ value_lines (label_of name.entry) (map (λ v. v.now) values.entry.left)) }
+{
     for value in values {
-        add_parts(answers, front)?;
-        add_parts(answers, &[*value])?;
+        add_label(answers, name)?;
+        add_line(answers, value)?;
     }
     Ok(())
 }
 
-fn add_headers(headers: &Headers<'_>, answers: &mut Vec<u8>) -> Result<(), AllocError> {
+/// Adds the values, each with the separator in front.
+fn add_all_behind<'t>(
+    answers: &mut Vec<u8>,
+    separator: &[u8],
+    values: EntryValues<'_, Name<'t>, &'t [u8]>,
+) -> Result<(), AllocError>
+    ensures { OnOk result (answers.new.items ≡ answers.old.items
+        ++ all_behind separator.now (map (λ v. v.now) values.entry.left)) }
+{
+    for value in values {
+        answers.extend_from_slice(separator)?;
+        answers.extend_from_slice(value)?;
+    }
+    Ok(())
+}
+
+fn add_label(answers: &mut Vec<u8>, name: Option<Name<'_>>) -> Result<(), AllocError>
+    ensures { OnOk result (answers.new.items ≡ answers.old.items ++ label_of name.entry) }
+{
+    if let Some(name) = name {
+        answers.extend_from_slice(name.as_bytes())?;
+        answers.extend_from_slice(b": ")?;
+    }
+    Ok(())
+}
+
+fn add_line(answers: &mut Vec<u8>, text: &[u8]) -> Result<(), AllocError>
+    ensures { OnOk result (answers.new.items ≡ answers.old.items ++ line_of text.now) }
+{
+    answers.extend_from_slice(text)?;
+    answers.push(b'\n')?;
+    Ok(())
+}
+
+// That no header has the name, which is no header either.
+fn add_absence(answers: &mut Vec<u8>, name: Name<'_>) -> Result<(), AllocError> {
+    answers.extend_from_slice(b"no ")?;
+    add_line(answers, name.as_bytes())
+}
+
+/// Adds the request or status line, if there is one, and all headers in order.
+fn add_message(
+    answers: &mut Vec<u8>,
+    start: Option<&[u8]>,
+    headers: &Headers<'_>,
+) -> Result<(), AllocError> {
+    if let Some(start) = start {
+        add_line(answers, start)?;
+    }
+    add_headers(answers, headers)
+}
+
+/// Adds all headers in order, each name as it was first spelled.
+fn add_headers(answers: &mut Vec<u8>, headers: &Headers<'_>) -> Result<(), AllocError>
+    ensures { OnOk result (answers.new.items ≡ answers.old.items
+        ++ header_lines (map (λ p. (p.0.text.0.now, p.1.now)) headers.now.lists.pairs)) }
+{
     for (name, value) in headers {
-        add_parts(answers, &[name.as_bytes(), b": ", *value, b"\n"])?;
-    }
-    Ok(())
-}
-
-fn add_parts(answers: &mut Vec<u8>, parts: &[&[u8]]) -> Result<(), AllocError> {
-    for part in parts {
-        answers.extend_from_slice(part)?;
+        add_label(answers, Some(*name))?;
+        add_line(answers, value)?;
     }
     Ok(())
 }

@@ -43,7 +43,7 @@ pub fn name_of(text: &[u8]) -> io::Result<Name<'_>>
 }
 
 /// The value that the text is, without the blanks around it, or none if RFC 9110 forbids it.
-fn value_of(text: &[u8]) -> Option<&[u8]>
+pub fn value_of(text: &[u8]) -> Option<&[u8]>
     ensures allowed { IsSome result ↔ rfc.IsValue text.now }
     ensures trimmed { IfSome result (λ value. IsTrimAscii text.now value.now) }
 {
@@ -53,7 +53,7 @@ fn value_of(text: &[u8]) -> Option<&[u8]>
 
 /// Whether the byte may stand in a value: a tab, or what is no control character. Bytes above 127
 /// have no meaning of their own.
-fn is_value_byte(byte: u8) -> bool
+pub fn is_value_byte(byte: u8) -> bool
     ensures { result ≡ rfc.is_value_byte byte }
 {
     byte == b'\t' || !byte.is_ascii_control()

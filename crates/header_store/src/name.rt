@@ -16,6 +16,11 @@ pub const SET_COOKIE: Name<'static> = Name {
     text: AsciiCaseless(b"set-cookie"),
 };
 
+/// The name whose values are joined by semicolons.
+pub const COOKIE: Name<'static> = Name {
+    text: AsciiCaseless(b"cookie"),
+};
+
 impl<'t> Name<'t> {
     /// The name of this text, or none if RFC 9110 forbids it.
     pub fn new(text: &'t [u8]) -> Option<Name<'t>>
