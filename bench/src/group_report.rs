@@ -1,5 +1,5 @@
 //! What the program `group_report` does, with the standard library's collections: a map from each
-//! group to its values, and a list of the groups in the order in which they first occur.
+//! group to its summary, and a list of the groups in the order in which they first occur.
 use std::collections::HashMap;
 use std::fmt::Write as _;
 use std::io::{Read, Write};
@@ -12,9 +12,8 @@ struct Summary {
     greatest: i64,
 }
 
-fn summarize(values: &[i64]) -> Option<Summary> {
-    let of = |value| Summary { count: 1, sum: value, least: value, greatest: value };
-    values.iter().skip(1).try_fold(of(values[0]), |all, &value| join(all, of(value)))
+fn one(value: i64) -> Summary {
+    Summary { count: 1, sum: value, least: value, greatest: value }
 }
 
 fn join(one: Summary, other: Summary) -> Option<Summary> {
@@ -46,7 +45,7 @@ fn push_report(report: &mut String, summaries: &[(&str, Summary)]) {
 fn main() {
     let mut text = String::new();
     std::io::stdin().read_to_string(&mut text).expect("a text");
-    let (mut groups, mut values, mut bound) = (Vec::new(), HashMap::<&str, Vec<i64>>::new(), None);
+    let (mut groups, mut all, mut bound) = (Vec::new(), HashMap::<&str, Summary>::new(), None);
     for (index, line) in text.lines().enumerate().filter(|(_, line)| !line.is_empty()) {
         let (group, value) = line.split_once(' ').expect("a group and a value");
         let value = value.parse().expect("a number");
@@ -54,13 +53,12 @@ fn main() {
             bound = Some(value);
             continue;
         }
-        let own = values.entry(group).or_default();
-        if own.is_empty() {
+        all.entry(group).and_modify(|own| *own = join(*own, one(value)).expect("the sum fits")).or_insert_with(|| {
             groups.push(group);
-        }
-        own.push(value);
+            one(value)
+        });
     }
-    let mut summaries: Vec<_> = groups.iter().map(|group| (*group, summarize(&values[group]).expect("the sum fits"))).collect();
+    let mut summaries: Vec<_> = groups.iter().map(|group| (*group, all[group])).collect();
     let mut report = String::new();
     push_report(&mut report, &summaries);
     if let Some(bound) = bound {

@@ -1,16 +1,42 @@
--- What a summary says of the values of a group.
+-- What a summary says of values, and what a map from groups to summaries says of entries.
 use Rattle.std.specs.Int.{int_max, int_min}
-use Rattle.std.specs.List.{fold}
-use Rattle.std.specs.Prelude.{List, ℤ, pos, negsuc, ◌+ℤ◌}
+use Rattle.std.specs.List.{fold, sum_by}
+use Rattle.std.specs.Prelude.{◌≡◌, Bool, List, [], ◌∷◌, ℤ, pos, negsuc, ◌+◌, ◌+ℤ◌, length}
+use Rattle.ordered_multimap.specs.Changes.{first_occurrences}
+use Rattle.ordered_multimap.specs.Lists.{Lists}
+use Rattle.ordered_multimap.specs.Pairs.{values_of}
+use Rattle.group_report.specs.declared.summary.Summary.{Summary}
 
--- their sum
-abbrev pub sum_of : List ℤ → ℤ
-sum_of values = fold (λ sum value. sum +ℤ value) (pos 0) values
+-- the summary of no value
+abbrev pub nothing : Summary
+nothing = record {
+  count = 0;
+  sum = pos 0;
+  least = pos 9223372036854775807;
+  greatest = negsuc 9223372036854775807;
+}
 
--- the least of them, or the greatest number of 64 bits where there is none
-abbrev pub least_of : List ℤ → ℤ
-least_of values = fold int_min (pos 9223372036854775807) values
+-- the summary of what this one is of, and of one value more
+abbrev pub summary_with : Summary → ℤ → Summary
+summary_with all value = record {
+  count = all.count + 1;
+  sum = all.sum +ℤ value;
+  least = int_min all.least value;
+  greatest = int_max all.greatest value;
+}
 
--- the greatest of them, or the least number of 64 bits where there is none
-abbrev pub greatest_of : List ℤ → ℤ
-greatest_of values = fold int_max (negsuc 9223372036854775807) values
+-- how many values there are, their sum, the least and the greatest of them
+abbrev pub summary_of : List ℤ → Summary
+summary_of values = fold summary_with nothing values
+
+-- one summary of all values, where there is any
+abbrev pub summaries_of : List ℤ → List Summary
+summaries_of [] = []
+summaries_of (value ∷ values) = summary_of (value ∷ values) ∷ []
+
+-- Of entries, each a group and a value, the map has one summary for each group, which is that of the
+-- values of its entries in order, and the summaries count all entries.
+pub record Summarizes {G : Type 0} (eq : G → G → Bool) (entries : List (G × ℤ))
+    (m : Lists G Summary) : Type 0 where
+  pub summaries : (g : G) → values_of eq m.pairs g ≡ summaries_of (values_of eq entries g)
+  pub counts : sum_by (λ p. p.1.count) m.pairs ≡ length entries

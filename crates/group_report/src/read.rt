@@ -1,44 +1,75 @@
-//! The values of each group, read from lines.
-use crate::Fault;
-use ordered_multimap::ListOrderedMultimap;
-use std::alloc::AllocError;
+//! The group and the value on each line.
+use crate::options::Options;
+use crate::summaries::{Report, add_value};
+use program_parts::{Fault, bad, text_of, without_mark};
+use std::io;
+use std::num::IntErrorKind;
 
-/// The values of each group, in the order of the lines. Groups are named by the input's own text.
-pub type Values<'t> = ListOrderedMultimap<&'t str, i64>;
-
-/// The input as a text, without a byte order mark, or the line at which it isn't UTF-8.
-pub fn text_of(input: &[u8]) -> Result<&str, Fault<'_>> {
-    match str::from_utf8(input) {
-        Ok(text) => Ok(text.strip_prefix('\u{feff}').unwrap_or(text)),
-        Err(error) => {
-            let before = input.iter().take(error.valid_up_to());
-            let ended = before.filter(|byte| **byte == b'\n').count();
-            Err(Fault::Line(ended.saturating_add(1)))
-        }
-    }
-}
-
-/// Reads the values of all lines into `values`, and returns the bound, if the first line has one.
-pub fn read_values<'t>(values: &mut Values<'t>, text: &'t str) -> Result<Option<i64>, Fault<'t>> {
-    let mut bound = None;
-    for (index, line) in text.lines().enumerate() {
-        match parse_line(line) {
-            _ if line.is_empty() => {}
-            Some(("bound", least)) if index == 0 => bound = Some(least),
-            Some((group, value)) => {
-                values.append(group, value).map_err(AllocError::from)?;
+/// Takes up the values of all lines, and returns the bound, if there is one.
+pub fn read_lines<'t>(
+    report: &mut Report<'t>,
+    options: &Options,
+    input: &'t [u8],
+) -> Result<Option<i64>, Fault> {
+    let mut bound = options.bound;
+    for (index, line) in without_mark(input).split(|byte| *byte == b'\n').enumerate() {
+        match entry_of(line, options.counts) {
+            Ok(None) => {}
+            Ok(Some((b"bound", least))) if index == 0 && options.first_line_may_bound => {
+                bound = Some(least);
             }
-            None => return Err(Fault::Line(index.saturating_add(1))),
+            Ok(Some((group, value))) => add_entry(report, options, group, value)?,
+            Err(error) => return Err(Fault::at_line(index.saturating_add(1), error)),
         }
     }
     Ok(bound)
 }
 
-/// The group and the value on a line.
-fn parse_line(line: &str) -> Option<(&str, i64)> {
-    let (group, value) = line.split_once(' ')?;
-    if group.is_empty() {
-        return None;
+fn add_entry<'t>(
+    report: &mut Report<'t>,
+    options: &Options,
+    group: &'t [u8],
+    value: i64,
+) -> Result<(), Fault> {
+    add_value(&mut report.summaries, group, value)?;
+    if options.lists
+        && let Err(refused) = report.values.append(group, value)
+    {
+        return Err(Fault::from(io::Error::from(refused)));
     }
-    Some((group, value.parse().ok()?))
+    Ok(())
+}
+
+/// The group and the value on a line, if there is one. Where lines have no value, it is one.
+fn entry_of(line: &[u8], counts: bool) -> io::Result<Option<(&[u8], i64)>> {
+    let text = text_of(line)?.as_bytes().trim_ascii();
+    if text.is_empty() {
+        return Ok(None);
+    }
+    if counts {
+        return Ok(Some((text, 1)));
+    }
+    match split_at_last_space(text) {
+        Some((group, value)) => Ok(Some((group.trim_ascii_end(), number_of(value)?))),
+        None => Err(bad("not a group and a value")),
+    }
+}
+
+/// What stands before the last white space, and what stands behind it.
+fn split_at_last_space(text: &[u8]) -> Option<(&[u8], &[u8])> {
+    let place = text.iter().rposition(|byte| byte.is_ascii_whitespace())?;
+    Some((&text[..place], &text[place + 1..]))
+}
+
+fn number_of(word: &[u8]) -> io::Result<i64> {
+    let Ok(word) = str::from_utf8(word) else {
+        return Err(bad("not a number"));
+    };
+    match word.parse::<i64>() {
+        Ok(number) => Ok(number),
+        Err(error) => Err(match error.kind() {
+            IntErrorKind::PosOverflow | IntErrorKind::NegOverflow => bad("out of range"),
+            _ => bad("not a number"),
+        }),
+    }
 }

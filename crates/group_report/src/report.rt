@@ -1,94 +1,123 @@
-//! From the bytes of the input to the text of the report.
-ghost use Rattle.std.specs.Int.{w64};
-ghost use Rattle.std.specs.Prelude.{◌≡◌, ◌↔◌, length, IfSome, IsSome, FitsSigned};
-ghost use Rattle.group_report.specs.Sums.{greatest_of, least_of, sum_of};
-
-use crate::Fault;
-use crate::read::{Values, read_values, text_of};
+//! What is printed.
+use crate::options::{Options, Order};
+use crate::summaries::{Report, Summaries, Values};
 use crate::summary::{NOTHING, Summary};
-use ordered_multimap::{EntryValues, ListOrderedMultimap};
+use program_parts::{Fault, bad};
 use std::alloc::{AllocError, Global};
+use std::cmp::Reverse;
+use std::io;
+use std::io::Write;
 
-/// The summary of each group, in the order in which groups first occur.
-pub type Summaries<'t> = ListOrderedMultimap<&'t str, Summary>;
-
-/// Reads the values on the lines of the input and adds the report on all groups to `reports`, and
-/// behind it the one on those whose sum isn't below the bound, if the first line has one. There are
-/// no summaries at first.
-pub fn add_reports<'t>(
+/// The report on all groups and, behind it, the one on those whose sum isn't below the bound.
+pub fn report_of(
     alloc: Global,
-    summaries: &mut Summaries<'t>,
-    input: &'t [u8],
-    reports: &mut String,
-) -> Result<(), Fault<'t>> {
-    let bound = summarize_input(alloc, summaries, input)?;
-    add_report(summaries, "all groups", reports)?;
+    report: &mut Report<'_>,
+    options: &Options,
+    bound: Option<i64>,
+) -> Result<Vec<u8>, Fault> {
+    let mut text = Vec::new(alloc);
+    sort(&mut report.summaries, options.order)?;
+    add_report(alloc, report, options, b"all groups", &mut text)?;
     if let Some(bound) = bound {
-        summaries.retain(|_group, summary| summary.sum >= i128::from(bound));
-        reports.push('\n')?;
-        add_report(summaries, "the groups that are left", reports)?;
+        report
+            .summaries
+            .retain(|_group, summary| summary.sum >= i128::from(bound));
+        text.push(b'\n')?;
+        add_report(
+            alloc,
+            report,
+            options,
+            b"the groups that are left",
+            &mut text,
+        )?;
+    }
+    Ok(text)
+}
+
+/// Puts the groups in this order.
+fn sort(summaries: &mut Summaries<&[u8]>, order: Order) -> Result<(), AllocError> {
+    match order {
+        Order::First => Ok(()),
+        Order::Name => summaries.sort_keys(),
+        Order::Total => summaries.sort_keys_by_cached_key(|_group, mut own| {
+            Reverse(own.next().map_or(0, |summary| summary.sum))
+        }),
+    }
+}
+
+/// Adds the lines of each group, and the line of totals. `groups` says which they are.
+fn add_report(
+    alloc: Global,
+    report: &Report<'_>,
+    options: &Options,
+    groups: &[u8],
+    text: &mut Vec<u8>,
+) -> Result<(), Fault> {
+    let mut total = Some(NOTHING);
+    for (group, own) in report.summaries.pairs() {
+        for summary in own {
+            add_group(alloc, report, options, group, *summary, text)?;
+            total = total.and_then(|total| total.join(*summary));
+        }
+    }
+    let total = fitting(alloc, total, groups)?;
+    Ok(add_total(report.summaries.keys_len(), total, options.counts, text)?)
+}
+
+fn add_group(
+    alloc: Global,
+    report: &Report<'_>,
+    options: &Options,
+    group: &[u8],
+    summary: Summary,
+    text: &mut Vec<u8>,
+) -> Result<(), Fault> {
+    let summary = fitting(alloc, Some(summary), group)?;
+    text.extend_from_slice(group)?;
+    add_summary(": ", summary, options.counts, text)?;
+    if options.lists {
+        add_values(&report.values, group, text)?;
     }
     Ok(())
 }
 
-/// Summarizes the groups of the input, and returns the bound, if there is one.
-fn summarize_input<'t>(
-    alloc: Global,
-    summaries: &mut Summaries<'t>,
-    input: &'t [u8],
-) -> Result<Option<i64>, Fault<'t>> {
-    summarize_lines(&mut ListOrderedMultimap::new(alloc), summaries, input)
-}
-
-/// Reads the values, and summarizes each group by one pass over its own.
-fn summarize_lines<'t>(
-    values: &mut Values<'t>,
-    summaries: &mut Summaries<'t>,
-    input: &'t [u8],
-) -> Result<Option<i64>, Fault<'t>> {
-    let bound = read_values(values, text_of(input)?)?;
-    for (group, values) in values.pairs() {
-        let summary = summarize(values).ok_or(Fault::Sum(*group))?;
-        summaries.append(*group, summary).map_err(AllocError::from)?;
+/// Adds each value of the group, in order, on a line of its own.
+fn add_values(values: &Values<&[u8]>, group: &[u8], text: &mut Vec<u8>) -> io::Result<()> {
+    for value in values.get_all(group) {
+        writeln!(text, "  {value}")?;
     }
-    Ok(bound)
+    Ok(())
 }
 
-/// The summary of the values, or none exactly if their sum doesn't fit 64 bits.
-fn summarize<'t>(mut values: EntryValues<'_, &'t str, i64>) -> Option<Summary>
-    ensures fits { IsSome result ↔ FitsSigned w64 (sum_of values.entry.left) }
-    ensures count { IfSome result (λ summary. summary.count ≡ length values.entry.left) }
-    ensures sum { IfSome result (λ summary. summary.sum ≡ sum_of values.entry.left) }
-    ensures least { IfSome result (λ summary. summary.least ≡ least_of values.entry.left) }
-    ensures greatest { IfSome result (λ summary.
-        summary.greatest ≡ greatest_of values.entry.left) }
-{
-    let mut summary = NOTHING;
-    for _ in 0..values.len() {
-        summary = summary.join(Summary::of(*values.next()?))?;
-    }
-    summary.fitting()
-}
-
-/// Adds a line for each group, and the line of totals. `groups` says which they are.
-fn add_report<'t>(
-    summaries: &Summaries<'t>,
-    groups: &'t str,
-    reports: &mut String,
-) -> Result<(), Fault<'t>> {
-    let mut total = NOTHING;
-    for (group, summary) in summaries {
-        writeln!(reports, "{group}: {summary}")?;
-        total = total.join(*summary).ok_or(Fault::Sum(groups))?;
-    }
-    let total = total.fitting().ok_or(Fault::Sum(groups))?;
-    Ok(add_total(summaries.keys_len(), total, reports)?)
-}
-
-fn add_total(groups: usize, total: Summary, reports: &mut String) -> Result<(), AllocError> {
+fn add_total(groups: usize, total: Summary, counts: bool, text: &mut Vec<u8>) -> io::Result<()> {
+    write!(text, "total: groups {groups}")?;
     if groups == 0 {
-        reports.push_str("total: groups 0\n")
+        text.push(b'\n')?;
+        return Ok(());
+    }
+    add_summary(", ", total, counts, text)
+}
+
+fn add_summary(before: &str, summary: Summary, counts: bool, text: &mut Vec<u8>) -> io::Result<()> {
+    if counts {
+        writeln!(text, "{before}count {}", summary.count)
     } else {
-        writeln!(reports, "total: groups {groups}, {total}")
+        writeln!(text, "{before}{summary}")
+    }
+}
+
+/// The summary of these groups, if there is one and its sum fits 64 bits.
+fn fitting(alloc: Global, summary: Option<Summary>, groups: &[u8]) -> Result<Summary, Fault> {
+    match summary.and_then(|summary| summary.fitting()) {
+        Some(summary) => Ok(summary),
+        None => Err(Fault::input(too_large(alloc, groups))),
+    }
+}
+
+fn too_large(alloc: Global, groups: &[u8]) -> io::Error {
+    let groups = str::from_utf8(groups).unwrap_or("a group");
+    match format!(in alloc; "the sum of {groups} doesn't fit 64 bits") {
+        Ok(reason) => bad(&reason),
+        Err(error) => io::Error::from(error),
     }
 }

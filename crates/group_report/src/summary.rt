@@ -1,6 +1,7 @@
 //! What a report says of the values of a group.
 ghost use Rattle.std.specs.Int.{int_max, int_min, w64, w128};
 ghost use Rattle.std.specs.Prelude.{◌≡◌, ◌+◌, ◌<◌, ◌^◌, ◌+ℤ◌, ◌↔◌, IfSome, IsSome, FitsSigned};
+ghost use Rattle.group_report.specs.Sums.{summary_with};
 
 use std::fmt;
 
@@ -36,6 +37,15 @@ impl Summary {
             least: value,
             greatest: value,
         }
+    }
+
+    /// The summary of its values and of one more, or none exactly if their number overflows a `usize`
+    /// or their sum doesn't fit 128 bits.
+    pub fn with(self, value: i64) -> Option<Summary>
+        ensures fits { IsSome result ↔ (self.count + 1 < 2 ^ 64) × FitsSigned w128 (self.sum +ℤ value) }
+        ensures with { IfSome result (λ all. all ≡ summary_with self value) }
+    {
+        self.join(Summary::of(value))
     }
 
     /// The summary, or none exactly if its sum doesn't fit 64 bits.

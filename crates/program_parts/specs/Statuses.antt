@@ -5,7 +5,8 @@ use Rattle.std.specs.declared.io.Error.{Error}
 use Rattle.std.specs.declared.io.ErrorKind.{ErrorKind}
 use Rattle.std.specs.declared.io.ErrorKind.TheVariants.{InvalidData, OutOfMemory}
 use Rattle.program_parts.specs.declared.fault.Fault.{Fault}
-use Rattle.program_parts.specs.declared.fault.Fault.TheVariants.{Absent, Usage, Line, Unread, System}
+use Rattle.program_parts.specs.declared.fault.Fault.TheVariants.{Absent, Usage, Line}
+use Rattle.program_parts.specs.declared.fault.Fault.TheVariants.{Input, System}
 
 abbrev pub status_of_kind : ErrorKind → ℕ
 status_of_kind InvalidData = 2
@@ -16,10 +17,11 @@ status_of_kind _ = 4
 abbrev pub status_of_error : Error → ℕ
 status_of_error error = status_of_kind (error_kind error)
 
--- 1 where what was asked for is absent, 2 where an argument or a line is bad, and else as the error has it
+-- 1 where what was asked for is absent, 2 where an argument or a line is bad, and else what the
+-- error has
 abbrev pub status_of_fault : Fault → ℕ
 status_of_fault Absent = 1
 status_of_fault (Usage reason) = 2
 status_of_fault (Line number reason) = 2
-status_of_fault (Unread error) = status_of_error error
+status_of_fault (Input error) = status_of_error error
 status_of_fault (System error) = status_of_error error

@@ -1,5 +1,5 @@
 //! The arguments of a program: options, the file or the text that it reads, and words.
-ghost use Rattle.std.specs.Prelude.{◌≤◌, IfOk, length};
+ghost use Rattle.std.specs.Prelude.{◌≡◌, ◌≤◌, ◌↔◌, IfOk, IsTrue, length};
 
 use crate::fault::{Fault, unknown};
 use std::alloc::Global;
@@ -52,7 +52,11 @@ impl<'w> Arguments<'w> {
         alloc: Global,
         program: &Program,
         words: &'w [String],
-    ) -> Result<Arguments<'w>, Fault> {
+    ) -> Result<Arguments<'w>, Fault>
+        ensures none { IfOk result (λ arguments.
+            IsTrue arguments.are_none ↔ (length words.now ≡ 0)) }
+    {
+        let are_none = words.is_empty();
         let mut options = Vec::new(alloc);
         let behind = read_options(alloc, program, words, &mut options)?;
         let (first, words) = match behind.split_first() {
@@ -60,7 +64,7 @@ impl<'w> Arguments<'w> {
             None => (None, behind),
         };
         Ok(Arguments {
-            are_none: words.is_empty(),
+            are_none,
             options,
             first,
             words,

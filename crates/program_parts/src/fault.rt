@@ -19,7 +19,7 @@ pub enum Fault {
     /// The line of this number, counted from 1, is bad.
     Line(usize, io::Error),
     /// The input could not be read.
-    Unread(io::Error),
+    Input(io::Error),
     /// Memory was refused, writing failed, or the input is bad for a reason that no one line has.
     System(io::Error),
 }
@@ -32,7 +32,7 @@ impl Fault {
         match self {
             Fault::Absent => 1,
             Fault::Usage(_) | Fault::Line(_, _) => 2,
-            Fault::Unread(error) | Fault::System(error) => status_of(error),
+            Fault::Input(error) | Fault::System(error) => status_of(error),
         }
     }
 
@@ -48,12 +48,12 @@ impl Fault {
     }
 
     /// The fault of an input that could not be read.
-    pub fn unread(error: io::Error) -> Fault
+    pub fn input(error: io::Error) -> Fault
         ensures status { status_of_fault result ≡ status_of_error error }
     {
         match error.kind() {
             ErrorKind::OutOfMemory => Fault::System(error),
-            _ => Fault::Unread(error),
+            _ => Fault::Input(error),
         }
     }
 }

@@ -105,7 +105,7 @@ fn read_input(
     };
     match read {
         Ok(input) => Ok(input),
-        Err(error) => Err(Fault::unread(error)),
+        Err(error) => Err(Fault::input(error)),
     }
 }
 
@@ -131,7 +131,7 @@ fn fail(rt: &HostRuntime, program: &Program, source: &str, fault: &Fault) -> Exi
         Fault::Line(number, reason) => {
             eprintln!(rt; "{name}: {source}: line {number}: {reason}")
         }
-        Fault::Unread(error) => eprintln!(rt; "{name}: {source}: {error}"),
+        Fault::Input(error) => eprintln!(rt; "{name}: {source}: {error}"),
         Fault::System(error) => eprintln!(rt; "{name}: {error}"),
     };
     ExitCode::from(fault.status())

@@ -24,7 +24,7 @@ module _ {K V : Type 0} (eq : K → K → Bool) (pairs : List (K × V)) (k : K) 
 
 module _ {K V : Type 0} (accepts : K → Bool) where
   -- the pairs with another first value, by the first pair and the others
-  with_first-step : (p : K × V) (pairs : List (K × V)) (v : V)
+  pub with_first-step : (p : K × V) (pairs : List (K × V)) (v : V)
       → with_first_where accepts (p ∷ pairs) v ≡ cond (accepts p.0) ((p.0, v) ∷ pairs) (p ∷ with_first_where accepts pairs v)
   with_first-step p pairs v =
       elim (accepts p.0) as (λ b. put (p ∷ pairs) (slice_get
