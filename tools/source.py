@@ -200,7 +200,8 @@ def module_of(crate, path):
 
 def prover_name(folder, source, function):
     """The name that the prover gives a function of a crate, without the crate's: a method is named after its
-    type, in the type's module, or after type and trait, in its own module."""
+    type, in the type's module; where its impl is of some such types alone, after these, in its own module; or
+    after type and trait, in its own module."""
     block, path = function.block, module_of(folder, source.path)
     if not block or not function.indent:
         return "::".join([*path, function.name])
@@ -209,10 +210,12 @@ def prover_name(folder, source, function):
     if block.is_trait:
         return "::".join([*path, block.type, function.name])
     if not trait or block.trait == "Drop":
-        given = [it for it in split_outside(kind.partition("<")[2].removesuffix(">")) if not it.startswith("'")]
-        own = "" if all(it in block.parameters for it in given) else "".join(f"+{it}" for it in given)
+        given = without_lifetimes(kind.partition("<")[2].removesuffix(">"))
         declared = declaring(folder, bare)
-        return "::".join([*(module_of(folder, declared) if declared else path), bare + own, function.name])
+        is_whole = all(it in block.parameters for it in given) and (not declared or len(given) == parameters_of(declared, bare))
+        if not is_whole:
+            return "::".join([*path, "+".join([bare, *given]), function.name])
+        return "::".join([*(module_of(folder, declared) if declared else path), bare, function.name])
     of = "Any" if kind in block.parameters else encoded(kind if kind[0] in "&[(" else bare, block.parameters)
     name, _, given = trait.partition("<")
     words = [encoded(it, block.parameters) for it in split_outside(given.removesuffix(">"))]
@@ -220,7 +223,20 @@ def prover_name(folder, source, function):
     return "::".join([*path, of + name.split("::")[-1] + shown, function.name])
 
 
+def declares(kind):
+    return re.compile(rf"^(?:pub(?:\([a-z]+\))? )?(?:struct|enum) {kind}\b", re.M)
+
+
 def declaring(folder, kind):
     """The file of a crate that declares a type."""
-    words = re.compile(rf"^(?:pub(?:\([a-z]+\))? )?(?:struct|enum) {kind}\b", re.M)
-    return next((it for it in sorted((folder / "src").rglob("*.rt")) if words.search(it.read_text())), None)
+    return next((it for it in sorted((folder / "src").rglob("*.rt")) if declares(kind).search(it.read_text())), None)
+
+
+def without_lifetimes(given):
+    return [it for it in split_outside(spaced(given)) if not it.startswith("'")]
+
+
+def parameters_of(file, kind):
+    """How many parameters a type has that the file declares, but for lifetimes."""
+    text = file.read_text()
+    return len(without_lifetimes(angles(text[declares(kind).search(text).end() :])[0]))

@@ -16,7 +16,7 @@ def lines(seed):
             + [f"remove_index {key} {index}"] * 2
             + [f"{it} {key}" for it in ("or_default", "get_last", "get_key_value", "remove")]
             + [draw.choice([f"move_back {key}", f"move_front {key}", f"rename {key} {'0' * draw.randrange(3)}{draw.randrange(KEYS)}"])]
-            + [draw.choice(["sort_keys", "sort_keys_by"])]
+            + [draw.choice(["sort_keys", "sort_keys_by", "sort_by"])]
             + ["pop_front", "lists", draw.choice(["swap", "swap", "append_map", draw.choice(["lists", "into_keys", "into_values"])])]
         )
 
@@ -33,6 +33,11 @@ def same(key, other):
 def by_remainder(key):
     """What the command `sort_keys_by` compares: the greatest remainder comes first."""
     return -(int(key) % 3)
+
+
+def by_bits(pair):
+    """What the command `sort_by` compares: the two lowest bits of the value, and then the key."""
+    return pair[1] & 3, by_remainder(pair[0])
 
 
 def shown(keys, pairs):
@@ -151,6 +156,9 @@ def whole(lists, other, word):
         return shown(lists.keys, lists.pairs)
     if word in ("sort_keys", "sort_keys_by"):
         lists.keys.sort(key=int if word == "sort_keys" else by_remainder)
+        return None
+    if word == "sort_by":
+        lists.pairs.sort(key=by_bits)
         return None
     if word in ("into_keys", "into_values"):
         is_of_keys = word == "into_keys"

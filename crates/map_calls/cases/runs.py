@@ -91,6 +91,18 @@ SORTED = [
     ("5:1 3:2 1:3 5:4 2:5 04:6", "1 2 3 04 5", "5 2 1 04 3"),
 ]
 
+# Pairs, a key that leaves then, and the others once they are sorted by the two lowest bits of the values, and those with the
+# same by what is left of the key divided by three, the greatest first. The keys stay.
+SORTED_PAIRS = [
+    ("", "", "", ""),
+    ("5:3", "", "5:3", "5"),
+    ("5:3 1:9", "1", "5:3", "5"),
+    ("5:3 5:2 5:7 5:6", "", "5:2 5:6 5:3 5:7", "5"),
+    ("1:4 2:8 3:0 04:12", "", "2:8 1:4 04:12 3:0", "1 2 3 04"),
+    ("2:7 1:2 2:3 3:4 1:1 3:1 02:4", "", "2:4 3:4 1:1 3:1 1:2 2:7 2:3", "2 1 3"),
+    ("7:1 2:7 1:2 7:0 2:3 3:4 1:1 7:2 3:1 2:4", "7", "2:4 3:4 1:1 3:1 1:2 2:7 2:3", "2 1 3"),
+]
+
 # More keys than are sorted without memory.
 MANY = [str(7 * number % 25) for number in range(25)]
 
@@ -159,6 +171,9 @@ def runs():
     for pairs, *sorts in [*SORTED, (many, " ".join(sorted(MANY, key=int)), " ".join(sorted(MANY, key=by_remainder)))]:
         for word, keys in zip(("sort_keys", "sort_keys_by"), sorts):
             runs.append([*filled(pairs), (word, None), listed(pairs, keys)])
+    by_key = " ".join(sorted(many.split(), key=lambda it: by_remainder(it.split(":")[0])))
+    for pairs, gone, by_pair, keys in [*SORTED_PAIRS, (many, "", by_key, " ".join(MANY))]:
+        runs.append([*filled(pairs), *removed(pairs, gone), ("sort_by", None), listed(by_pair, keys)])
     for pairs, other, inserted, joined, keys in JOINED:
         lines = [*filled(other), *replaced(other, inserted), ("swap", None), *filled(pairs), ("append_map", "{}")]
         runs.append([*lines, listed(joined, keys), ("swap", None), listed("", "")])

@@ -32,11 +32,20 @@ pub fn call_on_whole(
         "pop_front" => add(map.pop_front(), replies),
         "sort_keys" => Ok(map.sort_keys()?),
         "sort_keys_by" => Ok(map.sort_keys_by(|a, b| b.remainder().cmp(&a.remainder()))?),
+        "sort_by" => Ok(sort_pairs(map)?),
         "into_keys" => Ok(add_keys(taken(map), replies)?),
         "into_values" => Ok(add_values(taken(map), replies)?),
         "lists" => Ok(add_lists(map, replies)?),
         _ => Err(bad("not a command")),
     }
+}
+
+/// Sorts the pairs by the two lowest bits of the values, and then by the keys as `sort_keys_by`.
+fn sort_pairs(map: &mut Map) -> Result<(), AllocError> {
+    map.sort_by(|a, value, b, other| {
+        let bits = (*value & 3).cmp(&(*other & 3));
+        bits.then(b.remainder().cmp(&a.remainder()))
+    })
 }
 
 /// Takes the map out, and puts an empty one in its place.

@@ -22,6 +22,7 @@ pub mod Lists
 pub mod MapSlots
 pub mod Multimap
 pub mod OneValue
+pub mod PairSorts
 pub mod Pairs
 pub mod Popped
 pub mod PopAnswers

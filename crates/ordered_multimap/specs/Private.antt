@@ -5,6 +5,7 @@ pub mod Extends
 pub mod KeyRelocations
 pub mod KeySorts
 pub mod KeySteps
+pub mod PairSorts
 pub mod Remove
 pub mod RemoveAt
 pub mod RemoveOne

@@ -5,6 +5,7 @@ use Rattle.ordered_multimap.specs.Keys.{keys_named_by}
 use Rattle.ordered_multimap.specs.KeySorts.{ReordersKeys}
 use Rattle.ordered_multimap.specs.Lists.{empty_lists}
 use Rattle.ordered_multimap.specs.Multimap.{Multimap}
+use Rattle.ordered_multimap.specs.PairSorts.{ReordersPairs}
 use Rattle.ordered_multimap.specs.PopAnswers.{IsPopped}
 use Rattle.ordered_multimap.specs.Removals.{IsRemovedWhere}
 use Rattle.ordered_multimap.specs.Rooms.{IsNewMap, KeepsRooms, SameRooms}
@@ -61,4 +62,9 @@ module _ {K V S : Type 0} (eq : K → K → Bool) (value_eq : V → V → Bool) 
     -- the keys are the same in another order; pairs, rooms and numbers stay, and so does a set
     pub record ReordersSet : Type 0 where
       pub reordered : ReordersKeys old new
+      pub set : IsSet eq value_eq old.lists → IsSet eq value_eq new.lists
+
+    -- the pairs are the same in another order; the keys stay, no room is lower, and a set stays one
+    pub record ReordersSetPairs : Type 0 where
+      pub reordered : ReordersPairs old new
       pub set : IsSet eq value_eq old.lists → IsSet eq value_eq new.lists

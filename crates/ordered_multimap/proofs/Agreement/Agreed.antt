@@ -140,7 +140,7 @@ module _ {K V : Type 0} {eq : K → K → Bool} {hash : K → ℕ} {keys : Slots
   }
 
 -- empty slots and an empty table
-empty_sound : {T L : Type 0} (s : Slots T L) → s.order ≡ [] → IsSound s
+pub empty_sound : {T L : Type 0} (s : Slots T L) → s.order ≡ [] → IsSound s
 empty_sound s none = record {
   distinct = subst AreDistinct (sym none) tt;
   filled = λ p i. absurd (subst (IsIn p) none i);

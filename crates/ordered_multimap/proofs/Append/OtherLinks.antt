@@ -12,15 +12,8 @@ use Rattle.ordered_multimap.specs.Private.Relocations.{AreChained}
 use Rattle.ordered_multimap.proofs.Agreement.Agreed.{is_value_of-is, value_owner}
 use Rattle.ordered_multimap.proofs.Callers.Members.{IsIn-kept}
 use Rattle.ordered_multimap.proofs.Callers.Places.{AreDistinct-filter, last_of-member}
+use Rattle.ordered_multimap.proofs.Chains.LongerLists.{no_last}
 use Rattle.ordered_multimap.proofs.Chains.Neighbours.{first_of-member, next_is, next_of-members, previous_is, previous_of-members}
-
-no_last : (ps : List ℕ) → last_of ps ≡ None → ps ≡ []
-no_last [] e = refl
-no_last (p ∷ ps) e = absurd (some p ps e)
-  where
-    some : (p : ℕ) (ps : List ℕ) → last_of (p ∷ ps) ≡ None → ⊥
-    some p [] e = let bad = e in cc
-    some p (q ∷ ps) e = some q ps e
 
 module _ {K V : Type 0} {keys : Slots K KeyLink} {values : Slots V ValueLink} (chains : AreChained keys values) where
   -- two neighbours in a chain name each other, and the same key

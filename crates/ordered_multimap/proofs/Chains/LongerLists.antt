@@ -18,6 +18,14 @@ pub last_or-push : {X : Type 0} (o : Option X) (xs : List X) (x : X) → last_or
 last_or-push o [] x = refl
 last_or-push o (y ∷ xs) x = last_or-push (Some y) xs x
 
+pub no_last : (ps : List ℕ) → last_of ps ≡ None → ps ≡ []
+no_last [] e = refl
+no_last (p ∷ ps) e = absurd (some p ps e)
+  where
+    some : (p : ℕ) (ps : List ℕ) → last_of (p ∷ ps) ≡ None → ⊥
+    some p [] e = let bad = e in cc
+    some p (q ∷ ps) e = some q ps e
+
 pub first_of-push : {X : Type 0} (xs : List X) (x y : X) → first_of xs ≡ Some y → first_of (xs ++ x ∷ []) ≡ Some y
 first_of-push [] x y e = absurd (cc)
 first_of-push (z ∷ xs) x y e = e

@@ -1,26 +1,29 @@
--- Keys that stand in another order: what is read at their places, and how they still agree.
-use Rattle.std.proofs.Common.{◌≡◌, ℕ, Bool, true, false, List, [], ◌∷◌, map, length, Option, Some, unwrap_or}
+-- Items that stand in another order: what is read at their places, and how keys in another order still agree.
+use Rattle.std.proofs.Common.{◌≡◌, ℕ, Bool, true, false, List, [], ◌∷◌, map, length, Option, Some, IsSome, unwrap_or}
 use Rattle.std.proofs.Common.{IfSome, if◌then◌else◌, refl, sym, ap, ◌∙◌, subst, inl, inr, arith, rules, ◌||◌}
 use Rattle.std.proofs.lemmas.Bool.{cases_eq, ne_eqb}
 use Rattle.std.proofs.lemmas.List.Sorted.{IsPermutation-map, IsPermutation-refl, length_permutation}
 use Rattle.std.proofs.lemmas.Map.Keys.{IsDistinct-IsPermutation}
 use Rattle.std.specs.Cmp.{IsEquivalence, IsStrictWeakOrder}
+use Rattle.std.specs.Borrow.{Bor}
 use Rattle.std.specs.FinMap.{FinMap}
+use Rattle.std.specs.Fn.{ComparesAs, Mut}
 use Rattle.std.specs.Ordering.{nat_cmp}
-use Rattle.std.specs.List.Sorted.{IsSortedBy, IsStableBy, ties}
+use Rattle.std.specs.declared.cmp.Ordering.{Ordering}
+use Rattle.std.specs.List.Sorted.{IsSortedBy, IsSortedByClosure, IsStableBy, IsStableByClosure, ties}
 use Rattle.std.specs.Prelude.{IsPermutation, filter}
 use Rattle.std.specs.List.{filter_map, cons_option}
 use Rattle.multimap_slots.specs.Lists.{IsIn, first_of}
-use Rattle.multimap_slots.specs.Slots.{Slots, IsSound, item_at, in_order}
+use Rattle.multimap_slots.specs.Slots.{Slots, item_at, in_order}
 use Rattle.multimap_slots.proofs.Callers.Permuted.{permuted_in, permuted_was_in, permuted_distinct}
 use Rattle.multimap_walks.specs.declared.links.KeyLink.{KeyLink}
 use Rattle.multimap_walks.specs.declared.links.ValueLink.{ValueLink}
 use Rattle.ordered_multimap.specs.Agrees.{Agrees, HasKey, items_of}
-use Rattle.ordered_multimap.specs.Private.KeySorts.{is_among, key_or}
+use Rattle.ordered_multimap.specs.Private.KeySorts.{is_among, item_or}
 use Rattle.ordered_multimap.proofs.Callers.Places.{held}
-use Rattle.ordered_multimap.proofs.KeySorts.Mapped.{sorted-mapped, stable-mapped}
+use Rattle.ordered_multimap.proofs.KeySorts.Mapped.{order-mapped, sorted-mapped, stable-mapped}
 
-no_places : (ps : List ℕ) → length ps ≡ 0 → ps ≡ []
+pub no_places : (ps : List ℕ) → length ps ≡ 0 → ps ≡ []
 no_places [] e = refl
 no_places (p ∷ ps) e = absurd (omega arith)
 
@@ -36,63 +39,67 @@ in_among p (q ∷ ps) e = elim (cases_eq p q) [
   | inr differs ↦ inr (in_among p ps (ap (λ b. b || is_among ps p) (sym (ne_eqb p q differs)) ∙ e))
 ]
 
-module _ {K : Type 0} (keys : Slots K KeyLink) (other : K) where
-  -- the key that is listed at a place
-  pub key_or-listed : (p : ℕ) (k : K) → IsIn p keys.order → item_at keys p ≡ Some k → key_or keys other p ≡ k
-  key_or-listed p k i is =
-      ap (λ b. if b then unwrap_or (item_at keys p) other else other) (among_in p keys.order i) ∙ ap (λ o. unwrap_or o other) is
+module _ {X : Type 0} (at : ℕ → Option X) where
+  -- what stands at one of the places
+  pub item_or-listed : (order : List ℕ) (other : X) (p : ℕ) (x : X) → IsIn p order → at p ≡ Some x → item_or at order other p ≡ x
+  item_or-listed order other p x i is =
+      ap (λ b. if b then unwrap_or (at p) other else other) (among_in p order i) ∙ ap (λ o. unwrap_or o other) is
 
-  pub key_or-absent : (p : ℕ) → (IsIn p keys.order → ⊥) → key_or keys other p ≡ other
-  key_or-absent p absent = by (is_among keys.order p) refl
+  pub item_or-absent : (order : List ℕ) (other : X) (p : ℕ) → (IsIn p order → ⊥) → item_or at order other p ≡ other
+  item_or-absent order other p absent = by (is_among order p) refl
     where
-      by : (b : Bool) → is_among keys.order p ≡ b → key_or keys other p ≡ other
-      by true e = absurd (absent (in_among p keys.order e))
-      by false e = ap (λ b. if b then unwrap_or (item_at keys p) other else other) e
+      by : (b : Bool) → is_among order p ≡ b → item_or at order other p ≡ other
+      by true e = absurd (absent (in_among p order e))
+      by false e = ap (λ b. if b then unwrap_or (at p) other else other) e
 
-  -- the keys at listed places
-  pub items-mapped : IsSound keys → (ps : List ℕ) → ((p : ℕ) → IsIn p ps → IsIn p keys.order)
-      → filter_map (item_at keys) ps ≡ map (key_or keys other) ps
-  items-mapped sound [] listed = refl
-  items-mapped sound (p ∷ ps) listed =
-      let h = held (item_at keys p) (sound.filled p (listed p (inl refl))) in
-      ap (λ o. cons_option o (filter_map (item_at keys) ps)) h.is
-      ∙ (λ i. sym (key_or-listed p h.value (listed p (inl refl)) h.is) i ∷ items-mapped sound ps (λ q j. listed q (inr j)) i)
+  module _ (order : List ℕ) (filled : (p : ℕ) → IsIn p order → IsSome (at p)) (other : X) where
+    items-mapped : (ps : List ℕ) → ((p : ℕ) → IsIn p ps → IsIn p order) → filter_map at ps ≡ map (item_or at order other) ps
+    items-mapped [] listed = refl
+    items-mapped (p ∷ ps) listed =
+        let h = held (at p) (filled p (listed p (inl refl))) in
+        ap (λ o. cons_option o (filter_map at ps)) h.is
+        ∙ (λ i. sym (item_or-listed order other p h.value (listed p (inl refl)) h.is) i ∷ items-mapped ps (λ q j. listed q (inr j)) i)
 
-module _ {K : Type 0} (keys : Slots K KeyLink) (sound : IsSound keys) (other : K) {places : List ℕ} (same : IsPermutation keys.order places)
-  where
-    items-before : items_of keys ≡ map (key_or keys other) keys.order
-    items-before = items-mapped keys other sound keys.order (λ p i. i)
+    module _ {places : List ℕ} (same : IsPermutation order places) where
+      items-before : filter_map at order ≡ map (item_or at order other) order
+      items-before = items-mapped order (λ p i. i)
 
-    items-after : items_of (in_order keys places) ≡ map (key_or keys other) places
-    items-after = items-mapped keys other sound places (λ p i. permuted_was_in same p i)
+      items-after : filter_map at places ≡ map (item_or at order other) places
+      items-after = items-mapped places (λ p i. permuted_was_in same p i)
 
-    -- places that are sorted by the keys there leave the keys sorted
-    pub sorted-places : (lt : K → K → Bool) → IsSortedBy (λ p q. lt (key_or keys other p) (key_or keys other q)) places
-        → IsSortedBy lt (items_of (in_order keys places))
-    sorted-places lt sorted = subst (IsSortedBy lt) (sym items-after) (sorted-mapped (key_or keys other) lt places sorted)
+      -- places that are sorted by the items there leave the items sorted
+      pub sorted-places : (lt : X → X → Bool) → IsSortedBy (λ p q. lt (item_or at order other p) (item_or at order other q)) places
+          → IsSortedBy lt (filter_map at places)
+      sorted-places lt sorted = subst (IsSortedBy lt) (sym items-after) (sorted-mapped (item_or at order other) lt places sorted)
 
-    pub stable-places : (lt : K → K → Bool) → IsStrictWeakOrder lt
-        → IsStableBy (λ p q. lt (key_or keys other p) (key_or keys other q)) keys.order places
-        → IsStableBy lt (items_of keys) (items_of (in_order keys places))
-    stable-places lt o stable y =
-        let mapped = stable-mapped (key_or keys other) lt o keys.order places stable y in
-        ap (filter (ties lt y)) items-after ∙ mapped ∙ sym (ap (filter (ties lt y)) items-before)
+      pub stable-places : (lt : X → X → Bool) → IsStrictWeakOrder lt
+          → IsStableBy (λ p q. lt (item_or at order other p) (item_or at order other q)) order places
+          → IsStableBy lt (filter_map at order) (filter_map at places)
+      stable-places lt o stable y =
+          let mapped = stable-mapped (item_or at order other) lt o order places stable y in
+          ap (filter (ties lt y)) items-after ∙ mapped ∙ sym (ap (filter (ties lt y)) items-before)
 
-    pub permuted-items : IsPermutation (items_of keys) (items_of (in_order keys places))
-    permuted-items = rw (items-before, items-after) (IsPermutation-map (key_or keys other) keys.order places same)
+      -- the same of places that a sort by a closure leaves
+      pub closure-places : {F : Type 0} {g : Mut F (Bor ℕ × (Bor ℕ × Unit {0})) Ordering} {f : F} → IsSortedByClosure g f places
+          → IsStableByClosure g f order places → (lt : X → X → Bool) → IsStrictWeakOrder lt
+          → ComparesAs g (λ p q. lt (item_or at order other p) (item_or at order other q)) f
+          → IsSortedBy lt (filter_map at places) × IsStableBy lt (filter_map at order) (filter_map at places)
+      closure-places sorted stable lt o by =
+          let near = order-mapped (item_or at order other) lt o in (
+            sorted-places lt (sorted (λ p q. lt (item_or at order other p) (item_or at order other q)) near by),
+            stable-places lt o (stable (λ p q. lt (item_or at order other p) (item_or at order other q)) near by),
+          )
 
--- the keys are the same
-pub permuted-found : {K : Type 0} (keys : Slots K KeyLink) → IsSound keys → {places : List ℕ} → IsPermutation keys.order places
-    → IsPermutation (items_of keys) (items_of (in_order keys places))
-permuted-found {K} keys sound {places} same = by keys.order refl
-  where
-    by : (ps : List ℕ) → keys.order ≡ ps → IsPermutation (items_of keys) (items_of (in_order keys places))
-    by [] none =
-        let still : places ≡ [] = no_places places (length_permutation keys.order places same ∙ ap length none) in
-        rw (none, still) (IsPermutation-refl [])
-    by (p ∷ ps) some =
-        let h = held (item_at keys p) (sound.filled p (subst (IsIn p) (sym some) (inl refl))) in
-        permuted-items keys sound h.value same
+      permuted-items : IsPermutation (filter_map at order) (filter_map at places)
+      permuted-items = rw (items-before, items-after) (IsPermutation-map (item_or at order other) order places same)
+
+  -- the items are the same
+  pub permuted-found : (order : List ℕ) → ((p : ℕ) → IsIn p order → IsSome (at p)) → {places : List ℕ} → IsPermutation order places
+      → IsPermutation (filter_map at order) (filter_map at places)
+  permuted-found [] filled {places} same =
+      let still : places ≡ [] = no_places places (length_permutation [] places same) in
+      rw still (IsPermutation-refl [])
+  permuted-found (p ∷ ps) filled same = permuted-items (p ∷ ps) filled (held (at p) (filled p (inl refl))).value same
 
 -- what the map keeps
 module _ {K V : Type 0} {eq : K → K → Bool} {hash : K → ℕ} {keys : Slots K KeyLink} {rows : FinMap nat_cmp ℕ} {values : Slots V ValueLink}
@@ -115,7 +122,7 @@ module _ {K V : Type 0} {eq : K → K → Bool} {hash : K → ℕ} {keys : Slots
       next = a.chained.next;
     };
     distinct = IsDistinct-IsPermutation eq laws.symm (items_of keys) (items_of (in_order keys places))
-        (permuted-found keys a.keys_sound same) a.distinct;
+        (permuted-found (item_at keys) keys.order a.keys_sound.filled same) a.distinct;
     hashed = λ p k l i. a.hashed p k l (permuted_was_in same p i);
     in_table = λ p l i. a.in_table p l (permuted_was_in same p i);
     listed = λ p h e. permuted_in same p (a.listed p h e);

@@ -1,5 +1,5 @@
 -- The places of the keys, sorted by the keys that stand there. No public clause cites this module.
-use Rattle.std.specs.Prelude.{◌==◌, ℕ, Bool, List, unwrap_or, if◌then◌else◌, IsPermutation}
+use Rattle.std.specs.Prelude.{◌==◌, ℕ, Bool, List, Option, unwrap_or, if◌then◌else◌, IsPermutation}
 use Rattle.std.specs.Borrow.{Bor}
 use Rattle.std.specs.Fn.{Mut}
 use Rattle.std.specs.List.{list_any}
@@ -17,11 +17,14 @@ use Rattle.ordered_multimap.specs.Multimap.{Multimap}
 abbrev pub is_among : List ℕ → ℕ → Bool
 is_among places p = list_any (λ q. p == q) places
 
+-- what stands at the place, if it is one of these, and else another item
+abbrev pub item_or : {X : Type 0} → (ℕ → Option X) → List ℕ → X → ℕ → X
+item_or at places other p = if is_among places p then unwrap_or (at p) other else other
+
 module _ {K : Type 0} where
   -- the key that is listed at the place, and another where none is
   abbrev pub key_or : Slots K KeyLink → K → ℕ → K
-  key_or keys other p =
-      if is_among keys.order p then unwrap_or (item_at keys p) other else other
+  key_or keys = item_or (item_at keys) keys.order
 
   -- these are the places of the keys, in the order that the function answers by
   pub record ArePlacesBy {F : Type 0} (g : Mut F (Bor K × (Bor K × Unit {0})) Ordering) (cmp : F)

@@ -11,6 +11,8 @@ ghost use Rattle.ordered_multimap.specs.Lists.{lists};
 ghost use Rattle.ordered_multimap.specs.Private.KeySorts.{ArePlacesBy, key_or};
 
 mod cached;
+mod pairs;
+mod resorted;
 
 use super::ListOrderedMultimap;
 use super::lookup::slot_at;

@@ -1,5 +1,6 @@
 //! Keys that are sorted: both lists, each key's values from both ends, and look-ups afterwards. The
 //! rows of `sort_keys` and of a sort in which keys tie are cases of the program `map_calls`.
+mod pairs;
 mod refused;
 
 use ordered_multimap_callers::lists::{appends, has_lists};

@@ -1,7 +1,9 @@
-//! Sorting the keys of a set.
-ghost use Rattle.std.specs.Prelude.{◌≡◌, ◌≤◌, length, OnOk, OnErr, IsOk, IsSorted};
+//! Sorting the keys of a set, or its pairs.
+ghost use Rattle.std.specs.Prelude.{◌≡◌, ◌<◌, ◌≤◌, length, OnOk, OnErr, IsOk, IsSorted};
 ghost use Rattle.std.specs.List.Sorted.{IsSortedByClosure, IsStable, IsStableByClosure};
-ghost use Rattle.set_ordered_multimap.specs.SetChanges.{ReordersSet};
+ghost use Rattle.ordered_multimap.specs.PairSorts.{IsSortedByPairClosure, IsStableByPairClosure};
+ghost use Rattle.ordered_multimap.specs.TapeNumbers.{AreUnused};
+ghost use Rattle.set_ordered_multimap.specs.SetChanges.{ReordersSet, ReordersSetPairs};
 
 use super::SetOrderedMultimap;
 use std::alloc::{AllocError, Allocator};
@@ -50,7 +52,8 @@ impl<K: Eq + Hash, V: Eq, S: BuildHasher, A: Allocator + Copy> SetOrderedMultima
     /// Sorts the keys by a comparison function, and leaves the pairs where they are.
     ///
     /// The sort is stable: keys for which `cmp` returns `Equal` keep their order. The order of all
-    /// pairs stays as it is. If `cmp` is no order, the keys come in some order, each once.
+    /// pairs stays as it is. If `cmp` is no order, the keys come in some order, each once. To sort
+    /// the pairs see [`sort_by`](Self::sort_by).
     ///
     /// # Errors
     ///
@@ -85,5 +88,53 @@ impl<K: Eq + Hash, V: Eq, S: BuildHasher, A: Allocator + Copy> SetOrderedMultima
         ensures succeeds { length self.old.lists.keys ≤ 1 → IsOk result }
     {
         self.map.sort_keys_by(cmp)
+    }
+
+    /// Sorts the pairs by a comparison function, and leaves the keys where they are.
+    ///
+    /// `cmp` takes two pairs: a key, its value, the other key and its value. The sort is stable:
+    /// pairs for which `cmp` returns `Equal` keep their order. The values of each key come in the
+    /// new order of the pairs too. If `cmp` is no order, the pairs come in some order, each once.
+    ///
+    /// # Errors
+    ///
+    /// Returns [`AllocError`] if an allocation fails. The set is unchanged then. It never fails for
+    /// a set of no pair or of one, which stays as it is.
+    ///
+    /// # Complexity
+    ///
+    /// *O*(*n* log *n*) comparisons for *n* pairs. Each value is moved once, to new memory.
+    ///
+    /// # Requires
+    ///
+    /// `cmp` may be called on any two pairs.
+    ///
+    /// # Examples
+    ///
+    /// ```
+    /// use set_ordered_multimap::SetOrderedMultimap;
+    ///
+    /// let mut set = SetOrderedMultimap::new(rt.alloc());
+    /// set.insert("plan", "short")?;
+    /// set.insert("note", "long")?;
+    /// set.insert("plan", "draft")?;
+    /// set.sort_by(|_, value, _, other| value.cmp(other))?;
+    /// assert!(rt; set.iter().eq([(&"plan", &"draft"), (&"note", &"long"), (&"plan", &"short")]));
+    /// assert!(rt; set.keys().eq(&["plan", "note"]));
+    /// ```
+    pub fn sort_by<F: Fn(&K, &V, &K, &V) -> Ordering>(&mut self, cmp: F) -> Result<(), AllocError>
+    where
+        V: Drop,
+        requires { F.IsAlwaysCallable cmp }
+        ensures sorted { OnOk result (IsSortedByPairClosure F.FnMut cmp self.new.lists.pairs) }
+        ensures stable { IsStableByPairClosure F.FnMut cmp self.old.lists.pairs
+            self.new.lists.pairs }
+        ensures reordered { ReordersSetPairs K.eq V.eq self.old self.new }
+        ensures unused { 1 < length self.old.lists.pairs → OnOk result (AreUnused self.new.tape) }
+        ensures unchanged { OnErr result (self.new ≡ self.old) }
+        ensures few { length self.old.lists.pairs ≤ 1 → self.new ≡ self.old }
+        ensures succeeds { length self.old.lists.pairs ≤ 1 → IsOk result }
+    {
+        self.map.sort_by(cmp)
     }
 }

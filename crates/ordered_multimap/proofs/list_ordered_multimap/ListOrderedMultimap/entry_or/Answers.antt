@@ -1,5 +1,6 @@
 use Rattle.std.proofs.Common.{sym, ◌∙◌}
-use Rattle.ordered_multimap.proofs.KeySorts.Reordered.{key_or-listed, key_or-absent, same_item, has-key}
+use Rattle.multimap_slots.specs.Slots.{item_at}
+use Rattle.ordered_multimap.proofs.KeySorts.Reordered.{item_or-listed, item_or-absent, same_item, has-key}
 use Rattle.ordered_multimap.proofs.list_ordered_multimap.ListOrderedMultimap.entry_or.Goals.{in-Some, in-None}
 use Rattle.ordered_multimap.proofs.list_ordered_multimap.ListOrderedMultimap.entry_or.Goals as goal
 
@@ -11,10 +12,10 @@ returns-clause-key g c = λ k is.
     rw (← c.self.view_is) (elim c.match-get.branch [
       | in-Some w ↦
           let found = rw w.place-is at at in
-          sym (key_or-listed keys k c.args.place _ found.listed found.item_is)
+          sym (item_or-listed (item_at keys) keys.order k c.args.place _ found.listed found.item_is)
       | in-None w ↦
           let found = rw w.place-is at at in
-          same_item found.item_is is' ∙ sym (key_or-absent keys k c.args.place w.in-None.ensures.absent)
+          same_item found.item_is is' ∙ sym (item_or-absent (item_at keys) keys.order k c.args.place w.in-None.ensures.absent)
     ])
 
 pub returns-clause-values : goal.returns-clause-values

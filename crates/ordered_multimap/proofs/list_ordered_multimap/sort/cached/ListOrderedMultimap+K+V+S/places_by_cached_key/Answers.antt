@@ -27,7 +27,7 @@ returns g c =
       permutation = same;
       sorted = λ key by.
           let of = λ (k : g.row.K.Denot). key k (values k) in
-          sorted-places m.slots.keys sound first.value same (λ j k. is_lt (g.T.Ord.cmp (of j) (of k)))
+          sorted-places (item_at m.slots.keys) m.slots.keys.order sound.filled first.value same (λ j k. is_lt (g.T.Ord.cmp (of j) (of k)))
           (sorts.sorted (λ p. of (near p)) (always_returns_kept _ _ (λ f. (f.0.now ≡ m) × (f.1.now ≡ c.args.front) × (f.2.now ≡ c.args.f))
           (λ f a r f' is k. (
             subst (λ n. r ≡ key (near a.0.now) (values_of g.K.PartialEq.eq n.lists.pairs (near a.0.now))) is.0
@@ -39,7 +39,7 @@ returns g c =
       stable = λ key by.
           let of = λ (k : g.row.K.Denot). key k (values k) in
           subst (λ ks. IsStableByKey of g.T.Ord.cmp ks (items_of (in_order m.slots.keys c.sort_by_cached_key.new.self.items))) keys_are
-          (stable-places m.slots.keys sound first.value same (λ j k. is_lt (g.T.Ord.cmp (of j) (of k))) (ranks_by g.met.T.Ord.total of)
+          (stable-places (item_at m.slots.keys) m.slots.keys.order sound.filled first.value same (λ j k. is_lt (g.T.Ord.cmp (of j) (of k))) (ranks_by g.met.T.Ord.total of)
           (subst (λ ps. IsStableByKey (λ p. of (near p)) g.T.Ord.cmp ps c.sort_by_cached_key.new.self.items) order_is
           (sorts.stable (λ p. of (near p)) (always_returns_kept _ _ (λ f. (f.0.now ≡ m) × (f.1.now ≡ c.args.front) × (f.2.now ≡ c.args.f))
           (λ f a r f' is k. (

@@ -1,0 +1,3 @@
+pub mod Begun
+pub mod Resorted
+pub mod Resorting
