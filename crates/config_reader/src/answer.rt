@@ -1,109 +1,298 @@
-//! Questions and their answers.
-use crate::config::{Config, Settings, add_line};
-use ordered_multimap::{EntryValues, Keys};
-use program_parts::{bad, text_of};
-use std::alloc::Global;
-use std::fmt::Write;
+//! What commands do to a configuration, and what they show of it.
+ghost use Rattle.std.specs.Prelude.{◌≡◌, ◌++◌, IfOk, OnOk};
+ghost use Rattle.std.specs.String.{string_bytes};
+ghost use Rattle.ordered_multimap.specs.Walk.{end_item};
+ghost use Rattle.ordered_multimap.specs.End.TheVariants.{Back};
+ghost use Rattle.ordered_multimap.specs.Pairs.{is_present, values_of};
+ghost use Rattle.config_reader.specs.Names.{same_name};
+ghost use Rattle.config_reader.specs.Written.{line_of, texts_of, value_line, value_lines};
+
+use crate::command::Command;
+use crate::config::{Config, Lines, Part, read_config};
+use crate::name::{NO_KEY, NO_SECTION, Name, Section};
+use crate::value::add_value;
+use ascii_caseless::AsciiCaseless;
+use program_parts::{Fault, bad, without_mark};
+use std::alloc::{AllocError, Global};
+use std::borrow::CowStr;
 use std::io;
 
-/// Reads the settings into `config`, which is empty, and adds the answers to the questions. A bad
-/// line, also one below a question, ends this. `number` is the number of the line that is read.
+/// The input as a text, without a byte order mark; or the lines in front of the first one that is no
+/// text, and the fault of that one.
+fn text_of_input(input: &[u8]) -> (&str, Result<(), Fault>) {
+    let input = without_mark(input);
+    let Err(error) = str::from_utf8(input) else {
+        return (str::from_utf8(input).unwrap_or(""), Ok(()));
+    };
+    let valid = input.get(..error.valid_up_to()).unwrap_or(b"");
+    let text = str::from_utf8(valid).unwrap_or("");
+    let (lines, _) = text.rsplit_once('\n').unwrap_or(("", ""));
+    let number = text
+        .bytes()
+        .filter(|byte| *byte == b'\n')
+        .count()
+        .saturating_add(1);
+    (lines, Err(Fault::Line(number, bad("not UTF-8"))))
+}
+
+/// Reads the settings into `config`, which is empty, and adds the answers to the questions below
+/// them.
 pub fn add_answers<'t>(
     alloc: Global,
     config: &mut Config<'t>,
     input: &'t [u8],
     answers: &mut String,
-    number: &mut usize,
-) -> io::Result<()> {
-    let mut asks = false;
-    let mut section = "";
-    let input = input.strip_prefix(b"\xef\xbb\xbf").unwrap_or(input);
-    for (index, line) in input.split(|byte| *byte == b'\n').enumerate() {
-        *number = index.saturating_add(1);
-        let line = text_of(line)?.trim();
-        if asks {
-            add_answer(config, line, answers)?;
-        } else if line == "---" {
-            asks = true;
-        } else {
-            section = add_line(alloc, config, section, line)?;
+) -> Result<(), Fault> {
+    let (text, end) = text_of_input(input);
+    let (lines, questions) = read_config(alloc, config, text, Part::ToBar)?;
+    for (index, line) in questions.split('\n').enumerate() {
+        if let Err(error) = add_answer(config, line.trim(), answers) {
+            let number = lines.saturating_add(index).saturating_add(1);
+            return Err(Fault::at_line(number, error));
         }
     }
-    Ok(())
+    end
 }
 
 /// Adds the answer to a question.
-fn add_answer(config: &Config<'_>, question: &str, answers: &mut String) -> io::Result<()> {
-    let (word, operand) = question.split_once(' ').unwrap_or((question, ""));
-    let operand = operand.trim_start();
-    match word {
-        "get" if !operand.is_empty() => add_last(config, operand, answers),
-        "all" if !operand.is_empty() => add_all(config, operand, answers),
-        "keys" => add_keys(config, operand, answers),
-        "sections" if operand.is_empty() => add_names(config.keys(), answers),
-        "write" if operand.is_empty() => write_config(config, answers),
-        "" => Ok(()),
-        _ => Err(bad("not a question")),
+fn add_answer<'t>(config: &Config<'t>, question: &'t str, answers: &mut String) -> io::Result<()> {
+    if question.is_empty() {
+        return Ok(());
     }
-}
-
-/// The values of `SECTION.KEY`, or of a `KEY` above the first section, if there is such a section.
-fn values_of<'c, 't>(
-    config: &'c Config<'t>,
-    name: &str,
-) -> Option<EntryValues<'c, &'t str, &'t str>> {
-    let (section, key) = name.rsplit_once('.').unwrap_or(("", name));
-    Some(config.get(section)?.get_all(key))
-}
-
-fn last_of<'t>(config: &Config<'t>, name: &str) -> Option<&'t str> {
-    values_of(config, name)?.next_back().copied()
-}
-
-fn add_last(config: &Config<'_>, name: &str, answers: &mut String) -> io::Result<()> {
-    writeln!(answers, "{}", last_of(config, name).unwrap_or("none"))?;
+    let command = Command::of_line(question)?;
+    if !show(config, command, answers)?
+        && let Command::Get(_) = command
+    {
+        answers.push_str("none\n")?;
+    }
     Ok(())
 }
 
-fn add_all(config: &Config<'_>, name: &str, answers: &mut String) -> io::Result<()> {
-    if let Some(values) = values_of(config, name) {
-        for value in values {
-            writeln!(answers, "{value}")?;
+/// Reads the settings into `config`, which is empty, and adds what the command shows of them, or the
+/// whole text as the command leaves it.
+pub fn add_answer_of_words<'t>(
+    alloc: Global,
+    config: &mut Config<'t>,
+    input: &'t [u8],
+    words: &'t [String],
+    answers: &mut String,
+) -> Result<(), Fault> {
+    let command = Command::of_words(words)?;
+    let (text, end) = text_of_input(input);
+    read_config(alloc, config, text, Part::Whole)?;
+    end?;
+    match command {
+        Command::Set(name, value) => set(alloc, config, name, value)?,
+        Command::Add(name, value) => add(alloc, config, name, value)?,
+        Command::Unset(name) => {
+            let _ = config.remove(&name);
+        }
+        _ => {
+            let found = show(config, command, answers)?;
+            return if found { Ok(()) } else { Err(Fault::Absent) };
         }
     }
+    add_texts(config, answers)?;
     Ok(())
 }
 
-fn add_keys(config: &Config<'_>, section: &str, answers: &mut String) -> io::Result<()> {
-    match config.get(section) {
-        Some(settings) => add_names(settings.keys(), answers),
-        None => Ok(()),
-    }
-}
-
-// The names of sections or keys. Settings above the first section have an empty name, no key has.
-fn add_names(names: Keys<'_, &str>, answers: &mut String) -> io::Result<()> {
-    for name in names {
-        if !name.is_empty() {
-            writeln!(answers, "{name}")?;
+/// Adds what the command shows, and returns whether there is anything.
+fn show(
+    config: &Config<'_>,
+    command: Command<'_>,
+    answers: &mut String,
+) -> Result<bool, AllocError> {
+    match command {
+        Command::Get(name) => add_last(config, name, answers),
+        Command::All(name) => add_all(config, name, answers),
+        Command::Keys(section) => add_keys(config, section, answers),
+        Command::Sections => add_sections(config, answers),
+        _ => {
+            add_texts(config, answers)?;
+            Ok(true)
         }
     }
-    Ok(())
 }
 
-fn write_config(config: &Config<'_>, answers: &mut String) -> io::Result<()> {
-    for (section, settings) in config {
-        if !section.is_empty() {
-            writeln!(answers, "[{section}]")?;
+/// Adds the last value of the name, and returns whether it has one.
+fn add_last<'t>(
+    config: &Config<'t>,
+    name: Name<'t>,
+    answers: &mut String,
+) -> Result<bool, AllocError>
+    ensures found { IfOk result (λ found. found ≡ is_present same_name config.now.lists.pairs name.entry) }
+    ensures shown { OnOk result (string_bytes answers.new ≡ string_bytes answers.old
+        ++ value_line (end_item Back (values_of same_name config.now.lists.pairs name.entry))) }
+{
+    let Some(lines) = config.get_last(&name) else {
+        return Ok(false);
+    };
+    add_line(lines.value.as_str(), answers)?;
+    Ok(true)
+}
+
+/// Adds each value of the name, and returns whether it has one.
+fn add_all<'t>(
+    config: &Config<'t>,
+    name: Name<'t>,
+    answers: &mut String,
+) -> Result<bool, AllocError>
+    ensures found { IfOk result (λ found. found ≡ is_present same_name config.now.lists.pairs name.entry) }
+    ensures shown { OnOk result (string_bytes answers.new ≡ string_bytes answers.old
+        ++ value_lines (values_of same_name config.now.lists.pairs name.entry)) }
+{
+    let values = config.get_all(&name);
+    let is_there = values.len() > 0;
+    for lines in values {
+        add_line(lines.value.as_str(), answers)?;
+    }
+    Ok(is_there)
+}
+
+fn add_line(text: &str, answers: &mut String) -> Result<(), AllocError>
+    ensures { OnOk result (string_bytes answers.new ≡ string_bytes answers.old ++ line_of text.now) }
+{
+    answers.push_str(text)?;
+    answers.push('\n')
+}
+
+fn add_keys(
+    config: &Config<'_>,
+    section: Section<'_>,
+    answers: &mut String,
+) -> Result<bool, AllocError> {
+    let mut is_there = false;
+    for name in config.keys() {
+        if name.section == section && name.key != NO_KEY {
+            writeln!(answers, "{}", name.key)?;
+            is_there = true;
         }
-        write_settings(settings, answers)?;
+    }
+    Ok(is_there)
+}
+
+fn add_sections(config: &Config<'_>, answers: &mut String) -> Result<bool, AllocError> {
+    let mut is_there = false;
+    for name in config.keys() {
+        if name.key == NO_KEY && name.section != NO_SECTION {
+            writeln!(answers, "{}", name.section)?;
+            is_there = true;
+        }
+    }
+    Ok(is_there)
+}
+
+/// Adds the text of all lines, in order.
+fn add_texts(config: &Config<'_>, answers: &mut String) -> Result<(), AllocError>
+    ensures { OnOk result (string_bytes answers.new ≡ string_bytes answers.old
+        ++ texts_of config.now.lists.pairs) }
+{
+    for (_, lines) in config {
+        answers.push_str(lines.text.as_str())?;
     }
     Ok(())
 }
 
-fn write_settings(settings: &Settings<'_>, answers: &mut String) -> io::Result<()> {
-    for (key, value) in settings {
-        writeln!(answers, "{key} = {value}")?;
-    }
+/// Gives the name's first setting this value, and takes its others out. A new setting goes to the
+/// end of its section.
+fn set<'t>(
+    alloc: Global,
+    config: &mut Config<'t>,
+    name: Name<'t>,
+    value: &'t str,
+) -> Result<(), AllocError> {
+    let Some((stored, lines)) = config.get_key_value(&name) else {
+        return add(alloc, config, name, value);
+    };
+    let indent = indent_of(lines.text.as_str());
+    let lines = setting(alloc, indent, stored.key, value, lines.rank)?;
+    config.set(name, lines)?;
     Ok(())
+}
+
+/// Adds a setting at the end of its section, which is made where there is none.
+fn add<'t>(
+    alloc: Global,
+    config: &mut Config<'t>,
+    name: Name<'t>,
+    value: &'t str,
+) -> Result<(), AllocError> {
+    let rank = rank_of(alloc, config, name.section)?;
+    let lines = setting(
+        alloc,
+        indent_in(config, name.section),
+        name.key,
+        value,
+        rank,
+    )?;
+    config.append(name, lines)?;
+    config.sort_by(|_, lines, _, others| lines.rank.cmp(&others.rank))
+}
+
+/// The rank of the section's settings. A section that isn't there is added at the end.
+fn rank_of<'t>(
+    alloc: Global,
+    config: &mut Config<'t>,
+    section: Section<'t>,
+) -> Result<usize, AllocError> {
+    let name = Name::of_section(section);
+    if section == NO_SECTION {
+        return Ok(0);
+    }
+    if let Some(lines) = config.get_last(&name) {
+        return Ok(settings_rank(lines.rank));
+    }
+    let last = config.back().map(|(_, lines)| lines.rank).unwrap_or(0);
+    let rank = settings_rank(last).saturating_add(2);
+    config.append(name, section_line(alloc, section, rank)?)?;
+    Ok(rank)
+}
+
+// The rank of the settings of the section that a line of this rank is in.
+fn settings_rank(rank: usize) -> usize {
+    rank - rank % 2
+}
+
+/// The line that opens a section.
+fn section_line<'t>(
+    alloc: Global,
+    section: Section<'t>,
+    rank: usize,
+) -> Result<Lines<'t>, AllocError> {
+    let mut text = String::new(alloc);
+    section.add_line(&mut text)?;
+    let text = CowStr::Owned(text);
+    let value = CowStr::Borrowed("");
+    Ok(Lines { text, value, rank })
+}
+
+/// The line of a setting.
+fn setting<'t>(
+    alloc: Global,
+    indent: &str,
+    key: AsciiCaseless<&str>,
+    value: &'t str,
+    rank: usize,
+) -> Result<Lines<'t>, AllocError> {
+    let mut text = format!(in alloc; "{indent}{key} = ")?;
+    add_value(value, &mut text)?;
+    text.push('\n')?;
+    let text = CowStr::Owned(text);
+    let value = CowStr::Borrowed(value);
+    Ok(Lines { text, value, rank })
+}
+
+/// How far the section's last setting is indented, and by a tab where there is none.
+fn indent_in<'c>(config: &'c Config<'_>, section: Section<'_>) -> &'c str {
+    for (name, lines) in config.iter().rev() {
+        if name.section == section && name.key != NO_KEY {
+            return indent_of(lines.text.as_str());
+        }
+    }
+    if section == NO_SECTION { "" } else { "\t" }
+}
+
+// The blanks that a line begins with.
+fn indent_of(line: &str) -> &str {
+    line.strip_suffix(line.trim_start()).unwrap_or("")
 }

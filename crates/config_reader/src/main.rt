@@ -1,58 +1,101 @@
-//! Reads settings in INI form, and answers questions about them.
+//! Reads settings as git and others keep them in files, answers questions about them, and changes
+//! them.
 //!
-//! Standard input holds settings up to a line `---`, and a question on each line below it. A line
-//! `[SECTION]` opens a section, and `KEY = VALUE` is a setting of the section that is open, or above
-//! the first one of none. A key has no dot, and may stand several times; sections of one name are
-//! one. Blanks around a line, a name, a key or a value are ignored, and so are empty lines, a byte
-//! order mark at the start of the input, and above `---` lines that begin with `;` or `#`. What
-//! follows `=` is the value, with any `;` or `#` in it.
+//! ```text
+//! config_reader FILE get SECTION.KEY          the key's last value
+//! config_reader FILE all SECTION.KEY          each of its values, on a line each
+//! config_reader FILE keys [SECTION]           the keys of the section, each once
+//! config_reader FILE sections                 the names of all sections
+//! config_reader FILE set SECTION.KEY VALUE    gives the key's first setting this value, removes its others
+//! config_reader FILE add SECTION.KEY VALUE    adds a setting at the end of the section
+//! config_reader FILE unset SECTION.KEY        removes the settings of the key
+//! config_reader FILE write                    writes the text
+//! ```
 //!
-//! | Question | The answer |
-//! |---|---|
-//! | `get SECTION.KEY` | the key's last value, or `none` |
-//! | `all SECTION.KEY` | each value of the key |
-//! | `keys SECTION` | each key of the section, once |
-//! | `sections` | the name of each section |
-//! | `write` | all settings below their sections, in order |
+//! A line `[SECTION]` opens a section, and `KEY = VALUE` is a setting of the section that is open, or
+//! above the first one of none. `KEY` alone, and `keys` alone, ask for those. A section is a word, or
+//! a word and a name between quotes, `[remote "origin"]`, which a question calls `remote.origin`. The
+//! case of words and keys doesn't matter, that of the quoted name does. Sections of one name are
+//! one. A question parts section and key by the last dot, and ignores blanks around both, so a key
+//! has none. A key may stand several times, or alone on its line, with the empty value.
 //!
-//! `KEY` alone, and `keys` alone, ask for settings above the first section.
+//! A value goes to the end of its line, without the blanks around it. A backslash at the end joins
+//! the next line. A comment is `#` or `;` at the start of a line, or with a blank in front of it.
+//! Between quotes blanks, `#` and `;` belong to the value, and `\"`, `\\`, `\n` and `\t` stand for a
+//! quote, a backslash, a line feed and a tab.
 //!
-//! The exit status is 0, or 2 where a line is bad, 3 when out of memory, or 4 where standard input
-//! or output failed. Then nothing but a message on standard error is written, unless it is the
-//! output that failed. The map has the default hash builder, whose seed is fixed: for settings that
-//! somebody hostile names it may become slow.
+//! What programs read in several ways is a bad line: a setting that is indented more than the one
+//! above it, `KEY: VALUE`, `#` or `;` within a word, a backslash without quotes, any other escape, and
+//! a quote without an end.
+//!
+//! `set`, `add`, `unset` and `write` write the whole text. Lines that aren't touched stay as they are,
+//! with comments and empty lines; a last line without a line feed gets one. `set` of an absent key
+//! adds a setting. Where the section is absent, it is added at the end.
+//!
+//! Without arguments the program reads settings from standard input, up to a line `---`, and then a
+//! question on each line: `get`, `all`, `keys`, `sections` or `write`. Of an absent key `get` writes
+//! `none`.
+//!
+//! The exit status is 0, or 1 where there is nothing of what `get`, `all`, `keys` or `sections` asks
+//! for, 2 where an argument or a line is bad, 3 when out of memory, or 4 where reading or writing
+//! failed. Then nothing but a message on standard error is written, unless it is the output that
+//! failed. The map has the default hash builder, whose seed is fixed: for settings that somebody
+//! hostile names it may become slow.
 #![tactic(auto)]
 
 mod answer;
+mod command;
 mod config;
+mod name;
+mod value;
 
-use crate::answer::add_answers;
+use crate::answer::{add_answer_of_words, add_answers};
 use ordered_multimap::ListOrderedMultimap;
 use program_parts::{Arguments, Fault, Program, run_program};
 use std::process::ExitCode;
 
 const PROGRAM: Program = Program {
     name: "config_reader",
-    help: "usage: config_reader < FILE\n",
+    help: "\
+usage: config_reader FILE COMMAND
+       config_reader < SETTINGS_AND_QUESTIONS
+
+Reads and changes settings. FILE has lines [SECTION], [SECTION \"NAME\"] and
+KEY = VALUE; - stands for standard input. Without arguments standard input has the
+settings, a line ---, and then a question on each line.
+
+commands:
+  get SECTION.KEY          write the key's last value
+  all SECTION.KEY          write each of its values
+  keys [SECTION]           write the keys of the section
+  sections                 write the names of all sections
+  set SECTION.KEY VALUE    give its first setting this value, and remove its others
+  add SECTION.KEY VALUE    add a setting at the end of the section
+  unset SECTION.KEY        remove all its settings
+  write                    write the text
+
+The last four write the whole text, and leave other lines as they are. SECTION.NAME
+stands for [SECTION \"NAME\"]. The exit status is 1 where nothing is found.
+
+example: config_reader .git/config get remote.origin.url
+",
     flags: &[],
     valued: &[],
     text: None,
 };
 
 fn main(rt: HostRuntime) -> ExitCode {
-    run_program(&rt, &PROGRAM, answers_of)
+    run_program(&rt, &PROGRAM, answers_to)
 }
 
-fn answers_of(
-    rt: &HostRuntime,
-    _arguments: &Arguments<'_>,
-    input: &[u8],
-) -> Result<Vec<u8>, Fault> {
+/// What the program writes.
+fn answers_to(rt: &HostRuntime, arguments: &Arguments<'_>, input: &[u8]) -> Result<Vec<u8>, Fault> {
     let config = &mut ListOrderedMultimap::new(rt.alloc());
     let mut answers = String::new(rt.alloc());
-    let mut line = 0usize;
-    match add_answers(rt.alloc(), config, input, &mut answers, &mut line) {
-        Ok(()) => Ok(answers.into_bytes()),
-        Err(error) => Err(Fault::at_line(line, error)),
+    if arguments.are_none {
+        add_answers(rt.alloc(), config, input, &mut answers)?;
+    } else {
+        add_answer_of_words(rt.alloc(), config, input, arguments.words, &mut answers)?;
     }
+    Ok(answers.into_bytes())
 }

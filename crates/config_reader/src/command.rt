@@ -1,0 +1,79 @@
+//! Commands on a configuration.
+use crate::name::{NO_SECTION, Name, Section};
+use program_parts::{Fault, bad};
+use std::io;
+
+/// What is asked of a configuration.
+#[derive(Clone, Copy)]
+pub enum Command<'t> {
+    /// The last value of the name.
+    Get(Name<'t>),
+    /// Each value of the name.
+    All(Name<'t>),
+    /// The keys of the section's settings.
+    Keys(Section<'t>),
+    /// The names of all sections.
+    Sections,
+    /// The name's first setting gets the value, and its others go.
+    Set(Name<'t>, &'t str),
+    /// A setting is added at the end of its section.
+    Add(Name<'t>, &'t str),
+    /// The settings of the name go.
+    Unset(Name<'t>),
+    /// The whole text is written.
+    Write,
+}
+
+impl<'t> Command<'t> {
+    /// The question on a line: a word, and behind a space what it asks for.
+    pub fn of_line(line: &'t str) -> io::Result<Command<'t>> {
+        let (word, operand) = line.split_once(' ').unwrap_or((line, ""));
+        Command::of_operand(word, operand.trim())
+    }
+
+    /// The command that the words say.
+    ///
+    /// # Errors
+    ///
+    /// [`Fault::Usage`] if they say none.
+    pub fn of_words(words: &'t [String]) -> Result<Command<'t>, Fault> {
+        match Command::parse(words) {
+            Ok(command) => Ok(command),
+            Err(error) => Err(Fault::Usage(error)),
+        }
+    }
+
+    fn parse(words: &'t [String]) -> io::Result<Command<'t>> {
+        match words {
+            [word] => Command::of_operand(word.as_str(), ""),
+            [word, operand] if word.as_str() == "unset" => {
+                Ok(Command::Unset(Name::parse(operand.as_str())?))
+            }
+            [word, operand] => Command::of_operand(word.as_str(), operand.as_str().trim()),
+            [word, name, value] => {
+                Command::of_pair(word.as_str(), Name::parse(name.as_str())?, value.as_str())
+            }
+            _ => Err(bad("not a command")),
+        }
+    }
+
+    fn of_pair(word: &str, name: Name<'t>, value: &'t str) -> io::Result<Command<'t>> {
+        match word {
+            "set" => Ok(Command::Set(name, value)),
+            "add" => Ok(Command::Add(name, value)),
+            _ => Err(bad("not a command")),
+        }
+    }
+
+    fn of_operand(word: &str, operand: &'t str) -> io::Result<Command<'t>> {
+        match word {
+            "get" if !operand.is_empty() => Ok(Command::Get(Name::parse(operand)?)),
+            "all" if !operand.is_empty() => Ok(Command::All(Name::parse(operand)?)),
+            "keys" if operand.is_empty() => Ok(Command::Keys(NO_SECTION)),
+            "keys" => Ok(Command::Keys(Section::parse(operand)?)),
+            "sections" if operand.is_empty() => Ok(Command::Sections),
+            "write" if operand.is_empty() => Ok(Command::Write),
+            _ => Err(bad("not a command")),
+        }
+    }
+}
