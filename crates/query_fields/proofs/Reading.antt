@@ -62,7 +62,7 @@ unfolding read
 nothing_read [] none = refl
 nothing_read (d ∷ rest) none = absurd (omega arith)
 
-glyph_value : (d : ℕ) → d < 16 → digit_value (digit_glyph true d) ≡ d
+pub glyph_value : (d : ℕ) → d < 16 → digit_value (digit_glyph true d) ≡ d
 glyph_value d h = grind (arith, nat_tests)
 
 -- an escape is read as its byte
@@ -75,7 +75,7 @@ escape_of_read b rest h =
     ∙ rw (high, low, same)
 
 -- what stands for itself is no `%` and no `+`
-kept : (b : ℕ) → is_unreserved b ≡ true → (b ≢ 37) × (b ≢ 43)
+pub kept : (b : ℕ) → is_unreserved b ≡ true → (b ≢ 37) × (b ≢ 43)
 kept b plain = (grind (arith, nat_tests), grind (arith, nat_tests))
 
 pub kept_is_ascii : (b : ℕ) → is_unreserved b ≡ true → b < 128
@@ -138,7 +138,7 @@ none_before_read None = refl
 none_before_read (Some more) = refl
 
 -- what is read behind `%`
-pub ruleset escape_steps = (escape_read, bad_high_read, bad_low_read, cut_read, cut_behind_read)
+pub ruleset strict_escape_steps = (escape_read, bad_high_read, bad_low_read, cut_read, cut_behind_read)
 
 -- what is read at another byte
 pub ruleset first_steps = (space_read, other_read)

@@ -45,3 +45,13 @@ read (b ∷ high ∷ low ∷ rest) =
     then (if is_digit high 16 && is_digit low 16
     then before (16 * digit_value high + digit_value low) (read rest) else None)
     else before (read_byte b) (read (high ∷ low ∷ rest))
+
+-- the bytes that any bytes stand for, where a `%` without two digits stands for itself
+unfoldable pub read_any : List ℕ → List ℕ
+read_any [] = []
+read_any (b ∷ []) = read_byte b ∷ []
+read_any (b ∷ c ∷ []) = read_byte b ∷ read_any (c ∷ [])
+read_any (b ∷ high ∷ low ∷ rest) =
+    if b == 37 && (is_digit high 16 && is_digit low 16)
+    then (16 * digit_value high + digit_value low) ∷ read_any rest
+    else read_byte b ∷ read_any (high ∷ low ∷ rest)

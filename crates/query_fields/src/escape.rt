@@ -1,12 +1,15 @@
 //! The names and values of a query, and the texts that they stand for: `+` stands for a space, `%`
-//! and two hexadecimal digits for a byte, and any other byte for itself.
+//! and two hexadecimal digits for a byte, and any other byte for itself. Read leniently, as the URL
+//! standard has it, another `%` stands for itself, and what is no UTF-8 for U+FFFD.
 ghost use Rattle.std.specs.Prelude.{◌≡◌, ◌<◌, ◌∷◌, ◌++◌, length, IsUtf8, None, Some};
 ghost use Rattle.std.specs.Prelude.{IfErr, IfNone, IfOk, IfSome, OnOk};
 ghost use Rattle.std.specs.Cow.{cow_str_bytes};
 ghost use Rattle.std.specs.IoError.{error_kind};
 ghost use Rattle.std.specs.declared.io.ErrorKind.TheVariants.{InvalidData};
 ghost use Rattle.std.specs.String.{string_bytes};
+ghost use Rattle.std.specs.Str.Lossy.{utf8_lossy};
 ghost use Rattle.query_fields.specs.Escape.{is_unreserved, written_byte, written, read, before};
+ghost use Rattle.query_fields.specs.Escape.{read_any};
 
 use program_parts::bad;
 use std::alloc::{AllocError, Global};
@@ -14,11 +17,56 @@ use std::borrow::CowStr;
 use std::fmt::Write;
 use std::io;
 
+/// The text that a name or a value stands for, which is borrowed where it stands there as it is.
+#[tactic(auto, using(crate::proofs::ReadingAny::any_read))]
+pub fn decoded(alloc: Global, encoded: &[u8]) -> Result<CowStr<'_>, AllocError>
+    ensures text { IfOk result (λ text. cow_str_bytes text ≡ utf8_lossy (read_any encoded.now)) }
+{
+    if let Some(text) = plain_text(encoded) {
+        return Ok(CowStr::Borrowed(text));
+    }
+    let mut bytes = Vec::new(alloc);
+    let mut rest = encoded;
+    while let Some((byte, behind)) = first_of_any(rest) {
+        bytes.push(byte)?;
+        rest = behind;
+    }
+    Ok(CowStr::Owned(String::from_utf8_lossy(alloc, &bytes)?))
+}
+
+/// The text that stands there as it is, if it is one without escapes.
+fn plain_text(encoded: &[u8]) -> Option<&str>
+    ensures text { IfSome result (λ text. text.now ≡ utf8_lossy (read_any encoded.now)) }
+{
+    if encoded.contains(&b'%') || encoded.contains(&b'+') {
+        return None;
+    }
+    match str::from_utf8(encoded) {
+        Ok(text) => Some(text),
+        Err(_) => None,
+    }
+}
+
+/// The first byte that `encoded` stands for, and what stands behind it. None at the end.
+#[tactic(auto, using(crate::proofs::ReadingAny::first_of_any_steps))]
+fn first_of_any(encoded: &[u8]) -> Option<(u8, &[u8])>
+    ensures some { IfSome result (λ r. read_any encoded.now ≡ r.0 ∷ read_any r.1.now) }
+    ensures none { IfNone result (length encoded.now ≡ 0) }
+    ensures shorter { IfSome result (λ r. length r.1.now < length encoded.now) }
+{
+    let (first, rest) = encoded.split_first()?;
+    match first {
+        b'%' => Some(escaped_byte(rest).unwrap_or((b'%', rest))),
+        b'+' => Some((b' ', rest)),
+        byte => Some((*byte, rest)),
+    }
+}
+
 /// The text that a name or a value stands for, which is borrowed where it has no escape. A fault
 /// tells the byte of the first escape that stands for no text, where `position` is that of the first
 /// byte of `encoded`.
 #[tactic(auto, using(crate::proofs::Reading::reading))]
-pub fn decoded(alloc: Global, encoded: &str, position: usize) -> io::Result<CowStr<'_>>
+pub fn strictly_decoded(alloc: Global, encoded: &str, position: usize) -> io::Result<CowStr<'_>>
     ensures text { IfOk result (λ text. read encoded.now ≡ Some (cow_str_bytes text)) }
     ensures bad { IfErr result (λ error. error_kind error ≡ InvalidData
         → IfSome (read encoded.now) (λ bytes. ¬ IsUtf8 bytes)) }
@@ -80,8 +128,10 @@ fn first_byte(encoded: &[u8]) -> Option<(u8, &[u8])>
     }
 }
 
-#[tactic(auto, using(crate::proofs::Reading::escape_steps))]
+#[tactic(auto, using(crate::proofs::ReadingAny::escape_steps))]
 fn escaped_byte(digits: &[u8]) -> Option<(u8, &[u8])>
+    ensures any { IfSome result (λ r. read_any (37 ∷ digits.now) ≡ r.0 ∷ read_any r.1.now) }
+    ensures itself { IfNone result (read_any (37 ∷ digits.now) ≡ 37 ∷ read_any digits.now) }
     ensures some { IfSome result (λ r. read (37 ∷ digits.now) ≡ before r.0 (read r.1.now)) }
     ensures none { IfNone result (read (37 ∷ digits.now) ≡ None) }
     ensures shorter { IfSome result (λ r. length r.1.now < length digits.now) }

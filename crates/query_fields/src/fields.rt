@@ -1,7 +1,8 @@
 //! The fields of a query, in order.
-use crate::escape::{add_encoded, decoded};
+use crate::escape::{add_encoded, decoded, strictly_decoded};
 use ordered_multimap::ListOrderedMultimap;
 use ordered_multimap::list_ordered_multimap::RandomState;
+use program_parts::bad;
 use std::alloc::{AllocError, Global};
 use std::borrow::CowStr;
 use std::io;
@@ -12,13 +13,28 @@ pub type Text<'t> = CowStr<'t>;
 /// Names and values. A name may stand several times.
 pub type Fields<'t> = ListOrderedMultimap<Text<'t>, Text<'t>, RandomState>;
 
-/// Appends the fields of a query. A name without `=` has the empty value, and what is empty between
-/// two `&` is no field.
-pub fn read_query<'t>(alloc: Global, query: &'t str, fields: &mut Fields<'t>) -> io::Result<()> {
-    let mut position = 1usize;
-    for field in query.split('&') {
+/// How a query is read.
+#[derive(Clone, Copy)]
+pub enum Reading {
+    /// As the URL standard has it: every query has a meaning.
+    Lenient,
+    /// What stands for no text is refused.
+    Strict,
+}
+
+/// Appends the fields of a query, from which one leading `?` is cut. A name without `=` has the empty
+/// value, and what is empty between two `&` is no field.
+pub fn read_query<'t>(
+    alloc: Global,
+    query: &'t [u8],
+    reading: Reading,
+    fields: &mut Fields<'t>,
+) -> io::Result<()> {
+    let all = query.strip_prefix(b"?").unwrap_or(query);
+    let mut position = 1 + (query.len() - all.len());
+    for field in all.split(|byte| *byte == b'&') {
         if !field.is_empty() {
-            read_field(alloc, field, position, fields)?;
+            read_field(alloc, field, reading, position, fields)?;
         }
         position = position.saturating_add(field.len()).saturating_add(1);
     }
@@ -28,16 +44,40 @@ pub fn read_query<'t>(alloc: Global, query: &'t str, fields: &mut Fields<'t>) ->
 /// Appends the field that begins at this byte of the query, counted from 1.
 fn read_field<'t>(
     alloc: Global,
-    field: &'t str,
+    field: &'t [u8],
+    reading: Reading,
     position: usize,
     fields: &mut Fields<'t>,
 ) -> io::Result<()> {
-    let (name, value) = field.split_once('=').unwrap_or((field, ""));
+    let (name, value) = name_and_value(field);
     let behind = position.saturating_add(name.len()).saturating_add(1);
-    let name = decoded(alloc, name, position)?;
-    let value = decoded(alloc, value, behind)?;
+    let name = text_of(alloc, name, reading, position)?;
+    let value = text_of(alloc, value, reading, behind)?;
     fields.append(name, value)?;
     Ok(())
+}
+
+/// What stands before the first `=`, and what stands behind it.
+fn name_and_value(field: &[u8]) -> (&[u8], &[u8]) {
+    match field.iter().position(|byte| *byte == b'=') {
+        Some(place) => (&field[..place], &field[place + 1..]),
+        None => (field, b""),
+    }
+}
+
+fn text_of<'t>(
+    alloc: Global,
+    encoded: &'t [u8],
+    reading: Reading,
+    position: usize,
+) -> io::Result<Text<'t>> {
+    match reading {
+        Reading::Lenient => Ok(decoded(alloc, encoded)?),
+        Reading::Strict => match str::from_utf8(encoded) {
+            Ok(encoded) => strictly_decoded(alloc, encoded, position),
+            Err(_) => Err(bad("not UTF-8")),
+        },
+    }
 }
 
 /// Adds the query of all fields in order, and a line feed.

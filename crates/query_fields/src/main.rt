@@ -1,8 +1,12 @@
 //! Reads the query of a URL, or the fields of a form, changes it, and answers questions about it.
 //!
-//! The first line of standard input is the query: fields `NAME=VALUE` with `&` between them, where
-//! `+` stands for a space, and `%` and two hexadecimal digits for a byte. Each line below it is a
-//! command, with names and values as plain text.
+//! A query has fields `NAME=VALUE` with `&` between them, where `+` stands for a space, and `%` and
+//! two hexadecimal digits for a byte. One leading `?` is cut. It is read as the URL standard has it:
+//! another `%` stands for itself, and what is no UTF-8 for U+FFFD. `--strict` refuses both.
+//!
+//! The first word is the query, and behind it stands a command. Without them, the first line of
+//! standard input is the query, and each line below it a command. Names and values in commands are
+//! plain text.
 //!
 //! | Command | What it does |
 //! |---|---|
@@ -13,21 +17,21 @@
 //! | `remove NAME` | removes the fields of the name |
 //! | `write` | writes the query of all fields, in order |
 //!
-//! `set` of an absent name adds a field at the end. A name without `=` has the empty value. `get` and
-//! `all` write a value as it is, with a line feed in it too. Empty lines among the commands are
-//! ignored.
+//! As an argument, a command that changes fields also writes the query, and `get` and `all` of an
+//! absent name end with status 1 and write nothing. `set` of an absent name adds a field at the end.
+//! A name without `=` has the empty value. `get` and `all` write a value as it is, with a line feed
+//! in it too. Empty lines among the commands are ignored.
 //!
-//! The exit status is 0, or 2 where a line is bad, as one with an escape that stands for no UTF-8
-//! text, 3 when out of memory, or 4 where the system gave no random seed or where standard input or
-//! output failed. Then nothing but a message on standard error is written, unless it is the output
-//! that failed.
+//! The exit statuses are those of `program_parts`; 4 also says that the system gave no random seed.
 #![tactic(auto)]
 
+mod answer;
 mod command;
 mod escape;
 mod fields;
 
-use crate::command::add_answers;
+use crate::answer::{answer_command, answer_lines};
+use crate::fields::Reading;
 use ordered_multimap::ListOrderedMultimap;
 use ordered_multimap::list_ordered_multimap::RandomState;
 use program_parts::{Arguments, Fault, Program, run_program};
@@ -35,27 +39,49 @@ use std::process::ExitCode;
 
 const PROGRAM: Program = Program {
     name: "query_fields",
-    help: "usage: query_fields < FILE\n",
-    flags: &[],
+    help: "\
+usage: query_fields [--strict] [QUERY COMMAND]
+
+  get NAME          prints the first value of NAME
+  all NAME          prints each value of NAME
+  set NAME=VALUE    gives NAME this value alone, and prints the query
+  add NAME=VALUE    adds a field at the end, and prints the query
+  remove NAME       removes the fields of NAME, and prints the query
+  write             prints the query
+  --strict          refuses an escape that stands for no text
+
+Without QUERY, reads it from the first line of standard input, and commands from
+the lines below. The status is 1 where NAME is absent.
+
+Example: query_fields 'tag=a%26b&page=1' get tag
+",
+    flags: &["--strict"],
     valued: &[],
-    text: None,
+    text: Some("query"),
 };
 
 fn main(rt: HostRuntime) -> ExitCode {
-    run_program(&rt, &PROGRAM, answers_of)
+    run_program(&rt, &PROGRAM, answers_to)
 }
 
-fn answers_of(
-    rt: &HostRuntime,
-    _arguments: &Arguments<'_>,
-    input: &[u8],
-) -> Result<Vec<u8>, Fault> {
+fn answers_to(rt: &HostRuntime, arguments: &Arguments<'_>, input: &[u8]) -> Result<Vec<u8>, Fault> {
+    let reading = match arguments.has("--strict") {
+        true => Reading::Strict,
+        false => Reading::Lenient,
+    };
     // Who sends a query may choose names that share a hash, so the hash has a seed of its own.
     let fields = &mut ListOrderedMultimap::with_hasher(rt.alloc(), RandomState::new(rt)?);
     let mut answers = String::new(rt.alloc());
-    let mut line = 0usize;
-    match add_answers(rt.alloc(), fields, input, &mut answers, &mut line) {
-        Ok(()) => Ok(answers.into_bytes()),
-        Err(error) => Err(Fault::at_line(line, error)),
+    match arguments.first {
+        Some(_) => answer_command(
+            rt.alloc(),
+            fields,
+            input,
+            reading,
+            arguments.words,
+            &mut answers,
+        )?,
+        None => answer_lines(rt.alloc(), fields, input, reading, &mut answers)?,
     }
+    Ok(answers.into_bytes())
 }

@@ -1,6 +1,6 @@
 use Rattle.std.proofs.Common.{sym, ◌∙◌}
 use Rattle.query_fields.proofs.Reading.{plain_read}
-use Rattle.query_fields.proofs.escape.decoded.Goals as goal
+use Rattle.query_fields.proofs.escape.strictly_decoded.Goals as goal
 
 pub returns-then-not-contains-2-clause-text : goal.returns-then-not-contains-2-clause-text
 returns-then-not-contains-2-clause-text c =

@@ -1,0 +1,126 @@
+-- What is written is read again.
+use Rattle.std.proofs.Common.{◌≡◌, ◌≢◌, ℕ, suc, ◌+◌, ◌*◌, ◌/◌, ◌%◌, ◌<◌, Bool, true, false, cond, not, ◌==◌, List, [], ◌∷◌, ◌++◌, append_assoc}
+use Rattle.std.proofs.Common.{refl, sym, ap, ◌∙◌, arith, filter, map, take, drop, append-nil}
+use Rattle.std.proofs.lemmas.Bool.{eqb-true}
+use Rattle.std.proofs.lemmas.Bool.Decides.{nat_tests}
+use Rattle.std.proofs.lemmas.Str.{utf8_lossy-IsUtf8}
+use Rattle.std.specs.Char.{digit_value}
+use Rattle.std.specs.Fmt.{digit_glyph}
+use Rattle.std.specs.List.{after_first, before_first, onto_first, position_or_len, slice_split}
+use Rattle.std.specs.Prelude.{IsUtf8}
+use Rattle.std.specs.Str.Lossy.{utf8_lossy}
+use Rattle.ordered_multimap.specs.Pairs.{has_items}
+use Rattle.query_fields.specs.Escape.{is_unreserved, escape_of, written_byte, written, read_any}
+use Rattle.query_fields.specs.Queries.{AreTexts, field_read, query_read, text_read, written_field, written_fields, written_query}
+use Rattle.query_fields.proofs.Reading.{glyph_value, kept, plain_written, space_written, escape_written}
+use Rattle.query_fields.proofs.ReadingAny.{space_any, other_any, escape_any, nothing_any}
+
+-- the bytes fit eight bits
+AreBytes : List ℕ → Type 0
+AreBytes [] = Unit {0}
+AreBytes (b ∷ bs) = (b < 256) × AreBytes bs
+
+-- an escape is read as its byte
+escape_of_any : (b : ℕ) (rest : List ℕ) → b < 256 → read_any (escape_of b ++ rest) ≡ b ∷ read_any rest
+escape_of_any b rest h =
+    let high = glyph_value (b / 16) (omega arith) in
+    let low = glyph_value (b % 16) (omega arith) in
+    let same : 16 * (b / 16) + b % 16 ≡ b = omega arith in
+    escape_any (digit_glyph true (b / 16)) (digit_glyph true (b % 16)) rest (omega (arith, high)) (omega (arith, low))
+    ∙ rw (high, low, same)
+
+-- a byte that is written is read again
+written_byte_any : (b : ℕ) (rest : List ℕ) → b < 256 → read_any (written_byte b ++ rest) ≡ b ∷ read_any rest
+written_byte_any b rest h = by_kind (is_unreserved b) (b == 32) refl refl
+  where
+    by_kind : (u s : Bool) → is_unreserved b ≡ u → (b == 32) ≡ s → read_any (written_byte b ++ rest) ≡ b ∷ read_any rest
+    by_kind true s plain space =
+        rw (plain_written b plain) (other_any b rest (kept b plain).0 (kept b plain).1)
+    by_kind false true plain space =
+        rw (eqb-true b 32 space, space_written) (space_any rest)
+    by_kind false false plain space =
+        rw (escape_written b plain (grind (arith, nat_tests))) (escape_of_any b rest h)
+
+-- and so is a text
+written_any : (text : List ℕ) → AreBytes text → read_any (written text) ≡ text
+written_any [] bytes = nothing_any [] refl
+written_any (b ∷ text) bytes = written_byte_any b (written text) bytes.0 ∙ ap (λ bs. b ∷ bs) (written_any text bytes.1)
+
+-- a byte that no list of these has
+Lacks : ℕ → List ℕ → Type 0
+Lacks m [] = Unit {0}
+Lacks m (b ∷ bs) = ((b == m) ≡ false) × Lacks m bs
+
+Lacks-append : (m : ℕ) (xs ys : List ℕ) → Lacks m xs → Lacks m ys → Lacks m (xs ++ ys)
+Lacks-append m [] ys h k = k
+Lacks-append m (x ∷ xs) ys h k = (h.0, Lacks-append m xs ys h.1 k)
+
+-- no `&` and no `=` is written
+glyph_lacks : (d : ℕ) → d < 16 → ((digit_glyph true d == 38) ≡ false) × ((digit_glyph true d == 61) ≡ false)
+glyph_lacks d h = (grind (arith, nat_tests), grind (arith, nat_tests))
+
+plain_lacks : (b : ℕ) → is_unreserved b ≡ true → ((b == 38) ≡ false) × ((b == 61) ≡ false)
+plain_lacks b plain = (grind (arith, nat_tests), grind (arith, nat_tests))
+
+written_byte_lacks : (b : ℕ) → b < 256 → Lacks 38 (written_byte b) × Lacks 61 (written_byte b)
+written_byte_lacks b h = by_kind (is_unreserved b) (b == 32) refl refl
+  where
+    by_kind : (u s : Bool) → is_unreserved b ≡ u → (b == 32) ≡ s → Lacks 38 (written_byte b) × Lacks 61 (written_byte b)
+    by_kind true s plain space =
+        rw (plain_written b plain) (let no = plain_lacks b plain in ((no.0, tt), (no.1, tt)))
+    by_kind false true plain space =
+        rw (eqb-true b 32 space, space_written) ((refl, tt), (refl, tt))
+    by_kind false false plain space =
+        let high = glyph_lacks (b / 16) (omega arith) in let low = glyph_lacks (b % 16) (omega arith) in
+        rw (escape_written b plain (grind (arith, nat_tests))) ((refl, (high.0, (low.0, tt))), (refl, (high.1, (low.1, tt))))
+
+written_lacks : (text : List ℕ) → AreBytes text → Lacks 38 (written text) × Lacks 61 (written text)
+written_lacks [] bytes = (tt, tt)
+written_lacks (b ∷ text) bytes =
+    let first = written_byte_lacks b bytes.0 in let rest = written_lacks text bytes.1 in
+    (Lacks-append 38 (written_byte b) (written text) first.0 rest.0, Lacks-append 61 (written_byte b) (written text) first.1 rest.1)
+
+-- a list is cut at the first byte that it lacks before
+split_at : (xs ys : List ℕ) → Lacks 38 xs → slice_split (λ b. b == 38) (xs ++ (38 ∷ ys)) ≡ xs ∷ slice_split (λ b. b == 38) ys
+split_at [] ys lacks = refl
+split_at (x ∷ xs) ys lacks = rw lacks.0 (ap (onto_first x) (split_at xs ys lacks.1))
+
+split_last : (xs : List ℕ) → Lacks 38 xs → slice_split (λ b. b == 38) xs ≡ xs ∷ []
+split_last [] lacks = refl
+split_last (x ∷ xs) lacks = rw lacks.0 (ap (onto_first x) (split_last xs lacks.1))
+
+before_at : (xs ys : List ℕ) → Lacks 61 xs → before_first (λ b. b == 61) (xs ++ (61 ∷ ys)) ≡ xs
+before_at [] ys lacks = refl
+before_at (x ∷ xs) ys lacks =
+    let one : 1 + position_or_len (λ b. b == 61) (xs ++ (61 ∷ ys)) ≡ suc (position_or_len (λ b. b == 61) (xs ++ (61 ∷ ys))) = omega arith in
+    rw lacks.0 (rw one (ap (λ bs. x ∷ bs) (before_at xs ys lacks.1)))
+
+after_at : (xs ys : List ℕ) → Lacks 61 xs → after_first (λ b. b == 61) (xs ++ (61 ∷ ys)) ≡ ys
+after_at [] ys lacks = refl
+after_at (x ∷ xs) ys lacks =
+    let one : (1 + position_or_len (λ b. b == 61) (xs ++ (61 ∷ ys))) + 1
+        ≡ suc (position_or_len (λ b. b == 61) (xs ++ (61 ∷ ys)) + 1) = omega arith in
+    rw lacks.0 (rw one (after_at xs ys lacks.1))
+
+-- a field
+module _ (name value : List ℕ) (name_bytes : AreBytes name) (value_bytes : AreBytes value) where
+  field_lacks : Lacks 38 (written_field (name, value))
+  field_lacks =
+      Lacks-append 38 (written name) (61 ∷ written value) (written_lacks name name_bytes).0 (refl, (written_lacks value value_bytes).0)
+
+  field_has_items : has_items (written_field (name, value)) ≡ true
+  field_has_items = has_equals (written name)
+    where
+      has_equals : (bs : List ℕ) → has_items (bs ++ (61 ∷ written value)) ≡ true
+      has_equals [] = refl
+      has_equals (b ∷ bs) = refl
+
+  field_again : IsUtf8 name → IsUtf8 value → field_read (written_field (name, value)) ≡ (name, value)
+  field_again is_name is_value =
+      let before : text_read (before_first (λ b. b == 61) (written_field (name, value))) ≡ name =
+          ap text_read (before_at (written name) (written value) (written_lacks name name_bytes).1)
+          ∙ ap utf8_lossy (written_any name name_bytes) ∙ utf8_lossy-IsUtf8 name is_name in
+      let after : text_read (after_first (λ b. b == 61) (written_field (name, value))) ≡ value =
+          ap text_read (after_at (written name) (written value) (written_lacks name name_bytes).1)
+          ∙ ap utf8_lossy (written_any value value_bytes) ∙ utf8_lossy-IsUtf8 value is_value in
+      λ i. (before i, after i)

@@ -1,0 +1,96 @@
+//! The two ways to ask: by arguments, and by lines of standard input.
+use crate::command::Command;
+use crate::fields::{Fields, Reading, add_query, read_query};
+use program_parts::{Fault, bad, text_of, unknown, usage, without_mark, without_return};
+use std::alloc::Global;
+use std::io;
+
+/// Reads the query into `fields`, which is empty, carries out the command that the words are, and
+/// adds what it writes to `answers`.
+///
+/// # Errors
+///
+/// No such command; a bad query; a name that is asked for and absent; out of memory.
+pub fn answer_command<'t>(
+    alloc: Global,
+    fields: &mut Fields<'t>,
+    query: &'t [u8],
+    reading: Reading,
+    words: &'t [String],
+    answers: &mut String,
+) -> Result<(), Fault> {
+    let command = command_of(alloc, words)?;
+    if let Err(error) = read_query(alloc, query, reading, fields) {
+        return Err(Fault::input(error));
+    }
+    if !command.carry_out(fields, answers)? {
+        return Err(Fault::Absent);
+    }
+    if command.changes() {
+        add_query(fields, answers)?;
+    }
+    Ok(())
+}
+
+fn command_of(alloc: Global, words: &[String]) -> Result<Command<'_>, Fault> {
+    let Some((word, behind)) = words.split_first() else {
+        return Err(usage("no command behind the query"));
+    };
+    let word = word.as_str();
+    if let Some(more) = behind.get(1) {
+        return Err(unknown(alloc, "one name at most", more.as_str()));
+    }
+    match Command::parse(word, behind.first().map(|operand| operand.as_str())) {
+        Some(command) => Ok(command),
+        None => Err(unknown(alloc, "not a command", word)),
+    }
+}
+
+/// Reads the query on the first line of the input into `fields`, which is empty, and adds what the
+/// commands below it answer. A bad line, also one below a command, ends this.
+pub fn answer_lines<'t>(
+    alloc: Global,
+    fields: &mut Fields<'t>,
+    input: &'t [u8],
+    reading: Reading,
+    answers: &mut String,
+) -> Result<(), Fault> {
+    for (index, line) in without_mark(input).split(|byte| *byte == b'\n').enumerate() {
+        let answered = if index == 0 {
+            read_query(alloc, without_return(line), reading, fields)
+        } else {
+            answer_line(fields, line, answers)
+        };
+        if let Err(error) = answered {
+            return Err(Fault::at_line(index.saturating_add(1), error));
+        }
+    }
+    Ok(())
+}
+
+/// Carries out the command on a line. A name that is absent has the answer `none` to `get`.
+fn answer_line<'t>(
+    fields: &mut Fields<'t>,
+    line: &'t [u8],
+    answers: &mut String,
+) -> io::Result<()> {
+    let line = text_of(line)?;
+    if line.is_empty() {
+        return Ok(());
+    }
+    let Some(command) = command_on(line) else {
+        return Err(bad("not a command"));
+    };
+    let is_there = command.carry_out(fields, answers)?;
+    if !is_there && matches!(&command, Command::Get(_)) {
+        answers.push_str("none\n")?;
+    }
+    Ok(())
+}
+
+fn command_on(line: &str) -> Option<Command<'_>> {
+    match line.split_once(' ') {
+        Some((word, operand)) => Command::parse(word, Some(operand)),
+        None => Command::parse(line, None),
+    }
+}
