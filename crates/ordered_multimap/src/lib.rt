@@ -2,7 +2,7 @@
 //!
 //! A [`ListOrderedMultimap`] maps each key to one or more values, and keeps two lists:
 //!
-//! - the pairs, in insertion order;
+//! - the pairs, in insertion order, unless `sort_by` sorted them;
 //! - the keys, in the order in which each last became present, unless `move_key_to_back`,
 //!   `move_key_to_front` or a sort of the keys moved it: a key that is removed and added again goes
 //!   last.
@@ -60,6 +60,7 @@
 //! | `into_iter` | *O*(1), *O*(1) and a clone of the key for each item |
 //! | `into_keys`, `into_values` | *O*(*n*), *O*(1) for each item |
 //! | `sort_keys`, `sort_keys_by`, `sort_keys_by_cached_key` | *O*(*k* log *k*) for *k* keys |
+//! | `sort_by` | *O*(*n* log *n*) |
 //! | `retain`, `update_values`, `clear`, `clone`, `==`, `pack_to`, `pack_to_fit` | *O*(*n*) |
 //!
 //! Removals leave holes among the values. A call that makes room may move values into them, at most
@@ -79,7 +80,7 @@
 //! - The constructors with capacities, `reserve_keys`, `reserve_values`, `pack_to`, `pack_to_fit`,
 //!   `clone` and `append_map` return `AllocError`. After `append_map` both maps are as before;
 //!   capacities may have grown.
-//! - The sorts of the keys return `AllocError`, and both lists are as before.
+//! - The sorts return `AllocError`, and both lists are as before.
 //! - An item of [`IntoIter`] is a `Result`, because each key is cloned: [`UnclonedKey`] has the
 //!   value. [`IntoKeys`] and [`IntoValues`] clone nothing.
 //!

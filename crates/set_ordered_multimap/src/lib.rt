@@ -3,7 +3,7 @@
 //! A [`SetOrderedMultimap`] is an `ordered_multimap::ListOrderedMultimap` that adds a pair only if
 //! no pair with an equal key and an equal value is there. It keeps the same two lists:
 //!
-//! - the pairs, in insertion order;
+//! - the pairs, in insertion order, unless `sort_by` sorted them;
 //! - the keys, in the order in which each last became present, unless `move_key_to_back`,
 //!   `move_key_to_front` or a sort of the keys moved it: a key that is removed and inserted again
 //!   goes last.
@@ -59,6 +59,7 @@
 //! | `get_all` | *O*(1) expected, *O*(1) for each item |
 //! | `pop_front`, `pop_back` | *O*(1) expected |
 //! | `sort_keys`, `sort_keys_by` | *O*(*k* log *k*) for *k* keys |
+//! | `sort_by` | *O*(*n* log *n*) |
 //! | `retain`, `clear`, `clone`, `==` | *O*(*n*) |
 //! | `append_map` | what `clear` of the other set costs, and for each of its pairs *O*(*v*) expected |
 //!
@@ -68,8 +69,8 @@
 //! capacities may have grown. It never fails if an equal pair is there, or where the capacities
 //! suffice. `extend` keeps the pairs before that one, and `from_iter` drops them. The calls of the
 //! traits `Extend` and `FromIterator` do the same, and return `AllocError`. `append_map` returns
-//! `AllocError`, and both lists of both sets are as before. `clone` returns `AllocError`. Removals
-//! and lookups can't fail.
+//! `AllocError`, and both lists of both sets are as before. `clone` returns `AllocError`, and so do
+//! the sorts, after which both lists are as before. Removals and lookups can't fail.
 //!
 //! # Keys that others choose
 //!

@@ -11,7 +11,7 @@ use Rattle.ordered_multimap.specs.Private.Append.{link_of_one}
 use Rattle.ordered_multimap.specs.Private.PairSorts.{IsBegunAt, PushesNext}
 use Rattle.ordered_multimap.proofs.Agreement.Agreed.{is_value_of-is, value_owner}
 use Rattle.ordered_multimap.proofs.Append.Chained.{chained-append, pairs_of-append}
-use Rattle.ordered_multimap.proofs.Append.Steps.{SetsKey, IsSound-with_link}
+use Rattle.ordered_multimap.proofs.Append.Steps.{SetsKey}
 use Rattle.ordered_multimap.proofs.Callers.Members.{IsIn-filter, IsIn-kept}
 use Rattle.ordered_multimap.proofs.Callers.Places.{held, filter_shorter, last_of-member}
 use Rattle.ordered_multimap.proofs.Chains.LongerLists.{first_of-push, no_last}

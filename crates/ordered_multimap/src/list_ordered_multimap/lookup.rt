@@ -222,7 +222,7 @@ impl<K: Eq + Hash, V, S: BuildHasher, A: Allocator> ListOrderedMultimap<K, V, S,
 
     /// Returns the first pair, or `None` if the map is empty.
     ///
-    /// The first pair is the oldest one in the map. To write its value see
+    /// It is the oldest pair, unless a sort moved the pairs. To write its value see
     /// [`front_mut`](Self::front_mut), and to remove it [`pop_front`](Self::pop_front).
     ///
     /// # Complexity
@@ -249,7 +249,7 @@ impl<K: Eq + Hash, V, S: BuildHasher, A: Allocator> ListOrderedMultimap<K, V, S,
 
     /// Returns the last pair, or `None` if the map is empty.
     ///
-    /// The last pair is the newest one in the map. To write its value see
+    /// It is the newest pair, unless a sort moved the pairs. To write its value see
     /// [`back_mut`](Self::back_mut), and to remove it [`pop_back`](Self::pop_back).
     ///
     /// # Complexity

@@ -59,7 +59,7 @@ impl<K: Eq + Hash, V, S: BuildHasher, A: Allocator> ListOrderedMultimap<K, V, S,
 
     /// Returns the last value of the key, or `None` if the key is absent.
     ///
-    /// It is the newest value of the key. For the first one see [`get`](Self::get), and for all
+    /// It is the newest, unless a sort moved it. For the first see [`get`](Self::get), and for all
     /// [`get_all`](Self::get_all). The key may be a query ([`KeyQuery`]).
     ///
     /// # Complexity

@@ -1,7 +1,6 @@
 use denote.Param.Always.{mut_by}
 use Rattle.std.proofs.Common.{◌≡◌, ℕ, Bool, IsSome, refl, sym, ap, ◌∙◌, subst}
 use Rattle.std.specs.Cmp.{IsStrictWeakOrder}
-use Rattle.std.specs.List.Sorted.{IsSortedBy, IsStableBy}
 use Rattle.std.specs.Ordering.{is_lt}
 use Rattle.multimap_slots.specs.Lists.{IsIn}
 use Rattle.multimap_walks.specs.Chained.{pair_at}
