@@ -1,4 +1,4 @@
-//! What commands do to a configuration, and what they show of it.
+//! The two ways to ask, by arguments and by lines of standard input, and what commands show.
 ghost use Rattle.std.specs.Prelude.{◌≡◌, ◌++◌, IfOk, OnOk};
 ghost use Rattle.std.specs.String.{string_bytes};
 ghost use Rattle.ordered_multimap.specs.Walk.{end_item};
@@ -7,14 +7,12 @@ ghost use Rattle.ordered_multimap.specs.Pairs.{is_present, values_of};
 ghost use Rattle.config_reader.specs.Names.{same_name};
 ghost use Rattle.config_reader.specs.Written.{line_of, texts_of, value_line, value_lines};
 
+use crate::change::{add, set, unset};
 use crate::command::Command;
-use crate::config::{Config, Lines, Part, read_config};
+use crate::config::{Config, Part, read_config};
 use crate::name::{NO_KEY, NO_SECTION, Name, Section};
-use crate::value::add_value;
-use ascii_caseless::AsciiCaseless;
 use program_parts::{Fault, bad, without_mark};
 use std::alloc::{AllocError, Global};
-use std::borrow::CowStr;
 use std::io;
 
 /// The input as a text, without a byte order mark; or the lines in front of the first one that is no
@@ -84,9 +82,7 @@ pub fn add_answer_of_words<'t>(
     match command {
         Command::Set(name, value) => set(alloc, config, name, value)?,
         Command::Add(name, value) => add(alloc, config, name, value)?,
-        Command::Unset(name) => {
-            let _ = config.remove(&name);
-        }
+        Command::Unset(name) => unset(config, name),
         _ => {
             let found = show(config, command, answers)?;
             return if found { Ok(()) } else { Err(Fault::Absent) };
@@ -191,108 +187,4 @@ fn add_texts(config: &Config<'_>, answers: &mut String) -> Result<(), AllocError
         answers.push_str(lines.text.as_str())?;
     }
     Ok(())
-}
-
-/// Gives the name's first setting this value, and takes its others out. A new setting goes to the
-/// end of its section.
-fn set<'t>(
-    alloc: Global,
-    config: &mut Config<'t>,
-    name: Name<'t>,
-    value: &'t str,
-) -> Result<(), AllocError> {
-    let Some((stored, lines)) = config.get_key_value(&name) else {
-        return add(alloc, config, name, value);
-    };
-    let indent = indent_of(lines.text.as_str());
-    let lines = setting(alloc, indent, stored.key, value, lines.rank)?;
-    config.set(name, lines)?;
-    Ok(())
-}
-
-/// Adds a setting at the end of its section, which is made where there is none.
-fn add<'t>(
-    alloc: Global,
-    config: &mut Config<'t>,
-    name: Name<'t>,
-    value: &'t str,
-) -> Result<(), AllocError> {
-    let rank = rank_of(alloc, config, name.section)?;
-    let lines = setting(
-        alloc,
-        indent_in(config, name.section),
-        name.key,
-        value,
-        rank,
-    )?;
-    config.append(name, lines)?;
-    config.sort_by(|_, lines, _, others| lines.rank.cmp(&others.rank))
-}
-
-/// The rank of the section's settings. A section that isn't there is added at the end.
-fn rank_of<'t>(
-    alloc: Global,
-    config: &mut Config<'t>,
-    section: Section<'t>,
-) -> Result<usize, AllocError> {
-    let name = Name::of_section(section);
-    if section == NO_SECTION {
-        return Ok(0);
-    }
-    if let Some(lines) = config.get_last(&name) {
-        return Ok(settings_rank(lines.rank));
-    }
-    let last = config.back().map(|(_, lines)| lines.rank).unwrap_or(0);
-    let rank = settings_rank(last).saturating_add(2);
-    config.append(name, section_line(alloc, section, rank)?)?;
-    Ok(rank)
-}
-
-// The rank of the settings of the section that a line of this rank is in.
-fn settings_rank(rank: usize) -> usize {
-    rank - rank % 2
-}
-
-/// The line that opens a section.
-fn section_line<'t>(
-    alloc: Global,
-    section: Section<'t>,
-    rank: usize,
-) -> Result<Lines<'t>, AllocError> {
-    let mut text = String::new(alloc);
-    section.add_line(&mut text)?;
-    let text = CowStr::Owned(text);
-    let value = CowStr::Borrowed("");
-    Ok(Lines { text, value, rank })
-}
-
-/// The line of a setting.
-fn setting<'t>(
-    alloc: Global,
-    indent: &str,
-    key: AsciiCaseless<&str>,
-    value: &'t str,
-    rank: usize,
-) -> Result<Lines<'t>, AllocError> {
-    let mut text = format!(in alloc; "{indent}{key} = ")?;
-    add_value(value, &mut text)?;
-    text.push('\n')?;
-    let text = CowStr::Owned(text);
-    let value = CowStr::Borrowed(value);
-    Ok(Lines { text, value, rank })
-}
-
-/// How far the section's last setting is indented, and by a tab where there is none.
-fn indent_in<'c>(config: &'c Config<'_>, section: Section<'_>) -> &'c str {
-    for (name, lines) in config.iter().rev() {
-        if name.section == section && name.key != NO_KEY {
-            return indent_of(lines.text.as_str());
-        }
-    }
-    if section == NO_SECTION { "" } else { "\t" }
-}
-
-// The blanks that a line begins with.
-fn indent_of(line: &str) -> &str {
-    line.strip_suffix(line.trim_start()).unwrap_or("")
 }

@@ -44,6 +44,7 @@
 #![tactic(auto)]
 
 mod answer;
+mod change;
 mod command;
 mod config;
 mod name;

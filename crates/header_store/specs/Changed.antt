@@ -1,11 +1,10 @@
 -- What a command makes of the headers, and the label of the lines that show a name's values.
 use Rattle.std.specs.Borrow.{Bor}
 use Rattle.std.specs.Str.{str_eq_ignore_ascii_case}
-use Rattle.std.specs.Prelude.{ℕ, Bool, true, false, List, [], ◌++◌, Option, Some, None, codes}
+use Rattle.std.specs.Prelude.{ℕ, Bool, List, [], ◌++◌, Option, Some, None, codes}
 use Rattle.ordered_multimap.specs.Changes.{appended, removed}
 use Rattle.ordered_multimap.specs.Lists.{Lists}
-use Rattle.ordered_multimap.specs.OneValue.{only_written}
-use Rattle.ordered_multimap.specs.Pairs.{is_present}
+use Rattle.ordered_multimap.specs.SetLists.{value_set}
 use Rattle.header_store.specs.declared.command.Command.{Command}
 use Rattle.header_store.specs.declared.command.Command.TheVariants.{Show, Set, Add, Remove, Write}
 use Rattle.header_store.specs.declared.name.Name.{Name}
@@ -19,17 +18,10 @@ label_of (Some name) = name.text.0.now ++ codes ": "
 abbrev pub same_name : Name → Name → Bool
 same_name name other = str_eq_ignore_ascii_case name.text.0.now other.text.0.now
 
--- the name's first header has the value, and its others go; a new name goes last
-abbrev pub set : Lists Name (Bor (List ℕ)) → Name → Bor (List ℕ) → Lists Name (Bor (List ℕ))
-set m name value = elim (is_present same_name m.pairs name) [
-  true ↦ only_written (same_name name) m value |
-  false ↦ appended same_name m name value
-]
-
 -- what a command leaves of the headers
 abbrev pub changed : Command → Lists Name (Bor (List ℕ)) → Lists Name (Bor (List ℕ))
 changed (Show name form) m = m
-changed (Set name value) m = set m name value
+changed (Set name value) m = value_set same_name m name value
 changed (Add name value) m = appended same_name m name value
 changed (Remove name) m = removed same_name m name
 changed Write m = m

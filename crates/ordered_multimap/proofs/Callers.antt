@@ -10,6 +10,7 @@ pub mod PairsByValue
 pub mod Places
 pub mod RemovedAt
 pub mod Retained
+pub mod SetLists
 pub mod TakenEnds
 pub mod WellFormed
 pub mod Writes

@@ -32,6 +32,7 @@ pub mod RemovedAt
 pub mod Renames
 pub mod Retain
 pub mod Rooms
+pub mod SetLists
 pub mod Sets
 pub mod TapeNumbers
 pub mod Updates

@@ -1,0 +1,154 @@
+//! What commands make of a configuration.
+ghost use Rattle.std.specs.Cow.{cow_str_bytes};
+ghost use Rattle.std.specs.Prelude.{◌≡◌, IfOk, IsPermutation, OnOk};
+ghost use Rattle.ordered_multimap.specs.Changes.{appended, removed};
+ghost use Rattle.ordered_multimap.specs.SetLists.{value_set};
+ghost use Rattle.config_reader.specs.Names.{same_name};
+
+use crate::config::{Config, Lines};
+use crate::name::{NO_KEY, NO_SECTION, Name, Section};
+use crate::value::add_value;
+use ascii_caseless::AsciiCaseless;
+use std::alloc::{AllocError, Global};
+use std::borrow::CowStr;
+
+/// Gives the name's first setting this value, and takes its others out. A new setting goes to the
+/// end of its section.
+pub fn set<'t>(
+    alloc: Global,
+    config: &mut Config<'t>,
+    name: Name<'t>,
+    value: &'t str,
+) -> Result<(), AllocError> {
+    let Some((stored, lines)) = config.get_key_value(&name) else {
+        return add(alloc, config, name, value);
+    };
+    let indent = indent_of(lines.text.as_str());
+    let lines = setting(alloc, indent, stored.key, value, lines.rank)?;
+    set_lines(config, name, lines)
+}
+
+/// Adds a setting at the end of its section, which is made where there is none.
+pub fn add<'t>(
+    alloc: Global,
+    config: &mut Config<'t>,
+    name: Name<'t>,
+    value: &'t str,
+) -> Result<(), AllocError> {
+    let rank = rank_of(alloc, config, name.section)?;
+    let lines = setting(
+        alloc,
+        indent_in(config, name.section),
+        name.key,
+        value,
+        rank,
+    )?;
+    add_lines(config, name, lines)
+}
+
+/// The first lines of the name are these, and its others go.
+fn set_lines<'t>(
+    config: &mut Config<'t>,
+    name: Name<'t>,
+    lines: Lines<'t>,
+) -> Result<(), AllocError>
+    ensures { OnOk result (config.new.lists
+        ≡ value_set same_name config.old.lists name.entry lines.entry) }
+{
+    config.set(name, lines)?;
+    Ok(())
+}
+
+/// Adds the lines, which go behind those of the same rank and of lower ones.
+fn add_lines<'t>(
+    config: &mut Config<'t>,
+    name: Name<'t>,
+    lines: Lines<'t>,
+) -> Result<(), AllocError>
+    ensures names { OnOk result (config.new.lists.keys
+        ≡ (appended same_name config.old.lists name.entry lines.entry).keys) }
+    ensures lines { OnOk result (IsPermutation
+        (appended same_name config.old.lists name.entry lines.entry).pairs
+        config.new.lists.pairs) }
+{
+    config.append(name, lines)?;
+    config.sort_by(|_, lines, _, others| lines.rank.cmp(&others.rank))
+}
+
+/// Takes the settings of the name out.
+pub fn unset<'t>(config: &mut Config<'t>, name: Name<'t>)
+    ensures { config.new.lists ≡ removed same_name config.old.lists name.entry }
+{
+    drop(config.remove(&name));
+}
+
+/// The rank of the section's settings. A section that isn't there is added at the end.
+fn rank_of<'t>(
+    alloc: Global,
+    config: &mut Config<'t>,
+    section: Section<'t>,
+) -> Result<usize, AllocError> {
+    let name = Name::of_section(section);
+    if section == NO_SECTION {
+        return Ok(0);
+    }
+    if let Some(lines) = config.get_last(&name) {
+        return Ok(settings_rank(lines.rank));
+    }
+    let last = config.back().map(|(_, lines)| lines.rank).unwrap_or(0);
+    let rank = settings_rank(last).saturating_add(2);
+    config.append(name, section_line(alloc, section, rank)?)?;
+    Ok(rank)
+}
+
+// The rank of the settings of the section that a line of this rank is in.
+fn settings_rank(rank: usize) -> usize {
+    rank - rank % 2
+}
+
+/// The line that opens a section.
+fn section_line<'t>(
+    alloc: Global,
+    section: Section<'t>,
+    rank: usize,
+) -> Result<Lines<'t>, AllocError> {
+    let mut text = String::new(alloc);
+    section.add_line(&mut text)?;
+    let text = CowStr::Owned(text);
+    let value = CowStr::Borrowed("");
+    Ok(Lines { text, value, rank })
+}
+
+/// The line of a setting with this value.
+fn setting<'t>(
+    alloc: Global,
+    indent: &str,
+    key: AsciiCaseless<&str>,
+    value: &'t str,
+    rank: usize,
+) -> Result<Lines<'t>, AllocError>
+    ensures value { IfOk result (λ lines. cow_str_bytes lines.value ≡ value.now) }
+    ensures rank { IfOk result (λ lines. lines.rank ≡ rank) }
+{
+    let mut text = format!(in alloc; "{indent}{key} = ")?;
+    add_value(value, &mut text)?;
+    text.push('\n')?;
+    let text = CowStr::Owned(text);
+    let value = CowStr::Borrowed(value);
+    Ok(Lines { text, value, rank })
+}
+
+/// How far the section's last setting is indented, and by a tab where there is none.
+fn indent_in<'c>(config: &'c Config<'_>, section: Section<'_>) -> &'c str {
+    for (name, lines) in config.iter().rev() {
+        if name.section == section && name.key != NO_KEY {
+            return indent_of(lines.text.as_str());
+        }
+    }
+    if section == NO_SECTION { "" } else { "\t" }
+}
+
+// The blanks that a line begins with.
+fn indent_of(line: &str) -> &str {
+    line.strip_suffix(line.trim_start()).unwrap_or("")
+}
