@@ -2,7 +2,8 @@
 use Rattle.std.specs.Cow.{cow_str_bytes}
 use Rattle.std.specs.List.{after_first, before_first, flat_map, slice_split}
 use Rattle.std.specs.Str.{bytes_eq}
-use Rattle.std.specs.Prelude.{ℕ, ◌<◌, Bool, true, false, cond, ◌==◌, List, [], ◌∷◌, ◌++◌, filter, map, IsUtf8}
+use Rattle.std.specs.Prelude.{ℕ, ◌<◌, Bool, true, false, cond, ◌==◌, List, [], ◌∷◌, ◌++◌}
+use Rattle.std.specs.Prelude.{filter, map, IsUtf8}
 use Rattle.std.specs.Str.Lossy.{utf8_lossy}
 use Rattle.std.specs.declared.borrow.CowStr.{CowStr}
 use Rattle.ordered_multimap.specs.Pairs.{has_items, values_where}

@@ -8,6 +8,7 @@ ghost use Rattle.ordered_multimap.specs.OneValue.{only_written};
 ghost use Rattle.ordered_multimap.specs.Pairs.{is_present};
 ghost use Rattle.std.specs.String.{string_bytes};
 ghost use Rattle.ordered_multimap.specs.Pairs.{has_items};
+ghost use Rattle.query_fields.specs.Commands.{Leaves, written_by};
 ghost use Rattle.query_fields.specs.Queries.{lines_of, only_first, same_name, values_named};
 
 use crate::fields::{Fields, Text, add_query};
@@ -57,7 +58,12 @@ impl<'t> Command<'t> {
         self,
         fields: &mut Fields<'t>,
         answers: &mut String,
-    ) -> Result<bool, AllocError> {
+    ) -> Result<bool, AllocError>
+        ensures written { OnOk result (string_bytes answers.new
+            ≡ string_bytes answers.old ++ written_by self.entry fields.old.lists.pairs) }
+        ensures leaves { OnOk result (
+            Leaves self.entry fields.old.lists fields.new.lists) }
+    {
         match self {
             Command::Get(name) => add_first(fields, name, answers),
             Command::All(name) => add_all(fields, name, answers),
