@@ -34,8 +34,8 @@ abbrev pub summaries_of : List ℤ → List Summary
 summaries_of [] = []
 summaries_of (value ∷ values) = summary_of (value ∷ values) ∷ []
 
--- Of entries, each a group and a value, the map has one summary for each group, which is that of the
--- values of its entries in order, and the summaries count all entries.
+-- Of entries, each a group and a value, the map has one summary for each group, which is that of
+-- the values of its entries in order, and the summaries count all entries.
 pub record Summarizes {G : Type 0} (eq : G → G → Bool) (entries : List (G × ℤ))
     (m : Lists G Summary) : Type 0 where
   pub summaries : (g : G) → values_of eq m.pairs g ≡ summaries_of (values_of eq entries g)

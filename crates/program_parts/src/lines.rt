@@ -3,22 +3,28 @@
 ghost use Rattle.std.specs.IoError.{error_kind};
 ghost use Rattle.std.specs.Prelude.{◌≡◌, IfErr, IfOk};
 ghost use Rattle.std.specs.declared.io.ErrorKind.TheVariants.{InvalidData};
+ghost use Rattle.program_parts.specs.Lines.{without_mark, without_return};
 
 use crate::fault::bad;
 use std::io;
 
 /// The input without a byte order mark at its start.
-pub fn without_mark(input: &[u8]) -> &[u8] {
+pub fn without_mark(input: &[u8]) -> &[u8]
+    ensures { result.now ≡ without_mark input.now }
+{
     input.strip_prefix(b"\xef\xbb\xbf").unwrap_or(input)
 }
 
 /// The line without a carriage return at its end.
-pub fn without_return(line: &[u8]) -> &[u8] {
+pub fn without_return(line: &[u8]) -> &[u8]
+    ensures { result.now ≡ without_return line.now }
+{
     line.strip_suffix(b"\r").unwrap_or(line)
 }
 
 /// The line as a text, without a carriage return at its end.
 pub fn text_of(line: &[u8]) -> io::Result<&str>
+    ensures text { IfOk result (λ text. text.now ≡ without_return line.now) }
     ensures bad { IfErr result (λ error. error_kind error ≡ InvalidData) }
 {
     match str::from_utf8(without_return(line)) {

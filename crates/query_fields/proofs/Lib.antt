@@ -1,3 +1,4 @@
+pub mod FirstLines
 pub mod Reading
 pub mod ReadingAny
 pub mod WrittenAgain

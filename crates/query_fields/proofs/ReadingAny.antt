@@ -1,5 +1,5 @@
 -- How any bytes are read, step by step, and that what is written is read again.
-use Rattle.std.proofs.Common.{◌≡◌, ◌≢◌, ℕ, ◌+◌, ◌*◌, ◌<◌, ◌≤◌, Bool, true, false, ◌==◌, ◌&&◌, List, [], ◌∷◌, ◌++◌, append-nil, append_assoc}
+use Rattle.std.proofs.Common.{◌≡◌, ◌≢◌, ℕ, ◌+◌, ◌*◌, ◌<◌, ◌≤◌, false, ◌==◌, ◌&&◌, List, [], ◌∷◌, ◌++◌, append-nil, append_assoc}
 use Rattle.std.proofs.Common.{refl, sym, ap, ◌∙◌, arith, lt-ltb, ne_eqb, length}
 use Rattle.std.proofs.lemmas.Bool.Decides.{nat_tests}
 use Rattle.std.specs.Char.{digit_value, is_digit}
@@ -52,7 +52,7 @@ cut_behind_any high [] none = refl
 cut_behind_any high (d ∷ rest) none = absurd (omega arith)
 
 -- nothing
-nothing_any : (rest : List ℕ) → length rest ≡ 0 → read_any rest ≡ []
+pub nothing_any : (rest : List ℕ) → length rest ≡ 0 → read_any rest ≡ []
 unfolding read_any
 nothing_any [] none = refl
 nothing_any (d ∷ rest) none = absurd (omega arith)
@@ -73,8 +73,18 @@ pub one_more_any : (bytes : List ℕ) (b : ℕ) (rest : List ℕ) → bytes ++ (
 one_more_any bytes b rest = sym (append_assoc bytes (b ∷ []) rest)
 
 -- what is read behind `%`, strictly or not
-pub ruleset escape_steps = (escape_read, bad_high_read, bad_low_read, cut_read, cut_behind_read,
-    escape_any, bad_high_any, bad_low_any, cut_any, cut_behind_any)
+pub ruleset escape_steps = (
+  escape_read,
+  bad_high_read,
+  bad_low_read,
+  cut_read,
+  cut_behind_read,
+  escape_any,
+  bad_high_any,
+  bad_low_any,
+  cut_any,
+  cut_behind_any,
+)
 
 -- what is read at another byte
 pub ruleset first_of_any_steps = (space_any, other_any)

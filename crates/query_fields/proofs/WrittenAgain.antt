@@ -1,24 +1,18 @@
 -- What is written is read again.
-use Rattle.std.proofs.Common.{◌≡◌, ◌≢◌, ℕ, suc, ◌+◌, ◌*◌, ◌/◌, ◌%◌, ◌<◌, Bool, true, false, cond, not, ◌==◌, List, [], ◌∷◌, ◌++◌, append_assoc}
-use Rattle.std.proofs.Common.{refl, sym, ap, ◌∙◌, arith, filter, map, take, drop, append-nil}
+use Rattle.std.proofs.Common.{◌≡◌, ℕ, suc, ◌+◌, ◌*◌, ◌/◌, ◌%◌, ◌<◌, Bool, true, false, ◌==◌, List, [], ◌∷◌, ◌++◌}
+use Rattle.std.proofs.Common.{refl, ap, ◌∙◌, arith, filter, map, append-nil}
 use Rattle.std.proofs.lemmas.Bool.{eqb-true}
 use Rattle.std.proofs.lemmas.Bool.Decides.{nat_tests}
 use Rattle.std.proofs.lemmas.Str.{utf8_lossy-IsUtf8}
-use Rattle.std.specs.Char.{digit_value}
 use Rattle.std.specs.Fmt.{digit_glyph}
 use Rattle.std.specs.List.{after_first, before_first, onto_first, position_or_len, slice_split}
 use Rattle.std.specs.Prelude.{IsUtf8}
 use Rattle.std.specs.Str.Lossy.{utf8_lossy}
 use Rattle.ordered_multimap.specs.Pairs.{has_items}
 use Rattle.query_fields.specs.Escape.{is_unreserved, escape_of, written_byte, written, read_any}
-use Rattle.query_fields.specs.Queries.{AreTexts, field_read, query_read, text_read, written_field, written_fields, written_query}
+use Rattle.query_fields.specs.Queries.{AreBytes, AreTexts, field_read, query_read, text_read, written_field, written_fields, written_query}
 use Rattle.query_fields.proofs.Reading.{glyph_value, kept, plain_written, space_written, escape_written}
 use Rattle.query_fields.proofs.ReadingAny.{space_any, other_any, escape_any, nothing_any}
-
--- the bytes fit eight bits
-AreBytes : List ℕ → Type 0
-AreBytes [] = Unit {0}
-AreBytes (b ∷ bs) = (b < 256) × AreBytes bs
 
 -- an escape is read as its byte
 escape_of_any : (b : ℕ) (rest : List ℕ) → b < 256 → read_any (escape_of b ++ rest) ≡ b ∷ read_any rest
@@ -47,7 +41,7 @@ written_any [] bytes = nothing_any [] refl
 written_any (b ∷ text) bytes = written_byte_any b (written text) bytes.0 ∙ ap (λ bs. b ∷ bs) (written_any text bytes.1)
 
 -- a byte that no list of these has
-Lacks : ℕ → List ℕ → Type 0
+abbrev Lacks : ℕ → List ℕ → Type 0
 Lacks m [] = Unit {0}
 Lacks m (b ∷ bs) = ((b == m) ≡ false) × Lacks m bs
 
@@ -99,7 +93,7 @@ after_at : (xs ys : List ℕ) → Lacks 61 xs → after_first (λ b. b == 61) (x
 after_at [] ys lacks = refl
 after_at (x ∷ xs) ys lacks =
     let one : (1 + position_or_len (λ b. b == 61) (xs ++ (61 ∷ ys))) + 1
-        ≡ suc (position_or_len (λ b. b == 61) (xs ++ (61 ∷ ys)) + 1) = omega arith in
+    ≡ suc (position_or_len (λ b. b == 61) (xs ++ (61 ∷ ys)) + 1) = omega arith in
     rw lacks.0 (rw one (after_at xs ys lacks.1))
 
 -- a field
@@ -118,9 +112,39 @@ module _ (name value : List ℕ) (name_bytes : AreBytes name) (value_bytes : Are
   field_again : IsUtf8 name → IsUtf8 value → field_read (written_field (name, value)) ≡ (name, value)
   field_again is_name is_value =
       let before : text_read (before_first (λ b. b == 61) (written_field (name, value))) ≡ name =
-          ap text_read (before_at (written name) (written value) (written_lacks name name_bytes).1)
-          ∙ ap utf8_lossy (written_any name name_bytes) ∙ utf8_lossy-IsUtf8 name is_name in
+      ap text_read (before_at (written name) (written value) (written_lacks name name_bytes).1)
+      ∙ ap utf8_lossy (written_any name name_bytes) ∙ utf8_lossy-IsUtf8 name is_name in
       let after : text_read (after_first (λ b. b == 61) (written_field (name, value))) ≡ value =
-          ap text_read (after_at (written name) (written value) (written_lacks name name_bytes).1)
-          ∙ ap utf8_lossy (written_any value value_bytes) ∙ utf8_lossy-IsUtf8 value is_value in
+      ap text_read (after_at (written name) (written value) (written_lacks name name_bytes).1)
+      ∙ ap utf8_lossy (written_any value value_bytes) ∙ utf8_lossy-IsUtf8 value is_value in
       λ i. (before i, after i)
+
+-- the pieces between `&` are the fields
+split_fields : (p : List ℕ × List ℕ) (pairs : List (List ℕ × List ℕ)) → AreTexts (p ∷ pairs)
+    → slice_split (λ b. b == 38) (written_field p ++ written_fields false pairs) ≡ map written_field (p ∷ pairs)
+split_fields p [] texts =
+    ap (slice_split (λ b. b == 38)) (append-nil (written_field p))
+    ∙ split_last (written_field p) (field_lacks p.0 p.1 texts.0.0.1 texts.0.1.1)
+split_fields p (q ∷ pairs) texts =
+    split_at (written_field p) (written_field q ++ written_fields false pairs) (field_lacks p.0 p.1 texts.0.0.1 texts.0.1.1)
+    ∙ ap (λ fields. written_field p ∷ fields) (split_fields q pairs texts.1)
+
+-- none of them is empty
+kept_fields : (pairs : List (List ℕ × List ℕ)) → AreTexts pairs → filter has_items (map written_field pairs) ≡ map written_field pairs
+kept_fields [] texts = refl
+kept_fields (p ∷ pairs) texts =
+    rw (field_has_items p.0 p.1 texts.0.0.1 texts.0.1.1) (ap (λ fields. written_field p ∷ fields) (kept_fields pairs texts.1))
+
+-- and each is read again
+read_fields : (pairs : List (List ℕ × List ℕ)) → AreTexts pairs → map field_read (map written_field pairs) ≡ pairs
+read_fields [] texts = refl
+read_fields (p ∷ pairs) texts = λ i.
+    field_again p.0 p.1 texts.0.0.1 texts.0.1.1 texts.0.0.0 texts.0.1.0 i ∷ read_fields pairs texts.1 i
+
+-- so the query of fields is read as these fields
+pub query_again : (pairs : List (List ℕ × List ℕ)) → AreTexts pairs → query_read (written_query pairs) ≡ pairs
+query_again [] texts = refl
+query_again (p ∷ pairs) texts =
+    ap (λ fields. map field_read (filter has_items fields)) (split_fields p pairs texts)
+    ∙ ap (map field_read) (kept_fields (p ∷ pairs) texts)
+    ∙ read_fields (p ∷ pairs) texts

@@ -1,4 +1,16 @@
 //! Commands, what they do to the fields, and what they write.
+ghost use Rattle.std.specs.Cow.{cow_str_bytes};
+ghost use Rattle.std.specs.Prelude.{◌≡◌, ◌∷◌, [], ◌++◌, IfOk, OnOk, true, false};
+ghost use Rattle.std.specs.Str.{bytes_eq};
+ghost use Rattle.std.specs.declared.borrow.CowStr.TheVariants.{Borrowed};
+ghost use Rattle.ordered_multimap.specs.Changes.{appended, removed_where};
+ghost use Rattle.ordered_multimap.specs.OneValue.{only_written};
+ghost use Rattle.ordered_multimap.specs.Pairs.{is_present};
+ghost use Rattle.std.specs.String.{string_bytes};
+ghost use Rattle.ordered_multimap.specs.Pairs.{has_items};
+ghost use Rattle.query_fields.specs.Commands.{Leaves, written_by};
+ghost use Rattle.query_fields.specs.Queries.{lines_of, only_first, same_name, values_named};
+
 use crate::fields::{Fields, Text, add_query};
 use std::alloc::AllocError;
 
@@ -46,7 +58,12 @@ impl<'t> Command<'t> {
         self,
         fields: &mut Fields<'t>,
         answers: &mut String,
-    ) -> Result<bool, AllocError> {
+    ) -> Result<bool, AllocError>
+        ensures written { OnOk result (string_bytes answers.new
+            ≡ string_bytes answers.old ++ written_by self.entry fields.old.lists.pairs) }
+        ensures leaves { OnOk result (
+            Leaves self.entry fields.old.lists fields.new.lists) }
+    {
         match self {
             Command::Get(name) => add_first(fields, name, answers),
             Command::All(name) => add_all(fields, name, answers),
@@ -73,23 +90,45 @@ fn name_and_value(field: &str) -> (&str, &str) {
     field.split_once('=').unwrap_or((field, ""))
 }
 
-fn set<'t>(fields: &mut Fields<'t>, name: &'t str, value: &'t str) -> Result<bool, AllocError> {
+fn set<'t>(fields: &mut Fields<'t>, name: &'t str, value: &'t str) -> Result<bool, AllocError>
+    ensures present { OnOk result (
+        is_present same_name fields.old.lists.pairs (Borrowed name.entry) ≡ true
+        → fields.new.lists ≡ only_written (same_name (Borrowed name.entry)) fields.old.lists
+        (Borrowed value.entry)) }
+    ensures absent { OnOk result (
+        is_present same_name fields.old.lists.pairs (Borrowed name.entry) ≡ false
+        → fields.new.lists ≡ appended same_name fields.old.lists (Borrowed name.entry)
+        (Borrowed value.entry)) }
+{
     fields.set(Text::Borrowed(name), Text::Borrowed(value))?;
     Ok(true)
 }
 
-fn add<'t>(fields: &mut Fields<'t>, name: &'t str, value: &'t str) -> Result<bool, AllocError> {
+fn add<'t>(fields: &mut Fields<'t>, name: &'t str, value: &'t str) -> Result<bool, AllocError>
+    ensures added { OnOk result (fields.new.lists
+        ≡ appended same_name fields.old.lists (Borrowed name.entry) (Borrowed value.entry)) }
+{
     fields.append(Text::Borrowed(name), Text::Borrowed(value))?;
     Ok(true)
 }
 
-fn remove(fields: &mut Fields<'_>, name: &str) -> bool {
+fn remove(fields: &mut Fields<'_>, name: &str) -> bool
+    ensures removed { fields.new.lists
+        ≡ removed_where same_name (λ stored. bytes_eq name.now (cow_str_bytes stored))
+        fields.old.lists }
+{
     let _ = fields.remove(name);
     true
 }
 
 /// Adds the first value of a name, if it has one, and says whether it does.
-fn add_first(fields: &Fields<'_>, name: &str, answers: &mut String) -> Result<bool, AllocError> {
+#[tactic(auto, using(crate::proofs::FirstLines::first_line))]
+fn add_first(fields: &Fields<'_>, name: &str, answers: &mut String) -> Result<bool, AllocError>
+    ensures there { IfOk result (λ there.
+        there ≡ has_items (values_named name.now fields.now.lists.pairs)) }
+    ensures written { OnOk result (string_bytes answers.new ≡ string_bytes answers.old
+        ++ lines_of (only_first (values_named name.now fields.now.lists.pairs))) }
+{
     let Some(value) = fields.get(name) else {
         return Ok(false);
     };
@@ -98,7 +137,12 @@ fn add_first(fields: &Fields<'_>, name: &str, answers: &mut String) -> Result<bo
 }
 
 /// Adds the values of a name in order, and says whether there is one.
-fn add_all(fields: &Fields<'_>, name: &str, answers: &mut String) -> Result<bool, AllocError> {
+fn add_all(fields: &Fields<'_>, name: &str, answers: &mut String) -> Result<bool, AllocError>
+    ensures there { IfOk result (λ there.
+        there ≡ has_items (values_named name.now fields.now.lists.pairs)) }
+    ensures written { OnOk result (string_bytes answers.new ≡ string_bytes answers.old
+        ++ lines_of (values_named name.now fields.now.lists.pairs)) }
+{
     let mut is_present = false;
     for value in fields.get_all(name) {
         is_present = true;
@@ -107,7 +151,10 @@ fn add_all(fields: &Fields<'_>, name: &str, answers: &mut String) -> Result<bool
     Ok(is_present)
 }
 
-fn add_line(text: &Text<'_>, answers: &mut String) -> Result<(), AllocError> {
+fn add_line(text: &Text<'_>, answers: &mut String) -> Result<(), AllocError>
+    ensures { OnOk result (string_bytes answers.new
+        ≡ string_bytes answers.old ++ (cow_str_bytes text.now ++ (10 ∷ []))) }
+{
     answers.push_str(text.as_str())?;
     answers.push('\n')
 }

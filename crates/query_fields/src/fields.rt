@@ -1,4 +1,10 @@
 //! The fields of a query, in order.
+ghost use Rattle.std.specs.Cow.{cow_str_bytes};
+ghost use Rattle.std.specs.Prelude.{◌≡◌, ◌∷◌, [], ◌++◌, OnOk};
+ghost use Rattle.std.specs.String.{string_bytes};
+ghost use Rattle.query_fields.specs.Queries.{AreTexts, query_read, texts_of};
+ghost use Rattle.query_fields.specs.Queries.{written_field, written_query};
+
 use crate::escape::{add_encoded, decoded, strictly_decoded};
 use ordered_multimap::ListOrderedMultimap;
 use ordered_multimap::list_ordered_multimap::RandomState;
@@ -81,7 +87,13 @@ fn text_of<'t>(
 }
 
 /// Adds the query of all fields in order, and a line feed.
-pub fn add_query(fields: &Fields<'_>, query: &mut String) -> Result<(), AllocError> {
+pub fn add_query(fields: &Fields<'_>, query: &mut String) -> Result<(), AllocError>
+    ensures written { OnOk result (string_bytes query.new ≡ string_bytes query.old
+        ++ (written_query (texts_of fields.now.lists.pairs) ++ (10 ∷ []))) }
+    ensures read_again { AreTexts (texts_of fields.now.lists.pairs)
+        → query_read (written_query (texts_of fields.now.lists.pairs))
+        ≡ texts_of fields.now.lists.pairs }
+{
     let mut is_first = true;
     for (name, value) in fields {
         if !is_first {
@@ -93,7 +105,10 @@ pub fn add_query(fields: &Fields<'_>, query: &mut String) -> Result<(), AllocErr
     query.push('\n')
 }
 
-fn add_field(name: &Text<'_>, value: &Text<'_>, query: &mut String) -> Result<(), AllocError> {
+fn add_field(name: &Text<'_>, value: &Text<'_>, query: &mut String) -> Result<(), AllocError>
+    ensures { OnOk result (string_bytes query.new ≡ string_bytes query.old
+        ++ written_field (cow_str_bytes name.now, cow_str_bytes value.now)) }
+{
     add_encoded(name.as_str(), query)?;
     query.push('=')?;
     add_encoded(value.as_str(), query)

@@ -1,0 +1,39 @@
+-- What a command writes, and what it leaves of the fields.
+use Rattle.std.specs.Cow.{cow_str_bytes}
+use Rattle.std.specs.Prelude.{◌≡◌, ℕ, true, false, List, [], ◌∷◌, ◌++◌}
+use Rattle.std.specs.Str.{bytes_eq}
+use Rattle.std.specs.declared.borrow.CowStr.{CowStr}
+use Rattle.std.specs.declared.borrow.CowStr.TheVariants.{Borrowed}
+use Rattle.ordered_multimap.specs.Changes.{appended, removed_where}
+use Rattle.ordered_multimap.specs.Lists.{Lists}
+use Rattle.ordered_multimap.specs.OneValue.{only_written}
+use Rattle.ordered_multimap.specs.Pairs.{is_present}
+use Rattle.query_fields.specs.declared.command.Command.{Command}
+use Rattle.query_fields.specs.declared.command.Command.TheVariants.{Get, All, Set, Add}
+use Rattle.query_fields.specs.declared.command.Command.TheVariants.{Remove, Write}
+use Rattle.query_fields.specs.Queries.{lines_of, only_first, same_name, texts_of}
+use Rattle.query_fields.specs.Queries.{values_named, written_query}
+
+module _ {A : Type 0} where
+  -- what the command adds to the answers
+  abbrev pub written_by : Command → List (CowStr A × CowStr A) → List ℕ
+  written_by (Get name) pairs = lines_of (only_first (values_named name.now pairs))
+  written_by (All name) pairs = lines_of (values_named name.now pairs)
+  written_by (Set name value) pairs = []
+  written_by (Add name value) pairs = []
+  written_by (Remove name) pairs = []
+  written_by Write pairs = written_query (texts_of pairs) ++ (10 ∷ [])
+
+  -- what the command leaves of both lists
+  abbrev pub Leaves : Command → Lists (CowStr A) (CowStr A) → Lists (CowStr A) (CowStr A) → Type 0
+  Leaves (Get name) old new = new ≡ old
+  Leaves (All name) old new = new ≡ old
+  Leaves (Set name value) old new =
+      (is_present same_name old.pairs (Borrowed name) ≡ true
+      → new ≡ only_written (same_name (Borrowed name)) old (Borrowed value))
+      × (is_present same_name old.pairs (Borrowed name) ≡ false
+      → new ≡ appended same_name old (Borrowed name) (Borrowed value))
+  Leaves (Add name value) old new = new ≡ appended same_name old (Borrowed name) (Borrowed value)
+  Leaves (Remove name) old new =
+      new ≡ removed_where same_name (λ stored. bytes_eq name.now (cow_str_bytes stored)) old
+  Leaves Write old new = new ≡ old
