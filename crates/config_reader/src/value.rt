@@ -136,7 +136,8 @@ impl Reader {
 
 /// Adds a value as it can be read again: between quotes where it has to stand there.
 pub fn add_value(value: &str, text: &mut String) -> Result<(), AllocError> {
-    let is_plain = value.trim() == value && !value.contains(['"', '\\', '#', ';', '\n', '\r']);
+    let is_plain = value.trim() == value
+        && !value.contains(['"', '\\', '#', ';', '\n', '\r', '\t']);
     if is_plain {
         return text.push_str(value);
     }
