@@ -1,4 +1,4 @@
-//! Items that move to an end of a list.
+//! Items that move to an end of a list, or stand in another order.
 ghost use Rattle.std.specs.Prelude.{◌≡◌};
 ghost use Rattle.multimap_slots.specs.Lists.{IsIn, moved_first, moved_last};
 
@@ -54,4 +54,32 @@ fn items_move(test: &Test, list: &mut List) {
 #[test]
 fn items_move_to_an_end(rt: HostRuntime) -> Result<(), Failed> {
     test_on_new(rt.alloc(), SlotList::new, items_move)
+}
+
+/// Makes a list of three items, and brings the last one first, if there is memory.
+fn make_rotated(list: &mut List) -> bool {
+    list.clear();
+    let Ok(first) = list.push_back(10, 1) else {
+        return false;
+    };
+    let Ok(second) = list.push_back(11, 2) else {
+        return false;
+    };
+    let Ok(third) = list.push_back(12, 3) else {
+        return false;
+    };
+    list.set_order(&[third, first, second]);
+    true
+}
+
+fn items_rotate(test: &Test, list: &mut List) {
+    test.expect(make_rotated(list));
+    expect_slots(test, list, &[(2, 12, 3), (0, 10, 1), (1, 11, 2)]);
+    test.expect(list.push_back(13, 4).is_ok() && list.remove(0) == Some(10));
+    expect_slots(test, list, &[(2, 12, 3), (1, 11, 2), (3, 13, 4)]);
+}
+
+#[test]
+fn items_stand_in_a_new_order(rt: HostRuntime) -> Result<(), Failed> {
+    test_on_new(rt.alloc(), SlotList::new, items_rotate)
 }
