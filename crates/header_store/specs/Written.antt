@@ -1,5 +1,5 @@
 -- What the program makes of a message's headers, and what it writes of them.
-use Rattle.std.specs.Prelude.{ℕ, Bool, true, false, List, [], ◌∷◌, ◌++◌, codes}
+use Rattle.std.specs.Prelude.{ℕ, List, [], ◌∷◌, ◌++◌, codes}
 use Rattle.header_store.specs.declared.command.Form.{Form}
 use Rattle.header_store.specs.declared.command.Form.TheVariants.{First, Lines, Joined}
 
