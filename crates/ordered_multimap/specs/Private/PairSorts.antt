@@ -58,8 +58,8 @@ module _ {K V : Type 0} where
 
   -- the value has come last on the tape, behind those of the key at the place, whose link names
   -- the ends and the length of its chain there
-  pub record PushesNext (keys keys_after : Slots K KeyLink) (values values_after : Slots V ValueLink)
-      (place : ℕ) (value : V) : Type 0 where
+  pub record PushesNext (keys keys_after : Slots K KeyLink)
+      (values values_after : Slots V ValueLink) (place : ℕ) (value : V) : Type 0 where
     pub was : KeyLink
     pub link : KeyLink
     pub last : ℕ
