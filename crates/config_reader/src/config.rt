@@ -186,7 +186,7 @@ impl<'t> Reader<'t> {
         }
         let rest = self.text.get(here..).unwrap_or("");
         let (key, value, behind) = setting_of(self.alloc, line, rest)?;
-        let end = self.text.len().saturating_sub(behind.len());
+        let end = self.text.len().saturating_sub(behind);
         let text = self.text.get(here..end).unwrap_or("");
         let name = Name {
             section: self.section,
@@ -199,13 +199,13 @@ impl<'t> Reader<'t> {
     }
 }
 
-/// The key and the value of the setting that begins on this line, and what stands behind it in
-/// `rest`, which begins with the line. A key alone has the empty value.
+/// The key and the value of the setting that begins on this line, and the length of what stands
+/// behind it in `rest`, which begins with the line. A key alone has the empty value.
 fn setting_of<'t>(
     alloc: Global,
     line: &'t str,
     rest: &'t str,
-) -> io::Result<(AsciiCaseless<&'t str>, CowStr<'t>, &'t str)> {
+) -> io::Result<(AsciiCaseless<&'t str>, CowStr<'t>, usize)> {
     let (key, is_alone) = match line.split_once('=') {
         Some((key, _)) => (key.trim(), false),
         None => (line.trim(), true),
@@ -215,13 +215,10 @@ fn setting_of<'t>(
     }
     let key = AsciiCaseless(key);
     if is_alone {
-        let behind = rest
-            .split_once('\n')
-            .map(|(_, behind)| behind)
-            .unwrap_or("");
+        let behind = rest.len().saturating_sub(line.len()).saturating_sub(1);
         return Ok((key, CowStr::Borrowed(""), behind));
     }
     let value = rest.split_once('=').map(|(_, value)| value).unwrap_or("");
-    let (value, behind) = read_value(alloc, value)?;
-    Ok((key, value, behind))
+    let (value, behind) = read_value(alloc, value.as_bytes())?;
+    Ok((key, CowStr::Owned(value), behind.len()))
 }

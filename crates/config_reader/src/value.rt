@@ -4,9 +4,20 @@
 //! count for nothing, and neither does a comment: `#` or `;` with a blank in front, and all behind.
 //! Between quotes blanks, `#` and `;` belong to the value, and `\"`, `\\`, `\n` and `\t` stand for a
 //! quote, a backslash, a line feed and a tab.
+ghost use Rattle.std.specs.IoError.{error_kind};
+ghost use Rattle.std.specs.Prelude.{◌≡◌, ◌==◌, ◌&&◌, ◌<◌, ◌∷◌, ◌++◌, [], ℕ, List, None, Some};
+ghost use Rattle.std.specs.Prelude.{drop, length};
+ghost use Rattle.std.specs.Prelude.{IfErr, IfNone, IfOk, IfSome, IsUtf8, OnOk};
+ghost use Rattle.std.specs.Char.{encode_utf8};
+ghost use Rattle.std.specs.List.{flat_map};
+ghost use Rattle.std.specs.String.{string_bytes};
+ghost use Rattle.std.specs.declared.io.ErrorKind.TheVariants.{InvalidData};
+ghost use Rattle.config_reader.specs.Values.{affected, ended, ends_value, in_escape, in_plain};
+ghost use Rattle.config_reader.specs.Values.{in_quotes, is_mark, is_plain, is_special};
+ghost use Rattle.config_reader.specs.Values.{quoted_byte, read_on, stepped, value_read, written};
+
 use program_parts::bad;
 use std::alloc::{AllocError, Global};
-use std::borrow::CowStr;
 use std::io;
 
 /// The value at the start of `text`, and what stands behind its last line.
@@ -15,141 +26,257 @@ use std::io;
 ///
 /// What other readers take in several ways: a quote without an end, any other backslash, and `#` or
 /// `;` within a word.
-pub fn read_value<'t>(alloc: Global, text: &'t str) -> io::Result<(CowStr<'t>, &'t str)> {
-    let (line, behind) = text.split_once('\n').unwrap_or((text, ""));
-    if !line.contains(['"', '\\', '#', ';']) {
-        return Ok((CowStr::Borrowed(line.trim()), behind));
-    }
+pub fn read_value(alloc: Global, text: &[u8]) -> io::Result<(String, &[u8])>
+    ensures value { IfOk result (λ r. value_read text.now ≡ Some (string_bytes r.0, r.1.now)) }
+    ensures bad { IfErr result (λ error. error_kind error ≡ InvalidData
+        → IfSome (value_read text.now) (λ r. ¬ IsUtf8 r.0)) }
+{
     let mut reader = Reader {
-        value: String::new(alloc),
-        gap: String::new(alloc),
-        state: State::Plain,
-        is_escaped: false,
-        is_behind_blank: true,
+        value: Vec::new(alloc),
+        gap: Vec::new(alloc),
+        mode: Mode::Gap,
     };
-    let behind = read_characters(&mut reader, text)?;
-    Ok((CowStr::Owned(reader.value), behind))
-}
-
-/// Reads a value character by character, and returns what stands behind its last line.
-fn read_characters<'t>(reader: &mut Reader, text: &'t str) -> io::Result<&'t str> {
-    for (place, character) in text.char_indices() {
-        if reader.is_at_end(character) {
-            reader.check_end()?;
-            return Ok(text.get(place.saturating_add(1)..).unwrap_or(""));
-        }
-        reader.read(character)?;
+    let mut rest = text;
+    while let Some(behind) = reader.read_byte(rest)? {
+        rest = behind;
     }
-    reader.check_end()?;
-    Ok("")
+    reader.end(rest)
 }
 
-/// What the characters belong to.
+/// What a byte of a value belongs to.
 #[derive(Clone, Copy)]
-enum State {
-    Plain,
-    Quoted,
+enum Mode {
+    /// Blanks, or the word that begins.
+    Gap,
+    Word,
+    Quotes,
     Comment,
+    /// Behind a backslash.
+    WordEscape,
+    QuotesEscape,
+    /// Behind a backslash and a carriage return.
+    WordJoin,
+    QuotesJoin,
+}
+
+/// What a byte does to the value.
+#[derive(Clone, Copy)]
+enum Effect {
+    Skip,
+    /// It belongs to the value if more of it comes.
+    Blank,
+    /// The blanks in front of it belong to the value.
+    Keep,
+    /// So do they, and then this byte.
+    Add(u8),
 }
 
 #[derive(Drop)]
 struct Reader {
-    value: String,
-    /// The blanks behind the value, which belong to it if more of it comes.
-    gap: String,
-    state: State,
-    is_escaped: bool,
-    is_behind_blank: bool,
+    value: Vec<u8>,
+    /// The blanks behind the value.
+    gap: Vec<u8>,
+    mode: Mode,
 }
 
 impl Reader {
-    fn is_at_end(&self, character: char) -> bool {
-        character == '\n' && !self.is_escaped
+    /// Reads the first byte of `rest`, and returns what stands behind it. None where the value ends.
+    fn read_byte<'t>(&mut self, rest: &'t [u8]) -> io::Result<Option<&'t [u8]>>
+        ensures goes { IfOk result (λ next. IfSome next (λ behind.
+            read_on self.old.mode self.old.value.items self.old.gap.items rest.now
+            ≡ read_on self.new.mode self.new.value.items self.new.gap.items behind.now)) }
+        ensures shorter { IfOk result (λ next. IfSome next (λ behind.
+            length behind.now < length rest.now)) }
+        ensures ends { IfOk result (λ next. IfNone next (
+            read_on self.old.mode self.old.value.items self.old.gap.items rest.now
+            ≡ ended self.new.mode self.new.value.items (drop 1 rest.now))) }
+        ensures bad { IfErr result (λ error. error_kind error ≡ InvalidData
+            → read_on self.old.mode self.old.value.items self.old.gap.items rest.now ≡ None) }
+    {
+        let Some((byte, behind)) = rest.split_first() else {
+            return Ok(None);
+        };
+        if is_end(self.mode, *byte) {
+            return Ok(None);
+        }
+        let (mode, effect) = step(self.mode, *byte)?;
+        self.apply(effect, *byte)?;
+        self.mode = mode;
+        Ok(Some(behind))
     }
 
-    fn check_end(&self) -> io::Result<()> {
-        match self.state {
-            State::Quoted => Err(bad("a quote has no end")),
-            State::Plain if self.is_escaped => Err(bad("no line behind a backslash")),
-            State::Plain | State::Comment => Ok(()),
-        }
-    }
-
-    fn read(&mut self, character: char) -> io::Result<()> {
-        if self.is_escaped {
-            return self.read_escaped(character);
-        }
-        match (self.state, character) {
-            (State::Comment, _) => {}
-            (_, '\\') => {
-                self.is_escaped = true;
-                self.add_gap()?;
+    fn apply(&mut self, effect: Effect, byte: u8) -> Result<(), AllocError>
+        ensures value { IfOk result (λ _. self.new.value.items
+            ≡ (affected effect byte self.old.value.items self.old.gap.items).0) }
+        ensures gap { IfOk result (λ _. self.new.gap.items
+            ≡ (affected effect byte self.old.value.items self.old.gap.items).1) }
+        ensures mode { self.new.mode ≡ self.old.mode }
+    {
+        match effect {
+            Effect::Skip => {}
+            Effect::Blank if self.value.is_empty() => {}
+            Effect::Blank => self.gap.push(byte)?,
+            Effect::Keep => self.keep_gap()?,
+            Effect::Add(byte) => {
+                self.keep_gap()?;
+                self.value.push(byte)?;
             }
-            (State::Quoted, '"') => self.state = State::Plain,
-            (State::Plain, '"') => {
-                self.state = State::Quoted;
-                self.add_gap()?;
-            }
-            (State::Plain, '#' | ';') if self.is_behind_blank => self.state = State::Comment,
-            (State::Plain, '#' | ';') => return Err(bad("# or ; in a word without quotes")),
-            (State::Plain, _) if character.is_whitespace() => self.add_blank(character)?,
-            (_, _) => self.add(character)?,
         }
-        self.is_behind_blank = character.is_whitespace();
         Ok(())
     }
 
-    // A line feed joins the lines. A carriage return in front of it is no part of the line.
-    fn read_escaped(&mut self, character: char) -> io::Result<()> {
-        match (self.state, character) {
-            (_, '\r') => return Ok(()),
-            (_, '\n') => {}
-            (State::Quoted, '"' | '\\') => self.add(character)?,
-            (State::Quoted, 'n') => self.add('\n')?,
-            (State::Quoted, 't') => self.add('\t')?,
-            (State::Quoted, _) => return Err(bad("unknown escape")),
-            (_, _) => return Err(bad("a backslash without quotes")),
-        }
-        self.is_escaped = false;
-        Ok(())
-    }
-
-    fn add(&mut self, character: char) -> Result<(), AllocError> {
-        self.add_gap()?;
-        self.value.push(character)
-    }
-
-    fn add_gap(&mut self) -> Result<(), AllocError> {
-        self.value.push_str(&self.gap)?;
+    fn keep_gap(&mut self) -> Result<(), AllocError>
+        ensures value { IfOk result (λ _. self.new.value.items
+            ≡ self.old.value.items ++ self.old.gap.items) }
+        ensures gap { IfOk result (λ _. self.new.gap.items ≡ []) }
+        ensures mode { self.new.mode ≡ self.old.mode }
+    {
+        self.value.extend_from_slice(&self.gap)?;
         self.gap.clear();
         Ok(())
     }
 
-    // Blanks in front of the value count for nothing.
-    fn add_blank(&mut self, character: char) -> Result<(), AllocError> {
-        if self.value.is_empty() {
-            return Ok(());
+    /// The value, if it may end here, and what stands behind its last line.
+    fn end(self, rest: &[u8]) -> io::Result<(String, &[u8])>
+        ensures value { IfOk result (λ r. ended self.mode self.value.items (drop 1 rest.now)
+            ≡ Some (string_bytes r.0, r.1.now)) }
+        ensures bad { IfErr result (λ error. error_kind error ≡ InvalidData
+            → IfSome (ended self.mode self.value.items (drop 1 rest.now)) (λ r. ¬ IsUtf8 r.0)) }
+    {
+        match self.mode {
+            Mode::Quotes | Mode::QuotesEscape | Mode::QuotesJoin => {
+                return Err(bad("a quote has no end"));
+            }
+            Mode::WordEscape | Mode::WordJoin => return Err(bad("no line behind a backslash")),
+            Mode::Gap | Mode::Word | Mode::Comment => {}
         }
-        self.gap.push(character)
+        let Ok(value) = String::from_utf8(self.value) else {
+            return Err(bad("not UTF-8"));
+        };
+        let behind = match rest.split_first() {
+            Some((_, behind)) => behind,
+            None => rest,
+        };
+        Ok((value, behind))
+    }
+}
+
+/// Whether the byte is a line feed that ends the value.
+fn is_end(mode: Mode, byte: u8) -> bool
+    ensures { result ≡ (byte == 10 && ends_value mode) }
+{
+    let is_joined = match mode {
+        Mode::WordEscape | Mode::WordJoin | Mode::QuotesEscape | Mode::QuotesJoin => true,
+        Mode::Gap | Mode::Word | Mode::Quotes | Mode::Comment => false,
+    };
+    byte == b'\n' && !is_joined
+}
+
+/// What a byte does, and what the next one belongs to.
+fn step(mode: Mode, byte: u8) -> io::Result<(Mode, Effect)>
+    ensures step { IfOk result (λ step. stepped mode byte ≡ Some step) }
+    ensures bad { IfErr result (λ error. stepped mode byte ≡ None) }
+{
+    match mode {
+        Mode::Comment => Ok((Mode::Comment, Effect::Skip)),
+        Mode::Gap if is_mark(byte) => Ok((Mode::Comment, Effect::Skip)),
+        Mode::Word if is_mark(byte) => Err(bad("# or ; in a word without quotes")),
+        Mode::Gap | Mode::Word => Ok(step_in_plain(byte)),
+        Mode::Quotes => Ok(step_in_quotes(byte)),
+        Mode::WordEscape if byte == b'\r' => Ok((Mode::WordJoin, Effect::Skip)),
+        Mode::WordEscape | Mode::WordJoin if byte == b'\n' => Ok((Mode::Word, Effect::Skip)),
+        Mode::WordEscape | Mode::WordJoin => Err(bad("a backslash without quotes")),
+        Mode::QuotesEscape => step_in_escape(byte),
+        Mode::QuotesJoin if byte == b'\n' => Ok((Mode::Quotes, Effect::Skip)),
+        Mode::QuotesJoin => Err(bad("unknown escape")),
+    }
+}
+
+fn is_mark(byte: u8) -> bool
+    ensures { result ≡ is_mark byte }
+{
+    byte == b'#' || byte == b';'
+}
+
+fn step_in_plain(byte: u8) -> (Mode, Effect)
+    ensures { result ≡ in_plain byte }
+{
+    match byte {
+        b'"' => (Mode::Quotes, Effect::Keep),
+        b'\\' => (Mode::WordEscape, Effect::Keep),
+        _ if byte.is_ascii_whitespace() => (Mode::Gap, Effect::Blank),
+        _ => (Mode::Word, Effect::Add(byte)),
+    }
+}
+
+fn step_in_quotes(byte: u8) -> (Mode, Effect)
+    ensures { result ≡ in_quotes byte }
+{
+    match byte {
+        b'"' => (Mode::Word, Effect::Skip),
+        b'\\' => (Mode::QuotesEscape, Effect::Skip),
+        _ => (Mode::Quotes, Effect::Add(byte)),
+    }
+}
+
+fn step_in_escape(byte: u8) -> io::Result<(Mode, Effect)>
+    ensures step { IfOk result (λ step. in_escape byte ≡ Some step) }
+    ensures bad { IfErr result (λ error. in_escape byte ≡ None) }
+{
+    match byte {
+        b'\r' => Ok((Mode::QuotesJoin, Effect::Skip)),
+        b'\n' => Ok((Mode::Quotes, Effect::Skip)),
+        b'"' | b'\\' => Ok((Mode::Quotes, Effect::Add(byte))),
+        b'n' => Ok((Mode::Quotes, Effect::Add(b'\n'))),
+        b't' => Ok((Mode::Quotes, Effect::Add(b'\t'))),
+        _ => Err(bad("unknown escape")),
     }
 }
 
 /// Adds a value as it can be read again: between quotes where it has to stand there.
-pub fn add_value(value: &str, text: &mut String) -> Result<(), AllocError> {
-    let is_plain = value.trim() == value
-        && !value.contains(['"', '\\', '#', ';', '\n', '\r', '\t']);
-    if is_plain {
+#[tactic(auto, using(crate::proofs::Values::written_read))]
+pub fn add_value(value: &str, text: &mut String) -> Result<(), AllocError>
+    ensures written { OnOk result (string_bytes text.new ≡ string_bytes text.old
+        ++ written value.now) }
+    ensures read_again { (rest : List ℕ) → value_read (written value.now ++ 10 ∷ rest)
+        ≡ Some (value.now, rest) }
+{
+    if is_plain(value) {
         return text.push_str(value);
     }
     text.push('"')?;
     for character in value.chars() {
-        match character {
-            '"' => text.push_str("\\\"")?,
-            '\\' => text.push_str("\\\\")?,
-            '\n' => text.push_str("\\n")?,
-            '\t' => text.push_str("\\t")?,
-            _ => text.push(character)?,
-        }
+        add_character(character, text)?;
     }
     text.push('"')
+}
+
+fn add_character(character: char, text: &mut String) -> Result<(), AllocError>
+    ensures { OnOk result (string_bytes text.new ≡ string_bytes text.old
+        ++ flat_map quoted_byte (encode_utf8 character)) }
+{
+    match character {
+        '"' => text.push_str("\\\""),
+        '\\' => text.push_str("\\\\"),
+        '\n' => text.push_str("\\n"),
+        '\t' => text.push_str("\\t"),
+        _ => text.push(character),
+    }
+}
+
+/// Whether a value can stand without quotes.
+fn is_plain(value: &str) -> bool
+    ensures { result ≡ is_plain value.now }
+{
+    if value.starts_with(' ') || value.ends_with(' ') {
+        return false;
+    }
+    !value.as_bytes().iter().any(|byte| is_special(*byte))
+}
+
+/// Whether a byte has a meaning of its own outside of quotes, or is a blank other than a space.
+fn is_special(byte: u8) -> bool
+    ensures { result ≡ is_special byte }
+{
+    matches!(byte, b'"' | b'\\' | b'#' | b';') || byte != b' ' && byte.is_ascii_whitespace()
 }
