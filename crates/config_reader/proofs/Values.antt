@@ -1,7 +1,7 @@
 -- How a value is read byte by byte, and that what is written is read again.
 use Rattle.std.proofs.Common.{◌≡◌, ◌≢◌, ℕ, suc, ◌<◌, ◌≤◌, ◌-◌, Bool, true, false, ◌==◌, ◌&&◌, ◌||◌, not, List, [], ◌∷◌, ◌++◌}
 use Rattle.std.proofs.Common.{append_assoc, append-nil, refl, sym, ap, subst, ◌∙◌, arith, ne_eqb, Some, None, length, drop, get_or, inl, inr}
-use Rattle.std.specs.Prelude.{slice_index}
+use Rattle.std.specs.Prelude.{slice_index, option_and_then, if◌then◌else◌, ◌⊎◌, Option}
 use Rattle.std.proofs.lemmas.Str.{encode_ascii, inside_one}
 use Rattle.std.specs.Char.{encode_utf8}
 use Rattle.std.proofs.lemmas.Bool.{cases_lt, eqb-true, false≢true, not-true, true≢false}
@@ -12,7 +12,7 @@ use Rattle.config_reader.specs.declared.value.Effect.TheVariants.{Add, Blank, Ke
 use Rattle.config_reader.specs.declared.value.Mode.{Mode}
 use Rattle.config_reader.specs.declared.value.Mode.TheVariants.{Gap, Quotes, QuotesEscape, Word}
 use Rattle.config_reader.specs.Values.{affected, begins_blank, ended, ends_blank, ends_value, in_escape, in_plain, is_mark}
-use Rattle.config_reader.specs.Values.{is_plain, is_special, quoted_byte, read_on, stepped, value_read, written}
+use Rattle.config_reader.specs.Values.{is_plain, is_special, is_whole, quoted_byte, read_on, stepped, value_read, written}
 
 module _ (mode : Mode) (value gap : List ℕ) where
   -- nothing is left, or a line feed that ends the value
@@ -37,6 +37,53 @@ module _ (mode : Mode) (value gap : List ℕ) where
       → read_on mode value gap (b ∷ rest) ≡ None
   unfolding read_on
   bad_read b rest goes is = rw (goes, is) refl
+
+and_true : (x y : Bool) → (x && y) ≡ true → (x ≡ true) × (y ≡ true)
+and_true true true both = (refl, refl)
+and_true true false both = absurd (false≢true both)
+and_true false y both = absurd (false≢true both)
+
+-- what stands behind a value stands behind a line feed, or is nothing
+pub read_behind : (mode : Mode) (value gap text : List ℕ) (r : List ℕ × List ℕ) → read_on mode value gap text ≡ Some r
+    → ((before : List ℕ) × (text ≡ before ++ 10 ∷ r.1)) ⊎ (r.1 ≡ [])
+unfolding read_on
+read_behind mode value gap [] r is = by_whole (is_whole mode) is
+  where
+    by_whole : (whole : Bool) → (if whole then Some (value, []) else None) ≡ Some r
+        → ((before : List ℕ) × ([] ≡ before ++ 10 ∷ r.1)) ⊎ (r.1 ≡ [])
+    by_whole true same = let parts : (value, []) ≡ r = cc in inr (sym (ap (λ p. p.1) parts))
+    by_whole false same = absurd cc
+read_behind mode value gap (b ∷ text) r is =
+    by_end (b == 10 && ends_value mode) refl is (λ step. read_behind step.0 (affected step.1 b value gap).0 (affected step.1 b value gap).1 text r)
+  where
+    by_whole : (whole : Bool) → b ≡ 10 → (if whole then Some (value, text) else None) ≡ Some r
+        → ((before : List ℕ) × (b ∷ text ≡ before ++ 10 ∷ r.1)) ⊎ (r.1 ≡ [])
+    by_whole true feed same =
+        let parts : (value, text) ≡ r = cc in
+        inl ([], ap (λ first. first ∷ text) feed ∙ ap (λ p. 10 ∷ p.1) parts)
+    by_whole false feed same = absurd cc
+
+    longer : (((before : List ℕ) × (text ≡ before ++ 10 ∷ r.1)) ⊎ (r.1 ≡ []))
+        → ((before : List ℕ) × (b ∷ text ≡ before ++ 10 ∷ r.1)) ⊎ (r.1 ≡ [])
+    longer (inl found) = inl (b ∷ found.0, ap (λ t. b ∷ t) found.1)
+    longer (inr none) = inr none
+
+    by_step : (step : Option (Mode × Effect))
+        → option_and_then (λ step. read_on step.0 (affected step.1 b value gap).0 (affected step.1 b value gap).1 text) step ≡ Some r
+        → ((step : Mode × Effect) → read_on step.0 (affected step.1 b value gap).0 (affected step.1 b value gap).1 text ≡ Some r
+        → ((before : List ℕ) × (text ≡ before ++ 10 ∷ r.1)) ⊎ (r.1 ≡ []))
+        → ((before : List ℕ) × (b ∷ text ≡ before ++ 10 ∷ r.1)) ⊎ (r.1 ≡ [])
+    by_step None same later = absurd cc
+    by_step (Some step) same later = longer (later step same)
+
+    by_end : (ends : Bool) → (b == 10 && ends_value mode) ≡ ends
+        → (if ends then ended mode value text else
+        option_and_then (λ step. read_on step.0 (affected step.1 b value gap).0 (affected step.1 b value gap).1 text) (stepped mode b)) ≡ Some r
+        → ((step : Mode × Effect) → read_on step.0 (affected step.1 b value gap).0 (affected step.1 b value gap).1 text ≡ Some r
+        → ((before : List ℕ) × (text ≡ before ++ 10 ∷ r.1)) ⊎ (r.1 ≡ []))
+        → ((before : List ℕ) × (b ∷ text ≡ before ++ 10 ∷ r.1)) ⊎ (r.1 ≡ [])
+    by_end true ends same later = by_whole (is_whole mode) (eqb-true b 10 (and_true (b == 10) (ends_value mode) ends).0) same
+    by_end false ends same later = by_step (stepped mode b) same later
 
 -- an escape is read as the byte that it stands for
 escape_read : (e c : ℕ) (value rest : List ℕ) → (e == 10 && false) ≡ false → in_escape e ≡ Some (Quotes, Add c)
@@ -122,11 +169,6 @@ or_false : (x y : Bool) → (x || y) ≡ false → (x ≡ false) × (y ≡ false
 or_false false false neither = (refl, refl)
 or_false false true neither = absurd (true≢false neither)
 or_false true y neither = absurd (true≢false neither)
-
-and_true : (x y : Bool) → (x && y) ≡ true → (x ≡ true) × (y ≡ true)
-and_true true true both = (refl, refl)
-and_true true false both = absurd (false≢true both)
-and_true false y both = absurd (false≢true both)
 
 ends_behind : (b : ℕ) (bytes : List ℕ) → ends_blank (b ∷ bytes) ≡ false → ends_blank bytes ≡ false
 ends_behind b [] ends = refl

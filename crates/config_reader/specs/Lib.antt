@@ -1,3 +1,4 @@
+pub mod Lines
 pub mod Names
 pub mod Values
 pub mod Written

@@ -9,7 +9,8 @@ ghost use Rattle.config_reader.specs.Written.{line_of, texts_of, value_line, val
 
 use crate::change::{add, set, unset};
 use crate::command::Command;
-use crate::config::{Config, Part, read_config};
+use crate::config::{Config, read_config, read_to_bar};
+use crate::lines::lines_in;
 use crate::name::{NO_KEY, NO_SECTION, Name, Section};
 use program_parts::{Fault, bad, without_mark};
 use std::alloc::{AllocError, Global};
@@ -25,11 +26,7 @@ fn text_of_input(input: &[u8]) -> (&str, Result<(), Fault>) {
     let valid = input.get(..error.valid_up_to()).unwrap_or(b"");
     let text = str::from_utf8(valid).unwrap_or("");
     let (lines, _) = text.rsplit_once('\n').unwrap_or(("", ""));
-    let number = text
-        .bytes()
-        .filter(|byte| *byte == b'\n')
-        .count()
-        .saturating_add(1);
+    let number = lines_in(text).saturating_add(1);
     (lines, Err(Fault::Line(number, bad("not UTF-8"))))
 }
 
@@ -42,7 +39,7 @@ pub fn add_answers<'t>(
     answers: &mut String,
 ) -> Result<(), Fault> {
     let (text, end) = text_of_input(input);
-    let (lines, questions) = read_config(alloc, config, text, Part::ToBar)?;
+    let (lines, questions) = read_to_bar(alloc, config, text)?;
     for (index, line) in questions.split('\n').enumerate() {
         if let Err(error) = add_answer(config, line.trim(), answers) {
             let number = lines.saturating_add(index).saturating_add(1);
@@ -77,7 +74,7 @@ pub fn add_answer_of_words<'t>(
 ) -> Result<(), Fault> {
     let command = Command::of_words(words)?;
     let (text, end) = text_of_input(input);
-    read_config(alloc, config, text, Part::Whole)?;
+    read_config(alloc, config, text)?;
     end?;
     match command {
         Command::Set(name, value) => set(alloc, config, name, value)?,

@@ -1,5 +1,12 @@
 //! Lines of a configuration, each under its name, in the order of the text.
-use crate::name::{NO_SECTION, Name, Section, is_key};
+ghost use Rattle.std.specs.Cow.{cow_str_bytes};
+ghost use Rattle.std.specs.Prelude.{◌≡◌, ◌<◌, ◌++◌, [], ℕ, List, length, true, false, IfOk, OnOk};
+ghost use Rattle.config_reader.specs.Lines.{IsBehindLines, IsReadTo, lined};
+ghost use Rattle.config_reader.specs.Written.{texts_of};
+ghost use Rattle.config_reader.specs.declared.config.Part.TheVariants.{Whole};
+
+use crate::lines::{first_line, is_lined, lines_before, lines_in};
+use crate::name::{NO_KEY, NO_SECTION, Name, Section, is_key};
 use crate::value::read_value;
 use ascii_caseless::AsciiCaseless;
 use ordered_multimap::ListOrderedMultimap;
@@ -30,8 +37,10 @@ impl<'t> Lines<'t> {
         text: &'t str,
         value: CowStr<'t>,
         rank: usize,
-    ) -> Result<Lines<'t>, AllocError> {
-        let text = if text.ends_with('\n') {
+    ) -> Result<Lines<'t>, AllocError>
+        ensures text { IfOk result (λ lines. cow_str_bytes lines.text ≡ lined text.now) }
+    {
+        let text = if is_lined(text) {
             CowStr::Borrowed(text)
         } else {
             CowStr::Owned(format!(in alloc; "{text}\n")?)
@@ -40,9 +49,39 @@ impl<'t> Lines<'t> {
     }
 }
 
+/// Reads a text into `config`.
+///
+/// # Errors
+///
+/// [`Fault::Line`] for a line that is none of a configuration, and out of memory.
+pub fn read_config<'t>(alloc: Global, config: &mut Config<'t>, text: &'t str) -> Result<(), Fault>
+    ensures kept { OnOk result (texts_of config.new.lists.pairs
+        ≡ texts_of config.old.lists.pairs ++ lined text.now) }
+{
+    let mut reader = Reader::new(alloc, text);
+    reader.read_items(config, Part::Whole)
+}
+
+/// Reads a text into `config`, up to a line `---`. Returns how many lines that are, and what stands
+/// behind them.
+///
+/// # Errors
+///
+/// As [`read_config`].
+pub fn read_to_bar<'t>(
+    alloc: Global,
+    config: &mut Config<'t>,
+    text: &'t str,
+) -> Result<(usize, &'t str), Fault> {
+    let mut reader = Reader::new(alloc, text);
+    reader.read_items(config, Part::ToBar)?;
+    let (_, behind) = first_line(reader.rest);
+    Ok((reader.lines.saturating_add(1), behind))
+}
+
 /// The part of a text that is read as a configuration.
 #[derive(Clone, Copy)]
-pub enum Part {
+enum Part {
     Whole,
     /// Up to a line `---`.
     ToBar,
@@ -52,160 +91,192 @@ pub enum Part {
 #[derive(Clone, Copy)]
 struct Reader<'t> {
     alloc: Global,
-    text: &'t str,
+    /// What isn't read yet.
+    rest: &'t str,
+    /// How many lines are read.
+    lines: usize,
+    /// The comments and empty lines that were read last, and the rest behind them.
+    between: &'t str,
     /// The section that is open.
     section: Section<'t>,
     /// The rank of its settings.
     rank: usize,
     /// How far the last setting of the section is indented.
     indent: Option<usize>,
-    /// Where the comments and empty lines begin that were read last.
-    between: usize,
-}
-
-/// Reads this part of a text into `config`, which is empty. Returns how many lines it has, and what
-/// stands behind it.
-///
-/// # Errors
-///
-/// [`Fault::Line`] for a line that is none of a configuration, and out of memory.
-pub fn read_config<'t>(
-    alloc: Global,
-    config: &mut Config<'t>,
-    text: &'t str,
-    part: Part,
-) -> Result<(usize, &'t str), Fault> {
-    let mut reader = Reader {
-        alloc,
-        text,
-        section: NO_SECTION,
-        rank: 0,
-        indent: None,
-        between: 0,
-    };
-    let mut behind = 0usize;
-    let mut read = 0usize;
-    let mut lines = 0usize;
-    for line in text.split('\n') {
-        let here = behind;
-        behind = here.saturating_add(line.len()).saturating_add(1);
-        if let Part::ToBar = part
-            && line.trim() == "---"
-        {
-            reader.end(config, here)?;
-            return Ok((lines.saturating_add(1), text.get(behind..).unwrap_or("")));
-        }
-        // A line that is joined to the one above has been read.
-        if here >= read {
-            match reader.read_line(config, here, line) {
-                Ok(end) => read = end,
-                Err(error) => return Err(Fault::at_line(lines.saturating_add(1), error)),
-            }
-        }
-        lines = lines.saturating_add(1);
-    }
-    reader.end(config, text.len())?;
-    Ok((lines, ""))
 }
 
 impl<'t> Reader<'t> {
-    fn text_between(&self, end: usize) -> &'t str {
-        self.text.get(self.between..end).unwrap_or("")
+    fn new(alloc: Global, text: &'t str) -> Reader<'t>
+        ensures rest { result.rest.now ≡ text.now }
+        ensures between { result.between.now ≡ text.now }
+    {
+        Reader {
+            alloc,
+            rest: text,
+            lines: 0,
+            between: text,
+            section: NO_SECTION,
+            rank: 0,
+            indent: None,
+        }
     }
 
-    /// Adds the comments and empty lines that end here.
-    fn add_between(
-        &self,
-        config: &mut Config<'t>,
-        end: usize,
-        rank: usize,
-    ) -> Result<(), AllocError> {
-        let text = self.text_between(end);
-        if !text.is_empty() {
-            let lines = Lines::read(self.alloc, text, CowStr::Borrowed(""), rank)?;
-            config.append(Name::of_section(self.section), lines)?;
+    /// Reads this part of the text.
+    fn read_items(&mut self, config: &mut Config<'t>, part: Part) -> Result<(), Fault>
+        ensures kept { (all : List ℕ)
+            → IsReadTo (texts_of config.old.lists.pairs) self.old.between.now self.old.rest.now all
+            → OnOk result (texts_of config.new.lists.pairs ++ lined self.new.rest.now ≡ all) }
+        ensures whole { part ≡ Whole → OnOk result (self.new.rest.now ≡ []) }
+    {
+        while !self.is_at_end(part) {
+            if let Err(error) = self.read_item(config) {
+                return Err(Fault::at_line(self.lines.saturating_add(1), error));
+            }
         }
+        self.add_between(config, self.rank.saturating_add(1))?;
         Ok(())
     }
 
-    /// Ends the section that is open.
-    fn end(&self, config: &mut Config<'t>, end: usize) -> Result<(), AllocError> {
-        self.add_between(config, end, self.rank.saturating_add(1))
+    fn is_at_end(&self, part: Part) -> bool
+        ensures rest { result ≡ false → 0 < length self.now.rest.now }
+        ensures whole { part ≡ Whole → result ≡ true → self.now.rest.now ≡ [] }
+    {
+        if self.rest.is_empty() {
+            return true;
+        }
+        match part {
+            Part::Whole => false,
+            Part::ToBar => first_line(self.rest).0.trim() == "---",
+        }
     }
 
-    /// Reads the line that begins here, and what is joined to it. Returns where that ends.
-    fn read_line(
-        &mut self,
-        config: &mut Config<'t>,
-        here: usize,
-        line: &'t str,
-    ) -> io::Result<usize> {
-        let end = here.saturating_add(line.len()).saturating_add(1);
+    /// Reads a comment, an empty line, the line of a section, or a setting.
+    fn read_item(&mut self, config: &mut Config<'t>) -> io::Result<()>
+        ensures kept { (all : List ℕ)
+            → IsReadTo (texts_of config.old.lists.pairs) self.old.between.now self.old.rest.now all
+            → OnOk result (IsReadTo (texts_of config.new.lists.pairs)
+            self.new.between.now self.new.rest.now all) }
+        ensures shorter { 0 < length self.old.rest.now
+            → OnOk result (length self.new.rest.now < length self.old.rest.now) }
+    {
+        let (line, behind) = first_line(self.rest);
         let word = line.trim();
         if word.is_empty() || word.starts_with(['#', ';']) {
-            return Ok(end);
+            self.rest = behind;
+            self.lines = self.lines.saturating_add(1);
+            return Ok(());
         }
         if word.starts_with('[') {
-            self.end(config, here)?;
-            self.open_section(config, line, here)?;
-            self.between = end;
-            return Ok(end);
+            return self.read_section(config, line, behind);
         }
-        self.add_between(config, here, self.rank)?;
-        let end = self.read_setting(config, here, line)?;
-        self.between = end;
-        Ok(end)
+        self.read_setting(config, line)
     }
 
-    fn open_section(
+    fn read_section(
         &mut self,
         config: &mut Config<'t>,
         line: &'t str,
-        here: usize,
-    ) -> io::Result<()> {
+        behind: &'t str,
+    ) -> io::Result<()>
+        ensures kept { (all : List ℕ)
+            → IsReadTo (texts_of config.old.lists.pairs) self.old.between.now self.old.rest.now all
+            → IsBehindLines self.old.rest.now behind.now
+            → OnOk result (IsReadTo (texts_of config.new.lists.pairs)
+            self.new.between.now self.new.rest.now all) }
+        ensures rest { OnOk result (self.new.rest.now ≡ behind.now) }
+    {
+        self.add_between(config, self.rank.saturating_add(1))?;
         self.section = Section::of_line(line.trim_start().strip_prefix('[').unwrap_or(""))?;
         self.rank = self.rank.saturating_add(2);
         self.indent = None;
-        let end = here.saturating_add(line.len()).saturating_add(1);
-        let text = self.text.get(here..end.min(self.text.len())).unwrap_or("");
-        let lines = Lines::read(self.alloc, text, CowStr::Borrowed(""), self.rank)?;
-        config.append(Name::of_section(self.section), lines)?;
+        self.add_item(config, NO_KEY, CowStr::Borrowed(""), behind)?;
         Ok(())
     }
 
-    /// Reads a setting, and returns where its last line ends.
-    fn read_setting(
-        &mut self,
-        config: &mut Config<'t>,
-        here: usize,
-        line: &'t str,
-    ) -> io::Result<usize> {
+    fn read_setting(&mut self, config: &mut Config<'t>, line: &'t str) -> io::Result<()>
+        ensures kept { (all : List ℕ)
+            → IsReadTo (texts_of config.old.lists.pairs) self.old.between.now self.old.rest.now all
+            → OnOk result (IsReadTo (texts_of config.new.lists.pairs)
+            self.new.between.now self.new.rest.now all) }
+        ensures shorter { 0 < length self.old.rest.now
+            → OnOk result (length self.new.rest.now < length self.old.rest.now) }
+    {
+        self.add_between(config, self.rank)?;
         let indent = line.len().saturating_sub(line.trim_start().len());
         if self.indent.is_some_and(|above| indent > above) {
             return Err(bad("indented more than the setting above it"));
         }
-        let rest = self.text.get(here..).unwrap_or("");
-        let (key, value, behind) = setting_of(self.alloc, line, rest)?;
-        let end = self.text.len().saturating_sub(behind);
-        let text = self.text.get(here..end).unwrap_or("");
-        let name = Name {
-            section: self.section,
-            key,
-        };
-        let lines = Lines::read(self.alloc, text, value, self.rank)?;
-        config.append(name, lines)?;
+        let (key, value, behind) = setting_of(self.alloc, line, self.rest)?;
         self.indent = Some(indent);
-        Ok(end)
+        self.add_item(config, key, value, behind)?;
+        Ok(())
+    }
+
+    /// Adds the comments and empty lines that were read last.
+    fn add_between(&mut self, config: &mut Config<'t>, rank: usize) -> Result<(), AllocError>
+        ensures kept { (all : List ℕ)
+            → IsReadTo (texts_of config.old.lists.pairs) self.old.between.now self.old.rest.now all
+            → OnOk result (IsReadTo (texts_of config.new.lists.pairs)
+            self.new.between.now self.new.rest.now all) }
+        ensures rest { self.new.rest.now ≡ self.old.rest.now }
+        ensures between { OnOk result (self.new.between.now ≡ self.old.rest.now) }
+    {
+        let text = lines_before(self.between, self.rest);
+        self.between = self.rest;
+        if text.is_empty() {
+            return Ok(());
+        }
+        let lines = Lines::read(self.alloc, text, CowStr::Borrowed(""), rank)?;
+        add_lines(config, Name::of_section(self.section), lines)
+    }
+
+    /// Adds the item that the rest begins with, up to what stands behind it.
+    fn add_item(
+        &mut self,
+        config: &mut Config<'t>,
+        key: AsciiCaseless<&'t str>,
+        value: CowStr<'t>,
+        behind: &'t str,
+    ) -> Result<(), AllocError>
+        ensures kept { OnOk result ((lines : List ℕ) → self.old.rest.now ≡ lines ++ behind.now
+            → texts_of config.new.lists.pairs ≡ texts_of config.old.lists.pairs ++ lined lines) }
+        ensures rest { self.new.rest.now ≡ behind.now }
+        ensures between { self.new.between.now ≡ behind.now }
+    {
+        let text = lines_before(self.rest, behind);
+        self.rest = behind;
+        self.between = behind;
+        self.lines = self.lines.saturating_add(lines_in(text));
+        let lines = Lines::read(self.alloc, text, value, self.rank)?;
+        let section = self.section;
+        add_lines(config, Name { section, key }, lines)
     }
 }
 
-/// The key and the value of the setting that begins on this line, and the length of what stands
-/// behind it in `rest`, which begins with the line. A key alone has the empty value.
+/// Adds lines behind all others.
+fn add_lines<'t>(
+    config: &mut Config<'t>,
+    name: Name<'t>,
+    lines: Lines<'t>,
+) -> Result<(), AllocError>
+    ensures { OnOk result (texts_of config.new.lists.pairs
+        ≡ texts_of config.old.lists.pairs ++ cow_str_bytes lines.entry.text) }
+{
+    config.append(name, lines)?;
+    Ok(())
+}
+
+/// The key and the value of the setting that begins on this line, and what stands behind it in
+/// `rest`, which begins with the line. A key alone has the empty value.
 fn setting_of<'t>(
     alloc: Global,
     line: &'t str,
     rest: &'t str,
-) -> io::Result<(AsciiCaseless<&'t str>, CowStr<'t>, usize)> {
+) -> io::Result<(AsciiCaseless<&'t str>, CowStr<'t>, &'t str)>
+    ensures lines { IfOk result (λ setting. IsBehindLines rest.now setting.2.now) }
+    ensures shorter { IfOk result (λ setting. 0 < length rest.now
+        → length setting.2.now < length rest.now) }
+{
     let (key, is_alone) = match line.split_once('=') {
         Some((key, _)) => (key.trim(), false),
         None => (line.trim(), true),
@@ -215,10 +286,23 @@ fn setting_of<'t>(
     }
     let key = AsciiCaseless(key);
     if is_alone {
-        let behind = rest.len().saturating_sub(line.len()).saturating_sub(1);
-        return Ok((key, CowStr::Borrowed(""), behind));
+        return Ok((key, CowStr::Borrowed(""), first_line(rest).1));
     }
-    let value = rest.split_once('=').map(|(_, value)| value).unwrap_or("");
-    let (value, behind) = read_value(alloc, value.as_bytes())?;
-    Ok((key, CowStr::Owned(value), behind.len()))
+    let (value, behind) = value_behind_sign(alloc, rest)?;
+    Ok((key, CowStr::Owned(value), behind))
+}
+
+/// The value behind the first `=`, and what stands behind its last line.
+fn value_behind_sign(alloc: Global, rest: &str) -> io::Result<(String, &str)>
+    ensures lines { IfOk result (λ r. IsBehindLines rest.now r.1.now) }
+    ensures shorter { IfOk result (λ r. 0 < length rest.now → length r.1.now < length rest.now) }
+{
+    let Some((_, text)) = rest.split_once('=') else {
+        return Err(bad("not a section or a setting"));
+    };
+    let (value, behind) = read_value(alloc, text.as_bytes())?;
+    match text.split_at_checked(text.len().saturating_sub(behind.len())) {
+        Some((_, behind)) => Ok((value, behind)),
+        None => Ok((value, "")),
+    }
 }

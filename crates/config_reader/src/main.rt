@@ -47,6 +47,7 @@ mod answer;
 mod change;
 mod command;
 mod config;
+mod lines;
 mod name;
 mod value;
 

@@ -1,0 +1,12 @@
+use Rattle.std.proofs.Common.{◌∙◌}
+use Rattle.config_reader.specs.Written.{texts_of}
+use Rattle.config_reader.proofs.WholeLines.{keep_item}
+use Rattle.config_reader.proofs.config.Reader.read_section.Goals as goal
+
+pub returns-clause-kept : goal.returns-clause-kept
+returns-clause-kept c = λ all is lines.
+    let done = c.in_ok-add_between.ensures in
+    let item = c.in_ok-add_item.ensures in
+    keep_item (texts_of c.add_between.new.config.lists.pairs) c.args.self.now.rest.now c.add_between.new.self.between.now c.args.behind.now
+    all (texts_of c.add_item.new.config.lists.pairs) c.add_item.new.self.between.now c.add_item.new.self.rest.now
+    (done.kept all is).is_all done.between lines (λ l same. item.kept l (done.rest ∙ same)) item.between item.rest
