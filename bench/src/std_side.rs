@@ -2,12 +2,14 @@
 mod many;
 mod queues;
 mod small;
+mod sorts;
 mod writing;
 
 use crate::numbers::{START, choice, key, mix, spread, value};
 pub use many::{extend, from_iter};
 pub use queues::{fifo_churn, fifo_churn_few, fifo_small};
 pub use small::small_maps;
+pub use sorts::{sort_by, sort_keys};
 use std::collections::HashMap;
 use std::hash::BuildHasher;
 pub use writing::{get_all_mut_walk, get_all_mut_walk as update_all, iter_mut_all, iter_mut_all as update_values};

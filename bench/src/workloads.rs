@@ -51,7 +51,7 @@ const SCATTERED: Option<usize> = Some(3);
 const IN_ORDER: Option<Run> = Some(std_side::iter_all_in_order);
 
 /// Every workload. One that starts with another stands behind it.
-pub const WORKLOADS: [Workload; 27] = [
+pub const WORKLOADS: [Workload; 29] = [
     workload!(0, append_distinct, None, 2, None),
     workload!(1, append_few, None, 2, None),
     workload!(2, append_grouped, None, 2, None),
@@ -79,4 +79,6 @@ pub const WORKLOADS: [Workload; 27] = [
     workload!(24, update_all, GROUPED, 8, None),
     workload!(25, from_iter, None, 2, None),
     workload!(26, extend, None, 2, None),
+    workload!(27, sort_keys, DISTINCT, 2, None),
+    workload!(28, sort_by, SCATTERED, 2, None),
 ];

@@ -31,6 +31,8 @@ const NAMES: &[&str] = &[
     "update_all",
     "from_iter",
     "extend",
+    "sort_keys",
+    "sort_by",
 ];
 
 /// A line for each workload: its name, and its checksums under the two hash builders.

@@ -10,6 +10,7 @@ mod fast;
 mod lookups;
 mod many;
 mod numbers;
+mod sorts;
 mod workloads;
 mod writes;
 

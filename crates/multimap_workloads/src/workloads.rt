@@ -6,6 +6,7 @@ use crate::lookups::{
 };
 use crate::many::{extends, makes};
 use crate::numbers::{Run, START, mix};
+use crate::sorts::{sorts_keys, sorts_pairs};
 use crate::writes::{adds_keys, adds_keys_by_calls, adds_numbers, adds_numbers_by_calls};
 use ordered_multimap::ListOrderedMultimap;
 use std::alloc::Global;
@@ -71,10 +72,14 @@ pub(crate) enum Workload {
     FromIter,
     /// Extends an empty map by eight pairs a key, from an iterator that tells its length.
     Extend,
+    /// Sorts the keys, after `AppendDistinct`.
+    SortKeys,
+    /// Sorts the pairs by their keys, after `AppendScattered`.
+    SortBy,
 }
 
 /// The workloads by their numbers.
-pub(crate) const WORKLOADS: [Workload; 27] = [
+pub(crate) const WORKLOADS: [Workload; 29] = [
     Workload::AppendDistinct,
     Workload::AppendFew,
     Workload::AppendGrouped,
@@ -102,6 +107,8 @@ pub(crate) const WORKLOADS: [Workload; 27] = [
     Workload::UpdateAll,
     Workload::FromIter,
     Workload::Extend,
+    Workload::SortKeys,
+    Workload::SortBy,
 ];
 
 /// Makes a map, runs a workload on it, and lets the map go. Returns the checksum. Each hasher has
@@ -143,7 +150,8 @@ fn fill<S: BuildHasher>(map: &mut Map<S>, workload: Workload, run: Run) -> Optio
         | Workload::GetMiss
         | Workload::FifoChurn
         | Workload::InsertReplace
-        | Workload::RetainHalf => distinct(map, run, START),
+        | Workload::RetainHalf
+        | Workload::SortKeys => distinct(map, run, START),
         Workload::AppendFew | Workload::FifoChurnFew => few(map, run, START),
         Workload::AppendGrouped
         | Workload::GetAllWalk
@@ -158,7 +166,8 @@ fn fill<S: BuildHasher>(map: &mut Map<S>, workload: Workload, run: Run) -> Optio
         | Workload::RetainHalfMulti
         | Workload::Clone
         | Workload::IterMutAll
-        | Workload::UpdateValues => scattered(map, run, START),
+        | Workload::UpdateValues
+        | Workload::SortBy => scattered(map, run, START),
         Workload::Extend => extends(map, run, START),
         Workload::FifoSmall | Workload::EntryCount | Workload::SmallMaps | Workload::FromIter => {
             Some(START)
@@ -185,6 +194,8 @@ fn change<S: BuildHasher>(
         Workload::GetAllMutWalk => Some(adds_numbers(map, run, checksum)),
         Workload::UpdateValues => Some(adds_keys_by_calls(map, checksum)),
         Workload::UpdateAll => Some(adds_numbers_by_calls(map, run, checksum)),
+        Workload::SortKeys => sorts_keys(map, checksum),
+        Workload::SortBy => sorts_pairs(map, checksum),
         _ => Some(checksum),
     }
 }

@@ -2,4 +2,5 @@ pub mod FirstLemmas
 pub mod MovedLemmas
 pub mod StoppedKeysLemmas
 pub mod StoppedLemmas
+pub mod TotalLemmas
 pub mod WalkShows

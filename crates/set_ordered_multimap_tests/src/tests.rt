@@ -1,4 +1,5 @@
-//! The worked rows, look-ups by texts, refused requests, calls that these leave out, and proved callers.
+//! The worked rows, look-ups by texts, sorts, refused requests, calls that these leave out, and proved
+//! callers.
 mod callers;
 mod calls;
 mod caseless;
@@ -7,3 +8,4 @@ mod lists;
 mod queries;
 mod refused;
 mod rows;
+mod sorted;

@@ -2,6 +2,7 @@
 //! rows of `sort_keys` and of a sort in which keys tie are cases of the program `map_calls`.
 mod pairs;
 mod refused;
+mod totals;
 
 use ordered_multimap_callers::lists::{appends, has_lists};
 use ordered_multimap_callers::maps::{Numbers, refill};
