@@ -21,9 +21,9 @@ class Crate:
         return sum(len(it.read_bytes().splitlines()) for it in (self.folder / part).rglob(f"*{ending}"))
 
     def memory(self):
-        """About the most bytes that a check takes, as `rt ci` reckons it."""
+        """About the most bytes that a check of edits takes, in which most functions have no body."""
         proofs = self.lines("specs", ".antt") + self.lines("proofs", ".antt")
-        return 1_000_000_000 + 1_000_000 * self.lines("src", ".rt") + 200_000 * proofs
+        return 1_000_000_000 + 120_000 * self.lines("src", ".rt") + 24_000 * proofs
 
 
 def crates_in(top):

@@ -9,9 +9,10 @@ ghost use Rattle.config_reader.specs.Written.{line_of, texts_of, value_line, val
 
 use crate::change::{add, set, unset};
 use crate::command::Command;
-use crate::config::{Config, read_config, read_to_bar};
+use crate::config::Config;
 use crate::lines::lines_in;
 use crate::name::{NO_KEY, NO_SECTION, Name, Section};
+use crate::reader::{read_config, read_to_bar};
 use program_parts::{Fault, bad, without_mark};
 use std::alloc::{AllocError, Global};
 use std::io;

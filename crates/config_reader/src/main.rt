@@ -49,6 +49,7 @@ mod command;
 mod config;
 mod lines;
 mod name;
+mod reader;
 mod value;
 
 use crate::answer::{add_answer_of_words, add_answers};

@@ -2,7 +2,7 @@ use Rattle.std.proofs.Common.{◌++◌, refl}
 use Rattle.config_reader.specs.Lines.{lined}
 use Rattle.config_reader.specs.Written.{texts_of}
 use Rattle.config_reader.proofs.WholeLines.{OnOk-both, all_read, nothing_read}
-use Rattle.config_reader.proofs.config.read_config.Goals as goal
+use Rattle.config_reader.proofs.reader.read_config.Goals as goal
 
 pub returns : goal.returns
 returns c =

@@ -2,7 +2,7 @@ use Rattle.std.proofs.Common.{◌∙◌, ◌++◌, ap, length, rules, sym}
 use Rattle.config_reader.specs.Lines.{lined}
 use Rattle.config_reader.specs.Written.{texts_of}
 use Rattle.config_reader.proofs.WholeLines.{OnOk-map, keep, keep_none}
-use Rattle.config_reader.proofs.config.Reader.add_between.Goals as goal
+use Rattle.config_reader.proofs.reader.Reader.add_between.Goals as goal
 
 pub returns-then-is_empty-clause-kept : goal.returns-then-is_empty-clause-kept
 returns-then-is_empty-clause-kept c = λ all is.
@@ -14,7 +14,7 @@ pub returns-clause-kept : goal.returns-clause-kept
 returns-clause-kept c = λ all is.
     let old = c.args.self.now in
     let kept = texts_of c.args.config.now.lists.pairs in
-    OnOk-map c.add_lines.result
-    (λ added. keep kept old.between.now old.rest.now all (texts_of c.add_lines.new.config.lists.pairs) is.is_all is.lines
+    OnOk-map c.append_lines.result
+    (λ added. keep kept old.between.now old.rest.now all (texts_of c.append_lines.new.config.lists.pairs) is.is_all is.lines
     (added ∙ ap (λ t. kept ++ t) (c.in_ok-lines.ensures.text ∙ ap lined (c.lines_before-text.ensures is.lines.0 is.lines.1))))
-    c.add_lines.ensures
+    c.append_lines.ensures

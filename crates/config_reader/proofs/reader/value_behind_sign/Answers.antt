@@ -4,7 +4,7 @@ use Rattle.std.proofs.lemmas.Str.{encode_ascii}
 use Rattle.config_reader.specs.declared.value.Mode.TheVariants.{Gap}
 use Rattle.config_reader.proofs.WholeLines.{behind_all, behind_part, cut_at}
 use Rattle.config_reader.proofs.Values.{read_behind}
-use Rattle.config_reader.proofs.config.value_behind_sign.Goals as goal
+use Rattle.config_reader.proofs.reader.value_behind_sign.Goals as goal
 
 pub returns-in-Some-split_at_checked-clause-lines : goal.returns-in-Some-split_at_checked-clause-lines
 returns-in-Some-split_at_checked-clause-lines c =

@@ -2,7 +2,7 @@ use Rattle.std.proofs.Common.{◌∙◌, subst}
 use Rattle.config_reader.specs.Lines.{IsBehindLines}
 use Rattle.config_reader.specs.Written.{texts_of}
 use Rattle.config_reader.proofs.WholeLines.{keep_item}
-use Rattle.config_reader.proofs.config.Reader.read_setting.Goals as goal
+use Rattle.config_reader.proofs.reader.Reader.read_setting.Goals as goal
 
 pub returns-clause-kept : goal.returns-clause-kept
 returns-clause-kept c = λ all is.

@@ -1,6 +1,6 @@
 use Rattle.config_reader.specs.Written.{texts_of}
 use Rattle.config_reader.proofs.WholeLines.{read_on}
-use Rattle.config_reader.proofs.config.Reader.read_item.Goals as goal
+use Rattle.config_reader.proofs.reader.Reader.read_item.Goals as goal
 
 pub returns-then-is_empty-clause-kept : goal.returns-then-is_empty-clause-kept
 returns-then-is_empty-clause-kept c = λ all is.

@@ -1,7 +1,7 @@
 use Rattle.std.proofs.Common.{ℕ, List, length}
 use Rattle.config_reader.specs.Lines.{IsReadTo}
 use Rattle.config_reader.specs.Written.{texts_of}
-use Rattle.config_reader.proofs.config.Reader.read_items.Given as goal
+use Rattle.config_reader.proofs.reader.Reader.read_items.Given as goal
 
 abbrev pub invariant-loop-part : goal.invariant-loop-part
 invariant-loop-part l =
