@@ -5,8 +5,9 @@ use Rattle.std.specs.List.{flat_map, list_any}
 use Rattle.config_reader.specs.declared.value.Effect.{Effect}
 use Rattle.config_reader.specs.declared.value.Effect.TheVariants.{Add, Blank, Keep, Skip}
 use Rattle.config_reader.specs.declared.value.Mode.{Mode}
-use Rattle.config_reader.specs.declared.value.Mode.TheVariants.{Comment, Gap, Quotes, QuotesEscape}
-use Rattle.config_reader.specs.declared.value.Mode.TheVariants.{QuotesJoin, Word, WordEscape, WordJoin}
+use Rattle.config_reader.specs.declared.value.Mode.TheVariants.{Comment, Gap, Word, WordEscape}
+use Rattle.config_reader.specs.declared.value.Mode.TheVariants.{WordJoin, Quotes, QuotesEscape}
+use Rattle.config_reader.specs.declared.value.Mode.TheVariants.{QuotesJoin}
 
 -- a space, a tab, a line feed, a form feed or a carriage return
 abbrev pub is_blank : ℕ → Bool
@@ -107,7 +108,8 @@ ends_blank (b ∷ c ∷ bytes) = ends_blank (c ∷ bytes)
 
 -- whether a value can stand without quotes
 abbrev pub is_plain : List ℕ → Bool
-is_plain value = not (begins_blank value) && not (ends_blank value) && not (list_any is_special value)
+is_plain value =
+    not (begins_blank value) && not (ends_blank value) && not (list_any is_special value)
 
 -- a byte as it is written between quotes
 unfoldable pub quoted_byte : ℕ → List ℕ
