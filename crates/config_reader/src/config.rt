@@ -89,14 +89,14 @@ pub fn read_config<'t>(
     for line in text.split('\n') {
         let here = behind;
         behind = here.saturating_add(line.len()).saturating_add(1);
-        if let Part::ToBar = part
-            && line.trim() == "---"
-        {
-            reader.end(config, here)?;
-            return Ok((lines.saturating_add(1), text.get(behind..).unwrap_or("")));
-        }
         // A line that is joined to the one above has been read.
         if here >= read {
+            if let Part::ToBar = part
+                && line.trim() == "---"
+            {
+                reader.end(config, here)?;
+                return Ok((lines.saturating_add(1), text.get(behind..).unwrap_or("")));
+            }
             match reader.read_line(config, here, line) {
                 Ok(end) => read = end,
                 Err(error) => return Err(Fault::at_line(lines.saturating_add(1), error)),
