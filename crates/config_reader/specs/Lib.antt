@@ -1,2 +1,4 @@
+pub mod Changed
 pub mod Names
+pub mod Shown
 pub mod Written

@@ -4,6 +4,10 @@
 //! count for nothing, and neither does a comment: `#` or `;` with a blank in front, and all behind.
 //! Between quotes blanks, `#` and `;` belong to the value, and `\"`, `\\`, `\n` and `\t` stand for a
 //! quote, a backslash, a line feed and a tab.
+ghost use Rattle.std.specs.Prelude.{◌≡◌, ◌++◌, OnOk};
+ghost use Rattle.std.specs.String.{string_bytes};
+ghost use Rattle.config_reader.specs.Written.{IsWritten, escaped, quoted};
+
 use program_parts::bad;
 use std::alloc::{AllocError, Global};
 use std::borrow::CowStr;
@@ -135,21 +139,38 @@ impl Reader {
 }
 
 /// Adds a value as it can be read again: between quotes where it has to stand there.
-pub fn add_value(value: &str, text: &mut String) -> Result<(), AllocError> {
+pub fn add_value(value: &str, text: &mut String) -> Result<(), AllocError>
+    ensures { OnOk result (IsWritten value.now (string_bytes text.old) (string_bytes text.new)) }
+{
     let is_plain = value.trim() == value
         && !value.contains(['"', '\\', '#', ';', '\n', '\r', '\t']);
     if is_plain {
-        return text.push_str(value);
+        text.push_str(value)
+    } else {
+        add_quoted(value, text)
     }
+}
+
+/// Adds the value between quotes.
+fn add_quoted(value: &str, text: &mut String) -> Result<(), AllocError>
+    ensures { OnOk result (string_bytes text.new ≡ string_bytes text.old ++ quoted value.now) }
+{
     text.push('"')?;
     for character in value.chars() {
-        match character {
-            '"' => text.push_str("\\\"")?,
-            '\\' => text.push_str("\\\\")?,
-            '\n' => text.push_str("\\n")?,
-            '\t' => text.push_str("\\t")?,
-            _ => text.push(character)?,
-        }
+        add_escaped(character, text)?;
     }
     text.push('"')
+}
+
+/// Adds a character as it stands between quotes.
+fn add_escaped(character: char, text: &mut String) -> Result<(), AllocError>
+    ensures { OnOk result (string_bytes text.new ≡ string_bytes text.old ++ escaped character) }
+{
+    match character {
+        '"' => text.push_str("\\\""),
+        '\\' => text.push_str("\\\\"),
+        '\n' => text.push_str("\\n"),
+        '\t' => text.push_str("\\t"),
+        _ => text.push(character),
+    }
 }
