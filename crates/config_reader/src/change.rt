@@ -1,9 +1,10 @@
 //! What commands make of a configuration.
 ghost use Rattle.std.specs.Cow.{cow_str_bytes};
-ghost use Rattle.std.specs.Prelude.{◌≡◌, [], IfOk, IsPermutation, OnOk};
-ghost use Rattle.ordered_multimap.specs.Changes.{appended, removed};
+ghost use Rattle.std.specs.Prelude.{◌≡◌, [], IfOk, OnOk};
+ghost use Rattle.ordered_multimap.specs.Changes.{removed};
 ghost use Rattle.ordered_multimap.specs.SetLists.{value_set};
-ghost use Rattle.config_reader.specs.Changed.{Adds, AddsSection, IsSetting, Leaves, Opens, Sets};
+ghost use Rattle.config_reader.specs.Changed.{Adds, AddsByRank, AddsSection, IsSetting, Leaves};
+ghost use Rattle.config_reader.specs.Changed.{Opens, Sets, settings_rank};
 ghost use Rattle.config_reader.specs.Names.{same_name};
 ghost use Rattle.config_reader.specs.Written.{section_line};
 
@@ -92,11 +93,7 @@ fn add_lines<'t>(
     name: Name<'t>,
     lines: Lines<'t>,
 ) -> Result<(), AllocError>
-    ensures names { OnOk result (config.new.lists.keys
-        ≡ (appended same_name config.old.lists name.entry lines.entry).keys) }
-    ensures lines { OnOk result (IsPermutation
-        (appended same_name config.old.lists name.entry lines.entry).pairs
-        config.new.lists.pairs) }
+    ensures { OnOk result (AddsByRank name.entry lines.entry config.old.lists config.new.lists) }
 {
     config.append(name, lines)?;
     config.sort_by(|_, lines, _, others| lines.rank.cmp(&others.rank))
@@ -115,7 +112,7 @@ fn rank_of<'t>(
     config: &mut Config<'t>,
     section: Section<'t>,
 ) -> Result<usize, AllocError>
-    ensures { OnOk result (Opens section.entry config.old.lists config.new.lists) }
+    ensures { IfOk result (Opens section.entry config.old.lists config.new.lists) }
 {
     let name = Name::of_section(section);
     if section == NO_SECTION {
@@ -133,7 +130,7 @@ fn add_section<'t>(
     config: &mut Config<'t>,
     name: Name<'t>,
 ) -> Result<usize, AllocError>
-    ensures { OnOk result (AddsSection name.entry config.old.lists config.new.lists) }
+    ensures { IfOk result (AddsSection name.entry config.old.lists config.new.lists) }
 {
     let last = config.back().map(|(_, lines)| lines.rank).unwrap_or(0);
     let rank = settings_rank(last).saturating_add(2);
@@ -142,7 +139,9 @@ fn add_section<'t>(
 }
 
 // The rank of the settings of the section that a line of this rank is in.
-fn settings_rank(rank: usize) -> usize {
+fn settings_rank(rank: usize) -> usize
+    ensures { result ≡ settings_rank rank }
+{
     rank - rank % 2
 }
 
@@ -154,6 +153,7 @@ fn section_line<'t>(
 ) -> Result<Lines<'t>, AllocError>
     ensures text { IfOk result (λ lines. cow_str_bytes lines.text ≡ section_line section.entry) }
     ensures value { IfOk result (λ lines. cow_str_bytes lines.value ≡ []) }
+    ensures rank { IfOk result (λ lines. lines.rank ≡ rank) }
 {
     let mut text = String::new(alloc);
     section.add_line(&mut text)?;

@@ -25,7 +25,15 @@ returns c =
     let there = has_first _ _ c.in-Some.ensures.value in
     on_ok_weaker c.set_lines.result
     (λ lists. record {
-      present = λ _. (c.indent_of-indent.result.now, c.in_ok-lines.lines, is_setting, lists);
+      present = λ _. record {
+        first = c.in-Some.lines.now;
+        is_first = c.in-Some.ensures.value;
+        indent = c.indent_of-indent.result.now;
+        setting = c.in_ok-lines.lines;
+        is_setting = is_setting;
+        rank = c.in_ok-lines.ensures.rank;
+        lists = lists;
+      };
       absent = λ none. absurd (cc);
     })
     c.set_lines.ensures
