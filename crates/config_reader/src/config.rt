@@ -1,4 +1,7 @@
 //! Lines of a configuration, each under its name, in the order of the text.
+ghost use Rattle.std.specs.Prelude.{IfErr};
+ghost use Rattle.config_reader.specs.Faults.{IsBadOrRefused, IsLineOrRefused};
+
 use crate::name::{NO_SECTION, Name, Section, is_key};
 use crate::value::read_value;
 use ascii_caseless::AsciiCaseless;
@@ -74,7 +77,9 @@ pub fn read_config<'t>(
     config: &mut Config<'t>,
     text: &'t str,
     part: Part,
-) -> Result<(usize, &'t str), Fault> {
+) -> Result<(usize, &'t str), Fault>
+    ensures fault { IfErr result IsLineOrRefused }
+{
     let mut reader = Reader {
         alloc,
         text,
@@ -139,7 +144,9 @@ impl<'t> Reader<'t> {
         config: &mut Config<'t>,
         here: usize,
         line: &'t str,
-    ) -> io::Result<usize> {
+    ) -> io::Result<usize>
+        ensures fault { IfErr result IsBadOrRefused }
+    {
         let end = here.saturating_add(line.len()).saturating_add(1);
         let word = line.trim();
         if word.is_empty() || word.starts_with(['#', ';']) {
@@ -162,7 +169,9 @@ impl<'t> Reader<'t> {
         config: &mut Config<'t>,
         line: &'t str,
         here: usize,
-    ) -> io::Result<()> {
+    ) -> io::Result<()>
+        ensures fault { IfErr result IsBadOrRefused }
+    {
         self.section = Section::of_line(line.trim_start().strip_prefix('[').unwrap_or(""))?;
         self.rank = self.rank.saturating_add(2);
         self.indent = None;
@@ -179,7 +188,9 @@ impl<'t> Reader<'t> {
         config: &mut Config<'t>,
         here: usize,
         line: &'t str,
-    ) -> io::Result<usize> {
+    ) -> io::Result<usize>
+        ensures fault { IfErr result IsBadOrRefused }
+    {
         let indent = line.len().saturating_sub(line.trim_start().len());
         if self.indent.is_some_and(|above| indent > above) {
             return Err(bad("indented more than the setting above it"));
@@ -205,7 +216,9 @@ fn setting_of<'t>(
     alloc: Global,
     line: &'t str,
     rest: &'t str,
-) -> io::Result<(AsciiCaseless<&'t str>, CowStr<'t>, &'t str)> {
+) -> io::Result<(AsciiCaseless<&'t str>, CowStr<'t>, &'t str)>
+    ensures fault { IfErr result IsBadOrRefused }
+{
     let (key, is_alone) = match line.split_once('=') {
         Some((key, _)) => (key.trim(), false),
         None => (line.trim(), true),

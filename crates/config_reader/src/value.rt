@@ -4,8 +4,9 @@
 //! count for nothing, and neither does a comment: `#` or `;` with a blank in front, and all behind.
 //! Between quotes blanks, `#` and `;` belong to the value, and `\"`, `\\`, `\n` and `\t` stand for a
 //! quote, a backslash, a line feed and a tab.
-ghost use Rattle.std.specs.Prelude.{◌≡◌, ◌++◌, OnOk};
+ghost use Rattle.std.specs.Prelude.{◌≡◌, ◌++◌, IfErr, OnOk};
 ghost use Rattle.std.specs.String.{string_bytes};
+ghost use Rattle.config_reader.specs.Faults.{IsBadOrRefused};
 ghost use Rattle.config_reader.specs.Written.{IsWritten, escaped, quoted};
 
 use program_parts::bad;
@@ -19,7 +20,9 @@ use std::io;
 ///
 /// What other readers take in several ways: a quote without an end, any other backslash, and `#` or
 /// `;` within a word.
-pub fn read_value<'t>(alloc: Global, text: &'t str) -> io::Result<(CowStr<'t>, &'t str)> {
+pub fn read_value<'t>(alloc: Global, text: &'t str) -> io::Result<(CowStr<'t>, &'t str)>
+    ensures fault { IfErr result IsBadOrRefused }
+{
     let (line, behind) = text.split_once('\n').unwrap_or((text, ""));
     if !line.contains(['"', '\\', '#', ';']) {
         return Ok((CowStr::Borrowed(line.trim()), behind));
@@ -36,7 +39,9 @@ pub fn read_value<'t>(alloc: Global, text: &'t str) -> io::Result<(CowStr<'t>, &
 }
 
 /// Reads a value character by character, and returns what stands behind its last line.
-fn read_characters<'t>(reader: &mut Reader, text: &'t str) -> io::Result<&'t str> {
+fn read_characters<'t>(reader: &mut Reader, text: &'t str) -> io::Result<&'t str>
+    ensures fault { IfErr result IsBadOrRefused }
+{
     for (place, character) in text.char_indices() {
         if reader.is_at_end(character) {
             reader.check_end()?;
@@ -71,7 +76,9 @@ impl Reader {
         character == '\n' && !self.is_escaped
     }
 
-    fn check_end(&self) -> io::Result<()> {
+    fn check_end(&self) -> io::Result<()>
+        ensures fault { IfErr result IsBadOrRefused }
+    {
         match self.state {
             State::Quoted => Err(bad("a quote has no end")),
             State::Plain if self.is_escaped => Err(bad("no line behind a backslash")),
@@ -79,7 +86,9 @@ impl Reader {
         }
     }
 
-    fn read(&mut self, character: char) -> io::Result<()> {
+    fn read(&mut self, character: char) -> io::Result<()>
+        ensures fault { IfErr result IsBadOrRefused }
+    {
         if self.is_escaped {
             return self.read_escaped(character);
         }
@@ -104,7 +113,9 @@ impl Reader {
     }
 
     // A line feed joins the lines. A carriage return in front of it is no part of the line.
-    fn read_escaped(&mut self, character: char) -> io::Result<()> {
+    fn read_escaped(&mut self, character: char) -> io::Result<()>
+        ensures fault { IfErr result IsBadOrRefused }
+    {
         match (self.state, character) {
             (_, '\r') => return Ok(()),
             (_, '\n') => {}
