@@ -3,7 +3,7 @@ use Rattle.std.specs.Cow.{cow_str_bytes}
 use Rattle.std.specs.List.Sorted.{IsSortedBy, IsStableBy}
 use Rattle.std.specs.Ordering.{is_lt, nat_cmp}
 use Rattle.std.specs.Prelude.{◌≡◌, ℕ, ◌+◌, ◌-◌, ◌%◌, ◌^◌, min, Bool, true, false, List, [], ◌++◌}
-use Rattle.std.specs.Prelude.{Some, IsPermutation, codes, option_map, slice_get, unwrap_or}
+use Rattle.std.specs.Prelude.{◌∷◌, Some, IsPermutation, codes, map, option_map, slice_get, unwrap_or}
 use Rattle.ordered_multimap.specs.Changes.{appended, removed}
 use Rattle.ordered_multimap.specs.End.TheVariants.{Back}
 use Rattle.ordered_multimap.specs.Keys.{stored_key}
@@ -16,7 +16,7 @@ use Rattle.config_reader.specs.declared.command.Command.TheVariants.{Set, Add, U
 use Rattle.config_reader.specs.declared.config.Lines.{Lines}
 use Rattle.config_reader.specs.declared.name.Name.{Name}
 use Rattle.config_reader.specs.declared.name.Section.{Section}
-use Rattle.config_reader.specs.Names.{is_no_section, same_name}
+use Rattle.config_reader.specs.Names.{has_no_key, is_no_section, same_name}
 use Rattle.config_reader.specs.Written.{IsWritten, line_of, section_line}
 
 -- a setting of this value: its text is the key and the value on a line, indented so
@@ -96,3 +96,10 @@ Leaves (Set name value) old new = Sets name value.now old new
 Leaves (Add name value) old new = Adds name value.now old new
 Leaves (Unset name) old new = new ≡ removed same_name old name
 Leaves _ old new = new ≡ old
+
+-- what was set is what is read: a name with a key has this value alone; an unset name has none
+abbrev pub IsReadBack : Command → Lists Name Lines → Type 0
+IsReadBack (Set name value) m = has_no_key name ≡ false
+    → map (λ setting. cow_str_bytes setting.value) (values_of same_name m.pairs name) ≡ value.now ∷ []
+IsReadBack (Unset name) m = is_present same_name m.pairs name ≡ false
+IsReadBack _ m = Unit {0}

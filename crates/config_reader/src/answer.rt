@@ -5,7 +5,7 @@ ghost use Rattle.std.specs.String.{string_bytes};
 ghost use Rattle.ordered_multimap.specs.Walk.{end_item};
 ghost use Rattle.ordered_multimap.specs.End.TheVariants.{Back};
 ghost use Rattle.ordered_multimap.specs.Pairs.{is_present, values_of};
-ghost use Rattle.config_reader.specs.Changed.{Leaves};
+ghost use Rattle.config_reader.specs.Changed.{IsReadBack, Leaves};
 ghost use Rattle.config_reader.specs.Names.{is_named_section, is_setting_of, same_name};
 ghost use Rattle.config_reader.specs.Shown.{answer_of, is_found, shown};
 ghost use Rattle.config_reader.specs.Written.{key_lines, line_of, section_lines, texts_of};
@@ -110,6 +110,7 @@ fn carry_out<'t>(
     answers: &mut String,
 ) -> Result<bool, AllocError>
     ensures leaves { OnOk result (Leaves command.entry config.old.lists config.new.lists) }
+    ensures read_back { OnOk result (IsReadBack command.entry config.new.lists) }
     ensures found { IfOk result (λ found. found ≡ is_found command.entry config.new.lists) }
     ensures shown { OnOk result (string_bytes answers.new ≡ string_bytes answers.old
         ++ shown command.entry config.new.lists) }

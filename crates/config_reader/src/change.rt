@@ -3,8 +3,8 @@ ghost use Rattle.std.specs.Cow.{cow_str_bytes};
 ghost use Rattle.std.specs.Prelude.{◌≡◌, [], IfOk, OnOk};
 ghost use Rattle.ordered_multimap.specs.Changes.{removed};
 ghost use Rattle.ordered_multimap.specs.SetLists.{value_set};
-ghost use Rattle.config_reader.specs.Changed.{Adds, AddsByRank, AddsSection, IsSetting, Leaves};
-ghost use Rattle.config_reader.specs.Changed.{Opens, Sets, settings_rank};
+ghost use Rattle.config_reader.specs.Changed.{Adds, AddsByRank, AddsSection, IsSetting};
+ghost use Rattle.config_reader.specs.Changed.{IsReadBack, Leaves, Opens, Sets, settings_rank};
 ghost use Rattle.config_reader.specs.Names.{same_name};
 ghost use Rattle.config_reader.specs.Written.{section_line};
 
@@ -22,7 +22,8 @@ pub fn change<'t>(
     config: &mut Config<'t>,
     command: Command<'t>,
 ) -> Result<(), AllocError>
-    ensures { OnOk result (Leaves command.entry config.old.lists config.new.lists) }
+    ensures leaves { OnOk result (Leaves command.entry config.old.lists config.new.lists) }
+    ensures read_back { OnOk result (IsReadBack command.entry config.new.lists) }
 {
     match command {
         Command::Set(name, value) => set(alloc, config, name, value),

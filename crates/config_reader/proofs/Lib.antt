@@ -1,0 +1,2 @@
+mod Alone
+mod ReadBack
