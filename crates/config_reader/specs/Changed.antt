@@ -17,14 +17,12 @@ use Rattle.config_reader.specs.declared.config.Lines.{Lines}
 use Rattle.config_reader.specs.declared.name.Name.{Name}
 use Rattle.config_reader.specs.declared.name.Section.{Section}
 use Rattle.config_reader.specs.Names.{has_no_key, is_no_section, same_name}
-use Rattle.config_reader.specs.Written.{IsWritten, line_of, section_line}
+use Rattle.config_reader.specs.Written.{line_of, section_line, written}
 
 -- a setting of this value: its text is the key and the value on a line, indented so
 pub record IsSetting (indent key value : List ℕ) (setting : Lines) : Type 0 where
   pub holds : cow_str_bytes setting.value ≡ value
-  pub written : List ℕ
-  pub is_written : IsWritten value (indent ++ key ++ codes " = ") written
-  pub text : cow_str_bytes setting.text ≡ line_of written
+  pub text : cow_str_bytes setting.text ≡ line_of (indent ++ key ++ codes " = " ++ written value)
 
 -- the rank of the settings of the section that a line of this rank is in
 abbrev pub settings_rank : ℕ → ℕ

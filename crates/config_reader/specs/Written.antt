@@ -1,10 +1,10 @@
 -- What the program writes of a configuration.
 use Rattle.std.specs.Char.{encode_utf8}
 use Rattle.std.specs.Cow.{cow_str_bytes}
-use Rattle.std.specs.List.{flat_map}
-use Rattle.std.specs.Prelude.{◌≡◌, ◌⊎◌, ◌==◌, ℕ, List, [], ◌∷◌, ◌++◌, codes, if◌then◌else◌}
-use Rattle.std.specs.Prelude.{Option, Some, None}
-use Rattle.std.specs.Str.{chars}
+use Rattle.std.specs.List.{flat_map, list_any}
+use Rattle.std.specs.Prelude.{◌==◌, ◌&&◌, ◌||◌, ℕ, Bool, not, List, [], ◌∷◌, ◌++◌, codes}
+use Rattle.std.specs.Prelude.{Option, Some, None, if◌then◌else◌}
+use Rattle.std.specs.Str.{bytes_eq, chars, trim}
 use Rattle.config_reader.specs.declared.config.Lines.{Lines}
 use Rattle.config_reader.specs.declared.name.Name.{Name}
 use Rattle.config_reader.specs.declared.name.Section.{Section}
@@ -72,6 +72,17 @@ escaped character =
 abbrev pub quoted : List ℕ → List ℕ
 quoted value = codes "\"" ++ flat_map escaped (chars value) ++ codes "\""
 
--- behind the old text comes the value, as it is or between quotes
-abbrev pub IsWritten : List ℕ → List ℕ → List ℕ → Type 0
-IsWritten value old new = (new ≡ old ++ value) ⊎ (new ≡ old ++ quoted value)
+-- a character that a value has between quotes alone: a quote, a backslash, a line feed, a carriage
+-- return, a tab, `#` or `;`
+abbrev pub is_special : ℕ → Bool
+is_special character =
+    character == 34 || character == 92 || character == 35 || character == 59
+    || character == 10 || character == 13 || character == 9
+
+-- the value has no blanks around it, and no such character
+abbrev pub is_plain : List ℕ → Bool
+is_plain value = bytes_eq (trim value) value && not (list_any is_special (chars value))
+
+-- the value as it is written: between quotes where it has to stand there
+abbrev pub written : List ℕ → List ℕ
+written value = if is_plain value then value else quoted value

@@ -4,10 +4,12 @@
 //! count for nothing, and neither does a comment: `#` or `;` with a blank in front, and all behind.
 //! Between quotes blanks, `#` and `;` belong to the value, and `\"`, `\\`, `\n` and `\t` stand for a
 //! quote, a backslash, a line feed and a tab.
+ghost use Rattle.std.specs.List.{list_any};
 ghost use Rattle.std.specs.Prelude.{◌≡◌, ◌++◌, IfErr, OnOk};
+ghost use Rattle.std.specs.Str.{chars};
 ghost use Rattle.std.specs.String.{string_bytes};
 ghost use Rattle.config_reader.specs.Faults.{IsBadOrRefused};
-ghost use Rattle.config_reader.specs.Written.{IsWritten, escaped, quoted};
+ghost use Rattle.config_reader.specs.Written.{escaped, is_plain, is_special, quoted, written};
 
 use program_parts::bad;
 use std::alloc::{AllocError, Global};
@@ -151,15 +153,33 @@ impl Reader {
 
 /// Adds a value as it can be read again: between quotes where it has to stand there.
 pub fn add_value(value: &str, text: &mut String) -> Result<(), AllocError>
-    ensures { OnOk result (IsWritten value.now (string_bytes text.old) (string_bytes text.new)) }
+    ensures { OnOk result (string_bytes text.new ≡ string_bytes text.old ++ written value.now) }
 {
-    let is_plain = value.trim() == value
-        && !value.contains(['"', '\\', '#', ';', '\n', '\r', '\t']);
-    if is_plain {
+    if is_plain(value) {
         text.push_str(value)
     } else {
         add_quoted(value, text)
     }
+}
+
+/// Whether the value can stand without quotes.
+fn is_plain(value: &str) -> bool
+    ensures { result ≡ is_plain value.now }
+{
+    value.trim() == value && !has_special(value)
+}
+
+fn has_special(text: &str) -> bool
+    ensures { result ≡ list_any is_special (chars text.now) }
+{
+    text.chars().any(|character| is_special(character))
+}
+
+/// Whether a value has the character between quotes alone.
+fn is_special(character: char) -> bool
+    ensures { result ≡ is_special character }
+{
+    matches!(character, '"' | '\\' | '#' | ';' | '\n' | '\r' | '\t')
 }
 
 /// Adds the value between quotes.
