@@ -1,2 +1,4 @@
-pub mod Values
-pub mod WholeLines
+mod Alone
+mod ReadBack
+mod Values
+mod WholeLines

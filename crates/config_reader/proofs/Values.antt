@@ -11,7 +11,7 @@ use Rattle.config_reader.specs.declared.value.Effect.{Effect}
 use Rattle.config_reader.specs.declared.value.Effect.TheVariants.{Add, Blank, Keep, Skip}
 use Rattle.config_reader.specs.declared.value.Mode.{Mode}
 use Rattle.config_reader.specs.declared.value.Mode.TheVariants.{Gap, Quotes, QuotesEscape, Word}
-use Rattle.config_reader.specs.Values.{affected, begins_blank, ended, ends_blank, ends_value, in_escape, in_plain, is_mark}
+use Rattle.config_reader.specs.Values.{affected, begins_blank, ended, ends_blank, ends_value, step_in_escape, step_in_plain, is_mark}
 use Rattle.config_reader.specs.Values.{is_plain, is_special, is_whole, quoted_byte, read_on, stepped, value_read, written}
 
 module _ (mode : Mode) (value gap : List ℕ) where
@@ -86,7 +86,7 @@ read_behind mode value gap (b ∷ text) r is =
     by_end false ends same later = by_step (stepped mode b) same later
 
 -- an escape is read as the byte that it stands for
-escape_read : (e c : ℕ) (value rest : List ℕ) → (e == 10 && false) ≡ false → in_escape e ≡ Some (Quotes, Add c)
+escape_read : (e c : ℕ) (value rest : List ℕ) → (e == 10 && false) ≡ false → step_in_escape e ≡ Some (Quotes, Add c)
     → read_on Quotes value [] (92 ∷ e ∷ rest) ≡ read_on Quotes (value ++ c ∷ []) [] rest
 escape_read e c value rest goes is =
     step_read Quotes value [] 92 (e ∷ rest) (QuotesEscape, Skip) refl refl
@@ -152,7 +152,7 @@ plain_ended : (m : Bool) (value rest : List ℕ) → ended (plain_mode m) value 
 plain_ended true value rest = refl
 plain_ended false value rest = refl
 
-plain_step : (m : Bool) (b : ℕ) → is_mark b ≡ false → stepped (plain_mode m) b ≡ Some (in_plain b)
+plain_step : (m : Bool) (b : ℕ) → is_mark b ≡ false → stepped (plain_mode m) b ≡ Some (step_in_plain b)
 plain_step true b other = rw other refl
 plain_step false b other = rw other refl
 
@@ -162,7 +162,7 @@ not_mark b plain = grind (arith, nat_tests)
 not_feed : (b : ℕ) → is_special b ≡ false → (b == 10) ≡ false
 not_feed b plain = grind (arith, nat_tests)
 
-in_word : (b : ℕ) → is_special b ≡ false → (b == 32) ≡ false → in_plain b ≡ (Word, Add b)
+in_word : (b : ℕ) → is_special b ≡ false → (b == 32) ≡ false → step_in_plain b ≡ (Word, Add b)
 in_word b plain space = grind (arith, nat_tests)
 
 or_false : (x y : Bool) → (x || y) ≡ false → (x ≡ false) × (y ≡ false)
@@ -211,7 +211,7 @@ plain_read m (b ∷ bytes) first value gap rest plain ends closed =
         (ap (λ t. t ++ bytes) (append-nil (first ∷ ((value ++ gap) ++ b ∷ []))) ∙ append_assoc ((first ∷ value) ++ gap) (b ∷ []) bytes)
 
 -- what is written is read again
-pub written_read : (value rest : List ℕ) → value_read (written value ++ 10 ∷ rest) ≡ Some (value, rest)
+written_read : (value rest : List ℕ) → value_read (written value ++ 10 ∷ rest) ≡ Some (value, rest)
 written_read value rest = by_form (is_plain value) refl
   where
     quoted : List ℕ
@@ -237,6 +237,11 @@ written_read value rest = by_form (is_plain value) refl
         (step_read Gap [] [] 34 ((quoted ++ 34 ∷ []) ++ 10 ∷ rest) (Quotes, Keep) refl refl
         ∙ ap (read_on Quotes [] []) (append_assoc quoted (34 ∷ []) (10 ∷ rest))
         ∙ bytes_read value [] rest)
+
+-- and so it is behind a blank
+pub written_behind_blank : (value rest : List ℕ) → value_read (32 ∷ (written value ++ 10 ∷ rest)) ≡ Some (value, rest)
+written_behind_blank value rest =
+    step_read Gap [] [] 32 (written value ++ 10 ∷ rest) (Gap, Blank) refl refl ∙ written_read value rest
 
 -- a character between quotes
 pub character_written : (c : ℕ) → c < 128 → flat_map quoted_byte (encode_utf8 c) ≡ quoted_byte c

@@ -1,4 +1,7 @@
+pub mod Changed
+pub mod Faults
 pub mod Lines
 pub mod Names
+pub mod Shown
 pub mod Values
 pub mod Written

@@ -18,21 +18,21 @@ abbrev pub is_mark : ℕ → Bool
 is_mark b = b == 35 || b == 59
 
 -- what a byte does outside of quotes that is no mark, and what the next one belongs to
-abbrev pub in_plain : ℕ → Mode × Effect
-in_plain b =
+abbrev pub step_in_plain : ℕ → Mode × Effect
+step_in_plain b =
     if b == 34 then (Quotes, Keep) else
     if b == 92 then (WordEscape, Keep) else
     if is_blank b then (Gap, Blank) else (Word, Add b)
 
 -- the same in quotes
-abbrev pub in_quotes : ℕ → Mode × Effect
-in_quotes b =
+abbrev pub step_in_quotes : ℕ → Mode × Effect
+step_in_quotes b =
     if b == 34 then (Word, Skip) else
     if b == 92 then (QuotesEscape, Skip) else (Quotes, Add b)
 
 -- the same behind a backslash in quotes, or none where the byte is at fault
-abbrev pub in_escape : ℕ → Option (Mode × Effect)
-in_escape b =
+abbrev pub step_in_escape : ℕ → Option (Mode × Effect)
+step_in_escape b =
     if b == 13 then Some (QuotesJoin, Skip) else
     if b == 10 then Some (Quotes, Skip) else
     if b == 34 || b == 92 then Some (Quotes, Add b) else
@@ -42,14 +42,14 @@ in_escape b =
 -- what a byte does, and what the next one belongs to, or none where the byte is at fault
 abbrev pub stepped : Mode → ℕ → Option (Mode × Effect)
 stepped Comment b = Some (Comment, Skip)
-stepped Gap b = if is_mark b then Some (Comment, Skip) else Some (in_plain b)
-stepped Word b = if is_mark b then None else Some (in_plain b)
-stepped Quotes b = Some (in_quotes b)
+stepped Gap b = if is_mark b then Some (Comment, Skip) else Some (step_in_plain b)
+stepped Word b = if is_mark b then None else Some (step_in_plain b)
+stepped Quotes b = Some (step_in_quotes b)
 stepped WordEscape b =
     if b == 13 then Some (WordJoin, Skip) else
     if b == 10 then Some (Word, Skip) else None
 stepped WordJoin b = if b == 10 then Some (Word, Skip) else None
-stepped QuotesEscape b = in_escape b
+stepped QuotesEscape b = step_in_escape b
 stepped QuotesJoin b = if b == 10 then Some (Quotes, Skip) else None
 
 -- whether a line feed there ends the value

@@ -1,17 +1,23 @@
 //! The two ways to ask, by arguments and by lines of standard input, and what commands show.
+ghost use Rattle.std.specs.List.{list_any};
 ghost use Rattle.std.specs.Prelude.{◌≡◌, ◌++◌, IfOk, OnOk};
 ghost use Rattle.std.specs.String.{string_bytes};
 ghost use Rattle.ordered_multimap.specs.Walk.{end_item};
 ghost use Rattle.ordered_multimap.specs.End.TheVariants.{Back};
 ghost use Rattle.ordered_multimap.specs.Pairs.{is_present, values_of};
-ghost use Rattle.config_reader.specs.Names.{same_name};
-ghost use Rattle.config_reader.specs.Written.{line_of, texts_of, value_line, value_lines};
+ghost use Rattle.config_reader.specs.Changed.{IsReadBack, Leaves};
+ghost use Rattle.config_reader.specs.Lines.{lined};
+ghost use Rattle.config_reader.specs.Names.{is_named_section, is_setting_of, same_name};
+ghost use Rattle.config_reader.specs.Shown.{answer_of, is_found, shown};
+ghost use Rattle.config_reader.specs.Written.{key_lines, line_of, section_lines, texts_of};
+ghost use Rattle.config_reader.specs.Written.{value_line, value_lines};
+ghost use Rattle.config_reader.specs.declared.command.Command.TheVariants.{Write};
 
-use crate::change::{add, set, unset};
+use crate::change::change;
 use crate::command::Command;
 use crate::config::Config;
 use crate::lines::lines_in;
-use crate::name::{NO_KEY, NO_SECTION, Name, Section};
+use crate::name::{Name, Section};
 use crate::reader::{read_config, read_to_bar};
 use program_parts::{Fault, bad, without_mark};
 use std::alloc::{AllocError, Global};
@@ -52,12 +58,24 @@ pub fn add_answers<'t>(
 
 /// Adds the answer to a question.
 fn add_answer<'t>(config: &Config<'t>, question: &'t str, answers: &mut String) -> io::Result<()> {
-    if question.is_empty() {
-        return Ok(());
+    if !question.is_empty() {
+        answer_to(config, Command::of_line(question)?, answers)?;
     }
-    let command = Command::of_line(question)?;
-    if !show(config, command, answers)?
-        && let Command::Get(_) = command
+    Ok(())
+}
+
+/// Adds what the question's command shows, or that there is no value.
+fn answer_to<'t>(
+    config: &Config<'t>,
+    command: Command<'t>,
+    answers: &mut String,
+) -> Result<(), AllocError>
+    ensures { OnOk result (string_bytes answers.new ≡ string_bytes answers.old
+        ++ answer_of command.entry config.now.lists) }
+{
+    let found = show(config, command, answers)?;
+    if let Command::Get(_) = command
+        && !found
     {
         answers.push_str("none\n")?;
     }
@@ -75,33 +93,64 @@ pub fn add_answer_of_words<'t>(
 ) -> Result<(), Fault> {
     let command = Command::of_words(words)?;
     let (text, end) = text_of_input(input);
+    if answer_on_text(alloc, config, text, end, command, answers)? {
+        Ok(())
+    } else {
+        Err(Fault::Absent)
+    }
+}
+
+/// Reads the text into `config`, and adds what the command shows. Returns whether there is anything.
+/// The fault is that of a line behind the text.
+fn answer_on_text<'t>(
+    alloc: Global,
+    config: &mut Config<'t>,
+    text: &'t str,
+    end: Result<(), Fault>,
+    command: Command<'t>,
+    answers: &mut String,
+) -> Result<bool, Fault>
+    ensures write { command.entry ≡ Write → OnOk result (string_bytes answers.new
+        ≡ string_bytes answers.old ++ (texts_of config.old.lists.pairs ++ lined text.now)) }
+{
     read_config(alloc, config, text)?;
     end?;
-    match command {
-        Command::Set(name, value) => set(alloc, config, name, value)?,
-        Command::Add(name, value) => add(alloc, config, name, value)?,
-        Command::Unset(name) => unset(config, name),
-        _ => {
-            let found = show(config, command, answers)?;
-            return if found { Ok(()) } else { Err(Fault::Absent) };
-        }
-    }
-    add_texts(config, answers)?;
-    Ok(())
+    Ok(carry_out(alloc, config, command, answers)?)
+}
+
+/// Does what the command says, adds what it shows, and returns whether there is anything.
+fn carry_out<'t>(
+    alloc: Global,
+    config: &mut Config<'t>,
+    command: Command<'t>,
+    answers: &mut String,
+) -> Result<bool, AllocError>
+    ensures leaves { OnOk result (Leaves command.entry config.old.lists config.new.lists) }
+    ensures read_back { OnOk result (IsReadBack command.entry config.new.lists) }
+    ensures found { IfOk result (λ found. found ≡ is_found command.entry config.new.lists) }
+    ensures shown { OnOk result (string_bytes answers.new ≡ string_bytes answers.old
+        ++ shown command.entry config.new.lists) }
+{
+    change(alloc, config, command)?;
+    show(config, command, answers)
 }
 
 /// Adds what the command shows, and returns whether there is anything.
-fn show(
-    config: &Config<'_>,
-    command: Command<'_>,
+fn show<'t>(
+    config: &Config<'t>,
+    command: Command<'t>,
     answers: &mut String,
-) -> Result<bool, AllocError> {
+) -> Result<bool, AllocError>
+    ensures found { IfOk result (λ found. found ≡ is_found command.entry config.now.lists) }
+    ensures shown { OnOk result (string_bytes answers.new ≡ string_bytes answers.old
+        ++ shown command.entry config.now.lists) }
+{
     match command {
         Command::Get(name) => add_last(config, name, answers),
         Command::All(name) => add_all(config, name, answers),
         Command::Keys(section) => add_keys(config, section, answers),
         Command::Sections => add_sections(config, answers),
-        _ => {
+        Command::Set(_, _) | Command::Add(_, _) | Command::Unset(_) | Command::Write => {
             add_texts(config, answers)?;
             Ok(true)
         }
@@ -150,26 +199,38 @@ fn add_line(text: &str, answers: &mut String) -> Result<(), AllocError>
     answers.push('\n')
 }
 
-fn add_keys(
-    config: &Config<'_>,
-    section: Section<'_>,
+/// Adds each key of the section, and returns whether it has one.
+fn add_keys<'t>(
+    config: &Config<'t>,
+    section: Section<'t>,
     answers: &mut String,
-) -> Result<bool, AllocError> {
+) -> Result<bool, AllocError>
+    ensures found { IfOk result (λ found. found
+        ≡ list_any (is_setting_of section.entry) config.now.lists.keys) }
+    ensures shown { OnOk result (string_bytes answers.new ≡ string_bytes answers.old
+        ++ key_lines section.entry config.now.lists.keys) }
+{
     let mut is_there = false;
     for name in config.keys() {
-        if name.section == section && name.key != NO_KEY {
-            writeln!(answers, "{}", name.key)?;
+        if name.is_setting_of(section) {
+            add_line(name.key.as_str(), answers)?;
             is_there = true;
         }
     }
     Ok(is_there)
 }
 
-fn add_sections(config: &Config<'_>, answers: &mut String) -> Result<bool, AllocError> {
+/// Adds the name of each section, and returns whether there is one.
+fn add_sections(config: &Config<'_>, answers: &mut String) -> Result<bool, AllocError>
+    ensures found { IfOk result (λ found. found ≡ list_any is_named_section config.now.lists.keys) }
+    ensures shown { OnOk result (string_bytes answers.new ≡ string_bytes answers.old
+        ++ section_lines config.now.lists.keys) }
+{
     let mut is_there = false;
     for name in config.keys() {
-        if name.key == NO_KEY && name.section != NO_SECTION {
-            writeln!(answers, "{}", name.section)?;
+        if name.is_named_section() {
+            name.section.add_name(answers)?;
+            answers.push('\n')?;
             is_there = true;
         }
     }

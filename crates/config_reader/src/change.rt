@@ -1,25 +1,52 @@
 //! What commands make of a configuration.
 ghost use Rattle.std.specs.Cow.{cow_str_bytes};
-ghost use Rattle.std.specs.Prelude.{◌≡◌, IfOk, IsPermutation, OnOk};
-ghost use Rattle.ordered_multimap.specs.Changes.{appended, removed};
+ghost use Rattle.std.specs.Prelude.{◌≡◌, [], IfOk, OnOk};
+ghost use Rattle.ordered_multimap.specs.Changes.{removed};
 ghost use Rattle.ordered_multimap.specs.SetLists.{value_set};
+ghost use Rattle.config_reader.specs.Changed.{Adds, AddsByRank, AddsSection, IsSetting};
+ghost use Rattle.config_reader.specs.Changed.{IsReadBack, Leaves, Opens, Sets, settings_rank};
 ghost use Rattle.config_reader.specs.Names.{same_name};
+ghost use Rattle.config_reader.specs.Written.{section_line};
 
+use crate::command::Command;
 use crate::config::{Config, Lines};
-use crate::name::{NO_KEY, NO_SECTION, Name, Section};
+use crate::name::{NO_SECTION, Name, Section};
 use crate::value::add_value;
 use ascii_caseless::AsciiCaseless;
 use std::alloc::{AllocError, Global};
 use std::borrow::CowStr;
 
+/// Does to the configuration what the command says.
+pub fn change<'t>(
+    alloc: Global,
+    config: &mut Config<'t>,
+    command: Command<'t>,
+) -> Result<(), AllocError>
+    ensures leaves { OnOk result (Leaves command.entry config.old.lists config.new.lists) }
+    ensures read_back { OnOk result (IsReadBack command.entry config.new.lists) }
+{
+    match command {
+        Command::Set(name, value) => set(alloc, config, name, value),
+        Command::Add(name, value) => add(alloc, config, name, value),
+        Command::Unset(name) => {
+            unset(config, name);
+            Ok(())
+        }
+        Command::Get(_) | Command::All(_) | Command::Keys(_) => Ok(()),
+        Command::Sections | Command::Write => Ok(()),
+    }
+}
+
 /// Gives the name's first setting this value, and takes its others out. A new setting goes to the
 /// end of its section.
-pub fn set<'t>(
+fn set<'t>(
     alloc: Global,
     config: &mut Config<'t>,
     name: Name<'t>,
     value: &'t str,
-) -> Result<(), AllocError> {
+) -> Result<(), AllocError>
+    ensures { OnOk result (Sets name.entry value.now config.old.lists config.new.lists) }
+{
     let Some((stored, lines)) = config.get_key_value(&name) else {
         return add(alloc, config, name, value);
     };
@@ -29,12 +56,14 @@ pub fn set<'t>(
 }
 
 /// Adds a setting at the end of its section, which is made where there is none.
-pub fn add<'t>(
+fn add<'t>(
     alloc: Global,
     config: &mut Config<'t>,
     name: Name<'t>,
     value: &'t str,
-) -> Result<(), AllocError> {
+) -> Result<(), AllocError>
+    ensures { OnOk result (Adds name.entry value.now config.old.lists config.new.lists) }
+{
     let rank = rank_of(alloc, config, name.section)?;
     let lines = setting(
         alloc,
@@ -65,18 +94,14 @@ fn add_lines<'t>(
     name: Name<'t>,
     lines: Lines<'t>,
 ) -> Result<(), AllocError>
-    ensures names { OnOk result (config.new.lists.keys
-        ≡ (appended same_name config.old.lists name.entry lines.entry).keys) }
-    ensures lines { OnOk result (IsPermutation
-        (appended same_name config.old.lists name.entry lines.entry).pairs
-        config.new.lists.pairs) }
+    ensures { OnOk result (AddsByRank name.entry lines.entry config.old.lists config.new.lists) }
 {
     config.append(name, lines)?;
     config.sort_by(|_, lines, _, others| lines.rank.cmp(&others.rank))
 }
 
 /// Takes the settings of the name out.
-pub fn unset<'t>(config: &mut Config<'t>, name: Name<'t>)
+fn unset<'t>(config: &mut Config<'t>, name: Name<'t>)
     ensures { config.new.lists ≡ removed same_name config.old.lists name.entry }
 {
     drop(config.remove(&name));
@@ -87,22 +112,37 @@ fn rank_of<'t>(
     alloc: Global,
     config: &mut Config<'t>,
     section: Section<'t>,
-) -> Result<usize, AllocError> {
+) -> Result<usize, AllocError>
+    ensures { IfOk result (Opens section.entry config.old.lists config.new.lists) }
+{
     let name = Name::of_section(section);
     if section == NO_SECTION {
         return Ok(0);
     }
-    if let Some(lines) = config.get_last(&name) {
-        return Ok(settings_rank(lines.rank));
-    }
+    let Some(lines) = config.get_last(&name) else {
+        return add_section(alloc, config, name);
+    };
+    Ok(settings_rank(lines.rank))
+}
+
+/// Adds the line of the section of this name at the end, and returns the rank of its settings.
+fn add_section<'t>(
+    alloc: Global,
+    config: &mut Config<'t>,
+    name: Name<'t>,
+) -> Result<usize, AllocError>
+    ensures { IfOk result (AddsSection name.entry config.old.lists config.new.lists) }
+{
     let last = config.back().map(|(_, lines)| lines.rank).unwrap_or(0);
     let rank = settings_rank(last).saturating_add(2);
-    config.append(name, section_line(alloc, section, rank)?)?;
+    config.append(name, section_line(alloc, name.section, rank)?)?;
     Ok(rank)
 }
 
 // The rank of the settings of the section that a line of this rank is in.
-fn settings_rank(rank: usize) -> usize {
+fn settings_rank(rank: usize) -> usize
+    ensures { result ≡ settings_rank rank }
+{
     rank - rank % 2
 }
 
@@ -111,7 +151,11 @@ fn section_line<'t>(
     alloc: Global,
     section: Section<'t>,
     rank: usize,
-) -> Result<Lines<'t>, AllocError> {
+) -> Result<Lines<'t>, AllocError>
+    ensures text { IfOk result (λ lines. cow_str_bytes lines.text ≡ section_line section.entry) }
+    ensures value { IfOk result (λ lines. cow_str_bytes lines.value ≡ []) }
+    ensures rank { IfOk result (λ lines. lines.rank ≡ rank) }
+{
     let mut text = String::new(alloc);
     section.add_line(&mut text)?;
     let text = CowStr::Owned(text);
@@ -127,10 +171,14 @@ fn setting<'t>(
     value: &'t str,
     rank: usize,
 ) -> Result<Lines<'t>, AllocError>
-    ensures value { IfOk result (λ lines. cow_str_bytes lines.value ≡ value.now) }
+    ensures is_setting { IfOk result (λ lines.
+        IsSetting indent.now key.entry.0.now value.now lines) }
     ensures rank { IfOk result (λ lines. lines.rank ≡ rank) }
 {
-    let mut text = format!(in alloc; "{indent}{key} = ")?;
+    let mut text = String::new(alloc);
+    text.push_str(indent)?;
+    text.push_str(key.as_str())?;
+    text.push_str(" = ")?;
     add_value(value, &mut text)?;
     text.push('\n')?;
     let text = CowStr::Owned(text);
@@ -141,7 +189,7 @@ fn setting<'t>(
 /// How far the section's last setting is indented, and by a tab where there is none.
 fn indent_in<'c>(config: &'c Config<'_>, section: Section<'_>) -> &'c str {
     for (name, lines) in config.iter().rev() {
-        if name.section == section && name.key != NO_KEY {
+        if name.is_setting_of(section) {
             return indent_of(lines.text.as_str());
         }
     }

@@ -1,4 +1,9 @@
 //! Commands on a configuration.
+ghost use Rattle.std.specs.IoError.{error_kind};
+ghost use Rattle.std.specs.Prelude.{◌≡◌, IfErr};
+ghost use Rattle.std.specs.declared.io.ErrorKind.TheVariants.{InvalidData};
+ghost use Rattle.program_parts.specs.Statuses.{status_of_fault};
+
 use crate::name::{NO_SECTION, Name, Section};
 use program_parts::{Fault, bad};
 use std::io;
@@ -26,7 +31,9 @@ pub enum Command<'t> {
 
 impl<'t> Command<'t> {
     /// The question on a line: a word, and behind a space what it asks for.
-    pub fn of_line(line: &'t str) -> io::Result<Command<'t>> {
+    pub fn of_line(line: &'t str) -> io::Result<Command<'t>>
+        ensures bad { IfErr result (λ error. error_kind error ≡ InvalidData) }
+    {
         let (word, operand) = line.split_once(' ').unwrap_or((line, ""));
         Command::of_operand(word, operand.trim())
     }
@@ -36,14 +43,18 @@ impl<'t> Command<'t> {
     /// # Errors
     ///
     /// [`Fault::Usage`] if they say none.
-    pub fn of_words(words: &'t [String]) -> Result<Command<'t>, Fault> {
+    pub fn of_words(words: &'t [String]) -> Result<Command<'t>, Fault>
+        ensures bad { IfErr result (λ fault. status_of_fault fault ≡ 2) }
+    {
         match Command::parse(words) {
             Ok(command) => Ok(command),
             Err(error) => Err(Fault::Usage(error)),
         }
     }
 
-    fn parse(words: &'t [String]) -> io::Result<Command<'t>> {
+    fn parse(words: &'t [String]) -> io::Result<Command<'t>>
+        ensures bad { IfErr result (λ error. error_kind error ≡ InvalidData) }
+    {
         match words {
             [word] => Command::of_operand(word.as_str(), ""),
             [word, operand] if word.as_str() == "unset" => {
@@ -57,7 +68,9 @@ impl<'t> Command<'t> {
         }
     }
 
-    fn of_pair(word: &str, name: Name<'t>, value: &'t str) -> io::Result<Command<'t>> {
+    fn of_pair(word: &str, name: Name<'t>, value: &'t str) -> io::Result<Command<'t>>
+        ensures bad { IfErr result (λ error. error_kind error ≡ InvalidData) }
+    {
         match word {
             "set" => Ok(Command::Set(name, value)),
             "add" => Ok(Command::Add(name, value)),
@@ -65,7 +78,9 @@ impl<'t> Command<'t> {
         }
     }
 
-    fn of_operand(word: &str, operand: &'t str) -> io::Result<Command<'t>> {
+    fn of_operand(word: &str, operand: &'t str) -> io::Result<Command<'t>>
+        ensures bad { IfErr result (λ error. error_kind error ≡ InvalidData) }
+    {
         match word {
             "get" if !operand.is_empty() => Ok(Command::Get(Name::parse(operand)?)),
             "all" if !operand.is_empty() => Ok(Command::All(Name::parse(operand)?)),

@@ -25,8 +25,8 @@
 //! quote, a backslash, a line feed and a tab.
 //!
 //! What programs read in several ways is a bad line: a setting that is indented more than the one
-//! above it, `KEY: VALUE`, `#` or `;` within a word, a backslash without quotes, any other escape, and
-//! a quote without an end.
+//! above it, `KEY: VALUE`, `#` or `;` within a word, a backslash without quotes, any other escape, a
+//! quote without an end, and a section with nothing between its quotes or behind its dot.
 //!
 //! `set`, `add`, `unset` and `write` write the whole text. Lines that aren't touched stay as they are,
 //! with comments and empty lines; a last line without a line feed gets one. `set` of an absent key

@@ -1,9 +1,15 @@
 //! Names of sections and of settings.
+ghost use Rattle.std.specs.IoError.{error_kind};
+ghost use Rattle.std.specs.Prelude.{◌≡◌, ◌<◌, ◌++◌, [], IfErr, IfOk, IsTrue, OnOk, length};
+ghost use Rattle.std.specs.String.{string_bytes};
+ghost use Rattle.std.specs.declared.io.ErrorKind.TheVariants.{InvalidData};
+ghost use Rattle.config_reader.specs.Names.{is_named_section, is_setting_of};
+ghost use Rattle.config_reader.specs.Written.{in_quotes, section_line, section_name};
+
 use ascii_caseless::AsciiCaseless;
 use program_parts::bad;
 use std::alloc::AllocError;
-use std::fmt::Write;
-use std::{fmt, io};
+use std::io;
 
 /// The name of a section: a word without case, and behind it perhaps a name with case.
 #[derive(Clone, Copy, PartialEq, Eq, Hash)]
@@ -34,23 +40,28 @@ impl<'t> Section<'t> {
     ///
     /// # Errors
     ///
-    /// An empty name, a bracket, a quote at another place, or a backslash.
-    pub fn parse(text: &'t str) -> io::Result<Section<'t>> {
-        match text.split_once('"') {
-            Some((word, quoted)) => match quoted.strip_suffix('"') {
-                Some(sub) => Section::of_parts(word.trim(), sub),
-                None => Err(bad("not the name of a section")),
-            },
-            None => {
-                let (word, sub) = text.split_once('.').unwrap_or((text, ""));
-                Section::of_parts(word.trim(), sub)
-            }
+    /// An empty word, nothing behind the dot or between the quotes, a bracket, a quote at another
+    /// place, or a backslash.
+    pub fn parse(text: &'t str) -> io::Result<Section<'t>>
+        ensures bad { IfErr result (λ error. error_kind error ≡ InvalidData) }
+    {
+        let Some((word, quoted)) = text.split_once('"') else {
+            return match text.split_once('.') {
+                Some((word, sub)) => Section::of_parts(word.trim(), Some(sub)),
+                None => Section::of_parts(text.trim(), None),
+            };
+        };
+        match quoted.strip_suffix('"') {
+            Some(sub) => Section::of_parts(word.trim(), Some(sub)),
+            None => Err(bad("not the name of a section")),
         }
     }
 
     /// The section that a line opens, whose text behind the bracket this is. A comment may stand
     /// behind it.
-    pub fn of_line(inside: &'t str) -> io::Result<Section<'t>> {
+    pub fn of_line(inside: &'t str) -> io::Result<Section<'t>>
+        ensures bad { IfErr result (λ error. error_kind error ≡ InvalidData) }
+    {
         let end = match inside.split_once('"') {
             Some((word, _)) if !word.contains(']') => "\"]",
             _ => "]",
@@ -66,35 +77,75 @@ impl<'t> Section<'t> {
         Section::parse(name.strip_suffix(']').unwrap_or(name).trim())
     }
 
-    fn of_parts(word: &'t str, sub: &'t str) -> io::Result<Section<'t>> {
+    fn of_parts(word: &'t str, sub: Option<&'t str>) -> io::Result<Section<'t>>
+        ensures bad { IfErr result (λ error. error_kind error ≡ InvalidData) }
+    {
         let is_word = !word.is_empty() && !word.contains(['"', '\\', '[', ']']);
-        if !is_word || sub.contains(['"', '\\']) {
+        let is_sub = sub.is_none_or(|sub| !sub.is_empty() && !sub.contains(['"', '\\']));
+        if !is_word || !is_sub {
             return Err(bad("not the name of a section"));
         }
         let word = AsciiCaseless(word);
+        let sub = sub.unwrap_or("");
         Ok(Section { word, sub })
     }
 
-    /// Adds the line that opens the section.
-    pub fn add_line(&self, text: &mut String) -> Result<(), AllocError> {
+    /// Adds the name as a question has it.
+    pub fn add_name(&self, text: &mut String) -> Result<(), AllocError>
+        ensures { OnOk result (string_bytes text.new ≡ string_bytes text.old
+            ++ section_name self.now) }
+    {
+        text.push_str(self.word.as_str())?;
         if self.sub.is_empty() {
-            return writeln!(text, "[{}]", self.word);
+            return Ok(());
         }
-        writeln!(text, "[{} \"{}\"]", self.word, self.sub)
+        text.push('.')?;
+        text.push_str(self.sub)
+    }
+
+    /// Adds the line that opens the section.
+    pub fn add_line(&self, text: &mut String) -> Result<(), AllocError>
+        ensures { OnOk result (string_bytes text.new ≡ string_bytes text.old
+            ++ section_line self.now) }
+    {
+        text.push('[')?;
+        text.push_str(self.word.as_str())?;
+        add_in_quotes(self.sub, text)?;
+        text.push_str("]\n")
     }
 }
 
 impl<'t> Name<'t> {
     /// The name of the lines of a section that are no setting.
-    pub fn of_section(section: Section<'t>) -> Name<'t> {
+    pub fn of_section(section: Section<'t>) -> Name<'t>
+        ensures section { result.section ≡ section.entry }
+        ensures no_key { result.key.0.now ≡ [] }
+    {
         Name {
             section,
             key: NO_KEY,
         }
     }
 
+    /// Whether it is the name of a setting of the section.
+    pub fn is_setting_of(&self, section: Section<'_>) -> bool
+        ensures { result ≡ is_setting_of section.entry self.now }
+    {
+        self.section == section && self.key != NO_KEY
+    }
+
+    /// Whether it is the name of a section, and of none of its settings.
+    pub fn is_named_section(&self) -> bool
+        ensures { result ≡ is_named_section self.now }
+    {
+        self.key == NO_KEY && self.section != NO_SECTION
+    }
+
     /// The name `SECTION.KEY`, or a `KEY` above the first section.
-    pub fn parse(text: &'t str) -> io::Result<Name<'t>> {
+    pub fn parse(text: &'t str) -> io::Result<Name<'t>>
+        ensures key { IfOk result (λ name. 0 < length name.key.0.now) }
+        ensures bad { IfErr result (λ error. error_kind error ≡ InvalidData) }
+    {
         let (section, key) = text.rsplit_once('.').unwrap_or(("", text));
         let (section, key) = (section.trim(), key.trim());
         if !is_key(key) {
@@ -113,18 +164,22 @@ impl<'t> Name<'t> {
 
 /// Whether a setting can have this key. A key has no dot, since a name parts section and key by the
 /// last one.
-pub fn is_key(text: &str) -> bool {
+pub fn is_key(text: &str) -> bool
+    ensures filled { IsTrue result → 0 < length text.now }
+{
     !text.is_empty()
         && !text.contains(['.', ':', '=', '"', '\\', '[', ']', '#', ';'])
         && !text.contains(char::is_whitespace)
 }
 
-impl fmt::Display for Section<'_> {
-    fn fmt<W: fmt::Write>(&self, f: &mut fmt::Formatter<W>) -> fmt::Result {
-        write!(f, "{}", self.word)?;
-        if self.sub.is_empty() {
-            return Ok(());
-        }
-        write!(f, ".{}", self.sub)
+// Adds the name between quotes and behind a blank, if there is one.
+fn add_in_quotes(sub: &str, text: &mut String) -> Result<(), AllocError>
+    ensures { OnOk result (string_bytes text.new ≡ string_bytes text.old ++ in_quotes sub.now) }
+{
+    if sub.is_empty() {
+        return Ok(());
     }
+    text.push_str(" \"")?;
+    text.push_str(sub)?;
+    text.push('"')
 }

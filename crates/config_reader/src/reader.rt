@@ -1,5 +1,7 @@
 //! Reading a text as a configuration, item by item.
-ghost use Rattle.std.specs.Prelude.{◌≡◌, ◌<◌, ◌++◌, [], ℕ, List, length, true, false, IfOk, OnOk};
+ghost use Rattle.std.specs.Prelude.{◌≡◌, ◌<◌, ◌++◌, [], ℕ, List, length, true, false};
+ghost use Rattle.std.specs.Prelude.{IfErr, IfOk, OnOk};
+ghost use Rattle.config_reader.specs.Faults.{IsBadOrRefused, IsLineOrRefused};
 ghost use Rattle.config_reader.specs.Lines.{IsBehindLines, IsReadTo, lined};
 ghost use Rattle.config_reader.specs.Written.{texts_of};
 ghost use Rattle.config_reader.specs.declared.reader.Part.TheVariants.{Whole};
@@ -22,6 +24,7 @@ use std::io;
 pub fn read_config<'t>(alloc: Global, config: &mut Config<'t>, text: &'t str) -> Result<(), Fault>
     ensures kept { OnOk result (texts_of config.new.lists.pairs
         ≡ texts_of config.old.lists.pairs ++ lined text.now) }
+    ensures fault { IfErr result IsLineOrRefused }
 {
     let mut reader = Reader::new(alloc, text);
     reader.read_items(config, Part::Whole)
@@ -37,7 +40,9 @@ pub fn read_to_bar<'t>(
     alloc: Global,
     config: &mut Config<'t>,
     text: &'t str,
-) -> Result<(usize, &'t str), Fault> {
+) -> Result<(usize, &'t str), Fault>
+    ensures fault { IfErr result IsLineOrRefused }
+{
     let mut reader = Reader::new(alloc, text);
     reader.read_items(config, Part::ToBar)?;
     let (_, behind) = first_line(reader.rest);
@@ -92,6 +97,7 @@ impl<'t> Reader<'t> {
             → IsReadTo (texts_of config.old.lists.pairs) self.old.between.now self.old.rest.now all
             → OnOk result (texts_of config.new.lists.pairs ++ lined self.new.rest.now ≡ all) }
         ensures whole { part ≡ Whole → OnOk result (self.new.rest.now ≡ []) }
+        ensures fault { IfErr result IsLineOrRefused }
     {
         while !self.is_at_end(part) {
             if let Err(error) = self.read_item(config) {
@@ -123,6 +129,7 @@ impl<'t> Reader<'t> {
             self.new.between.now self.new.rest.now all) }
         ensures shorter { 0 < length self.old.rest.now
             → OnOk result (length self.new.rest.now < length self.old.rest.now) }
+        ensures fault { IfErr result IsBadOrRefused }
     {
         let (line, behind) = first_line(self.rest);
         let word = line.trim();
@@ -149,6 +156,7 @@ impl<'t> Reader<'t> {
             → OnOk result (IsReadTo (texts_of config.new.lists.pairs)
             self.new.between.now self.new.rest.now all) }
         ensures rest { OnOk result (self.new.rest.now ≡ behind.now) }
+        ensures fault { IfErr result IsBadOrRefused }
     {
         self.add_between(config, self.rank.saturating_add(1))?;
         self.section = Section::of_line(line.trim_start().strip_prefix('[').unwrap_or(""))?;
@@ -165,6 +173,7 @@ impl<'t> Reader<'t> {
             self.new.between.now self.new.rest.now all) }
         ensures shorter { 0 < length self.old.rest.now
             → OnOk result (length self.new.rest.now < length self.old.rest.now) }
+        ensures fault { IfErr result IsBadOrRefused }
     {
         self.add_between(config, self.rank)?;
         let indent = line.len().saturating_sub(line.trim_start().len());
@@ -228,6 +237,7 @@ fn setting_of<'t>(
     ensures lines { IfOk result (λ setting. IsBehindLines rest.now setting.2.now) }
     ensures shorter { IfOk result (λ setting. 0 < length rest.now
         → length setting.2.now < length rest.now) }
+    ensures fault { IfErr result IsBadOrRefused }
 {
     let (key, is_alone) = match line.split_once('=') {
         Some((key, _)) => (key.trim(), false),
@@ -248,6 +258,7 @@ fn setting_of<'t>(
 fn value_behind_sign(alloc: Global, rest: &str) -> io::Result<(String, &str)>
     ensures lines { IfOk result (λ r. IsBehindLines rest.now r.1.now) }
     ensures shorter { IfOk result (λ r. 0 < length rest.now → length r.1.now < length rest.now) }
+    ensures fault { IfErr result IsBadOrRefused }
 {
     let Some((_, text)) = rest.split_once('=') else {
         return Err(bad("not a section or a setting"));

@@ -12,8 +12,9 @@ ghost use Rattle.std.specs.Char.{encode_utf8};
 ghost use Rattle.std.specs.List.{flat_map};
 ghost use Rattle.std.specs.String.{string_bytes};
 ghost use Rattle.std.specs.declared.io.ErrorKind.TheVariants.{InvalidData};
-ghost use Rattle.config_reader.specs.Values.{affected, ended, ends_value, in_escape, in_plain};
-ghost use Rattle.config_reader.specs.Values.{in_quotes, is_mark, is_plain, is_special};
+ghost use Rattle.config_reader.specs.Faults.{IsBadOrRefused};
+ghost use Rattle.config_reader.specs.Values.{affected, ended, ends_value, step_in_escape, step_in_plain};
+ghost use Rattle.config_reader.specs.Values.{step_in_quotes, is_mark, is_plain, is_special};
 ghost use Rattle.config_reader.specs.Values.{quoted_byte, read_on, stepped, value_read, written};
 
 use program_parts::bad;
@@ -30,6 +31,7 @@ pub fn read_value(alloc: Global, text: &[u8]) -> io::Result<(String, &[u8])>
     ensures value { IfOk result (λ r. value_read text.now ≡ Some (string_bytes r.0, r.1.now)) }
     ensures bad { IfErr result (λ error. error_kind error ≡ InvalidData
         → IfSome (value_read text.now) (λ r. ¬ IsUtf8 r.0)) }
+    ensures fault { IfErr result IsBadOrRefused }
 {
     let mut reader = Reader {
         value: Vec::new(alloc),
@@ -92,6 +94,7 @@ impl Reader {
             ≡ ended self.new.mode self.new.value.items (drop 1 rest.now))) }
         ensures bad { IfErr result (λ error. error_kind error ≡ InvalidData
             → read_on self.old.mode self.old.value.items self.old.gap.items rest.now ≡ None) }
+        ensures fault { IfErr result IsBadOrRefused }
     {
         let Some((byte, behind)) = rest.split_first() else {
             return Ok(None);
@@ -142,6 +145,7 @@ impl Reader {
             ≡ Some (string_bytes r.0, r.1.now)) }
         ensures bad { IfErr result (λ error. error_kind error ≡ InvalidData
             → IfSome (ended self.mode self.value.items (drop 1 rest.now)) (λ r. ¬ IsUtf8 r.0)) }
+        ensures fault { IfErr result IsBadOrRefused }
     {
         match self.mode {
             Mode::Quotes | Mode::QuotesEscape | Mode::QuotesJoin => {
@@ -176,6 +180,7 @@ fn is_end(mode: Mode, byte: u8) -> bool
 fn step(mode: Mode, byte: u8) -> io::Result<(Mode, Effect)>
     ensures step { IfOk result (λ step. stepped mode byte ≡ Some step) }
     ensures bad { IfErr result (λ error. stepped mode byte ≡ None) }
+    ensures fault { IfErr result IsBadOrRefused }
 {
     match mode {
         Mode::Comment => Ok((Mode::Comment, Effect::Skip)),
@@ -199,7 +204,7 @@ fn is_mark(byte: u8) -> bool
 }
 
 fn step_in_plain(byte: u8) -> (Mode, Effect)
-    ensures { result ≡ in_plain byte }
+    ensures { result ≡ step_in_plain byte }
 {
     match byte {
         b'"' => (Mode::Quotes, Effect::Keep),
@@ -210,7 +215,7 @@ fn step_in_plain(byte: u8) -> (Mode, Effect)
 }
 
 fn step_in_quotes(byte: u8) -> (Mode, Effect)
-    ensures { result ≡ in_quotes byte }
+    ensures { result ≡ step_in_quotes byte }
 {
     match byte {
         b'"' => (Mode::Word, Effect::Skip),
@@ -220,8 +225,9 @@ fn step_in_quotes(byte: u8) -> (Mode, Effect)
 }
 
 fn step_in_escape(byte: u8) -> io::Result<(Mode, Effect)>
-    ensures step { IfOk result (λ step. in_escape byte ≡ Some step) }
-    ensures bad { IfErr result (λ error. in_escape byte ≡ None) }
+    ensures step { IfOk result (λ step. step_in_escape byte ≡ Some step) }
+    ensures bad { IfErr result (λ error. step_in_escape byte ≡ None) }
+    ensures fault { IfErr result IsBadOrRefused }
 {
     match byte {
         b'\r' => Ok((Mode::QuotesJoin, Effect::Skip)),
@@ -234,11 +240,11 @@ fn step_in_escape(byte: u8) -> io::Result<(Mode, Effect)>
 }
 
 /// Adds a value as it can be read again: between quotes where it has to stand there.
-#[tactic(auto, using(crate::proofs::Values::written_read))]
+#[tactic(auto, using(crate::proofs::Values::written_behind_blank))]
 pub fn add_value(value: &str, text: &mut String) -> Result<(), AllocError>
     ensures written { OnOk result (string_bytes text.new ≡ string_bytes text.old
         ++ written value.now) }
-    ensures read_again { (rest : List ℕ) → value_read (written value.now ++ 10 ∷ rest)
+    ensures read_again { (rest : List ℕ) → value_read (32 ∷ (written value.now ++ 10 ∷ rest))
         ≡ Some (value.now, rest) }
 {
     if is_plain(value) {

@@ -1,9 +1,10 @@
 -- What a command makes of the headers, and the label of the lines that show a name's values.
 use Rattle.std.specs.Borrow.{Bor}
 use Rattle.std.specs.Str.{str_eq_ignore_ascii_case}
-use Rattle.std.specs.Prelude.{ℕ, Bool, List, [], ◌++◌, Option, Some, None, codes}
+use Rattle.std.specs.Prelude.{ℕ, Bool, true, List, [], ◌++◌, Option, Some, None, codes}
 use Rattle.ordered_multimap.specs.Changes.{appended, removed}
 use Rattle.ordered_multimap.specs.Lists.{Lists}
+use Rattle.ordered_multimap.specs.Pairs.{is_present}
 use Rattle.ordered_multimap.specs.SetLists.{value_set}
 use Rattle.header_store.specs.declared.command.Command.{Command}
 use Rattle.header_store.specs.declared.command.Command.TheVariants.{Show, Set, Add, Remove, Write}
@@ -17,6 +18,11 @@ label_of (Some name) = name.text.0.now ++ codes ": "
 -- names that differ in the case of ASCII letters alone are the same
 abbrev pub same_name : Name → Name → Bool
 same_name name other = str_eq_ignore_ascii_case name.text.0.now other.text.0.now
+
+-- whether there is what the command asks for
+abbrev pub is_found : Command → Lists Name (Bor (List ℕ)) → Bool
+is_found (Show name form) m = is_present same_name m.pairs name
+is_found _ m = true
 
 -- what a command leaves of the headers
 abbrev pub changed : Command → Lists Name (Bor (List ℕ)) → Lists Name (Bor (List ℕ))

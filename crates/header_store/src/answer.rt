@@ -3,7 +3,9 @@ ghost use Rattle.std.specs.Prelude.{◌≡◌, ◌↔◌, ◌++◌, ℕ, List, [
 ghost use Rattle.std.specs.Str.{str_eq_ignore_ascii_case, str_to_ascii_lowercase};
 ghost use Rattle.ordered_multimap.specs.Pairs.{has_items, values_where};
 ghost use Rattle.header_store.specs.Written.{all_behind, header_lines, line_of, shown, value_lines};
-ghost use Rattle.header_store.specs.Changed.{changed, label_of};
+ghost use Rattle.header_store.specs.Changed.{changed, is_found, label_of};
+ghost use Rattle.header_store.specs.Answered.{absence, answer_of, message_of, output_of};
+ghost use Rattle.header_store.specs.Answered.{values_or_absence};
 
 use crate::command::{Command, Form};
 use crate::message::{Frame, Headers, read_message};
@@ -37,20 +39,28 @@ fn add_answer<'t>(
     line: &'t [u8],
     answers: &mut Vec<u8>,
 ) -> io::Result<()> {
-    if line.is_empty() {
-        return Ok(());
-    }
-    let command = Command::of_line(line)?;
-    match command {
-        Command::Show(name, form) => {
-            if !add_values(answers, form, Some(name), values_of(headers, name))? {
-                add_absence(answers, name)?;
-            }
-        }
-        Command::Write => add_message(answers, start, headers)?,
-        _ => change(headers, command)?,
+    if !line.is_empty() {
+        answer_to(headers, start, Command::of_line(line)?, answers)?;
     }
     Ok(())
+}
+
+/// Does what a line's command says, and adds what that shows.
+fn answer_to<'t>(
+    headers: &mut Headers<'t>,
+    start: Option<&[u8]>,
+    command: Command<'t>,
+    answers: &mut Vec<u8>,
+) -> Result<(), AllocError>
+    ensures headers { OnOk result (headers.new.lists ≡ changed command.entry headers.old.lists) }
+    ensures shown { OnOk result (answers.new.items ≡ answers.old.items
+        ++ answer_of start.entry command.entry headers.old.lists) }
+{
+    match command {
+        Command::Show(name, form) => add_values_or_absence(answers, form, name, headers),
+        Command::Write => add_message(answers, start, headers),
+        Command::Set(_, _) | Command::Add(_, _) | Command::Remove(_) => change(headers, command),
+    }
 }
 
 /// Reads a message into `headers`, which is empty, and adds what the command shows of them, or the
@@ -67,14 +77,33 @@ pub fn add_answer_of_words<'t>(
 ) -> Result<(), Fault> {
     let command = Command::of_words(words)?;
     let frame = read_message(headers, input)?;
+    if carry_out(headers, frame, command, answers)? {
+        Ok(())
+    } else {
+        Err(Fault::Absent)
+    }
+}
+
+/// Does what the command of a program's arguments says, adds what it shows, or else the whole
+/// message, and returns whether there is anything.
+fn carry_out<'t>(
+    headers: &mut Headers<'t>,
+    frame: Frame<'t>,
+    command: Command<'t>,
+    answers: &mut Vec<u8>,
+) -> Result<bool, AllocError>
+    ensures headers { OnOk result (headers.new.lists ≡ changed command.entry headers.old.lists) }
+    ensures found { IfOk result (λ found. found ≡ is_found command.entry headers.old.lists) }
+    ensures shown { OnOk result (answers.new.items ≡ answers.old.items
+        ++ output_of frame.entry command.entry headers.new.lists) }
+{
     if let Command::Show(name, form) = command {
-        let found = add_values(answers, form, None, values_of(headers, name))?;
-        return if found { Ok(()) } else { Err(Fault::Absent) };
+        return add_values(answers, form, None, values_of(headers, name));
     }
     change(headers, command)?;
     add_message(answers, frame.start, headers)?;
     answers.extend_from_slice(frame.rest)?;
-    Ok(())
+    Ok(true)
 }
 
 /// Does to the headers what the command says.
@@ -193,8 +222,26 @@ fn add_line(answers: &mut Vec<u8>, text: &[u8]) -> Result<(), AllocError>
     Ok(())
 }
 
+/// Adds the values of the name in this form, or that no header has it.
+fn add_values_or_absence<'t>(
+    answers: &mut Vec<u8>,
+    form: Form,
+    name: Name<'t>,
+    headers: &Headers<'t>,
+) -> Result<(), AllocError>
+    ensures { OnOk result (answers.new.items ≡ answers.old.items
+        ++ values_or_absence form name.entry headers.now.lists) }
+{
+    if !add_values(answers, form, Some(name), values_of(headers, name))? {
+        add_absence(answers, name)?;
+    }
+    Ok(())
+}
+
 // That no header has the name, which is no header either.
-fn add_absence(answers: &mut Vec<u8>, name: Name<'_>) -> Result<(), AllocError> {
+fn add_absence(answers: &mut Vec<u8>, name: Name<'_>) -> Result<(), AllocError>
+    ensures { OnOk result (answers.new.items ≡ answers.old.items ++ absence name.entry) }
+{
     answers.extend_from_slice(b"no ")?;
     add_line(answers, name.as_bytes())
 }
@@ -204,7 +251,10 @@ fn add_message(
     answers: &mut Vec<u8>,
     start: Option<&[u8]>,
     headers: &Headers<'_>,
-) -> Result<(), AllocError> {
+) -> Result<(), AllocError>
+    ensures { OnOk result (answers.new.items ≡ answers.old.items
+        ++ message_of start.entry headers.now.lists) }
+{
     if let Some(start) = start {
         add_line(answers, start)?;
     }

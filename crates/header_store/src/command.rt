@@ -2,6 +2,7 @@
 ghost use Rattle.std.specs.IoError.{error_kind};
 ghost use Rattle.std.specs.Prelude.{◌≡◌, IfErr};
 ghost use Rattle.std.specs.declared.io.ErrorKind.TheVariants.{InvalidData};
+ghost use Rattle.program_parts.specs.Statuses.{status_of_fault};
 
 use crate::field::{field_of, name_of, split_at_byte, value_of};
 use crate::name::{COOKIE, Name, SET_COOKIE};
@@ -60,7 +61,9 @@ impl<'t> Command<'t> {
     /// # Errors
     ///
     /// [`Fault::Usage`] if they say none, or if a name or a value is forbidden.
-    pub fn of_words(words: &'t [String]) -> Result<Command<'t>, Fault> {
+    pub fn of_words(words: &'t [String]) -> Result<Command<'t>, Fault>
+        ensures bad { IfErr result (λ fault. status_of_fault fault ≡ 2) }
+    {
         match Command::parse(words) {
             Ok(command) => Ok(command),
             Err(error) => Err(Fault::Usage(error)),

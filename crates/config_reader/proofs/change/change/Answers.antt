@@ -1,0 +1,16 @@
+use Rattle.std.proofs.Common.{◌∙◌, ap}
+use Rattle.std.proofs.lemmas.Result.{on_ok_weaker}
+use Rattle.ordered_multimap.specs.Pairs.{is_present}
+use Rattle.config_reader.specs.Names.{same_name}
+use Rattle.config_reader.proofs.ReadBack.{absent_removed, set_alone}
+use Rattle.config_reader.proofs.change.change.Goals as goal
+
+pub returns-in-Set-clause-read_back : goal.returns-in-Set-clause-read_back
+returns-in-Set-clause-read_back c =
+    rw c.in-Set.is (on_ok_weaker c.set.result (set_alone _ _ _ _) c.set.ensures)
+
+pub returns-in-Unset-clause-read_back : goal.returns-in-Unset-clause-read_back
+returns-in-Unset-clause-read_back c =
+    rw c.in-Unset.is
+    (ap (λ m. is_present same_name m.pairs c.in-Unset.name) c.unset.ensures
+    ∙ absent_removed c.in-Unset.name c.args.config.now.lists)
