@@ -1,2 +1,3 @@
 mod Alone
+mod Blanks
 mod ReadBack
