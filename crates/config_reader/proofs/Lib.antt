@@ -1,4 +1,5 @@
 mod Alone
+mod Blanks
 mod ReadBack
 mod Values
 mod WholeLines

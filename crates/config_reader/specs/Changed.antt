@@ -1,9 +1,12 @@
 -- What commands leave of a configuration.
+use Rattle.std.specs.Char.{is_not_whitespace}
 use Rattle.std.specs.Cow.{cow_str_bytes}
 use Rattle.std.specs.List.Sorted.{IsSortedBy, IsStableBy}
 use Rattle.std.specs.Ordering.{is_lt, nat_cmp}
-use Rattle.std.specs.Prelude.{◌≡◌, ℕ, ◌+◌, ◌-◌, ◌%◌, ◌^◌, min, Bool, true, false, List, [], ◌++◌}
-use Rattle.std.specs.Prelude.{◌∷◌, Some, IsPermutation, codes, map, option_map, slice_get, unwrap_or}
+use Rattle.std.specs.Prelude.{◌≡◌, ℕ, ◌+◌, ◌-◌, ◌%◌, ◌^◌, min, Bool, true, false, Some}
+use Rattle.std.specs.Prelude.{List, [], ◌∷◌, ◌++◌, IsPermutation, codes, map, option_map}
+use Rattle.std.specs.Prelude.{slice_get, unwrap_or}
+use Rattle.std.specs.Str.{NoCharPasses}
 use Rattle.ordered_multimap.specs.Changes.{appended, removed}
 use Rattle.ordered_multimap.specs.End.TheVariants.{Back}
 use Rattle.ordered_multimap.specs.Keys.{stored_key}
@@ -19,6 +22,10 @@ use Rattle.config_reader.specs.declared.name.Section.{Section}
 use Rattle.config_reader.specs.Names.{has_no_key, is_no_section, same_name}
 use Rattle.config_reader.specs.Values.{written}
 use Rattle.config_reader.specs.Written.{line_of, section_line}
+
+-- each character is white space
+abbrev pub IsBlank : List ℕ → Type 0
+IsBlank text = NoCharPasses is_not_whitespace text
 
 -- a setting of this value: its text is the key and the value on a line, indented so
 pub record IsSetting (indent key value : List ℕ) (setting : Lines) : Type 0 where
@@ -68,6 +75,7 @@ pub record Opens (section : Section) (old new : Lists Name Lines) (rank : ℕ) :
 pub record Adds (name : Name) (value : List ℕ) (old new : Lists Name Lines) : Type 0 where
   pub opened : Lists Name Lines
   pub indent : List ℕ
+  pub blank : IsBlank indent
   pub setting : Lines
   pub opens : Opens name.section old opened setting.rank
   pub is_setting : IsSetting indent name.key.0.now value setting
@@ -78,6 +86,7 @@ pub record Replaces (name : Name) (value : List ℕ) (old new : Lists Name Lines
   pub first : Lines
   pub is_first : Some first ≡ slice_get (values_of same_name old.pairs name) 0
   pub indent : List ℕ
+  pub blank : IsBlank indent
   pub setting : Lines
   pub is_setting : IsSetting indent (stored_key same_name old.keys name).key.0.now value setting
   pub rank : setting.rank ≡ first.rank
@@ -99,6 +108,7 @@ Leaves _ old new = new ≡ old
 -- what was set is what is read: a name with a key has this value alone; an unset name has none
 abbrev pub IsReadBack : Command → Lists Name Lines → Type 0
 IsReadBack (Set name value) m = has_no_key name ≡ false
-    → map (λ setting. cow_str_bytes setting.value) (values_of same_name m.pairs name) ≡ value.now ∷ []
+    → map (λ setting. cow_str_bytes setting.value) (values_of same_name m.pairs name)
+    ≡ value.now ∷ []
 IsReadBack (Unset name) m = is_present same_name m.pairs name ≡ false
 IsReadBack _ m = Unit {0}

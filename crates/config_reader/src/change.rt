@@ -4,7 +4,7 @@ ghost use Rattle.std.specs.Prelude.{◌≡◌, [], IfOk, OnOk};
 ghost use Rattle.ordered_multimap.specs.Changes.{removed};
 ghost use Rattle.ordered_multimap.specs.SetLists.{value_set};
 ghost use Rattle.config_reader.specs.Changed.{Adds, AddsByRank, AddsSection, IsSetting};
-ghost use Rattle.config_reader.specs.Changed.{IsReadBack, Leaves, Opens, Sets, settings_rank};
+ghost use Rattle.config_reader.specs.Changed.{IsBlank, IsReadBack, Leaves, Opens, Sets, settings_rank};
 ghost use Rattle.config_reader.specs.Names.{same_name};
 ghost use Rattle.config_reader.specs.Written.{section_line};
 
@@ -187,7 +187,9 @@ fn setting<'t>(
 }
 
 /// How far the section's last setting is indented, and by a tab where there is none.
-fn indent_in<'c>(config: &'c Config<'_>, section: Section<'_>) -> &'c str {
+fn indent_in<'c>(config: &'c Config<'_>, section: Section<'_>) -> &'c str
+    ensures { IsBlank result.now }
+{
     for (name, lines) in config.iter().rev() {
         if name.is_setting_of(section) {
             return indent_of(lines.text.as_str());
@@ -197,6 +199,8 @@ fn indent_in<'c>(config: &'c Config<'_>, section: Section<'_>) -> &'c str {
 }
 
 // The blanks that a line begins with.
-fn indent_of(line: &str) -> &str {
+fn indent_of(line: &str) -> &str
+    ensures { IsBlank result.now }
+{
     line.strip_suffix(line.trim_start()).unwrap_or("")
 }

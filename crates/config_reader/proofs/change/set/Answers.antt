@@ -29,6 +29,7 @@ returns c =
         first = c.in-Some.lines.now;
         is_first = c.in-Some.ensures.value;
         indent = c.indent_of-indent.result.now;
+        blank = c.indent_of-indent.ensures;
         setting = c.in_ok-lines.lines;
         is_setting = is_setting;
         rank = c.in_ok-lines.ensures.rank;
