@@ -73,6 +73,8 @@ impl<K: Eq + Hash, V, S: BuildHasher> ListOrderedMultimap<K, V, S> {
     /// The map's allocator is `Global`, since the checker can't state a function of an iterator
     /// whose allocator is a parameter.
     ///
+    /// Proved callers: see docs/PROVED_CALLERS.md.
+    ///
     /// # Errors
     ///
     /// Returns [`AllocError`] if an allocation fails. Both lists are unchanged. It never fails for

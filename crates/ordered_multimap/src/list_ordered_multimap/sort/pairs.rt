@@ -124,6 +124,8 @@ impl<K: Eq + Hash, V, S: BuildHasher, A: Allocator + Copy> ListOrderedMultimap<K
     ///
     /// To sort the keys see [`sort_keys_by`](Self::sort_keys_by).
     ///
+    /// Proved callers: see docs/PROVED_CALLERS.md.
+    ///
     /// # Errors
     ///
     /// Returns [`AllocError`] if an allocation fails. The map is unchanged then, since all new
