@@ -1,5 +1,6 @@
 mod Alone
 mod Blanks
+mod Called
 mod ReadBack
 mod Values
 mod WholeLines

@@ -1,6 +1,9 @@
 -- When two names are the same, and what they name.
-use Rattle.std.specs.Prelude.{Bool, [], not, ◌&&◌}
-use Rattle.std.specs.Str.{bytes_eq, str_eq_ignore_ascii_case}
+use Rattle.std.specs.Char.{is_whitespace}
+use Rattle.std.specs.List.{list_any}
+use Rattle.std.specs.Prelude.{◌≡◌, ℕ, ◌==◌, Bool, true, false, not, ◌&&◌, ◌||◌, List, [], ◌∷◌, ◌++◌}
+use Rattle.std.specs.Str.{bytes_eq, chars, str_eq_ignore_ascii_case, trim}
+use Rattle.ordered_multimap.specs.Pairs.{has_items}
 use Rattle.config_reader.specs.declared.name.Name.{Name}
 use Rattle.config_reader.specs.declared.name.Section.{Section}
 
@@ -32,3 +35,38 @@ is_setting_of section name = same_section name.section section && not (has_no_ke
 -- the name of a section, and of none of its settings
 abbrev pub is_named_section : Name → Bool
 is_named_section name = has_no_key name && not (is_no_section name.section)
+
+-- a blank, or one of `.:="\[]#;`
+abbrev pub is_outside_key : ℕ → Bool
+is_outside_key c =
+    is_whitespace c || c == 46 || c == 58 || c == 61 || c == 34 || c == 92
+    || c == 91 || c == 93 || c == 35 || c == 59
+
+-- whether a setting can have this key
+abbrev pub is_key : List ℕ → Bool
+is_key text = has_items text && not (list_any is_outside_key (chars text))
+
+-- the byte stands nowhere in the text
+abbrev pub Lacks : ℕ → List ℕ → Type 0
+Lacks b text = list_any (λ c. c == b) text ≡ false
+
+-- the section has the word, without the blanks around it, and the name
+abbrev pub IsCalled : List ℕ → List ℕ → Section → Type 0
+IsCalled word name section = (section.word.0.now ≡ trim word) × (section.sub.now ≡ name)
+
+-- what a section is called by: its word and a name behind the first dot, or its word alone
+pub record IsCalledByDot (text : List ℕ) (section : Section) : Type 0 where
+  pub dotted : (word name : List ℕ) → text ≡ word ++ 46 ∷ name → Lacks 46 word
+      → IsCalled word name section
+  pub alone : Lacks 46 text → IsCalled text [] section
+
+-- or its word and a name between quotes
+pub record IsCalledBy (text : List ℕ) (section : Section) : Type 0 where
+  pub quoted : (word name : List ℕ) → text ≡ word ++ 34 ∷ (name ++ 34 ∷ []) → Lacks 34 word
+      → IsCalled word name section
+  pub other : Lacks 34 text → IsCalledByDot text section
+
+-- the section that a name names in front of its last dot; none where nothing stands there
+abbrev pub IsOpenAs : List ℕ → Section → Type 0
+IsOpenAs [] section = is_no_section section ≡ true
+IsOpenAs (b ∷ text) section = IsCalledBy (b ∷ text) section

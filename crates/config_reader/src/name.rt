@@ -1,9 +1,14 @@
 //! Names of sections and of settings.
 ghost use Rattle.std.specs.IoError.{error_kind};
-ghost use Rattle.std.specs.Prelude.{◌≡◌, ◌<◌, ◌++◌, [], IfErr, IfOk, IsTrue, OnOk, length};
+ghost use Rattle.std.specs.List.{list_any};
+ghost use Rattle.std.specs.Prelude.{◌≡◌, ◌==◌, ◌∷◌, ◌++◌, [], ℕ, List, true, false};
+ghost use Rattle.std.specs.Prelude.{IfErr, IfOk, IsTrue, MatchOption, OnOk};
+ghost use Rattle.std.specs.Str.{trim};
 ghost use Rattle.std.specs.String.{string_bytes};
 ghost use Rattle.std.specs.declared.io.ErrorKind.TheVariants.{InvalidData};
-ghost use Rattle.config_reader.specs.Names.{is_named_section, is_setting_of};
+ghost use Rattle.config_reader.specs.Names.{is_key, is_named_section};
+ghost use Rattle.config_reader.specs.Names.{is_outside_key, is_setting_of};
+ghost use Rattle.config_reader.specs.Names.{IsCalledBy, IsCalledByDot, IsOpenAs, Lacks};
 ghost use Rattle.config_reader.specs.Written.{in_quotes, section_line, section_name};
 
 use ascii_caseless::AsciiCaseless;
@@ -43,17 +48,37 @@ impl<'t> Section<'t> {
     /// An empty word, nothing behind the dot or between the quotes, a bracket, a quote at another
     /// place, or a backslash.
     pub fn parse(text: &'t str) -> io::Result<Section<'t>>
+        ensures called { IfOk result (λ section. IsCalledBy text.now section) }
         ensures bad { IfErr result (λ error. error_kind error ≡ InvalidData) }
     {
         let Some((word, quoted)) = text.split_once('"') else {
-            return match text.split_once('.') {
-                Some((word, sub)) => Section::of_parts(word.trim(), Some(sub)),
-                None => Section::of_parts(text.trim(), None),
-            };
+            return Section::of_dotted(text);
         };
         match quoted.strip_suffix('"') {
             Some(sub) => Section::of_parts(word.trim(), Some(sub)),
             None => Err(bad("not the name of a section")),
+        }
+    }
+
+    /// The section of this name; the empty one stands above the first section.
+    fn parse_or_none(text: &'t str) -> io::Result<Section<'t>>
+        ensures open { IfOk result (λ section. IsOpenAs text.now section) }
+        ensures bad { IfErr result (λ error. error_kind error ≡ InvalidData) }
+    {
+        if text.is_empty() {
+            return Ok(NO_SECTION);
+        }
+        Section::parse(text)
+    }
+
+    /// The section `word` or `word.sub`.
+    fn of_dotted(text: &'t str) -> io::Result<Section<'t>>
+        ensures called { IfOk result (λ section. IsCalledByDot text.now section) }
+        ensures bad { IfErr result (λ error. error_kind error ≡ InvalidData) }
+    {
+        match text.split_once('.') {
+            Some((word, sub)) => Section::of_parts(word.trim(), Some(sub)),
+            None => Section::of_parts(text.trim(), None),
         }
     }
 
@@ -78,6 +103,9 @@ impl<'t> Section<'t> {
     }
 
     fn of_parts(word: &'t str, sub: Option<&'t str>) -> io::Result<Section<'t>>
+        ensures word { IfOk result (λ section. section.word.0.now ≡ word.now) }
+        ensures sub { IfOk result (λ section.
+            MatchOption sub.entry (section.sub.now ≡ []) (λ sub. section.sub.now ≡ sub.now)) }
         ensures bad { IfErr result (λ error. error_kind error ≡ InvalidData) }
     {
         let is_word = !word.is_empty() && !word.contains(['"', '\\', '[', ']']);
@@ -143,33 +171,59 @@ impl<'t> Name<'t> {
 
     /// The name `SECTION.KEY`, or a `KEY` above the first section.
     pub fn parse(text: &'t str) -> io::Result<Name<'t>>
-        ensures key { IfOk result (λ name. 0 < length name.key.0.now) }
+        ensures key { IfOk result (λ name. is_key name.key.0.now ≡ true) }
+        ensures dot { IfOk result (λ name. (section key : List ℕ)
+            → text.now ≡ section ++ 46 ∷ key → Lacks 46 key
+            → (name.key.0.now ≡ trim key) × IsOpenAs (trim section) name.section) }
+        ensures alone { IfOk result (λ name. Lacks 46 text.now
+            → (name.key.0.now ≡ trim text.now) × IsOpenAs [] name.section) }
         ensures bad { IfErr result (λ error. error_kind error ≡ InvalidData) }
     {
-        let (section, key) = text.rsplit_once('.').unwrap_or(("", text));
-        let (section, key) = (section.trim(), key.trim());
+        let (section, key) = split_at_last_dot(text);
+        let key = key.trim();
         if !is_key(key) {
             return Err(bad("not the name of a setting"));
         }
-        let section = match section {
-            "" => NO_SECTION,
-            _ => Section::parse(section)?,
-        };
         Ok(Name {
-            section,
+            section: Section::parse_or_none(section.trim())?,
             key: AsciiCaseless(key),
         })
+    }
+}
+
+/// What stands in front of the last dot, and what stands behind it; nothing and the whole text where
+/// there is none.
+fn split_at_last_dot(text: &str) -> (&str, &str)
+    ensures dot { (front behind : List ℕ) → text.now ≡ front ++ 46 ∷ behind → Lacks 46 behind
+        → (result.0.now ≡ front) × (result.1.now ≡ behind) }
+    ensures none { Lacks 46 text.now → (result.0.now ≡ []) × (result.1.now ≡ text.now) }
+{
+    match text.rsplit_once('.') {
+        Some(parts) => parts,
+        None => ("", text),
     }
 }
 
 /// Whether a setting can have this key. A key has no dot, since a name parts section and key by the
 /// last one.
 pub fn is_key(text: &str) -> bool
-    ensures filled { IsTrue result → 0 < length text.now }
+    ensures { result ≡ is_key text.now }
 {
-    !text.is_empty()
-        && !text.contains(['.', ':', '=', '"', '\\', '[', ']', '#', ';'])
-        && !text.contains(char::is_whitespace)
+    if text.is_empty() {
+        return false;
+    }
+    !text.chars().any(|character| is_outside_key(character))
+}
+
+// Whether no key has the character.
+fn is_outside_key(character: char) -> bool
+    ensures { result ≡ is_outside_key character }
+{
+    character.is_whitespace()
+        || matches!(
+            character,
+            '.' | ':' | '=' | '"' | '\\' | '[' | ']' | '#' | ';'
+        )
 }
 
 // Adds the name between quotes and behind a blank, if there is one.

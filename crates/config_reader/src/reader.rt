@@ -1,8 +1,15 @@
 //! Reading a text as a configuration, item by item.
-ghost use Rattle.std.specs.Prelude.{◌≡◌, ◌<◌, ◌++◌, [], ℕ, List, length, true, false};
+ghost use Rattle.std.specs.Cow.{cow_str_bytes};
+ghost use Rattle.std.specs.IoError.{error_kind};
+ghost use Rattle.std.specs.Prelude.{◌≡◌, ◌<◌, ◌∷◌, ◌++◌, [], ℕ, List, length, true, false};
 ghost use Rattle.std.specs.Prelude.{IfErr, IfOk, OnOk};
 ghost use Rattle.config_reader.specs.Faults.{IsBadOrRefused, IsLineOrRefused};
 ghost use Rattle.config_reader.specs.Lines.{IsBehindLines, IsReadTo, lined};
+ghost use Rattle.std.specs.Str.{trim};
+ghost use Rattle.std.specs.String.{string_bytes};
+ghost use Rattle.std.specs.declared.io.ErrorKind.TheVariants.{InvalidData};
+ghost use Rattle.config_reader.specs.Names.{Lacks, is_key};
+ghost use Rattle.config_reader.specs.Values.{HasValue};
 ghost use Rattle.config_reader.specs.Written.{texts_of};
 ghost use Rattle.config_reader.specs.declared.reader.Part.TheVariants.{Whole};
 
@@ -234,28 +241,41 @@ fn setting_of<'t>(
     line: &'t str,
     rest: &'t str,
 ) -> io::Result<(AsciiCaseless<&'t str>, CowStr<'t>, &'t str)>
+    ensures key { IfOk result (λ setting. (key behind : List ℕ)
+        → line.now ≡ key ++ 61 ∷ behind → Lacks 61 key → setting.0.0.now ≡ trim key) }
+    ensures value { IfOk result (λ setting. (key behind : List ℕ)
+        → line.now ≡ key ++ 61 ∷ behind → HasValue rest.now (cow_str_bytes setting.1)) }
+    ensures alone { IfOk result (λ setting. Lacks 61 line.now
+        → (setting.0.0.now ≡ trim line.now) × (cow_str_bytes setting.1 ≡ [])) }
     ensures lines { IfOk result (λ setting. IsBehindLines rest.now setting.2.now) }
     ensures shorter { IfOk result (λ setting. 0 < length rest.now
         → length setting.2.now < length rest.now) }
     ensures fault { IfErr result IsBadOrRefused }
 {
-    let (key, is_alone) = match line.split_once('=') {
-        Some((key, _)) => (key.trim(), false),
-        None => (line.trim(), true),
+    let Some((key, _)) = line.split_once('=') else {
+        return Ok((key_of(line)?, CowStr::Borrowed(""), first_line(rest).1));
     };
-    if !is_key(key) {
-        return Err(bad("not a section or a setting"));
-    }
-    let key = AsciiCaseless(key);
-    if is_alone {
-        return Ok((key, CowStr::Borrowed(""), first_line(rest).1));
-    }
+    let key = key_of(key)?;
     let (value, behind) = value_behind_sign(alloc, rest)?;
     Ok((key, CowStr::Owned(value), behind))
 }
 
+/// The key that a text is, without the blanks around it.
+fn key_of(text: &str) -> io::Result<AsciiCaseless<&str>>
+    ensures key { IfOk result (λ key. key.0.now ≡ trim text.now) }
+    ensures allowed { IfOk result (λ key. is_key key.0.now ≡ true) }
+    ensures bad { IfErr result (λ error. error_kind error ≡ InvalidData) }
+{
+    let key = text.trim();
+    if !is_key(key) {
+        return Err(bad("not a section or a setting"));
+    }
+    Ok(AsciiCaseless(key))
+}
+
 /// The value behind the first `=`, and what stands behind its last line.
 fn value_behind_sign(alloc: Global, rest: &str) -> io::Result<(String, &str)>
+    ensures value { IfOk result (λ r. HasValue rest.now (string_bytes r.0)) }
     ensures lines { IfOk result (λ r. IsBehindLines rest.now r.1.now) }
     ensures shorter { IfOk result (λ r. 0 < length rest.now → length r.1.now < length rest.now) }
     ensures fault { IfErr result IsBadOrRefused }

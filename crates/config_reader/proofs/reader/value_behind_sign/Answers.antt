@@ -2,6 +2,8 @@ use Rattle.std.proofs.Common.{◌∙◌, ◌++◌, [], ap, arith, drop, rules, t
 use Rattle.std.specs.String.{string_bytes}
 use Rattle.std.proofs.lemmas.Str.{encode_ascii}
 use Rattle.config_reader.specs.declared.value.Mode.TheVariants.{Gap}
+use Rattle.config_reader.specs.Values.{value_read}
+use Rattle.config_reader.proofs.Called.{lacks, value_here}
 use Rattle.config_reader.proofs.WholeLines.{behind_all, behind_part, cut_at}
 use Rattle.config_reader.proofs.Values.{read_behind}
 use Rattle.config_reader.proofs.reader.value_behind_sign.Goals as goal
@@ -19,3 +21,21 @@ returns-in-Some-split_at_checked-clause-lines c =
 
 pub returns-in-None-clause-lines : goal.returns-in-None-clause-lines
 returns-in-None-clause-lines c = behind_all c.args.rest.now
+
+pub returns-in-Some-split_at_checked-clause-value : goal.returns-in-Some-split_at_checked-clause-value
+returns-in-Some-split_at_checked-clause-value c =
+    let all = c.args.rest.now in
+    let cut = c.in-Some.ensures.cases in
+    let sign = cut.2.1.split ∙ ap (λ first. first ++ drop cut.1 all) (encode_ascii 61 (omega arith)) in
+    value_here all (take cut.0 all) (drop cut.1 all) (string_bytes c.in_ok-value.value) c.in_ok-value.behind.now
+    (cut_at all cut.0 cut.1 61 sign) (lacks 61 (take cut.0 all) (omega arith) cut.2.0)
+    (ap value_read (search rules) ∙ c.in_ok-value.ensures.value)
+
+pub returns-in-None-clause-value : goal.returns-in-None-clause-value
+returns-in-None-clause-value c =
+    let all = c.args.rest.now in
+    let cut = c.in-Some.ensures.cases in
+    let sign = cut.2.1.split ∙ ap (λ first. first ++ drop cut.1 all) (encode_ascii 61 (omega arith)) in
+    value_here all (take cut.0 all) (drop cut.1 all) (string_bytes c.in_ok-value.value) c.in_ok-value.behind.now
+    (cut_at all cut.0 cut.1 61 sign) (lacks 61 (take cut.0 all) (omega arith) cut.2.0)
+    (ap value_read (search rules) ∙ c.in_ok-value.ensures.value)
