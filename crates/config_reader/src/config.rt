@@ -1,7 +1,9 @@
 //! Lines of a configuration, each under its name, in the order of the text.
 ghost use Rattle.std.specs.Cow.{cow_str_bytes};
 ghost use Rattle.std.specs.Prelude.{◌≡◌, ◌++◌, IfOk, OnOk};
+ghost use Rattle.ordered_multimap.specs.Changes.{appended};
 ghost use Rattle.config_reader.specs.Lines.{lined};
+ghost use Rattle.config_reader.specs.Names.{same_name};
 ghost use Rattle.config_reader.specs.Written.{texts_of};
 
 use crate::lines::is_lined;
@@ -34,6 +36,8 @@ impl<'t> Lines<'t> {
         rank: usize,
     ) -> Result<Lines<'t>, AllocError>
         ensures text { IfOk result (λ lines. cow_str_bytes lines.text ≡ lined text.now) }
+        ensures value { IfOk result (λ lines. lines.value ≡ value.entry) }
+        ensures rank { IfOk result (λ lines. lines.rank ≡ rank) }
     {
         let text = if is_lined(text) {
             CowStr::Borrowed(text)
@@ -50,7 +54,9 @@ pub fn append_lines<'t>(
     name: Name<'t>,
     lines: Lines<'t>,
 ) -> Result<(), AllocError>
-    ensures { OnOk result (texts_of config.new.lists.pairs
+    ensures lists { OnOk result (config.new.lists
+        ≡ appended same_name config.old.lists name.entry lines.entry) }
+    ensures texts { OnOk result (texts_of config.new.lists.pairs
         ≡ texts_of config.old.lists.pairs ++ cow_str_bytes lines.entry.text) }
 {
     config.append(name, lines)?;

@@ -17,4 +17,4 @@ returns-clause-kept c = λ all is.
     OnOk-map c.append_lines.result
     (λ added. keep kept old.between.now old.rest.now all (texts_of c.append_lines.new.config.lists.pairs) is.is_all is.lines
     (added ∙ ap (λ t. kept ++ t) (c.in_ok-lines.ensures.text ∙ ap lined (c.lines_before-text.ensures is.lines.0 is.lines.1))))
-    c.append_lines.ensures
+    c.append_lines.ensures.texts
