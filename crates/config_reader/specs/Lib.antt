@@ -1,5 +1,6 @@
 pub mod Changed
 pub mod Faults
+pub mod Items
 pub mod Lines
 pub mod Names
 pub mod Shown

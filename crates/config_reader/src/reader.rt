@@ -4,6 +4,7 @@ ghost use Rattle.std.specs.IoError.{error_kind};
 ghost use Rattle.std.specs.Prelude.{◌≡◌, ◌<◌, ◌∷◌, ◌++◌, [], ℕ, List, length, true, false};
 ghost use Rattle.std.specs.Prelude.{IfErr, IfOk, OnOk};
 ghost use Rattle.config_reader.specs.Faults.{IsBadOrRefused, IsLineOrRefused};
+ghost use Rattle.config_reader.specs.Items.{AddsItem};
 ghost use Rattle.config_reader.specs.Lines.{IsBehindLines, IsReadTo, lined};
 ghost use Rattle.std.specs.Str.{trim};
 ghost use Rattle.std.specs.String.{string_bytes};
@@ -221,6 +222,8 @@ impl<'t> Reader<'t> {
     ) -> Result<(), AllocError>
         ensures kept { OnOk result ((lines : List ℕ) → self.old.rest.now ≡ lines ++ behind.now
             → texts_of config.new.lists.pairs ≡ texts_of config.old.lists.pairs ++ lined lines) }
+        ensures added { OnOk result (AddsItem self.old.section key.entry.0.now
+            (cow_str_bytes value.entry) self.old.rank config.old.lists config.new.lists) }
         ensures rest { self.new.rest.now ≡ behind.now }
         ensures between { self.new.between.now ≡ behind.now }
     {
