@@ -4,7 +4,7 @@ use Rattle.std.proofs.Common.{append_assoc, append-nil, refl, sym, ap, subst, �
 use Rattle.std.specs.Prelude.{slice_index, option_and_then, if◌then◌else◌, ◌⊎◌, Option}
 use Rattle.std.proofs.lemmas.Str.{encode_ascii, inside_one}
 use Rattle.std.specs.Char.{encode_utf8}
-use Rattle.std.proofs.lemmas.Bool.{cases_lt, eqb-true, false≢true, not-true, true≢false}
+use Rattle.std.proofs.lemmas.Bool.{and_parts, cases_lt, eqb-true, not-true, true≢false}
 use Rattle.std.proofs.lemmas.Bool.Decides.{nat_tests}
 use Rattle.std.specs.List.{flat_map, list_any}
 use Rattle.config_reader.specs.declared.value.Effect.{Effect}
@@ -37,11 +37,6 @@ module _ (mode : Mode) (value gap : List ℕ) where
       → read_on mode value gap (b ∷ rest) ≡ None
   unfolding read_on
   bad_read b rest goes is = rw (goes, is) refl
-
-and_true : (x y : Bool) → (x && y) ≡ true → (x ≡ true) × (y ≡ true)
-and_true true true both = (refl, refl)
-and_true true false both = absurd (false≢true both)
-and_true false y both = absurd (false≢true both)
 
 -- what stands behind a value stands behind a line feed, or is nothing
 pub read_behind : (mode : Mode) (value gap text : List ℕ) (r : List ℕ × List ℕ) → read_on mode value gap text ≡ Some r
@@ -82,7 +77,7 @@ read_behind mode value gap (b ∷ text) r is =
         → ((step : Mode × Effect) → read_on step.0 (affected step.1 b value gap).0 (affected step.1 b value gap).1 text ≡ Some r
         → ((before : List ℕ) × (text ≡ before ++ 10 ∷ r.1)) ⊎ (r.1 ≡ []))
         → ((before : List ℕ) × (b ∷ text ≡ before ++ 10 ∷ r.1)) ⊎ (r.1 ≡ [])
-    by_end true ends same later = by_whole (is_whole mode) (eqb-true b 10 (and_true (b == 10) (ends_value mode) ends).0) same
+    by_end true ends same later = by_whole (is_whole mode) (eqb-true b 10 (and_parts (b == 10) (ends_value mode) ends).0) same
     by_end false ends same later = by_step (stepped mode b) same later
 
 -- an escape is read as the byte that it stands for
@@ -220,8 +215,8 @@ written_read value rest = by_form (is_plain value) refl
     plainly : (bytes : List ℕ) → is_plain bytes ≡ true → value_read (bytes ++ 10 ∷ rest) ≡ Some (bytes, rest)
     plainly [] is = end_read Gap [] [] rest refl
     plainly (b ∷ bytes) is =
-        let all = and_true (not (b == 32) && not (ends_blank (b ∷ bytes))) (not (list_any is_special (b ∷ bytes))) is in
-        let blanks = and_true (not (b == 32)) (not (ends_blank (b ∷ bytes))) all.0 in
+        let all = and_parts (not (b == 32) && not (ends_blank (b ∷ bytes))) (not (list_any is_special (b ∷ bytes))) is in
+        let blanks = and_parts (not (b == 32)) (not (ends_blank (b ∷ bytes))) all.0 in
         let begins : (b == 32) ≡ false = not-true (b == 32) blanks.0 in
         let ends : ends_blank (b ∷ bytes) ≡ false = not-true (ends_blank (b ∷ bytes)) blanks.1 in
         let plain : list_any is_special (b ∷ bytes) ≡ false = not-true (list_any is_special (b ∷ bytes)) all.1 in

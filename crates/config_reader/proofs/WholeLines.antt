@@ -1,7 +1,7 @@
 -- Lines of a text, one behind the other.
 use Rattle.std.proofs.Common.{◌≡◌, ◌⊎◌, ℕ, ◌-◌, ◌==◌, ◌<◌, Bool, true, false, List, [], ◌∷◌, ◌++◌}
 use Rattle.std.proofs.Common.{append_assoc, append-nil, refl, sym, ap, subst, ◌∙◌, arith, length, length-append, drop, take, inl, inr}
-use Rattle.std.specs.Prelude.{if◌then◌else◌, slice_index, OnOk, Result, Ok, Err}
+use Rattle.std.specs.Prelude.{if◌then◌else◌, slice_index}
 use Rattle.std.proofs.Math.Seq.{drop-append_seam, take-append_seam}
 use Rattle.std.proofs.lemmas.List.{take-append-drop}
 use Rattle.std.specs.Cow.{cow_str_bytes}
@@ -128,11 +128,6 @@ keep_none kept between behind all is none =
     nothing [] is = refl
     nothing (b ∷ lines) is = absurd (omega arith)
 
--- what success says, said otherwise
-pub OnOk-map : {T E : Type 0} (r : Result T E) {P Q : Type 0} → (P → Q) → OnOk r P → OnOk r Q
-OnOk-map (Ok x) f p = f p
-OnOk-map (Err e) f p = p
-
 -- an item is kept behind the lines in front of it, which were kept
 pub keep_item : (kept rest between behind all kept_now between_now rest_now : List ℕ) → kept ++ lined between ≡ all
     → between ≡ rest → IsBehindLines rest behind
@@ -141,10 +136,6 @@ pub keep_item : (kept rest between behind all kept_now between_now rest_now : Li
 keep_item kept rest between behind all kept_now between_now rest_now is_all same b item between_is rest_is =
     rw (between_is, rest_is)
     (keep kept rest behind all kept_now (ap (λ t. kept ++ lined t) (sym same) ∙ is_all) b (item b.0 b.1))
-
-pub OnOk-both : {T E : Type 0} (r : Result T E) {P Q R : Type 0} → (P → Q → R) → OnOk r P → OnOk r Q → OnOk r R
-OnOk-both (Ok x) f p q = f p q
-OnOk-both (Err e) f p q = p
 
 -- a whole text is read
 pub nothing_read : (kept text : List ℕ) → IsReadTo kept text text (kept ++ lined text)

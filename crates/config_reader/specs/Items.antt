@@ -9,7 +9,8 @@ use Rattle.config_reader.specs.declared.name.Section.{Section}
 use Rattle.config_reader.specs.Names.{same_name}
 
 -- lines of this value and rank are added behind all others, under the section and the key
-pub record AddsItem (section : Section) (key value : List ℕ) (rank : ℕ) (old new : Lists Name Lines) : Type 0 where
+pub record AddsItem (section : Section) (key value : List ℕ) (rank : ℕ)
+    (old new : Lists Name Lines) : Type 0 where
   pub name : Name
   pub of_section : name.section ≡ section
   pub of_key : name.key.0.now ≡ key

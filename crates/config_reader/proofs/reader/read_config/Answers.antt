@@ -1,7 +1,8 @@
 use Rattle.std.proofs.Common.{◌++◌, refl}
 use Rattle.config_reader.specs.Lines.{lined}
 use Rattle.config_reader.specs.Written.{texts_of}
-use Rattle.config_reader.proofs.WholeLines.{OnOk-both, all_read, nothing_read}
+use Rattle.config_reader.proofs.Called.{IfOk-both}
+use Rattle.config_reader.proofs.WholeLines.{all_read, nothing_read}
 use Rattle.config_reader.proofs.reader.read_config.Goals as goal
 
 pub returns-clause-kept : goal.returns-clause-kept
@@ -10,7 +11,7 @@ returns-clause-kept c =
     let text = c.args.text.now in
     let reader = c.new-reader in
     let all = kept ++ lined text in
-    OnOk-both c.read_items.result
-    (all_read (texts_of c.read_items.new.config.lists.pairs) c.read_items.new.self.rest.now all)
+    IfOk-both c.read_items.result
+    (λ done. all_read (texts_of c.read_items.new.config.lists.pairs) c.read_items.new.self.rest.now all)
     (c.read_items.ensures.kept all (rw (reader.ensures.between, reader.ensures.rest) (nothing_read kept text)))
     (c.read_items.ensures.whole refl)

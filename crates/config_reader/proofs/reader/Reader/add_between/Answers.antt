@@ -1,7 +1,8 @@
 use Rattle.std.proofs.Common.{◌∙◌, ◌++◌, ap, length, rules, sym}
 use Rattle.config_reader.specs.Lines.{lined}
 use Rattle.config_reader.specs.Written.{texts_of}
-use Rattle.config_reader.proofs.WholeLines.{OnOk-map, keep, keep_none}
+use Rattle.ordered_multimap.proofs.KeySorts.Mapped.{OnOk-then}
+use Rattle.config_reader.proofs.WholeLines.{keep, keep_none}
 use Rattle.config_reader.proofs.reader.Reader.add_between.Goals as goal
 
 pub returns-then-is_empty-clause-kept : goal.returns-then-is_empty-clause-kept
@@ -14,7 +15,7 @@ pub returns-clause-kept : goal.returns-clause-kept
 returns-clause-kept c = λ all is.
     let old = c.args.self.now in
     let kept = texts_of c.args.config.now.lists.pairs in
-    OnOk-map c.append_lines.result
+    OnOk-then c.append_lines.result
     (λ added. keep kept old.between.now old.rest.now all (texts_of c.append_lines.new.config.lists.pairs) is.is_all is.lines
     (added ∙ ap (λ t. kept ++ t) (c.in_ok-lines.ensures.text ∙ ap lined (c.lines_before-text.ensures is.lines.0 is.lines.1))))
     c.append_lines.ensures.texts
