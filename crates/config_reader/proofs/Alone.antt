@@ -81,7 +81,7 @@ module _ {K V : Type 0} (accepts : K → Bool) where
       ] refl some
 
 module _ {K : Type 0} {eq : K → K → Bool} (laws : IsEquivalence eq) where
-  same_stored : (k : K) (keys : List K) → eq k (stored_key eq keys k) ≡ true
+  pub same_stored : (k : K) (keys : List K) → eq k (stored_key eq keys k) ≡ true
   same_stored k [] = laws.refl k
   same_stored k (j ∷ keys) =
       elim (eq k j) as (λ b. eq k j ≡ b

@@ -7,7 +7,7 @@ use Rattle.std.proofs.lemmas.List.{length-drop, take_all}
 use Rattle.std.specs.Borrow.{Bor}
 use Rattle.std.specs.Str.{IsTrimStart}
 use Rattle.std.specs.Str.Pattern.{FindsTextSuffix, StripsSuffix}
-use Rattle.config_reader.specs.Changed.{IsBlank}
+use Rattle.config_reader.specs.Blocks.{IsBlank}
 
 pub none_blank : IsBlank []
 none_blank = ([], refl, tt)

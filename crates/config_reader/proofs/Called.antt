@@ -9,14 +9,14 @@ use Rattle.std.proofs.lemmas.Bool.{true≢false}
 use Rattle.std.proofs.lemmas.Str.Pattern.{NoCharPasses-char}
 use Rattle.ordered_multimap.specs.Pairs.{has_items}
 use Rattle.config_reader.specs.Names.{IsCalledBy, IsCalledByDot, Lacks}
-use Rattle.config_reader.specs.declared.name.Section.{Section}
+use Rattle.config_reader.specs.declared.section.Section.{Section}
 
 pub some_items : (text : List ℕ) → 0 < length text → has_items text ≡ true
 some_items [] some = absurd (omega arith)
 some_items (b ∷ text) some = refl
 
 -- a byte that isn't in the text
-lacks_bytes : (b : ℕ) (text : List ℕ) → ((i : ℕ) → i < length text → get_or text i 0 ≢ b) → Lacks b text
+pub lacks_bytes : (b : ℕ) (text : List ℕ) → ((i : ℕ) → i < length text → get_or text i 0 ≢ b) → Lacks b text
 lacks_bytes b [] none = refl
 lacks_bytes b (c ∷ text) none =
     rw (ne_eqb c b (none 0 (omega arith))) (lacks_bytes b text (λ i below. none (suc i) (omega arith)))
@@ -24,14 +24,14 @@ lacks_bytes b (c ∷ text) none =
 pub lacks : (b : ℕ) (text : List ℕ) → b < 128 → NoCharPasses (λ c. c == b) text → Lacks b text
 lacks b text small none = lacks_bytes b text (λ i below. NoCharPasses-char b text i none small below)
 
-same : (b : ℕ) → (b == b) ≡ true
+pub same : (b : ℕ) → (b == b) ≡ true
 same b = grind arith
 
 either : (x y : Bool) → y ≡ true → (x || y) ≡ true
 either true y is = refl
 either false y is = is
 
-has_it : (b : ℕ) (front behind : List ℕ) → list_any (λ c. c == b) (front ++ b ∷ behind) ≡ true
+pub has_it : (b : ℕ) (front behind : List ℕ) → list_any (λ c. c == b) (front ++ b ∷ behind) ≡ true
 has_it b [] behind = rw (same b) refl
 has_it b (c ∷ front) behind = either (c == b) (list_any (λ d. d == b) (front ++ b ∷ behind)) (has_it b front behind)
 
@@ -42,7 +42,7 @@ first_lacks : (b c : ℕ) (text : List ℕ) → Lacks b (c ∷ text) → b ≢ c
 first_lacks b c text none is =
     true≢false (sym (has_it b [] text) ∙ ap (λ d. list_any (λ e. e == b) (d ∷ text)) is ∙ none)
 
-rest_lacks : (b c : ℕ) (text : List ℕ) → Lacks b (c ∷ text) → Lacks b text
+pub rest_lacks : (b c : ℕ) (text : List ℕ) → Lacks b (c ∷ text) → Lacks b text
 rest_lacks b c text none = by (c == b) none
   where
     by : (is : Bool) → (is || list_any (λ d. d == b) text) ≡ false → Lacks b text
@@ -80,6 +80,11 @@ last_cut b (c ∷ front) behind (d ∷ other_front) other is none other_none =
 pub IfOk-both : {T E : Type 0} (r : Result T E) {P Q R : T → Type 0} → ((x : T) → P x → Q x → R x) → IfOk r P → IfOk r Q → IfOk r R
 IfOk-both (Ok x) f p q = f x p q
 IfOk-both (Err e) f p q = p
+
+pub IfOk-three : {T E : Type 0} (r : Result T E) {P Q R S : T → Type 0} → ((x : T) → P x → Q x → R x → S x)
+    → IfOk r P → IfOk r Q → IfOk r R → IfOk r S
+IfOk-three (Ok x) f p q r = f x p q r
+IfOk-three (Err e) f p q r = p
 
 -- the three forms of a section's name
 pub by_dot : (text word name : List ℕ) (section : Section) → text ≡ word ++ 46 ∷ name → Lacks 46 word

@@ -14,11 +14,11 @@ use Rattle.config_reader.specs.Changed.{Opens, Sets}
 use Rattle.config_reader.specs.Names.{has_no_key, is_no_section, same_name}
 use Rattle.config_reader.specs.declared.config.Lines.{Lines}
 use Rattle.config_reader.specs.declared.name.Name.{Name}
-use Rattle.config_reader.specs.declared.name.Section.{Section}
+use Rattle.config_reader.specs.declared.section.Section.{Section}
 use Rattle.config_reader.proofs.Alone.{absent_appended, alone_appended, alone_permuted}
 use Rattle.config_reader.proofs.Alone.{none_left, only_one}
 
-same_name_laws : IsEquivalence same_name
+pub same_name_laws : IsEquivalence same_name
 same_name_laws =
     and_equiv
     (and_equiv

@@ -1,6 +1,6 @@
 -- How a value is read byte by byte, and that what is written is read again.
 use Rattle.std.proofs.Common.{◌≡◌, ◌≢◌, ℕ, suc, ◌<◌, ◌≤◌, ◌-◌, Bool, true, false, ◌==◌, ◌&&◌, ◌||◌, not, List, [], ◌∷◌, ◌++◌}
-use Rattle.std.proofs.Common.{append_assoc, append-nil, refl, sym, ap, subst, ◌∙◌, arith, ne_eqb, Some, None, length, drop, get_or, inl, inr}
+use Rattle.std.proofs.Common.{append_assoc, append-nil, refl, sym, ap, subst, ◌∙◌, arith, ne_eqb, Some, None, length, get_or, inl, inr}
 use Rattle.std.specs.Prelude.{slice_index, option_and_then, if◌then◌else◌, ◌⊎◌, Option}
 use Rattle.std.proofs.lemmas.Str.{encode_ascii, inside_one}
 use Rattle.std.specs.Char.{encode_utf8}
@@ -12,16 +12,16 @@ use Rattle.config_reader.specs.declared.value.Effect.TheVariants.{Add, Blank, Ke
 use Rattle.config_reader.specs.declared.value.Mode.{Mode}
 use Rattle.config_reader.specs.declared.value.Mode.TheVariants.{Gap, Quotes, QuotesEscape, Word}
 use Rattle.config_reader.specs.Values.{affected, begins_blank, ended, ends_blank, ends_value, step_in_escape, step_in_plain, is_mark}
-use Rattle.config_reader.specs.Values.{is_plain, is_special, is_whole, quoted_byte, read_on, stepped, value_read, written}
+use Rattle.config_reader.specs.Values.{is_plain, is_special, may_end, quoted_byte, read_on, stepped, value_read, written}
 
 module _ (mode : Mode) (value gap : List ℕ) where
   -- nothing is left, or a line feed that ends the value
-  pub none_left : (rest : List ℕ) → length rest ≡ 0 → read_on mode value gap rest ≡ ended mode value (drop 1 rest)
+  pub none_left : (rest : List ℕ) → length rest ≡ 0 → read_on mode value gap rest ≡ ended mode value rest
   unfolding read_on
   none_left [] none = refl
   none_left (b ∷ rest) none = absurd (omega arith)
 
-  pub end_read : (rest : List ℕ) → ends_value mode ≡ true → read_on mode value gap (10 ∷ rest) ≡ ended mode value rest
+  pub end_read : (rest : List ℕ) → ends_value mode ≡ true → read_on mode value gap (10 ∷ rest) ≡ ended mode value (10 ∷ rest)
   unfolding read_on
   end_read rest ends = rw ends refl
 
@@ -42,7 +42,7 @@ module _ (mode : Mode) (value gap : List ℕ) where
 pub read_behind : (mode : Mode) (value gap text : List ℕ) (r : List ℕ × List ℕ) → read_on mode value gap text ≡ Some r
     → ((before : List ℕ) × (text ≡ before ++ 10 ∷ r.1)) ⊎ (r.1 ≡ [])
 unfolding read_on
-read_behind mode value gap [] r is = by_whole (is_whole mode) is
+read_behind mode value gap [] r is = by_whole (may_end mode []) is
   where
     by_whole : (whole : Bool) → (if whole then Some (value, []) else None) ≡ Some r
         → ((before : List ℕ) × ([] ≡ before ++ 10 ∷ r.1)) ⊎ (r.1 ≡ [])
@@ -72,12 +72,12 @@ read_behind mode value gap (b ∷ text) r is =
     by_step (Some step) same later = longer (later step same)
 
     by_end : (ends : Bool) → (b == 10 && ends_value mode) ≡ ends
-        → (if ends then ended mode value text else
+        → (if ends then ended mode value (b ∷ text) else
         option_and_then (λ step. read_on step.0 (affected step.1 b value gap).0 (affected step.1 b value gap).1 text) (stepped mode b)) ≡ Some r
         → ((step : Mode × Effect) → read_on step.0 (affected step.1 b value gap).0 (affected step.1 b value gap).1 text ≡ Some r
         → ((before : List ℕ) × (text ≡ before ++ 10 ∷ r.1)) ⊎ (r.1 ≡ []))
         → ((before : List ℕ) × (b ∷ text ≡ before ++ 10 ∷ r.1)) ⊎ (r.1 ≡ [])
-    by_end true ends same later = by_whole (is_whole mode) (eqb-true b 10 (and_parts (b == 10) (ends_value mode) ends).0) same
+    by_end true ends same later = by_whole (may_end mode (b ∷ text)) (eqb-true b 10 (and_parts (b == 10) (ends_value mode) ends).0) same
     by_end false ends same later = by_step (stepped mode b) same later
 
 -- an escape is read as the byte that it stands for
@@ -143,7 +143,7 @@ plain_ends : (m : Bool) → ends_value (plain_mode m) ≡ true
 plain_ends true = refl
 plain_ends false = refl
 
-plain_ended : (m : Bool) (value rest : List ℕ) → ended (plain_mode m) value rest ≡ Some (value, rest)
+plain_ended : (m : Bool) (value rest : List ℕ) → ended (plain_mode m) value (10 ∷ rest) ≡ Some (value, rest)
 plain_ended true value rest = refl
 plain_ended false value rest = refl
 
@@ -154,13 +154,13 @@ plain_step false b other = rw other refl
 not_mark : (b : ℕ) → is_special b ≡ false → is_mark b ≡ false
 not_mark b plain = grind (arith, nat_tests)
 
-not_feed : (b : ℕ) → is_special b ≡ false → (b == 10) ≡ false
+pub not_feed : (b : ℕ) → is_special b ≡ false → (b == 10) ≡ false
 not_feed b plain = grind (arith, nat_tests)
 
 in_word : (b : ℕ) → is_special b ≡ false → (b == 32) ≡ false → step_in_plain b ≡ (Word, Add b)
 in_word b plain space = grind (arith, nat_tests)
 
-or_false : (x y : Bool) → (x || y) ≡ false → (x ≡ false) × (y ≡ false)
+pub or_false : (x y : Bool) → (x || y) ≡ false → (x ≡ false) × (y ≡ false)
 or_false false false neither = (refl, refl)
 or_false false true neither = absurd (true≢false neither)
 or_false true y neither = absurd (true≢false neither)

@@ -11,7 +11,7 @@ use Rattle.config_reader.specs.Lines.{IsBehindLines, IsReadTo, is_lined, lined}
 use Rattle.config_reader.specs.Written.{texts_of}
 
 -- the lines of both texts
-lined_behind : (text : List ℕ) (b : ℕ) (rest : List ℕ) → is_lined (text ++ b ∷ rest) ≡ is_lined (b ∷ rest)
+pub lined_behind : (text : List ℕ) (b : ℕ) (rest : List ℕ) → is_lined (text ++ b ∷ rest) ≡ is_lined (b ∷ rest)
 lined_behind [] b rest = refl
 lined_behind (c ∷ []) b rest = refl
 lined_behind (c ∷ d ∷ text) b rest = lined_behind (d ∷ text) b rest
@@ -23,7 +23,7 @@ both_lined text (b ∷ rest) is rest_is = lined_behind text b rest ∙ rest_is
 pub feed_lined : (text : List ℕ) → is_lined (text ++ 10 ∷ []) ≡ true
 feed_lined text = lined_behind text 10 []
 
-lined_append : (lines rest : List ℕ) → (is_lined lines ≡ true) ⊎ (rest ≡ []) → lined lines ++ lined rest ≡ lined (lines ++ rest)
+pub lined_append : (lines rest : List ℕ) → (is_lined lines ≡ true) ⊎ (rest ≡ []) → lined lines ++ lined rest ≡ lined (lines ++ rest)
 lined_append lines [] either = append-nil (lined lines) ∙ ap lined (sym (append-nil lines))
 lined_append lines (b ∷ rest) (inl is) = rw (is, lined_behind lines b rest) (by_end (is_lined (b ∷ rest)) refl)
   where

@@ -1,12 +1,10 @@
 -- What commands leave of a configuration.
-use Rattle.std.specs.Char.{is_not_whitespace}
 use Rattle.std.specs.Cow.{cow_str_bytes}
 use Rattle.std.specs.List.Sorted.{IsSortedBy, IsStableBy}
 use Rattle.std.specs.Ordering.{is_lt, nat_cmp}
 use Rattle.std.specs.Prelude.{◌≡◌, ℕ, ◌+◌, ◌-◌, ◌%◌, ◌^◌, min, Bool, true, false, Some}
 use Rattle.std.specs.Prelude.{List, [], ◌∷◌, ◌++◌, IsPermutation, codes, map, option_map}
 use Rattle.std.specs.Prelude.{slice_get, unwrap_or}
-use Rattle.std.specs.Str.{NoCharPasses}
 use Rattle.ordered_multimap.specs.Changes.{appended, removed}
 use Rattle.ordered_multimap.specs.End.TheVariants.{Back}
 use Rattle.ordered_multimap.specs.Keys.{stored_key}
@@ -18,14 +16,13 @@ use Rattle.config_reader.specs.declared.command.Command.{Command}
 use Rattle.config_reader.specs.declared.command.Command.TheVariants.{Set, Add, Unset}
 use Rattle.config_reader.specs.declared.config.Lines.{Lines}
 use Rattle.config_reader.specs.declared.name.Name.{Name}
-use Rattle.config_reader.specs.declared.name.Section.{Section}
+use Rattle.config_reader.specs.declared.section.Section.{Section}
+use Rattle.config_reader.specs.Blocks.{IsBlank, IsConfig}
+use Rattle.config_reader.specs.Lines.{lined}
 use Rattle.config_reader.specs.Names.{has_no_key, is_no_section, same_name}
+use Rattle.config_reader.specs.Said.{settings_of, text_says}
 use Rattle.config_reader.specs.Values.{written}
-use Rattle.config_reader.specs.Written.{line_of, section_line}
-
--- each character is white space
-abbrev pub IsBlank : List ℕ → Type 0
-IsBlank text = NoCharPasses is_not_whitespace text
+use Rattle.config_reader.specs.Written.{line_of, section_line, texts_of}
 
 -- a setting of this value: its text is the key and the value on a line, indented so
 pub record IsSetting (indent key value : List ℕ) (setting : Lines) : Type 0 where
@@ -112,3 +109,30 @@ IsReadBack (Set name value) m = has_no_key name ≡ false
     ≡ value.now ∷ []
 IsReadBack (Unset name) m = is_present same_name m.pairs name ≡ false
 IsReadBack _ m = Unit {0}
+
+-- a command that adds no line leaves lines that are read as what they stand for
+abbrev pub KeepsConfig : Command → Lists Name Lines → Lists Name Lines → Type 0
+KeepsConfig (Set name value) old new = Unit {0}
+KeepsConfig (Add name value) old new = Unit {0}
+KeepsConfig (Unset name) old new = has_no_key name ≡ false
+    → IsConfig old.pairs → IsConfig new.pairs
+KeepsConfig _ old new = IsConfig old.pairs → IsConfig new.pairs
+
+-- the settings of these lines are those that their text says
+abbrev pub SaysSettings : Lists Name Lines → Type 0
+SaysSettings m = text_says (texts_of m.pairs) ≡ Some (settings_of m.pairs)
+
+-- the same where a command adds no line
+abbrev pub IsReadAgain : Command → Lists Name Lines → Type 0
+IsReadAgain (Set name value) m = Unit {0}
+IsReadAgain (Add name value) m = Unit {0}
+IsReadAgain (Unset name) m = has_no_key name ≡ false → SaysSettings m
+IsReadAgain _ m = SaysSettings m
+
+-- a text is read, and then the command is carried out
+pub record CarriesOut (text : List ℕ) (command : Command) (new : Lists Name Lines) : Type 0 where
+  pub read : Lists Name Lines
+  pub texts : texts_of read.pairs ≡ lined text
+  pub says : text_says (lined text) ≡ Some (settings_of read.pairs)
+  pub leaves : Leaves command read new
+  pub read_again : IsReadAgain command new

@@ -1,8 +1,11 @@
+pub mod Blocks
 pub mod Changed
 pub mod Faults
 pub mod Items
 pub mod Lines
 pub mod Names
+pub mod Said
+pub mod Sections
 pub mod Shown
 pub mod Values
 pub mod Written

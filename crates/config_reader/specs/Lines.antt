@@ -1,5 +1,23 @@
 -- A text as lines, and what is read of it.
+use Rattle.std.specs.List.{after_first, before_first}
+use Rattle.std.specs.Str.{trim}
+use Rattle.config_reader.specs.Values.{is_mark}
 use Rattle.std.specs.Prelude.{◌≡◌, ◌⊎◌, ℕ, Bool, true, ◌==◌, if◌then◌else◌, List, [], ◌∷◌, ◌++◌}
+
+-- the first line of a text without its line feed, and what stands behind that
+abbrev pub first_line : List ℕ → List ℕ
+first_line text = before_first (λ b. b == 10) text
+
+abbrev pub behind_line : List ℕ → List ℕ
+behind_line text = after_first (λ b. b == 10) text
+
+-- whether a line is empty or a comment
+abbrev pub begins_nothing : List ℕ → Bool
+begins_nothing [] = true
+begins_nothing (b ∷ word) = is_mark b
+
+abbrev pub says_nothing : List ℕ → Bool
+says_nothing line = begins_nothing (trim line)
 
 -- whether the text is empty or ends with a line feed
 abbrev pub is_lined : List ℕ → Bool

@@ -5,7 +5,7 @@ use Rattle.std.specs.Prelude.{◌≡◌, ℕ, ◌==◌, Bool, true, false, not, 
 use Rattle.std.specs.Str.{bytes_eq, chars, str_eq_ignore_ascii_case, trim}
 use Rattle.ordered_multimap.specs.Pairs.{has_items}
 use Rattle.config_reader.specs.declared.name.Name.{Name}
-use Rattle.config_reader.specs.declared.name.Section.{Section}
+use Rattle.config_reader.specs.declared.section.Section.{Section}
 
 -- words that differ in the case of ASCII letters alone are the same, names between quotes are not
 abbrev pub same_section : Section → Section → Bool

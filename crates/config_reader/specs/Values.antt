@@ -1,13 +1,14 @@
 -- How a value stands behind `=`, byte by byte.
 use Rattle.std.specs.Prelude.{◌≡◌, ℕ, Bool, true, false, ◌&&◌, ◌||◌, ◌==◌, not, if◌then◌else◌}
 use Rattle.std.specs.Prelude.{List, [], ◌∷◌, ◌++◌, Option, Some, None, option_and_then, option_map}
+use Rattle.std.specs.Prelude.{drop}
 use Rattle.std.specs.List.{flat_map, list_any}
 use Rattle.config_reader.specs.declared.value.Effect.{Effect}
 use Rattle.config_reader.specs.declared.value.Effect.TheVariants.{Add, Blank, Keep, Skip}
 use Rattle.config_reader.specs.declared.value.Mode.{Mode}
 use Rattle.config_reader.specs.declared.value.Mode.TheVariants.{Comment, Gap, Word, WordEscape}
 use Rattle.config_reader.specs.declared.value.Mode.TheVariants.{WordJoin, Quotes, QuotesEscape}
-use Rattle.config_reader.specs.declared.value.Mode.TheVariants.{QuotesJoin}
+use Rattle.config_reader.specs.declared.value.Mode.TheVariants.{Joined, QuotesJoin}
 use Rattle.config_reader.specs.Names.{Lacks}
 
 -- a space, a tab, a line feed, a form feed or a carriage return
@@ -45,11 +46,12 @@ abbrev pub stepped : Mode → ℕ → Option (Mode × Effect)
 stepped Comment b = Some (Comment, Skip)
 stepped Gap b = if is_mark b then Some (Comment, Skip) else Some (step_in_plain b)
 stepped Word b = if is_mark b then None else Some (step_in_plain b)
+stepped Joined b = if is_mark b then None else Some (step_in_plain b)
 stepped Quotes b = Some (step_in_quotes b)
 stepped WordEscape b =
     if b == 13 then Some (WordJoin, Skip) else
-    if b == 10 then Some (Word, Skip) else None
-stepped WordJoin b = if b == 10 then Some (Word, Skip) else None
+    if b == 10 then Some (Joined, Skip) else None
+stepped WordJoin b = if b == 10 then Some (Joined, Skip) else None
 stepped QuotesEscape b = step_in_escape b
 stepped QuotesJoin b = if b == 10 then Some (Quotes, Skip) else None
 
@@ -61,12 +63,14 @@ ends_value QuotesEscape = false
 ends_value QuotesJoin = false
 ends_value mode = true
 
--- whether a value may end there
-abbrev pub is_whole : Mode → Bool
-is_whole Gap = true
-is_whole Word = true
-is_whole Comment = true
-is_whole mode = false
+-- whether a value may end in front of this rest; the line that a backslash joins has to be there
+abbrev pub may_end : Mode → List ℕ → Bool
+may_end Gap rest = true
+may_end Word rest = true
+may_end Comment rest = true
+may_end Joined [] = false
+may_end Joined (b ∷ rest) = true
+may_end mode rest = false
 
 -- the value, and the blanks behind it, once a byte had this effect
 abbrev pub affected : Effect → ℕ → List ℕ → List ℕ → List ℕ × List ℕ
@@ -76,15 +80,15 @@ affected Blank b (first ∷ value) gap = (first ∷ value, gap ++ b ∷ [])
 affected Keep b value gap = (value ++ gap, [])
 affected (Add c) b value gap = ((value ++ gap) ++ c ∷ [], [])
 
--- the value, where it may end, and what stands behind it
+-- the value, where it may end, and what stands behind the line feed that ends it
 abbrev pub ended : Mode → List ℕ → List ℕ → Option (List ℕ × List ℕ)
-ended mode value rest = if is_whole mode then Some (value, rest) else None
+ended mode value rest = if may_end mode rest then Some (value, drop 1 rest) else None
 
 -- the value of which a part is read, and what stands behind the line feed that ends it
 unfoldable pub read_on : Mode → List ℕ → List ℕ → List ℕ → Option (List ℕ × List ℕ)
 read_on mode value gap [] = ended mode value []
 read_on mode value gap (b ∷ rest) =
-    if b == 10 && ends_value mode then ended mode value rest else
+    if b == 10 && ends_value mode then ended mode value (b ∷ rest) else
     option_and_then (λ step.
     read_on step.0 (affected step.1 b value gap).0 (affected step.1 b value gap).1 rest)
     (stepped mode b)

@@ -3,7 +3,7 @@ use Rattle.std.specs.Cow.{cow_str_bytes}
 use Rattle.std.specs.Prelude.{ℕ, List, [], ◌∷◌, ◌++◌, Option, Some, None, codes, if◌then◌else◌}
 use Rattle.config_reader.specs.declared.config.Lines.{Lines}
 use Rattle.config_reader.specs.declared.name.Name.{Name}
-use Rattle.config_reader.specs.declared.name.Section.{Section}
+use Rattle.config_reader.specs.declared.section.Section.{Section}
 use Rattle.config_reader.specs.Names.{is_named_section, is_setting_of}
 
 -- a text and a line feed

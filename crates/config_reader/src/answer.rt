@@ -1,11 +1,11 @@
 //! The two ways to ask, by arguments and by lines of standard input, and what commands show.
 ghost use Rattle.std.specs.List.{list_any};
-ghost use Rattle.std.specs.Prelude.{◌≡◌, ◌++◌, IfOk, OnOk};
+ghost use Rattle.std.specs.Prelude.{◌≡◌, ◌++◌, [], IfOk, OnOk};
 ghost use Rattle.std.specs.String.{string_bytes};
 ghost use Rattle.ordered_multimap.specs.Walk.{end_item};
 ghost use Rattle.ordered_multimap.specs.End.TheVariants.{Back};
 ghost use Rattle.ordered_multimap.specs.Pairs.{is_present, values_of};
-ghost use Rattle.config_reader.specs.Changed.{IsReadBack, Leaves};
+ghost use Rattle.config_reader.specs.Changed.{CarriesOut, IsReadBack, KeepsConfig, Leaves};
 ghost use Rattle.config_reader.specs.Lines.{lined};
 ghost use Rattle.config_reader.specs.Names.{is_named_section, is_setting_of, same_name};
 ghost use Rattle.config_reader.specs.Shown.{answer_of, is_found, shown};
@@ -17,8 +17,9 @@ use crate::change::change;
 use crate::command::Command;
 use crate::config::Config;
 use crate::lines::lines_in;
-use crate::name::{Name, Section};
+use crate::name::Name;
 use crate::reader::{read_config, read_to_bar};
+use crate::section::Section;
 use program_parts::{Fault, bad, without_mark};
 use std::alloc::{AllocError, Global};
 use std::io;
@@ -112,6 +113,8 @@ fn answer_on_text<'t>(
 ) -> Result<bool, Fault>
     ensures write { command.entry ≡ Write → OnOk result (string_bytes answers.new
         ≡ string_bytes answers.old ++ (texts_of config.old.lists.pairs ++ lined text.now)) }
+    ensures carries_out { config.old.lists.pairs ≡ [] → OnOk result
+        (CarriesOut text.now command.entry config.new.lists) }
 {
     read_config(alloc, config, text)?;
     end?;
@@ -127,6 +130,7 @@ fn carry_out<'t>(
 ) -> Result<bool, AllocError>
     ensures leaves { OnOk result (Leaves command.entry config.old.lists config.new.lists) }
     ensures read_back { OnOk result (IsReadBack command.entry config.new.lists) }
+    ensures keeps { OnOk result (KeepsConfig command.entry config.old.lists config.new.lists) }
     ensures found { IfOk result (λ found. found ≡ is_found command.entry config.new.lists) }
     ensures shown { OnOk result (string_bytes answers.new ≡ string_bytes answers.old
         ++ shown command.entry config.new.lists) }

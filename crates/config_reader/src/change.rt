@@ -1,16 +1,18 @@
 //! What commands make of a configuration.
 ghost use Rattle.std.specs.Cow.{cow_str_bytes};
-ghost use Rattle.std.specs.Prelude.{◌≡◌, [], IfOk, OnOk};
+ghost use Rattle.std.specs.Prelude.{◌≡◌, [], length, true, IfOk, OnOk};
 ghost use Rattle.ordered_multimap.specs.Changes.{removed};
 ghost use Rattle.ordered_multimap.specs.SetLists.{value_set};
 ghost use Rattle.config_reader.specs.Changed.{Adds, AddsByRank, AddsSection, IsSetting};
-ghost use Rattle.config_reader.specs.Changed.{IsBlank, IsReadBack, Leaves, Opens, Sets, settings_rank};
-ghost use Rattle.config_reader.specs.Names.{same_name};
+ghost use Rattle.config_reader.specs.Blocks.{AreSetting, IsBlank};
+ghost use Rattle.config_reader.specs.Changed.{IsReadBack, KeepsConfig, Leaves, Opens, Sets, settings_rank};
+ghost use Rattle.config_reader.specs.Names.{Lacks, is_key, same_name};
 ghost use Rattle.config_reader.specs.Written.{section_line};
 
 use crate::command::Command;
 use crate::config::{Config, Lines};
-use crate::name::{NO_SECTION, Name, Section};
+use crate::name::Name;
+use crate::section::{NO_SECTION, Section};
 use crate::value::add_value;
 use ascii_caseless::AsciiCaseless;
 use std::alloc::{AllocError, Global};
@@ -24,6 +26,7 @@ pub fn change<'t>(
 ) -> Result<(), AllocError>
     ensures leaves { OnOk result (Leaves command.entry config.old.lists config.new.lists) }
     ensures read_back { OnOk result (IsReadBack command.entry config.new.lists) }
+    ensures keeps { OnOk result (KeepsConfig command.entry config.old.lists config.new.lists) }
 {
     match command {
         Command::Set(name, value) => set(alloc, config, name, value),
@@ -173,6 +176,9 @@ fn setting<'t>(
 ) -> Result<Lines<'t>, AllocError>
     ensures is_setting { IfOk result (λ lines.
         IsSetting indent.now key.entry.0.now value.now lines) }
+    ensures reads { IsBlank indent.now → Lacks 10 indent.now → is_key key.entry.0.now ≡ true
+        → IfOk result (λ lines. AreSetting (cow_str_bytes lines.text) key.entry.0.now value.now
+        (length indent.now)) }
     ensures rank { IfOk result (λ lines. lines.rank ≡ rank) }
 {
     let mut text = String::new(alloc);

@@ -4,7 +4,8 @@ ghost use Rattle.std.specs.Prelude.{◌≡◌, IfErr};
 ghost use Rattle.std.specs.declared.io.ErrorKind.TheVariants.{InvalidData};
 ghost use Rattle.program_parts.specs.Statuses.{status_of_fault};
 
-use crate::name::{NO_SECTION, Name, Section};
+use crate::name::Name;
+use crate::section::{NO_SECTION, Section};
 use program_parts::{Fault, bad};
 use std::io;
 

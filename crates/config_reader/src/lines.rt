@@ -1,15 +1,30 @@
 //! Lines of a text.
 ghost use Rattle.std.specs.Prelude.{◌≡◌, ◌<◌, ◌++◌, ℕ, List, length};
-ghost use Rattle.config_reader.specs.Lines.{IsBehindLines, is_lined};
+ghost use Rattle.config_reader.specs.Lines.{IsBehindLines, behind_line, first_line};
+ghost use Rattle.config_reader.specs.Lines.{is_lined, says_nothing};
+
+use crate::value::is_mark;
 
 /// The first line without its line feed, and what stands behind that.
 pub fn first_line(text: &str) -> (&str, &str)
+    ensures line { result.0.now ≡ first_line text.now }
+    ensures behind { result.1.now ≡ behind_line text.now }
     ensures lines { IsBehindLines text.now result.1.now }
     ensures shorter { 0 < length text.now → length result.1.now < length text.now }
 {
     match text.split_once('\n') {
         Some(parts) => parts,
         None => (text, ""),
+    }
+}
+
+/// Whether a line is empty or a comment.
+pub fn says_nothing(line: &str) -> bool
+    ensures { result ≡ says_nothing line.now }
+{
+    match line.trim().as_bytes().split_first() {
+        Some((first, _)) => is_mark(*first),
+        None => true,
     }
 }
 

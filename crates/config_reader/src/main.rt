@@ -25,8 +25,9 @@
 //! quote, a backslash, a line feed and a tab.
 //!
 //! What programs read in several ways is a bad line: a setting that is indented more than the one
-//! above it, `KEY: VALUE`, `#` or `;` within a word, a backslash without quotes, any other escape, a
-//! quote without an end, and a section with nothing between its quotes or behind its dot.
+//! above it, `KEY: VALUE`, `#` or `;` within a word, a backslash without quotes or at the end of the
+//! text, any other escape, a quote without an end, and a section with nothing between its quotes or
+//! behind its dot. No name has a line feed.
 //!
 //! `set`, `add`, `unset` and `write` write the whole text. Lines that aren't touched stay as they are,
 //! with comments and empty lines; a last line without a line feed gets one. `set` of an absent key
@@ -50,6 +51,8 @@ mod config;
 mod lines;
 mod name;
 mod reader;
+mod section;
+mod setting;
 mod value;
 
 use crate::answer::{add_answer_of_words, add_answers};

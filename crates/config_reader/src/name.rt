@@ -1,27 +1,18 @@
-//! Names of sections and of settings.
+//! Names of settings.
 ghost use Rattle.std.specs.IoError.{error_kind};
 ghost use Rattle.std.specs.List.{list_any};
 ghost use Rattle.std.specs.Prelude.{◌≡◌, ◌==◌, ◌∷◌, ◌++◌, [], ℕ, List, true, false};
-ghost use Rattle.std.specs.Prelude.{IfErr, IfOk, IsTrue, MatchOption, OnOk};
+ghost use Rattle.std.specs.Prelude.{IfErr, IfOk, IsTrue};
 ghost use Rattle.std.specs.Str.{trim};
-ghost use Rattle.std.specs.String.{string_bytes};
 ghost use Rattle.std.specs.declared.io.ErrorKind.TheVariants.{InvalidData};
 ghost use Rattle.config_reader.specs.Names.{is_key, is_named_section};
 ghost use Rattle.config_reader.specs.Names.{is_outside_key, is_setting_of};
-ghost use Rattle.config_reader.specs.Names.{IsCalledBy, IsCalledByDot, IsOpenAs, Lacks};
-ghost use Rattle.config_reader.specs.Written.{in_quotes, section_line, section_name};
+ghost use Rattle.config_reader.specs.Names.{IsOpenAs, Lacks};
 
+use crate::section::{NO_SECTION, Section};
 use ascii_caseless::AsciiCaseless;
 use program_parts::bad;
-use std::alloc::AllocError;
 use std::io;
-
-/// The name of a section: a word without case, and behind it perhaps a name with case.
-#[derive(Clone, Copy, PartialEq, Eq, Hash)]
-pub struct Section<'t> {
-    word: AsciiCaseless<&'t str>,
-    sub: &'t str,
-}
 
 /// The name of a line: its section, and the key of its setting. Lines that are no setting have an
 /// empty key.
@@ -31,117 +22,8 @@ pub struct Name<'t> {
     pub key: AsciiCaseless<&'t str>,
 }
 
-/// Above the first section.
-pub const NO_SECTION: Section<'static> = Section {
-    word: AsciiCaseless(""),
-    sub: "",
-};
-
 /// The key of lines that are no setting.
 pub const NO_KEY: AsciiCaseless<&'static str> = AsciiCaseless("");
-
-impl<'t> Section<'t> {
-    /// The section `word`, `word.sub` or `word "sub"`.
-    ///
-    /// # Errors
-    ///
-    /// An empty word, nothing behind the dot or between the quotes, a bracket, a quote at another
-    /// place, or a backslash.
-    pub fn parse(text: &'t str) -> io::Result<Section<'t>>
-        ensures called { IfOk result (λ section. IsCalledBy text.now section) }
-        ensures bad { IfErr result (λ error. error_kind error ≡ InvalidData) }
-    {
-        let Some((word, quoted)) = text.split_once('"') else {
-            return Section::of_dotted(text);
-        };
-        match quoted.strip_suffix('"') {
-            Some(sub) => Section::of_parts(word.trim(), Some(sub)),
-            None => Err(bad("not the name of a section")),
-        }
-    }
-
-    /// The section of this name; the empty one stands above the first section.
-    fn parse_or_none(text: &'t str) -> io::Result<Section<'t>>
-        ensures open { IfOk result (λ section. IsOpenAs text.now section) }
-        ensures bad { IfErr result (λ error. error_kind error ≡ InvalidData) }
-    {
-        if text.is_empty() {
-            return Ok(NO_SECTION);
-        }
-        Section::parse(text)
-    }
-
-    /// The section `word` or `word.sub`.
-    fn of_dotted(text: &'t str) -> io::Result<Section<'t>>
-        ensures called { IfOk result (λ section. IsCalledByDot text.now section) }
-        ensures bad { IfErr result (λ error. error_kind error ≡ InvalidData) }
-    {
-        match text.split_once('.') {
-            Some((word, sub)) => Section::of_parts(word.trim(), Some(sub)),
-            None => Section::of_parts(text.trim(), None),
-        }
-    }
-
-    /// The section that a line opens, whose text behind the bracket this is. A comment may stand
-    /// behind it.
-    pub fn of_line(inside: &'t str) -> io::Result<Section<'t>>
-        ensures bad { IfErr result (λ error. error_kind error ≡ InvalidData) }
-    {
-        let end = match inside.split_once('"') {
-            Some((word, _)) if !word.contains(']') => "\"]",
-            _ => "]",
-        };
-        let Some((_, behind)) = inside.split_once(end) else {
-            return Err(bad("not a section or a setting"));
-        };
-        let name = inside.strip_suffix(behind).unwrap_or(inside);
-        let behind = behind.trim();
-        if !behind.is_empty() && !behind.starts_with(['#', ';']) {
-            return Err(bad("not a section or a setting"));
-        }
-        Section::parse(name.strip_suffix(']').unwrap_or(name).trim())
-    }
-
-    fn of_parts(word: &'t str, sub: Option<&'t str>) -> io::Result<Section<'t>>
-        ensures word { IfOk result (λ section. section.word.0.now ≡ word.now) }
-        ensures sub { IfOk result (λ section.
-            MatchOption sub.entry (section.sub.now ≡ []) (λ sub. section.sub.now ≡ sub.now)) }
-        ensures bad { IfErr result (λ error. error_kind error ≡ InvalidData) }
-    {
-        let is_word = !word.is_empty() && !word.contains(['"', '\\', '[', ']']);
-        let is_sub = sub.is_none_or(|sub| !sub.is_empty() && !sub.contains(['"', '\\']));
-        if !is_word || !is_sub {
-            return Err(bad("not the name of a section"));
-        }
-        let word = AsciiCaseless(word);
-        let sub = sub.unwrap_or("");
-        Ok(Section { word, sub })
-    }
-
-    /// Adds the name as a question has it.
-    pub fn add_name(&self, text: &mut String) -> Result<(), AllocError>
-        ensures { OnOk result (string_bytes text.new ≡ string_bytes text.old
-            ++ section_name self.now) }
-    {
-        text.push_str(self.word.as_str())?;
-        if self.sub.is_empty() {
-            return Ok(());
-        }
-        text.push('.')?;
-        text.push_str(self.sub)
-    }
-
-    /// Adds the line that opens the section.
-    pub fn add_line(&self, text: &mut String) -> Result<(), AllocError>
-        ensures { OnOk result (string_bytes text.new ≡ string_bytes text.old
-            ++ section_line self.now) }
-    {
-        text.push('[')?;
-        text.push_str(self.word.as_str())?;
-        add_in_quotes(self.sub, text)?;
-        text.push_str("]\n")
-    }
-}
 
 impl<'t> Name<'t> {
     /// The name of the lines of a section that are no setting.
@@ -224,16 +106,4 @@ fn is_outside_key(character: char) -> bool
             character,
             '.' | ':' | '=' | '"' | '\\' | '[' | ']' | '#' | ';'
         )
-}
-
-// Adds the name between quotes and behind a blank, if there is one.
-fn add_in_quotes(sub: &str, text: &mut String) -> Result<(), AllocError>
-    ensures { OnOk result (string_bytes text.new ≡ string_bytes text.old ++ in_quotes sub.now) }
-{
-    if sub.is_empty() {
-        return Ok(());
-    }
-    text.push_str(" \"")?;
-    text.push_str(sub)?;
-    text.push('"')
 }

@@ -1,23 +1,21 @@
 //! Reading a text as a configuration, item by item.
 ghost use Rattle.std.specs.Cow.{cow_str_bytes};
-ghost use Rattle.std.specs.IoError.{error_kind};
-ghost use Rattle.std.specs.Prelude.{◌≡◌, ◌<◌, ◌∷◌, ◌++◌, [], ℕ, List, length, true, false};
+ghost use Rattle.std.specs.Prelude.{◌≡◌, ◌<◌, ◌++◌, [], ℕ, List, length, true, false};
 ghost use Rattle.std.specs.Prelude.{IfErr, IfOk, OnOk};
 ghost use Rattle.config_reader.specs.Faults.{IsBadOrRefused, IsLineOrRefused};
 ghost use Rattle.config_reader.specs.Items.{AddsItem};
+ghost use Rattle.config_reader.specs.Blocks.{IsConfig, IsKept, IsSectionLine, IsSettingLine};
+ghost use Rattle.config_reader.specs.Blocks.{place_of, start};
 ghost use Rattle.config_reader.specs.Lines.{IsBehindLines, IsReadTo, lined};
-ghost use Rattle.std.specs.Str.{trim};
-ghost use Rattle.std.specs.String.{string_bytes};
-ghost use Rattle.std.specs.declared.io.ErrorKind.TheVariants.{InvalidData};
-ghost use Rattle.config_reader.specs.Names.{Lacks, is_key};
-ghost use Rattle.config_reader.specs.Values.{HasValue};
+ghost use Rattle.config_reader.specs.Said.{is_deeper};
 ghost use Rattle.config_reader.specs.Written.{texts_of};
 ghost use Rattle.config_reader.specs.declared.reader.Part.TheVariants.{Whole};
 
 use crate::config::{Config, Lines, append_lines};
-use crate::lines::{first_line, lines_before, lines_in};
-use crate::name::{NO_KEY, NO_SECTION, Name, Section, is_key};
-use crate::value::read_value;
+use crate::lines::{first_line, lines_before, lines_in, says_nothing};
+use crate::name::{NO_KEY, Name};
+use crate::section::{NO_SECTION, Section};
+use crate::setting::setting_of;
 use ascii_caseless::AsciiCaseless;
 use program_parts::{Fault, bad};
 use std::alloc::{AllocError, Global};
@@ -32,6 +30,7 @@ use std::io;
 pub fn read_config<'t>(alloc: Global, config: &mut Config<'t>, text: &'t str) -> Result<(), Fault>
     ensures kept { OnOk result (texts_of config.new.lists.pairs
         ≡ texts_of config.old.lists.pairs ++ lined text.now) }
+    ensures reads { config.old.lists.pairs ≡ [] → OnOk result (IsConfig config.new.lists.pairs) }
     ensures fault { IfErr result IsLineOrRefused }
 {
     let mut reader = Reader::new(alloc, text);
@@ -87,6 +86,7 @@ impl<'t> Reader<'t> {
     fn new(alloc: Global, text: &'t str) -> Reader<'t>
         ensures rest { result.rest.now ≡ text.now }
         ensures between { result.between.now ≡ text.now }
+        ensures start { place_of result ≡ start }
     {
         Reader {
             alloc,
@@ -105,6 +105,8 @@ impl<'t> Reader<'t> {
             → IsReadTo (texts_of config.old.lists.pairs) self.old.between.now self.old.rest.now all
             → OnOk result (texts_of config.new.lists.pairs ++ lined self.new.rest.now ≡ all) }
         ensures whole { part ≡ Whole → OnOk result (self.new.rest.now ≡ []) }
+        ensures reads { IsKept self.old config.old.lists.pairs
+            → OnOk result (IsKept self.new config.new.lists.pairs) }
         ensures fault { IfErr result IsLineOrRefused }
     {
         while !self.is_at_end(part) {
@@ -137,25 +139,26 @@ impl<'t> Reader<'t> {
             self.new.between.now self.new.rest.now all) }
         ensures shorter { 0 < length self.old.rest.now
             → OnOk result (length self.new.rest.now < length self.old.rest.now) }
+        ensures reads { 0 < length self.old.rest.now → IsKept self.old config.old.lists.pairs
+            → OnOk result (IsKept self.new config.new.lists.pairs) }
         ensures fault { IfErr result IsBadOrRefused }
     {
         let (line, behind) = first_line(self.rest);
-        let word = line.trim();
-        if word.is_empty() || word.starts_with(['#', ';']) {
+        if says_nothing(line) {
             self.rest = behind;
             self.lines = self.lines.saturating_add(1);
             return Ok(());
         }
-        if word.starts_with('[') {
-            return self.read_section(config, line, behind);
+        match line.trim_start().strip_prefix('[') {
+            Some(inside) => self.read_section(config, inside, behind),
+            None => self.read_setting(config, line),
         }
-        self.read_setting(config, line)
     }
 
     fn read_section(
         &mut self,
         config: &mut Config<'t>,
-        line: &'t str,
+        inside: &'t str,
         behind: &'t str,
     ) -> io::Result<()>
         ensures kept { (all : List ℕ)
@@ -164,10 +167,13 @@ impl<'t> Reader<'t> {
             → OnOk result (IsReadTo (texts_of config.new.lists.pairs)
             self.new.between.now self.new.rest.now all) }
         ensures rest { OnOk result (self.new.rest.now ≡ behind.now) }
+        ensures reads { IsSectionLine self.old.rest.now inside.now behind.now
+            → IsKept self.old config.old.lists.pairs
+            → OnOk result (IsKept self.new config.new.lists.pairs) }
         ensures fault { IfErr result IsBadOrRefused }
     {
         self.add_between(config, self.rank.saturating_add(1))?;
-        self.section = Section::of_line(line.trim_start().strip_prefix('[').unwrap_or(""))?;
+        self.section = Section::of_line(inside)?;
         self.rank = self.rank.saturating_add(2);
         self.indent = None;
         self.add_item(config, NO_KEY, CowStr::Borrowed(""), behind)?;
@@ -181,11 +187,14 @@ impl<'t> Reader<'t> {
             self.new.between.now self.new.rest.now all) }
         ensures shorter { 0 < length self.old.rest.now
             → OnOk result (length self.new.rest.now < length self.old.rest.now) }
+        ensures reads { IsSettingLine self.old.rest.now line.now
+            → IsKept self.old config.old.lists.pairs
+            → OnOk result (IsKept self.new config.new.lists.pairs) }
         ensures fault { IfErr result IsBadOrRefused }
     {
         self.add_between(config, self.rank)?;
         let indent = line.len().saturating_sub(line.trim_start().len());
-        if self.indent.is_some_and(|above| indent > above) {
+        if is_deeper(indent, self.indent) {
             return Err(bad("indented more than the setting above it"));
         }
         let (key, value, behind) = setting_of(self.alloc, line, self.rest)?;
@@ -202,6 +211,10 @@ impl<'t> Reader<'t> {
             self.new.between.now self.new.rest.now all) }
         ensures rest { self.new.rest.now ≡ self.old.rest.now }
         ensures between { OnOk result (self.new.between.now ≡ self.old.rest.now) }
+        ensures reads { IsKept self.old config.old.lists.pairs
+            → OnOk result (IsKept self.new config.new.lists.pairs) }
+        ensures section { self.new.section ≡ self.old.section }
+        ensures indent { self.new.indent ≡ self.old.indent }
     {
         let text = lines_before(self.between, self.rest);
         self.between = self.rest;
@@ -223,9 +236,12 @@ impl<'t> Reader<'t> {
         ensures kept { OnOk result ((lines : List ℕ) → self.old.rest.now ≡ lines ++ behind.now
             → texts_of config.new.lists.pairs ≡ texts_of config.old.lists.pairs ++ lined lines) }
         ensures added { OnOk result (AddsItem self.old.section key.entry.0.now
-            (cow_str_bytes value.entry) self.old.rank config.old.lists config.new.lists) }
+            (cow_str_bytes value.entry) self.old.rest.now behind.now self.old.rank
+            config.old.lists config.new.lists) }
         ensures rest { self.new.rest.now ≡ behind.now }
         ensures between { self.new.between.now ≡ behind.now }
+        ensures section { self.new.section ≡ self.old.section }
+        ensures indent { self.new.indent ≡ self.old.indent }
     {
         let text = lines_before(self.rest, behind);
         self.rest = behind;
@@ -237,58 +253,12 @@ impl<'t> Reader<'t> {
     }
 }
 
-/// The key and the value of the setting that begins on this line, and what stands behind it in
-/// `rest`, which begins with the line. A key alone has the empty value.
-fn setting_of<'t>(
-    alloc: Global,
-    line: &'t str,
-    rest: &'t str,
-) -> io::Result<(AsciiCaseless<&'t str>, CowStr<'t>, &'t str)>
-    ensures key { IfOk result (λ setting. (key behind : List ℕ)
-        → line.now ≡ key ++ 61 ∷ behind → Lacks 61 key → setting.0.0.now ≡ trim key) }
-    ensures value { IfOk result (λ setting. (key behind : List ℕ)
-        → line.now ≡ key ++ 61 ∷ behind → HasValue rest.now (cow_str_bytes setting.1)) }
-    ensures alone { IfOk result (λ setting. Lacks 61 line.now
-        → (setting.0.0.now ≡ trim line.now) × (cow_str_bytes setting.1 ≡ [])) }
-    ensures lines { IfOk result (λ setting. IsBehindLines rest.now setting.2.now) }
-    ensures shorter { IfOk result (λ setting. 0 < length rest.now
-        → length setting.2.now < length rest.now) }
-    ensures fault { IfErr result IsBadOrRefused }
+// Whether a line is indented more than the setting above it, if there is one.
+fn is_deeper(indent: usize, above: Option<usize>) -> bool
+    ensures { result ≡ is_deeper indent above }
 {
-    let Some((key, _)) = line.split_once('=') else {
-        return Ok((key_of(line)?, CowStr::Borrowed(""), first_line(rest).1));
-    };
-    let key = key_of(key)?;
-    let (value, behind) = value_behind_sign(alloc, rest)?;
-    Ok((key, CowStr::Owned(value), behind))
-}
-
-/// The key that a text is, without the blanks around it.
-fn key_of(text: &str) -> io::Result<AsciiCaseless<&str>>
-    ensures key { IfOk result (λ key. key.0.now ≡ trim text.now) }
-    ensures allowed { IfOk result (λ key. is_key key.0.now ≡ true) }
-    ensures bad { IfErr result (λ error. error_kind error ≡ InvalidData) }
-{
-    let key = text.trim();
-    if !is_key(key) {
-        return Err(bad("not a section or a setting"));
-    }
-    Ok(AsciiCaseless(key))
-}
-
-/// The value behind the first `=`, and what stands behind its last line.
-fn value_behind_sign(alloc: Global, rest: &str) -> io::Result<(String, &str)>
-    ensures value { IfOk result (λ r. HasValue rest.now (string_bytes r.0)) }
-    ensures lines { IfOk result (λ r. IsBehindLines rest.now r.1.now) }
-    ensures shorter { IfOk result (λ r. 0 < length rest.now → length r.1.now < length rest.now) }
-    ensures fault { IfErr result IsBadOrRefused }
-{
-    let Some((_, text)) = rest.split_once('=') else {
-        return Err(bad("not a section or a setting"));
-    };
-    let (value, behind) = read_value(alloc, text.as_bytes())?;
-    match text.split_at_checked(text.len().saturating_sub(behind.len())) {
-        Some((_, behind)) => Ok((value, behind)),
-        None => Ok((value, "")),
+    match above {
+        Some(above) => indent > above,
+        None => false,
     }
 }

@@ -6,7 +6,7 @@
 //! quote, a backslash, a line feed and a tab.
 ghost use Rattle.std.specs.IoError.{error_kind};
 ghost use Rattle.std.specs.Prelude.{◌≡◌, ◌==◌, ◌&&◌, ◌<◌, ◌∷◌, ◌++◌, [], ℕ, List, None, Some};
-ghost use Rattle.std.specs.Prelude.{drop, length};
+ghost use Rattle.std.specs.Prelude.{length};
 ghost use Rattle.std.specs.Prelude.{IfErr, IfNone, IfOk, IfSome, IsUtf8, OnOk};
 ghost use Rattle.std.specs.Char.{encode_utf8};
 ghost use Rattle.std.specs.List.{flat_map};
@@ -51,6 +51,8 @@ enum Mode {
     /// Blanks, or the word that begins.
     Gap,
     Word,
+    /// A word at the start of a line that a backslash joins.
+    Joined,
     Quotes,
     Comment,
     /// Behind a backslash.
@@ -91,7 +93,7 @@ impl Reader {
             length behind.now < length rest.now)) }
         ensures ends { IfOk result (λ next. IfNone next (
             read_on self.old.mode self.old.value.items self.old.gap.items rest.now
-            ≡ ended self.new.mode self.new.value.items (drop 1 rest.now))) }
+            ≡ ended self.new.mode self.new.value.items rest.now)) }
         ensures bad { IfErr result (λ error. error_kind error ≡ InvalidData
             → read_on self.old.mode self.old.value.items self.old.gap.items rest.now ≡ None) }
         ensures fault { IfErr result IsBadOrRefused }
@@ -141,10 +143,10 @@ impl Reader {
 
     /// The value, if it may end here, and what stands behind its last line.
     fn end(self, rest: &[u8]) -> io::Result<(String, &[u8])>
-        ensures value { IfOk result (λ r. ended self.mode self.value.items (drop 1 rest.now)
+        ensures value { IfOk result (λ r. ended self.mode self.value.items rest.now
             ≡ Some (string_bytes r.0, r.1.now)) }
         ensures bad { IfErr result (λ error. error_kind error ≡ InvalidData
-            → IfSome (ended self.mode self.value.items (drop 1 rest.now)) (λ r. ¬ IsUtf8 r.0)) }
+            → IfSome (ended self.mode self.value.items rest.now) (λ r. ¬ IsUtf8 r.0)) }
         ensures fault { IfErr result IsBadOrRefused }
     {
         match self.mode {
@@ -152,7 +154,8 @@ impl Reader {
                 return Err(bad("a quote has no end"));
             }
             Mode::WordEscape | Mode::WordJoin => return Err(bad("no line behind a backslash")),
-            Mode::Gap | Mode::Word | Mode::Comment => {}
+            Mode::Joined if rest.is_empty() => return Err(bad("no line behind a backslash")),
+            Mode::Gap | Mode::Word | Mode::Joined | Mode::Comment => {}
         }
         let Ok(value) = String::from_utf8(self.value) else {
             return Err(bad("not UTF-8"));
@@ -171,7 +174,7 @@ fn is_end(mode: Mode, byte: u8) -> bool
 {
     let is_joined = match mode {
         Mode::WordEscape | Mode::WordJoin | Mode::QuotesEscape | Mode::QuotesJoin => true,
-        Mode::Gap | Mode::Word | Mode::Quotes | Mode::Comment => false,
+        Mode::Gap | Mode::Word | Mode::Joined | Mode::Quotes | Mode::Comment => false,
     };
     byte == b'\n' && !is_joined
 }
@@ -185,11 +188,11 @@ fn step(mode: Mode, byte: u8) -> io::Result<(Mode, Effect)>
     match mode {
         Mode::Comment => Ok((Mode::Comment, Effect::Skip)),
         Mode::Gap if is_mark(byte) => Ok((Mode::Comment, Effect::Skip)),
-        Mode::Word if is_mark(byte) => Err(bad("# or ; in a word without quotes")),
-        Mode::Gap | Mode::Word => Ok(step_in_plain(byte)),
+        Mode::Word | Mode::Joined if is_mark(byte) => Err(bad("# or ; in a word without quotes")),
+        Mode::Gap | Mode::Word | Mode::Joined => Ok(step_in_plain(byte)),
         Mode::Quotes => Ok(step_in_quotes(byte)),
         Mode::WordEscape if byte == b'\r' => Ok((Mode::WordJoin, Effect::Skip)),
-        Mode::WordEscape | Mode::WordJoin if byte == b'\n' => Ok((Mode::Word, Effect::Skip)),
+        Mode::WordEscape | Mode::WordJoin if byte == b'\n' => Ok((Mode::Joined, Effect::Skip)),
         Mode::WordEscape | Mode::WordJoin => Err(bad("a backslash without quotes")),
         Mode::QuotesEscape => step_in_escape(byte),
         Mode::QuotesJoin if byte == b'\n' => Ok((Mode::Quotes, Effect::Skip)),
@@ -197,7 +200,8 @@ fn step(mode: Mode, byte: u8) -> io::Result<(Mode, Effect)>
     }
 }
 
-fn is_mark(byte: u8) -> bool
+/// Whether a byte begins a comment.
+pub fn is_mark(byte: u8) -> bool
     ensures { result ≡ is_mark byte }
 {
     byte == b'#' || byte == b';'

@@ -1,8 +1,10 @@
-use Rattle.std.proofs.Common.{◌∙◌, ap}
+use Rattle.std.proofs.Common.{◌∙◌, ap, subst, sym}
 use Rattle.std.proofs.lemmas.Result.{on_ok_weaker}
 use Rattle.ordered_multimap.specs.Pairs.{is_present}
+use Rattle.config_reader.specs.Blocks.{IsConfig}
 use Rattle.config_reader.specs.Names.{same_name}
 use Rattle.config_reader.proofs.ReadBack.{absent_removed, set_alone}
+use Rattle.config_reader.proofs.Removed.{removed_read}
 use Rattle.config_reader.proofs.change.change.Goals as goal
 
 pub returns-in-Set-clause-read_back : goal.returns-in-Set-clause-read_back
@@ -14,3 +16,9 @@ returns-in-Unset-clause-read_back c =
     rw c.in-Unset.is
     (ap (λ m. is_present same_name m.pairs c.in-Unset.name) c.unset.ensures
     ∙ absent_removed c.in-Unset.name c.args.config.now.lists)
+
+pub returns-in-Unset-clause-keeps : goal.returns-in-Unset-clause-keeps
+returns-in-Unset-clause-keeps c =
+    rw c.in-Unset.is
+    (λ keyed config. subst (λ m. IsConfig m.pairs) (sym c.unset.ensures)
+    (removed_read c.in-Unset.name c.args.config.now.lists keyed config))

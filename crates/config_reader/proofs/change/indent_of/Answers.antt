@@ -1,6 +1,6 @@
 use Rattle.std.proofs.Common.{List, ℕ, refl, subst, sym}
 use Rattle.std.specs.Borrow.{Bor}
-use Rattle.config_reader.specs.Changed.{IsBlank}
+use Rattle.config_reader.specs.Blocks.{IsBlank}
 use Rattle.config_reader.proofs.Blanks.{blank_stripped}
 use Rattle.config_reader.proofs.change.indent_of.Goals as goal
 

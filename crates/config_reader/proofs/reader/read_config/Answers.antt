@@ -1,7 +1,9 @@
-use Rattle.std.proofs.Common.{◌++◌, refl}
+use Rattle.std.proofs.Common.{◌∙◌, ◌++◌, [], inl, refl, subst, sym}
 use Rattle.config_reader.specs.Lines.{lined}
 use Rattle.config_reader.specs.Written.{texts_of}
+use Rattle.config_reader.specs.Blocks.{AreRead, IsKept, place_of, start}
 use Rattle.config_reader.proofs.Called.{IfOk-both}
+use Rattle.config_reader.proofs.Chain.{none_silent}
 use Rattle.config_reader.proofs.WholeLines.{all_read, nothing_read}
 use Rattle.config_reader.proofs.reader.read_config.Goals as goal
 
@@ -15,3 +17,16 @@ returns-clause-kept c =
     (λ done. all_read (texts_of c.read_items.new.config.lists.pairs) c.read_items.new.self.rest.now all)
     (c.read_items.ensures.kept all (rw (reader.ensures.between, reader.ensures.rest) (nothing_read kept text)))
     (c.read_items.ensures.whole refl)
+
+pub returns-clause-reads : goal.returns-clause-reads
+returns-clause-reads c = λ none.
+    let reader = c.new-reader in
+    let kept : IsKept reader.result c.args.config.now.lists.pairs = record {
+      read = subst (λ pairs. AreRead start pairs (place_of reader.result)) (sym none) reader.ensures.start;
+      lines = [];
+      between = reader.ensures.between ∙ sym reader.ensures.rest;
+      silent = none_silent;
+      lined_are = inl refl;
+    } in
+    IfOk-both c.read_items.result (λ done kept same. (place_of c.read_items.new.self, kept.read))
+    (c.read_items.ensures.reads kept) (c.read_items.ensures.reads kept)

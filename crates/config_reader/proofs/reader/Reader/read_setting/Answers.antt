@@ -1,6 +1,8 @@
-use Rattle.std.proofs.Common.{◌∙◌, subst}
+use Rattle.std.proofs.Common.{◌∙◌, rules, subst, sym}
 use Rattle.config_reader.specs.Lines.{IsBehindLines}
 use Rattle.config_reader.specs.Written.{texts_of}
+use Rattle.config_reader.specs.Blocks.{IsSettingLine}
+use Rattle.config_reader.proofs.Kept.{setting_kept}
 use Rattle.config_reader.proofs.WholeLines.{keep_item}
 use Rattle.config_reader.proofs.reader.Reader.read_setting.Goals as goal
 
@@ -13,3 +15,13 @@ returns-clause-kept c = λ all is.
     all (texts_of c.add_item.new.config.lists.pairs) c.add_item.new.self.between.now c.add_item.new.self.rest.now
     (done.kept all is).is_all done.between (subst (λ rest. IsBehindLines rest behind) done.rest c.in_ok-key.ensures.lines)
     (λ l same. item.kept l (done.rest ∙ same)) item.between item.rest
+
+pub returns-clause-reads : goal.returns-clause-reads
+returns-clause-reads c = λ is kept.
+    let done = c.in_ok-add_between.ensures in
+    let item = c.in_ok-add_item.ensures in
+    let here = subst (λ rest. IsSettingLine rest c.args.line.now) (sym done.rest) is in
+    setting_kept c.add_between.new.self c.add_item.new.self c.add_between.new.config.lists c.add_item.new.config.lists
+    _ _ c.args.line.now c.in_ok-key.behind.now _ (done.reads kept) here
+    (c.in_ok-key.ensures.setting here.line_is) (search rules) (search rules) item.added
+    item.section (search rules) (item.between ∙ sym item.rest)

@@ -4,7 +4,7 @@ use Rattle.std.specs.Str.{trim}
 use Rattle.std.proofs.lemmas.Str.{encode_ascii}
 use Rattle.config_reader.proofs.Called.{IfOk-both, by_quotes, lacks, without_quotes}
 use Rattle.config_reader.proofs.WholeLines.{cut_at}
-use Rattle.config_reader.proofs.name.Section.parse.Goals as goal
+use Rattle.config_reader.proofs.section.Section.parse.Goals as goal
 
 pub returns-in_default-clause-called : goal.returns-in_default-clause-called
 returns-in_default-clause-called c =

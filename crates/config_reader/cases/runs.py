@@ -1,0 +1,52 @@
+"""Short runs: names of sections that a line can't have or that end early, and a backslash at the end of the text."""
+
+# A text, the words behind FILE, the output.
+GOOD = [
+    # A bracket belongs to the name between quotes, wherever it stands there.
+    ('[a "]x"]\nk = 1\n', ["get", "a.]x.k"], "1\n"),
+    ('[a "x]"]\nk = 1\n', ["get", "a.x].k"], "1\n"),
+    ('[a "]"] # the "a"\nk = 1\n', ["get", "a.].k"], "1\n"),
+    ('[a "x]y"]\nk = 1\n', ["sections"], "a.x]y\n"),
+    ("", ["add", "a.]x.k", "1"], '[a "]x"]\n\tk = 1\n'),
+    # Quotes behind the bracket are of the comment.
+    ('[a] # "x"\nk = 1\n', ["get", "a.k"], "1\n"),
+    ('[a.b];"]\nk = 1\n', ["get", "a.b.k"], "1\n"),
+    # A joined line has to be there, and may be empty.
+    ("[a]\nk = 1 \\\n\n", ["get", "a.k"], "1\n"),
+    ("[a]\nk = 1\\\n2", ["get", "a.k"], "12\n"),
+    ("[a]\nk = 1 \\\n\n", ["add", "a.l", "2"], "[a]\nk = 1 \\\n\nl = 2\n"),
+    ('[a]\nk = "1\\\n"\n', ["add", "a.l", "2"], '[a]\nk = "1\\\n"\nl = 2\n'),
+]
+
+# A text, the words, what stands on standard error behind the program's name.
+BAD = [
+    # A line feed would end the section's line.
+    ("", ["add", "a\nb.k", "1"], "not the name of a section; see config_reader --help"),
+    ("", ["add", "a.b\nc.k", "1"], "not the name of a section; see config_reader --help"),
+    ("", ["set", 'a "b\nc".k', "1"], "not the name of a section; see config_reader --help"),
+    ("[a]\nk = 1\n", ["keys", "a\nb"], "not the name of a section; see config_reader --help"),
+    ("[a]\nk = 1\\\n", ["add", "a.l", "2"], "file: line 2: no line behind a backslash"),
+    ("[a]\nk = 1\\\r\n", ["write"], "file: line 2: no line behind a backslash"),
+    ("[a]\nk = 1\\\n\\\n", ["write"], "file: line 2: no line behind a backslash"),
+    ("[a]\nk = \\\n", ["get", "a.k"], "file: line 2: no line behind a backslash"),
+    ('[a "x"\n', ["write"], "file: line 1: not a section or a setting"),
+    ('[a "x" ]\n', ["write"], "file: line 1: not a section or a setting"),
+    ('[a "x"y"]\n', ["write"], "file: line 1: not a section or a setting"),
+    ('[a ""]\n', ["write"], "file: line 1: not the name of a section"),
+    ('[a "x"] k = 1\n', ["write"], "file: line 1: not a section or a setting"),
+    ("[a] k = 1\n", ["write"], "file: line 1: not a section or a setting"),
+    ("[a\n", ["write"], "file: line 1: not a section or a setting"),
+    ("[]\n", ["write"], "file: line 1: not the name of a section"),
+    ("[a[b]\n", ["write"], "file: line 1: not the name of a section"),
+]
+
+
+def runs():
+    for text, words, written in GOOD:
+        yield (b"", ["file", *words], {"file": text.encode()}), (written.encode(), b"", 0)
+        # What is written is read again, and written as it is.
+        if words[0] == "add":
+            yield (b"", ["file", "write"], {"file": written.encode()}), (written.encode(), b"", 0)
+            yield (b"", ["file", "get", words[1]], {"file": written.encode()}), (f"{words[2]}\n".encode(), b"", 0)
+    for text, words, reason in BAD:
+        yield (b"", ["file", *words], {"file": text.encode()}), (b"", f"config_reader: {reason}\n".encode(), 2)

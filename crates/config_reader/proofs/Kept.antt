@@ -1,0 +1,160 @@
+-- What a reader keeps of a text.
+use Rattle.std.proofs.Common.{◌≡◌, ◌⊎◌, ℕ, ◌<◌, true, false, List, [], ◌∷◌, ◌++◌}
+use Rattle.std.proofs.Common.{append_assoc, refl, sym, ap, subst, ◌∙◌, arith, length, length-append, Some, None, inl, inr}
+use Rattle.std.specs.Cow.{cow_str_bytes}
+use Rattle.std.specs.Str.{str_eq_ignore_ascii_case}
+use Rattle.ordered_multimap.specs.Changes.{appended}
+use Rattle.ordered_multimap.specs.Keys.{stored_key}
+use Rattle.ordered_multimap.specs.Lists.{Lists}
+use Rattle.ordered_multimap.specs.Pairs.{has_items}
+use Rattle.config_reader.specs.declared.config.Lines.{Lines}
+use Rattle.config_reader.specs.declared.name.Name.{Name}
+use Rattle.config_reader.specs.declared.reader.Reader.{Reader}
+use Rattle.config_reader.specs.declared.section.Section.{Section}
+use Rattle.config_reader.specs.Blocks.{AreRead, AreSetting, AreSilent, IsKept, IsReadAt, IsSectionLine, IsSettingLine}
+use Rattle.config_reader.specs.Blocks.{IsSilentAt, OpensAt, OpensSection, SetsAt, place_of, start}
+use Rattle.config_reader.specs.Items.{AddsItem}
+use Rattle.config_reader.specs.Lines.{behind_line, first_line, is_lined, lined, says_nothing}
+use Rattle.config_reader.specs.Names.{Lacks, has_no_key, same_name}
+use Rattle.config_reader.specs.Said.{indent_of, is_deeper, item_at, setting_at}
+use Rattle.config_reader.specs.Sections.{opened, spelled}
+use Rattle.config_reader.proofs.Blocks.{lacks_before, line_cut, opening_line, part_of, setting_cut, setting_line, silent_line}
+use Rattle.config_reader.proofs.Chain.{both_silent, line_silent, none_silent, read_behind}
+use Rattle.config_reader.proofs.ReadBack.{same_name_laws}
+use Rattle.config_reader.proofs.Alone.{same_stored}
+use Rattle.config_reader.proofs.Settings.{empty_key, same_no_key, same_setting, some_key}
+use Rattle.config_reader.proofs.WholeLines.{both_lined, front_of, lined_append}
+
+-- a text has one part in front of its end
+same_part : (text part other rest : List ℕ) → text ≡ part ++ rest → text ≡ other ++ rest → part ≡ other
+same_part text part other rest is other_is = sym (front_of text part rest is) ∙ front_of text other rest other_is
+
+-- one more item is kept
+keep_pair : (mid new : Reader) (old : Lists Name Lines) (name : Name) (lines : Lines) (pairs_now : List (Name × Lines))
+    → IsKept mid old.pairs → pairs_now ≡ (appended same_name old name lines).pairs
+    → IsReadAt (place_of mid) (stored_key same_name old.keys name, lines) (place_of new)
+    → new.between.now ≡ new.rest.now → IsKept new pairs_now
+keep_pair mid new old name lines pairs_now kept added is between = record {
+  read = subst (λ pairs. AreRead start pairs (place_of new)) (sym added)
+      (read_behind start old.pairs (place_of mid) (stored_key same_name old.keys name, lines) (place_of new) kept.read is);
+  lines = [];
+  between = between;
+  silent = none_silent;
+  lined_are = inl refl;
+}
+
+stored_no_key : (name : Name) (old : Lists Name Lines) → has_no_key (stored_key same_name old.keys name) ≡ has_no_key name
+stored_no_key name old =
+    sym (same_no_key name (stored_key same_name old.keys name) (same_stored same_name_laws name old.keys))
+
+-- a line that says nothing is read
+pub silence_kept : (old new : Reader) (pairs : List (Name × Lines)) → IsKept old pairs → 0 < length old.rest.now
+    → says_nothing (first_line old.rest.now) ≡ true → new.rest.now ≡ behind_line old.rest.now
+    → new.between.now ≡ old.between.now → place_of new ≡ place_of old → IsKept new pairs
+silence_kept old new pairs kept some says rest between place =
+    let text = old.rest.now in
+    let line = first_line text in
+    let part = part_of text line (behind_line text) some (line_cut text) in
+    record {
+      read = subst (AreRead start pairs) (sym place) kept.read;
+      lines = kept.lines ++ part.part;
+      between = between ∙ kept.between ∙ ap (λ t. kept.lines ++ t) part.is ∙ sym (append_assoc kept.lines part.part (behind_line text))
+          ∙ ap (λ t. (kept.lines ++ part.part) ++ t) (sym rest);
+      silent = subst AreSilent (lined_append kept.lines part.part (inl (are_lined kept.lined_are)))
+          (both_silent (lined kept.lines) (lined part.part) kept.silent (subst AreSilent (sym part.lined_is) (silent_part line refl)));
+      lined_are = both_are part.part part.ends;
+    }
+  where
+    are_lined : (is_lined kept.lines ≡ true) ⊎ (old.rest.now ≡ []) → is_lined kept.lines ≡ true
+    are_lined (inl is) = is
+    are_lined (inr none) = absurd (omega (arith, some, ap length none))
+
+    both_are : (part : List ℕ) → (is_lined part ≡ true) ⊎ (behind_line old.rest.now ≡ [])
+        → (is_lined (kept.lines ++ part) ≡ true) ⊎ (new.rest.now ≡ [])
+    both_are part (inl is) = inl (both_lined kept.lines part (are_lined kept.lined_are) is)
+    both_are part (inr none) = inr (rest ∙ none)
+
+    silent_part : (line : List ℕ) → line ≡ first_line old.rest.now → AreSilent (line ++ 10 ∷ [])
+    silent_part line is =
+        line_silent (line ++ 10 ∷ []) (omega (arith, length-append line (10 ∷ [])))
+        (λ section above after. ap (item_at section above) (append_assoc line (10 ∷ []) after)
+        ∙ silent_line section above line after (subst (Lacks 10) (sym is) (lacks_before 10 old.rest.now)) (ap says_nothing is ∙ says))
+
+-- the lines in front of an item are kept
+pub between_kept : (old new : Reader) (before now : Lists Name Lines) (name : Name) (lines : Lines) (text : List ℕ)
+    → IsKept old before.pairs → ((part : List ℕ) → old.between.now ≡ part ++ old.rest.now → text ≡ part)
+    → cow_str_bytes lines.text ≡ lined text → has_no_key name ≡ true → now ≡ appended same_name before name lines
+    → place_of new ≡ place_of old → new.between.now ≡ new.rest.now → IsKept new now.pairs
+between_kept old new before now name lines text kept text_is lines_are no_key added place between =
+    let silent : IsSilentAt (place_of old) (stored_key same_name before.keys name, lines) (place_of new) = record {
+      text = subst AreSilent (ap lined (sym (text_is kept.lines kept.between)) ∙ sym lines_are) kept.silent;
+      no_key = stored_no_key name before ∙ no_key;
+      same = place;
+    } in
+    keep_pair old new before name lines now.pairs kept (ap (λ m. m.pairs) added) (inl silent) between
+
+-- or there are none
+pub none_between : (old new : Reader) (pairs : List (Name × Lines)) → IsKept old pairs → place_of new ≡ place_of old
+    → new.between.now ≡ new.rest.now → IsKept new pairs
+none_between old new pairs kept place between = record {
+  read = subst (AreRead start pairs) (sym place) kept.read;
+  lines = [];
+  between = between;
+  silent = none_silent;
+  lined_are = inl refl;
+}
+
+-- the line of a section is kept
+pub section_kept : (mid new : Reader) (before now : Lists Name Lines) (section : Section) (value inside behind : List ℕ) (rank : ℕ)
+    → IsKept mid before.pairs → IsSectionLine mid.rest.now inside behind → opened inside ≡ Some (spelled new.section)
+    → AddsItem section [] value mid.rest.now behind rank before now
+    → new.indent ≡ None → new.between.now ≡ new.rest.now → IsKept new now.pairs
+section_kept mid new before now section value inside behind rank kept is opens adds indent between =
+    let text = mid.rest.now in
+    let line = first_line text in
+    let part = part_of text line (behind_line text) is.some (line_cut text) in
+    let lines_are : cow_str_bytes adds.lines.text ≡ line ++ 10 ∷ [] =
+    adds.of_text part.part (part.is ∙ ap (λ t. part.part ++ t) (sym is.behind_is)) ∙ part.lined_is in
+    let opening : OpensAt (place_of mid) (stored_key same_name before.keys adds.name, adds.lines) (place_of new) = record {
+      text = subst (λ t. OpensSection t (spelled new.section)) (sym lines_are) (record {
+        some = omega (arith, length-append line (10 ∷ []));
+        same = λ inner above rest. ap (item_at inner above) (append_assoc line (10 ∷ []) rest)
+            ∙ opening_line inner above line rest (lacks_before 10 text) inside (spelled new.section) is.says is.begins opens;
+      });
+      no_key = stored_no_key adds.name before ∙ empty_key adds.name adds.of_key;
+      above = indent;
+    } in
+    keep_pair mid new before adds.name adds.lines now.pairs kept (ap (λ m. m.pairs) adds.lists) (inr (inl opening)) between
+
+-- and so is a setting
+pub setting_kept : (mid new : Reader) (before now : Lists Name Lines) (key value line behind : List ℕ) (rank : ℕ)
+    → IsKept mid before.pairs → IsSettingLine mid.rest.now line → setting_at mid.rest.now ≡ Some (key, value, behind)
+    → is_deeper (indent_of line) mid.indent ≡ false → has_items key ≡ true
+    → AddsItem mid.section key value mid.rest.now behind rank before now
+    → new.section ≡ mid.section → new.indent ≡ Some (indent_of line) → new.between.now ≡ new.rest.now → IsKept new now.pairs
+setting_kept mid new before now key value line behind rank kept is read fits some adds section indent between =
+    let text = mid.rest.now in
+    let cut = setting_cut text key value behind read in
+    let part = part_of text cut.cut behind is.some cut.is_cut in
+    let lines_are : cow_str_bytes adds.lines.text ≡ cut.cut ++ 10 ∷ [] = adds.of_text part.part part.is ∙ part.lined_is in
+    let indent_is : indent_of line ≡ indent_of (first_line text) = ap indent_of is.line_is in
+    let setting : AreSetting (cut.cut ++ 10 ∷ []) key value (indent_of (first_line text)) = record {
+      some = omega (arith, length-append cut.cut (10 ∷ []));
+      indented = ap indent_of (sym (cut.line []));
+      same = λ inner above rest fits. ap (item_at inner above) (append_assoc cut.cut (10 ∷ []) rest)
+          ∙ setting_line inner above text cut.cut rest key value is.says is.other (cut.line rest) (cut.same rest) fits;
+    } in
+    let stored = stored_key same_name before.keys adds.name in
+    let same = same_stored same_name_laws adds.name before.keys in
+    let sets : SetsAt (place_of mid) (stored, adds.lines) (place_of new) = record {
+      key = key;
+      indent = indent_of (first_line text);
+      text = subst (λ v. AreSetting (cow_str_bytes adds.lines.text) key v (indent_of (first_line text))) (sym adds.of_value)
+          (subst (λ t. AreSetting t key value (indent_of (first_line text))) (sym lines_are) setting);
+      has_key = stored_no_key adds.name before ∙ ap (λ k. str_eq_ignore_ascii_case k []) adds.of_key ∙ some_key key some;
+      fits = ap (λ i. is_deeper i mid.indent) (sym indent_is) ∙ fits;
+      setting = sym (same_setting adds.name stored same (cow_str_bytes adds.lines.value))
+          ∙ rw (adds.of_section, adds.of_key) refl;
+      same = rw (section, indent, indent_is) refl;
+    } in
+    keep_pair mid new before adds.name adds.lines now.pairs kept (ap (λ m. m.pairs) adds.lists) (inr (inr sets)) between

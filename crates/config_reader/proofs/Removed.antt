@@ -1,0 +1,88 @@
+-- Lines that stay where others go are still read as what they stand for.
+use Rattle.std.proofs.Common.{◌≡◌, ℕ, Bool, true, false, not, cond, List, [], ◌∷◌, filter}
+use Rattle.std.proofs.Common.{refl, sym, ap, subst, ◌∙◌, arith, Option, Some, None, inl, inr}
+use Rattle.std.proofs.lemmas.Bool.{true≢false}
+use Rattle.std.proofs.lemmas.Bool.Decides.{nat_tests}
+use Rattle.std.specs.Cow.{cow_str_bytes}
+use Rattle.ordered_multimap.specs.Changes.{removed}
+use Rattle.ordered_multimap.specs.Lists.{Lists}
+use Rattle.config_reader.specs.declared.config.Lines.{Lines}
+use Rattle.config_reader.specs.declared.name.Name.{Name}
+use Rattle.config_reader.specs.Blocks.{AreRead, IsConfig, IsReadAt, Place, SetsAt, start}
+use Rattle.config_reader.specs.Names.{has_no_key, same_name}
+use Rattle.config_reader.specs.Said.{is_deeper, setting_of}
+use Rattle.config_reader.proofs.Settings.{same_no_key}
+
+-- a setting that fits below the one fits below the other too
+abbrev pub IsLooser : Option ℕ → Option ℕ → Type 0
+IsLooser above other = (indent : ℕ) → is_deeper indent other ≡ false → is_deeper indent above ≡ false
+
+pub same_looser : (above : Option ℕ) → IsLooser above above
+same_looser above indent fits = fits
+
+-- below a setting that fits
+pub looser_below : (above : Option ℕ) (indent : ℕ) → is_deeper indent above ≡ false → IsLooser above (Some indent)
+looser_below None indent fits other below = refl
+looser_below (Some above) indent fits other below = grind (arith, nat_tests)
+
+-- lines that are read from a place
+abbrev pub IsReadFrom : Place → List (Name × Lines) → Type 0
+IsReadFrom old pairs = (end : Place) × AreRead old pairs end
+
+module _ (keep : Name × Lines → Bool) where
+  pub left_read : (pairs : List (Name × Lines)) (old new here : Place) → here.section ≡ old.section → IsLooser here.above old.above
+      → ((pair : Name × Lines) → keep pair ≡ false → has_no_key pair.0 ≡ false)
+      → AreRead old pairs new → IsReadFrom here (filter keep pairs)
+  left_read [] old new here section above keyed read = (here, refl)
+  left_read (pair ∷ pairs) old new here section above keyed read =
+      by_keep (keep pair) refl (λ next same looser. left_read pairs read.0 new next same looser keyed read.2)
+    where
+      stays : (next : Place) → IsReadAt here pair next → IsReadFrom next (filter keep pairs) → IsReadFrom here (pair ∷ filter keep pairs)
+      stays next is later = (later.0, (next, is, later.1))
+
+      kept : IsReadAt old pair read.0 → ((next : Place) → next.section ≡ read.0.section → IsLooser next.above read.0.above → IsReadFrom next (filter keep pairs))
+          → IsReadFrom here (pair ∷ filter keep pairs)
+      kept (inl silent) later =
+          stays here (inl (record { text = silent.text; no_key = silent.no_key; same = refl }))
+          (later here (section ∙ ap (λ place. place.section) (sym silent.same))
+          (subst (λ place. IsLooser here.above place.above) (sym silent.same) above))
+      kept (inr (inl opens)) later = stays read.0 (inr (inl record { text = opens.text; no_key = opens.no_key; above = opens.above })) (later read.0 refl (same_looser read.0.above))
+      kept (inr (inr sets)) later =
+          let next : Place = record { section = here.section; above = Some sets.indent } in
+          let is : SetsAt here pair next = record {
+            key = sets.key;
+            indent = sets.indent;
+            text = sets.text;
+            has_key = sets.has_key;
+            fits = above sets.indent sets.fits;
+            setting = sets.setting ∙ ap (λ s. setting_of s sets.key (cow_str_bytes pair.1.value)) (sym section);
+            same = refl;
+          } in
+          stays next (inr (inr is))
+          (later next (section ∙ ap (λ place. place.section) (sym sets.same))
+          (subst (λ place. IsLooser (Some sets.indent) place.above) (sym sets.same) (same_looser (Some sets.indent))))
+
+      goes : IsReadAt old pair read.0 → has_no_key pair.0 ≡ false → ((next : Place) → next.section ≡ read.0.section → IsLooser next.above read.0.above → IsReadFrom next (filter keep pairs))
+          → IsReadFrom here (filter keep pairs)
+      goes (inl silent) keyed later = absurd (true≢false (sym silent.no_key ∙ keyed))
+      goes (inr (inl opens)) keyed later = absurd (true≢false (sym opens.no_key ∙ keyed))
+      goes (inr (inr sets)) keyed later =
+          later here (section ∙ ap (λ place. place.section) (sym sets.same))
+          (subst (λ place. IsLooser here.above place.above) (sym sets.same)
+          (looser_below here.above sets.indent (above sets.indent sets.fits)))
+
+      by_keep : (stay : Bool) → keep pair ≡ stay → ((next : Place) → next.section ≡ read.0.section → IsLooser next.above read.0.above → IsReadFrom next (filter keep pairs))
+          → IsReadFrom here (cond stay (pair ∷ filter keep pairs) (filter keep pairs))
+      by_keep true is later = kept read.1 later
+      by_keep false is later = goes read.1 (keyed pair is) later
+
+-- what `unset` leaves is read as what it stands for
+pub removed_read : (name : Name) (old : Lists Name Lines) → has_no_key name ≡ false → IsConfig old.pairs
+    → IsConfig (removed same_name old name).pairs
+removed_read name old keyed config =
+    left_read (λ p. not (same_name name p.0)) old.pairs start config.0 start refl (same_looser None)
+    (λ pair gone. sym (same_no_key name pair.0 (not_kept (same_name name pair.0) gone)) ∙ keyed) config.1
+  where
+    not_kept : (is : Bool) → not is ≡ false → is ≡ true
+    not_kept true gone = refl
+    not_kept false gone = absurd (true≢false gone)

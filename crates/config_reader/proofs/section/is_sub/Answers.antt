@@ -1,0 +1,16 @@
+use Rattle.std.proofs.Common.{◌≡◌, true, refl, rules, tests}
+use Rattle.std.specs.List.{list_any}
+use Rattle.std.proofs.lemmas.Iterator.{YieldsList-from_slice}
+use Rattle.std.proofs.lemmas.Iterator.Search.{any_from_yields_List}
+use Rattle.ordered_multimap.specs.Pairs.{has_items}
+use Rattle.config_reader.specs.Sections.{is_outside_sub}
+use Rattle.config_reader.proofs.Called.{some_items}
+use Rattle.config_reader.proofs.section.is_sub.Goals as goal
+
+pub returns : goal.returns
+returns c =
+    let text = c.args.text.now in
+    let some : has_items text ≡ true = some_items text (search rules) in
+    let any : c.any.result ≡ list_any is_outside_sub text =
+    any_from_yields_List is_outside_sub _ _ _ c.any.ensures.ran (YieldsList-from_slice text (search rules)) (λ x b q k. search (rules, tests)) in
+    rw (some, any) refl

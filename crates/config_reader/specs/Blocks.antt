@@ -1,0 +1,106 @@
+-- Lines as a reader takes them, whatever stands behind them.
+use Rattle.std.specs.Cow.{cow_str_bytes}
+use Rattle.std.specs.Prelude.{◌≡◌, ◌≢◌, ◌⊎◌, ℕ, ◌+◌, ◌≤◌, ◌<◌, true, false, List, [], ◌∷◌, ◌++◌}
+use Rattle.std.specs.Prelude.{length, Option, Some, None}
+use Rattle.std.specs.Char.{is_not_whitespace}
+use Rattle.std.specs.Str.{NoCharPasses, trim_start}
+use Rattle.config_reader.specs.declared.config.Lines.{Lines}
+use Rattle.config_reader.specs.declared.name.Name.{Name}
+use Rattle.config_reader.specs.declared.reader.Reader.{Reader}
+use Rattle.config_reader.specs.Lines.{behind_line, first_line, is_lined, lined, says_nothing}
+use Rattle.config_reader.specs.Names.{has_no_key}
+use Rattle.config_reader.specs.Said.{indent_of, is_deeper, item_at, said, setting_of}
+use Rattle.config_reader.specs.Sections.{spelled}
+
+-- each character is white space
+abbrev pub IsBlank : List ℕ → Type 0
+IsBlank text = NoCharPasses is_not_whitespace text
+
+-- the lines say nothing
+pub record AreSilent (text : List ℕ) : Type 0 where
+  pub items : ℕ
+  pub few : items ≤ length text
+  pub same : (section : List ℕ × List ℕ) (above : Option ℕ) (more : ℕ) (rest : List ℕ)
+      → said (items + more) section above (text ++ rest) ≡ said more section above rest
+
+-- the line opens this section
+pub record OpensSection (text : List ℕ) (inner : List ℕ × List ℕ) : Type 0 where
+  pub some : 0 < length text
+  pub same : (section : List ℕ × List ℕ) (above : Option ℕ) (rest : List ℕ)
+      → item_at section above (text ++ rest) ≡ Some ([], inner, None, rest)
+
+-- the lines are a setting of this key and value, which is indented so
+pub record AreSetting (text key value : List ℕ) (indent : ℕ) : Type 0 where
+  pub some : 0 < length text
+  pub indented : indent ≡ indent_of (first_line text)
+  pub same : (section : List ℕ × List ℕ) (above : Option ℕ) (rest : List ℕ)
+      → is_deeper indent above ≡ false
+      → item_at section above (text ++ rest)
+      ≡ Some (setting_of section key value ∷ [], section, Some indent, rest)
+
+-- the section that is open, and how far its last setting is indented
+pub record Place : Type 0 where
+  pub section : List ℕ × List ℕ
+  pub above : Option ℕ
+
+abbrev pub start : Place
+start = record { section = ([], []); above = None }
+
+abbrev pub place_of : Reader → Place
+place_of reader = record { section = spelled reader.section; above = reader.indent }
+
+-- lines that say nothing, the line of a section, and a setting, from one place in a text to another
+pub record IsSilentAt (old : Place) (pair : Name × Lines) (new : Place) : Type 0 where
+  pub text : AreSilent (cow_str_bytes pair.1.text)
+  pub no_key : has_no_key pair.0 ≡ true
+  pub same : new ≡ old
+
+pub record OpensAt (old : Place) (pair : Name × Lines) (new : Place) : Type 0 where
+  pub text : OpensSection (cow_str_bytes pair.1.text) new.section
+  pub no_key : has_no_key pair.0 ≡ true
+  pub above : new.above ≡ None
+
+pub record SetsAt (old : Place) (pair : Name × Lines) (new : Place) : Type 0 where
+  pub key : List ℕ
+  pub indent : ℕ
+  pub text : AreSetting (cow_str_bytes pair.1.text) key (cow_str_bytes pair.1.value) indent
+  pub has_key : has_no_key pair.0 ≡ false
+  pub fits : is_deeper indent old.above ≡ false
+  pub setting : setting_of (spelled pair.0.section) pair.0.key.0.now (cow_str_bytes pair.1.value)
+      ≡ setting_of old.section key (cow_str_bytes pair.1.value)
+  pub same : new ≡ record { section = old.section; above = Some indent }
+
+abbrev pub IsReadAt : Place → Name × Lines → Place → Type 0
+IsReadAt old pair new = IsSilentAt old pair new ⊎ (OpensAt old pair new ⊎ SetsAt old pair new)
+
+-- these lines are read as what they stand for, from one place to another
+abbrev pub AreRead : Place → List (Name × Lines) → Place → Type 0
+AreRead old [] new = new ≡ old
+AreRead old (pair ∷ pairs) new =
+    (behind : Place) × IsReadAt old pair behind × AreRead behind pairs new
+
+-- all that was read is kept, but for lines behind it that say nothing
+pub record IsKept (reader : Reader) (pairs : List (Name × Lines)) : Type 0 where
+  pub read : AreRead start pairs (place_of reader)
+  pub lines : List ℕ
+  pub between : reader.between.now ≡ lines ++ reader.rest.now
+  pub silent : AreSilent (lined lines)
+  pub lined_are : (is_lined lines ≡ true) ⊎ (reader.rest.now ≡ [])
+
+-- lines that are read as what they stand for
+abbrev pub IsConfig : List (Name × Lines) → Type 0
+IsConfig pairs = (end : Place) × AreRead start pairs end
+
+-- the first line of a text opens a section: its bracket, and what stands behind the line
+pub record IsSectionLine (text inside behind : List ℕ) : Type 0 where
+  pub some : 0 < length text
+  pub says : says_nothing (first_line text) ≡ false
+  pub begins : trim_start (first_line text) ≡ 91 ∷ inside
+  pub behind_is : behind ≡ behind_line text
+
+-- or it is any other line that says something
+pub record IsSettingLine (text line : List ℕ) : Type 0 where
+  pub some : 0 < length text
+  pub line_is : line ≡ first_line text
+  pub says : says_nothing (first_line text) ≡ false
+  pub other : (inside : List ℕ) → trim_start (first_line text) ≢ 91 ∷ inside

@@ -1,0 +1,66 @@
+-- The section that a line opens.
+use Rattle.std.specs.List.{after_first, before_first, list_any}
+use Rattle.std.specs.Prelude.{ℕ, Bool, false, ◌==◌, ◌&&◌, ◌||◌, not, if◌then◌else◌}
+use Rattle.std.specs.Prelude.{List, [], ◌∷◌, Option, Some, None}
+use Rattle.std.specs.Str.{trim}
+use Rattle.ordered_multimap.specs.Pairs.{has_items}
+use Rattle.config_reader.specs.declared.section.Section.{Section}
+use Rattle.config_reader.specs.Lines.{says_nothing}
+
+-- a section by its word and the name between quotes, as they are spelled
+abbrev pub spelled : Section → List ℕ × List ℕ
+spelled section = (section.word.0.now, section.sub.now)
+
+-- a quote, a backslash or a line feed
+abbrev pub is_outside_sub : ℕ → Bool
+is_outside_sub b = b == 34 || b == 92 || b == 10
+
+-- one of these, or a bracket
+abbrev pub is_outside_word : ℕ → Bool
+is_outside_word b = is_outside_sub b || b == 91 || b == 93
+
+-- whether a section can have this word, and this name between quotes
+abbrev pub is_word : List ℕ → Bool
+is_word text = has_items text && not (list_any is_outside_word text)
+
+abbrev pub is_sub : List ℕ → Bool
+is_sub text = has_items text && not (list_any is_outside_sub text)
+
+-- the section of these parts, or none where one can't have them
+abbrev pub of_word : List ℕ → Option (List ℕ × List ℕ)
+of_word word = if is_word word then Some (word, []) else None
+
+abbrev pub of_parts : List ℕ → List ℕ → Option (List ℕ × List ℕ)
+of_parts word sub = if is_word word && is_sub sub then Some (word, sub) else None
+
+-- the section `word` or `word.sub`
+abbrev pub of_dotted : List ℕ → Option (List ℕ × List ℕ)
+of_dotted text =
+    if list_any (λ b. b == 46) text
+    then of_parts (trim (before_first (λ b. b == 46) text)) (after_first (λ b. b == 46) text)
+    else of_word (trim text)
+
+-- whether a bracket closes the line, up to a comment
+abbrev pub is_closed : List ℕ → Bool
+is_closed [] = false
+is_closed (b ∷ behind) = b == 93 && says_nothing behind
+
+-- the section that a line opens, by what stands in front of its first quote and behind it
+abbrev pub opened_in_quotes : List ℕ → List ℕ → Option (List ℕ × List ℕ)
+opened_in_quotes word quoted =
+    if is_closed (after_first (λ b. b == 34) quoted)
+    then of_parts (trim word) (before_first (λ b. b == 34) quoted) else None
+
+-- the section that a line without quotes opens
+abbrev pub opened_without_quotes : List ℕ → Option (List ℕ × List ℕ)
+opened_without_quotes inside =
+    if list_any (λ b. b == 93) inside && says_nothing (after_first (λ b. b == 93) inside)
+    then of_dotted (trim (before_first (λ b. b == 93) inside)) else None
+
+-- the section that a line opens, by what stands behind its first bracket
+abbrev pub opened : List ℕ → Option (List ℕ × List ℕ)
+opened inside =
+    if list_any (λ b. b == 34) inside
+    && not (list_any (λ b. b == 93) (before_first (λ b. b == 34) inside))
+    then opened_in_quotes (before_first (λ b. b == 34) inside) (after_first (λ b. b == 34) inside)
+    else opened_without_quotes inside

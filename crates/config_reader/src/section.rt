@@ -1,0 +1,209 @@
+//! Names of sections.
+ghost use Rattle.std.specs.IoError.{error_kind};
+ghost use Rattle.std.specs.Prelude.{◌≡◌, ◌++◌, [], Some, true};
+ghost use Rattle.std.specs.Prelude.{IfErr, IfOk, OnOk};
+ghost use Rattle.std.specs.String.{string_bytes};
+ghost use Rattle.std.specs.declared.io.ErrorKind.TheVariants.{InvalidData};
+ghost use Rattle.config_reader.specs.Names.{IsCalledBy, IsCalledByDot, IsOpenAs};
+ghost use Rattle.config_reader.specs.Sections.{is_outside_sub, is_outside_word, is_sub, is_word};
+ghost use Rattle.config_reader.specs.Sections.{of_dotted, opened, opened_in_quotes};
+ghost use Rattle.config_reader.specs.Sections.{opened_without_quotes, spelled};
+ghost use Rattle.config_reader.specs.Written.{in_quotes, section_line, section_name};
+
+use crate::lines::says_nothing;
+use ascii_caseless::AsciiCaseless;
+use program_parts::bad;
+use std::alloc::AllocError;
+use std::io;
+
+/// The name of a section: a word without case, and behind it perhaps a name with case.
+#[derive(Clone, Copy, PartialEq, Eq, Hash)]
+pub struct Section<'t> {
+    word: AsciiCaseless<&'t str>,
+    sub: &'t str,
+}
+
+/// Above the first section.
+pub const NO_SECTION: Section<'static> = Section {
+    word: AsciiCaseless(""),
+    sub: "",
+};
+
+impl<'t> Section<'t> {
+    /// The section `word`, `word.sub` or `word "sub"`.
+    ///
+    /// # Errors
+    ///
+    /// An empty word, nothing behind the dot or between the quotes, a bracket, a quote at another
+    /// place, or a backslash.
+    pub fn parse(text: &'t str) -> io::Result<Section<'t>>
+        ensures called { IfOk result (λ section. IsCalledBy text.now section) }
+        ensures bad { IfErr result (λ error. error_kind error ≡ InvalidData) }
+    {
+        let Some((word, quoted)) = text.split_once('"') else {
+            return Section::of_dotted(text);
+        };
+        match quoted.strip_suffix('"') {
+            Some(sub) => Section::of_parts(word.trim(), sub),
+            None => Err(bad("not the name of a section")),
+        }
+    }
+
+    /// The section of this name; the empty one stands above the first section.
+    pub fn parse_or_none(text: &'t str) -> io::Result<Section<'t>>
+        ensures open { IfOk result (λ section. IsOpenAs text.now section) }
+        ensures bad { IfErr result (λ error. error_kind error ≡ InvalidData) }
+    {
+        if text.is_empty() {
+            return Ok(NO_SECTION);
+        }
+        Section::parse(text)
+    }
+
+    /// The section `word` or `word.sub`.
+    fn of_dotted(text: &'t str) -> io::Result<Section<'t>>
+        ensures called { IfOk result (λ section. IsCalledByDot text.now section) }
+        ensures dotted { IfOk result (λ section. of_dotted text.now ≡ Some (spelled section)) }
+        ensures bad { IfErr result (λ error. error_kind error ≡ InvalidData) }
+    {
+        match text.split_once('.') {
+            Some((word, sub)) => Section::of_parts(word.trim(), sub),
+            None => Section::of_word(text.trim()),
+        }
+    }
+
+    /// The section that a line opens, whose text behind the bracket this is. A comment may stand
+    /// behind it.
+    pub fn of_line(inside: &'t str) -> io::Result<Section<'t>>
+        ensures opened { IfOk result (λ section. opened inside.now ≡ Some (spelled section)) }
+        ensures bad { IfErr result (λ error. error_kind error ≡ InvalidData) }
+    {
+        match inside.split_once('"') {
+            Some((word, quoted)) if !word.contains(']') => Section::of_quoted(word, quoted),
+            _ => Section::of_unquoted(inside),
+        }
+    }
+
+    // The section of a line that has these parts in front of its first quote and behind it.
+    fn of_quoted(word: &'t str, quoted: &'t str) -> io::Result<Section<'t>>
+        ensures opened { IfOk result (λ section.
+            opened_in_quotes word.now quoted.now ≡ Some (spelled section)) }
+        ensures bad { IfErr result (λ error. error_kind error ≡ InvalidData) }
+    {
+        let Some((sub, behind)) = quoted.split_once('"') else {
+            return Err(bad("not a section or a setting"));
+        };
+        match behind.strip_prefix(']') {
+            Some(behind) if says_nothing(behind) => Section::of_parts(word.trim(), sub),
+            _ => Err(bad("not a section or a setting")),
+        }
+    }
+
+    // The section of a line without quotes.
+    fn of_unquoted(inside: &'t str) -> io::Result<Section<'t>>
+        ensures opened { IfOk result (λ section.
+            opened_without_quotes inside.now ≡ Some (spelled section)) }
+        ensures bad { IfErr result (λ error. error_kind error ≡ InvalidData) }
+    {
+        match inside.split_once(']') {
+            Some((name, behind)) if says_nothing(behind) => Section::of_dotted(name.trim()),
+            _ => Err(bad("not a section or a setting")),
+        }
+    }
+
+    fn of_word(word: &'t str) -> io::Result<Section<'t>>
+        ensures word { IfOk result (λ section. section.word.0.now ≡ word.now) }
+        ensures sub { IfOk result (λ section. section.sub.now ≡ []) }
+        ensures allowed { IfOk result (λ section. is_word word.now ≡ true) }
+        ensures bad { IfErr result (λ error. error_kind error ≡ InvalidData) }
+    {
+        if !is_word(word) {
+            return Err(bad("not the name of a section"));
+        }
+        let word = AsciiCaseless(word);
+        Ok(Section { word, sub: "" })
+    }
+
+    fn of_parts(word: &'t str, sub: &'t str) -> io::Result<Section<'t>>
+        ensures word { IfOk result (λ section. section.word.0.now ≡ word.now) }
+        ensures sub { IfOk result (λ section. section.sub.now ≡ sub.now) }
+        ensures allowed { IfOk result (λ section. (is_word word.now ≡ true) × (is_sub sub.now ≡ true)) }
+        ensures bad { IfErr result (λ error. error_kind error ≡ InvalidData) }
+    {
+        if !is_word(word) || !is_sub(sub) {
+            return Err(bad("not the name of a section"));
+        }
+        let word = AsciiCaseless(word);
+        Ok(Section { word, sub })
+    }
+
+    /// Adds the name as a question has it.
+    pub fn add_name(&self, text: &mut String) -> Result<(), AllocError>
+        ensures { OnOk result (string_bytes text.new ≡ string_bytes text.old
+            ++ section_name self.now) }
+    {
+        text.push_str(self.word.as_str())?;
+        if self.sub.is_empty() {
+            return Ok(());
+        }
+        text.push('.')?;
+        text.push_str(self.sub)
+    }
+
+    /// Adds the line that opens the section.
+    pub fn add_line(&self, text: &mut String) -> Result<(), AllocError>
+        ensures { OnOk result (string_bytes text.new ≡ string_bytes text.old
+            ++ section_line self.now) }
+    {
+        text.push('[')?;
+        text.push_str(self.word.as_str())?;
+        add_in_quotes(self.sub, text)?;
+        text.push_str("]\n")
+    }
+}
+
+// Whether a section can have this word.
+fn is_word(text: &str) -> bool
+    ensures { result ≡ is_word text.now }
+{
+    if text.is_empty() {
+        return false;
+    }
+    !text.as_bytes().iter().any(|byte| is_outside_word(*byte))
+}
+
+// Whether no word of a section has the byte.
+fn is_outside_word(byte: u8) -> bool
+    ensures { result ≡ is_outside_word byte }
+{
+    is_outside_sub(byte) || matches!(byte, b'[' | b']')
+}
+
+// Whether a section can have this name between quotes.
+fn is_sub(text: &str) -> bool
+    ensures { result ≡ is_sub text.now }
+{
+    if text.is_empty() {
+        return false;
+    }
+    !text.as_bytes().iter().any(|byte| is_outside_sub(*byte))
+}
+
+// Whether no name between quotes has the byte. A line feed would end its line.
+fn is_outside_sub(byte: u8) -> bool
+    ensures { result ≡ is_outside_sub byte }
+{
+    matches!(byte, b'"' | b'\\' | b'\n')
+}
+
+// Adds the name between quotes and behind a blank, if there is one.
+fn add_in_quotes(sub: &str, text: &mut String) -> Result<(), AllocError>
+    ensures { OnOk result (string_bytes text.new ≡ string_bytes text.old ++ in_quotes sub.now) }
+{
+    if sub.is_empty() {
+        return Ok(());
+    }
+    text.push_str(" \"")?;
+    text.push_str(sub)?;
+    text.push('"')
+}
