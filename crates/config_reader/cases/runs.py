@@ -11,8 +11,8 @@ GOOD = [
     # Quotes behind the bracket are of the comment.
     ('[a] # "x"\nk = 1\n', ["get", "a.k"], "1\n"),
     ('[a.b];"]\nk = 1\n', ["get", "a.b.k"], "1\n"),
-    # A joined line has to be there, and may be empty.
-    ("[a]\nk = 1 \\\n\n", ["get", "a.k"], "1\n"),
+    # A joined line has to be there, and may be empty. Blanks in front of the backslash belong to the value, as in git.
+    ("[a]\nk = 1 \\\n\n", ["get", "a.k"], "1 \n"),
     ("[a]\nk = 1\\\n2", ["get", "a.k"], "12\n"),
     ("[a]\nk = 1 \\\n\n", ["add", "a.l", "2"], "[a]\nk = 1 \\\n\nl = 2\n"),
     ('[a]\nk = "1\\\n"\n', ["add", "a.l", "2"], '[a]\nk = "1\\\n"\nl = 2\n'),
