@@ -1,21 +1,23 @@
 -- What a reader keeps of a text.
-use Rattle.std.proofs.Common.{◌≡◌, ◌⊎◌, ℕ, ◌<◌, true, false, List, [], ◌∷◌, ◌++◌}
+use Rattle.std.proofs.Common.{◌≡◌, ◌⊎◌, ℕ, ◌<◌, Bool, true, false, cond, not, List, [], ◌∷◌, ◌++◌}
 use Rattle.std.proofs.Common.{append_assoc, refl, sym, ap, subst, ◌∙◌, arith, length, length-append, Some, None, inl, inr}
 use Rattle.std.specs.Cow.{cow_str_bytes}
-use Rattle.std.specs.Str.{str_eq_ignore_ascii_case}
+use Rattle.std.proofs.lemmas.Bool.{and_parts, true≢false}
+use Rattle.std.specs.List.{list_any}
+use Rattle.std.specs.Str.{chars, str_eq_ignore_ascii_case}
 use Rattle.ordered_multimap.specs.Changes.{appended}
-use Rattle.ordered_multimap.specs.Keys.{stored_key}
+use Rattle.ordered_multimap.specs.Keys.{is_listed, keys_with, stored_key}
 use Rattle.ordered_multimap.specs.Lists.{Lists}
 use Rattle.ordered_multimap.specs.Pairs.{has_items}
 use Rattle.config_reader.specs.declared.config.Lines.{Lines}
 use Rattle.config_reader.specs.declared.name.Name.{Name}
 use Rattle.config_reader.specs.declared.reader.Reader.{Reader}
 use Rattle.config_reader.specs.declared.section.Section.{Section}
-use Rattle.config_reader.specs.Blocks.{AreRead, AreSetting, AreSilent, IsKept, IsReadAt, IsSectionLine, IsSettingLine}
+use Rattle.config_reader.specs.Blocks.{AreRead, AreSetting, AreSilent, HaveKeys, IsKept, IsReadAt, IsSectionLine, IsSettingLine}
 use Rattle.config_reader.specs.Blocks.{IsSilentAt, OpensAt, OpensSection, SetsAt, place_of, start}
 use Rattle.config_reader.specs.Items.{AddsItem}
 use Rattle.config_reader.specs.Lines.{behind_line, first_line, is_lined, lined, says_nothing}
-use Rattle.config_reader.specs.Names.{Lacks, has_no_key, same_name}
+use Rattle.config_reader.specs.Names.{Lacks, has_no_key, is_key, is_outside_key, same_name}
 use Rattle.config_reader.specs.Said.{indent_of, is_deeper, item_at, setting_at}
 use Rattle.config_reader.specs.Sections.{opened, spelled}
 use Rattle.config_reader.proofs.Blocks.{lacks_before, line_cut, opening_line, part_of, setting_cut, setting_line, silent_line}
@@ -23,20 +25,32 @@ use Rattle.config_reader.proofs.Chain.{both_silent, line_silent, none_silent, re
 use Rattle.config_reader.proofs.ReadBack.{same_name_laws}
 use Rattle.config_reader.proofs.Alone.{same_stored}
 use Rattle.config_reader.proofs.Settings.{empty_key, same_no_key, same_setting, some_key}
-use Rattle.config_reader.proofs.WholeLines.{both_lined, front_of, lined_append}
+use Rattle.config_reader.proofs.WholeLines.{both_lined, lined_append}
 
--- a text has one part in front of its end
-same_part : (text part other rest : List ℕ) → text ≡ part ++ rest → text ≡ other ++ rest → part ≡ other
-same_part text part other rest is other_is = sym (front_of text part rest is) ∙ front_of text other rest other_is
+-- the keys once one more has come
+keys_come : (name : Name) (names : List Name) → (has_no_key name ≡ false → is_key name.key.0.now ≡ true)
+    → HaveKeys names → HaveKeys (names ++ name ∷ [])
+keys_come name [] has all = (has, tt)
+keys_come name (other ∷ names) has all = (all.0, keys_come name names has all.1)
+
+keys_with_one : (name : Name) (names : List Name) → (has_no_key name ≡ false → is_key name.key.0.now ≡ true)
+    → HaveKeys names → HaveKeys (keys_with same_name names name)
+keys_with_one name names has all = by (is_listed same_name names name)
+  where
+    by : (listed : Bool) → HaveKeys (cond listed names (names ++ name ∷ []))
+    by true = all
+    by false = keys_come name names has all
 
 -- one more item is kept
-keep_pair : (mid new : Reader) (old : Lists Name Lines) (name : Name) (lines : Lines) (pairs_now : List (Name × Lines))
-    → IsKept mid old.pairs → pairs_now ≡ (appended same_name old name lines).pairs
+keep_pair : (mid new : Reader) (old now : Lists Name Lines) (name : Name) (lines : Lines)
+    → IsKept mid old → now ≡ appended same_name old name lines
+    → (has_no_key name ≡ false → is_key name.key.0.now ≡ true)
     → IsReadAt (place_of mid) (stored_key same_name old.keys name, lines) (place_of new)
-    → new.between.now ≡ new.rest.now → IsKept new pairs_now
-keep_pair mid new old name lines pairs_now kept added is between = record {
-  read = subst (λ pairs. AreRead start pairs (place_of new)) (sym added)
+    → new.between.now ≡ new.rest.now → IsKept new now
+keep_pair mid new old now name lines kept added has is between = record {
+  read = subst (λ m. AreRead start m.pairs (place_of new)) (sym added)
       (read_behind start old.pairs (place_of mid) (stored_key same_name old.keys name, lines) (place_of new) kept.read is);
+  keys = subst (λ m. HaveKeys m.keys) (sym added) (keys_with_one name old.keys has kept.keys);
   lines = [];
   between = between;
   silent = none_silent;
@@ -48,15 +62,16 @@ stored_no_key name old =
     sym (same_no_key name (stored_key same_name old.keys name) (same_stored same_name_laws name old.keys))
 
 -- a line that says nothing is read
-pub silence_kept : (old new : Reader) (pairs : List (Name × Lines)) → IsKept old pairs → 0 < length old.rest.now
+pub silence_kept : (old new : Reader) (m : Lists Name Lines) → IsKept old m → 0 < length old.rest.now
     → says_nothing (first_line old.rest.now) ≡ true → new.rest.now ≡ behind_line old.rest.now
-    → new.between.now ≡ old.between.now → place_of new ≡ place_of old → IsKept new pairs
-silence_kept old new pairs kept some says rest between place =
+    → new.between.now ≡ old.between.now → place_of new ≡ place_of old → IsKept new m
+silence_kept old new m kept some says rest between place =
     let text = old.rest.now in
     let line = first_line text in
     let part = part_of text line (behind_line text) some (line_cut text) in
     record {
-      read = subst (AreRead start pairs) (sym place) kept.read;
+      read = subst (AreRead start m.pairs) (sym place) kept.read;
+      keys = kept.keys;
       lines = kept.lines ++ part.part;
       between = between ∙ kept.between ∙ ap (λ t. kept.lines ++ t) part.is ∙ sym (append_assoc kept.lines part.part (behind_line text))
           ∙ ap (λ t. (kept.lines ++ part.part) ++ t) (sym rest);
@@ -82,22 +97,23 @@ silence_kept old new pairs kept some says rest between place =
 
 -- the lines in front of an item are kept
 pub between_kept : (old new : Reader) (before now : Lists Name Lines) (name : Name) (lines : Lines) (text : List ℕ)
-    → IsKept old before.pairs → ((part : List ℕ) → old.between.now ≡ part ++ old.rest.now → text ≡ part)
+    → IsKept old before → ((part : List ℕ) → old.between.now ≡ part ++ old.rest.now → text ≡ part)
     → cow_str_bytes lines.text ≡ lined text → has_no_key name ≡ true → now ≡ appended same_name before name lines
-    → place_of new ≡ place_of old → new.between.now ≡ new.rest.now → IsKept new now.pairs
+    → place_of new ≡ place_of old → new.between.now ≡ new.rest.now → IsKept new now
 between_kept old new before now name lines text kept text_is lines_are no_key added place between =
     let silent : IsSilentAt (place_of old) (stored_key same_name before.keys name, lines) (place_of new) = record {
       text = subst AreSilent (ap lined (sym (text_is kept.lines kept.between)) ∙ sym lines_are) kept.silent;
       no_key = stored_no_key name before ∙ no_key;
       same = place;
     } in
-    keep_pair old new before name lines now.pairs kept (ap (λ m. m.pairs) added) (inl silent) between
+    keep_pair old new before now name lines kept added (λ keyed. absurd (true≢false (sym no_key ∙ keyed))) (inl silent) between
 
 -- or there are none
-pub none_between : (old new : Reader) (pairs : List (Name × Lines)) → IsKept old pairs → place_of new ≡ place_of old
-    → new.between.now ≡ new.rest.now → IsKept new pairs
-none_between old new pairs kept place between = record {
-  read = subst (AreRead start pairs) (sym place) kept.read;
+pub none_between : (old new : Reader) (m : Lists Name Lines) → IsKept old m → place_of new ≡ place_of old
+    → new.between.now ≡ new.rest.now → IsKept new m
+none_between old new m kept place between = record {
+  read = subst (AreRead start m.pairs) (sym place) kept.read;
+  keys = kept.keys;
   lines = [];
   between = between;
   silent = none_silent;
@@ -106,9 +122,9 @@ none_between old new pairs kept place between = record {
 
 -- the line of a section is kept
 pub section_kept : (mid new : Reader) (before now : Lists Name Lines) (section : Section) (value inside behind : List ℕ) (rank : ℕ)
-    → IsKept mid before.pairs → IsSectionLine mid.rest.now inside behind → opened inside ≡ Some (spelled new.section)
+    → IsKept mid before → IsSectionLine mid.rest.now inside behind → opened inside ≡ Some (spelled new.section)
     → AddsItem section [] value mid.rest.now behind rank before now
-    → new.indent ≡ None → new.between.now ≡ new.rest.now → IsKept new now.pairs
+    → new.indent ≡ None → new.between.now ≡ new.rest.now → IsKept new now
 section_kept mid new before now section value inside behind rank kept is opens adds indent between =
     let text = mid.rest.now in
     let line = first_line text in
@@ -124,15 +140,16 @@ section_kept mid new before now section value inside behind rank kept is opens a
       no_key = stored_no_key adds.name before ∙ empty_key adds.name adds.of_key;
       above = indent;
     } in
-    keep_pair mid new before adds.name adds.lines now.pairs kept (ap (λ m. m.pairs) adds.lists) (inr (inl opening)) between
+    keep_pair mid new before now adds.name adds.lines kept adds.lists
+    (λ keyed. absurd (true≢false (sym (empty_key adds.name adds.of_key) ∙ keyed))) (inr (inl opening)) between
 
 -- and so is a setting
 pub setting_kept : (mid new : Reader) (before now : Lists Name Lines) (key value line behind : List ℕ) (rank : ℕ)
-    → IsKept mid before.pairs → IsSettingLine mid.rest.now line → setting_at mid.rest.now ≡ Some (key, value, behind)
-    → is_deeper (indent_of line) mid.indent ≡ false → has_items key ≡ true
+    → IsKept mid before → IsSettingLine mid.rest.now line → setting_at mid.rest.now ≡ Some (key, value, behind)
+    → is_deeper (indent_of line) mid.indent ≡ false → is_key key ≡ true
     → AddsItem mid.section key value mid.rest.now behind rank before now
-    → new.section ≡ mid.section → new.indent ≡ Some (indent_of line) → new.between.now ≡ new.rest.now → IsKept new now.pairs
-setting_kept mid new before now key value line behind rank kept is read fits some adds section indent between =
+    → new.section ≡ mid.section → new.indent ≡ Some (indent_of line) → new.between.now ≡ new.rest.now → IsKept new now
+setting_kept mid new before now key value line behind rank kept is read fits allowed adds section indent between =
     let text = mid.rest.now in
     let cut = setting_cut text key value behind read in
     let part = part_of text cut.cut behind is.some cut.is_cut in
@@ -151,10 +168,10 @@ setting_kept mid new before now key value line behind rank kept is read fits som
       indent = indent_of (first_line text);
       text = subst (λ v. AreSetting (cow_str_bytes adds.lines.text) key v (indent_of (first_line text))) (sym adds.of_value)
           (subst (λ t. AreSetting t key value (indent_of (first_line text))) (sym lines_are) setting);
-      has_key = stored_no_key adds.name before ∙ ap (λ k. str_eq_ignore_ascii_case k []) adds.of_key ∙ some_key key some;
+      has_key = stored_no_key adds.name before ∙ ap (λ k. str_eq_ignore_ascii_case k []) adds.of_key ∙ some_key key (and_parts (has_items key) (not (list_any is_outside_key (chars key))) allowed).0;
       fits = ap (λ i. is_deeper i mid.indent) (sym indent_is) ∙ fits;
       setting = sym (same_setting adds.name stored same (cow_str_bytes adds.lines.value))
           ∙ rw (adds.of_section, adds.of_key) refl;
       same = rw (section, indent, indent_is) refl;
     } in
-    keep_pair mid new before adds.name adds.lines now.pairs kept (ap (λ m. m.pairs) adds.lists) (inr (inr sets)) between
+    keep_pair mid new before now adds.name adds.lines kept adds.lists (λ keyed. ap is_key adds.of_key ∙ allowed) (inr (inr sets)) between

@@ -9,6 +9,7 @@ mod Items
 mod Kept
 mod ReadBack
 mod Removed
+mod Replaced
 mod Sections
 mod Settings
 mod Spelled

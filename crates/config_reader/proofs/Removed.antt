@@ -4,11 +4,13 @@ use Rattle.std.proofs.Common.{refl, sym, ap, subst, ◌∙◌, arith, Option, So
 use Rattle.std.proofs.lemmas.Bool.{true≢false}
 use Rattle.std.proofs.lemmas.Bool.Decides.{nat_tests}
 use Rattle.std.specs.Cow.{cow_str_bytes}
+use Rattle.std.specs.Map.{keys_of}
 use Rattle.ordered_multimap.specs.Changes.{removed}
+use Rattle.ordered_multimap.specs.Keys.{is_listed}
 use Rattle.ordered_multimap.specs.Lists.{Lists}
 use Rattle.config_reader.specs.declared.config.Lines.{Lines}
 use Rattle.config_reader.specs.declared.name.Name.{Name}
-use Rattle.config_reader.specs.Blocks.{AreRead, IsConfig, IsReadAt, Place, SetsAt, start}
+use Rattle.config_reader.specs.Blocks.{AreRead, HaveKeys, IsConfig, IsReadAt, Place, SetsAt, start}
 use Rattle.config_reader.specs.Names.{has_no_key, same_name}
 use Rattle.config_reader.specs.Said.{is_deeper, setting_of}
 use Rattle.config_reader.proofs.Settings.{same_no_key}
@@ -76,13 +78,31 @@ module _ (keep : Name × Lines → Bool) where
       by_keep true is later = kept read.1 later
       by_keep false is later = goes read.1 (keyed pair is) later
 
--- what `unset` leaves is read as what it stands for
-pub removed_read : (name : Name) (old : Lists Name Lines) → has_no_key name ≡ false → IsConfig old.pairs
-    → IsConfig (removed same_name old name).pairs
-removed_read name old keyed config =
-    left_read (λ p. not (same_name name p.0)) old.pairs start config.0 start refl (same_looser None)
-    (λ pair gone. sym (same_no_key name pair.0 (not_kept (same_name name pair.0) gone)) ∙ keyed) config.1
+-- the names that go with a key have it
+pub gone_has_key : (name : Name) → has_no_key name ≡ false → (pair : Name × Lines) → not (same_name name pair.0) ≡ false
+    → has_no_key pair.0 ≡ false
+gone_has_key name keyed pair gone = sym (same_no_key name pair.0 (not_kept (same_name name pair.0) gone)) ∙ keyed
   where
     not_kept : (is : Bool) → not is ≡ false → is ≡ true
     not_kept true gone = refl
     not_kept false gone = absurd (true≢false gone)
+
+keys_left : (keep : Name → Bool) (names : List Name) → HaveKeys names → HaveKeys (filter keep names)
+keys_left keep [] all = tt
+keys_left keep (name ∷ names) all = by (keep name) (keys_left keep names all.1)
+  where
+    by : (stay : Bool) → HaveKeys (filter keep names) → HaveKeys (cond stay (name ∷ filter keep names) (filter keep names))
+    by true later = (all.0, later)
+    by false later = later
+
+-- what `unset` leaves is read as what it stands for
+pub removed_read : (name : Name) (old : Lists Name Lines) → has_no_key name ≡ false → IsConfig old
+    → IsConfig (removed same_name old name)
+removed_read name old keyed config =
+    let left = left_read (λ p. not (same_name name p.0)) old.pairs start config.end start refl (same_looser None)
+    (gone_has_key name keyed) config.read in
+    record {
+      end = left.0;
+      read = left.1;
+      keys = keys_left (is_listed same_name (keys_of (removed same_name old name).pairs)) old.keys config.keys;
+    }

@@ -24,7 +24,7 @@ module _ (name other : Name) (same : same_name name other ≡ true) where
       and_parts (str_eq_ignore_ascii_case name.section.word.0.now other.section.word.0.now)
       (bytes_eq name.section.sub.now other.section.sub.now) parts.0
 
-  same_key : str_to_ascii_lowercase name.key.0.now ≡ str_to_ascii_lowercase other.key.0.now
+  pub same_key : str_to_ascii_lowercase name.key.0.now ≡ str_to_ascii_lowercase other.key.0.now
   same_key = same_bytes (str_to_ascii_lowercase name.key.0.now) (str_to_ascii_lowercase other.key.0.now) parts.1
 
   pub same_setting : (value : List ℕ) → setting_of (spelled name.section) name.key.0.now value

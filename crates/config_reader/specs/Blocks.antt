@@ -4,11 +4,12 @@ use Rattle.std.specs.Prelude.{◌≡◌, ◌≢◌, ◌⊎◌, ℕ, ◌+◌, ◌
 use Rattle.std.specs.Prelude.{length, Option, Some, None}
 use Rattle.std.specs.Char.{is_not_whitespace}
 use Rattle.std.specs.Str.{NoCharPasses, trim_start}
+use Rattle.ordered_multimap.specs.Lists.{Lists}
 use Rattle.config_reader.specs.declared.config.Lines.{Lines}
 use Rattle.config_reader.specs.declared.name.Name.{Name}
 use Rattle.config_reader.specs.declared.reader.Reader.{Reader}
 use Rattle.config_reader.specs.Lines.{behind_line, first_line, is_lined, lined, says_nothing}
-use Rattle.config_reader.specs.Names.{has_no_key}
+use Rattle.config_reader.specs.Names.{has_no_key, is_key}
 use Rattle.config_reader.specs.Said.{indent_of, is_deeper, item_at, said, setting_of}
 use Rattle.config_reader.specs.Sections.{spelled}
 
@@ -79,17 +80,26 @@ AreRead old [] new = new ≡ old
 AreRead old (pair ∷ pairs) new =
     (behind : Place) × IsReadAt old pair behind × AreRead behind pairs new
 
+-- each name with a key has one that a setting can have
+abbrev pub HaveKeys : List Name → Type 0
+HaveKeys [] = Unit {0}
+HaveKeys (name ∷ names) =
+    (has_no_key name ≡ false → is_key name.key.0.now ≡ true) × HaveKeys names
+
 -- all that was read is kept, but for lines behind it that say nothing
-pub record IsKept (reader : Reader) (pairs : List (Name × Lines)) : Type 0 where
-  pub read : AreRead start pairs (place_of reader)
+pub record IsKept (reader : Reader) (m : Lists Name Lines) : Type 0 where
+  pub read : AreRead start m.pairs (place_of reader)
+  pub keys : HaveKeys m.keys
   pub lines : List ℕ
   pub between : reader.between.now ≡ lines ++ reader.rest.now
   pub silent : AreSilent (lined lines)
   pub lined_are : (is_lined lines ≡ true) ⊎ (reader.rest.now ≡ [])
 
 -- lines that are read as what they stand for
-abbrev pub IsConfig : List (Name × Lines) → Type 0
-IsConfig pairs = (end : Place) × AreRead start pairs end
+pub record IsConfig (m : Lists Name Lines) : Type 0 where
+  pub end : Place
+  pub read : AreRead start m.pairs end
+  pub keys : HaveKeys m.keys
 
 -- the first line of a text opens a section: its bracket, and what stands behind the line
 pub record IsSectionLine (text inside behind : List ℕ) : Type 0 where

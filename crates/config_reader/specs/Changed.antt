@@ -4,7 +4,7 @@ use Rattle.std.specs.List.Sorted.{IsSortedBy, IsStableBy}
 use Rattle.std.specs.Ordering.{is_lt, nat_cmp}
 use Rattle.std.specs.Prelude.{◌≡◌, ℕ, ◌+◌, ◌-◌, ◌%◌, ◌^◌, min, Bool, true, false, Some}
 use Rattle.std.specs.Prelude.{List, [], ◌∷◌, ◌++◌, IsPermutation, codes, map, option_map}
-use Rattle.std.specs.Prelude.{slice_get, unwrap_or}
+use Rattle.std.specs.Prelude.{length, slice_get, unwrap_or}
 use Rattle.ordered_multimap.specs.Changes.{appended, removed}
 use Rattle.ordered_multimap.specs.End.TheVariants.{Back}
 use Rattle.ordered_multimap.specs.Keys.{stored_key}
@@ -17,10 +17,10 @@ use Rattle.config_reader.specs.declared.command.Command.TheVariants.{Set, Add, U
 use Rattle.config_reader.specs.declared.config.Lines.{Lines}
 use Rattle.config_reader.specs.declared.name.Name.{Name}
 use Rattle.config_reader.specs.declared.section.Section.{Section}
-use Rattle.config_reader.specs.Blocks.{IsBlank, IsConfig}
-use Rattle.config_reader.specs.Lines.{lined}
-use Rattle.config_reader.specs.Names.{has_no_key, is_no_section, same_name}
-use Rattle.config_reader.specs.Said.{settings_of, text_says}
+use Rattle.config_reader.specs.Blocks.{AreSetting, IsBlank, IsConfig}
+use Rattle.config_reader.specs.Lines.{first_line, lined}
+use Rattle.config_reader.specs.Names.{has_no_key, is_key, is_no_section, same_name}
+use Rattle.config_reader.specs.Said.{indent_of, settings_of, text_says}
 use Rattle.config_reader.specs.Values.{written}
 use Rattle.config_reader.specs.Written.{line_of, section_line, texts_of}
 
@@ -87,6 +87,10 @@ pub record Replaces (name : Name) (value : List ℕ) (old new : Lists Name Lines
   pub setting : Lines
   pub is_setting : IsSetting indent (stored_key same_name old.keys name).key.0.now value setting
   pub rank : setting.rank ≡ first.rank
+  pub indented : length indent ≡ indent_of (first_line (cow_str_bytes first.text))
+  pub reads : is_key (stored_key same_name old.keys name).key.0.now ≡ true
+      → AreSetting (cow_str_bytes setting.text) (stored_key same_name old.keys name).key.0.now
+      value (length indent)
   pub lists : new ≡ value_set same_name old name setting
 
 -- the first setting of the name has this value, and its others are gone; a setting of an absent
@@ -112,22 +116,24 @@ IsReadBack _ m = Unit {0}
 
 -- a command that adds no line leaves lines that are read as what they stand for
 abbrev pub KeepsConfig : Command → Lists Name Lines → Lists Name Lines → Type 0
-KeepsConfig (Set name value) old new = Unit {0}
+KeepsConfig (Set name value) old new = is_key name.key.0.now ≡ true
+    → is_present same_name old.pairs name ≡ true → IsConfig old → IsConfig new
 KeepsConfig (Add name value) old new = Unit {0}
 KeepsConfig (Unset name) old new = has_no_key name ≡ false
-    → IsConfig old.pairs → IsConfig new.pairs
-KeepsConfig _ old new = IsConfig old.pairs → IsConfig new.pairs
+    → IsConfig old → IsConfig new
+KeepsConfig _ old new = IsConfig old → IsConfig new
 
 -- the settings of these lines are those that their text says
 abbrev pub SaysSettings : Lists Name Lines → Type 0
 SaysSettings m = text_says (texts_of m.pairs) ≡ Some (settings_of m.pairs)
 
 -- the same where a command adds no line
-abbrev pub IsReadAgain : Command → Lists Name Lines → Type 0
-IsReadAgain (Set name value) m = Unit {0}
-IsReadAgain (Add name value) m = Unit {0}
-IsReadAgain (Unset name) m = has_no_key name ≡ false → SaysSettings m
-IsReadAgain _ m = SaysSettings m
+abbrev pub IsReadAgain : Command → Lists Name Lines → Lists Name Lines → Type 0
+IsReadAgain (Set name value) old new = is_key name.key.0.now ≡ true
+    → is_present same_name old.pairs name ≡ true → SaysSettings new
+IsReadAgain (Add name value) old new = Unit {0}
+IsReadAgain (Unset name) old new = has_no_key name ≡ false → SaysSettings new
+IsReadAgain _ old new = SaysSettings new
 
 -- a text is read, and then the command is carried out
 pub record CarriesOut (text : List ℕ) (command : Command) (new : Lists Name Lines) : Type 0 where
@@ -135,4 +141,4 @@ pub record CarriesOut (text : List ℕ) (command : Command) (new : Lists Name Li
   pub texts : texts_of read.pairs ≡ lined text
   pub says : text_says (lined text) ≡ Some (settings_of read.pairs)
   pub leaves : Leaves command read new
-  pub read_again : IsReadAgain command new
+  pub read_again : IsReadAgain command read new

@@ -1,7 +1,8 @@
 //! The two ways to ask, by arguments and by lines of standard input, and what commands show.
 ghost use Rattle.std.specs.List.{list_any};
-ghost use Rattle.std.specs.Prelude.{◌≡◌, ◌++◌, [], IfOk, OnOk};
+ghost use Rattle.std.specs.Prelude.{◌≡◌, ◌++◌, IfOk, OnOk};
 ghost use Rattle.std.specs.String.{string_bytes};
+ghost use Rattle.ordered_multimap.specs.Lists.{empty_lists};
 ghost use Rattle.ordered_multimap.specs.Walk.{end_item};
 ghost use Rattle.ordered_multimap.specs.End.TheVariants.{Back};
 ghost use Rattle.ordered_multimap.specs.Pairs.{is_present, values_of};
@@ -113,7 +114,7 @@ fn answer_on_text<'t>(
 ) -> Result<bool, Fault>
     ensures write { command.entry ≡ Write → OnOk result (string_bytes answers.new
         ≡ string_bytes answers.old ++ (texts_of config.old.lists.pairs ++ lined text.now)) }
-    ensures carries_out { config.old.lists.pairs ≡ [] → OnOk result
+    ensures carries_out { config.old.lists ≡ empty_lists → OnOk result
         (CarriesOut text.now command.entry config.new.lists) }
 {
     read_config(alloc, config, text)?;

@@ -6,11 +6,14 @@ ghost use Rattle.ordered_multimap.specs.SetLists.{value_set};
 ghost use Rattle.config_reader.specs.Changed.{Adds, AddsByRank, AddsSection, IsSetting};
 ghost use Rattle.config_reader.specs.Blocks.{AreSetting, IsBlank};
 ghost use Rattle.config_reader.specs.Changed.{IsReadBack, KeepsConfig, Leaves, Opens, Sets, settings_rank};
+ghost use Rattle.config_reader.specs.Lines.{first_line};
 ghost use Rattle.config_reader.specs.Names.{Lacks, is_key, same_name};
+ghost use Rattle.config_reader.specs.Said.{indent_of};
 ghost use Rattle.config_reader.specs.Written.{section_line};
 
 use crate::command::Command;
 use crate::config::{Config, Lines};
+use crate::lines::first_line;
 use crate::name::Name;
 use crate::section::{NO_SECTION, Section};
 use crate::value::add_value;
@@ -204,9 +207,12 @@ fn indent_in<'c>(config: &'c Config<'_>, section: Section<'_>) -> &'c str
     if section == NO_SECTION { "" } else { "\t" }
 }
 
-// The blanks that a line begins with.
-fn indent_of(line: &str) -> &str
-    ensures { IsBlank result.now }
+// The blanks that the first line of a text begins with.
+fn indent_of(text: &str) -> &str
+    ensures blank { IsBlank result.now }
+    ensures one_line { Lacks 10 result.now }
+    ensures length { length result.now ≡ indent_of (first_line text.now) }
 {
+    let (line, _) = first_line(text);
     line.strip_suffix(line.trim_start()).unwrap_or("")
 }

@@ -2,6 +2,7 @@
 ghost use Rattle.std.specs.Cow.{cow_str_bytes};
 ghost use Rattle.std.specs.Prelude.{◌≡◌, ◌<◌, ◌++◌, [], ℕ, List, length, true, false};
 ghost use Rattle.std.specs.Prelude.{IfErr, IfOk, OnOk};
+ghost use Rattle.ordered_multimap.specs.Lists.{empty_lists};
 ghost use Rattle.config_reader.specs.Faults.{IsBadOrRefused, IsLineOrRefused};
 ghost use Rattle.config_reader.specs.Items.{AddsItem};
 ghost use Rattle.config_reader.specs.Blocks.{IsConfig, IsKept, IsSectionLine, IsSettingLine};
@@ -30,7 +31,7 @@ use std::io;
 pub fn read_config<'t>(alloc: Global, config: &mut Config<'t>, text: &'t str) -> Result<(), Fault>
     ensures kept { OnOk result (texts_of config.new.lists.pairs
         ≡ texts_of config.old.lists.pairs ++ lined text.now) }
-    ensures reads { config.old.lists.pairs ≡ [] → OnOk result (IsConfig config.new.lists.pairs) }
+    ensures reads { config.old.lists ≡ empty_lists → OnOk result (IsConfig config.new.lists) }
     ensures fault { IfErr result IsLineOrRefused }
 {
     let mut reader = Reader::new(alloc, text);
@@ -105,8 +106,8 @@ impl<'t> Reader<'t> {
             → IsReadTo (texts_of config.old.lists.pairs) self.old.between.now self.old.rest.now all
             → OnOk result (texts_of config.new.lists.pairs ++ lined self.new.rest.now ≡ all) }
         ensures whole { part ≡ Whole → OnOk result (self.new.rest.now ≡ []) }
-        ensures reads { IsKept self.old config.old.lists.pairs
-            → OnOk result (IsKept self.new config.new.lists.pairs) }
+        ensures reads { IsKept self.old config.old.lists
+            → OnOk result (IsKept self.new config.new.lists) }
         ensures fault { IfErr result IsLineOrRefused }
     {
         while !self.is_at_end(part) {
@@ -139,8 +140,8 @@ impl<'t> Reader<'t> {
             self.new.between.now self.new.rest.now all) }
         ensures shorter { 0 < length self.old.rest.now
             → OnOk result (length self.new.rest.now < length self.old.rest.now) }
-        ensures reads { 0 < length self.old.rest.now → IsKept self.old config.old.lists.pairs
-            → OnOk result (IsKept self.new config.new.lists.pairs) }
+        ensures reads { 0 < length self.old.rest.now → IsKept self.old config.old.lists
+            → OnOk result (IsKept self.new config.new.lists) }
         ensures fault { IfErr result IsBadOrRefused }
     {
         let (line, behind) = first_line(self.rest);
@@ -168,8 +169,8 @@ impl<'t> Reader<'t> {
             self.new.between.now self.new.rest.now all) }
         ensures rest { OnOk result (self.new.rest.now ≡ behind.now) }
         ensures reads { IsSectionLine self.old.rest.now inside.now behind.now
-            → IsKept self.old config.old.lists.pairs
-            → OnOk result (IsKept self.new config.new.lists.pairs) }
+            → IsKept self.old config.old.lists
+            → OnOk result (IsKept self.new config.new.lists) }
         ensures fault { IfErr result IsBadOrRefused }
     {
         self.add_between(config, self.rank.saturating_add(1))?;
@@ -188,8 +189,8 @@ impl<'t> Reader<'t> {
         ensures shorter { 0 < length self.old.rest.now
             → OnOk result (length self.new.rest.now < length self.old.rest.now) }
         ensures reads { IsSettingLine self.old.rest.now line.now
-            → IsKept self.old config.old.lists.pairs
-            → OnOk result (IsKept self.new config.new.lists.pairs) }
+            → IsKept self.old config.old.lists
+            → OnOk result (IsKept self.new config.new.lists) }
         ensures fault { IfErr result IsBadOrRefused }
     {
         self.add_between(config, self.rank)?;
@@ -211,8 +212,8 @@ impl<'t> Reader<'t> {
             self.new.between.now self.new.rest.now all) }
         ensures rest { self.new.rest.now ≡ self.old.rest.now }
         ensures between { OnOk result (self.new.between.now ≡ self.old.rest.now) }
-        ensures reads { IsKept self.old config.old.lists.pairs
-            → OnOk result (IsKept self.new config.new.lists.pairs) }
+        ensures reads { IsKept self.old config.old.lists
+            → OnOk result (IsKept self.new config.new.lists) }
         ensures section { self.new.section ≡ self.old.section }
         ensures indent { self.new.indent ≡ self.old.indent }
     {

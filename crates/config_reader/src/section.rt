@@ -34,8 +34,8 @@ impl<'t> Section<'t> {
     ///
     /// # Errors
     ///
-    /// An empty word, nothing behind the dot or between the quotes, a bracket, a quote at another
-    /// place, or a backslash.
+    /// An empty word, nothing behind the dot or between the quotes, a bracket in the word, a quote at
+    /// another place, a backslash, or a line feed.
     pub fn parse(text: &'t str) -> io::Result<Section<'t>>
         ensures called { IfOk result (λ section. IsCalledBy text.now section) }
         ensures bad { IfErr result (λ error. error_kind error ≡ InvalidData) }

@@ -5,6 +5,7 @@ use Rattle.config_reader.specs.Blocks.{IsConfig}
 use Rattle.config_reader.specs.Names.{same_name}
 use Rattle.config_reader.proofs.ReadBack.{absent_removed, set_alone}
 use Rattle.config_reader.proofs.Removed.{removed_read}
+use Rattle.config_reader.proofs.Replaced.{replaces_read}
 use Rattle.config_reader.proofs.change.change.Goals as goal
 
 pub returns-in-Set-clause-read_back : goal.returns-in-Set-clause-read_back
@@ -17,8 +18,15 @@ returns-in-Unset-clause-read_back c =
     (ap (λ m. is_present same_name m.pairs c.in-Unset.name) c.unset.ensures
     ∙ absent_removed c.in-Unset.name c.args.config.now.lists)
 
+pub returns-in-Set-clause-keeps : goal.returns-in-Set-clause-keeps
+returns-in-Set-clause-keeps c =
+    rw c.in-Set.is
+    (on_ok_weaker c.set.result
+    (λ sets. λ allowed present config. replaces_read _ _ _ _ (sets.present present) allowed present config)
+    c.set.ensures)
+
 pub returns-in-Unset-clause-keeps : goal.returns-in-Unset-clause-keeps
 returns-in-Unset-clause-keeps c =
     rw c.in-Unset.is
-    (λ keyed config. subst (λ m. IsConfig m.pairs) (sym c.unset.ensures)
+    (λ keyed config. subst IsConfig (sym c.unset.ensures)
     (removed_read c.in-Unset.name c.args.config.now.lists keyed config))

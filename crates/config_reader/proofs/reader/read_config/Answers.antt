@@ -1,7 +1,7 @@
 use Rattle.std.proofs.Common.{◌∙◌, ◌++◌, [], inl, refl, subst, sym}
 use Rattle.config_reader.specs.Lines.{lined}
 use Rattle.config_reader.specs.Written.{texts_of}
-use Rattle.config_reader.specs.Blocks.{AreRead, IsKept, place_of, start}
+use Rattle.config_reader.specs.Blocks.{AreRead, HaveKeys, IsKept, place_of, start}
 use Rattle.config_reader.proofs.Called.{IfOk-both}
 use Rattle.config_reader.proofs.Chain.{none_silent}
 use Rattle.config_reader.proofs.WholeLines.{all_read, nothing_read}
@@ -21,12 +21,13 @@ returns-clause-kept c =
 pub returns-clause-reads : goal.returns-clause-reads
 returns-clause-reads c = λ none.
     let reader = c.new-reader in
-    let kept : IsKept reader.result c.args.config.now.lists.pairs = record {
-      read = subst (λ pairs. AreRead start pairs (place_of reader.result)) (sym none) reader.ensures.start;
+    let kept : IsKept reader.result c.args.config.now.lists = record {
+      read = subst (λ m. AreRead start m.pairs (place_of reader.result)) (sym none) reader.ensures.start;
+      keys = subst (λ m. HaveKeys m.keys) (sym none) tt;
       lines = [];
       between = reader.ensures.between ∙ sym reader.ensures.rest;
       silent = none_silent;
       lined_are = inl refl;
     } in
-    IfOk-both c.read_items.result (λ done kept same. (place_of c.read_items.new.self, kept.read))
+    IfOk-both c.read_items.result (λ done kept same. record { end = place_of c.read_items.new.self; read = kept.read; keys = kept.keys })
     (c.read_items.ensures.reads kept) (c.read_items.ensures.reads kept)

@@ -24,7 +24,7 @@ returns-clause-kept c = λ all is.
 
 pub returns-then-is_empty-clause-reads : goal.returns-then-is_empty-clause-reads
 returns-then-is_empty-clause-reads c = λ kept.
-    none_between c.args.self.now _ c.args.config.now.lists.pairs kept refl refl
+    none_between c.args.self.now _ c.args.config.now.lists kept refl refl
 
 pub returns-clause-reads : goal.returns-clause-reads
 returns-clause-reads c = λ kept.
