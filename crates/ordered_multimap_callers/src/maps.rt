@@ -1,13 +1,19 @@
-//! Maps of numbers and of texts.
+//! Maps of numbers and of texts, what they are compared with, both their lists and their room, and tests that
+//! are lent an empty map.
+//!
+//! Each comparison is proved once here and costs a test no more than a call.
 use ordered_multimap::ListOrderedMultimap;
 use ordered_multimap::list_ordered_multimap::DefaultState;
 use refusing_allocator::RefusingAllocator;
-use std::alloc::Allocator;
-use std::hash::Hash;
-use test_helpers::Test;
+use std::alloc::{Allocator, Global};
+use std::hash::{BuildHasher, Hash};
+use test_helpers::{Checked, Failed, Plain, Step, Test, gives, walk_difference};
 
 /// A map of numbers.
 pub type Numbers = ListOrderedMultimap<u32, u32>;
+
+/// A map of numbers with a hash builder of this type.
+pub type NumbersBy<S> = ListOrderedMultimap<u32, u32, S>;
 
 /// A map of texts.
 pub type Texts = ListOrderedMultimap<&'static str, &'static str>;
@@ -31,9 +37,9 @@ pub const MIXED_TEXTS: &[(&str, &str)] = &[
 ];
 
 /// Appends these pairs.
-pub fn fill<K: Eq + Hash + Copy, V: Copy, A: Allocator + Copy>(
+pub fn fill<K: Eq + Hash + Copy, V: Copy, S: BuildHasher, A: Allocator + Copy>(
     test: &Test,
-    map: &mut ListOrderedMultimap<K, V, DefaultState, A>,
+    map: &mut ListOrderedMultimap<K, V, S, A>,
     pairs: &[(K, V)],
 ) {
     for (key, value) in pairs {
@@ -42,9 +48,9 @@ pub fn fill<K: Eq + Hash + Copy, V: Copy, A: Allocator + Copy>(
 }
 
 /// Takes all pairs out, and appends these.
-pub fn refill<K: Eq + Hash + Copy + Drop, V: Copy, A: Allocator + Copy>(
+pub fn refill<K: Eq + Hash + Copy + Drop, V: Copy, S: BuildHasher, A: Allocator + Copy>(
     test: &Test,
-    map: &mut ListOrderedMultimap<K, V, DefaultState, A>,
+    map: &mut ListOrderedMultimap<K, V, S, A>,
     pairs: &[(K, V)],
 ) {
     map.clear();
@@ -88,4 +94,137 @@ pub fn reserve<A: Allocator + Copy>(
     test.expect(map.reserve_keys(keys).is_ok());
     test.expect(map.reserve_values(values).is_ok());
     allocator.refuse_all();
+}
+
+/// Whether a map has these pairs and these keys, each in this order, and no others.
+pub fn has_lists<K: Eq + Hash + Copy, V: PartialEq + Copy, S: BuildHasher, A: Allocator>(
+    map: &ListOrderedMultimap<K, V, S, A>,
+    pairs: &[(K, V)],
+    keys: &[K],
+) -> bool {
+    has_pairs(map, pairs) && has_keys(map, keys)
+}
+
+/// Whether a map has these pairs, in this order, and no others.
+pub fn has_pairs<K: Eq + Hash + Copy, V: PartialEq + Copy, S: BuildHasher, A: Allocator>(
+    map: &ListOrderedMultimap<K, V, S, A>,
+    pairs: &[(K, V)],
+) -> bool {
+    map.values_len() == pairs.len() && gives(&mut map.iter(), pairs)
+}
+
+fn has_keys<K: Eq + Hash + Copy, V, S: BuildHasher, A: Allocator>(
+    map: &ListOrderedMultimap<K, V, S, A>,
+    keys: &[K],
+) -> bool {
+    map.keys_len() == keys.len() && gives(&mut map.keys(), keys)
+}
+
+/// Appends a pair. It returns whether there was memory, and whether the key was there as is said.
+pub fn appends<K: Eq + Hash + Drop, V: Drop, S: BuildHasher, A: Allocator + Copy>(
+    map: &mut ListOrderedMultimap<K, V, S, A>,
+    key: K,
+    value: V,
+    present: bool,
+) -> bool {
+    match map.append(key, value) {
+        Ok(was_present) => was_present == present,
+        Err(_) => false,
+    }
+}
+
+/// Inserts a pair. It returns whether there was memory, and whether the first old value is this.
+pub fn inserts<K: Eq + Hash + Drop, V: PartialEq + Drop, S: BuildHasher, A: Allocator + Copy>(
+    map: &mut ListOrderedMultimap<K, V, S, A>,
+    key: K,
+    value: V,
+    old: &Option<V>,
+) -> bool {
+    match map.insert(key, value) {
+        Ok(first) => first == *old,
+        Err(_) => false,
+    }
+}
+
+/// Whether a map has room for this many keys and values.
+pub fn has_room<K: Eq + Hash, V, S: BuildHasher, A: Allocator>(
+    map: &ListOrderedMultimap<K, V, S, A>,
+    keys: usize,
+    values: usize,
+) -> bool {
+    map.keys_capacity() >= keys && map.values_capacity() >= values
+}
+
+/// Whether a walk gives this behind its first item, and its clone there gives the same.
+pub fn goes_on<W: DoubleEndedIterator + ExactSizeIterator + Clone + Drop>(
+    walk: &mut W,
+    rest: &[Step<<W::Item as Plain>::Value>],
+) -> bool
+where
+    W::Item: Plain,
+    requires next { (state : W) → W.can_next state }
+    requires next_back { (state : W) → W.can_next_back state }
+{
+    drop(walk.next());
+    match walk.clone() {
+        Ok(mut copy) => {
+            walk_difference(&mut copy, rest).is_none() && walk_difference(walk, rest).is_none()
+        }
+        Err(_) => false,
+    }
+}
+
+/// What a test can make without an argument of its own.
+pub trait Empty: Drop {
+    /// An empty one, which takes its memory from `alloc`.
+    fn empty(alloc: Global) -> Self;
+}
+
+impl<K: Eq + Hash + Drop, V: Drop> Empty for ListOrderedMultimap<K, V> {
+    fn empty(alloc: Global) -> ListOrderedMultimap<K, V> {
+        ListOrderedMultimap::new(alloc)
+    }
+}
+
+/// Runs a test whose checks are lent an empty map of their type.
+// The types of test and map are parameters since the borrow checker covers no call of a closure with
+// a reference to a type that itself holds references.
+pub fn test_on_empty<T: Checked, M: Empty, F: FnOnce(&T, &mut M)>(
+    alloc: Global,
+    checks: F,
+) -> Result<(), Failed>
+    requires { F.IsAlwaysCallable checks }
+{
+    let test = T::begin(alloc);
+    checks(&test, &mut M::empty(alloc));
+    test.finish()
+}
+
+/// Runs a test of a check that is lent a map with room for so many keys and so many values, and an
+/// allocator that can refuse the map's memory.
+#[macro_export]
+macro_rules! test_with_room {
+    ($alloc:expr; $keys:expr, $values:expr; $check:path) => {{
+        let test = Test::new($alloc);
+        let allocator = RefusingAllocator::unlimited(test.alloc());
+        test.expect(test_helpers::lend_made(
+            ListOrderedMultimap::with_capacity(&allocator, $keys, $values),
+            |map| $check(&test, &allocator, map),
+            |_refused| {},
+        ));
+        test.end()
+    }};
+}
+
+/// Runs each part on the emptied map with room for so many keys and values, where all memory is
+/// refused, and expects that none was asked for.
+#[macro_export]
+macro_rules! run_in_room {
+    ($test:expr, $allocator:expr, $map:expr; $($keys:expr, $values:expr => $part:path),+) => {{
+        $(
+            reserve_anew($test, $allocator, $map, $keys, $values);
+            $part($test, $map);
+        )+
+        $test.expect(!$allocator.refused());
+    }};
 }

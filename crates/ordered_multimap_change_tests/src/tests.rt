@@ -1,8 +1,11 @@
 //! The tests, by what they are of.
+mod drained;
 mod entry;
 mod joined;
-mod keys_moved;
+mod keys;
 mod lending;
+mod memory;
 mod removal;
 mod sorted;
 mod writing;
+mod written;

@@ -23,3 +23,18 @@ macro_rules! test_all {
         test.end()
     }};
 }
+
+/// Tries a call with so many granted requests for memory: lends a check the test, an allocator, and what
+/// is made with that, and returns whether the check says that they were enough. Where they weren't, one
+/// has to have been refused.
+#[macro_export]
+macro_rules! try_on_new {
+    ($test:expr, $granted:expr; $new:path; $tries:path $(, $given:expr)*) => {{
+        let allocator = RefusingAllocator::unlimited($test.alloc());
+        let enough = test_helpers::lend($new(&allocator), |new| {
+            $tries($test, &allocator, new, $granted $(, $given)*)
+        });
+        $test.expect(enough || allocator.refused());
+        enough
+    }};
+}

@@ -18,4 +18,4 @@ pub use lent::{lend, lend_made, test_on_new, test_on_share};
 pub use requests::requests_until_enough;
 pub use steps::{Checked, Failed, Test, expect_text};
 pub use values::{is_compared, is_copied, is_shown};
-pub use walks::{End, Plain, copied, gives, taken, walk_difference};
+pub use walks::{B, End, F, Plain, Step, copied, gives, taken, walk_difference};

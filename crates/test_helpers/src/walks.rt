@@ -9,6 +9,15 @@ pub enum End {
     Back,
 }
 
+/// Short for [`End::Front`], in tables.
+pub const F: End = End::Front;
+
+/// Short for [`End::Back`], in tables.
+pub const B: End = End::Back;
+
+/// The end that a step of a walk takes an item from, and the item's values.
+pub type Step<T> = (End, T);
+
 /// An item of a walk, as values that a test can write down.
 pub trait Plain: Drop {
     /// The values themselves, where the item holds references.
@@ -83,7 +92,7 @@ impl<T: PartialEq + Copy, E: Drop> Plain for Result<T, E> {
 /// hasn't, the result is how many rows there are.
 pub fn walk_difference<W: DoubleEndedIterator + ExactSizeIterator>(
     walk: &mut W,
-    wanted: &[(End, <W::Item as Plain>::Value)],
+    wanted: &[Step<<W::Item as Plain>::Value>],
 ) -> Option<usize>
 where
     W::Item: Plain,

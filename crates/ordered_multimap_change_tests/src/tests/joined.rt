@@ -1,39 +1,21 @@
-//! Pairs of a map that all go to another one, and are found there by any hash builder. The rows of
-//! `append_map` are cases of the program `map_calls`.
-mod refused;
-
+//! Pairs of a map that all go to another one: found there by any hash builder, with each request for
+//! memory refused, and in room that is there, with no memory at all. The rows of `append_map` are cases
+//! of the program `map_calls`.
 use ordered_multimap::ListOrderedMultimap;
-use ordered_multimap_callers::joined::move_all;
-use ordered_multimap_callers::lists::has_lists;
-use ordered_multimap_callers::maps::{Numbers, fill, map_of};
-use ordered_multimap_callers::tested::test_on_empty;
+use ordered_multimap_callers::maps::{
+    Numbers, NumbersBy, Refusing, appends, fill, refill, has_lists, reserve_anew, test_on_empty,
+};
+use ordered_multimap_callers::test_with_room;
+use refusing_allocator::RefusingAllocator;
+use std::alloc::Allocator;
 use std::hash::BuildHasher;
-use test_helpers::{Constant, Failed, Test, ZERO, lend, run_parts};
+use test_helpers::{Constant, Failed, Test, ZERO, lend, requests_until_enough, try_on_new};
 
-type NumbersBy<S> = ListOrderedMultimap<u32, u32, S>;
+const PAIRS: &[(u32, u32)] = &[(1, 1), (2, 2), (1, 3)];
 
-const PAIRS: &[(u32, u32)] = &[(1, 11), (2, 12), (1, 13)];
+const OTHER: &[(u32, u32)] = &[(3, 4), (1, 5), (4, 6), (3, 7)];
 
-const OTHER: &[(u32, u32)] = &[(2, 21), (3, 22), (1, 23), (3, 24)];
-
-const JOINED: &[(u32, u32)] = &[
-    (1, 11),
-    (2, 12),
-    (1, 13),
-    (2, 21),
-    (3, 22),
-    (1, 23),
-    (3, 24),
-];
-
-fn fill_anew<S: BuildHasher>(test: &Test, map: &mut NumbersBy<S>, pairs: &[(u32, u32)]) {
-    map.clear();
-    test.expect(map.extend(pairs.iter().copied()) == Ok(()));
-}
-
-fn is_used_up<S: BuildHasher>(other: &NumbersBy<S>, room: (usize, usize)) -> bool {
-    has_lists(other, &[], &[]) && (other.keys_capacity(), other.values_capacity()) == room
-}
+const JOINED: &[(u32, u32)] = &[(1, 1), (2, 2), (1, 3), (3, 4), (1, 5), (4, 6), (3, 7)];
 
 // The keys are found by their hashes.
 fn join<S: BuildHasher, T: BuildHasher>(
@@ -41,13 +23,13 @@ fn join<S: BuildHasher, T: BuildHasher>(
     map: &mut NumbersBy<S>,
     other: &mut NumbersBy<T>,
 ) {
-    fill_anew(test, map, PAIRS);
-    fill_anew(test, other, OTHER);
+    refill(test, map, PAIRS);
+    refill(test, other, OTHER);
     let room = (other.keys_capacity(), other.values_capacity());
     test.expect(map.append_map(other).is_ok());
-    test.expect(has_lists(map, JOINED, &[1, 2, 3]));
+    test.expect(has_lists(map, JOINED, &[1, 2, 3, 4]) && has_lists(other, &[], &[]));
     test.expect(map.entry_len(&1) == 3 && map.entry_len(&3) == 2);
-    test.expect(is_used_up(other, room));
+    test.expect((other.keys_capacity(), other.values_capacity()) == room);
 }
 
 fn join_builders(test: &Test, map: &mut Numbers) {
@@ -58,24 +40,90 @@ fn join_builders(test: &Test, map: &mut Numbers) {
     });
 }
 
-// By a proved caller.
-fn move_to(test: &Test, map: &mut Numbers, to: &mut Numbers) {
-    test.expect(move_all(map, to).is_ok() && map.is_empty());
-    test.expect(has_lists(to, &[(2, 12), (1, 13)], &[2, 1]));
+#[test]
+fn all_pairs_go_to_another_map(rt: HostRuntime) -> Result<(), Failed> {
+    test_on_empty(rt.alloc(), join_builders)
 }
 
-// The pairs of the map go to one that is emptied first.
-fn move_to_emptied(test: &Test, map: &mut Numbers) {
-    map.clear();
-    fill(test, map, &[(2, 12), (1, 13)]);
-    lend(map_of(test, &[(5, 51)]), |to| move_to(test, map, to));
+// It returns whether there was memory enough. Where there was not, both maps are as before.
+fn is_joined<A: Allocator + Copy>(
+    test: &Test,
+    map: &mut Refusing<A>,
+    other: &mut Refusing<A>,
+) -> bool {
+    let enough = map.append_map(other).is_ok();
+    if enough {
+        test.expect(has_lists(map, JOINED, &[1, 2, 3, 4]) && has_lists(other, &[], &[]));
+    } else {
+        test.expect(has_lists(map, PAIRS, &[1, 2]) && has_lists(other, OTHER, &[3, 1, 4]));
+    }
+    enough
 }
 
-fn maps_are_joined(test: &Test, map: &mut Numbers) {
-    run_parts!(test, map; join_builders, move_to_emptied)
+fn joins<A: Allocator + Copy>(
+    test: &Test,
+    refusing: &RefusingAllocator,
+    map: &mut Refusing<A>,
+    granted: u64,
+) -> bool {
+    fill(test, map, PAIRS);
+    test.expect(map.pack_to_fit().is_ok());
+    lend(Refusing::new(*map.allocator()), |other| {
+        fill(test, other, OTHER);
+        refusing.grant(granted);
+        is_joined(test, map, other)
+    })
+}
+
+fn joins_with(test: &Test, granted: u64) -> bool {
+    try_on_new!(test, granted; ListOrderedMultimap::new; joins)
 }
 
 #[test]
-fn all_pairs_go_to_another_map(rt: HostRuntime) -> Result<(), Failed> {
-    test_on_empty(rt.alloc(), maps_are_joined)
+fn a_refused_request_changes_neither_map(rt: HostRuntime) -> Result<(), Failed> {
+    let test = Test::new(rt.alloc());
+    let enough = requests_until_enough(|granted| joins_with(&test, granted));
+    // Two for the slots of keys, and three for those of values.
+    test.expect(enough == Some(5));
+    test.end()
+}
+
+// Leaves one pair, behind the holes of those that came before it.
+fn use_slots_up<A: Allocator + Copy>(test: &Test, map: &mut Refusing<A>) {
+    test.expect(appends(map, 1, 0, false));
+    for number in 1..8u32 {
+        test.expect(appends(map, 1, number, true));
+        map.retain(|_key, value| *value == number);
+    }
+}
+
+fn takes_no_memory<A: Allocator + Copy>(
+    test: &Test,
+    refusing: &RefusingAllocator,
+    map: &mut Refusing<A>,
+    other: &mut Refusing<A>,
+) {
+    reserve_anew(test, refusing, map, 3, 5);
+    use_slots_up(test, map);
+    let room = (map.keys_capacity(), map.values_capacity());
+    test.expect(map.append_map(other).is_ok() && !refusing.refused());
+    test.expect((map.keys_capacity(), map.values_capacity()) == room);
+    let pairs = [(1, 7), (3, 4), (1, 5), (4, 6), (3, 7)];
+    test.expect(has_lists(map, &pairs, &[1, 3, 4]));
+}
+
+fn joins_in_room<A: Allocator + Copy>(
+    test: &Test,
+    refusing: &RefusingAllocator,
+    map: &mut Refusing<A>,
+) {
+    lend(Refusing::new(*map.allocator()), |other| {
+        fill(test, other, OTHER);
+        takes_no_memory(test, refusing, map, other)
+    })
+}
+
+#[test]
+fn maps_are_joined_in_room(rt: HostRuntime) -> Result<(), Failed> {
+    test_with_room!(rt.alloc(); 0, 0; joins_in_room)
 }

@@ -1,4 +1,4 @@
-//! The calls of a map of numbers that lend from it for writing, and comparisons of their walks.
+//! The calls of a map of numbers that lend from it for writing.
 //!
 //! Their clauses are long, and a proof pays for them in each function that makes such a call. So
 //! each is made here, for all tests.
@@ -7,7 +7,6 @@ use ordered_multimap::list_ordered_multimap::{
     ValuesMut,
 };
 use ordered_multimap_callers::maps::Numbers;
-use test_helpers::{End, walk_difference};
 
 /// A drain of the values of a key.
 pub type Drain<'a> = EntryValuesDrain<'a, u32, u32, DefaultState>;
@@ -30,27 +29,6 @@ pub fn values_of_key(map: &mut Numbers, key: u32) -> EntryValuesMut<'_, u32, u32
 /// The walk over all keys with their values.
 pub fn keys_of(map: &mut Numbers) -> KeyValuesMut<'_, u32, u32> {
     map.pairs_mut()
-}
-
-/// Where a walk over all pairs differs from what is wanted.
-pub fn pairs_differ(
-    walk: &mut IterMut<'_, u32, u32>,
-    wanted: &[(End, (u32, u32))],
-) -> Option<usize> {
-    walk_difference(walk, wanted)
-}
-
-/// The same of a walk over all values.
-pub fn values_differ(walk: &mut ValuesMut<'_, u32, u32>, wanted: &[(End, u32)]) -> Option<usize> {
-    walk_difference(walk, wanted)
-}
-
-/// The same of a walk over the values of a key.
-pub fn values_of_key_differ(
-    walk: &mut EntryValuesMut<'_, u32, u32>,
-    wanted: &[(End, u32)],
-) -> Option<usize> {
-    walk_difference(walk, wanted)
 }
 
 /// Takes all values of a key out, with the key.

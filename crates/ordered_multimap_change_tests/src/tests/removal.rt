@@ -1,37 +1,15 @@
-//! Insertions, removals, pops, drains and `retain`, each test over one map.
-mod below_zero;
-mod drain_steps;
-mod drained;
-mod memory;
-mod one_value;
-mod popped;
-mod retained;
-mod wrappers;
-
-use crate::tests::removal::drain_steps::values_are_given;
-use crate::tests::removal::drained::lists_are_final;
-use crate::tests::removal::one_value::{
-    callers_change_one_value, values_are_found, values_are_retained, values_change,
-};
-use crate::tests::removal::popped::{appends_are_undone, collided_keys_leave};
-use crate::tests::removal::retained::pairs_stay;
+//! Values and pairs that leave: one value of a key, which is set, taken out or looked up; pairs that don't
+//! stay by `retain`; and keys that leave where all hashes are equal. More rows of these calls are cases of
+//! the programs.
 use ordered_multimap::ListOrderedMultimap;
-use ordered_multimap_callers::maps::Numbers;
-use ordered_multimap_callers::tested::test_on_empty;
-use test_helpers::{Failed, Test, ZERO, run_parts, test_all};
+use ordered_multimap::list_ordered_multimap::{Entry, KeyWrapper};
+use ordered_multimap_callers::maps::{
+    Numbers, NumbersBy, appends, has_lists, refill, test_on_empty,
+};
+use test_helpers::{Constant, Failed, Test, ZERO, run_parts, test_on_new};
 
 fn numbers_leave(test: &Test, map: &mut Numbers) {
-    run_parts!(test, map; appends_are_undone, pairs_stay, values_are_given, lists_are_final)
-}
-
-fn one_value_changes(test: &Test, map: &mut Numbers) {
-    run_parts!(test, map; values_are_found, values_change, values_are_retained,
-        callers_change_one_value)
-}
-
-#[test]
-fn one_value_of_a_key_changes(rt: HostRuntime) -> Result<(), Failed> {
-    test_on_empty(rt.alloc(), one_value_changes)
+    run_parts!(test, map; values_are_found, values_change, values_are_retained, pairs_stay)
 }
 
 #[test]
@@ -39,14 +17,140 @@ fn pairs_of_numbers_leave(rt: HostRuntime) -> Result<(), Failed> {
     test_on_empty(rt.alloc(), numbers_leave)
 }
 
-fn alike_keys_leave(test: &Test) {
-    collided_keys_leave(
-        test,
-        &mut ListOrderedMultimap::with_hasher(test.alloc(), ZERO),
-    );
+// Three values of the key 1, two of them equal, two of the key 2, one of the key 3.
+const PAIRS: &[(u32, u32)] = &[(1, 5), (2, 6), (1, 7), (3, 8), (1, 5), (2, 6)];
+
+// The last value of a key, its stored key with the first, and whether it has one.
+fn values_are_found(test: &Test, map: &mut Numbers) {
+    refill(test, map, &[(1, 5), (2, 6), (1, 7)]);
+    test.expect(map.get_last(&1) == Some(&7) && map.get_last(&4).is_none());
+    test.expect(map.get_key_value(&1) == Some((&1, &5)));
+    test.expect(map.contains(&1, &7) && !map.contains(&2, &7));
+}
+
+fn entry_set(map: &mut Numbers, key: u32, value: u32) -> Option<u32> {
+    match map.entry(key) {
+        Entry::Occupied(mut entry) => Some(entry.set(value)),
+        Entry::Vacant(_) => None,
+    }
+}
+
+// A value is set at the place of the first one, or taken out, and then the others go.
+fn values_change(test: &Test, map: &mut Numbers) {
+    refill(test, map, PAIRS);
+    test.expect(map.set(1, 9).ok() == Some(Some(5)));
+    test.expect(entry_set(map, 2, 4) == Some(6));
+    test.expect(has_lists(map, &[(1, 9), (2, 4), (3, 8)], &[1, 2, 3]));
+    test.expect(map.remove_index(&1, 0) == Some(9));
+    test.expect(map.remove_value(&2, &4) == Some(4));
+    test.expect(has_lists(map, &[(3, 8)], &[3]));
+}
+
+// A function is called on the values of one key, in order, and says which stay.
+fn values_are_retained(test: &Test, map: &mut Numbers) {
+    refill(test, map, PAIRS);
+    let mut seen: u32 = 0;
+    map.retain_all(&1, |value| {
+        seen = seen.saturating_mul(10).saturating_add(*value);
+        *value != 5
+    });
+    test.expect(seen == 575);
+    let pairs = [(2, 6), (1, 7), (3, 8), (2, 6)];
+    test.expect(has_lists(map, &pairs, &[1, 2, 3]));
+}
+
+// What the function leaves of a value, and what it returns.
+#[derive(Clone, Copy)]
+enum Rule {
+    Odd,
+    EvenOnceAdded,
+    ZeroAboveOne,
+}
+
+fn is_kept(rule: Rule, value: &mut u32) -> bool {
+    match rule {
+        Rule::Odd => *value % 2 == 1,
+        Rule::EvenOnceAdded => {
+            *value = value.saturating_add(1);
+            *value % 2 == 0
+        }
+        Rule::ZeroAboveOne => {
+            let above = *value > 1;
+            *value = 0;
+            above
+        }
+    }
+}
+
+type Pairs = &'static [(u32, u32)];
+
+const ONES: Pairs = &[(1, 1), (1, 2), (1, 3)];
+
+// The pairs of a map, a retain, and what it leaves: all pairs, the keys, and the values of the key 1
+// from the back.
+const ROWS: &[(Pairs, Rule, Pairs, &[u32], &[u32])] = &[
+    (
+        &[(1, 1), (1, 2), (2, 3), (1, 4), (1, 5)],
+        Rule::Odd,
+        &[(1, 1), (2, 3), (1, 5)],
+        &[1, 2],
+        &[5, 1],
+    ),
+    (ONES, Rule::EvenOnceAdded, &[(1, 2), (1, 4)], &[1], &[4, 2]),
+    (ONES, Rule::ZeroAboveOne, &[(1, 0), (1, 0)], &[1], &[0, 0]),
+];
+
+// Returns how often the function was called.
+fn keep(map: &mut Numbers, rule: Rule) -> usize {
+    let mut calls = 0usize;
+    map.retain(|_key, value| {
+        calls = calls.saturating_add(1);
+        is_kept(rule, value)
+    });
+    calls
+}
+
+// Pairs stay by what the function returns, with the value that it leaves.
+fn pairs_stay(test: &Test, map: &mut Numbers) {
+    for (at, (pairs, rule, kept, keys, ones)) in ROWS.iter().enumerate() {
+        refill(test, map, pairs);
+        test.expect_at(at, keep(map, *rule) == pairs.len());
+        test.expect_at(at, has_lists(map, kept, keys));
+        test.expect_at(at, map.entry_len(&1) == ones.len());
+        test.expect_at(at, map.get_all(&1).rev().eq(*ones));
+    }
+}
+
+fn append_two_each(test: &Test, map: &mut NumbersBy<Constant>) {
+    for key in 0..200u32 {
+        test.expect(appends(map, key, key, false));
+    }
+    for key in 0..200u32 {
+        test.expect(appends(map, key, key.saturating_add(1000), true));
+    }
+}
+
+fn half_leave(test: &Test, map: &mut NumbersBy<Constant>) {
+    for half in 0..100u32 {
+        test.expect(map.remove(&(half * 2)) == Some(half * 2));
+    }
+}
+
+fn half_is_left(test: &Test, map: &mut NumbersBy<Constant>) {
+    test.expect(map.keys_len() == 100 && map.values_len() == 200);
+    test.expect(map.get_all(&1).eq(&[1, 1001]));
+    test.expect(map.pop_front() == Some((KeyWrapper::Borrowed(&1), 1)));
+}
+
+// Where all hashes are equal, half of the keys leave, and then the first pair of the others.
+fn collided_keys_leave(test: &Test, map: &mut NumbersBy<Constant>) {
+    append_two_each(test, map);
+    half_leave(test, map);
+    half_is_left(test, map);
 }
 
 #[test]
 fn keys_of_one_hash_leave(rt: HostRuntime) -> Result<(), Failed> {
-    test_all!(rt.alloc(); alike_keys_leave)
+    let collided = |alloc| ListOrderedMultimap::with_hasher(alloc, ZERO);
+    test_on_new(rt.alloc(), collided, collided_keys_leave)
 }

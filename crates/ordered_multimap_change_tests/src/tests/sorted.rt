@@ -1,82 +1,165 @@
-//! Keys that are sorted: both lists, each key's values from both ends, and look-ups afterwards. The
-//! rows of `sort_keys` and of a sort in which keys tie are cases of the program `map_calls`.
-mod pairs;
-mod refused;
-mod totals;
-
-use ordered_multimap_callers::lists::{appends, has_lists};
-use ordered_multimap_callers::maps::{Numbers, refill};
-use ordered_multimap_callers::sorted::sort_descending;
-use ordered_multimap_callers::tested::test_on_empty;
-use test_helpers::{End, Failed, Test, run_parts, walk_difference};
+//! Pairs that are sorted: both lists, each key's values from both ends, and changes afterwards; and keys
+//! and pairs that are sorted with each request for memory refused, and one, or none, with no memory. The
+//! rows of other sorts are cases of the program `map_calls`.
+use ordered_multimap::ListOrderedMultimap;
+use ordered_multimap_callers::maps::{
+    Numbers, Refusing, appends, has_lists, refill, test_on_empty,
+};
+use ordered_multimap_callers::test_with_room;
+use refusing_allocator::RefusingAllocator;
+use std::alloc::Allocator;
+use std::cmp::Ordering;
+use test_helpers::{Failed, Test, copied, gives, requests_until_enough, run_parts, try_on_new};
 
 // Pairs of which two keys have two values each.
-const PAIRS: &[(u32, u32)] = &[(5, 11), (3, 12), (1, 13), (5, 14), (2, 15), (3, 16)];
+const PAIRS: &[(u32, u32)] = &[(5, 14), (3, 12), (1, 13), (5, 11), (2, 15), (3, 10)];
 
-const ASCENDING: &[u32] = &[1, 2, 3, 5];
+const KEYS: &[u32] = &[5, 3, 1, 2];
 
-const DESCENDING: &[u32] = &[5, 3, 2, 1];
+const BY_VALUE: &[(u32, u32)] = &[(3, 10), (5, 11), (3, 12), (1, 13), (5, 14), (2, 15)];
 
-// By the number of values: 1 and 2 have one each, 5 and 3 have two.
-const BY_LENGTH: &[u32] = &[1, 2, 5, 3];
+// Values with the same half keep their order: 11 stood before 10.
+const BY_HALF: &[(u32, u32)] = &[(5, 11), (3, 10), (3, 12), (1, 13), (5, 14), (2, 15)];
 
-const CHAINS: &[(u32, u32, u32)] = &[(5, 11, 14), (3, 12, 16), (1, 13, 13), (2, 15, 15)];
+// By key, the greatest first: the values of a key keep their order.
+const BY_KEY: &[(u32, u32)] = &[(5, 14), (5, 11), (3, 12), (3, 10), (2, 15), (1, 13)];
 
-// The first and the last value of each key, from the front and from the back.
-fn has_chains(test: &Test, map: &Numbers) {
-    for (row, (key, first, last)) in CHAINS.iter().enumerate() {
-        test.expect_at(row, map.get(key) == Some(first));
-        test.expect_at(row, map.get_last(key) == Some(last));
+// The values of the keys 3 and 5 as they were, and once they ascend.
+const OLD_CHAINS: (&[u32], &[u32]) = (&[12, 10], &[14, 11]);
+
+const NEW_CHAINS: (&[u32], &[u32]) = (&[10, 12], &[11, 14]);
+
+fn has_chain(test: &Test, map: &Numbers, key: u32, values: &[u32]) {
+    test.expect(map.get_all(&key).eq(values));
+    test.expect(map.get_all(&key).rev().eq(values.iter().rev()));
+    test.expect(map.get_last(&key) == values.last() && map.entry_len(&key) == values.len());
+}
+
+fn is_sorted(test: &Test, map: &Numbers, pairs: &[(u32, u32)], chains: (&[u32], &[u32])) {
+    test.expect(has_lists(map, pairs, KEYS));
+    has_chain(test, map, 3, chains.0);
+    has_chain(test, map, 5, chains.1);
+}
+
+fn sort_by_key(test: &Test, map: &mut Numbers) {
+    refill(test, map, PAIRS);
+    test.expect(map.sort_by(|key, _, other, _| other.cmp(key)).is_ok());
+    is_sorted(test, map, BY_KEY, OLD_CHAINS);
+}
+
+fn sort_by_half(test: &Test, map: &mut Numbers) {
+    refill(test, map, PAIRS);
+    let sorted = map.sort_by(|_, value, _, other| (*value / 2).cmp(&(*other / 2)));
+    test.expect(sorted.is_ok());
+    is_sorted(test, map, BY_HALF, NEW_CHAINS);
+}
+
+// A function that is no order leaves each pair in the map, and the keys as they were.
+fn sort_by_no_order(test: &Test, map: &mut Numbers) {
+    refill(test, map, PAIRS);
+    test.expect(map.sort_by(|_, _, _, _| Ordering::Less).is_ok());
+    test.expect(map.values_len() == 6 && map.keys().eq(KEYS));
+    for (row, (key, value)) in PAIRS.iter().enumerate() {
+        test.expect_at(row, map.contains(key, value));
     }
-    let both = [(End::Back, 16), (End::Front, 12)];
-    test.expect_same(walk_difference(&mut map.get_all(&3), &both));
 }
 
-fn is_sorted(test: &Test, map: &Numbers, keys: &[u32]) {
-    test.expect(has_lists(map, PAIRS, keys));
-    has_chains(test, map);
-}
-
-fn sort_by_keys(test: &Test, map: &mut Numbers) {
+// Once the pairs are sorted, a new one goes last, and a key's values leave together.
+fn sort_by_value(test: &Test, map: &mut Numbers) {
     refill(test, map, PAIRS);
-    test.expect(map.sort_keys().is_ok());
-    is_sorted(test, map, ASCENDING);
-    test.expect(sort_descending(map).is_ok());
-    is_sorted(test, map, DESCENDING);
+    test.expect(map.sort_by(|_, value, _, other| value.cmp(other)).is_ok());
+    is_sorted(test, map, BY_VALUE, NEW_CHAINS);
+    test.expect(map.remove(&3) == Some(10));
+    test.expect(appends(map, 5, 9, true) && appends(map, 3, 8, false));
+    let pairs = [(5, 11), (1, 13), (5, 14), (2, 15), (5, 9), (3, 8)];
+    test.expect(has_lists(map, &pairs, &[5, 1, 2, 3]));
+    has_chain(test, map, 5, &[11, 14, 9]);
 }
 
-fn sort_by_values(test: &Test, map: &mut Numbers) {
-    refill(test, map, PAIRS);
-    test.expect(
-        map.sort_keys_by_cached_key(|_key, values| values.len())
-            .is_ok(),
-    );
-    is_sorted(test, map, BY_LENGTH);
-}
-
-// A new key goes last, and one that was removed and comes again, too.
-fn change_sorted(test: &Test, map: &mut Numbers) {
-    refill(test, map, PAIRS);
-    test.expect(map.sort_keys().is_ok());
-    test.expect(map.remove(&1) == Some(13));
-    test.expect(appends(map, 4, 17, false) && appends(map, 1, 18, false));
-    let pairs = [
-        (5, 11),
-        (3, 12),
-        (5, 14),
-        (2, 15),
-        (3, 16),
-        (4, 17),
-        (1, 18),
-    ];
-    test.expect(has_lists(map, &pairs, &[2, 3, 5, 4, 1]));
-}
-
-fn keys_sort(test: &Test, map: &mut Numbers) {
-    run_parts!(test, map; sort_by_keys, sort_by_values, change_sorted)
+fn pairs_sort(test: &Test, map: &mut Numbers) {
+    run_parts!(test, map; sort_by_key, sort_by_half, sort_by_no_order, sort_by_value)
 }
 
 #[test]
-fn keys_are_sorted(rt: HostRuntime) -> Result<(), Failed> {
-    test_on_empty(rt.alloc(), keys_sort)
+fn pairs_are_sorted(rt: HostRuntime) -> Result<(), Failed> {
+    test_on_empty(rt.alloc(), pairs_sort)
+}
+
+// More keys than are sorted in place. Each has one value, which is greater by 100.
+const MANY: &[u32] = &[
+    1, 9, 17, 4, 12, 20, 7, 15, 2, 10, 18, 5, 13, 21, 8, 16, 3, 11, 19, 6, 14,
+];
+
+const ASCENDING: &[u32] = &[
+    1, 2, 3, 4, 5, 6, 7, 8, 9, 10, 11, 12, 13, 14, 15, 16, 17, 18, 19, 20, 21,
+];
+
+// Whether the pairs are those of the first keys, and the keys the others.
+fn stand<A: Allocator>(map: &Refusing<A>, of_pairs: &[u32], keys: &[u32]) -> bool {
+    let mut walk = map.iter();
+    let mut same = true;
+    for key in of_pairs {
+        same = same && copied(walk.next()) == Some((*key, key.saturating_add(100)));
+    }
+    same && walk.next().is_none() && gives(&mut map.keys(), keys)
+}
+
+fn sorts_by_value<A: Allocator + Copy>(map: &mut Refusing<A>) -> bool {
+    map.sort_by(|_, value, _, other| value.cmp(other)).is_ok()
+}
+
+// It returns whether there was memory enough. Where there was not, both lists are as before.
+fn sorts<A: Allocator + Copy>(
+    test: &Test,
+    refusing: &RefusingAllocator,
+    map: &mut Refusing<A>,
+    granted: u64,
+    is_of_pairs: bool,
+) -> bool {
+    for key in MANY {
+        test.expect(appends(map, *key, key.saturating_add(100), false));
+    }
+    refusing.grant(granted);
+    if is_of_pairs {
+        let enough = sorts_by_value(map);
+        test.expect(stand(map, if enough { ASCENDING } else { MANY }, MANY));
+        return enough;
+    }
+    let enough = map.sort_keys().is_ok();
+    test.expect(stand(map, MANY, if enough { ASCENDING } else { MANY }));
+    enough
+}
+
+fn sorts_with(test: &Test, granted: u64, is_of_pairs: bool) -> bool {
+    try_on_new!(test, granted; ListOrderedMultimap::new; sorts, is_of_pairs)
+}
+
+#[test]
+fn a_refused_sort_changes_neither_list(rt: HostRuntime) -> Result<(), Failed> {
+    let test = Test::new(rt.alloc());
+    let enough = requests_until_enough(|granted| sorts_with(&test, granted, false));
+    // One for the places, and one for the sort.
+    test.expect(enough == Some(2));
+    let enough = requests_until_enough(|granted| sorts_with(&test, granted, true));
+    // Three more for the new tape.
+    test.expect(enough == Some(5));
+    test.end()
+}
+
+fn sorts_one<A: Allocator + Copy>(
+    test: &Test,
+    refusing: &RefusingAllocator,
+    map: &mut Refusing<A>,
+) {
+    refusing.refuse_all();
+    test.expect(map.sort_keys().is_ok() && sorts_by_value(map));
+    test.expect(appends(map, 1, 11, false) && sorts_by_value(map));
+    test.expect(appends(map, 1, 12, true));
+    test.expect(map.sort_keys().is_ok() && !refusing.refused());
+    test.expect(has_lists(map, &[(1, 11), (1, 12)], &[1]));
+}
+
+#[test]
+fn one_key_and_one_pair_are_sorted_without_memory(rt: HostRuntime) -> Result<(), Failed> {
+    test_with_room!(rt.alloc(); 1, 2; sorts_one)
 }

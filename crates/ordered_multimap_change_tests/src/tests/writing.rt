@@ -1,20 +1,15 @@
-//! Walks that lend values for writing, over one map that is lent to all comparisons.
-mod ended;
-mod held;
-mod keys;
-mod rest;
-mod updated;
-mod walks;
-
-use crate::tests::writing::ended::walks_leave_values;
-use crate::tests::writing::held::held_walks_end;
-use crate::tests::writing::keys::keys_lend_their_values;
-use crate::tests::writing::rest::walks_have_left;
-use crate::tests::writing::updated::values_are_updated;
-use crate::tests::writing::walks::values_are_lent_once;
-use ordered_multimap_callers::maps::Numbers;
-use ordered_multimap_callers::tested::test_on_empty;
-use test_helpers::{Failed, Test, run_parts};
+//! Walks that lend values for writing, over one map that is lent to all comparisons: all pairs, all values,
+//! one key's values, and keys with their values, from both ends. A key that isn't read keeps its values.
+use crate::tests::lending::{keys_of, pairs_of, values_of, values_of_key};
+use crate::tests::written::{
+    held_walks_end, values_are_updated, walks_have_left, walks_leave_values,
+};
+use ordered_multimap::list_ordered_multimap::{EntryValuesMut, KeyValuesMut};
+use ordered_multimap_callers::filled::{fill_all, fill_by_reference};
+use ordered_multimap_callers::maps::{
+    MIXED, Numbers, ONE_KEY, has_lists, has_pairs, refill, test_on_empty,
+};
+use test_helpers::{B, F, Failed, Step, Test, run_parts, walk_difference};
 
 fn numbers_are_written(test: &Test, map: &mut Numbers) {
     run_parts!(test, map; values_are_lent_once, keys_lend_their_values, walks_have_left,
@@ -24,4 +19,199 @@ fn numbers_are_written(test: &Test, map: &mut Numbers) {
 #[test]
 fn values_are_written_by_walks(rt: HostRuntime) -> Result<(), Failed> {
     test_on_empty(rt.alloc(), numbers_are_written)
+}
+
+const VALUES: &[Step<u32>] = &[(F, 11), (B, 14), (F, 12), (B, 13)];
+
+const PAIRS: &[Step<(u32, u32)>] = &[(F, (1, 11)), (B, (1, 14)), (F, (2, 12)), (B, (2, 13))];
+
+// The pairs of a map, the items of a walk, each of which is raised by 100, and the pairs then.
+type Row<T> = (Pairs, &'static [Step<T>], Pairs);
+
+type Pairs = &'static [(u32, u32)];
+
+const MIXED_RAISED: Pairs = &[(1, 111), (2, 112), (2, 113), (1, 114)];
+
+const ONE_KEY_RAISED: Pairs = &[(1, 111), (1, 112), (1, 113), (1, 114)];
+
+const OF_PAIRS: &[Row<(u32, u32)>] = &[
+    (&[], &[], &[]),
+    (&[(1, 11)], &[(F, (1, 11))], &[(1, 111)]),
+    (MIXED, PAIRS, MIXED_RAISED),
+];
+
+const OF_VALUES: &[Row<u32>] = &[
+    (&[], &[], &[]),
+    (&[(1, 11)], &[(F, 11)], &[(1, 111)]),
+    (MIXED, VALUES, MIXED_RAISED),
+];
+
+// Of the values of the key 1.
+const OF_KEY: &[Row<u32>] = &[
+    (&[], &[], &[]),
+    (&[(1, 11)], &[(F, 11)], &[(1, 111)]),
+    (ONE_KEY, VALUES, ONE_KEY_RAISED),
+];
+
+fn pair_walk(test: &Test, map: &mut Numbers, wanted: &[Step<(u32, u32)>]) {
+    test.expect_same(walk_difference(&mut pairs_of(map), wanted));
+}
+
+fn value_walk(test: &Test, map: &mut Numbers, wanted: &[Step<u32>]) {
+    test.expect_same(walk_difference(&mut values_of(map), wanted));
+}
+
+fn key_walk(test: &Test, map: &mut Numbers, wanted: &[Step<u32>]) {
+    test.expect_same(walk_difference(&mut values_of_key(map, 1), wanted));
+}
+
+macro_rules! rows_are_raised {
+    ($test:ident, $map:ident; $rows:ident, $walk:ident) => {
+        for (at, row) in $rows.iter().enumerate() {
+            refill($test, $map, row.0);
+            $walk($test, $map, row.1);
+            $test.expect_at(at, has_pairs($map, row.2));
+        }
+    };
+}
+
+fn pairs_are_raised(test: &Test, map: &mut Numbers) {
+    rows_are_raised!(test, map; OF_PAIRS, pair_walk)
+}
+
+fn values_are_raised(test: &Test, map: &mut Numbers) {
+    rows_are_raised!(test, map; OF_VALUES, value_walk)
+}
+
+fn values_of_a_key_are_raised(test: &Test, map: &mut Numbers) {
+    rows_are_raised!(test, map; OF_KEY, key_walk)
+}
+
+// Whether this value alone is left.
+fn is_left_alone(walk: &EntryValuesMut<'_, u32, u32>, value: u32) -> bool {
+    walk_difference(&mut walk.iter(), &[(F, value)]).is_none()
+}
+
+// Writes the first and the last value of the key 1 while both references live, and the one between
+// is left.
+fn write_both(map: &mut Numbers) -> bool {
+    let mut walk = values_of_key(map, 1);
+    match (walk.next(), walk.next_back()) {
+        (Some(first), Some(last)) => {
+            let held = *first == 1 && *last == 3 && is_left_alone(&walk, 2);
+            *first = 10;
+            *last = 30;
+            held
+        }
+        _ => false,
+    }
+}
+
+fn both_are_written(test: &Test, map: &mut Numbers) {
+    refill(test, map, &[(1, 1), (2, 7), (1, 2), (1, 3)]);
+    test.expect(write_both(map));
+    let written = has_lists(map, &[(1, 10), (2, 7), (1, 2), (1, 30)], &[1, 2]);
+    test.expect(written);
+}
+
+// Loops over a walk, and over the reference to the map itself.
+fn loops_write(test: &Test, map: &mut Numbers) {
+    fill_all(map, 7);
+    test.expect(has_pairs(map, &[(1, 7), (2, 7), (1, 7), (1, 7)]));
+    fill_by_reference(map, 6);
+    test.expect(has_pairs(map, &[(1, 6), (2, 6), (1, 6), (1, 6)]));
+}
+
+// Each value is lent once, and is written.
+fn values_are_lent_once(test: &Test, map: &mut Numbers) {
+    pairs_are_raised(test, map);
+    values_are_raised(test, map);
+    values_of_a_key_are_raised(test, map);
+    both_are_written(test, map);
+    loops_write(test, map);
+}
+
+type Keys<'a> = KeyValuesMut<'a, u32, u32>;
+
+type Lent<'a> = Option<(&'a u32, EntryValuesMut<'a, u32, u32>)>;
+
+fn has_left(keys: &Keys<'_>, left: usize) -> bool {
+    keys.size_hint() == (left, Some(left)) && keys.iter().len() == left
+}
+
+// Expects this key with these values.
+fn is_lent(test: &Test, lent: Lent<'_>, wanted: u32, steps: &[Step<u32>]) {
+    match lent {
+        Some((key, mut values)) => {
+            test.expect(*key == wanted);
+            test.expect_same(walk_difference(&mut values, steps));
+        }
+        None => test.fail(),
+    }
+}
+
+fn none_is_left(test: &Test, keys: &mut Keys<'_>) {
+    for _ in 0..3 {
+        test.expect(has_left(keys, 0));
+        test.expect(keys.next_back().is_none());
+        test.expect(keys.next().is_none());
+    }
+}
+
+fn one_is_lent(test: &Test, keys: &mut Keys<'_>) {
+    test.expect(has_left(keys, 1));
+    is_lent(test, keys.next(), 1, &[(F, 11)]);
+    none_is_left(test, keys);
+}
+
+fn both_are_lent(test: &Test, keys: &mut Keys<'_>) {
+    test.expect(has_left(keys, 2));
+    is_lent(test, keys.next(), 1, &[(F, 11), (F, 14)]);
+    test.expect(has_left(keys, 1));
+    is_lent(test, keys.next_back(), 2, &[(F, 12), (B, 13)]);
+    none_is_left(test, keys);
+}
+
+// Multiplies both values that the walk hands out by 10, and returns what they were.
+fn raise_two(values: &mut EntryValuesMut<'_, u32, u32>) -> Option<(u32, u32)> {
+    let first = values.next()?;
+    let last = values.next()?;
+    let were = (*first, *last);
+    *first = were.0.saturating_mul(10);
+    *last = were.1.saturating_mul(10);
+    Some(were)
+}
+
+fn the_first_key(keys: &mut Keys<'_>) -> Option<(u32, u32, u32)> {
+    let (key, mut values) = keys.next()?;
+    let key = *key;
+    let (first, last) = raise_two(&mut values)?;
+    Some((key, first, last))
+}
+
+fn the_last_key(keys: &mut Keys<'_>) -> Option<u32> {
+    let (key, _) = keys.next_back()?;
+    Some(*key)
+}
+
+fn one_is_written(test: &Test, keys: &mut Keys<'_>) {
+    test.expect(keys.size_hint() == (2, Some(2)));
+    test.expect(the_first_key(keys) == Some((1, 1, 3)));
+    test.expect(the_last_key(keys) == Some(2));
+    test.expect(keys.next().is_none());
+}
+
+// Each key lends its values.
+fn keys_lend_their_values(test: &Test, map: &mut Numbers) {
+    map.clear();
+    none_is_left(test, &mut keys_of(map));
+    refill(test, map, &[(1, 11)]);
+    one_is_lent(test, &mut keys_of(map));
+    refill(test, map, MIXED);
+    both_are_lent(test, &mut keys_of(map));
+    let raised = has_lists(map, &[(1, 111), (2, 112), (2, 113), (1, 114)], &[1, 2]);
+    test.expect(raised);
+    refill(test, map, &[(1, 1), (2, 2), (1, 3)]);
+    one_is_written(test, &mut keys_of(map));
+    test.expect(has_lists(map, &[(1, 10), (2, 2), (1, 30)], &[1, 2]));
 }
