@@ -2,14 +2,12 @@
 //! take their memory from another one's allocator. More rows are cases of the program `map_calls`.
 use ordered_multimap::ListOrderedMultimap;
 use ordered_multimap::list_ordered_multimap::{DefaultState, Refused};
-use ordered_multimap_callers::lists::has_lists;
-use ordered_multimap_callers::maps::{MIXED, Numbers, Refusing, fill, refill};
-use ordered_multimap_callers::taken::{empty_like, first_or_default};
+use ordered_multimap_callers::maps::{Numbers, Refusing, fill, has_lists, test_on_empty};
+use ordered_multimap_callers::taken::empty_like;
 use ordered_multimap_callers::test_with_room;
-use ordered_multimap_callers::tested::test_on_empty;
 use refusing_allocator::RefusingAllocator;
 use std::alloc::{AllocError, Allocator};
-use test_helpers::{Failed, Test, lend, requests_until_enough, test_all};
+use test_helpers::{Failed, Test, lend, requests_until_enough, try_on_new};
 
 fn or_default<A: Allocator + Copy>(
     map: &mut Refusing<A>,
@@ -19,16 +17,6 @@ fn or_default<A: Allocator + Copy>(
         Ok(first) => Ok(*first),
         Err(refused) => Err(refused),
     }
-}
-
-// By the proved caller.
-fn caller_is_answered(test: &Test, map: &mut Numbers) {
-    refill(test, map, MIXED);
-    test.expect(first_or_default(map, 2) == Ok(12));
-    test.expect(has_lists(map, MIXED, &[1, 2]));
-    test.expect(first_or_default(map, 3) == Ok(0));
-    let pairs = [(1, 11), (2, 12), (2, 13), (1, 14), (3, 0)];
-    test.expect(has_lists(map, &pairs, &[1, 2, 3]));
 }
 
 fn count(test: &Test, map: &mut Numbers, key: u32) {
@@ -46,14 +34,9 @@ fn keys_are_counted(test: &Test, map: &mut Numbers) {
     test.expect(has_lists(map, &[(2, 3), (1, 1)], &[2, 1]));
 }
 
-fn values_are_put_last(test: &Test, map: &mut Numbers) {
-    caller_is_answered(test, map);
-    keys_are_counted(test, map);
-}
-
 #[test]
 fn a_default_value_is_put_last(rt: HostRuntime) -> Result<(), Failed> {
-    test_on_empty(rt.alloc(), values_are_put_last)
+    test_on_empty(rt.alloc(), keys_are_counted)
 }
 
 // Two keys with no room for a third.
@@ -96,33 +79,17 @@ fn tries<A: Allocator + Copy>(
     puts_default(test, map)
 }
 
-fn tries_by<A: Allocator + Copy>(
-    test: &Test,
-    refusing: &RefusingAllocator,
-    allocator: A,
-    granted: u64,
-) -> bool {
-    lend(ListOrderedMultimap::new(allocator), |map| {
-        tries(test, refusing, map, granted)
-    })
-}
-
 fn tries_with(test: &Test, granted: u64) -> bool {
-    let allocator = RefusingAllocator::unlimited(test.alloc());
-    let enough = tries_by(test, &allocator, &allocator, granted);
-    test.expect(enough || allocator.refused());
-    enough
+    try_on_new!(test, granted; ListOrderedMultimap::new; tries)
 }
 
 // Key slots, table and value slots each ask for a block.
-fn each_request_is_refused(test: &Test) {
-    let enough = requests_until_enough(|granted| tries_with(test, granted));
-    test.expect(enough.unwrap_or(0) >= 3);
-}
-
 #[test]
 fn a_refused_default_changes_nothing(rt: HostRuntime) -> Result<(), Failed> {
-    test_all!(rt.alloc(); each_request_is_refused)
+    let test = Test::new(rt.alloc());
+    let enough = requests_until_enough(|granted| tries_with(&test, granted));
+    test.expect(enough.unwrap_or(0) >= 3);
+    test.end()
 }
 
 type Lists = ListOrderedMultimap<u32, Vec<u32>>;

@@ -1,12 +1,16 @@
-//! Maps that are taken apart for their keys or for their values alone, from both ends. More rows are
-//! cases of the program `map_calls`.
-use crate::tests::shown::is_shown_twice;
+//! Maps that are taken apart for their keys or for their values alone, from both ends, what is dropped then, and
+//! clones of keys that are refused memory. More rows are cases of the program `map_calls`.
+use crate::tests::walks::is_shown_twice;
 use ordered_multimap::ListOrderedMultimap;
-use ordered_multimap_callers::maps::{MIXED, Numbers, ONE_KEY, fill, map_of};
-use ordered_multimap_callers::taken::{keys_at_ends, keys_of, values_at_ends, values_in_order};
+use ordered_multimap::list_ordered_multimap::{IntoIter, UnclonedKey};
+use ordered_multimap_callers::maps::{MIXED, Numbers, fill, map_of};
+use refusing_allocator::RefusingAllocator;
+use std::alloc::Allocator;
 use std::mem;
 use std::rc::Rc;
-use test_helpers::{End, Failed, Test, test_all, test_on_share, walk_difference};
+use test_helpers::{
+    B, F, Failed, Test, lend, requests_until_enough, test_all, test_on_share, walk_difference,
+};
 
 // Pairs whose map has a hole in front and one between, once the key 1 was removed and came again.
 const HOLES: &[(u32, u32)] = &[(1, 11), (2, 21), (1, 12), (3, 31), (2, 22)];
@@ -19,17 +23,12 @@ fn made_with_holes(test: &Test) -> Numbers {
 }
 
 fn keys_are_handed_out(test: &Test) {
-    let wanted = [(End::Front, 2), (End::Back, 1), (End::Back, 3)];
+    let wanted = [(F, 2), (B, 1), (B, 3)];
     test.expect_same(walk_difference(&mut made_with_holes(test).into_keys(), &wanted));
 }
 
 fn values_are_handed_out(test: &Test) {
-    let wanted = [
-        (End::Front, 21),
-        (End::Back, 13),
-        (End::Back, 22),
-        (End::Front, 31),
-    ];
+    let wanted = [(F, 21), (B, 13), (B, 22), (F, 31)];
     test.expect_same(walk_difference(&mut made_with_holes(test).into_values(), &wanted));
 }
 
@@ -52,38 +51,6 @@ fn values_are_shown(test: &Test) {
 fn keys_or_values_are_handed_out(rt: HostRuntime) -> Result<(), Failed> {
     test_all!(rt.alloc(); keys_are_handed_out, values_are_handed_out, keys_are_shown,
         values_are_shown)
-}
-
-fn keys_are_gathered(test: &Test, map: Numbers, wanted: &[u32]) {
-    match keys_of(map) {
-        Ok(keys) => test.expect(keys.as_slice() == wanted),
-        Err(_) => test.fail(),
-    }
-}
-
-fn values_are_gathered(test: &Test, map: Numbers, wanted: &[u32]) {
-    match values_in_order(map) {
-        Ok(values) => test.expect(values.as_slice() == wanted),
-        Err(_) => test.fail(),
-    }
-}
-
-fn all_are_gathered(test: &Test) {
-    keys_are_gathered(test, map_of(test, &[(2, 1), (1, 2), (2, 3)]), &[2, 1]);
-    values_are_gathered(test, map_of(test, MIXED), &[11, 12, 13, 14]);
-}
-
-// Of a map with one item the second step finds none.
-fn ends_are_taken(test: &Test) {
-    test.expect(keys_at_ends(map_of(test, MIXED)) == (Some(1), Some(2)));
-    test.expect(keys_at_ends(map_of(test, ONE_KEY)) == (Some(1), None));
-    test.expect(values_at_ends(map_of(test, MIXED)) == (Some(14), Some(11)));
-    test.expect(values_at_ends(map_of(test, &[(1, 11)])) == (Some(11), None));
-}
-
-#[test]
-fn callers_take_keys_and_values(rt: HostRuntime) -> Result<(), Failed> {
-    test_all!(rt.alloc(); all_are_gathered, ends_are_taken)
 }
 
 type Shares = ListOrderedMultimap<u8, Rc<u8>>;
@@ -134,4 +101,69 @@ fn shares_are_dropped(test: &Test, shared: &Rc<u8>) {
 #[test]
 fn what_is_left_is_dropped_once(rt: HostRuntime) -> Result<(), Failed> {
     test_on_share(rt.alloc(), shares_are_dropped)
+}
+
+// The allocator's type is a parameter, since a map of a type with a reference costs a proof more.
+type Texts<A> = ListOrderedMultimap<String<A>, u32>;
+
+// The value of an item, and whether its key was cloned.
+fn told<A: Allocator>(
+    item: Option<Result<(String<A>, u32), UnclonedKey<u32>>>,
+) -> Option<(u32, bool)> {
+    match item {
+        Some(Ok((key, value))) => Some((value, key.as_str() == "a")),
+        Some(Err(refused)) => Some((refused.value, false)),
+        None => None,
+    }
+}
+
+// Both values come in order, whichever keys are refused. Returns whether no key was.
+fn both_are_given<A: Allocator + Copy>(test: &Test, walk: &mut IntoIter<String<A>, u32>) -> bool {
+    let first = told(walk.next());
+    let second = told(walk.next());
+    let first_cloned = first == Some((1, true));
+    let second_cloned = second == Some((2, true));
+    test.expect(first_cloned || first == Some((1, false)));
+    test.expect(second_cloned || second == Some((2, false)));
+    test.expect(walk.next().is_none());
+    first_cloned && second_cloned
+}
+
+fn append_text<A: Allocator + Copy>(test: &Test, allocator: A, map: &mut Texts<A>, value: u32) {
+    let mut text = String::new(allocator);
+    test.expect(text.push('a').is_ok());
+    test.expect(map.append(text, value).is_ok());
+}
+
+fn made_of_two<A: Allocator + Copy>(test: &Test, allocator: A) -> IntoIter<String<A>, u32> {
+    let mut map = ListOrderedMultimap::new(test.alloc());
+    append_text(test, allocator, &mut map, 1);
+    append_text(test, allocator, &mut map, 2);
+    map.into_iter()
+}
+
+fn taken_apart<A: Allocator + Copy>(
+    test: &Test,
+    refusing: &RefusingAllocator,
+    allocator: A,
+    granted: u64,
+) -> bool {
+    let walk = made_of_two(test, allocator);
+    refusing.grant(granted);
+    lend(walk, |walk| both_are_given(test, walk))
+}
+
+fn taken_apart_with(test: &Test, granted: u64) -> bool {
+    let allocator = RefusingAllocator::unlimited(test.alloc());
+    taken_apart(test, &allocator, &allocator, granted)
+}
+
+fn one_request_a_clone(test: &Test) {
+    let enough = requests_until_enough(|granted| taken_apart_with(test, granted));
+    test.expect(enough == Some(2));
+}
+
+#[test]
+fn a_refused_clone_of_a_key_gives_the_value(rt: HostRuntime) -> Result<(), Failed> {
+    test_all!(rt.alloc(); one_request_a_clone)
 }

@@ -8,9 +8,9 @@ ghost use Rattle.std.specs.Str.{str_eq_ignore_ascii_case, str_to_ascii_lowercase
 ghost use Rattle.std.specs.String.{string_bytes};
 
 use ordered_multimap::{KeyQuery, ListOrderedMultimap};
-use ordered_multimap_callers::tested::test_on_empty;
+use ordered_multimap_callers::maps::test_on_empty;
 use std::hash::{Hash, Hasher};
-use test_helpers::{End, Failed, Test, walk_difference};
+use test_helpers::{F, Failed, Test, walk_difference};
 
 /// A header's name. Case counts for nothing when names are compared, and names of one length have one
 /// hash, so that some of them collide.
@@ -108,7 +108,7 @@ fn appended(test: &Test, headers: &mut Headers, text: &str, value: u32) -> Optio
 
 fn names_are_found(test: &Test, headers: &Headers) {
     let name = AnyCase { text: "accept" };
-    let both = [(End::Front, 1), (End::Front, 3)];
+    let both = [(F, 1), (F, 3)];
     test.expect_same(walk_difference(&mut headers.get_all(name), &both));
     let cookie = AnyCase { text: "cOOKIE" };
     test.expect(headers.get(cookie).copied() == Some(2));

@@ -2,9 +2,9 @@
 ghost use Rattle.std.specs.Prelude.{refl};
 
 use ordered_multimap::{KeyByPart, ListOrderedMultimap, Part};
+use ordered_multimap_callers::maps::test_on_empty;
 use ordered_multimap_callers::queried::first_by_part;
-use ordered_multimap_callers::tested::test_on_empty;
-use test_helpers::{End, Failed, Test, walk_difference};
+use test_helpers::{F, Failed, Test, walk_difference};
 
 #[derive(PartialEq, Eq, Hash, Drop)]
 struct Name {
@@ -44,7 +44,7 @@ fn names_are_found(test: &Test, names: &Names) {
     test.expect(names.get(Part("page")).copied() == Some(8));
     test.expect(names.get(Part("pag")).is_none());
     test.expect(first_by_part(names, "line") == Some(1));
-    let both = [(End::Front, 1), (End::Front, 2)];
+    let both = [(F, 1), (F, 2)];
     test.expect_same(walk_difference(&mut names.get_all(Part("line")), &both));
 }
 
