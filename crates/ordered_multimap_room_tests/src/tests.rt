@@ -2,25 +2,15 @@
 //! map that is owned costs a proof more than all that it is lent to.
 mod additions;
 mod extend;
-mod full;
-mod iterators;
 mod made;
-mod pack;
 mod refused;
-mod refused_additions;
-mod refused_clones;
-mod refused_pairs;
-mod refused_room;
-mod reserve;
-mod shares;
+mod room;
 
 use crate::tests::extend::{map_is_made_without_hint, maps_are_made, pairs_come};
 use crate::tests::made::room_is_refused;
-use crate::tests::pack::pairs_are_packed;
-use crate::tests::reserve::room_grows;
+use crate::tests::room::{pairs_are_packed, room_grows};
 use ordered_multimap::ListOrderedMultimap;
-use ordered_multimap_callers::maps::Numbers;
-use ordered_multimap_callers::tested::test_on_empty;
+use ordered_multimap_callers::maps::{Numbers, test_on_empty};
 use test_helpers::{Failed, Test, test_all};
 
 fn room_comes_and_goes(test: &Test, map: &mut Numbers) {

@@ -1,10 +1,38 @@
-//! Pairs of an iterator that are appended in turn.
-use crate::tests::iterators::Hinted;
+//! Pairs of an iterator that are appended in turn, also of one that says what it is told to of how many it has.
+ghost use Rattle.std.specs.Prelude.{◌^◌, ◌+◌, ◌-◌};
+ghost use Rattle.std.specs.Iterator.{at_most};
+
 use ordered_multimap::ListOrderedMultimap;
 use ordered_multimap::list_ordered_multimap::DefaultState;
-use ordered_multimap_callers::lists::has_pairs;
-use ordered_multimap_callers::maps::{Numbers, map_of};
-use test_helpers::{End, Test, walk_difference};
+use ordered_multimap_callers::maps::{Numbers, has_pairs, map_of};
+use test_helpers::Test;
+
+/// The pairs of a slice. It says that there are at least this many, whatever is left.
+#[derive(Drop)]
+pub struct Hinted {
+    pub rows: &'static [(u32, u32)],
+    pub given: usize,
+    pub hint: usize,
+}
+
+impl Iterator for Hinted {
+    type Item = (u32, u32);
+
+    ghost remaining = { λ s. at_most (2 ^ 64 + (2 ^ 64 - s.given)) };
+
+    fn next(&mut self) -> Option<(u32, u32)> {
+        if self.given >= self.rows.len() {
+            return None;
+        }
+        let row = self.rows[self.given];
+        self.given += 1;
+        Some(row)
+    }
+
+    fn size_hint(&self) -> (usize, Option<usize>) {
+        (self.hint, None)
+    }
+}
 
 const THREE: &[(u32, u32)] = &[(1, 11), (2, 12), (2, 13)];
 
@@ -13,15 +41,12 @@ const COPIED: &[(u32, u32)] = &[(1, 1), (2, 1), (2, 2)];
 // Whether the key 1 has the first value, and the key 2 the others.
 fn has_both(test: &Test, map: &Numbers, values: [u32; 3]) {
     let [one, two, three] = values;
-    let first = [(End::Front, one)];
-    test.expect_same(walk_difference(&mut map.get_all(&1), &first));
-    let second = [(End::Front, two), (End::Front, three)];
-    test.expect_same(walk_difference(&mut map.get_all(&2), &second));
+    test.expect(map.get_all(&1).eq(&[one]) && map.get_all(&2).eq(&[two, three]));
 }
 
 const PAIRS: &[(u32, u32)] = &[(1, 1), (2, 2), (1, 3)];
 
-fn hinted(hint: usize) -> Hinted {
+fn pairs_with_hint(hint: usize) -> Hinted {
     Hinted {
         rows: PAIRS,
         given: 0,
@@ -41,7 +66,7 @@ pub fn pairs_come(test: &Test, map: &mut Numbers) {
     map.clear();
     copies_come(test, map, &map_of(test, COPIED));
     map.clear();
-    test.expect(map.extend(hinted(usize::MAX)) == Ok(()));
+    test.expect(map.extend(pairs_with_hint(usize::MAX)) == Ok(()));
     test.expect(has_pairs(map, PAIRS));
 }
 
@@ -55,7 +80,7 @@ pub fn maps_are_made(test: &Test) {
 
 /// A map is made of pairs whose hint says nothing.
 pub fn map_is_made_without_hint(test: &Test) {
-    match ListOrderedMultimap::from_iter(test.alloc(), DefaultState::new(), hinted(0)) {
+    match ListOrderedMultimap::from_iter(test.alloc(), DefaultState::new(), pairs_with_hint(0)) {
         Ok(map) => test.expect(has_pairs(&map, PAIRS)),
         Err(_) => test.fail(),
     }

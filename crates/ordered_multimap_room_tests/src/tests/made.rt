@@ -1,12 +1,13 @@
-//! Maps that are made with room, with each request refused, and room that no memory has.
+//! Maps that are made with room, or cloned, with each request refused, and room that no memory has.
 use ordered_multimap::ListOrderedMultimap;
 use ordered_multimap::list_ordered_multimap::DefaultState;
-use ordered_multimap_callers::lists::{appends, has_lists, has_room};
-use ordered_multimap_callers::maps::Numbers;
+use ordered_multimap_callers::maps::{Numbers, appends, has_lists, has_room};
 use refusing_allocator::RefusingAllocator;
 use std::alloc::{AllocError, Allocator};
 use std::hash::BuildHasher;
-use test_helpers::{Constant, Failed, Test, ZERO, lend_made, requests_until_enough};
+use test_helpers::{
+    Constant, Failed, Test, ZERO, is_shown, lend_made, requests_until_enough, try_on_new,
+};
 
 // Whether a map was made; where it was, it has the room and no pair.
 fn is_made<S: BuildHasher + Drop, A: Allocator + Copy>(
@@ -23,28 +24,16 @@ fn is_made<S: BuildHasher + Drop, A: Allocator + Copy>(
     )
 }
 
-fn makes_by<A: Allocator + Copy>(test: &Test, allocator: A, room: (usize, usize)) -> bool {
-    let made = ListOrderedMultimap::with_capacity(allocator, room.0, room.1);
-    is_made::<DefaultState, A>(test, made, room)
-}
-
-fn makes_with_hasher_by<A: Allocator + Copy>(
-    test: &Test,
-    allocator: A,
-    room: (usize, usize),
-) -> bool {
-    let made = ListOrderedMultimap::with_capacity_and_hasher(allocator, room.0, room.1, ZERO);
-    is_made::<Constant, A>(test, made, room)
-}
-
 fn makes(test: &Test, granted: u64, room: (usize, usize)) -> bool {
     let allocator = RefusingAllocator::new(test.alloc(), granted);
-    makes_by(test, &allocator, room)
+    let made = ListOrderedMultimap::with_capacity(&allocator, room.0, room.1);
+    is_made::<DefaultState, _>(test, made, room)
 }
 
 fn makes_with_hasher(test: &Test, granted: u64, room: (usize, usize)) -> bool {
     let allocator = RefusingAllocator::new(test.alloc(), granted);
-    makes_with_hasher_by(test, &allocator, room)
+    let made = ListOrderedMultimap::with_capacity_and_hasher(&allocator, room.0, room.1, ZERO);
+    is_made::<Constant, _>(test, made, room)
 }
 
 /// Room for keys and values, and how many requests it takes at least.
@@ -89,5 +78,69 @@ fn more_than_there_can_be_is_refused(rt: HostRuntime) -> Result<(), Failed> {
         let made = makes_with_hasher(&test, u64::MAX, *room);
         test.expect_at(at, !made);
     }
+    test.end()
+}
+
+type Texts<A> = ListOrderedMultimap<String<A>, String<A>, DefaultState, A>;
+
+fn text<A: Allocator + Copy>(test: &Test, allocator: A, letter: char) -> String<A> {
+    let mut text = String::new(allocator);
+    test.expect(text.push(letter).is_ok());
+    text
+}
+
+fn insert<A: Allocator + Copy>(test: &Test, map: &mut Texts<A>, pair: (char, char)) {
+    let key = text(test, *map.allocator(), pair.0);
+    let value = text(test, *map.allocator(), pair.1);
+    test.expect(map.insert(key, value).is_ok());
+}
+
+// The keys a, b and the pairs (a, z), (b, y).
+fn has_both<A: Allocator + Copy>(test: &Test, map: &Texts<A>) {
+    test.expect(is_shown(test.alloc(), &map.keys(), r#"Keys(["a", "b"])"#));
+    test.expect(is_shown(test.alloc(), map, r#"{"a": "z", "b": "y"}"#));
+}
+
+const WITHOUT_HOLES: &[(char, char)] = &[('a', 'z'), ('b', 'y')];
+
+// The second pair replaces the first, which leaves a hole.
+const WITH_A_HOLE: &[(char, char)] = &[('a', 'x'), ('a', 'z'), ('b', 'y')];
+
+// A refused request is told, and the map is as it was. It returns whether there was memory for a
+// clone.
+fn clones<A: Allocator + Copy>(
+    test: &Test,
+    refusing: &RefusingAllocator,
+    map: &mut Texts<A>,
+    granted: u64,
+    pairs: &[(char, char)],
+) -> bool {
+    for pair in pairs {
+        insert(test, map, *pair);
+    }
+    refusing.grant(granted);
+    let is_copy = |copy: &mut Texts<A>| has_both(test, copy);
+    let cloned = lend_made(map.clone(), is_copy, |_refused| {});
+    test.expect(cloned != refusing.refused());
+    has_both(test, map);
+    cloned
+}
+
+fn clone_with(test: &Test, granted: u64, pairs: &[(char, char)]) -> bool {
+    try_on_new!(test, granted; ListOrderedMultimap::new; clones, pairs)
+}
+
+fn clone_needs(test: &Test, pairs: &[(char, char)], requests: u64) {
+    let enough = requests_until_enough(|granted| clone_with(test, granted, pairs));
+    test.expect(enough == Some(requests));
+}
+
+#[test]
+fn a_refused_clone_leaves_the_map(rt: HostRuntime) -> Result<(), Failed> {
+    let test = Test::new(rt.alloc());
+    // One for the keys' new places, two each for keys and table, three for values, four for texts.
+    clone_needs(&test, WITHOUT_HOLES, 12);
+    // And one for the values' ranks.
+    clone_needs(&test, WITH_A_HOLE, 13);
     test.end()
 }

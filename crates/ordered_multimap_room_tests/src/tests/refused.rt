@@ -1,16 +1,14 @@
-//! Each request for memory of each call is refused in turn. Additions to a full map beside the pairs
-//! of another key are cases of the program.
-use crate::tests::additions::Call;
-use crate::tests::refused_additions::{fill_up, puts};
-use crate::tests::refused_pairs::{
-    PAIRS, collect_with, extend, from_iter_with, is_extended, is_extended_by_trait,
-};
-use crate::tests::refused_room::{Room, is_made, keep_three};
+//! Each request for memory of each call is refused in turn. Where pairs of an iterator find no memory those before
+//! the refused one stay, it comes back, and those behind it are left; else both lists are as before. Additions
+//! to a full map beside the pairs of another key are cases of the program.
+use crate::tests::additions::{Call, fill_up, first, puts};
+use crate::tests::room::pack_to;
 use ordered_multimap::ListOrderedMultimap;
-use ordered_multimap_callers::maps::{Numbers, Refusing, map_of};
+use ordered_multimap::list_ordered_multimap::{DefaultState, Refused};
+use ordered_multimap_callers::maps::{Numbers, Refusing, appends, has_lists, has_room, map_of};
 use refusing_allocator::RefusingAllocator;
-use std::alloc::Allocator;
-use test_helpers::{Failed, Test, lend, requests_until_enough};
+use std::alloc::{AllocError, Allocator};
+use test_helpers::{Failed, Test, lend, lend_made, requests_until_enough, try_on_new};
 
 #[derive(Clone, Copy)]
 enum Try {
@@ -23,8 +21,8 @@ enum Try {
     ExtendCopiedByTrait,
 }
 
-/// A call, and how many requests it makes at least. Key slots, table and value slots each ask for a
-/// block, and a packing for one more, which notes the new places.
+// A call, and how many requests it makes at least. Key slots, table and value slots each ask for a
+// block, and a packing for one more, which notes the new places.
 const TRIES: &[(Try, u64)] = &[
     (Try::PutIntoNew(Call::Append), 3),
     (Try::PutIntoNew(Call::Insert), 3),
@@ -60,14 +58,28 @@ fn prepare<A: Allocator + Copy>(test: &Test, map: &mut Refusing<A>, call: Try) {
 
 fn tries<A: Allocator + Copy>(
     test: &Test,
+    refusing: &RefusingAllocator,
+    map: &mut Refusing<A>,
+    granted: u64,
+    call: Try,
+    other: &Numbers,
+) -> bool {
+    prepare(test, map, call);
+    refusing.grant(granted);
+    match call {
+        Try::PutIntoNew(call) | Try::PutIntoFull(call) => puts(test, map, call),
+        Try::Room(call) => is_made(test, map, call),
+        _ => extends(test, map, call, other),
+    }
+}
+
+fn extends<A: Allocator + Copy>(
+    test: &Test,
     map: &mut Refusing<A>,
     call: Try,
     other: &Numbers,
 ) -> bool {
     match call {
-        Try::PutIntoNew(call) | Try::PutIntoFull(call) => puts(test, map, call),
-        Try::Room(call) => is_made(test, map, call),
-        Try::Extend => extend(test, map),
         Try::ExtendCopied => {
             let answer = map.extend_copied(other.iter());
             is_extended(test, map, answer)
@@ -80,29 +92,12 @@ fn tries<A: Allocator + Copy>(
             let answer = Extend::extend(map, other.iter());
             is_extended_by_trait(test, map, answer)
         }
+        _ => extend(test, map),
     }
 }
 
 fn tries_with(test: &Test, granted: u64, call: Try, other: &Numbers) -> bool {
-    let allocator = RefusingAllocator::unlimited(test.alloc());
-    let enough = tries_by(test, &allocator, &allocator, granted, call, other);
-    test.expect(enough || allocator.refused());
-    enough
-}
-
-fn tries_by<A: Allocator + Copy>(
-    test: &Test,
-    refusing: &RefusingAllocator,
-    allocator: A,
-    granted: u64,
-    call: Try,
-    other: &Numbers,
-) -> bool {
-    lend(ListOrderedMultimap::new(allocator), |map| {
-        prepare(test, map, call);
-        refusing.grant(granted);
-        tries(test, map, call, other)
-    })
+    try_on_new!(test, granted; ListOrderedMultimap::new; tries, call, other)
 }
 
 fn all_are_tried(test: &Test, other: &Numbers) {
@@ -121,4 +116,127 @@ fn a_refused_request_changes_nothing(rt: HostRuntime) -> Result<(), Failed> {
     let test = Test::new(rt.alloc());
     lend(map_of(&test, PAIRS), |other| all_are_tried(&test, other));
     test.end()
+}
+
+// The pairs.
+const PAIRS: &[(u32, u32)] = &[(1, 1), (2, 2), (3, 3)];
+
+const KEYS: &[u32] = &[1, 2, 3];
+
+// The refused pair is the one behind the first so many.
+fn comes_back(test: &Test, count: usize, refused: Refused<u32, u32>) {
+    let pair = (refused.key, refused.value);
+    test.expect(PAIRS.get(count).copied() == Some(pair));
+}
+
+// What an extension leaves; whether there was memory for all pairs.
+fn is_extended<A: Allocator + Copy>(
+    test: &Test,
+    map: &Refusing<A>,
+    answer: Result<(), Refused<u32, u32>>,
+) -> bool {
+    let count = map.values_len();
+    let lists = has_lists(map, first(PAIRS, count), first(KEYS, count));
+    test.expect(lists);
+    match answer {
+        Ok(()) => {
+            test.expect(count == 3);
+            true
+        }
+        Err(refused) => {
+            comes_back(test, count, refused);
+            false
+        }
+    }
+}
+
+// Extends the map. It returns whether there was memory for all pairs. Those behind a refused one
+// are left in the iterator.
+fn extend<A: Allocator + Copy>(test: &Test, map: &mut Refusing<A>) -> bool {
+    let mut pairs = PAIRS.iter().copied();
+    let answer = map.extend(&mut pairs);
+    let given = PAIRS.len().saturating_sub(pairs.len());
+    test.expect(given == map.values_len().saturating_add(1).min(PAIRS.len()));
+    is_extended(test, map, answer)
+}
+
+// What std's `Extend` leaves, by which code over any collection extends. It drops the refused pair.
+fn is_extended_by_trait<A: Allocator + Copy>(
+    test: &Test,
+    map: &Refusing<A>,
+    answer: Result<(), AllocError>,
+) -> bool {
+    let count = map.values_len();
+    let lists = has_lists(map, first(PAIRS, count), first(KEYS, count));
+    test.expect(lists && (answer.is_err() || count == 3));
+    answer.is_ok()
+}
+
+// Collects a map. It returns whether there was memory for all pairs.
+fn collect_with(test: &Test, granted: u64) -> bool {
+    let allocator = RefusingAllocator::new(test.alloc(), granted);
+    lend_made(
+        PAIRS.iter().copied().collect(&allocator),
+        |map: &mut Refusing<_>| test.expect(has_lists(map, PAIRS, KEYS)),
+        |_refused: AllocError| {},
+    )
+}
+
+// Makes a map. A refused pair comes back, and those behind it are left in the iterator.
+fn from_iter_with(test: &Test, granted: u64) -> bool {
+    let allocator = RefusingAllocator::new(test.alloc(), granted);
+    let mut pairs = PAIRS.iter().copied();
+    let made = ListOrderedMultimap::from_iter(&allocator, DefaultState::new(), &mut pairs);
+    let given = PAIRS.len().saturating_sub(pairs.len());
+    lend_made(
+        made,
+        |map| test.expect(has_lists(map, PAIRS, KEYS)),
+        |refused| comes_back(test, given.saturating_sub(1), refused),
+    )
+}
+
+// Calls that make room.
+#[derive(Clone, Copy)]
+enum Room {
+    ReserveKeys,
+    ReserveValues,
+    PackTo,
+    PackToFit,
+}
+
+fn makes_room<A: Allocator + Copy>(test: &Test, map: &mut Refusing<A>, call: Room) -> bool {
+    match call {
+        Room::ReserveKeys => map.reserve_keys(100).is_ok(),
+        Room::ReserveValues => map.reserve_values(100).is_ok(),
+        Room::PackTo => pack_to(test, map, 5, 5),
+        Room::PackToFit => map.pack_to_fit().is_ok(),
+    }
+}
+
+// Leaves three pairs, with a hole among the keys and one among the values.
+fn keep_three<A: Allocator + Copy>(test: &Test, map: &mut Refusing<A>) {
+    test.expect(appends(map, 1, 11, false));
+    test.expect(appends(map, 2, 12, false));
+    test.expect(appends(map, 3, 13, false));
+    test.expect(appends(map, 1, 14, true));
+    test.expect(map.remove(&2) == Some(12));
+}
+
+fn room_of(call: Room) -> (usize, usize) {
+    match call {
+        Room::ReserveKeys => (102, 3),
+        Room::ReserveValues => (2, 103),
+        Room::PackTo => (5, 5),
+        Room::PackToFit => (2, 3),
+    }
+}
+
+// Makes the call. It returns whether there was memory enough.
+fn is_made<A: Allocator + Copy>(test: &Test, map: &mut Refusing<A>, call: Room) -> bool {
+    let made = makes_room(test, map, call);
+    let room = room_of(call);
+    test.expect(!made || has_room(map, room.0, room.1));
+    let lists = has_lists(map, &[(1, 11), (3, 13), (1, 14)], &[1, 3]);
+    test.expect(lists);
+    made
 }
