@@ -1,11 +1,9 @@
-//! The worked rows, look-ups by texts, sorts, refused requests, calls that these leave out, and proved
-//! callers.
+//! Runs of calls, look-ups by texts, refused requests, calls that these leave out, and proved callers.
 mod callers;
 mod calls;
-mod caseless;
 mod joined;
-mod lists;
 mod queries;
 mod refused;
-mod rows;
+mod runs;
+mod sets;
 mod sorted;

@@ -1,42 +1,19 @@
-//! The calls of a set that no other test makes, and proved callers.
-use crate::tests::callers::changed::{exchange, insert_in_room, keep_below, take_first};
-use crate::tests::callers::gathered::gathered;
-use crate::tests::callers::queried::remove_key;
-use crate::tests::lists::has_lists;
+//! The calls of a set that no other test makes, proved callers, and keys and values that are equal but not the
+//! same: of equal pairs the first one stays.
+use crate::tests::callers::{
+    exchange, gathered, insert_in_room, keep_below, remove_key, take_first,
+};
+use crate::tests::sets::{NumbersBy, has_lists, refill};
 use ordered_multimap::list_ordered_multimap::{DefaultState, KeyWrapper};
 use set_ordered_multimap::SetOrderedMultimap;
 use set_ordered_multimap::laws::{changes_keep_sets, insertions_keep_first_pairs};
 use std::alloc::AllocError;
 use std::hash::BuildHasher;
-use test_helpers::{Failed, Test, is_shown, lend_made, test_all};
+use test_helpers::{Failed, Test, is_shown, lend_made, test_all, test_on_new};
 
-type Numbers = SetOrderedMultimap<u32, u32>;
+type Numbers = NumbersBy;
 
 const NUMBERS: &[(u32, u32)] = &[(1, 1), (2, 2), (1, 1), (3, 3)];
-
-// Pairs that are inserted, and each key with its values.
-type Row = (&'static [(u32, u32)], &'static str);
-
-const ROWS: &[Row] = &[
-    (&[], "KeyValues([])"),
-    (&[(1, 5)], "KeyValues([(1, EntryValues([5]))])"),
-    (
-        &[(2, 5), (1, 5), (2, 6), (2, 5)],
-        "KeyValues([(2, EntryValues([5, 6])), (1, EntryValues([5]))])",
-    ),
-];
-
-fn keys_are_walked(test: &Test, set: &mut Numbers, row: &Row) {
-    set.clear();
-    test.expect(set.extend(row.0.iter().copied()).is_ok());
-    test.expect(is_shown(test.alloc(), &set.pairs(), row.1));
-}
-
-fn rows_are_walked(test: &Test, set: &mut Numbers) {
-    for row in ROWS {
-        keys_are_walked(test, set, row);
-    }
-}
 
 fn parts_return(test: &Test, set: &Numbers) {
     let twin = Numbers::new(*set.allocator());
@@ -52,14 +29,6 @@ fn walks_return(test: &Test, set: &Numbers) {
     test.expect(set.into_iter().len() == 3);
     test.expect(is_shown(test.alloc(), set, "{1: 1, 2: 2, 3: 3}"));
     test.expect(clone_is_equal(set) == Ok(true));
-}
-
-// Keys move to an end, and back.
-fn keys_move(test: &Test, set: &mut Numbers) {
-    test.expect(set.move_key_to_back(&1) && !set.move_key_to_back(&4));
-    test.expect(set.move_key_to_front(&3));
-    test.expect(has_lists(set, &[(1, 1), (2, 2), (3, 3)], &[3, 2, 1]));
-    test.expect(set.move_key_to_front(&1) && set.move_key_to_back(&3));
 }
 
 // What is proved of callers holds where they are called.
@@ -78,17 +47,26 @@ fn callers_return(test: &Test, set: &mut Numbers) {
 fn the_last_leaves(test: &Test, set: &mut Numbers) {
     let popped = set.pop_back();
     test.expect(popped == Some((KeyWrapper::Owned(2), 2)));
-    test.expect(set.is_empty());
+    test.expect(set.is_empty() && is_shown(test.alloc(), &set.pairs(), "KeyValues([])"));
+}
+
+// Each key with its values.
+fn keys_are_walked(test: &Test, set: &mut Numbers) {
+    refill(test, set, &[(1, 5)]);
+    let shown = "KeyValues([(1, EntryValues([5]))])";
+    test.expect(is_shown(test.alloc(), &set.pairs(), shown));
+    refill(test, set, &[(2, 5), (1, 5), (2, 6), (2, 5)]);
+    let shown = "KeyValues([(2, EntryValues([5, 6])), (1, EntryValues([5]))])";
+    test.expect(is_shown(test.alloc(), &set.pairs(), shown));
 }
 
 fn gathered_numbers_return(test: &Test, set: &mut Numbers) {
     test.expect(has_lists(set, &[(1, 1), (2, 2), (3, 3)], &[1, 2, 3]));
     parts_return(test, set);
     walks_return(test, set);
-    keys_move(test, set);
     callers_return(test, set);
     the_last_leaves(test, set);
-    rows_are_walked(test, set);
+    keys_are_walked(test, set);
 }
 
 fn numbers_are_gathered(test: &Test) {
@@ -102,4 +80,69 @@ fn numbers_are_gathered(test: &Test) {
 #[test]
 fn numbers_return(rt: HostRuntime) -> Result<(), Failed> {
     test_all!(rt.alloc(); numbers_are_gathered)
+}
+
+// An ASCII letter, whose case counts for nothing.
+#[derive(Clone, Copy)]
+#[derive_where(PartialEq, Eq, Hash)]
+struct Letter {
+    #[derive_where(skip(EqHashOrd))]
+    letter: u8,
+    folded: u8,
+}
+
+impl Letter {
+    fn new(letter: u8) -> Letter {
+        Letter {
+            letter,
+            folded: letter.to_ascii_lowercase(),
+        }
+    }
+}
+
+type Letters = SetOrderedMultimap<Letter, Letter>;
+
+// A pair of letters, and whether it is new.
+const LETTERS: &[(u8, u8, bool)] = &[
+    (b'A', b'x', true),
+    (b'a', b'X', false),
+    (b'a', b'y', true),
+    (b'B', b'X', true),
+    (b'b', b'x', false),
+];
+
+fn inserts(set: &mut Letters, key: u8, value: u8, new: bool) -> bool {
+    set.insert(Letter::new(key), Letter::new(value)).ok() == Some(new)
+}
+
+fn stored(pair: Option<(&Letter, &Letter)>) -> Option<(u8, u8)> {
+    match pair {
+        Some((key, value)) => Some((key.letter, value.letter)),
+        None => None,
+    }
+}
+
+// Whether the pairs are these, with the letters as they were stored.
+fn has_letters(set: &Letters, wanted: &[(u8, u8)]) -> bool {
+    let mut walk = set.iter();
+    let mut same = set.values_len() == wanted.len();
+    for letters in wanted {
+        same = same && stored(walk.next()) == Some(*letters);
+    }
+    same
+}
+
+fn letters_stay(test: &Test, set: &mut Letters) {
+    for (row, (key, value, new)) in LETTERS.iter().enumerate() {
+        test.expect_at(row, inserts(set, *key, *value, *new));
+    }
+    test.expect(has_letters(set, &[(b'A', b'x'), (b'A', b'y'), (b'B', b'X')]));
+    let gone = set.remove_value(&Letter::new(b'a'), &Letter::new(b'Y'));
+    test.expect(gone);
+    test.expect(has_letters(set, &[(b'A', b'x'), (b'B', b'X')]));
+}
+
+#[test]
+fn of_equal_pairs_the_first_stays(rt: HostRuntime) -> Result<(), Failed> {
+    test_on_new(rt.alloc(), SetOrderedMultimap::new, letters_stay)
 }

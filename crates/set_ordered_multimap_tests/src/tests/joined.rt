@@ -1,150 +1,210 @@
-//! Pairs of a set that all go to another one: those that this one has are dropped, and the others
-//! come last, in their order.
-
-mod refused;
-
-use crate::tests::callers::joined::{join, join_in_room};
-use crate::tests::lists::has_lists;
+//! Pairs of a set that all go to another one: those that this one has are dropped, and the others come last,
+//! in their order. With ample memory, with each request for memory refused, and in room that is there, with no
+//! memory at all.
+use crate::tests::callers::{join, join_in_room};
+use crate::tests::sets::{NumbersBy, Refusing, has_lists, refill};
+use refusing_allocator::RefusingAllocator;
 use set_ordered_multimap::SetOrderedMultimap;
 use std::alloc::Allocator;
 use std::hash::BuildHasher;
-use test_helpers::{Failed, Test, ZERO, lend, test_all};
+use test_helpers::{Failed, Test, ZERO, lend, requests_until_enough, test_all, try_on_new};
 
 type Pairs = &'static [(u32, u32)];
 
-// The pairs of a set and of the other one, pairs that leave the other set and then come again as its
-// last ones, and the pairs and the keys of both.
-type Row = (Pairs, Pairs, Pairs, Pairs, &'static [u32]);
+// The pairs of a set and of the other one, in which the key 1 is the first, and the pairs and the keys of
+// both.
+type Row = (Pairs, Pairs, Pairs, &'static [u32]);
 
-const THREE: Pairs = &[(1, 11), (2, 12), (1, 13)];
+const THREE: Pairs = &[(1, 1), (2, 2), (1, 3)];
 
 const ROWS: &[Row] = &[
-    (&[], &[], &[], &[], &[]),
-    (THREE, &[], &[], THREE, &[1, 2]),
-    (&[], THREE, &[], THREE, &[1, 2]),
+    (&[], &[], &[], &[]),
+    (THREE, &[], THREE, &[1, 2]),
+    (&[], THREE, THREE, &[1, 2]),
     // Some pairs of a key are in both sets.
     (
         THREE,
-        &[(3, 12), (1, 13), (2, 13), (1, 12), (2, 12)],
-        &[],
-        &[(1, 11), (2, 12), (1, 13), (3, 12), (2, 13), (1, 12)],
+        &[(3, 2), (1, 3), (2, 3), (1, 2), (2, 2)],
+        &[(1, 1), (2, 2), (1, 3), (3, 2), (2, 3), (1, 2)],
         &[1, 2, 3],
     ),
     // All are, in another order.
-    (THREE, &[(1, 13), (2, 12), (1, 11)], &[], THREE, &[1, 2]),
+    (THREE, &[(1, 3), (2, 2), (1, 1)], THREE, &[1, 2]),
     // The keys have other values.
     (
-        &[(1, 11), (2, 12)],
-        &[(2, 11), (1, 12)],
-        &[],
-        &[(1, 11), (2, 12), (2, 11), (1, 12)],
+        &[(1, 1), (2, 2)],
+        &[(2, 1), (1, 2)],
+        &[(1, 1), (2, 2), (2, 1), (1, 2)],
         &[1, 2],
     ),
     // The other set has the keys in the order 1, 2, 3, and pairs that first name 2, 3 and then 1.
     (
-        &[(4, 11), (3, 13)],
-        &[(1, 11), (2, 12), (3, 13), (3, 14), (1, 15)],
-        &[(1, 11)],
-        &[(4, 11), (3, 13), (2, 12), (3, 14), (1, 15), (1, 11)],
+        &[(4, 1), (3, 3)],
+        &[(2, 2), (3, 3), (3, 4), (1, 5), (1, 1)],
+        &[(4, 1), (3, 3), (2, 2), (3, 4), (1, 5), (1, 1)],
         &[4, 3, 2, 1],
     ),
 ];
 
-pub type NumbersBy<S, A> = SetOrderedMultimap<u32, u32, S, A>;
-
-type Numbers = SetOrderedMultimap<u32, u32>;
-
-/// Takes all pairs out, inserts these, and of them some again.
-pub fn fill_anew<S: BuildHasher, A: Allocator + Copy>(
-    test: &Test,
-    set: &mut NumbersBy<S, A>,
-    pairs: &[(u32, u32)],
-    again: &[(u32, u32)],
-) {
-    set.clear();
-    test.expect(set.extend(pairs.iter().copied()).is_ok());
-    for (key, value) in again {
-        test.expect(set.remove_value(key, value));
-        test.expect(set.insert(*key, *value) == Ok(true));
-    }
-}
-
-// Whether look-ups find each of the pairs.
-fn finds<S: BuildHasher, A: Allocator>(set: &NumbersBy<S, A>, pairs: &[(u32, u32)]) -> bool {
-    let mut found = true;
+// Whether the lists are these, and look-ups find each of the pairs.
+fn has_all<S: BuildHasher>(set: &NumbersBy<S>, pairs: &[(u32, u32)], keys: &[u32]) -> bool {
+    let mut found = has_lists(set, pairs, keys);
     for (key, value) in pairs {
         found = found && set.contains(key, value);
     }
     found
 }
 
-pub fn rooms<S: BuildHasher, A: Allocator>(set: &NumbersBy<S, A>) -> (usize, usize) {
+fn rooms<S: BuildHasher, A: Allocator>(set: &NumbersBy<S, A>) -> (usize, usize) {
     (set.keys_capacity(), set.values_capacity())
+}
+
+fn fill_other<S: BuildHasher>(test: &Test, other: &mut NumbersBy<S>, pairs: &[(u32, u32)]) {
+    refill(test, other, pairs);
+    other.move_key_to_front(&1);
 }
 
 fn join_row<S: BuildHasher, T: BuildHasher>(
     test: &Test,
-    set: &mut SetOrderedMultimap<u32, u32, S>,
-    other: &mut SetOrderedMultimap<u32, u32, T>,
+    set: &mut NumbersBy<S>,
+    other: &mut NumbersBy<T>,
     at: usize,
     row: &Row,
 ) {
-    let (pairs, others, again, joined, keys) = *row;
-    fill_anew(test, set, pairs, &[]);
-    fill_anew(test, other, others, again);
+    refill(test, set, row.0);
+    fill_other(test, other, row.1);
     let room = rooms(other);
     test.expect_at(at, set.append_map(other).is_ok());
-    test.expect_at(at, has_lists(set, joined, keys));
-    test.expect_at(at, finds(set, joined));
-    test.expect_at(at, has_lists(other, &[], &[]) && rooms(other) == room);
+    test.expect_at(at, has_all(set, row.2, row.3));
+    test.expect_at(at, other.is_empty() && rooms(other) == room);
 }
 
 fn join_all<S: BuildHasher, T: BuildHasher>(
     test: &Test,
-    set: &mut SetOrderedMultimap<u32, u32, S>,
-    other: &mut SetOrderedMultimap<u32, u32, T>,
+    set: &mut NumbersBy<S>,
+    other: &mut NumbersBy<T>,
 ) {
     for (at, row) in ROWS.iter().enumerate() {
         join_row(test, set, other, at, row);
     }
 }
 
-fn join_other_builders(test: &Test, set: &mut Numbers) {
+// Proved callers make the calls: with memory, and where there is room.
+fn callers_join<S: BuildHasher, T: BuildHasher>(
+    test: &Test,
+    set: &mut NumbersBy<S>,
+    other: &mut NumbersBy<T>,
+) {
+    refill(test, set, &[(1, 11), (2, 12)]);
+    refill(test, other, &[(3, 13), (2, 12)]);
+    test.expect(join(set, other).is_ok() && other.insert(1, 11) == Ok(true));
+    test.expect(join_in_room(set, other) && other.is_empty());
+    test.expect(has_lists(set, &[(1, 11), (2, 12), (3, 13)], &[1, 2, 3]));
+}
+
+fn join_other_builders(test: &Test, set: &mut NumbersBy) {
     let other = SetOrderedMultimap::with_hasher(test.alloc(), ZERO);
     lend(other, |other| {
         join_all(test, set, other);
         join_all(test, other, set);
+        callers_join(test, set, other);
     });
 }
 
 fn rows_are_joined(test: &Test) {
     lend(
-        Numbers::new(test.alloc()),
+        NumbersBy::new(test.alloc()),
         |set| join_other_builders(test, set),
     );
 }
 
-// Proved callers make the calls: with memory, and where there is room.
-fn callers_join(test: &Test, set: &mut Numbers, other: &mut Numbers) {
-    fill_anew(test, set, &[(1, 11), (2, 12)], &[]);
-    fill_anew(test, other, &[(3, 13), (2, 12)], &[]);
-    test.expect(join(set, other).is_ok() && other.is_empty());
-    test.expect(has_lists(set, &[(1, 11), (2, 12), (3, 13)], &[1, 2, 3]));
-    test.expect(other.insert(1, 11) == Ok(true));
-    test.expect(join_in_room(set, other) && other.is_empty());
-    test.expect(has_lists(set, &[(1, 11), (2, 12), (3, 13)], &[1, 2, 3]));
+#[test]
+fn all_pairs_go_to_another_set(rt: HostRuntime) -> Result<(), Failed> {
+    test_all!(rt.alloc(); rows_are_joined)
 }
 
-fn callers_join_new(test: &Test) {
-    lend(Numbers::new(test.alloc()), |set| {
-        lend(
-            Numbers::new(test.alloc()),
-            |other| callers_join(test, set, other),
-        )
-    });
+// Pairs that fill the first value slots, and others, one of them the same.
+const FULL: Pairs = &[(1, 1), (2, 2), (1, 3), (2, 4)];
+
+const OTHER: Pairs = &[(3, 3), (1, 3), (4, 5), (1, 6)];
+
+const JOINED: Pairs = &[(1, 1), (2, 2), (1, 3), (2, 4), (3, 3), (4, 5), (1, 6)];
+
+// It returns whether there was memory enough. Where there was not, both sets are as before.
+fn is_joined<A: Allocator + Copy>(
+    test: &Test,
+    set: &mut Refusing<A>,
+    other: &mut Refusing<A>,
+) -> bool {
+    let room = rooms(other);
+    let enough = set.append_map(other).is_ok();
+    if enough {
+        test.expect(has_lists(set, JOINED, &[1, 2, 3, 4]) && has_lists(other, &[], &[]));
+    } else {
+        test.expect(has_lists(set, FULL, &[1, 2]) && has_lists(other, OTHER, &[3, 1, 4]));
+    }
+    test.expect(rooms(other) == room);
+    enough
+}
+
+fn joins<A: Allocator + Copy>(
+    test: &Test,
+    refusing: &RefusingAllocator,
+    set: &mut Refusing<A>,
+    granted: u64,
+) -> bool {
+    refill(test, set, FULL);
+    lend(Refusing::new(*set.allocator()), |other| {
+        refill(test, other, OTHER);
+        refusing.grant(granted);
+        is_joined(test, set, other)
+    })
+}
+
+fn joins_with(test: &Test, granted: u64) -> bool {
+    try_on_new!(test, granted; SetOrderedMultimap::new; joins)
+}
+
+// Once the set has taken the pairs it has room for all of them, and needs no memory to take them
+// again.
+fn takes_no_memory<A: Allocator + Copy>(
+    test: &Test,
+    refusing: &RefusingAllocator,
+    set: &mut Refusing<A>,
+    other: &mut Refusing<A>,
+) -> bool {
+    test.expect(set.append_map(other).is_ok());
+    refill(test, other, OTHER);
+    set.retain(|_key, value| *value == 3);
+    let room = rooms(set);
+    refusing.refuse_all();
+    test.expect(set.append_map(other).is_ok() && rooms(set) == room);
+    test.expect(has_lists(set, &[(1, 3), (3, 3), (4, 5), (1, 6)], &[1, 3, 4]));
+    !refusing.refused()
+}
+
+fn joins_in_room<A: Allocator + Copy>(
+    test: &Test,
+    refusing: &RefusingAllocator,
+    set: &mut Refusing<A>,
+    _granted: u64,
+) -> bool {
+    refill(test, set, FULL);
+    lend(Refusing::new(*set.allocator()), |other| {
+        refill(test, other, OTHER);
+        takes_no_memory(test, refusing, set, other)
+    })
+}
+
+fn joins_in_room_with(test: &Test) -> bool {
+    try_on_new!(test, 0; SetOrderedMultimap::new; joins_in_room)
 }
 
 #[test]
-fn all_pairs_go_to_another_set(rt: HostRuntime) -> Result<(), Failed> {
-    test_all!(rt.alloc(); rows_are_joined, callers_join_new)
+fn a_refused_request_changes_neither_set(rt: HostRuntime) -> Result<(), Failed> {
+    let test = Test::new(rt.alloc());
+    let enough = requests_until_enough(|granted| joins_with(&test, granted));
+    test.expect(enough.unwrap_or(0) >= 2);
+    test.expect(joins_in_room_with(&test));
+    test.end()
 }

@@ -1,5 +1,5 @@
 //! Keys that own their text, looked up by texts that are lent, also where all hashes are equal.
-use crate::tests::callers::queried::has_only;
+use crate::tests::callers::has_only;
 use set_ordered_multimap::SetOrderedMultimap;
 use std::hash::BuildHasher;
 use test_helpers::{Failed, Test, ZERO, copied, gives, is_shown, test_on_new};

@@ -1,15 +1,11 @@
 //! Each request for memory of each call that grows is refused in turn: what was to be stored comes
 //! back, and both lists are as before. What needs no memory is done where all is refused.
-use crate::tests::lists::has_lists;
+use crate::tests::sets::{Refusing, has_lists, refill};
 use ordered_multimap::list_ordered_multimap::{DefaultState, Refused};
 use refusing_allocator::RefusingAllocator;
 use set_ordered_multimap::SetOrderedMultimap;
 use std::alloc::{AllocError, Allocator};
-use test_helpers::{Failed, Test, copied, lend, lend_made, requests_until_enough};
-
-// A set whose memory may be refused. The allocator's type is a parameter all over here, since a set
-// of a type with a reference costs a proof twice as much.
-type Refusing<A> = SetOrderedMultimap<u32, u32, DefaultState, A>;
+use test_helpers::{Failed, Test, copied, lend_made, requests_until_enough, try_on_new};
 
 type Pairs = &'static [(u32, u32)];
 
@@ -52,12 +48,6 @@ const FIRST: &[(u32, u32)] = &[(1, 1), (2, 2), (3, 3)];
 const LEFT: &[usize] = &[3, 2, 0, 0];
 
 const KEYS: &[u32] = &[1, 2, 3];
-
-fn fill<A: Allocator + Copy>(test: &Test, set: &mut Refusing<A>, pairs: &[(u32, u32)]) {
-    for (key, value) in pairs {
-        test.expect(set.insert(*key, *value) == Ok(true));
-    }
-}
 
 // Whether the new pair stands last, once.
 fn stands_last<A: Allocator + Copy>(set: &Refusing<A>, before: Pairs) -> bool {
@@ -163,59 +153,45 @@ fn pairs_before(call: Try) -> &'static [(u32, u32)] {
 }
 
 // Makes the call. It returns whether there was memory enough.
-fn tries<A: Allocator + Copy>(test: &Test, set: &mut Refusing<A>, call: Try) -> bool {
-    match call {
+fn tries<A: Allocator + Copy>(
+    test: &Test,
+    refusing: &RefusingAllocator,
+    set: &mut Refusing<A>,
+    granted: u64,
+    call: Try,
+) -> bool {
+    refill(test, set, pairs_before(call));
+    refusing.grant(granted);
+    let enough = match call {
         Try::Insert(before, keys) => insert(test, set, before, keys),
         Try::Extend => extend(test, set),
         Try::ExtendByTrait => extend_by_trait(test, set),
         Try::Clone => clone_of(test, set),
         Try::NeedNone => need_none(test, set),
         Try::ExtendByPresent => extend_by_present(test, set),
-    }
-}
-
-fn tries_with(test: &Test, granted: u64, call: Try) -> bool {
-    let allocator = RefusingAllocator::unlimited(test.alloc());
-    let enough = tries_by(test, &allocator, &allocator, granted, call);
-    test.expect(enough != allocator.refused());
+    };
+    test.expect(enough != refusing.refused());
     enough
 }
 
-fn tries_by<A: Allocator + Copy>(
-    test: &Test,
-    refusing: &RefusingAllocator,
-    allocator: A,
-    granted: u64,
-    call: Try,
-) -> bool {
-    lend(SetOrderedMultimap::new(allocator), |set| {
-        fill(test, set, pairs_before(call));
-        refusing.grant(granted);
-        tries(test, set, call)
-    })
+fn tries_with(test: &Test, granted: u64, call: Try) -> bool {
+    try_on_new!(test, granted; SetOrderedMultimap::new; tries, call)
 }
 
 fn from_iter_with(test: &Test, granted: u64) -> bool {
     let allocator = RefusingAllocator::new(test.alloc(), granted);
-    let enough = from_iter_by(test, &allocator);
-    allocator.grant(granted);
-    test.expect(collect_by(test, &allocator) == enough);
-    enough
-}
-
-fn from_iter_by<A: Allocator + Copy>(test: &Test, allocator: A) -> bool {
-    let pairs = PAIRS.iter().copied();
     lend_made(
-        SetOrderedMultimap::from_iter(allocator, DefaultState::new(), pairs),
+        SetOrderedMultimap::from_iter(&allocator, DefaultState::new(), PAIRS.iter().copied()),
         |set| test.expect(has_lists(set, FIRST, KEYS)),
         |refused| test.expect(FIRST.contains(&refused_pair(refused))),
     )
 }
 
-fn collect_by<A: Allocator + Copy>(test: &Test, allocator: A) -> bool {
+fn collect_with(test: &Test, granted: u64) -> bool {
+    let allocator = RefusingAllocator::new(test.alloc(), granted);
     lend_made(
-        PAIRS.iter().copied().collect(allocator),
-        |set: &mut Refusing<A>| test.expect(has_lists(set, FIRST, KEYS)),
+        PAIRS.iter().copied().collect(&allocator),
+        |set: &mut Refusing<_>| test.expect(has_lists(set, FIRST, KEYS)),
         |_refused: AllocError| {},
     )
 }
@@ -228,13 +204,8 @@ fn a_refused_request_changes_nothing(rt: HostRuntime) -> Result<(), Failed> {
         test.expect_at(row, enough.unwrap_or(0) >= *least);
     }
     let made = requests_until_enough(|granted| from_iter_with(&test, granted));
-    test.expect(made.unwrap_or(0) >= 3);
-    test.end()
-}
-
-#[test]
-fn what_needs_no_memory_is_not_refused(rt: HostRuntime) -> Result<(), Failed> {
-    let test = Test::new(rt.alloc());
+    let collected = requests_until_enough(|granted| collect_with(&test, granted));
+    test.expect(made.unwrap_or(0) >= 3 && collected == made);
     test.expect(tries_with(&test, 0, Try::NeedNone));
     test.expect(tries_with(&test, 0, Try::ExtendByPresent));
     test.end()

@@ -1,126 +1,124 @@
-//! Keys and pairs of a set that are sorted, and keys that move to an end: one run of calls, with both
-//! lists and each key's values after each call.
-mod refused;
-
-use crate::tests::joined::fill_anew;
-use crate::tests::lists::has_lists;
+//! Keys, and pairs, of a set that are sorted with each request for memory refused, and one, or none,
+//! with no memory.
+use crate::tests::sets::{Refusing, has_lists};
+use refusing_allocator::RefusingAllocator;
 use set_ordered_multimap::SetOrderedMultimap;
-use test_helpers::{Failed, Test, copied, test_on_new};
-
-type Numbers = SetOrderedMultimap<u32, u32>;
+use std::alloc::Allocator;
+use test_helpers::{Failed, Test, copied, gives, requests_until_enough, try_on_new};
 
 #[derive(Clone, Copy)]
-enum Call {
-    SortKeys,
-    // By half of the key: 4 and 5 tie.
-    SortKeysByHalf,
-    // By the value, by half of it, and by the key, the greatest first.
-    SortByValue,
-    SortByHalf,
-    SortByKey,
-    // A key that moves, and whether it is there.
-    ToBack(u32, bool),
-    ToFront(u32, bool),
-    // A pair, and whether it is new.
-    Insert(u32, u32, bool),
+enum Sort {
+    Keys,
+    // The greatest first.
+    KeysBy,
+    // By the value.
+    Pairs,
 }
 
-type Pairs = &'static [(u32, u32)];
-
-// A call, and the pairs and the keys after it.
-type Row = (Call, Pairs, &'static [u32]);
-
-// Pairs of which two keys have two values each.
-const PAIRS: Pairs = &[(5, 14), (4, 12), (1, 13), (5, 11), (2, 15), (4, 10)];
-
-// Values with the same half keep their order: 11 stood before 10.
-const BY_HALF: Pairs = &[(5, 11), (4, 10), (4, 12), (1, 13), (5, 14), (2, 15)];
-
-const BY_VALUE: Pairs = &[(4, 10), (5, 11), (4, 12), (1, 13), (5, 14), (2, 15)];
-
-// The values of a key keep their order.
-const BY_KEY: Pairs = &[(5, 11), (5, 14), (4, 10), (4, 12), (2, 15), (1, 13)];
-
-const WITH_NEW: Pairs = &[
-    (5, 11),
-    (5, 14),
-    (4, 10),
-    (4, 12),
-    (2, 15),
-    (1, 13),
-    (3, 14),
+// A sort, the keys of the pairs and the keys that it leaves, and how many requests it makes: one for the
+// places, one for the sort, and of pairs three for the new tape.
+const SORTS: &[(Sort, &[u32], &[u32], u64)] = &[
+    (Sort::Keys, KEYS, ASCENDING, 2),
+    (Sort::KeysBy, KEYS, DESCENDING, 2),
+    (Sort::Pairs, DESCENDING, KEYS, 5),
 ];
 
-// The run begins with the pairs, whose keys are 5, 4, 1 and 2.
-const ROWS: &[Row] = &[
-    (Call::SortKeysByHalf, PAIRS, &[1, 2, 5, 4]),
-    (Call::ToFront(4, true), PAIRS, &[4, 1, 2, 5]),
-    (Call::ToFront(3, false), PAIRS, &[4, 1, 2, 5]),
-    // Now 4 stands before 5.
-    (Call::SortKeysByHalf, PAIRS, &[1, 2, 4, 5]),
-    (Call::ToBack(1, true), PAIRS, &[2, 4, 5, 1]),
-    (Call::ToBack(3, false), PAIRS, &[2, 4, 5, 1]),
-    (Call::SortByHalf, BY_HALF, &[2, 4, 5, 1]),
-    (Call::SortKeys, BY_HALF, &[1, 2, 4, 5]),
-    (Call::SortByValue, BY_VALUE, &[1, 2, 4, 5]),
-    (Call::SortByKey, BY_KEY, &[1, 2, 4, 5]),
-    (Call::Insert(5, 14, false), BY_KEY, &[1, 2, 4, 5]),
-    (Call::Insert(3, 14, true), WITH_NEW, &[1, 2, 4, 5, 3]),
+// More keys than are sorted in place. Each has one value, by which the greatest key comes first.
+const KEYS: &[u32] = &[
+    1, 9, 17, 4, 12, 20, 7, 15, 2, 10, 18, 5, 13, 21, 8, 16, 3, 11, 19, 6, 14,
 ];
 
-fn sorts_keys(set: &mut Numbers, by_half: bool) -> bool {
-    if by_half {
-        return set.sort_keys_by(|a, b| (*a / 2).cmp(&(*b / 2))).is_ok();
-    }
-    set.sort_keys().is_ok()
+const ASCENDING: &[u32] = &[
+    1, 2, 3, 4, 5, 6, 7, 8, 9, 10, 11, 12, 13, 14, 15, 16, 17, 18, 19, 20, 21,
+];
+
+const DESCENDING: &[u32] = &[
+    21, 20, 19, 18, 17, 16, 15, 14, 13, 12, 11, 10, 9, 8, 7, 6, 5, 4, 3, 2, 1,
+];
+
+fn pair_of(key: u32) -> (u32, u32) {
+    (key, 122u32.saturating_sub(key))
 }
 
-fn sorts_by_value(set: &mut Numbers, by_half: bool) -> bool {
-    let divisor = if by_half { 2 } else { 1 };
-    set.sort_by(|_, value, _, other| (*value / divisor).cmp(&(*other / divisor)))
-        .is_ok()
-}
-
-// Whether the call returns what is said.
-fn is_called(set: &mut Numbers, call: Call) -> bool {
-    match call {
-        Call::SortKeys => sorts_keys(set, false),
-        Call::SortKeysByHalf => sorts_keys(set, true),
-        Call::SortByValue => sorts_by_value(set, false),
-        Call::SortByHalf => sorts_by_value(set, true),
-        Call::SortByKey => set.sort_by(|key, _, other, _| other.cmp(key)).is_ok(),
-        Call::ToBack(key, there) => set.move_key_to_back(&key) == there,
-        Call::ToFront(key, there) => set.move_key_to_front(&key) == there,
-        Call::Insert(key, value, new) => set.insert(key, value) == Ok(new),
-    }
-}
-
-// Whether the key has the values that it has in these pairs, in their order.
-fn has_values(set: &Numbers, key: u32, pairs: &[(u32, u32)]) -> bool {
-    let mut values = set.get_all(&key);
+// Whether the pairs are those of the first keys, and the keys the others.
+fn stand<A: Allocator>(set: &Refusing<A>, of_pairs: &[u32], keys: &[u32]) -> bool {
+    let mut walk = set.iter();
     let mut same = true;
-    for (other, value) in pairs {
-        same = same && (*other != key || copied(values.next()) == Some(*value));
+    for key in of_pairs {
+        same = same && copied(walk.next()) == Some(pair_of(*key));
     }
-    same && values.next().is_none()
+    same && walk.next().is_none() && gives(&mut set.keys(), keys)
 }
 
-fn row_holds(test: &Test, set: &mut Numbers, at: usize, row: &Row) {
-    let (call, pairs, keys) = *row;
-    test.expect_at(at, is_called(set, call));
-    test.expect_at(at, has_lists(set, pairs, keys));
-    test.expect_at(at, has_values(set, 4, pairs));
-    test.expect_at(at, has_values(set, 5, pairs));
+// Returns whether there was memory enough.
+fn is_sorted<A: Allocator + Copy>(set: &mut Refusing<A>, sort: Sort) -> bool {
+    match sort {
+        Sort::Keys => set.sort_keys().is_ok(),
+        Sort::KeysBy => set.sort_keys_by(|a, b| b.cmp(a)).is_ok(),
+        Sort::Pairs => set.sort_by(|_, value, _, other| value.cmp(other)).is_ok(),
+    }
 }
 
-fn rows_hold(test: &Test, set: &mut Numbers) {
-    fill_anew(test, set, PAIRS, &[]);
-    for (at, row) in ROWS.iter().enumerate() {
-        row_holds(test, set, at, row);
+// Sorts a set of the pairs. Where there is not enough memory, both lists are as before.
+fn sorts<A: Allocator + Copy>(
+    test: &Test,
+    refusing: &RefusingAllocator,
+    set: &mut Refusing<A>,
+    granted: u64,
+    sort: Sort,
+    sorted: (&[u32], &[u32]),
+) -> bool {
+    for key in KEYS {
+        let (key, value) = pair_of(*key);
+        test.expect(set.insert(key, value) == Ok(true));
     }
+    refusing.grant(granted);
+    let enough = is_sorted(set, sort);
+    let (of_pairs, keys) = if enough { sorted } else { (KEYS, KEYS) };
+    test.expect(stand(set, of_pairs, keys) && enough != refusing.refused());
+    enough
+}
+
+fn sorts_with(test: &Test, granted: u64, sort: Sort, sorted: (&[u32], &[u32])) -> bool {
+    try_on_new!(test, granted; SetOrderedMultimap::new; sorts, sort, sorted)
+}
+
+fn row_is_sorted(test: &Test, row: usize, sort: Sort, sorted: (&[u32], &[u32]), requests: u64) {
+    let enough = requests_until_enough(|granted| sorts_with(test, granted, sort, sorted));
+    test.expect_at(row, enough == Some(requests));
+}
+
+fn sorts_in_place<A: Allocator + Copy>(test: &Test, set: &mut Refusing<A>) {
+    for (row, (sort, _, _, _)) in SORTS.iter().enumerate() {
+        test.expect_at(row, is_sorted(set, *sort));
+    }
+}
+
+fn sorts_one<A: Allocator + Copy>(
+    test: &Test,
+    refusing: &RefusingAllocator,
+    set: &mut Refusing<A>,
+    granted: u64,
+) -> bool {
+    refusing.refuse_all();
+    sorts_in_place(test, set);
+    refusing.grant(granted);
+    test.expect(set.insert(1, 11) == Ok(true));
+    refusing.refuse_all();
+    sorts_in_place(test, set);
+    !refusing.refused() && has_lists(set, &[(1, 11)], &[1])
+}
+
+fn one_is_sorted(test: &Test) -> bool {
+    try_on_new!(test, 99; SetOrderedMultimap::new; sorts_one)
 }
 
 #[test]
-fn keys_and_pairs_are_sorted(rt: HostRuntime) -> Result<(), Failed> {
-    test_on_new(rt.alloc(), SetOrderedMultimap::new, rows_hold)
+fn a_refused_sort_changes_neither_list(rt: HostRuntime) -> Result<(), Failed> {
+    let test = Test::new(rt.alloc());
+    for (row, (sort, pairs, keys, requests)) in SORTS.iter().enumerate() {
+        row_is_sorted(&test, row, *sort, (pairs, keys), *requests);
+    }
+    test.expect(one_is_sorted(&test));
+    test.end()
 }

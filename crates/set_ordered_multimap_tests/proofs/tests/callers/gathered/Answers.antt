@@ -2,7 +2,7 @@ use Rattle.std.proofs.Common.{sym, ap, ◌∙◌}
 use Rattle.ordered_multimap.specs.Lists.{empty_lists}
 use Rattle.set_ordered_multimap.proofs.Callers.FirstPairs.{all_inserted-push}
 use Rattle.set_ordered_multimap.specs.Set.{set_inserted}
-use Rattle.set_ordered_multimap_tests.proofs.tests.callers.gathered.gathered.Goals as goal
+use Rattle.set_ordered_multimap_tests.proofs.tests.callers.gathered.Goals as goal
 
 pub loop-key-preserved : goal.loop-key-preserved
 loop-key-preserved g c =

@@ -1,7 +1,7 @@
 use Rattle.std.proofs.Common.{◌≡◌}
 use Rattle.ordered_multimap.specs.Lists.{empty_lists}
 use Rattle.set_ordered_multimap.specs.Set.{IsSet, all_inserted}
-use Rattle.set_ordered_multimap_tests.proofs.tests.callers.gathered.gathered.Given as goal
+use Rattle.set_ordered_multimap_tests.proofs.tests.callers.gathered.Given as goal
 
 -- the pairs that the iterator has given were inserted, and no pair stands twice
 abbrev pub invariant-loop-key : goal.invariant-loop-key

@@ -2,7 +2,7 @@ use Rattle.std.proofs.Common.{ap, ◌∙◌, eqb, ltb, rules}
 use Rattle.std.proofs.lemmas.Map.Made.{filter_same_pairs}
 use Rattle.ordered_multimap.specs.Changes.{kept}
 use Rattle.ordered_multimap.proofs.Callers.Retained.{RetainsPairs-retains, kept-named_by}
-use Rattle.set_ordered_multimap_tests.proofs.tests.callers.changed.keep_below.Goals as goal
+use Rattle.set_ordered_multimap_tests.proofs.tests.callers.keep_below.Goals as goal
 
 pub returns-clause-lists : goal.returns-clause-lists
 returns-clause-lists g c =

@@ -1,9 +1,29 @@
-//! What sets are compared with. The comparison is proved once here and costs a test no more than a
-//! call.
+//! The sets of these tests, how they are filled, and what they are compared with. The comparison is proved once
+//! here and costs a test no more than a call.
+use ordered_multimap::list_ordered_multimap::DefaultState;
 use set_ordered_multimap::SetOrderedMultimap;
-use std::alloc::Allocator;
+use std::alloc::{Allocator, Global};
 use std::hash::{BuildHasher, Hash};
-use test_helpers::{copied, gives};
+use test_helpers::{Test, copied, gives};
+
+/// A set of numbers.
+pub type NumbersBy<S = DefaultState, A = Global> = SetOrderedMultimap<u32, u32, S, A>;
+
+/// A set whose memory may be refused. The allocator's type is a parameter of the checks, since a set of
+/// a type with a reference costs a proof twice as much.
+pub type Refusing<A> = NumbersBy<DefaultState, A>;
+
+/// Takes all pairs out, and inserts these.
+pub fn refill<S: BuildHasher, A: Allocator + Copy>(
+    test: &Test,
+    set: &mut NumbersBy<S, A>,
+    pairs: &[(u32, u32)],
+) {
+    set.clear();
+    for (key, value) in pairs {
+        test.expect(set.insert(*key, *value).is_ok());
+    }
+}
 
 // Whether the first and the last pair, and all values, are those of these pairs.
 fn has_ends<K: Eq + Hash + Copy, V: PartialEq + Copy, S: BuildHasher, A: Allocator>(

@@ -1,0 +1,150 @@
+//! Runs of calls on numbers, with both lists and two keys' values after each call: pairs that come and go, also
+//! where all hashes are equal; keys and pairs that are sorted; and keys that move to an end.
+use crate::tests::sets::{NumbersBy, has_lists, refill};
+use ordered_multimap::list_ordered_multimap::KeyWrapper;
+use set_ordered_multimap::SetOrderedMultimap;
+use std::hash::BuildHasher;
+use test_helpers::{Failed, Test, ZERO, copied, test_on_new};
+
+#[derive(Clone, Copy)]
+enum Call {
+    // A pair, and whether it is new, or whether it is there.
+    Insert(u32, u32, bool),
+    RemoveValue(u32, u32, bool),
+    // The pair that leaves, whose key goes with it.
+    PopFront(u32, u32),
+    SortKeys,
+    // By half of the key: 4 and 5 tie.
+    SortKeysByHalf,
+    // By the value, by half of it, and by the key, the greatest first.
+    SortByValue,
+    SortByHalf,
+    SortByKey,
+    // A key that moves, and whether it is there.
+    ToBack(u32, bool),
+    ToFront(u32, bool),
+}
+
+type Pairs = &'static [(u32, u32)];
+
+// A call, and the pairs and the keys after it.
+type Row = (Call, Pairs, &'static [u32]);
+
+const RUN: &[Row] = &[
+    (Call::Insert(1, 5, true), &[(1, 5)], &[1]),
+    (Call::Insert(1, 5, false), &[(1, 5)], &[1]),
+    (Call::Insert(2, 5, true), &[(1, 5), (2, 5)], &[1, 2]),
+    (Call::Insert(1, 6, true), &[(1, 5), (2, 5), (1, 6)], &[1, 2]),
+    (Call::RemoveValue(1, 5, true), &[(2, 5), (1, 6)], &[1, 2]),
+    (Call::RemoveValue(1, 6, true), &[(2, 5)], &[2]),
+    (Call::RemoveValue(1, 6, false), &[(2, 5)], &[2]),
+    (Call::Insert(1, 5, true), &[(2, 5), (1, 5)], &[2, 1]),
+    (Call::PopFront(2, 5), &[(1, 5)], &[1]),
+];
+
+// Pairs of which two keys have two values each.
+const PAIRS: Pairs = &[(5, 4), (4, 2), (1, 3), (5, 1), (2, 5), (4, 0)];
+
+// Values with the same half keep their order: 1 stood before 0.
+const BY_HALF: Pairs = &[(5, 1), (4, 0), (4, 2), (1, 3), (5, 4), (2, 5)];
+
+const BY_VALUE: Pairs = &[(4, 0), (5, 1), (4, 2), (1, 3), (5, 4), (2, 5)];
+
+// The values of a key keep their order.
+const BY_KEY: Pairs = &[(5, 1), (5, 4), (4, 0), (4, 2), (2, 5), (1, 3)];
+
+const WITH_NEW: Pairs = &[(5, 1), (5, 4), (4, 0), (4, 2), (2, 5), (1, 3), (3, 4)];
+
+// The run begins with the pairs, whose keys are 5, 4, 1 and 2.
+const SORTS: &[Row] = &[
+    (Call::SortKeysByHalf, PAIRS, &[1, 2, 5, 4]),
+    (Call::ToFront(4, true), PAIRS, &[4, 1, 2, 5]),
+    (Call::ToFront(3, false), PAIRS, &[4, 1, 2, 5]),
+    // Now 4 stands before 5.
+    (Call::SortKeysByHalf, PAIRS, &[1, 2, 4, 5]),
+    (Call::ToBack(1, true), PAIRS, &[2, 4, 5, 1]),
+    (Call::ToBack(3, false), PAIRS, &[2, 4, 5, 1]),
+    (Call::SortByHalf, BY_HALF, &[2, 4, 5, 1]),
+    (Call::SortKeys, BY_HALF, &[1, 2, 4, 5]),
+    (Call::SortByValue, BY_VALUE, &[1, 2, 4, 5]),
+    (Call::SortByKey, BY_KEY, &[1, 2, 4, 5]),
+    (Call::Insert(5, 4, false), BY_KEY, &[1, 2, 4, 5]),
+    (Call::Insert(3, 4, true), WITH_NEW, &[1, 2, 4, 5, 3]),
+];
+
+fn sorts_keys<S: BuildHasher>(set: &mut NumbersBy<S>, by_half: bool) -> bool {
+    if by_half {
+        return set.sort_keys_by(|a, b| (*a / 2).cmp(&(*b / 2))).is_ok();
+    }
+    set.sort_keys().is_ok()
+}
+
+fn sorts_by_value<S: BuildHasher>(set: &mut NumbersBy<S>, by_half: bool) -> bool {
+    let divisor = if by_half { 2 } else { 1 };
+    set.sort_by(|_, value, _, other| (*value / divisor).cmp(&(*other / divisor)))
+        .is_ok()
+}
+
+// Whether the call returns what is said.
+fn is_called<S: BuildHasher>(set: &mut NumbersBy<S>, call: Call) -> bool {
+    match call {
+        Call::SortKeys => sorts_keys(set, false),
+        Call::SortKeysByHalf => sorts_keys(set, true),
+        Call::SortByValue => sorts_by_value(set, false),
+        Call::SortByHalf => sorts_by_value(set, true),
+        Call::SortByKey => set.sort_by(|key, _, other, _| other.cmp(key)).is_ok(),
+        Call::ToBack(key, there) => set.move_key_to_back(&key) == there,
+        Call::ToFront(key, there) => set.move_key_to_front(&key) == there,
+        Call::Insert(key, value, new) => set.insert(key, value) == Ok(new),
+        Call::RemoveValue(key, value, there) => set.remove_value(&key, &value) == there,
+        Call::PopFront(key, value) => set.pop_front() == Some((KeyWrapper::Owned(key), value)),
+    }
+}
+
+// Whether the key has the values that it has in these pairs, in their order.
+fn has_values<S: BuildHasher>(set: &NumbersBy<S>, key: u32, pairs: &[(u32, u32)]) -> bool {
+    let mut values = set.get_all(&key);
+    let mut same = true;
+    for (other, value) in pairs {
+        same = same && (*other != key || copied(values.next()) == Some(*value));
+    }
+    same && values.next().is_none()
+}
+
+fn row_holds<S: BuildHasher>(test: &Test, set: &mut NumbersBy<S>, at: usize, row: &Row) {
+    let (call, pairs, keys) = *row;
+    test.expect_at(at, is_called(set, call));
+    test.expect_at(at, has_lists(set, pairs, keys));
+    test.expect_at(at, has_values(set, 4, pairs) && has_values(set, 5, pairs));
+}
+
+fn rows_hold<S: BuildHasher>(test: &Test, set: &mut NumbersBy<S>, rows: &[Row]) {
+    for (at, row) in rows.iter().enumerate() {
+        row_holds(test, set, at, row);
+    }
+}
+
+fn pairs_come_and_go<S: BuildHasher>(test: &Test, set: &mut NumbersBy<S>) {
+    rows_hold(test, set, RUN);
+}
+
+#[test]
+fn no_pair_stands_twice(rt: HostRuntime) -> Result<(), Failed> {
+    test_on_new(rt.alloc(), SetOrderedMultimap::new, pairs_come_and_go)
+}
+
+#[test]
+fn no_pair_of_one_hash_stands_twice(rt: HostRuntime) -> Result<(), Failed> {
+    let collided = |alloc| SetOrderedMultimap::with_hasher(alloc, ZERO);
+    test_on_new(rt.alloc(), collided, pairs_come_and_go)
+}
+
+fn sorts_hold(test: &Test, set: &mut NumbersBy) {
+    refill(test, set, PAIRS);
+    rows_hold(test, set, SORTS);
+}
+
+#[test]
+fn keys_and_pairs_are_sorted(rt: HostRuntime) -> Result<(), Failed> {
+    test_on_new(rt.alloc(), SetOrderedMultimap::new, sorts_hold)
+}
