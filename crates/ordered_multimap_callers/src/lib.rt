@@ -6,20 +6,12 @@
 //! and what they call is proved once.
 #![tactic(auto)]
 
-pub mod drains;
+pub mod changed;
 pub mod entered;
 pub mod entry_calls;
-pub mod filled;
-pub mod joined;
 pub mod maps;
-pub mod moved_keys;
-pub mod one_value;
 pub mod queried;
-pub mod retained;
 pub mod sorted;
 pub mod stopped;
 pub mod stopped_keys;
 pub mod taken;
-pub mod undone;
-pub mod updated;
-pub mod written;

@@ -1,12 +1,18 @@
-//! Callers that look keys up by queries and are proved for every key type, every value type and every
-//! query: each says what it found, or what the map is afterwards, of the keys that the query stands
-//! for.
-ghost use Rattle.std.specs.Prelude.{◌≡◌, find, slice_get};
+//! Callers that look keys up by queries, and that look up, set and take out one value of a key, and are proved for
+//! every key type, every value type and every query: each says what it found, or what the map is afterwards, of
+//! the keys that the query stands for.
+ghost use Rattle.std.specs.Prelude.{◌≡◌, find, slice_get, ◌&&◌, true, false, IfOk, filter, not};
 ghost use Rattle.std.specs.Str.{bytes_eq};
 ghost use Rattle.std.specs.String.{string_bytes};
-ghost use Rattle.ordered_multimap.specs.Changes.{first_written_where, removed_where};
-ghost use Rattle.ordered_multimap.specs.Pairs.{values_of, values_where};
+ghost use Rattle.ordered_multimap.specs.Changes.{first_written_where, removed_where, kept};
+ghost use Rattle.ordered_multimap.specs.Pairs.{values_of, values_where, is_present};
+ghost use Rattle.std.specs.List.{list_any};
+ghost use Rattle.ordered_multimap.specs.OneValue.{first_removed, index_removed, only_written};
+ghost use Rattle.ordered_multimap.specs.Sets.{SetsValue};
+ghost use Rattle.ordered_multimap.specs.Walk.{end_item};
+ghost use Rattle.ordered_multimap.specs.End.TheVariants.{Back};
 
+use ordered_multimap::list_ordered_multimap::{Entry, Refused};
 use ordered_multimap::{KeyByPart, KeyQuery, ListOrderedMultimap, Part};
 use std::alloc::Allocator;
 use std::hash::{BuildHasher, Hash};
@@ -94,5 +100,107 @@ pub fn set_first_by<K: Eq + Hash, V: Drop, Q: KeyQuery<K>, S: BuildHasher, A: Al
     match map.get_mut(query) {
         Some(first) => Some(mem::replace(first, value)),
         None => None,
+    }
+}
+
+/// The last value of the key that a query stands for.
+pub fn last_by<K: Eq + Hash, V: Copy, Q: KeyQuery<K>, S: BuildHasher, A: Allocator>(
+    map: &ListOrderedMultimap<K, V, S, A>,
+    query: Q,
+) -> Option<V>
+    ensures { result ≡ end_item Back (values_where (Q.equivalent query) map.now.lists.pairs) }
+{
+    map.get_last(query).copied()
+}
+
+/// The stored key that a query stands for.
+pub fn stored_by<K: Eq + Hash + Copy, V, Q: KeyQuery<K>, S: BuildHasher, A: Allocator>(
+    map: &ListOrderedMultimap<K, V, S, A>,
+    query: Q,
+) -> Option<K>
+    ensures { result ≡ find (Q.equivalent query) map.now.lists.keys }
+{
+    match map.get_key_value(query) {
+        Some((key, _)) => Some(*key),
+        None => None,
+    }
+}
+
+/// Takes a value out if the key that a query stands for has it, and returns whether it was there.
+pub fn take_if_there<
+    K: Eq + Hash + Drop,
+    V: Eq + Drop,
+    Q: KeyQuery<K>,
+    S: BuildHasher,
+    A: Allocator,
+>(map: &mut ListOrderedMultimap<K, V, S, A>, query: Q, value: &V) -> bool
+    ensures there { result ≡ list_any (V.eq value.now)
+        (values_where (Q.equivalent query) map.old.lists.pairs) }
+    ensures lists { map.new.lists
+        ≡ first_removed K.eq (Q.equivalent query) (V.eq value.now) map.old.lists }
+{
+    let there = map.contains(query, value);
+    drop(map.remove_value(query, value));
+    there
+}
+
+/// Takes the second value of the key that a query stands for out, and returns it.
+pub fn take_second_by<K: Eq + Hash + Drop, V, Q: KeyQuery<K>, S: BuildHasher, A: Allocator>(
+    map: &mut ListOrderedMultimap<K, V, S, A>,
+    query: Q,
+) -> Option<V>
+    ensures lists { map.new.lists ≡ index_removed K.eq (Q.equivalent query) map.old.lists 1 }
+    ensures value { result
+        ≡ slice_get (values_where (Q.equivalent query) map.old.lists.pairs) 1 }
+{
+    map.remove_index(query, 1)
+}
+
+/// Sets the value of a key, and returns the first of the old ones.
+pub fn set_value<K: Eq + Hash + Drop, V: Drop, S: BuildHasher, A: Allocator + Copy>(
+    map: &mut ListOrderedMultimap<K, V, S, A>,
+    key: K,
+    value: V,
+) -> Result<Option<V>, Refused<K, V>>
+    ensures set { IfOk result (SetsValue K.eq key value map.old map.new) }
+    ensures first { IfOk result (λ first. first
+        ≡ slice_get (values_of K.eq map.old.lists.pairs key) 0) }
+{
+    map.set(key, value)
+}
+
+/// Takes all values out of the key that a query stands for that are equal to one.
+pub fn take_equal_by<
+    K: Eq + Hash + Drop,
+    V: Eq + Drop,
+    Q: KeyQuery<K>,
+    S: BuildHasher,
+    A: Allocator,
+>(map: &mut ListOrderedMultimap<K, V, S, A>, query: Q, value: &V)
+    ensures { map.new.lists ≡ kept K.eq map.old.lists
+        (filter (λ p. not (Q.equivalent query p.0 && V.eq value.now p.1)) map.old.lists.pairs) }
+{
+    map.retain_all(query, |other| *value != *other);
+}
+
+/// Sets the value of a key by its entry, if the key is present, and returns the first of the old
+/// ones.
+pub fn set_if_present<K: Eq + Hash + Drop, V: Drop, S: BuildHasher, A: Allocator>(
+    map: &mut ListOrderedMultimap<K, V, S, A>,
+    key: K,
+    value: V,
+) -> Option<V>
+    ensures present { is_present K.eq map.old.lists.pairs key ≡ true
+        → map.new.lists ≡ only_written (K.eq key) map.old.lists value }
+    ensures absent { is_present K.eq map.old.lists.pairs key ≡ false
+        → map.new.lists ≡ map.old.lists }
+    ensures first { result ≡ slice_get (values_of K.eq map.old.lists.pairs key) 0 }
+{
+    match map.entry(key) {
+        Entry::Occupied(mut entry) => Some(entry.set(value)),
+        Entry::Vacant(entry) => {
+            drop(entry.into_key());
+            None
+        }
     }
 }

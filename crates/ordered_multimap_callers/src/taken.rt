@@ -1,6 +1,6 @@
 //! Callers that own a map and take its keys or its values out, and callers of `allocator` and of
 //! `or_default`, proved for every key and value type.
-ghost use Rattle.std.specs.Prelude.{◌≡◌, true, false, length, slice_get, IfErr, IfOk, IsOk, OnErr};
+ghost use Rattle.std.specs.Prelude.{◌≡◌, ◌++◌, true, false, length, slice_get, IfErr, IfOk, IsOk, OnErr, OnOk};
 ghost use Rattle.std.specs.Option.{UnwrapsOrElse};
 ghost use Rattle.ordered_multimap.specs.Changes.{appended};
 ghost use Rattle.ordered_multimap.specs.Pairs.{all_values, is_present, values_of};
@@ -9,10 +9,23 @@ ghost use Rattle.ordered_multimap.specs.Rooms.{IsNewMap};
 ghost use Rattle.ordered_multimap.specs.Walk.{end_item, end_rest};
 
 use ordered_multimap::ListOrderedMultimap;
-use ordered_multimap::list_ordered_multimap::Refused;
+use ordered_multimap::list_ordered_multimap::{IntoKeys, IntoValues, Refused};
 use std::alloc::{AllocError, Allocator};
 use std::default::MadeWith;
 use std::hash::{BuildHasher, Hash};
+
+// Moves the keys that are left into the vector, behind those there.
+fn push_keys<K: Drop, A: Allocator>(
+    left: IntoKeys<K, A>,
+    keys: &mut Vec<K, A>,
+) -> Result<(), AllocError>
+    ensures { OnOk result (keys.new.items ≡ keys.old.items ++ left) }
+{
+    for key in left {
+        keys.push(key)?;
+    }
+    Ok(())
+}
 
 /// Moves the keys of a map into a vector with the map's allocator, in key order. The values are
 /// dropped.
@@ -22,10 +35,23 @@ pub fn keys_of<K: Eq + Hash + Drop, V: Drop, S: BuildHasher + Drop, A: Allocator
     ensures keys { IfOk result (λ keys. keys.items ≡ map.lists.keys) }
 {
     let mut keys = Vec::new(*map.allocator());
-    for key in map.into_keys() {
-        keys.push(key)?;
+    match push_keys(map.into_keys(), &mut keys) {
+        Ok(()) => Ok(keys),
+        Err(refused) => Err(refused),
     }
-    Ok(keys)
+}
+
+// Moves the values that are left into the vector, behind those there.
+fn push_values<V: Drop, A: Allocator>(
+    left: IntoValues<V, A>,
+    values: &mut Vec<V, A>,
+) -> Result<(), AllocError>
+    ensures { OnOk result (values.new.items ≡ values.old.items ++ left) }
+{
+    for value in left {
+        values.push(value)?;
+    }
+    Ok(())
 }
 
 /// Moves the values of a map into a vector with the map's allocator, in the order of its pairs. The
@@ -41,10 +67,10 @@ where
     ensures values { IfOk result (λ values. values.items ≡ all_values map.lists.pairs) }
 {
     let mut values = Vec::new(*map.allocator());
-    for value in map.into_values() {
-        values.push(value)?;
+    match push_values(map.into_values(), &mut values) {
+        Ok(()) => Ok(values),
+        Err(refused) => Err(refused),
     }
-    Ok(values)
 }
 
 /// The first key of a map and the last of the others.

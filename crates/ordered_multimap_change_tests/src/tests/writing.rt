@@ -5,7 +5,7 @@ use crate::tests::written::{
     held_walks_end, values_are_updated, walks_have_left, walks_leave_values,
 };
 use ordered_multimap::list_ordered_multimap::{EntryValuesMut, KeyValuesMut};
-use ordered_multimap_callers::filled::{fill_all, fill_by_reference};
+use ordered_multimap_callers::changed::{fill_all, fill_by_reference};
 use ordered_multimap_callers::maps::{
     MIXED, Numbers, ONE_KEY, has_lists, has_pairs, refill, test_on_empty,
 };

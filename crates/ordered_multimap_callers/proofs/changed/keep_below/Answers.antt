@@ -2,7 +2,7 @@ use Rattle.std.proofs.Common.{ap, ◌∙◌, eqb, ltb, rules}
 use Rattle.std.proofs.lemmas.Map.Made.{filter_same_pairs}
 use Rattle.ordered_multimap.specs.Changes.{kept}
 use Rattle.ordered_multimap.proofs.Callers.Retained.{RetainsPairs-retains, kept-named_by}
-use Rattle.ordered_multimap_callers.proofs.retained.keep_below.Goals as goal
+use Rattle.ordered_multimap_callers.proofs.changed.keep_below.Goals as goal
 
 pub returns : goal.returns
 returns g c =

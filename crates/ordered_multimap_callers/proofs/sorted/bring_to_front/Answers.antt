@@ -3,7 +3,7 @@ use Rattle.ordered_multimap.specs.KeyMoves.{other_keys}
 use Rattle.ordered_multimap.proofs.Callers.ListedKeys.{find_none, is_present-any}
 use Rattle.ordered_multimap.proofs.Callers.WellFormed.{same_any}
 use Rattle.ordered_multimap_callers.proofs.MovedLemmas.{first-moved, first-walked}
-use Rattle.ordered_multimap_callers.proofs.moved_keys.bring_to_front.Goals as goal
+use Rattle.ordered_multimap_callers.proofs.sorted.bring_to_front.Goals as goal
 
 pub returns-then-move_key_to_front-clause-first : goal.returns-then-move_key_to_front-clause-first
 returns-then-move_key_to_front-clause-first g c =

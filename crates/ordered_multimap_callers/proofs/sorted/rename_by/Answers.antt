@@ -2,7 +2,7 @@ use Rattle.std.proofs.Common.{ap, ◌∙◌}
 use Rattle.std.specs.Prelude.{is_ok}
 use Rattle.ordered_multimap.specs.Renames.{is_taken}
 use Rattle.ordered_multimap_callers.proofs.MovedLemmas.{renamed-where}
-use Rattle.ordered_multimap_callers.proofs.moved_keys.rename_by.Goals as goal
+use Rattle.ordered_multimap_callers.proofs.sorted.rename_by.Goals as goal
 
 pub returns-in-Ok-clause-done : goal.returns-in-Ok-clause-done
 returns-in-Ok-clause-done g c =
