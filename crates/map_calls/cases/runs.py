@@ -1,6 +1,6 @@
 #!/usr/bin/env python3
 """One call each, on maps that are filled first: its reply, and the lists that it leaves."""
-from random_calls import by_remainder, shown
+from random_calls import by_remainder, shown, some
 
 # Three values of the key 1, two of them equal, two of the key 2, one of the key 3.
 PAIRS = "1:5 2:6 1:7 3:8 1:5 2:6"
@@ -103,6 +103,14 @@ SORTED_PAIRS = [
     ("7:1 2:7 1:2 7:0 2:3 3:4 1:1 7:2 3:1 2:4", "7", "2:4 3:4 1:1 3:1 1:2 2:7 2:3", "2 1 3"),
 ]
 
+# Two keys with two values each; four values of one key; one value; and none.
+MIXED, OF_ONE = "1:11 2:12 2:13 1:14", "1:11 1:12 1:13 1:14"
+# Walks over all pairs and over one key's values, with the type of each.
+WALKS = [(word, "".join(part.title() for part in word.split("_"))) for word in ("iter", "iter_mut", "into_iter", "values", "values_mut", "keys")]
+WALKS += [("pairs", "KeyValues"), ("get_all 1", "EntryValues"), ("get_all_mut 1", "EntryValuesMut"), ("remove_all 1", "EntryValuesDrain")]
+# From both ends and past them, and from the front, so that each step tells how many items are left.
+WORDS = ("fbfbffbfb", "bffbb", "fffff")
+
 # More keys than are sorted without memory.
 MANY = [str(7 * number % 25) for number in range(25)]
 
@@ -147,6 +155,34 @@ def filled(texts, old=""):
         there.add(int(key))
 
 
+def items_of(word, pairs):
+    """What a walk gives, as `Debug` shows it: the items of the type's own text, and of its steps."""
+    pairs = pairs_of(pairs)
+    keys = list(dict.fromkeys(key for key, _ in pairs))
+    values = {it: [value for key, value in pairs if key == it] for it in keys}
+    if "iter" in word:
+        texts = [f"({key}, {value})" for key, value in pairs]
+        return texts, [f"Ok({it})" for it in texts] if word == "into_iter" else texts
+    if word == "pairs":
+        texts = [f"({key}, EntryValues({values[key]}))" for key in keys]
+    else:
+        texts = keys if word == "keys" else [value for key, value in pairs if " " not in word or key == "1"]
+    return texts, texts
+
+
+def walked(word, name, pairs, letters):
+    """A walk by these letters, and its reply."""
+    texts, items = items_of(word, pairs)
+    lines, low, high = [], 0, len(items)
+    for letter in letters:
+        left, at = high - low, low if letter == "f" else high - 1
+        if left:
+            low, high = (low + 1, high) if letter == "f" else (low, high - 1)
+        rest = ", ".join(str(it) for it in texts[low:high])
+        lines.append(f"({left}, Some({left})) {some(items[at] if left else None)} {name}([{rest}])")
+    return f"walk {word} {letters}", "\n".join(lines)
+
+
 def listed(pairs, keys):
     return "lists", shown(keys.split(), pairs_of(pairs))
 
@@ -181,6 +217,8 @@ def runs():
         for word, reply in zip(("into_keys", "into_values"), taken):
             left = " ".join(it for it in pairs.split() if it.split(":")[0] not in gone.split())
             runs.append([*filled(pairs), *removed(pairs, gone), *filled(behind, left), (word, reply), listed("", "")])
+    for pairs in (MIXED, OF_ONE, "1:11", ""):
+        runs += [[*filled(pairs), walked(*walk, pairs, letters)] for walk in WALKS for letters in WORDS]
     for run in runs:
         given = "".join(f"{line}\n" for line, _ in run)
         yield given.encode(), ("".join(f"{reply}\n" for _, reply in run if reply is not None).encode(), b"", 0)

@@ -49,7 +49,7 @@ fn sort_pairs(map: &mut Map) -> Result<(), AllocError> {
 }
 
 /// Takes the map out, and puts an empty one in its place.
-fn taken(map: &mut Map) -> Map {
+pub fn taken(map: &mut Map) -> Map {
     replace(map, ListOrderedMultimap::new(*map.allocator()))
 }
 

@@ -1,6 +1,7 @@
 //! Commands, read from lines.
 use crate::calls::{call_on_whole, call_with_key, call_with_number, rename};
 use crate::key::Key;
+use crate::walks::walk;
 use ordered_multimap::ListOrderedMultimap;
 use program_parts::{bad, text_of};
 use std::io;
@@ -28,7 +29,7 @@ pub fn carry_out_all(
 }
 
 /// The first word, and what stands behind it.
-fn parted(text: &str) -> (&str, &str) {
+pub fn parted(text: &str) -> (&str, &str) {
     text.split_once(' ').unwrap_or((text, ""))
 }
 
@@ -36,6 +37,9 @@ fn carry_out(map: &mut Map, other: &mut Map, line: &str, replies: &mut String) -
     let (word, operands) = parted(line);
     if operands.is_empty() {
         return call_on_whole(map, other, word, replies);
+    }
+    if word == "walk" {
+        return walk(map, operands, replies);
     }
     let (key, number) = parted(operands);
     let key = Key::new(key)?;

@@ -26,6 +26,8 @@
 //! | `swap` | swaps the maps | nothing |
 //! | `into_keys` | `into_keys`, which leaves an empty map | the first key, the last of the others, and the rest |
 //! | `into_values` | `into_values`, which leaves an empty map | the first value, the last of the others, and the rest |
+//! | `walk NAME WORD` | `NAME`, by the letters `f` and `b` of the word: `iter`, `keys`, `values`, `pairs`, `iter_mut`, `values_mut`, or `into_iter`, which leaves an empty map | of each step the size hint before it, the item, and the iterator then |
+//! | `walk NAME KEY WORD` | `get_all`, `get_all_mut` or `remove_all` of the key | the same |
 //! | `lists` | iterates | the pairs, the keys, the values of each key, and those from the back |
 //!
 //! Replies are written as `Debug` shows them, keys as they are stored.
@@ -39,6 +41,7 @@
 mod calls;
 mod command;
 mod key;
+mod walks;
 
 use crate::command::{Map, carry_out_all};
 use ordered_multimap::ListOrderedMultimap;

@@ -1,12 +1,7 @@
 //! The tests of the slot list, of the tape, and of a walk's step along links.
 mod ample;
-mod both;
 mod cell_uses;
 mod cells;
-mod dropped;
-mod ends;
-mod holes;
-mod listed_uses;
 mod moved;
 mod refused;
 mod slots;

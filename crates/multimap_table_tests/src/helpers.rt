@@ -1,8 +1,10 @@
-//! A failed step is told, and a walk or a call that differs is noticed.
+//! What tests stand on: a failed step is told, a walk or a call that differs is noticed, and the allocator grants a given
+//! number of requests and refuses the others.
+use refusing_allocator::RefusingAllocator;
 use std::alloc::Global;
 use std::hash::BuildHasher;
 use test_helpers::{
-    Constant, End, Failed, Test, expect_text, is_compared, is_copied, is_shown,
+    B, Constant, F, Failed, Step, Test, expect_text, is_compared, is_copied, is_shown,
     requests_until_enough, walk_difference,
 };
 
@@ -39,13 +41,10 @@ fn ends_well(alloc: Global, shown: &str) -> bool {
 }
 
 // Steps over 10, 20, 30, with the row at which a walk differs from them.
-const WALKS: &[(&[(End, u32)], Option<usize>)] = &[
-    (&[(End::Front, 10), (End::Back, 30), (End::Front, 20)], None),
-    (
-        &[(End::Front, 10), (End::Front, 20), (End::Front, 31)],
-        Some(2),
-    ),
-    (&[(End::Front, 10), (End::Front, 20)], Some(0)),
+const WALKS: &[(&[Step<u32>], Option<usize>)] = &[
+    (&[(F, 10), (B, 30), (F, 20)], None),
+    (&[(F, 10), (F, 20), (F, 31)], Some(2)),
+    (&[(F, 10), (F, 20)], Some(0)),
 ];
 
 fn walks_differ(test: &Test, items: &[u32]) {
@@ -75,5 +74,35 @@ fn what_differs_is_noticed(rt: HostRuntime) -> Result<(), Failed> {
     test.expect(requests_until_enough(|_| false).is_none());
     test.expect(Constant { hash: 7 }.hash_one(&4) == 7);
     test.expect(values_are_compared());
+    test.end()
+}
+
+fn is_granted(allocator: &RefusingAllocator) -> bool {
+    Box::new(allocator, 7u64).is_ok()
+}
+
+// Six requests, one after the other: a block that is given back grants no other.
+fn boxes_are_granted(test: &Test, granted: u64) {
+    let allocator = RefusingAllocator::new(test.alloc(), granted);
+    for request in 0..6u64 {
+        test.expect(is_granted(&allocator) == (request < granted));
+        test.expect(allocator.refused() == (request >= granted));
+    }
+    test.expect(allocator.granted() == 0);
+}
+
+#[test]
+fn so_many_requests_are_granted(rt: HostRuntime) -> Result<(), Failed> {
+    let test = Test::new(rt.alloc());
+    for granted in 0..4u64 {
+        boxes_are_granted(&test, granted);
+    }
+    let allocator = RefusingAllocator::unlimited(test.alloc());
+    allocator.grant(1);
+    test.expect(is_granted(&allocator) && !is_granted(&allocator));
+    allocator.refuse_none();
+    test.expect(!allocator.refused() && is_granted(&allocator));
+    allocator.refuse_all();
+    test.expect(!is_granted(&allocator) && allocator.refused());
     test.end()
 }

@@ -5,12 +5,8 @@
 //! list of dependencies for its code and its tests, and the key table itself stands on nothing.
 #![tactic(auto)]
 
-#[cfg(test)]
-mod allocator;
 pub mod compared;
 #[cfg(test)]
 mod helpers;
-#[cfg(test)]
-mod refused;
 #[cfg(test)]
 mod rows;

@@ -1,9 +1,10 @@
-//! Tests with ample memory: the calls of the slot list and of the tape.
-use crate::tests::listed_uses::{
+//! Tests with ample memory: the calls of the slot list and of the tape; and a step from the ends of a row.
+use crate::tests::slots::{Items, List, expect_on, expect_slots};
+use crate::tests::uses::{
     Used, push_at_end, push_with_room, take_from, take_from_tape, use_listed, use_listed_on_tape,
 };
-use crate::tests::slots::{Items, List, expect_on, expect_slots};
 use multimap_slots::{Reads, SlotList, Tape};
+use multimap_walks::{ChainEnds, End, ValueLink};
 use std::mem::size_of;
 use test_helpers::{Failed, Test, is_shown};
 
@@ -141,5 +142,33 @@ fn calls_of_a_tape_answer(test: &Test, tape: &mut Items) {
 fn every_call_of_a_tape_answers(rt: HostRuntime) -> Result<(), Failed> {
     let test = Test::new(rt.alloc());
     calls_of_a_tape_answer(&test, &mut Tape::new(test.alloc()));
+    test.end()
+}
+
+const ROW: ChainEnds = ChainEnds {
+    first: 3,
+    last: 8,
+    length: 2,
+};
+
+const LAST: ValueLink = ValueLink {
+    key: 0,
+    previous: Some(3),
+    next: None,
+};
+
+fn is_one(row: ChainEnds, place: usize) -> bool {
+    row.first == place && row.last == place && row.length == 1
+}
+
+#[test]
+fn a_row_is_shortened_at_either_end(rt: HostRuntime) -> Result<(), Failed> {
+    let test = Test::new(rt.alloc());
+    test.expect(ROW.place_at(End::Front) == 3);
+    test.expect(ROW.place_at(End::Back) == 8);
+    test.expect(is_one(ROW.after(End::Front, 8), 8));
+    test.expect(is_one(ROW.after(End::Back, 3), 3));
+    test.expect(LAST.step_from(End::Front).is_none());
+    test.expect(LAST.step_from(End::Back) == Some(3));
     test.end()
 }

@@ -1,13 +1,14 @@
-//! Tests of items that leave the order and stay at their places, and of the right to write the
-//! others, each once.
+//! Items that leave the order and stay at their places, the right to write the others, each once, and what a slot
+//! list and a tape hold, which is dropped once, with what is detached.
 ghost use Rattle.multimap_slots.specs.Slots.{IsDetached};
 
 use crate::tests::cell_uses::{Lending, write_last, write_slots, write_tape_ends};
-use crate::tests::holes::push_four;
 use crate::tests::slots::{Items, List, expect_on, expect_slots};
+use crate::tests::tape_uses::push_four;
 use crate::tests::{tape_uses, uses};
 use multimap_slots::{SlotList, Tape};
-use test_helpers::{Failed, Test};
+use std::rc::Rc;
+use test_helpers::{Failed, Test, test_on_share};
 
 // The second item is detached: it is no item of the list, and stays at its place.
 fn it_has_left_the_list(test: &Test, list: &mut List, detached: usize)
@@ -83,4 +84,62 @@ fn items_leave_the_order_and_the_others_are_written(rt: HostRuntime) -> Result<(
     items_of_a_tape_leave_and_are_written(&test, &mut Tape::new(test.alloc()));
     a_slice_of_slots_is_written(&test);
     test.end()
+}
+
+type Shared = SlotList<Rc<u8>, u8>;
+
+type Shares = Tape<Rc<u8>, u8>;
+
+// The place at which a share of the item is pushed; one at which none is where memory was refused.
+fn share_pushed<F: FnOnce(Rc<u8>) -> Result<usize, Rc<u8>> + Drop>(item: &Rc<u8>, push: F) -> usize
+    requires { F.IsAlwaysCallable push }
+{
+    match item.clone() {
+        Ok(share) => push(share).unwrap_or(9),
+        Err(_) => 9,
+    }
+}
+
+// Pushes a share of the item and detaches it.
+fn add_detached(test: &Test, list: &mut Shared, item: &Rc<u8>) {
+    let place = share_pushed(item, |share| list.push_back(share, 0));
+    let detached = uses::detach_listed(list, place);
+    test.expect(detached && Rc::strong_count(item) == 2);
+}
+
+fn add_detached_to_tape(test: &Test, tape: &mut Shares, item: &Rc<u8>) {
+    let place = share_pushed(item, |share| tape.push_back(share, 0));
+    let detached = tape_uses::detach_listed(tape, place);
+    test.expect(detached && Rc::strong_count(item) == 2);
+}
+
+// The list ends here.
+fn a_list_drops_what_is_detached(test: &Test, mut list: Shared, item: &Rc<u8>) {
+    add_detached(test, &mut list, item);
+    list.clear();
+    test.expect(Rc::strong_count(item) == 1);
+    add_detached(test, &mut list, item);
+}
+
+// The tape ends here.
+fn a_tape_drops_what_is_detached(test: &Test, mut tape: Shares, item: &Rc<u8>) {
+    add_detached_to_tape(test, &mut tape, item);
+    tape.clear();
+    test.expect(Rc::strong_count(item) == 1);
+    add_detached_to_tape(test, &mut tape, item);
+    tape.cut_end();
+    test.expect(Rc::strong_count(item) == 1);
+    add_detached_to_tape(test, &mut tape, item);
+}
+
+fn all_is_dropped(test: &Test, item: &Rc<u8>) {
+    a_list_drops_what_is_detached(test, SlotList::new(test.alloc()), item);
+    test.expect(Rc::strong_count(item) == 1);
+    a_tape_drops_what_is_detached(test, Tape::new(test.alloc()), item);
+    test.expect(Rc::strong_count(item) == 1);
+}
+
+#[test]
+fn what_is_detached_is_dropped(rt: HostRuntime) -> Result<(), Failed> {
+    test_on_share(rt.alloc(), all_is_dropped)
 }

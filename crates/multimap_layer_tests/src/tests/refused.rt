@@ -1,14 +1,101 @@
-//! Tests with refused memory: the nth request is refused, for each n until none is.
-use crate::tests::both::{Both, Kind, push};
-use crate::tests::slots::Slot;
+//! Tests of both with refused memory: the nth request is refused, for each n until none is.
+use crate::tests::slots::{Slot, add_slots, add_slots_on};
+use multimap_slots::{SlotList, Tape};
 use refusing_allocator::RefusingAllocator;
-use std::alloc::Allocator;
+use std::alloc::{AllocError, Allocator};
 use test_helpers::{Failed, Test, lend, requests_until_enough};
+
+// Which of both.
+#[derive(Clone, Copy)]
+enum Kind {
+    List,
+    Tape,
+}
+
+// A slot list or a tape.
+#[derive(Drop)]
+enum Both<A: Allocator> {
+    List(SlotList<usize, u8, A>),
+    Tape(Tape<usize, u8, A>),
+}
+
+impl<A: Allocator + Copy> Both<A> {
+    fn with_capacity(kind: Kind, alloc: A, capacity: usize) -> Result<Both<A>, AllocError> {
+        match kind {
+            Kind::List => Ok(Both::List(SlotList::with_capacity(alloc, capacity)?)),
+            Kind::Tape => Ok(Both::Tape(Tape::with_capacity(alloc, capacity)?)),
+        }
+    }
+
+    fn new(kind: Kind, alloc: A) -> Both<A> {
+        match kind {
+            Kind::List => Both::List(SlotList::new(alloc)),
+            Kind::Tape => Both::Tape(Tape::new(alloc)),
+        }
+    }
+
+    fn capacity(&self) -> usize {
+        match self {
+            Both::List(list) => list.capacity(),
+            Both::Tape(tape) => tape.capacity(),
+        }
+    }
+
+    // Whether the next push takes no memory.
+    fn has_room(&self) -> bool {
+        match self {
+            Both::List(list) => list.len() != list.capacity(),
+            Both::Tape(tape) => tape.has_end_room(),
+        }
+    }
+
+    fn reserve(&mut self, additional: usize) -> Result<(), AllocError> {
+        match self {
+            Both::List(list) => list.reserve(additional),
+            Both::Tape(tape) => tape.reserve(additional),
+        }
+    }
+
+    fn push_back(&mut self, item: usize, link: u8) -> Result<usize, usize> {
+        match self {
+            Both::List(list) => list.push_back(item, link),
+            Both::Tape(tape) => tape.push_back(item, link),
+        }
+    }
+
+    fn remove(&mut self, place: usize) -> Option<usize> {
+        match self {
+            Both::List(list) => list.remove(place),
+            Both::Tape(tape) => tape.remove(place),
+        }
+    }
+
+    fn add_slots(&self, test: &Test, slots: &mut Vec<Slot>) {
+        match self {
+            Both::List(list) => add_slots(test, list, slots),
+            Both::Tape(tape) => add_slots_on(test, tape, slots),
+        }
+    }
+
+    // Each slot from the front.
+    fn slots(&self, test: &Test) -> Vec<Slot> {
+        let mut slots = Vec::new(test.alloc());
+        self.add_slots(test, &mut slots);
+        slots
+    }
+}
+
+// Pushes an item, and returns its place.
+fn push<A: Allocator + Copy>(test: &Test, list: &mut Both<A>, item: usize, link: u8) -> usize {
+    let pushed = list.push_back(item, link);
+    test.expect(pushed.is_ok());
+    pushed.unwrap_or(0)
+}
 
 // More slots than any list of these tests has free.
 const MANY: usize = 40;
 
-/// A call that may find no memory.
+// A call that may find no memory.
 #[derive(Clone, Copy)]
 enum Call {
     PushBack,
@@ -80,20 +167,11 @@ fn call_with<A: Allocator + Copy>(
     enough
 }
 
-// The allocator's type is a parameter, since a list of a type with a reference costs a proof more.
-fn call_by<A: Allocator + Copy>(
-    test: &Test,
-    refusing: &RefusingAllocator,
-    list: Both<A>,
-    call: Call,
-    granted: u64,
-) -> bool {
-    lend(list, |list| call_with(test, refusing, list, call, granted))
-}
-
 fn call_on(test: &Test, kind: Kind, call: Call, granted: u64) -> bool {
     let allocator = RefusingAllocator::unlimited(test.alloc());
-    call_by(test, &allocator, Both::new(kind, &allocator), call, granted)
+    lend(Both::new(kind, &allocator), |list| {
+        call_with(test, &allocator, list, call, granted)
+    })
 }
 
 fn refusals_change_nothing(test: &Test, kind: Kind, call: Call) {
@@ -143,13 +221,11 @@ fn room_is_filled<A: Allocator + Copy>(
     test.expect(!is_enough(test, list, Call::PushBack));
 }
 
-fn room_by<A: Allocator + Copy>(test: &Test, refusing: &RefusingAllocator, list: Both<A>) {
-    lend(list, |list| room_is_filled(test, refusing, list));
-}
-
 fn room_of(test: &Test, kind: Kind) {
     let allocator = RefusingAllocator::unlimited(test.alloc());
-    room_by(test, &allocator, Both::new(kind, &allocator));
+    lend(Both::new(kind, &allocator), |list| {
+        room_is_filled(test, &allocator, list);
+    });
 }
 
 #[test]
