@@ -3,7 +3,7 @@
 //! of the program `map_calls`.
 use ordered_multimap::ListOrderedMultimap;
 use ordered_multimap_callers::maps::{
-    Numbers, NumbersBy, Refusing, appends, fill, refill, has_lists, reserve_anew, test_on_empty,
+    Numbers, NumbersBy, Refusing, appends, fill, has_lists, refill, reserve_anew, test_on_empty,
 };
 use ordered_multimap_callers::test_with_room;
 use refusing_allocator::RefusingAllocator;

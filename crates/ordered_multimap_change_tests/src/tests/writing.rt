@@ -1,14 +1,13 @@
-//! Walks that lend values for writing, over one map that is lent to all comparisons: all pairs, all values,
-//! one key's values, and keys with their values, from both ends. A key that isn't read keeps its values.
-use crate::tests::lending::{keys_of, pairs_of, values_of, values_of_key};
+//! Walks that lend values for writing, over one map that is lent to all comparisons: all pairs, one key's values,
+//! and keys with their values, from both ends. A key that isn't read keeps its values. What each step of the
+//! others gives are cases of the program `map_calls`.
+use crate::tests::lending::{keys_of, values_of_key};
 use crate::tests::written::{
     held_walks_end, values_are_updated, walks_have_left, walks_leave_values,
 };
 use ordered_multimap::list_ordered_multimap::{EntryValuesMut, KeyValuesMut};
 use ordered_multimap_callers::changed::{fill_all, fill_by_reference};
-use ordered_multimap_callers::maps::{
-    MIXED, Numbers, ONE_KEY, has_lists, has_pairs, refill, test_on_empty,
-};
+use ordered_multimap_callers::maps::{MIXED, Numbers, has_lists, has_pairs, refill, test_on_empty};
 use test_helpers::{B, F, Failed, Step, Test, run_parts, walk_difference};
 
 fn numbers_are_written(test: &Test, map: &mut Numbers) {
@@ -19,72 +18,6 @@ fn numbers_are_written(test: &Test, map: &mut Numbers) {
 #[test]
 fn values_are_written_by_walks(rt: HostRuntime) -> Result<(), Failed> {
     test_on_empty(rt.alloc(), numbers_are_written)
-}
-
-const VALUES: &[Step<u32>] = &[(F, 11), (B, 14), (F, 12), (B, 13)];
-
-const PAIRS: &[Step<(u32, u32)>] = &[(F, (1, 11)), (B, (1, 14)), (F, (2, 12)), (B, (2, 13))];
-
-// The pairs of a map, the items of a walk, each of which is raised by 100, and the pairs then.
-type Row<T> = (Pairs, &'static [Step<T>], Pairs);
-
-type Pairs = &'static [(u32, u32)];
-
-const MIXED_RAISED: Pairs = &[(1, 111), (2, 112), (2, 113), (1, 114)];
-
-const ONE_KEY_RAISED: Pairs = &[(1, 111), (1, 112), (1, 113), (1, 114)];
-
-const OF_PAIRS: &[Row<(u32, u32)>] = &[
-    (&[], &[], &[]),
-    (&[(1, 11)], &[(F, (1, 11))], &[(1, 111)]),
-    (MIXED, PAIRS, MIXED_RAISED),
-];
-
-const OF_VALUES: &[Row<u32>] = &[
-    (&[], &[], &[]),
-    (&[(1, 11)], &[(F, 11)], &[(1, 111)]),
-    (MIXED, VALUES, MIXED_RAISED),
-];
-
-// Of the values of the key 1.
-const OF_KEY: &[Row<u32>] = &[
-    (&[], &[], &[]),
-    (&[(1, 11)], &[(F, 11)], &[(1, 111)]),
-    (ONE_KEY, VALUES, ONE_KEY_RAISED),
-];
-
-fn pair_walk(test: &Test, map: &mut Numbers, wanted: &[Step<(u32, u32)>]) {
-    test.expect_same(walk_difference(&mut pairs_of(map), wanted));
-}
-
-fn value_walk(test: &Test, map: &mut Numbers, wanted: &[Step<u32>]) {
-    test.expect_same(walk_difference(&mut values_of(map), wanted));
-}
-
-fn key_walk(test: &Test, map: &mut Numbers, wanted: &[Step<u32>]) {
-    test.expect_same(walk_difference(&mut values_of_key(map, 1), wanted));
-}
-
-macro_rules! rows_are_raised {
-    ($test:ident, $map:ident; $rows:ident, $walk:ident) => {
-        for (at, row) in $rows.iter().enumerate() {
-            refill($test, $map, row.0);
-            $walk($test, $map, row.1);
-            $test.expect_at(at, has_pairs($map, row.2));
-        }
-    };
-}
-
-fn pairs_are_raised(test: &Test, map: &mut Numbers) {
-    rows_are_raised!(test, map; OF_PAIRS, pair_walk)
-}
-
-fn values_are_raised(test: &Test, map: &mut Numbers) {
-    rows_are_raised!(test, map; OF_VALUES, value_walk)
-}
-
-fn values_of_a_key_are_raised(test: &Test, map: &mut Numbers) {
-    rows_are_raised!(test, map; OF_KEY, key_walk)
 }
 
 // Whether this value alone is left.
@@ -124,9 +57,6 @@ fn loops_write(test: &Test, map: &mut Numbers) {
 
 // Each value is lent once, and is written.
 fn values_are_lent_once(test: &Test, map: &mut Numbers) {
-    pairs_are_raised(test, map);
-    values_are_raised(test, map);
-    values_of_a_key_are_raised(test, map);
     both_are_written(test, map);
     loops_write(test, map);
 }

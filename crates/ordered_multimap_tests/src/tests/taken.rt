@@ -1,9 +1,8 @@
 //! Maps that are taken apart for their keys or for their values alone, from both ends, what is dropped then, and
 //! clones of keys that are refused memory. More rows are cases of the program `map_calls`.
-use crate::tests::walks::is_shown_twice;
 use ordered_multimap::ListOrderedMultimap;
 use ordered_multimap::list_ordered_multimap::{IntoIter, UnclonedKey};
-use ordered_multimap_callers::maps::{MIXED, Numbers, fill, map_of};
+use ordered_multimap_callers::maps::{Numbers, fill, map_of};
 use refusing_allocator::RefusingAllocator;
 use std::alloc::Allocator;
 use std::mem;
@@ -32,25 +31,9 @@ fn values_are_handed_out(test: &Test) {
     test.expect_same(walk_difference(&mut made_with_holes(test).into_values(), &wanted));
 }
 
-const KEYS: [&str; 2] = ["IntoKeys([1, 2])", "IntoKeys([2])"];
-
-const VALUES: [&str; 2] = ["IntoValues([11, 12, 13, 14])", "IntoValues([12, 13, 14])"];
-
-fn keys_are_shown(test: &Test) {
-    let mut keys = map_of(test, MIXED).into_keys();
-    test.expect(is_shown_twice(test.alloc(), &mut keys, KEYS));
-}
-
-fn values_are_shown(test: &Test) {
-    let mut values = map_of(test, MIXED).into_values();
-    let shown = is_shown_twice(test.alloc(), &mut values, VALUES);
-    test.expect(shown);
-}
-
 #[test]
 fn keys_or_values_are_handed_out(rt: HostRuntime) -> Result<(), Failed> {
-    test_all!(rt.alloc(); keys_are_handed_out, values_are_handed_out, keys_are_shown,
-        values_are_shown)
+    test_all!(rt.alloc(); keys_are_handed_out, values_are_handed_out)
 }
 
 type Shares = ListOrderedMultimap<u8, Rc<u8>>;
