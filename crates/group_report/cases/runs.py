@@ -98,6 +98,9 @@ TEXTS = [
     b"bound 3\nbound 4\na 2",
     b" bound\t3\na 4\na -2\nb 7",
     b"b 5\na 7\nc 5\nb 2\na -9",
+    # Sums of 20, 24, 13 and 15; and those of 4 and 2, and of 3 and 1, tie.
+    b"5 11\n3 12\n1 13\n5 9\n2 15\n3 12\n",
+    b"4 3\n3 7\n2 1\n1 7\n2 2\n",
     "Zürich 5\n東京 7\nZürich 6\nzürich 1\n".encode(),
     b"a 9223372036854775807\na 1\nb 2\n",
     b"a 9223372036854775807\nb 1\n",

@@ -126,29 +126,25 @@ fn fill<A: Allocator + Copy>(test: &Test, rows: &mut Compared<A>) {
 // One growth past the capacity with this many requests granted.
 fn grow_with<A: Allocator + Copy>(
     test: &Test,
-    allocator: &RefusingAllocator,
+    memory: &RefusingAllocator,
     rows: &mut Compared<A>,
     granted: u64,
 ) -> bool {
     let capacity = rows.table().capacity();
-    allocator.refuse_none();
-    allocator.grant(granted);
+    memory.refuse_none();
+    memory.grant(granted);
     let enough = rows.reserve(capacity).is_ok();
-    test.expect(enough != allocator.refused());
+    test.expect(enough != memory.refused());
     test.expect(enough || rows.table().capacity() == capacity);
     agrees(test, rows);
     enough
 }
 
 // What has room goes on without memory: a row goes and comes again, and others come.
-fn room_is_used<A: Allocator + Copy>(
-    test: &Test,
-    allocator: &RefusingAllocator,
-    rows: &mut Compared<A>,
-) {
+fn use_room<A: Allocator + Copy>(test: &Test, memory: &RefusingAllocator, rows: &mut Compared<A>) {
     let capacity = rows.table().capacity();
     test.expect(rows.reserve(usize::MAX).is_err());
-    allocator.refuse_all();
+    memory.refuse_all();
     test.expect(rows.reserve(capacity.saturating_sub(100)).is_ok());
     test.expect(rows.table().capacity() == capacity);
     test.expect(rows.remove(50));
@@ -159,15 +155,11 @@ fn room_is_used<A: Allocator + Copy>(
     agrees(test, rows);
 }
 
-fn rows_are_refused<A: Allocator + Copy>(
-    test: &Test,
-    allocator: &RefusingAllocator,
-    rows: &mut Compared<A>,
-) {
+fn refuse<A: Allocator + Copy>(test: &Test, memory: &RefusingAllocator, rows: &mut Compared<A>) {
     fill(test, rows);
-    room_is_used(test, allocator, rows);
+    use_room(test, memory, rows);
     for granted in 0..3u64 {
-        let enough = grow_with(test, allocator, rows, granted);
+        let enough = grow_with(test, memory, rows, granted);
         test.expect(enough == (granted == 2));
     }
 }
@@ -180,7 +172,7 @@ fn refusals_change_nothing_and_room_is_used(rt: HostRuntime) -> Result<(), Faile
     test.expect(enough == Some(2));
     let allocator = RefusingAllocator::unlimited(test.alloc());
     match with_room(&allocator, 300, 100) {
-        Ok(mut rows) => rows_are_refused(&test, &allocator, &mut rows),
+        Ok(mut rows) => refuse(&test, &allocator, &mut rows),
         Err(_) => test.fail(),
     }
     allocator.refuse_all();

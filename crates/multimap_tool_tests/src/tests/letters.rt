@@ -21,7 +21,6 @@ struct Letter {
 }
 
 const UPPER: Letter = Letter { is_upper: true };
-
 const LOWER: Letter = Letter { is_upper: false };
 
 /// Whether it is a capital letter.

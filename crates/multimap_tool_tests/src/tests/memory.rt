@@ -14,7 +14,6 @@ use test_helpers::{Constant, Failed, Test, ZERO, lend_made, requests_until_enoug
 // The types of allocator and hash builder are parameters, since a map of a type with a reference
 // costs a proof more.
 type Numbers<S, A> = ListOrderedMultimap<u32, i64, S, A>;
-
 const PAIRS: &[(u32, i64)] = &[(1, 5), (2, 6), (1, 7)];
 
 fn has_pairs<S: BuildHasher, A: Allocator>(map: &Numbers<S, A>, pairs: &[(u32, i64)]) -> bool {

@@ -46,11 +46,7 @@ fn all_pairs_go_to_another_map(rt: HostRuntime) -> Result<(), Failed> {
 }
 
 // It returns whether there was memory enough. Where there was not, both maps are as before.
-fn is_joined<A: Allocator + Copy>(
-    test: &Test,
-    map: &mut Refusing<A>,
-    other: &mut Refusing<A>,
-) -> bool {
+fn moved<A: Allocator + Copy>(test: &Test, map: &mut Refusing<A>, other: &mut Refusing<A>) -> bool {
     let enough = map.append_map(other).is_ok();
     if enough {
         test.expect(has_lists(map, JOINED, &[1, 2, 3, 4]) && has_lists(other, &[], &[]));
@@ -62,7 +58,7 @@ fn is_joined<A: Allocator + Copy>(
 
 fn joins<A: Allocator + Copy>(
     test: &Test,
-    refusing: &RefusingAllocator,
+    memory: &RefusingAllocator,
     map: &mut Refusing<A>,
     granted: u64,
 ) -> bool {
@@ -70,8 +66,8 @@ fn joins<A: Allocator + Copy>(
     test.expect(map.pack_to_fit().is_ok());
     lend(Refusing::new(*map.allocator()), |other| {
         fill(test, other, OTHER);
-        refusing.grant(granted);
-        is_joined(test, map, other)
+        memory.grant(granted);
+        moved(test, map, other)
     })
 }
 
@@ -99,31 +95,27 @@ fn use_slots_up<A: Allocator + Copy>(test: &Test, map: &mut Refusing<A>) {
 
 fn takes_no_memory<A: Allocator + Copy>(
     test: &Test,
-    refusing: &RefusingAllocator,
+    memory: &RefusingAllocator,
     map: &mut Refusing<A>,
     other: &mut Refusing<A>,
 ) {
-    reserve_anew(test, refusing, map, 3, 5);
+    reserve_anew(test, memory, map, 3, 5);
     use_slots_up(test, map);
     let room = (map.keys_capacity(), map.values_capacity());
-    test.expect(map.append_map(other).is_ok() && !refusing.refused());
+    test.expect(map.append_map(other).is_ok() && !memory.refused());
     test.expect((map.keys_capacity(), map.values_capacity()) == room);
     let pairs = [(1, 7), (3, 4), (1, 5), (4, 6), (3, 7)];
     test.expect(has_lists(map, &pairs, &[1, 3, 4]));
 }
 
-fn joins_in_room<A: Allocator + Copy>(
-    test: &Test,
-    refusing: &RefusingAllocator,
-    map: &mut Refusing<A>,
-) {
+fn join_full<A: Allocator + Copy>(test: &Test, memory: &RefusingAllocator, map: &mut Refusing<A>) {
     lend(Refusing::new(*map.allocator()), |other| {
         fill(test, other, OTHER);
-        takes_no_memory(test, refusing, map, other)
+        takes_no_memory(test, memory, map, other)
     })
 }
 
 #[test]
 fn maps_are_joined_in_room(rt: HostRuntime) -> Result<(), Failed> {
-    test_with_room!(rt.alloc(); 0, 0; joins_in_room)
+    test_with_room!(rt.alloc(); 0, 0; join_full)
 }

@@ -72,20 +72,16 @@ fn values_are_replaced<A: Allocator + Copy>(test: &Test, map: &mut Refusing<A>) 
     test.expect(has_lists(map, &[(1, 50), (2, 50)], &[1, 2]));
 }
 
-fn room_is_used<A: Allocator + Copy>(
-    test: &Test,
-    allocator: &RefusingAllocator,
-    map: &mut Refusing<A>,
-) {
-    allocator.refuse_all();
+fn use_room<A: Allocator + Copy>(test: &Test, memory: &RefusingAllocator, map: &mut Refusing<A>) {
+    memory.refuse_all();
     drains_are_dropped(test, map);
-    run_in_room!(test, allocator, map;
+    run_in_room!(test, memory, map;
         2, 4 => drains_are_forgotten, 2, 4 => pairs_come_and_go, 2, 2 => values_are_replaced)
 }
 
 #[test]
 fn room_is_used_without_memory(rt: HostRuntime) -> Result<(), Failed> {
-    test_with_room!(rt.alloc(); 1, 2; room_is_used)
+    test_with_room!(rt.alloc(); 1, 2; use_room)
 }
 
 fn wrappers_tell(test: &Test, lent: KeyWrapper<'_, usize>, owned: KeyWrapper<'_, usize>) {

@@ -9,7 +9,8 @@ use ordered_multimap_callers::maps::{
 use test_helpers::{Constant, Failed, Test, ZERO, run_parts, test_on_new};
 
 fn numbers_leave(test: &Test, map: &mut Numbers) {
-    run_parts!(test, map; values_are_found, values_change, values_are_retained, pairs_stay)
+    run_parts!(test, map; values_are_found, values_change, values_are_retained, pairs_stay,
+        written_pairs_stay)
 }
 
 #[test]
@@ -59,66 +60,34 @@ fn values_are_retained(test: &Test, map: &mut Numbers) {
     test.expect(has_lists(map, &pairs, &[1, 2, 3]));
 }
 
-// What the function leaves of a value, and what it returns.
-#[derive(Clone, Copy)]
-enum Rule {
-    Odd,
-    EvenOnceAdded,
-    ZeroAboveOne,
-}
-
-fn is_kept(rule: Rule, value: &mut u32) -> bool {
-    match rule {
-        Rule::Odd => *value % 2 == 1,
-        Rule::EvenOnceAdded => {
-            *value = value.saturating_add(1);
-            *value % 2 == 0
-        }
-        Rule::ZeroAboveOne => {
-            let above = *value > 1;
-            *value = 0;
-            above
-        }
-    }
-}
-
-type Pairs = &'static [(u32, u32)];
-
-const ONES: Pairs = &[(1, 1), (1, 2), (1, 3)];
-
-// The pairs of a map, a retain, and what it leaves: all pairs, the keys, and the values of the key 1
-// from the back.
-const ROWS: &[(Pairs, Rule, Pairs, &[u32], &[u32])] = &[
-    (
-        &[(1, 1), (1, 2), (2, 3), (1, 4), (1, 5)],
-        Rule::Odd,
-        &[(1, 1), (2, 3), (1, 5)],
-        &[1, 2],
-        &[5, 1],
-    ),
-    (ONES, Rule::EvenOnceAdded, &[(1, 2), (1, 4)], &[1], &[4, 2]),
-    (ONES, Rule::ZeroAboveOne, &[(1, 0), (1, 0)], &[1], &[0, 0]),
-];
-
-// Returns how often the function was called.
-fn keep(map: &mut Numbers, rule: Rule) -> usize {
+// The function is called once on each pair. Neighbours of one key leave.
+fn pairs_stay(test: &Test, map: &mut Numbers) {
+    refill(test, map, &[(1, 1), (1, 2), (2, 3), (1, 4), (1, 5)]);
     let mut calls = 0usize;
     map.retain(|_key, value| {
         calls = calls.saturating_add(1);
-        is_kept(rule, value)
+        *value % 2 == 1
     });
-    calls
+    test.expect(calls == 5);
+    test.expect(has_lists(map, &[(1, 1), (2, 3), (1, 5)], &[1, 2]));
+    test.expect(map.get_all(&1).rev().eq(&[5, 1]) && map.entry_len(&1) == 2);
 }
 
-// Pairs stay by what the function returns, with the value that it leaves.
-fn pairs_stay(test: &Test, map: &mut Numbers) {
-    for (at, (pairs, rule, kept, keys, ones)) in ROWS.iter().enumerate() {
-        refill(test, map, pairs);
-        test.expect_at(at, keep(map, *rule) == pairs.len());
-        test.expect_at(at, has_lists(map, kept, keys));
-        test.expect_at(at, map.entry_len(&1) == ones.len());
-        test.expect_at(at, map.get_all(&1).rev().eq(*ones));
-    }
+// A pair stays with the value that the function leaves.
+fn written_pairs_stay(test: &Test, map: &mut Numbers) {
+    refill(test, map, &[(1, 1), (1, 2), (1, 3)]);
+    map.retain(|_key, value| {
+        *value = value.saturating_add(1);
+        *value % 2 == 0
+    });
+    test.expect(has_lists(map, &[(1, 2), (1, 4)], &[1]) && map.entry_len(&1) == 2);
+    refill(test, map, &[(1, 1), (1, 2), (1, 3)]);
+    map.retain(|_key, value| {
+        let is_above = *value > 1;
+        *value = 0;
+        is_above
+    });
+    test.expect(has_lists(map, &[(1, 0), (1, 0)], &[1]) && map.entry_len(&1) == 2);
 }
 
 fn append_two_each(test: &Test, map: &mut NumbersBy<Constant>) {

@@ -146,16 +146,12 @@ fn a_refused_sort_changes_neither_list(rt: HostRuntime) -> Result<(), Failed> {
     test.end()
 }
 
-fn sorts_one<A: Allocator + Copy>(
-    test: &Test,
-    refusing: &RefusingAllocator,
-    map: &mut Refusing<A>,
-) {
-    refusing.refuse_all();
+fn sorts_one<A: Allocator + Copy>(test: &Test, memory: &RefusingAllocator, map: &mut Refusing<A>) {
+    memory.refuse_all();
     test.expect(map.sort_keys().is_ok() && sorts_by_value(map));
     test.expect(appends(map, 1, 11, false) && sorts_by_value(map));
     test.expect(appends(map, 1, 12, true));
-    test.expect(map.sort_keys().is_ok() && !refusing.refused());
+    test.expect(map.sort_keys().is_ok() && !memory.refused());
     test.expect(has_lists(map, &[(1, 11), (1, 12)], &[1]));
 }
 

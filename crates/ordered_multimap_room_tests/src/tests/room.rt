@@ -70,32 +70,24 @@ fn values_pass_through<A: Allocator + Copy>(test: &Test, map: &mut Refusing<A>) 
 }
 
 // Room that is there already is never refused, and nothing grows.
-fn reserves_nothing<A: Allocator + Copy>(
-    test: &Test,
-    allocator: &RefusingAllocator,
-    map: &mut Refusing<A>,
-) {
+fn needs_none<A: Allocator + Copy>(test: &Test, memory: &RefusingAllocator, map: &mut Refusing<A>) {
     let room = (map.keys_capacity(), map.values_capacity());
-    reserve(test, allocator, map, 2, 5);
-    test.expect(!allocator.refused());
+    reserve(test, memory, map, 2, 5);
+    test.expect(!memory.refused());
     let left = (map.keys_capacity(), map.values_capacity());
     test.expect(left == room);
 }
 
 // Room is used without memory. There is room for five at first.
-fn room_is_used<A: Allocator + Copy>(
-    test: &Test,
-    allocator: &RefusingAllocator,
-    map: &mut Refusing<A>,
-) {
-    allocator.refuse_all();
-    reserves_nothing(test, allocator, map);
-    run_in_room!(test, allocator, map; 3, 3 => three_are_added, 1, 2 => values_pass_through)
+fn use_room<A: Allocator + Copy>(test: &Test, memory: &RefusingAllocator, map: &mut Refusing<A>) {
+    memory.refuse_all();
+    needs_none(test, memory, map);
+    run_in_room!(test, memory, map; 3, 3 => three_are_added, 1, 2 => values_pass_through)
 }
 
 #[test]
 fn room_is_used_without_memory(rt: HostRuntime) -> Result<(), Failed> {
-    test_with_room!(rt.alloc(); 5, 5; room_is_used)
+    test_with_room!(rt.alloc(); 5, 5; use_room)
 }
 
 /// Room comes with a pair, and with a call that asks for it.
@@ -144,16 +136,16 @@ fn told<A: Allocator + Copy>(map: &Refusing<A>) -> (usize, usize, Option<u32>, O
 // Pairs of present keys find room where no new key does.
 fn present_keys_find_room<A: Allocator + Copy>(
     test: &Test,
-    allocator: &RefusingAllocator,
+    memory: &RefusingAllocator,
     map: &mut Refusing<A>,
 ) {
-    reserve_anew(test, allocator, map, 3, 70);
+    reserve_anew(test, memory, map, 3, 70);
     let keys = fill_keys(test, map);
     let pairs = extended(map, &[(0, 1), (1, 1), (0, 2)]);
-    test.expect(pairs == (None, 0) && !allocator.refused());
+    test.expect(pairs == (None, 0) && !memory.refused());
     test.expect(told(map) == (keys, keys.saturating_add(3), Some(2), Some(0)));
     let pairs = extended(map, &[(2, 1), (99, 1), (2, 2)]);
-    test.expect(pairs == (Some((99, 1)), 1) && allocator.refused());
+    test.expect(pairs == (Some((99, 1)), 1) && memory.refused());
     test.expect(told(map) == (keys, keys.saturating_add(4), Some(2), Some(1)));
 }
 

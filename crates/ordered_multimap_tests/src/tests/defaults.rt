@@ -9,10 +9,7 @@ use refusing_allocator::RefusingAllocator;
 use std::alloc::{AllocError, Allocator};
 use test_helpers::{Failed, Test, lend, requests_until_enough, try_on_new};
 
-fn or_default<A: Allocator + Copy>(
-    map: &mut Refusing<A>,
-    key: u32,
-) -> Result<u32, Refused<u32, u32>> {
+fn default<A: Allocator + Copy>(map: &mut Refusing<A>, key: u32) -> Result<u32, Refused<u32, u32>> {
     match map.entry(key).or_default() {
         Ok(first) => Ok(*first),
         Err(refused) => Err(refused),
@@ -44,7 +41,7 @@ const FULL: &[(u32, u32)] = &[(1, 11), (2, 12)];
 
 // It returns whether there was memory enough.
 fn puts_default<A: Allocator + Copy>(test: &Test, map: &mut Refusing<A>) -> bool {
-    match or_default(map, 3) {
+    match default(map, 3) {
         Ok(first) => {
             test.expect(first == 0);
             test.expect(has_lists(map, &[(1, 11), (2, 12), (3, 0)], &[1, 2, 3]));
@@ -60,7 +57,7 @@ fn puts_default<A: Allocator + Copy>(test: &Test, map: &mut Refusing<A>) -> bool
 
 // A key that is present needs no memory.
 fn finds_present<A: Allocator + Copy>(test: &Test, map: &mut Refusing<A>) {
-    test.expect(or_default(map, 2) == Ok(12));
+    test.expect(default(map, 2) == Ok(12));
     test.expect(has_lists(map, FULL, &[1, 2]));
 }
 
@@ -127,19 +124,15 @@ fn takes_memory<A: Allocator + Copy>(map: &Refusing<A>) -> bool {
 }
 
 // A map made with the allocator of another one asks the same allocator.
-fn memory_is_shared<A: Allocator + Copy>(
-    test: &Test,
-    allocator: &RefusingAllocator,
-    map: &mut Refusing<A>,
-) {
+fn is_shared<A: Allocator + Copy>(test: &Test, memory: &RefusingAllocator, map: &mut Refusing<A>) {
     test.expect(takes_memory(map));
-    allocator.refuse_all();
+    memory.refuse_all();
     test.expect(!takes_memory(map));
-    test.expect(allocator.refused());
+    test.expect(memory.refused());
     test.expect(map.is_empty());
 }
 
 #[test]
 fn an_allocator_serves_two_maps(rt: HostRuntime) -> Result<(), Failed> {
-    test_with_room!(rt.alloc(); 0, 0; memory_is_shared)
+    test_with_room!(rt.alloc(); 0, 0; is_shared)
 }

@@ -30,7 +30,9 @@ type Owned<S> = ListOrderedMultimap<String, u32, S>;
 const PAIRS: &[(&str, u32)] = &[("line", 1), ("page", 8), ("line", 2)];
 
 // A name, the first of its values, and how many it has.
-const FOUND: &[(&str, Option<u32>, usize)] = &[
+type Found = (&'static str, Option<u32>, usize);
+
+const FOUND: &[Found] = &[
     ("line", Some(1), 2),
     ("page", Some(8), 1),
     ("none", None, 0),
@@ -53,12 +55,7 @@ fn refill<S: BuildHasher>(test: &Test, map: &mut Owned<S>) {
     }
 }
 
-fn row_is_found<S: BuildHasher>(
-    test: &Test,
-    map: &Owned<S>,
-    at: usize,
-    row: &(&str, Option<u32>, usize),
-) {
+fn row_is_found<S: BuildHasher>(test: &Test, map: &Owned<S>, at: usize, row: &Found) {
     let (name, first, count) = *row;
     test.expect_at(at, map.get(name).copied() == first);
     test.expect_at(at, map.contains_key(name) == (count > 0));
@@ -85,30 +82,12 @@ fn is_shown_as<S: BuildHasher>(test: &Test, map: &Owned<S>, wanted: &str) {
 
 const PAGE: &str = r#"{"page": 8}"#;
 
-fn removed<S: BuildHasher>(test: &Test, map: &mut Owned<S>) {
-    test.expect(map.remove("line") == Some(1));
-    test.expect(map.remove("line").is_none());
-    is_shown_as(test, map, PAGE);
-}
-
 // What a removal hands out, and how long the key is.
 fn entry_of<S: BuildHasher>(map: &mut Owned<S>, name: &str) -> Option<(usize, u32)> {
     match map.remove_entry(name) {
         Some((key, value)) => Some((key.len(), value)),
         None => None,
     }
-}
-
-fn entries_are_removed<S: BuildHasher>(test: &Test, map: &mut Owned<S>) {
-    test.expect(entry_of(map, "line") == Some((4, 1)));
-    test.expect(entry_of(map, "line").is_none());
-    is_shown_as(test, map, PAGE);
-}
-
-fn all_are_drained<S: BuildHasher>(test: &Test, map: &mut Owned<S>) {
-    test.expect(map.remove_all("line").next_back() == Some(2));
-    test.expect(map.remove_all("none").len() == 0);
-    is_shown_as(test, map, PAGE);
 }
 
 // The first value that a removal hands out, and how long the key is.
@@ -118,7 +97,18 @@ fn drained<S: BuildHasher>(map: &mut Owned<S>, name: &str) -> (Option<u32>, Opti
     (first, stored.map(|key| key.len()))
 }
 
-fn drained_with_the_key<S: BuildHasher>(test: &Test, map: &mut Owned<S>) {
+// The name's values are taken out by one call after another.
+fn names_leave<S: BuildHasher>(test: &Test, map: &mut Owned<S>) {
+    test.expect(map.remove("line") == Some(1) && map.remove("line").is_none());
+    refill(test, map);
+    test.expect(entry_of(map, "line") == Some((4, 1)) && entry_of(map, "line").is_none());
+    refill(test, map);
+    test.expect(map.remove_all("line").next_back() == Some(2));
+    test.expect(map.remove_all("none").len() == 0);
+    is_shown_as(test, map, PAGE);
+}
+
+fn names_leave_with_keys<S: BuildHasher>(test: &Test, map: &mut Owned<S>) {
     test.expect(drained(map, "line") == (Some(1), Some(4)));
     test.expect(drained(map, "none") == (None, None));
     is_shown_as(test, map, PAGE);
@@ -132,13 +122,9 @@ fn texts_are_queries<S: BuildHasher>(test: &Test, map: &mut Owned<S>) {
     }
     values_are_written(test, map);
     refill(test, map);
-    removed(test, map);
+    names_leave(test, map);
     refill(test, map);
-    entries_are_removed(test, map);
-    refill(test, map);
-    all_are_drained(test, map);
-    refill(test, map);
-    drained_with_the_key(test, map);
+    names_leave_with_keys(test, map);
 }
 
 fn is_found<K: Eq + Hash + Drop, Q: KeyQuery<K>>(

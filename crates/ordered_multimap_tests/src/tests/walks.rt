@@ -38,15 +38,9 @@ fn walks_are_taken(test: &Test, map: &mut Numbers) {
     four_pairs_are_walked(test, map);
 }
 
-fn is_lent(
-    item: Option<(&u32, EntryValues<'_, u32, u32>)>,
-    wanted: u32,
-    steps: &[Step<u32>],
-) -> bool {
+fn is_lent(item: Option<(&u32, EntryValues<'_, u32, u32>)>, key: u32, steps: &[Step<u32>]) -> bool {
     match item {
-        Some((key, mut values)) => {
-            *key == wanted && walk_difference(&mut values, steps).is_none()
-        }
+        Some((it, mut values)) => { *it == key && walk_difference(&mut values, steps).is_none() }
         None => false,
     }
 }

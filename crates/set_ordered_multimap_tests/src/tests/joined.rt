@@ -131,11 +131,7 @@ const OTHER: Pairs = &[(3, 3), (1, 3), (4, 5), (1, 6)];
 const JOINED: Pairs = &[(1, 1), (2, 2), (1, 3), (2, 4), (3, 3), (4, 5), (1, 6)];
 
 // It returns whether there was memory enough. Where there was not, both sets are as before.
-fn is_joined<A: Allocator + Copy>(
-    test: &Test,
-    set: &mut Refusing<A>,
-    other: &mut Refusing<A>,
-) -> bool {
+fn moved<A: Allocator + Copy>(test: &Test, set: &mut Refusing<A>, other: &mut Refusing<A>) -> bool {
     let room = rooms(other);
     let enough = set.append_map(other).is_ok();
     if enough {
@@ -149,15 +145,15 @@ fn is_joined<A: Allocator + Copy>(
 
 fn joins<A: Allocator + Copy>(
     test: &Test,
-    refusing: &RefusingAllocator,
+    memory: &RefusingAllocator,
     set: &mut Refusing<A>,
     granted: u64,
 ) -> bool {
     refill(test, set, FULL);
     lend(Refusing::new(*set.allocator()), |other| {
         refill(test, other, OTHER);
-        refusing.grant(granted);
-        is_joined(test, set, other)
+        memory.grant(granted);
+        moved(test, set, other)
     })
 }
 
@@ -169,7 +165,7 @@ fn joins_with(test: &Test, granted: u64) -> bool {
 // again.
 fn takes_no_memory<A: Allocator + Copy>(
     test: &Test,
-    refusing: &RefusingAllocator,
+    memory: &RefusingAllocator,
     set: &mut Refusing<A>,
     other: &mut Refusing<A>,
 ) -> bool {
@@ -177,22 +173,22 @@ fn takes_no_memory<A: Allocator + Copy>(
     refill(test, other, OTHER);
     set.retain(|_key, value| *value == 3);
     let room = rooms(set);
-    refusing.refuse_all();
+    memory.refuse_all();
     test.expect(set.append_map(other).is_ok() && rooms(set) == room);
     test.expect(has_lists(set, &[(1, 3), (3, 3), (4, 5), (1, 6)], &[1, 3, 4]));
-    !refusing.refused()
+    !memory.refused()
 }
 
 fn joins_in_room<A: Allocator + Copy>(
     test: &Test,
-    refusing: &RefusingAllocator,
+    memory: &RefusingAllocator,
     set: &mut Refusing<A>,
     _granted: u64,
 ) -> bool {
     refill(test, set, FULL);
     lend(Refusing::new(*set.allocator()), |other| {
         refill(test, other, OTHER);
-        takes_no_memory(test, refusing, set, other)
+        takes_no_memory(test, memory, set, other)
     })
 }
 

@@ -61,7 +61,7 @@ fn refused_pair(refused: Refused<u32, u32>) -> (u32, u32) {
 }
 
 // Inserts the new pair. It returns whether there was memory.
-fn insert<A: Allocator + Copy>(
+fn put<A: Allocator + Copy>(
     test: &Test,
     set: &mut Refusing<A>,
     before: Pairs,
@@ -163,7 +163,7 @@ fn tries<A: Allocator + Copy>(
     refill(test, set, pairs_before(call));
     refusing.grant(granted);
     let enough = match call {
-        Try::Insert(before, keys) => insert(test, set, before, keys),
+        Try::Insert(before, keys) => put(test, set, before, keys),
         Try::Extend => extend(test, set),
         Try::ExtendByTrait => extend_by_trait(test, set),
         Try::Clone => clone_of(test, set),
