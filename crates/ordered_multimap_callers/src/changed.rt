@@ -104,8 +104,7 @@ pub fn fill_by_reference<K: Eq + Hash, V: Copy, S: BuildHasher, A: Allocator>(
     }
 }
 
-/// Moves all pairs to another map in place of its own. There the keys stand in the order in which
-/// the pairs first name them.
+/// Moves all pairs to another map in place of its own, and the keys as the pairs first name them.
 pub fn move_all<K: Eq + Hash + Drop, V: Drop, S: BuildHasher, T: BuildHasher, A: Allocator + Copy>(
     from: &mut ListOrderedMultimap<K, V, S, A>,
     to: &mut ListOrderedMultimap<K, V, T, A>,
@@ -123,8 +122,7 @@ pub fn move_all<K: Eq + Hash + Drop, V: Drop, S: BuildHasher, T: BuildHasher, A:
     to.append_map(from)
 }
 
-/// Appends all pairs of the other map where there is room for them: that is never refused, and
-/// raises no capacity.
+/// Appends all pairs of the other map where there is room for them, which raises no capacity.
 pub fn append_in_room<
     K: Eq + Hash + Drop,
     V: Drop,

@@ -89,8 +89,7 @@ pub fn count_entered<K: Eq + Hash + Drop, V: Drop, S: BuildHasher, A: Allocator 
         → map.new.lists ≡ map.old.lists) }
     ensures absent { OnOk result (is_present K.eq map.old.lists.pairs key ≡ false
         → map.new.lists ≡ appended K.eq map.old.lists key value) }
-    ensures count { IfOk result (λ n.
-        n ≡ length (values_of K.eq map.new.lists.pairs key)) }
+    ensures count { IfOk result (λ n. n ≡ length (values_of K.eq map.new.lists.pairs key)) }
     ensures unchanged { OnErr result (map.new.lists ≡ map.old.lists) }
 {
     let entry = map.entry(key).or_insert_entry(value)?;
@@ -107,10 +106,7 @@ pub fn append_by_entry<K: Eq + Hash + Drop, V: Drop, S: BuildHasher, A: Allocato
     ensures unchanged { OnErr result (map.new.lists ≡ map.old.lists) }
 {
     match map.entry(key) {
-        Entry::Occupied(mut entry) => {
-            entry.append(value)?;
-            Ok(())
-        }
+        Entry::Occupied(mut entry) => Ok(entry.append(value)?),
         Entry::Vacant(entry) => {
             entry.insert(value)?;
             Ok(())

@@ -17,8 +17,7 @@ use std::alloc::Allocator;
 use std::hash::{BuildHasher, Hash};
 use std::mem;
 
-/// Puts the pair in the place of all others of its key, if the key is present, and returns the
-/// first old value.
+/// Puts the pair in the place of all others of its key, if there are any, and returns their first value.
 pub fn replace_if_present<K: Eq + Hash + Drop, V: Drop, S: BuildHasher, A: Allocator + Copy>(
     map: &mut ListOrderedMultimap<K, V, S, A>,
     key: K,
@@ -43,8 +42,7 @@ pub fn replace_if_present<K: Eq + Hash + Drop, V: Drop, S: BuildHasher, A: Alloc
     }
 }
 
-/// Writes the value in place of the first one of the key, if the key is present, and returns the
-/// one before.
+/// Writes the value in place of the first one of the key, if there is one, and returns that.
 pub fn swap_first<K: Eq + Hash + Drop, V: Drop, S: BuildHasher, A: Allocator>(
     map: &mut ListOrderedMultimap<K, V, S, A>,
     key: K,
@@ -115,8 +113,7 @@ pub fn take_key_out<K: Eq + Hash + Drop, V: Drop, S: BuildHasher, A: Allocator>(
     ensures key { option_map (λ r. r.0) result
         ≡ option_map (λ _. stored_key K.eq map.old.lists.keys key)
         (slice_get (values_of K.eq map.old.lists.pairs key) 0) }
-    ensures count { IfSome result (λ r.
-        r.1 ≡ length (values_of K.eq map.old.lists.pairs key)) }
+    ensures count { IfSome result (λ r. r.1 ≡ length (values_of K.eq map.old.lists.pairs key)) }
 {
     match map.entry(key) {
         Entry::Occupied(entry) => {
@@ -138,8 +135,7 @@ pub fn count_inserted<K: Eq + Hash + Drop, V: Drop, S: BuildHasher, A: Allocator
         → map.new.lists ≡ map.old.lists }
     ensures absent { is_present K.eq map.old.lists.pairs key ≡ false
         → OnOk result (map.new.lists ≡ appended K.eq map.old.lists key value) }
-    ensures count { IfOk result (λ n.
-        n ≡ length (values_of K.eq map.new.lists.pairs key)) }
+    ensures count { IfOk result (λ n. n ≡ length (values_of K.eq map.new.lists.pairs key)) }
     ensures unchanged { OnErr result (map.new.lists ≡ map.old.lists) }
     ensures occupied { is_present K.eq map.old.lists.pairs key ≡ true → IsOk result }
     ensures refused { IfErr result (λ pair. pair ≡ record { key = key; value = value }) }
@@ -183,8 +179,7 @@ where
     }
 }
 
-/// The key's first value, where it is absent after the pair with what the function returns was put
-/// last.
+/// The key's first value, which is what the function returns where the key is absent.
 pub fn first_or_made<K, V, S, A, F>(
     map: &mut ListOrderedMultimap<K, V, S, A>,
     key: K,
@@ -211,8 +206,7 @@ where
     Ok(*first)
 }
 
-/// Puts the pair with what the function returns last if the key is absent, and returns how many
-/// values the key has then.
+/// Puts the pair with what the function returns last if the key is absent, and counts its values then.
 pub fn count_made<K, V, S, A, F>(
     map: &mut ListOrderedMultimap<K, V, S, A>,
     key: K,
@@ -230,8 +224,7 @@ where
     ensures absent { is_present K.eq map.old.lists.pairs key ≡ false
         → OnOk result ((v : V) × F.post make v
         × (map.new.lists ≡ appended K.eq map.old.lists key v)) }
-    ensures count { IfOk result (λ n.
-        n ≡ length (values_of K.eq map.new.lists.pairs key)) }
+    ensures count { IfOk result (λ n. n ≡ length (values_of K.eq map.new.lists.pairs key)) }
     ensures unchanged { OnErr result (map.new.lists ≡ map.old.lists) }
     ensures occupied { is_present K.eq map.old.lists.pairs key ≡ true → IsOk result }
     ensures refused { IfErr result (λ pair. (pair.key ≡ key) × F.post make pair.value) }

@@ -1,9 +1,7 @@
 //! Callers of the map that are proved, for all inputs and most of them for every key and value type:
 //! each says by its own clauses what the map is afterwards, and knows no more of it than the clauses
-//! of the calls that it makes. And the maps and the comparisons that the map's tests share.
-//!
-//! No test stands here: the crates of tests hold nothing else, so that their own proofs are short,
-//! and what they call is proved once.
+//! of the calls that it makes. And the maps and the comparisons that the map's tests share, so that
+//! these are proved once.
 #![tactic(auto)]
 
 pub mod changed;

@@ -1,7 +1,5 @@
-//! Maps of numbers and of texts, what they are compared with, both their lists and their room, and tests that
-//! are lent an empty map.
-//!
-//! Each comparison is proved once here and costs a test no more than a call.
+//! Maps of numbers and of texts, what they are compared with, and tests that are lent an empty map. Each comparison
+//! is proved once here and costs a test no more than a call.
 use ordered_multimap::ListOrderedMultimap;
 use ordered_multimap::list_ordered_multimap::DefaultState;
 use refusing_allocator::RefusingAllocator;
@@ -67,8 +65,7 @@ pub fn map_of<K: Eq + Hash + Copy, V: Copy>(
     map
 }
 
-/// Expects that no memory was refused, takes all pairs out and gives all room up, asks for room for so
-/// many keys and values, and refuses all memory from then on.
+/// Expects that no memory was refused, gives all pairs and all room up, and reserves anew.
 pub fn reserve_anew<A: Allocator + Copy>(
     test: &Test,
     allocator: &RefusingAllocator,
@@ -200,8 +197,7 @@ pub fn test_on_empty<T: Checked, M: Empty, F: FnOnce(&T, &mut M)>(
     test.finish()
 }
 
-/// Runs a test of a check that is lent a map with room for so many keys and so many values, and an
-/// allocator that can refuse the map's memory.
+/// Runs a check that is lent an allocator that can refuse memory, and a map by it with this room.
 #[macro_export]
 macro_rules! test_with_room {
     ($alloc:expr; $keys:expr, $values:expr; $check:path) => {{
@@ -216,8 +212,7 @@ macro_rules! test_with_room {
     }};
 }
 
-/// Runs each part on the emptied map with room for so many keys and values, where all memory is
-/// refused, and expects that none was asked for.
+/// Runs each part on the emptied map with this room, and expects that no memory was asked for.
 #[macro_export]
 macro_rules! run_in_room {
     ($test:expr, $allocator:expr, $map:expr; $($keys:expr, $values:expr => $part:path),+) => {{

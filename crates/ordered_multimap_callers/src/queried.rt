@@ -79,23 +79,19 @@ pub fn take_first_by<K: Eq + Hash + Drop, V: Drop, Q: KeyQuery<K>, S: BuildHashe
     query: Q,
 ) -> Option<V>
     ensures lists { map.new.lists ≡ removed_where K.eq (Q.equivalent query) map.old.lists }
-    ensures value { result
-        ≡ slice_get (values_where (Q.equivalent query) map.old.lists.pairs) 0 }
+    ensures value { result ≡ slice_get (values_where (Q.equivalent query) map.old.lists.pairs) 0 }
 {
     map.remove(query)
 }
 
-/// Sets the first value of the key that a query stands for, if it is there, and returns the one
-/// before.
+/// Sets the first value of the key that a query stands for, if it is there, and returns the old one.
 pub fn set_first_by<K: Eq + Hash, V: Drop, Q: KeyQuery<K>, S: BuildHasher, A: Allocator>(
     map: &mut ListOrderedMultimap<K, V, S, A>,
     query: Q,
     value: V,
 ) -> Option<V>
-    ensures lists { map.new.lists
-        ≡ first_written_where (Q.equivalent query) map.old.lists value }
-    ensures value { result
-        ≡ slice_get (values_where (Q.equivalent query) map.old.lists.pairs) 0 }
+    ensures lists { map.new.lists ≡ first_written_where (Q.equivalent query) map.old.lists value }
+    ensures value { result ≡ slice_get (values_where (Q.equivalent query) map.old.lists.pairs) 0 }
 {
     match map.get_mut(query) {
         Some(first) => Some(mem::replace(first, value)),
@@ -150,8 +146,7 @@ pub fn take_second_by<K: Eq + Hash + Drop, V, Q: KeyQuery<K>, S: BuildHasher, A:
     query: Q,
 ) -> Option<V>
     ensures lists { map.new.lists ≡ index_removed K.eq (Q.equivalent query) map.old.lists 1 }
-    ensures value { result
-        ≡ slice_get (values_where (Q.equivalent query) map.old.lists.pairs) 1 }
+    ensures value { result ≡ slice_get (values_where (Q.equivalent query) map.old.lists.pairs) 1 }
 {
     map.remove_index(query, 1)
 }
@@ -183,8 +178,7 @@ pub fn take_equal_by<
     map.retain_all(query, |other| *value != *other);
 }
 
-/// Sets the value of a key by its entry, if the key is present, and returns the first of the old
-/// ones.
+/// Sets the value of a key by its entry, if the key is present, and returns the first old one.
 pub fn set_if_present<K: Eq + Hash + Drop, V: Drop, S: BuildHasher, A: Allocator>(
     map: &mut ListOrderedMultimap<K, V, S, A>,
     key: K,

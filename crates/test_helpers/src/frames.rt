@@ -24,9 +24,8 @@ macro_rules! test_all {
     }};
 }
 
-/// Tries a call with so many granted requests for memory: lends a check the test, an allocator, and what
-/// is made with that, and returns whether the check says that they were enough. Where they weren't, one
-/// has to have been refused.
+/// Tries a call with so many granted requests: lends a check an allocator and what is made with that, and
+/// returns whether the check says that they were enough. Where they weren't, one was refused.
 #[macro_export]
 macro_rules! try_on_new {
     ($test:expr, $granted:expr; $new:path; $tries:path $(, $given:expr)*) => {{

@@ -52,8 +52,7 @@ pub fn insert_in_room<K: Eq + Hash + Drop, V: Eq + Drop, S: BuildHasher, A: Allo
     key: K,
     value: V,
 ) -> bool
-    ensures { result ≡ true
-        → set.new.lists ≡ set_inserted K.eq V.eq set.old.lists key value }
+    ensures { result ≡ true → set.new.lists ≡ set_inserted K.eq V.eq set.old.lists key value }
 {
     let has_room = set.keys_len() < set.keys_capacity() && set.values_len() < set.values_capacity();
     has_room && set.insert(key, value).is_ok()
