@@ -11,7 +11,7 @@ use test_helpers::{Checked, Failed, Plain, Step, Test, gives, walk_difference};
 pub type Numbers = ListOrderedMultimap<u32, u32>;
 
 /// A map of numbers with a hash builder of this type.
-pub type NumbersBy<S> = ListOrderedMultimap<u32, u32, S>;
+pub type MapBy<S> = ListOrderedMultimap<u32, u32, S>;
 
 /// A map of texts.
 pub type Texts = ListOrderedMultimap<&'static str, &'static str>;

@@ -128,6 +128,7 @@ fn faults_are_told_and_passed_on(rt: HostRuntime) -> Result<(), Failed> {
 }
 
 type Commands = Vec<Command<u32, i64>>;
+
 type Replies = Vec<Reply<u32, i64>>;
 
 /// Each word once.

@@ -21,6 +21,7 @@ struct Letter {
 }
 
 const UPPER: Letter = Letter { is_upper: true };
+
 const LOWER: Letter = Letter { is_upper: false };
 
 /// Whether it is a capital letter.

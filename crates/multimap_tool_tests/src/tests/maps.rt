@@ -91,7 +91,9 @@ const NUMBERS: &[(&str, &[u32], &str)] = &[
 ];
 
 const PAIRS: &str = "[[1,5],[2,6],[1,7]]";
+
 const EMPTY: &str = r#"{"keys":[],"pairs":[]}"#;
+
 const MIXED: &str = r#"{"keys":[2,1],"pairs":[[1,5],[2,6],[1,7]]}"#;
 
 // Faults, with texts of no map of numbers. The first bad item decides, whatever is wrong with the others,

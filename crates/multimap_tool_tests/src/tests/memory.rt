@@ -9,21 +9,13 @@ use refusing_allocator::RefusingAllocator;
 use serde_json::Value;
 use std::alloc::Allocator;
 use std::hash::BuildHasher;
-use test_helpers::{Constant, Failed, Test, ZERO, lend_made, requests_until_enough};
+use test_helpers::{Constant, Failed, Test, ZERO, gives, lend_made, requests_until_enough};
 
 // The types of allocator and hash builder are parameters, since a map of a type with a reference
 // costs a proof more.
 type Numbers<S, A> = ListOrderedMultimap<u32, i64, S, A>;
-const PAIRS: &[(u32, i64)] = &[(1, 5), (2, 6), (1, 7)];
 
-fn has_pairs<S: BuildHasher, A: Allocator>(map: &Numbers<S, A>, pairs: &[(u32, i64)]) -> bool {
-    let mut walk = map.iter();
-    let mut same = true;
-    for (key, value) in pairs {
-        same = same && walk.next() == Some((key, value));
-    }
-    same && walk.next().is_none()
-}
+const PAIRS: &[(u32, i64)] = &[(1, 5), (2, 6), (1, 7)];
 
 fn fault_of<M>(read: &Result<M, ReadFault>) -> Option<ReadFault> {
     match read {
@@ -43,7 +35,7 @@ fn read_with(test: &Test, value: &Value, ample: Option<ReadFault>, granted: u64)
 fn read_by<A: Allocator + Copy>(test: &Test, allocator: A, value: &Value) -> Option<ReadFault> {
     let read = from_value(allocator, test.alloc(), DefaultState::new(), value);
     let fault = fault_of(&read);
-    let has_all = |map: &mut Numbers<DefaultState, A>| test.expect(has_pairs(map, PAIRS));
+    let has_all = |map: &mut Numbers<DefaultState, A>| test.expect(gives(&mut map.iter(), PAIRS));
     lend_made(read, has_all, |_fault| {});
     fault
 }
@@ -112,7 +104,7 @@ fn is_read_whole<S: BuildHasher + Drop, A: Allocator + Copy>(
     value: &Value,
 ) -> bool {
     let read = from_value(allocator, test.alloc(), state, value);
-    let has_all = |map: &mut Numbers<S, A>| test.expect(has_pairs(map, PAIRS));
+    let has_all = |map: &mut Numbers<S, A>| test.expect(gives(&mut map.iter(), PAIRS));
     lend_made(read, has_all, |_fault| {})
 }
 

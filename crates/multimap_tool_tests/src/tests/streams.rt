@@ -134,32 +134,34 @@ impl Read for FailingReader<'_> {
     }
 }
 
-/// What becomes of one write.
+/// What becomes of one write, or of the flush.
 #[derive(Clone, Copy)]
 enum Trouble {
     Fails,
     TakesNothing,
+    IsUnflushed,
 }
 
 /// A writer that takes three bytes a write, and has trouble with one of its writes.
 #[derive(Drop)]
 struct FailingWriter {
     taken: Vec<u8>,
-    writes_before: u64,
+    before: u64,
     trouble: Trouble,
     met: bool,
 }
 
 impl Write for FailingWriter {
     fn write(&mut self, buf: &[u8]) -> io::Result<usize> {
-        if self.writes_before == 0 && !self.met {
+        if self.before == 0 && !self.met {
             self.met = true;
-            return match self.trouble {
-                Trouble::Fails => Err(Error::from(ErrorKind::BrokenPipe)),
-                Trouble::TakesNothing => Ok(0),
-            };
+            match self.trouble {
+                Trouble::Fails => return Err(Error::from(ErrorKind::BrokenPipe)),
+                Trouble::TakesNothing => return Ok(0),
+                Trouble::IsUnflushed => {}
+            }
         }
-        self.writes_before = self.writes_before.saturating_sub(1);
+        self.before = self.before.saturating_sub(1);
         let count = buf.len().min(3);
         match self.taken.extend_from_slice(&buf[..count]) {
             Ok(()) => Ok(count),
@@ -168,7 +170,10 @@ impl Write for FailingWriter {
     }
 
     fn flush(&mut self) -> io::Result<()> {
-        Ok(())
+        match self.trouble {
+            Trouble::IsUnflushed => Err(Error::from(ErrorKind::Other)),
+            _ => Ok(()),
+        }
     }
 }
 
@@ -219,16 +224,10 @@ fn a_failed_read_is_told_and_nothing_is_written(rt: HostRuntime) -> Result<(), F
 }
 
 /// A run in which the write after this many fails. It returns whether all was written before.
-fn write_with(
-    test: &Test,
-    mut input: &[u8],
-    wanted: &[u8],
-    trouble: Trouble,
-    writes_before: u64,
-) -> bool {
+fn write_with(test: &Test, mut input: &[u8], wanted: &[u8], trouble: Trouble, before: u64) -> bool {
     let mut output = FailingWriter {
         taken: Vec::new(test.alloc()),
-        writes_before,
+        before,
         trouble,
         met: false,
     };
@@ -258,24 +257,8 @@ fn no_line_is_answered(test: &Test) {
     test.expect(write_with(test, b"", b"", Trouble::TakesNothing, 0));
 }
 
-/// A writer that takes all, and can't flush it.
-#[derive(Drop)]
-struct Unflushed;
-
-impl Write for Unflushed {
-    fn write(&mut self, buf: &[u8]) -> io::Result<usize> {
-        Ok(buf.len())
-    }
-
-    fn flush(&mut self) -> io::Result<()> {
-        Err(Error::from(ErrorKind::Other))
-    }
-}
-
 fn a_failed_flush_is_told(test: &Test) {
-    let mut input = INPUT;
-    let fault = execute(test.alloc(), test.alloc(), &mut input, &mut Unflushed).err();
-    test.expect(fault == Some(ToolFault::Write));
+    test.expect(!write_with(test, INPUT, OUTPUT, Trouble::IsUnflushed, 0));
 }
 
 #[test]

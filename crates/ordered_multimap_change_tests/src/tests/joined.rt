@@ -3,7 +3,7 @@
 //! of the program `map_calls`.
 use ordered_multimap::ListOrderedMultimap;
 use ordered_multimap_callers::maps::{
-    Numbers, NumbersBy, Refusing, appends, fill, has_lists, refill, reserve_anew, test_on_empty,
+    MapBy, Numbers, Refusing, appends, fill, has_lists, refill, reserve_anew, test_on_empty,
 };
 use ordered_multimap_callers::test_with_room;
 use refusing_allocator::RefusingAllocator;
@@ -18,11 +18,7 @@ const OTHER: &[(u32, u32)] = &[(3, 4), (1, 5), (4, 6), (3, 7)];
 const JOINED: &[(u32, u32)] = &[(1, 1), (2, 2), (1, 3), (3, 4), (1, 5), (4, 6), (3, 7)];
 
 // The keys are found by their hashes.
-fn join<S: BuildHasher, T: BuildHasher>(
-    test: &Test,
-    map: &mut NumbersBy<S>,
-    other: &mut NumbersBy<T>,
-) {
+fn join<S: BuildHasher, T: BuildHasher>(test: &Test, map: &mut MapBy<S>, other: &mut MapBy<T>) {
     refill(test, map, PAIRS);
     refill(test, other, OTHER);
     let room = (other.keys_capacity(), other.values_capacity());
@@ -33,7 +29,7 @@ fn join<S: BuildHasher, T: BuildHasher>(
 }
 
 fn join_builders(test: &Test, map: &mut Numbers) {
-    let other: NumbersBy<Constant> = ListOrderedMultimap::with_hasher(test.alloc(), ZERO);
+    let other: MapBy<Constant> = ListOrderedMultimap::with_hasher(test.alloc(), ZERO);
     lend(other, |other| {
         join(test, map, other);
         join(test, other, map);

@@ -2,9 +2,7 @@
 //! both ends, and look-ups afterwards, by any hash builder. The rows of these calls and of a sort in which
 //! keys tie are cases of the program `map_calls`.
 use ordered_multimap::{ListOrderedMultimap, RenameFault};
-use ordered_multimap_callers::maps::{
-    Numbers, NumbersBy, appends, has_lists, refill, test_on_empty,
-};
+use ordered_multimap_callers::maps::{MapBy, Numbers, appends, has_lists, refill, test_on_empty};
 use ordered_multimap_callers::sorted::sort_descending;
 use std::hash::BuildHasher;
 use test_helpers::{B, F, Failed, Test, ZERO, test_on_new, walk_difference};
@@ -58,12 +56,12 @@ const THREE: &[(u32, u32)] = &[(1, 11), (2, 12), (1, 13), (3, 14)];
 const RENAMED: &[(u32, u32)] = &[(5, 11), (2, 12), (5, 13), (3, 14)];
 
 // Each key's values, from the front and from the back: the key 1 of the pairs has these two.
-fn has_both<S: BuildHasher>(map: &NumbersBy<S>, key: u32) -> bool {
+fn has_both<S: BuildHasher>(map: &MapBy<S>, key: u32) -> bool {
     map.get_all(&key).eq(&[11, 13]) && map.get_all(&key).rev().eq(&[13, 11])
 }
 
 // The keys are found by their hashes.
-fn move_keys<S: BuildHasher>(test: &Test, map: &mut NumbersBy<S>) {
+fn move_keys<S: BuildHasher>(test: &Test, map: &mut MapBy<S>) {
     refill(test, map, THREE);
     test.expect(map.move_key_to_back(&1) && !map.move_key_to_back(&4));
     test.expect(has_lists(map, THREE, &[2, 3, 1]));
@@ -71,7 +69,7 @@ fn move_keys<S: BuildHasher>(test: &Test, map: &mut NumbersBy<S>) {
     test.expect(has_lists(map, THREE, &[3, 2, 1]) && has_both(map, 1));
 }
 
-fn rename_keys<S: BuildHasher>(test: &Test, map: &mut NumbersBy<S>) {
+fn rename_keys<S: BuildHasher>(test: &Test, map: &mut MapBy<S>) {
     refill(test, map, THREE);
     test.expect(map.rename_key(&1, 5) == Ok(1));
     test.expect(map.rename_key(&5, 2) == Err(RenameFault::Taken(2)));
@@ -81,7 +79,7 @@ fn rename_keys<S: BuildHasher>(test: &Test, map: &mut NumbersBy<S>) {
     test.expect(has_both(map, 5) && !map.contains_key(&1));
 }
 
-fn keys_change<S: BuildHasher>(test: &Test, map: &mut NumbersBy<S>) {
+fn keys_change<S: BuildHasher>(test: &Test, map: &mut MapBy<S>) {
     move_keys(test, map);
     rename_keys(test, map);
 }

@@ -3,9 +3,7 @@
 //! the programs.
 use ordered_multimap::ListOrderedMultimap;
 use ordered_multimap::list_ordered_multimap::{Entry, KeyWrapper};
-use ordered_multimap_callers::maps::{
-    Numbers, NumbersBy, appends, has_lists, refill, test_on_empty,
-};
+use ordered_multimap_callers::maps::{MapBy, Numbers, appends, has_lists, refill, test_on_empty};
 use test_helpers::{Constant, Failed, Test, ZERO, run_parts, test_on_new};
 
 fn numbers_leave(test: &Test, map: &mut Numbers) {
@@ -90,7 +88,7 @@ fn written_pairs_stay(test: &Test, map: &mut Numbers) {
     test.expect(has_lists(map, &[(1, 0), (1, 0)], &[1]) && map.entry_len(&1) == 2);
 }
 
-fn append_two_each(test: &Test, map: &mut NumbersBy<Constant>) {
+fn append_two_each(test: &Test, map: &mut MapBy<Constant>) {
     for key in 0..200u32 {
         test.expect(appends(map, key, key, false));
     }
@@ -99,20 +97,20 @@ fn append_two_each(test: &Test, map: &mut NumbersBy<Constant>) {
     }
 }
 
-fn half_leave(test: &Test, map: &mut NumbersBy<Constant>) {
+fn half_leave(test: &Test, map: &mut MapBy<Constant>) {
     for half in 0..100u32 {
         test.expect(map.remove(&(half * 2)) == Some(half * 2));
     }
 }
 
-fn half_is_left(test: &Test, map: &mut NumbersBy<Constant>) {
+fn half_is_left(test: &Test, map: &mut MapBy<Constant>) {
     test.expect(map.keys_len() == 100 && map.values_len() == 200);
     test.expect(map.get_all(&1).eq(&[1, 1001]));
     test.expect(map.pop_front() == Some((KeyWrapper::Borrowed(&1), 1)));
 }
 
 // Where all hashes are equal, half of the keys leave, and then the first pair of the others.
-fn collided_keys_leave(test: &Test, map: &mut NumbersBy<Constant>) {
+fn collided_keys_leave(test: &Test, map: &mut MapBy<Constant>) {
     append_two_each(test, map);
     half_leave(test, map);
     half_is_left(test, map);

@@ -33,7 +33,7 @@ fn put<A: Allocator + Copy>(map: &mut Refusing<A>, call: Call) -> Answer {
         Call::Insert => done(map.insert(1, 77)),
         Call::InsertAll => done(map.insert_all(1, 77)),
         Call::Set => done(map.set(1, 77)),
-        Call::OccupiedAppend | Call::OccupiedInsertAll => match put_by_occupied(map, call) {
+        Call::OccupiedAppend | Call::OccupiedInsertAll => match occupy(map, call) {
             Ok(()) => Ok(()),
             Err(RefusedValue { value }) => Err(Refused { key: 1, value }),
         },
@@ -67,10 +67,7 @@ fn filled<A: Allocator + Copy>(map: &mut Refusing<A>, call: Call) -> Answer {
     }
 }
 
-fn put_by_occupied<A: Allocator + Copy>(
-    map: &mut Refusing<A>,
-    call: Call,
-) -> Result<(), RefusedValue<u32>> {
+fn occupy<A: Allocator + Copy>(map: &mut Refusing<A>, call: Call) -> Result<(), RefusedValue<u32>> {
     match map.entry(1) {
         Entry::Occupied(mut entry) if call == Call::OccupiedAppend => entry.append(77),
         Entry::Occupied(entry) => done(entry.insert_all(77)),

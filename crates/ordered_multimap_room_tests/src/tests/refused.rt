@@ -62,26 +62,21 @@ fn tries<A: Allocator + Copy>(
     map: &mut Refusing<A>,
     granted: u64,
     call: Try,
-    other: &Numbers,
+    copy: &Numbers,
 ) -> bool {
     prepare(test, map, call);
     refusing.grant(granted);
     match call {
         Try::PutIntoNew(call) | Try::PutIntoFull(call) => puts(test, map, call),
         Try::Room(call) => is_made(test, map, call),
-        _ => extends(test, map, call, other),
+        _ => add(test, map, call, copy),
     }
 }
 
-fn extends<A: Allocator + Copy>(
-    test: &Test,
-    map: &mut Refusing<A>,
-    call: Try,
-    other: &Numbers,
-) -> bool {
+fn add<A: Allocator + Copy>(test: &Test, map: &mut Refusing<A>, call: Try, copy: &Numbers) -> bool {
     match call {
         Try::ExtendCopied => {
-            let answer = map.extend_copied(other.iter());
+            let answer = map.extend_copied(copy.iter());
             is_extended(test, map, answer)
         }
         Try::ExtendByTrait => {
@@ -89,20 +84,20 @@ fn extends<A: Allocator + Copy>(
             is_extended_by_trait(test, map, answer)
         }
         Try::ExtendCopiedByTrait => {
-            let answer = Extend::extend(map, other.iter());
+            let answer = Extend::extend(map, copy.iter());
             is_extended_by_trait(test, map, answer)
         }
         _ => extend(test, map),
     }
 }
 
-fn tries_with(test: &Test, granted: u64, call: Try, other: &Numbers) -> bool {
-    try_on_new!(test, granted; ListOrderedMultimap::new; tries, call, other)
+fn tries_with(test: &Test, granted: u64, call: Try, copy: &Numbers) -> bool {
+    try_on_new!(test, granted; ListOrderedMultimap::new; tries, call, copy)
 }
 
-fn all_are_tried(test: &Test, other: &Numbers) {
+fn all_are_tried(test: &Test, copy: &Numbers) {
     for (row, (call, least)) in TRIES.iter().enumerate() {
-        let enough = requests_until_enough(|granted| tries_with(test, granted, *call, other));
+        let enough = requests_until_enough(|granted| tries_with(test, granted, *call, copy));
         test.expect_at(row, enough.unwrap_or(0) >= *least);
     }
     let enough = requests_until_enough(|granted| from_iter_with(test, granted));
@@ -114,7 +109,7 @@ fn all_are_tried(test: &Test, other: &Numbers) {
 #[test]
 fn a_refused_request_changes_nothing(rt: HostRuntime) -> Result<(), Failed> {
     let test = Test::new(rt.alloc());
-    lend(map_of(&test, PAIRS), |other| all_are_tried(&test, other));
+    lend(map_of(&test, PAIRS), |copy| all_are_tried(&test, copy));
     test.end()
 }
 
@@ -160,7 +155,7 @@ fn extend<A: Allocator + Copy>(test: &Test, map: &mut Refusing<A>) -> bool {
     is_extended(test, map, answer)
 }
 
-// What std's `Extend` leaves, by which code over any collection extends. It drops the refused pair.
+// What std's `Extend` leaves, by which code over any collection add. It drops the refused pair.
 fn is_extended_by_trait<A: Allocator + Copy>(
     test: &Test,
     map: &Refusing<A>,

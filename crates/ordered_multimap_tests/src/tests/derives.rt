@@ -69,12 +69,7 @@ const VALUE_LINK: ValueLink = ValueLink {
     next: None,
 };
 
-fn is_plain<T: PartialEq + Clone + Copy + fmt::Debug>(
-    test: &Test,
-    value: T,
-    other: T,
-    shown: &str,
-) {
+fn plain<T: PartialEq + Clone + Copy + fmt::Debug>(test: &Test, value: T, other: T, shown: &str) {
     test.expect(is_compared(&value, &value, &other) && is_copied(&value));
     test.expect(is_shown(test.alloc(), &value, shown));
 }
@@ -82,19 +77,19 @@ fn is_plain<T: PartialEq + Clone + Copy + fmt::Debug>(
 #[test]
 fn ends_and_links_are_shown_and_compared(rt: HostRuntime) -> Result<(), Failed> {
     let test = Test::new(rt.alloc());
-    is_plain(&test, End::Front, End::Back, "Front");
-    is_plain(&test, End::Back, End::Front, "Back");
+    plain(&test, End::Front, End::Back, "Front");
+    plain(&test, End::Back, End::Front, "Back");
     let shown = "KeyLink { hash: 1, head: 2, tail: 3, length: 4 }";
     let other = KeyLink {
         length: 0,
         ..KEY_LINK
     };
-    is_plain(&test, KEY_LINK, other, shown);
+    plain(&test, KEY_LINK, other, shown);
     let shown = "ValueLink { key: 1, previous: Some(2), next: None }";
     let other = ValueLink {
         next: Some(0),
         ..VALUE_LINK
     };
-    is_plain(&test, VALUE_LINK, other, shown);
+    plain(&test, VALUE_LINK, other, shown);
     test.end()
 }

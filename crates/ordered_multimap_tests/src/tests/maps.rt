@@ -4,8 +4,7 @@
 use ordered_multimap::ListOrderedMultimap;
 use ordered_multimap::list_ordered_multimap::{DefaultState, Entry, RandomState};
 use ordered_multimap_callers::maps::{
-    MIXED, Numbers, NumbersBy, Refusing, appends, has_lists, has_pairs, inserts, refill,
-    test_on_empty,
+    MIXED, MapBy, Numbers, Refusing, appends, has_lists, has_pairs, inserts, refill, test_on_empty,
 };
 use ordered_multimap_callers::test_with_room;
 use refusing_allocator::RefusingAllocator;
@@ -115,7 +114,7 @@ fn are_compared(test: &Test, map: &mut Numbers) {
     }
 }
 
-type Collided = NumbersBy<Constant>;
+type Collided = MapBy<Constant>;
 
 fn expect_value(test: &Test, map: &Collided, key: u32, value: u32) {
     test.expect(map.get(&key).copied() == Some(value));
@@ -151,7 +150,7 @@ fn keys_of_one_hash_are_apart(rt: HostRuntime) -> Result<(), Failed> {
 }
 
 // Keys are found by a builder with a random seed.
-fn keys_are_found(test: &Test, map: &mut NumbersBy<RandomState>) {
+fn keys_are_found(test: &Test, map: &mut MapBy<RandomState>) {
     test.expect(appends(map, 1, 11, false));
     test.expect(appends(map, 2, 12, false));
     test.expect(appends(map, 1, 13, true));

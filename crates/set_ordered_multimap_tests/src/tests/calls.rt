@@ -3,7 +3,7 @@
 use crate::tests::callers::{
     exchange, gathered, insert_in_room, keep_below, remove_key, take_first,
 };
-use crate::tests::sets::{NumbersBy, has_lists, refill};
+use crate::tests::sets::{SetBy, has_lists, refill};
 use ordered_multimap::list_ordered_multimap::{DefaultState, KeyWrapper};
 use set_ordered_multimap::SetOrderedMultimap;
 use set_ordered_multimap::laws::{changes_keep_sets, insertions_keep_first_pairs};
@@ -11,7 +11,7 @@ use std::alloc::AllocError;
 use std::hash::BuildHasher;
 use test_helpers::{Failed, Test, is_shown, lend_made, test_all, test_on_new};
 
-type Numbers = NumbersBy;
+type Numbers = SetBy;
 
 const NUMBERS: &[(u32, u32)] = &[(1, 1), (2, 2), (1, 1), (3, 3)];
 

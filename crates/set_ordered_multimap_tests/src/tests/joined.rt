@@ -2,7 +2,7 @@
 //! in their order. With ample memory, with each request for memory refused, and in room that is there, with no
 //! memory at all.
 use crate::tests::callers::{join, join_in_room};
-use crate::tests::sets::{NumbersBy, Refusing, has_lists, refill};
+use crate::tests::sets::{Refusing, SetBy, has_lists, refill};
 use refusing_allocator::RefusingAllocator;
 use set_ordered_multimap::SetOrderedMultimap;
 use std::alloc::Allocator;
@@ -47,7 +47,7 @@ const ROWS: &[Row] = &[
 ];
 
 // Whether the lists are these, and look-ups find each of the pairs.
-fn has_all<S: BuildHasher>(set: &NumbersBy<S>, pairs: &[(u32, u32)], keys: &[u32]) -> bool {
+fn has_all<S: BuildHasher>(set: &SetBy<S>, pairs: &[(u32, u32)], keys: &[u32]) -> bool {
     let mut found = has_lists(set, pairs, keys);
     for (key, value) in pairs {
         found = found && set.contains(key, value);
@@ -55,19 +55,19 @@ fn has_all<S: BuildHasher>(set: &NumbersBy<S>, pairs: &[(u32, u32)], keys: &[u32
     found
 }
 
-fn rooms<S: BuildHasher, A: Allocator>(set: &NumbersBy<S, A>) -> (usize, usize) {
+fn rooms<S: BuildHasher, A: Allocator>(set: &SetBy<S, A>) -> (usize, usize) {
     (set.keys_capacity(), set.values_capacity())
 }
 
-fn fill_other<S: BuildHasher>(test: &Test, other: &mut NumbersBy<S>, pairs: &[(u32, u32)]) {
+fn fill_other<S: BuildHasher>(test: &Test, other: &mut SetBy<S>, pairs: &[(u32, u32)]) {
     refill(test, other, pairs);
     other.move_key_to_front(&1);
 }
 
 fn join_row<S: BuildHasher, T: BuildHasher>(
     test: &Test,
-    set: &mut NumbersBy<S>,
-    other: &mut NumbersBy<T>,
+    set: &mut SetBy<S>,
+    other: &mut SetBy<T>,
     at: usize,
     row: &Row,
 ) {
@@ -79,22 +79,14 @@ fn join_row<S: BuildHasher, T: BuildHasher>(
     test.expect_at(at, other.is_empty() && rooms(other) == room);
 }
 
-fn join_all<S: BuildHasher, T: BuildHasher>(
-    test: &Test,
-    set: &mut NumbersBy<S>,
-    other: &mut NumbersBy<T>,
-) {
+fn join_all<S: BuildHasher, T: BuildHasher>(test: &Test, set: &mut SetBy<S>, other: &mut SetBy<T>) {
     for (at, row) in ROWS.iter().enumerate() {
         join_row(test, set, other, at, row);
     }
 }
 
 // Proved callers make the calls: with memory, and where there is room.
-fn callers_join<S: BuildHasher, T: BuildHasher>(
-    test: &Test,
-    set: &mut NumbersBy<S>,
-    other: &mut NumbersBy<T>,
-) {
+fn callers<S: BuildHasher, T: BuildHasher>(test: &Test, set: &mut SetBy<S>, other: &mut SetBy<T>) {
     refill(test, set, &[(1, 11), (2, 12)]);
     refill(test, other, &[(3, 13), (2, 12)]);
     test.expect(join(set, other).is_ok() && other.insert(1, 11) == Ok(true));
@@ -102,18 +94,18 @@ fn callers_join<S: BuildHasher, T: BuildHasher>(
     test.expect(has_lists(set, &[(1, 11), (2, 12), (3, 13)], &[1, 2, 3]));
 }
 
-fn join_other_builders(test: &Test, set: &mut NumbersBy) {
+fn join_other_builders(test: &Test, set: &mut SetBy) {
     let other = SetOrderedMultimap::with_hasher(test.alloc(), ZERO);
     lend(other, |other| {
         join_all(test, set, other);
         join_all(test, other, set);
-        callers_join(test, set, other);
+        callers(test, set, other);
     });
 }
 
 fn rows_are_joined(test: &Test) {
     lend(
-        NumbersBy::new(test.alloc()),
+        SetBy::new(test.alloc()),
         |set| join_other_builders(test, set),
     );
 }

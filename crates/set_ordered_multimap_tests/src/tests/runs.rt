@@ -1,6 +1,6 @@
 //! Runs of calls on numbers, with both lists and two keys' values after each call: pairs that come and go, also
 //! where all hashes are equal; keys and pairs that are sorted; and keys that move to an end.
-use crate::tests::sets::{NumbersBy, has_lists, refill};
+use crate::tests::sets::{SetBy, has_lists, refill};
 use ordered_multimap::list_ordered_multimap::KeyWrapper;
 use set_ordered_multimap::SetOrderedMultimap;
 use std::hash::BuildHasher;
@@ -72,21 +72,21 @@ const SORTS: &[Row] = &[
     (Call::Insert(3, 4, true), WITH_NEW, &[1, 2, 4, 5, 3]),
 ];
 
-fn sorts_keys<S: BuildHasher>(set: &mut NumbersBy<S>, by_half: bool) -> bool {
+fn sorts_keys<S: BuildHasher>(set: &mut SetBy<S>, by_half: bool) -> bool {
     if by_half {
         return set.sort_keys_by(|a, b| (*a / 2).cmp(&(*b / 2))).is_ok();
     }
     set.sort_keys().is_ok()
 }
 
-fn sorts_by_value<S: BuildHasher>(set: &mut NumbersBy<S>, by_half: bool) -> bool {
+fn sorts_by_value<S: BuildHasher>(set: &mut SetBy<S>, by_half: bool) -> bool {
     let divisor = if by_half { 2 } else { 1 };
     set.sort_by(|_, value, _, other| (*value / divisor).cmp(&(*other / divisor)))
         .is_ok()
 }
 
 // Whether the call returns what is said.
-fn is_called<S: BuildHasher>(set: &mut NumbersBy<S>, call: Call) -> bool {
+fn is_called<S: BuildHasher>(set: &mut SetBy<S>, call: Call) -> bool {
     match call {
         Call::SortKeys => sorts_keys(set, false),
         Call::SortKeysByHalf => sorts_keys(set, true),
@@ -102,7 +102,7 @@ fn is_called<S: BuildHasher>(set: &mut NumbersBy<S>, call: Call) -> bool {
 }
 
 // Whether the key has the values that it has in these pairs, in their order.
-fn has_values<S: BuildHasher>(set: &NumbersBy<S>, key: u32, pairs: &[(u32, u32)]) -> bool {
+fn has_values<S: BuildHasher>(set: &SetBy<S>, key: u32, pairs: &[(u32, u32)]) -> bool {
     let mut values = set.get_all(&key);
     let mut same = true;
     for (other, value) in pairs {
@@ -111,20 +111,20 @@ fn has_values<S: BuildHasher>(set: &NumbersBy<S>, key: u32, pairs: &[(u32, u32)]
     same && values.next().is_none()
 }
 
-fn row_holds<S: BuildHasher>(test: &Test, set: &mut NumbersBy<S>, at: usize, row: &Row) {
+fn row_holds<S: BuildHasher>(test: &Test, set: &mut SetBy<S>, at: usize, row: &Row) {
     let (call, pairs, keys) = *row;
     test.expect_at(at, is_called(set, call));
     test.expect_at(at, has_lists(set, pairs, keys));
     test.expect_at(at, has_values(set, 4, pairs) && has_values(set, 5, pairs));
 }
 
-fn rows_hold<S: BuildHasher>(test: &Test, set: &mut NumbersBy<S>, rows: &[Row]) {
+fn rows_hold<S: BuildHasher>(test: &Test, set: &mut SetBy<S>, rows: &[Row]) {
     for (at, row) in rows.iter().enumerate() {
         row_holds(test, set, at, row);
     }
 }
 
-fn pairs_come_and_go<S: BuildHasher>(test: &Test, set: &mut NumbersBy<S>) {
+fn pairs_come_and_go<S: BuildHasher>(test: &Test, set: &mut SetBy<S>) {
     rows_hold(test, set, RUN);
 }
 
@@ -139,7 +139,7 @@ fn no_pair_of_one_hash_stands_twice(rt: HostRuntime) -> Result<(), Failed> {
     test_on_new(rt.alloc(), collided, pairs_come_and_go)
 }
 
-fn sorts_hold(test: &Test, set: &mut NumbersBy) {
+fn sorts_hold(test: &Test, set: &mut SetBy) {
     refill(test, set, PAIRS);
     rows_hold(test, set, SORTS);
 }

@@ -7,16 +7,16 @@ use std::hash::{BuildHasher, Hash};
 use test_helpers::{Test, copied, gives};
 
 /// A set of numbers.
-pub type NumbersBy<S = DefaultState, A = Global> = SetOrderedMultimap<u32, u32, S, A>;
+pub type SetBy<S = DefaultState, A = Global> = SetOrderedMultimap<u32, u32, S, A>;
 
 /// A set whose memory may be refused. The allocator's type is a parameter of the checks, since a set of
 /// a type with a reference costs a proof twice as much.
-pub type Refusing<A> = NumbersBy<DefaultState, A>;
+pub type Refusing<A> = SetBy<DefaultState, A>;
 
 /// Takes all pairs out, and inserts these.
 pub fn refill<S: BuildHasher, A: Allocator + Copy>(
     test: &Test,
-    set: &mut NumbersBy<S, A>,
+    set: &mut SetBy<S, A>,
     pairs: &[(u32, u32)],
 ) {
     set.clear();
