@@ -1,5 +1,4 @@
-//! What tests stand on: a failed step is told, a walk or a call that differs is noticed, and the allocator grants a given
-//! number of requests and refuses the others.
+//! What tests stand on: failed steps, walks that differ, and the allocator that refuses.
 use refusing_allocator::RefusingAllocator;
 use std::alloc::Global;
 use std::hash::BuildHasher;

@@ -1,5 +1,4 @@
-//! Rows of the key table, against a plain list of them, and with refused memory: the nth request is refused, for each n
-//! until none is.
+//! Rows of the key table, against a plain list of them, and where memory is refused.
 use crate::compared::{Compared, next_random};
 use multimap_table::KeyTable;
 use refusing_allocator::RefusingAllocator;

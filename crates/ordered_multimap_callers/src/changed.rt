@@ -1,6 +1,5 @@
-//! Callers that change maps and are proved, most of them for every key and value type: each knows the map's lists
-//! afterwards. Of the walks for writing it knows that keys, order, lengths and the key of each pair stay. Which values
-//! such a walk left no caller knows, and of a step of `pairs_mut` none knows what it leaves.
+//! Callers that change maps, proved for every key and value type: each knows the lists afterwards.
+//! Which values a walk for writing left none knows, nor what a step of `pairs_mut` leaves.
 ghost use Rattle.std.specs.Prelude.{◌≡◌, slice_get, OnErr, OnOk, filter, map as each, nat_eq, nat_lt, not, Some, IfOk, ◌+◌, ◌%◌, ◌^◌, if◌then◌else◌, option_map};
 ghost use Rattle.ordered_multimap.specs.Changes.{inserted, removed, all_appended, first_occurrences, kept, end_written};
 ghost use Rattle.ordered_multimap.specs.Pairs.{values_of, is_present};

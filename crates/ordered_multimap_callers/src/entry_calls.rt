@@ -17,7 +17,7 @@ use std::alloc::Allocator;
 use std::hash::{BuildHasher, Hash};
 use std::mem;
 
-/// Puts the pair in the place of all others of its key, if there are any, and returns their first value.
+/// Puts the pair in the place of all of its key, if there are any, and returns their first value.
 pub fn replace_if_present<K: Eq + Hash + Drop, V: Drop, S: BuildHasher, A: Allocator + Copy>(
     map: &mut ListOrderedMultimap<K, V, S, A>,
     key: K,
@@ -199,7 +199,7 @@ where
     Ok(*first)
 }
 
-/// Puts the pair with what the function returns last if the key is absent, and counts its values then.
+/// Puts the pair with what is returned last if the key is absent, and counts its values then.
 pub fn count_made<K, V, S, A, F>(
     map: &mut ListOrderedMultimap<K, V, S, A>,
     key: K,

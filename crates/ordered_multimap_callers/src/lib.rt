@@ -1,7 +1,6 @@
-//! Callers of the map that are proved, for all inputs and most of them for every key and value type:
-//! each says by its own clauses what the map is afterwards, and knows no more of it than the clauses
-//! of the calls that it makes. And the maps and the comparisons that the map's tests share, so that
-//! these are proved once.
+//! Callers of the map that are proved, most of them for every key and value type: each says by its
+//! own clauses what the map is afterwards, and knows no more of it than those of its calls say.
+//! And what the map's tests share, so that it is proved once.
 #![tactic(auto)]
 
 pub mod changed;

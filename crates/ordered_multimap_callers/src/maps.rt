@@ -1,5 +1,4 @@
-//! Maps of numbers and of texts, what they are compared with, and tests that are lent an empty map. Each comparison
-//! is proved once here and costs a test no more than a call.
+//! Maps of the tests, and what they are compared with, proved once.
 use ordered_multimap::ListOrderedMultimap;
 use ordered_multimap::list_ordered_multimap::DefaultState;
 use refusing_allocator::RefusingAllocator;
@@ -16,8 +15,7 @@ pub type MapBy<S> = ListOrderedMultimap<u32, u32, S>;
 /// A map of texts.
 pub type Texts = ListOrderedMultimap<&'static str, &'static str>;
 
-/// A map of numbers whose memory may be refused. The allocator's type is a parameter of the checks,
-/// since a map of a type with a reference costs a proof twice as much.
+/// The same, whose memory may be refused. A parameter costs a proof half of a type with a reference.
 pub type Refusing<A> = ListOrderedMultimap<u32, u32, DefaultState, A>;
 
 /// Two keys with two values each, one inside the other.

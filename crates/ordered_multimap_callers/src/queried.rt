@@ -1,6 +1,5 @@
-//! Callers that look keys up by queries, and that look up, set and take out one value of a key, and are proved for
-//! every key type, every value type and every query: each says what it found, or what the map is afterwards, of
-//! the keys that the query stands for.
+//! Callers with queries, and of one value of a key, proved for every key, value and query: each
+//! says what it found, or what the map is afterwards, of the keys that the query stands for.
 ghost use Rattle.std.specs.Prelude.{◌≡◌, find, slice_get, ◌&&◌, true, false, IfOk, filter, not};
 ghost use Rattle.std.specs.Str.{bytes_eq};
 ghost use Rattle.std.specs.String.{string_bytes};
@@ -84,7 +83,7 @@ pub fn take_first_by<K: Eq + Hash + Drop, V: Drop, Q: KeyQuery<K>, S: BuildHashe
     map.remove(query)
 }
 
-/// Sets the first value of the key that a query stands for, if it is there, and returns the old one.
+/// Sets the first value of the key that a query stands for, and returns the old one.
 pub fn set_first_by<K: Eq + Hash, V: Drop, Q: KeyQuery<K>, S: BuildHasher, A: Allocator>(
     map: &mut ListOrderedMultimap<K, V, S, A>,
     query: Q,

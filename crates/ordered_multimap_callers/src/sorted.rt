@@ -1,5 +1,4 @@
-//! Callers that sort keys by a function of their own, rename a key, or bring one to the front, and are proved for every
-//! key and value type: each knows what the map is afterwards.
+//! Callers that sort, rename or bring forward keys, proved for every key and value type.
 ghost use Rattle.std.specs.Prelude.{◌≡◌, OnOk, IsSorted, ◌&&◌, false, find, not, true};
 ghost use Rattle.ordered_multimap.specs.Pairs.{values_of};
 ghost use Rattle.ordered_multimap_callers.specs.Totals.{DescendByTotals, total};

@@ -27,7 +27,7 @@ fn push_keys<K: Drop, A: Allocator>(
     Ok(())
 }
 
-/// Moves the keys of a map into a vector with the map's allocator, in key order, and drops the values.
+/// Moves the keys of a map into a vector by the map's allocator, in order, and drops the values.
 pub fn keys_of<K: Eq + Hash + Drop, V: Drop, S: BuildHasher + Drop, A: Allocator + Copy>(
     map: ListOrderedMultimap<K, V, S, A>,
 ) -> Result<Vec<K, A>, AllocError>
@@ -53,7 +53,7 @@ fn push_values<V: Drop, A: Allocator>(
     Ok(())
 }
 
-/// Moves the values of a map into a vector with the map's allocator, in order, and drops the keys.
+/// Moves the values of a map into a vector by the map's allocator, in order, and drops the keys.
 pub fn values_in_order<K, V, S, A>(
     map: ListOrderedMultimap<K, V, S, A>,
 ) -> Result<Vec<V, A>, AllocError>

@@ -1,5 +1,4 @@
-//! The tests: each makes one map, or is lent an empty one, for all comparisons of its type, since a
-//! map that is owned costs a proof more than all that it is lent to.
+//! The tests: each makes one map, or is lent one, since maps that are owned cost a proof most.
 mod additions;
 mod extend;
 mod made;

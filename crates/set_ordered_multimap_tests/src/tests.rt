@@ -1,4 +1,4 @@
-//! Runs of calls, look-ups by texts, refused requests, calls that these leave out, and proved callers.
+//! Runs of calls, look-ups by texts, refused requests, other calls, and proved callers.
 mod callers;
 mod calls;
 mod joined;

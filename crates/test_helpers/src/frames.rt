@@ -24,8 +24,7 @@ macro_rules! test_all {
     }};
 }
 
-/// Tries a call with so many granted requests: lends a check an allocator and what is made with that, and
-/// returns whether the check says that they were enough. Where they weren't, one was refused.
+/// Lends a check what is made with an allocator, and returns whether so many requests were enough.
 #[macro_export]
 macro_rules! try_on_new {
     ($test:expr, $granted:expr; $new:path; $tries:path $(, $given:expr)*) => {{

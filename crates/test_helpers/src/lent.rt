@@ -1,4 +1,4 @@
-//! Values that are owned here and lent to checks, and calls with each request for memory refused in turn.
+//! Values that are lent to checks, and calls with each request for memory refused in turn.
 use crate::steps::{Checked, Failed};
 use std::alloc::Global;
 use std::rc::Rc;
@@ -44,8 +44,7 @@ pub fn lend<M: Drop, R, F: FnOnce(&mut M) -> R>(mut owned: M, checks: F) -> R
     checks(&mut owned)
 }
 
-/// Lends what was made to checks, and drops it; or hands what was refused to others. It returns
-/// whether it was made.
+/// Lends what was made to checks, or hands what was refused to others. Returns whether it was made.
 pub fn lend_made<M: Drop, E, F: FnOnce(&mut M), G: FnOnce(E)>(
     made: Result<M, E>,
     checks: F,

@@ -2,8 +2,7 @@
 use std::alloc::Global;
 use std::cell::Cell;
 
-/// The first check of a test that didn't hold: the part of the test that was under way, which check
-/// of that part it was, counted from 1, and its row where it walks a table, counted from 0.
+/// The first check of a test that failed: its part, its number from 1, and its row from 0.
 #[derive(Clone, Copy, Debug)]
 pub struct Failed {
     part: &'static str,

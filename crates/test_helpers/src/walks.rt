@@ -23,8 +23,7 @@ pub trait Plain: Drop {
     /// The values themselves, where the item holds references.
     type Value: PartialEq + Copy;
 
-    /// The item's values. A number that is lent for writing is multiplied by 10, so that a test sees
-    /// afterwards which ones were lent.
+    /// The item's values. A number that is lent for writing is multiplied by 10.
     fn plain(self) -> Self::Value;
 }
 

@@ -1,4 +1,4 @@
-//! Tests with ample memory: the calls of the slot list and of the tape; and a step from the ends of a row.
+//! The calls of slot list and tape with ample memory, and a step from the ends of a row.
 use crate::tests::slots::{Items, List, expect_on, expect_slots};
 use crate::tests::uses::{
     Used, push_at_end, push_with_room, take_from, take_from_tape, use_listed, use_listed_on_tape,

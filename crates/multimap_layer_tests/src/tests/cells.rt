@@ -1,5 +1,4 @@
-//! Items that leave the order and stay at their places, the right to write the others, each once, and what a slot
-//! list and a tape hold, which is dropped once, with what is detached.
+//! Items that leave the order, the right to write the others, and what is dropped once.
 ghost use Rattle.multimap_slots.specs.Slots.{IsDetached};
 
 use crate::tests::cell_uses::{Lending, write_last, write_slots, write_tape_ends};

@@ -1,4 +1,4 @@
-//! Tests of both with refused memory: the nth request is refused, for each n until none is.
+//! Slot list and tape with refused memory: each request in turn.
 use crate::tests::slots::{Slot, add_slots, add_slots_on};
 use multimap_slots::{SlotList, Tape};
 use refusing_allocator::RefusingAllocator;

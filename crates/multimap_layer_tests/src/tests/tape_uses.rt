@@ -1,4 +1,4 @@
-//! Callers of the tape, proved from its public contracts alone, and a row of holes that are closed.
+//! Callers of the tape, proved from its public contracts alone, and holes that are closed.
 ghost use Rattle.std.specs.Prelude.{◌≡◌, ◌+◌, ◌≤◌, ◌<◌, ℕ, false, IsTrue};
 ghost use Rattle.multimap_slots.specs.Lists.{IsIn};
 ghost use Rattle.multimap_slots.specs.Slots.{IsDetached, item_at};

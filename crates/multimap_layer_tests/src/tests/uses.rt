@@ -1,5 +1,4 @@
-//! Callers of the slot list, and of the tape at places that are known to be listed, proved from the public contracts
-//! alone.
+//! Callers of slot list and tape at listed places, proved from the public contracts alone.
 ghost use Rattle.std.specs.Prelude.{◌≡◌, ◌≢◌, IfSome, IsTrue};
 ghost use Rattle.multimap_slots.specs.Slots.{IsDetached};
 

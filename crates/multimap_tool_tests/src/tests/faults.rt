@@ -1,4 +1,4 @@
-//! What Debug and Display show, and what is equal, of faults, with their statuses, of commands and of replies.
+//! What Debug and Display show, and what is equal, of faults, commands and replies.
 use multimap_tool::commands::Command;
 use multimap_tool::faults::{TextFault, ToolFault};
 use multimap_tool::format::format_replies;

@@ -1,5 +1,4 @@
-//! A run over keys that are equal and not the same, whose function writes what it keeps; and the
-//! laws of runs.
+//! A run over keys that are equal and not the same, which writes what it keeps; laws of runs.
 use crate::tests::callers::{lists_of_numbers_are_read, pairs_of_numbers_are_read};
 use multimap_tool::commands::Command;
 use multimap_tool::json::{JsonPart, PartFault};

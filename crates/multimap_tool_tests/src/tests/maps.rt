@@ -1,4 +1,4 @@
-//! Maps that are written as JSON values, their pairs alone or both lists, and read of JSON texts of both forms.
+//! Maps that are written as JSON values, their pairs or both lists, and read of both forms.
 use crate::tests::parts::has_text;
 use multimap_tool::json::ReadFault::{
     BadKey, BadListedKey, BadValue, NotArray, NotPair, NotVersion2, RepeatedKey, UnlistedKey,
@@ -24,8 +24,7 @@ fn is_read_as<K: JsonPart + Eq + Hash + Copy, V: JsonPart + Eq + Copy>(
     }
 }
 
-// Whether the map is written as the text, by both lists if that is an object, and what was written is
-// read as an equal map.
+// Whether the map is written as the text, in one of both forms, and read of it as an equal map.
 fn is_written<K: JsonPart + Eq + Hash + Copy, V: JsonPart + Eq + Copy>(
     alloc: Global,
     map: &ListOrderedMultimap<K, V>,
@@ -42,8 +41,7 @@ fn is_written<K: JsonPart + Eq + Hash + Copy, V: JsonPart + Eq + Copy>(
     }
 }
 
-// Reads a map from a text: whether it has these keys in order, and is written as the other text; or the
-// fault.
+// Whether the map of a text has these keys and is written as the other text; or the fault.
 fn read<K: JsonPart + Eq + Hash + Copy, V: JsonPart + Eq + Copy>(
     alloc: Global,
     text: &str,
@@ -96,8 +94,7 @@ const EMPTY: &str = r#"{"keys":[],"pairs":[]}"#;
 
 const MIXED: &str = r#"{"keys":[2,1],"pairs":[[1,5],[2,6],[1,7]]}"#;
 
-// Faults, with texts of no map of numbers. The first bad item decides, whatever is wrong with the others,
-// and in it the shape comes before the key.
+// Texts of no map. The first bad item decides, and in it the shape comes before the key.
 const BAD: &[(ReadFault, &str)] = &[
     (NotArray, "null"),
     (NotArray, "7"),

@@ -1,7 +1,4 @@
-//! Requests for the memory of a map that are refused while it is read of a JSON value.
-//!
-//! JSON values live in `Global`, which can't be made to refuse: so what is refused here are the
-//! requests of the map alone.
+//! Requests for a map's memory that are refused while it is read of a JSON value, in `Global`.
 use multimap_tool::json::{ReadFault, from_value};
 use ordered_multimap::ListOrderedMultimap;
 use ordered_multimap::list_ordered_multimap::DefaultState;
@@ -11,8 +8,7 @@ use std::alloc::Allocator;
 use std::hash::BuildHasher;
 use test_helpers::{Constant, Failed, Test, ZERO, gives, lend_made, requests_until_enough};
 
-// The types of allocator and hash builder are parameters, since a map of a type with a reference
-// costs a proof more.
+// The types are parameters, since a map of a type with a reference costs a proof more.
 type Numbers<S, A> = ListOrderedMultimap<u32, i64, S, A>;
 
 const PAIRS: &[(u32, i64)] = &[(1, 5), (2, 6), (1, 7)];
@@ -24,8 +20,7 @@ fn fault_of<M>(read: &Result<M, ReadFault>) -> Option<ReadFault> {
     }
 }
 
-/// Whether so many granted requests are enough: with fewer it is lack of memory, and else the map,
-/// or the fault of ample memory.
+// Whether so many granted requests are enough. With fewer it is lack of memory.
 fn read_with(test: &Test, value: &Value, ample: Option<ReadFault>, granted: u64) -> bool {
     let budget = RefusingAllocator::new(test.alloc(), granted);
     let fault = read_by(test, &budget, value);
@@ -73,8 +68,7 @@ fn requests_are_refused(test: &Test, value: &Value, ample: Option<ReadFault>) {
     test.expect(enough.unwrap_or(0) >= 3);
 }
 
-/// A hash builder that ends the refusals of an allocator: once a key is hashed, as the first append
-/// does, all requests are granted.
+/// A hash builder that ends the refusals of an allocator once it hashes a key.
 #[derive(Drop)]
 struct Granting<'a> {
     budget: &'a RefusingAllocator,

@@ -4,7 +4,6 @@ use serde_json::Value;
 use std::alloc::Global;
 use test_helpers::{Failed, Test};
 
-/// Whether the JSON value has this text.
 pub fn has_text(alloc: Global, value: &Value, text: &str) -> bool {
     value
         .to_string(alloc)
@@ -31,7 +30,6 @@ fn is_refused<T: JsonPart + Drop>(alloc: Global, text: &str) -> bool {
     }
 }
 
-/// Parts with their texts, and texts that are refused.
 fn are_read<T: JsonPart + PartialEq + Drop>(test: &Test, good: &[(T, &str)], bad: &[&str]) {
     for (row, (part, text)) in good.iter().enumerate() {
         test.expect_at(row, is_text_of(test.alloc(), part, text));

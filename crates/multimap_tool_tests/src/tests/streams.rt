@@ -1,5 +1,4 @@
-//! Runs of lines, each from an empty map, and what is written for them, or the first bad line; and readers and
-//! writers that fail.
+//! Runs of lines, each from an empty map; and readers and writers that fail.
 use multimap_tool::execute::execute;
 use multimap_tool::faults::ToolFault;
 use std::io;
@@ -218,11 +217,6 @@ fn a_failed_read_is_told_before_a_bad_line(test: &Test) {
     test.expect(!read_with(test, text, ErrorKind::Other, 3));
 }
 
-#[test]
-fn a_failed_read_is_told_and_nothing_is_written(rt: HostRuntime) -> Result<(), Failed> {
-    test_all!(rt.alloc(); each_read_fails, a_failed_read_is_told_before_a_bad_line)
-}
-
 /// A run in which the write after this many fails. It returns whether all was written before.
 fn write_with(test: &Test, mut input: &[u8], wanted: &[u8], trouble: Trouble, before: u64) -> bool {
     let mut output = FailingWriter {
@@ -262,6 +256,7 @@ fn a_failed_flush_is_told(test: &Test) {
 }
 
 #[test]
-fn a_failed_write_is_told(rt: HostRuntime) -> Result<(), Failed> {
-    test_all!(rt.alloc(); each_write_has_trouble, no_line_is_answered, a_failed_flush_is_told)
+fn failed_reads_and_writes_are_told(rt: HostRuntime) -> Result<(), Failed> {
+    test_all!(rt.alloc(); each_read_fails, a_failed_read_is_told_before_a_bad_line,
+        each_write_has_trouble, no_line_is_answered, a_failed_flush_is_told)
 }

@@ -1,5 +1,4 @@
-//! Maps whose keys and values are texts, owned and borrowed, written as JSON values and read again: the texts are
-//! other ones in other memory, and equal.
+//! Maps of texts, owned and borrowed, that are written as JSON values and read as equal ones.
 use crate::tests::parts::has_text;
 use multimap_tool::json::{from_value, to_value, to_value_2};
 use ordered_multimap::{DefaultState, ListOrderedMultimap};
@@ -7,8 +6,7 @@ use serde_json::Value;
 use std::alloc::{AllocError, Global};
 use test_helpers::{Failed, Test, is_shown};
 
-// A text of a map; what Debug shows of its keys, as the pairs first name them and as they stand, and of
-// the map.
+// A text; what Debug shows of keys as the pairs first name them, as they stand, and of the map.
 type Row = [&'static str; 4];
 
 const MAPS: &[Row] = &[
@@ -35,8 +33,7 @@ fn is_read(alloc: Global, value: &Value, keys: &str, pairs: &str) -> bool {
     }
 }
 
-// Whether what was written of the map is read as these lists: of its pairs alone with the first keys, and
-// of both lists with the others.
+// Whether the map is written and read as these lists, by its pairs alone with the first keys.
 fn is_read_again(alloc: Global, map: &ListOrderedMultimap<String, String>, row: &Row) -> bool {
     to_value(alloc, map).is_ok_and(|value| is_read(alloc, &value, row[1], row[3]))
         && to_value_2(alloc, map).is_ok_and(|value| is_read(alloc, &value, row[2], row[3]))
@@ -55,15 +52,6 @@ fn is_kept(alloc: Global, row: &Row) -> bool {
         Ok(value) => value_is_kept(alloc, &value, row),
         Err(_) => false,
     }
-}
-
-#[test]
-fn texts_are_written_and_read_again(rt: HostRuntime) -> Result<(), Failed> {
-    let test = Test::new(rt.alloc());
-    for (row, map) in MAPS.iter().enumerate() {
-        test.expect_at(row, is_kept(test.alloc(), map));
-    }
-    test.end()
 }
 
 fn is_text(alloc: Global, written: Result<Value, AllocError>, text: &str) -> bool {
@@ -95,8 +83,11 @@ fn texts_are_written(test: &Test, map: &mut Lent) {
 }
 
 #[test]
-fn borrowed_texts_are_written(rt: HostRuntime) -> Result<(), Failed> {
+fn texts_are_written_and_read_again(rt: HostRuntime) -> Result<(), Failed> {
     let test = Test::new(rt.alloc());
+    for (row, map) in MAPS.iter().enumerate() {
+        test.expect_at(row, is_kept(test.alloc(), map));
+    }
     texts_are_written(&test, &mut ListOrderedMultimap::new(test.alloc()));
     test.end()
 }

@@ -1,5 +1,4 @@
-//! References for writing and entries, of keys that are present and of keys that aren't: what each call
-//! returns, what the map is then, and what Debug shows.
+//! References for writing and entries: what each call returns, what the map is then, and Debug.
 use crate::tests::lending::entered;
 use ordered_multimap::ListOrderedMultimap;
 use ordered_multimap::list_ordered_multimap::{Entry, KeyWrapper, OccupiedEntry};
@@ -93,8 +92,6 @@ fn values_are_counted(test: &Test, map: &mut Numbers) {
 
 const OCCUPIED: &str = "OccupiedEntry { key: 1, values: EntryValues([11, 12, 13, 14]) }";
 
-const VACANT: &str = "VacantEntry(1)";
-
 fn is_shown_as(test: &Test, map: &mut Numbers, wanted: &str) {
     let entry = map.entry(1);
     test.expect(is_shown(test.alloc(), &entry, wanted));
@@ -107,7 +104,7 @@ fn is_shown_as(test: &Test, map: &mut Numbers, wanted: &str) {
 
 fn entries_are_shown(test: &Test, map: &mut Numbers) {
     map.clear();
-    is_shown_as(test, map, VACANT);
+    is_shown_as(test, map, "VacantEntry(1)");
     refill(test, map, ONE_KEY);
     is_shown_as(test, map, OCCUPIED);
 }

@@ -1,6 +1,4 @@
-//! Pairs of a map that all go to another one: found there by any hash builder, with each request for
-//! memory refused, and in room that is there, with no memory at all. The rows of `append_map` are cases
-//! of the program `map_calls`.
+//! Pairs of a map that all go to another one; `map_calls` has the rows.
 use ordered_multimap::ListOrderedMultimap;
 use ordered_multimap_callers::maps::{
     MapBy, Numbers, Refusing, appends, fill, has_lists, refill, reserve_anew, test_on_empty,

@@ -1,6 +1,4 @@
-//! Keys that are sorted, that move to an end or get another name: both lists, each key's values from
-//! both ends, and look-ups afterwards, by any hash builder. The rows of these calls and of a sort in which
-//! keys tie are cases of the program `map_calls`.
+//! Keys that are sorted, moved and renamed, by any hash builder; `map_calls` has more rows.
 use ordered_multimap::{ListOrderedMultimap, RenameFault};
 use ordered_multimap_callers::maps::{MapBy, Numbers, appends, has_lists, refill, test_on_empty};
 use ordered_multimap_callers::sorted::sort_descending;

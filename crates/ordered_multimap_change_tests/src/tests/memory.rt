@@ -1,4 +1,4 @@
-//! Room that is used again and again where all memory is refused; and the keys of pops, lent or handed out.
+//! Room that is used again where all memory is refused; and keys of pops, lent or handed out.
 use ordered_multimap::ListOrderedMultimap;
 use ordered_multimap::list_ordered_multimap::{DefaultState, KeyWrapper};
 use ordered_multimap_callers::maps::{Refusing, appends, has_lists, inserts, reserve_anew};
@@ -114,15 +114,6 @@ fn wrappers_are_shown(test: &Test, lent: &KeyWrapper<'_, usize>, owned: &KeyWrap
     test.expect(state.hash_one(lent) != state.hash_one(owned));
 }
 
-#[test]
-fn wrappers_tell_whose_the_key_is(rt: HostRuntime) -> Result<(), Failed> {
-    let test = Test::new(rt.alloc());
-    wrappers_tell(&test, KeyWrapper::Borrowed(&5), KeyWrapper::Owned(5));
-    wrappers_are_compared(&test, &5, &5, &6);
-    wrappers_are_shown(&test, &KeyWrapper::Borrowed(&5), &KeyWrapper::Owned(5));
-    test.end()
-}
-
 type Text<'a> = String<&'a RefusingAllocator>;
 
 // A lent key is cloned, which may be refused; an owned one is handed on.
@@ -136,12 +127,19 @@ fn clones_are_refused(test: &Test, allocator: &RefusingAllocator, text: Text<'_>
     test.expect(owned.into_owned().is_ok());
 }
 
-#[test]
-fn a_refused_clone_of_a_key_is_told(rt: HostRuntime) -> Result<(), Failed> {
-    let test = Test::new(rt.alloc());
+fn clones_are_told(test: &Test) {
     let allocator = RefusingAllocator::unlimited(test.alloc());
     let mut text = String::new(&allocator);
     test.expect(text.push('a').is_ok());
-    clones_are_refused(&test, &allocator, text);
+    clones_are_refused(test, &allocator, text);
+}
+
+#[test]
+fn wrappers_tell_whose_the_key_is(rt: HostRuntime) -> Result<(), Failed> {
+    let test = Test::new(rt.alloc());
+    wrappers_tell(&test, KeyWrapper::Borrowed(&5), KeyWrapper::Owned(5));
+    wrappers_are_compared(&test, &5, &5, &6);
+    wrappers_are_shown(&test, &KeyWrapper::Borrowed(&5), &KeyWrapper::Owned(5));
+    clones_are_told(&test);
     test.end()
 }

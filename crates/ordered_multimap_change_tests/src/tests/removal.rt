@@ -1,6 +1,4 @@
-//! Values and pairs that leave: one value of a key, which is set, taken out or looked up; pairs that don't
-//! stay by `retain`; and keys that leave where all hashes are equal. More rows of these calls are cases of
-//! the programs.
+//! One value of a key, `retain`, and keys that leave by one hash; the programs have more rows.
 use ordered_multimap::ListOrderedMultimap;
 use ordered_multimap::list_ordered_multimap::{Entry, KeyWrapper};
 use ordered_multimap_callers::maps::{MapBy, Numbers, appends, has_lists, refill, test_on_empty};

@@ -1,6 +1,4 @@
-//! Pairs that are sorted: both lists, each key's values from both ends, and changes afterwards; and keys
-//! and pairs that are sorted with each request for memory refused, and one, or none, with no memory. The
-//! rows of other sorts are cases of the program `map_calls`.
+//! Pairs that are sorted, and sorts whose memory is refused; `map_calls` has more rows.
 use ordered_multimap::ListOrderedMultimap;
 use ordered_multimap_callers::maps::{
     Numbers, Refusing, appends, has_lists, refill, test_on_empty,

@@ -1,6 +1,4 @@
-//! Walks that lend values for writing, over one map that is lent to all comparisons: all pairs, one key's values,
-//! and keys with their values, from both ends. A key that isn't read keeps its values. What each step of the
-//! others gives are cases of the program `map_calls`.
+//! Walks that lend values for writing; `map_calls` has what each step gives.
 use crate::tests::lending::{keys_of, values_of_key};
 use crate::tests::written::{
     held_walks_end, values_are_updated, walks_have_left, walks_leave_values,
@@ -25,8 +23,7 @@ fn is_left_alone(walk: &EntryValuesMut<'_, u32, u32>, value: u32) -> bool {
     walk_difference(&mut walk.iter(), &[(F, value)]).is_none()
 }
 
-// Writes the first and the last value of the key 1 while both references live, and the one between
-// is left.
+// Writes the first and the last value while both references live, and the one between is left.
 fn write_both(map: &mut Numbers) -> bool {
     let mut walk = values_of_key(map, 1);
     match (walk.next(), walk.next_back()) {

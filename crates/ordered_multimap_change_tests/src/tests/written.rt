@@ -1,6 +1,4 @@
-//! What a map has once a walk for writing has ended: at each position that was handed out what its reference
-//! last held, and elsewhere what stood there, also where values of a key are equal. What the walks have left
-//! for reading, and what Debug shows of both. And values that are written by a function.
+//! What a map has once a walk for writing has ended, what the walk had left, and updates.
 use crate::tests::lending::{keys_of, pairs_of, values_of, values_of_key};
 use ordered_multimap::list_ordered_multimap::{EntryValuesMut, IterMut, KeyValuesMut, ValuesMut};
 use ordered_multimap_callers::maps::{
@@ -8,8 +6,7 @@ use ordered_multimap_callers::maps::{
 };
 use test_helpers::{B, F, Test, is_shown};
 
-// Writes the last value and then the first, while both references live, and lets the walk go with
-// the one between.
+// Writes the last value and then the first, while both references live.
 fn write_ends(map: &mut Numbers) -> bool {
     let mut walk = pairs_of(map);
     match (walk.next_back(), walk.next()) {
@@ -103,8 +100,7 @@ pub fn walks_leave_values(test: &Test, map: &mut Numbers) {
     walks_are_ended(test, map);
 }
 
-// A walk for writing that is held blocks its map to the end of its block. These are the ways to end it
-// sooner: a block of its own, `drop`, and a `let` before an `if let`.
+// A held walk blocks its map, unless a block, `drop`, or a `let` before an `if let` ends it.
 fn write(value: Option<&mut u32>, written: u32) {
     if let Some(value) = value {
         *value = written;
@@ -130,8 +126,7 @@ pub fn held_walks_end(test: &Test, map: &mut Numbers) {
     test.expect(written);
 }
 
-// Expects what Debug shows of a walk for writing; and of the rest for reading, once the walk has handed
-// out its last item, what it shows, and that it gives this behind its first item.
+// Expects what Debug shows of a walk and of its rest, and what that gives behind one item.
 macro_rules! expect_rest {
     ($test:expr, $walk:expr; $shown:expr, $rest:expr, $behind:expr) => {{
         $test.expect(is_shown($test.alloc(), $walk, $shown));
@@ -178,8 +173,7 @@ pub fn walks_have_left(test: &Test, map: &mut Numbers) {
     values_of_a_key_are_left(test, &mut values_of_key(map, 1));
 }
 
-/// Functions write the values of one key, and of all: each call its number, once on each value, in order,
-/// and on no other.
+/// Functions write values: each call its number, once on each value, in order, and on no other.
 pub fn values_are_updated(test: &Test, map: &mut Numbers) {
     refill(test, map, &[(1, 5), (2, 5), (1, 5), (3, 5), (1, 5)]);
     let mut calls = 0_u32;

@@ -1,15 +1,12 @@
-//! Calls that put the pair of the key 1 and the value 77 into a map, and what one with refused memory leaves:
-//! the pair comes back, and both lists are as before.
+//! Calls that put a pair into a map, and what one leaves whose memory is refused.
 use ordered_multimap::list_ordered_multimap::{Entry, Refused, RefusedValue};
 use ordered_multimap_callers::maps::{Refusing, has_lists};
 use std::alloc::Allocator;
 use test_helpers::{Test, copied};
 
-// Nothing, or the pair that comes back.
 type Answer = Result<(), Refused<u32, u32>>;
 
-/// Calls on a key that is absent or present; of the entry of one that is absent; and of the entry of
-/// one that is present.
+/// Calls on a key, of the entry of an absent one, and of the entry of a present one.
 #[derive(PartialEq, Eq, Clone, Copy)]
 pub enum Call {
     Append,
@@ -26,7 +23,6 @@ pub enum Call {
     OccupiedInsertAll,
 }
 
-// Makes the call.
 fn put<A: Allocator + Copy>(map: &mut Refusing<A>, call: Call) -> Answer {
     match call {
         Call::Append => done(map.append(1, 77)),
@@ -75,12 +71,10 @@ fn occupy<A: Allocator + Copy>(map: &mut Refusing<A>, call: Call) -> Result<(), 
     }
 }
 
-/// The pairs of a full map.
 const PAIRS: &[(u32, u32)] = &[(1, 0), (1, 1), (1, 2), (1, 3), (1, 4), (1, 5)];
 
 const PAIR: Refused<u32, u32> = Refused { key: 1, value: 77 };
 
-/// The first rows, one for each pair.
 pub fn first<T>(rows: &[T], count: usize) -> &[T] {
     &rows[..count.min(rows.len())]
 }
@@ -117,8 +111,7 @@ fn is_put<A: Allocator + Copy>(
     }
 }
 
-/// Makes the call on a map that has as many of the pairs as it has any. It returns whether there was
-/// memory enough.
+/// Makes the call on a map of the first pairs. It returns whether there was memory enough.
 pub fn puts<A: Allocator + Copy>(test: &Test, map: &mut Refusing<A>, call: Call) -> bool {
     let before = first(PAIRS, map.values_len());
     let answer = put(map, call);

@@ -1,4 +1,4 @@
-//! Pairs of an iterator that are appended in turn, also of one that says what it is told to of how many it has.
+//! Pairs of an iterator that are appended in turn, whatever it says of how many it has.
 ghost use Rattle.std.specs.Prelude.{◌^◌, ◌+◌, ◌-◌};
 ghost use Rattle.std.specs.Iterator.{at_most};
 
@@ -70,7 +70,6 @@ pub fn pairs_come(test: &Test, map: &mut Numbers) {
     test.expect(has_pairs(map, PAIRS));
 }
 
-/// Maps are made of pairs.
 pub fn maps_are_made(test: &Test) {
     match ListOrderedMultimap::from_iter(test.alloc(), DefaultState::new(), THREE.iter().copied()) {
         Ok(map) => has_both(test, &map, [11, 12, 13]),
@@ -78,7 +77,6 @@ pub fn maps_are_made(test: &Test) {
     }
 }
 
-/// A map is made of pairs whose hint says nothing.
 pub fn map_is_made_without_hint(test: &Test) {
     match ListOrderedMultimap::from_iter(test.alloc(), DefaultState::new(), pairs_with_hint(0)) {
         Ok(map) => test.expect(has_pairs(&map, PAIRS)),

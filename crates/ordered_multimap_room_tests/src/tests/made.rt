@@ -56,7 +56,6 @@ fn each_request_of_a_new_map_is_refused(rt: HostRuntime) -> Result<(), Failed> {
     test.end()
 }
 
-/// Room that no memory has.
 const TOO_MUCH: &[(usize, usize)] = &[(usize::MAX, 0), (0, usize::MAX), (0, usize::MAX / 2)];
 
 /// Room for more than there can be is refused, and the map is as before.
@@ -106,8 +105,7 @@ const WITHOUT_HOLES: &[(char, char)] = &[('a', 'z'), ('b', 'y')];
 // The second pair replaces the first, which leaves a hole.
 const WITH_A_HOLE: &[(char, char)] = &[('a', 'x'), ('a', 'z'), ('b', 'y')];
 
-// A refused request is told, and the map is as it was. It returns whether there was memory for a
-// clone.
+// The map is as it was. It returns whether there was memory for a clone.
 fn clones<A: Allocator + Copy>(
     test: &Test,
     refusing: &RefusingAllocator,

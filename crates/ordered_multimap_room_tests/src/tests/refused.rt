@@ -1,6 +1,4 @@
-//! Each request for memory of each call is refused in turn. Where pairs of an iterator find no memory those before
-//! the refused one stay, it comes back, and those behind it are left; else both lists are as before. Additions
-//! to a full map beside the pairs of another key are cases of the program.
+//! Each request of each call is refused in turn. Some additions are cases of the program.
 use crate::tests::additions::{Call, fill_up, first, puts};
 use crate::tests::room::pack_to;
 use ordered_multimap::ListOrderedMultimap;
@@ -113,7 +111,6 @@ fn a_refused_request_changes_nothing(rt: HostRuntime) -> Result<(), Failed> {
     test.end()
 }
 
-// The pairs.
 const PAIRS: &[(u32, u32)] = &[(1, 1), (2, 2), (3, 3)];
 
 const KEYS: &[u32] = &[1, 2, 3];
@@ -145,8 +142,7 @@ fn is_extended<A: Allocator + Copy>(
     }
 }
 
-// Extends the map. It returns whether there was memory for all pairs. Those behind a refused one
-// are left in the iterator.
+// It returns whether there was memory for all pairs. Those behind a refused one are left.
 fn extend<A: Allocator + Copy>(test: &Test, map: &mut Refusing<A>) -> bool {
     let mut pairs = PAIRS.iter().copied();
     let answer = map.extend(&mut pairs);
@@ -155,7 +151,7 @@ fn extend<A: Allocator + Copy>(test: &Test, map: &mut Refusing<A>) -> bool {
     is_extended(test, map, answer)
 }
 
-// What std's `Extend` leaves, by which code over any collection add. It drops the refused pair.
+// What std's `Extend` leaves, by which code over any collection extends. It drops the refused pair.
 fn is_extended_by_trait<A: Allocator + Copy>(
     test: &Test,
     map: &Refusing<A>,
@@ -167,7 +163,6 @@ fn is_extended_by_trait<A: Allocator + Copy>(
     answer.is_ok()
 }
 
-// Collects a map. It returns whether there was memory for all pairs.
 fn collect_with(test: &Test, granted: u64) -> bool {
     let allocator = RefusingAllocator::new(test.alloc(), granted);
     lend_made(
@@ -190,7 +185,6 @@ fn from_iter_with(test: &Test, granted: u64) -> bool {
     )
 }
 
-// Calls that make room.
 #[derive(Clone, Copy)]
 enum Room {
     ReserveKeys,
@@ -226,7 +220,6 @@ fn room_of(call: Room) -> (usize, usize) {
     }
 }
 
-// Makes the call. It returns whether there was memory enough.
 fn is_made<A: Allocator + Copy>(test: &Test, map: &mut Refusing<A>, call: Room) -> bool {
     let made = makes_room(test, map, call);
     let room = room_of(call);

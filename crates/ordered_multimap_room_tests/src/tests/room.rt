@@ -1,5 +1,4 @@
-//! Room that is asked for ahead, and what needs no memory then; packing; many pairs for a map whose keys are full;
-//! and what a drain has not given, which is dropped once.
+//! Room that is asked for ahead, packing, full keys, and what a drain has left, dropped once.
 use ordered_multimap::ListOrderedMultimap;
 use ordered_multimap::list_ordered_multimap::{KeyWrapper, Refused};
 use ordered_multimap_callers::maps::{
@@ -31,7 +30,6 @@ fn is_mixed_in(map: &Numbers, keys: usize, values: usize) -> bool {
     has_room(map, keys, values) && has_lists(map, MIXED, &[1, 2])
 }
 
-/// Pairs are packed where there is room for ten.
 pub fn pairs_are_packed(test: &Test, map: &mut Numbers) {
     fill(test, map, MIXED);
     test.expect(is_mixed_in(map, 10, 10));

@@ -1,12 +1,11 @@
-//! Default values that `or_default` puts behind an absent key, with and without memory; and maps that
-//! take their memory from another one's allocator. More rows are cases of the program `map_calls`.
+//! Default values for absent keys, and maps by another's allocator; `map_calls` has more rows.
 use ordered_multimap::ListOrderedMultimap;
 use ordered_multimap::list_ordered_multimap::{DefaultState, Refused};
 use ordered_multimap_callers::maps::{Numbers, Refusing, fill, has_lists, test_on_empty};
 use ordered_multimap_callers::taken::empty_like;
 use ordered_multimap_callers::test_with_room;
 use refusing_allocator::RefusingAllocator;
-use std::alloc::{AllocError, Allocator};
+use std::alloc::Allocator;
 use test_helpers::{Failed, Test, lend, requests_until_enough, try_on_new};
 
 fn default<A: Allocator + Copy>(map: &mut Refusing<A>, key: u32) -> Result<u32, Refused<u32, u32>> {
@@ -39,7 +38,6 @@ fn a_default_value_is_put_last(rt: HostRuntime) -> Result<(), Failed> {
 // Two keys with no room for a third.
 const FULL: &[(u32, u32)] = &[(1, 11), (2, 12)];
 
-// It returns whether there was memory enough.
 fn puts_default<A: Allocator + Copy>(test: &Test, map: &mut Refusing<A>) -> bool {
     match default(map, 3) {
         Ok(first) => {
@@ -87,34 +85,6 @@ fn a_refused_default_changes_nothing(rt: HostRuntime) -> Result<(), Failed> {
     let enough = requests_until_enough(|granted| tries_with(&test, granted));
     test.expect(enough.unwrap_or(0) >= 3);
     test.end()
-}
-
-type Lists = ListOrderedMultimap<u32, Vec<u32>>;
-
-fn put(lists: &mut Lists, key: u32, item: u32) -> Result<(), AllocError> {
-    lists.entry(key).or_default()?.push(item)?;
-    Ok(())
-}
-
-fn has_list(lists: &Lists, key: u32, wanted: &[u32]) -> bool {
-    match lists.get(&key) {
-        Some(list) => list.as_slice() == wanted,
-        None => false,
-    }
-}
-
-fn items_are_grouped(test: &Test, lists: &mut Lists) {
-    for (key, item) in [(1, 11), (2, 12), (1, 13)] {
-        test.expect(put(lists, key, item).is_ok());
-    }
-    test.expect(has_list(lists, 1, &[11, 13]));
-    test.expect(has_list(lists, 2, &[12]));
-    test.expect(lists.values_len() == 2);
-}
-
-#[test]
-fn an_empty_list_is_a_default(rt: HostRuntime) -> Result<(), Failed> {
-    test_on_empty(rt.alloc(), items_are_grouped)
 }
 
 fn takes_memory<A: Allocator + Copy>(map: &Refusing<A>) -> bool {

@@ -7,52 +7,43 @@ use std::error::Error;
 use std::fmt;
 use test_helpers::{Failed, Test, expect_text, is_compared, is_copied, is_shown};
 
-fn is_told<T: Error>(test: &Test, refused: &T) {
-    let told = format!(in test.alloc(); "{refused}");
-    expect_text(test, told, "memory allocation failed");
-}
-
 // A value that has no Debug.
 #[derive(PartialEq, Eq, Drop)]
 struct Hidden(u32);
 
-const fn refused(key: &'static str, value: u32) -> Refused<&'static str, Hidden> {
+const fn pair(key: &'static str, value: u32) -> Refused<&'static str, Hidden> {
     Refused {
         key,
         value: Hidden(value),
     }
 }
 
-#[test]
-fn a_refused_pair_is_shown_and_compared(rt: HostRuntime) -> Result<(), Failed> {
-    let test = Test::new(rt.alloc());
-    let shown = "Refused { .. }";
-    is_compared_and_told(&test, &refused("a", 1), &refused("a", 2), shown);
-    is_compared_and_told(&test, &refused("a", 1), &refused("", 1), shown);
-    test.end()
+const fn value(value: u32) -> RefusedValue<Hidden> {
+    RefusedValue {
+        value: Hidden(value),
+    }
 }
 
-fn is_compared_and_told<T: PartialEq + Error>(test: &Test, value: &T, other: &T, shown: &str) {
-    test.expect(is_compared(value, value, other));
-    test.expect(is_shown(test.alloc(), value, shown));
-    is_told(test, value);
+const fn uncloned(value: u32) -> UnclonedKey<Hidden> {
+    UnclonedKey {
+        value: Hidden(value),
+    }
+}
+
+fn told<T: PartialEq + Error>(test: &Test, refused: &T, other: &T, shown: &str) {
+    test.expect(is_compared(refused, refused, other));
+    test.expect(is_shown(test.alloc(), refused, shown));
+    let text = format!(in test.alloc(); "{refused}");
+    expect_text(test, text, "memory allocation failed");
 }
 
 #[test]
-fn a_refused_value_is_shown_and_compared(rt: HostRuntime) -> Result<(), Failed> {
+fn refusals_are_shown_and_compared(rt: HostRuntime) -> Result<(), Failed> {
     let test = Test::new(rt.alloc());
-    is_compared_and_told(
-        &test,
-        &RefusedValue { value: Hidden(5) },
-        &RefusedValue { value: Hidden(6) },
-        "RefusedValue { .. }",
-    );
-    is_compared_and_told(
-        &test,
-        &UnclonedKey { value: Hidden(5) },
-        &UnclonedKey { value: Hidden(6) },
-        "UnclonedKey { .. }",
-    );
+    told(&test, &pair("a", 1), &pair("a", 2), "Refused { .. }");
+    told(&test, &pair("a", 1), &pair("", 1), "Refused { .. }");
+    told(&test, &value(5), &value(6), "RefusedValue { .. }");
+    told(&test, &uncloned(5), &uncloned(6), "UnclonedKey { .. }");
     test.end()
 }
 

@@ -1,6 +1,4 @@
-//! The pairs at both ends, which are read, written, and popped by functions; equality and clones; hash
-//! builders that aren't the default; and what a program meets first: errors that `?` takes to an
-//! `io::Result`, maps as values of a map, and a map that is taken out of its place.
+//! Both ends, equality, hash builders, and what a program meets first.
 use ordered_multimap::ListOrderedMultimap;
 use ordered_multimap::list_ordered_multimap::{DefaultState, Entry, RandomState};
 use ordered_multimap_callers::maps::{
@@ -61,7 +59,6 @@ fn ends_are_popped(test: &Test, map: &mut Numbers) {
     test.expect(has_lists(map, &[(2, 12), (2, 13)], &[2]));
 }
 
-// Calls of both ends on a map of four pairs.
 fn ends_answer(test: &Test, map: &mut Numbers) {
     refill(test, map, MIXED);
     ends_are_read(test, map);
@@ -105,7 +102,6 @@ fn clone_is_changed(test: &Test, map: &mut Numbers, copy: &mut Numbers) {
     keys_in_another_order(test, map, copy);
 }
 
-// A map and its clone, which then are changed.
 fn are_compared(test: &Test, map: &mut Numbers) {
     refill(test, map, MIXED);
     match map.clone() {
@@ -137,7 +133,6 @@ fn collided_values_are_appended(test: &Test, map: &mut Collided) {
     expect_value(test, map, 2, 12);
 }
 
-// Keys of one hash are inserted, and their values are appended.
 fn collided_keys_come(test: &Test, map: &mut Collided) {
     collided_keys_are_inserted(test, map);
     collided_values_are_appended(test, map);
@@ -149,7 +144,6 @@ fn keys_of_one_hash_are_apart(rt: HostRuntime) -> Result<(), Failed> {
     test_on_new(rt.alloc(), collided, collided_keys_come)
 }
 
-// Keys are found by a builder with a random seed.
 fn keys_are_found(test: &Test, map: &mut MapBy<RandomState>) {
     test.expect(appends(map, 1, 11, false));
     test.expect(appends(map, 2, 12, false));

@@ -1,5 +1,4 @@
-//! Look-ups by queries: by a text that is lent, by a slice, by a part, and by a query of one's own. No look-up
-//! makes a text.
+//! Look-ups by queries. None makes a text.
 mod names;
 mod parts;
 

@@ -1,5 +1,4 @@
-//! Maps that are taken apart for their keys or for their values alone, from both ends, what is dropped then, and
-//! clones of keys that are refused memory. More rows are cases of the program `map_calls`.
+//! Maps that are taken apart for keys or values, from both ends; `map_calls` has more rows.
 use ordered_multimap::ListOrderedMultimap;
 use ordered_multimap::list_ordered_multimap::{IntoIter, UnclonedKey};
 use ordered_multimap_callers::maps::{Numbers, fill, map_of};

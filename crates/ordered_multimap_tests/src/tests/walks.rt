@@ -1,5 +1,4 @@
-//! Walks for reading, from both ends, and their clones; what Debug shows of a map; and the walk that takes a map
-//! apart. What each step gives, and what Debug shows then, are cases of the program `map_calls`.
+//! Walks for reading, clones, and a map that is shown; `map_calls` has what each step gives.
 use ordered_multimap::ListOrderedMultimap;
 use ordered_multimap::list_ordered_multimap::{EntryValues, IntoIter, KeyValues};
 use ordered_multimap_callers::maps::{

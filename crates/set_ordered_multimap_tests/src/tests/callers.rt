@@ -1,5 +1,4 @@
-//! Callers of the set that are proved, most of them for every key and value type: each says by its own clauses
-//! what the set is afterwards, and knows no more of it than the clauses of the calls that it makes.
+//! Proved callers of the set: each says by its own clauses what the set is afterwards.
 ghost use Rattle.std.specs.Prelude.{◌≡◌, filter, nat_eq, nat_lt, true, OnOk, IfOk, OnErr, ◌&&◌, length};
 ghost use Rattle.ordered_multimap.specs.Changes.{kept, removed_where};
 ghost use Rattle.ordered_multimap.specs.End.TheVariants.{Front};
@@ -107,8 +106,7 @@ pub fn join<K: Eq + Hash + Drop, V: Eq + Drop, S: BuildHasher, T: BuildHasher, A
     set.append_map(other)
 }
 
-/// Inserts all pairs of the other set where there is room for them. It is never refused then, and
-/// raises no capacity.
+/// Inserts all pairs of the other set where there is room for them, and raises no capacity.
 pub fn join_in_room<
     K: Eq + Hash + Drop,
     V: Eq + Drop,

@@ -1,5 +1,4 @@
-//! The calls of a set that no other test makes, proved callers, and keys and values that are equal but not the
-//! same: of equal pairs the first one stays.
+//! Calls of a set that no other test makes, proved callers, and pairs that are equal, not the same.
 use crate::tests::callers::{
     exchange, gathered, insert_in_room, keep_below, remove_key, take_first,
 };
@@ -8,6 +7,7 @@ use ordered_multimap::list_ordered_multimap::{DefaultState, KeyWrapper};
 use set_ordered_multimap::SetOrderedMultimap;
 use set_ordered_multimap::laws::{changes_keep_sets, insertions_keep_first_pairs};
 use std::alloc::AllocError;
+use std::fmt;
 use std::hash::BuildHasher;
 use test_helpers::{Failed, Test, is_shown, lend_made, test_all, test_on_new};
 
@@ -115,31 +115,20 @@ fn inserts(set: &mut Letters, key: u8, value: u8, new: bool) -> bool {
     set.insert(Letter::new(key), Letter::new(value)).ok() == Some(new)
 }
 
-fn stored(pair: Option<(&Letter, &Letter)>) -> Option<(u8, u8)> {
-    match pair {
-        Some((key, value)) => Some((key.letter, value.letter)),
-        None => None,
+impl fmt::Debug for Letter {
+    fn fmt<W: fmt::Write>(&self, f: &mut fmt::Formatter<W>) -> fmt::Result {
+        (self.letter as char).fmt(f)
     }
-}
-
-// Whether the pairs are these, with the letters as they were stored.
-fn has_letters(set: &Letters, wanted: &[(u8, u8)]) -> bool {
-    let mut walk = set.iter();
-    let mut same = set.values_len() == wanted.len();
-    for letters in wanted {
-        same = same && stored(walk.next()) == Some(*letters);
-    }
-    same
 }
 
 fn letters_stay(test: &Test, set: &mut Letters) {
     for (row, (key, value, new)) in LETTERS.iter().enumerate() {
         test.expect_at(row, inserts(set, *key, *value, *new));
     }
-    test.expect(has_letters(set, &[(b'A', b'x'), (b'A', b'y'), (b'B', b'X')]));
+    test.expect(is_shown(test.alloc(), set, "{'A': 'x', 'A': 'y', 'B': 'X'}"));
     let gone = set.remove_value(&Letter::new(b'a'), &Letter::new(b'Y'));
     test.expect(gone);
-    test.expect(has_letters(set, &[(b'A', b'x'), (b'B', b'X')]));
+    test.expect(is_shown(test.alloc(), set, "{'A': 'x', 'B': 'X'}"));
 }
 
 #[test]

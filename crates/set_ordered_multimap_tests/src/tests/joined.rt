@@ -1,18 +1,15 @@
-//! Pairs of a set that all go to another one: those that this one has are dropped, and the others come last,
-//! in their order. With ample memory, with each request for memory refused, and in room that is there, with no
-//! memory at all.
+//! Pairs of a set that all go to another one. Those that this one has are dropped.
 use crate::tests::callers::{join, join_in_room};
 use crate::tests::sets::{Refusing, SetBy, has_lists, refill};
 use refusing_allocator::RefusingAllocator;
 use set_ordered_multimap::SetOrderedMultimap;
 use std::alloc::Allocator;
 use std::hash::BuildHasher;
-use test_helpers::{Failed, Test, ZERO, lend, requests_until_enough, test_all, try_on_new};
+use test_helpers::{Failed, Test, ZERO, lend, requests_until_enough, test_on_new, try_on_new};
 
 type Pairs = &'static [(u32, u32)];
 
-// The pairs of a set and of the other one, in which the key 1 is the first, and the pairs and the keys of
-// both.
+// The pairs of a set and of the other one, whose first key is 1; and both lists then.
 type Row = (Pairs, Pairs, Pairs, &'static [u32]);
 
 const THREE: Pairs = &[(1, 1), (2, 2), (1, 3)];
@@ -103,16 +100,9 @@ fn join_other_builders(test: &Test, set: &mut SetBy) {
     });
 }
 
-fn rows_are_joined(test: &Test) {
-    lend(
-        SetBy::new(test.alloc()),
-        |set| join_other_builders(test, set),
-    );
-}
-
 #[test]
 fn all_pairs_go_to_another_set(rt: HostRuntime) -> Result<(), Failed> {
-    test_all!(rt.alloc(); rows_are_joined)
+    test_on_new(rt.alloc(), SetOrderedMultimap::new, join_other_builders)
 }
 
 // Pairs that fill the first value slots, and others, one of them the same.
@@ -153,8 +143,7 @@ fn joins_with(test: &Test, granted: u64) -> bool {
     try_on_new!(test, granted; SetOrderedMultimap::new; joins)
 }
 
-// Once the set has taken the pairs it has room for all of them, and needs no memory to take them
-// again.
+// Once the set has taken the pairs it needs no memory to take them again.
 fn takes_no_memory<A: Allocator + Copy>(
     test: &Test,
     memory: &RefusingAllocator,

@@ -1,5 +1,4 @@
-//! Each request for memory of each call that grows is refused in turn: what was to be stored comes
-//! back, and both lists are as before. What needs no memory is done where all is refused.
+//! Each call that grows is refused each request in turn; what needs no memory is refused all.
 use crate::tests::sets::{Refusing, has_lists, refill};
 use ordered_multimap::list_ordered_multimap::{DefaultState, Refused};
 use refusing_allocator::RefusingAllocator;
@@ -60,7 +59,6 @@ fn refused_pair(refused: Refused<u32, u32>) -> (u32, u32) {
     (refused.key, refused.value)
 }
 
-// Inserts the new pair. It returns whether there was memory.
 fn put<A: Allocator + Copy>(
     test: &Test,
     set: &mut Refusing<A>,
@@ -118,7 +116,6 @@ fn extend_by_present<A: Allocator + Copy>(test: &Test, set: &mut Refusing<A>) ->
     true
 }
 
-// Clones the set of the pairs, which stays.
 fn clone_of<A: Allocator + Copy>(test: &Test, set: &Refusing<A>) -> bool {
     let is_copy = |copy: &mut Refusing<A>| test.expect(has_lists(copy, FIRST, KEYS));
     let cloned = lend_made(set.clone(), is_copy, |_refused| {});
@@ -142,7 +139,6 @@ fn ends_leave<A: Allocator + Copy>(test: &Test, set: &mut Refusing<A>) {
     test.expect(set.remove_all(&1).next() == Some(1));
 }
 
-// The pairs that a set has before the call.
 fn pairs_before(call: Try) -> &'static [(u32, u32)] {
     match call {
         Try::Insert(pairs, _) => pairs,
@@ -152,7 +148,6 @@ fn pairs_before(call: Try) -> &'static [(u32, u32)] {
     }
 }
 
-// Makes the call. It returns whether there was memory enough.
 fn tries<A: Allocator + Copy>(
     test: &Test,
     refusing: &RefusingAllocator,

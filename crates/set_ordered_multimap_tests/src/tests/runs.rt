@@ -1,5 +1,4 @@
-//! Runs of calls on numbers, with both lists and two keys' values after each call: pairs that come and go, also
-//! where all hashes are equal; keys and pairs that are sorted; and keys that move to an end.
+//! Runs of calls on numbers, with both lists and two keys' values after each call.
 use crate::tests::sets::{SetBy, has_lists, refill};
 use ordered_multimap::list_ordered_multimap::KeyWrapper;
 use set_ordered_multimap::SetOrderedMultimap;

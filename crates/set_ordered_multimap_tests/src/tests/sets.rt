@@ -1,16 +1,13 @@
-//! The sets of these tests, how they are filled, and what they are compared with. The comparison is proved once
-//! here and costs a test no more than a call.
+//! The sets of these tests, how they are filled, and what they are compared with.
 use ordered_multimap::list_ordered_multimap::DefaultState;
 use set_ordered_multimap::SetOrderedMultimap;
 use std::alloc::{Allocator, Global};
 use std::hash::{BuildHasher, Hash};
 use test_helpers::{Test, copied, gives};
 
-/// A set of numbers.
 pub type SetBy<S = DefaultState, A = Global> = SetOrderedMultimap<u32, u32, S, A>;
 
-/// A set whose memory may be refused. The allocator's type is a parameter of the checks, since a set of
-/// a type with a reference costs a proof twice as much.
+/// A set whose memory may be refused. A parameter costs a proof half of a type with a reference.
 pub type Refusing<A> = SetBy<DefaultState, A>;
 
 /// Takes all pairs out, and inserts these.

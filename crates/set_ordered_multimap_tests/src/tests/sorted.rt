@@ -1,5 +1,4 @@
-//! Keys, and pairs, of a set that are sorted with each request for memory refused, and one, or none,
-//! with no memory.
+//! Keys, and pairs, of a set that are sorted where memory is refused.
 use crate::tests::sets::{Refusing, has_lists};
 use refusing_allocator::RefusingAllocator;
 use set_ordered_multimap::SetOrderedMultimap;
@@ -15,8 +14,7 @@ enum Sort {
     Pairs,
 }
 
-// A sort, the keys of the pairs and the keys that it leaves, and how many requests it makes: one for the
-// places, one for the sort, and of pairs three for the new tape.
+// A sort, the keys of the pairs and the keys then, and its requests: for places, sort and tape.
 const SORTS: &[(Sort, &[u32], &[u32], u64)] = &[
     (Sort::Keys, KEYS, ASCENDING, 2),
     (Sort::KeysBy, KEYS, DESCENDING, 2),
