@@ -38,7 +38,10 @@ pub fn take_out<K: Eq + Hash + Drop, V: Drop, S: BuildHasher, A: Allocator>(
 {
     match map.entry(key) {
         Entry::Occupied(entry) => Some(entry.remove()),
-        Entry::Vacant(_entry) => None,
+        Entry::Vacant(entry) => {
+            drop(entry.into_key());
+            None
+        }
     }
 }
 
@@ -55,7 +58,10 @@ pub fn take_value_out<K: Eq + Hash + Drop, V: Drop, S: BuildHasher, A: Allocator
 {
     match map.entry(key) {
         Entry::Occupied(mut entry) => entry.remove_at(index),
-        Entry::Vacant(_entry) => None,
+        Entry::Vacant(entry) => {
+            drop(entry.into_key());
+            None
+        }
     }
 }
 
@@ -73,7 +79,10 @@ pub fn take_last_out<K: Eq + Hash + Drop, V: Drop, S: BuildHasher, A: Allocator>
             let mut drain = entry.remove_all();
             drain.next_back()
         }
-        Entry::Vacant(_entry) => None,
+        Entry::Vacant(entry) => {
+            drop(entry.into_key());
+            None
+        }
     }
 }
 

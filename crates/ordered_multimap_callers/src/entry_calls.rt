@@ -37,7 +37,10 @@ pub fn replace_if_present<K: Eq + Hash + Drop, V: Drop, S: BuildHasher, A: Alloc
             let mut drain = entry.insert_all(value)?;
             Ok(drain.next())
         }
-        Entry::Vacant(_entry) => Ok(None),
+        Entry::Vacant(entry) => {
+            drop(entry.into_key());
+            Ok(None)
+        }
     }
 }
 
@@ -54,7 +57,10 @@ pub fn swap_first<K: Eq + Hash + Drop, V: Drop, S: BuildHasher, A: Allocator>(
 {
     match map.entry(key) {
         Entry::Occupied(entry) => Some(mem::replace(entry.into_mut(), value)),
-        Entry::Vacant(_entry) => None,
+        Entry::Vacant(entry) => {
+            drop(entry.into_key());
+            None
+        }
     }
 }
 
@@ -71,7 +77,10 @@ pub fn take_pair_out<K: Eq + Hash + Drop, V: Drop, S: BuildHasher, A: Allocator>
 {
     match map.entry(key) {
         Entry::Occupied(entry) => Some(entry.remove_entry()),
-        Entry::Vacant(_entry) => None,
+        Entry::Vacant(entry) => {
+            drop(entry.into_key());
+            None
+        }
     }
 }
 
@@ -117,7 +126,10 @@ pub fn take_key_out<K: Eq + Hash + Drop, V: Drop, S: BuildHasher, A: Allocator>(
             let count = remove_entry_with_all(entry, &mut stored).len();
             stored.map(|key| (key, count))
         }
-        Entry::Vacant(_entry) => None,
+        Entry::Vacant(entry) => {
+            drop(entry.into_key());
+            None
+        }
     }
 }
 

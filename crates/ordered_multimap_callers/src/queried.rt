@@ -191,6 +191,9 @@ pub fn set_if_present<K: Eq + Hash + Drop, V: Drop, S: BuildHasher, A: Allocator
 {
     match map.entry(key) {
         Entry::Occupied(mut entry) => Some(entry.set(value)),
-        Entry::Vacant(_entry) => None,
+        Entry::Vacant(entry) => {
+            drop(entry.into_key());
+            None
+        }
     }
 }
