@@ -56,7 +56,7 @@ fn keep_and_write(least: char, _key: &Letter, value: &mut char) -> bool {
     was >= least
 }
 
-fn letters_are_answered(test: &Test, map: &mut ListOrderedMultimap<Letter, char>) {
+fn the_first_letter_stays(test: &Test, map: &mut ListOrderedMultimap<Letter, char>) {
     let commands = [
         Command::Append(UPPER, 'a'),
         Command::Append(LOWER, 'b'),
@@ -76,12 +76,7 @@ fn letters_are_answered(test: &Test, map: &mut ListOrderedMultimap<Letter, char>
         Ok(replies) => test.expect(replies.as_slice() == wanted.as_slice()),
         Err(_) => test.fail(),
     }
-}
-
-fn the_first_letter_stays(test: &Test, map: &mut ListOrderedMultimap<Letter, char>) {
-    letters_are_answered(test, map);
-    let first = map.front().is_some_and(|pair| pair.0.is_upper);
-    test.expect(first);
+    test.expect(map.front().is_some_and(|pair| pair.0.is_upper));
 }
 
 fn laws_can_be_called() {

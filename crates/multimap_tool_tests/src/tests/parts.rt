@@ -22,7 +22,6 @@ fn is_text_of<T: JsonPart + PartialEq + Drop>(alloc: Global, part: &T, text: &st
     is_read && has_text(alloc, &value, text)
 }
 
-/// Whether the text is a JSON value which isn't read as a part.
 fn is_refused<T: JsonPart + Drop>(alloc: Global, text: &str) -> bool {
     match Value::from_str(alloc, text) {
         Ok(value) => matches!(T::from_part(alloc, &value), Err(PartFault::Refused)),
@@ -85,7 +84,6 @@ fn truths_and_characters_are_read(test: &Test) {
     are_read(test, &good, &bad);
 }
 
-/// Texts, and how they are written.
 const TEXTS: &[(&str, &str)] = &[("", "\"\""), ("ab", "\"ab\""), ("a\"é", "\"a\\\"é\"")];
 
 fn texts_are_read(test: &Test) {

@@ -213,8 +213,7 @@ fn each_read_fails(test: &Test) {
 }
 
 fn a_failed_read_is_told_before_a_bad_line(test: &Test) {
-    let text = b"unknown\nget 1\n";
-    test.expect(!read_with(test, text, ErrorKind::Other, 3));
+    test.expect(!read_with(test, b"unknown\nget 1\n", ErrorKind::Other, 3));
 }
 
 /// A run in which the write after this many fails. It returns whether all was written before.

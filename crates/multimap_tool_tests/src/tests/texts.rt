@@ -55,10 +55,7 @@ fn is_kept(alloc: Global, row: &Row) -> bool {
 }
 
 fn is_text(alloc: Global, written: Result<Value, AllocError>, text: &str) -> bool {
-    match written {
-        Ok(value) => has_text(alloc, &value, text),
-        Err(_) => false,
-    }
+    written.is_ok_and(|value| has_text(alloc, &value, text))
 }
 
 type Lent = ListOrderedMultimap<&'static str, &'static str>;
