@@ -18,6 +18,15 @@ lacks_taken b n text lacks =
     (or_false (list_any (λ c. c == b) (take n text)) (list_any (λ c. c == b) (drop n text))
     (sym (list_any-append (λ c. c == b) (take n text) (drop n text)) ∙ ap (list_any (λ c. c == b)) (take-append-drop n text) ∙ lacks)).0
 
+lacks_dropped : (b n : ℕ) (text : List ℕ) → Lacks b text → Lacks b (drop n text)
+lacks_dropped b n text lacks =
+    (or_false (list_any (λ c. c == b) (take n text)) (list_any (λ c. c == b) (drop n text))
+    (sym (list_any-append (λ c. c == b) (take n text) (drop n text)) ∙ ap (list_any (λ c. c == b)) (take-append-drop n text) ∙ lacks)).1
+
+-- a part of a text lacks what the text lacks
+pub lacks_part : (b n m : ℕ) (text : List ℕ) → Lacks b text → Lacks b (take m (drop n text))
+lacks_part b n m text lacks = lacks_taken b m (drop n text) (lacks_dropped b n text lacks)
+
 pub none_blank : IsBlank []
 none_blank = ([], refl, tt)
 

@@ -2,8 +2,7 @@
 use Rattle.std.proofs.Common.{◌≡◌, ◌≢◌, ℕ, suc, ◌==◌, ◌<◌, Bool, true, false, ◌||◌, List, [], ◌∷◌, ◌++◌}
 use Rattle.std.proofs.Common.{refl, sym, ap, ◌∙◌, arith, length, get_or, ne_eqb}
 use Rattle.std.specs.List.{list_any}
-use Rattle.std.specs.Prelude.{IfOk, Result, Ok, Err, Some, option_map}
-use Rattle.config_reader.specs.Values.{HasValue, value_read}
+use Rattle.std.specs.Prelude.{IfOk, Result, Ok, Err}
 use Rattle.std.specs.Str.{NoCharPasses, trim}
 use Rattle.std.proofs.lemmas.Bool.{true≢false}
 use Rattle.std.proofs.lemmas.Str.Pattern.{NoCharPasses-char}
@@ -118,10 +117,3 @@ without_quotes text section none called = record {
   quoted = λ w n same lacking. no_cut 34 text w (n ++ 34 ∷ []) same none;
   other = λ lacking. called;
 }
-
--- the value behind the first `=`
-pub value_here : (all front text value behind : List ℕ) → all ≡ front ++ 61 ∷ text → Lacks 61 front
-    → value_read text ≡ Some (value, behind) → HasValue all value
-value_here all front text value behind is none read = λ other_front other same lacking.
-    let cut = first_cut 61 front text other_front other (sym is ∙ same) none lacking in
-    ap (λ t. option_map (λ r. r.0) (value_read t)) (sym cut.1) ∙ ap (option_map (λ r. r.0)) read

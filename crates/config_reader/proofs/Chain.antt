@@ -51,7 +51,7 @@ read_said old pair new (inl silent) =
       few = silent.text.few;
       same = λ more rest.
           silent.text.same old.section old.above more rest
-          ∙ rw (none, silent.same) (sym (none_more (said more old.section old.above rest)));
+          ∙ rw (none, silent.section, silent.above) (sym (none_more (said more old.section old.above rest)));
     }
 read_said old pair new (inr (inl opens)) =
     let none : pair_said pair ≡ [] = rw opens.no_key refl in
@@ -158,6 +158,6 @@ line_silent line some is = record {
   items = 1;
   few = omega (arith, some);
   same = λ section above more rest.
-      (one_said (record { section = section; above = above }) line [] (record { section = section; above = above }) some (is section above)).same more rest
+      (one_said (record { section = section; above = above; rank = 0 }) line [] (record { section = section; above = above; rank = 0 }) some (is section above)).same more rest
       ∙ none_more (said more section above rest);
 }

@@ -1,3 +1,5 @@
+mod Added
+mod Adding
 mod Alone
 mod Blanks
 mod Blocks
@@ -7,8 +9,11 @@ mod Chain
 mod Cuts
 mod Items
 mod Kept
+mod Levels
 mod ReadBack
 mod Removed
+mod Opened
+mod Ranked
 mod Replaced
 mod Sections
 mod Settings

@@ -10,9 +10,9 @@ use Rattle.ordered_multimap.specs.Keys.{is_listed}
 use Rattle.ordered_multimap.specs.Lists.{Lists}
 use Rattle.config_reader.specs.declared.config.Lines.{Lines}
 use Rattle.config_reader.specs.declared.name.Name.{Name}
-use Rattle.config_reader.specs.Blocks.{AreRead, HaveKeys, IsConfig, IsReadAt, Place, SetsAt, start}
+use Rattle.config_reader.specs.Blocks.{AreRead, HaveKeys, IsConfig, IsOfSettings, IsReadAt, IsSilentAt, OpensAt, Place, SetsAt, settings_rank, start}
 use Rattle.config_reader.specs.Names.{has_no_key, same_name}
-use Rattle.config_reader.specs.Said.{is_deeper, setting_of}
+use Rattle.config_reader.specs.Said.{is_deeper, lowered, setting_of}
 use Rattle.config_reader.proofs.Settings.{same_no_key}
 
 -- a setting that fits below the one fits below the other too
@@ -31,26 +31,51 @@ looser_below (Some above) indent fits other below = grind (arith, nat_tests)
 abbrev pub IsReadFrom : Place → List (Name × Lines) → Type 0
 IsReadFrom old pairs = (end : Place) × AreRead old pairs end
 
+-- lines that say nothing, and the line of a section, are read below any setting
+module _ (old here : Place) (pair : Name × Lines) (new : Place) (rank : here.rank ≡ old.rank) where
+  pub opens_anywhere : OpensAt old pair new → OpensAt here pair new
+  opens_anywhere opens = record {
+    text = opens.text;
+    no_key = opens.no_key;
+    named = opens.named;
+    above = opens.above;
+    of_rank = opens.of_rank;
+    later = omega (arith, opens.later, rank);
+    begins = opens.begins;
+  }
+
+  pub silent_anywhere : here.section ≡ old.section → IsSilentAt old pair new → IsSilentAt here pair (record { section = here.section; above = here.above; rank = new.rank })
+  silent_anywhere section silent = record {
+    text = silent.text;
+    no_key = silent.no_key;
+    named = silent.named ∙ ap lowered (sym section);
+    section = refl;
+    above = refl;
+    of_rank = silent.of_rank;
+    later = omega (arith, silent.later, rank);
+    inside = silent.inside ∙ ap settings_rank (sym rank);
+  }
+
 module _ (keep : Name × Lines → Bool) where
-  pub left_read : (pairs : List (Name × Lines)) (old new here : Place) → here.section ≡ old.section → IsLooser here.above old.above
+  pub left_read : (pairs : List (Name × Lines)) (old new here : Place) → here.section ≡ old.section → here.rank ≡ old.rank → IsLooser here.above old.above
       → ((pair : Name × Lines) → keep pair ≡ false → has_no_key pair.0 ≡ false)
       → AreRead old pairs new → IsReadFrom here (filter keep pairs)
-  left_read [] old new here section above keyed read = (here, refl)
-  left_read (pair ∷ pairs) old new here section above keyed read =
-      by_keep (keep pair) refl (λ next same looser. left_read pairs read.0 new next same looser keyed read.2)
+  left_read [] old new here section rank above keyed read = (here, refl)
+  left_read (pair ∷ pairs) old new here section rank above keyed read =
+      by_keep (keep pair) refl (λ next same level looser. left_read pairs read.0 new next same level looser keyed read.2)
     where
       stays : (next : Place) → IsReadAt here pair next → IsReadFrom next (filter keep pairs) → IsReadFrom here (pair ∷ filter keep pairs)
       stays next is later = (later.0, (next, is, later.1))
 
-      kept : IsReadAt old pair read.0 → ((next : Place) → next.section ≡ read.0.section → IsLooser next.above read.0.above → IsReadFrom next (filter keep pairs))
+      kept : IsReadAt old pair read.0 → ((next : Place) → next.section ≡ read.0.section → next.rank ≡ read.0.rank → IsLooser next.above read.0.above → IsReadFrom next (filter keep pairs))
           → IsReadFrom here (pair ∷ filter keep pairs)
       kept (inl silent) later =
-          stays here (inl (record { text = silent.text; no_key = silent.no_key; same = refl }))
-          (later here (section ∙ ap (λ place. place.section) (sym silent.same))
-          (subst (λ place. IsLooser here.above place.above) (sym silent.same) above))
-      kept (inr (inl opens)) later = stays read.0 (inr (inl record { text = opens.text; no_key = opens.no_key; above = opens.above })) (later read.0 refl (same_looser read.0.above))
+          let next : Place = record { section = here.section; above = here.above; rank = read.0.rank } in
+          stays next (inl (silent_anywhere old here pair read.0 rank section silent))
+          (later next (section ∙ sym silent.section) refl (subst (IsLooser here.above) (sym silent.above) above))
+      kept (inr (inl opens)) later = stays read.0 (inr (inl (opens_anywhere old here pair read.0 rank opens))) (later read.0 refl refl (same_looser read.0.above))
       kept (inr (inr sets)) later =
-          let next : Place = record { section = here.section; above = Some sets.indent } in
+          let next : Place = record { section = here.section; above = Some sets.indent; rank = here.rank } in
           let is : SetsAt here pair next = record {
             key = sets.key;
             indent = sets.indent;
@@ -58,22 +83,24 @@ module _ (keep : Name × Lines → Bool) where
             has_key = sets.has_key;
             fits = above sets.indent sets.fits;
             setting = sets.setting ∙ ap (λ s. setting_of s sets.key (cow_str_bytes pair.1.value)) (sym section);
+            of_rank = sets.of_rank ∙ sym rank;
+            inside = subst IsOfSettings (sym rank) sets.inside;
             same = refl;
           } in
           stays next (inr (inr is))
-          (later next (section ∙ ap (λ place. place.section) (sym sets.same))
+          (later next (section ∙ ap (λ place. place.section) (sym sets.same)) (rank ∙ ap (λ place. place.rank) (sym sets.same))
           (subst (λ place. IsLooser (Some sets.indent) place.above) (sym sets.same) (same_looser (Some sets.indent))))
 
-      goes : IsReadAt old pair read.0 → has_no_key pair.0 ≡ false → ((next : Place) → next.section ≡ read.0.section → IsLooser next.above read.0.above → IsReadFrom next (filter keep pairs))
+      goes : IsReadAt old pair read.0 → has_no_key pair.0 ≡ false → ((next : Place) → next.section ≡ read.0.section → next.rank ≡ read.0.rank → IsLooser next.above read.0.above → IsReadFrom next (filter keep pairs))
           → IsReadFrom here (filter keep pairs)
       goes (inl silent) keyed later = absurd (true≢false (sym silent.no_key ∙ keyed))
       goes (inr (inl opens)) keyed later = absurd (true≢false (sym opens.no_key ∙ keyed))
       goes (inr (inr sets)) keyed later =
-          later here (section ∙ ap (λ place. place.section) (sym sets.same))
+          later here (section ∙ ap (λ place. place.section) (sym sets.same)) (rank ∙ ap (λ place. place.rank) (sym sets.same))
           (subst (λ place. IsLooser here.above place.above) (sym sets.same)
           (looser_below here.above sets.indent (above sets.indent sets.fits)))
 
-      by_keep : (stay : Bool) → keep pair ≡ stay → ((next : Place) → next.section ≡ read.0.section → IsLooser next.above read.0.above → IsReadFrom next (filter keep pairs))
+      by_keep : (stay : Bool) → keep pair ≡ stay → ((next : Place) → next.section ≡ read.0.section → next.rank ≡ read.0.rank → IsLooser next.above read.0.above → IsReadFrom next (filter keep pairs))
           → IsReadFrom here (cond stay (pair ∷ filter keep pairs) (filter keep pairs))
       by_keep true is later = kept read.1 later
       by_keep false is later = goes read.1 (keyed pair is) later
@@ -99,7 +126,7 @@ keys_left keep (name ∷ names) all = by (keep name) (keys_left keep names all.1
 pub removed_read : (name : Name) (old : Lists Name Lines) → has_no_key name ≡ false → IsConfig old
     → IsConfig (removed same_name old name)
 removed_read name old keyed config =
-    let left = left_read (λ p. not (same_name name p.0)) old.pairs start config.end start refl (same_looser None)
+    let left = left_read (λ p. not (same_name name p.0)) old.pairs start config.end start refl refl (same_looser None)
     (gone_has_key name keyed) config.read in
     record {
       end = left.0;

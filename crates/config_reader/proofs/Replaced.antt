@@ -42,13 +42,13 @@ module _ (name : Name) (setting : Lines) (key : List ℕ) (indent : ℕ) (keyed 
     (key_is : str_to_ascii_lowercase name.key.0.now ≡ str_to_ascii_lowercase key)
     (reads : AreSetting (cow_str_bytes setting.text) key (cow_str_bytes setting.value) indent) where
   -- the first line of the setting is indented as the one that it replaces
-  replaced_at : (old : Place) (pair : Name × Lines) (new : Place) → same_name name pair.0 ≡ true
+  replaced_at : (old : Place) (pair : Name × Lines) (new : Place) → same_name name pair.0 ≡ true → setting.rank ≡ pair.1.rank
       → indent ≡ indent_of (first_line (cow_str_bytes pair.1.text)) → IsReadAt old pair new → IsReadAt old (pair.0, setting) new
-  replaced_at old pair new same indented (inl silent) =
+  replaced_at old pair new same rank indented (inl silent) =
       absurd (true≢false (sym silent.no_key ∙ sym (same_no_key name pair.0 same) ∙ keyed))
-  replaced_at old pair new same indented (inr (inl opens)) =
+  replaced_at old pair new same rank indented (inr (inl opens)) =
       absurd (true≢false (sym opens.no_key ∙ sym (same_no_key name pair.0 same) ∙ keyed))
-  replaced_at old pair new same indented (inr (inr sets)) =
+  replaced_at old pair new same rank indented (inr (inr sets)) =
       let indent_is : indent ≡ sets.indent = indented ∙ sym sets.text.indented in
       let v : List ℕ = cow_str_bytes setting.value in
       let section = ap (λ s. s.0) sets.setting in
@@ -61,17 +61,19 @@ module _ (name : Name) (setting : Lines) (key : List ℕ) (indent : ℕ) (keyed 
         fits = ap (λ i. is_deeper i old.above) indent_is ∙ sets.fits;
         setting = ap (λ x. (x, (str_to_ascii_lowercase pair.0.key.0.now, v))) section
             ∙ ap (λ k. ((str_to_ascii_lowercase old.section.0, old.section.1), (k, v))) lower;
-        same = sets.same ∙ ap (λ (i : ℕ). record { section = old.section; above = Some i }) (sym indent_is);
+        of_rank = rank ∙ sets.of_rank;
+        inside = sets.inside;
+        same = sets.same ∙ ap (λ (i : ℕ). record { section = old.section; above = Some i; rank = old.rank }) (sym indent_is);
       } in
       inr (inr is)
 
   replaced_read : (pairs : List (Name × Lines)) (first : Lines) (old new : Place)
-      → Some first ≡ slice_get (values_where (same_name name) pairs) 0
+      → Some first ≡ slice_get (values_where (same_name name) pairs) 0 → setting.rank ≡ first.rank
       → indent ≡ indent_of (first_line (cow_str_bytes first.text)) → AreRead old pairs new
       → IsReadFrom old (pairs_with_only (same_name name) pairs setting)
-  replaced_read [] first old new found indented read = (old, refl)
-  replaced_read (pair ∷ pairs) first old new found indented read =
-      by (same_name name pair.0) refl found (λ found. replaced_read pairs first read.0 new found indented read.2)
+  replaced_read [] first old new found rank indented read = (old, refl)
+  replaced_read (pair ∷ pairs) first old new found rank indented read =
+      by (same_name name pair.0) refl found (λ found. replaced_read pairs first read.0 new found rank indented read.2)
     where
       rest : List (Name × Lines)
       rest = filter (λ p. not (same_name name p.0)) pairs
@@ -82,17 +84,17 @@ module _ (name : Name) (setting : Lines) (key : List ℕ) (indent : ℕ) (keyed 
           → IsReadFrom old (cond is ((pair.0, setting) ∷ pairs_except (same_name name) pairs) (pair ∷ pairs_with_only (same_name name) pairs setting))
       by true same found later =
           let here : first ≡ pair.1 = cc in
-          let left = left_read (λ p. not (same_name name p.0)) pairs read.0 new read.0 refl (same_looser read.0.above) (gone_has_key name keyed) read.2 in
-          (left.0, (read.0, replaced_at old pair read.0 same (indented ∙ ap (λ l. indent_of (first_line (cow_str_bytes l.text))) here) read.1, left.1))
+          let left = left_read (λ p. not (same_name name p.0)) pairs read.0 new read.0 refl refl (same_looser read.0.above) (gone_has_key name keyed) read.2 in
+          (left.0, (read.0, replaced_at old pair read.0 same (rank ∙ ap (λ l. l.rank) here) (indented ∙ ap (λ l. indent_of (first_line (cow_str_bytes l.text))) here) read.1, left.1))
       by false same found later =
           let after = later found in
           (after.0, (read.0, read.1, after.1))
 
   -- what `set` leaves of a present name is read as what it stands for
   pub set_read : (m : Lists Name Lines) (first : Lines) → Some first ≡ slice_get (values_where (same_name name) m.pairs) 0
-      → indent ≡ indent_of (first_line (cow_str_bytes first.text)) → IsConfig m → IsConfig (only_written (same_name name) m setting)
-  set_read m first found indented config =
-      let all = replaced_read m.pairs first start config.end found indented config.read in
+      → setting.rank ≡ first.rank → indent ≡ indent_of (first_line (cow_str_bytes first.text)) → IsConfig m → IsConfig (only_written (same_name name) m setting)
+  set_read m first found rank indented config =
+      let all = replaced_read m.pairs first start config.end found rank indented config.read in
       record { end = all.0; read = all.1; keys = config.keys }
 
 pub replaces_read : (name : Name) (value : List ℕ) (old new : Lists Name Lines) → Replaces name value old new
@@ -106,4 +108,4 @@ replaces_read name value old new is allowed present config =
     subst IsConfig
     (sym (is.lists ∙ ap (λ b. elim b [ true ↦ only_written (same_name name) old lines | false ↦ appended same_name old name lines ]) present))
     (set_read name lines stored.key.0.now (length is.indent) (has_key name allowed)
-    (same_key name stored (same_stored same_name_laws name old.keys)) reads old is.first is.is_first is.indented config)
+    (same_key name stored (same_stored same_name_laws name old.keys)) reads old is.first is.is_first is.rank is.indented config)

@@ -7,7 +7,7 @@ use Rattle.std.specs.List.{after_first, before_first, list_any, position_or_len}
 use Rattle.std.specs.Str.{trim}
 use Rattle.std.specs.Str.Pattern.{FindsCharPrefix, StripsPrefix}
 use Rattle.config_reader.specs.declared.section.Section.{Section}
-use Rattle.config_reader.specs.Lines.{begins_nothing, says_nothing}
+use Rattle.config_reader.specs.Lines.{begins_nothing}
 use Rattle.config_reader.specs.Sections.{is_sub, is_word, of_dotted, of_parts}
 use Rattle.config_reader.specs.Sections.{opened, opened_in_quotes, opened_without_quotes, spelled}
 use Rattle.config_reader.proofs.Cuts.{no_byte, some_byte}
@@ -41,24 +41,6 @@ module _ (section : Section) where
       → of_dotted text ≡ Some (spelled section)
   undotted text none word_is sub_is allowed =
       rw (no_byte 46 text none, ap is_word (sym word_is) ∙ allowed, word_is, sub_is) refl
-
-  -- the section of a line with quotes, and of one without them
-  pub in_quotes_at : (word quoted behind : List ℕ) → after_first (λ b. b == 34) quoted ≡ 93 ∷ behind → says_nothing behind ≡ true
-      → section.word.0.now ≡ trim word → section.sub.now ≡ before_first (λ b. b == 34) quoted
-      → is_word section.word.0.now ≡ true → is_sub section.sub.now ≡ true
-      → opened_in_quotes word quoted ≡ Some (spelled section)
-  in_quotes_at word quoted behind closed says word_is sub_is allowed sub_allowed =
-      rw (closed, says)
-      (spelled_parts (trim word) (before_first (λ b. b == 34) quoted) word_is sub_is
-      (ap is_word (sym word_is) ∙ allowed) (ap is_sub (sym sub_is) ∙ sub_allowed))
-
-  pub without_quotes_at : (inside name behind : List ℕ) → position_or_len (λ b. b == 93) inside < length inside
-      → name ≡ before_first (λ b. b == 93) inside → behind ≡ after_first (λ b. b == 93) inside
-      → says_nothing behind ≡ true → of_dotted (trim name) ≡ Some (spelled section)
-      → opened_without_quotes inside ≡ Some (spelled section)
-  without_quotes_at inside name behind less name_is behind_is says dotted =
-      rw (some_byte 93 inside less, ap says_nothing (sym behind_is) ∙ says)
-      (ap (λ n. of_dotted (trim n)) (sym name_is) ∙ dotted)
 
 -- the section that a line opens
 pub opened_with : (inside word quoted : List ℕ) (section : Section) → position_or_len (λ b. b == 34) inside < length inside

@@ -32,7 +32,7 @@ none_pass : (p : ℕ → Bool) (cs : List ℕ) → list_any p cs ≡ false → N
 none_pass p [] none = tt
 none_pass p (c ∷ cs) none = let both = or_false (p c) (list_any p cs) none in (both.0, none_pass p cs both.1)
 
-lacks_both : (b : ℕ) (front behind : List ℕ) → Lacks b front → Lacks b behind → Lacks b (front ++ behind)
+pub lacks_both : (b : ℕ) (front behind : List ℕ) → Lacks b front → Lacks b behind → Lacks b (front ++ behind)
 lacks_both b front behind one two = list_any-append (λ c. c == b) front behind ∙ rw (one, two) refl
 
 -- white space at the start of characters, and at their end
@@ -55,7 +55,7 @@ dropped (c ∷ cs) none =
     rw both.0 (ap (λ later. c ∷ later) (dropped cs both.1))
 
 -- the first character that isn't dropped
-first_stays : (c : ℕ) (cs : List ℕ) → is_whitespace c ≡ false → drop_trailing_whitespace (c ∷ cs) ≡ c ∷ drop_trailing_whitespace cs
+pub first_stays : (c : ℕ) (cs : List ℕ) → is_whitespace c ≡ false → drop_trailing_whitespace (c ∷ cs) ≡ c ∷ drop_trailing_whitespace cs
 first_stays c cs other = rw other refl
 
 no_white : (cs : List ℕ) → list_any is_outside_key cs ≡ false → list_any is_whitespace cs ≡ false

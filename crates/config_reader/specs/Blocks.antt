@@ -1,6 +1,7 @@
 -- Lines as a reader takes them, whatever stands behind them.
 use Rattle.std.specs.Cow.{cow_str_bytes}
-use Rattle.std.specs.Prelude.{◌≡◌, ◌≢◌, ◌⊎◌, ℕ, ◌+◌, ◌≤◌, ◌<◌, true, false, List, [], ◌∷◌, ◌++◌}
+use Rattle.std.specs.Prelude.{◌≡◌, ◌≢◌, ◌⊎◌, ℕ, ◌+◌, ◌-◌, ◌%◌, ◌^◌, ◌≤◌, ◌<◌, true, false}
+use Rattle.std.specs.Prelude.{List, [], ◌∷◌, ◌++◌}
 use Rattle.std.specs.Prelude.{length, Option, Some, None}
 use Rattle.std.specs.Char.{is_not_whitespace}
 use Rattle.std.specs.Str.{NoCharPasses, trim_start}
@@ -8,10 +9,12 @@ use Rattle.ordered_multimap.specs.Lists.{Lists}
 use Rattle.config_reader.specs.declared.config.Lines.{Lines}
 use Rattle.config_reader.specs.declared.name.Name.{Name}
 use Rattle.config_reader.specs.declared.reader.Reader.{Reader}
+use Rattle.config_reader.specs.declared.section.Section.{Section}
 use Rattle.config_reader.specs.Lines.{behind_line, first_line, is_lined, lined, says_nothing}
-use Rattle.config_reader.specs.Names.{has_no_key, is_key}
-use Rattle.config_reader.specs.Said.{indent_of, is_deeper, item_at, said, setting_of}
+use Rattle.config_reader.specs.Names.{has_no_key, is_key, is_no_section}
+use Rattle.config_reader.specs.Said.{indent_of, is_deeper, item_at, lowered, said, setting_of}
 use Rattle.config_reader.specs.Sections.{spelled}
+use Rattle.config_reader.specs.Written.{section_line}
 
 -- each character is white space
 abbrev pub IsBlank : List ℕ → Type 0
@@ -30,6 +33,11 @@ pub record OpensSection (text : List ℕ) (inner : List ℕ × List ℕ) : Type 
   pub same : (section : List ℕ × List ℕ) (above : Option ℕ) (rest : List ℕ)
       → item_at section above (text ++ rest) ≡ Some ([], inner, None, rest)
 
+-- the line that is written for the section opens it; none is above the first section
+abbrev pub IsWritten : Section → Type 0
+IsWritten section =
+    is_no_section section ≡ false → OpensSection (section_line section) (spelled section)
+
 -- the lines are a setting of this key and value, which is indented so
 pub record AreSetting (text key value : List ℕ) (indent : ℕ) : Type 0 where
   pub some : 0 < length text
@@ -39,27 +47,46 @@ pub record AreSetting (text key value : List ℕ) (indent : ℕ) : Type 0 where
       → item_at section above (text ++ rest)
       ≡ Some (setting_of section key value ∷ [], section, Some indent, rest)
 
--- the section that is open, and how far its last setting is indented
+-- the rank of the settings of the section that a line of this rank is in
+abbrev pub settings_rank : ℕ → ℕ
+settings_rank rank = rank - rank % 2
+
+-- it is the rank of a section's settings
+abbrev pub IsOfSettings : ℕ → Type 0
+IsOfSettings rank = settings_rank rank ≡ rank
+
+-- the section that is open, how far its last setting is indented, and the rank of the last line
 pub record Place : Type 0 where
   pub section : List ℕ × List ℕ
   pub above : Option ℕ
+  pub rank : ℕ
 
 abbrev pub start : Place
-start = record { section = ([], []); above = None }
+start = record { section = ([], []); above = None; rank = 0 }
 
-abbrev pub place_of : Reader → Place
-place_of reader = record { section = spelled reader.section; above = reader.indent }
+-- a line of the name is in this section
+abbrev pub IsNamedBy : List ℕ × List ℕ → Name → Type 0
+IsNamedBy section name = lowered (spelled name.section) ≡ lowered section
 
 -- lines that say nothing, the line of a section, and a setting, from one place in a text to another
 pub record IsSilentAt (old : Place) (pair : Name × Lines) (new : Place) : Type 0 where
   pub text : AreSilent (cow_str_bytes pair.1.text)
   pub no_key : has_no_key pair.0 ≡ true
-  pub same : new ≡ old
+  pub named : IsNamedBy old.section pair.0
+  pub section : new.section ≡ old.section
+  pub above : new.above ≡ old.above
+  pub of_rank : pair.1.rank ≡ new.rank
+  pub later : old.rank ≤ new.rank
+  pub inside : settings_rank new.rank ≡ settings_rank old.rank
 
 pub record OpensAt (old : Place) (pair : Name × Lines) (new : Place) : Type 0 where
   pub text : OpensSection (cow_str_bytes pair.1.text) new.section
   pub no_key : has_no_key pair.0 ≡ true
+  pub named : IsNamedBy new.section pair.0
   pub above : new.above ≡ None
+  pub of_rank : pair.1.rank ≡ new.rank
+  pub later : old.rank < new.rank
+  pub begins : IsOfSettings new.rank
 
 pub record SetsAt (old : Place) (pair : Name × Lines) (new : Place) : Type 0 where
   pub key : List ℕ
@@ -69,7 +96,9 @@ pub record SetsAt (old : Place) (pair : Name × Lines) (new : Place) : Type 0 wh
   pub fits : is_deeper indent old.above ≡ false
   pub setting : setting_of (spelled pair.0.section) pair.0.key.0.now (cow_str_bytes pair.1.value)
       ≡ setting_of old.section key (cow_str_bytes pair.1.value)
-  pub same : new ≡ record { section = old.section; above = Some indent }
+  pub of_rank : pair.1.rank ≡ old.rank
+  pub inside : IsOfSettings old.rank
+  pub same : new ≡ record { section = old.section; above = Some indent; rank = old.rank }
 
 abbrev pub IsReadAt : Place → Name × Lines → Place → Type 0
 IsReadAt old pair new = IsSilentAt old pair new ⊎ (OpensAt old pair new ⊎ SetsAt old pair new)
@@ -86,9 +115,20 @@ HaveKeys [] = Unit {0}
 HaveKeys (name ∷ names) =
     (has_no_key name ≡ false → is_key name.key.0.now ≡ true) × HaveKeys names
 
--- all that was read is kept, but for lines behind it that say nothing
-pub record IsKept (reader : Reader) (m : Lists Name Lines) : Type 0 where
-  pub read : AreRead start m.pairs (place_of reader)
+-- where a reader is, behind a line of this rank
+abbrev pub place_of : Reader → ℕ → Place
+place_of reader rank =
+    record { section = spelled reader.section; above = reader.indent; rank = rank }
+
+-- all that was read is kept, the last of it with at most this rank, but for lines behind it that
+-- say nothing
+pub record IsKept (reader : Reader) (most : ℕ) (m : Lists Name Lines) : Type 0 where
+  pub rank : ℕ
+  pub least : reader.rank ≤ rank
+  pub highest : rank ≤ most
+  pub inside : IsOfSettings reader.rank
+  pub few : reader.rank ≤ 2 ^ 63 + 1
+  pub read : AreRead start m.pairs (place_of reader rank)
   pub keys : HaveKeys m.keys
   pub lines : List ℕ
   pub between : reader.between.now ≡ lines ++ reader.rest.now

@@ -2,7 +2,8 @@
 use Rattle.std.specs.Cow.{cow_str_bytes}
 use Rattle.std.specs.List.Sorted.{IsSortedBy, IsStableBy}
 use Rattle.std.specs.Ordering.{is_lt, nat_cmp}
-use Rattle.std.specs.Prelude.{◌≡◌, ℕ, ◌+◌, ◌-◌, ◌%◌, ◌^◌, min, Bool, true, false, Some}
+use Rattle.std.specs.Prelude.{◌≡◌, ℕ, ◌+◌, ◌-◌, ◌^◌, ◌≤◌, min, Bool, true, false, ◌==◌, ◌&&◌, not}
+use Rattle.std.specs.Prelude.{Option, Some, None, if◌then◌else◌}
 use Rattle.std.specs.Prelude.{List, [], ◌∷◌, ◌++◌, IsPermutation, codes, map, option_map}
 use Rattle.std.specs.Prelude.{length, slice_get, unwrap_or}
 use Rattle.ordered_multimap.specs.Changes.{appended, removed}
@@ -17,7 +18,8 @@ use Rattle.config_reader.specs.declared.command.Command.TheVariants.{Set, Add, U
 use Rattle.config_reader.specs.declared.config.Lines.{Lines}
 use Rattle.config_reader.specs.declared.name.Name.{Name}
 use Rattle.config_reader.specs.declared.section.Section.{Section}
-use Rattle.config_reader.specs.Blocks.{AreSetting, IsBlank, IsConfig}
+use Rattle.config_reader.specs.Blocks.{AreSetting, IsBlank, IsConfig, IsWritten}
+use Rattle.config_reader.specs.Blocks.{settings_rank}
 use Rattle.config_reader.specs.Lines.{first_line, lined}
 use Rattle.config_reader.specs.Names.{has_no_key, is_key, is_no_section, same_name}
 use Rattle.config_reader.specs.Said.{indent_of, settings_of, text_says}
@@ -29,9 +31,12 @@ pub record IsSetting (indent key value : List ℕ) (setting : Lines) : Type 0 wh
   pub holds : cow_str_bytes setting.value ≡ value
   pub text : cow_str_bytes setting.text ≡ line_of (indent ++ key ++ codes " = " ++ written value)
 
--- the rank of the settings of the section that a line of this rank is in
-abbrev pub settings_rank : ℕ → ℕ
-settings_rank rank = rank - rank % 2
+-- how far the last setting of this rank is indented, if there is one, or this one in front of them
+abbrev pub last_indent : ℕ → List (Name × Lines) → Option ℕ → Option ℕ
+last_indent rank [] last = last
+last_indent rank (pair ∷ pairs) last =
+    last_indent rank pairs (if not (has_no_key pair.0) && pair.1.rank == rank
+    then Some (indent_of (first_line (cow_str_bytes pair.1.text))) else last)
 
 -- the rank of the one is lower
 abbrev pub is_above : Name × Lines → Name × Lines → Bool
@@ -45,14 +50,21 @@ pub record AddsByRank (name : Name) (lines : Lines) (old new : Lists Name Lines)
   pub sorted : IsSortedBy is_above new.pairs
   pub stable : IsStableBy is_above (appended same_name old name lines).pairs new.pairs
 
+-- the rank of the last line, or 0
+abbrev pub last_rank : List (Name × Lines) → ℕ
+last_rank pairs = unwrap_or (option_map (λ pair. pair.1.rank) (end_item Back pairs)) 0
+
+-- one more section has a rank above the last one's
+abbrev pub HasRoom : Lists Name Lines → Type 0
+HasRoom m = last_rank m.pairs ≤ 2 ^ 63 + 2
+
 -- the line of the section of this name is added at the end, with a rank above the last one's
 pub record AddsSection (name : Name) (old new : Lists Name Lines) (rank : ℕ) : Type 0 where
   pub line : Lines
   pub text : cow_str_bytes line.text ≡ section_line name.section
   pub value : cow_str_bytes line.value ≡ []
   pub of_rank : line.rank ≡ rank
-  pub above : rank ≡ min (settings_rank
-      (unwrap_or (option_map (λ pair. pair.1.rank) (end_item Back old.pairs)) 0) + 2) (2 ^ 64 - 1)
+  pub above : rank ≡ min (settings_rank (last_rank old.pairs) + 2) (2 ^ 64 - 1)
   pub lists : new ≡ appended same_name old name line
 
 -- the rank of the section's settings: 0 above the first section, and that of its last line; the
@@ -76,6 +88,10 @@ pub record Adds (name : Name) (value : List ℕ) (old new : Lists Name Lines) : 
   pub setting : Lines
   pub opens : Opens name.section old opened setting.rank
   pub is_setting : IsSetting indent name.key.0.now value setting
+  pub indented : (n : ℕ) → last_indent setting.rank opened.pairs None ≡ Some n
+      → length indent ≡ n
+  pub reads : is_key name.key.0.now ≡ true
+      → AreSetting (cow_str_bytes setting.text) name.key.0.now value (length indent)
   pub adds : AddsByRank name setting opened new
 
 -- a setting of this value takes the place of the name's first one, and its others are gone
@@ -114,26 +130,24 @@ IsReadBack (Set name value) m = has_no_key name ≡ false
 IsReadBack (Unset name) m = is_present same_name m.pairs name ≡ false
 IsReadBack _ m = Unit {0}
 
--- a command that adds no line leaves lines that are read as what they stand for
+-- a name with a key that a setting can have, in a section that can be written
+abbrev pub IsOfSetting : Name → Type 0
+IsOfSetting name = (is_key name.key.0.now ≡ true) × IsWritten name.section
+
+-- the name that a command writes is one that a setting can have
+abbrev pub IsAllowed : Command → Type 0
+IsAllowed (Set name value) = IsOfSetting name
+IsAllowed (Add name value) = IsOfSetting name
+IsAllowed (Unset name) = IsOfSetting name
+IsAllowed _ = Unit {0}
+
+-- such a command leaves lines that are read as what they stand for
 abbrev pub KeepsConfig : Command → Lists Name Lines → Lists Name Lines → Type 0
-KeepsConfig (Set name value) old new = is_key name.key.0.now ≡ true
-    → is_present same_name old.pairs name ≡ true → IsConfig old → IsConfig new
-KeepsConfig (Add name value) old new = Unit {0}
-KeepsConfig (Unset name) old new = has_no_key name ≡ false
-    → IsConfig old → IsConfig new
-KeepsConfig _ old new = IsConfig old → IsConfig new
+KeepsConfig command old new = IsAllowed command → HasRoom old → IsConfig old → IsConfig new
 
 -- the settings of these lines are those that their text says
 abbrev pub SaysSettings : Lists Name Lines → Type 0
 SaysSettings m = text_says (texts_of m.pairs) ≡ Some (settings_of m.pairs)
-
--- the same where a command adds no line
-abbrev pub IsReadAgain : Command → Lists Name Lines → Lists Name Lines → Type 0
-IsReadAgain (Set name value) old new = is_key name.key.0.now ≡ true
-    → is_present same_name old.pairs name ≡ true → SaysSettings new
-IsReadAgain (Add name value) old new = Unit {0}
-IsReadAgain (Unset name) old new = has_no_key name ≡ false → SaysSettings new
-IsReadAgain _ old new = SaysSettings new
 
 -- a text is read, and then the command is carried out
 pub record CarriesOut (text : List ℕ) (command : Command) (new : Lists Name Lines) : Type 0 where
@@ -141,4 +155,4 @@ pub record CarriesOut (text : List ℕ) (command : Command) (new : Lists Name Li
   pub texts : texts_of read.pairs ≡ lined text
   pub says : text_says (lined text) ≡ Some (settings_of read.pairs)
   pub leaves : Leaves command read new
-  pub read_again : IsReadAgain command read new
+  pub read_again : IsAllowed command → SaysSettings new

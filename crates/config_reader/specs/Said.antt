@@ -17,9 +17,11 @@ use Rattle.config_reader.specs.Values.{value_read}
 abbrev pub Setting : Type 0
 Setting = (List ℕ × List ℕ) × (List ℕ × List ℕ)
 
+abbrev pub lowered : List ℕ × List ℕ → List ℕ × List ℕ
+lowered section = (str_to_ascii_lowercase section.0, section.1)
+
 abbrev pub setting_of : List ℕ × List ℕ → List ℕ → List ℕ → Setting
-setting_of section key value =
-    ((str_to_ascii_lowercase section.0, section.1), (str_to_ascii_lowercase key, value))
+setting_of section key value = (lowered section, (str_to_ascii_lowercase key, value))
 
 -- the settings among these lines, in order
 abbrev pub settings_of : List (Name × Lines) → List Setting

@@ -1,8 +1,8 @@
 -- The section that a line opens.
 use Rattle.std.specs.List.{after_first, before_first, list_any}
-use Rattle.std.specs.Prelude.{ℕ, Bool, false, ◌==◌, ◌&&◌, ◌||◌, not, if◌then◌else◌}
+use Rattle.std.specs.Prelude.{◌≡◌, ℕ, Bool, false, ◌==◌, ◌&&◌, ◌||◌, not, if◌then◌else◌}
 use Rattle.std.specs.Prelude.{List, [], ◌∷◌, Option, Some, None}
-use Rattle.std.specs.Str.{trim}
+use Rattle.std.specs.Str.{drop_trailing_whitespace, skip_leading_whitespace, trim}
 use Rattle.ordered_multimap.specs.Pairs.{has_items}
 use Rattle.config_reader.specs.declared.section.Section.{Section}
 use Rattle.config_reader.specs.Lines.{says_nothing}
@@ -10,6 +10,10 @@ use Rattle.config_reader.specs.Lines.{says_nothing}
 -- a section by its word and the name between quotes, as they are spelled
 abbrev pub spelled : Section → List ℕ × List ℕ
 spelled section = (section.word.0.now, section.sub.now)
+
+-- characters without white space at their ends
+abbrev pub IsTrimmed : List ℕ → Type 0
+IsTrimmed cs = (skip_leading_whitespace cs ≡ cs) × (drop_trailing_whitespace cs ≡ cs)
 
 -- a quote, a backslash or a line feed
 abbrev pub is_outside_sub : ℕ → Bool

@@ -1,6 +1,6 @@
 -- How a value stands behind `=`, byte by byte.
-use Rattle.std.specs.Prelude.{◌≡◌, ℕ, Bool, true, false, ◌&&◌, ◌||◌, ◌==◌, not, if◌then◌else◌}
-use Rattle.std.specs.Prelude.{List, [], ◌∷◌, ◌++◌, Option, Some, None, option_and_then, option_map}
+use Rattle.std.specs.Prelude.{ℕ, Bool, true, false, ◌&&◌, ◌||◌, ◌==◌, not, if◌then◌else◌}
+use Rattle.std.specs.Prelude.{List, [], ◌∷◌, ◌++◌, Option, Some, None, option_and_then}
 use Rattle.std.specs.Prelude.{drop}
 use Rattle.std.specs.List.{flat_map, list_any}
 use Rattle.config_reader.specs.declared.value.Effect.{Effect}
@@ -9,7 +9,6 @@ use Rattle.config_reader.specs.declared.value.Mode.{Mode}
 use Rattle.config_reader.specs.declared.value.Mode.TheVariants.{Comment, Gap, Word, WordEscape}
 use Rattle.config_reader.specs.declared.value.Mode.TheVariants.{WordJoin, Quotes, QuotesEscape}
 use Rattle.config_reader.specs.declared.value.Mode.TheVariants.{Joined, QuotesJoin}
-use Rattle.config_reader.specs.Names.{Lacks}
 
 -- a space, a tab, a line feed, a form feed or a carriage return
 abbrev pub is_blank : ℕ → Bool
@@ -96,11 +95,6 @@ read_on mode value gap (b ∷ rest) =
 -- the value that a text begins with, and what stands behind it; none where a byte is at fault
 abbrev pub value_read : List ℕ → Option (List ℕ × List ℕ)
 value_read text = read_on Gap [] [] text
-
--- behind the first `=` of the text stands this value
-abbrev pub HasValue : List ℕ → List ℕ → Type 0
-HasValue text value = (front behind : List ℕ) → text ≡ front ++ 61 ∷ behind → Lacks 61 front
-    → option_map (λ r. r.0) (value_read behind) ≡ Some value
 
 -- whether a byte has a meaning of its own outside of quotes, or is a blank other than a space
 abbrev pub is_special : ℕ → Bool

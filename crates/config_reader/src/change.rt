@@ -1,11 +1,11 @@
 //! What commands make of a configuration.
 ghost use Rattle.std.specs.Cow.{cow_str_bytes};
-ghost use Rattle.std.specs.Prelude.{◌≡◌, [], length, true, IfOk, OnOk};
+ghost use Rattle.std.specs.Prelude.{◌≡◌, ℕ, [], length, true, IfOk, None, OnOk, Some};
 ghost use Rattle.ordered_multimap.specs.Changes.{removed};
 ghost use Rattle.ordered_multimap.specs.SetLists.{value_set};
 ghost use Rattle.config_reader.specs.Changed.{Adds, AddsByRank, AddsSection, IsSetting};
-ghost use Rattle.config_reader.specs.Blocks.{AreSetting, IsBlank};
-ghost use Rattle.config_reader.specs.Changed.{IsReadBack, KeepsConfig, Leaves, Opens, Sets, settings_rank};
+ghost use Rattle.config_reader.specs.Blocks.{AreSetting, IsBlank, settings_rank};
+ghost use Rattle.config_reader.specs.Changed.{IsReadBack, KeepsConfig, Leaves, Opens, Sets, last_indent};
 ghost use Rattle.config_reader.specs.Lines.{first_line};
 ghost use Rattle.config_reader.specs.Names.{Lacks, is_key, same_name};
 ghost use Rattle.config_reader.specs.Said.{indent_of};
@@ -71,13 +71,8 @@ fn add<'t>(
     ensures { OnOk result (Adds name.entry value.now config.old.lists config.new.lists) }
 {
     let rank = rank_of(alloc, config, name.section)?;
-    let lines = setting(
-        alloc,
-        indent_in(config, name.section),
-        name.key,
-        value,
-        rank,
-    )?;
+    let indent = indent_in(config, name.section, rank);
+    let lines = setting(alloc, indent, name.key, value, rank)?;
     add_lines(config, name, lines)
 }
 
@@ -195,9 +190,30 @@ fn setting<'t>(
     Ok(Lines { text, value, rank })
 }
 
-/// How far the section's last setting is indented, and by a tab where there is none.
-fn indent_in<'c>(config: &'c Config<'_>, section: Section<'_>) -> &'c str
-    ensures { IsBlank result.now }
+/// The indent of a setting that is added behind those of this rank: that of the last one of the rank,
+/// or else of the section.
+fn indent_in<'c>(config: &'c Config<'_>, section: Section<'_>, rank: usize) -> &'c str
+    ensures blank { IsBlank result.now }
+    ensures one_line { Lacks 10 result.now }
+    ensures indented { (n : ℕ) → last_indent rank config.now.lists.pairs None ≡ Some n
+        → length result.now ≡ n }
+{
+    let mut indent = None;
+    for (name, lines) in config {
+        if name.is_setting() && lines.rank == rank {
+            indent = Some(indent_of(lines.text.as_str()));
+        }
+    }
+    match indent {
+        Some(indent) => indent,
+        None => usual_indent(config, section),
+    }
+}
+
+/// The indent of the section's last setting, and a tab where there is none.
+fn usual_indent<'c>(config: &'c Config<'_>, section: Section<'_>) -> &'c str
+    ensures blank { IsBlank result.now }
+    ensures one_line { Lacks 10 result.now }
 {
     for (name, lines) in config.iter().rev() {
         if name.is_setting_of(section) {

@@ -1,8 +1,9 @@
 //! Commands on a configuration.
 ghost use Rattle.std.specs.IoError.{error_kind};
-ghost use Rattle.std.specs.Prelude.{◌≡◌, IfErr};
+ghost use Rattle.std.specs.Prelude.{◌≡◌, IfErr, IfOk};
 ghost use Rattle.std.specs.declared.io.ErrorKind.TheVariants.{InvalidData};
 ghost use Rattle.program_parts.specs.Statuses.{status_of_fault};
+ghost use Rattle.config_reader.specs.Changed.{IsAllowed, IsOfSetting};
 
 use crate::name::Name;
 use crate::section::{NO_SECTION, Section};
@@ -45,6 +46,7 @@ impl<'t> Command<'t> {
     ///
     /// [`Fault::Usage`] if they say none.
     pub fn of_words(words: &'t [String]) -> Result<Command<'t>, Fault>
+        ensures allowed { IfOk result IsAllowed }
         ensures bad { IfErr result (λ fault. status_of_fault fault ≡ 2) }
     {
         match Command::parse(words) {
@@ -54,6 +56,7 @@ impl<'t> Command<'t> {
     }
 
     fn parse(words: &'t [String]) -> io::Result<Command<'t>>
+        ensures allowed { IfOk result IsAllowed }
         ensures bad { IfErr result (λ error. error_kind error ≡ InvalidData) }
     {
         match words {
@@ -70,6 +73,7 @@ impl<'t> Command<'t> {
     }
 
     fn of_pair(word: &str, name: Name<'t>, value: &'t str) -> io::Result<Command<'t>>
+        ensures allowed { IsOfSetting name.entry → IfOk result IsAllowed }
         ensures bad { IfErr result (λ error. error_kind error ≡ InvalidData) }
     {
         match word {
@@ -80,6 +84,7 @@ impl<'t> Command<'t> {
     }
 
     fn of_operand(word: &str, operand: &'t str) -> io::Result<Command<'t>>
+        ensures allowed { IfOk result IsAllowed }
         ensures bad { IfErr result (λ error. error_kind error ≡ InvalidData) }
     {
         match word {

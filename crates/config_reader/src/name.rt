@@ -1,11 +1,12 @@
 //! Names of settings.
 ghost use Rattle.std.specs.IoError.{error_kind};
 ghost use Rattle.std.specs.List.{list_any};
-ghost use Rattle.std.specs.Prelude.{◌≡◌, ◌==◌, ◌∷◌, ◌++◌, [], ℕ, List, true, false};
+ghost use Rattle.std.specs.Prelude.{◌≡◌, ◌==◌, ◌∷◌, ◌++◌, [], ℕ, List, not, true, false};
 ghost use Rattle.std.specs.Prelude.{IfErr, IfOk, IsTrue};
 ghost use Rattle.std.specs.Str.{trim};
 ghost use Rattle.std.specs.declared.io.ErrorKind.TheVariants.{InvalidData};
-ghost use Rattle.config_reader.specs.Names.{is_key, is_named_section};
+ghost use Rattle.config_reader.specs.Blocks.{IsWritten};
+ghost use Rattle.config_reader.specs.Names.{has_no_key, is_key, is_named_section};
 ghost use Rattle.config_reader.specs.Names.{is_outside_key, is_setting_of};
 ghost use Rattle.config_reader.specs.Names.{IsOpenAs, Lacks};
 
@@ -37,18 +38,25 @@ impl<'t> Name<'t> {
         }
     }
 
+    /// Whether it is the name of a setting.
+    pub fn is_setting(&self) -> bool
+        ensures { result ≡ not (has_no_key self.now) }
+    {
+        self.key != NO_KEY
+    }
+
     /// Whether it is the name of a setting of the section.
     pub fn is_setting_of(&self, section: Section<'_>) -> bool
         ensures { result ≡ is_setting_of section.entry self.now }
     {
-        self.section == section && self.key != NO_KEY
+        self.section == section && self.is_setting()
     }
 
     /// Whether it is the name of a section, and of none of its settings.
     pub fn is_named_section(&self) -> bool
         ensures { result ≡ is_named_section self.now }
     {
-        self.key == NO_KEY && self.section != NO_SECTION
+        !self.is_setting() && self.section != NO_SECTION
     }
 
     /// The name `SECTION.KEY`, or a `KEY` above the first section.
@@ -59,6 +67,7 @@ impl<'t> Name<'t> {
             → (name.key.0.now ≡ trim key) × IsOpenAs (trim section) name.section) }
         ensures alone { IfOk result (λ name. Lacks 46 text.now
             → (name.key.0.now ≡ trim text.now) × IsOpenAs [] name.section) }
+        ensures written { IfOk result (λ name. IsWritten name.section) }
         ensures bad { IfErr result (λ error. error_kind error ≡ InvalidData) }
     {
         let (section, key) = split_at_last_dot(text);

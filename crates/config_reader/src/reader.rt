@@ -1,12 +1,13 @@
 //! Reading a text as a configuration, item by item.
 ghost use Rattle.std.specs.Cow.{cow_str_bytes};
-ghost use Rattle.std.specs.Prelude.{◌≡◌, ◌<◌, ◌++◌, [], ℕ, List, length, true, false};
+ghost use Rattle.std.specs.Prelude.{◌≡◌, ◌⊎◌, ◌<◌, ◌+◌, ◌++◌, [], ℕ, List, length, true, false};
 ghost use Rattle.std.specs.Prelude.{IfErr, IfOk, OnOk};
 ghost use Rattle.ordered_multimap.specs.Lists.{empty_lists};
 ghost use Rattle.config_reader.specs.Faults.{IsBadOrRefused, IsLineOrRefused};
 ghost use Rattle.config_reader.specs.Items.{AddsItem};
 ghost use Rattle.config_reader.specs.Blocks.{IsConfig, IsKept, IsSectionLine, IsSettingLine};
 ghost use Rattle.config_reader.specs.Blocks.{place_of, start};
+ghost use Rattle.config_reader.specs.Changed.{HasRoom};
 ghost use Rattle.config_reader.specs.Lines.{IsBehindLines, IsReadTo, lined};
 ghost use Rattle.config_reader.specs.Said.{is_deeper};
 ghost use Rattle.config_reader.specs.Written.{texts_of};
@@ -32,6 +33,7 @@ pub fn read_config<'t>(alloc: Global, config: &mut Config<'t>, text: &'t str) ->
     ensures kept { OnOk result (texts_of config.new.lists.pairs
         ≡ texts_of config.old.lists.pairs ++ lined text.now) }
     ensures reads { config.old.lists ≡ empty_lists → OnOk result (IsConfig config.new.lists) }
+    ensures room { config.old.lists ≡ empty_lists → OnOk result (HasRoom config.new.lists) }
     ensures fault { IfErr result IsLineOrRefused }
 {
     let mut reader = Reader::new(alloc, text);
@@ -83,11 +85,16 @@ struct Reader<'t> {
     indent: Option<usize>,
 }
 
+/// The rank of the settings above which no section is opened, which leaves room for one that is
+/// added.
+const HIGHEST_RANK: usize = usize::MAX / 2;
+
 impl<'t> Reader<'t> {
     fn new(alloc: Global, text: &'t str) -> Reader<'t>
         ensures rest { result.rest.now ≡ text.now }
         ensures between { result.between.now ≡ text.now }
-        ensures start { place_of result ≡ start }
+        ensures start { place_of result 0 ≡ start }
+        ensures rank { result.rank ≡ 0 }
     {
         Reader {
             alloc,
@@ -106,8 +113,8 @@ impl<'t> Reader<'t> {
             → IsReadTo (texts_of config.old.lists.pairs) self.old.between.now self.old.rest.now all
             → OnOk result (texts_of config.new.lists.pairs ++ lined self.new.rest.now ≡ all) }
         ensures whole { part ≡ Whole → OnOk result (self.new.rest.now ≡ []) }
-        ensures reads { IsKept self.old config.old.lists
-            → OnOk result (IsKept self.new config.new.lists) }
+        ensures reads { IsKept self.old self.old.rank config.old.lists
+            → OnOk result (IsKept self.new (self.new.rank + 1) config.new.lists) }
         ensures fault { IfErr result IsLineOrRefused }
     {
         while !self.is_at_end(part) {
@@ -140,8 +147,9 @@ impl<'t> Reader<'t> {
             self.new.between.now self.new.rest.now all) }
         ensures shorter { 0 < length self.old.rest.now
             → OnOk result (length self.new.rest.now < length self.old.rest.now) }
-        ensures reads { 0 < length self.old.rest.now → IsKept self.old config.old.lists
-            → OnOk result (IsKept self.new config.new.lists) }
+        ensures reads { 0 < length self.old.rest.now
+            → IsKept self.old self.old.rank config.old.lists
+            → OnOk result (IsKept self.new self.new.rank config.new.lists) }
         ensures fault { IfErr result IsBadOrRefused }
     {
         let (line, behind) = first_line(self.rest);
@@ -169,13 +177,16 @@ impl<'t> Reader<'t> {
             self.new.between.now self.new.rest.now all) }
         ensures rest { OnOk result (self.new.rest.now ≡ behind.now) }
         ensures reads { IsSectionLine self.old.rest.now inside.now behind.now
-            → IsKept self.old config.old.lists
-            → OnOk result (IsKept self.new config.new.lists) }
+            → IsKept self.old self.old.rank config.old.lists
+            → OnOk result (IsKept self.new self.new.rank config.new.lists) }
         ensures fault { IfErr result IsBadOrRefused }
     {
-        self.add_between(config, self.rank.saturating_add(1))?;
+        if self.rank > HIGHEST_RANK {
+            return Err(bad("too many sections"));
+        }
+        self.add_between(config, self.rank + 1)?;
         self.section = Section::of_line(inside)?;
-        self.rank = self.rank.saturating_add(2);
+        self.rank += 2;
         self.indent = None;
         self.add_item(config, NO_KEY, CowStr::Borrowed(""), behind)?;
         Ok(())
@@ -189,8 +200,8 @@ impl<'t> Reader<'t> {
         ensures shorter { 0 < length self.old.rest.now
             → OnOk result (length self.new.rest.now < length self.old.rest.now) }
         ensures reads { IsSettingLine self.old.rest.now line.now
-            → IsKept self.old config.old.lists
-            → OnOk result (IsKept self.new config.new.lists) }
+            → IsKept self.old self.old.rank config.old.lists
+            → OnOk result (IsKept self.new self.new.rank config.new.lists) }
         ensures fault { IfErr result IsBadOrRefused }
     {
         self.add_between(config, self.rank)?;
@@ -212,10 +223,12 @@ impl<'t> Reader<'t> {
             self.new.between.now self.new.rest.now all) }
         ensures rest { self.new.rest.now ≡ self.old.rest.now }
         ensures between { OnOk result (self.new.between.now ≡ self.old.rest.now) }
-        ensures reads { IsKept self.old config.old.lists
-            → OnOk result (IsKept self.new config.new.lists) }
+        ensures reads { IsKept self.old self.old.rank config.old.lists
+            → (rank ≡ self.old.rank) ⊎ (rank ≡ self.old.rank + 1)
+            → OnOk result (IsKept self.new rank config.new.lists) }
         ensures section { self.new.section ≡ self.old.section }
         ensures indent { self.new.indent ≡ self.old.indent }
+        ensures same_rank { self.new.rank ≡ self.old.rank }
     {
         let text = lines_before(self.between, self.rest);
         self.between = self.rest;
@@ -243,6 +256,7 @@ impl<'t> Reader<'t> {
         ensures between { self.new.between.now ≡ behind.now }
         ensures section { self.new.section ≡ self.old.section }
         ensures indent { self.new.indent ≡ self.old.indent }
+        ensures same_rank { self.new.rank ≡ self.old.rank }
     {
         let text = lines_before(self.rest, behind);
         self.rest = behind;

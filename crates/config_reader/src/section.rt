@@ -2,10 +2,12 @@
 ghost use Rattle.std.specs.IoError.{error_kind};
 ghost use Rattle.std.specs.Prelude.{◌≡◌, ◌++◌, [], Some, true};
 ghost use Rattle.std.specs.Prelude.{IfErr, IfOk, OnOk};
+ghost use Rattle.std.specs.Str.{chars};
 ghost use Rattle.std.specs.String.{string_bytes};
 ghost use Rattle.std.specs.declared.io.ErrorKind.TheVariants.{InvalidData};
-ghost use Rattle.config_reader.specs.Names.{IsCalledBy, IsCalledByDot, IsOpenAs};
-ghost use Rattle.config_reader.specs.Sections.{is_outside_sub, is_outside_word, is_sub, is_word};
+ghost use Rattle.config_reader.specs.Blocks.{IsWritten, OpensSection};
+ghost use Rattle.config_reader.specs.Names.{IsCalledBy, IsCalledByDot, IsOpenAs, Lacks};
+ghost use Rattle.config_reader.specs.Sections.{IsTrimmed, is_outside_sub, is_outside_word, is_sub, is_word};
 ghost use Rattle.config_reader.specs.Sections.{of_dotted, opened, opened_in_quotes};
 ghost use Rattle.config_reader.specs.Sections.{opened_without_quotes, spelled};
 ghost use Rattle.config_reader.specs.Written.{in_quotes, section_line, section_name};
@@ -38,6 +40,8 @@ impl<'t> Section<'t> {
     /// another place, a backslash, or a line feed.
     pub fn parse(text: &'t str) -> io::Result<Section<'t>>
         ensures called { IfOk result (λ section. IsCalledBy text.now section) }
+        ensures written { IfOk result (λ section.
+            OpensSection (section_line section) (spelled section)) }
         ensures bad { IfErr result (λ error. error_kind error ≡ InvalidData) }
     {
         let Some((word, quoted)) = text.split_once('"') else {
@@ -52,6 +56,7 @@ impl<'t> Section<'t> {
     /// The section of this name; the empty one stands above the first section.
     pub fn parse_or_none(text: &'t str) -> io::Result<Section<'t>>
         ensures open { IfOk result (λ section. IsOpenAs text.now section) }
+        ensures written { IfOk result (λ section. IsWritten section) }
         ensures bad { IfErr result (λ error. error_kind error ≡ InvalidData) }
     {
         if text.is_empty() {
@@ -64,6 +69,8 @@ impl<'t> Section<'t> {
     fn of_dotted(text: &'t str) -> io::Result<Section<'t>>
         ensures called { IfOk result (λ section. IsCalledByDot text.now section) }
         ensures dotted { IfOk result (λ section. of_dotted text.now ≡ Some (spelled section)) }
+        ensures written { IfOk result (λ section.
+            OpensSection (section_line section) (spelled section)) }
         ensures bad { IfErr result (λ error. error_kind error ≡ InvalidData) }
     {
         match text.split_once('.') {
@@ -115,6 +122,8 @@ impl<'t> Section<'t> {
         ensures word { IfOk result (λ section. section.word.0.now ≡ word.now) }
         ensures sub { IfOk result (λ section. section.sub.now ≡ []) }
         ensures allowed { IfOk result (λ section. is_word word.now ≡ true) }
+        ensures written { IsTrimmed (chars word.now) → Lacks 46 word.now → IfOk result (λ section.
+            OpensSection (section_line section) (spelled section)) }
         ensures bad { IfErr result (λ error. error_kind error ≡ InvalidData) }
     {
         if !is_word(word) {
@@ -128,6 +137,8 @@ impl<'t> Section<'t> {
         ensures word { IfOk result (λ section. section.word.0.now ≡ word.now) }
         ensures sub { IfOk result (λ section. section.sub.now ≡ sub.now) }
         ensures allowed { IfOk result (λ section. (is_word word.now ≡ true) × (is_sub sub.now ≡ true)) }
+        ensures written { IsTrimmed (chars word.now) → IfOk result (λ section.
+            OpensSection (section_line section) (spelled section)) }
         ensures bad { IfErr result (λ error. error_kind error ≡ InvalidData) }
     {
         if !is_word(word) || !is_sub(sub) {

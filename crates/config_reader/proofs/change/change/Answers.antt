@@ -3,9 +3,10 @@ use Rattle.std.proofs.lemmas.Result.{on_ok_weaker}
 use Rattle.ordered_multimap.specs.Pairs.{is_present}
 use Rattle.config_reader.specs.Blocks.{IsConfig}
 use Rattle.config_reader.specs.Names.{same_name}
+use Rattle.config_reader.proofs.Adding.{adds_read, sets_read}
 use Rattle.config_reader.proofs.ReadBack.{absent_removed, set_alone}
 use Rattle.config_reader.proofs.Removed.{removed_read}
-use Rattle.config_reader.proofs.Replaced.{replaces_read}
+use Rattle.config_reader.proofs.Replaced.{has_key}
 use Rattle.config_reader.proofs.change.change.Goals as goal
 
 pub returns-in-Set-clause-read_back : goal.returns-in-Set-clause-read_back
@@ -22,11 +23,18 @@ pub returns-in-Set-clause-keeps : goal.returns-in-Set-clause-keeps
 returns-in-Set-clause-keeps c =
     rw c.in-Set.is
     (on_ok_weaker c.set.result
-    (λ sets. λ allowed present config. replaces_read _ _ _ _ (sets.present present) allowed present config)
+    (λ sets. λ is room config. sets_read _ _ _ _ sets is room config)
     c.set.ensures)
+
+pub returns-in-Add-clause-keeps : goal.returns-in-Add-clause-keeps
+returns-in-Add-clause-keeps c =
+    rw c.in-Add.is
+    (on_ok_weaker c.add.result
+    (λ adds. λ is room config. adds_read _ _ _ _ adds is room config)
+    c.add.ensures)
 
 pub returns-in-Unset-clause-keeps : goal.returns-in-Unset-clause-keeps
 returns-in-Unset-clause-keeps c =
     rw c.in-Unset.is
-    (λ keyed config. subst IsConfig (sym c.unset.ensures)
-    (removed_read c.in-Unset.name c.args.config.now.lists keyed config))
+    (λ is room config. subst IsConfig (sym c.unset.ensures)
+    (removed_read c.in-Unset.name c.args.config.now.lists (has_key c.in-Unset.name is.0) config))

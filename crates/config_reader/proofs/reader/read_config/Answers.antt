@@ -1,9 +1,10 @@
-use Rattle.std.proofs.Common.{◌∙◌, ◌++◌, [], inl, refl, subst, sym}
+use Rattle.std.proofs.Common.{◌∙◌, ◌++◌, refl, sym}
 use Rattle.config_reader.specs.Lines.{lined}
 use Rattle.config_reader.specs.Written.{texts_of}
-use Rattle.config_reader.specs.Blocks.{AreRead, HaveKeys, IsKept, place_of, start}
+use Rattle.config_reader.specs.Blocks.{IsKept, place_of}
 use Rattle.config_reader.proofs.Called.{IfOk-both}
-use Rattle.config_reader.proofs.Chain.{none_silent}
+use Rattle.config_reader.proofs.Adding.{kept_room}
+use Rattle.config_reader.proofs.Kept.{start_kept}
 use Rattle.config_reader.proofs.WholeLines.{all_read, nothing_read}
 use Rattle.config_reader.proofs.reader.read_config.Goals as goal
 
@@ -21,13 +22,15 @@ returns-clause-kept c =
 pub returns-clause-reads : goal.returns-clause-reads
 returns-clause-reads c = λ none.
     let reader = c.new-reader in
-    let kept : IsKept reader.result c.args.config.now.lists = record {
-      read = subst (λ m. AreRead start m.pairs (place_of reader.result)) (sym none) reader.ensures.start;
-      keys = subst (λ m. HaveKeys m.keys) (sym none) tt;
-      lines = [];
-      between = reader.ensures.between ∙ sym reader.ensures.rest;
-      silent = none_silent;
-      lined_are = inl refl;
-    } in
-    IfOk-both c.read_items.result (λ done kept same. record { end = place_of c.read_items.new.self; read = kept.read; keys = kept.keys })
+    let kept : IsKept reader.result reader.result.rank c.args.config.now.lists =
+    start_kept reader.result c.args.config.now.lists none reader.ensures.start reader.ensures.rank (reader.ensures.between ∙ sym reader.ensures.rest) in
+    IfOk-both c.read_items.result (λ done kept same. record { end = place_of c.read_items.new.self kept.rank; read = kept.read; keys = kept.keys })
+    (c.read_items.ensures.reads kept) (c.read_items.ensures.reads kept)
+
+pub returns-clause-room : goal.returns-clause-room
+returns-clause-room c = λ none.
+    let reader = c.new-reader in
+    let kept : IsKept reader.result reader.result.rank c.args.config.now.lists =
+    start_kept reader.result c.args.config.now.lists none reader.ensures.start reader.ensures.rank (reader.ensures.between ∙ sym reader.ensures.rest) in
+    IfOk-both c.read_items.result (λ done kept same. kept_room c.read_items.new.self c.read_items.new.config.lists kept)
     (c.read_items.ensures.reads kept) (c.read_items.ensures.reads kept)

@@ -1,4 +1,5 @@
-use Rattle.std.proofs.Common.{◌∙◌, ◌++◌, ap, length, refl, rules, sym}
+use Rattle.std.proofs.Common.{◌≡◌, ◌⊎◌, ◌∙◌, ◌+◌, ◌++◌, ap, arith, length, refl, rules, subst, sym, ⊎_elim}
+use Rattle.config_reader.specs.Blocks.{IsKept}
 use Rattle.config_reader.specs.Lines.{lined}
 use Rattle.config_reader.specs.Written.{texts_of}
 use Rattle.ordered_multimap.proofs.KeySorts.Mapped.{OnOk-then}
@@ -23,14 +24,22 @@ returns-clause-kept c = λ all is.
     c.append_lines.ensures.texts
 
 pub returns-then-is_empty-clause-reads : goal.returns-then-is_empty-clause-reads
-returns-then-is_empty-clause-reads c = λ kept.
-    none_between c.args.self.now _ c.args.config.now.lists kept refl refl
+returns-then-is_empty-clause-reads c = λ kept level.
+    let old = c.args.self.now in
+    none_between old _ c.args.rank c.args.config.now.lists kept
+    (⊎_elim (λ same. omega (arith, same)) (λ more. omega (arith, more)) level) refl refl refl refl
 
 pub returns-clause-reads : goal.returns-clause-reads
-returns-clause-reads c = λ kept.
+returns-clause-reads c = λ kept level.
+    let old = c.args.self.now in
+    let new = record old { between = old.rest } in
+    let now = c.append_lines.new.config.lists in
+    let rank = c.in_ok-lines.ensures.rank in
     OnOk-then c.append_lines.result
-    (λ added. between_kept c.args.self.now _ c.args.config.now.lists c.append_lines.new.config.lists
+    (λ added. subst (λ r. IsKept new r now) rank
+    (between_kept old new c.args.config.now.lists now
     c.of_section.result c.in_ok-lines.lines c.lines_before-text.result.now kept
-    (λ part is. c.lines_before-text.ensures part is) c.in_ok-lines.ensures.text
-    (empty_key c.of_section.result c.of_section.ensures.no_key) added refl refl)
+    (λ part is. c.lines_before-text.ensures part is) c.in_ok-lines.ensures.text c.of_section.ensures.section
+    (empty_key c.of_section.result c.of_section.ensures.no_key)
+    (subst (λ r. (r ≡ old.rank) ⊎ (r ≡ old.rank + 1)) (sym rank) level) added refl refl refl refl))
     c.append_lines.ensures.lists

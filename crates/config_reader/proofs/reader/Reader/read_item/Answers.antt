@@ -17,7 +17,7 @@ pub returns-then-says_nothing-clause-reads : goal.returns-then-says_nothing-clau
 returns-then-says_nothing-clause-reads c = λ some kept.
     let says : says_nothing (first_line c.args.self.now.rest.now) ≡ true =
     ap says_nothing (sym c.first_line.ensures.line) ∙ sym c.says_nothing.ensures ∙ c.if-says_nothing.true in
-    silence_kept c.args.self.now _ c.args.config.now.lists kept some says c.first_line.ensures.behind refl refl
+    silence_kept c.args.self.now _ c.args.self.now.rank c.args.config.now.lists kept some says c.first_line.ensures.behind refl refl refl refl
 
 pub returns-in-Some-clause-reads : goal.returns-in-Some-clause-reads
 returns-in-Some-clause-reads c = λ some kept.

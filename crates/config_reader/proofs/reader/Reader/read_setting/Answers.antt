@@ -1,7 +1,7 @@
-use Rattle.std.proofs.Common.{◌∙◌, rules, subst, sym}
+use Rattle.std.proofs.Common.{◌∙◌, inl, refl, rules, subst, sym}
 use Rattle.config_reader.specs.Lines.{IsBehindLines}
 use Rattle.config_reader.specs.Written.{texts_of}
-use Rattle.config_reader.specs.Blocks.{IsSettingLine}
+use Rattle.config_reader.specs.Blocks.{IsKept, IsSettingLine}
 use Rattle.config_reader.proofs.Kept.{setting_kept}
 use Rattle.config_reader.proofs.WholeLines.{keep_item}
 use Rattle.config_reader.proofs.reader.Reader.read_setting.Goals as goal
@@ -20,8 +20,10 @@ pub returns-clause-reads : goal.returns-clause-reads
 returns-clause-reads c = λ is kept.
     let done = c.in_ok-add_between.ensures in
     let item = c.in_ok-add_item.ensures in
+    let mid = c.add_between.new.self in
     let here = subst (λ rest. IsSettingLine rest c.args.line.now) (sym done.rest) is in
-    setting_kept c.add_between.new.self c.add_item.new.self c.add_between.new.config.lists c.add_item.new.config.lists
-    _ _ c.args.line.now c.in_ok-key.behind.now _ (done.reads kept) here
+    setting_kept mid c.add_item.new.self c.add_between.new.config.lists c.add_item.new.config.lists
+    _ _ c.args.line.now c.in_ok-key.behind.now
+    (subst (λ r. IsKept mid r c.add_between.new.config.lists) (sym done.same_rank) (done.reads kept (inl refl))) here
     (c.in_ok-key.ensures.setting here.line_is) (search rules) (search rules) item.added
-    item.section (search rules) (item.between ∙ sym item.rest)
+    item.section (search rules) item.same_rank (item.between ∙ sym item.rest)

@@ -1,7 +1,7 @@
 use Rattle.std.proofs.Common.{[], ◌∷◌, refl}
 use Rattle.std.specs.Char.{encode_utf8}
-use Rattle.config_reader.proofs.change.indent_in.Goals as goal
+use Rattle.config_reader.proofs.change.usual_indent.Goals as goal
 
 pub returns-else-eq : goal.returns-else-eq
 unfolding encode_utf8
-returns-else-eq c = (9 ∷ [], refl, (refl, tt))
+returns-else-eq c = record { blank = (9 ∷ [], refl, (refl, tt)); one_line = refl }
