@@ -1,4 +1,5 @@
-"""Short runs: names of sections that a line can't have or that end early, and a backslash at the end of the text."""
+"""Short runs: names of sections that a line can't have or that end early, a backslash at the end of the text, and where
+a setting is added."""
 
 # A text, the words behind FILE, the output.
 GOOD = [
@@ -16,6 +17,13 @@ GOOD = [
     ("[a]\nk = 1\\\n2", ["get", "a.k"], "12\n"),
     ("[a]\nk = 1 \\\n\n", ["add", "a.l", "2"], "[a]\nk = 1 \\\n\nl = 2\n"),
     ('[a]\nk = "1\\\n"\n', ["add", "a.l", "2"], '[a]\nk = "1\\\n"\nl = 2\n'),
+    # A setting is added behind the last one of its section, in front of the lines above the next section.
+    ("[a]\n  k = 1\n\n# of b\n[b]\nm = 2\n", ["add", "a.l", "3"], "[a]\n  k = 1\n  l = 3\n\n# of b\n[b]\nm = 2\n"),
+    ("k = 1\n# of a\n[a]\n", ["add", "l", "2"], "k = 1\nl = 2\n# of a\n[a]\n"),
+    ("[a]\nk = 1\n# end\n", ["add", "b.l", "2"], "[a]\nk = 1\n# end\n[b]\n\tl = 2\n"),
+    # Of a section that stands twice it goes to the last part, and is indented as that, or as the one before.
+    ("[a]\n    k = 1\n[b]\n[A]\n  m = 2\n", ["add", "a.l", "3"], "[a]\n    k = 1\n[b]\n[A]\n  m = 2\n  l = 3\n"),
+    ("[a]\n  k = 1\n[a]\n[b]\n", ["add", "a.l", "3"], "[a]\n  k = 1\n[a]\n  l = 3\n[b]\n"),
 ]
 
 # A text, the words, what stands on standard error behind the program's name.
