@@ -1,6 +1,8 @@
 //! Callers of slot list and tape at listed places, proved from the public contracts alone.
-ghost use Rattle.std.specs.Prelude.{◌≡◌, ◌≢◌, IfSome, IsTrue};
-ghost use Rattle.multimap_slots.specs.Slots.{IsDetached};
+ghost use Rattle.std.specs.Prelude.{◌≡◌, ◌≢◌, ◌+◌, IfSome, IsTrue};
+ghost use Rattle.multimap_slots.specs.Lists.{next_of, previous_of, without};
+ghost use Rattle.multimap_slots.specs.Slots.{HasSlot, IsDetached, PushesBack};
+ghost use Rattle.multimap_slots.specs.Tapes.{Frees};
 
 use crate::tests::slots::{Items, List};
 use multimap_slots::{Reads, SlotList};
@@ -39,7 +41,9 @@ pub fn push_beside(list: &mut List, item: usize, detached: usize) -> Option<usiz
 }
 
 /// Puts an item last without a test, where there is room, and returns its place.
-pub fn push_with_room(list: &mut List, item: usize, link: u8) -> Option<usize> {
+pub fn push_with_room(list: &mut List, item: usize, link: u8) -> Option<usize>
+    ensures { IfSome result (λ place. PushesBack list.old list.new place item link) }
+{
     if list.len() >= list.capacity() {
         return None;
     }
@@ -47,7 +51,9 @@ pub fn push_with_room(list: &mut List, item: usize, link: u8) -> Option<usize> {
 }
 
 /// The same on a tape, where a slot is left at its end.
-pub fn push_at_end(tape: &mut Items, item: usize, link: u8) -> Option<usize> {
+pub fn push_at_end(tape: &mut Items, item: usize, link: u8) -> Option<usize>
+    ensures { IfSome result (λ place. PushesBack tape.old.list tape.new.list place item link) }
+{
     if !tape.has_end_room() {
         return None;
     }
@@ -83,7 +89,13 @@ pub fn use_listed(
     place: usize,
     slot: (usize, u8),
     reads: &mut Reads,
-) -> Option<Used> {
+) -> Option<Used>
+    ensures order { list.new.order ≡ list.old.order }
+    ensures before { IfSome result (λ r. r.0 ≡ previous_of list.old.order place) }
+    ensures found { IfSome result (λ r. HasSlot list.new place r.1.0 r.1.1) }
+    ensures behind { IfSome result (λ r. r.2 ≡ next_of list.old.order place) }
+    ensures counted { IfSome result (λ _. reads.new ≡ reads.old + 1) }
+{
     used!(list, place, slot, reads)
 }
 
@@ -93,12 +105,21 @@ pub fn use_listed_on_tape(
     place: usize,
     slot: (usize, u8),
     reads: &mut Reads,
-) -> Option<Used> {
+) -> Option<Used>
+    ensures order { tape.new.list.order ≡ tape.old.list.order }
+    ensures before { IfSome result (λ r. r.0 ≡ previous_of tape.old.list.order place) }
+    ensures found { IfSome result (λ r. HasSlot tape.new.list place r.1.0 r.1.1) }
+    ensures behind { IfSome result (λ r. r.2 ≡ next_of tape.old.list.order place) }
+    ensures counted { IfSome result (λ _. reads.new ≡ reads.old + 1) }
+{
     used!(tape, place, slot, reads)
 }
 
 /// Takes an item with its link, if one is there.
-pub fn take_from(list: &mut List, place: usize) -> Option<(usize, u8)> {
+pub fn take_from(list: &mut List, place: usize) -> Option<(usize, u8)>
+    ensures taken { IfSome result (λ r. HasSlot list.old place r.0 r.1) }
+    ensures order { IfSome result (λ _. list.new.order ≡ without list.old.order place) }
+{
     if list.get(place, &mut Reads::new()).is_none() {
         return None;
     }
@@ -106,7 +127,11 @@ pub fn take_from(list: &mut List, place: usize) -> Option<(usize, u8)> {
 }
 
 /// The same on a tape, which counts the slot as freed.
-pub fn take_from_tape(tape: &mut Items, place: usize) -> Option<(usize, u8)> {
+pub fn take_from_tape(tape: &mut Items, place: usize) -> Option<(usize, u8)>
+    ensures taken { IfSome result (λ r. HasSlot tape.old.list place r.0 r.1) }
+    ensures order { IfSome result (λ _. tape.new.list.order ≡ without tape.old.list.order place) }
+    ensures freed { IfSome result (λ _. Frees tape.old tape.new) }
+{
     if tape.get(place, &mut Reads::new()).is_none() {
         return None;
     }
