@@ -1,6 +1,6 @@
 //! Places in an order, each with a link, over one vector of nodes that also lists the free places.
 ghost use Rattle.std.specs.Prelude.{◌≡◌, ◌+◌, ◌<◌, [], length, Some, slice_get, vec_capacity};
-ghost use Rattle.multimap_slots.specs.Lists.{IsIn};
+ghost use Rattle.multimap_slots.specs.Lists.{IsIn, next_of, previous_of};
 ghost use Rattle.multimap_slots.specs.Private.Vectors.{GrowsTo};
 
 mod detached;
@@ -125,6 +125,17 @@ impl<L: Copy, A: Allocator> Order<L, A> {
         self.detached = 0;
     }
 
+    /// The node of a listed place.
+    #[inline(always)]
+    fn node(&self, place: usize) -> &Node<L>
+        requires { IsIn place self.now.order }
+        ensures next { result.now.next ≡ next_of self.now.order place }
+        ensures previous { result.now.standing.previous ≡ previous_of self.now.order place }
+        ensures link { slice_get self.now.links place ≡ Some result.now.link }
+    {
+        &self.nodes[place]
+    }
+
     pub(crate) fn link_mut(&mut self, place: usize) -> &mut L
         requires { IsIn place self.old.order }
         ensures* writes_back { sem 𝓛 (lends_place_link L.row A.row A.Allocator self.entry
@@ -155,19 +166,19 @@ impl<L: Copy, A: Allocator> InOrder for Order<L, A> {
     }
 
     fn next(&self, place: usize) -> Option<usize> {
-        self.nodes[place].next.get()
+        self.node(place).next.get()
     }
 
     fn previous(&self, place: usize) -> Option<usize> {
-        self.nodes[place].standing.previous().get()
+        self.node(place).standing.previous().get()
     }
 
     fn following(&self, place: usize) -> usize {
-        self.nodes[place].next.place()
+        self.node(place).next.place()
     }
 
     fn preceding(&self, place: usize) -> usize {
-        self.nodes[place].standing.previous().place()
+        self.node(place).standing.previous().place()
     }
 }
 
@@ -175,7 +186,7 @@ impl<L: Copy, A: Allocator> Linked<L> for Order<L, A> {
     ghost links = { λ o. o.links };
 
     fn link(&self, place: usize) -> L {
-        self.nodes[place].link
+        self.node(place).link
     }
 }
 

@@ -1,8 +1,7 @@
 //! Takes rows out of their lanes, and lets later rows move back into the gap.
-ghost use Rattle.std.specs.Prelude.{◌≡◌, ℕ, ◌+◌, ◌/◌, ◌<◌, length, slice_index, slice_set, IfSome, IfNone};
-ghost use Rattle.std.specs.FinMap as map;
-ghost use Rattle.multimap_table.specs.Private.Layout.{group_count, IsSized, Passes, CanLose, HoldRows};
-ghost use Rattle.multimap_table.specs.Private.Entries.{entries, rows_of, row_at};
+ghost use Rattle.std.specs.Prelude.{◌≡◌, ℕ, ◌/◌, ◌<◌, length, slice_index, slice_set, IfSome, IfNone};
+ghost use Rattle.multimap_table.specs.Private.Layout.{group_count, IsSized, Passes, CanLose, LosesRow};
+ghost use Rattle.multimap_table.specs.Private.Entries.{row_at};
 
 use crate::group::{LANES, Row, match_tag};
 use crate::probe::{distance, lane_with_room, probe, probe_start};
@@ -37,11 +36,7 @@ fn row_that_passes(tags: &[u8], rows: &[Row], group: usize, earlier: usize) -> O
 #[inline(always)]
 pub(crate) fn remove_row<A: Allocator>(tags: &mut Vec<u8, A>, rows: &mut Vec<Row, A>, lane: usize)
     requires { CanLose tags.old.items rows.old.items lane }
-    ensures rows { HoldRows (length tags.old.items)
-        (map.remove (rows_of tags.old.items rows.old.items) (row_at rows.old.items lane).place)
-        tags.new.items rows.new.items }
-    ensures counted { length (entries tags.new.items rows.new.items) + 1
-        ≡ length (entries tags.old.items rows.old.items) }
+    ensures { LosesRow tags.old.items rows.old.items lane tags.new.items rows.new.items }
 {
     let empty = match_tag(tags, lane / LANES, 0);
     if empty == 0 {
@@ -58,11 +53,7 @@ pub(crate) fn remove_row<A: Allocator>(tags: &mut Vec<u8, A>, rows: &mut Vec<Row
 #[inline(never)]
 fn close_gap<A: Allocator>(tags: &mut Vec<u8, A>, rows: &mut Vec<Row, A>, lane: usize)
     requires { CanLose tags.old.items rows.old.items lane }
-    ensures rows { HoldRows (length tags.old.items)
-        (map.remove (rows_of tags.old.items rows.old.items) (row_at rows.old.items lane).place)
-        tags.new.items rows.new.items }
-    ensures counted { length (entries tags.new.items rows.new.items) + 1
-        ≡ length (entries tags.old.items rows.old.items) }
+    ensures { LosesRow tags.old.items rows.old.items lane tags.new.items rows.new.items }
 {
     let count = tags.len() / LANES;
     let last = lane_with_room(tags, lane / LANES) / LANES;

@@ -7,35 +7,31 @@ use Rattle.multimap_slots.specs.declared.order.node.Node.{Node}
 use Rattle.multimap_slots.specs.declared.order.node.State.TheVariants.{Free}
 use Rattle.multimap_slots.specs.Lists.{IsIn, AreDistinct, first_of, last_of, without, moved_last, moved_first}
 use Rattle.multimap_slots.specs.Private.Paths.{after, IsPath, walk}
-use Rattle.multimap_slots.specs.Private.ListLayout.{nexts, previouses, states, IsOrdered, SetsNext, SetsPrevious}
+use Rattle.multimap_slots.specs.Private.ListLayout.{nexts, previouses, states, IsOrdered, SetsNext, SetsPrevious, Unlinks}
 use Rattle.multimap_slots.proofs.Callers.PlaceLists.{Split, IsIn-append, IsIn-left, IsIn-right, IsIn-was, IsIn-besides, AreDistinct-push}
 use Rattle.multimap_slots.proofs.Callers.PlaceLists.{AreDistinct-remove, without-split}
 use Rattle.multimap_slots.proofs.Nodes.Paths.{last_or_in, path-first, path-last, path-push, path-lead}
 use Rattle.multimap_slots.proofs.Nodes.OneField.{length-states}
 use Rattle.multimap_slots.proofs.Nodes.FreePlaces.{free-agree, free_here}
 use Rattle.multimap_slots.proofs.Nodes.Linked.{HasOrder, walk-order, split_in, split_distinct, split_gone, neighbours}
-use Rattle.multimap_slots.proofs.Nodes.Unlinked.{path-unlinked, was_before}
+use Rattle.multimap_slots.proofs.Nodes.Unlinked.{path-unlinked, unlinked-states, was_before}
 
 module _ {L : Type 0} where
-  module _ {old tied both : List (Node L)} {front back free front1 back1 previous next : Option ℕ} {len detached place : ℕ}
+  module _ {old both : List (Node L)} {front back free front1 back1 : Option ℕ} {len detached place : ℕ}
       (o : IsOrdered old front back free len detached) (s : Split place o.order)
-      (forth : SetsNext old tied front front1 previous next) (backward : SetsPrevious tied both back back1 next previous)
-      (before : previous ≡ get_or (previouses old) place None) (behind : next ≡ get_or (nexts old) place None) where
-    path : IsPath (after front1 (nexts tied)) (after back1 (previouses both)) None (s.front ++ s.back)
-    path = path-unlinked o s forth backward before behind
+      (u : Unlinks old both front front1 back back1 place) where
+    path : IsPath (after front1 (nexts u.tied)) (after back1 (previouses both)) None (s.front ++ s.back)
+    path = path-unlinked o s u
 
-    same_states : states both ≡ states old
-    same_states = backward.states ∙ forth.states
-
-    from : previous ≡ last_of s.front
-    from = before ∙ (neighbours o s).0
+    from : get_or (previouses old) place None ≡ last_of s.front
+    from = (neighbours o s).0
 
     -- the last and the first of the others
     pub last-others : back1 ≡ last_of (s.front ++ s.back)
-    last-others = path-last (after front1 (nexts tied)) (after back1 (previouses both)) None (s.front ++ s.back) path
+    last-others = path-last (after front1 (nexts u.tied)) (after back1 (previouses both)) None (s.front ++ s.back) path
 
     pub first-others : front1 ≡ first_of (s.front ++ s.back)
-    first-others = path-first (after front1 (nexts tied)) (after back1 (previouses both)) None (s.front ++ s.back) path
+    first-others = path-first (after front1 (nexts u.tied)) (after back1 (previouses both)) None (s.front ++ s.back) path
 
     pub others-listed : (x : ℕ) → IsIn x (s.front ++ s.back) → IsIn x o.order
     others-listed x i = rw s.is (IsIn-was x s.front place s.back i)
@@ -82,8 +78,8 @@ module _ {L : Type 0} where
             record {
               within = rw all_same here.0;
               state = ap (λ ss. get_or ss q Free) all_same ∙ here.1;
-              next = kept q (not_free q here.1) ∙ ap (λ ns. get_or ns q None) backward.nexts
-                  ∙ forth.nexts.kept (Some q)
+              next = kept q (not_free q here.1) ∙ ap (λ ns. get_or ns q None) u.backward.nexts
+                  ∙ u.forth.nexts.kept (Some q)
                   (λ e. not_free q here.1 (last_listed s.front q (was_before s) (sym from ∙ sym e)));
             }) o.frees;
         apart = rw all_same o.apart;
@@ -92,7 +88,7 @@ module _ {L : Type 0} where
     }
       where
         all_same : states new ≡ states old
-        all_same = same ∙ same_states
+        all_same = same ∙ unlinked-states o s u
 
         listed_of : (p : ℕ) → (p ≡ place) ⊎ IsIn p (s.front ++ s.back) → IsIn p o.order
         listed_of p (inl e) = subst (λ x. IsIn x o.order) (sym e) (split_in o s)
@@ -117,12 +113,12 @@ module _ {L : Type 0} where
         → HasOrder new front3 (Some place) free len detached ((s.front ++ s.back) ++ place ∷ [])
     IsOrdered-last {once} {twice} {new} {front2} {front3} {back2} first second third =
         reordered ((s.front ++ s.back) ++ place ∷ [])
-        (path-push (after front1 (nexts tied)) (after back1 (previouses both)) (after front3 (nexts new))
+        (path-push (after front1 (nexts u.tied)) (after back1 (previouses both)) (after front3 (nexts new))
         (after (Some place) (previouses new)) None (s.front ++ s.back) place
         (λ e. cc) gone (λ x i e. cc) (AreDistinct-remove s.front place s.back (split_distinct o s))
         (λ x not_last not_place.
         third.nexts.kept x not_place ∙ ap (λ ns. after front2 ns x) second.nexts
-        ∙ first.nexts.kept x (λ e. not_last (e ∙ last-others)) ∙ ap (λ ns. after front1 ns x) backward.nexts)
+        ∙ first.nexts.kept x (λ e. not_last (e ∙ last-others)) ∙ ap (λ ns. after front1 ns x) u.backward.nexts)
         (third.nexts.kept (last_of (s.front ++ s.back)) gone_last
         ∙ ap (λ ns. after front2 ns (last_of (s.front ++ s.back))) second.nexts
         ∙ ap (after front2 (nexts once)) (sym last-others) ∙ first.nexts.moved)
@@ -161,12 +157,12 @@ module _ {L : Type 0} where
         → HasOrder new (Some place) back3 free len detached (place ∷ (s.front ++ s.back))
     IsOrdered-first {once} {twice} {new} {front2} {back2} {back3} first second third =
         reordered (place ∷ (s.front ++ s.back))
-        (path-lead (after front1 (nexts tied)) (after back1 (previouses both)) (after (Some place) (nexts new))
+        (path-lead (after front1 (nexts u.tied)) (after back1 (previouses both)) (after (Some place) (nexts new))
         (after back3 (previouses new)) (s.front ++ s.back) place
         gone (AreDistinct-remove s.front place s.back (split_distinct o s))
         (λ x d. ap (λ ns. get_or ns x None) third.nexts
         ∙ second.nexts.kept (Some x) (λ e. d (same_some x place e))
-        ∙ ap (λ ns. get_or ns x None) first.nexts ∙ ap (λ ns. get_or ns x None) backward.nexts)
+        ∙ ap (λ ns. get_or ns x None) first.nexts ∙ ap (λ ns. get_or ns x None) u.backward.nexts)
         (ap (λ ns. get_or ns place None) third.nexts ∙ second.nexts.moved ∙ first-others)
         refl
         (λ x not_first not_place.

@@ -9,15 +9,15 @@ use Rattle.multimap_slots.specs.declared.order.node.State.{State}
 use Rattle.multimap_slots.specs.declared.order.node.State.TheVariants.{Listed, Free, Detached}
 use Rattle.multimap_slots.specs.Lists.{IsIn, first_of, last_of, without}
 use Rattle.multimap_slots.specs.Private.Paths.{after, IsPath, walk}
-use Rattle.multimap_slots.specs.Private.ListLayout.{one_if_detached, count_detached, nexts, previouses, states, IsFreeList, IsOrdered}
-use Rattle.multimap_slots.specs.Private.ListLayout.{SetsNext}
-use Rattle.multimap_slots.specs.Private.ListLayout.{SetsPrevious, SetsDetached, Releases}
+use Rattle.multimap_slots.specs.Private.ListLayout.{one_if_detached, count_detached, nexts, previouses, states, links, IsFreeList}
+use Rattle.multimap_slots.specs.Private.ListLayout.{IsOrdered, CanUnlink, Unlinks, SetsDetached, Releases}
 use Rattle.multimap_slots.proofs.Callers.PlaceLists.{Split, IsIn-left, IsIn-right, IsIn-was, IsIn-besides, AreDistinct-remove}
 use Rattle.multimap_slots.proofs.Callers.PlaceLists.{without-split}
 use Rattle.multimap_slots.proofs.Nodes.Paths.{last_or_in, path-agree, path-remove}
 use Rattle.multimap_slots.proofs.Nodes.OneField.{length-states}
 use Rattle.multimap_slots.proofs.Nodes.FreePlaces.{free-agree, free_here}
-use Rattle.multimap_slots.proofs.Nodes.Linked.{HasOrder, walk-order, split_in, split_within, split_distinct, split_gone, neighbours}
+use Rattle.multimap_slots.proofs.Nodes.Linked.{HasOrder, walk-order, split_at, split_in, split_within, split_distinct, split_gone}
+use Rattle.multimap_slots.proofs.Nodes.Linked.{neighbours, last-within, first-listed}
 
 -- the place has this state, and each other node keeps its own and the place behind it
 pub record Marks {L : Type 0} (old new : List (Node L)) (place : ℕ) (state : State) : Type 0 where
@@ -78,39 +78,53 @@ module _ {L : Type 0} where
         ap (λ ss. count_detached ss + one_if_detached (get_or (states old) place Free)) m.states
         ∙ sum_by-set one_if_detached (states old) place state Free (rw length-map within)
 
-  module _ {old tied both : List (Node L)} {front back free front' back' previous next : Option ℕ} {len detached place : ℕ}
+  -- a listed place can be unlinked
+  pub can_unlink : {nodes : List (Node L)} {front back free : Option ℕ} {len detached place : ℕ}
+      (o : IsOrdered nodes front back free len detached) → IsIn place (walk (after front (nexts nodes)) None len) → CanUnlink nodes place
+  can_unlink {place = place} o i =
+      let s = split_at o place i in
+      record {
+        within = split_within o s;
+        before = last-within o _ s.front (neighbours o s).0 (was_before s);
+        behind = first-listed o _ s.back (neighbours o s).1 (was_behind s);
+      }
+
+  module _ {old both : List (Node L)} {front back free front' back' : Option ℕ} {len detached place : ℕ}
       (o : IsOrdered old front back free len detached) (s : Split place o.order)
-      (forth : SetsNext old tied front front' previous next) (backward : SetsPrevious tied both back back' next previous)
-      (before : previous ≡ get_or (previouses old) place None) (behind : next ≡ get_or (nexts old) place None) where
+      (u : Unlinks old both front front' back back' place) where
+    pub unlinked-states : states both ≡ states old
+    unlinked-states = u.backward.states ∙ u.forth.states
+
+    pub unlinked-links : links both ≡ links old
+    unlinked-links = u.backward.links ∙ u.forth.links
+
     -- once the neighbours are tied to each other, the path leads around the place
-    pub path-unlinked : IsPath (after front' (nexts tied)) (after back' (previouses both)) None (s.front ++ s.back)
+    pub path-unlinked : IsPath (after front' (nexts u.tied)) (after back' (previouses both)) None (s.front ++ s.back)
     path-unlinked =
-        path-remove (after front (nexts old)) (after back (previouses old)) (after front' (nexts tied))
+        path-remove (after front (nexts old)) (after back (previouses old)) (after front' (nexts u.tied))
         (after back' (previouses both)) None s.front place s.back
         (λ x j e. cc) (split_distinct o s)
         (record {
-          moved = ap (after front' (nexts tied)) (sym from) ∙ forth.nexts.moved ∙ to;
-          kept = λ x d. forth.nexts.kept x (λ e. d (e ∙ from));
+          moved = ap (after front' (nexts u.tied)) (sym from) ∙ u.forth.nexts.moved ∙ to;
+          kept = λ x d. u.forth.nexts.kept x (λ e. d (e ∙ from));
         })
         (record {
-          moved = ap (after back' (previouses both)) (sym to) ∙ backward.previouses.moved ∙ from;
-          kept = λ x d. backward.previouses.kept x (λ e. d (e ∙ to)) ∙ ap (λ ps. after back ps x) forth.previouses;
+          moved = ap (after back' (previouses both)) (sym to) ∙ u.backward.previouses.moved ∙ from;
+          kept = λ x d. u.backward.previouses.kept x (λ e. d (e ∙ to)) ∙ ap (λ ps. after back ps x) u.forth.previouses;
         })
         (subst (IsPath (after front (nexts old)) (after back (previouses old)) None) s.is o.path)
       where
-        from : previous ≡ last_of s.front
-        from = before ∙ (neighbours o s).0
+        from : get_or (previouses old) place None ≡ last_of s.front
+        from = (neighbours o s).0
 
-        to : next ≡ first_of s.back
-        to = behind ∙ (neighbours o s).1
+        to : get_or (nexts old) place None ≡ first_of s.back
+        to = (neighbours o s).1
 
-  module _ {old tied both new : List (Node L)} {front back free front' back' previous next : Option ℕ} {len detached
+  module _ {old both new : List (Node L)} {front back free front' back' : Option ℕ} {len detached
       place : ℕ} {state : State} (o : IsOrdered old front back free len detached) (s : Split place o.order)
-      (forth : SetsNext old tied front front' previous next) (backward : SetsPrevious tied both back back' next previous)
-      (m : Marks both new place state)
-      (before : previous ≡ get_or (previouses old) place None) (behind : next ≡ get_or (nexts old) place None) where
+      (u : Unlinks old both front front' back back' place) (m : Marks both new place state) where
     same_states : states both ≡ states old
-    same_states = backward.states ∙ forth.states
+    same_states = unlinked-states o s u
 
     same_length : length both ≡ length old
     same_length = length-states both old same_states
@@ -121,11 +135,11 @@ module _ {L : Type 0} where
     was_listed : get_or (states both) place Free ≡ Listed
     was_listed = ap (λ xs. get_or xs place Free) same_states ∙ o.listed place (split_in o s)
 
-    from : previous ≡ last_of s.front
-    from = before ∙ (neighbours o s).0
+    from : get_or (previouses old) place None ≡ last_of s.front
+    from = (neighbours o s).0
 
     -- the place before leads to another one, and it is not free
-    previous_not_free : (q : ℕ) → get_or (states old) q Free ≡ Free → previous ≡ Some q → ⊥
+    previous_not_free : (q : ℕ) → get_or (states old) q Free ≡ Free → get_or (previouses old) place None ≡ Some q → ⊥
     previous_not_free q is_free e = elim (last_or_in None s.front) [
       | inl none ↦ absurd (let e' = sym none ∙ sym from ∙ e in cc)
       | inr some ↦
@@ -143,7 +157,7 @@ module _ {L : Type 0} where
         record {
           within = rw same_states here.0;
           state = ap (λ xs. get_or xs q Free) same_states ∙ here.1;
-          next = ap (λ ns. get_or ns q None) backward.nexts ∙ forth.nexts.kept (Some q) (λ e. previous_not_free q here.1 (sym e));
+          next = ap (λ ns. get_or ns q None) u.backward.nexts ∙ u.forth.nexts.kept (Some q) (λ e. previous_not_free q here.1 (sym e));
         }) o.frees)
 
     -- the neighbours are tied to each other, and the place has a state of its own
@@ -153,11 +167,11 @@ module _ {L : Type 0} where
     IsOrdered-unlink unlisted free' vacant' one_more frees = record {
       ordered = record {
         order = s.front ++ s.back;
-        path = path-agree (after front' (nexts tied)) (after back' (previouses both)) (after front' (nexts new))
+        path = path-agree (after front' (nexts u.tied)) (after back' (previouses both)) (after front' (nexts new))
             (after back' (previouses new)) None (s.front ++ s.back)
             refl refl
-            (λ x j. (m.nexts x (differs_in x j) ∙ ap (λ ns. get_or ns x None) backward.nexts, m.previouses x (differs_in x j)))
-            (path-unlinked o s forth backward before behind);
+            (λ x j. (m.nexts x (differs_in x j) ∙ ap (λ ns. get_or ns x None) u.backward.nexts, m.previouses x (differs_in x j)))
+            (path-unlinked o s u);
         distinct = AreDistinct-remove s.front place s.back (split_distinct o s);
         listed = λ p j. state_other p (differs_in p j) ∙ o.listed p (rw s.is (IsIn-was p s.front place s.back j));
         all_in = λ p e. elim (cases_eq p place) [
@@ -182,14 +196,13 @@ module _ {L : Type 0} where
         state_other : (p : ℕ) → p ≢ place → get_or (states new) p Free ≡ get_or (states old) p Free
         state_other p d = marks-other m p d ∙ ap (λ xs. get_or xs p Free) same_states
 
-  module _ {old tied both new : List (Node L)} {front back free front' back' previous next : Option ℕ} {len detached place : ℕ}
+  module _ {old both new : List (Node L)} {front back free front' back' : Option ℕ} {len detached place : ℕ}
       (o : IsOrdered old front back free len detached) (s : Split place o.order)
-      (forth : SetsNext old tied front front' previous next) (backward : SetsPrevious tied both back back' next previous)
-      (before : previous ≡ get_or (previouses old) place None) (behind : next ≡ get_or (nexts old) place None) where
+      (u : Unlinks old both front front' back back' place) where
     -- the place that has left is neither listed nor free
     pub IsOrdered-detach : SetsDetached both new place → HasOrder new front' back' free (len - 1) (detached + 1) (s.front ++ s.back)
     IsOrdered-detach written =
-        IsOrdered-unlink o s forth backward m before behind (λ e. cc) free o.vacant refl (frees_kept o s forth backward m before behind)
+        IsOrdered-unlink o s u m (λ e. cc) free o.vacant refl (frees_kept o s u m)
       where
         m : Marks both new place Detached
         m = Marks-detached both new place written

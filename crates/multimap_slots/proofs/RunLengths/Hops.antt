@@ -51,8 +51,10 @@ pub record LeadsOn (runs : List ℕ) (p : ℕ) : Type 0 where
   pub within : p + 1 + get_or runs (p + 1) 0 < length runs
   pub next : next_of (places_from 0 runs) p ≡ Some (p + 1 + get_or runs (p + 1) 0)
 
-pub leads_on : (runs : List ℕ) (p : ℕ) → AreRuns runs → get_or runs p 1 ≡ 0 → IsSome (next_of (places_from 0 runs) p) → LeadsOn runs p
-leads_on runs p are item more =
+pub leads_on : (runs : List ℕ) (p : ℕ) → AreRuns runs → IsIn p (places_from 0 runs) → IsSome (next_of (places_from 0 runs) p)
+    → LeadsOn runs p
+leads_on runs p are listed more =
+    let item = item-listed runs p listed in
     let hop = hops_on runs p (get_or runs (p + 1) 0) are item refl in
     elim (cases_lt (p + 1 + get_or runs (p + 1) 0) (length runs)) [
       | inl below ↦ record { within = below; next = hop.some below }
@@ -129,13 +131,15 @@ module _ (runs : List ℕ) (p holes : ℕ) (are : AreRuns runs) (stops : get_or 
 -- the number before an item that isn't the first leads back to the one before
 pub record LeadsBack (runs : List ℕ) (p : ℕ) : Type 0 where
   pub some : 0 < p
+  pub within : p < length runs
   pub fits : get_or runs (p - 1) 0 ≤ p - 1
   pub previous : previous_of (places_from 0 runs) p ≡ Some (p - 1 - get_or runs (p - 1) 0)
 
-pub leads_back : (runs : List ℕ) (p : ℕ) → AreRuns runs → p ≤ length runs → get_or runs p 1 ≡ 0
-    → IsSome (previous_of (places_from 0 runs) p)
+pub leads_back : (runs : List ℕ) (p : ℕ) → AreRuns runs → IsIn p (places_from 0 runs) → IsSome (previous_of (places_from 0 runs) p)
     → LeadsBack runs p
-leads_back runs p are at_most item more =
+leads_back runs p are listed more =
+    let item = item-listed runs p listed in
+    let within = item_within runs p item in
     let stops = item_zero runs p item in
     let fits = back_fits runs p (before runs p) are stops refl in
     elim (cases_lt (before runs p) p) [
@@ -143,8 +147,9 @@ leads_back runs p are at_most item more =
           let same = before-some p some in
           record {
             some = omega (arith, some);
+            within = within;
             fits = omega (arith, some, same);
-            previous = hops_back runs p (before runs p) are stops refl at_most some item ∙ ap Some (omega (arith, same));
+            previous = hops_back runs p (before runs p) are stops refl (omega (arith, within)) some item ∙ ap Some (omega (arith, same));
           }
       | inr none ↦ absurd (let e = subst IsSome (back_none runs p (before runs p) are stops refl (omega (arith, none, fits)) item) more in
           cc)

@@ -1,5 +1,5 @@
 -- How the nodes of a slot list lie. No public clause cites this module.
-use Rattle.std.specs.Prelude.{◌≡◌, ◌≢◌, ℕ, zero, suc, ◌+◌, ◌<◌, ◌≤◌, Option, Some, None, IsSome}
+use Rattle.std.specs.Prelude.{◌≡◌, ◌≢◌, ℕ, zero, suc, ◌+◌, ◌<◌, ◌≤◌, Option, Some, None, IsSome, IfSome}
 use Rattle.std.specs.Prelude.{List, [], ◌∷◌, ◌++◌, map, get_or, slice_get, slice_set, length}
 use Rattle.std.specs.Prelude.{Result, OnErr, OnOk}
 use Rattle.std.specs.List.{sum_by}
@@ -140,6 +140,23 @@ module _ {L : Type 0} where
     pub nexts : nexts new ≡ nexts old
     pub states : states new ≡ states old
     pub links : links new ≡ links old
+
+  -- the place is within, and so are the places before and behind it; the one behind is listed
+  pub record CanUnlink (nodes : List (Node L)) (place : ℕ) : Type 0 where
+    pub within : place < length nodes
+    pub before : IfSome (get_or (previouses nodes) place None) (λ p. p < length nodes)
+    pub behind : IfSome (get_or (nexts nodes) place None)
+        (λ p. get_or (states nodes) p Free ≡ Listed)
+
+  -- the places before and behind this one are tied to each other, or to the list's own ends, and
+  -- nothing else is written
+  pub record Unlinks (old new : List (Node L)) (front front' back back' : Option ℕ) (place : ℕ)
+      : Type 0 where
+    pub tied : List (Node L)
+    pub forth : SetsNext old tied front front' (get_or (previouses old) place None)
+        (get_or (nexts old) place None)
+    pub backward : SetsPrevious tied new back back' (get_or (nexts old) place None)
+        (get_or (previouses old) place None)
 
   -- the place is free, ahead of the free places from `free` on, and nothing else changes but what
   -- stood before it

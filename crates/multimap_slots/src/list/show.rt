@@ -1,22 +1,10 @@
-//! How a slot list is shown: each item by its place, in order.
 use super::SlotList;
-use crate::reads::Reads;
+use crate::show::show_items;
 use std::alloc::Allocator;
 use std::fmt;
 
 impl<T: fmt::Debug, L: Copy, A: Allocator> fmt::Debug for SlotList<T, L, A> {
     fn fmt<W: fmt::Write>(&self, f: &mut fmt::Formatter<W>) -> fmt::Result {
-        let mut map = f.debug_map();
-        let mut reads = Reads::new();
-        let mut following = self.front_place();
-        for _ in 0..self.len() {
-            if let Some(place) = following {
-                if let Some((item, _)) = self.get(place, &mut reads) {
-                    map.entry(&place, item);
-                }
-                following = self.next_place(place);
-            }
-        }
-        map.finish()
+        show_items(self.items.as_slice(), &self.order, f)
     }
 }

@@ -5,7 +5,7 @@ ghost use Rattle.multimap_slots.specs.Lists.{IsIn};
 use super::Order;
 use super::node::State;
 use super::optional_place::OptionalPlace;
-use super::write::{release, set_detached, set_next, set_previous};
+use super::write::{release, set_detached, unlink};
 use std::alloc::Allocator;
 
 impl<L: Copy, A: Allocator> Order<L, A> {
@@ -48,10 +48,7 @@ impl<L: Copy, A: Allocator> Order<L, A> {
         requires { IsIn place self.old.order }
         ensures { DetachesPlace self.old self.new place }
     {
-        let previous = self.nodes[place].standing.previous();
-        let next = self.nodes[place].next;
-        set_next(&mut self.nodes, &mut self.front, previous, next);
-        set_previous(&mut self.nodes, &mut self.back, next, previous);
+        unlink(&mut self.nodes, &mut self.front, &mut self.back, place);
         set_detached(&mut self.nodes, place);
         self.len -= 1;
         self.detached += 1;

@@ -4,7 +4,7 @@ ghost use Rattle.multimap_slots.specs.Lists.{IsIn, moved_last, moved_first};
 
 use super::Order;
 use super::optional_place::OptionalPlace;
-use super::write::{set_next, set_previous};
+use super::write::{set_next, set_previous, unlink};
 use std::alloc::Allocator;
 
 impl<L: Copy, A: Allocator> Order<L, A> {
@@ -13,10 +13,7 @@ impl<L: Copy, A: Allocator> Order<L, A> {
         requires { IsIn place self.old.order }
         ensures { self.new ≡ record self.old { order = moved_last self.old.order place } }
     {
-        let previous = self.nodes[place].standing.previous();
-        let next = self.nodes[place].next;
-        set_next(&mut self.nodes, &mut self.front, previous, next);
-        set_previous(&mut self.nodes, &mut self.back, next, previous);
+        unlink(&mut self.nodes, &mut self.front, &mut self.back, place);
         let last = self.back;
         let end = OptionalPlace::some(place);
         set_next(&mut self.nodes, &mut self.front, last, end);
@@ -30,10 +27,7 @@ impl<L: Copy, A: Allocator> Order<L, A> {
         requires { IsIn place self.old.order }
         ensures { self.new ≡ record self.old { order = moved_first self.old.order place } }
     {
-        let previous = self.nodes[place].standing.previous();
-        let next = self.nodes[place].next;
-        set_next(&mut self.nodes, &mut self.front, previous, next);
-        set_previous(&mut self.nodes, &mut self.back, next, previous);
+        unlink(&mut self.nodes, &mut self.front, &mut self.back, place);
         let first = self.front;
         let end = OptionalPlace::some(place);
         set_previous(&mut self.nodes, &mut self.back, first, end);

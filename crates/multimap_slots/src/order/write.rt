@@ -1,6 +1,6 @@
 //! Writes of single nodes. Each leaves the fields that it doesn't name as they were.
 ghost use Rattle.std.specs.Prelude.{◌≡◌, ◌+◌, ◌<◌, ◌^◌, length, get_or, IfSome, vec_capacity};
-ghost use Rattle.multimap_slots.specs.Private.ListLayout.{SetsNext, SetsPrevious, SetsDetached, Releases, CanClaim, Claims, states};
+ghost use Rattle.multimap_slots.specs.Private.ListLayout.{SetsNext, SetsPrevious, CanUnlink, Unlinks, SetsDetached, Releases, CanClaim, Claims, states};
 ghost use Rattle.multimap_slots.specs.declared.order.node.State.TheVariants.{Listed, Free};
 ghost use Rattle.multimap_slots.specs.Private.Vectors.{Rewrites};
 
@@ -47,6 +47,24 @@ pub(super) fn set_previous<L, A: Allocator>(
         }
         None => *back = to,
     }
+}
+
+/// Ties the places before and behind a listed one to each other.
+#[inline(always)]
+pub(super) fn unlink<L, A: Allocator>(
+    nodes: &mut Vec<Node<L>, A>,
+    front: &mut OptionalPlace,
+    back: &mut OptionalPlace,
+    place: usize,
+)
+    requires { CanUnlink nodes.old.items place }
+    ensures { Rewrites nodes.old nodes.new
+        (λ old new. Unlinks old new front.old front.new back.old back.new place) }
+{
+    let previous = nodes[place].standing.previous();
+    let next = nodes[place].next;
+    set_next(nodes, front, previous, next);
+    set_previous(nodes, back, next, previous);
 }
 
 /// Marks the place as detached.

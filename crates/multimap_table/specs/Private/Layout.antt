@@ -118,6 +118,13 @@ pub record HoldRows (many : ℕ) (given : map.FinMap nat_cmp ℕ) (tags : List �
   pub rows_are : rows_of tags rows ≡ given
   pub lanes : length tags ≡ many
 
+-- the row of the lane is gone, and no other
+pub record LosesRow (tags : List ℕ) (rows : List Row) (lane : ℕ) (tags' : List ℕ)
+    (rows' : List Row) : Type 0 where
+  pub holds : HoldRows (length tags) (map.remove (rows_of tags rows) (row_at rows lane).place)
+      tags' rows'
+  pub counted : length (entries tags' rows') + 1 ≡ length (entries tags rows)
+
 -- the invariant of a table: no lanes, or lanes that hold `len` rows, at most three quarters full
 pub record IsTable (tags : List ℕ) (rows : List Row) (len : ℕ) : Type 0 where
   pub lanes : (length tags ≡ 0) ⊎ IsLaidOut tags rows

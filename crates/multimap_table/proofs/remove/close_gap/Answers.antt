@@ -102,12 +102,12 @@ out : (g : Over) (c : After-loop-group g) → IsErased c.args.tags.now.items c.a
 out g c = let old = c.requires.laid_out in erase_row c.args.tags.now.items c.args.rows.now.items c.args.lane old.unique old.sized.row_each
     c.requires.in_range c.requires.full
 
-pub returns-clause-rows : goal.returns-clause-rows
-returns-clause-rows g c = record {
-  laid_out = laid_out g c;
-  rows_are = c.loop-group.invariant.map ∙ (out g c).map;
-  lanes = c.loop-group.invariant.lanes ∙ search rules;
+pub returns : goal.returns
+returns g c = record {
+  holds = record {
+    laid_out = laid_out g c;
+    rows_are = c.loop-group.invariant.map ∙ (out g c).map;
+    lanes = c.loop-group.invariant.lanes ∙ search rules;
+  };
+  counted = omega (arith, c.loop-group.invariant.counted, (out g c).counted);
 }
-
-pub returns-clause-counted : goal.returns-clause-counted
-returns-clause-counted g c = omega (arith, c.loop-group.invariant.counted, (out g c).counted)

@@ -34,6 +34,6 @@ returns g c =
     closed count (set tags lane 0) rows lane (lane / 16)
     (subst (λ n. IsClosing count (set tags lane 0) rows lane (lane / 16) n) same opening) in
     record {
-      rows = record { laid_out = laid_out; rows_are = out.map; lanes = length-set tags lane 0 };
+      holds = record { laid_out = laid_out; rows_are = out.map; lanes = length-set tags lane 0 };
       counted = out.counted;
     }
