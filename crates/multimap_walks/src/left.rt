@@ -1,10 +1,11 @@
 //! The places of a list that an iterator has left, and its step from either end.
 //!
 //! What an iterator yields for a place is its own.
-ghost use Rattle.std.specs.Prelude.{◌≡◌, ℕ, List, Some, IfSome, IsSome};
+ghost use Rattle.std.specs.Prelude.{◌≡◌, ◌<◌, ◌-◌, ℕ, List, Some, IfSome, IsSome};
 ghost use Rattle.multimap_slots.specs.Lists.{IsIn};
 ghost use Rattle.multimap_slots.specs.Slots.{IsSound};
 ghost use Rattle.multimap_walks.specs.Along.{AreLeft, all_places, neighbour_of, places_left};
+ghost use Rattle.multimap_walks.specs.Ends.{end_place};
 ghost use Rattle.multimap_walks.specs.Walk.{TakesEnd};
 
 use crate::End;
@@ -50,11 +51,7 @@ impl<T, L: Copy, A: Allocator> Ordered for SlotList<T, L, A> {
     ghost is_sound = { IsSound };
 
     fn all(&self) -> ChainEnds {
-        ChainEnds {
-            first: self.front_place().unwrap_or(0),
-            last: self.back_place().unwrap_or(0),
-            length: self.len(),
-        }
+        ChainEnds::of_all(self.front_place(), self.back_place(), self.len())
     }
 
     #[inline(always)]
@@ -72,11 +69,7 @@ impl<T, L: Copy, A: Allocator> Ordered for Tape<T, L, A> {
     ghost is_sound = { λ t. IsSound t.list };
 
     fn all(&self) -> ChainEnds {
-        ChainEnds {
-            first: self.front_place().unwrap_or(0),
-            last: self.back_place().unwrap_or(0),
-            length: self.len(),
-        }
+        ChainEnds::of_all(self.front_place(), self.back_place(), self.len())
     }
 
     #[inline(always)]
@@ -111,11 +104,23 @@ pub fn take<O: Ordered>(end: End, list: &O, left: &mut ChainEnds) -> Option<usiz
         return None;
     }
     let place = left.place_at(end);
-    let neighbour = if left.length == 1 {
+    *left = left.after(end, beyond(end, list, *left));
+    Some(place)
+}
+
+/// The place that is at an end once that there is taken, or any where none is left then. The list is
+/// asked only where one is.
+#[inline(always)]
+fn beyond<O: Ordered>(end: End, list: &O, left: ChainEnds) -> usize
+    requires are_left { AreLeft (O.order list.now) left }
+    requires more { ¬ (left.length ≡ 0) }
+    ensures { 0 < left.length - 1
+        → neighbour_of (O.order list.now) end (end_place end left) ≡ Some result }
+{
+    let place = left.place_at(end);
+    if left.length == 1 {
         place
     } else {
         list.neighbour(end, place)
-    };
-    *left = left.after(end, neighbour);
-    Some(place)
+    }
 }

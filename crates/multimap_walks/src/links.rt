@@ -1,5 +1,5 @@
 //! The links of keys in their slot list, and of values on their tape.
-ghost use Rattle.std.specs.Prelude.{◌≡◌};
+ghost use Rattle.std.specs.Prelude.{◌≡◌, unwrap_or};
 ghost use Rattle.multimap_walks.specs.Ends.{end_place, ends_after, ends_of, step_from};
 
 use crate::End;
@@ -77,6 +77,19 @@ pub struct ChainEnds {
 }
 
 impl ChainEnds {
+    /// The ends of a whole list, from its first and last place and its length.
+    #[inline(always)]
+    pub(crate) fn of_all(first: Option<usize>, last: Option<usize>, length: usize) -> ChainEnds
+        ensures { result
+            ≡ record { first = unwrap_or first 0; last = unwrap_or last 0; length = length } }
+    {
+        ChainEnds {
+            first: first.unwrap_or(0),
+            last: last.unwrap_or(0),
+            length,
+        }
+    }
+
     /// Returns the place at an end.
     ///
     /// # Complexity

@@ -22,11 +22,7 @@ fn all_of<V, A: Allocator>(cells: &SlotCells<'_, V, ValueLink, A>) -> ChainEnds
     ensures can { CanLend cells.now result }
     ensures whole { places_left (lent_slots cells.now).order result ≡ (lent_slots cells.now).order }
 {
-    ChainEnds {
-        first: cells.front_place().unwrap_or(0),
-        last: cells.back_place().unwrap_or(0),
-        length: cells.len(),
-    }
+    ChainEnds::of_all(cells.front_place(), cells.back_place(), cells.len())
 }
 
 /// The place that a step from an end reaches, where there is one and the items of both are left.
@@ -69,6 +65,30 @@ fn rest_after<V, A: Allocator>(
     }
 }
 
+/// Takes the place at an end from those that are left, or returns `None` if none is left.
+#[inline(always)]
+fn pass_end<V, A: Allocator>(
+    end: End,
+    cells: &SlotCells<'_, V, ValueLink, A>,
+    left: &mut ChainEnds,
+) -> Option<usize>
+    requires { CanLend cells.now left.old }
+    ensures can { CanLend cells.now left.new }
+    ensures place { IfSome result (λ place. place ≡ end_place end left.old) }
+    ensures is_left { IfSome result (IsLeft cells.now) }
+    ensures taken { TakesEnd end (λ _. end_place end left.old)
+        (places_left (lent_slots cells.now).order left.old) result
+        (places_left (lent_slots cells.now).order left.new) }
+    ensures count { OneGoes left.old result left.new }
+{
+    if left.length == 0 {
+        return None;
+    }
+    let place = left.place_at(end);
+    *left = rest_after(end, cells, *left);
+    Some(place)
+}
+
 /// Lends the value at an end of those that are left, with its link.
 #[inline(always)]
 fn lend<'map, V, A: Allocator>(
@@ -84,11 +104,7 @@ fn lend<'map, V, A: Allocator>(
         (places_left (lent_slots cells.old).order left.new) }
     ensures count { OneGoes left.old result left.new }
 {
-    if left.length == 0 {
-        return None;
-    }
-    let place = left.place_at(end);
+    let place = pass_end(end, cells, left)?;
     let link = cells.link(place);
-    *left = rest_after(end, cells, *left);
     Some((cells.take(place), link))
 }

@@ -1,9 +1,11 @@
 //! The iterator over one key's values for writing.
-ghost use Rattle.std.specs.Prelude.{◌≡◌};
-ghost use Rattle.multimap_slots.specs.SlotCells.{lent_slots};
+ghost use Rattle.std.specs.Prelude.{◌≡◌, IfSome};
+ghost use Rattle.multimap_slots.specs.SlotCells.{lent_slots, IsLeft};
 ghost use Rattle.multimap_walks.specs.Chained.{places_along};
+ghost use Rattle.multimap_walks.specs.Ends.{end_place};
 ghost use Rattle.multimap_walks.specs.Lending.{PassesEnd};
 ghost use Rattle.multimap_walks.specs.RestWalk.{CanReadChain};
+ghost use Rattle.multimap_walks.specs.Walk.{TakesEnd};
 
 mod methods;
 
@@ -27,9 +29,33 @@ pub struct EntryValuesMut<'map, K, V, A: Allocator = Global> {
     ghost readable: { ∥ CanReadChain values left ∥₁ },
 }
 
+/// Takes the place at an end from those of a key's values that are left, or returns `None` if none
+/// is left.
+#[inline(always)]
+pub(crate) fn pass_end_of_chain<V, A: Allocator>(
+    end: End,
+    cells: &SlotCells<'_, V, ValueLink, A>,
+    left: &mut ChainEnds,
+) -> Option<usize>
+    requires { CanReadChain cells.now left.old }
+    ensures can { CanReadChain cells.now left.new }
+    ensures place { IfSome result (λ place. place ≡ end_place end left.old) }
+    ensures is_left { IfSome result (IsLeft cells.now) }
+    ensures taken { TakesEnd end (λ _. end_place end left.old)
+        (places_along (lent_slots cells.now) left.old.first left.old.length) result
+        (places_along (lent_slots cells.now) left.new.first left.new.length) }
+{
+    if left.length == 0 {
+        return None;
+    }
+    let place = left.place_at(end);
+    *left = chain_after(end, cells, *left);
+    Some(place)
+}
+
 /// The values of a key that are left once that at an end is taken. Its link alone is read.
 #[inline(always)]
-pub(crate) fn chain_after<V, A: Allocator>(
+fn chain_after<V, A: Allocator>(
     end: End,
     cells: &SlotCells<'_, V, ValueLink, A>,
     left: ChainEnds,

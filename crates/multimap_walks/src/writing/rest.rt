@@ -12,7 +12,7 @@ pub(crate) mod chain;
 pub(crate) mod pairs;
 pub(crate) mod values;
 
-use super::rest_after;
+use super::pass_end;
 use crate::End;
 use crate::links::{ChainEnds, ValueLink};
 use multimap_slots::SlotCells;
@@ -33,10 +33,6 @@ fn read<'walk, V, A: Allocator>(
         (places_left (lent_slots cells.now).order left.old) result
         (places_left (lent_slots cells.now).order left.new) }
 {
-    if left.length == 0 {
-        return None;
-    }
-    let place = left.place_at(end);
-    *left = rest_after(end, cells, *left);
+    let place = pass_end(end, cells, left)?;
     Some((cells.read(place), cells.link(place)))
 }

@@ -5,9 +5,9 @@ use Rattle.multimap_walks.proofs.writing.all_of.Goals as goal
 
 pub returns-clause-can : goal.returns-clause-can
 returns-clause-can g c =
-    rw (c.unwrap_or.ensures, c.unwrap_or-2.ensures, c.front_place.ensures, c.back_place.ensures, c.len.ensures)
+    rw (c.of_all.ensures, c.front_place.ensures, c.back_place.ensures, c.len.ensures)
     (all_untaken c.args.cells.now c.requires)
 
 pub returns-clause-whole : goal.returns-clause-whole
 returns-clause-whole g c =
-    rw (c.unwrap_or.ensures, c.front_place.ensures, c.len.ensures) (left_all (lent_slots c.args.cells.now).order c.requires.sound.distinct)
+    rw (c.of_all.ensures, c.front_place.ensures, c.len.ensures) (left_all (lent_slots c.args.cells.now).order c.requires.sound.distinct)

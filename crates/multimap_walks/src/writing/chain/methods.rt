@@ -8,7 +8,7 @@ ghost use Rattle.multimap_walks.specs.Lending.{NoneIsTaken};
 ghost use Rattle.multimap_walks.specs.WritingWalk.{entry_values_mut_cells, entry_values_mut_name, entry_values_mut_positions, entry_values_mut_rest, entry_values_mut_values, LendsFirstOfKey, LendsLastOfKey, LendsOfKey};
 ghost use Rattle.multimap_walks.specs.Walk.{TellsLength};
 
-use super::{EntryValuesMut, chain_after};
+use super::{EntryValuesMut, pass_end_of_chain};
 use crate::End;
 use crate::links::{KeyLink, NO_ENDS, ValueLink};
 use crate::show::show_left;
@@ -130,11 +130,7 @@ impl<'map, K, V, A: Allocator> EntryValuesMut<'map, K, V, A> {
     fn step(&mut self, end: End) -> Option<&'map mut V>
         ensures { LendsOfKey end self.old result self.new }
     {
-        if self.left.length == 0 {
-            return None;
-        }
-        let place = self.left.place_at(end);
-        self.left = chain_after(end, &self.values, self.left);
+        let place = pass_end_of_chain(end, &self.values, &mut self.left)?;
         Some(self.values.take(place))
     }
 }

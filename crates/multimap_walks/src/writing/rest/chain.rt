@@ -8,7 +8,7 @@ ghost use Rattle.multimap_walks.specs.Walk.{TakesEnd, TellsLength};
 use crate::End;
 use crate::links::{ChainEnds, ValueLink};
 use crate::show::show_left;
-use crate::writing::chain::chain_after;
+use crate::writing::chain::pass_end_of_chain;
 use multimap_slots::SlotCells;
 use std::alloc::{AllocError, Allocator, Global};
 use std::fmt;
@@ -66,11 +66,7 @@ impl<'walk, 'map, K, V, A: Allocator> EntryValuesRest<'walk, 'map, K, V, A> {
     fn step(&mut self, end: End) -> Option<&'walk V>
         ensures { TakesEnd end deref self.old result self.new }
     {
-        if self.left.length == 0 {
-            return None;
-        }
-        let place = self.left.place_at(end);
-        self.left = chain_after(end, self.values, self.left);
+        let place = pass_end_of_chain(end, self.values, &mut self.left)?;
         Some(self.values.read(place))
     }
 }
@@ -118,11 +114,7 @@ impl<'walk, 'map, K, V, A: Allocator> Clone for EntryValuesRest<'walk, 'map, K, 
     ghost is_infallible = { λ _. ⊤ };
 
     fn clone(&self) -> Result<EntryValuesRest<'walk, 'map, K, V, A>, AllocError> {
-        Ok(EntryValuesRest {
-            keys: PhantomData,
-            values: self.values,
-            left: self.left,
-        })
+        Ok(EntryValuesRest::new(self.values, self.left))
     }
 }
 

@@ -115,11 +115,7 @@ impl<'walk, 'map, K, V, A: Allocator> Clone for ValuesRest<'walk, 'map, K, V, A>
     ghost is_infallible = { λ _. ⊤ };
 
     fn clone(&self) -> Result<ValuesRest<'walk, 'map, K, V, A>, AllocError> {
-        Ok(ValuesRest {
-            keys: PhantomData,
-            values: self.values,
-            left: self.left,
-        })
+        Ok(ValuesRest::new(self.values, self.left))
     }
 }
 

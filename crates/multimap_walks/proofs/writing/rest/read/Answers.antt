@@ -1,38 +1,16 @@
-use Rattle.std.proofs.Common.{arith}
-use Rattle.multimap_slots.specs.SlotCells.{lent_slots}
-use Rattle.multimap_walks.specs.Along.{places_left}
-use Rattle.multimap_walks.specs.Ends.{end_place}
-use Rattle.multimap_walks.proofs.WritingLemmas.{end_is_left, passed_over}
 use Rattle.multimap_walks.proofs.writing.rest.read.Goals as goal
 
 pub read-requires : goal.read-requires
-read-requires g c =
-    record { left = rw c.place_at-place.ensures (end_is_left c.args.cells.now c.args.left.now (omega arith) c.requires c.args.end) }
+read-requires g c = record { left = c.in_ok-place.ensures.is_left }
 
 pub link-requires : goal.link-requires
-link-requires g c =
-    record { left = rw c.place_at-place.ensures (end_is_left c.args.cells.now c.args.left.now (omega arith) c.requires c.args.end) }
-
-pub returns-clause-can : goal.returns-clause-can
-returns-clause-can g c =
-    let cells = c.args.cells.now in
-    let left = c.args.left.now in
-    let order = (lent_slots cells).order in
-    let step = c.rest_after.ensures in
-    record {
-      sound = c.requires.sound;
-      are_left = step.are_left;
-      untaken =
-          passed_over cells (places_left order left) c.requires.untaken c.args.end (end_place c.args.end left)
-          (places_left order c.rest_after.result)
-          step.taken.places_are;
-    }
+link-requires g c = record { left = c.in_ok-place.ensures.is_left }
 
 pub returns-clause-slot : goal.returns-clause-slot
 returns-clause-slot g c =
-    let is_left = end_is_left c.args.cells.now c.args.left.now (omega arith) c.requires c.args.end in
+    let step = c.in_ok-place.ensures in
     record {
-      listed = is_left.listed;
-      item_is = rw c.place_at-place.ensures at c.read.ensures;
-      link_is = rw c.place_at-place.ensures at c.link.ensures;
+      listed = rw step.place at step.is_left.listed;
+      item_is = rw step.place at c.read.ensures;
+      link_is = rw step.place at c.link.ensures;
     }
