@@ -6,9 +6,6 @@ use Rattle.multimap_walks.proofs.pairs.Iter.step.Goals as goal
 
 pub returns : goal.returns
 returns g c =
-    let i = c.self.inside in
-    let place = c.in_ok-place in
-    let pair = c.pair_of in
     sym c.self.view_is
-    ∙ shows_end (pair_at i.keys.now i.values.now.list) c.args.end _ place.place _
-    (deref_pair pair.result) place.ensures.taken pair.ensures.pair
+    ∙ shows_end (pair_at c.self.inside.keys.now c.self.inside.values.now.list) c.args.end _ c.in_ok-place.place _
+    (deref_pair c.pair_of.result) c.in_ok-place.ensures.taken c.pair_of.ensures.pair
