@@ -9,6 +9,7 @@ pub mod PassedOver
 pub mod Retaining
 pub mod RetainingKey
 pub mod RetainingStep
+pub mod SomePairs
 pub mod ValueByValue
 pub mod WaysOut
 pub mod WholeKeys

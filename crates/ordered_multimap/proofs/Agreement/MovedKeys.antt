@@ -11,12 +11,15 @@ use Rattle.std.specs.FinMap.{FinMap}
 use Rattle.multimap_slots.specs.Lists.{IsIn, without, moved_last, moved_first}
 use Rattle.multimap_slots.specs.Slots.{Slots, item_at}
 use Rattle.multimap_slots.proofs.Callers.MovedPlaces.{IsReordered, moved_last-reordered, moved_first-reordered}
+use Rattle.multimap_walks.specs.declared.End.{End}
+use Rattle.multimap_walks.specs.declared.End.TheVariants.{Front, Back}
 use Rattle.multimap_walks.specs.declared.links.KeyLink.{KeyLink}
 use Rattle.multimap_walks.specs.declared.links.ValueLink.{ValueLink}
 use Rattle.ordered_multimap.specs.Agrees.{Agrees, HasKey, LacksWhere, items_of, lists_of}
 use Rattle.ordered_multimap.specs.Keys.{is_listed}
 use Rattle.ordered_multimap.specs.KeyMoves.{moved_to_back_where, moved_to_front_where}
 use Rattle.ordered_multimap.specs.Lists.{Lists, lists}
+use Rattle.ordered_multimap.specs.Private.KeyMoves.{moved_place, moved_to_end}
 use Rattle.ordered_multimap.proofs.Agreement.Kept.{is_listed-equal}
 use Rattle.ordered_multimap.proofs.Callers.ListedKeys.{any_member, apart_member, IsDistinct-filter}
 use Rattle.ordered_multimap.proofs.Callers.Members.{filter-all, filter-none}
@@ -112,27 +115,36 @@ module _ {K V : Type 0} {eq : K → K → Bool} (laws : IsEquivalence eq) {hash 
     no_other : is_listed eq (filter (λ j. not (eq k j)) (items_of keys)) has.stored ≡ false
     no_other = is_listed-equal laws k has.stored (items_of keys) has.equal
 
-    pub Agrees-last : Agrees eq hash (record keys { order = moved_last keys.order place }) rows values
+    Agrees-last : Agrees eq hash (record keys { order = moved_last keys.order place }) rows values
     Agrees-last =
         Agrees-reordered (moved_last keys.order place)
         (moved_last-reordered keys.order place agrees.keys_sound.distinct has.listed)
         (subst (IsDistinct eq) (sym (items-last ∙ ap (λ js. filter (λ j. not (eq k j)) (items_of keys) ++ js) only))
         (IsDistinct-push laws (filter (λ j. not (eq k j)) (items_of keys)) has.stored distinct-others no_other))
 
-    pub Agrees-first : Agrees eq hash (record keys { order = moved_first keys.order place }) rows values
+    Agrees-first : Agrees eq hash (record keys { order = moved_first keys.order place }) rows values
     Agrees-first =
         Agrees-reordered (moved_first keys.order place)
         (moved_first-reordered keys.order place agrees.keys_sound.distinct has.listed)
         (subst (IsDistinct eq) (sym (items-first ∙ ap (λ js. js ++ filter (λ j. not (eq k j)) (items_of keys)) only))
         (IsDistinct-first laws has.stored (filter (λ j. not (eq k j)) (items_of keys)) no_other distinct-others))
 
-    pub lists_of-last : lists_of (record keys { order = moved_last keys.order place }) values
+    lists_of-last : lists_of (record keys { order = moved_last keys.order place }) values
         ≡ moved_to_back_where (eq k) (lists_of keys values)
     lists_of-last = ap (λ ks. lists ks (lists_of keys values).pairs) items-last
 
-    pub lists_of-first : lists_of (record keys { order = moved_first keys.order place }) values
+    lists_of-first : lists_of (record keys { order = moved_first keys.order place }) values
         ≡ moved_to_front_where (eq k) (lists_of keys values)
     lists_of-first = ap (λ ks. lists ks (lists_of keys values).pairs) items-first
+
+    pub Agrees-moved : (end : End) → Agrees eq hash (record keys { order = moved_place end keys.order place }) rows values
+    Agrees-moved Front = Agrees-first
+    Agrees-moved Back = Agrees-last
+
+    pub lists_of-moved : (end : End)
+        → lists_of (record keys { order = moved_place end keys.order place }) values ≡ moved_to_end end (eq k) (lists_of keys values)
+    lists_of-moved Front = lists_of-first
+    lists_of-moved Back = lists_of-last
 
 -- keys that the lists lack move nowhere
 module _ {K V : Type 0} {eq : K → K → Bool} (accepts : K → Bool) (m : Lists K V) (lacks : LacksWhere accepts eq m) where
@@ -150,12 +162,16 @@ module _ {K V : Type 0} {eq : K → K → Bool} (accepts : K → Bool) (m : List
   all_others : filter (λ k. not (accepts k)) m.keys ≡ m.keys
   all_others = filter-all (λ k. not (accepts k)) m.keys (λ k member. ap not (refused k member))
 
-  pub last-lacking : moved_to_back_where accepts m ≡ m
+  last-lacking : moved_to_back_where accepts m ≡ m
   last-lacking =
       ap (λ ks. lists (ks ++ filter accepts m.keys) m.pairs) all_others
       ∙ ap (λ ks. lists (m.keys ++ ks) m.pairs) no_accepted ∙ ap (λ ks. lists ks m.pairs) (append-nil m.keys)
 
-  pub first-lacking : moved_to_front_where accepts m ≡ m
+  first-lacking : moved_to_front_where accepts m ≡ m
   first-lacking =
       ap (λ ks. lists (ks ++ filter (λ k. not (accepts k)) m.keys) m.pairs) no_accepted
       ∙ ap (λ ks. lists ks m.pairs) all_others
+
+  pub moved-lacking : (end : End) → moved_to_end end accepts m ≡ m
+  moved-lacking Front = first-lacking
+  moved-lacking Back = last-lacking

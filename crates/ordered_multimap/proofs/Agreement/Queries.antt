@@ -11,6 +11,7 @@ use Rattle.multimap_slots.specs.Slots.{Slots, item_at, link_at}
 use Rattle.multimap_walks.specs.declared.links.KeyLink.{KeyLink}
 use Rattle.multimap_walks.specs.declared.links.ValueLink.{ValueLink}
 use Rattle.multimap_walks.specs.Chained.{pairs_of}
+use Rattle.std.specs.Prelude.{find}
 use Rattle.ordered_multimap.specs.Agrees.{Agrees, HasKeyWhere, IsFoundBy, LacksWhere, StandsAt, items_of, lists_of}
 use Rattle.ordered_multimap.specs.Changes.{removed}
 use Rattle.ordered_multimap.specs.Keys.{stored_where}
@@ -111,6 +112,11 @@ module _ {K : Type 0} (eq : K → K → Bool) (accepts : K → Bool) (s : K) (sa
   stored_is keys k listed =
       ap (λ (t : K → Bool). stored_where t keys s) (sym same)
       ∙ sym (ap (λ o. unwrap_or o k) (find_stored accepts s keys listed))
+
+  -- so that is the first one which the query accepts
+  pub found_stored : (keys : List K) → list_any accepts keys ≡ true → {key : K} → key ≡ stored_where (eq s) keys s
+      → Some key ≡ find accepts keys
+  found_stored keys listed is = ap Some (is ∙ stored_is keys s listed) ∙ sym (find_stored accepts s keys listed)
 
   -- and its removal is that of the query
   pub removes_where : {V S : Type 0} {old new : Multimap K V S} → LosesValues eq old new s (removed eq old.lists s) → SameRooms old new

@@ -1,11 +1,11 @@
 -- Pairs that are appended in turn.
-use Rattle.std.proofs.Common.{◌≡◌, ◌≤◌, ◌+◌, Bool, List, [], ◌∷◌, ◌++◌, length, length-append, Ok, Err, refl, ap, ◌∙◌, subst, arith}
+use Rattle.std.proofs.Common.{◌≡◌, ◌≤◌, ◌+◌, Bool, List, [], ◌∷◌, ◌++◌, length, length-append, map, Ok, Err, refl, ap, ◌∙◌, subst, arith}
 use Rattle.std.specs.Iterator.{Count, Yields}
 use Rattle.std.proofs.lemmas.List.{map-id}
 use Rattle.std.specs.Prelude.{IsOk, Option, Result}
 use Rattle.ordered_multimap.specs.Lists.{Lists}
 use Rattle.ordered_multimap.specs.Changes.{appended, all_appended}
-use Rattle.ordered_multimap.specs.Extends.{AppendsAll, Extends, GrowsForAll, GrowsForPairs}
+use Rattle.ordered_multimap.specs.Extends.{AppendsAll, Extends, ExtendsInRoom, GrowsForAll, GrowsForPairs}
 use Rattle.ordered_multimap.specs.Private.Extends.{AppendsPairsOf}
 use Rattle.ordered_multimap.specs.declared.list_ordered_multimap.refused.Refused.{Refused}
 use Rattle.ordered_multimap.specs.Keys.{stored_key}
@@ -74,6 +74,17 @@ Yields-before steps s [] x t given = (s, refl)
 Yields-before steps s (y ∷ ys) x t given = let rest = Yields-before steps given.0 ys x t given.2 in (rest.0, (given.0, given.1, rest.1))
 
 -- items that are their own pairs were appended: so these pairs were
+pub extends_in_room-own : {K V S I T E : Type 0} (eq : K → K → Bool) {becomes : I → T → Type 0} {steps : T → Option (K × V) → T → Type 0}
+    {left : T → Count} {iter : I} {old new : Multimap K V S} {r : Result (Unit {0}) E}
+    → ExtendsInRoom becomes steps left (λ m items n. AppendsAll eq m (map (λ pair. pair) items) n) iter old new r
+    → ExtendsInRoom becomes steps left (AppendsAll eq) iter old new r
+extends_in_room-own eq {old = old} {new = new} e =
+    let ran = e.ran in
+    record {
+      ran = (ran.0, ran.1, ran.2, subst (λ pairs. AppendsAll eq old pairs new) (map-id ran.1) ran.3, ran.4);
+      grows = e.grows;
+    }
+
 module _ {K V I T : Type 0} (eq : K → K → Bool) (becomes : I → T → Type 0) (steps : T → Option (K × V) → T → Type 0) where
   pub extends-own : {iter : I} {old new : Lists K V} (r : Result (Unit {0}) (Refused K V))
       → AppendsPairsOf (λ pair. pair) eq becomes steps iter old new r → Extends eq becomes steps iter old new r

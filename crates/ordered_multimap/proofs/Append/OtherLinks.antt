@@ -9,41 +9,13 @@ use Rattle.multimap_walks.specs.declared.links.KeyLink.{KeyLink}
 use Rattle.multimap_walks.specs.declared.links.ValueLink.{ValueLink}
 use Rattle.multimap_walks.specs.Chained.{is_value_of, chain_of}
 use Rattle.ordered_multimap.specs.Private.Relocations.{AreChained}
-use Rattle.ordered_multimap.proofs.Agreement.Agreed.{is_value_of-is, value_owner}
+use Rattle.ordered_multimap.proofs.Agreement.Agreed.{is_value_of-is}
 use Rattle.ordered_multimap.proofs.Callers.Members.{IsIn-kept}
-use Rattle.ordered_multimap.proofs.Callers.Places.{AreDistinct-filter, last_of-member}
+use Rattle.ordered_multimap.proofs.Callers.Places.{last_of-member}
 use Rattle.ordered_multimap.proofs.Chains.LongerLists.{no_last}
-use Rattle.ordered_multimap.proofs.Chains.Neighbours.{first_of-member, next_is, next_of-members, previous_is, previous_of-members}
+use Rattle.ordered_multimap.proofs.Chains.Neighbours.{first_of-member}
 
 module _ {K V : Type 0} {keys : Slots K KeyLink} {values : Slots V ValueLink} (chains : AreChained keys values) where
-  -- two neighbours in a chain name each other, and the same key
-  pub by_next : (p q : ℕ) (l m : ValueLink) → IsIn p values.order → link_at values p ≡ Some l → l.next ≡ Some q → link_at values q ≡ Some m
-      → (m.previous ≡ Some p) × (m.key ≡ l.key)
-  by_next p q l m listed link_is next_is other_is =
-      let own : ℕ → Bool = is_value_of values l.key in
-      let next : next_of (chain_of values l.key) p ≡ Some q = chains.chained.next p l listed link_is ∙ next_is in
-      let kept = IsIn-kept own q values.order (next_of-members (chain_of values l.key) p q next).1 in
-      let same = value_owner keys values l.key q m other_is kept.1 in
-      let distinct = AreDistinct-filter own values.order chains.sound.distinct in (
-        sym (chains.chained.previous q m kept.0 other_is) ∙ ap (λ k. previous_of (chain_of values k) q) same
-            ∙ previous_is (chain_of values l.key) distinct p q next,
-        same,
-      )
-
-  pub by_previous : (p q : ℕ) (l m : ValueLink) → IsIn q values.order → link_at values q ≡ Some m → m.previous ≡ Some p
-      → link_at values p ≡ Some l
-      → (l.next ≡ Some q) × (m.key ≡ l.key)
-  by_previous p q l m listed other_is before link_is =
-      let own : ℕ → Bool = is_value_of values m.key in
-      let previous : previous_of (chain_of values m.key) q ≡ Some p = chains.chained.previous q m listed other_is ∙ before in
-      let kept = IsIn-kept own p values.order (previous_of-members (chain_of values m.key) q p previous).1 in
-      let same = value_owner keys values m.key p l link_is kept.1 in
-      let distinct = AreDistinct-filter own values.order chains.sound.distinct in (
-        sym (chains.chained.next p l kept.0 link_is) ∙ ap (λ k. next_of (chain_of values k) p) same
-            ∙ next_is (chain_of values m.key) distinct p q previous,
-        sym same,
-      )
-
   module _ (taken : List ℕ) (p : ℕ) (rest : List ℕ) (order : values.order ≡ taken ++ p ∷ rest) where
     pub gone : IsIn p (taken ++ rest) → ⊥
     gone = AreDistinct-gone taken p rest (subst AreDistinct order chains.sound.distinct)

@@ -21,6 +21,7 @@ use Rattle.ordered_multimap.proofs.Append.Extended.{all_appended-push}
 use Rattle.ordered_multimap.proofs.Append.OtherFront as front_pair
 use Rattle.ordered_multimap.proofs.Append.OtherFront.{AppendsPair, same_some}
 use Rattle.ordered_multimap.proofs.Append.OtherLinks as links
+use Rattle.ordered_multimap.proofs.Chains.Named.{by_next, by_previous}
 use Rattle.ordered_multimap.proofs.Append.OtherMap.{HasLinkLeft, IsAppending}
 
 no_parts : {X : Type 0} (xs ys : List X) → xs ++ ys ≡ [] → (xs ≡ []) × (ys ≡ [])
@@ -64,7 +65,7 @@ module _ {K V S : Type 0} {eq : K → K → Bool} {old : Multimap K V S} {keys :
   link_kept : (q : ℕ) (l : ValueLink) → IsIn q rest → link_at values.list q ≡ Some l → l.previous ≢ Some p
       → link_at after.list q ≡ link_at values_now.list q
   link_kept q l i is other =
-      writes.others q (λ e. other (links.by_next chains p q at.link l (links.listed_here chains w.taken p rest order) at.link_is
+      writes.others q (λ e. other (by_next chains.sound chains.chained p q at.link l (links.listed_here chains w.taken p rest order) at.link_is
       (sym same_next ∙ e) is).0)
       ∙ link_mid q i
 
@@ -90,14 +91,14 @@ module _ {K V S : Type 0} {eq : K → K → Bool} {old : Multimap K V S} {keys :
           | inr last ↦ elim last [
             | inl here ↦
                 let previous : l.previous ≡ Some p = e ∙ ap Some here in
-                let next = links.by_previous chains p q at.link l (links.listed_behind chains w.taken p rest order q i) is previous
-                at.link_is in
+                let next = by_previous chains.sound chains.chained q p l at.link (links.listed_behind chains w.taken p rest order q i) is
+                previous at.link_is in
                 record {
                   place = place;
                   link_is = writes.here q l (same_next ∙ next.0) (link_mid q i ∙ was.waits (λ s some taken.
                       links.taken_other chains w.taken p rest order s taken (same_some s p (sym some ∙ previous))));
                   stands = λ k key_is. subst (λ j. HasKey eq new.slots.keys j place)
-                      (same_some at.key k (sym at.key_is ∙ ap (item_at keys) (sym next.1) ∙ key_is)) pair.found;
+                      (same_some at.key k (sym at.key_is ∙ ap (item_at keys) next.1 ∙ key_is)) pair.found;
                 }
             | inr none ↦ absurd none
           ]

@@ -12,6 +12,7 @@ use Rattle.multimap_slots.proofs.Callers.PlaceLists.{AreDistinct-gone, IsIn-left
 use Rattle.multimap_walks.specs.declared.links.KeyLink.{KeyLink}
 use Rattle.multimap_walks.specs.declared.links.ValueLink.{ValueLink}
 use Rattle.multimap_walks.specs.Chained.{IsChained, position_in, is_value_of, chain_of}
+use Rattle.ordered_multimap.specs.Private.RemoveOne.{HasLinks}
 use Rattle.ordered_multimap.specs.RemovedAt.{several}
 use Rattle.ordered_multimap.proofs.Agreement.Agreed.{value_owner}
 use Rattle.ordered_multimap.proofs.Callers.Members.{IsIn-kept}
@@ -123,6 +124,17 @@ module _ {V : Type 0} (values : Slots V ValueLink) (key i p : ℕ) (at : slice_g
 
   pub indexed_owner : {K : Type 0} (keys : Slots K KeyLink) (m : ValueLink) → link_at values p ≡ Some m → m.key ≡ key
   indexed_owner keys m is = value_owner keys values key p m is of_key.1
+
+  -- the links there, of the value and of its key
+  pub indexed_links : {K : Type 0} (keys : Slots K KeyLink) (m : ValueLink) (l : KeyLink) → link_at values p ≡ Some m
+      → link_at keys key ≡ Some l → IsSound values → IsChained keys values → HasLinks keys values p m l
+  indexed_links keys m l is key_is sound chained = record {
+    listed = indexed_listed;
+    link_is = is;
+    key_link_is = ap (link_at keys) (indexed_owner keys m is) ∙ key_is;
+    sound = sound;
+    chained = chained;
+  }
 
 module _ {K V : Type 0} {keys : Slots K KeyLink} {values : Slots V ValueLink} (sound : IsSound values) (chained : IsChained keys values)
     (key : ℕ) where

@@ -76,15 +76,15 @@ module _ {K V : Type 0} {key_clone : K → K → Type 0} {value_clone : V → V 
   OfValue = CameFrom (IsValueCopy value_clone c.name c.rank values) c.rank values.order value_copies
 
   key_link_is : (place : ℕ) (l : KeyLink) (w : OfKey place) → link_at copies place ≡ Some l
-      → l ≡ record (relocated_key c.rank w.stands.key_link) { hash = hash_after w.stands.copy }
+      → l ≡ record (relocated_key c.rank w.stands.original_link) { hash = hash_after w.stands.copy }
   key_link_is place l w is =
-      let both : Some l ≡ Some (record (relocated_key c.rank w.stands.key_link) { hash = hash_after w.stands.copy })
+      let both : Some l ≡ Some (record (relocated_key c.rank w.stands.original_link) { hash = hash_after w.stands.copy })
       = sym is ∙ w.stands.link_is in cc
 
   value_link_is : (place : ℕ) (l : ValueLink) (w : OfValue place) → link_at value_copies place ≡ Some l
-      → l ≡ with_new_key c.name (relocated_value c.rank w.stands.value_link)
+      → l ≡ with_new_key c.name (relocated_value c.rank w.stands.original_link)
   value_link_is place l w is =
-      let both : Some l ≡ Some (with_new_key c.name (relocated_value c.rank w.stands.value_link)) = sym is ∙ w.stands.link_is in cc
+      let both : Some l ≡ Some (with_new_key c.name (relocated_value c.rank w.stands.original_link)) = sym is ∙ w.stands.link_is in cc
 
   same_name : (p q : ℕ) → IsIn p keys.order → IsIn q keys.order → (c.name p == c.name q) ≡ (p == q)
   same_name p q i j = elim (cases_eq p q) [
@@ -97,9 +97,9 @@ module _ {K V : Type 0} {key_clone : K → K → Type 0} {value_clone : V → V 
       → is_value_of value_copies (c.name key) (c.rank q) ≡ is_value_of values key q
   same_owner key there q listed =
       let s = c.values_copied.slots q listed in
-      is_value_of-is copies value_copies (c.name key) (c.rank q) (with_new_key c.name (relocated_value c.rank s.value_link)) s.link_is
-      ∙ same_name s.value_link.key key (agrees.chained.owned q s.value_link listed s.link_was) there
-      ∙ sym (is_value_of-is keys values key q s.value_link s.link_was)
+      is_value_of-is copies value_copies (c.name key) (c.rank q) (with_new_key c.name (relocated_value c.rank s.original_link)) s.link_is
+      ∙ same_name s.original_link.key key (agrees.chained.owned q s.original_link listed s.link_was) there
+      ∙ sym (is_value_of-is keys values key q s.original_link s.link_was)
 
   chain : (key : ℕ) → IsIn key keys.order → chain_of value_copies (c.name key) ≡ map c.rank (chain_of values key)
   chain key there =
@@ -109,13 +109,13 @@ module _ {K V : Type 0} {key_clone : K → K → Type 0} {value_clone : V → V 
   chain_at : (place : ℕ) (w : OfKey place) → chain_of value_copies place ≡ map c.rank (chain_of values w.old)
   chain_at place w = ap (chain_of value_copies) w.place_is ∙ chain w.old w.old_listed
 
-  owner : (place : ℕ) (w : OfValue place) → IsIn w.stands.value_link.key keys.order
-  owner place w = agrees.chained.owned w.old w.stands.value_link w.old_listed w.stands.link_was
+  owner : (place : ℕ) (w : OfValue place) → IsIn w.stands.original_link.key keys.order
+  owner place w = agrees.chained.owned w.old w.stands.original_link w.old_listed w.stands.link_was
 
   chain_by : (place : ℕ) (l : ValueLink) (w : OfValue place) → link_at value_copies place ≡ Some l
-      → chain_of value_copies l.key ≡ map c.rank (chain_of values w.stands.value_link.key)
+      → chain_of value_copies l.key ≡ map c.rank (chain_of values w.stands.original_link.key)
   chain_by place l w is = ap (λ (x : ValueLink). chain_of value_copies x.key) (value_link_is place l w is)
-      ∙ chain w.stands.value_link.key (owner place w)
+      ∙ chain w.stands.original_link.key (owner place w)
 
   told : (key q : ℕ) → IsIn q values.order → IsTold c.rank (chain_of values key) q
   told key q listed p i = c.values_copied.apart p q (IsIn-kept (is_value_of values key) p values.order i).0 listed
@@ -128,8 +128,8 @@ module _ {K V : Type 0} {key_clone : K → K → Type 0} {value_clone : V → V 
   at_end of end of-map end_is was key l listed is =
       let w = came_from c.keys_copied key listed in
       ap of (chain_at key w) ∙ of-map (chain_of values w.old)
-      ∙ ap (option_map c.rank) (was w.old w.stands.key_link w.old_listed w.stands.link_was)
-      ∙ ap Some (sym (end_is w.stands.key_link (hash_after w.stands.copy)))
+      ∙ ap (option_map c.rank) (was w.old w.stands.original_link w.old_listed w.stands.link_was)
+      ∙ ap Some (sym (end_is w.stands.original_link (hash_after w.stands.copy)))
       ∙ ap (λ (x : KeyLink). Some (end x)) (sym (key_link_is key l w is))
 
   beside : (of : List ℕ → ℕ → Option ℕ) (side : ValueLink → Option ℕ)
@@ -140,7 +140,7 @@ module _ {K V : Type 0} {key_clone : K → K → Type 0} {value_clone : V → V 
       → of (chain_of value_copies l.key) place ≡ side l
   beside of side of-map side_is was place l listed is =
       let w = came_from c.values_copied place listed in
-      let s = w.stands.value_link in
+      let s = w.stands.original_link in
       (λ i. of (chain_by place l w is i) (w.place_is i))
       ∙ of-map (chain_of values s.key) w.old (told s.key w.old w.old_listed)
       ∙ ap (option_map c.rank) (was w.old s w.old_listed w.stands.link_was)
@@ -151,14 +151,14 @@ module _ {K V : Type 0} {key_clone : K → K → Type 0} {value_clone : V → V 
     owned = λ place l listed is.
         let w = came_from c.values_copied place listed in
         subst (λ q. IsIn q copies.order) (sym (ap (λ (x : ValueLink). x.key) (value_link_is place l w is)))
-        (subst (IsIn (c.name w.stands.value_link.key)) (sym c.keys_copied.order)
-        (IsIn-name c.name w.stands.value_link.key keys.order (owner place w)));
+        (subst (IsIn (c.name w.stands.original_link.key)) (sym c.keys_copied.order)
+        (IsIn-name c.name w.stands.original_link.key keys.order (owner place w)));
     head = at_end first_of (λ l. l.head) (first_of-map c.rank) (λ l hash. refl) agrees.chained.head;
     tail = at_end last_of (λ l. l.tail) (last_or-map c.rank None) (λ l hash. refl) agrees.chained.tail;
     length = λ key l listed is.
         let w = came_from c.keys_copied key listed in
         ap length (chain_at key w) ∙ length-map (chain_of values w.old) c.rank
-        ∙ agrees.chained.length w.old w.stands.key_link w.old_listed w.stands.link_was
+        ∙ agrees.chained.length w.old w.stands.original_link w.old_listed w.stands.link_was
         ∙ ap (λ (x : KeyLink). x.length) (sym (key_link_is key l w is));
     previous = beside previous_of (λ l. l.previous) (previous_of-map c.rank) (λ l. refl) agrees.chained.previous;
     next = beside next_of (λ l. l.next) (next_of-map c.rank) (λ l. refl) agrees.chained.next;
@@ -167,14 +167,14 @@ module _ {K V : Type 0} {key_clone : K → K → Type 0} {value_clone : V → V 
   module _ (laws : IsEquivalence eq) (equal : (k d : K) → IsIn k (items_of keys) → key_clone k d → eq k d ≡ true) where
     key_clone_at : (q : ℕ) → IsIn q keys.order → (s : IsKeyCopy key_clone hash_after c.rank keys q (item_at copies (c.name q))
         (link_at copies (c.name q)))
-        → IsKeyClone eq key_clone s.key s.copy
-    key_clone_at q listed s = (s.cloned, equal s.key s.copy (IsIn-filter_map (item_at keys) q s.key keys.order listed s.was) s.cloned)
+        → IsKeyClone eq key_clone s.original s.copy
+    key_clone_at q listed s = (s.cloned, equal s.original s.copy (IsIn-filter_map (item_at keys) q s.original keys.order listed s.was) s.cloned)
 
     key_clones : AllZip (IsKeyClone eq key_clone) (items_of keys) (items_of copies)
     key_clones = subst (λ ps. AllZip (IsKeyClone eq key_clone) (items_of keys) (filter_map (item_at copies) ps)) (sym c.keys_copied.order)
         (all_related (IsKeyClone eq key_clone) (item_at keys) (item_at copies) c.name keys.order (λ q listed.
         let s = c.keys_copied.slots q listed in
-        record { first = s.key; second = s.copy; first_is = s.was; second_is = s.item_is; related = key_clone_at q listed s }))
+        record { first = s.original; second = s.copy; first_is = s.was; second_is = s.item_is; related = key_clone_at q listed s }))
 
     pair_clones : AllZip (IsPairClone eq key_clone value_clone) (pairs_of keys values) (pairs_of copies value_copies)
     pair_clones = subst
@@ -183,15 +183,15 @@ module _ {K V : Type 0} {key_clone : K → K → Type 0} {value_clone : V → V 
         (all_related (IsPairClone eq key_clone value_clone) (pair_at keys values) (pair_at copies value_copies) c.rank values.order
         (λ q listed.
         let s = c.values_copied.slots q listed in
-        let there = agrees.chained.owned q s.value_link listed s.link_was in
-        let k = c.keys_copied.slots s.value_link.key there in
+        let there = agrees.chained.owned q s.original_link listed s.link_was in
+        let k = c.keys_copied.slots s.original_link.key there in
         record {
-          first = (k.key, s.value);
+          first = (k.original, s.original);
           second = (k.copy, s.copy);
-          first_is = pair_at-is keys values q s.value_link k.key s.value s.link_was k.was s.was;
-          second_is = pair_at-is copies value_copies (c.rank q) (with_new_key c.name (relocated_value c.rank s.value_link)) k.copy s.copy
+          first_is = pair_at-is keys values q s.original_link k.original s.original s.link_was k.was s.was;
+          second_is = pair_at-is copies value_copies (c.rank q) (with_new_key c.name (relocated_value c.rank s.original_link)) k.copy s.copy
               s.link_is k.item_is s.item_is;
-          related = (key_clone_at s.value_link.key there k, s.cloned);
+          related = (key_clone_at s.original_link.key there k, s.cloned);
         }))
 
     pub lists_cloned : AreClones eq key_clone value_clone (lists_of keys values) (lists_of copies value_copies)

@@ -14,7 +14,8 @@ use Rattle.ordered_multimap.proofs.Callers.Members.{IsIn-kept}
 use Rattle.ordered_multimap.proofs.Callers.Places.{begins, AreDistinct-filter, last_of-member}
 use Rattle.ordered_multimap.proofs.Agreement.Agreed.{is_value_of-is}
 use Rattle.ordered_multimap.proofs.Chains.LongerLists.{cases_some}
-use Rattle.ordered_multimap.proofs.Chains.Neighbours.{next_of-members, previous_of-members, next_is, previous_is, no_cycle}
+use Rattle.ordered_multimap.proofs.Chains.Named.{by_next, by_previous}
+use Rattle.ordered_multimap.proofs.Chains.Neighbours.{next_is, no_cycle}
 
 -- the value at a place has gone to another, and the links that named its place name the new one
 pub record MovesValue {K V : Type 0} (keys keys_after : Slots K KeyLink)
@@ -85,32 +86,17 @@ module _ {K V : Type 0} {keys keys_after : Slots K KeyLink} {values values_after
 
   -- whose link names the place as the next one stands before it, and so behind
   names_next : (q : ℕ) (n : ValueLink) → IsIn q values.order → link_at values q ≡ Some n → n.next ≡ Some from → l.previous ≡ Some q
-  names_next q n listed is e =
-      let follows = chained.next q n listed is ∙ e in
-      let own = owner n.key from l m.had (next_of-members (chain_of values n.key) q from follows).1 in
-      sym previous_was ∙ ap (λ k. previous_of (chain_of values k) from) own
-      ∙ previous_is (chain_of values n.key) (chain_distinct n.key) q from follows
+  names_next q n listed is e = (by_next values_sound chained q from n l listed is e m.had).0
 
   names_previous : (q : ℕ) (n : ValueLink) → IsIn q values.order → link_at values q ≡ Some n → n.previous ≡ Some from → l.next ≡ Some q
-  names_previous q n listed is e =
-      let precedes = chained.previous q n listed is ∙ e in
-      let own = owner n.key from l m.had (previous_of-members (chain_of values n.key) q from precedes).1 in
-      sym next_was ∙ ap (λ k. next_of (chain_of values k) from) own ∙ next_is (chain_of values n.key) (chain_distinct n.key) from q precedes
+  names_previous q n listed is e = (by_previous values_sound chained q from n l listed is e m.had).0
 
   -- and the neighbours' links do name it
-  before_names : (q : ℕ) (n : ValueLink) → IsIn q values.order → link_at values q ≡ Some n → l.previous ≡ Some q → n.next ≡ Some from
-  before_names q n listed is e =
-      let precedes = previous_was ∙ e in
-      let own = owner l.key q n is (previous_of-members (chain_of values l.key) from q precedes).1 in
-      sym (chained.next q n listed is) ∙ ap (λ k. next_of (chain_of values k) q) own
-      ∙ next_is (chain_of values l.key) (chain_distinct l.key) q from precedes
+  before_names : (q : ℕ) (n : ValueLink) → link_at values q ≡ Some n → l.previous ≡ Some q → n.next ≡ Some from
+  before_names q n is e = (by_previous values_sound chained from q l n m.was_listed m.had e is).0
 
-  behind_names : (q : ℕ) (n : ValueLink) → IsIn q values.order → link_at values q ≡ Some n → l.next ≡ Some q → n.previous ≡ Some from
-  behind_names q n listed is e =
-      let follows = next_was ∙ e in
-      let own = owner l.key q n is (next_of-members (chain_of values l.key) from q follows).1 in
-      sym (chained.previous q n listed is) ∙ ap (λ k. previous_of (chain_of values k) q) own
-      ∙ previous_is (chain_of values l.key) (chain_distinct l.key) from q follows
+  behind_names : (q : ℕ) (n : ValueLink) → link_at values q ≡ Some n → l.next ≡ Some q → n.previous ≡ Some from
+  behind_names q n is e = (by_next values_sound chained from q l n m.was_listed m.had e is).0
 
   -- no place is behind itself, and no two are behind each other
   not_both : (q : ℕ) → l.previous ≡ Some q → l.next ≢ Some q
@@ -148,12 +134,12 @@ module _ {K V : Type 0} {keys keys_after : Slots K KeyLink} {values values_after
           m.before q n back is
           ∙ sym (ap (λ o. Some (record n { previous = o; next = option_map (relocated from to) n.next }))
           (relocated-option from to n.previous (λ e. other (names_previous q n listed is e)))
-          ∙ ap (λ o. Some (record n { next = o })) (relocated-option_from from to n.next (before_names q n listed is back)))
+          ∙ ap (λ o. Some (record n { next = o })) (relocated-option_from from to n.next (before_names q n is back)))
       elsewhere q n listed is differs (inr other) (inl forth) =
           m.behind q n forth is
           ∙ sym (ap (λ o. Some (record n { previous = option_map (relocated from to) n.previous; next = o }))
           (relocated-option from to n.next (λ e. other (names_next q n listed is e)))
-          ∙ ap (λ o. Some (record n { previous = o })) (relocated-option_from from to n.previous (behind_names q n listed is forth)))
+          ∙ ap (λ o. Some (record n { previous = o })) (relocated-option_from from to n.previous (behind_names q n is forth)))
       elsewhere q n listed is differs (inr no_back) (inr no_forth) =
           m.others q differs (to_other q listed) no_back no_forth ∙ is
           ∙ sym (ap (λ o. Some (record n { previous = o; next = option_map (relocated from to) n.next }))

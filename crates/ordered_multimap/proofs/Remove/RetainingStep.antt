@@ -1,5 +1,5 @@
 -- One step of a pass over the pairs: the pair at the place is asked for, and stays or leaves.
-use Rattle.std.proofs.Common.{◌≡◌, ◌<◌, ◌≤◌, ◌+◌, ℕ, Bool, true, false, length, Option, Some, sym, ap, ◌∙◌, subst, arith, refl}
+use Rattle.std.proofs.Common.{◌≡◌, ◌<◌, ◌≤◌, ◌+◌, ◌-◌, ℕ, Bool, true, false, length, Option, Some, sym, ap, ◌∙◌, subst, arith, refl}
 use Rattle.std.specs.Cmp.{IsEquivalence}
 use Rattle.std.specs.Ordering.{nat_cmp}
 use Rattle.std.specs.FinMap.{FinMap}
@@ -10,10 +10,12 @@ use Rattle.multimap_table.specs.Table.{Table}
 use Rattle.multimap_walks.specs.declared.links.KeyLink.{KeyLink}
 use Rattle.multimap_walks.specs.declared.links.ValueLink.{ValueLink}
 use Rattle.ordered_multimap.specs.Agrees.{Agrees}
-use Rattle.ordered_multimap.specs.Private.RemoveOne.{TakesPair}
+use Rattle.ordered_multimap.specs.Private.RemoveOne.{HasLinks, HasPair, TakesPair}
 use Rattle.ordered_multimap.specs.Private.Retain.{Asks, RetainsAt, StaysIf}
+use Rattle.ordered_multimap.specs.TapeNumbers.{TakesOut, numbers_of}
 use Rattle.ordered_multimap.proofs.Agreement.Agreed.{pair_at-is}
 use Rattle.ordered_multimap.proofs.Callers.Places.{places_from}
+use Rattle.ordered_multimap.proofs.Callers.Writes.{IsChained-with_item, IsSound-with_item}
 use Rattle.ordered_multimap.proofs.Remove.OnePair.{leaves_at}
 use Rattle.ordered_multimap.proofs.Remove.Retaining.{IsRetaining, Continues, Turned, continues, turned_stays, turned_leaves}
 use Rattle.ordered_multimap.proofs.Remove.Retaining.{listed_place, one_fewer, places_from-rest}
@@ -50,6 +52,35 @@ pub record CountsLeft {V : Type 0} (values values_after : Taped V ValueLink) : T
   pub freed : values_after.freed + length values_after.list.order ≡ values.freed + length values.list.order
   pub holes : values_after.holes + length values_after.list.order ≡ values.holes + length values.list.order
   pub fewer : length values_after.list.order ≤ length values.list.order
+
+pub none_left : {V : Type 0} {values : Taped V ValueLink} → CountsLeft values values
+none_left = record { moved = refl; freed = refl; holes = refl; fewer = omega arith }
+
+pub more_left : {V : Type 0} {old now new : Taped V ValueLink} → CountsLeft old now → CountsLeft now new → CountsLeft old new
+more_left was is = record {
+  moved = is.moved ∙ was.moved;
+  freed = is.freed ∙ was.freed;
+  holes = is.holes ∙ was.holes;
+  fewer = omega (arith, is.fewer, was.fewer);
+}
+
+pub all_counted : {V : Type 0} {old new : Taped V ValueLink} → CountsLeft old new
+    → TakesOut (length old.list.order - length new.list.order) (numbers_of old) (numbers_of new)
+all_counted left = record { freed = omega (arith, left.freed, left.fewer); paid = omega (arith, left.moved, left.holes, left.fewer) }
+
+-- the links of a pair that was asked for, once its value is written
+pub asked_links : {F K V : Type 0} {calls : F → K → V → Bool → V → F → Type 0} {keys : Slots K KeyLink} {rows : FinMap nat_cmp ℕ}
+    {values asked : Taped V ValueLink} {place : ℕ} {f g : F} {b : Bool} {link : ValueLink} {key_link : KeyLink}
+    → HasPair keys rows values.list place → Asks calls keys values asked place f b g → link_at values.list place ≡ Some link
+    → link_at keys link.key ≡ Some key_link → HasLinks keys asked.list place link key_link
+asked_links {keys = keys} {place = place} {link = link} {key_link = key_link} s asked is key_is =
+    subst (λ vs. HasLinks keys vs place link key_link) (sym (ap (λ t. t.list) asked.written)) (record {
+      listed = s.listed;
+      link_is = is;
+      key_link_is = key_is;
+      sound = IsSound-with_item s.sound place s.listed asked.left;
+      chained = IsChained-with_item s.chained place asked.left;
+    })
 
 module _ {F K V : Type 0} {eq : K → K → Bool} {calls : F → K → V → Bool → V → F → Type 0} {accepts : F → K → V → Type 0}
     {old_keys : Slots K KeyLink} {old_rows : FinMap nat_cmp ℕ} {old_values : Slots V ValueLink} {first : F}

@@ -1,16 +1,19 @@
 -- Clones of keys and values in new storage, in the order of the originals. No public clause cites
 -- this module.
-use Rattle.std.specs.Prelude.{◌≡◌, ℕ, List, set, Option, Some}
+use Rattle.std.specs.Prelude.{◌≡◌, ◌≤◌, ◌/◌, ℕ, List, set, length, Option, Some}
 use Rattle.std.specs.Ordering.{nat_cmp}
 use Rattle.std.specs.FinMap.{FinMap, insert}
 use Rattle.multimap_slots.specs.Lists.{IsIn}
 use Rattle.multimap_slots.specs.Slots.{Slots, IsSound, PushesBack, item_at, link_at}
+use Rattle.multimap_slots.specs.Tapes.{Taped}
+use Rattle.multimap_table.specs.Table.{Table}
 use Rattle.multimap_walks.specs.declared.links.KeyLink.{KeyLink}
 use Rattle.multimap_walks.specs.declared.links.ValueLink.{ValueLink}
 use Rattle.multimap_walks.specs.Chained.{position_in}
 use Rattle.ordered_multimap.specs.Private.KeyRelocations.{HasRows, HaveNewPlaces}
 use Rattle.ordered_multimap.specs.Private.KeyRelocations.{with_new_key}
 use Rattle.ordered_multimap.specs.Private.Relocations.{relocated_key, relocated_value}
+use Rattle.ordered_multimap.specs.TapeNumbers.{AreUnused, numbers_of}
 
 -- each place of the order has its rank: how many places stand before it
 pub record AreRanks (order : List ℕ) (has_rank : ℕ → Type 0) (rank : ℕ → ℕ) : Type 0 where
@@ -27,18 +30,23 @@ pub record HasRankedNeighbours (has_rank : ℕ → Type 0) (link : ValueLink) : 
   pub previous : (q : ℕ) → link.previous ≡ Some q → has_rank q
   pub next : (q : ℕ) → link.next ≡ Some q → has_rank q
 
+-- a clone of the item at the place, and its link, made of the clone and of the link of that item
+pub record IsCopy {T L : Type 0} (is_clone : T → T → Type 0) (slots : Slots T L)
+    (new_link : T → L → L) (place : ℕ) (item : Option T) (link : Option L) : Type 0 where
+  pub original : T
+  pub original_link : L
+  pub copy : T
+  pub was : item_at slots place ≡ Some original
+  pub link_was : link_at slots place ≡ Some original_link
+  pub cloned : is_clone original copy
+  pub item_is : item ≡ Some copy
+  pub link_is : link ≡ Some (new_link copy original_link)
+
 module _ {K : Type 0} (is_clone : K → K → Type 0) (hash : K → ℕ) (rank : ℕ → ℕ)
     (keys : Slots K KeyLink) where
   -- a clone of the key at the place, and its link with the clone's hash and with ranks for places
-  pub record IsKeyCopy (place : ℕ) (item : Option K) (link : Option KeyLink) : Type 0 where
-    pub key : K
-    pub key_link : KeyLink
-    pub copy : K
-    pub was : item_at keys place ≡ Some key
-    pub link_was : link_at keys place ≡ Some key_link
-    pub cloned : is_clone key copy
-    pub item_is : item ≡ Some copy
-    pub link_is : link ≡ Some (record (relocated_key rank key_link) { hash = hash copy })
+  abbrev pub IsKeyCopy : ℕ → Option K → Option KeyLink → Type 0
+  IsKeyCopy = IsCopy is_clone keys (λ copy l. record (relocated_key rank l) { hash = hash copy })
 
   -- a clone of the key at the place stands last, with a row of its hash, and its place is noted
   pub record CopiesKey (copies copies_after : Slots K KeyLink) (rows rows_after : FinMap nat_cmp ℕ)
@@ -54,15 +62,8 @@ module _ {K : Type 0} (is_clone : K → K → Type 0) (hash : K → ℕ) (rank :
 module _ {V : Type 0} (is_clone : V → V → Type 0) (name rank : ℕ → ℕ)
     (values : Slots V ValueLink) where
   -- a clone of the value at the place, and its link with the new place of its key and with ranks
-  pub record IsValueCopy (place : ℕ) (item : Option V) (link : Option ValueLink) : Type 0 where
-    pub value : V
-    pub value_link : ValueLink
-    pub copy : V
-    pub was : item_at values place ≡ Some value
-    pub link_was : link_at values place ≡ Some value_link
-    pub cloned : is_clone value copy
-    pub item_is : item ≡ Some copy
-    pub link_is : link ≡ Some (with_new_key name (relocated_value rank value_link))
+  abbrev pub IsValueCopy : ℕ → Option V → Option ValueLink → Type 0
+  IsValueCopy = IsCopy is_clone values (λ _ l. with_new_key name (relocated_value rank l))
 
   -- a clone of the value at the place stands last
   pub record CopiesValue (copies copies_after : Slots V ValueLink) (place to : ℕ) : Type 0 where
@@ -83,3 +84,13 @@ pub record AreCopied {K V : Type 0} (key_clone : K → K → Type 0) (value_clon
       value_copies
   pub keys_sound : IsSound copies
   pub values_sound : IsSound value_copies
+
+-- they were, with room for as many of both, on a tape that no change has used
+pub record AreStored {K V : Type 0} (key_clone : K → K → Type 0) (value_clone : V → V → Type 0)
+    (hash : K → ℕ) (keys copies : Slots K KeyLink) (table : Table) (values : Slots V ValueLink)
+    (tape : Taped V ValueLink) : Type 0 where
+  pub copied : AreCopied key_clone value_clone hash keys copies table.rows values tape.list
+  pub key_room : length keys.order ≤ copies.capacity
+  pub row_room : length keys.order ≤ table.capacity
+  pub value_room : length values.order ≤ tape.list.capacity / 2
+  pub unused : AreUnused (numbers_of tape)

@@ -1,6 +1,5 @@
 -- One pass of `retain`, step by step. No public clause cites this module.
-use Rattle.std.specs.Prelude.{◌≡◌, ℕ, Bool, true, false}
-use Rattle.std.specs.Prelude.{Some}
+use Rattle.std.specs.Prelude.{◌≡◌, ◌≤◌, ◌-◌, ℕ, Bool, true, false, Some, length}
 use Rattle.std.specs.Borrow.{MutBor}
 use Rattle.std.specs.Fn.{Mut}
 use Rattle.multimap_slots.specs.Lists.{IsIn}
@@ -9,9 +8,13 @@ use Rattle.multimap_slots.specs.Tapes.{Taped, with_list}
 use Rattle.multimap_table.specs.Table.{Table}
 use Rattle.multimap_walks.specs.declared.links.KeyLink.{KeyLink}
 use Rattle.multimap_walks.specs.declared.links.ValueLink.{ValueLink}
-use Rattle.multimap_walks.specs.Chained.{AreOwned, pair_at}
+use Rattle.multimap_walks.specs.Chained.{AreOwned, pair_at, pairs_of}
+use Rattle.ordered_multimap.specs.Agrees.{Agrees, items_of}
+use Rattle.ordered_multimap.specs.Keys.{keys_named_by}
+use Rattle.ordered_multimap.specs.Private.Remove.{KeepsRoom}
 use Rattle.ordered_multimap.specs.Private.RemoveOne.{LeavesPair}
 use Rattle.ordered_multimap.specs.Retain.{AsksValue}
+use Rattle.ordered_multimap.specs.TapeNumbers.{TakesOut, numbers_of}
 use Rattle.ordered_multimap.specs.declared.list_ordered_multimap.remove.one.Taken.{Taken}
 
 -- a value is listed at the place, and the key that the link of each value names is there
@@ -53,6 +56,18 @@ module _ {F K V : Type 0} (calls : F → K → V → Bool → V → F → Type 0
     pub asked : Taped V ValueLink
     pub asks : Asks keys values asked place f answer g
     pub rest : StaysIf keys keys_after table table_after asked values_after place answer
+
+-- some pairs have left, and the keys that have none any more
+pub record LosesSome {K V : Type 0} (eq : K → K → Bool) (keys keys_after : Slots K KeyLink)
+    (table table_after : Table) (values values_after : Taped V ValueLink) : Type 0 where
+  pub agrees : (hash : K → ℕ) → Agrees eq hash keys table.rows values.list
+      → Agrees eq hash keys_after table_after.rows values_after.list
+  pub keys_are : items_of keys_after
+      ≡ keys_named_by eq (items_of keys) (pairs_of keys_after values_after.list)
+  pub counts : TakesOut (length values.list.order - length values_after.list.order)
+      (numbers_of values) (numbers_of values_after)
+  pub fewer : length values_after.list.order ≤ length values.list.order
+  pub room : KeepsRoom keys keys_after table table_after values values_after
 
 -- a call of f on the value alone, whatever the key
 abbrev pub AsksAny : {F K V : Type 0} → Mut F (MutBor V × Unit {0}) (Bool × (MutBor V × Unit {0}))

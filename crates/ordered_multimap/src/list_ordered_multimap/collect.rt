@@ -79,10 +79,7 @@ impl<K: Eq + Hash + Drop, V: Drop, S: BuildHasher, A: Allocator + Copy> Extend<(
         ensures { ExtendsInRoom I.into_iter_gives I.IntoIter.next_gives I.IntoIter.remaining
             (AppendsAll K.eq) iter self.old self.new result }
     {
-        match ListOrderedMultimap::extend(self, iter) {
-            Ok(()) => Ok(()),
-            Err(refused) => Err(AllocError::from(refused)),
-        }
+        self.extend_in_room(iter)
     }
 }
 
@@ -126,9 +123,6 @@ impl<'a, K: Eq + Hash + Copy + 'a, V: Copy + 'a, S: BuildHasher, A: Allocator + 
             (λ m items n. AppendsAll K.eq m (map lent_pair items) n)
             iter self.old self.new result }
     {
-        match self.extend_copied(iter) {
-            Ok(()) => Ok(()),
-            Err(refused) => Err(AllocError::from(refused)),
-        }
+        self.extend_in_room(iter)
     }
 }

@@ -1,18 +1,18 @@
 //! Appending many pairs.
-ghost use Rattle.std.specs.Prelude.{◌≡◌, IfOk, IfErr};
+ghost use Rattle.std.specs.Prelude.{◌≡◌, IfOk, IfErr, map};
 ghost use Rattle.std.specs.Iterator.{IsFinite};
-ghost use Rattle.ordered_multimap.specs.Extends.{Extends, ExtendsCopied, IsBuilt, IsLastRead};
+ghost use Rattle.ordered_multimap.specs.Extends.{AppendsAll, Extends, ExtendsCopied, ExtendsInRoom, IsBuilt, IsLastRead};
 ghost use Rattle.ordered_multimap.specs.Extends.{GrowsForAll, lent_pair};
 ghost use Rattle.ordered_multimap.specs.Private.Extends.{AppendsPairsOf};
 ghost use Rattle.ordered_multimap.specs.Rooms.{HasPairRoom};
 ghost use Rattle.ordered_multimap.specs.TapeNumbers.{AreUnused};
 
 use super::{ListOrderedMultimap, Refused};
-use std::alloc::Allocator;
+use std::alloc::{AllocError, Allocator};
 use std::hash::{BuildHasher, Hash};
 
 /// An item that gives a pair to append.
-trait IntoPair<K, V> {
+pub(super) trait IntoPair<K, V> {
     /// The pair that an item gives.
     ghost pair_of: { Self → K × V };
 
@@ -172,6 +172,24 @@ impl<K: Eq + Hash + Drop, V: Drop, S: BuildHasher, A: Allocator + Copy> ListOrde
             }
         }
         Ok(())
+    }
+
+    /// Appends the pair of each item of the iterator, in its order. Its error says no more than that
+    /// an allocation failed.
+    pub(super) fn extend_in_room<X: IntoPair<K, V>, I: IntoIterator<Item = X>>(
+        &mut self,
+        iter: I,
+    ) -> Result<(), AllocError>
+        requires { (it : I.IntoIter) → I.into_iter_gives iter it
+            → I.IntoIter.can_next it × IsFinite (I.IntoIter.remaining it) }
+        ensures { ExtendsInRoom I.into_iter_gives I.IntoIter.next_gives I.IntoIter.remaining
+            (λ m items n. AppendsAll K.eq m (map X.pair_of items) n)
+            iter self.old self.new result }
+    {
+        match self.append_all(iter) {
+            Ok(()) => Ok(()),
+            Err(refused) => Err(AllocError::from(refused)),
+        }
     }
 
     /// Creates a map of the pairs of the iterator, in its order, with the given hash builder.

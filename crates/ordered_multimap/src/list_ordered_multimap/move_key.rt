@@ -4,10 +4,13 @@ ghost use Rattle.multimap_slots.specs.Lists.{IsIn};
 ghost use Rattle.ordered_multimap.specs.Agrees.{HasKey};
 ghost use Rattle.ordered_multimap.specs.KeyMoves.{MovesKey, moved_to_back_where, moved_to_front_where};
 ghost use Rattle.ordered_multimap.specs.Pairs.{is_present_where};
+ghost use Rattle.ordered_multimap.specs.Private.KeyMoves.{moved_place, moved_to_end};
 ghost use Rattle.ordered_multimap.specs.Rooms.{SameNumbers};
 
 use super::ListOrderedMultimap;
 use crate::KeyQuery;
+use multimap_slots::SlotList;
+use multimap_walks::{End, KeyLink};
 use std::alloc::Allocator;
 use std::hash::{BuildHasher, Hash};
 
@@ -43,13 +46,7 @@ impl<K: Eq + Hash, V, S: BuildHasher, A: Allocator> ListOrderedMultimap<K, V, S,
         ensures moved { MovesKey (Q.equivalent key)
             (moved_to_back_where (Q.equivalent key) self.old.lists) self.old self.new }
     {
-        match self.look_up(key).1 {
-            Some(place) => {
-                self.move_back_at(place);
-                true
-            }
-            None => false,
-        }
+        self.move_to_end(End::Back, key)
     }
 
     /// Moves the key before all other keys, and returns `true` if it was present.
@@ -83,32 +80,45 @@ impl<K: Eq + Hash, V, S: BuildHasher, A: Allocator> ListOrderedMultimap<K, V, S,
         ensures moved { MovesKey (Q.equivalent key)
             (moved_to_front_where (Q.equivalent key) self.old.lists) self.old self.new }
     {
+        self.move_to_end(End::Front, key)
+    }
+
+    /// Moves the key to an end of the keys, and returns `true` if it was present.
+    #[inline(always)]
+    fn move_to_end<Q: KeyQuery<K>>(&mut self, end: End, key: Q) -> bool
+        ensures present { result ≡ is_present_where (Q.equivalent key) self.old.lists.pairs }
+        ensures moved { MovesKey (Q.equivalent key)
+            (moved_to_end end (Q.equivalent key) self.old.lists) self.old self.new }
+    {
         match self.look_up(key).1 {
             Some(place) => {
-                self.move_front_at(place);
+                self.move_at(end, place);
                 true
             }
             None => false,
         }
     }
 
-    /// Moves the key at the place behind all others.
-    fn move_back_at(&mut self, place: usize)
+    /// Moves the key at the place to an end of the keys.
+    #[inline(always)]
+    fn move_at(&mut self, end: End, place: usize)
         requires { IsIn place self.old.slots.keys.order }
         ensures lists { (k : K) → HasKey K.eq self.old.slots.keys k place
-            → self.new.lists ≡ moved_to_back_where (K.eq k) self.old.lists }
+            → self.new.lists ≡ moved_to_end end (K.eq k) self.old.lists }
         ensures numbers { SameNumbers self.old self.new }
     {
-        self.keys.move_to_back(place);
+        move_place(&mut self.keys, end, place);
     }
+}
 
-    /// Moves the key at the place before all others.
-    fn move_front_at(&mut self, place: usize)
-        requires { IsIn place self.old.slots.keys.order }
-        ensures lists { (k : K) → HasKey K.eq self.old.slots.keys k place
-            → self.new.lists ≡ moved_to_front_where (K.eq k) self.old.lists }
-        ensures numbers { SameNumbers self.old self.new }
-    {
-        self.keys.move_to_front(place);
+/// Lists the place first or last.
+#[inline(always)]
+fn move_place<K, A: Allocator>(keys: &mut SlotList<K, KeyLink, A>, end: End, place: usize)
+    requires { IsIn place keys.old.order }
+    ensures { keys.new ≡ record keys.old { order = moved_place end keys.old.order place } }
+{
+    match end {
+        End::Front => keys.move_to_front(place),
+        End::Back => keys.move_to_back(place),
     }
 }

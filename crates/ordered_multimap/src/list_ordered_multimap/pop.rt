@@ -211,8 +211,7 @@ impl<K: Eq + Hash, V, S: BuildHasher, A: Allocator> ListOrderedMultimap<K, V, S,
             × (option_map popped_of x ≡ popped_pair K.eq Front self.old.lists.pairs)
             × F.post f x result }
     {
-        let taken = self.take_end(End::Front);
-        f(self.wrapped(taken))
+        self.pop_end_with(End::Front, f)
     }
 
     /// Removes the last pair, calls the function on the result of [`pop_back`](Self::pop_back), and
@@ -249,7 +248,24 @@ impl<K: Eq + Hash, V, S: BuildHasher, A: Allocator> ListOrderedMultimap<K, V, S,
             × (option_map popped_of x ≡ popped_pair K.eq Back self.old.lists.pairs)
             × F.post f x result }
     {
-        let taken = self.take_end(End::Back);
+        self.pop_end_with(End::Back, f)
+    }
+
+    /// Removes the pair at an end, and calls the function with it.
+    #[inline(always)]
+    fn pop_end_with<R, F: FnOnce(Option<(KeyWrapper<'_, K>, V)>) -> R>(
+        &mut self,
+        end: End,
+        f: F,
+    ) -> R
+        requires { (x : _) → option_map popped_of x ≡ popped_pair K.eq end self.old.lists.pairs
+            → F.pre f x }
+        ensures popped { IsPopped K.eq end self.old self.new }
+        ensures result { (x : _)
+            × (option_map popped_of x ≡ popped_pair K.eq end self.old.lists.pairs)
+            × F.post f x result }
+    {
+        let taken = self.take_end(end);
         f(self.wrapped(taken))
     }
 }

@@ -3,14 +3,13 @@ ghost use Rattle.std.specs.Prelude.{◌≡◌, ◌≤◌, ◌-◌, ℕ, Some, le
 ghost use Rattle.std.specs.Map.Calls.{CallableOnEachPair, CalledAtPair, TakesPair as MayCall};
 ghost use Rattle.multimap_slots.specs.Slots.{link_at};
 ghost use Rattle.multimap_walks.specs.Chained.{pair_at, pairs_of};
-ghost use Rattle.ordered_multimap.specs.Agrees.{Agrees, items_of};
+ghost use Rattle.ordered_multimap.specs.Agrees.{Agrees};
 ghost use Rattle.ordered_multimap.specs.Keys.{keys_named_by};
 ghost use Rattle.ordered_multimap.specs.Retain.{Retains};
-ghost use Rattle.ordered_multimap.specs.Private.Retain.{Asks, IsOwnedAt, RetainsAt};
+ghost use Rattle.ordered_multimap.specs.Private.Retain.{Asks, IsOwnedAt, LosesSome, RetainsAt};
 ghost use Rattle.ordered_multimap.specs.Rooms.{SameRooms};
-ghost use Rattle.ordered_multimap.specs.Private.Remove.{KeepsRoom};
 ghost use Rattle.ordered_multimap.specs.Private.RemoveOne.{HasPair};
-ghost use Rattle.ordered_multimap.specs.TapeNumbers.{TakesOut, numbers_of};
+ghost use Rattle.ordered_multimap.specs.TapeNumbers.{TakesOut};
 
 mod values;
 
@@ -74,16 +73,9 @@ fn retain_pairs<K: Eq + Drop, V: Drop, A: Allocator, F: FnMut(&K, &mut V) -> boo
     requires agrees { (hash : K → ℕ) × Agrees K.eq hash keys.old table.old.rows values.old.list }
     requires callable { CallableOnEachPair (CalledAtPair F.FnMut) (MayCall F.FnMut) f
         (pairs_of keys.old values.old.list) }
-    ensures agrees { (hash : K → ℕ) → Agrees K.eq hash keys.old table.old.rows values.old.list
-        → Agrees K.eq hash keys.new table.new.rows values.new.list }
     ensures retained { (last : F) × Retains (CalledAtPair F.FnMut) f
         (pairs_of keys.old values.old.list) (pairs_of keys.new values.new.list) last }
-    ensures keys { items_of keys.new
-        ≡ keys_named_by K.eq (items_of keys.old) (pairs_of keys.new values.new.list) }
-    ensures counts { TakesOut (length values.old.list.order - length values.new.list.order)
-        (numbers_of values.old) (numbers_of values.new) }
-    ensures fewer { length values.new.list.order ≤ length values.old.list.order }
-    ensures room { KeepsRoom keys.old keys.new table.old table.new values.old values.new }
+    ensures loses { LosesSome K.eq keys.old keys.new table.old table.new values.old values.new }
 {
     let mut following = values.front_place();
     while let Some(place) = following {

@@ -17,21 +17,18 @@ mod resorted;
 use super::ListOrderedMultimap;
 use super::lookup::slot_at;
 use multimap_slots::{Reads, SlotList};
-use multimap_walks::KeyLink;
+use multimap_walks::{End, KeyLink, Ordered, take};
 use std::alloc::{AllocError, Allocator};
 use std::cmp::Ordering;
 use std::hash::{BuildHasher, Hash};
 
-/// The places of the keys, in order.
-fn places_of<K, A: Allocator + Copy>(
-    keys: &SlotList<K, KeyLink, A>,
-) -> Result<Vec<usize, A>, AllocError>
-    ensures { IfOk result (λ places. places.items ≡ keys.now.order) }
+/// The places of a list, in its order.
+fn places_of<O: Ordered, A: Allocator>(list: &O, alloc: A) -> Result<Vec<usize, A>, AllocError>
+    ensures { IfOk result (λ places. places.items ≡ O.order list.now) }
 {
-    let mut places = Vec::with_capacity(*keys.allocator(), keys.len())?;
-    let mut following = keys.front_place();
-    while let Some(place) = following {
-        following = keys.next_listed_place(place);
+    let mut left = list.all();
+    let mut places = Vec::with_capacity(alloc, left.length)?;
+    while let Some(place) = take(End::Front, list, &mut left) {
         places.push_reserved(place);
     }
     Ok(places)
@@ -66,7 +63,7 @@ fn places_by<K, A: Allocator + Copy, F: Fn(&K, &K) -> Ordering>(
     // The length tells the proof that each place has a key.
     let _len = keys.len();
     let (first, _) = slot_at(keys, front);
-    let mut places = places_of(keys)?;
+    let mut places = places_of(keys, *keys.allocator())?;
     places.sort_by(
         |a: &usize, b: &usize| -> Ordering
             requires { F.IsAlwaysCallable cmp }

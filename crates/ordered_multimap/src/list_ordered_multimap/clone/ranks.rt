@@ -28,16 +28,12 @@ pub(super) trait Ranks {
         ensures { result ≡ relocated_value (rank self.now) link };
 
     /// The place of the tape's first value.
-    fn front_place<V, A: Allocator>(&self, values: &Tape<V, ValueLink, A>) -> Option<usize>
+    fn front<V, A: Allocator>(&self, values: &Tape<V, ValueLink, A>) -> Option<usize>
         requires { AreRanks values.now.list.order (has_rank self.now) (rank self.now) }
         ensures { result ≡ first_of values.now.list.order };
 
     /// The place of the value behind the one at the place.
-    fn next_place<V, A: Allocator>(
-        &self,
-        values: &Tape<V, ValueLink, A>,
-        place: usize,
-    ) -> Option<usize>
+    fn next<V, A: Allocator>(&self, values: &Tape<V, ValueLink, A>, place: usize) -> Option<usize>
         requires ranks { AreRanks values.now.list.order (has_rank self.now) (rank self.now) }
         requires listed { IsIn place values.now.list.order }
         ensures { result ≡ next_of values.now.list.order place };
@@ -68,16 +64,12 @@ impl<B: Allocator> Ranks for Vec<usize, B> {
     }
 
     #[inline(always)]
-    fn front_place<V, A: Allocator>(&self, values: &Tape<V, ValueLink, A>) -> Option<usize> {
+    fn front<V, A: Allocator>(&self, values: &Tape<V, ValueLink, A>) -> Option<usize> {
         values.front_place()
     }
 
     #[inline(always)]
-    fn next_place<V, A: Allocator>(
-        &self,
-        values: &Tape<V, ValueLink, A>,
-        place: usize,
-    ) -> Option<usize> {
+    fn next<V, A: Allocator>(&self, values: &Tape<V, ValueLink, A>, place: usize) -> Option<usize> {
         values.next_listed_place(place)
     }
 }
@@ -102,16 +94,12 @@ impl Ranks for NoHoles {
     }
 
     #[inline(always)]
-    fn front_place<V, A: Allocator>(&self, values: &Tape<V, ValueLink, A>) -> Option<usize> {
+    fn front<V, A: Allocator>(&self, values: &Tape<V, ValueLink, A>) -> Option<usize> {
         if values.is_empty() { None } else { Some(0) }
     }
 
     #[inline(always)]
-    fn next_place<V, A: Allocator>(
-        &self,
-        values: &Tape<V, ValueLink, A>,
-        place: usize,
-    ) -> Option<usize> {
+    fn next<V, A: Allocator>(&self, values: &Tape<V, ValueLink, A>, place: usize) -> Option<usize> {
         let len = values.len();
         let next = place + 1;
         if next < len { Some(next) } else { None }

@@ -6,7 +6,7 @@ ghost use Rattle.multimap_slots.specs.Slots.{HasRoomFor, IsEmpty, IsSound, link_
 ghost use Rattle.multimap_slots.specs.Tapes.{HasEndRoom};
 ghost use Rattle.ordered_multimap.specs.Agrees.{hash_of};
 ghost use Rattle.ordered_multimap.specs.Private.Append.{HasListedRows, KeepsTapeRoom};
-ghost use Rattle.ordered_multimap.specs.Private.Copies.{AreCopied, AreRanks, CopiesKey, CopiesValue, HasRankedEnds, HasRankedNeighbours, IsKeyCopy, IsValueCopy};
+ghost use Rattle.ordered_multimap.specs.Private.Copies.{AreCopied, AreRanks, AreStored, CopiesKey, CopiesValue, HasRankedEnds, HasRankedNeighbours, IsKeyCopy, IsValueCopy};
 ghost use Rattle.ordered_multimap.specs.Private.KeyRelocations.{HasRows, HaveNewPlaces, IsNewStorage, new_place_in};
 ghost use Rattle.ordered_multimap.specs.Private.Remove.{KeepsKeyRoom};
 ghost use Rattle.ordered_multimap.specs.Private.Relocations.{AreChained};
@@ -145,9 +145,9 @@ fn clone_values<V: Clone, R: Ranks, A: Allocator>(
 {
     // The lengths tell the proof that the lists are sound.
     let _len = values.len();
-    let mut following = ranks.front_place(values);
+    let mut following = ranks.front(values);
     while let Some(place) = following {
-        following = ranks.next_place(values, place);
+        following = ranks.next(values, place);
         clone_value(values, place, new_places, ranks, copies)?;
     }
     let _copies = copies.len();
@@ -197,14 +197,9 @@ fn cloned_by_ranks<K: Hash + Clone, V: Clone, S: BuildHasher, R: Ranks, A: Alloc
 ) -> Result<Storage<K, V, A>, AllocError>
     requires chains { AreChained keys.now values.now.list }
     requires ranks { AreRanks values.now.list.order (R.has_rank ranks.now) (R.rank ranks.now) }
-    ensures copied { IfOk result (λ s. AreCopied K.is_clone V.is_clone
+    ensures { IfOk result (λ s. AreStored K.is_clone V.is_clone
         (λ k. hash_of S.BuildHasher S.Hasher.Hasher state.now (K.hash_input k))
-        keys.now s.keys s.table.rows values.now.list s.values.list) }
-    ensures key_room { IfOk result (λ s. length keys.now.order ≤ s.keys.capacity) }
-    ensures row_room { IfOk result (λ s. length keys.now.order ≤ s.table.capacity) }
-    ensures value_room { IfOk result (λ s.
-        length values.now.list.order ≤ s.values.list.capacity / 2) }
-    ensures unused { IfOk result (λ s. AreUnused (numbers_of s.values)) }
+        keys.now s.keys s.table values.now.list s.values) }
 {
     let alloc = *keys.allocator();
     let mut storage = new_storage(alloc, keys.len(), values.len(), keys.used_slots())?;
@@ -220,14 +215,9 @@ pub(super) fn cloned_storage<K: Hash + Clone, V: Clone, S: BuildHasher, A: Alloc
     state: &S,
 ) -> Result<Storage<K, V, A>, AllocError>
     requires { AreChained keys.now values.now.list }
-    ensures copied { IfOk result (λ s. AreCopied K.is_clone V.is_clone
+    ensures { IfOk result (λ s. AreStored K.is_clone V.is_clone
         (λ k. hash_of S.BuildHasher S.Hasher.Hasher state.now (K.hash_input k))
-        keys.now s.keys s.table.rows values.now.list s.values.list) }
-    ensures key_room { IfOk result (λ s. length keys.now.order ≤ s.keys.capacity) }
-    ensures row_room { IfOk result (λ s. length keys.now.order ≤ s.table.capacity) }
-    ensures value_room { IfOk result (λ s.
-        length values.now.list.order ≤ s.values.list.capacity / 2) }
-    ensures unused { IfOk result (λ s. AreUnused (numbers_of s.values)) }
+        keys.now s.keys s.table values.now.list s.values) }
 {
     if values.push_place() == values.len() {
         return cloned_by_ranks(keys, values, state, &NoHoles);

@@ -11,9 +11,8 @@ ghost use Rattle.ordered_multimap.specs.TapeNumbers.{TakesOut, numbers_of};
 
 use crate::KeyQuery;
 use crate::list_ordered_multimap::ListOrderedMultimap;
-use crate::list_ordered_multimap::links::link_of;
 use crate::list_ordered_multimap::lookup::slot_at;
-use crate::list_ordered_multimap::remove::at::place_at;
+use crate::list_ordered_multimap::remove::at::indexed;
 use crate::list_ordered_multimap::remove::one::take_pair;
 use multimap_slots::{SlotList, Tape};
 use multimap_table::KeyTable;
@@ -56,8 +55,7 @@ fn take_indexed<K: Drop, V, A: Allocator>(
     if link.length <= index {
         return None;
     }
-    let found = place_at(keys, values, place, index);
-    let gone = link_of(values, found);
+    let (found, gone) = indexed(keys, values, place, index);
     Some(take_pair(keys, table, values, found, gone, link).value)
 }
 

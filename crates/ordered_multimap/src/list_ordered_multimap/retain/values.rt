@@ -3,15 +3,14 @@ ghost use Rattle.std.specs.Prelude.{◌≡◌, ◌-◌, ◌≤◌, ℕ, Some, le
 ghost use Rattle.multimap_slots.specs.Lists.{IsIn};
 ghost use Rattle.multimap_slots.specs.Slots.{item_at, link_at};
 ghost use Rattle.multimap_walks.specs.Chained.{chain_of, pairs_of, values_at};
-ghost use Rattle.ordered_multimap.specs.Agrees.{Agrees, HasKey, items_of};
+ghost use Rattle.ordered_multimap.specs.Agrees.{Agrees, HasKey};
 ghost use Rattle.ordered_multimap.specs.Keys.{keys_named_by};
 ghost use Rattle.ordered_multimap.specs.Pairs.{values_where};
-ghost use Rattle.ordered_multimap.specs.Private.Remove.{KeepsRoom};
 ghost use Rattle.ordered_multimap.specs.Private.RemoveOne.{HasPair};
-ghost use Rattle.ordered_multimap.specs.Private.Retain.{Asks, AsksAny, IsOwnedAt, RetainsAt};
+ghost use Rattle.ordered_multimap.specs.Private.Retain.{Asks, AsksAny, IsOwnedAt, LosesSome, RetainsAt};
 ghost use Rattle.ordered_multimap.specs.Retain.{AsksAccepted, MayAskEach, MayAskValue, Retains};
 ghost use Rattle.ordered_multimap.specs.Rooms.{SameRooms};
-ghost use Rattle.ordered_multimap.specs.TapeNumbers.{TakesOut, numbers_of};
+ghost use Rattle.ordered_multimap.specs.TapeNumbers.{TakesOut};
 
 use crate::KeyQuery;
 use crate::list_ordered_multimap::ListOrderedMultimap;
@@ -80,17 +79,10 @@ fn retain_chain<K: Eq + Drop, V: Drop, A: Allocator, F: FnMut(&mut V) -> bool>(
     requires agrees { (hash : K → ℕ) × Agrees K.eq hash keys.old table.old.rows values.old.list }
     requires callable { MayAskEach F.FnMut f
         (values_at values.old.list (chain_of values.old.list key_place)) }
-    ensures agrees { (hash : K → ℕ) → Agrees K.eq hash keys.old table.old.rows values.old.list
-        → Agrees K.eq hash keys.new table.new.rows values.new.list }
     ensures retained { (k : K) → HasKey K.eq keys.old k key_place
         → (last : F) × Retains (AsksAccepted F.FnMut (K.eq k)) f
         (pairs_of keys.old values.old.list) (pairs_of keys.new values.new.list) last }
-    ensures keys { items_of keys.new
-        ≡ keys_named_by K.eq (items_of keys.old) (pairs_of keys.new values.new.list) }
-    ensures counts { TakesOut (length values.old.list.order - length values.new.list.order)
-        (numbers_of values.old) (numbers_of values.new) }
-    ensures fewer { length values.new.list.order ≤ length values.old.list.order }
-    ensures room { KeepsRoom keys.old keys.new table.old table.new values.old values.new }
+    ensures loses { LosesSome K.eq keys.old keys.new table.old table.new values.old values.new }
 {
     let (_, link) = slot_at(keys, key_place);
     let mut following = Some(link.head);

@@ -44,7 +44,7 @@ impl<K: Eq + Hash, V, S: BuildHasher> ListOrderedMultimap<K, V, S> {
         ensures { IfOk result (λ places. ArePlacesByKey F.FnMut T.cmp K.eq f self.now
             places.items) }
     {
-        let mut places = places_of(&self.keys)?;
+        let mut places = places_of(&self.keys, *self.keys.allocator())?;
         places.sort_by_cached_key(
             |place: &usize| -> T
                 requires callable { F.IsAlwaysCallable f }

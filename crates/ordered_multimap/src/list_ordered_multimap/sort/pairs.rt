@@ -12,28 +12,13 @@ ghost use Rattle.ordered_multimap.specs.TapeNumbers.{AreUnused, numbers_of};
 
 use super::super::ListOrderedMultimap;
 use super::super::lookup::{slot_at, value_at};
+use super::places_of;
 use super::resorted::move_in_order;
 use multimap_slots::Tape;
 use multimap_walks::ValueLink;
 use std::alloc::{AllocError, Allocator};
 use std::cmp::Ordering;
 use std::hash::{BuildHasher, Hash};
-
-/// The places of the values, in order.
-fn value_places<V, A: Allocator + Copy>(
-    values: &Tape<V, ValueLink, A>,
-    alloc: A,
-) -> Result<Vec<usize, A>, AllocError>
-    ensures { IfOk result (λ places. places.items ≡ values.now.list.order) }
-{
-    let mut places = Vec::with_capacity(alloc, values.len())?;
-    let mut following = values.front_place();
-    while let Some(place) = following {
-        following = values.next_listed_place(place);
-        places.push_reserved(place);
-    }
-    Ok(places)
-}
 
 impl<K: Eq + Hash, V, S: BuildHasher, A: Allocator> ListOrderedMultimap<K, V, S, A> {
     /// The pair whose value is listed at the place, or at the other one where none is. So a closure
@@ -96,7 +81,7 @@ impl<K: Eq + Hash, V, S: BuildHasher, A: Allocator + Copy> ListOrderedMultimap<K
         ensures { IfOk result (λ places. ArePlacesByPair F.FnMut cmp self.now.slots
             places.items) }
     {
-        let mut places = value_places(&self.values, *self.keys.allocator())?;
+        let mut places = places_of(&self.values, *self.keys.allocator())?;
         places.sort_by(
             |a: &usize, b: &usize| -> Ordering
                 requires callable { F.IsAlwaysCallable cmp }

@@ -6,8 +6,8 @@ use Rattle.ordered_multimap.specs.Pairs.{values_where}
 use Rattle.ordered_multimap.specs.Private.KeySteps.{DetachesWhere}
 use Rattle.ordered_multimap.specs.TapeNumbers.{TakesOut}
 use Rattle.ordered_multimap.proofs.Agreement.AbsentKeys.{detaches_none, has_first, removed_lacking}
-use Rattle.ordered_multimap.proofs.Agreement.Queries.{of_key, stored_is}
-use Rattle.ordered_multimap.proofs.Callers.ListedKeys.{find_none, find_stored}
+use Rattle.ordered_multimap.proofs.Agreement.Queries.{found_stored, of_key, stored_is}
+use Rattle.ordered_multimap.proofs.Callers.ListedKeys.{find_none}
 use Rattle.ordered_multimap.proofs.list_ordered_multimap.ListOrderedMultimap.detach_all.Goals as goal
 
 pub returns-in-Some-clause-detached : goal.returns-in-Some-clause-detached
@@ -19,12 +19,9 @@ returns-in-Some-clause-detached g c =
 
 pub returns-in-Some-clause-found : goal.returns-in-Some-clause-found
 returns-in-Some-clause-found g c =
-    let keys = c.args.self.now.lists.keys in let accepts = g.Q.KeyQuery.equivalent c.args.key in
     let stands = rw c.in-Some.is at c.look_up.ensures.stored in
-    let listed = sym (rw c.in-Some.is at c.look_up.ensures.listed) in
-    ap Some (c.detach_at.ensures.key stands.stored stands.own
-    ∙ stored_is g.K.PartialEq.eq accepts stands.stored stands.same keys stands.stored listed)
-    ∙ sym (find_stored accepts stands.stored keys listed)
+    found_stored g.K.PartialEq.eq (g.Q.KeyQuery.equivalent c.args.key) stands.stored stands.same c.args.self.now.lists.keys
+    (sym (rw c.in-Some.is at c.look_up.ensures.listed)) (c.detach_at.ensures.key stands.stored stands.own)
 
 pub returns-in-Some-clause-key : goal.returns-in-Some-clause-key
 returns-in-Some-clause-key g c =

@@ -1,5 +1,5 @@
 use Rattle.std.proofs.Common.{rules}
-use Rattle.ordered_multimap.proofs.list_ordered_multimap.ListOrderedMultimap.pop_back_with.Goals as goal
+use Rattle.ordered_multimap.proofs.list_ordered_multimap.ListOrderedMultimap.pop_end_with.Goals as goal
 
 pub f-requires : goal.f-requires
 f-requires g c = search rules

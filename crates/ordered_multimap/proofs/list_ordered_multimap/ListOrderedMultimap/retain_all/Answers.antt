@@ -1,14 +1,13 @@
-use Rattle.std.proofs.Common.{◌-◌, ◌/◌, Bool, length, sym, ap, subst, arith}
+use Rattle.std.proofs.Common.{◌-◌, Bool, length, sym, ap, subst, arith}
 use Rattle.multimap_walks.specs.Chained.{pairs_of}
 use Rattle.ordered_multimap.specs.Agrees.{HasKey}
 use Rattle.ordered_multimap.specs.Pairs.{values_of, values_where}
 use Rattle.ordered_multimap.specs.Retain.{MayAskEach}
 use Rattle.ordered_multimap.specs.TapeNumbers.{TakesOut, numbers_of}
-use Rattle.ordered_multimap.proofs.Agreement.Agreed.{length-pairs}
 use Rattle.ordered_multimap.proofs.Agreement.LookUps.{values_of-chain}
-use Rattle.ordered_multimap.proofs.Append.Appended.{stays_paid}
 use Rattle.ordered_multimap.proofs.Callers.OneValue.{kept-all}
 use Rattle.ordered_multimap.proofs.Remove.PassedOver.{none_asked}
+use Rattle.ordered_multimap.proofs.Remove.SomePairs.{map_fewer, pairs_fewer, pairs_taken}
 use Rattle.ordered_multimap.proofs.list_ordered_multimap.ListOrderedMultimap.retain_all.Goals as goal
 
 pub retain_chain-requires-clause-callable : goal.retain_chain-requires-clause-callable
@@ -21,29 +20,16 @@ retain_chain-requires-clause-callable g c =
     (subst (λ (t : g.row.K.Denot → Bool). MayAskEach g.F.FnMut f (values_where t c.args.self.now.lists.pairs)) stands.same c.requires))
 
 pub invariant_of-self : goal.invariant_of-self
-invariant_of-self g c =
-    let t = c.retain_chain.ensures in
-    record {
-      agrees = t.agrees _ c.self.invariant.agrees;
-      fits = omega (arith, t.fewer, c.self.invariant.fits, ap (λ n. n / 2) t.room.value_room);
-      paid = stays_paid t.counts c.self.invariant.paid;
-    }
+invariant_of-self g c = map_fewer c.self.invariant c.retain_chain.ensures.loses
 
 pub returns-in-Some-clause-taken : goal.returns-in-Some-clause-taken
 returns-in-Some-clause-taken g c =
-    let t = c.retain_chain.ensures in
-    let after = length-pairs (t.agrees _ c.self.invariant.agrees) in
-    let before = length-pairs c.self.invariant.agrees in
     subst (λ m. TakesOut (length m.lists.pairs - length (pairs_of c.retain_chain.new.keys c.retain_chain.new.values.list)) m.tape
-    (numbers_of c.retain_chain.new.values)) c.self.view_is
-    (record { freed = omega (arith, t.counts.freed, after, before); paid = omega (arith, t.counts.paid, after, before) })
+    (numbers_of c.retain_chain.new.values)) c.self.view_is (pairs_taken c.self.invariant c.retain_chain.ensures.loses)
 
 pub returns-in-Some-clause-fewer : goal.returns-in-Some-clause-fewer
 returns-in-Some-clause-fewer g c =
-    let t = c.retain_chain.ensures in
-    let after = length-pairs (t.agrees _ c.self.invariant.agrees) in
-    let before = length-pairs c.self.invariant.agrees in
-    omega (arith, t.fewer, after, before, ap (λ m. length m.lists.pairs) c.self.view_is)
+    omega (arith, pairs_fewer c.self.invariant c.retain_chain.ensures.loses, ap (λ m. length m.lists.pairs) c.self.view_is)
 
 pub returns-in_default-clause-retained : goal.returns-in_default-clause-retained
 returns-in_default-clause-retained g c = (

@@ -1,6 +1,4 @@
-use Rattle.std.proofs.Common.{sym, ap, subst}
-use Rattle.ordered_multimap.specs.Private.RemoveOne.{HasLinks}
-use Rattle.ordered_multimap.proofs.Callers.Writes.{IsChained-with_item, IsSound-with_item}
+use Rattle.ordered_multimap.proofs.Remove.RetainingStep.{asked_links}
 use Rattle.ordered_multimap.proofs.list_ordered_multimap.retain.retain_at.Goals as goal
 
 pub ask-stays-requires-clause-owned : goal.ask-stays-requires-clause-owned
@@ -8,16 +6,7 @@ ask-stays-requires-clause-owned g c = record { listed = c.requires.pair.listed; 
 
 pub take_pair-requires-clause-links : goal.take_pair-requires-clause-links
 take_pair-requires-clause-links g c =
-    let s = c.requires.pair in
-    let asked = c.ask-stays.ensures.asked in
-    subst (λ vs. HasLinks c.args.keys.now vs c.args.place c.ask-stays.result.1 c.ask-stays.result.2) (sym (ap (λ t. t.list) asked.written))
-    (record {
-      listed = s.listed;
-      link_is = c.ask-stays.ensures.link;
-      key_link_is = c.ask-stays.ensures.key_link;
-      sound = IsSound-with_item s.sound c.args.place s.listed asked.left;
-      chained = IsChained-with_item s.chained c.args.place asked.left;
-    })
+    asked_links c.requires.pair c.ask-stays.ensures.asked c.ask-stays.ensures.link c.ask-stays.ensures.key_link
 
 pub take_pair-requires-clause-row : goal.take_pair-requires-clause-row
 take_pair-requires-clause-row g c = c.requires.pair.row c.ask-stays.result.1 c.ask-stays.result.2 c.ask-stays.ensures.link

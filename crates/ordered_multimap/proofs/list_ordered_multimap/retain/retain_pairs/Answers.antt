@@ -1,19 +1,17 @@
-use Rattle.std.proofs.Common.{◌<◌, refl, sym, ◌∙◌, subst, arith}
+use Rattle.std.proofs.Common.{◌<◌, sym, subst}
 use Rattle.ordered_multimap.proofs.Remove.OnePair.{has_pair, retains_room}
 use Rattle.ordered_multimap.proofs.Callers.Places.{places_from}
 use Rattle.ordered_multimap.proofs.Remove.Retaining.{retaining-at, retaining-start, retaining-end, listed_place, may_ask}
-use Rattle.ordered_multimap.proofs.Remove.RetainingStep.{retaining-step, retaining-smaller, retaining-counts}
+use Rattle.ordered_multimap.proofs.Remove.RetainingStep.{all_counted, more_left, none_left, retaining-step, retaining-smaller, retaining-counts}
+use Rattle.ordered_multimap.proofs.Remove.SomePairs.{room_same, room_still}
 use Rattle.ordered_multimap.proofs.list_ordered_multimap.retain.retain_pairs.Goals as goal
 
 pub loop-following-init : goal.loop-following-init
 loop-following-init g c = record {
   retaining = retaining-start g.met.K.Eq.laws c.requires.agrees.1 c.front_place-following.result c.front_place-following.ensures
       c.requires.callable;
-  moved = refl;
-  freed = refl;
-  holes = refl;
-  fewer = omega arith;
-  room = record { key_room = refl; row_room = refl; value_room = refl };
+  counts = none_left;
+  room = room_same;
 }
 
 pub next_listed_place-following-requires : goal.next_listed_place-following-requires
@@ -42,35 +40,24 @@ loop-following-preserved g c =
     let w = c.loop-following.invariant in
     let r = retaining-at c.in-Some.is w.retaining in
     let s = c.retain_at.ensures in
-    let o = retains_room s in
-    let n = retaining-counts g.met.K.Eq.laws c.requires.agrees.1 r s in
     record {
       retaining =
           (retaining-step g.met.K.Eq.laws c.requires.agrees.1 r s
           c.next_listed_place-following.result c.next_listed_place-following.ensures).retaining;
-      moved = n.moved ∙ w.moved;
-      freed = n.freed ∙ w.freed;
-      holes = n.holes ∙ w.holes;
-      fewer = omega (arith, n.fewer, w.fewer);
-      room = record {
-        key_room = o.key_room ∙ w.room.key_room;
-        row_room = o.row_room ∙ w.room.row_room;
-        value_room = o.value_room ∙ w.room.value_room;
-      };
+      counts = more_left w.counts (retaining-counts g.met.K.Eq.laws c.requires.agrees.1 r s);
+      room = room_still w.room (retains_room s);
     }
 
-pub returns-clause-agrees : goal.returns-clause-agrees
-returns-clause-agrees g c = c.loop-following.invariant.retaining.agrees
-
-pub returns-clause-retained : goal.returns-clause-retained
-returns-clause-retained g c =
-    let w = c.loop-following.invariant in
-    (c.loop-following.f, retaining-end c.in_default.is w.retaining)
-
-pub returns-clause-counts : goal.returns-clause-counts
-returns-clause-counts g c =
+pub returns-clause-loses : goal.returns-clause-loses
+returns-clause-loses g c =
     let w = c.loop-following.invariant in
     record {
-      freed = omega (arith, w.freed, w.fewer);
-      paid = omega (arith, w.moved, w.holes, w.fewer);
+      agrees = w.retaining.agrees;
+      keys_are = w.retaining.keys_are;
+      counts = all_counted w.counts;
+      fewer = w.counts.fewer;
+      room = w.room;
     }
+
+pub returns-clause-retained : goal.returns-clause-retained
+returns-clause-retained g c = (c.loop-following.f, retaining-end c.in_default.is c.loop-following.invariant.retaining)

@@ -7,7 +7,7 @@ use Rattle.ordered_multimap.proofs.list_ordered_multimap.clone.steps.clone_value
 
 pub loop-following-init : goal.loop-following-init
 loop-following-init g c = record {
-  copying = copying-start _ _ _ _ c.front_place-following.ensures c.requires.no_value;
+  copying = copying-start _ _ _ _ c.front-following.ensures c.requires.no_value;
   room = room_same;
 }
 
@@ -15,8 +15,8 @@ abbrev at : (g : Over) (c : In-Some g)
     → FollowsNext c.args.values.now.list.order c.loop-following.following c.loop-following.copies.list c.in-Some.place
 at g c = follows_next c.len-len.ensures.sound.distinct c.loop-following.invariant.copying c.in-Some.place c.in-Some.is
 
-pub next_place-following-requires-clause-listed : goal.next_place-following-requires-clause-listed
-next_place-following-requires-clause-listed g c = (at g c).listed
+pub next-following-requires-clause-listed : goal.next-following-requires-clause-listed
+next-following-requires-clause-listed g c = (at g c).listed
 
 pub clone_value-requires : goal.clone_value-requires
 clone_value-requires g c =
@@ -31,15 +31,15 @@ clone_value-requires g c =
 
 pub loop-following-smaller : goal.loop-following-smaller
 loop-following-smaller g c =
-    (at g (goal.at.loop-following-smaller g c).In-Some).smaller c.next_place-following.result c.next_place-following.ensures
+    (at g (goal.at.loop-following-smaller g c).In-Some).smaller c.next-following.result c.next-following.ensures
 
 pub loop-following-preserved : goal.loop-following-preserved
 loop-following-preserved g c =
     let w = c.loop-following.invariant in
     record {
       copying =
-          values-step c.len-len.ensures.sound.distinct c.in-Some.place c.in-Some.is c.next_place-following.result
-          c.next_place-following.ensures c.requires.ranks w.copying c.in_ok-clone_value.ensures.copied
+          values-step c.len-len.ensures.sound.distinct c.in-Some.place c.in-Some.is c.next-following.result
+          c.next-following.ensures c.requires.ranks w.copying c.in_ok-clone_value.ensures.copied
           (omega (arith, w.room.counts.holes, c.requires.no_hole));
       room = room_on w.room c.clone_value.ensures.room.counts c.clone_value.ensures.room.capacity;
     }

@@ -1,17 +1,5 @@
-use Rattle.ordered_multimap.proofs.Append.Extended.{appends_all, grows_for_all-with, Yields-before}
+use Rattle.ordered_multimap.proofs.Append.Extended.{extends_in_room-own}
 use Rattle.ordered_multimap.proofs.list_ordered_multimap.collect.ListOrderedMultimapExtendTuple2.extend.Goals as goal
 
-pub returns-in-Ok : goal.returns-in-Ok
-returns-in-Ok g c =
-    let e = c.in-Ok.ensures in
-    let r = e.extends in
-    record { ran = (r.0, r.1, r.2, appends_all r.3 e.grows.grows, r.4); grows = grows_for_all-with (λ ok. ok) e.grows }
-
-pub returns-in-Err : goal.returns-in-Err
-returns-in-Err g c =
-    let e = c.in-Err.ensures in
-    let r = e.extends in
-    record {
-      ran = (r.0, r.1, r.2, appends_all r.3 e.grows.grows, Yields-before g.I.IntoIter.Iterator.next_gives r.0 r.1 _ r.4.0 r.4.1);
-      grows = grows_for_all-with (λ ok. ok) e.grows;
-    }
+pub returns : goal.returns
+returns g c = extends_in_room-own g.K.PartialEq.eq c.extend_in_room.ensures

@@ -1,4 +1,4 @@
-use Rattle.std.proofs.Common.{◌<◌, Some, refl, sym, ◌∙◌, subst, arith}
+use Rattle.std.proofs.Common.{◌<◌, Some, sym, subst}
 use Rattle.multimap_slots.specs.Slots.{link_at}
 use Rattle.ordered_multimap.specs.Retain.{MayAskEach}
 use Rattle.ordered_multimap.proofs.Agreement.LookUps.{own_key, values_of-chain}
@@ -7,6 +7,8 @@ use Rattle.ordered_multimap.proofs.Remove.OnePair.{has_pair}
 use Rattle.ordered_multimap.proofs.Remove.Retaining.{listed_place, retaining-end}
 use Rattle.ordered_multimap.proofs.Remove.RetainingKey.{IsRetainingKey, retaining_key-at, retaining_key-counts, retaining_key-may, retaining_key-room}
 use Rattle.ordered_multimap.proofs.Remove.RetainingKey.{retaining_key-smaller, retaining_key-start, retaining_key-step}
+use Rattle.ordered_multimap.proofs.Remove.RetainingStep.{all_counted, more_left, none_left}
+use Rattle.ordered_multimap.proofs.Remove.SomePairs.{room_same, room_still}
 use Rattle.ordered_multimap.proofs.list_ordered_multimap.retain.values.retain_chain.Goals as goal
 
 pub loop-following-init : goal.loop-following-init
@@ -14,11 +16,8 @@ loop-following-init g c = record {
   retaining = λ k has. retaining_key-start g.F.FnMut g.met.K.Eq.laws k c.requires.agrees.1 c.args.key_place c.slot_at.result.1 has
       c.slot_at.ensures.link_is
       (subst (MayAskEach g.F.FnMut c.args.f) (sym (values_of-chain g.met.K.Eq.laws c.requires.agrees.1 k c.args.key_place has)) c.requires.callable);
-  moved = refl;
-  freed = refl;
-  holes = refl;
-  fewer = omega arith;
-  room = record { key_room = refl; row_room = refl; value_room = refl };
+  counts = none_left;
+  room = room_same;
 }
 
 pub retain_value_at-following-requires-clause-pair : goal.retain_value_at-following-requires-clause-pair
@@ -56,8 +55,6 @@ loop-following-preserved g c =
     let l = held (link_at c.loop-following.values.list place)
     ((r.pass.agrees c.requires.agrees.0 old).values_sound.linked place (listed_place laws old r.pass)) in
     let t = c.retain_value_at-following.ensures in
-    let n = retaining_key-counts g.F.FnMut laws own.0 old r t.retains l.value l.is in
-    let o = retaining_key-room g.F.FnMut laws own.0 old r t.retains l.value l.is in
     record {
       retaining = λ k has.
           let rk = retaining_key-at g.F.FnMut laws k old c.in-Some.is (w.retaining k has) in
@@ -65,35 +62,23 @@ loop-following-preserved g c =
           c.retain_value_at-following.new.keys c.retain_value_at-following.new.table.rows c.retain_value_at-following.new.values.list
           c.retain_value_at-following.new.f) (sym (t.next l.value l.is))
           (retaining_key-step g.F.FnMut laws k old rk t.retains l.value l.is);
-      moved = n.moved ∙ w.moved;
-      freed = n.freed ∙ w.freed;
-      holes = n.holes ∙ w.holes;
-      fewer = omega (arith, n.fewer, w.fewer);
-      room = record {
-        key_room = o.key_room ∙ w.room.key_room;
-        row_room = o.row_room ∙ w.room.row_room;
-        value_room = o.value_room ∙ w.room.value_room;
-      };
+      counts = more_left w.counts (retaining_key-counts g.F.FnMut laws own.0 old r t.retains l.value l.is);
+      room = room_still w.room (retaining_key-room g.F.FnMut laws own.0 old r t.retains l.value l.is);
     }
 
-pub returns-clause-agrees : goal.returns-clause-agrees
-returns-clause-agrees g c =
+pub returns-clause-loses : goal.returns-clause-loses
+returns-clause-loses g c =
     let own = own_key g.met.K.Eq.laws c.requires.agrees.1 c.args.key_place c.requires.listed in
-    (c.loop-following.invariant.retaining own.0 own.1).pass.agrees
+    let w = c.loop-following.invariant in
+    let pass = (w.retaining own.0 own.1).pass in
+    record {
+      agrees = pass.agrees;
+      keys_are = pass.keys_are;
+      counts = all_counted w.counts;
+      fewer = w.counts.fewer;
+      room = w.room;
+    }
 
 pub returns-clause-retained : goal.returns-clause-retained
 returns-clause-retained g c = λ k has.
     (c.loop-following.f, retaining-end c.in_default.is (c.loop-following.invariant.retaining k has).pass)
-
-pub returns-clause-keys : goal.returns-clause-keys
-returns-clause-keys g c =
-    let own = own_key g.met.K.Eq.laws c.requires.agrees.1 c.args.key_place c.requires.listed in
-    (c.loop-following.invariant.retaining own.0 own.1).pass.keys_are
-
-pub returns-clause-counts : goal.returns-clause-counts
-returns-clause-counts g c =
-    let w = c.loop-following.invariant in
-    record {
-      freed = omega (arith, w.freed, w.fewer);
-      paid = omega (arith, w.moved, w.holes, w.fewer);
-    }

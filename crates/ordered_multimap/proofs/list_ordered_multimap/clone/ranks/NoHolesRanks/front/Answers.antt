@@ -1,6 +1,6 @@
 use Rattle.std.proofs.Common.{true≢false, sym, ◌∙◌}
 use Rattle.ordered_multimap.proofs.Clone.NoHoles.{first-zero}
-use Rattle.ordered_multimap.proofs.list_ordered_multimap.clone.ranks.NoHolesRanks.front_place.Goals as goal
+use Rattle.ordered_multimap.proofs.list_ordered_multimap.clone.ranks.NoHolesRanks.front.Goals as goal
 
 pub returns-else-is_empty : goal.returns-else-is_empty
 returns-else-is_empty g c =

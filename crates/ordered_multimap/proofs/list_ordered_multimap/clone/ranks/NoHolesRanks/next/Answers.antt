@@ -1,6 +1,6 @@
 use Rattle.std.proofs.Common.{arith}
 use Rattle.ordered_multimap.proofs.Clone.NoHoles.{below_length, next-higher, next-none}
-use Rattle.ordered_multimap.proofs.list_ordered_multimap.clone.ranks.NoHolesRanks.next_place.Goals as goal
+use Rattle.ordered_multimap.proofs.list_ordered_multimap.clone.ranks.NoHolesRanks.next.Goals as goal
 
 pub overflow_add-next : goal.overflow_add-next
 overflow_add-next g c =

@@ -1,0 +1,5 @@
+use Rattle.std.proofs.Common.{rules}
+use Rattle.ordered_multimap.proofs.list_ordered_multimap.ListOrderedMultimap.pop_back_with.Goals as goal
+
+pub returns-clause-popped : goal.returns-clause-popped
+returns-clause-popped g c = search rules
