@@ -57,7 +57,7 @@
 //! | `remove`, `remove_entry`, `remove_all`, `remove_entry_all` | *O*(*v*) expected |
 //! | `move_key_to_back`, `move_key_to_front`, `rename_key` | *O*(1) expected |
 //! | `pop_front`, `pop_back` | *O*(1) expected |
-//! | `into_iter` | *O*(1), *O*(1) and a clone of the key for each item |
+//! | `into_iter` | *O*(1), *O*(1) for each item, and a clone of a key that has values left |
 //! | `into_keys`, `into_values` | *O*(*n*), *O*(1) for each item |
 //! | `sort_keys`, `sort_keys_by`, `sort_keys_by_cached_key` | *O*(*k* log *k*) for *k* keys |
 //! | `sort_by` | *O*(*n* log *n*) |
@@ -81,8 +81,8 @@
 //!   `clone` and `append_map` return `AllocError`. After `append_map` both maps are as before;
 //!   capacities may have grown.
 //! - The sorts return `AllocError`, and both lists are as before.
-//! - An item of [`IntoIter`] is a `Result`, because each key is cloned: [`UnclonedKey`] has the
-//!   value. [`IntoKeys`] and [`IntoValues`] clone nothing.
+//! - An item of [`IntoIter`] is a `Result`, because a key is cloned while another of its values is
+//!   left: [`UnclonedKey`] has the value. [`IntoKeys`] and [`IntoValues`] clone nothing.
 //!
 //! `?` converts each of these errors into an `AllocError` or an `io::Error`.
 //!

@@ -1,13 +1,14 @@
 //! The iterator that takes a map apart.
 ghost use Rattle.std.specs.Prelude.{◌≡◌, length, MatchOption};
 ghost use Rattle.std.specs.Iterator.{at_most};
-ghost use Rattle.multimap_slots.specs.Lists.{without};
-ghost use Rattle.multimap_slots.specs.Slots.{KeepsOthers};
-ghost use Rattle.multimap_walks.specs.Chained.{pair_at};
-ghost use Rattle.ordered_multimap.specs.Private.Retain.{IsOwnedAt};
+ghost use Rattle.std.specs.List.{filter_map};
+ghost use Rattle.multimap_slots.specs.Lists.{IsIn, without};
+ghost use Rattle.multimap_walks.specs.Chained.{pair_at, pairs_of};
 ghost use Rattle.multimap_walks.specs.Walk.{TellsLength};
-ghost use Rattle.ordered_multimap.specs.IntoIters.{HandsFirst, HandsLast, HandsOut, IsHanded};
+ghost use Rattle.ordered_multimap.specs.IntoIters.{HandsFirst, HandsLast, HandsOut, IsCounted, IsHanded};
+ghost use Rattle.ordered_multimap.specs.Private.IntoIters.{IsCountedAt, GivesKey};
 
+use super::links::set_link;
 use super::lookup::slot_at;
 use super::pop::place_at_end;
 use super::show::show_left;
@@ -23,10 +24,11 @@ use std::marker::Model;
 /// An owning iterator over the pairs of a map, in insertion order.
 ///
 /// This struct is created by the `into_iter` method of [`ListOrderedMultimap`]. It iterates from
-/// both ends, and knows its length. Each item is a `Result`: a pair with a clone of its key, or
-/// [`UnclonedKey`] with the value alone where the clone ran out of memory. The iterator goes on
-/// after such an item. A key is cloned for each of its values, the last one included. Pairs that
-/// weren't taken are dropped with the iterator.
+/// both ends, and knows its length. Each item is a `Result`: a pair, or [`UnclonedKey`] with the
+/// value alone. A key comes itself with the last of its values that is taken, and before that as a
+/// clone. So a key with one value isn't cloned, and an item is an `UnclonedKey` only where a clone
+/// ran out of memory while another value of the key was left. The iterator goes on after such an
+/// item. Pairs that weren't taken are dropped with the iterator.
 #[derive(Drop)]
 pub struct IntoIter<K, V, A: Allocator = Global> {
     keys: SlotList<K, KeyLink, A>,
@@ -35,13 +37,14 @@ pub struct IntoIter<K, V, A: Allocator = Global> {
 
 impl<K, V, A: Allocator> Model for IntoIter<K, V, A> {
     ghost use Rattle.std.specs.Prelude.{List};
-    ghost use Rattle.multimap_walks.specs.Chained.{AreOwned, pairs_of};
+    ghost use Rattle.multimap_walks.specs.Chained.{pairs_of};
+    ghost use Rattle.ordered_multimap.specs.IntoIters.{IsCounted};
 
     ghost Value = { List (K × V) };
 
     ghost view = { λ w. pairs_of w.keys w.values.list };
 
-    ghost invariant = { λ w. AreOwned w.keys w.values.list };
+    ghost invariant = { λ w. IsCounted w.keys w.values.list };
 }
 
 impl<K: Eq + Hash + Clone, V: Drop, S: BuildHasher + Drop, A: Allocator> IntoIterator
@@ -60,12 +63,14 @@ impl<K: Eq + Hash + Clone, V: Drop, S: BuildHasher + Drop, A: Allocator> IntoIte
     /// # Errors
     ///
     /// The call can't fail. Each item is a `Result`: an item whose key can't be cloned is
-    /// [`UnclonedKey`] with the value, and the iterator goes on after it. A clone that doesn't
-    /// allocate, as that of a number or a `&str`, never fails.
+    /// [`UnclonedKey`] with the value, and the iterator goes on after it. A key is cloned only
+    /// while another of its values is left. A clone that doesn't allocate, as that of a number or a
+    /// `&str`, never fails.
     ///
     /// # Complexity
     ///
-    /// *O*(1), and *O*(1) and a clone of the key for each pair.
+    /// *O*(1), and *O*(1) for each pair, with a clone of the key while another of its values is
+    /// left.
     ///
     /// # Examples
     ///
@@ -123,23 +128,46 @@ impl<K, V, A: Allocator> IntoIter<K, V, A> {
     }
 }
 
-/// Takes the value at a listed place out, with a clone of its key.
-fn take_cloning<K: Clone, V, A: Allocator>(
-    keys: &SlotList<K, KeyLink, A>,
+/// Takes the key at a listed place out with its last value. While it has others it counts one
+/// less, and clones the key: `None` is a clone that ran out of memory.
+fn give_key<K: Clone, A: Allocator>(keys: &mut SlotList<K, KeyLink, A>, place: usize) -> Option<K>
+    requires { IsIn place keys.old.order }
+    ensures { GivesKey K.is_clone K.is_infallible keys.old keys.new place result }
+{
+    let (_, link) = slot_at(keys, place);
+    if link.length < 2 {
+        let (key, _) = keys.take_listed(place);
+        return Some(key);
+    }
+    set_link(
+        keys,
+        place,
+        KeyLink {
+            length: link.length - 1,
+            ..link
+        },
+    );
+    let (key, _) = slot_at(keys, place);
+    key.clone().ok()
+}
+
+/// Takes the value at a listed place out, with its key or a clone of it.
+fn give_pair<K: Clone, V, A: Allocator>(
+    keys: &mut SlotList<K, KeyLink, A>,
     values: &mut Tape<V, ValueLink, A>,
     place: usize,
 ) -> Result<(K, V), UnclonedKey<V>>
-    requires { IsOwnedAt keys.now values.old.list place }
-    ensures handed { MatchOption (pair_at keys.now values.old.list place) ⊥
-        (IsHanded K.is_clone K.is_infallible result) }
-    ensures order { values.new.list.order ≡ without values.old.list.order place }
-    ensures others { KeepsOthers values.old.list values.new.list place }
+    requires { IsCountedAt keys.old values.old.list place }
+    ensures handed { MatchOption (pair_at keys.old values.old.list place) ⊥
+        (IsHanded K.is_clone K.is_infallible (pairs_of keys.new values.new.list) result) }
+    ensures pairs { pairs_of keys.new values.new.list
+        ≡ filter_map (pair_at keys.old values.old.list) (without values.old.list.order place) }
+    ensures counted { IsCounted keys.new values.new.list }
 {
     let (value, link) = values.take_listed(place);
-    let (key, _) = slot_at(keys, link.key);
-    match key.clone() {
-        Ok(key) => Ok((key, value)),
-        Err(_) => Err(UnclonedKey { value }),
+    match give_key(keys, link.key) {
+        Some(key) => Ok((key, value)),
+        None => Err(UnclonedKey { value }),
     }
 }
 
@@ -154,7 +182,7 @@ impl<K: Clone, V: Drop, A: Allocator> IntoIter<K, V, A> {
         let Some(place) = place_at_end(&self.values, end) else {
             return None;
         };
-        Some(take_cloning(&self.keys, &mut self.values, place))
+        Some(give_pair(&mut self.keys, &mut self.values, place))
     }
 }
 

@@ -136,9 +136,9 @@ impl<V: Drop> From<RefusedValue<V>> for io::Error {
 
 /// The error of a clone of a key that ran out of memory, with the value of that key.
 ///
-/// It is an item of [`IntoIter`](crate::IntoIter). `?` converts it into an [`AllocError`] or an
-/// [`io::Error`], and drops the value. For an error type of your own that has a `From<AllocError>`,
-/// write `map_err(AllocError::from)?`.
+/// It is an item of [`IntoIter`](crate::IntoIter), which clones a key while another of its values is
+/// left. `?` converts it into an [`AllocError`] or an [`io::Error`], and drops the value. For an
+/// error type of your own that has a `From<AllocError>`, write `map_err(AllocError::from)?`.
 ///
 /// # Examples
 ///
@@ -147,12 +147,14 @@ impl<V: Drop> From<RefusedValue<V>> for io::Error {
 ///
 /// let mut map = ListOrderedMultimap::new(rt.alloc());
 /// map.append("line", 1)?;
-/// for pair in map {
-///     match pair {
-///         Ok((key, value)) => assert_eq!(rt; (key, value), ("line", 1)),
-///         Err(UnclonedKey { value }) => assert_eq!(rt; value, 1),
-///     }
+/// map.append("line", 2)?;
+/// let mut pairs = map.into_iter();
+/// match pairs.next() {
+///     Some(Err(UnclonedKey { value })) => assert_eq!(rt; value, 1),
+///     pair => assert_eq!(rt; pair, Some(Ok(("line", 1)))),
 /// }
+/// // No other value is left, and so the key isn't cloned.
+/// assert_eq!(rt; pairs.next(), Some(Ok(("line", 2))));
 /// ```
 #[derive(PartialEq, Eq, Drop)]
 pub struct UnclonedKey<V> {

@@ -113,11 +113,13 @@ impl<K: Eq + Hash + Clone, V: Drop, S: BuildHasher + Drop, A: Allocator> IntoIte
     /// # Errors
     ///
     /// The call can't fail. Each item is a `Result`: an item whose key can't be cloned is
-    /// [`UnclonedKey`] with the value, and the iterator goes on after it.
+    /// [`UnclonedKey`] with the value, and the iterator goes on after it. A key is cloned only
+    /// while another of its values is left.
     ///
     /// # Complexity
     ///
-    /// *O*(1), and *O*(1) and a clone of the key for each pair.
+    /// *O*(1), and *O*(1) for each pair, with a clone of the key while another of its values is
+    /// left.
     ///
     /// # Examples
     ///
