@@ -108,8 +108,8 @@ pub fn take<O: Ordered>(end: End, list: &O, left: &mut ChainEnds) -> Option<usiz
     Some(place)
 }
 
-/// The place that is at an end once that there is taken, or any where none is left then. The list is
-/// asked only where one is.
+/// The place that is at an end once that there is taken, or any where none is left then. The list
+/// is asked only where one is.
 #[inline(always)]
 fn beyond<O: Ordered>(end: End, list: &O, left: ChainEnds) -> usize
     requires are_left { AreLeft (O.order list.now) left }

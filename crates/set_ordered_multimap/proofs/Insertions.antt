@@ -14,7 +14,7 @@ use Rattle.ordered_multimap.proofs.Callers.Growth.{grows_for_one}
 use Rattle.ordered_multimap.proofs.Callers.ListedKeys.{length-keys_with}
 use Rattle.ordered_multimap.specs.declared.list_ordered_multimap.refused.Refused.{Refused}
 use Rattle.set_ordered_multimap.proofs.Callers.Sets.{IsSet-appended}
-use Rattle.set_ordered_multimap.specs.Insertions.{HasRoomToInsert}
+use Rattle.set_ordered_multimap.specs.Insertions.{HasRoomToInsert, InsertsPairs}
 use Rattle.set_ordered_multimap.specs.Set.{IsSet, has_pair, set_inserted, all_inserted}
 
 module _ {K V : Type 0} (eq : K → K → Bool) (value_eq : V → V → Bool) where
@@ -75,3 +75,10 @@ pub IsSet-appends : {K V S X : Type 0} {eq : K → K → Bool} {value_eq : V →
 IsSet-appends {eq = eq} {value_eq = value_eq} keys values m n k v (Ok x) a absent set =
     subst (IsSet eq value_eq) (sym a.ok.lists) (IsSet-appended keys values m.lists k v absent set)
 IsSet-appends {eq = eq} {value_eq = value_eq} keys values m n k v (Err e) a absent set = subst (IsSet eq value_eq) (sym a.refused.lists) set
+
+-- pairs that were inserted in turn, and how the rooms have grown for them
+pub inserts_pairs : {K V S : Type 0} {eq : K → K → Bool} {value_eq : V → V → Bool} {old new : Multimap K V S} {given most : Type 0}
+    {pairs : List (K × V)} → new.lists ≡ all_inserted eq value_eq old.lists pairs
+    → (IsSet eq value_eq old.lists → IsSet eq value_eq new.lists) → GrowsForPairs given most old new
+    → InsertsPairs eq value_eq old pairs new
+inserts_pairs lists set grows = record { lists = lists; set = set; rooms = grows.rooms; doubles = grows.doubles; taken = grows.taken }

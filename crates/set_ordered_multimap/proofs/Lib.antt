@@ -4,4 +4,5 @@ pub mod Insertions
 pub mod Lacked
 pub mod Loans
 pub mod Removals
+pub mod Reordered
 pub mod Retained

@@ -1,5 +1,5 @@
 -- What a map is from which some pairs have left.
-use Rattle.std.proofs.Common.{◌≡◌, ◌≤◌, ◌-◌, ◌/◌, ℕ, Bool, length, refl, ap, ◌∙◌, arith}
+use Rattle.std.proofs.Common.{◌≤◌, ◌-◌, ◌/◌, ℕ, Bool, length, refl, ap, ◌∙◌, arith}
 use Rattle.multimap_slots.specs.Slots.{Slots}
 use Rattle.multimap_slots.specs.Tapes.{Taped}
 use Rattle.multimap_table.specs.Table.{Table}

@@ -174,8 +174,8 @@ impl<K: Eq + Hash + Drop, V: Drop, S: BuildHasher, A: Allocator + Copy> ListOrde
         Ok(())
     }
 
-    /// Appends the pair of each item of the iterator, in its order. Its error says no more than that
-    /// an allocation failed.
+    /// Appends the pair of each item of the iterator, in its order. Its error says no more than
+    /// that an allocation failed.
     pub(super) fn extend_in_room<X: IntoPair<K, V>, I: IntoIterator<Item = X>>(
         &mut self,
         iter: I,
