@@ -1,4 +1,4 @@
-//! How a list or a tape is shown: each item by its place, in order.
+//! The text of what a list or a tape holds.
 use crate::in_order::Stored;
 use std::fmt;
 

@@ -1,3 +1,4 @@
+//! How a slot list is shown: each item by its place, in order.
 use super::SlotList;
 use crate::show::show_items;
 use std::alloc::Allocator;

@@ -1,3 +1,4 @@
+//! How a tape is shown: each item by its place, in order.
 use super::Tape;
 use crate::show::show_items;
 use std::alloc::Allocator;
