@@ -39,8 +39,16 @@ fn all_pairs_go_to_another_map(rt: HostRuntime) -> Result<(), Failed> {
     test_on_empty(rt.alloc(), join_builders)
 }
 
+// A map, and the other one.
+type Both<A> = (Refusing<A>, Refusing<A>);
+
+fn both_new<A: Allocator + Copy>(alloc: A) -> Both<A> {
+    (Refusing::new(alloc), Refusing::new(alloc))
+}
+
 // It returns whether there was memory enough. Where there was not, both maps are as before.
-fn moved<A: Allocator + Copy>(test: &Test, map: &mut Refusing<A>, other: &mut Refusing<A>) -> bool {
+fn moved<A: Allocator + Copy>(test: &Test, both: &mut Both<A>) -> bool {
+    let (map, other) = both;
     let enough = map.append_map(other).is_ok();
     if enough {
         test.expect(has_lists(map, JOINED, &[1, 2, 3, 4]) && has_lists(other, &[], &[]));
@@ -50,23 +58,14 @@ fn moved<A: Allocator + Copy>(test: &Test, map: &mut Refusing<A>, other: &mut Re
     enough
 }
 
-fn joins<A: Allocator + Copy>(
-    test: &Test,
-    memory: &RefusingAllocator,
-    map: &mut Refusing<A>,
-    granted: u64,
-) -> bool {
-    fill(test, map, PAIRS);
-    test.expect(map.pack_to_fit().is_ok());
-    lend(Refusing::new(*map.allocator()), |other| {
-        fill(test, other, OTHER);
-        memory.grant(granted);
-        moved(test, map, other)
-    })
+fn fill_both<A: Allocator + Copy>(test: &Test, both: &mut Both<A>) {
+    fill(test, &mut both.0, PAIRS);
+    test.expect(both.0.pack_to_fit().is_ok());
+    fill(test, &mut both.1, OTHER);
 }
 
 fn joins_with(test: &Test, granted: u64) -> bool {
-    try_on_new!(test, granted; ListOrderedMultimap::new; joins)
+    try_on_new!(test, granted; both_new; fill_both; moved)
 }
 
 #[test]
