@@ -1,13 +1,14 @@
 //! Pairs of a map that all go to another one; `map_calls` has the rows.
 use ordered_multimap::ListOrderedMultimap;
 use ordered_multimap_callers::maps::{
-    MapBy, Numbers, Refusing, appends, fill, has_lists, refill, reserve_anew, test_on_empty,
+    MapBy, Numbers, Refusing, appends, collided, fill, has_lists, refill, reserve_anew,
+    test_on_empty,
 };
 use ordered_multimap_callers::test_with_room;
 use refusing_allocator::RefusingAllocator;
 use std::alloc::Allocator;
 use std::hash::BuildHasher;
-use test_helpers::{Constant, Failed, Test, ZERO, lend, requests_until_enough, try_on_new};
+use test_helpers::{Failed, Test, lend, requests_until_enough, try_on_new};
 
 const PAIRS: &[(u32, u32)] = &[(1, 1), (2, 2), (1, 3)];
 
@@ -27,8 +28,7 @@ fn join<S: BuildHasher, T: BuildHasher>(test: &Test, map: &mut MapBy<S>, other: 
 }
 
 fn join_builders(test: &Test, map: &mut Numbers) {
-    let other: MapBy<Constant> = ListOrderedMultimap::with_hasher(test.alloc(), ZERO);
-    lend(other, |other| {
+    lend(collided(test.alloc()), |other| {
         join(test, map, other);
         join(test, other, map);
     });

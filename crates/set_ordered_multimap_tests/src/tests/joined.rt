@@ -1,11 +1,11 @@
 //! Pairs of a set that all go to another one. Those that this one has are dropped.
 use crate::tests::callers::{join, join_in_room};
-use crate::tests::sets::{Refusing, SetBy, has_lists, refill};
+use crate::tests::sets::{Refusing, SetBy, collided, has_lists, refill};
 use refusing_allocator::RefusingAllocator;
 use set_ordered_multimap::SetOrderedMultimap;
 use std::alloc::Allocator;
 use std::hash::BuildHasher;
-use test_helpers::{Failed, Test, ZERO, lend, requests_until_enough, test_on_new, try_on_new};
+use test_helpers::{Failed, Test, lend, requests_until_enough, test_on_new, try_on_new};
 
 type Pairs = &'static [(u32, u32)];
 
@@ -92,8 +92,7 @@ fn callers<S: BuildHasher, T: BuildHasher>(test: &Test, set: &mut SetBy<S>, othe
 }
 
 fn join_other_builders(test: &Test, set: &mut SetBy) {
-    let other = SetOrderedMultimap::with_hasher(test.alloc(), ZERO);
-    lend(other, |other| {
+    lend(collided(test.alloc()), |other| {
         join_all(test, set, other);
         join_all(test, other, set);
         callers(test, set, other);
