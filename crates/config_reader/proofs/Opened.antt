@@ -1,8 +1,8 @@
 -- The line of a section that is written opens that section.
 use Rattle.std.proofs.Common.{◌≡◌, ◌⊎◌, ℕ, ◌==◌, ◌&&◌, ◌||◌, ◌<◌, ◌≤◌, Bool, true, false, not, cond, List, [], ◌∷◌, ◌++◌}
-use Rattle.std.proofs.Common.{append_assoc, append-nil, refl, sym, ap, subst, ◌∙◌, arith, length, Some, inl, inr}
+use Rattle.std.proofs.Common.{append_assoc, append-nil, refl, sym, ap, subst, ◌∙◌, arith, length, drop, take, Some, inl, inr}
 use Rattle.std.proofs.lemmas.Bool.{and_parts, not-true, true≢false}
-use Rattle.std.proofs.lemmas.Str.{IsUtf8-append, chars-append, chars-encodes, chars_from_encodes, encodes-chars, scalars-chars}
+use Rattle.std.proofs.lemmas.Str.{IsUtf8-append, chars-append, chars-encodes, chars_from_encodes, encode_ascii, encodes-chars, scalars-chars}
 use Rattle.std.proofs.Math.Utf8.{scalar, scalars}
 use Rattle.std.specs.Char.{encode_utf8, is_whitespace}
 use Rattle.std.specs.List.{list_any}
@@ -19,7 +19,9 @@ use Rattle.config_reader.proofs.Blocks.{opening_line}
 use Rattle.config_reader.proofs.Called.{has_it}
 use Rattle.config_reader.proofs.Spelled.{first_stays, lacks_both}
 use Rattle.config_reader.proofs.Stable.{after_cut, before_cut}
+use Rattle.config_reader.proofs.Texts.{utf8_before}
 use Rattle.config_reader.proofs.Values.{or_false}
+use Rattle.config_reader.proofs.WholeLines.{cut_at}
 
 dropped_again : (cs : List ℕ) → drop_trailing_whitespace (drop_trailing_whitespace cs) ≡ drop_trailing_whitespace cs
 dropped_again [] = refl
@@ -72,6 +74,14 @@ trim_trimmed text utf8 =
     ap (λ cs. chars (encode_utf8_all (drop_trailing_whitespace cs))) (chars-encodes skipped valid)
     ∙ chars-encodes (drop_trailing_whitespace skipped) (dropped_scalars skipped valid) in
     subst IsTrimmed (sym same) (trimmed (chars text))
+
+-- what stands in front of an ASCII byte, without blanks
+pub front_trimmed : (text word : List ℕ) (i j b : ℕ) → b < 128 → drop i text ≡ encode_utf8 b ++ drop j text → IsUtf8 text
+    → word ≡ trim (take i text) → IsTrimmed (chars word)
+front_trimmed text word i j b small split utf8 is =
+    let at = split ∙ ap (λ first. first ++ drop j text) (encode_ascii b small) in
+    let front = utf8_before (take i text) b (drop j text) (subst IsUtf8 (cut_at text i j b at) utf8) small in
+    subst (λ t. IsTrimmed (chars t)) (sym is) (trim_trimmed (take i text) front)
 
 -- a blank behind them
 dropped_blank : (cs : List ℕ) → drop_trailing_whitespace (cs ++ 32 ∷ []) ≡ drop_trailing_whitespace cs
@@ -141,14 +151,19 @@ module _ (b : ℕ) where
       let first = or_false (is_outside_sub b || b == 91) (b == 93) none in
       ((or_false (is_outside_sub b) (b == 91) first.0).0, first.1)
 
-module _ (word : List ℕ) (utf8 : IsUtf8 word) (is : IsTrimmed (chars word)) (allowed : is_word word ≡ true) where
-  parts : (has_items word ≡ true) × (list_any is_outside_word word ≡ false)
+-- a text that isn't empty, and has nothing that is outside
+module _ (outside : ℕ → Bool) (text : List ℕ) (allowed : (has_items text && not (list_any outside text)) ≡ true) where
+  parts : (has_items text ≡ true) × (list_any outside text ≡ false)
   parts =
-      let both = and_parts (has_items word) (not (list_any is_outside_word word)) allowed in
-      (both.0, not-true (list_any is_outside_word word) both.1)
+      let both = and_parts (has_items text) (not (list_any outside text)) allowed in
+      (both.0, not-true (list_any outside text) both.1)
 
+  lacks_outside : (b : ℕ) → ((c : ℕ) → outside c ≡ false → (c == b) ≡ false) → Lacks b text
+  lacks_outside b less = any_less (λ c. c == b) outside text less parts.1
+
+module _ (word : List ℕ) (utf8 : IsUtf8 word) (is : IsTrimmed (chars word)) (allowed : is_word word ≡ true) where
   word_lacks : (b : ℕ) → ((c : ℕ) → is_outside_word c ≡ false → (c == b) ≡ false) → Lacks b word
-  word_lacks b outside = any_less (λ c. c == b) is_outside_word word outside parts.1
+  word_lacks = lacks_outside is_outside_word word allowed
 
   no_quote : Lacks 34 word
   no_quote = word_lacks 34 (λ c none. (sub_parts c (word_parts c none).0).0)
@@ -180,13 +195,8 @@ module _ (word : List ℕ) (utf8 : IsUtf8 word) (is : IsTrimmed (chars word)) (a
       ) refl
 
   module _ (sub : List ℕ) (sub_is : is_sub sub ≡ true) where
-    sub_both : (has_items sub ≡ true) × (list_any is_outside_sub sub ≡ false)
-    sub_both =
-        let both = and_parts (has_items sub) (not (list_any is_outside_sub sub)) sub_is in
-        (both.0, not-true (list_any is_outside_sub sub) both.1)
-
     sub_lacks : (b : ℕ) → ((c : ℕ) → is_outside_sub c ≡ false → (c == b) ≡ false) → Lacks b sub
-    sub_lacks b outside = any_less (λ c. c == b) is_outside_sub sub outside sub_both.1
+    sub_lacks = lacks_outside is_outside_sub sub sub_is
 
     quoted_opens : opened ((word ++ 32 ∷ []) ++ 34 ∷ (sub ++ 34 ∷ 93 ∷ [])) ≡ Some (word, sub)
     quoted_opens =
@@ -202,7 +212,7 @@ module _ (word : List ℕ) (utf8 : IsUtf8 word) (is : IsTrimmed (chars word)) (a
           after_cut 34 sub (93 ∷ []) sub_quote,
           before_cut 34 sub (93 ∷ []) sub_quote,
           nothing,
-          blank_trimmed word utf8 is parts.0,
+          blank_trimmed word utf8 is (parts is_outside_word word allowed).0,
           allowed,
           sub_is,
         ) refl

@@ -88,21 +88,16 @@ escape_read e c value rest goes is =
     ∙ step_read QuotesEscape value [] e rest (Quotes, Add c) goes is
     ∙ ap (λ v. read_on Quotes (v ++ c ∷ []) [] rest) (append-nil value)
 
-quote_written : quoted_byte 34 ≡ 92 ∷ 34 ∷ []
-unfolding quoted_byte
-quote_written = refl
+-- the bytes that are written as escapes
+record AreEscaped : Type 0 where
+  quote : quoted_byte 34 ≡ 92 ∷ 34 ∷ []
+  backslash : quoted_byte 92 ≡ 92 ∷ 92 ∷ []
+  feed : quoted_byte 10 ≡ 92 ∷ 110 ∷ []
+  tab : quoted_byte 9 ≡ 92 ∷ 116 ∷ []
 
-backslash_written : quoted_byte 92 ≡ 92 ∷ 92 ∷ []
+escaped : AreEscaped
 unfolding quoted_byte
-backslash_written = refl
-
-feed_written : quoted_byte 10 ≡ 92 ∷ 110 ∷ []
-unfolding quoted_byte
-feed_written = refl
-
-tab_written : quoted_byte 9 ≡ 92 ∷ 116 ∷ []
-unfolding quoted_byte
-tab_written = refl
+escaped = record { quote = refl; backslash = refl; feed = refl; tab = refl }
 
 pub other_written : (b : ℕ) → (b == 34) ≡ false → (b == 92) ≡ false → (b == 10) ≡ false → (b == 9) ≡ false → quoted_byte b ≡ b ∷ []
 unfolding quoted_byte
@@ -115,10 +110,10 @@ byte_read b value rest = by_kind (b == 34) (b == 92) (b == 10) (b == 9) refl ref
   where
     by_kind : (quote backslash feed tab : Bool) → (b == 34) ≡ quote → (b == 92) ≡ backslash → (b == 10) ≡ feed → (b == 9) ≡ tab
         → read_on Quotes value [] (quoted_byte b ++ rest) ≡ read_on Quotes (value ++ b ∷ []) [] rest
-    by_kind true backslash feed tab q k f t = rw (eqb-true b 34 q, quote_written) (escape_read 34 34 value rest refl refl)
-    by_kind false true feed tab q k f t = rw (eqb-true b 92 k, backslash_written) (escape_read 92 92 value rest refl refl)
-    by_kind false false true tab q k f t = rw (eqb-true b 10 f, feed_written) (escape_read 110 10 value rest refl refl)
-    by_kind false false false true q k f t = rw (eqb-true b 9 t, tab_written) (escape_read 116 9 value rest refl refl)
+    by_kind true backslash feed tab q k f t = rw (eqb-true b 34 q, escaped.quote) (escape_read 34 34 value rest refl refl)
+    by_kind false true feed tab q k f t = rw (eqb-true b 92 k, escaped.backslash) (escape_read 92 92 value rest refl refl)
+    by_kind false false true tab q k f t = rw (eqb-true b 10 f, escaped.feed) (escape_read 110 10 value rest refl refl)
+    by_kind false false false true q k f t = rw (eqb-true b 9 t, escaped.tab) (escape_read 116 9 value rest refl refl)
     by_kind false false false false q k f t =
         rw (other_written b q k f t)
         (step_read Quotes value [] b rest (Quotes, Add b) (rw f refl) (rw (q, k) refl)
@@ -262,16 +257,16 @@ other_character_written c quote backslash feed tab = elim (cases_lt c 128) [
 ]
 
 pub quote_character : flat_map quoted_byte (encode_utf8 34) ≡ 92 ∷ 34 ∷ []
-quote_character = character_written 34 (omega arith) ∙ quote_written
+quote_character = character_written 34 (omega arith) ∙ escaped.quote
 
 pub backslash_character : flat_map quoted_byte (encode_utf8 92) ≡ 92 ∷ 92 ∷ []
-backslash_character = character_written 92 (omega arith) ∙ backslash_written
+backslash_character = character_written 92 (omega arith) ∙ escaped.backslash
 
 pub feed_character : flat_map quoted_byte (encode_utf8 10) ≡ 92 ∷ 110 ∷ []
-feed_character = character_written 10 (omega arith) ∙ feed_written
+feed_character = character_written 10 (omega arith) ∙ escaped.feed
 
 pub tab_character : flat_map quoted_byte (encode_utf8 9) ≡ 92 ∷ 116 ∷ []
-tab_character = character_written 9 (omega arith) ∙ tab_written
+tab_character = character_written 9 (omega arith) ∙ escaped.tab
 
 -- the ends of a value, by their places
 pub first_byte : (bytes : List ℕ) → begins_blank bytes ≡ (slice_index bytes 0 == 32)

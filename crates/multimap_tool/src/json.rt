@@ -22,6 +22,7 @@ mod listed;
 mod lists;
 mod numbers;
 mod parts;
+mod reads;
 mod to_json;
 mod written;
 
@@ -30,6 +31,7 @@ use items::read_pair;
 use lists::{both_arrays, read_lists};
 use ordered_multimap::ListOrderedMultimap;
 pub use parts::JsonPart;
+use reads::{ReadKey, ReadValue};
 use serde_json::Value;
 use std::alloc::{AllocError, Allocator, Global};
 use std::hash::{BuildHasher, Hash};
@@ -168,12 +170,7 @@ pub fn from_value<
 }
 
 /// A map of the pairs of the items.
-fn read_items<
-    K: JsonPart + Eq + Hash + Drop,
-    V: JsonPart + Drop,
-    S: BuildHasher + Drop,
-    A: Allocator + Copy,
->(
+fn read_items<K: ReadKey, V: ReadValue, S: BuildHasher + Drop, A: Allocator + Copy>(
     alloc: A,
     memory: Global,
     state: S,
@@ -192,12 +189,7 @@ fn read_items<
 }
 
 /// Appends the pairs of the items to an empty map.
-fn append_items<
-    K: JsonPart + Eq + Hash + Drop,
-    V: JsonPart + Drop,
-    S: BuildHasher,
-    A: Allocator + Copy,
->(
+fn append_items<K: ReadKey, V: ReadValue, S: BuildHasher, A: Allocator + Copy>(
     memory: Global,
     items: &[Value],
     map: &mut ListOrderedMultimap<K, V, S, A>,
@@ -220,12 +212,7 @@ fn append_items<
 
 /// Appends the pair of the item at a position.
 #[tactic(auto, using(crate::proofs::Callers::JsonParts::still_unused))]
-fn append_item<
-    K: JsonPart + Eq + Hash + Drop,
-    V: JsonPart + Drop,
-    S: BuildHasher,
-    A: Allocator + Copy,
->(
+fn append_item<K: ReadKey, V: ReadValue, S: BuildHasher, A: Allocator + Copy>(
     memory: Global,
     index: usize,
     item: &Value,

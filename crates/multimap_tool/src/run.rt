@@ -24,7 +24,7 @@ use crate::run::ask::{first_value, walk_all_values, walk_keys, walk_pairs, walk_
 use crate::run::change::drained::{insert_all, remove_all, remove_entry_all};
 use crate::run::change::written::{or_insert, set_end, set_first};
 use crate::run::change::{append, clear, insert, pop, remove_at};
-use crate::run::json::{reread, reread_lists};
+use crate::run::json::{JsonKey, JsonValue, reread, reread_lists};
 use crate::run::keep::Keep;
 use crate::run::room::{pack_to_fit, reserve};
 use ordered_multimap::{End, ListOrderedMultimap};
@@ -109,13 +109,7 @@ pub fn run<
 }
 
 /// Runs the commands, and puts the replies into an empty list with room for them.
-fn run_all<
-    K: JsonPart + Eq + Hash + Copy,
-    V: JsonPart + Copy,
-    S: BuildHasher + Clone,
-    A: Allocator + Copy,
-    F: Keep<K, V>,
->(
+fn run_all<K: JsonKey, V: JsonValue, S: BuildHasher + Clone, A: Allocator + Copy, F: Keep<K, V>>(
     alloc: A,
     memory: Global,
     map: &mut ListOrderedMultimap<K, V, S, A>,
@@ -140,13 +134,7 @@ fn run_all<
 }
 
 /// Runs one command.
-fn step<
-    K: JsonPart + Eq + Hash + Copy,
-    V: JsonPart + Copy,
-    S: BuildHasher + Clone,
-    A: Allocator + Copy,
-    F: Keep<K, V>,
->(
+fn step<K: JsonKey, V: JsonValue, S: BuildHasher + Clone, A: Allocator + Copy, F: Keep<K, V>>(
     alloc: A,
     memory: Global,
     map: &mut ListOrderedMultimap<K, V, S, A>,

@@ -1,7 +1,7 @@
 //! Callers of entries that are proved for every key type: each knows what the map is afterwards.
 ghost use Rattle.std.specs.Prelude.{◌≡◌, true, false, length, slice_get, Some, IfNone, IfOk, IfSome, OnSome, OnErr, OnOk};
 ghost use Rattle.ordered_multimap.specs.Changes.{appended, first_written, inserted, removed};
-ghost use Rattle.ordered_multimap.specs.Pairs.{is_present as has, values_of};
+ghost use Rattle.ordered_multimap.specs.Pairs.{is_present, values_of};
 ghost use Rattle.ordered_multimap.specs.RemovedAt.{removed_at, removable_value_at};
 
 use ordered_multimap::ListOrderedMultimap;
@@ -15,9 +15,9 @@ pub fn set_or_append<K: Eq + Hash + Drop, V: Copy, S: BuildHasher, A: Allocator 
     key: K,
     value: V,
 ) -> Result<(), Refused<K, V>>
-    ensures present { OnOk result (has K.eq map.old.lists.pairs key ≡ true
+    ensures present { OnOk result (is_present K.eq map.old.lists.pairs key ≡ true
         → map.new.lists ≡ first_written K.eq map.old.lists key value) }
-    ensures absent { OnOk result (has K.eq map.old.lists.pairs key ≡ false
+    ensures absent { OnOk result (is_present K.eq map.old.lists.pairs key ≡ false
         → map.new.lists ≡ appended K.eq map.old.lists key value) }
     ensures unchanged { OnErr result (map.new.lists ≡ map.old.lists) }
 {
@@ -51,9 +51,10 @@ pub fn take_value_out<K: Eq + Hash + Drop, V: Drop, S: BuildHasher, A: Allocator
     key: K,
     index: usize,
 ) -> Option<V>
-    ensures present { has K.eq map.old.lists.pairs key ≡ true
+    ensures present { is_present K.eq map.old.lists.pairs key ≡ true
         → map.new.lists ≡ removed_at K.eq map.old.lists key index }
-    ensures absent { has K.eq map.old.lists.pairs key ≡ false → map.new.lists ≡ map.old.lists }
+    ensures absent { is_present K.eq map.old.lists.pairs key ≡ false
+        → map.new.lists ≡ map.old.lists }
     ensures value { result ≡ removable_value_at K.eq map.old.lists.pairs key index }
 {
     match map.entry(key) {
@@ -70,9 +71,10 @@ pub fn take_last_out<K: Eq + Hash + Drop, V: Drop, S: BuildHasher, A: Allocator>
     map: &mut ListOrderedMultimap<K, V, S, A>,
     key: K,
 ) -> Option<V>
-    ensures present { has K.eq map.old.lists.pairs key ≡ true
+    ensures present { is_present K.eq map.old.lists.pairs key ≡ true
         → map.new.lists ≡ removed K.eq map.old.lists key }
-    ensures absent { has K.eq map.old.lists.pairs key ≡ false → map.new.lists ≡ map.old.lists }
+    ensures absent { is_present K.eq map.old.lists.pairs key ≡ false
+        → map.new.lists ≡ map.old.lists }
 {
     match map.entry(key) {
         Entry::Occupied(entry) => {
@@ -92,9 +94,9 @@ pub fn count_entered<K: Eq + Hash + Drop, V: Drop, S: BuildHasher, A: Allocator 
     key: K,
     value: V,
 ) -> Result<usize, Refused<K, V>>
-    ensures present { OnOk result (has K.eq map.old.lists.pairs key ≡ true
+    ensures present { OnOk result (is_present K.eq map.old.lists.pairs key ≡ true
         → map.new.lists ≡ map.old.lists) }
-    ensures absent { OnOk result (has K.eq map.old.lists.pairs key ≡ false
+    ensures absent { OnOk result (is_present K.eq map.old.lists.pairs key ≡ false
         → map.new.lists ≡ appended K.eq map.old.lists key value) }
     ensures count { IfOk result (λ n. n ≡ length (values_of K.eq map.new.lists.pairs key)) }
     ensures unchanged { OnErr result (map.new.lists ≡ map.old.lists) }
@@ -127,9 +129,10 @@ pub fn set_if_present<K: Eq + Hash + Drop, V: Drop, S: BuildHasher, A: Allocator
     key: K,
     value: V,
 )
-    ensures present { has K.eq map.old.lists.pairs key ≡ true
+    ensures present { is_present K.eq map.old.lists.pairs key ≡ true
         → map.new.lists ≡ first_written K.eq map.old.lists key value }
-    ensures absent { has K.eq map.old.lists.pairs key ≡ false → map.new.lists ≡ map.old.lists }
+    ensures absent { is_present K.eq map.old.lists.pairs key ≡ false
+        → map.new.lists ≡ map.old.lists }
 {
     match map.entry(key) {
         Entry::Occupied(mut entry) => *entry.get_mut() = value,
@@ -143,9 +146,9 @@ pub fn replace_or_append<K: Eq + Hash + Drop, V: Drop, S: BuildHasher, A: Alloca
     key: K,
     value: V,
 ) -> Result<Option<V>, Refused<K, V>>
-    ensures present { has K.eq map.old.lists.pairs key ≡ true
+    ensures present { is_present K.eq map.old.lists.pairs key ≡ true
         → OnOk result (map.new.lists ≡ inserted K.eq map.old.lists key value) }
-    ensures absent { has K.eq map.old.lists.pairs key ≡ false
+    ensures absent { is_present K.eq map.old.lists.pairs key ≡ false
         → OnOk result (map.new.lists ≡ appended K.eq map.old.lists key value) }
     ensures unchanged { OnErr result (map.new.lists ≡ map.old.lists) }
 {

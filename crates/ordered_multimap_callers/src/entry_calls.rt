@@ -7,7 +7,7 @@ ghost use Rattle.ordered_multimap.specs.Changes.{appended, first_written, insert
 ghost use Rattle.ordered_multimap.specs.Drains.{DrainsEntry};
 ghost use Rattle.ordered_multimap.specs.Entries.{IsOccupiedBy};
 ghost use Rattle.ordered_multimap.specs.Keys.{stored_key};
-ghost use Rattle.ordered_multimap.specs.Pairs.{is_present as has, values_of};
+ghost use Rattle.ordered_multimap.specs.Pairs.{is_present, values_of};
 
 use ordered_multimap::ListOrderedMultimap;
 use ordered_multimap::list_ordered_multimap::{
@@ -23,14 +23,15 @@ pub fn replace_if_present<K: Eq + Hash + Drop, V: Drop, S: BuildHasher, A: Alloc
     key: K,
     value: V,
 ) -> Result<Option<V>, RefusedValue<V>>
-    ensures present { has K.eq map.old.lists.pairs key ≡ true
+    ensures present { is_present K.eq map.old.lists.pairs key ≡ true
         → OnOk result (map.new.lists ≡ inserted K.eq map.old.lists key value) }
-    ensures absent { has K.eq map.old.lists.pairs key ≡ false → map.new.lists ≡ map.old.lists }
+    ensures absent { is_present K.eq map.old.lists.pairs key ≡ false
+        → map.new.lists ≡ map.old.lists }
     ensures first { IfOk result (λ first.
         first ≡ slice_get (values_of K.eq map.old.lists.pairs key) 0) }
     ensures unchanged { OnErr result (map.new.lists ≡ map.old.lists) }
     ensures refused { IfErr result (λ r. r.value ≡ value) }
-    ensures vacant { has K.eq map.old.lists.pairs key ≡ false → IsOk result }
+    ensures vacant { is_present K.eq map.old.lists.pairs key ≡ false → IsOk result }
 {
     match map.entry(key) {
         Entry::Occupied(entry) => {
@@ -50,9 +51,10 @@ pub fn swap_first<K: Eq + Hash + Drop, V: Drop, S: BuildHasher, A: Allocator>(
     key: K,
     value: V,
 ) -> Option<V>
-    ensures present { has K.eq map.old.lists.pairs key ≡ true
+    ensures present { is_present K.eq map.old.lists.pairs key ≡ true
         → map.new.lists ≡ first_written K.eq map.old.lists key value }
-    ensures absent { has K.eq map.old.lists.pairs key ≡ false → map.new.lists ≡ map.old.lists }
+    ensures absent { is_present K.eq map.old.lists.pairs key ≡ false
+        → map.new.lists ≡ map.old.lists }
     ensures first { result ≡ slice_get (values_of K.eq map.old.lists.pairs key) 0 }
 {
     match map.entry(key) {
@@ -69,9 +71,10 @@ pub fn take_pair_out<K: Eq + Hash + Drop, V: Drop, S: BuildHasher, A: Allocator>
     map: &mut ListOrderedMultimap<K, V, S, A>,
     key: K,
 ) -> Option<(K, V)>
-    ensures present { has K.eq map.old.lists.pairs key ≡ true
+    ensures present { is_present K.eq map.old.lists.pairs key ≡ true
         → map.new.lists ≡ removed K.eq map.old.lists key }
-    ensures absent { has K.eq map.old.lists.pairs key ≡ false → map.new.lists ≡ map.old.lists }
+    ensures absent { is_present K.eq map.old.lists.pairs key ≡ false
+        → map.new.lists ≡ map.old.lists }
     ensures pair { result ≡ option_map (λ v. (stored_key K.eq map.old.lists.keys key, v))
         (slice_get (values_of K.eq map.old.lists.pairs key) 0) }
 {
@@ -112,9 +115,10 @@ pub fn take_key_out<K: Eq + Hash + Drop, V: Drop, S: BuildHasher, A: Allocator>(
     map: &mut ListOrderedMultimap<K, V, S, A>,
     key: K,
 ) -> Option<(K, usize)>
-    ensures present { has K.eq map.old.lists.pairs key ≡ true
+    ensures present { is_present K.eq map.old.lists.pairs key ≡ true
         → map.new.lists ≡ removed K.eq map.old.lists key }
-    ensures absent { has K.eq map.old.lists.pairs key ≡ false → map.new.lists ≡ map.old.lists }
+    ensures absent { is_present K.eq map.old.lists.pairs key ≡ false
+        → map.new.lists ≡ map.old.lists }
     ensures key { option_map (λ r. r.0) result
         ≡ option_map (λ _. stored_key K.eq map.old.lists.keys key)
         (slice_get (values_of K.eq map.old.lists.pairs key) 0) }
@@ -139,12 +143,13 @@ pub fn count_inserted<K: Eq + Hash + Drop, V: Drop, S: BuildHasher, A: Allocator
     key: K,
     value: V,
 ) -> Result<usize, Refused<K, V>>
-    ensures present { has K.eq map.old.lists.pairs key ≡ true → map.new.lists ≡ map.old.lists }
-    ensures absent { has K.eq map.old.lists.pairs key ≡ false
+    ensures present { is_present K.eq map.old.lists.pairs key ≡ true
+        → map.new.lists ≡ map.old.lists }
+    ensures absent { is_present K.eq map.old.lists.pairs key ≡ false
         → OnOk result (map.new.lists ≡ appended K.eq map.old.lists key value) }
     ensures count { IfOk result (λ n. n ≡ length (values_of K.eq map.new.lists.pairs key)) }
     ensures unchanged { OnErr result (map.new.lists ≡ map.old.lists) }
-    ensures occupied { has K.eq map.old.lists.pairs key ≡ true → IsOk result }
+    ensures occupied { is_present K.eq map.old.lists.pairs key ≡ true → IsOk result }
     ensures refused { IfErr result (λ pair. pair ≡ record { key = key; value = value }) }
 {
     match map.entry(key) {
@@ -169,12 +174,13 @@ where
     A: Allocator,
     F: FnOnce(&mut V),
     requires { F.IsAlwaysCallable change }
-    ensures present { has K.eq map.old.lists.pairs key ≡ true
+    ensures present { is_present K.eq map.old.lists.pairs key ≡ true
         → (was : V) × (left : V) × MayWrite F.FnOnce change was left
         × (slice_get (values_of K.eq map.old.lists.pairs key) 0 ≡ Some was)
         × (map.new.lists ≡ first_written K.eq map.old.lists key left) }
-    ensures absent { has K.eq map.old.lists.pairs key ≡ false → map.new.lists ≡ map.old.lists }
-    ensures answer { result ≡ has K.eq map.old.lists.pairs key }
+    ensures absent { is_present K.eq map.old.lists.pairs key ≡ false
+        → map.new.lists ≡ map.old.lists }
+    ensures answer { result ≡ is_present K.eq map.old.lists.pairs key }
 {
     match map.entry(key).and_modify(change) {
         Entry::Occupied(_entry) => true,
@@ -197,14 +203,15 @@ where
     S: BuildHasher,
     A: Allocator + Copy,
     F: FnOnce() -> V,
-    requires { has K.eq map.old.lists.pairs key ≡ false → F.pre make }
-    ensures present { has K.eq map.old.lists.pairs key ≡ true → map.new.lists ≡ map.old.lists }
-    ensures absent { has K.eq map.old.lists.pairs key ≡ false
+    requires { is_present K.eq map.old.lists.pairs key ≡ false → F.pre make }
+    ensures present { is_present K.eq map.old.lists.pairs key ≡ true
+        → map.new.lists ≡ map.old.lists }
+    ensures absent { is_present K.eq map.old.lists.pairs key ≡ false
         → IfOk result (λ v. map.new.lists ≡ appended K.eq map.old.lists key v) }
     ensures first { IfOk result (λ v.
         UnwrapsOrElse (slice_get (values_of K.eq map.old.lists.pairs key) 0) (F.post make) v) }
     ensures unchanged { OnErr result (map.new.lists ≡ map.old.lists) }
-    ensures occupied { has K.eq map.old.lists.pairs key ≡ true → IsOk result }
+    ensures occupied { is_present K.eq map.old.lists.pairs key ≡ true → IsOk result }
     ensures refused { IfErr result (λ pair. (pair.key ≡ key) × F.post make pair.value) }
 {
     let first = map.entry(key).or_insert_with(make)?;
@@ -223,14 +230,15 @@ where
     S: BuildHasher,
     A: Allocator + Copy,
     F: FnOnce() -> V,
-    requires { has K.eq map.old.lists.pairs key ≡ false → F.pre make }
-    ensures present { has K.eq map.old.lists.pairs key ≡ true → map.new.lists ≡ map.old.lists }
-    ensures absent { has K.eq map.old.lists.pairs key ≡ false
+    requires { is_present K.eq map.old.lists.pairs key ≡ false → F.pre make }
+    ensures present { is_present K.eq map.old.lists.pairs key ≡ true
+        → map.new.lists ≡ map.old.lists }
+    ensures absent { is_present K.eq map.old.lists.pairs key ≡ false
         → OnOk result ((v : V) × F.post make v
         × (map.new.lists ≡ appended K.eq map.old.lists key v)) }
     ensures count { IfOk result (λ n. n ≡ length (values_of K.eq map.new.lists.pairs key)) }
     ensures unchanged { OnErr result (map.new.lists ≡ map.old.lists) }
-    ensures occupied { has K.eq map.old.lists.pairs key ≡ true → IsOk result }
+    ensures occupied { is_present K.eq map.old.lists.pairs key ≡ true → IsOk result }
     ensures refused { IfErr result (λ pair. (pair.key ≡ key) × F.post make pair.value) }
 {
     let entry = map.entry(key).or_insert_with_entry(make)?;

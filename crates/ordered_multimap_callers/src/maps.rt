@@ -4,7 +4,7 @@ use ordered_multimap::list_ordered_multimap::DefaultState;
 use refusing_allocator::RefusingAllocator;
 use std::alloc::{Allocator, Global};
 use std::hash::{BuildHasher, Hash};
-use test_helpers::{Checked, Failed, Plain, Step, Test, gives, walk_difference};
+use test_helpers::{Checked, Constant, Failed, Plain, Step, Test, ZERO, gives, walk_difference};
 
 /// A map of numbers.
 pub type Numbers = ListOrderedMultimap<u32, u32>;
@@ -31,6 +31,11 @@ pub const MIXED_TEXTS: &[(&str, &str)] = &[
     ("key2", "value3"),
     ("key1", "value4"),
 ];
+
+/// An empty map in which all keys have the same hash.
+pub fn collided<K: Eq + Hash, V>(alloc: Global) -> ListOrderedMultimap<K, V, Constant> {
+    ListOrderedMultimap::with_hasher(alloc, ZERO)
+}
 
 /// Appends these pairs.
 pub fn fill<K: Eq + Hash + Copy, V: Copy, S: BuildHasher, A: Allocator + Copy>(

@@ -1,6 +1,6 @@
 -- How an encoded text is read, step by step, and that what is written is read again.
 use Rattle.std.proofs.Common.{◌≡◌, ◌≢◌, ℕ, ◌+◌, ◌*◌, ◌/◌, ◌%◌, ◌<◌, ◌≤◌, Bool, true, false, ◌==◌, ◌&&◌, List, [], ◌∷◌, ◌++◌, append_assoc}
-use Rattle.std.proofs.Common.{append-nil, refl, sym, ap, ◌∙◌, arith, lt-ltb, ne_eqb, Some, None, length, get_or}
+use Rattle.std.proofs.Common.{append-nil, refl, sym, ap, subst, ◌∙◌, arith, lt-ltb, ne_eqb, Some, None, length, get_or}
 use Rattle.std.specs.Prelude.{Option, All}
 use Rattle.std.proofs.lemmas.Bool.{eqb-true}
 use Rattle.std.proofs.lemmas.Bool.Decides.{nat_tests}
@@ -65,14 +65,22 @@ nothing_read (d ∷ rest) none = absurd (omega arith)
 pub glyph_value : (d : ℕ) → d < 16 → digit_value (digit_glyph true d) ≡ d
 glyph_value d h = grind (arith, nat_tests)
 
--- an escape is read as its byte
-escape_of_read : (b : ℕ) (rest : List ℕ) → b < 256 → read (escape_of b ++ rest) ≡ before b (read rest)
-escape_of_read b rest h =
+-- what holds of any two digits and their value holds of those of a byte
+pub digits_hold : (Holds : ℕ → ℕ → ℕ → Type 0) (b : ℕ) → b < 256
+    → ((high low : ℕ) → digit_value high < 16 → digit_value low < 16 → Holds high low (16 * digit_value high + digit_value low))
+    → Holds (digit_glyph true (b / 16)) (digit_glyph true (b % 16)) b
+digits_hold Holds b h any =
     let high = glyph_value (b / 16) (omega arith) in
     let low = glyph_value (b % 16) (omega arith) in
     let same : 16 * (b / 16) + b % 16 ≡ b = omega arith in
-    escape_read (digit_glyph true (b / 16)) (digit_glyph true (b % 16)) rest (omega (arith, high)) (omega (arith, low))
-    ∙ rw (high, low, same)
+    let value : 16 * digit_value (digit_glyph true (b / 16)) + digit_value (digit_glyph true (b % 16)) ≡ b = rw (high, low) same in
+    subst (Holds (digit_glyph true (b / 16)) (digit_glyph true (b % 16))) value
+    (any (digit_glyph true (b / 16)) (digit_glyph true (b % 16)) (omega (arith, high)) (omega (arith, low)))
+
+-- an escape is read as its byte
+escape_of_read : (b : ℕ) (rest : List ℕ) → b < 256 → read (escape_of b ++ rest) ≡ before b (read rest)
+escape_of_read b rest h =
+    digits_hold (λ high low v. read (37 ∷ high ∷ low ∷ rest) ≡ before v (read rest)) b h (λ high low x y. escape_read high low rest x y)
 
 -- what stands for itself is no `%` and no `+`
 pub kept : (b : ℕ) → is_unreserved b ≡ true → (b ≢ 37) × (b ≢ 43)
@@ -94,17 +102,21 @@ pub escape_written : (b : ℕ) → is_unreserved b ≡ false → b ≢ 32 → wr
 unfolding written_byte
 escape_written b other no_space = rw (other, ne_eqb b 32 no_space)
 
+-- what holds of each form holds of what is written of a byte
+pub form_holds : (Holds : ℕ → List ℕ → Type 0) (b : ℕ) → (is_unreserved b ≡ true → Holds b (b ∷ [])) → Holds 32 (43 ∷ [])
+    → Holds b (escape_of b) → Holds b (written_byte b)
+form_holds Holds b plain space escape = by_kind (is_unreserved b) (b == 32) refl refl
+  where
+    by_kind : (u s : Bool) → is_unreserved b ≡ u → (b == 32) ≡ s → Holds b (written_byte b)
+    by_kind true s is_plain is_space = rw (plain_written b is_plain) (plain is_plain)
+    by_kind false true is_plain is_space = rw (eqb-true b 32 is_space, space_written) space
+    by_kind false false is_plain is_space = rw (escape_written b is_plain (grind (arith, nat_tests))) escape
+
 -- a byte that is written is read again
 written_byte_read : (b : ℕ) (rest : List ℕ) → b < 256 → read (written_byte b ++ rest) ≡ before b (read rest)
-written_byte_read b rest h = by_kind (is_unreserved b) (b == 32) refl refl
-  where
-    by_kind : (u s : Bool) → is_unreserved b ≡ u → (b == 32) ≡ s → read (written_byte b ++ rest) ≡ before b (read rest)
-    by_kind true s plain space =
-        rw (plain_written b plain) (other_read b rest (kept b plain).0 (kept b plain).1)
-    by_kind false true plain space =
-        rw (eqb-true b 32 space, space_written) (space_read rest)
-    by_kind false false plain space =
-        rw (escape_written b plain (grind (arith, nat_tests))) (escape_of_read b rest h)
+written_byte_read b rest h =
+    form_holds (λ c form. read (form ++ rest) ≡ before c (read rest)) b
+    (λ plain. other_read b rest (kept b plain).0 (kept b plain).1) (space_read rest) (escape_of_read b rest h)
 
 -- what is written is read again
 pub written_read : (text : List ℕ) → All (λ b. b < 256) text → read (written text) ≡ Some text

@@ -1,7 +1,6 @@
 -- What is written is read again.
-use Rattle.std.proofs.Common.{◌≡◌, ℕ, suc, ◌+◌, ◌*◌, ◌/◌, ◌%◌, ◌<◌, Bool, true, false, ◌==◌, List, [], ◌∷◌, ◌++◌}
+use Rattle.std.proofs.Common.{◌≡◌, ℕ, suc, ◌+◌, ◌/◌, ◌%◌, ◌<◌, Bool, true, false, ◌==◌, List, [], ◌∷◌, ◌++◌}
 use Rattle.std.proofs.Common.{refl, ap, ◌∙◌, arith, filter, map, append-nil}
-use Rattle.std.proofs.lemmas.Bool.{eqb-true}
 use Rattle.std.proofs.lemmas.Bool.Decides.{nat_tests}
 use Rattle.std.proofs.lemmas.Str.{utf8_lossy-IsUtf8}
 use Rattle.std.specs.Fmt.{digit_glyph}
@@ -11,29 +10,19 @@ use Rattle.std.specs.Str.Lossy.{utf8_lossy}
 use Rattle.ordered_multimap.specs.Pairs.{has_items}
 use Rattle.query_fields.specs.Escape.{is_unreserved, escape_of, written_byte, written, read_any}
 use Rattle.query_fields.specs.Queries.{AreBytes, AreTexts, field_read, query_read, text_read, written_field, written_fields, written_query}
-use Rattle.query_fields.proofs.Reading.{glyph_value, kept, plain_written, space_written, escape_written}
+use Rattle.query_fields.proofs.Reading.{digits_hold, form_holds, kept}
 use Rattle.query_fields.proofs.ReadingAny.{space_any, other_any, escape_any, nothing_any}
 
 -- an escape is read as its byte
 escape_of_any : (b : ℕ) (rest : List ℕ) → b < 256 → read_any (escape_of b ++ rest) ≡ b ∷ read_any rest
 escape_of_any b rest h =
-    let high = glyph_value (b / 16) (omega arith) in
-    let low = glyph_value (b % 16) (omega arith) in
-    let same : 16 * (b / 16) + b % 16 ≡ b = omega arith in
-    escape_any (digit_glyph true (b / 16)) (digit_glyph true (b % 16)) rest (omega (arith, high)) (omega (arith, low))
-    ∙ rw (high, low, same)
+    digits_hold (λ high low v. read_any (37 ∷ high ∷ low ∷ rest) ≡ v ∷ read_any rest) b h (λ high low x y. escape_any high low rest x y)
 
 -- a byte that is written is read again
 written_byte_any : (b : ℕ) (rest : List ℕ) → b < 256 → read_any (written_byte b ++ rest) ≡ b ∷ read_any rest
-written_byte_any b rest h = by_kind (is_unreserved b) (b == 32) refl refl
-  where
-    by_kind : (u s : Bool) → is_unreserved b ≡ u → (b == 32) ≡ s → read_any (written_byte b ++ rest) ≡ b ∷ read_any rest
-    by_kind true s plain space =
-        rw (plain_written b plain) (other_any b rest (kept b plain).0 (kept b plain).1)
-    by_kind false true plain space =
-        rw (eqb-true b 32 space, space_written) (space_any rest)
-    by_kind false false plain space =
-        rw (escape_written b plain (grind (arith, nat_tests))) (escape_of_any b rest h)
+written_byte_any b rest h =
+    form_holds (λ c form. read_any (form ++ rest) ≡ c ∷ read_any rest) b
+    (λ plain. other_any b rest (kept b plain).0 (kept b plain).1) (space_any rest) (escape_of_any b rest h)
 
 -- and so is a text
 written_any : (text : List ℕ) → AreBytes text → read_any (written text) ≡ text
@@ -57,16 +46,12 @@ plain_lacks : (b : ℕ) → is_unreserved b ≡ true → ((b == 38) ≡ false) �
 plain_lacks b plain = (grind (arith, nat_tests), grind (arith, nat_tests))
 
 written_byte_lacks : (b : ℕ) → b < 256 → Lacks 38 (written_byte b) × Lacks 61 (written_byte b)
-written_byte_lacks b h = by_kind (is_unreserved b) (b == 32) refl refl
-  where
-    by_kind : (u s : Bool) → is_unreserved b ≡ u → (b == 32) ≡ s → Lacks 38 (written_byte b) × Lacks 61 (written_byte b)
-    by_kind true s plain space =
-        rw (plain_written b plain) (let no = plain_lacks b plain in ((no.0, tt), (no.1, tt)))
-    by_kind false true plain space =
-        rw (eqb-true b 32 space, space_written) ((refl, tt), (refl, tt))
-    by_kind false false plain space =
-        let high = glyph_lacks (b / 16) (omega arith) in let low = glyph_lacks (b % 16) (omega arith) in
-        rw (escape_written b plain (grind (arith, nat_tests))) ((refl, (high.0, (low.0, tt))), (refl, (high.1, (low.1, tt))))
+written_byte_lacks b h =
+    let high = glyph_lacks (b / 16) (omega arith) in
+    let low = glyph_lacks (b % 16) (omega arith) in
+    form_holds (λ c form. Lacks 38 form × Lacks 61 form) b
+    (λ plain. let no = plain_lacks b plain in ((no.0, tt), (no.1, tt))) ((refl, tt), (refl, tt))
+    ((refl, (high.0, (low.0, tt))), (refl, (high.1, (low.1, tt))))
 
 written_lacks : (text : List ℕ) → AreBytes text → Lacks 38 (written text) × Lacks 61 (written text)
 written_lacks [] bytes = (tt, tt)

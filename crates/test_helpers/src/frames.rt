@@ -23,16 +23,3 @@ macro_rules! test_all {
         test.end()
     }};
 }
-
-/// Lends a check what is made with an allocator, and returns whether so many requests were enough.
-#[macro_export]
-macro_rules! try_on_new {
-    ($test:expr, $granted:expr; $new:path; $tries:path $(, $given:expr)*) => {{
-        let allocator = RefusingAllocator::unlimited($test.alloc());
-        let enough = test_helpers::lend($new(&allocator), |new| {
-            $tries($test, &allocator, new, $granted $(, $given)*)
-        });
-        $test.expect(enough || allocator.refused());
-        enough
-    }};
-}

@@ -1,4 +1,4 @@
-//! Values that are lent to checks, and calls with each request for memory refused in turn.
+//! Values that are lent to checks.
 use crate::steps::{Checked, Failed};
 use std::alloc::Global;
 use std::rc::Rc;
@@ -63,23 +63,4 @@ pub fn lend_made<M: Drop, E, F: FnOnce(&mut M), G: FnOnce(E)>(
             false
         }
     }
-}
-
-// More requests than any call of these tests makes.
-const MANY: u64 = 99;
-
-/// Tries a call with 0 granted requests for memory, then 1, and so on, until `is_enough` returns
-/// that so many were enough; returns that number, or none if 98 aren't enough.
-///
-/// `is_enough` is handed the number of granted requests. It makes all anew, tries the call, and
-/// checks what a refused one has left.
-pub fn requests_until_enough<F: Fn(u64) -> bool + Drop>(is_enough: F) -> Option<u64>
-    requires { F.IsAlwaysCallable is_enough }
-{
-    for granted in 0..MANY {
-        if is_enough(granted) {
-            return Some(granted);
-        }
-    }
-    None
 }

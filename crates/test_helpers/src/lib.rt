@@ -3,12 +3,16 @@
 #![tactic(auto)]
 
 mod frames;
+mod hash;
 mod lent;
+mod requests;
 mod steps;
 mod values;
 mod walks;
 
-pub use lent::{lend, lend_made, requests_until_enough, test_on_new, test_on_share};
+pub use hash::{Constant, ZERO};
+pub use lent::{lend, lend_made, test_on_new, test_on_share};
+pub use requests::requests_until_enough;
 pub use steps::{Checked, Failed, Test, expect_text};
-pub use values::{Constant, ZERO, is_compared, is_copied, is_shown};
+pub use values::{is_compared, is_copied, is_shown};
 pub use walks::{B, End, F, Plain, Step, copied, gives, taken, walk_difference};

@@ -3,7 +3,7 @@ use crate::tests::slots::{Slot, add_slots, add_slots_on};
 use multimap_slots::{SlotList, Tape};
 use refusing_allocator::RefusingAllocator;
 use std::alloc::{AllocError, Allocator};
-use test_helpers::{Failed, Test, lend, requests_until_enough};
+use test_helpers::{Failed, Test, lend, requests_until_enough, try_on_new};
 
 // Which of both.
 #[derive(Clone, Copy)]
@@ -27,7 +27,7 @@ impl<A: Allocator + Copy> Both<A> {
         }
     }
 
-    fn new(kind: Kind, alloc: A) -> Both<A> {
+    fn new(alloc: A, kind: Kind) -> Both<A> {
         match kind {
             Kind::List => Both::List(SlotList::new(alloc)),
             Kind::Tape => Both::Tape(Tape::new(alloc)),
@@ -139,39 +139,17 @@ fn is_enough<A: Allocator + Copy>(test: &Test, list: &mut Both<A>, call: Call) -
 }
 
 // After a refusal the list is as before.
-fn call_and_compare<A: Allocator + Copy>(
-    test: &Test,
-    list: &mut Both<A>,
-    call: Call,
-    before: &Vec<Slot>,
-) -> bool {
+fn call_and_compare<A: Allocator + Copy>(test: &Test, list: &mut Both<A>, call: Call) -> bool {
+    let before = list.slots(test);
     let capacity = list.capacity();
     let enough = is_enough(test, list, call);
     test.expect(list.capacity() >= capacity);
-    test.expect(enough || list.slots(test) == *before);
-    enough
-}
-
-fn call_with<A: Allocator + Copy>(
-    test: &Test,
-    memory: &RefusingAllocator,
-    list: &mut Both<A>,
-    call: Call,
-    granted: u64,
-) -> bool {
-    make_full(test, list);
-    let before = list.slots(test);
-    memory.grant(granted);
-    let enough = call_and_compare(test, list, call, &before);
-    test.expect(enough != memory.refused());
+    test.expect(enough || list.slots(test) == before);
     enough
 }
 
 fn call_on(test: &Test, kind: Kind, call: Call, granted: u64) -> bool {
-    let allocator = RefusingAllocator::unlimited(test.alloc());
-    lend(Both::new(kind, &allocator), |list| {
-        call_with(test, &allocator, list, call, granted)
-    })
+    try_on_new!(test, granted; Both::new, kind; make_full; call_and_compare, call)
 }
 
 fn refusals_change_nothing(test: &Test, kind: Kind, call: Call) {
@@ -219,7 +197,7 @@ fn fill_room<A: Allocator + Copy>(test: &Test, memory: &RefusingAllocator, list:
 
 fn room_of(test: &Test, kind: Kind) {
     let allocator = RefusingAllocator::unlimited(test.alloc());
-    lend(Both::new(kind, &allocator), |list| {
+    lend(Both::new(&allocator, kind), |list| {
         fill_room(test, &allocator, list);
     });
 }

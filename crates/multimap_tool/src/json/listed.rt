@@ -18,7 +18,7 @@ ghost use Rattle.multimap_tool.specs.Private.JsonSteps.{AppendsPair, AppendsPair
 
 use super::faults::{PartFault, ReadFault};
 use super::items::read_key;
-use super::parts::JsonPart;
+use super::reads::{ReadKey, ReadValue};
 use ordered_multimap::ListOrderedMultimap;
 use ordered_multimap::list_ordered_multimap::KeyWrapper;
 use serde_json::Value;
@@ -26,12 +26,7 @@ use std::alloc::{Allocator, Global};
 use std::hash::{BuildHasher, Hash};
 
 /// Appends each key of the items to an empty map, with this value.
-pub(super) fn append_keys<
-    K: JsonPart + Eq + Hash + Drop,
-    V: JsonPart + Drop,
-    S: BuildHasher,
-    A: Allocator + Copy,
->(
+pub(super) fn append_keys<K: ReadKey, V: ReadValue, S: BuildHasher, A: Allocator + Copy>(
     memory: Global,
     items: &[Value],
     value: &Value,
@@ -55,12 +50,7 @@ pub(super) fn append_keys<
 
 /// Appends the key of the item at a position, with this value.
 #[tactic(auto, using(crate::proofs::Callers::JsonParts::still_unused))]
-fn append_key<
-    K: JsonPart + Eq + Hash + Drop,
-    V: JsonPart + Drop,
-    S: BuildHasher,
-    A: Allocator + Copy,
->(
+fn append_key<K: ReadKey, V: ReadValue, S: BuildHasher, A: Allocator + Copy>(
     memory: Global,
     index: usize,
     item: &Value,
@@ -96,12 +86,7 @@ fn append_key<
 }
 
 /// Appends the pairs of the items, whose keys are all listed.
-pub(super) fn append_listed_pairs<
-    K: JsonPart + Eq + Hash + Drop,
-    V: JsonPart + Drop,
-    S: BuildHasher,
-    A: Allocator + Copy,
->(
+pub(super) fn append_listed_pairs<K: ReadKey, V: ReadValue, S: BuildHasher, A: Allocator + Copy>(
     memory: Global,
     items: &[Value],
     map: &mut ListOrderedMultimap<K, V, S, A>,
@@ -120,12 +105,7 @@ pub(super) fn append_listed_pairs<
 }
 
 /// Appends the pair of the item at a position, whose key is listed.
-fn append_listed_pair<
-    K: JsonPart + Eq + Hash + Drop,
-    V: JsonPart + Drop,
-    S: BuildHasher,
-    A: Allocator + Copy,
->(
+fn append_listed_pair<K: ReadKey, V: ReadValue, S: BuildHasher, A: Allocator + Copy>(
     memory: Global,
     index: usize,
     item: &Value,

@@ -13,11 +13,11 @@ ghost use Rattle.multimap_tool.specs.Private.JsonSteps.{AnswersLists};
 use super::faults::{PartFault, ReadFault};
 use super::items::{read_key, two_parts};
 use super::listed::{append_keys, append_listed_pairs, refused_value, take_placeholder_pairs};
-use super::parts::JsonPart;
+use super::reads::{ReadKey, ReadValue};
 use ordered_multimap::ListOrderedMultimap;
 use serde_json::Value;
 use std::alloc::{Allocator, Global};
-use std::hash::{BuildHasher, Hash};
+use std::hash::BuildHasher;
 
 /// The arrays `keys` and `pairs` of an object that has exactly these members.
 pub(super) fn both_arrays(value: &Value) -> Option<(&Vec<Value>, &Vec<Value>)>
@@ -48,12 +48,7 @@ fn array_at<'v>(value: &'v Value, name: &str) -> Option<&'v Vec<Value>>
 }
 
 /// A map of the items of both arrays.
-pub(super) fn read_lists<
-    K: JsonPart + Eq + Hash + Drop,
-    V: JsonPart + Drop,
-    S: BuildHasher + Drop,
-    A: Allocator + Copy,
->(
+pub(super) fn read_lists<K: ReadKey, V: ReadValue, S: BuildHasher + Drop, A: Allocator + Copy>(
     alloc: A,
     memory: Global,
     state: S,
@@ -71,10 +66,7 @@ pub(super) fn read_lists<
 }
 
 /// The part of the first pair that is a value, if it is one.
-fn first_value<V: JsonPart + Drop>(
-    memory: Global,
-    pairs: &[Value],
-) -> Result<Option<&Value>, ReadFault>
+fn first_value<V: ReadValue>(memory: Global, pairs: &[Value]) -> Result<Option<&Value>, ReadFault>
     ensures value { IfOk result (λ found. IfSome found (λ part. V.is_part (view part.now) ≡ true)) }
     ensures none { IfOk result (λ found. found ≡ None
         → has_value V.is_part (items_view pairs.now) ≡ false) }
@@ -95,12 +87,7 @@ fn first_value<V: JsonPart + Drop>(
 
 /// Reads both arrays where a value is known that can stand for each listed key until its own pairs
 /// come.
-fn read_with_value<
-    K: JsonPart + Eq + Hash + Drop,
-    V: JsonPart + Drop,
-    S: BuildHasher + Drop,
-    A: Allocator + Copy,
->(
+fn read_with_value<K: ReadKey, V: ReadValue, S: BuildHasher + Drop, A: Allocator + Copy>(
     alloc: A,
     memory: Global,
     state: S,
@@ -121,12 +108,7 @@ fn read_with_value<
 
 /// Puts the keys and the pairs into an empty map: each key first with the value, so that the keys
 /// come in their order, and these pairs go again once all others are there.
-fn append_lists<
-    K: JsonPart + Eq + Hash + Drop,
-    V: JsonPart + Drop,
-    S: BuildHasher,
-    A: Allocator + Copy,
->(
+fn append_lists<K: ReadKey, V: ReadValue, S: BuildHasher, A: Allocator + Copy>(
     memory: Global,
     keys: &[Value],
     pairs: &[Value],
@@ -150,12 +132,7 @@ fn append_lists<
 
 /// Reads both arrays where the first pair has no value, or there is none: unless both are empty
 /// there is a fault.
-fn read_without_value<
-    K: JsonPart + Eq + Hash + Drop,
-    V: JsonPart + Drop,
-    S: BuildHasher + Drop,
-    A: Allocator + Copy,
->(
+fn read_without_value<K: ReadKey, V: ReadValue, S: BuildHasher + Drop, A: Allocator + Copy>(
     alloc: A,
     memory: Global,
     state: S,
@@ -181,7 +158,7 @@ fn read_without_value<
 
 /// What is wrong with pairs of which the first has no value, or that are none, where all keys are
 /// listed.
-fn fault_without_value<K: JsonPart + Eq + Hash + Drop, S: BuildHasher, A: Allocator>(
+fn fault_without_value<K: ReadKey, S: BuildHasher, A: Allocator>(
     memory: Global,
     pairs: &[Value],
     listed: &ListOrderedMultimap<K, bool, S, A>,

@@ -9,13 +9,22 @@ use ordered_multimap::ListOrderedMultimap;
 use std::alloc::{Allocator, Global};
 use std::hash::{BuildHasher, Hash};
 
+/// What is the key of a map that is read back.
+pub(crate) trait JsonKey: JsonPart + Eq + Hash + Copy {}
+
+impl<T: JsonPart + Eq + Hash + Copy> JsonKey for T {}
+
+/// What is a value of such a map.
+pub(crate) trait JsonValue: JsonPart + Copy {}
+
+impl<T: JsonPart + Copy> JsonValue for T {}
+
 /// Puts in the map's place what is read of its JSON value.
-pub(crate) fn reread<
-    K: JsonPart + Eq + Hash + Copy,
-    V: JsonPart + Copy,
-    S: BuildHasher + Clone,
-    A: Allocator + Copy,
->(alloc: A, memory: Global, map: &mut ListOrderedMultimap<K, V, S, A>) -> Reply<K, V, A>
+pub(crate) fn reread<K: JsonKey, V: JsonValue, S: BuildHasher + Clone, A: Allocator + Copy>(
+    alloc: A,
+    memory: Global,
+    map: &mut ListOrderedMultimap<K, V, S, A>,
+) -> Reply<K, V, A>
     requires { DifferAsJson K.json V.json }
     ensures { IsOwnMapStep K.eq S.is_clone Command.Json map.old map.new result }
 {
@@ -38,12 +47,11 @@ pub(crate) fn reread<
 }
 
 /// Puts in the map's place what is read of the JSON value of both of its lists.
-pub(crate) fn reread_lists<
-    K: JsonPart + Eq + Hash + Copy,
-    V: JsonPart + Copy,
-    S: BuildHasher + Clone,
-    A: Allocator + Copy,
->(alloc: A, memory: Global, map: &mut ListOrderedMultimap<K, V, S, A>) -> Reply<K, V, A>
+pub(crate) fn reread_lists<K: JsonKey, V: JsonValue, S: BuildHasher + Clone, A: Allocator + Copy>(
+    alloc: A,
+    memory: Global,
+    map: &mut ListOrderedMultimap<K, V, S, A>,
+) -> Reply<K, V, A>
     requires { DifferAsJson K.json V.json }
     ensures { IsOwnMapStep K.eq S.is_clone Command.Json2 map.old map.new result }
 {

@@ -48,19 +48,10 @@ fn read<K: JsonPart + Eq + Hash + Copy, V: JsonPart + Eq + Copy>(
     keys: &[K],
     written: &str,
 ) -> Result<bool, ReadFault> {
-    match Value::from_str(alloc, text) {
-        Ok(value) => read_value::<K, V>(alloc, &value, keys, written),
-        Err(_) => Ok(false),
-    }
-}
-
-fn read_value<K: JsonPart + Eq + Hash + Copy, V: JsonPart + Eq + Copy>(
-    alloc: Global,
-    value: &Value,
-    keys: &[K],
-    written: &str,
-) -> Result<bool, ReadFault> {
-    match from_value::<K, V, _, _>(alloc, alloc, DefaultState::new(), value) {
+    let Ok(value) = Value::from_str(alloc, text) else {
+        return Ok(false);
+    };
+    match from_value::<K, V, _, _>(alloc, alloc, DefaultState::new(), &value) {
         Ok(map) => {
             let same = map.keys().copied().eq(keys.iter().copied());
             Ok(same && is_written(alloc, &map, written))

@@ -1,13 +1,14 @@
 //! Pairs of a map that all go to another one; `map_calls` has the rows.
 use ordered_multimap::ListOrderedMultimap;
 use ordered_multimap_callers::maps::{
-    MapBy, Numbers, Refusing, appends, fill, has_lists, refill, reserve_anew, test_on_empty,
+    MapBy, Numbers, Refusing, appends, collided, fill, has_lists, refill, reserve_anew,
+    test_on_empty,
 };
 use ordered_multimap_callers::test_with_room;
 use refusing_allocator::RefusingAllocator;
 use std::alloc::Allocator;
 use std::hash::BuildHasher;
-use test_helpers::{Constant, Failed, Test, ZERO, lend, requests_until_enough, try_on_new};
+use test_helpers::{Failed, Test, lend, requests_until_enough, try_on_new};
 
 const PAIRS: &[(u32, u32)] = &[(1, 1), (2, 2), (1, 3)];
 
@@ -27,8 +28,7 @@ fn join<S: BuildHasher, T: BuildHasher>(test: &Test, map: &mut MapBy<S>, other: 
 }
 
 fn join_builders(test: &Test, map: &mut Numbers) {
-    let other: MapBy<Constant> = ListOrderedMultimap::with_hasher(test.alloc(), ZERO);
-    lend(other, |other| {
+    lend(collided(test.alloc()), |other| {
         join(test, map, other);
         join(test, other, map);
     });
@@ -39,8 +39,16 @@ fn all_pairs_go_to_another_map(rt: HostRuntime) -> Result<(), Failed> {
     test_on_empty(rt.alloc(), join_builders)
 }
 
+// A map, and the other one.
+type Both<A> = (Refusing<A>, Refusing<A>);
+
+fn both_new<A: Allocator + Copy>(alloc: A) -> Both<A> {
+    (Refusing::new(alloc), Refusing::new(alloc))
+}
+
 // It returns whether there was memory enough. Where there was not, both maps are as before.
-fn moved<A: Allocator + Copy>(test: &Test, map: &mut Refusing<A>, other: &mut Refusing<A>) -> bool {
+fn moved<A: Allocator + Copy>(test: &Test, both: &mut Both<A>) -> bool {
+    let (map, other) = both;
     let enough = map.append_map(other).is_ok();
     if enough {
         test.expect(has_lists(map, JOINED, &[1, 2, 3, 4]) && has_lists(other, &[], &[]));
@@ -50,23 +58,14 @@ fn moved<A: Allocator + Copy>(test: &Test, map: &mut Refusing<A>, other: &mut Re
     enough
 }
 
-fn joins<A: Allocator + Copy>(
-    test: &Test,
-    memory: &RefusingAllocator,
-    map: &mut Refusing<A>,
-    granted: u64,
-) -> bool {
-    fill(test, map, PAIRS);
-    test.expect(map.pack_to_fit().is_ok());
-    lend(Refusing::new(*map.allocator()), |other| {
-        fill(test, other, OTHER);
-        memory.grant(granted);
-        moved(test, map, other)
-    })
+fn fill_both<A: Allocator + Copy>(test: &Test, both: &mut Both<A>) {
+    fill(test, &mut both.0, PAIRS);
+    test.expect(both.0.pack_to_fit().is_ok());
+    fill(test, &mut both.1, OTHER);
 }
 
 fn joins_with(test: &Test, granted: u64) -> bool {
-    try_on_new!(test, granted; ListOrderedMultimap::new; joins)
+    try_on_new!(test, granted; both_new; fill_both; moved)
 }
 
 #[test]

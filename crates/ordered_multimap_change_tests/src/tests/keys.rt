@@ -1,9 +1,11 @@
 //! Keys that are sorted, moved and renamed, by any hash builder; `map_calls` has more rows.
-use ordered_multimap::{ListOrderedMultimap, RenameFault};
-use ordered_multimap_callers::maps::{MapBy, Numbers, appends, has_lists, refill, test_on_empty};
+use ordered_multimap::RenameFault;
+use ordered_multimap_callers::maps::{
+    MapBy, Numbers, appends, collided, has_lists, refill, test_on_empty,
+};
 use ordered_multimap_callers::sorted::sort_descending;
 use std::hash::BuildHasher;
-use test_helpers::{B, F, Failed, Test, ZERO, test_on_new, walk_difference};
+use test_helpers::{B, F, Failed, Test, test_on_new, walk_difference};
 
 // Pairs of which two keys have two values each.
 const PAIRS: &[(u32, u32)] = &[(5, 1), (3, 2), (1, 3), (5, 4), (2, 5), (3, 6)];
@@ -89,6 +91,5 @@ fn keys_change_their_places(rt: HostRuntime) -> Result<(), Failed> {
 
 #[test]
 fn keys_of_one_hash_change_their_places(rt: HostRuntime) -> Result<(), Failed> {
-    let collided = |alloc| ListOrderedMultimap::with_hasher(alloc, ZERO);
     test_on_new(rt.alloc(), collided, keys_change)
 }

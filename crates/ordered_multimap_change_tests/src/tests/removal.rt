@@ -1,8 +1,9 @@
 //! One value of a key, `retain`, and keys that leave by one hash; the programs have more rows.
-use ordered_multimap::ListOrderedMultimap;
 use ordered_multimap::list_ordered_multimap::{Entry, KeyWrapper};
-use ordered_multimap_callers::maps::{MapBy, Numbers, appends, has_lists, refill, test_on_empty};
-use test_helpers::{B, Constant, F, Failed, Test, ZERO, run_parts, test_on_new, walk_difference};
+use ordered_multimap_callers::maps::{
+    MapBy, Numbers, appends, collided, has_lists, refill, test_on_empty,
+};
+use test_helpers::{B, Constant, F, Failed, Test, run_parts, test_on_new, walk_difference};
 
 fn numbers_leave(test: &Test, map: &mut Numbers) {
     run_parts!(test, map; values_are_found, values_change, values_are_retained, pairs_stay,
@@ -123,6 +124,5 @@ fn collided_keys_leave(test: &Test, map: &mut MapBy<Constant>) {
 
 #[test]
 fn keys_of_one_hash_leave(rt: HostRuntime) -> Result<(), Failed> {
-    let collided = |alloc| ListOrderedMultimap::with_hasher(alloc, ZERO);
     test_on_new(rt.alloc(), collided, collided_keys_leave)
 }

@@ -106,18 +106,14 @@ fn sorts_by_value<A: Allocator + Copy>(map: &mut Refusing<A>) -> bool {
     map.sort_by(|_, value, _, other| value.cmp(other)).is_ok()
 }
 
-// It returns whether there was memory enough. Where there was not, both lists are as before.
-fn sorts<A: Allocator + Copy>(
-    test: &Test,
-    refusing: &RefusingAllocator,
-    map: &mut Refusing<A>,
-    granted: u64,
-    is_of_pairs: bool,
-) -> bool {
+fn append_many<A: Allocator + Copy>(test: &Test, map: &mut Refusing<A>) {
     for key in MANY {
         test.expect(appends(map, *key, key.saturating_add(100), false));
     }
-    refusing.grant(granted);
+}
+
+// It returns whether there was memory enough. Where there was not, both lists are as before.
+fn sorts<A: Allocator + Copy>(test: &Test, map: &mut Refusing<A>, is_of_pairs: bool) -> bool {
     if is_of_pairs {
         let enough = sorts_by_value(map);
         test.expect(stand(map, if enough { ASCENDING } else { MANY }, MANY));
@@ -129,7 +125,7 @@ fn sorts<A: Allocator + Copy>(
 }
 
 fn sorts_with(test: &Test, granted: u64, is_of_pairs: bool) -> bool {
-    try_on_new!(test, granted; ListOrderedMultimap::new; sorts, is_of_pairs)
+    try_on_new!(test, granted; ListOrderedMultimap::new; append_many; sorts, is_of_pairs)
 }
 
 #[test]

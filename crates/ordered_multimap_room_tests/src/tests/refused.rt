@@ -56,14 +56,10 @@ fn prepare<A: Allocator + Copy>(test: &Test, map: &mut Refusing<A>, call: Try) {
 
 fn tries<A: Allocator + Copy>(
     test: &Test,
-    refusing: &RefusingAllocator,
     map: &mut Refusing<A>,
-    granted: u64,
     call: Try,
     copy: &Numbers,
 ) -> bool {
-    prepare(test, map, call);
-    refusing.grant(granted);
     match call {
         Try::PutIntoNew(call) | Try::PutIntoFull(call) => puts(test, map, call),
         Try::Room(call) => is_made(test, map, call),
@@ -90,7 +86,7 @@ fn add<A: Allocator + Copy>(test: &Test, map: &mut Refusing<A>, call: Try, copy:
 }
 
 fn tries_with(test: &Test, granted: u64, call: Try, copy: &Numbers) -> bool {
-    try_on_new!(test, granted; ListOrderedMultimap::new; tries, call, copy)
+    try_on_new!(test, granted; ListOrderedMultimap::new; prepare, call; tries, call, copy)
 }
 
 fn all_are_tried(test: &Test, copy: &Numbers) {

@@ -53,37 +53,32 @@ fn puts_default<A: Allocator + Copy>(test: &Test, map: &mut Refusing<A>) -> bool
     }
 }
 
-// A key that is present needs no memory.
-fn finds_present<A: Allocator + Copy>(test: &Test, map: &mut Refusing<A>) {
-    test.expect(default(map, 2) == Ok(12));
-    test.expect(has_lists(map, FULL, &[1, 2]));
-}
-
-fn tries<A: Allocator + Copy>(
-    test: &Test,
-    refusing: &RefusingAllocator,
-    map: &mut Refusing<A>,
-    granted: u64,
-) -> bool {
+fn fill_up<A: Allocator + Copy>(test: &Test, map: &mut Refusing<A>) {
     fill(test, map, FULL);
     test.expect(map.pack_to_fit().is_ok());
-    refusing.refuse_all();
-    finds_present(test, map);
-    test.expect(!refusing.refused());
-    refusing.grant(granted);
-    puts_default(test, map)
 }
 
-fn tries_with(test: &Test, granted: u64) -> bool {
-    try_on_new!(test, granted; ListOrderedMultimap::new; tries)
+fn puts_default_with(test: &Test, granted: u64) -> bool {
+    try_on_new!(test, granted; ListOrderedMultimap::new; fill_up; puts_default)
+}
+
+fn finds_present<A: Allocator + Copy>(test: &Test, map: &mut Refusing<A>) -> bool {
+    test.expect(default(map, 2) == Ok(12));
+    has_lists(map, FULL, &[1, 2])
+}
+
+// A key that is present needs no memory.
+fn finds_present_with_none(test: &Test) -> bool {
+    try_on_new!(test, 0; ListOrderedMultimap::new; fill_up; finds_present)
 }
 
 // Key slots, table and value slots each ask for a block.
 #[test]
 fn a_refused_default_changes_nothing(rt: HostRuntime) -> Result<(), Failed> {
     let test = Test::new(rt.alloc());
-    let enough = requests_until_enough(|granted| tries_with(&test, granted));
+    let enough = requests_until_enough(|granted| puts_default_with(&test, granted));
     test.expect(enough.unwrap_or(0) >= 3);
+    test.expect(finds_present_with_none(&test));
     test.end()
 }
 

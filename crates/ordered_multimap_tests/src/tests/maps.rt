@@ -2,7 +2,8 @@
 use ordered_multimap::ListOrderedMultimap;
 use ordered_multimap::list_ordered_multimap::{DefaultState, Entry, RandomState};
 use ordered_multimap_callers::maps::{
-    MIXED, MapBy, Numbers, Refusing, appends, has_lists, has_pairs, inserts, refill, test_on_empty,
+    MIXED, MapBy, Numbers, Refusing, appends, collided, has_lists, has_pairs, inserts, refill,
+    test_on_empty,
 };
 use ordered_multimap_callers::test_with_room;
 use refusing_allocator::RefusingAllocator;
@@ -11,7 +12,7 @@ use std::collections::HashMap;
 use std::hash::BuildHasher;
 use std::{io, mem};
 use test_helpers::{
-    Constant, F, Failed, Test, ZERO, copied, lend, run_parts, test_on_new, walk_difference,
+    Constant, F, Failed, Test, copied, lend, run_parts, test_on_new, walk_difference,
 };
 
 fn numbers_answer(test: &Test, map: &mut Numbers) {
@@ -143,7 +144,6 @@ fn collided_keys_come(test: &Test, map: &mut Collided) {
 
 #[test]
 fn keys_of_one_hash_are_apart(rt: HostRuntime) -> Result<(), Failed> {
-    let collided = |alloc| ListOrderedMultimap::with_hasher(alloc, ZERO);
     test_on_new(rt.alloc(), collided, collided_keys_come)
 }
 

@@ -3,13 +3,13 @@ mod names;
 mod parts;
 
 use ordered_multimap::{KeyQuery, ListOrderedMultimap};
-use ordered_multimap_callers::maps::test_on_empty;
+use ordered_multimap_callers::maps::{collided, test_on_empty};
 use std::borrow::{CowSlice, CowStr};
 use std::boxed::{BoxedSlice, BoxedStr};
 use std::hash::{BuildHasher, Hash};
 use std::rc::RcStr;
 use test_helpers::{
-    B, Constant, F, Failed, Test, ZERO, is_shown, test_all, test_on_new, walk_difference,
+    B, Constant, F, Failed, Test, is_shown, test_all, test_on_new, walk_difference,
 };
 
 #[test]
@@ -19,7 +19,6 @@ fn owned_texts_are_found_by_lent_ones(rt: HostRuntime) -> Result<(), Failed> {
 
 #[test]
 fn collided_texts_are_found_by_lent_ones(rt: HostRuntime) -> Result<(), Failed> {
-    let collided = |alloc| ListOrderedMultimap::with_hasher(alloc, ZERO);
     test_on_new(rt.alloc(), collided, texts_are_queries)
 }
 
@@ -145,13 +144,7 @@ fn finds<K: Eq + Hash + Drop, Q: KeyQuery<K>, E: Drop>(
     other: Q,
 ) {
     match key {
-        Ok(key) => is_found(
-            test,
-            &mut ListOrderedMultimap::with_hasher(test.alloc(), ZERO),
-            key,
-            query,
-            other,
-        ),
+        Ok(key) => is_found(test, &mut collided(test.alloc()), key, query, other),
         Err(_) => test.fail(),
     }
 }

@@ -1,11 +1,11 @@
 //! Pairs of a set that all go to another one. Those that this one has are dropped.
 use crate::tests::callers::{join, join_in_room};
-use crate::tests::sets::{Refusing, SetBy, has_lists, refill};
+use crate::tests::sets::{Refusing, SetBy, collided, has_lists, refill};
 use refusing_allocator::RefusingAllocator;
 use set_ordered_multimap::SetOrderedMultimap;
 use std::alloc::Allocator;
 use std::hash::BuildHasher;
-use test_helpers::{Failed, Test, ZERO, lend, requests_until_enough, test_on_new, try_on_new};
+use test_helpers::{Failed, Test, lend, requests_until_enough, test_on_new, try_on_new};
 
 type Pairs = &'static [(u32, u32)];
 
@@ -92,8 +92,7 @@ fn callers<S: BuildHasher, T: BuildHasher>(test: &Test, set: &mut SetBy<S>, othe
 }
 
 fn join_other_builders(test: &Test, set: &mut SetBy) {
-    let other = SetOrderedMultimap::with_hasher(test.alloc(), ZERO);
-    lend(other, |other| {
+    lend(collided(test.alloc()), |other| {
         join_all(test, set, other);
         join_all(test, other, set);
         callers(test, set, other);
@@ -112,8 +111,21 @@ const OTHER: Pairs = &[(3, 3), (1, 3), (4, 5), (1, 6)];
 
 const JOINED: Pairs = &[(1, 1), (2, 2), (1, 3), (2, 4), (3, 3), (4, 5), (1, 6)];
 
+// A set, and the other one.
+type Both<A> = (Refusing<A>, Refusing<A>);
+
+fn both_new<A: Allocator + Copy>(alloc: A) -> Both<A> {
+    (Refusing::new(alloc), Refusing::new(alloc))
+}
+
+fn fill_both<A: Allocator + Copy>(test: &Test, both: &mut Both<A>) {
+    refill(test, &mut both.0, FULL);
+    refill(test, &mut both.1, OTHER);
+}
+
 // It returns whether there was memory enough. Where there was not, both sets are as before.
-fn moved<A: Allocator + Copy>(test: &Test, set: &mut Refusing<A>, other: &mut Refusing<A>) -> bool {
+fn moved<A: Allocator + Copy>(test: &Test, both: &mut Both<A>) -> bool {
+    let (set, other) = both;
     let room = rooms(other);
     let enough = set.append_map(other).is_ok();
     if enough {
@@ -125,56 +137,28 @@ fn moved<A: Allocator + Copy>(test: &Test, set: &mut Refusing<A>, other: &mut Re
     enough
 }
 
-fn joins<A: Allocator + Copy>(
-    test: &Test,
-    memory: &RefusingAllocator,
-    set: &mut Refusing<A>,
-    granted: u64,
-) -> bool {
-    refill(test, set, FULL);
-    lend(Refusing::new(*set.allocator()), |other| {
-        refill(test, other, OTHER);
-        memory.grant(granted);
-        moved(test, set, other)
-    })
-}
-
 fn joins_with(test: &Test, granted: u64) -> bool {
-    try_on_new!(test, granted; SetOrderedMultimap::new; joins)
+    try_on_new!(test, granted; both_new; fill_both; moved)
 }
 
-// Once the set has taken the pairs it needs no memory to take them again.
-fn takes_no_memory<A: Allocator + Copy>(
-    test: &Test,
-    memory: &RefusingAllocator,
-    set: &mut Refusing<A>,
-    other: &mut Refusing<A>,
-) -> bool {
+fn join_and_fill_other<A: Allocator + Copy>(test: &Test, both: &mut Both<A>) {
+    fill_both(test, both);
+    let (set, other) = both;
     test.expect(set.append_map(other).is_ok());
     refill(test, other, OTHER);
     set.retain(|_key, value| *value == 3);
-    let room = rooms(set);
-    memory.refuse_all();
-    test.expect(set.append_map(other).is_ok() && rooms(set) == room);
-    test.expect(has_lists(set, &[(1, 3), (3, 3), (4, 5), (1, 6)], &[1, 3, 4]));
-    !memory.refused()
 }
 
-fn joins_in_room<A: Allocator + Copy>(
-    test: &Test,
-    memory: &RefusingAllocator,
-    set: &mut Refusing<A>,
-    _granted: u64,
-) -> bool {
-    refill(test, set, FULL);
-    lend(Refusing::new(*set.allocator()), |other| {
-        refill(test, other, OTHER);
-        takes_no_memory(test, memory, set, other)
-    })
+// Once the set has taken the pairs it needs no memory to take them again.
+fn joins_in_room<A: Allocator + Copy>(test: &Test, both: &mut Both<A>) -> bool {
+    let (set, other) = both;
+    let room = rooms(set);
+    test.expect(set.append_map(other).is_ok() && rooms(set) == room);
+    has_lists(set, &[(1, 3), (3, 3), (4, 5), (1, 6)], &[1, 3, 4])
 }
 
 fn joins_in_room_with(test: &Test) -> bool {
-    try_on_new!(test, 0; SetOrderedMultimap::new; joins_in_room)
+    try_on_new!(test, 0; both_new; join_and_fill_other; joins_in_room)
 }
 
 #[test]

@@ -1,8 +1,9 @@
 //! Keys that own their text, looked up by texts that are lent, also where all hashes are equal.
 use crate::tests::callers::has_only;
+use crate::tests::sets::collided;
 use set_ordered_multimap::SetOrderedMultimap;
 use std::hash::BuildHasher;
-use test_helpers::{Failed, Test, ZERO, copied, gives, is_shown, test_on_new};
+use test_helpers::{Failed, Test, copied, gives, is_shown, test_on_new};
 
 type Owned<S> = SetOrderedMultimap<String, u32, S>;
 
@@ -104,6 +105,5 @@ fn owned_texts_are_found_by_lent_ones(rt: HostRuntime) -> Result<(), Failed> {
 
 #[test]
 fn collided_texts_are_found_by_lent_ones(rt: HostRuntime) -> Result<(), Failed> {
-    let collided = |alloc| SetOrderedMultimap::with_hasher(alloc, ZERO);
     test_on_new(rt.alloc(), collided, texts_are_queries)
 }

@@ -148,29 +148,20 @@ fn pairs_before(call: Try) -> &'static [(u32, u32)] {
     }
 }
 
-fn tries<A: Allocator + Copy>(
-    test: &Test,
-    refusing: &RefusingAllocator,
-    set: &mut Refusing<A>,
-    granted: u64,
-    call: Try,
-) -> bool {
-    refill(test, set, pairs_before(call));
-    refusing.grant(granted);
-    let enough = match call {
+fn tries<A: Allocator + Copy>(test: &Test, set: &mut Refusing<A>, call: Try) -> bool {
+    match call {
         Try::Insert(before, keys) => put(test, set, before, keys),
         Try::Extend => extend(test, set),
         Try::ExtendByTrait => extend_by_trait(test, set),
         Try::Clone => clone_of(test, set),
         Try::NeedNone => need_none(test, set),
         Try::ExtendByPresent => extend_by_present(test, set),
-    };
-    test.expect(enough != refusing.refused());
-    enough
+    }
 }
 
 fn tries_with(test: &Test, granted: u64, call: Try) -> bool {
-    try_on_new!(test, granted; SetOrderedMultimap::new; tries, call)
+    let pairs = pairs_before(call);
+    try_on_new!(test, granted; SetOrderedMultimap::new; refill, pairs; tries, call)
 }
 
 fn from_iter_with(test: &Test, granted: u64) -> bool {

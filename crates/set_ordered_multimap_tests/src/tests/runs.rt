@@ -1,9 +1,9 @@
 //! Runs of calls on numbers, with both lists and two keys' values after each call.
-use crate::tests::sets::{SetBy, has_lists, refill};
+use crate::tests::sets::{SetBy, collided, has_lists, refill};
 use ordered_multimap::list_ordered_multimap::KeyWrapper;
 use set_ordered_multimap::SetOrderedMultimap;
 use std::hash::BuildHasher;
-use test_helpers::{Failed, Test, ZERO, copied, test_on_new};
+use test_helpers::{Failed, Test, copied, test_on_new};
 
 #[derive(Clone, Copy)]
 enum Call {
@@ -134,7 +134,6 @@ fn no_pair_stands_twice(rt: HostRuntime) -> Result<(), Failed> {
 
 #[test]
 fn no_pair_of_one_hash_stands_twice(rt: HostRuntime) -> Result<(), Failed> {
-    let collided = |alloc| SetOrderedMultimap::with_hasher(alloc, ZERO);
     test_on_new(rt.alloc(), collided, pairs_come_and_go)
 }
 

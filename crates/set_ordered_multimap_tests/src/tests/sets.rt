@@ -3,12 +3,17 @@ use ordered_multimap::list_ordered_multimap::DefaultState;
 use set_ordered_multimap::SetOrderedMultimap;
 use std::alloc::{Allocator, Global};
 use std::hash::{BuildHasher, Hash};
-use test_helpers::{Test, copied, gives};
+use test_helpers::{Constant, Test, ZERO, copied, gives};
 
 pub type SetBy<S = DefaultState, A = Global> = SetOrderedMultimap<u32, u32, S, A>;
 
 /// A set whose memory may be refused. A parameter costs a proof half of a type with a reference.
 pub type Refusing<A> = SetBy<DefaultState, A>;
+
+/// An empty set in which all keys have the same hash.
+pub fn collided<K: Eq + Hash, V: Eq>(alloc: Global) -> SetOrderedMultimap<K, V, Constant> {
+    SetOrderedMultimap::with_hasher(alloc, ZERO)
+}
 
 /// Takes all pairs out, and inserts these.
 pub fn refill<S: BuildHasher, A: Allocator + Copy>(

@@ -1,5 +1,5 @@
 //! Keys, and pairs, of a set that are sorted where memory is refused.
-use crate::tests::sets::{Refusing, has_lists};
+use crate::tests::sets::{Refusing, has_lists, refill};
 use refusing_allocator::RefusingAllocator;
 use set_ordered_multimap::SetOrderedMultimap;
 use std::alloc::Allocator;
@@ -57,28 +57,28 @@ fn is_sorted<A: Allocator + Copy>(set: &mut Refusing<A>, sort: Sort) -> bool {
     }
 }
 
-// Sorts a set of the pairs. Where there is not enough memory, both lists are as before.
-fn sorts<A: Allocator + Copy>(
-    test: &Test,
-    refusing: &RefusingAllocator,
-    set: &mut Refusing<A>,
-    granted: u64,
-    sort: Sort,
-    sorted: (&[u32], &[u32]),
-) -> bool {
+fn insert_pairs<A: Allocator + Copy>(test: &Test, set: &mut Refusing<A>) {
     for key in KEYS {
         let (key, value) = pair_of(*key);
         test.expect(set.insert(key, value) == Ok(true));
     }
-    refusing.grant(granted);
+}
+
+// Sorts a set of the pairs. Where there is not enough memory, both lists are as before.
+fn sorts<A: Allocator + Copy>(
+    test: &Test,
+    set: &mut Refusing<A>,
+    sort: Sort,
+    sorted: (&[u32], &[u32]),
+) -> bool {
     let enough = is_sorted(set, sort);
     let (of_pairs, keys) = if enough { sorted } else { (KEYS, KEYS) };
-    test.expect(stand(set, of_pairs, keys) && enough != refusing.refused());
+    test.expect(stand(set, of_pairs, keys));
     enough
 }
 
 fn sorts_with(test: &Test, granted: u64, sort: Sort, sorted: (&[u32], &[u32])) -> bool {
-    try_on_new!(test, granted; SetOrderedMultimap::new; sorts, sort, sorted)
+    try_on_new!(test, granted; SetOrderedMultimap::new; insert_pairs; sorts, sort, sorted)
 }
 
 fn row_is_sorted(test: &Test, row: usize, sort: Sort, sorted: (&[u32], &[u32]), requests: u64) {
@@ -86,29 +86,21 @@ fn row_is_sorted(test: &Test, row: usize, sort: Sort, sorted: (&[u32], &[u32]), 
     test.expect_at(row, enough == Some(requests));
 }
 
-fn sorts_in_place<A: Allocator + Copy>(test: &Test, set: &mut Refusing<A>) {
+fn sorts_in_place<A: Allocator + Copy>(
+    test: &Test,
+    set: &mut Refusing<A>,
+    pairs: &[(u32, u32)],
+    keys: &[u32],
+) -> bool {
     for (row, (sort, _, _, _)) in SORTS.iter().enumerate() {
         test.expect_at(row, is_sorted(set, *sort));
     }
+    has_lists(set, pairs, keys)
 }
 
-fn sorts_one<A: Allocator + Copy>(
-    test: &Test,
-    refusing: &RefusingAllocator,
-    set: &mut Refusing<A>,
-    granted: u64,
-) -> bool {
-    refusing.refuse_all();
-    sorts_in_place(test, set);
-    refusing.grant(granted);
-    test.expect(set.insert(1, 11) == Ok(true));
-    refusing.refuse_all();
-    sorts_in_place(test, set);
-    !refusing.refused() && has_lists(set, &[(1, 11)], &[1])
-}
-
-fn one_is_sorted(test: &Test) -> bool {
-    try_on_new!(test, 99; SetOrderedMultimap::new; sorts_one)
+// No memory is granted.
+fn stays_sorted(test: &Test, pairs: &[(u32, u32)], keys: &[u32]) -> bool {
+    try_on_new!(test, 0; SetOrderedMultimap::new; refill, pairs; sorts_in_place, pairs, keys)
 }
 
 #[test]
@@ -117,6 +109,7 @@ fn a_refused_sort_changes_neither_list(rt: HostRuntime) -> Result<(), Failed> {
     for (row, (sort, pairs, keys, requests)) in SORTS.iter().enumerate() {
         row_is_sorted(&test, row, *sort, (pairs, keys), *requests);
     }
-    test.expect(one_is_sorted(&test));
+    test.expect(stays_sorted(&test, &[], &[]));
+    test.expect(stays_sorted(&test, &[(1, 11)], &[1]));
     test.end()
 }

@@ -1,14 +1,12 @@
 use Rattle.std.proofs.Common.{◌++◌, ◌∙◌, ap, arith, drop, subst, sym, take}
 use Rattle.std.proofs.lemmas.Str.{encode_ascii}
 use Rattle.std.specs.Str.{chars, trim}
-use Rattle.std.specs.Prelude.{IsUtf8}
 use Rattle.config_reader.specs.Names.{Lacks}
 use Rattle.config_reader.specs.Sections.{IsTrimmed, is_sub, is_word}
 use Rattle.config_reader.proofs.Blanks.{lacks_part}
 use Rattle.config_reader.proofs.Called.{IfOk-both, IfOk-three, by_dot, by_word, lacks}
-use Rattle.config_reader.proofs.Opened.{trim_trimmed}
+use Rattle.config_reader.proofs.Opened.{front_trimmed, trim_trimmed}
 use Rattle.config_reader.proofs.Sections.{dotted_at, undotted}
-use Rattle.config_reader.proofs.Texts.{utf8_before}
 use Rattle.config_reader.proofs.WholeLines.{cut_at}
 use Rattle.config_reader.proofs.section.Section.of_dotted.Goals as goal
 
@@ -51,12 +49,9 @@ returns-in-None-clause-dotted c =
 
 pub returns-in-Some-clause-written : goal.returns-in-Some-clause-written
 returns-in-Some-clause-written c =
-    let text = c.args.text.now in
     let found = c.in-Some.ensures.cases in
-    let at = found.2.1.split ∙ ap (λ first. first ++ drop found.1 text) (encode_ascii 46 (omega arith)) in
-    let utf8 = utf8_before (take found.0 text) 46 (drop found.1 text) (subst IsUtf8 (cut_at text found.0 found.1 46 at) c.utf8.text) (omega arith) in
     c.of_parts.ensures.written
-    (subst (λ t. IsTrimmed (chars t)) (sym (c.trim.ensures.trim ∙ ap trim found.3)) (trim_trimmed (take found.0 text) utf8))
+    (front_trimmed c.args.text.now _ found.0 found.1 46 (omega arith) found.2.1.split c.utf8.text (c.trim.ensures.trim ∙ ap trim found.3))
 
 pub returns-in-None-clause-written : goal.returns-in-None-clause-written
 returns-in-None-clause-written c =

@@ -1,12 +1,9 @@
-use Rattle.std.proofs.Common.{◌≡◌, ◌-◌, [], ◌∷◌, ◌++◌, ◌∙◌, ap, arith, drop, length, subst, sym, take}
+use Rattle.std.proofs.Common.{◌≡◌, ◌-◌, [], ◌∷◌, ◌++◌, ◌∙◌, ap, arith, drop, length, sym, take}
 use Rattle.std.proofs.Math.Seq.{drop-length}
-use Rattle.std.specs.Str.{chars, trim}
+use Rattle.std.specs.Str.{trim}
 use Rattle.std.proofs.lemmas.Str.{encode_ascii}
-use Rattle.std.specs.Prelude.{IsUtf8}
-use Rattle.config_reader.specs.Sections.{IsTrimmed}
 use Rattle.config_reader.proofs.Called.{IfOk-both, by_quotes, lacks, without_quotes}
-use Rattle.config_reader.proofs.Opened.{trim_trimmed}
-use Rattle.config_reader.proofs.Texts.{utf8_before}
+use Rattle.config_reader.proofs.Opened.{front_trimmed}
 use Rattle.config_reader.proofs.WholeLines.{cut_at}
 use Rattle.config_reader.proofs.section.Section.parse.Goals as goal
 
@@ -38,9 +35,6 @@ returns-in-Some-strip_suffix-clause-called c =
 
 pub returns-in-Some-strip_suffix-clause-written : goal.returns-in-Some-strip_suffix-clause-written
 returns-in-Some-strip_suffix-clause-written c =
-    let text = c.args.text.now in
     let found = c.in-Some.ensures.cases in
-    let at = found.2.1.split ∙ ap (λ first. first ++ drop found.1 text) (encode_ascii 34 (omega arith)) in
-    let utf8 = utf8_before (take found.0 text) 34 (drop found.1 text) (subst IsUtf8 (cut_at text found.0 found.1 34 at) c.utf8.text) (omega arith) in
     c.of_parts.ensures.written
-    (subst (λ t. IsTrimmed (chars t)) (sym (c.trim.ensures.trim ∙ ap trim found.3)) (trim_trimmed (take found.0 text) utf8))
+    (front_trimmed c.args.text.now _ found.0 found.1 34 (omega arith) found.2.1.split c.utf8.text (c.trim.ensures.trim ∙ ap trim found.3))
