@@ -1,4 +1,4 @@
--- The pairs of a map that was taken apart, handed out one by one, each with its key or a clone of it.
+-- The pairs of a map that was taken apart, handed out one by one, each with its key or a clone.
 use Rattle.std.specs.Prelude.{◌≡◌, ◌⊎◌, ℕ, List, [], length, Option, Some, None, MatchOption}
 use Rattle.std.specs.Prelude.{Result, MatchResult}
 use Rattle.std.specs.Map.{keys_of}
