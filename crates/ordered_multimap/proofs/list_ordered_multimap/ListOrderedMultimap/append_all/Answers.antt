@@ -1,3 +1,4 @@
+use Rattle.std.proofs.Common.{rules}
 use Rattle.std.proofs.Common.{ℕ, map, List, [], ◌∷◌, ◌++◌, ◌+◌, ◌≤◌, length, length-append, true≢false, refl, ap, sym, ◌∙◌, subst, arith}
 use Rattle.std.specs.Iterator.{Yields, size}
 use Rattle.std.proofs.iter.Next.{Yields-more, on}
@@ -135,3 +136,6 @@ returns-clause-extends g c =
       c.loop-item.invariant.0,
       (c.next.new.self, (c.loop-item.item-iterator, c.loop-item.yielded_by, c.in-None.ensures.steps)),
     )
+
+pub returns-clause-full : goal.returns-clause-full
+returns-clause-full g c = search rules

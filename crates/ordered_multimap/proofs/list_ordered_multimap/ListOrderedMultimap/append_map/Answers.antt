@@ -1,3 +1,4 @@
+use Rattle.std.proofs.Common.{rules}
 use Rattle.std.proofs.Common.{length, refl, ap, sym, ◌∙◌, subst, arith}
 use Rattle.std.specs.List.{filter_map}
 use Rattle.multimap_slots.specs.Slots.{item_at}
@@ -120,3 +121,6 @@ pub returns-clause-paid : goal.returns-clause-paid
 returns-clause-paid g c =
     stays_paid c.append_parts.ensures.taken (stays_paid c.reserve_values.ensures.taken
     (subst ArePaid (sym c.reserve_keys.ensures.tape) (subst (λ m. ArePaid m.tape) c.self.view_is c.self.invariant.paid)))
+
+pub returns-clause-refused : goal.returns-clause-refused
+returns-clause-refused g c = search rules

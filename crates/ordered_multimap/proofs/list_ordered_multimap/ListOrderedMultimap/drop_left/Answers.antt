@@ -30,3 +30,6 @@ returns-clause-ends g c =
       };
       none = refl;
     }
+
+pub returns-clause-dropped : goal.returns-clause-dropped
+returns-clause-dropped g c = search rules

@@ -6,3 +6,6 @@ returns-clause-built g c = search rules
 
 pub returns-clause-unused : goal.returns-clause-unused
 returns-clause-unused g c = search rules
+
+pub returns-in-Err-clause-refused : goal.returns-in-Err-clause-refused
+returns-in-Err-clause-refused g c = search rules

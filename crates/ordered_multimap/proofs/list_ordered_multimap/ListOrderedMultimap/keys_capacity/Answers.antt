@@ -1,3 +1,4 @@
+use Rattle.std.proofs.Common.{rules}
 use Rattle.std.proofs.Common.{◌≤◌, length, subst, arith}
 use Rattle.ordered_multimap.proofs.Agreement.Agreed.{length-keys}
 use Rattle.ordered_multimap.proofs.list_ordered_multimap.ListOrderedMultimap.keys_capacity.Goals as goal
@@ -13,3 +14,6 @@ returns-clause-fits g c =
       c.self.invariant.agrees.counted,
       c.capacity-2.ensures.fits,
     ))
+
+pub returns-clause-capacity : goal.returns-clause-capacity
+returns-clause-capacity g c = search rules

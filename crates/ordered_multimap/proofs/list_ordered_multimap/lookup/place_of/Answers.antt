@@ -1,3 +1,4 @@
+use Rattle.std.proofs.Common.{rules}
 use Rattle.std.proofs.Common.{◌≡◌, ℕ, Bool, true, false, Option, Some, None, IfNone, refl, sym, ◌∙◌}
 use Rattle.std.specs.FinMap.{get}
 use Rattle.std.specs.List.{list_any}
@@ -20,3 +21,6 @@ returns-clause-absent g c =
           ] refl)
       | Some place ↦ λ found. found
     ] c.find.ensures.absent
+
+pub returns-clause-found : goal.returns-clause-found
+returns-clause-found g c = search rules

@@ -1,3 +1,4 @@
+use Rattle.std.proofs.Common.{rules}
 use Rattle.std.proofs.Common.{length, refl, sym, ◌∙◌, ap, arith}
 use Rattle.std.proofs.lemmas.List.{length-set}
 use Rattle.ordered_multimap.proofs.Pack.Packing.{going-start, going-step, going-listed}
@@ -31,3 +32,6 @@ loop-place-preserved g c =
       new_places = ap length m.moved.new_places_are ∙ length-set _ _ _ ∙ w.new_places;
       rooms = record { key_room = m.rooms.key_room ∙ w.rooms.key_room; row_room = m.rooms.row_room ∙ w.rooms.row_room };
     }
+
+pub returns-clause-gone : goal.returns-clause-gone
+returns-clause-gone g c = search rules
