@@ -1,3 +1,4 @@
+use Rattle.std.proofs.Common.{rules}
 use Rattle.std.proofs.Common.{◌∙◌, ap, subst, sym}
 use Rattle.std.proofs.lemmas.Result.{on_ok_weaker}
 use Rattle.ordered_multimap.specs.Pairs.{is_present}
@@ -38,3 +39,6 @@ returns-in-Unset-clause-keeps c =
     rw c.in-Unset.is
     (λ is room config. subst IsConfig (sym c.unset.ensures)
     (removed_read c.in-Unset.name c.args.config.now.lists (has_key c.in-Unset.name is.0) config))
+
+pub returns-in-Set-clause-leaves : goal.returns-in-Set-clause-leaves
+returns-in-Set-clause-leaves c = search rules

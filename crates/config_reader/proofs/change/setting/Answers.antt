@@ -17,3 +17,6 @@ returns-clause-reads c = λ blank one_line allowed.
     let key_utf8 : IsUtf8 key = subst IsUtf8 (search rules) c.as_str.utf8 in
     subst (λ t. AreSetting t key value (length indent)) (sym text)
     (written_setting indent key value blank one_line c.utf8.indent key_utf8 (subst IsUtf8 text (IsUtf8-had _ c.push.new.self.ok)) allowed)
+
+pub returns-clause-is_setting : goal.returns-clause-is_setting
+returns-clause-is_setting c = search rules

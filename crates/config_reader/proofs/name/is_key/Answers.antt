@@ -15,3 +15,6 @@ returns c =
     let any : c.any.result ≡ list_any is_outside_key (chars text) =
     any_from_yields_List is_outside_key _ _ _ c.any.ensures.ran (YieldsList-from_chars text c.utf8.text cc) (λ x b q k. search (rules, tests)) in
     rw (some, any) refl
+
+pub returns-then-is_empty : goal.returns-then-is_empty
+returns-then-is_empty c = search rules

@@ -1,3 +1,4 @@
+use Rattle.std.proofs.Common.{rules}
 use Rattle.std.proofs.Common.{false, ◌≡◌, sym, ◌∙◌, subst}
 use Rattle.set_ordered_multimap.proofs.Insertions.{IsSet-appends}
 use Rattle.set_ordered_multimap.specs.Set.{IsSet, has_pair}
@@ -11,3 +12,9 @@ returns-clause-set g c = λ set.
     (subst (λ m. has_pair eq value_eq m.lists.pairs c.args.key c.args.value ≡ false) (sym c.self.view_is)
     (sym c.contains.ensures ∙ c.if-contains.false))
     (subst (λ m. IsSet eq value_eq m.lists) (sym c.self.view_is) set)
+
+pub returns-clause-lists : goal.returns-clause-lists
+returns-clause-lists g c = search rules
+
+pub returns-then-contains-clause-lists : goal.returns-then-contains-clause-lists
+returns-then-contains-clause-lists g c = search rules

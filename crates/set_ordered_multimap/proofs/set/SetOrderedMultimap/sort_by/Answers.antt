@@ -1,3 +1,4 @@
+use Rattle.std.proofs.Common.{rules}
 use Rattle.std.proofs.lemmas.Map.Keys.{IsDistinct-IsPermutation}
 use Rattle.set_ordered_multimap.proofs.Callers.Sets.{pair_laws}
 use Rattle.set_ordered_multimap.specs.Set.{same_pair}
@@ -11,3 +12,6 @@ returns-clause-reordered g c =
       set = IsDistinct-IsPermutation (same_pair g.K.PartialEq.eq g.V.PartialEq.eq) (pair_laws g.met.K.Eq.laws g.met.V.Eq.laws).symm _ _
           e.pairs;
     })
+
+pub returns-clause-sorted : goal.returns-clause-sorted
+returns-clause-sorted g c = search rules
