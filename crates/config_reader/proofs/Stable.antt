@@ -2,6 +2,7 @@
 use Rattle.std.proofs.Common.{◌≡◌, ◌⊎◌, ℕ, suc, ◌+◌, ◌==◌, ◌&&◌, Bool, true, false, ◌||◌, not, cond, List, [], ◌∷◌, ◌++◌}
 use Rattle.std.proofs.Common.{refl, sym, ap, ◌∙◌, arith, length, drop, take, Option, Some, None, inl, inr}
 use Rattle.std.proofs.lemmas.Bool.{and_parts, eqb-true, true≢false}
+use Rattle.std.proofs.Math.Seq.{drop-append-add, take-append_seam}
 use Rattle.std.specs.List.{after_first, before_first, list_any, position_or_len}
 use Rattle.std.specs.Prelude.{if◌then◌else◌, option_and_then}
 use Rattle.config_reader.specs.declared.value.Effect.{Effect}
@@ -24,30 +25,23 @@ module _ (b : ℕ) where
   is_it c = c == b
 
   -- what stands in front of the first such byte, and behind it
-  pub before_cut : (front behind : List ℕ) → Lacks b front → before_first is_it (front ++ b ∷ behind) ≡ front
-  before_cut [] behind none = rw (same b) refl
-  before_cut (c ∷ front) behind none = by (c == b) none (before_cut front behind)
+  length_cut : (front behind : List ℕ) → Lacks b front → position_or_len is_it (front ++ b ∷ behind) ≡ length front
+  length_cut [] behind none = rw (same b) refl
+  length_cut (c ∷ front) behind none = by (c == b) none (length_cut front behind)
     where
       by : (is : Bool) → (is || list_any is_it front) ≡ false
-          → (Lacks b front → before_first is_it (front ++ b ∷ behind) ≡ front)
-          → take (cond (not is) (1 + position_or_len is_it (front ++ b ∷ behind)) 0) (c ∷ (front ++ b ∷ behind)) ≡ c ∷ front
+          → (Lacks b front → position_or_len is_it (front ++ b ∷ behind) ≡ length front)
+          → cond (not is) (1 + position_or_len is_it (front ++ b ∷ behind)) 0 ≡ suc (length front)
       by true none later = absurd (true≢false none)
-      by false none later =
-          ap (λ i. take i (c ∷ (front ++ b ∷ behind))) (one_more (position_or_len is_it (front ++ b ∷ behind)))
-          ∙ ap (λ t. c ∷ t) (later none)
+      by false none later = ap (λ n. 1 + n) (later none) ∙ one_more (length front)
+
+  pub before_cut : (front behind : List ℕ) → Lacks b front → before_first is_it (front ++ b ∷ behind) ≡ front
+  before_cut front behind none =
+      ap (λ i. take i (front ++ b ∷ behind)) (length_cut front behind none) ∙ take-append_seam front (b ∷ behind)
 
   pub after_cut : (front behind : List ℕ) → Lacks b front → after_first is_it (front ++ b ∷ behind) ≡ behind
-  after_cut [] behind none = rw (same b) refl
-  after_cut (c ∷ front) behind none = by (c == b) none (after_cut front behind)
-    where
-      by : (is : Bool) → (is || list_any is_it front) ≡ false
-          → (Lacks b front → after_first is_it (front ++ b ∷ behind) ≡ behind)
-          → drop (cond (not is) (1 + position_or_len is_it (front ++ b ∷ behind)) 0 + 1) (c ∷ (front ++ b ∷ behind)) ≡ behind
-      by true none later = absurd (true≢false none)
-      by false none later =
-          ap (λ i. drop (i + 1) (c ∷ (front ++ b ∷ behind))) (one_more (position_or_len is_it (front ++ b ∷ behind)))
-          ∙ ap (λ i. drop i (c ∷ (front ++ b ∷ behind))) (two_more (position_or_len is_it (front ++ b ∷ behind)))
-          ∙ later none
+  after_cut front behind none =
+      ap (λ i. drop (i + 1) (front ++ b ∷ behind)) (length_cut front behind none) ∙ drop-append-add front (b ∷ behind) 1
 
   -- it is the same, whatever stands behind another one
   pub same_before : (front x : List ℕ) → before_first is_it (front ++ b ∷ x) ≡ before_first is_it front

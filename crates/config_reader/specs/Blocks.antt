@@ -10,11 +10,11 @@ use Rattle.config_reader.specs.declared.config.Lines.{Lines}
 use Rattle.config_reader.specs.declared.name.Name.{Name}
 use Rattle.config_reader.specs.declared.reader.Reader.{Reader}
 use Rattle.config_reader.specs.declared.section.Section.{Section}
-use Rattle.config_reader.specs.Lines.{behind_line, first_line, is_lined, lined, says_nothing}
+use Rattle.config_reader.specs.Lines.{IsReadTo, behind_line, first_line, is_lined, lined, says_nothing}
 use Rattle.config_reader.specs.Names.{has_no_key, is_key, is_no_section}
 use Rattle.config_reader.specs.Said.{indent_of, is_deeper, item_at, lowered, said, setting_of}
 use Rattle.config_reader.specs.Sections.{spelled}
-use Rattle.config_reader.specs.Written.{section_line}
+use Rattle.config_reader.specs.Written.{section_line, texts_of}
 
 -- each character is white space
 abbrev pub IsBlank : List ℕ → Type 0
@@ -119,6 +119,10 @@ HaveKeys (name ∷ names) =
 abbrev pub place_of : Reader → ℕ → Place
 place_of reader rank =
     record { section = spelled reader.section; above = reader.indent; rank = rank }
+
+-- the lines and the reader have this text, kept or still to be read
+abbrev pub KeepsAll : Reader → Lists Name Lines → List ℕ → Type 0
+KeepsAll reader m all = IsReadTo (texts_of m.pairs) reader.between.now reader.rest.now all
 
 -- all that was read is kept, the last of it with at most this rank, but for lines behind it that
 -- say nothing

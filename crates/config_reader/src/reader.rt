@@ -5,10 +5,10 @@ ghost use Rattle.std.specs.Prelude.{IfErr, IfOk, OnOk};
 ghost use Rattle.ordered_multimap.specs.Lists.{empty_lists};
 ghost use Rattle.config_reader.specs.Faults.{IsBadOrRefused, IsLineOrRefused};
 ghost use Rattle.config_reader.specs.Items.{AddsItem};
-ghost use Rattle.config_reader.specs.Blocks.{IsConfig, IsKept, IsSectionLine, IsSettingLine};
+ghost use Rattle.config_reader.specs.Blocks.{IsConfig, IsKept, IsSectionLine, IsSettingLine, KeepsAll};
 ghost use Rattle.config_reader.specs.Blocks.{place_of, start};
 ghost use Rattle.config_reader.specs.Changed.{HasRoom};
-ghost use Rattle.config_reader.specs.Lines.{IsBehindLines, IsReadTo, lined};
+ghost use Rattle.config_reader.specs.Lines.{IsBehindLines, lined};
 ghost use Rattle.config_reader.specs.Said.{is_deeper};
 ghost use Rattle.config_reader.specs.Written.{texts_of};
 ghost use Rattle.config_reader.specs.declared.reader.Part.TheVariants.{Whole};
@@ -109,8 +109,7 @@ impl<'t> Reader<'t> {
 
     /// Reads this part of the text.
     fn read_items(&mut self, config: &mut Config<'t>, part: Part) -> Result<(), Fault>
-        ensures kept { (all : List ℕ)
-            → IsReadTo (texts_of config.old.lists.pairs) self.old.between.now self.old.rest.now all
+        ensures kept { (all : List ℕ) → KeepsAll self.old config.old.lists all
             → OnOk result (texts_of config.new.lists.pairs ++ lined self.new.rest.now ≡ all) }
         ensures whole { part ≡ Whole → OnOk result (self.new.rest.now ≡ []) }
         ensures reads { IsKept self.old self.old.rank config.old.lists
@@ -141,10 +140,8 @@ impl<'t> Reader<'t> {
 
     /// Reads a comment, an empty line, the line of a section, or a setting.
     fn read_item(&mut self, config: &mut Config<'t>) -> io::Result<()>
-        ensures kept { (all : List ℕ)
-            → IsReadTo (texts_of config.old.lists.pairs) self.old.between.now self.old.rest.now all
-            → OnOk result (IsReadTo (texts_of config.new.lists.pairs)
-            self.new.between.now self.new.rest.now all) }
+        ensures kept { (all : List ℕ) → KeepsAll self.old config.old.lists all
+            → OnOk result (KeepsAll self.new config.new.lists all) }
         ensures shorter { 0 < length self.old.rest.now
             → OnOk result (length self.new.rest.now < length self.old.rest.now) }
         ensures reads { 0 < length self.old.rest.now
@@ -170,11 +167,9 @@ impl<'t> Reader<'t> {
         inside: &'t str,
         behind: &'t str,
     ) -> io::Result<()>
-        ensures kept { (all : List ℕ)
-            → IsReadTo (texts_of config.old.lists.pairs) self.old.between.now self.old.rest.now all
+        ensures kept { (all : List ℕ) → KeepsAll self.old config.old.lists all
             → IsBehindLines self.old.rest.now behind.now
-            → OnOk result (IsReadTo (texts_of config.new.lists.pairs)
-            self.new.between.now self.new.rest.now all) }
+            → OnOk result (KeepsAll self.new config.new.lists all) }
         ensures rest { OnOk result (self.new.rest.now ≡ behind.now) }
         ensures reads { IsSectionLine self.old.rest.now inside.now behind.now
             → IsKept self.old self.old.rank config.old.lists
@@ -193,10 +188,8 @@ impl<'t> Reader<'t> {
     }
 
     fn read_setting(&mut self, config: &mut Config<'t>, line: &'t str) -> io::Result<()>
-        ensures kept { (all : List ℕ)
-            → IsReadTo (texts_of config.old.lists.pairs) self.old.between.now self.old.rest.now all
-            → OnOk result (IsReadTo (texts_of config.new.lists.pairs)
-            self.new.between.now self.new.rest.now all) }
+        ensures kept { (all : List ℕ) → KeepsAll self.old config.old.lists all
+            → OnOk result (KeepsAll self.new config.new.lists all) }
         ensures shorter { 0 < length self.old.rest.now
             → OnOk result (length self.new.rest.now < length self.old.rest.now) }
         ensures reads { IsSettingLine self.old.rest.now line.now
@@ -217,10 +210,8 @@ impl<'t> Reader<'t> {
 
     /// Adds the comments and empty lines that were read last.
     fn add_between(&mut self, config: &mut Config<'t>, rank: usize) -> Result<(), AllocError>
-        ensures kept { (all : List ℕ)
-            → IsReadTo (texts_of config.old.lists.pairs) self.old.between.now self.old.rest.now all
-            → OnOk result (IsReadTo (texts_of config.new.lists.pairs)
-            self.new.between.now self.new.rest.now all) }
+        ensures kept { (all : List ℕ) → KeepsAll self.old config.old.lists all
+            → OnOk result (KeepsAll self.new config.new.lists all) }
         ensures rest { self.new.rest.now ≡ self.old.rest.now }
         ensures between { OnOk result (self.new.between.now ≡ self.old.rest.now) }
         ensures reads { IsKept self.old self.old.rank config.old.lists

@@ -22,17 +22,11 @@ returns-in-Unset-clause-read_back c =
 
 pub returns-in-Set-clause-keeps : goal.returns-in-Set-clause-keeps
 returns-in-Set-clause-keeps c =
-    rw c.in-Set.is
-    (on_ok_weaker c.set.result
-    (λ sets. λ is room config. sets_read _ _ _ _ sets is room config)
-    c.set.ensures)
+    rw c.in-Set.is (on_ok_weaker c.set.result (sets_read _ _ _ _) c.set.ensures)
 
 pub returns-in-Add-clause-keeps : goal.returns-in-Add-clause-keeps
 returns-in-Add-clause-keeps c =
-    rw c.in-Add.is
-    (on_ok_weaker c.add.result
-    (λ adds. λ is room config. adds_read _ _ _ _ adds is room config)
-    c.add.ensures)
+    rw c.in-Add.is (on_ok_weaker c.add.result (adds_read _ _ _ _) c.add.ensures)
 
 pub returns-in-Unset-clause-keeps : goal.returns-in-Unset-clause-keeps
 returns-in-Unset-clause-keeps c =
