@@ -10,7 +10,8 @@ use Rattle.config_reader.specs.declared.config.Lines.{Lines}
 use Rattle.config_reader.specs.declared.name.Name.{Name}
 use Rattle.config_reader.specs.declared.reader.Reader.{Reader}
 use Rattle.config_reader.specs.declared.section.Section.{Section}
-use Rattle.config_reader.specs.Lines.{IsReadTo, behind_line, first_line, is_lined, lined, says_nothing}
+use Rattle.config_reader.specs.Lines.{IsReadTo, behind_line, first_line, is_lined, lined}
+use Rattle.config_reader.specs.Lines.{says_nothing}
 use Rattle.config_reader.specs.Names.{has_no_key, is_key, is_no_section}
 use Rattle.config_reader.specs.Said.{indent_of, is_deeper, item_at, lowered, said, setting_of}
 use Rattle.config_reader.specs.Sections.{spelled}
