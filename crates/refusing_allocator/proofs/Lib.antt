@@ -1,1 +1,2 @@
 mod Budgets
+mod Methods

@@ -3,7 +3,7 @@
 -- Else it calls the inner `allocate` with the same size and alignment, and hands on the block or the error.
 use Rattle.std.proofs.Common.{◌≡◌, ℕ, ◌+◌, ◌^◌, ◌<◌, Bool, true, false, List, [], ◌∷◌, Ok, Err, refl, w64, Bor}
 use seplogic.Ra.Ura.{Ura}
-use mir.Syntax.{Ty, Args, Fn, a_type, dnil, dcons}
+use mir.Syntax.{Ty, Fn}
 use mir.Val.{Val, vbool, vint, vptr}
 use mir.MapTy.{inst_fn}
 use base.Logic.{SProp, ent, id⊢}
@@ -15,7 +15,7 @@ use types.Logic.{Logic}
 use contract.BorrowLft.{◌⊑◌, ⊑_trans}
 use contract.Monad.{Fun, fact}
 use contract.Running.{tables, tables_of}
-use sound.WpLaws.{fm_of, WpFn-mono}
+use sound.WpLaws.{fm_of}
 use types.Part.{agg}
 use types.Run.{stop, fld, addr, lit, no_more, and_then, first, branches, skips, exec, returns, returns_within, enter}
 use Rattle.std.proofs.VecSteps.Shapes.{after}
@@ -23,47 +23,39 @@ use denote.Exit.{yes}
 use denote.RattleType.{owns}
 use denote.Ref.{shr_vals}
 use denote.Opens.{unhide}
-use denote.Param.{bounded, param}
 use denote.Plain.{uint_vals, uint_Tells}
-use denote.Signature.{Slot, plain, types_at}
+use denote.Signature.{types_at}
 use denote.Steps.{heard, nothing}
 use denote.Triple.Clauses.{Ended, Clauses}
-use denote.Triple.Spec.{triple_of}
 use denote.Triple.Statement.{Triple}
-use denote.Triple.Table.{entered, cited}
-use denote.Triple.Walked.{Stays, stay_dropped, walk_of, ends_at, walked, Goes-dropped, walk_Meets}
+use denote.Triple.Table.{cited}
+use denote.Triple.Walked.{Stays, stay_dropped, walk_of, ends_at, Goes-dropped}
 use types.Kit.{‵, raw, ◌⊛◌, some, later, given, learn, pick, at_ret, ◌$◌, ◌∵◌, !, qed, move, keep, use0, use1, use2, split, join, fsplit}
 use types.Kit.{fjoin, suffices, await, done}
 use types.ByLocal.{alloc_all, pass_all, free_all, look_at, get, through, sets, lands_as, env}
 use denote.RawPtr.{block_ptr}
-use denote.Builtin.{usize, RefOf}
 use denote.Triple.Call.{calls_at}
 use Rattle.std.proofs.alloc.Calls.{Al, α, seen, Answer, answer_val, Answer-typed, Answer-Ok, Answer-err, takes_key, Takes, at_takes}
 use Rattle.std.proofs.alloc.Calls.{Answered, Takes-goes, Takes-gives, answers}
 use Rattle.refusing_allocator.proofs.Budgets.{Refuses, at_refuses, Refuses-goes, Refuses-gives}
 use Rattle.refusing_allocator.proofs.refuses.Symbol as c_sym
 use Rattle.refusing_allocator.proofs.refuses.Met as c_met
+use Rattle.std.proofs.raw_atomic.Walks.{proved}
+use Rattle.refusing_allocator.proofs.Methods.{args, self, sizes_go, sizes_stay}
 use Rattle.refusing_allocator.specs.contracts.RefusingAllocator as wrapper
 use Rattle.refusing_allocator.specs.contracts.RefusingAllocatorAllocator.allocate as F
 use Rattle.refusing_allocator.specs.contracts.RefusingAllocatorAllocator.allocate.Key as key
 use Rattle.refusing_allocator.proofs.RefusingAllocatorAllocator.allocate.Statement as stated
 use Rattle.refusing_allocator.proofs.RefusingAllocatorAllocator.allocate.Code as code
 
-module _ (Z : Al) where
-  abbrev args : Args
-  args = bounded (a_type ∷ []) (Z.row, tt) (dcons Z.d (dcons Z.drops dnil))
+abbrev here : Al → Fn
+here Z = inst_fn (args Z) code.function
 
-  abbrev here : Fn
-  here = inst_fn args code.function
+abbrev ended : Al → Ended
+ended Z = F.ended Z.row Z.g Z.d Z.drops
 
-  abbrev self : Slot 2
-  self = RefOf (0 ∷ []) tt (plain (λ _. wrapper.the_row (param 0 Z.row))) (λ _. tt)
-
-  abbrev ended : Ended
-  ended = F.ended Z.row Z.g Z.d Z.drops
-
-  abbrev stayed : Stays ended.signature.params ended.kept
-  stayed = (stay_dropped self yes, (stay_dropped (plain (λ _. usize)) yes, (stay_dropped (plain (λ _. usize)) yes, tt)))
+abbrev stayed : (Z : Al) → Stays (ended Z).signature.params (ended Z).kept
+stayed Z = (stay_dropped (self Z) yes, sizes_stay)
 
 module _ (Z : Al) {M : Type 1} {𝓤 : Ura M} (𝓛 : Logic 𝓤) (at_mem : Memory → SProp 𝓤) (run : Routine → Fun 𝓤) (𝓣 : Tables 𝓤 𝓛.H)
     (tk : Triple 𝓤 (𝓣.C (takes_key Z)) (Takes Z 𝓛 at_mem run)) (kn : Triple 𝓤 (𝓣.C c_sym.name) (Refuses 𝓛 at_mem run)) where
@@ -139,19 +131,12 @@ pub allocate_spec : {M : Type 1} → stated.statement M
 unfolding tables_of
 allocate_spec 𝓤 𝓛 𝓜 𝓡 wired Y L g d d' met _ =
     let Z : Al = record { row = Y; laws = L; g = g; d = d; drops = d' } in
-    let A = 𝓛.A in
     let 𝓣 : Tables 𝓤 𝓛.H = tables_of 𝓤 𝓛.H 𝓜 (tables 𝓤 𝓛.H 𝓜 𝓡 𝓡.env) in
-    let c = F.clauses Y g d d' 𝓛 𝓜.mem 𝓡.returns in
-    entered 𝓤 𝓛.H (triple_of 𝓛 (F.signature Y) (F.spec Y g d d' 𝓛 𝓜.mem 𝓡.returns)) 𝓣.C 𝓣.Λ (key.name (args Z)) (here Z)
+    proved 𝓛 (ended Z) (stayed Z) (F.clauses Y g d d' 𝓛 𝓜.mem 𝓡.returns) 𝓜 𝓡
+    (Goes-dropped 𝓛 2 (self Z) yes (λ κs x f. refl), sizes_go 𝓛) (key.name (args Z)) (here Z)
     (code.unfolded 𝓤 𝓛.H 𝓜 𝓡 wired (Y, tt) d d')
-    (walk_Meets 𝓛 (ended Z) (stayed Z) (
-      Goes-dropped 𝓛 2 (self Z) yes (λ κs x f. refl),
-      (Goes-dropped 𝓛 2 (plain (λ _. usize)) yes (λ κs x f. refl), (Goes-dropped 𝓛 2 (plain (λ _. usize)) yes (λ κs x f. refl), tt)),
-    ) c
-    (WpFn 𝓤 𝓛.H 𝓣.C 𝓣.Λ (here Z)) (WpFn-mono 𝓤 𝓛.H 𝓛.laws 𝓣 (here Z))
-    (walked 𝓛 (ended Z) (stayed Z) c (WpFn 𝓤 𝓛.H 𝓣.C 𝓣.Λ (here Z)) (λ κs. (shr_vals, (uint_vals w64, (uint_vals w64, tt))))
-    (λ κs. ((λ r vs s. s.0), (uint_Tells w64, (uint_Tells w64, tt))))
+    (λ κs. (shr_vals, (uint_vals w64, (uint_vals w64, tt)))) (λ κs. ((λ r vs s. s.0), (uint_Tells w64, (uint_Tells w64, tt))))
     (λ κs qs bounds a τ are. walk Z 𝓛 𝓜.mem 𝓡.returns 𝓣 (met.allocate d')
     (cited 𝓤 𝓛.H _ 𝓜 𝓡 𝓡.env c_sym.name (𝓡.env c_sym.name) refl
     (c_met.met 𝓤 𝓛 𝓜 𝓡 (code.calls-refusing_allocator::refuses 𝓡.env wired))) κs.0 κs.1.0 qs.0 qs.1.0 bounds.0 a.0 a.1.0 a.1.1.0 τ
-    are.1.0.1 are.1.1.0.1)))
+    are.1.0.1 are.1.1.0.1)
