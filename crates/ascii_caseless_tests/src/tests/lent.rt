@@ -2,7 +2,7 @@
 use crate::tests::owned::{bytes_of, text_of};
 use ascii_caseless::AsciiCaseless;
 use std::fmt::Display;
-use test_helpers::{Failed, Test, expect_text, is_copied, is_shown};
+use test_helpers::{Failed, Test, expect_text, is_copied, is_shown, test_all};
 
 fn is_displayed<T: Display>(test: &Test, text: &T, wanted: &str) {
     expect_text(test, format!(in test.alloc(); "{text}"), wanted);
@@ -51,18 +51,10 @@ fn bytes_are_lent(test: &Test) {
 
 #[test]
 fn texts_are_shown_as_they_are_spelled(rt: HostRuntime) -> Result<(), Failed> {
-    let test = Test::new(rt.alloc());
-    texts_are_shown(&test);
-    bytes_are_shown(&test);
-    test.end()
+    test_all!(rt.alloc(); texts_are_shown, bytes_are_shown)
 }
 
 #[test]
 fn texts_are_lent_as_they_are_spelled(rt: HostRuntime) -> Result<(), Failed> {
-    let test = Test::new(rt.alloc());
-    texts_are_lent(&test);
-    texts_are_copied(&test);
-    strings_are_lent(&test);
-    bytes_are_lent(&test);
-    test.end()
+    test_all!(rt.alloc(); texts_are_lent, texts_are_copied, strings_are_lent, bytes_are_lent)
 }
