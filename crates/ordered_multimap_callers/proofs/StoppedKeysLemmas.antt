@@ -1,5 +1,5 @@
 -- Where a walk over keys gave one value of its next key alone: what that walk ends as. Assumes `Logic`.
-use Rattle.std.proofs.Common.{◌≡◌, ℕ, zero, suc, ◌<◌, Bool, true, false, List, [], ◌∷◌, length, get_or, set, replicate, arith, inl, inr}
+use Rattle.std.proofs.Common.{◌≡◌, ℕ, zero, suc, ◌<◌, Bool, true, List, [], ◌∷◌, length, get_or, set, arith, inl, inr}
 use Rattle.std.proofs.Common.{Option, Some, None, IsSome, refl, sym, ap, ◌∙◌, subst, option_map}
 use Rattle.std.proofs.lemmas.Bool.{false≢true}
 use Rattle.std.specs.Prelude.{slice_get}
@@ -7,9 +7,9 @@ use Rattle.std.specs.Cmp.{IsEquivalence}
 use Rattle.std.specs.List.{filter_map, cons_option}
 use seplogic.Ra.Ura.{Ura}
 use base.Logic.{all_e, apply∗, ent, snd∗, via, wand}
-use base.Fml.{Fml, GName, fall, fex, fres, fwand}
+use base.Fml.{Fml, fall, fex, fres, fwand}
 use types.Logic.{Logic, sem}
-use types.Kit.{assume, each, rewrite, raw, ‵, ◌$◌, ◌∵◌, !, qed, move, use1, use2, fpick, fpack, done}
+use types.Kit.{assume, each, raw, ‵, ◌$◌, ◌∵◌, !, qed, move, use1, use2, fpick, fpack, done}
 use denote.RattleType.{RattleType}
 use Rattle.std.specs.Borrow.{Bor, MutBor}
 use Rattle.std.specs.declared.alloc.Allocator as alloc
@@ -53,7 +53,7 @@ use Rattle.ordered_multimap.proofs.Callers.Places.{IsIn-filter_map}
 use Rattle.ordered_multimap.proofs.Callers.WellFormed.{is_present-keys}
 use Rattle.ordered_multimap.proofs.Callers.Writes.{pairs_of-with_item}
 use Rattle.ordered_multimap_callers.specs.Ends.{ends_next_written, IsNextWritten}
-use Rattle.ordered_multimap_callers.proofs.StoppedLemmas.{one_becomes}
+use Rattle.ordered_multimap_callers.proofs.StoppedLemmas.{taken_becomes}
 use Rattle.ordered_multimap_callers.proofs.WalkShows.{SlotsAgree}
 
 -- a list with items has one at its front
@@ -240,15 +240,7 @@ module _ (K V S A H : RattleType) (e : equality.Ghosts K.Denot) (k : hashed.Ghos
       → ent 𝓤 (sem 𝓛 (walk_ends_exactly K V S A H heap Front w t.values.cells)) (sem 𝓛 (ends_next_written K V S A H heap w r))
   ends_next {𝓤 = 𝓤} 𝓛 w x t r stepped lends agree key positions more =
       let B = 𝓛.A in let s = x.1 in let at = x.1.left.first in let c = t.values.cells in
-      let slots = lent w.now x t r stepped lends in
       let old : List (Option V.Denot) = w.now.map.now.slots.values.items in
-      let State : Type 0 = List GName × (List (Option V.Denot) × List Bool) in
-      let taken : State = (set s.values.cells.names at r.ghost_name, (old, set (replicate (length old) true) at false)) in
-      let items_are : c.items ≡ old = ap (λ (n : Slots V.Denot ValueLink). n.items) lends.taken.slots
-      ∙ ap (λ (n : Slots V.Denot ValueLink). n.items) slots.slots in
-      let left_are : c.left ≡ set (replicate (length old) true) at false = lends.taken.left
-      ∙ ap (λ (ls : List Bool). set ls at false) slots.untaken in
-      let is : taken ≡ (c.names, (c.items, c.left)) = sym (λ j. (lends.taken.ends j, (items_are j, left_are j))) in
       let code : Walk → Fml = λ n. fres w.ghost_name ((walk_row K V S A H e k b h heap).coded.code n) in
       let Ended : List (Option V.Denot) → Type 0 = λ ws. (n : Walk) × IsEndedWalk Front w.now ws n in
       let Ends : (ws : List (Option V.Denot)) → Ended ws → Fml = λ ws n. code n.0 in
@@ -261,9 +253,8 @@ module _ (K V S A H : RattleType) (e : equality.Ghosts K.Denot) (k : hashed.Ghos
       each ! (λ (v : V.Denot). wand 𝓤 (B.res r.ghost_name (V.coded.code v)) (sem 𝓛 (fex (Written x.0.now v) (Leaves x.0.now v)))) (λ v.
       let ws : List (Option V.Denot) = set old at (Some v) in
       assume ! (‵ (fres r.ghost_name (V.coded.code v))) $
-      use1 𝓛 (‵ (become V taken.0 taken.1.0 taken.1.1 ws)) (one_becomes 𝓛 V s.values.cells.names old at r.ghost_name v slots.named
-      (within w.now x t r stepped lends)) $
-      rewrite ! 0 (λ (n : State). ‵ (become V n.0 n.1.0 n.1.1 ws)) is refl $ move ! (1 ∷ []) $
+      use1 𝓛 (‵ (become V c.names c.items c.left ws)) (taken_becomes 𝓛 V w.now.map.now.slots.values s.values t.values at r v
+      (lent w.now x t r stepped lends) lends.taken (within w.now x t r stepped lends)) $ move ! (1 ∷ []) $
       use1 𝓛 (raw (wand 𝓤 (sem 𝓛 (become V c.names c.items c.left ws)) (sem 𝓛 (fex (Ended ws) (Ends ws)))))
       (all_e 𝓤 (λ (vs : List (Option V.Denot)). wand 𝓤 (sem 𝓛 (become V c.names c.items c.left vs))
       (sem 𝓛 (fex (Ended vs) (Ends vs)))) ws) $

@@ -9,7 +9,7 @@ use seplogic.Ra.Ura.{Ura}
 use base.Logic.{all_e, apply∗, emp, ent, via, wand}
 use base.Fml.{Fml, GName, fall, feq, fres, fsep, fwand}
 use types.Logic.{Logic, sem}
-use types.Kit.{assume, each, rewrite, raw, ‵, ◌$◌, ◌∵◌, !, qed, move, use0, use1, use2, fjoin, fpack, feq_i, done}
+use types.Kit.{assume, each, raw, ‵, ◌$◌, ◌∵◌, !, qed, move, use0, use1, use2, fjoin, fpack, feq_i, done}
 use denote.RattleType.{RattleType}
 use denote.Follow.{follows}
 use denote.Steps.{nothing}
@@ -21,7 +21,7 @@ use Rattle.std.specs.declared.hash.BuildHasher as builder
 use Rattle.multimap_slots.specs.Ended.{become, ends_with}
 use Rattle.multimap_slots.specs.declared.cells.Cells.{Cells}
 use Rattle.multimap_slots.specs.declared.cells_of.SlotCells.{SlotCells}
-use Rattle.multimap_slots.specs.SlotCells.{lent_slots, LendsSlots}
+use Rattle.multimap_slots.specs.SlotCells.{lent_slots, LendsSlots, TakesItem}
 use Rattle.multimap_slots.specs.Slots.{Slots, item_at}
 use Rattle.multimap_slots.specs.Lists.{IsIn, AreDistinct, first_of, next_of, previous_of}
 use Rattle.multimap_slots.proofs.Callers.Tapes.{IsSome-within}
@@ -193,33 +193,51 @@ module _ {M : Type 1} {𝓤 : Ura M} (𝓛 : Logic 𝓤) (V : RattleType) where
       (one_becomes γs ys p γ w (omega (arith, e)) (omega (arith, lt))) $
       feq_i ! (Option V.Denot) y y refl $ fjoin ! $ done !
 
+  -- one slot alone was taken since all of them were lent, and its reference ended with w
+  pub taken_becomes : {L A : Type 0} (m : Slots V.Denot L) (s t : SlotCells V.Denot L A) (p : ℕ) (r : MutBor V.Denot) (w : V.Denot)
+      → LendsSlots m s → TakesItem s p r t → p < length m.items
+      → ent 𝓤 (sem 𝓛 (fres r.ghost_name (V.coded.code w)))
+      (sem 𝓛 (become V t.cells.names t.cells.items t.cells.left (set m.items p (Some w))))
+  taken_becomes m s t p r w lent takes there =
+      let c = t.cells in let ys : List (Option V.Denot) = m.items in
+      let items_are : c.items ≡ ys = ap (λ (h : Slots _ _). h.items) takes.slots ∙ ap (λ (h : Slots _ _). h.items) lent.slots in
+      let left_are : c.left ≡ set (replicate (length ys) true) p false = takes.left ∙ ap (λ (ls : List Bool). set ls p false) lent.untaken in
+      let Becomes : List GName × (List (Option V.Denot) × List Bool) → Type 1 = λ h.
+      ent 𝓤 (sem 𝓛 (fres r.ghost_name (V.coded.code w))) (sem 𝓛 (become V h.0 h.1.0 h.1.1 (set ys p (Some w)))) in
+      subst Becomes (sym (λ j. (takes.ends j, (items_are j, left_are j)))) (one_becomes s.cells.names ys p r.ghost_name w lent.named there)
+
 -- the law of the walks, of one map and one walk over it
 module _ {M : Type 1} {𝓤 : Ura M} (𝓛 : Logic 𝓤) (K V S A H : RattleType) (key : HashMembers K.Denot)
     (build : builder.Ghosts S.Denot H.Denot) (hash : hasher.Ghosts H.Denot) (heap : alloc.Ghosts A.Denot) where
   abbrev R : RattleType
   R = map_row K V S A H key build hash heap
 
+  abbrev Follows : Multimap K.Denot V.Denot S.Denot → GName → Cells V.Denot → Fml
+  Follows m γ c = fwand (follows R R γ c.lender_loan (with_values_of m)) (fwand (ends_with V c) (ends_exactly K V S m γ c))
+
+  abbrev OfAround : Multimap K.Denot V.Denot S.Denot → GName → SlotCells V.Denot ValueLink A.Denot → Cells V.Denot → Fml
+  OfAround m γ made c = fall (c.lender_context ≡ made.cells.lender_context) (λ _. Follows m γ c)
+
+  abbrev OfCells : Multimap K.Denot V.Denot S.Denot → GName → SlotCells V.Denot ValueLink A.Denot → Cells V.Denot → Fml
+  OfCells m γ made c = fall (EndsMap K V S m made) (λ _. OfAround m γ made c)
+
+  abbrev OfMade : Multimap K.Denot V.Denot S.Denot → GName → SlotCells V.Denot ValueLink A.Denot → Fml
+  OfMade m γ made = fall (Cells V.Denot) (OfCells m γ made)
+
+  abbrev OfName : Multimap K.Denot V.Denot S.Denot → GName → Fml
+  OfName m γ = fall (SlotCells V.Denot ValueLink A.Denot) (OfMade m γ)
+
+  abbrev OfMap : Multimap K.Denot V.Denot S.Denot → Fml
+  OfMap m = fall GName (OfName m)
+
   pub law_at : (m : Multimap K.Denot V.Denot S.Denot) (γ : GName) (made : SlotCells V.Denot ValueLink A.Denot) (c : Cells V.Denot)
       → EndsMap K V S m made → c.lender_context ≡ made.cells.lender_context
-      → ent 𝓤 (sem 𝓛 (WalksAreExact K V S A H key build hash heap))
-      (sem 𝓛 (fwand (follows R R γ c.lender_loan (with_values_of m)) (fwand (ends_with V c) (ends_exactly K V S m γ c))))
+      → ent 𝓤 (sem 𝓛 (WalksAreExact K V S A H key build hash heap)) (sem 𝓛 (Follows m γ c))
   law_at m γ made c ends same =
-      let Joined : Fml = fwand (follows R R γ c.lender_loan (with_values_of m)) (fwand (ends_with V c) (ends_exactly K V S m γ c)) in
-      let Around : Fml = fall (c.lender_context ≡ made.cells.lender_context) (λ _. Joined) in
-      let Over : SlotCells V.Denot ValueLink A.Denot → Cells V.Denot
-      → Fml = λ made c. fall (EndsMap K V S m made) (λ _. fall (c.lender_context ≡ made.cells.lender_context) (λ _.
-      fwand (follows R R γ c.lender_loan (with_values_of m)) (fwand (ends_with V c) (ends_exactly K V S m γ c)))) in
-      let Named : GName → Fml = λ γ. fall (SlotCells V.Denot ValueLink A.Denot)
-      (λ made. fall (Cells V.Denot) (λ c. fall (EndsMap K V S m made) (λ _. fall (c.lender_context ≡ made.cells.lender_context) (λ _.
-      fwand (follows R R γ c.lender_loan (with_values_of m)) (fwand (ends_with V c) (ends_exactly K V S m γ c)))))) in
-      let Of : Multimap K.Denot V.Denot S.Denot → Fml = λ m. fall GName
-      (λ γ. fall (SlotCells V.Denot ValueLink A.Denot) (λ made. fall (Cells V.Denot) (λ c.
-      fall (EndsMap K V S m made) (λ _. fall (c.lender_context ≡ made.cells.lender_context)
-      (λ _. fwand (follows R R γ c.lender_loan (with_values_of m)) (fwand (ends_with V c) (ends_exactly K V S m γ c))))))) in
-      via 𝓤 (sem 𝓛 (Of m)) (all_e 𝓤 (λ n. sem 𝓛 (Of n)) m) (via 𝓤 (sem 𝓛 (Named γ)) (all_e 𝓤 (λ δ. sem 𝓛 (Named δ)) γ)
-      (via 𝓤 (sem 𝓛 (fall (Cells V.Denot) (Over made))) (all_e 𝓤 (λ h. sem 𝓛 (fall (Cells V.Denot) (Over h))) made)
-      (via 𝓤 (sem 𝓛 (Over made c)) (all_e 𝓤 (λ d. sem 𝓛 (Over made d)) c)
-      (via 𝓤 (sem 𝓛 Around) (all_e 𝓤 (λ _. sem 𝓛 Around) ends) (all_e 𝓤 (λ _. sem 𝓛 Joined) same)))))
+      via 𝓤 (sem 𝓛 (OfMap m)) (all_e 𝓤 (λ n. sem 𝓛 (OfMap n)) m) (via 𝓤 (sem 𝓛 (OfName m γ)) (all_e 𝓤 (λ δ. sem 𝓛 (OfName m δ)) γ)
+      (via 𝓤 (sem 𝓛 (OfMade m γ made)) (all_e 𝓤 (λ h. sem 𝓛 (OfMade m γ h)) made)
+      (via 𝓤 (sem 𝓛 (OfCells m γ made c)) (all_e 𝓤 (λ d. sem 𝓛 (OfCells m γ made d)) c)
+      (via 𝓤 (sem 𝓛 (OfAround m γ made c)) (all_e 𝓤 (λ _. sem 𝓛 (OfAround m γ made c)) ends) (all_e 𝓤 (λ _. sem 𝓛 (Follows m γ c)) same)))))
 
 module _ {M : Type 1} {𝓤 : Ura M} (𝓛 : Logic 𝓤) (K V S A : RattleType) where
   open 𝓛 use {A as B}
@@ -233,13 +251,6 @@ module _ {M : Type 1} {𝓤 : Ura M} (𝓛 : Logic 𝓤) (K V S A : RattleType) 
   ends_first m s t r ended values positions lends =
       let lent = ended.lent in let place = s.left.first in let c = t.values.cells in
       let items : List (Option V.Denot) = m.now.slots.values.items in
-      let State : Type 0 = List GName × (List (Option V.Denot) × List Bool) in
-      let taken : State = (set s.values.cells.names place r.ghost_name, (items, set (replicate (length items) true) place false)) in
-      let items_are : c.items ≡ items = ap (λ (h : Slots V.Denot ValueLink). h.items) lends.taken.slots
-      ∙ ap (λ (h : Slots V.Denot ValueLink). h.items) lent.slots in
-      let left_are : c.left ≡ set (replicate (length items) true) place false = lends.taken.left
-      ∙ ap (λ (ls : List Bool). set ls place false) lent.untaken in
-      let is : taken ≡ (c.names, (c.items, c.left)) = sym (λ j. (lends.taken.ends j, (items_are j, left_are j))) in
       qed 𝓛 (‵ (ends_exactly K V S m.now m.ghost_name c) ∷ []) ∵
       each ! (λ (w : V.Denot). wand 𝓤 (B.res r.ghost_name (V.coded.code w))
       (sem 𝓛 (ends_with_lists K V S m.ghost_name (end_written Front m.now.lists w)))) (λ w.
@@ -248,10 +259,9 @@ module _ {M : Type 1} {𝓤 : Ura M} (𝓛 : Logic 𝓤) (K V S A : RattleType) 
       let pairs_are : (ended_map m.now ws).lists ≡ wanted = ap (λ ps. lists m.now.lists.keys ps)
       (first_alone m.now s lent w values positions) in
       assume ! (‵ (fres r.ghost_name (V.coded.code w))) $
-      use1 𝓛 (‵ (become V taken.0 taken.1.0 taken.1.1 ws))
-      (one_becomes 𝓛 V s.values.cells.names items place r.ghost_name w lent.named
-      (place_within m.now s lent place r.now lends.taken.item_is)) $
-      rewrite ! 0 (λ (h : State). ‵ (become V h.0 h.1.0 h.1.1 ws)) is refl $ move ! (1 ∷ []) $
+      use1 𝓛 (‵ (become V c.names c.items c.left ws))
+      (taken_becomes 𝓛 V m.now.slots.values s.values t.values place r w lent lends.taken
+      (place_within m.now s lent place r.now lends.taken.item_is)) $ move ! (1 ∷ []) $
       use1 𝓛 (raw (wand 𝓤 (sem 𝓛 (become V c.names c.items c.left ws))
       (B.res m.ghost_name ((multimap_code K.coded V.coded S.coded).code (ended_map m.now ws)))))
       (all_e 𝓤 (λ (vs : List (Option V.Denot)). wand 𝓤 (sem 𝓛 (become V c.names c.items c.left vs))

@@ -1,13 +1,25 @@
 //! Callers of entries that are proved for every key type: each knows what the map is afterwards.
-ghost use Rattle.std.specs.Prelude.{◌≡◌, true, false, length, slice_get, Some, IfNone, IfOk, IfSome, OnSome, OnErr, OnOk};
+ghost use Rattle.std.specs.Prelude.{◌≡◌, true, false, length, slice_get, None, Some, IfNone, IfOk, IfSome, OnSome, OnErr, OnOk};
 ghost use Rattle.ordered_multimap.specs.Changes.{appended, first_written, inserted, removed};
 ghost use Rattle.ordered_multimap.specs.Pairs.{is_present, values_of};
 ghost use Rattle.ordered_multimap.specs.RemovedAt.{removed_at, removable_value_at};
 
 use ordered_multimap::ListOrderedMultimap;
-use ordered_multimap::list_ordered_multimap::{Entry, Refused};
+use ordered_multimap::list_ordered_multimap::{Entry, Refused, VacantEntry};
 use std::alloc::{AllocError, Allocator};
 use std::hash::{BuildHasher, Hash};
+
+/// Ends the entry of an absent key, so that a proved caller knows that the map is as it was, and
+/// returns none.
+pub(crate) fn leave_absent<K: Eq + Hash + Drop, V, S: BuildHasher, A: Allocator, T>(
+    entry: VacantEntry<'_, K, V, S, A>,
+) -> Option<T>
+    ensures none { result ≡ None }
+    ensures unchanged { entry.exit.0.now ≡ entry.entry.map.now }
+{
+    drop(entry.into_key());
+    None
+}
 
 /// Writes the value in place of the first one of the key, or puts it last.
 pub fn set_or_append<K: Eq + Hash + Drop, V: Copy, S: BuildHasher, A: Allocator + Copy>(
@@ -38,10 +50,7 @@ pub fn take_out<K: Eq + Hash + Drop, V: Drop, S: BuildHasher, A: Allocator>(
 {
     match map.entry(key) {
         Entry::Occupied(entry) => Some(entry.remove()),
-        Entry::Vacant(entry) => {
-            drop(entry.into_key());
-            None
-        }
+        Entry::Vacant(entry) => leave_absent(entry),
     }
 }
 
@@ -59,10 +68,7 @@ pub fn take_value_out<K: Eq + Hash + Drop, V: Drop, S: BuildHasher, A: Allocator
 {
     match map.entry(key) {
         Entry::Occupied(mut entry) => entry.remove_at(index),
-        Entry::Vacant(entry) => {
-            drop(entry.into_key());
-            None
-        }
+        Entry::Vacant(entry) => leave_absent(entry),
     }
 }
 
@@ -81,10 +87,7 @@ pub fn take_last_out<K: Eq + Hash + Drop, V: Drop, S: BuildHasher, A: Allocator>
             let mut drain = entry.remove_all();
             drain.next_back()
         }
-        Entry::Vacant(entry) => {
-            drop(entry.into_key());
-            None
-        }
+        Entry::Vacant(entry) => leave_absent(entry),
     }
 }
 

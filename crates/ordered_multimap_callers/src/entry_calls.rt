@@ -9,6 +9,7 @@ ghost use Rattle.ordered_multimap.specs.Entries.{IsOccupiedBy};
 ghost use Rattle.ordered_multimap.specs.Keys.{stored_key};
 ghost use Rattle.ordered_multimap.specs.Pairs.{is_present, values_of};
 
+use crate::entered::leave_absent;
 use ordered_multimap::ListOrderedMultimap;
 use ordered_multimap::list_ordered_multimap::{
     Entry, EntryValuesDrain, OccupiedEntry, Refused, RefusedValue,
@@ -38,10 +39,7 @@ pub fn replace_if_present<K: Eq + Hash + Drop, V: Drop, S: BuildHasher, A: Alloc
             let mut drain = entry.insert_all(value)?;
             Ok(drain.next())
         }
-        Entry::Vacant(entry) => {
-            drop(entry.into_key());
-            Ok(None)
-        }
+        Entry::Vacant(entry) => Ok(leave_absent(entry)),
     }
 }
 
@@ -59,10 +57,7 @@ pub fn swap_first<K: Eq + Hash + Drop, V: Drop, S: BuildHasher, A: Allocator>(
 {
     match map.entry(key) {
         Entry::Occupied(entry) => Some(mem::replace(entry.into_mut(), value)),
-        Entry::Vacant(entry) => {
-            drop(entry.into_key());
-            None
-        }
+        Entry::Vacant(entry) => leave_absent(entry),
     }
 }
 
@@ -80,10 +75,7 @@ pub fn take_pair_out<K: Eq + Hash + Drop, V: Drop, S: BuildHasher, A: Allocator>
 {
     match map.entry(key) {
         Entry::Occupied(entry) => Some(entry.remove_entry()),
-        Entry::Vacant(entry) => {
-            drop(entry.into_key());
-            None
-        }
+        Entry::Vacant(entry) => leave_absent(entry),
     }
 }
 
@@ -130,10 +122,7 @@ pub fn take_key_out<K: Eq + Hash + Drop, V: Drop, S: BuildHasher, A: Allocator>(
             let count = remove_entry_with_all(entry, &mut stored).len();
             stored.map(|key| (key, count))
         }
-        Entry::Vacant(entry) => {
-            drop(entry.into_key());
-            None
-        }
+        Entry::Vacant(entry) => leave_absent(entry),
     }
 }
 

@@ -11,6 +11,7 @@ ghost use Rattle.ordered_multimap.specs.Sets.{SetsValue};
 ghost use Rattle.ordered_multimap.specs.Walk.{end_item};
 ghost use Rattle.ordered_multimap.specs.End.TheVariants.{Back};
 
+use crate::entered::leave_absent;
 use ordered_multimap::list_ordered_multimap::{Entry, Refused};
 use ordered_multimap::{KeyByPart, KeyQuery, ListOrderedMultimap, Part};
 use std::alloc::Allocator;
@@ -191,9 +192,6 @@ pub fn set_if_present<K: Eq + Hash + Drop, V: Drop, S: BuildHasher, A: Allocator
 {
     match map.entry(key) {
         Entry::Occupied(mut entry) => Some(entry.set(value)),
-        Entry::Vacant(entry) => {
-            drop(entry.into_key());
-            None
-        }
+        Entry::Vacant(entry) => leave_absent(entry),
     }
 }

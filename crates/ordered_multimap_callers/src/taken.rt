@@ -14,43 +14,14 @@ use std::alloc::{AllocError, Allocator};
 use std::default::MadeWith;
 use std::hash::{BuildHasher, Hash};
 
-// Moves the keys that are left into the vector, behind those there.
-fn push_keys<K: Drop, A: Allocator>(
-    left: IntoKeys<K, A>,
-    keys: &mut Vec<K, A>,
-) -> Result<(), AllocError>
-    ensures { OnOk result (keys.new.items ≡ keys.old.items ++ left) }
-{
-    for key in left {
-        keys.push(key)?;
-    }
-    Ok(())
-}
-
 /// Moves the keys of a map into a vector by the map's allocator, in order, and drops the values.
 pub fn keys_of<K: Eq + Hash + Drop, V: Drop, S: BuildHasher + Drop, A: Allocator + Copy>(
     map: ListOrderedMultimap<K, V, S, A>,
 ) -> Result<Vec<K, A>, AllocError>
     ensures keys { IfOk result (λ keys. keys.items ≡ map.lists.keys) }
 {
-    let mut keys = Vec::new(*map.allocator());
-    match push_keys(map.into_keys(), &mut keys) {
-        Ok(()) => Ok(keys),
-        Err(refused) => Err(refused),
-    }
-}
-
-// Moves the values that are left into the vector, behind those there.
-fn push_values<V: Drop, A: Allocator>(
-    left: IntoValues<V, A>,
-    values: &mut Vec<V, A>,
-) -> Result<(), AllocError>
-    ensures { OnOk result (values.new.items ≡ values.old.items ++ left) }
-{
-    for value in left {
-        values.push(value)?;
-    }
-    Ok(())
+    let alloc = *map.allocator();
+    map.into_keys().collect(alloc)
 }
 
 /// Moves the values of a map into a vector by the map's allocator, in order, and drops the keys.
@@ -64,11 +35,8 @@ where
     A: Allocator + Copy,
     ensures values { IfOk result (λ values. values.items ≡ all_values map.lists.pairs) }
 {
-    let mut values = Vec::new(*map.allocator());
-    match push_values(map.into_values(), &mut values) {
-        Ok(()) => Ok(values),
-        Err(refused) => Err(refused),
-    }
+    let alloc = *map.allocator();
+    map.into_values().collect(alloc)
 }
 
 /// The first key of a map and the last of the others.

@@ -86,20 +86,13 @@ first_of_next_key_spec 𝓤 𝓛 𝓜 𝓡 wired K V S A B LK LV LS LA LB eqs dE
     let inst = bounded (a_type ∷ a_type ∷ a_type ∷ a_type ∷ a_type ∷ []) (K, (V, (S, (A, (B, tt)))))
     (dcons dEq (dcons dPe (dcons dHa (dcons dBh (dcons dHg
     (dcons dAl (dcons dropK (dcons dropV (dcons dropA (dcons dropB dnil)))))))))) in let fn = inst_fn inst code.function in
-    let hs : Stays En.signature.params En.kept = (
-      stay_dropped (mut_ref_to (0 ∷ []) tt
-          (plain (λ κs. E-type.the_row (named_lft 7 1 tt κs) Kr Vr Sr Ar Br pe ha bh hg al))) no,
-      tt,
-    ) in
-    proved 𝓛 En hs c 𝓜 𝓡 (
-      Goes-spent_ref 𝓛 7 (0 ∷ []) tt
-          (plain (λ κs. E-type.the_row (named_lft 7 1 tt κs) Kr Vr Sr Ar Br pe ha bh hg al)),
-      tt,
-    ) (#self inst) fn
+    let Keys : Lfts 7 → RattleType = λ κs. E-type.the_row (named_lft 7 1 tt κs) Kr Vr Sr Ar Br pe ha bh hg al in
+    let hs : Stays En.signature.params En.kept = (stay_dropped (mut_ref_to (0 ∷ []) tt (plain Keys)) no, tt) in
+    proved 𝓛 En hs c 𝓜 𝓡 (Goes-spent_ref 𝓛 7 (0 ∷ []) tt (plain Keys), tt) (#self inst) fn
     (code.unfolded 𝓤 H 𝓜 𝓡 wired (K, (V, (S, (A, (B, tt))))) dEq dPe dHa dBh dHg dAl dropK dropV dropA dropB)
-    (λ κs. (mut_vals, tt)) (λ κs. (mut_Tells (named 0) κs.0 (E-type.the_row (named_lft 7 1 tt κs) Kr Vr Sr Ar Br pe ha bh hg al), tt))
+    (λ κs. (mut_vals, tt)) (λ κs. (mut_Tells (named 0) κs.0 (Keys κs), tt))
     (λ κs qs bounds a gh are.
-    let R : RattleType = E-type.the_row (named_lft 7 1 tt κs) Kr Vr Sr Ar Br pe ha bh hg al in
+    let R : RattleType = Keys κs in
     let y : (walk_of 𝓛 En hs c).Ghost = ((κs, qs, bounds, a, (mut_vals a.0, tt)), gh) in let Post : Val
     → SProp 𝓤 = (walk_of 𝓛 En hs c).post y in
     let w₀ : R.Denot = a.0.now in let pairs = w₀.map.now.lists.pairs in
