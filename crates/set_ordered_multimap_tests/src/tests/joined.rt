@@ -5,7 +5,7 @@ use refusing_allocator::RefusingAllocator;
 use set_ordered_multimap::SetOrderedMultimap;
 use std::alloc::Allocator;
 use std::hash::BuildHasher;
-use test_helpers::{Failed, Test, lend, requests_until_enough, test_on_new, try_on_new};
+use test_helpers::{Failed, Test, lend, requests_until_enough, test_all, test_on_new, try_on_new};
 
 type Pairs = &'static [(u32, u32)];
 
@@ -157,15 +157,16 @@ fn joins_in_room<A: Allocator + Copy>(test: &Test, both: &mut Both<A>) -> bool {
     has_lists(set, &[(1, 3), (3, 3), (4, 5), (1, 6)], &[1, 3, 4])
 }
 
-fn joins_in_room_with(test: &Test) -> bool {
-    try_on_new!(test, 0; both_new; join_and_fill_other; joins_in_room)
+fn each_request_is_refused(test: &Test) {
+    let enough = requests_until_enough(|granted| joins_with(test, granted));
+    test.expect(enough.unwrap_or(0) >= 2);
+}
+
+fn room_needs_no_request(test: &Test) {
+    test.expect(try_on_new!(test, 0; both_new; join_and_fill_other; joins_in_room));
 }
 
 #[test]
 fn a_refused_request_changes_neither_set(rt: HostRuntime) -> Result<(), Failed> {
-    let test = Test::new(rt.alloc());
-    let enough = requests_until_enough(|granted| joins_with(&test, granted));
-    test.expect(enough.unwrap_or(0) >= 2);
-    test.expect(joins_in_room_with(&test));
-    test.end()
+    test_all!(rt.alloc(); each_request_is_refused, room_needs_no_request)
 }

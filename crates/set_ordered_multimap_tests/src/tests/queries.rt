@@ -31,10 +31,8 @@ const ROWS: &[Row] = &[
 ];
 
 fn insert_text<S: BuildHasher>(test: &Test, set: &mut Owned<S>, name: &str, value: u32) {
-    match String::from_str(test.alloc(), name) {
-        Ok(key) => test.expect(set.insert(key, value).is_ok()),
-        Err(_) => test.fail(),
-    }
+    let key = String::from_str(test.alloc(), name);
+    test.expect(key.is_ok_and(|key| set.insert(key, value).is_ok()));
 }
 
 fn refill<S: BuildHasher>(test: &Test, set: &mut Owned<S>) {

@@ -48,6 +48,11 @@ const LEFT: &[usize] = &[3, 2, 0, 0];
 
 const KEYS: &[u32] = &[1, 2, 3];
 
+// Whether the set has all of the pairs, each once.
+fn has_all<A: Allocator>(set: &Refusing<A>) -> bool {
+    has_lists(set, FIRST, KEYS)
+}
+
 // Whether the new pair stands last, once.
 fn stands_last<A: Allocator + Copy>(set: &Refusing<A>, before: Pairs) -> bool {
     set.values_len() == before.len().saturating_add(1)
@@ -117,9 +122,9 @@ fn extend_by_present<A: Allocator + Copy>(test: &Test, set: &mut Refusing<A>) ->
 }
 
 fn clone_of<A: Allocator + Copy>(test: &Test, set: &Refusing<A>) -> bool {
-    let is_copy = |copy: &mut Refusing<A>| test.expect(has_lists(copy, FIRST, KEYS));
+    let is_copy = |copy: &mut Refusing<A>| test.expect(has_all(copy));
     let cloned = lend_made(set.clone(), is_copy, |_refused| {});
-    test.expect(has_lists(set, FIRST, KEYS));
+    test.expect(has_all(set));
     cloned
 }
 
@@ -168,7 +173,7 @@ fn from_iter_with(test: &Test, granted: u64) -> bool {
     let allocator = RefusingAllocator::new(test.alloc(), granted);
     lend_made(
         SetOrderedMultimap::from_iter(&allocator, DefaultState::new(), PAIRS.iter().copied()),
-        |set| test.expect(has_lists(set, FIRST, KEYS)),
+        |set| test.expect(has_all(set)),
         |refused| test.expect(FIRST.contains(&refused_pair(refused))),
     )
 }
@@ -177,7 +182,7 @@ fn collect_with(test: &Test, granted: u64) -> bool {
     let allocator = RefusingAllocator::new(test.alloc(), granted);
     lend_made(
         PAIRS.iter().copied().collect(&allocator),
-        |set: &mut Refusing<_>| test.expect(has_lists(set, FIRST, KEYS)),
+        |set: &mut Refusing<_>| test.expect(has_all(set)),
         |_refused: AllocError| {},
     )
 }
