@@ -1,5 +1,5 @@
 //! Places in an order, each with a link, over one vector of nodes that also lists the free places.
-ghost use Rattle.std.specs.Prelude.{◌≡◌, ◌+◌, ◌<◌, [], length, Some, slice_get, vec_capacity};
+ghost use Rattle.std.specs.Prelude.{◌≡◌, ◌+◌, ◌<◌, ℕ, [], length, Some, slice_get, vec_capacity};
 ghost use Rattle.multimap_slots.specs.Lists.{IsIn, next_of, previous_of};
 ghost use Rattle.multimap_slots.specs.Private.Vectors.{GrowsTo};
 
@@ -134,6 +134,22 @@ impl<L: Copy, A: Allocator> Order<L, A> {
         ensures link { slice_get self.now.links place ≡ Some result.now.link }
     {
         &self.nodes[place]
+    }
+
+    /// The place behind a listed one, or any number behind the last. It tests nothing.
+    pub(crate) fn place_behind(&self, place: usize) -> usize
+        requires { IsIn place self.now.order }
+        ensures { (p : ℕ) → next_of self.now.order place ≡ Some p → result ≡ p }
+    {
+        self.node(place).next.place_or_any()
+    }
+
+    /// The place before a listed one, or any number before the first. It tests nothing.
+    pub(crate) fn place_before(&self, place: usize) -> usize
+        requires { IsIn place self.now.order }
+        ensures { (p : ℕ) → previous_of self.now.order place ≡ Some p → result ≡ p }
+    {
+        self.node(place).standing.previous().place_or_any()
     }
 
     pub(crate) fn link_mut(&mut self, place: usize) -> &mut L

@@ -78,8 +78,8 @@ macro_rules! used {
             Some(_) => Some($items.following_listed_place($place)),
             None => None,
         };
-        let (item, link) = $items.get_listed($place, $reads);
-        Some((before, (*item, link), behind))
+        let (item, _) = $items.get_listed($place, $reads);
+        Some((before, (*item, $items.listed_link($place)), behind))
     }};
 }
 

@@ -1,5 +1,5 @@
 //! The order of the list: both ends, and the neighbours of a place. None of these counts as a read.
-ghost use Rattle.std.specs.Prelude.{◌≡◌, Some, IsSome};
+ghost use Rattle.std.specs.Prelude.{◌≡◌, ℕ, Some};
 ghost use Rattle.multimap_slots.specs.Lists.{IsIn, first_of, last_of, next_of, previous_of};
 
 use super::SlotList;
@@ -63,25 +63,23 @@ impl<T, L: Copy, A: Allocator> SlotList<T, L, A> {
         self.order.previous(place)
     }
 
-    /// The place behind `place`, where an item of the list must stand that isn't the last one. It
+    /// The place behind `place`, where an item of the list must stand; any number at the last one. It
     /// tests nothing.
     #[inline(always)]
     pub fn following_listed_place(&self, place: usize) -> usize
-        requires listed { IsIn place self.now.order }
-        requires more { IsSome (next_of self.now.order place) }
-        ensures { next_of self.now.order place ≡ Some result }
+        requires { IsIn place self.now.order }
+        ensures { (p : ℕ) → next_of self.now.order place ≡ Some p → result ≡ p }
     {
-        self.order.following(place)
+        self.order.place_behind(place)
     }
 
-    /// The place before `place`, where an item of the list must stand that isn't the first one. It
-    /// tests nothing.
+    /// The place before `place`, where an item of the list must stand; any number at the first one.
+    /// It tests nothing.
     #[inline(always)]
     pub fn preceding_listed_place(&self, place: usize) -> usize
-        requires listed { IsIn place self.now.order }
-        requires more { IsSome (previous_of self.now.order place) }
-        ensures { previous_of self.now.order place ≡ Some result }
+        requires { IsIn place self.now.order }
+        ensures { (p : ℕ) → previous_of self.now.order place ≡ Some p → result ≡ p }
     {
-        self.order.preceding(place)
+        self.order.place_before(place)
     }
 }

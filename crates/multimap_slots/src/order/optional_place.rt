@@ -1,5 +1,5 @@
 //! A place or none, in one word.
-ghost use Rattle.std.specs.Prelude.{◌≡◌, ◌+◌, ◌<◌, ◌^◌, None, Some, Option, IsSome};
+ghost use Rattle.std.specs.Prelude.{◌≡◌, ◌+◌, ◌<◌, ◌^◌, ℕ, None, Some, Option, IsSome};
 
 use std::marker::Model;
 
@@ -63,6 +63,14 @@ impl OptionalPlace {
         ensures { result ≡ place_below word }
     {
         OptionalPlace { above: word }
+    }
+
+    /// The place, or any number where there is none.
+    #[inline(always)]
+    pub(crate) fn place_or_any(self) -> usize
+        ensures { (p : ℕ) → self ≡ Some p → result ≡ p }
+    {
+        self.above.wrapping_sub(1)
     }
 
     /// The place of one that isn't none.

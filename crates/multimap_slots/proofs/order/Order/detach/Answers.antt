@@ -1,4 +1,4 @@
-use Rattle.std.proofs.Common.{ap, set, ◌∙◌, arith, length, rules}
+use Rattle.std.proofs.Common.{ap, set, ◌∙◌, arith, rules}
 use Rattle.std.proofs.lemmas.List.{length-map}
 use Rattle.multimap_slots.specs.declared.order.node.State.TheVariants.{Detached}
 use Rattle.multimap_slots.proofs.Nodes.Detached.{detached-apart}

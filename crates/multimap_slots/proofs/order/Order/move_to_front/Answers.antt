@@ -1,4 +1,4 @@
-use Rattle.std.proofs.Common.{◌++◌, refl, arith, length}
+use Rattle.std.proofs.Common.{◌++◌, refl, arith}
 use Rattle.multimap_slots.proofs.Nodes.OneField.{length-states}
 use Rattle.multimap_slots.proofs.Nodes.Linked.{split_at, split_in, split_within, first-listed, listed-within}
 use Rattle.multimap_slots.proofs.Nodes.Unlinked.{can_unlink, unlinked-states, unlinked-links}
