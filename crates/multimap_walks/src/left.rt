@@ -1,7 +1,7 @@
 //! The places of a list that an iterator has left, and its step from either end.
 //!
 //! What an iterator yields for a place is its own.
-ghost use Rattle.std.specs.Prelude.{◌≡◌, ◌<◌, ◌-◌, ℕ, List, Some, IfSome, IsSome};
+ghost use Rattle.std.specs.Prelude.{◌≡◌, ◌<◌, ◌-◌, ℕ, List, Some, IfNone, IfSome, IsSome};
 ghost use Rattle.multimap_slots.specs.Lists.{IsIn};
 ghost use Rattle.multimap_slots.specs.Slots.{IsSound};
 ghost use Rattle.multimap_walks.specs.Along.{AreLeft, all_places, neighbour_of, places_left};
@@ -30,7 +30,8 @@ pub trait Ordered {
         ensures whole { places_left (order self.now) result ≡ order self.now }
         ensures sound { is_sound self.now };
 
-    /// Returns the place that a step from an end reaches, from a place of the list.
+    /// Returns the place that comes to an end when the one there is taken, any number if that is
+    /// the last one, or `None` if none is left.
     ///
     /// # Complexity
     ///
@@ -38,11 +39,13 @@ pub trait Ordered {
     ///
     /// # Requires
     ///
-    /// `place` is a place of the list, and not the last one that such steps reach.
-    fn neighbour(&self, end: End, place: usize) -> usize
-        requires listed { IsIn place (order self.now) }
-        requires more { IsSome (neighbour_of (order self.now) end place) }
-        ensures { neighbour_of (order self.now) end place ≡ Some result };
+    /// `left` are places of the list that follow each other.
+    fn beyond(&self, end: End, left: ChainEnds) -> Option<usize>
+        requires { AreLeft (order self.now) left }
+        ensures none { IfNone result (left.length ≡ 0) }
+        ensures some { IfSome result (λ _. 0 < left.length) }
+        ensures beyond { IfSome result (λ place. 0 < left.length - 1
+            → neighbour_of (order self.now) end (end_place end left) ≡ Some place) };
 }
 
 impl<T, L: Copy, A: Allocator> Ordered for SlotList<T, L, A> {
@@ -54,11 +57,15 @@ impl<T, L: Copy, A: Allocator> Ordered for SlotList<T, L, A> {
         ChainEnds::of_all(self.front_place(), self.back_place(), self.len())
     }
 
+    // At the last place this reads a number that isn't used: that costs less than a test.
     #[inline(always)]
-    fn neighbour(&self, end: End, place: usize) -> usize {
+    fn beyond(&self, end: End, left: ChainEnds) -> Option<usize> {
+        if left.length == 0 {
+            return None;
+        }
         match end {
-            End::Front => self.following_listed_place(place),
-            End::Back => self.preceding_listed_place(place),
+            End::Front => Some(self.following_listed_place(left.first)),
+            End::Back => Some(self.preceding_listed_place(left.last)),
         }
     }
 }
@@ -72,18 +79,23 @@ impl<T, L: Copy, A: Allocator> Ordered for Tape<T, L, A> {
         ChainEnds::of_all(self.front_place(), self.back_place(), self.len())
     }
 
+    // Whether two are left or more is tested first, since it is so at each step but the last.
     #[inline(always)]
-    fn neighbour(&self, end: End, place: usize) -> usize {
-        match end {
-            End::Front => self.following_listed_place(place),
-            End::Back => self.preceding_listed_place(place),
+    fn beyond(&self, end: End, left: ChainEnds) -> Option<usize> {
+        if left.length > 1 {
+            match end {
+                End::Front => Some(self.following_listed_place(left.first)),
+                End::Back => Some(self.preceding_listed_place(left.last)),
+            }
+        } else if left.length == 1 {
+            Some(left.first)
+        } else {
+            None
         }
     }
 }
 
 /// Takes the place at an end from those that are left of a list, or returns `None` if none is left.
-///
-/// It asks the list for one neighbour, and for none if one place is left.
 ///
 /// # Complexity
 ///
@@ -100,27 +112,8 @@ pub fn take<O: Ordered>(end: End, list: &O, left: &mut ChainEnds) -> Option<usiz
     ensures taken { TakesEnd end (λ place. place) (places_left (O.order list.now) left.old)
         result (places_left (O.order list.now) left.new) }
 {
-    if left.length == 0 {
-        return None;
-    }
+    let beyond = list.beyond(end, *left)?;
     let place = left.place_at(end);
-    *left = left.after(end, beyond(end, list, *left));
+    *left = left.after(end, beyond);
     Some(place)
-}
-
-/// The place that is at an end once that there is taken, or any where none is left then. The list
-/// is asked only where one is.
-#[inline(always)]
-fn beyond<O: Ordered>(end: End, list: &O, left: ChainEnds) -> usize
-    requires are_left { AreLeft (O.order list.now) left }
-    requires more { ¬ (left.length ≡ 0) }
-    ensures { 0 < left.length - 1
-        → neighbour_of (O.order list.now) end (end_place end left) ≡ Some result }
-{
-    let place = left.place_at(end);
-    if left.length == 1 {
-        place
-    } else {
-        list.neighbour(end, place)
-    }
 }

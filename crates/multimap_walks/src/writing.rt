@@ -1,5 +1,5 @@
 //! Iterators over mutable references, and the step of those along the order of a list.
-ghost use Rattle.std.specs.Prelude.{◌≡◌, IfSome, IsSome, Some};
+ghost use Rattle.std.specs.Prelude.{◌≡◌, IfNone, IfSome, IsSome, Some};
 ghost use Rattle.multimap_slots.specs.SlotCells.{lent_slots, IsLeft};
 ghost use Rattle.multimap_walks.specs.Along.{AreLeft, neighbour_of, places_left};
 ghost use Rattle.multimap_walks.specs.Ends.{end_place};
@@ -44,24 +44,27 @@ fn neighbour<V, A: Allocator>(
     }
 }
 
-/// The places that are left once that at an end is taken. No place is asked for beyond the other
-/// end.
+/// The places that are left when the one at an end is taken, or `None` if none is left. No place is
+/// asked for beyond the other end.
 #[inline(always)]
 fn rest_after<V, A: Allocator>(
     end: End,
     cells: &SlotCells<'_, V, ValueLink, A>,
     left: ChainEnds,
-) -> ChainEnds
-    requires can { CanLend cells.now left }
-    requires more { ¬ (left.length ≡ 0) }
-    ensures are_left { AreLeft (lent_slots cells.now).order result }
-    ensures taken { PassesEnd end (places_left (lent_slots cells.now).order) left result }
+) -> Option<ChainEnds>
+    requires { CanLend cells.now left }
+    ensures none { IfNone result (left.length ≡ 0) }
+    ensures are_left { IfSome result (AreLeft (lent_slots cells.now).order) }
+    ensures taken { IfSome result
+        (PassesEnd end (places_left (lent_slots cells.now).order) left) }
 {
     let place = left.place_at(end);
     if left.length > 1 {
-        left.after(end, neighbour(end, cells, place))
+        Some(left.after(end, neighbour(end, cells, place)))
+    } else if left.length == 1 {
+        Some(left.after(end, place))
     } else {
-        left.after(end, place)
+        None
     }
 }
 
@@ -81,11 +84,9 @@ fn pass_end<V, A: Allocator>(
         (places_left (lent_slots cells.now).order left.new) }
     ensures count { OneGoes left.old result left.new }
 {
-    if left.length == 0 {
-        return None;
-    }
+    let rest = rest_after(end, cells, *left)?;
     let place = left.place_at(end);
-    *left = rest_after(end, cells, *left);
+    *left = rest;
     Some(place)
 }
 
