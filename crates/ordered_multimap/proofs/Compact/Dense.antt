@@ -1,5 +1,5 @@
 -- The values come to the lowest places, one after the other, and relocations in a row are one relocation.
-use Rattle.std.proofs.Common.{◌≡◌, ℕ, zero, suc, ◌<◌, ◌≤◌, List, [], ◌∷◌, ◌++◌, map, length, Option, Some, None, option_map, refl, sym, ap}
+use Rattle.std.proofs.Common.{◌≡◌, ℕ, zero, suc, ◌<◌, ◌≤◌, ◌-◌, List, [], ◌∷◌, ◌++◌, map, length, Option, Some, None, IsSome, option_map, unwrap_or, refl, sym, ap}
 use Rattle.std.proofs.Common.{◌∙◌, subst, inl, inr, arith, length-append, append_assoc}
 use Rattle.std.proofs.lemmas.List.{length-map, map-append, append-nil}
 use Rattle.multimap_slots.specs.Lists.{IsIn, Rises, first_of, next_of, end_of}
@@ -8,15 +8,9 @@ use Rattle.multimap_slots.specs.Tapes.{Taped, CutsEnd, KeepsTape}
 use Rattle.multimap_slots.proofs.Callers.PlaceLists.{IsIn-append, next_of-split}
 use Rattle.multimap_walks.specs.declared.links.KeyLink.{KeyLink}
 use Rattle.multimap_walks.specs.declared.links.ValueLink.{ValueLink}
-use Rattle.ordered_multimap.specs.Private.Relocations.{AreRelocated, Relocates, places_below, relocated}
+use Rattle.ordered_multimap.specs.Private.Relocations.{AreRelocated, AreSettled, FollowsSettled, Relocates, places_below, relocated}
 use Rattle.ordered_multimap.proofs.Chains.LongerLists.{last_or-push}
 use Rattle.ordered_multimap.proofs.Compact.OneMove.{relocated-from, relocated-none}
-
--- the first n places of the list are those below n, and the next one follows them
-pub record AreSettled (order : List ℕ) (n : ℕ) (following : Option ℕ) : Type 0 where
-  pub rest : List ℕ
-  pub parts : order ≡ places_below n ++ rest
-  pub following_is : following ≡ first_of rest
 
 pub below-less : (n q : ℕ) → IsIn q (places_below n) → q < n
 below-less zero q i = absurd i
@@ -44,70 +38,90 @@ rises_around (x ∷ xs) p ys r =
     in_middle [] = inl refl
     in_middle (z ∷ zs) = inr (in_middle zs)
 
--- the lowest place that no value has come to
-pub record Next (order : List ℕ) (n : ℕ) (following : Option ℕ) : Type 0 where
-  pub from : ℕ
-  pub rest : List ℕ
-  pub is : following ≡ Some from
-  pub parts : order ≡ places_below n ++ from ∷ rest
-  pub above : n ≤ from
-  pub low : (q : ℕ) → IsIn q (places_below n) → q < from
-  pub high : (q : ℕ) → IsIn q rest → from < q
+in_middle : (xs : List ℕ) (p : ℕ) (ys : List ℕ) → IsIn p (xs ++ p ∷ ys)
+in_middle [] p ys = inl refl
+in_middle (x ∷ xs) p ys = inr (in_middle xs p ys)
 
-pub dense-start : (order : List ℕ) (following : Option ℕ) → following ≡ first_of order → AreSettled order 0 following
-dense-start order following e = record { rest = order; parts = refl; following_is = e }
+pub settled-start : (order : List ℕ) → AreSettled order 0
+settled-start order = record { rest = order; parts = refl }
 
-pub dense-next : (order : List ℕ) (n : ℕ) (following : Option ℕ) → AreSettled order n following → n < length order → Rises order
-    → Next order n following
-dense-next order n following s more rises = go s.rest s.parts s.following_is
-  where
-    at_least : (m from : ℕ) → ((q : ℕ) → IsIn q (places_below m) → q < from) → m ≤ from
-    at_least zero from low = omega arith
-    at_least (suc m) from low = omega (arith, low m (last_in (places_below m) m))
+-- where one place and more are settled, the last of them
+module _ (order : List ℕ) (m : ℕ) (s : AreSettled order (suc m)) where
+  last-parts : order ≡ places_below m ++ m ∷ s.rest
+  last-parts = s.parts ∙ append_assoc (places_below m) (m ∷ []) s.rest
+
+  last-listed : IsIn m order
+  last-listed = subst (IsIn m) (sym last-parts) (in_middle (places_below m) m s.rest)
+
+  last-next : next_of order m ≡ first_of s.rest
+  last-next = ap (λ ps. next_of ps m) last-parts
+      ∙ next_of-split (places_below m) m s.rest (λ i. omega (arith, below-less m m i))
+
+module _ (order : List ℕ) where
+  pub settled-listed : (n : ℕ) → AreSettled order n → ¬ (n ≡ 0) → IsIn (n - 1) order
+  settled-listed zero s some = absurd (some refl)
+  settled-listed (suc m) s some =
+      let less : m ≡ suc m - 1 = omega arith in
+      subst (λ p. IsIn p order) less (last-listed order m s)
+
+  pub settled-next : (n : ℕ) (s : AreSettled order n) → ¬ (n ≡ 0) → next_of order (n - 1) ≡ first_of s.rest
+  settled-next zero s some = absurd (some refl)
+  settled-next (suc m) s some =
+      let less : suc m - 1 ≡ m = omega arith in
+      ap (next_of order) less ∙ last-next order m s
+
+  -- the place of the first one that isn't settled is found
+  module _ (n : ℕ) (s : AreSettled order n) (more : n < length order) where
+    more-rest : ¬ (s.rest ≡ [])
+    more-rest none = omega (arith, more, ap length s.parts, length-append (places_below n) s.rest, length-below n, ap length none)
+
+    pub rest-some : IsSome (first_of s.rest)
+    rest-some = go s.rest more-rest
       where
-        last_in : (xs : List ℕ) (x : ℕ) → IsIn x (xs ++ x ∷ [])
-        last_in [] x = inl refl
-        last_in (y ∷ ys) x = inr (last_in ys x)
+        go : (rest : List ℕ) → ¬ (rest ≡ []) → IsSome (first_of rest)
+        go [] some = absurd (some refl)
+        go (p ∷ ps) some = refl
 
-    go : (rest : List ℕ) → order ≡ places_below n ++ rest → following ≡ first_of rest → Next order n following
-    go [] parts is = absurd (omega (arith, more, ap length parts, length-append (places_below n) [], length-below n))
-    go (p ∷ ps) parts is =
-        let a = rises_around (places_below n) p ps (subst Rises parts rises) in
-        record { from = p; rest = ps; is = is; parts = parts; above = at_least n p a.low; low = a.low; high = a.high }
+    pub follows-settled : Rises order → (place : ℕ) → place ≡ unwrap_or (first_of s.rest) 0 → FollowsSettled order n place
+    follows-settled rises place is = go s.rest more-rest s.parts is
+      where
+        at_least : (m from : ℕ) → ((q : ℕ) → IsIn q (places_below m) → q < from) → m ≤ from
+        at_least zero from low = omega arith
+        at_least (suc m) from low = omega (arith, low m (in_middle (places_below m) m []))
 
-module _ (order : List ℕ) (n : ℕ) (following : Option ℕ) (x : Next order n following) where
-  pub next-listed : IsIn x.from order
-  next-listed = subst (IsIn x.from) (sym x.parts) (in_middle (places_below n))
-    where
-      in_middle : (zs : List ℕ) → IsIn x.from (zs ++ x.from ∷ x.rest)
-      in_middle [] = inl refl
-      in_middle (z ∷ zs) = inr (in_middle zs)
+        go : (rest : List ℕ) → ¬ (rest ≡ []) → order ≡ places_below n ++ rest → place ≡ unwrap_or (first_of rest) 0
+            → FollowsSettled order n place
+        go [] some parts is = absurd (some refl)
+        go (p ∷ ps) some parts is =
+            let a = rises_around (places_below n) p ps (subst Rises parts rises) in
+            subst (FollowsSettled order n) (sym is)
+            (record { rest = ps; parts = parts; above = at_least n p a.low; low = a.low; high = a.high })
 
-  pub next-holes : (q : ℕ) → n ≤ q → q < x.from → ¬ IsIn q order
-  next-holes q above below i = elim (IsIn-append q (places_below n) (x.from ∷ x.rest) (subst (IsIn q) x.parts i)) [
+module _ (order : List ℕ) (n place : ℕ) (x : FollowsSettled order n place) where
+  pub following-listed : IsIn place order
+  following-listed = subst (IsIn place) (sym x.parts) (in_middle (places_below n) place x.rest)
+
+  pub following-holes : (q : ℕ) → n ≤ q → q < place → ¬ IsIn q order
+  following-holes q above below i = elim (IsIn-append q (places_below n) (place ∷ x.rest) (subst (IsIn q) x.parts i)) [
     | inl low ↦ omega (arith, below-less n q low, above)
     | inr later ↦ elim later [ inl e ↦ omega (arith, e, below) | inr high ↦ omega (arith, x.high q high, below) ]
   ]
 
-  dense : (now : List ℕ) → now ≡ places_below n ++ n ∷ x.rest → (f : Option ℕ) → f ≡ next_of now n → AreSettled now (suc n) f
-  dense now parts f e = record {
-    rest = x.rest;
-    parts = parts ∙ sym (append_assoc (places_below n) (n ∷ []) x.rest);
-    following_is = e ∙ ap (λ ps. next_of ps n) parts ∙ next_of-split (places_below n) n x.rest (λ i. omega (arith, below-less n n i));
-  }
+  settled : (now : List ℕ) → now ≡ places_below n ++ n ∷ x.rest → AreSettled now (suc n)
+  settled now parts = record { rest = x.rest; parts = parts ∙ sym (append_assoc (places_below n) (n ∷ []) x.rest) }
 
-  pub dense-stay : x.from ≤ n → (f : Option ℕ) → f ≡ next_of order n → AreSettled order (suc n) f
-  dense-stay there = dense order (x.parts ∙ ap (λ p. places_below n ++ p ∷ x.rest) (omega (arith, there, x.above)))
+  pub settled-stay : place ≤ n → AreSettled order (suc n)
+  settled-stay there = settled order (x.parts ∙ ap (λ p. places_below n ++ p ∷ x.rest) (omega (arith, there, x.above)))
 
-  pub dense-move : (now : List ℕ) → now ≡ map (relocated x.from n) order → (f : Option ℕ) → f ≡ next_of now n → AreSettled now (suc n) f
-  dense-move now is =
-      dense now (is ∙ ap (map (relocated x.from n)) x.parts ∙ map-append (relocated x.from n) (places_below n) (x.from ∷ x.rest)
-      ∙ (λ i. relocated-none x.from n (places_below n) (λ j. omega (arith, x.low x.from j)) i
-      ++ relocated-from x.from n x.from refl i ∷ relocated-none x.from n x.rest (λ j. omega (arith, x.high x.from j)) i))
+  pub settled-move : (now : List ℕ) → now ≡ map (relocated place n) order → AreSettled now (suc n)
+  settled-move now is =
+      settled now (is ∙ ap (map (relocated place n)) x.parts ∙ map-append (relocated place n) (places_below n) (place ∷ x.rest)
+      ∙ (λ i. relocated-none place n (places_below n) (λ j. omega (arith, x.low place j)) i
+      ++ relocated-from place n place refl i ∷ relocated-none place n x.rest (λ j. omega (arith, x.high place j)) i))
 
 -- at the end the items stand without a hole
-pub dense-end : (order : List ℕ) (n : ℕ) (f : Option ℕ) → AreSettled order n f → length order ≡ n → end_of order ≡ n
-dense-end order n f s count = go s.rest s.parts
+pub settled-end : (order : List ℕ) (n : ℕ) → AreSettled order n → length order ≡ n → end_of order ≡ n
+settled-end order n s count = go s.rest s.parts
   where
     ends_below : (m : ℕ) → end_of (places_below m) ≡ m
     ends_below zero = refl
@@ -118,8 +132,8 @@ dense-end order n f s count = go s.rest s.parts
     go (p ∷ ps) parts = absurd (omega (arith, count, ap length parts, length-append (places_below n) (p ∷ ps), length-below n))
 
 -- which are those below their number
-pub dense-all : (order : List ℕ) (n : ℕ) (f : Option ℕ) → AreSettled order n f → length order ≡ n → order ≡ places_below n
-dense-all order n f s count = go s.rest s.parts
+pub settled-all : (order : List ℕ) (n : ℕ) → AreSettled order n → length order ≡ n → order ≡ places_below n
+settled-all order n s count = go s.rest s.parts
   where
     go : (rest : List ℕ) → order ≡ places_below n ++ rest → order ≡ places_below n
     go [] parts = parts ∙ append-nil (places_below n)

@@ -1,9 +1,9 @@
 //! Compaction: values go down to the holes before them, and the links to them are written anew.
-ghost use Rattle.std.specs.Prelude.{◌≡◌, ◌≤◌, ◌<◌, ℕ, Some, IsSome};
-ghost use Rattle.multimap_slots.specs.Lists.{IsIn};
+ghost use Rattle.std.specs.Prelude.{◌≡◌, ◌≤◌, ◌<◌, ℕ, length, Some, IsSome};
+ghost use Rattle.multimap_slots.specs.Lists.{IsIn, Rises};
 ghost use Rattle.multimap_slots.specs.Slots.{link_at};
 ghost use Rattle.multimap_slots.specs.Tapes.{CountsMove};
-ghost use Rattle.ordered_multimap.specs.Private.Relocations.{AreChained, Compacts, KeepsCapacities, RelinksKey, Relocates, relocated, relocated_key};
+ghost use Rattle.ordered_multimap.specs.Private.Relocations.{AreChained, AreSettled, Compacts, FollowsSettled, KeepsCapacities, RelinksKey, Relocates, relocated, relocated_key};
 
 use super::links::{link_of, set_next, set_previous};
 use multimap_slots::{SlotList, Tape};
@@ -75,6 +75,21 @@ fn move_value<K, V: Drop, A: Allocator>(
     relink_ends(keys, link, from, to);
 }
 
+/// The place of the first value that isn't settled. As many as are stand at the lowest places.
+#[inline(always)]
+fn place_behind<V, A: Allocator>(values: &Tape<V, ValueLink, A>, settled: usize) -> usize
+    requires rises { Rises values.now.list.order }
+    requires settled { AreSettled values.now.list.order settled }
+    requires more { settled < length values.now.list.order }
+    ensures { FollowsSettled values.now.list.order settled result }
+{
+    if settled == 0 {
+        values.front_place().unwrap_or(0)
+    } else {
+        values.following_listed_place(settled - 1)
+    }
+}
+
 /// Takes each value down to the lowest hole before it, and gives up the holes.
 #[inline(never)]
 pub(super) fn compact<K, V: Drop, A: Allocator>(
@@ -84,16 +99,13 @@ pub(super) fn compact<K, V: Drop, A: Allocator>(
     requires chains { AreChained keys.old values.old.list }
     ensures { Compacts keys.old keys.new values.old values.new }
 {
-    let count = values.len();
-    let mut following = values.front_place();
-    for to in 0..count {
+    for to in 0..values.len() {
         // The length tells the proof that the places rise.
         let _len = values.len();
-        let from = following.unwrap_or(to);
+        let from = place_behind(values, to);
         if to < from {
             move_value(keys, values, from, to);
         }
-        following = values.next_place_after(to);
     }
     values.cut_end();
 }

@@ -4,7 +4,6 @@ ghost use Rattle.multimap_slots.specs.Lists.{IsIn};
 ghost use Rattle.multimap_slots.specs.Slots.{IsSound, link_at, with_link};
 ghost use Rattle.ordered_multimap.specs.Private.Relocations.{WritesLink};
 
-use super::lookup::value_at;
 use multimap_slots::{SlotList, Tape};
 use multimap_walks::{KeyLink, ValueLink};
 use std::alloc::Allocator;
@@ -31,8 +30,7 @@ pub(super) fn link_of<V, A: Allocator>(values: &Tape<V, ValueLink, A>, place: us
 {
     // The length tells the proof that the list is sound.
     let _len = values.len();
-    let (_, link) = value_at(values, place);
-    link
+    values.listed_link(place)
 }
 
 /// Writes the next place into the link of the value at the place, if there is one.

@@ -114,7 +114,7 @@ impl<K: Eq + Hash, V, S: BuildHasher, A: Allocator> ListOrderedMultimap<K, V, S,
         ensures { (k : K) → HasKey K.eq self.now.slots.keys k place
             → slice_get (values_of K.eq self.now.lists.pairs k) 0 ≡ Some result.now }
     {
-        let (_, link) = slot_at(&self.keys, place);
+        let link = self.keys.listed_link(place);
         let (value, _) = value_at(&self.values, link.head);
         value
     }
@@ -127,7 +127,7 @@ impl<K: Eq + Hash, V, S: BuildHasher, A: Allocator> ListOrderedMultimap<K, V, S,
             → result ≡ length (values_of K.eq self.now.lists.pairs k) }
         ensures some { 0 < result }
     {
-        let (_, link) = slot_at(&self.keys, place);
+        let link = self.keys.listed_link(place);
         link.length
     }
 

@@ -10,7 +10,6 @@ ghost use Rattle.ordered_multimap.specs.Renames.{RenamesKey, is_taken, rename_an
 ghost use Rattle.ordered_multimap.specs.Rooms.{SameNumbers};
 
 use super::links::set_link;
-use super::lookup::slot_at;
 use super::{ListOrderedMultimap, RenameFault};
 use crate::KeyQuery;
 use multimap_slots::SlotList;
@@ -35,7 +34,7 @@ fn replace_key<K, A: Allocator>(
         result }
     ensures capacity { table.new.capacity ≡ table.old.capacity }
 {
-    let (_, link) = slot_at(keys, place);
+    let link = keys.listed_link(place);
     // It tells the proof that one more row fits once the old one has gone.
     let _room = table.capacity();
     table.remove(link.hash, place);

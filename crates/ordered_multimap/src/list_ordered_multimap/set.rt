@@ -12,7 +12,6 @@ ghost use Rattle.ordered_multimap.specs.Rooms.{HasInsertRoom, SameNumbers};
 ghost use Rattle.ordered_multimap.specs.Sets.{SetsValue, LeavesOnly};
 ghost use Rattle.ordered_multimap.specs.TapeNumbers.{ArePaid};
 
-use super::lookup::slot_at;
 use super::{ListOrderedMultimap, Refused};
 use multimap_slots::Tape;
 use multimap_walks::ValueLink;
@@ -116,7 +115,7 @@ impl<K: Eq + Hash, V, S: BuildHasher, A: Allocator> ListOrderedMultimap<K, V, S,
         ensures numbers { SameNumbers self.old self.new }
         ensures paid { ArePaid self.new.tape }
     {
-        let (_, link) = slot_at(&self.keys, place);
+        let link = self.keys.listed_link(place);
         replace_value(&mut self.values, link.head, value)
     }
 }

@@ -95,7 +95,7 @@ fn rewrite_chain<K: Eq, V, A: Allocator, F: FnMut(&mut V)>(
     ensures rewritten { (last : F) × RewritesAt F.FnMut keys.now values.old.list key_place f
         (pairs_of keys.now values.new.list) last }
 {
-    let (_, link) = slot_at(keys, key_place);
+    let link = keys.listed_link(key_place);
     let mut following = Some(link.head);
     while let Some(place) = following {
         following = rewrite_at(values, &mut f, place);

@@ -6,7 +6,6 @@ ghost use Rattle.ordered_multimap.specs.KeyLists.{keys_with_values};
 ghost use Rattle.ordered_multimap.specs.Pairs.{all_values, positions_of, positions_where, values_of, values_where};
 
 use super::ListOrderedMultimap;
-use super::lookup::slot_at;
 use crate::KeyQuery;
 use multimap_walks::{EntryValues, Iter, KeyValues, Keys, Values};
 use std::alloc::Allocator;
@@ -183,7 +182,7 @@ impl<K: Eq + Hash, V, S: BuildHasher, A: Allocator> ListOrderedMultimap<K, V, S,
             → result.positions ≡ positions_of K.eq self.now.lists.pairs k }
         ensures reads { result.reads ≡ 0 }
     {
-        let (_, link) = slot_at(&self.keys, place);
+        let link = self.keys.listed_link(place);
         EntryValues::new(&self.keys, &self.values, Some((place, link)))
     }
 }

@@ -44,7 +44,7 @@ impl<K: Eq + Hash, V, S: BuildHasher, A: Allocator> ListOrderedMultimap<K, V, S,
             → IsWritten self.old (with_first self.old place v)
             (first_written K.eq self.old.lists k v) }
     {
-        let (_, link) = slot_at(&self.keys, place);
+        let link = self.keys.listed_link(place);
         self.value_mut_at(link.head)
     }
 

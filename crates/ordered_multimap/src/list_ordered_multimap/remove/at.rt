@@ -13,7 +13,6 @@ ghost use Rattle.ordered_multimap.specs.TapeNumbers.{ArePaid, TakesOut, numbers_
 
 use crate::list_ordered_multimap::ListOrderedMultimap;
 use crate::list_ordered_multimap::links::link_of;
-use crate::list_ordered_multimap::lookup::slot_at;
 use crate::list_ordered_multimap::remove::one::take_one;
 use multimap_slots::{SlotList, Tape};
 use multimap_walks::{KeyLink, ValueLink};
@@ -32,7 +31,7 @@ fn place_at<K, V, A: Allocator>(
     requires among { (l : KeyLink) → link_at keys.now place ≡ Some l → index < l.length }
     ensures { slice_get (chain_of values.now.list place) index ≡ Some result }
 {
-    let (_, link) = slot_at(keys, place);
+    let link = keys.listed_link(place);
     let behind = link.length - index - 1;
     if index <= behind {
         let mut found = link.head;
@@ -79,7 +78,7 @@ fn take_at<K, V, A: Allocator>(
     ensures counts { TakesOut (cond (is_some result) 1 0)
         (numbers_of values.old) (numbers_of values.new) }
 {
-    let (_, link) = slot_at(keys, place);
+    let link = keys.listed_link(place);
     if link.length < 2 || link.length <= index {
         return None;
     }

@@ -8,7 +8,6 @@ ghost use Rattle.ordered_multimap.specs.Private.Remove.{IsRow, UnlinksEntry, Unl
 
 use crate::list_ordered_multimap::append::steps::push_behind;
 use crate::list_ordered_multimap::links::set_previous;
-use crate::list_ordered_multimap::lookup::slot_at;
 use crate::list_ordered_multimap::remove::unlink::Unlink;
 use multimap_slots::{SlotList, Tape};
 use multimap_table::KeyTable;
@@ -82,7 +81,7 @@ pub(crate) fn unlink_entry<K, V, W: Unlink<V>, A: Allocator>(
     ensures { UnlinksEntry W.keeps (W.gives result.1) keys.old keys.new table.old table.new
         values.old values.new place result.0 result.2 }
 {
-    let (_, link) = slot_at(keys, place);
+    let link = keys.listed_link(place);
     let (first, ends) = unlink_values(values, link.head, link.length);
     (take_key(keys, table, place, link.hash), first, ends)
 }

@@ -6,7 +6,6 @@ ghost use Rattle.multimap_slots.specs.Tapes.{Frees};
 ghost use Rattle.ordered_multimap.specs.Private.RemoveOne.{end_left, without_value, HasLinks, HasPair, LeavesPair, TakesOne};
 
 use crate::list_ordered_multimap::links::{link_of, set_link, set_next, set_previous};
-use crate::list_ordered_multimap::lookup::slot_at;
 use crate::list_ordered_multimap::remove::chain::take_key;
 use multimap_slots::{SlotList, Tape};
 use multimap_table::KeyTable;
@@ -86,7 +85,7 @@ pub(crate) fn take_pair_at<K, V, A: Allocator>(
     ensures { LeavesPair keys.old keys.new table.old table.new values.old values.new place result }
 {
     let link = link_of(values, place);
-    let (_, key_link) = slot_at(keys, link.key);
+    let key_link = keys.listed_link(link.key);
     take_pair(keys, table, values, place, link, key_link)
 }
 

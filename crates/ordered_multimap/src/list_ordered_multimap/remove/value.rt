@@ -11,7 +11,6 @@ ghost use Rattle.ordered_multimap.specs.TapeNumbers.{TakesOut, numbers_of};
 
 use crate::KeyQuery;
 use crate::list_ordered_multimap::ListOrderedMultimap;
-use crate::list_ordered_multimap::lookup::slot_at;
 use crate::list_ordered_multimap::remove::at::indexed;
 use crate::list_ordered_multimap::remove::one::take_pair;
 use multimap_slots::{SlotList, Tape};
@@ -51,7 +50,7 @@ fn take_indexed<K: Drop, V, A: Allocator>(
         (numbers_of values.old) (numbers_of values.new) }
     ensures room { KeepsRoom keys.old keys.new table.old table.new values.old values.new }
 {
-    let (_, link) = slot_at(keys, place);
+    let link = keys.listed_link(place);
     if link.length <= index {
         return None;
     }

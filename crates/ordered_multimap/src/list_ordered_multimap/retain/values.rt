@@ -84,7 +84,7 @@ fn retain_chain<K: Eq + Drop, V: Drop, A: Allocator, F: FnMut(&mut V) -> bool>(
         (pairs_of keys.old values.old.list) (pairs_of keys.new values.new.list) last }
     ensures loses { LosesSome K.eq keys.old keys.new table.old table.new values.old values.new }
 {
-    let (_, link) = slot_at(keys, key_place);
+    let link = keys.listed_link(key_place);
     let mut following = Some(link.head);
     while let Some(place) = following {
         following = retain_value_at(keys, table, values, &mut f, place);

@@ -10,7 +10,6 @@ ghost use Rattle.ordered_multimap.specs.Private.Relocations.{AreChained};
 
 use crate::list_ordered_multimap::append::steps::{new_link, push_value};
 use crate::list_ordered_multimap::links::set_link;
-use crate::list_ordered_multimap::lookup::slot_at;
 use multimap_slots::{Reads, SlotList, Tape};
 use multimap_walks::{KeyLink, ValueLink};
 use std::alloc::Allocator;
@@ -44,7 +43,7 @@ fn push_next<K, V, A: Allocator>(
     ensures pushed { PushesNext keys.old keys.new values.old.list values.new.list place value }
     ensures room { KeepsTapeRoom values.old values.new }
 {
-    let (_, link) = slot_at(keys, place);
+    let link = keys.listed_link(place);
     let tail = last_value_of(values, place, link.tail);
     let last = push_value(values, value, place, tail);
     let link = match tail {

@@ -12,16 +12,16 @@ use Rattle.ordered_multimap.proofs.list_ordered_multimap.ListOrderedMultimap.fir
 
 pub value_mut_at-requires : goal.value_mut_at-requires
 value_mut_at-requires g c =
-    let head = c.slot_at.result.1.head in
+    let head = c.listed_link-link.result.head in
     subst (λ m. IsIn head m.slots.values.order) c.self.view_is
-    (head_listed g.met.K.Eq.laws c.self.invariant.agrees c.args.place c.slot_at.result.1 c.slot_at.ensures.listed c.slot_at.ensures.link_is)
+    (head_listed g.met.K.Eq.laws c.self.invariant.agrees c.args.place c.listed_link-link.result c.listed_link-link.ensures.listed c.listed_link-link.ensures.link_is)
 
 pub returns : goal.returns
 returns g c =
-    let i = c.self.inside in let m = c.args.self.now in let place = c.args.place in let link = c.slot_at.result.1 in
+    let i = c.self.inside in let m = c.args.self.now in let place = c.args.place in let link = c.listed_link-link.result in
     let eq = g.K.PartialEq.eq in let laws = g.met.K.Eq.laws in let agrees = c.self.invariant.agrees in
     let link_is : link_at m.slots.keys place ≡ Some link = ap (λ n. link_at n.slots.keys place) (sym c.self.view_is)
-    ∙ c.slot_at.ensures.link_is in
+    ∙ c.listed_link-link.ensures.link_is in
     let item_is : item_at i.values.list link.head ≡ Some c.value_mut_at.result.now = ap
     (λ n. item_at n.slots.values link.head) c.self.view_is ∙ c.value_mut_at.ensures.value in (
       (
@@ -33,11 +33,11 @@ returns g c =
         writes_back = tt;
         value = λ k. subst (λ n. HasKey eq n.slots.keys k place
             → slice_get (values_of eq n.lists.pairs k) 0 ≡ Some c.value_mut_at.result.now) c.self.view_is
-            (λ has. first_value laws agrees k place link c.value_mut_at.result.now has c.slot_at.ensures.link_is item_is);
+            (λ has. first_value laws agrees k place link c.value_mut_at.result.now has c.listed_link-link.ensures.link_is item_is);
         written = λ k. subst (λ n. HasKey eq n.slots.keys k place → (v : g.row.V.Denot)
             → IsWritten n (with_first n place v) (first_written eq n.lists k v)) c.self.view_is
             (λ has v. record {
-              lists = ap (lists _) (with_first_value-head_at laws agrees k place link has c.slot_at.ensures.link_is v);
+              lists = ap (lists _) (with_first_value-head_at laws agrees k place link has c.listed_link-link.ensures.link_is v);
               rooms = record { keys = refl; values = refl; slots = refl; hasher = refl };
               tape = refl;
             });

@@ -8,23 +8,23 @@ use Rattle.ordered_multimap.proofs.list_ordered_multimap.ListOrderedMultimap.rep
 
 pub replace_value-requires : goal.replace_value-requires
 replace_value-requires g c =
-    head_listed g.met.K.Eq.laws c.self.invariant.agrees c.args.place c.slot_at.result.1 c.slot_at.ensures.listed c.slot_at.ensures.link_is
+    head_listed g.met.K.Eq.laws c.self.invariant.agrees c.args.place c.listed_link-link.result c.listed_link-link.ensures.listed c.listed_link-link.ensures.link_is
 
 pub invariant_of-self : goal.invariant_of-self
 invariant_of-self g c =
-    map-rewritten g.met.K.Eq.laws c.self.invariant c.args.place c.slot_at.result.1 c.args.value c.slot_at.ensures.listed c.slot_at.ensures.link_is c.replace_value.ensures.written
+    map-rewritten g.met.K.Eq.laws c.self.invariant c.args.place c.listed_link-link.result c.args.value c.listed_link-link.ensures.listed c.listed_link-link.ensures.link_is c.replace_value.ensures.written
 
 pub returns-clause-value : goal.returns-clause-value
 returns-clause-value g c =
     subst (λ m. (k : g.row.K.Denot) → HasKey g.K.PartialEq.eq m.slots.keys k c.args.place
     → slice_get (values_of g.K.PartialEq.eq m.lists.pairs k) 0 ≡ Some c.replace_value.result) c.self.view_is
-    (λ k has. first_value g.met.K.Eq.laws c.self.invariant.agrees k c.args.place c.slot_at.result.1 c.replace_value.result has
-    c.slot_at.ensures.link_is c.replace_value.ensures.old)
+    (λ k has. first_value g.met.K.Eq.laws c.self.invariant.agrees k c.args.place c.listed_link-link.result c.replace_value.result has
+    c.listed_link-link.ensures.link_is c.replace_value.ensures.old)
 
 pub returns-clause-lists : goal.returns-clause-lists
 returns-clause-lists g c =
     let eq = g.K.PartialEq.eq in
     subst (λ m. (k : g.row.K.Denot) → HasKey eq m.slots.keys k c.args.place
     → lists_of c.self.inside.keys c.replace_value.new.values.list ≡ first_written eq m.lists k c.args.value) c.self.view_is
-    (λ k has. lists_of-rewritten g.met.K.Eq.laws c.self.invariant c.args.place c.slot_at.result.1 c.args.value c.slot_at.ensures.listed
-    c.slot_at.ensures.link_is c.replace_value.ensures.written k has)
+    (λ k has. lists_of-rewritten g.met.K.Eq.laws c.self.invariant c.args.place c.listed_link-link.result c.args.value c.listed_link-link.ensures.listed
+    c.listed_link-link.ensures.link_is c.replace_value.ensures.written k has)

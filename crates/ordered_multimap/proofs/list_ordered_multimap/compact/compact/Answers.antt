@@ -1,9 +1,8 @@
-use Rattle.std.proofs.Common.{◌≡◌, map, length, refl, sym, ap, ◌∙◌, subst, arith, add-one, unwrap_or}
-use Rattle.multimap_slots.specs.Lists.{IsIn, next_of}
+use Rattle.std.proofs.Common.{◌≡◌, length, refl, ap, ◌∙◌, arith, add-one}
 use Rattle.ordered_multimap.specs.Private.Relocations.{places_below, relocated}
 use Rattle.ordered_multimap.proofs.Agreement.Relocated.{chains-relocated}
-use Rattle.ordered_multimap.proofs.Compact.Dense.{dense-start, dense-next, next-listed, next-holes, dense-stay, dense-move}
-use Rattle.ordered_multimap.proofs.Compact.Dense.{dense-end, dense-all, relocated-room, relocates-then, relocates-cut}
+use Rattle.ordered_multimap.proofs.Compact.Dense.{settled-start, following-listed, following-holes, settled-stay, settled-move}
+use Rattle.ordered_multimap.proofs.Compact.Dense.{settled-end, settled-all, relocated-room, relocates-then, relocates-cut}
 use Rattle.std.proofs.lemmas.List.{length-map}
 use Rattle.ordered_multimap.proofs.list_ordered_multimap.compact.compact.Goals as goal
 use Rattle.ordered_multimap.proofs.list_ordered_multimap.compact.compact.Goals.{then-to-from, else-to-from}
@@ -11,8 +10,8 @@ use Rattle.ordered_multimap.proofs.list_ordered_multimap.compact.compact.Goals.{
 pub loop-to-init : goal.loop-to-init
 loop-to-init g c = record {
   relocated = relocated-room _ _ _ _ c.requires.chains.keys_sound c.requires.chains.sound refl refl (omega arith) (omega arith);
-  dense = dense-start _ _ c.front_place-following.ensures;
-  same_length = sym c.len-count.ensures.len;
+  settled = settled-start _;
+  same_length = refl;
   moved = omega arith;
   freed = refl;
   holes = refl;
@@ -21,38 +20,31 @@ loop-to-init g c = record {
 
 pub move_value-requires : goal.move_value-requires
 move_value-requires g c =
-    let w = c.loop-to.invariant in
     let order = c.loop-to.values.list.order in
-    let x = dense-next order c.loop-to.to c.loop-to.following w.dense
-    (omega (arith, w.same_length, c.loop-to-test.true)) c.len-len.ensures.rises in
-    let from_is : c.unwrap_or-from.result ≡ x.from = c.unwrap_or-from.ensures ∙ ap (λ o. unwrap_or o c.loop-to.to) x.is in
+    let x = c.place_behind-from.ensures in
     record {
-      chains = chains-relocated c.requires.chains w.relocated;
-      listed = subst (λ p. IsIn p order) (sym from_is) (next-listed order c.loop-to.to c.loop-to.following x);
+      chains = chains-relocated c.requires.chains c.loop-to.invariant.relocated;
+      listed = following-listed order c.loop-to.to c.place_behind-from.result x;
       down = c.if-to-from.true;
-      holes = λ q above below. next-holes order c.loop-to.to c.loop-to.following x q above (omega (arith, below, from_is));
+      holes = following-holes order c.loop-to.to c.place_behind-from.result x;
     }
 
 pub loop-to-preserved : goal.loop-to-preserved
 loop-to-preserved g c =
     let w = c.loop-to.invariant in
     let order = c.loop-to.values.list.order in
-    let x = dense-next order c.loop-to.to c.loop-to.following w.dense
-    (omega (arith, w.same_length, c.loop-to-test.true)) c.len-len.ensures.rises in
-    let from_is : c.unwrap_or-from.result ≡ x.from = c.unwrap_or-from.ensures ∙ ap (λ o. unwrap_or o c.loop-to.to) x.is in
+    let from = c.place_behind-from.result in
+    let x = c.place_behind-from.ensures in
     elim c.if-to-from.branch [
       | then-to-from b ↦
           let m = b.move_value.ensures in
-          let next = c.next_place_after-following.ensures ∙ ap (λ t. next_of t.list.order c.loop-to.to) b.values-is in
           rw (add-one, b.keys-is, b.values-is) (record {
             relocated = record {
-              name = λ p. relocated c.unwrap_or-from.result c.loop-to.to (w.relocated.name p);
-              relocates = relocates-then w.relocated.name
-                  (relocated c.unwrap_or-from.result c.loop-to.to) w.relocated.relocates m.relocates;
+              name = λ p. relocated from c.loop-to.to (w.relocated.name p);
+              relocates = relocates-then w.relocated.name (relocated from c.loop-to.to) w.relocated.relocates m.relocates;
             };
-            dense = dense-move order c.loop-to.to c.loop-to.following x _
-                (m.relocates.order ∙ ap (λ p. map (relocated p c.loop-to.to) order) from_is) _ next;
-            same_length = ap length m.relocates.order ∙ length-map order (relocated c.unwrap_or-from.result c.loop-to.to) ∙ w.same_length;
+            settled = settled-move order c.loop-to.to from x _ m.relocates.order;
+            same_length = ap length m.relocates.order ∙ length-map order (relocated from c.loop-to.to) ∙ w.same_length;
             moved = omega (arith, m.counts.moved, w.moved);
             freed = m.counts.freed ∙ w.freed;
             holes = m.counts.holes ∙ w.holes;
@@ -62,10 +54,9 @@ loop-to-preserved g c =
             };
           })
       | else-to-from b ↦
-          let next = c.next_place_after-following.ensures ∙ ap (λ t. next_of t.list.order c.loop-to.to) b.values-is in
           rw (add-one, b.keys-is, b.values-is) (record {
             relocated = w.relocated;
-            dense = dense-stay order c.loop-to.to c.loop-to.following x (omega (arith, b.if-to-from.false, from_is)) _ next;
+            settled = settled-stay order c.loop-to.to from x (omega (arith, b.if-to-from.false));
             same_length = w.same_length;
             moved = omega (arith, w.moved);
             freed = w.freed;
@@ -77,20 +68,20 @@ loop-to-preserved g c =
 pub returns : goal.returns
 returns g c =
     let w = c.loop-to.invariant in
+    let order = c.loop-to.values.list.order in
     let cut = c.cut_end.ensures in
     let all : c.loop-to.to ≡ length c.args.values.now.list.order = omega
-    (arith, c.len-count.ensures.len, c.loop-to.auto.to-end, c.loop-to-test.false) in
-    let same : length c.loop-to.values.list.order ≡ c.loop-to.to = omega (arith, w.same_length, all, c.len-count.ensures.len) in
+    (arith, c.len-to-end.ensures.len, c.loop-to.auto.to-end, c.loop-to-test.false) in
+    let same : length order ≡ c.loop-to.to = omega (arith, w.same_length, all) in
     record {
       relocated = record {
         name = w.relocated.name;
         relocates = relocates-cut w.relocated.name c.loop-to.values _ w.relocated.relocates
             cut;
       };
-      dense = cut.order ∙ dense-all c.loop-to.values.list.order c.loop-to.to c.loop-to.following w.dense same
-          ∙ ap places_below all;
+      dense = cut.order ∙ settled-all order c.loop-to.to w.settled same ∙ ap places_below all;
       no_hole =
-          let end = dense-end c.loop-to.values.list.order c.loop-to.to c.loop-to.following w.dense same in
+          let end = settled-end order c.loop-to.to w.settled same in
           omega (arith, cut.used, ap length cut.order, same, end);
       moved = omega (arith, cut.moved, w.moved, all);
       freed = cut.freed ∙ w.freed;

@@ -1,13 +1,12 @@
 use Rattle.std.proofs.Common.{◌≡◌, ◌≤◌, ◌+◌, length}
-use Rattle.ordered_multimap.specs.Private.Relocations.{AreRelocated, KeepsCapacities}
-use Rattle.ordered_multimap.proofs.Compact.Dense.{AreSettled}
+use Rattle.ordered_multimap.specs.Private.Relocations.{AreRelocated, AreSettled, KeepsCapacities}
 use Rattle.ordered_multimap.proofs.list_ordered_multimap.compact.compact.Given as goal
 
 abbrev pub invariant-loop-to : goal.invariant-loop-to
 invariant-loop-to g l = record {
   relocated : AreRelocated l.fn.keys l.keys l.fn.values.list l.values.list;
-  dense : AreSettled l.values.list.order l.to l.following;
-  same_length : length l.values.list.order ≡ l.count;
+  settled : AreSettled l.values.list.order l.to;
+  same_length : length l.values.list.order ≡ length l.fn.values.list.order;
   moved : l.values.moved ≤ l.fn.values.moved + l.to;
   freed : l.values.freed ≡ l.fn.values.freed;
   holes : l.values.holes ≡ l.fn.values.holes;

@@ -8,7 +8,7 @@ use Rattle.ordered_multimap.proofs.list_ordered_multimap.rename_key.replace_key.
 pub insert-requires-clause-room : goal.insert-requires-clause-room
 insert-requires-clause-room g c =
     let rows = c.args.table.now.rows in let place = c.args.place in
-    let had : map.contains_key rows place ≡ true = ap is_some (c.requires.row c.slot_at.result.1 c.slot_at.ensures.link_is) in
+    let had : map.contains_key rows place ≡ true = ap is_some (c.requires.row c.listed_link-link.result c.listed_link-link.ensures.link_is) in
     let fewer = ap map.len c.remove.ensures.rows ∙ map.len-remove nat_cmp_total rows place
     ∙ ap (λ b. cond b (map.len rows - 1) (map.len rows)) had in
     omega (

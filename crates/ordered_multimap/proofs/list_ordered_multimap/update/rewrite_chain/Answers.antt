@@ -8,7 +8,7 @@ use Rattle.ordered_multimap.proofs.list_ordered_multimap.update.rewrite_chain.Go
 
 pub loop-following-init : goal.loop-following-init
 loop-following-init g c = record {
-  rewriting = rewriting-start c.requires.agrees.1 c.slot_at.result.1 c.requires.listed c.slot_at.ensures.link_is c.requires.callable;
+  rewriting = rewriting-start c.requires.agrees.1 c.listed_link-link.result c.requires.listed c.listed_link-link.ensures.link_is c.requires.callable;
   room = room_same;
 }
 

@@ -10,18 +10,18 @@ use Rattle.ordered_multimap.proofs.list_ordered_multimap.remove.chain.unlink_ent
 pub unlink_values-first-requires-clause-some : goal.unlink_values-first-requires-clause-some
 unlink_values-first-requires-clause-some g c =
     let s = c.requires.chain in
-    taking-some s.chains.sound s.chains.chained c.args.place c.slot_at.result.1 s.listed c.slot_at.ensures.link_is
+    taking-some s.chains.sound s.chains.chained c.args.place c.listed_link-link.result s.listed c.listed_link-link.ensures.link_is
 
 pub unlink_values-first-requires-clause-row : goal.unlink_values-first-requires-clause-row
 unlink_values-first-requires-clause-row g c =
-    let s = c.requires.chain in let l = c.slot_at.result.1 in
-    (_, chain_row s.chains.sound s.chains.chained c.args.place l s.listed c.slot_at.ensures.link_is l.length (omega arith))
+    let s = c.requires.chain in let l = c.listed_link-link.result in
+    (_, chain_row s.chains.sound s.chains.chained c.args.place l s.listed c.listed_link-link.ensures.link_is l.length (omega arith))
 
 pub returns : goal.returns
 returns g c =
     let s = c.requires.chain in
-    let l = c.slot_at.result.1 in
-    let is = c.slot_at.ensures.link_is in
+    let l = c.listed_link-link.result in
+    let is = c.listed_link-link.ensures.link_is in
     let t = c.unlink_values-first.ensures in
     let left = t.left _ (chain_row s.chains.sound s.chains.chained c.args.place l s.listed is l.length (omega arith)) in
     let all = sym (s.chains.chained.length c.args.place l s.listed is) in

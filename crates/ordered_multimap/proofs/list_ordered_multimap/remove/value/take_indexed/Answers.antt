@@ -6,8 +6,8 @@ pub indexed-found-requires-clause-chain : goal.indexed-found-requires-clause-cha
 indexed-found-requires-clause-chain g c = c.requires.chain
 
 pub take_pair-requires-clause-links : goal.take_pair-requires-clause-links
-take_pair-requires-clause-links g c = c.indexed-found.ensures.links _ c.slot_at.ensures.link_is
+take_pair-requires-clause-links g c = c.indexed-found.ensures.links _ c.listed_link-link.ensures.link_is
 
 pub take_pair-requires-clause-row : goal.take_pair-requires-clause-row
 take_pair-requires-clause-row g c =
-    ap (get c.args.table.now.rows) c.indexed-found.ensures.key ∙ c.requires.row c.slot_at.result.1 c.slot_at.ensures.link_is
+    ap (get c.args.table.now.rows) c.indexed-found.ensures.key ∙ c.requires.row c.listed_link-link.result c.listed_link-link.ensures.link_is

@@ -13,8 +13,8 @@ use Rattle.ordered_multimap.proofs.list_ordered_multimap.retain.values.retain_ch
 
 pub loop-following-init : goal.loop-following-init
 loop-following-init g c = record {
-  retaining = λ k has. retaining_key-start g.F.FnMut g.met.K.Eq.laws k c.requires.agrees.1 c.args.key_place c.slot_at.result.1 has
-      c.slot_at.ensures.link_is
+  retaining = λ k has. retaining_key-start g.F.FnMut g.met.K.Eq.laws k c.requires.agrees.1 c.args.key_place c.listed_link-link.result has
+      c.listed_link-link.ensures.link_is
       (subst (MayAskEach g.F.FnMut c.args.f) (sym (values_of-chain g.met.K.Eq.laws c.requires.agrees.1 k c.args.key_place has)) c.requires.callable);
   counts = none_left;
   room = room_same;

@@ -11,7 +11,7 @@ push_value-last-requires-clause-tail g c =
 
 pub overflow_add-link : goal.overflow_add-link
 overflow_add-link g c =
-    let count = c.requires.begun.length c.slot_at.result.1 c.in-Some.field-0 c.slot_at.ensures.link_is
+    let count = c.requires.begun.length c.listed_link-link.result c.in-Some.field-0 c.listed_link-link.ensures.link_is
     (sym c.last_value_of-tail.ensures ∙ c.in-Some.is) in
     let p = c.push_value-last.ensures in
     omega (arith, count, shorter_chain c.args.values.now.list c.args.place c.push_value-last.result p.pushed.order, p.last.counted)
@@ -20,10 +20,10 @@ pub returns-clause-pushed : goal.returns-clause-pushed
 returns-clause-pushed g c =
     let values = c.args.values.now.list in
     let chain : List ℕ = chain_of values c.args.place in
-    let was = c.slot_at.result.1 in
+    let was = c.listed_link-link.result in
     let last = c.push_value-last.result in
     let begun = c.requires.begun in
-    let link_was = c.slot_at.ensures.link_is in
+    let link_was = c.listed_link-link.ensures.link_is in
     let tail_is = c.last_value_of-tail.ensures in
     let p = c.push_value-last.ensures in
     let next : IsNextLink chain last was c.match-tail.link = elim c.match-tail.branch [
