@@ -20,7 +20,7 @@ pub(crate) fn tag_of(hash: u64) -> u8
     ensures value { result ≡ hash_tag hash }
     ensures full { 0 < result }
 {
-    ((hash >> 56) as u8).max(1)
+    (hash >> 56).max(1) as u8
 }
 
 /// A bit for each lane of the group that has the tag.

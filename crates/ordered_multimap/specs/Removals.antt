@@ -24,7 +24,3 @@ module _ {K V S : Type 0} (eq : K → K → Bool) (old new : Multimap K V S) (k 
   -- the values that the key had have left, and these are the lists then
   abbrev pub LosesValues : Lists K V → Type 0
   LosesValues after = LosesWhere (eq k) old new after
-
-  -- the key was removed with all its values, if it was there, and no room has changed
-  abbrev pub IsRemoved : Type 0
-  IsRemoved = IsRemovedWhere (eq k) eq old new

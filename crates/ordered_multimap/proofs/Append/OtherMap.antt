@@ -68,19 +68,3 @@ module _ {K V S : Type 0} {eq : K → K → Bool} {old : Multimap K V S} {keys :
     moved = refl;
     freed = refl;
   }
-
-  pub appending-end : {now : Multimap K V S} {keys_now : Slots K KeyLink} {values_now : Taped V ValueLink}
-      → IsAppending eq old now keys keys_now values values_now → values_now.list.order ≡ []
-      → (now.lists ≡ all_appended eq old.lists (pairs_of keys values.list)) × IsUsedUp keys keys_now values values_now
-  appending-end w none = (
-    w.lists
-        ∙ ap (λ ps. all_appended eq old.lists (filter_map (pair_at keys values.list) ps))
-        (sym (w.order ∙ ap (λ ps. w.taken ++ ps) none ∙ append-nil w.taken)),
-    record {
-      none = none;
-      keys_capacity = w.keys_capacity;
-      capacity = w.capacity;
-      moved = w.moved;
-      freed = omega (arith, w.freed, ap length none);
-    },
-  )

@@ -18,12 +18,6 @@ pub kept-named_by : {K V : Type 0} (eq : K → K → Bool) (old new : Lists K V)
     → new ≡ kept eq old new.pairs
 kept-named_by eq old new keys = λ i. lists (keys i) new.pairs
 
--- no pair stays
-pub kept-none : {K V : Type 0} (eq : K → K → Bool) (m : Lists K V) → kept eq m (filter (λ p. false) m.pairs) ≡ empty_lists
-kept-none eq m =
-    ap (kept eq m) (filter-none (λ p. false) m.pairs (λ p i. refl))
-    ∙ ap (λ keys. lists keys []) (filter-none (is_listed eq []) m.keys (λ k i. refl))
-
 -- by a function that stays as it was, calls are told without it
 pub Retains-same : {F K V : Type 0} (calls : F → K → V → Bool → V → F → Type 0) (plain : K → V → Bool → V → Type 0) (f : F)
     → ((k : K) (v : V) (b : Bool) (w : V) (g : F) → calls f k v b w g → plain k v b w × (g ≡ f))

@@ -43,9 +43,6 @@ no_holes order rises below = record {
 }
 
 module _ (order : List ℕ) (are : AreRanks order (λ q. ⊤) (λ q. q)) where
-  pub first-none : order ≡ [] → None ≡ first_of order
-  first-none none = sym (ap first_of none)
-
   pub first-zero : (order ≡ [] → ⊥) → Some 0 ≡ first_of order
   first-zero some = go order are some
     where

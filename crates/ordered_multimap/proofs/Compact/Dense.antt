@@ -8,7 +8,7 @@ use Rattle.multimap_slots.specs.Tapes.{Taped, CutsEnd, KeepsTape}
 use Rattle.multimap_slots.proofs.Callers.PlaceLists.{IsIn-append, next_of-split}
 use Rattle.multimap_walks.specs.declared.links.KeyLink.{KeyLink}
 use Rattle.multimap_walks.specs.declared.links.ValueLink.{ValueLink}
-use Rattle.ordered_multimap.specs.Private.Relocations.{AreRelocated, AreSettled, FollowsSettled, Relocates, places_below, relocated}
+use Rattle.ordered_multimap.specs.Private.Relocations.{AreRelocated, AreDense, FollowsDense, Relocates, places_below, relocated}
 use Rattle.ordered_multimap.proofs.Chains.LongerLists.{last_or-push}
 use Rattle.ordered_multimap.proofs.Compact.OneMove.{relocated-from, relocated-none}
 
@@ -42,11 +42,11 @@ in_middle : (xs : List ℕ) (p : ℕ) (ys : List ℕ) → IsIn p (xs ++ p ∷ ys
 in_middle [] p ys = inl refl
 in_middle (x ∷ xs) p ys = inr (in_middle xs p ys)
 
-pub settled-start : (order : List ℕ) → AreSettled order 0
-settled-start order = record { rest = order; parts = refl }
+pub dense-start : (order : List ℕ) → AreDense order 0
+dense-start order = record { rest = order; parts = refl }
 
--- where one place and more are settled, the last of them
-module _ (order : List ℕ) (m : ℕ) (s : AreSettled order (suc m)) where
+-- the last of the first places, where there is one
+module _ (order : List ℕ) (m : ℕ) (s : AreDense order (suc m)) where
   last-parts : order ≡ places_below m ++ m ∷ s.rest
   last-parts = s.parts ∙ append_assoc (places_below m) (m ∷ []) s.rest
 
@@ -58,20 +58,20 @@ module _ (order : List ℕ) (m : ℕ) (s : AreSettled order (suc m)) where
       ∙ next_of-split (places_below m) m s.rest (λ i. omega (arith, below-less m m i))
 
 module _ (order : List ℕ) where
-  pub settled-listed : (n : ℕ) → AreSettled order n → ¬ (n ≡ 0) → IsIn (n - 1) order
-  settled-listed zero s some = absurd (some refl)
-  settled-listed (suc m) s some =
+  pub dense-listed : (n : ℕ) → AreDense order n → ¬ (n ≡ 0) → IsIn (n - 1) order
+  dense-listed zero s some = absurd (some refl)
+  dense-listed (suc m) s some =
       let less : m ≡ suc m - 1 = omega arith in
       subst (λ p. IsIn p order) less (last-listed order m s)
 
-  pub settled-next : (n : ℕ) (s : AreSettled order n) → ¬ (n ≡ 0) → next_of order (n - 1) ≡ first_of s.rest
-  settled-next zero s some = absurd (some refl)
-  settled-next (suc m) s some =
+  pub dense-next : (n : ℕ) (s : AreDense order n) → ¬ (n ≡ 0) → next_of order (n - 1) ≡ first_of s.rest
+  dense-next zero s some = absurd (some refl)
+  dense-next (suc m) s some =
       let less : suc m - 1 ≡ m = omega arith in
       ap (next_of order) less ∙ last-next order m s
 
-  -- the place of the first one that isn't settled is found
-  module _ (n : ℕ) (s : AreSettled order n) (more : n < length order) where
+  -- the place behind the first n is found
+  module _ (n : ℕ) (s : AreDense order n) (more : n < length order) where
     more-rest : ¬ (s.rest ≡ [])
     more-rest none = omega (arith, more, ap length s.parts, length-append (places_below n) s.rest, length-below n, ap length none)
 
@@ -82,22 +82,22 @@ module _ (order : List ℕ) where
         go [] some = absurd (some refl)
         go (p ∷ ps) some = refl
 
-    pub follows-settled : Rises order → (place : ℕ) → place ≡ unwrap_or (first_of s.rest) 0 → FollowsSettled order n place
-    follows-settled rises place is = go s.rest more-rest s.parts is
+    pub follows-dense : Rises order → (place : ℕ) → place ≡ unwrap_or (first_of s.rest) 0 → FollowsDense order n place
+    follows-dense rises place is = go s.rest more-rest s.parts is
       where
         at_least : (m from : ℕ) → ((q : ℕ) → IsIn q (places_below m) → q < from) → m ≤ from
         at_least zero from low = omega arith
         at_least (suc m) from low = omega (arith, low m (in_middle (places_below m) m []))
 
         go : (rest : List ℕ) → ¬ (rest ≡ []) → order ≡ places_below n ++ rest → place ≡ unwrap_or (first_of rest) 0
-            → FollowsSettled order n place
+            → FollowsDense order n place
         go [] some parts is = absurd (some refl)
         go (p ∷ ps) some parts is =
             let a = rises_around (places_below n) p ps (subst Rises parts rises) in
-            subst (FollowsSettled order n) (sym is)
+            subst (FollowsDense order n) (sym is)
             (record { rest = ps; parts = parts; above = at_least n p a.low; low = a.low; high = a.high })
 
-module _ (order : List ℕ) (n place : ℕ) (x : FollowsSettled order n place) where
+module _ (order : List ℕ) (n place : ℕ) (x : FollowsDense order n place) where
   pub following-listed : IsIn place order
   following-listed = subst (IsIn place) (sym x.parts) (in_middle (places_below n) place x.rest)
 
@@ -107,21 +107,21 @@ module _ (order : List ℕ) (n place : ℕ) (x : FollowsSettled order n place) w
     | inr later ↦ elim later [ inl e ↦ omega (arith, e, below) | inr high ↦ omega (arith, x.high q high, below) ]
   ]
 
-  settled : (now : List ℕ) → now ≡ places_below n ++ n ∷ x.rest → AreSettled now (suc n)
-  settled now parts = record { rest = x.rest; parts = parts ∙ sym (append_assoc (places_below n) (n ∷ []) x.rest) }
+  dense : (now : List ℕ) → now ≡ places_below n ++ n ∷ x.rest → AreDense now (suc n)
+  dense now parts = record { rest = x.rest; parts = parts ∙ sym (append_assoc (places_below n) (n ∷ []) x.rest) }
 
-  pub settled-stay : place ≤ n → AreSettled order (suc n)
-  settled-stay there = settled order (x.parts ∙ ap (λ p. places_below n ++ p ∷ x.rest) (omega (arith, there, x.above)))
+  pub dense-stay : place ≤ n → AreDense order (suc n)
+  dense-stay there = dense order (x.parts ∙ ap (λ p. places_below n ++ p ∷ x.rest) (omega (arith, there, x.above)))
 
-  pub settled-move : (now : List ℕ) → now ≡ map (relocated place n) order → AreSettled now (suc n)
-  settled-move now is =
-      settled now (is ∙ ap (map (relocated place n)) x.parts ∙ map-append (relocated place n) (places_below n) (place ∷ x.rest)
+  pub dense-move : (now : List ℕ) → now ≡ map (relocated place n) order → AreDense now (suc n)
+  dense-move now is =
+      dense now (is ∙ ap (map (relocated place n)) x.parts ∙ map-append (relocated place n) (places_below n) (place ∷ x.rest)
       ∙ (λ i. relocated-none place n (places_below n) (λ j. omega (arith, x.low place j)) i
       ++ relocated-from place n place refl i ∷ relocated-none place n x.rest (λ j. omega (arith, x.high place j)) i))
 
 -- at the end the items stand without a hole
-pub settled-end : (order : List ℕ) (n : ℕ) → AreSettled order n → length order ≡ n → end_of order ≡ n
-settled-end order n s count = go s.rest s.parts
+pub dense-end : (order : List ℕ) (n : ℕ) → AreDense order n → length order ≡ n → end_of order ≡ n
+dense-end order n s count = go s.rest s.parts
   where
     ends_below : (m : ℕ) → end_of (places_below m) ≡ m
     ends_below zero = refl
@@ -132,8 +132,8 @@ settled-end order n s count = go s.rest s.parts
     go (p ∷ ps) parts = absurd (omega (arith, count, ap length parts, length-append (places_below n) (p ∷ ps), length-below n))
 
 -- which are those below their number
-pub settled-all : (order : List ℕ) (n : ℕ) → AreSettled order n → length order ≡ n → order ≡ places_below n
-settled-all order n s count = go s.rest s.parts
+pub dense-all : (order : List ℕ) (n : ℕ) → AreDense order n → length order ≡ n → order ≡ places_below n
+dense-all order n s count = go s.rest s.parts
   where
     go : (rest : List ℕ) → order ≡ places_below n ++ rest → order ≡ places_below n
     go [] parts = parts ∙ append-nil (places_below n)

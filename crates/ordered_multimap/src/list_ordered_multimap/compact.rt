@@ -3,7 +3,7 @@ ghost use Rattle.std.specs.Prelude.{◌≡◌, ◌≤◌, ◌<◌, ℕ, length, 
 ghost use Rattle.multimap_slots.specs.Lists.{IsIn, Rises};
 ghost use Rattle.multimap_slots.specs.Slots.{link_at};
 ghost use Rattle.multimap_slots.specs.Tapes.{CountsMove};
-ghost use Rattle.ordered_multimap.specs.Private.Relocations.{AreChained, AreSettled, Compacts, FollowsSettled, KeepsCapacities, RelinksKey, Relocates, relocated, relocated_key};
+ghost use Rattle.ordered_multimap.specs.Private.Relocations.{AreChained, AreDense, Compacts, FollowsDense, KeepsCapacities, RelinksKey, Relocates, relocated, relocated_key};
 
 use super::links::{link_of, set_next, set_previous};
 use multimap_slots::{SlotList, Tape};
@@ -75,18 +75,18 @@ fn move_value<K, V: Drop, A: Allocator>(
     relink_ends(keys, link, from, to);
 }
 
-/// The place of the first value that isn't settled. As many as are stand at the lowest places.
+/// The place of the value behind the first `dense` ones, which stand at the lowest places.
 #[inline(always)]
-fn place_behind<V, A: Allocator>(values: &Tape<V, ValueLink, A>, settled: usize) -> usize
+fn place_behind<V, A: Allocator>(values: &Tape<V, ValueLink, A>, dense: usize) -> usize
     requires rises { Rises values.now.list.order }
-    requires settled { AreSettled values.now.list.order settled }
-    requires more { settled < length values.now.list.order }
-    ensures { FollowsSettled values.now.list.order settled result }
+    requires dense { AreDense values.now.list.order dense }
+    requires more { dense < length values.now.list.order }
+    ensures { FollowsDense values.now.list.order dense result }
 {
-    if settled == 0 {
+    if dense == 0 {
         values.front_place().unwrap_or(0)
     } else {
-        values.following_listed_place(settled - 1)
+        values.following_listed_place(dense - 1)
     }
 }
 

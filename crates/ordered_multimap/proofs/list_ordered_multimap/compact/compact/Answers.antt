@@ -1,8 +1,8 @@
 use Rattle.std.proofs.Common.{◌≡◌, length, refl, ap, ◌∙◌, arith, add-one}
 use Rattle.ordered_multimap.specs.Private.Relocations.{places_below, relocated}
 use Rattle.ordered_multimap.proofs.Agreement.Relocated.{chains-relocated}
-use Rattle.ordered_multimap.proofs.Compact.Dense.{settled-start, following-listed, following-holes, settled-stay, settled-move}
-use Rattle.ordered_multimap.proofs.Compact.Dense.{settled-end, settled-all, relocated-room, relocates-then, relocates-cut}
+use Rattle.ordered_multimap.proofs.Compact.Dense.{dense-start, following-listed, following-holes, dense-stay, dense-move}
+use Rattle.ordered_multimap.proofs.Compact.Dense.{dense-end, dense-all, relocated-room, relocates-then, relocates-cut}
 use Rattle.std.proofs.lemmas.List.{length-map}
 use Rattle.ordered_multimap.proofs.list_ordered_multimap.compact.compact.Goals as goal
 use Rattle.ordered_multimap.proofs.list_ordered_multimap.compact.compact.Goals.{then-to-from, else-to-from}
@@ -10,7 +10,7 @@ use Rattle.ordered_multimap.proofs.list_ordered_multimap.compact.compact.Goals.{
 pub loop-to-init : goal.loop-to-init
 loop-to-init g c = record {
   relocated = relocated-room _ _ _ _ c.requires.chains.keys_sound c.requires.chains.sound refl refl (omega arith) (omega arith);
-  settled = settled-start _;
+  dense = dense-start _;
   same_length = refl;
   moved = omega arith;
   freed = refl;
@@ -43,7 +43,7 @@ loop-to-preserved g c =
               name = λ p. relocated from c.loop-to.to (w.relocated.name p);
               relocates = relocates-then w.relocated.name (relocated from c.loop-to.to) w.relocated.relocates m.relocates;
             };
-            settled = settled-move order c.loop-to.to from x _ m.relocates.order;
+            dense = dense-move order c.loop-to.to from x _ m.relocates.order;
             same_length = ap length m.relocates.order ∙ length-map order (relocated from c.loop-to.to) ∙ w.same_length;
             moved = omega (arith, m.counts.moved, w.moved);
             freed = m.counts.freed ∙ w.freed;
@@ -56,7 +56,7 @@ loop-to-preserved g c =
       | else-to-from b ↦
           rw (add-one, b.keys-is, b.values-is) (record {
             relocated = w.relocated;
-            settled = settled-stay order c.loop-to.to from x (omega (arith, b.if-to-from.false));
+            dense = dense-stay order c.loop-to.to from x (omega (arith, b.if-to-from.false));
             same_length = w.same_length;
             moved = omega (arith, w.moved);
             freed = w.freed;
@@ -79,9 +79,9 @@ returns g c =
         relocates = relocates-cut w.relocated.name c.loop-to.values _ w.relocated.relocates
             cut;
       };
-      dense = cut.order ∙ settled-all order c.loop-to.to w.settled same ∙ ap places_below all;
+      dense = cut.order ∙ dense-all order c.loop-to.to w.dense same ∙ ap places_below all;
       no_hole =
-          let end = settled-end order c.loop-to.to w.settled same in
+          let end = dense-end order c.loop-to.to w.dense same in
           omega (arith, cut.used, ap length cut.order, same, end);
       moved = omega (arith, cut.moved, w.moved, all);
       freed = cut.freed ∙ w.freed;
