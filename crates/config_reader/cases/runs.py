@@ -24,6 +24,16 @@ GOOD = [
     # Of a section that stands twice it goes to the last part, and is indented as that, or as the one before.
     ("[a]\n    k = 1\n[b]\n[A]\n  m = 2\n", ["add", "a.l", "3"], "[a]\n    k = 1\n[b]\n[A]\n  m = 2\n  l = 3\n"),
     ("[a]\n  k = 1\n[a]\n[b]\n", ["add", "a.l", "3"], "[a]\n  k = 1\n[a]\n  l = 3\n[b]\n"),
+    # A section without quotes is named in small letters behind its dot; between quotes letters have any case.
+    ("[A.b]\nk = 1\n", ["get", "a.b.k"], "1\n"),
+    ('[A "B"]\nk = 1\n', ["get", "a.B.k"], "1\n"),
+    ('[a "b.C"]\nk = 1\n', ["get", "a.b.C.k"], "1\n"),
+    # A byte order mark stays where the whole text is written.
+    ("\ufeff[a]\nk = 1\n", ["get", "a.k"], "1\n"),
+    ("\ufeff[a]\nk = 1\n", ["write"], "\ufeff[a]\nk = 1\n"),
+    ("\ufeff[a]\nk = 1\n", ["set", "a.k", "2"], "\ufeff[a]\nk = 2\n"),
+    ("\ufeff[a]\nk = 1\n", ["add", "a.l", "2"], "\ufeff[a]\nk = 1\nl = 2\n"),
+    ("\ufeff[a]\nk = 1\n", ["unset", "a.k"], "\ufeff[a]\n"),
 ]
 
 # A text, the words, what stands on standard error behind the program's name.
@@ -46,6 +56,19 @@ BAD = [
     ("[a\n", ["write"], "file: line 1: not a section or a setting"),
     ("[]\n", ["write"], "file: line 1: not the name of a section"),
     ("[a[b]\n", ["write"], "file: line 1: not the name of a section"),
+    # git reads the first as `a "b"`, and the second as `a "b.c"`.
+    ("[a.B]\nk = 1\n", ["write"], "file: line 1: capital behind the dot of a section; put the name between quotes"),
+    ('[a.b "c"]\nk = 1\n', ["write"], "file: line 1: not the name of a section"),
+    ("", ["add", 'a.b "c".k', "1"], "not the name of a section; see config_reader --help"),
+    # A command with too few words or too many.
+    ("", ["get"], "get takes SECTION.KEY; see config_reader --help"),
+    ("", ["all"], "all takes SECTION.KEY; see config_reader --help"),
+    ("", ["get", "a.b", "c"], "get takes SECTION.KEY; see config_reader --help"),
+    ("", ["keys", "a", "b", "c"], "keys takes SECTION or nothing; see config_reader --help"),
+    ("", ["sections", "a"], "sections takes nothing; see config_reader --help"),
+    ("", ["add", "a.b"], "add takes SECTION.KEY and VALUE; see config_reader --help"),
+    ("", ["unset"], "unset takes SECTION.KEY; see config_reader --help"),
+    ("", ["write", "a"], "write takes nothing; see config_reader --help"),
 ]
 
 

@@ -1,4 +1,5 @@
 -- The section that a line opens.
+use Rattle.std.specs.Char.{is_ascii_uppercase}
 use Rattle.std.specs.List.{after_first, before_first, list_any}
 use Rattle.std.specs.Prelude.{◌≡◌, ℕ, Bool, false, ◌==◌, ◌&&◌, ◌||◌, not, if◌then◌else◌}
 use Rattle.std.specs.Prelude.{List, [], ◌∷◌, Option, Some, None}
@@ -19,9 +20,9 @@ IsTrimmed cs = (skip_leading_whitespace cs ≡ cs) × (drop_trailing_whitespace 
 abbrev pub is_outside_sub : ℕ → Bool
 is_outside_sub b = b == 34 || b == 92 || b == 10
 
--- one of these, or a bracket
+-- one of these, a dot, or a bracket
 abbrev pub is_outside_word : ℕ → Bool
-is_outside_word b = is_outside_sub b || b == 91 || b == 93
+is_outside_word b = is_outside_sub b || b == 46 || b == 91 || b == 93
 
 -- whether a section can have this word, and this name between quotes
 abbrev pub is_word : List ℕ → Bool
@@ -55,11 +56,19 @@ opened_in_quotes word quoted =
     if is_closed (after_first (λ b. b == 34) quoted)
     then of_parts (trim word) (before_first (λ b. b == 34) quoted) else None
 
+-- whether a letter behind the first dot is a capital
+abbrev pub has_capital_behind_dot : List ℕ → Bool
+has_capital_behind_dot name = list_any is_ascii_uppercase (after_first (λ b. b == 46) name)
+
+-- the section of the name that a line without quotes has
+abbrev pub of_unquoted : List ℕ → Option (List ℕ × List ℕ)
+of_unquoted name = if has_capital_behind_dot name then None else of_dotted name
+
 -- the section that a line without quotes opens
 abbrev pub opened_without_quotes : List ℕ → Option (List ℕ × List ℕ)
 opened_without_quotes inside =
     if list_any (λ b. b == 93) inside && says_nothing (after_first (λ b. b == 93) inside)
-    then of_dotted (trim (before_first (λ b. b == 93) inside)) else None
+    then of_unquoted (trim (before_first (λ b. b == 93) inside)) else None
 
 -- the section that a line opens, by what stands behind its first bracket
 abbrev pub opened : List ℕ → Option (List ℕ × List ℕ)

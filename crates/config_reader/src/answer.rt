@@ -21,7 +21,7 @@ use crate::lines::lines_in;
 use crate::name::Name;
 use crate::reader::{read_config, read_to_bar};
 use crate::section::Section;
-use program_parts::{Fault, bad, without_mark};
+use program_parts::{Fault, bad, mark_of, without_mark};
 use std::alloc::{AllocError, Global};
 use std::io;
 
@@ -85,7 +85,7 @@ fn answer_to<'t>(
 }
 
 /// Reads the settings into `config`, which is empty, and adds what the command shows of them, or the
-/// whole text as the command leaves it.
+/// whole text as the command leaves it, behind the byte order mark that it had.
 pub fn add_answer_of_words<'t>(
     alloc: Global,
     config: &mut Config<'t>,
@@ -95,6 +95,9 @@ pub fn add_answer_of_words<'t>(
 ) -> Result<(), Fault> {
     let command = Command::of_words(words)?;
     let (text, end) = text_of_input(input);
+    if command.writes_text() && !mark_of(input).is_empty() {
+        answers.push('\u{feff}')?;
+    }
     if answer_on_text(alloc, config, text, end, command, answers)? {
         Ok(())
     } else {

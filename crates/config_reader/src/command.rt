@@ -55,6 +55,14 @@ impl<'t> Command<'t> {
         }
     }
 
+    /// Whether the command writes the whole text.
+    pub fn writes_text(self) -> bool {
+        matches!(
+            &self,
+            Command::Set(..) | Command::Add(..) | Command::Unset(_) | Command::Write
+        )
+    }
+
     fn parse(words: &'t [String]) -> io::Result<Command<'t>>
         ensures allowed { IfOk result IsAllowed }
         ensures bad { IfErr result (λ error. error_kind error ≡ InvalidData) }
@@ -68,7 +76,8 @@ impl<'t> Command<'t> {
             [word, name, value] => {
                 Command::of_pair(word.as_str(), Name::parse(name.as_str())?, value.as_str())
             }
-            _ => Err(bad("not a command")),
+            [word, ..] => Err(no_command(word.as_str())),
+            [] => Err(bad("no command behind the file")),
         }
     }
 
@@ -79,7 +88,7 @@ impl<'t> Command<'t> {
         match word {
             "set" => Ok(Command::Set(name, value)),
             "add" => Ok(Command::Add(name, value)),
-            _ => Err(bad("not a command")),
+            _ => Err(no_command(word)),
         }
     }
 
@@ -94,7 +103,24 @@ impl<'t> Command<'t> {
             "keys" => Ok(Command::Keys(Section::parse(operand)?)),
             "sections" if operand.is_empty() => Ok(Command::Sections),
             "write" if operand.is_empty() => Ok(Command::Write),
-            _ => Err(bad("not a command")),
+            _ => Err(no_command(word)),
         }
+    }
+}
+
+/// Why this word and what stands behind it are no command.
+fn no_command(word: &str) -> io::Error
+    ensures { error_kind result ≡ InvalidData }
+{
+    match word {
+        "get" => bad("get takes SECTION.KEY"),
+        "all" => bad("all takes SECTION.KEY"),
+        "keys" => bad("keys takes SECTION or nothing"),
+        "sections" => bad("sections takes nothing"),
+        "set" => bad("set takes SECTION.KEY and VALUE"),
+        "add" => bad("add takes SECTION.KEY and VALUE"),
+        "unset" => bad("unset takes SECTION.KEY"),
+        "write" => bad("write takes nothing"),
+        _ => bad("not a command"),
     }
 }

@@ -27,7 +27,8 @@
 //! What programs read in several ways is a bad line: a setting that is indented more than the one
 //! above it, `KEY: VALUE`, `#` or `;` within a word, a backslash without quotes or at the end of the
 //! text, any other escape, a quote without an end, and a section with nothing between its quotes or
-//! behind its dot. No name has a line feed.
+//! behind its dot, with a dot in front of its quotes, or without quotes and with a capital behind its
+//! dot. No name has a line feed.
 //!
 //! `set`, `add`, `unset` and `write` write the whole text. Lines that aren't touched stay as they are,
 //! with comments and empty lines; a last line without a line feed gets one. `set` of an absent key
@@ -83,7 +84,9 @@ commands:
 The last four write the whole text, and leave other lines as they are. SECTION.NAME
 stands for [SECTION \"NAME\"]. The exit status is 1 where nothing is found.
 
-example: config_reader .git/config get remote.origin.url
+examples:
+  config_reader .git/config get remote.origin.url
+  config_reader old.ini set core.editor vim > new.ini
 ",
     flags: &[],
     valued: &[],

@@ -2,14 +2,16 @@
 ghost use Rattle.std.specs.IoError.{error_kind};
 ghost use Rattle.std.specs.Prelude.{◌≡◌, ◌++◌, [], Some, true};
 ghost use Rattle.std.specs.Prelude.{IfErr, IfOk, OnOk};
+ghost use Rattle.std.specs.Char.{is_ascii_uppercase};
+ghost use Rattle.std.specs.List.{list_any};
 ghost use Rattle.std.specs.Str.{chars};
 ghost use Rattle.std.specs.String.{string_bytes};
 ghost use Rattle.std.specs.declared.io.ErrorKind.TheVariants.{InvalidData};
 ghost use Rattle.config_reader.specs.Blocks.{IsWritten, OpensSection};
 ghost use Rattle.config_reader.specs.Names.{IsCalledBy, IsCalledByDot, IsOpenAs, Lacks};
-ghost use Rattle.config_reader.specs.Sections.{IsTrimmed, is_outside_sub, is_outside_word, is_sub, is_word};
+ghost use Rattle.config_reader.specs.Sections.{IsTrimmed, has_capital_behind_dot, is_outside_sub, is_outside_word, is_sub, is_word};
 ghost use Rattle.config_reader.specs.Sections.{of_dotted, opened, opened_in_quotes};
-ghost use Rattle.config_reader.specs.Sections.{opened_without_quotes, spelled};
+ghost use Rattle.config_reader.specs.Sections.{of_unquoted, opened_without_quotes, spelled};
 ghost use Rattle.config_reader.specs.Written.{in_quotes, section_line, section_name};
 
 use crate::lines::says_nothing;
@@ -36,8 +38,8 @@ impl<'t> Section<'t> {
     ///
     /// # Errors
     ///
-    /// An empty word, nothing behind the dot or between the quotes, a bracket in the word, a quote at
-    /// another place, a backslash, or a line feed.
+    /// An empty word, nothing behind the dot or between the quotes, a bracket in the word, a dot in the
+    /// word in front of a quoted name, a quote at another place, a backslash, or a line feed.
     pub fn parse(text: &'t str) -> io::Result<Section<'t>>
         ensures called { IfOk result (λ section. IsCalledBy text.now section) }
         ensures written { IfOk result (λ section.
@@ -113,9 +115,21 @@ impl<'t> Section<'t> {
         ensures bad { IfErr result (λ error. error_kind error ≡ InvalidData) }
     {
         match inside.split_once(']') {
-            Some((name, behind)) if says_nothing(behind) => Section::of_dotted(name.trim()),
+            Some((name, behind)) if says_nothing(behind) => Section::of_name(name.trim()),
             _ => Err(bad("not a section or a setting")),
         }
+    }
+
+    // The section of the name on a line without quotes. There git reads what stands behind the dot in
+    // small letters, and others read it as it is spelled.
+    fn of_name(name: &'t str) -> io::Result<Section<'t>>
+        ensures unquoted { IfOk result (λ section. of_unquoted name.now ≡ Some (spelled section)) }
+        ensures bad { IfErr result (λ error. error_kind error ≡ InvalidData) }
+    {
+        if has_capital_behind_dot(name) {
+            return Err(bad("capital behind the dot of a section; put the name between quotes"));
+        }
+        Section::of_dotted(name)
     }
 
     fn of_word(word: &'t str) -> io::Result<Section<'t>>
@@ -187,7 +201,23 @@ fn is_word(text: &str) -> bool
 fn is_outside_word(byte: u8) -> bool
     ensures { result ≡ is_outside_word byte }
 {
-    is_outside_sub(byte) || matches!(byte, b'[' | b']')
+    is_outside_sub(byte) || matches!(byte, b'.' | b'[' | b']')
+}
+
+// Whether a letter behind the first dot is a capital.
+fn has_capital_behind_dot(name: &str) -> bool
+    ensures { result ≡ has_capital_behind_dot name.now }
+{
+    match name.split_once('.') {
+        Some((_, sub)) => has_capital(sub),
+        None => false,
+    }
+}
+
+fn has_capital(text: &str) -> bool
+    ensures { result ≡ list_any is_ascii_uppercase text.now }
+{
+    text.as_bytes().iter().any(|byte| byte.is_ascii_uppercase())
 }
 
 // Whether a section can have this name between quotes.

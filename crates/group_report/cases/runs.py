@@ -131,11 +131,12 @@ FAULTS = [
     (["--bogus"], "unknown option: --bogus; see group_report --help"),
     (["-l"], "unknown option: -l; see group_report --help"),
     (["--sort"], "no value behind: --sort; see group_report --help"),
-    (["--sort", "size"], "no order of groups: size; see group_report --help"),
-    (["--bound", "high"], "no bound of 64 bits: high; see group_report --help"),
-    (["--bound", "9223372036854775808"], "no bound of 64 bits: 9223372036854775808; see group_report --help"),
+    (["--sort", "size"], "--sort takes name or total: size; see group_report --help"),
+    (["--bound", "high"], "--bound takes a whole number of 64 bits: high; see group_report --help"),
+    (["--bound", "9223372036854775808"], "--bound takes a whole number of 64 bits: 9223372036854775808; see group_report --help"),
     (["--count", "--list"], "--count leaves no values for --list; see group_report --help"),
     (["a.txt", "b.txt"], "one file at most: b.txt; see group_report --help"),
+    (["a.txt", "--count"], "options stand in front of the file: --count; see group_report --help"),
 ]
 
 

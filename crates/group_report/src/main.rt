@@ -2,9 +2,9 @@
 //!
 //! Each line of the input is a group and a value, `GROUP VALUE`: the last word is the value, a whole
 //! number of 64 bits with a sign, and all before it is the group. White space stands between and
-//! around them, and lines of it alone count for nothing. Standard output gets a line for each group,
-//! in the order in which they first occur, with how many values it has, their sum, the least and the
-//! greatest of them, and a line of totals behind these.
+//! around them, and blank lines are ignored. Lines are UTF-8. Standard output gets a line for each
+//! group, in the order in which they first occur, with how many values it has, their sum, the least
+//! and the greatest of them, and a line of totals behind these.
 //!
 //! The input is the file that the first word names, or standard input.
 //!

@@ -39,7 +39,11 @@ impl Options {
             return Err(usage("--count leaves no values for --list"));
         }
         if let Some(word) = arguments.words.first() {
-            return Err(unknown(alloc, "one file at most", word.as_str()));
+            let word = word.as_str();
+            if word.starts_with("--") {
+                return Err(unknown(alloc, "options stand in front of the file", word));
+            }
+            return Err(unknown(alloc, "one file at most", word));
         }
         Ok(Options {
             counts,
@@ -57,7 +61,7 @@ fn bound_of(alloc: Global, arguments: &Arguments<'_>) -> Result<Option<i64>, Fau
     };
     match word.parse() {
         Ok(bound) => Ok(Some(bound)),
-        Err(_) => Err(unknown(alloc, "no bound of 64 bits", word)),
+        Err(_) => Err(unknown(alloc, "--bound takes a whole number of 64 bits", word)),
     }
 }
 
@@ -66,6 +70,6 @@ fn order_of(alloc: Global, arguments: &Arguments<'_>) -> Result<Order, Fault> {
         None => Ok(Order::First),
         Some("name") => Ok(Order::Name),
         Some("total") => Ok(Order::Total),
-        Some(word) => Err(unknown(alloc, "no order of groups", word)),
+        Some(word) => Err(unknown(alloc, "--sort takes name or total", word)),
     }
 }

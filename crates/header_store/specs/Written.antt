@@ -7,14 +7,15 @@ use Rattle.header_store.specs.declared.command.Form.TheVariants.{First, Lines, J
 abbrev pub line_of : List ℕ → List ℕ
 line_of text = text ++ 10 ∷ []
 
--- a header on a line
-abbrev pub header_line : List ℕ → List ℕ → List ℕ
-header_line name value = name ++ codes ": " ++ line_of value
+-- a text and what ends its line
+abbrev pub ended : List ℕ → List ℕ → List ℕ
+ended line_end text = text ++ line_end
 
--- each header on a line, in order
-abbrev pub header_lines : List (List ℕ × List ℕ) → List ℕ
-header_lines [] = []
-header_lines (header ∷ headers) = header_line header.0 header.1 ++ header_lines headers
+-- each header on a line that ends so, in order
+abbrev pub header_lines : List ℕ → List (List ℕ × List ℕ) → List ℕ
+header_lines line_end [] = []
+header_lines line_end (header ∷ headers) =
+    (header.0 ++ codes ": " ++ ended line_end header.1) ++ header_lines line_end headers
 
 -- each value on a line, with the label in front
 abbrev pub value_lines : List ℕ → List (List ℕ) → List ℕ

@@ -2,7 +2,7 @@
 ghost use Rattle.std.specs.Prelude.{◌≡◌, ◌↔◌, ◌++◌, ℕ, List, [], map, IfOk, IsTrue, OnOk};
 ghost use Rattle.std.specs.Str.{str_eq_ignore_ascii_case, str_to_ascii_lowercase};
 ghost use Rattle.ordered_multimap.specs.Pairs.{has_items, values_where};
-ghost use Rattle.header_store.specs.Written.{all_behind, header_lines, line_of, shown, value_lines};
+ghost use Rattle.header_store.specs.Written.{all_behind, ended, header_lines, line_of, shown, value_lines};
 ghost use Rattle.header_store.specs.Changed.{changed, is_found, label_of};
 ghost use Rattle.header_store.specs.Answered.{absence, answer_of, message_of, output_of};
 ghost use Rattle.header_store.specs.Answered.{values_or_absence};
@@ -58,7 +58,7 @@ fn answer_to<'t>(
 {
     match command {
         Command::Show(name, form) => add_values_or_absence(answers, form, name, headers),
-        Command::Write => add_message(answers, start, headers),
+        Command::Write => add_message(answers, start, b"\n", headers),
         Command::Set(_, _) | Command::Add(_, _) | Command::Remove(_) => change(headers, command),
     }
 }
@@ -101,7 +101,8 @@ fn carry_out<'t>(
         return add_values(answers, form, None, values_of(headers, name));
     }
     change(headers, command)?;
-    add_message(answers, frame.start, headers)?;
+    answers.extend_from_slice(frame.mark)?;
+    add_message(answers, frame.start, frame.line_end, headers)?;
     answers.extend_from_slice(frame.rest)?;
     Ok(true)
 }
@@ -217,8 +218,14 @@ fn add_label(answers: &mut Vec<u8>, name: Option<Name<'_>>) -> Result<(), AllocE
 fn add_line(answers: &mut Vec<u8>, text: &[u8]) -> Result<(), AllocError>
     ensures { OnOk result (answers.new.items ≡ answers.old.items ++ line_of text.now) }
 {
+    add_ended(answers, text, b"\n")
+}
+
+fn add_ended(answers: &mut Vec<u8>, text: &[u8], line_end: &[u8]) -> Result<(), AllocError>
+    ensures { OnOk result (answers.new.items ≡ answers.old.items ++ ended line_end.now text.now) }
+{
     answers.extend_from_slice(text)?;
-    answers.push(b'\n')?;
+    answers.extend_from_slice(line_end)?;
     Ok(())
 }
 
@@ -246,29 +253,34 @@ fn add_absence(answers: &mut Vec<u8>, name: Name<'_>) -> Result<(), AllocError>
     add_line(answers, name.as_bytes())
 }
 
-/// Adds the request or status line, if there is one, and all headers in order.
+/// Adds the request or status line, if there is one, and all headers in order, on lines that end so.
 fn add_message(
     answers: &mut Vec<u8>,
     start: Option<&[u8]>,
+    line_end: &[u8],
     headers: &Headers<'_>,
 ) -> Result<(), AllocError>
     ensures { OnOk result (answers.new.items ≡ answers.old.items
-        ++ message_of start.entry headers.now.lists) }
+        ++ message_of line_end.now start.entry headers.now.lists) }
 {
     if let Some(start) = start {
-        add_line(answers, start)?;
+        add_ended(answers, start, line_end)?;
     }
-    add_headers(answers, headers)
+    add_headers(answers, line_end, headers)
 }
 
 /// Adds all headers in order, each name as it was first spelled.
-fn add_headers(answers: &mut Vec<u8>, headers: &Headers<'_>) -> Result<(), AllocError>
-    ensures { OnOk result (answers.new.items ≡ answers.old.items
-        ++ header_lines (map (λ p. (p.0.text.0.now, p.1.now)) headers.now.lists.pairs)) }
+fn add_headers(
+    answers: &mut Vec<u8>,
+    line_end: &[u8],
+    headers: &Headers<'_>,
+) -> Result<(), AllocError>
+    ensures { OnOk result (answers.new.items ≡ answers.old.items ++ header_lines line_end.now
+        (map (λ p. (p.0.text.0.now, p.1.now)) headers.now.lists.pairs)) }
 {
     for (name, value) in headers {
         add_label(answers, Some(*name))?;
-        add_line(answers, value)?;
+        add_ended(answers, value, line_end)?;
     }
     Ok(())
 }

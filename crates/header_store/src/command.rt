@@ -77,7 +77,8 @@ impl<'t> Command<'t> {
                 Command::of_pair(word.as_bytes(), name_of(name.as_bytes())?, value.as_bytes())
             }
             [word] if word.as_str() == "write" => Ok(Command::Write),
-            _ => Err(bad("not a command")),
+            [word, ..] => Err(no_command(word.as_bytes())),
+            [] => Err(bad("no command behind the file")),
         }
     }
 
@@ -88,7 +89,7 @@ impl<'t> Command<'t> {
         match word {
             b"set" => Ok(Command::Set(name, value)),
             b"add" => Ok(Command::Add(name, value)),
-            _ => Err(bad("not a command")),
+            _ => Err(no_command(word)),
         }
     }
 
@@ -100,8 +101,24 @@ impl<'t> Command<'t> {
             b"all" => Ok(Command::Show(name, Form::Lines)),
             b"joined" => Ok(Command::Show(name, joined_form(name))),
             b"remove" => Ok(Command::Remove(name)),
-            _ => Err(bad("not a command")),
+            _ => Err(no_command(word)),
         }
+    }
+}
+
+/// Why this word and what stands behind it are no command.
+fn no_command(word: &[u8]) -> io::Error
+    ensures { error_kind result ≡ InvalidData }
+{
+    match word {
+        b"get" => bad("get takes NAME"),
+        b"all" => bad("all takes NAME"),
+        b"joined" => bad("joined takes NAME"),
+        b"set" => bad("set takes NAME and VALUE"),
+        b"add" => bad("add takes NAME and VALUE"),
+        b"remove" => bad("remove takes NAME"),
+        b"write" => bad("write takes nothing"),
+        _ => bad("not a command"),
     }
 }
 

@@ -12,7 +12,8 @@
 //!
 //! `FILE` is a message: a request or status line, if there is one, and a header `NAME: VALUE` on each
 //! line, up to an empty line; `-` stands for standard input. The last four commands write the whole
-//! message, with what stands behind the headers. A name has any case: `accept` finds what came as
+//! message, with what stands behind the headers. Its lines then end as the first one does, with a line
+//! feed or a carriage return and a line feed. Names are case-insensitive: `accept` finds what came as
 //! `Accept`. Where a name stands in several cases, all its headers are written as the first one
 //! spells it. `set` of an absent name adds a header at the end.
 //!
@@ -62,7 +63,8 @@ commands:
   remove NAME       remove the headers of the name
   write             write the message
 
-Names have any case. All headers of a name are written as the first one spells it.
+Names are case-insensitive; all headers of a name are written as the first one
+spells it. Lines are written with the end that the first line of the message has.
 The exit status is 1 where no header has the name that get, all or joined asks for.
 
 example: header_store request.txt set Accept text/html > changed.txt

@@ -69,7 +69,7 @@
 //! # When memory runs out
 //!
 //! A call that may allocate returns a `Result`, and the others can't fail: lookups, removals,
-//! writes in place, and iteration. An addition never fails where the capacities suffice, and
+//! writes in place, and iteration by reference. An addition never fails where the capacities suffice, and
 //! `insert` and `set` never fail for a present key.
 //!
 //! - An addition returns [`Refused`] with the key and the value, or [`RefusedValue`] with the value

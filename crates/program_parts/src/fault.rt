@@ -18,9 +18,9 @@ pub enum Fault {
     Usage(io::Error),
     /// The line of this number, counted from 1, is bad.
     Line(usize, io::Error),
-    /// The input could not be read.
+    /// The input could not be read, or is bad for a reason that no one line has.
     Input(io::Error),
-    /// Memory was refused, writing failed, or the input is bad for a reason that no one line has.
+    /// Memory was refused, or the system failed, as in writing.
     System(io::Error),
 }
 
@@ -47,7 +47,7 @@ impl Fault {
         }
     }
 
-    /// The fault of an input that could not be read.
+    /// The fault of an input that could not be read, or that is bad as a whole.
     pub fn input(error: io::Error) -> Fault
         ensures status { status_of_fault result ≡ status_of_error error }
     {

@@ -21,7 +21,7 @@ mod lines;
 
 pub use crate::arguments::{Arguments, Program};
 pub use crate::fault::{Fault, bad, status_of, unknown, usage};
-pub use crate::lines::{text_of, without_mark, without_return};
+pub use crate::lines::{mark_of, text_of, without_mark, without_return};
 use std::alloc::Global;
 use std::io::{Read, Write};
 use std::process::ExitCode;

@@ -3,7 +3,7 @@
 ghost use Rattle.std.specs.IoError.{error_kind};
 ghost use Rattle.std.specs.Prelude.{◌≡◌, IfErr, IfOk};
 ghost use Rattle.std.specs.declared.io.ErrorKind.TheVariants.{InvalidData};
-ghost use Rattle.program_parts.specs.Lines.{without_mark, without_return};
+ghost use Rattle.program_parts.specs.Lines.{mark_of, without_mark, without_return};
 
 use crate::fault::bad;
 use std::io;
@@ -13,6 +13,16 @@ pub fn without_mark(input: &[u8]) -> &[u8]
     ensures { result.now ≡ without_mark input.now }
 {
     input.strip_prefix(b"\xef\xbb\xbf").unwrap_or(input)
+}
+
+/// The byte order mark at the input's start, or nothing.
+pub fn mark_of(input: &[u8]) -> &'static [u8]
+    ensures { result.now ≡ mark_of input.now }
+{
+    match input.strip_prefix(b"\xef\xbb\xbf") {
+        Some(_) => b"\xef\xbb\xbf",
+        None => b"",
+    }
 }
 
 /// The line without a carriage return at its end.

@@ -38,11 +38,20 @@ fn command_of(alloc: Global, words: &[String]) -> Result<Command<'_>, Fault> {
     };
     let word = word.as_str();
     if let Some(more) = behind.get(1) {
-        return Err(unknown(alloc, "one name at most", more.as_str()));
+        return Err(unknown(alloc, "one word at most behind the command", more.as_str()));
     }
-    match Command::parse(word, behind.first().map(|operand| operand.as_str())) {
-        Some(command) => Ok(command),
-        None => Err(unknown(alloc, "not a command", word)),
+    let operand = behind.first().map(|operand| operand.as_str());
+    match (operand, word) {
+        (None, "get") => Err(usage("get takes NAME")),
+        (None, "all") => Err(usage("all takes NAME")),
+        (None, "set") => Err(usage("set takes NAME=VALUE")),
+        (None, "add") => Err(usage("add takes NAME=VALUE")),
+        (None, "remove") => Err(usage("remove takes NAME")),
+        _ => match Command::parse(word, operand) {
+            Some(command) => Ok(command),
+            None if word == "write" => Err(usage("write takes nothing")),
+            None => Err(unknown(alloc, "not a command", word)),
+        },
     }
 }
 

@@ -10,7 +10,7 @@
 //!
 //! | Command | What it does |
 //! |---|---|
-//! | `get NAME` | writes the name's first value, or `none` |
+//! | `get NAME` | writes the name's first value |
 //! | `all NAME` | writes each value of the name |
 //! | `set NAME=VALUE` | gives the name's first field this value, and removes its others |
 //! | `add NAME=VALUE` | adds a field at the end |
@@ -18,7 +18,8 @@
 //! | `write` | writes the query of all fields, in order |
 //!
 //! As an argument, a command that changes fields also writes the query, and `get` and `all` of an
-//! absent name end with status 1 and write nothing. `set` of an absent name adds a field at the end.
+//! absent name end with status 1 and write nothing. On a line, `get` of an absent name writes `none`,
+//! and `get` or `all` alone ask for the empty name. `set` of an absent name adds a field at the end.
 //! A name without `=` has the empty value. `get` and `all` write a value as it is, with a line feed
 //! in it too. Empty lines among the commands are ignored.
 //!
