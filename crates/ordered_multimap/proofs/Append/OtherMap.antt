@@ -1,17 +1,15 @@
 -- Pairs of another map that are appended one by one, from the front on: what is left of that map.
-use Rattle.std.proofs.Common.{◌≡◌, ◌+◌, ◌≤◌, ℕ, Bool, List, [], ◌++◌, filter, length, Some, refl, sym, ap, ◌∙◌, arith}
-use Rattle.std.proofs.lemmas.List.{append-nil}
+use Rattle.std.proofs.Common.{◌≡◌, ◌+◌, ◌≤◌, ℕ, Bool, List, [], ◌++◌, filter, length, Some, refl, arith}
 use Rattle.std.specs.List.{filter_map}
 use Rattle.multimap_slots.specs.Lists.{IsIn}
 use Rattle.multimap_slots.specs.Slots.{Slots, item_at, link_at}
 use Rattle.multimap_slots.specs.Tapes.{Taped}
 use Rattle.multimap_walks.specs.declared.links.KeyLink.{KeyLink}
 use Rattle.multimap_walks.specs.declared.links.ValueLink.{ValueLink}
-use Rattle.multimap_walks.specs.Chained.{is_value_of, pair_at, pairs_of}
+use Rattle.multimap_walks.specs.Chained.{is_value_of, pair_at}
 use Rattle.ordered_multimap.specs.Agrees.{HasKey}
 use Rattle.ordered_multimap.specs.Changes.{all_appended}
 use Rattle.ordered_multimap.specs.Multimap.{Multimap}
-use Rattle.ordered_multimap.specs.Private.AppendMap.{IsUsedUp}
 use Rattle.ordered_multimap.specs.Rooms.{SameRooms}
 use Rattle.ordered_multimap.specs.TapeNumbers.{TakesOut}
 

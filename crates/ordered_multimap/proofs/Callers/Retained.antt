@@ -1,11 +1,10 @@
 -- What a retain leaves, for callers: std's lemmas on what a `retain` of its maps leaves apply.
-use Rattle.std.proofs.Common.{◌≡◌, Bool, false, List, [], ◌∷◌, filter, refl, ap, ◌∙◌, subst}
+use Rattle.std.proofs.Common.{◌≡◌, Bool, List, [], ◌∷◌, refl, subst}
 use Rattle.std.specs.Map.Calls.{RetainsPairs}
 use Rattle.ordered_multimap.specs.Changes.{kept}
-use Rattle.ordered_multimap.specs.Keys.{is_listed, keys_named_by}
-use Rattle.ordered_multimap.specs.Lists.{Lists, lists, empty_lists}
+use Rattle.ordered_multimap.specs.Keys.{keys_named_by}
+use Rattle.ordered_multimap.specs.Lists.{Lists, lists}
 use Rattle.ordered_multimap.specs.Retain.{Retains}
-use Rattle.ordered_multimap.proofs.Callers.Members.{filter-none}
 
 module _ {F K V : Type 0} (calls : F → K → V → Bool → V → F → Type 0) where
   pub RetainsPairs-retains : (f : F) (old new : List (K × V)) (last : F) → Retains calls f old new last → RetainsPairs calls f old new
