@@ -1,5 +1,6 @@
 pub mod AbsentKeys
 pub mod Agreed
+pub mod Heads
 pub mod Kept
 pub mod LookUps
 pub mod MovedKeys

@@ -71,7 +71,9 @@ module _ {K V S A H : Type 0} {e : equality.Ghosts K} {k : hashed.Ghosts K} {b :
   ended_entry o ws = record {
     map = record o.map { now = ended_map o.map.now ws };
     place = o.place;
+    first = o.first;
     listed = o.listed;
+    begins = o.begins;
   }
 
   -- the walk over keys has given the key at the end, and its map is the one whose slots of values

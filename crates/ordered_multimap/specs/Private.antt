@@ -2,6 +2,7 @@ pub mod Append
 pub mod AppendMap
 pub mod Copies
 pub mod Extends
+pub mod Heads
 pub mod IntoIters
 pub mod KeyMoves
 pub mod KeyRelocations

@@ -103,7 +103,9 @@ module _ {M : Type 1} {𝓤 : Ura M} (𝓛 : Logic 𝓤) (K V S A H : RattleType
           now = record m { lists = lists m.lists.keys ps; slots = record m.slots { values = with_refilled m.slots.values ws } };
         };
         place = o.now.place;
+        first = o.now.first;
         listed = o.now.listed;
+        begins = o.now.begins;
       } in
       by_items 𝓛 E V (λ n. with_map_values o.now n.map.now) (with_entry_items o.now) o.ghost_name c
       (λ ws. fres o.ghost_name (E.coded.code (ended_entry o.now ws))) (λ ws. ap (λ hs. final V hs ws) same ∙ ends.ends ws)

@@ -4,6 +4,7 @@ ghost use Rattle.ordered_multimap.specs.Agrees.{hash_of};
 ghost use Rattle.ordered_multimap.specs.Keys.{is_listed};
 ghost use Rattle.ordered_multimap.specs.Pairs.{is_present};
 ghost use Rattle.ordered_multimap.specs.Private.Remove.{among};
+ghost use Rattle.ordered_multimap.specs.Writes.{head_at};
 
 mod changed;
 mod drained;
@@ -59,7 +60,9 @@ pub struct OccupiedEntry<
 > {
     map: &'map mut ListOrderedMultimap<K, V, S, A>,
     place: usize,
+    first: usize,
     ghost listed: { among map.now.slots.keys.order place ≡ true },
+    ghost begins: { first ≡ head_at map.now.slots.keys place },
 }
 
 /// The entry of a key that is absent. It is part of the [`Entry`] enum.

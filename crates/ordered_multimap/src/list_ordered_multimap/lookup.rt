@@ -9,6 +9,8 @@ ghost use Rattle.ordered_multimap.specs.Pairs.{values_of, values_where, is_prese
 ghost use Rattle.ordered_multimap.specs.Keys.{stored_key};
 ghost use Rattle.ordered_multimap.specs.Agrees.{HasKey, HasKeyWhere, LacksWhere, StandsAt, items_of, hash_of};
 ghost use Rattle.ordered_multimap.specs.Agrees.{IsFoundBy, SaysWhetherAccepted};
+ghost use Rattle.ordered_multimap.specs.Private.Heads.{HasHead, IsHead};
+ghost use Rattle.ordered_multimap.specs.Writes.{head_at};
 
 mod values;
 
@@ -107,6 +109,27 @@ impl<K: Eq + Hash, V, S: BuildHasher, A: Allocator> ListOrderedMultimap<K, V, S,
         key
     }
 
+    /// The place of the first value of the key at the place.
+    #[inline(always)]
+    pub(super) fn first_place(&self, place: usize) -> usize
+        requires { IsIn place self.now.slots.keys.order }
+        ensures { result ≡ head_at self.now.slots.keys place }
+    {
+        let link = self.keys.listed_link(place);
+        link.head
+    }
+
+    /// The value at the place, which is a key's first one.
+    #[inline(always)]
+    pub(super) fn first_from(&self, first: usize) -> &V
+        requires { IsHead self.now.slots.keys first }
+        ensures { (k : K) → HasHead K.eq self.now.slots.keys k first
+            → slice_get (values_of K.eq self.now.lists.pairs k) 0 ≡ Some result.now }
+    {
+        let (value, _) = value_at(&self.values, first);
+        value
+    }
+
     /// The first value of the key at the place.
     #[inline(always)]
     pub(super) fn first_at(&self, place: usize) -> &V
@@ -114,9 +137,7 @@ impl<K: Eq + Hash, V, S: BuildHasher, A: Allocator> ListOrderedMultimap<K, V, S,
         ensures { (k : K) → HasKey K.eq self.now.slots.keys k place
             → slice_get (values_of K.eq self.now.lists.pairs k) 0 ≡ Some result.now }
     {
-        let link = self.keys.listed_link(place);
-        let (value, _) = value_at(&self.values, link.head);
-        value
+        self.first_from(self.first_place(place))
     }
 
     /// How many values the key at the place has.

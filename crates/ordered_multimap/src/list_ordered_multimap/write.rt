@@ -3,7 +3,6 @@ ghost use Rattle.std.specs.Prelude.{◌≡◌, ◌<◌, length, nat_lt, slice_ge
 ghost use Rattle.std.specs.Borrow.{sem};
 ghost use Rattle.std.specs.Option.{option_copied_mut};
 ghost use Rattle.multimap_slots.specs.Lists.{IsIn};
-ghost use Rattle.multimap_slots.specs.Slots.{item_at};
 ghost use Rattle.multimap_walks.specs.Chained.{pair_at};
 ghost use Rattle.multimap_walks.specs.Walk.{end_item};
 ghost use Rattle.multimap_walks.specs.declared.End.TheVariants.{Front, Back};
@@ -12,7 +11,8 @@ ghost use Rattle.ordered_multimap.specs.Changes.{first_written};
 ghost use Rattle.ordered_multimap.specs.Pairs.{values_of, values_where};
 ghost use Rattle.ordered_multimap.specs.WriteLends.{lends_value, lends_first_value, lends_first_of};
 ghost use Rattle.ordered_multimap.specs.WriteLends.{lends_end, lends_end_if};
-ghost use Rattle.ordered_multimap.specs.Writes.{with_first, IsWritten};
+ghost use Rattle.ordered_multimap.specs.Private.Heads.{HasHead, IsHead};
+ghost use Rattle.ordered_multimap.specs.Writes.{with_first, with_value, IsWritten};
 
 use super::ListOrderedMultimap;
 use super::lookup::{slot_at, value_at};
@@ -23,14 +23,18 @@ use std::alloc::Allocator;
 use std::hash::{BuildHasher, Hash};
 
 impl<K: Eq + Hash, V, S: BuildHasher, A: Allocator> ListOrderedMultimap<K, V, S, A> {
-    /// The value at a listed place, to write.
-    pub(super) fn value_mut_at(&mut self, place: usize) -> &mut V
-        requires { IsIn place self.old.slots.values.order }
+    /// The value at the place, which is a key's first one, to write.
+    pub(super) fn first_mut_from(&mut self, first: usize) -> &mut V
+        requires { IsHead self.old.slots.keys first }
         ensures* writes_back { sem 𝓛 (lends_value K.row V.row S.row A.row S.Hasher.row K.Hash
-            S.BuildHasher S.Hasher.Hasher A.Allocator self.entry place result) }
-        ensures value { item_at self.old.slots.values place ≡ Some result.now }
+            S.BuildHasher S.Hasher.Hasher A.Allocator self.entry first result) }
+        ensures value { (k : K) → HasHead K.eq self.old.slots.keys k first
+            → slice_get (values_of K.eq self.old.lists.pairs k) 0 ≡ Some result.now }
+        ensures written { (k : K) → HasHead K.eq self.old.slots.keys k first → (v : V)
+            → IsWritten self.old (with_value self.old first v)
+            (first_written K.eq self.old.lists k v) }
     {
-        self.values.get_listed_mut(place)
+        self.values.get_listed_mut(first)
     }
 
     /// The first value of the key at the place, to write.
@@ -44,8 +48,8 @@ impl<K: Eq + Hash, V, S: BuildHasher, A: Allocator> ListOrderedMultimap<K, V, S,
             → IsWritten self.old (with_first self.old place v)
             (first_written K.eq self.old.lists k v) }
     {
-        let link = self.keys.listed_link(place);
-        self.value_mut_at(link.head)
+        let first = self.first_place(place);
+        self.first_mut_from(first)
     }
 
     /// Returns a mutable reference to the first value of the key, or `None` if the key is absent.

@@ -58,7 +58,9 @@ impl<'map, K: Eq + Hash, V, S: BuildHasher, A: Allocator> OccupiedEntry<'map, K,
         ensures paid { ArePaid self.new.map.now.tape }
     {
         let place = self.place;
-        self.map.append_at(place, value)
+        let result = self.map.append_at(place, value);
+        self.first = self.map.first_place(place);
+        result
     }
 
     /// Replaces all values of the key with one, and returns the first of the old values.
@@ -97,7 +99,9 @@ impl<'map, K: Eq + Hash, V, S: BuildHasher, A: Allocator> OccupiedEntry<'map, K,
         ensures paid { ArePaid self.new.map.now.tape }
     {
         let place = self.place;
-        self.map.insert_at(place, value)
+        let old_first = self.map.insert_at(place, value);
+        self.first = self.map.first_place(place);
+        old_first
     }
 
     /// Sets the key's first value, removes its other values, and returns the first of the old ones.
@@ -136,7 +140,9 @@ impl<'map, K: Eq + Hash, V, S: BuildHasher, A: Allocator> OccupiedEntry<'map, K,
         ensures paid { ArePaid self.new.map.now.tape }
     {
         let place = self.place;
-        self.map.set_at(place, value)
+        let old = self.map.set_at(place, value);
+        self.first = self.map.first_place(place);
+        old
     }
 
     /// Removes the key with all its values, and returns the stored key and the first value.

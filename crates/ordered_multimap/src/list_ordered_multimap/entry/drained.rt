@@ -48,7 +48,7 @@ impl<'map, K: Eq + Hash, V: Drop, S: BuildHasher, A: Allocator> OccupiedEntry<'m
             → DrainsEntry K.eq self.entry.map.now k result }
         ensures same_map { result.map.ghost_name ≡ self.entry.map.ghost_name }
     {
-        let OccupiedEntry { map, place } = self;
+        let OccupiedEntry { map, place, .. } = self;
         drop(map.detach_at(place));
         map.drain()
     }
@@ -86,7 +86,7 @@ impl<'map, K: Eq + Hash, V: Drop, S: BuildHasher, A: Allocator> OccupiedEntry<'m
             → DrainsEntry K.eq self.entry.map.now k result.1 }
         ensures same_map { result.1.map.ghost_name ≡ self.entry.map.ghost_name }
     {
-        let OccupiedEntry { map, place } = self;
+        let OccupiedEntry { map, place, .. } = self;
         let stored = map.detach_at(place);
         (stored, map.drain())
     }
@@ -131,7 +131,7 @@ impl<'map, K: Eq + Hash, V: Drop, S: BuildHasher, A: Allocator> OccupiedEntry<'m
         ensures refused { IfErr result (λ r. r.value ≡ value) }
         ensures succeeds { HasValueRoom self.entry.map.now → IsOk result }
     {
-        let OccupiedEntry { map, place } = self;
+        let OccupiedEntry { map, place, .. } = self;
         match map.insert_detaching_at(place, value) {
             Ok(()) => Ok(map.drain()),
             Err(refused) => Err(refused),

@@ -45,7 +45,14 @@ impl<K: Eq + Hash, V, S: BuildHasher, A: Allocator> ListOrderedMultimap<K, V, S,
     {
         let (hash, place) = self.look_up(&key);
         match place {
-            Some(place) => Entry::Occupied(OccupiedEntry { map: self, place }),
+            Some(place) => {
+                let first = self.first_place(place);
+                Entry::Occupied(OccupiedEntry {
+                    map: self,
+                    place,
+                    first,
+                })
+            }
             None => Entry::Vacant(VacantEntry {
                 map: self,
                 hash,
@@ -266,8 +273,8 @@ impl<'map, K: Eq + Hash, V: Drop, S: BuildHasher, A: Allocator + Copy> Entry<'ma
         match self {
             Entry::Occupied(entry) => {
                 // Taken apart and put together, so that the proof follows the map into the result.
-                let OccupiedEntry { map, place } = entry;
-                Ok(OccupiedEntry { map, place })
+                let OccupiedEntry { map, place, first } = entry;
+                Ok(OccupiedEntry { map, place, first })
             }
             Entry::Vacant(entry) => {
                 let value = f();

@@ -95,7 +95,7 @@ impl<'map, K: Eq + Hash, V, S: BuildHasher, A: Allocator> OccupiedEntry<'map, K,
         ensures { (k : K) → IsOccupiedBy self.now k
             → slice_get (values_of K.eq self.now.map.now.lists.pairs k) 0 ≡ Some result.now }
     {
-        self.map.first_at(self.place)
+        self.map.first_from(self.first)
     }
 
     /// Returns a mutable reference to the key's first value.
@@ -130,8 +130,8 @@ impl<'map, K: Eq + Hash, V, S: BuildHasher, A: Allocator> OccupiedEntry<'map, K,
             → IsWritten self.old.map.now (with_first self.old.map.now self.old.place v)
             (first_written K.eq self.old.map.now.lists k v) }
     {
-        let place = self.place;
-        self.map.first_mut_at(place)
+        let first = self.first;
+        self.map.first_mut_from(first)
     }
 
     /// Converts the entry into a mutable reference to the key's first value.
@@ -165,7 +165,7 @@ impl<'map, K: Eq + Hash, V, S: BuildHasher, A: Allocator> OccupiedEntry<'map, K,
             (first_written K.eq self.entry.map.now.lists k v) }
     {
         let map = self.map;
-        map.first_mut_at(self.place)
+        map.first_mut_from(self.first)
     }
 
     /// Returns an iterator over the key's values, in insertion order.

@@ -49,6 +49,8 @@ impl<'map, K: Eq + Hash, V, S: BuildHasher, A: Allocator> OccupiedEntry<'map, K,
             self.old.map.now.tape self.new.map.now.tape }
     {
         let place = self.place;
-        self.map.take_value_at(place, index)
+        let value = self.map.take_value_at(place, index);
+        self.first = self.map.first_place(place);
+        value
     }
 }

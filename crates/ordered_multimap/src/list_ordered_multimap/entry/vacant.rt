@@ -150,7 +150,10 @@ impl<'map, K: Eq + Hash, V: Drop, S: BuildHasher, A: Allocator + Copy> VacantEnt
     {
         let VacantEntry { map, hash, key } = self;
         match map.append_new(hash, key, value) {
-            Ok(place) => Ok(OccupiedEntry { map, place }),
+            Ok(place) => {
+                let first = map.first_place(place);
+                Ok(OccupiedEntry { map, place, first })
+            }
             Err(refused) => Err(refused),
         }
     }

@@ -104,14 +104,18 @@ iter_mut_spec 𝓤 𝓛 𝓜 𝓡 wired X₀ X₁ X₂ X₃ X₄ L₀ L₁ L₂ 
     (λ κs qs bounds a ghost are.
     let κ : Lft = κs.0 in let κ' : Lft = κs.1.0 in let q = qs.0 in let q' = qs.1.0 in let l = Share.left q in let r = Share.right q in
     let E : RattleType = E-type.the_row (named_lft 7 1 tt κs) K V S B J gp gk gb gj ga in let MR : RattleType = MutRef (named 1) κ' R in
-    let ms : List Member = record { row = MR; ty = lone MR.mir } ∷ record { row = usize; ty = lone usize.mir } ∷ [] in
+    let ms : List Member = record { row = MR; ty = lone MR.mir } ∷ record { row = usize; ty = lone usize.mir } ∷
+    record { row = usize; ty = lone usize.mir } ∷ [] in
     let s : E.Denot = a.0.now in let γ : GName = a.0.ghost_name in let b : ℕ = a.0.ref_ptr.0 in let o : ℕ = a.0.ref_ptr.1 in
     let m : MutBor R.Denot = s.map in let mb : ℕ = m.ref_ptr.0 in let mo : ℕ = m.ref_ptr.1 in let δ : GName = m.ghost_name in
     let e₁ : ℕ = up (align (lone MR.mir)) 0 + size (lone MR.mir) in let ro : ℕ = o + up (align (lone MR.mir)) 0 in
-    let po : ℕ = o + up (align (lone usize.mir)) e₁ in
+    let po : ℕ = o + up (align (lone usize.mir)) e₁ in let e₂ : ℕ = up (align (lone usize.mir)) e₁ + size (lone usize.mir) in
+    let fo : ℕ = o + up (align (lone usize.mir)) e₂ in
     let τ : Ty = ty_ref erased mut (pointee R.written) in let place : Val = vint w64 s.place in
     let Cell : Fml = fat full_share τ b ro (vptr mb mo) in let Place : Fml = fat full_share (ty_int w64) b po place in
-    let Back : SProp 𝓤 = PartsBack 𝓛 full_share [] ms b o in let Rest : SProp 𝓤 = sep 𝓤 (sem 𝓛 Place) Back in
+    -- the first value's place: it isn't read, and goes along with the way back
+    let First : Fml = fsep (part_at usize full_share s.first b fo) ftrue in let Back : SProp 𝓤 = PartsBack 𝓛 full_share [] ms b o in
+    let Rest : SProp 𝓤 = sep 𝓤 (sem 𝓛 Place) (sep 𝓤 (sem 𝓛 First) Back) in
     -- the entry's reference, as a place where its map lies
     let Seen : SemTy = record {
       rep = R.Denot;
@@ -127,11 +131,11 @@ iter_mut_spec 𝓤 𝓛 𝓜 𝓡 wired X₀ X₁ X₂ X₃ X₄ L₀ L₁ L₂ 
     by ! (part_in_at 𝓛 MR refl full_share (at_last m w) b ro τ refl (vptr mb mo)) in
     let back : (w : R.Denot) → ent 𝓤 (sep 𝓤 (sem 𝓛 (part_at MR full_share (at_last m (with_values_of m.now w)) b ro))
     (sep 𝓤 (sem 𝓛 ftrue) Rest)) (sem 𝓛 (part_at E full_share (with_map_values s w) b o))
-    = λ w. qed 𝓛 (‵ (part_at MR full_share (at_last m (with_values_of m.now w)) b ro) ∷ ‵ ftrue ∷ (‵ Place ⊛ raw Back) ∷ []) ∵
-    move ! (2 ∷ []) $ split ! $ use1 𝓛 (‵ (part_at usize full_share s.place b po)) (uint_in 𝓛 full_share w64 s.place b po) $
-    -- [the place; the way back; the reference; true]
-    move ! (0 ∷ 3 ∷ []) $ fjoin ! $ move ! (2 ∷ 0 ∷ []) $
-    by ! (field_back 𝓛 full_share [] ms (at_last m (with_values_of m.now w), (s.place, tt)) b o 0) in
+    = λ w. qed 𝓛 (‵ (part_at MR full_share (at_last m (with_values_of m.now w)) b ro) ∷ ‵ ftrue ∷ (‵ Place ⊛ ‵ First ⊛ raw Back) ∷ []) ∵
+    move ! (2 ∷ []) $ split3 ! $ use1 𝓛 (‵ (part_at usize full_share s.place b po)) (uint_in 𝓛 full_share w64 s.place b po) $
+    -- [the place; the first value's place; the way back; the reference; true]
+    fjoin ! $ move ! (3 ∷ []) $ drop ! $ move ! (2 ∷ 0 ∷ []) $
+    by ! (field_back 𝓛 full_share [] ms (at_last m (with_values_of m.now w), (s.place, (s.first, tt))) b o 0) in
     let y : (walk_of 𝓛 En hs c).Ghost = ((κs, qs, bounds, a, (mut_vals a.0, tt)), ghost) in let Post : Val
     → SProp 𝓤 = (walk_of 𝓛 En hs c).post y in
     qed 𝓛 (((‵ (flft κ q) ⊛ ‵ (flft κ' q') ⊛ ‵ (flft κs.1.1.0 qs.1.1.0) ⊛ ‵ (flft κs.1.1.1.0 qs.1.1.1.0) ⊛ ‵
@@ -145,9 +149,11 @@ iter_mut_spec 𝓤 𝓛 𝓜 𝓡 wired X₀ X₁ X₂ X₃ X₄ L₀ L₁ L₂ 
     enter ! 𝓣.C 𝓣.Λ fn (vptr b o ∷ []) Post $ alloc_all ! (λ loc. pass_all ! refl ((tt, tt), tt) $
     open_ref ! tt (mem E) {x = s} {b = b} {o = o} $ move ! (1 ∷ []) $ ages ! (λ n. move ! (1 ∷ []) $
     -- [the entry; the open borrow; obs; auth; half the token; the other tokens]
-    use1 𝓛 (‵ (part_at MR full_share m b ro) ⊛ (‵ (fsep (part_at usize full_share s.place b po) ftrue) ⊛ raw Back))
-    (field_out 𝓛 full_share [] ms (mut_Lawful 𝓛 (named 1) κ' R, (uint_Lawful 𝓛 w64, tt)) (m, (s.place, tt)) b o 0) $ split3 ! $
-    move ! (1 ∷ []) $ fsplit ! $ move ! (1 ∷ []) $ drop ! $
+    use1 𝓛 (‵ (part_at MR full_share m b ro) ⊛ (‵ (fsep (part_at usize full_share s.place b po) First) ⊛ raw Back))
+    (field_out 𝓛 full_share [] ms (mut_Lawful 𝓛 (named 1) κ' R, (uint_Lawful 𝓛 w64, (uint_Lawful 𝓛 w64, tt))) (m, (s.place, (s.first, tt)))
+    b o 0) $ split3 ! $ move ! (1 ∷ []) $ fsplit ! $
+    -- [the place; the first value's place; the reference; the way back; the open borrow; obs; auth; half the token; the other tokens]
+    move ! (1 ∷ 3 ∷ []) $ join ! $ move ! (1 ∷ 2 ∷ []) $
     use1 𝓛 (‵ Place) (uint_out 𝓛 full_share w64 s.place b po) $ well_typed ! (λ ok.
     sets ! (of_opd ! (load ! (through ! refl (fld ! refl (stop !))) (look ! 0 refl))) refl ok $
     -- [the place; the reference; the way back; the open borrow; obs; auth; half the token; the other tokens]
@@ -233,7 +239,7 @@ iter_mut_spec 𝓤 𝓛 𝓜 𝓡 wired X₀ X₁ X₂ X₃ X₄ L₀ L₁ L₂ 
     -- [half the token; what the entry follows; what its name follows; the walk; the other half; the tokens of the types; the token of 'map]
     move ! (0 ∷ 4 ∷ []) $ use2 𝓛 (‵ (flft κ q)) (𝓛.lfts.lft_join κ q) $ move ! (5 ∷ 4 ∷ []) $ join ! $
     -- [the other tokens; the token of 'a; what the entry follows; what its name follows; the walk]
-    let rim : Option (List (Bool × Gv)) = Some ((false, (codeds (usize ∷ [])).code (s.place, tt)) ∷
+    let rim : Option (List (Bool × Gv)) = Some ((false, (codeds (usize ∷ usize ∷ [])).code (s.place, (s.first, tt))) ∷
     (true, (coded× coded_ℕ coded_ℕ).code m.ref_ptr) ∷ (true, coded_ℕ.code δ) ∷ around_values K.coded V.coded S.coded m.now) in
     let lent : SlotCells V.Denot ValueLink B.Denot = record w.values { cells = record w.values.cells { lender_loan = ε; lender_context = rim } } in
     let again : CanReadChain w.values w.left → CanReadChain lent w.left
