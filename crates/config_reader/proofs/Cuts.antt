@@ -1,6 +1,7 @@
 -- A text around its first such byte.
 use Rattle.std.proofs.Common.{◌≡◌, ◌⊎◌, ℕ, suc, ◌+◌, ◌-◌, ◌<◌, ◌==◌, Bool, true, false, ◌||◌, not, cond, List, [], ◌∷◌, ◌++◌}
 use Rattle.std.proofs.Common.{append_assoc, append-nil, refl, sym, ap, ◌∙◌, arith, length, drop, take, Some, None, inl, inr}
+use Rattle.std.proofs.lemmas.Bool.{true≢false}
 use Rattle.std.proofs.lemmas.List.{drop_all, take_all}
 use Rattle.std.proofs.lemmas.Str.{encode_ascii}
 use Rattle.std.specs.List.{after_first, before_first, list_any, position_or_len}
@@ -41,6 +42,16 @@ module _ (b : ℕ) where
           → (is || list_any is_it text) ≡ false
       by true same later = absurd (omega (arith, same))
       by false same later = later (omega (arith, same))
+
+  pub no_place : (text : List ℕ) → list_any is_it text ≡ false → position_or_len is_it text ≡ length text
+  no_place [] none = refl
+  no_place (c ∷ text) none = by (c == b) none (no_place text)
+    where
+      by : (is : Bool) → (is || list_any is_it text) ≡ false
+          → (list_any is_it text ≡ false → position_or_len is_it text ≡ length text)
+          → cond (not is) (1 + position_or_len is_it text) 0 ≡ suc (length text)
+      by true some later = absurd (true≢false some)
+      by false none later = omega (arith, later none)
 
   pub all_before : (text : List ℕ) → position_or_len is_it text ≡ length text → before_first is_it text ≡ text
   all_before text same = take_all (position_or_len is_it text) text (omega (arith, same))

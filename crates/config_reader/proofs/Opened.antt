@@ -1,11 +1,11 @@
 -- The line of a section that is written opens that section.
-use Rattle.std.proofs.Common.{◌≡◌, ◌⊎◌, ℕ, suc, ◌==◌, ◌&&◌, ◌||◌, ◌<◌, ◌≤◌, ◌+◌, Bool, true, false, not, cond, List, [], ◌∷◌, ◌++◌}
+use Rattle.std.proofs.Common.{◌≡◌, ◌⊎◌, ℕ, ◌==◌, ◌&&◌, ◌||◌, ◌<◌, ◌≤◌, Bool, true, false, not, cond, List, [], ◌∷◌, ◌++◌}
 use Rattle.std.proofs.Common.{append_assoc, append-nil, refl, sym, ap, subst, ◌∙◌, arith, length, drop, take, Some, inl, inr}
 use Rattle.std.proofs.lemmas.Bool.{and_parts, not-true, true≢false}
 use Rattle.std.proofs.lemmas.Str.{IsUtf8-append, chars-append, chars-encodes, chars_from_encodes, encode_ascii, encodes-chars, scalars-chars}
 use Rattle.std.proofs.Math.Utf8.{scalar, scalars}
 use Rattle.std.specs.Char.{encode_utf8, is_whitespace}
-use Rattle.std.specs.List.{after_first, list_any, position_or_len}
+use Rattle.std.specs.List.{list_any}
 use Rattle.std.specs.Prelude.{IsUtf8, codes}
 use Rattle.std.specs.Str.{chars, drop_trailing_whitespace, encode_utf8_all, skip_leading_whitespace, trim, trim_end, trim_start}
 use Rattle.ordered_multimap.specs.Pairs.{has_items}
@@ -17,7 +17,7 @@ use Rattle.config_reader.specs.Sections.{IsTrimmed, is_outside_sub, is_outside_w
 use Rattle.config_reader.specs.Written.{in_quotes}
 use Rattle.config_reader.proofs.Blocks.{opening_line}
 use Rattle.config_reader.proofs.Called.{has_it}
-use Rattle.config_reader.proofs.Cuts.{none_after}
+use Rattle.config_reader.proofs.Cuts.{no_place, none_after}
 use Rattle.config_reader.proofs.Spelled.{first_stays, lacks_both}
 use Rattle.config_reader.proofs.Stable.{after_cut, before_cut}
 use Rattle.config_reader.proofs.Texts.{utf8_before}
@@ -163,19 +163,6 @@ module _ (outside : ℕ → Bool) (text : List ℕ) (allowed : (has_items text &
   lacks_outside : (b : ℕ) → ((c : ℕ) → outside c ≡ false → (c == b) ≡ false) → Lacks b text
   lacks_outside b less = any_less (λ c. c == b) outside text less parts.1
 
--- a byte that isn't there is not found, and nothing stands behind it
-absent_place : (b : ℕ) (text : List ℕ) → Lacks b text → position_or_len (λ c. c == b) text ≡ length text
-absent_place b [] none = refl
-absent_place b (c ∷ text) none = by (c == b) none (absent_place b text)
-  where
-    by : (is : Bool) → (is || list_any (λ d. d == b) text) ≡ false → (Lacks b text → position_or_len (λ d. d == b) text ≡ length text)
-        → cond (not is) (1 + position_or_len (λ d. d == b) text) 0 ≡ suc (length text)
-    by true some later = absurd (true≢false some)
-    by false none later = omega (arith, later none)
-
-absent_after : (b : ℕ) (text : List ℕ) → Lacks b text → after_first (λ c. c == b) text ≡ []
-absent_after b text none = none_after b text (absent_place b text none)
-
 module _ (word : List ℕ) (utf8 : IsUtf8 word) (is : IsTrimmed (chars word)) (allowed : is_word word ≡ true) where
   word_lacks : (b : ℕ) → ((c : ℕ) → is_outside_word c ≡ false → (c == b) ≡ false) → Lacks b word
   word_lacks = lacks_outside is_outside_word word allowed
@@ -204,7 +191,7 @@ module _ (word : List ℕ) (utf8 : IsUtf8 word) (is : IsTrimmed (chars word)) (a
         before_cut 93 word [] no_bracket,
         nothing,
         same,
-        absent_after 46 word no_dot,
+        none_after 46 word (no_place 46 word no_dot),
         no_dot,
         same,
         allowed,
