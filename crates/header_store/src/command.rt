@@ -6,7 +6,7 @@ ghost use Rattle.program_parts.specs.Statuses.{status_of_fault};
 
 use crate::field::{field_of, name_of, split_at_byte, value_of};
 use crate::name::{COOKIE, Name, SET_COOKIE};
-use program_parts::{Fault, bad, usage};
+use program_parts::{Fault, bad};
 use std::io;
 
 /// What is asked of the headers.

@@ -66,9 +66,10 @@ fn main(rt: HostRuntime) -> ExitCode {
 }
 
 fn answers_to(rt: &HostRuntime, arguments: &Arguments<'_>, input: &[u8]) -> Result<Vec<u8>, Fault> {
-    let reading = match arguments.has("--strict") {
-        true => Reading::Strict,
-        false => Reading::Lenient,
+    let reading = if arguments.has("--strict") {
+        Reading::Strict
+    } else {
+        Reading::Lenient
     };
     // Who sends a query may choose names that share a hash, so the hash has a seed of its own.
     let fields = &mut ListOrderedMultimap::with_hasher(rt.alloc(), RandomState::new(rt)?);
