@@ -2,7 +2,6 @@
 use Rattle.std.specs.Int.{int_max, int_min}
 use Rattle.std.specs.List.{fold, sum_by}
 use Rattle.std.specs.Prelude.{◌≡◌, Bool, List, [], ◌∷◌, ℤ, pos, negsuc, ◌+◌, ◌+ℤ◌, length}
-use Rattle.ordered_multimap.specs.Changes.{first_occurrences}
 use Rattle.ordered_multimap.specs.Lists.{Lists}
 use Rattle.ordered_multimap.specs.Pairs.{values_of}
 use Rattle.group_report.specs.declared.summary.Summary.{Summary}
