@@ -3,3 +3,4 @@ pub mod Ended
 pub mod Late
 pub mod Refilled
 pub mod Renamed
+pub mod Tokens

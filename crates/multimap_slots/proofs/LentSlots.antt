@@ -7,7 +7,7 @@ use Rattle.multimap_slots.specs.declared.cells_of.SlotCells.{SlotCells}
 use Rattle.multimap_slots.proofs.Lending.Refilled.{all_left}
 
 -- a sound list is lent whole, with its order and its links
-pub lends_slots : {T L A : Type 0} (s : Slots T L) (c : SlotCells T L A) → Makes s.items c.cells → c.order.order ≡ s.order
+pub lends_slots : {T L A F : Type 0} (s : Slots T L) (c : SlotCells T L A F) → Makes s.items c.cells → c.order.order ≡ s.order
     → c.order.links ≡ s.links → IsSound s → LendsSlots s c
 lends_slots s c made order_is links_are sound = record {
   slots = λ j. record { order = order_is j; items = made.items_are j; links = links_are j; capacity = length (order_is j) };

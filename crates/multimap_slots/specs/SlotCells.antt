@@ -6,13 +6,13 @@ use Rattle.multimap_slots.specs.Lists.{IsIn}
 use Rattle.multimap_slots.specs.Slots.{Slots, item_at}
 use Rattle.multimap_slots.specs.declared.cells_of.SlotCells.{SlotCells}
 
-module _ {T L A : Type 0} where
+module _ {T L A F : Type 0} where
   -- the name of the loan that the list follows
-  abbrev pub cells_name : SlotCells T L A → GName
+  abbrev pub cells_name : SlotCells T L A F → GName
   cells_name c = c.cells.lender_loan
 
   -- the list as it was when it was lent
-  abbrev pub lent_slots : SlotCells T L A → Slots T L
+  abbrev pub lent_slots : SlotCells T L A F → Slots T L
   lent_slots c = record {
     order = c.order.order;
     items = c.cells.items;
@@ -21,19 +21,19 @@ module _ {T L A : Type 0} where
   }
 
   -- for each place that was taken, the name of the reference to its item
-  abbrev pub end_names : SlotCells T L A → List GName
+  abbrev pub end_names : SlotCells T L A F → List GName
   end_names c = c.cells.names
 
   -- the place is in the list, and its item is there and wasn't taken
-  pub record IsLeft (c : SlotCells T L A) (p : ℕ) : Type 0 where
+  pub record IsLeft (c : SlotCells T L A F) (p : ℕ) : Type 0 where
     pub listed : IsIn p (lent_slots c).order
     pub filled : IsSome (item_at (lent_slots c) p)
     pub untaken : get_or c.cells.left p false ≡ true
 
   -- the reference shows the item of the place, which is no longer left and has the name kept; no
   -- other place changes
-  pub record TakesItem (old : SlotCells T L A) (place : ℕ) (r : MutBor T) (new : SlotCells T L A)
-      : Type 0 where
+  pub record TakesItem (old : SlotCells T L A F) (place : ℕ) (r : MutBor T)
+      (new : SlotCells T L A F) : Type 0 where
     pub item_is : item_at (lent_slots old) place ≡ Some r.now
     pub slots : lent_slots new ≡ lent_slots old
     pub left : new.cells.left ≡ slice_set old.cells.left place false
@@ -42,7 +42,7 @@ module _ {T L A : Type 0} where
     pub lender_context : new.cells.lender_context ≡ old.cells.lender_context
 
   -- only the capacity differs, no item was taken, listed or not, and each slot has a name
-  pub record LendsSlots (s : Slots T L) (c : SlotCells T L A) : Type 0 where
+  pub record LendsSlots (s : Slots T L) (c : SlotCells T L A F) : Type 0 where
     pub slots : lent_slots c ≡ record s { capacity = length s.order }
     pub untaken : c.cells.left ≡ replicate (length s.items) true
     pub named : length (end_names c) ≡ length s.items

@@ -7,6 +7,7 @@ use Rattle.multimap_slots.specs.Slots.{Slots, with_item, with_link}
 use Rattle.multimap_slots.specs.CellsLends.{with_refilled}
 use Rattle.multimap_slots.specs.declared.cells.Cells.{Cells}
 use Rattle.multimap_slots.specs.declared.cells_of.SlotCells.{SlotCells}
+use Rattle.multimap_slots.specs.declared.link_form.PlainLink.{PlainLink}
 use Rattle.multimap_slots.specs.contracts.list.SlotList.{the_row}
 
 module _ (T L A : RattleType) (alloc : Ghosts A.Denot)
@@ -37,5 +38,5 @@ module _ (T L A : RattleType) (alloc : Ghosts A.Denot) (s : MutBor (Slots T.Deno
 
   -- once the loan of items and order ends, only the items of the list may differ, and they are
   -- where items were
-  abbrev pub lends_cells : SlotCells T.Denot L.Denot A.Denot → Fml
+  abbrev pub lends_cells : SlotCells T.Denot L.Denot A.Denot (PlainLink L.Denot) → Fml
   lends_cells c = lends_whole c.cells

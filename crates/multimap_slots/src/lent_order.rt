@@ -2,6 +2,7 @@
 ghost use Rattle.std.specs.Prelude.{⊤};
 
 use crate::in_order::{InOrder, Linked};
+use crate::link_form::{KeptLink, LinkForm};
 use crate::order::Order;
 use crate::tape::runs::Runs;
 use std::alloc::Allocator;
@@ -9,12 +10,12 @@ use std::marker::Model;
 
 /// The links and the places of a tape.
 #[derive(Drop)]
-pub(crate) struct TapeOrder<'a, L, A: Allocator> {
-    pub(crate) links: &'a Vec<L, A>,
+pub(crate) struct TapeOrder<'a, L, A: Allocator, F: LinkForm<L>> {
+    pub(crate) links: &'a Vec<KeptLink<L, F>, A>,
     pub(crate) runs: &'a Runs<A>,
 }
 
-impl<'a, L, A: Allocator> Model for TapeOrder<'a, L, A> {
+impl<'a, L, A: Allocator, F: LinkForm<L>> Model for TapeOrder<'a, L, A, F> {
     ghost use Rattle.std.specs.Prelude.{◌≡◌, length};
     ghost use Rattle.multimap_slots.specs.Private.LentOrder.{LentPlaces};
 
@@ -25,7 +26,7 @@ impl<'a, L, A: Allocator> Model for TapeOrder<'a, L, A> {
     ghost invariant = { λ t. length t.links.now.items ≡ t.runs.now.used };
 }
 
-impl<'a, L: Copy, A: Allocator> InOrder for TapeOrder<'a, L, A> {
+impl<'a, L: Copy, A: Allocator, F: LinkForm<L>> InOrder for TapeOrder<'a, L, A, F> {
     ghost places = { λ o. o.order };
 
     ghost sound = { λ _. ⊤ };
@@ -63,31 +64,31 @@ impl<'a, L: Copy, A: Allocator> InOrder for TapeOrder<'a, L, A> {
     }
 }
 
-impl<'a, L: Copy, A: Allocator> Linked<L> for TapeOrder<'a, L, A> {
+impl<'a, L: Copy, A: Allocator, F: LinkForm<L>> Linked<L> for TapeOrder<'a, L, A, F> {
     ghost links = { λ o. o.links };
 
     #[inline(always)]
     fn link(&self, place: usize) -> L {
         // The length tells the proof that each listed place is in use.
         let _len = self.runs.len();
-        self.links[place]
+        self.links[place].link()
     }
 }
 
 /// Which of the two lends.
 #[derive(Drop)]
-pub(crate) enum Lender<'a, L, A: Allocator> {
+pub(crate) enum Lender<'a, L, A: Allocator, F: LinkForm<L>> {
     List(&'a Order<L, A>),
-    Tape(TapeOrder<'a, L, A>),
+    Tape(TapeOrder<'a, L, A, F>),
 }
 
 /// The order and the links of what lends its items.
 #[derive(Drop)]
-pub(crate) struct LentOrder<'a, L, A: Allocator> {
-    pub(crate) lender: Lender<'a, L, A>,
+pub(crate) struct LentOrder<'a, L, A: Allocator, F: LinkForm<L>> {
+    pub(crate) lender: Lender<'a, L, A, F>,
 }
 
-impl<'a, L, A: Allocator> Model for LentOrder<'a, L, A> {
+impl<'a, L, A: Allocator, F: LinkForm<L>> Model for LentOrder<'a, L, A, F> {
     ghost use Rattle.multimap_slots.specs.Private.LentOrder.{LentPlaces};
     ghost use Rattle.multimap_slots.specs.Private.Lenders.{places_lent};
 
@@ -96,7 +97,7 @@ impl<'a, L, A: Allocator> Model for LentOrder<'a, L, A> {
     ghost view = { λ o. places_lent o.lender };
 }
 
-impl<'a, L: Copy, A: Allocator> InOrder for LentOrder<'a, L, A> {
+impl<'a, L: Copy, A: Allocator, F: LinkForm<L>> InOrder for LentOrder<'a, L, A, F> {
     ghost places = { λ o. o.order };
 
     ghost sound = { λ _. ⊤ };
@@ -155,7 +156,7 @@ impl<'a, L: Copy, A: Allocator> InOrder for LentOrder<'a, L, A> {
     }
 }
 
-impl<'a, L: Copy, A: Allocator> Linked<L> for LentOrder<'a, L, A> {
+impl<'a, L: Copy, A: Allocator, F: LinkForm<L>> Linked<L> for LentOrder<'a, L, A, F> {
     ghost links = { λ o. o.links };
 
     #[inline(always)]

@@ -6,7 +6,7 @@ ghost use Rattle.multimap_slots.specs.Private.Vectors.{GrowsTo};
 mod detached;
 mod ends;
 mod node;
-mod optional_place;
+pub(crate) mod optional_place;
 mod reorder;
 mod write;
 

@@ -3,6 +3,7 @@ use Rattle.std.proofs.Common.{◌≡◌, ℕ, List, Some, arith, ap, false, leng
 use Rattle.multimap_slots.specs.Slots.{Slots, item_at}
 use Rattle.multimap_slots.specs.SlotCells.{lent_slots}
 use Rattle.multimap_slots.specs.declared.cells_of.SlotCells.{SlotCells}
+use Rattle.multimap_slots.specs.declared.link_form.LinkForm.{Ghosts as Form}
 use Rattle.multimap_walks.specs.declared.links.ChainEnds.{ChainEnds}
 use Rattle.multimap_walks.specs.declared.links.KeyLink.{KeyLink}
 use Rattle.multimap_walks.specs.declared.links.ValueLink.{ValueLink}
@@ -23,7 +24,7 @@ use Rattle.multimap_walks.proofs.Callers.Squashed.{read_chain, read_lends, read_
 pub tells_length : {X : Type 0} (items : List X) (n : ℕ) → n ≡ length items → TellsLength (n, Some n) items
 tells_length items n is = (λ _. omega (arith, is), (tt, omega (arith, is)), is, ap (λ k. Some k) is)
 
-module _ {V A : Type 0} (cells : SlotCells V ValueLink A) (left : ChainEnds) where
+module _ {V A F : Type 0} (cells : SlotCells V ValueLink A F) (left : ChainEnds) where
   abbrev values : Slots V ValueLink
   values = lent_slots cells
 
@@ -40,12 +41,12 @@ module _ {V A : Type 0} (cells : SlotCells V ValueLink A) (left : ChainEnds) whe
   pub entry_rest_counted : CanReadChain cells left → left.length ≡ length (entry_rest cells left)
   entry_rest_counted can = sym (length-left values false left.first left.last left.length can.chain)
 
-module _ {K V A : Type 0} where
-  pub iter_mut_counted : (w : IterMut K V A) → w.left.length ≡ length (iter_mut_rest w)
+module _ {K V A F : Type 0} {form : Form F ValueLink} where
+  pub iter_mut_counted : (w : IterMut K V A F form) → w.left.length ≡ length (iter_mut_rest w)
   iter_mut_counted w = pairs_rest_counted w.values w.left w.keys.now (read_pairs w.values w.left w.keys.now w.readable)
 
-  pub values_mut_counted : (w : ValuesMut K V A) → w.left.length ≡ length (values_mut_rest w)
+  pub values_mut_counted : (w : ValuesMut K V A F form) → w.left.length ≡ length (values_mut_rest w)
   values_mut_counted w = values_counted w.values w.left (read_lends w.values w.left w.readable)
 
-  pub entry_values_mut_counted : (w : EntryValuesMut K V A) → w.left.length ≡ length (entry_values_mut_rest w)
+  pub entry_values_mut_counted : (w : EntryValuesMut K V A F form) → w.left.length ≡ length (entry_values_mut_rest w)
   entry_values_mut_counted w = entry_rest_counted w.values w.left (read_chain w.values w.left w.readable)

@@ -35,6 +35,7 @@ use Rattle.std.proofs.raw_atomic.Walks.{proved_at, leaves}
 use Rattle.std.specs.declared.alloc.Allocator.{Ghosts}
 use Rattle.multimap_slots.specs.Ended.{ends_with}
 use Rattle.multimap_slots.specs.declared.cells_of.SlotCells.{SlotCells}
+use Rattle.multimap_slots.specs.declared.link_form.LinkForm.{Ghosts as Form}
 use Rattle.multimap_slots.specs.contracts.cells_of.SlotCells as S-type
 use Rattle.multimap_slots.proofs.Lending.Ended.{one_of}
 use Rattle.multimap_slots.proofs.Lending.Renamed.{slot_cells_end}
@@ -52,9 +53,10 @@ returning m bs τ = record {
   body = seq (assign (place 0 []) (rv_opd opd_unit)) return;
 }
 
-module _ (a : NamedLft) (V A : RattleType) (alloc : Ghosts A.Denot) (s : SlotCells V.Denot ValueLink A.Denot) where
+module _ (a : NamedLft) (V A B : RattleType) (alloc : Ghosts A.Denot) (form : Form B.Denot ValueLink)
+    (s : SlotCells V.Denot ValueLink A.Denot B.Denot) where
   abbrev Own : List Val → Fml
-  Own = (S-type.the_row a V VL-type.the_row A alloc).own_val s
+  Own = (S-type.the_row a V VL-type.the_row A B alloc form).own_val s
 
   -- what a walk owns: its cells stand behind two further parts
   pub record HasCells (F : Fml) : Type 1 where
@@ -79,40 +81,42 @@ module _ {M : Type 1} {𝓤 : Ura M} (𝓛 : Logic 𝓤) where
 
   -- of what a walk owns, its cells end
   cells_of_walk_end :
-      (a : NamedLft) (V A : RattleType) (alloc : Ghosts A.Denot) (s : SlotCells V.Denot ValueLink A.Denot) {F : Fml}
-      → HasCells a V A alloc s F → ent 𝓤 (sem 𝓛 F) (H.⇛ (sem 𝓛 (ends_with V s.cells)))
-  cells_of_walk_end a V A alloc s {F} has = qed 𝓛 (‵ F ∷ []) ∵ rewrite ! 0 (λ (G : Fml). ‵ G) has.is refl $ updating ! $
+      (a : NamedLft) (V A B : RattleType) (alloc : Ghosts A.Denot) (form : Form B.Denot ValueLink)
+      (s : SlotCells V.Denot ValueLink A.Denot B.Denot) {F : Fml}
+      → HasCells a V A B alloc form s F → ent 𝓤 (sem 𝓛 F) (H.⇛ (sem 𝓛 (ends_with V s.cells)))
+  cells_of_walk_end a V A B alloc form s {F} has = qed 𝓛 (‵ F ∷ []) ∵ rewrite ! 0 (λ (G : Fml). ‵ G) has.is refl $ updating ! $
       fpick ! (λ i. fsplit3 ! $ drop ! $ drop ! $ fsplit ! $
-      use1 𝓛 (later (‵ (ends_with V s.cells))) (slot_cells_end 𝓛 a V VL-type.the_row A alloc s (has.cells i)) $ await ! tt $ now ! $
+      use1 𝓛 (later (‵ (ends_with V s.cells))) (slot_cells_end 𝓛 a V VL-type.the_row A B alloc form s (has.cells i)) $ await ! tt $ now ! $
       keep ! (0 ∷ []) $ done !)
 
-module _ {M : Type 1} {𝓤 : Ura M} (𝓛 : Logic 𝓤) (𝓜 : Model 𝓤 𝓛.H) (𝓡 : Running 𝓤 𝓛.H 𝓜) (X Y Z : RattleType) (LX : Laws X) (LY : Laws Y)
-    (LZ : Laws Z) (ga : Ghosts Z.Denot) (os : List (Outlives 4))
-    (row : NamedLft → (K V A : RattleType) → Ghosts A.Denot → RattleType) where
-  abbrev R : Lfts 4 → RattleType
-  R κs = row (named_lft 4 0 tt κs) (param 0 X) (param 1 Y) (param 2 Z) ga
+module _ {M : Type 1} {𝓤 : Ura M} (𝓛 : Logic 𝓤) (𝓜 : Model 𝓤 𝓛.H) (𝓡 : Running 𝓤 𝓛.H 𝓜) (X Y Z W : RattleType) (LX : Laws X) (LY : Laws Y)
+    (LZ : Laws Z) (LW : Laws W) (ga : Ghosts Z.Denot) (gf : Form W.Denot ValueLink) (os : List (Outlives 5))
+    (row : NamedLft → (K V A B : RattleType) → Form B.Denot ValueLink → Ghosts A.Denot → RattleType) where
+  abbrev R : Lfts 5 → RattleType
+  R κs = row (named_lft 5 0 tt κs) (param 0 X) (param 1 Y) (param 2 Z) (param 3 W) gf ga
 
   abbrev Dropped : Ended
   Dropped = record {
-    signature = record { lifetimes = 4; outlives = os; params = plain R ∷ []; result = plain (λ κs. unit) };
+    signature = record { lifetimes = 5; outlives = os; params = plain R ∷ []; result = plain (λ κs. unit) };
     kept = (no, tt);
   }
 
   pub drops :
-      ((a : NamedLft) (K V A : RattleType) (g : Ghosts A.Denot) → Laws K → Laws V → Laws A → Laws (row a K V A g))
-      → Goes 𝓛 4 (plain R) no (stay_dropped (plain R) no) → (c : Clauses 𝓤 Dropped)
-      (cells : (κs : Lfts 4) → (R κs).Denot → SlotCells Y.Denot ValueLink Z.Denot)
-      → ((κs : Lfts 4) (d : (R κs).Denot) (gh : (c κs (d, tt)).ghost) (e : AtExit Dropped κs)
+      ((a : NamedLft) (K V A B : RattleType) (f : Form B.Denot ValueLink) (g : Ghosts A.Denot)
+      → Laws K → Laws V → Laws A → Laws B → Laws (row a K V A B f g))
+      → Goes 𝓛 5 (plain R) no (stay_dropped (plain R) no) → (c : Clauses 𝓤 Dropped)
+      (cells : (κs : Lfts 5) → (R κs).Denot → SlotCells Y.Denot ValueLink Z.Denot W.Denot)
+      → ((κs : Lfts 5) (d : (R κs).Denot) (gh : (c κs (d, tt)).ghost) (e : AtExit Dropped κs)
       → (c κs (d, tt)).ensures gh tt e ≡ sem 𝓛 (ends_with (param 1 Y) (cells κs d).cells))
-      → ((κs : Lfts 4) (d : (R κs).Denot) (v : Val)
-      → HasCells (named_lft 4 0 tt κs) (param 1 Y) (param 2 Z) ga (cells κs d) ((R κs).own_val d (v ∷ [])))
-      → (m : ℕ) (bs : List (ℕ × ℕ)) (τ : Ty) {name : Callee} → ((κs : Lfts 4) → (R κs).mir ≡ τ ∷ [])
+      → ((κs : Lfts 5) (d : (R κs).Denot) (v : Val)
+      → HasCells (named_lft 5 0 tt κs) (param 1 Y) (param 2 Z) (param 3 W) ga gf (cells κs d) ((R κs).own_val d (v ∷ [])))
+      → (m : ℕ) (bs : List (ℕ × ℕ)) (τ : Ty) {name : Callee} → ((κs : Lfts 5) → (R κs).mir ≡ τ ∷ [])
       → Closed 𝓤 𝓛.H (tables 𝓤 𝓛.H 𝓜 𝓡 𝓡.env).C (tables 𝓤 𝓛.H 𝓜 𝓡 𝓡.env).Λ name (returning m bs τ)
       → Meets 𝓛 Dropped.signature ((tables 𝓤 𝓛.H 𝓜 𝓡 𝓡.env).C name) (closing 𝓛 Dropped c)
   drops laws goes c cells says has m bs τ {name} single closed =
       let H = 𝓛.H in let 𝓣 = tables 𝓤 H 𝓜 𝓡 𝓡.env in let fn = returning m bs τ in
-      let of_row : (κs : Lfts 4) → Lawful 𝓛 (R κs) = λ κs. (laws (named_lft 4 0 tt κs) (param 0 X) (param 1 Y) (param 2 Z) ga
-      (param_laws 0 X LX) (param_laws 1 Y LY) (param_laws 2 Z LZ)).lawful 𝓛 in
+      let of_row : (κs : Lfts 5) → Lawful 𝓛 (R κs) = λ κs. (laws (named_lft 5 0 tt κs) (param 0 X) (param 1 Y) (param 2 Z) (param 3 W) gf ga
+      (param_laws 0 X LX) (param_laws 1 Y LY) (param_laws 2 Z LZ) (param_laws 3 W LW)).lawful 𝓛 in
       let hs : Stays Dropped.signature.params Dropped.kept = (stay_dropped (plain R) no, tt) in
       proved_at 𝓛 Dropped hs c 𝓜 𝓡 (goes, tt) name fn closed (λ y are.
       let κs = y.0.0 in let qs = y.0.1 in let d = y.0.3.0 in let It : RattleType = R κs in
@@ -129,7 +133,7 @@ module _ {M : Type 1} {𝓤 : Ura M} (𝓛 : Logic 𝓤) (𝓜 : Model 𝓤 𝓛
       -- [what is owned of the walk; the tokens]
       enter ! 𝓣.C 𝓣.Λ fn (v ∷ []) Post $ alloc_all ! (λ l. pass_all ! refl (got.2, tt) $
       use1 𝓛 (later (‵ (ends_with (param 1 Y) (cells κs d).cells)))
-      (cells_of_walk_end 𝓛 (named_lft 4 0 tt κs) (param 1 Y) (param 2 Z) ga (cells κs d) (has κs d v)) $ await ! tt $
+      (cells_of_walk_end 𝓛 (named_lft 5 0 tt κs) (param 1 Y) (param 2 Z) (param 3 W) ga gf (cells κs d) (has κs d v)) $ await ! tt $
       use1 𝓛 (raw (Ensures)) (subst (λ (P : SProp 𝓤). ent 𝓤 P Ensures)
       (says κs d y.1 (at_exit Dropped κs y.0.3 (rest (It.exit no) d, tt))) (id⊢ 𝓤 Ensures)) $
       sets ! (of_opd ! (unit_lit !)) refl (tt, tt) $ returns ! (look_at ! 0 refl) $ free_all ! refl $

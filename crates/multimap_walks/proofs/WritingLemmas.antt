@@ -12,7 +12,7 @@ use Rattle.multimap_walks.specs.declared.links.ChainEnds.{ChainEnds}
 use Rattle.multimap_walks.specs.declared.links.KeyLink.{KeyLink}
 use Rattle.multimap_walks.specs.declared.links.ValueLink.{ValueLink}
 use Rattle.multimap_walks.specs.Along.{all_places, places_left, neighbour_of, AreLeft}
-use Rattle.multimap_walks.specs.Ends.{end_place, ends_after}
+use Rattle.multimap_walks.specs.Ends.{end_place, ends_after, step_from}
 use Rattle.multimap_walks.specs.Walk.{with_end}
 use Rattle.multimap_walks.specs.Lending.{AllAreLeft, AreUntaken, CanLend, HandsOutSlot, NoneIsTaken}
 use Rattle.multimap_walks.specs.Chained.{IsChain, IsChained, Stands, next_place, places_along, previous_place}
@@ -25,9 +25,9 @@ each_some : {P : ℕ → Type 0} (o : Option ℕ) → ((x : ℕ) → o ≡ Some 
 each_some None each = tt
 each_some (Some x) each = each x refl
 
-module _ {T L A : Type 0} where
+module _ {T L A F : Type 0} where
   -- what is left with one more at an end
-  module _ (cells : SlotCells T L A) (places : List ℕ) (untaken : AreUntaken cells places)
+  module _ (cells : SlotCells T L A F) (places : List ℕ) (untaken : AreUntaken cells places)
       (end : End) (p : ℕ) (rest : List ℕ) (is : places ≡ with_end end p rest) where
     pub left_at_end : IsLeft cells p
     left_at_end = untaken.each p (subst (IsIn p) (sym is) (IsIn-end end p rest))
@@ -40,7 +40,7 @@ module _ {T L A : Type 0} where
     }
 
   -- all of the list are left at first
-  pub all_untaken : (cells : SlotCells T L A) → NoneIsTaken cells → CanLend cells (all_places (lent_slots cells).order)
+  pub all_untaken : (cells : SlotCells T L A F) → NoneIsTaken cells → CanLend cells (all_places (lent_slots cells).order)
   all_untaken cells none =
       let order = (lent_slots cells).order in
       let distinct = none.sound.distinct in
@@ -50,7 +50,7 @@ module _ {T L A : Type 0} where
         untaken = subst (AreUntaken cells) (sym (left_all order distinct)) (record { distinct = distinct; each = none.left });
       }
 
-  module _ (cells : SlotCells T L A) (left : ChainEnds) (more : left.length ≡ left.length - 1 + 1) (can : CanLend cells left)
+  module _ (cells : SlotCells T L A F) (left : ChainEnds) (more : left.length ≡ left.length - 1 + 1) (can : CanLend cells left)
       (end : End) where
     abbrev order : List ℕ
     order = (lent_slots cells).order
@@ -81,7 +81,7 @@ module _ {T L A : Type 0} where
           let all = takes_end order left more can.are_left end x told in
           can.untaken.each x (subst (IsIn x) (sym all) (IsIn-rest end (end_place end left) x _ (reached x told))))
 
-  module _ (old new : SlotCells T L A) (place : ℕ) (item : MutBor T) (takes : TakesItem old place item new) where
+  module _ (old new : SlotCells T L A F) (place : ℕ) (item : MutBor T) (takes : TakesItem old place item new) where
     -- each other item is left as before
     pub untaken_on : (end : End) (places rest : List ℕ) → AreUntaken old places → places ≡ with_end end place rest → AreUntaken new rest
     untaken_on end places rest untaken is =
@@ -102,7 +102,7 @@ module _ {T L A : Type 0} where
     }
 
 -- the same of a walk along the links
-module _ {V A : Type 0} (cells : SlotCells V ValueLink A) (left : ChainEnds) (more : left.length ≡ left.length - 1 + 1)
+module _ {V A F : Type 0} (cells : SlotCells V ValueLink A F) (left : ChainEnds) (more : left.length ≡ left.length - 1 + 1)
     (can : CanReadChain cells left) (end : End) where
   abbrev values : Slots V ValueLink
   values = lent_slots cells
@@ -110,10 +110,11 @@ module _ {V A : Type 0} (cells : SlotCells V ValueLink A) (left : ChainEnds) (mo
   pub chain_end_left : IsLeft cells (end_place end left)
   chain_end_left =
       left_at_end cells (places_along values left.first left.length) can.untaken end (end_place end left) _
-      (end_taken (Stands values false) (next_place values) (previous_place values) left more can.chain _ end refl)
+      (end_taken (Stands values false) (next_place values) (previous_place values) left more can.chain
+      (unwrap_or (step_from end (next_place values) (previous_place values) (end_place end left)) (end_place end left)) end (λ _. refl))
 
 -- so does a walk along the links, where another value is left
-module _ {V A : Type 0} (old new : SlotCells V ValueLink A) (place : ℕ) (item : MutBor V) (takes : TakesItem old place item new) where
+module _ {V A F : Type 0} (old new : SlotCells V ValueLink A F) (place : ℕ) (item : MutBor V) (takes : TakesItem old place item new) where
   pub reads_on : (rest : ChainEnds) → IsChain (lent_slots old) false rest.first rest.last rest.length
       → AreUntaken new (places_along (lent_slots old) rest.first rest.length)
       → CanReadChain new rest
@@ -123,7 +124,7 @@ module _ {V A : Type 0} (old new : SlotCells V ValueLink A) (place : ℕ) (item 
   }
 
 -- all values of a key are left at first
-pub chain_left : {K V A : Type 0} (keys : Slots K KeyLink) (cells : SlotCells V ValueLink A) (key : ℕ) (link : KeyLink)
+pub chain_left : {K V A F : Type 0} (keys : Slots K KeyLink) (cells : SlotCells V ValueLink A F) (key : ℕ) (link : KeyLink)
     → IsSound (lent_slots cells) → IsChained keys (lent_slots cells) → HasLink keys key link → AllAreLeft cells
     → CanReadChain cells (record { first = link.head; last = link.tail; length = link.length })
 chain_left keys cells key link sound chained has left =
@@ -137,7 +138,7 @@ chain_left keys cells key link sound chained has left =
     }
 
 -- a step changes neither what is listed nor the links
-pub step_keeps : {T L A : Type 0} (old : SlotCells T L A) (place : ℕ) (given : Option (MutBor T × L)) (new : SlotCells T L A)
+pub step_keeps : {T L A F : Type 0} (old : SlotCells T L A F) (place : ℕ) (given : Option (MutBor T × L)) (new : SlotCells T L A F)
     → HandsOutSlot old place given new → lent_slots new ≡ lent_slots old
 step_keeps old place None new same = ap lent_slots same
 step_keeps old place (Some slot) new hands = hands.0.slots

@@ -4,6 +4,7 @@ pub mod Chained
 pub mod Ends
 pub mod KeyWalk
 pub mod Lending
+pub mod Packed
 pub mod PairWalk
 pub mod Path
 pub mod RestWalk

@@ -11,7 +11,7 @@ use Rattle.multimap_walks.specs.Chained.{AreOwned, IsChain, places_along, values
 use Rattle.multimap_walks.specs.Lending.{AreUntaken, CanLend}
 use Rattle.multimap_walks.specs.PairWalk.{pairs_left}
 
-module _ {V A : Type 0} (cells : SlotCells V ValueLink A) (left : ChainEnds) where
+module _ {V A F : Type 0} (cells : SlotCells V ValueLink A F) (left : ChainEnds) where
   -- the values left, as they were when lent
   abbrev pub values_rest : List V
   values_rest = items_left (lent_slots cells).order (item_at (lent_slots cells)) left

@@ -8,9 +8,10 @@ ghost use Rattle.multimap_walks.specs.Walk.{TellsLength};
 
 use crate::End;
 use crate::links::{ChainEnds, KeyLink, NO_ENDS, ValueLink};
+use crate::packed::PackedLink;
 use crate::show::show_left;
 use crate::slots::chained_at;
-use multimap_slots::{Reads, SlotList, Tape};
+use multimap_slots::{LinkForm, Reads, SlotList, Tape};
 use std::alloc::{AllocError, Allocator, Global};
 use std::fmt;
 use std::iter::FusedIterator;
@@ -23,15 +24,15 @@ use std::marker::{Model, PhantomData};
 /// are `&value`. It iterates from both ends, knows its length, and can be cloned, which never
 /// fails. Each item reads one value slot, so other keys' values cost nothing.
 #[derive(Drop)]
-pub struct EntryValues<'map, K, V, A: Allocator = Global> {
+pub struct EntryValues<'map, K, V, A: Allocator = Global, F: LinkForm<ValueLink> = PackedLink> {
     keys: PhantomData<&'map K>,
-    values: &'map Tape<V, ValueLink, A>,
+    values: &'map Tape<V, ValueLink, A, F>,
     left: ChainEnds,
     detached: bool,
     reads: Reads,
 }
 
-impl<'map, K, V, A: Allocator> Model for EntryValues<'map, K, V, A> {
+impl<'map, K, V, A: Allocator, F: LinkForm<ValueLink>> Model for EntryValues<'map, K, V, A, F> {
     ghost use Rattle.multimap_walks.specs.Chained.{IsChain};
     ghost use Rattle.multimap_walks.specs.ChainWalk.{ChainWalk, chain_walk};
 
@@ -43,7 +44,7 @@ impl<'map, K, V, A: Allocator> Model for EntryValues<'map, K, V, A> {
         IsChain w.values.now.list w.detached w.left.first w.left.last w.left.length };
 }
 
-impl<'map, K, V, A: Allocator> EntryValues<'map, K, V, A> {
+impl<'map, K, V, A: Allocator, F: LinkForm<ValueLink>> EntryValues<'map, K, V, A, F> {
     /// Creates an iterator over the values of a key, or an empty one for `None`.
     ///
     /// The key is given by its place and its link in `keys`.
@@ -57,7 +58,7 @@ impl<'map, K, V, A: Allocator> EntryValues<'map, K, V, A> {
     /// The links of keys and values are chained, and the key is listed in `keys` with this link.
     pub fn new(
         keys: &'map SlotList<K, KeyLink, A>,
-        values: &'map Tape<V, ValueLink, A>,
+        values: &'map Tape<V, ValueLink, A, F>,
         key: Option<(usize, KeyLink)>,
     ) -> Self
         requires chained { IsChained keys.now values.now.list }
@@ -88,7 +89,7 @@ impl<'map, K, V, A: Allocator> EntryValues<'map, K, V, A> {
     /// # Requires
     ///
     /// The values at these places are detached, and follow each other by their links.
-    pub fn new_detached(values: &'map Tape<V, ValueLink, A>, ends: Option<ChainEnds>) -> Self
+    pub fn new_detached(values: &'map Tape<V, ValueLink, A, F>, ends: Option<ChainEnds>) -> Self
         requires { MatchOption ends ⊤
             (λ e. IsDetachedChain values.now.list e.first e.last e.length) }
         ensures { MatchOption ends (result ≡ detached_walk []) (λ e. result ≡ detached_walk
@@ -97,7 +98,7 @@ impl<'map, K, V, A: Allocator> EntryValues<'map, K, V, A> {
         EntryValues::along(values, ends.unwrap_or(NO_ENDS), true)
     }
 
-    fn along(values: &'map Tape<V, ValueLink, A>, ends: ChainEnds, detached: bool) -> Self
+    fn along(values: &'map Tape<V, ValueLink, A, F>, ends: ChainEnds, detached: bool) -> Self
         requires { IsChain values.now.list detached ends.first ends.last ends.length }
         ensures { result ≡ chain_walk values.now.list detached ends.first ends.length 0 }
     {
@@ -120,12 +121,12 @@ impl<'map, K, V, A: Allocator> EntryValues<'map, K, V, A> {
         }
         let place = self.left.place_at(end);
         let (value, link) = chained_at(self.values, place, self.detached, &mut self.reads);
-        self.left = self.left.after(end, link.step_from(end).unwrap_or(place));
+        self.left = self.left.after(end, link.beyond(end, self.left.length));
         Some(value)
     }
 }
 
-impl<'map, K, V, A: Allocator> Iterator for EntryValues<'map, K, V, A> {
+impl<'map, K, V, A: Allocator, F: LinkForm<ValueLink>> Iterator for EntryValues<'map, K, V, A, F> {
     type Item = &'map V;
 
     ghost next_gives = { GivesFirst };
@@ -143,7 +144,8 @@ impl<'map, K, V, A: Allocator> Iterator for EntryValues<'map, K, V, A> {
     }
 }
 
-impl<'map, K, V, A: Allocator> DoubleEndedIterator for EntryValues<'map, K, V, A> {
+impl<'map, K, V, A: Allocator, F: LinkForm<ValueLink>> DoubleEndedIterator
+    for EntryValues<'map, K, V, A, F> {
     ghost next_back_gives = { GivesLast };
 
     fn next_back(&mut self) -> Option<&'map V> {
@@ -151,20 +153,22 @@ impl<'map, K, V, A: Allocator> DoubleEndedIterator for EntryValues<'map, K, V, A
     }
 }
 
-impl<'map, K, V, A: Allocator> ExactSizeIterator for EntryValues<'map, K, V, A> {
+impl<'map, K, V, A: Allocator, F: LinkForm<ValueLink>> ExactSizeIterator
+    for EntryValues<'map, K, V, A, F> {
     fn len(&self) -> usize {
         self.left.length
     }
 }
 
-impl<'map, K, V, A: Allocator> FusedIterator for EntryValues<'map, K, V, A> {}
+impl<'map, K, V, A: Allocator, F: LinkForm<ValueLink>> FusedIterator
+    for EntryValues<'map, K, V, A, F> {}
 
-impl<'map, K, V, A: Allocator> Clone for EntryValues<'map, K, V, A> {
+impl<'map, K, V, A: Allocator, F: LinkForm<ValueLink>> Clone for EntryValues<'map, K, V, A, F> {
     ghost is_clone = { λ s r. r ≡ s };
 
     ghost is_infallible = { λ _. ⊤ };
 
-    fn clone(&self) -> Result<EntryValues<'map, K, V, A>, AllocError> {
+    fn clone(&self) -> Result<EntryValues<'map, K, V, A, F>, AllocError> {
         Ok(EntryValues {
             keys: PhantomData,
             values: self.values,
@@ -175,7 +179,8 @@ impl<'map, K, V, A: Allocator> Clone for EntryValues<'map, K, V, A> {
     }
 }
 
-impl<'map, K, V: fmt::Debug, A: Allocator> fmt::Debug for EntryValues<'map, K, V, A> {
+impl<'map, K, V: fmt::Debug, A: Allocator, F: LinkForm<ValueLink>> fmt::Debug
+    for EntryValues<'map, K, V, A, F> {
     fn fmt<W: fmt::Write>(&self, f: &mut fmt::Formatter<W>) -> fmt::Result {
         show_left(f, "EntryValues", self)
     }

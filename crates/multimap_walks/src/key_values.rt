@@ -12,9 +12,10 @@ use crate::End;
 use crate::chain::EntryValues;
 use crate::left::{Ordered, take};
 use crate::links::{ChainEnds, KeyLink, NO_ENDS, ValueLink};
+use crate::packed::PackedLink;
 use crate::show::show_left;
 use crate::slots::key_values_of;
-use multimap_slots::{Reads, SlotList, Tape};
+use multimap_slots::{LinkForm, Reads, SlotList, Tape};
 use std::alloc::{AllocError, Allocator, Global};
 use std::fmt;
 use std::iter::FusedIterator;
@@ -27,14 +28,14 @@ use std::marker::Model;
 /// from both ends, knows its length, and can be cloned, which never fails. Each item reads the slot
 /// of its key, and of no value.
 #[derive(Drop)]
-pub struct KeyValues<'map, K, V, A: Allocator = Global> {
+pub struct KeyValues<'map, K, V, A: Allocator = Global, F: LinkForm<ValueLink> = PackedLink> {
     keys: &'map SlotList<K, KeyLink, A>,
-    values: &'map Tape<V, ValueLink, A>,
+    values: &'map Tape<V, ValueLink, A, F>,
     left: ChainEnds,
     reads: Reads,
 }
 
-impl<'map, K, V, A: Allocator> Model for KeyValues<'map, K, V, A> {
+impl<'map, K, V, A: Allocator, F: LinkForm<ValueLink>> Model for KeyValues<'map, K, V, A, F> {
     ghost use Rattle.std.specs.Prelude.{List};
     ghost use Rattle.multimap_walks.specs.Along.{items_left};
     ghost use Rattle.multimap_walks.specs.ChainWalk.{ChainWalk};
@@ -48,7 +49,7 @@ impl<'map, K, V, A: Allocator> Model for KeyValues<'map, K, V, A> {
     ghost invariant = { λ w. IsKeyWalk w.keys.now w.values.now.list w.left };
 }
 
-impl<'map, K, V, A: Allocator> KeyValues<'map, K, V, A> {
+impl<'map, K, V, A: Allocator, F: LinkForm<ValueLink>> KeyValues<'map, K, V, A, F> {
     /// Creates an iterator over all keys of a slot list of keys, with their values on a tape.
     ///
     /// It reads no slot.
@@ -60,7 +61,7 @@ impl<'map, K, V, A: Allocator> KeyValues<'map, K, V, A> {
     /// # Requires
     ///
     /// The links of keys and values are chained.
-    pub fn new(keys: &'map SlotList<K, KeyLink, A>, values: &'map Tape<V, ValueLink, A>) -> Self
+    pub fn new(keys: &'map SlotList<K, KeyLink, A>, values: &'map Tape<V, ValueLink, A, F>) -> Self
         requires { IsChained keys.now values.now.list }
         ensures keys { result
             ≡ filter_map (key_values_at keys.now values.now.list) keys.now.order }
@@ -81,7 +82,7 @@ impl<'map, K, V, A: Allocator> KeyValues<'map, K, V, A> {
     /// The links of keys and values are chained, and the places are places of the list of keys.
     pub fn new_between(
         keys: &'map SlotList<K, KeyLink, A>,
-        values: &'map Tape<V, ValueLink, A>,
+        values: &'map Tape<V, ValueLink, A, F>,
         ends: Option<ChainEnds>,
     ) -> Self
         requires chained { IsChained keys.now values.now.list }
@@ -95,7 +96,7 @@ impl<'map, K, V, A: Allocator> KeyValues<'map, K, V, A> {
 
     fn along(
         keys: &'map SlotList<K, KeyLink, A>,
-        values: &'map Tape<V, ValueLink, A>,
+        values: &'map Tape<V, ValueLink, A, F>,
         left: ChainEnds,
     ) -> Self
         requires chained { IsChained keys.now values.now.list }
@@ -114,7 +115,7 @@ impl<'map, K, V, A: Allocator> KeyValues<'map, K, V, A> {
 
     /// Takes the item at an end of what is left.
     #[inline(always)]
-    fn step(&mut self, end: End) -> Option<(&'map K, EntryValues<'map, K, V, A>)>
+    fn step(&mut self, end: End) -> Option<(&'map K, EntryValues<'map, K, V, A, F>)>
         ensures { TakesEnd end deref_key self.old result self.new }
     {
         let place = take(end, self.keys, &mut self.left)?;
@@ -122,14 +123,14 @@ impl<'map, K, V, A: Allocator> KeyValues<'map, K, V, A> {
     }
 }
 
-impl<'map, K, V, A: Allocator> Iterator for KeyValues<'map, K, V, A> {
-    type Item = (&'map K, EntryValues<'map, K, V, A>);
+impl<'map, K, V, A: Allocator, F: LinkForm<ValueLink>> Iterator for KeyValues<'map, K, V, A, F> {
+    type Item = (&'map K, EntryValues<'map, K, V, A, F>);
 
     ghost next_gives = { TakesFirst deref_key };
 
     ghost remaining = { λ s. at_most (length s) };
 
-    fn next(&mut self) -> Option<(&'map K, EntryValues<'map, K, V, A>)> {
+    fn next(&mut self) -> Option<(&'map K, EntryValues<'map, K, V, A, F>)> {
         self.step(End::Front)
     }
 
@@ -141,29 +142,32 @@ impl<'map, K, V, A: Allocator> Iterator for KeyValues<'map, K, V, A> {
     }
 }
 
-impl<'map, K, V, A: Allocator> DoubleEndedIterator for KeyValues<'map, K, V, A> {
+impl<'map, K, V, A: Allocator, F: LinkForm<ValueLink>> DoubleEndedIterator
+    for KeyValues<'map, K, V, A, F> {
     ghost next_back_gives = { TakesLast deref_key };
 
-    fn next_back(&mut self) -> Option<(&'map K, EntryValues<'map, K, V, A>)> {
+    fn next_back(&mut self) -> Option<(&'map K, EntryValues<'map, K, V, A, F>)> {
         self.step(End::Back)
     }
 }
 
-impl<'map, K, V, A: Allocator> ExactSizeIterator for KeyValues<'map, K, V, A> {
+impl<'map, K, V, A: Allocator, F: LinkForm<ValueLink>> ExactSizeIterator
+    for KeyValues<'map, K, V, A, F> {
     #[tactic(auto, using(crate::proofs::Callers::Along::length_along))]
     fn len(&self) -> usize {
         self.left.length
     }
 }
 
-impl<'map, K, V, A: Allocator> FusedIterator for KeyValues<'map, K, V, A> {}
+impl<'map, K, V, A: Allocator, F: LinkForm<ValueLink>> FusedIterator
+    for KeyValues<'map, K, V, A, F> {}
 
-impl<'map, K, V, A: Allocator> Clone for KeyValues<'map, K, V, A> {
+impl<'map, K, V, A: Allocator, F: LinkForm<ValueLink>> Clone for KeyValues<'map, K, V, A, F> {
     ghost is_clone = { λ s r. r ≡ s };
 
     ghost is_infallible = { λ _. ⊤ };
 
-    fn clone(&self) -> Result<KeyValues<'map, K, V, A>, AllocError> {
+    fn clone(&self) -> Result<KeyValues<'map, K, V, A, F>, AllocError> {
         Ok(KeyValues {
             keys: self.keys,
             values: self.values,
@@ -173,7 +177,8 @@ impl<'map, K, V, A: Allocator> Clone for KeyValues<'map, K, V, A> {
     }
 }
 
-impl<'map, K: fmt::Debug, V: fmt::Debug, A: Allocator> fmt::Debug for KeyValues<'map, K, V, A> {
+impl<'map, K: fmt::Debug, V: fmt::Debug, A: Allocator, F: LinkForm<ValueLink>> fmt::Debug
+    for KeyValues<'map, K, V, A, F> {
     fn fmt<W: fmt::Write>(&self, f: &mut fmt::Formatter<W>) -> fmt::Result {
         show_left(f, "KeyValues", self)
     }

@@ -10,7 +10,7 @@ ghost use Rattle.multimap_walks.specs.Walk.{TakesEnd};
 
 use crate::End;
 use crate::links::ChainEnds;
-use multimap_slots::{SlotList, Tape};
+use multimap_slots::{LinkForm, SlotList, Tape};
 use std::alloc::Allocator;
 
 /// A list whose places have an order.
@@ -70,7 +70,7 @@ impl<T, L: Copy, A: Allocator> Ordered for SlotList<T, L, A> {
     }
 }
 
-impl<T, L: Copy, A: Allocator> Ordered for Tape<T, L, A> {
+impl<T, L: Copy, A: Allocator, F: LinkForm<L>> Ordered for Tape<T, L, A, F> {
     ghost order = { λ t. t.list.order };
 
     ghost is_sound = { λ t. IsSound t.list };

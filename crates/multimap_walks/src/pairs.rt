@@ -8,9 +8,10 @@ ghost use Rattle.multimap_walks.specs.Walk.{TakesEnd, TellsLength};
 use crate::End;
 use crate::left::{Ordered, take};
 use crate::links::{ChainEnds, KeyLink, ValueLink};
+use crate::packed::PackedLink;
 use crate::show::show_left;
 use crate::slots::pair_of;
-use multimap_slots::{Reads, SlotList, Tape};
+use multimap_slots::{LinkForm, Reads, SlotList, Tape};
 use std::alloc::{AllocError, Allocator, Global};
 use std::fmt;
 use std::iter::FusedIterator;
@@ -22,14 +23,14 @@ use std::marker::Model;
 /// an example. Its items are `(&key, &value)`. It iterates from both ends, knows its length, and
 /// can be cloned, which never fails. Each item reads the slots of its value and of its key.
 #[derive(Drop)]
-pub struct Iter<'map, K, V, A: Allocator = Global> {
+pub struct Iter<'map, K, V, A: Allocator = Global, F: LinkForm<ValueLink> = PackedLink> {
     keys: &'map SlotList<K, KeyLink, A>,
-    values: &'map Tape<V, ValueLink, A>,
+    values: &'map Tape<V, ValueLink, A, F>,
     left: ChainEnds,
     reads: Reads,
 }
 
-impl<'map, K, V, A: Allocator> Model for Iter<'map, K, V, A> {
+impl<'map, K, V, A: Allocator, F: LinkForm<ValueLink>> Model for Iter<'map, K, V, A, F> {
     ghost use Rattle.std.specs.Prelude.{List};
     ghost use Rattle.multimap_walks.specs.PairWalk.{pairs_left, IsWalk};
 
@@ -40,7 +41,7 @@ impl<'map, K, V, A: Allocator> Model for Iter<'map, K, V, A> {
     ghost invariant = { λ w. IsWalk w.keys.now w.values.now.list w.left };
 }
 
-impl<'map, K, V, A: Allocator> Iter<'map, K, V, A> {
+impl<'map, K, V, A: Allocator, F: LinkForm<ValueLink>> Iter<'map, K, V, A, F> {
     /// Creates an iterator over all pairs of a slot list of keys and a tape of values.
     ///
     /// It reads no slot.
@@ -52,7 +53,7 @@ impl<'map, K, V, A: Allocator> Iter<'map, K, V, A> {
     /// # Requires
     ///
     /// The key of each value is listed.
-    pub fn new(keys: &'map SlotList<K, KeyLink, A>, values: &'map Tape<V, ValueLink, A>) -> Self
+    pub fn new(keys: &'map SlotList<K, KeyLink, A>, values: &'map Tape<V, ValueLink, A, F>) -> Self
         requires { AreOwned keys.now values.now.list }
         ensures pairs { result ≡ pairs_of keys.now values.now.list }
     {
@@ -76,7 +77,7 @@ impl<'map, K, V, A: Allocator> Iter<'map, K, V, A> {
     }
 }
 
-impl<'map, K, V, A: Allocator> Iterator for Iter<'map, K, V, A> {
+impl<'map, K, V, A: Allocator, F: LinkForm<ValueLink>> Iterator for Iter<'map, K, V, A, F> {
     type Item = (&'map K, &'map V);
 
     ghost next_gives = { TakesFirst deref_pair };
@@ -95,7 +96,8 @@ impl<'map, K, V, A: Allocator> Iterator for Iter<'map, K, V, A> {
     }
 }
 
-impl<'map, K, V, A: Allocator> DoubleEndedIterator for Iter<'map, K, V, A> {
+impl<'map, K, V, A: Allocator, F: LinkForm<ValueLink>> DoubleEndedIterator
+    for Iter<'map, K, V, A, F> {
     ghost next_back_gives = { TakesLast deref_pair };
 
     fn next_back(&mut self) -> Option<(&'map K, &'map V)> {
@@ -103,21 +105,22 @@ impl<'map, K, V, A: Allocator> DoubleEndedIterator for Iter<'map, K, V, A> {
     }
 }
 
-impl<'map, K, V, A: Allocator> ExactSizeIterator for Iter<'map, K, V, A> {
+impl<'map, K, V, A: Allocator, F: LinkForm<ValueLink>> ExactSizeIterator
+    for Iter<'map, K, V, A, F> {
     #[tactic(auto, using(crate::proofs::Callers::Along::length_along))]
     fn len(&self) -> usize {
         self.left.length
     }
 }
 
-impl<'map, K, V, A: Allocator> FusedIterator for Iter<'map, K, V, A> {}
+impl<'map, K, V, A: Allocator, F: LinkForm<ValueLink>> FusedIterator for Iter<'map, K, V, A, F> {}
 
-impl<'map, K, V, A: Allocator> Clone for Iter<'map, K, V, A> {
+impl<'map, K, V, A: Allocator, F: LinkForm<ValueLink>> Clone for Iter<'map, K, V, A, F> {
     ghost is_clone = { λ s r. r ≡ s };
 
     ghost is_infallible = { λ _. ⊤ };
 
-    fn clone(&self) -> Result<Iter<'map, K, V, A>, AllocError> {
+    fn clone(&self) -> Result<Iter<'map, K, V, A, F>, AllocError> {
         Ok(Iter {
             keys: self.keys,
             values: self.values,
@@ -127,7 +130,8 @@ impl<'map, K, V, A: Allocator> Clone for Iter<'map, K, V, A> {
     }
 }
 
-impl<'map, K: fmt::Debug, V: fmt::Debug, A: Allocator> fmt::Debug for Iter<'map, K, V, A> {
+impl<'map, K: fmt::Debug, V: fmt::Debug, A: Allocator, F: LinkForm<ValueLink>> fmt::Debug
+    for Iter<'map, K, V, A, F> {
     fn fmt<W: fmt::Write>(&self, f: &mut fmt::Formatter<W>) -> fmt::Result {
         show_left(f, "Iter", self)
     }

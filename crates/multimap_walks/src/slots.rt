@@ -7,12 +7,12 @@ ghost use Rattle.multimap_walks.specs.KeyWalk.{key_values_at};
 
 use crate::chain::EntryValues;
 use crate::links::{KeyLink, ValueLink};
-use multimap_slots::{Reads, SlotList, Tape};
+use multimap_slots::{LinkForm, Reads, SlotList, Tape};
 use std::alloc::Allocator;
 
 /// The value at a listed place, with its link.
-pub(crate) fn value_at<'map, V, A: Allocator>(
-    values: &'map Tape<V, ValueLink, A>,
+pub(crate) fn value_at<'map, V, A: Allocator, F: LinkForm<ValueLink>>(
+    values: &'map Tape<V, ValueLink, A, F>,
     place: usize,
     reads: &mut Reads,
 ) -> (&'map V, ValueLink)
@@ -25,8 +25,8 @@ pub(crate) fn value_at<'map, V, A: Allocator>(
 
 /// The value at a place of a chain, with its link. One of the list is a read, and a detached one is
 /// none.
-pub(crate) fn chained_at<'map, V, A: Allocator>(
-    values: &'map Tape<V, ValueLink, A>,
+pub(crate) fn chained_at<'map, V, A: Allocator, F: LinkForm<ValueLink>>(
+    values: &'map Tape<V, ValueLink, A, F>,
     place: usize,
     detached: bool,
     reads: &mut Reads,
@@ -57,9 +57,9 @@ pub(crate) fn key_at<'map, K, A: Allocator>(
 }
 
 /// The key and the value at a listed place.
-pub(crate) fn pair_of<'map, K, V, A: Allocator>(
+pub(crate) fn pair_of<'map, K, V, A: Allocator, F: LinkForm<ValueLink>>(
     keys: &'map SlotList<K, KeyLink, A>,
-    values: &'map Tape<V, ValueLink, A>,
+    values: &'map Tape<V, ValueLink, A, F>,
     place: usize,
     reads: &mut Reads,
 ) -> (&'map K, &'map V)
@@ -72,12 +72,12 @@ pub(crate) fn pair_of<'map, K, V, A: Allocator>(
 }
 
 /// The key at a listed place, with a walk over its values.
-pub(crate) fn key_values_of<'map, K, V, A: Allocator>(
+pub(crate) fn key_values_of<'map, K, V, A: Allocator, F: LinkForm<ValueLink>>(
     keys: &'map SlotList<K, KeyLink, A>,
-    values: &'map Tape<V, ValueLink, A>,
+    values: &'map Tape<V, ValueLink, A, F>,
     place: usize,
     reads: &mut Reads,
-) -> (&'map K, EntryValues<'map, K, V, A>)
+) -> (&'map K, EntryValues<'map, K, V, A, F>)
     requires chained { IsChained keys.now values.now.list }
     requires listed { IsIn place keys.now.order }
     ensures { key_values_at keys.now values.now.list place ≡ Some (result.0.now, result.1) }

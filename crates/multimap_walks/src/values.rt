@@ -8,9 +8,10 @@ ghost use Rattle.multimap_walks.specs.Walk.{TakesEnd, TellsLength};
 use crate::End;
 use crate::left::{Ordered, take};
 use crate::links::{ChainEnds, ValueLink};
+use crate::packed::PackedLink;
 use crate::show::show_left;
 use crate::slots::value_at;
-use multimap_slots::{Reads, Tape};
+use multimap_slots::{LinkForm, Reads, Tape};
 use std::alloc::{AllocError, Allocator, Global};
 use std::fmt;
 use std::iter::FusedIterator;
@@ -22,14 +23,14 @@ use std::marker::{Model, PhantomData};
 /// `&value`. It iterates from both ends, knows its length, and can be cloned, which never fails.
 /// Each item reads the slot of its value.
 #[derive(Drop)]
-pub struct Values<'map, K, V, A: Allocator = Global> {
+pub struct Values<'map, K, V, A: Allocator = Global, F: LinkForm<ValueLink> = PackedLink> {
     keys: PhantomData<&'map K>,
-    values: &'map Tape<V, ValueLink, A>,
+    values: &'map Tape<V, ValueLink, A, F>,
     left: ChainEnds,
     reads: Reads,
 }
 
-impl<'map, K, V, A: Allocator> Model for Values<'map, K, V, A> {
+impl<'map, K, V, A: Allocator, F: LinkForm<ValueLink>> Model for Values<'map, K, V, A, F> {
     ghost use Rattle.std.specs.Prelude.{List};
     ghost use Rattle.multimap_slots.specs.Slots.{item_at};
     ghost use Rattle.multimap_walks.specs.Along.{items_left, IsAlong};
@@ -41,13 +42,13 @@ impl<'map, K, V, A: Allocator> Model for Values<'map, K, V, A> {
     ghost invariant = { λ w. IsAlong w.values.now.list.order (item_at w.values.now.list) w.left };
 }
 
-impl<'map, K, V, A: Allocator> Values<'map, K, V, A> {
+impl<'map, K, V, A: Allocator, F: LinkForm<ValueLink>> Values<'map, K, V, A, F> {
     /// Creates an iterator over all items of a tape.
     ///
     /// # Complexity
     ///
     /// *O*(1).
-    pub fn new(values: &'map Tape<V, ValueLink, A>) -> Self
+    pub fn new(values: &'map Tape<V, ValueLink, A, F>) -> Self
         ensures values { result ≡ values_at values.now.list values.now.list.order }
     {
         Values {
@@ -69,7 +70,7 @@ impl<'map, K, V, A: Allocator> Values<'map, K, V, A> {
     }
 }
 
-impl<'map, K, V, A: Allocator> Iterator for Values<'map, K, V, A> {
+impl<'map, K, V, A: Allocator, F: LinkForm<ValueLink>> Iterator for Values<'map, K, V, A, F> {
     type Item = &'map V;
 
     ghost next_gives = { TakesFirst deref };
@@ -88,7 +89,8 @@ impl<'map, K, V, A: Allocator> Iterator for Values<'map, K, V, A> {
     }
 }
 
-impl<'map, K, V, A: Allocator> DoubleEndedIterator for Values<'map, K, V, A> {
+impl<'map, K, V, A: Allocator, F: LinkForm<ValueLink>> DoubleEndedIterator
+    for Values<'map, K, V, A, F> {
     ghost next_back_gives = { TakesLast deref };
 
     fn next_back(&mut self) -> Option<&'map V> {
@@ -96,21 +98,22 @@ impl<'map, K, V, A: Allocator> DoubleEndedIterator for Values<'map, K, V, A> {
     }
 }
 
-impl<'map, K, V, A: Allocator> ExactSizeIterator for Values<'map, K, V, A> {
+impl<'map, K, V, A: Allocator, F: LinkForm<ValueLink>> ExactSizeIterator
+    for Values<'map, K, V, A, F> {
     #[tactic(auto, using(crate::proofs::Callers::Along::length_along))]
     fn len(&self) -> usize {
         self.left.length
     }
 }
 
-impl<'map, K, V, A: Allocator> FusedIterator for Values<'map, K, V, A> {}
+impl<'map, K, V, A: Allocator, F: LinkForm<ValueLink>> FusedIterator for Values<'map, K, V, A, F> {}
 
-impl<'map, K, V, A: Allocator> Clone for Values<'map, K, V, A> {
+impl<'map, K, V, A: Allocator, F: LinkForm<ValueLink>> Clone for Values<'map, K, V, A, F> {
     ghost is_clone = { λ s r. r ≡ s };
 
     ghost is_infallible = { λ _. ⊤ };
 
-    fn clone(&self) -> Result<Values<'map, K, V, A>, AllocError> {
+    fn clone(&self) -> Result<Values<'map, K, V, A, F>, AllocError> {
         Ok(Values {
             keys: PhantomData,
             values: self.values,
@@ -120,7 +123,8 @@ impl<'map, K, V, A: Allocator> Clone for Values<'map, K, V, A> {
     }
 }
 
-impl<'map, K, V: fmt::Debug, A: Allocator> fmt::Debug for Values<'map, K, V, A> {
+impl<'map, K, V: fmt::Debug, A: Allocator, F: LinkForm<ValueLink>> fmt::Debug
+    for Values<'map, K, V, A, F> {
     fn fmt<W: fmt::Write>(&self, f: &mut fmt::Formatter<W>) -> fmt::Result {
         show_left(f, "Values", self)
     }

@@ -13,11 +13,13 @@ pub(crate) mod values;
 
 use crate::End;
 use crate::links::{ChainEnds, ValueLink};
-use multimap_slots::SlotCells;
+use multimap_slots::{LinkForm, SlotCells};
 use std::alloc::Allocator;
 
 /// All places of lent values.
-fn all_of<V, A: Allocator>(cells: &SlotCells<'_, V, ValueLink, A>) -> ChainEnds
+fn all_of<V, A: Allocator, F: LinkForm<ValueLink>>(
+    cells: &SlotCells<'_, V, ValueLink, A, F>,
+) -> ChainEnds
     requires { NoneIsTaken cells.now }
     ensures can { CanLend cells.now result }
     ensures whole { places_left (lent_slots cells.now).order result ≡ (lent_slots cells.now).order }
@@ -27,9 +29,9 @@ fn all_of<V, A: Allocator>(cells: &SlotCells<'_, V, ValueLink, A>) -> ChainEnds
 
 /// The place that a step from an end reaches, where there is one and the items of both are left.
 #[inline(always)]
-fn neighbour<V, A: Allocator>(
+fn neighbour<V, A: Allocator, F: LinkForm<ValueLink>>(
     end: End,
-    cells: &SlotCells<'_, V, ValueLink, A>,
+    cells: &SlotCells<'_, V, ValueLink, A, F>,
     place: usize,
 ) -> usize
     requires left { IsLeft cells.now place }
@@ -47,9 +49,9 @@ fn neighbour<V, A: Allocator>(
 /// The places that are left when the one at an end is taken, or `None` if none is left. No place is
 /// asked for beyond the other end.
 #[inline(always)]
-fn rest_after<V, A: Allocator>(
+fn rest_after<V, A: Allocator, F: LinkForm<ValueLink>>(
     end: End,
-    cells: &SlotCells<'_, V, ValueLink, A>,
+    cells: &SlotCells<'_, V, ValueLink, A, F>,
     left: ChainEnds,
 ) -> Option<ChainEnds>
     requires { CanLend cells.now left }
@@ -70,9 +72,9 @@ fn rest_after<V, A: Allocator>(
 
 /// Takes the place at an end from those that are left, or returns `None` if none is left.
 #[inline(always)]
-fn pass_end<V, A: Allocator>(
+fn pass_end<V, A: Allocator, F: LinkForm<ValueLink>>(
     end: End,
-    cells: &SlotCells<'_, V, ValueLink, A>,
+    cells: &SlotCells<'_, V, ValueLink, A, F>,
     left: &mut ChainEnds,
 ) -> Option<usize>
     requires { CanLend cells.now left.old }
@@ -92,9 +94,9 @@ fn pass_end<V, A: Allocator>(
 
 /// Lends the value at an end of those that are left, with its link.
 #[inline(always)]
-fn lend<'map, V, A: Allocator>(
+fn lend<'map, V, A: Allocator, F: LinkForm<ValueLink>>(
     end: End,
-    cells: &mut SlotCells<'map, V, ValueLink, A>,
+    cells: &mut SlotCells<'map, V, ValueLink, A, F>,
     left: &mut ChainEnds,
 ) -> Option<(&'map mut V, ValueLink)>
     requires { CanLend cells.old left.old }

@@ -8,6 +8,7 @@ use Rattle.std.specs.declared.hash.Hash as hash
 use Rattle.std.specs.declared.hash.Hasher as hasher
 use Rattle.std.specs.declared.hash.BuildHasher as builder
 use mir.Syntax.{named}
+use Rattle.ordered_multimap.specs.ValueCells.{ValueCells}
 use Rattle.ordered_multimap.specs.contracts.list_ordered_multimap.ListOrderedMultimap.{the_row}
 use Rattle.ordered_multimap.specs.contracts.list_ordered_multimap.entry.OccupiedEntry as occupied
 use Rattle.ordered_multimap.specs.declared.list_ordered_multimap.entry.Entry.{Entry}
@@ -17,8 +18,6 @@ use drains.EntryValuesDrain.{EntryValuesDrain}
 use Rattle.ordered_multimap.specs.Entries.{IsEntered, Occupied, RefusesEntry, entry_map_ref}
 use Rattle.ordered_multimap.specs.Entries.{with_entry_items, with_first_written, with_map_values}
 use Rattle.multimap_slots.specs.Ownership.{final}
-use Rattle.multimap_slots.specs.declared.cells_of.SlotCells.{SlotCells}
-use Rattle.multimap_walks.specs.declared.links.ValueLink.{ValueLink}
 use Rattle.ordered_multimap.specs.ValuesLent.{EndsAs}
 use Rattle.ordered_multimap.specs.Writes.{with_first}
 
@@ -65,7 +64,7 @@ module _ (K V S A H : RattleType) {e : equality.Ghosts K.Denot} {k : hash.Ghosts
   -- the values of the entry's map are lent; once their slots end with some items, the entry's loan
   -- ends with the entry whose map has them
   abbrev pub EndsEntry : OccupiedEntry K.Denot V.Denot S.Denot A.Denot H.Denot e k b h
-      → SlotCells V.Denot ValueLink A.Denot → Type 0
+      → ValueCells V.Denot A.Denot → Type 0
   EndsEntry o c = EndsAs o.map.now c (final V c.cells.lender_context) (λ ws.
       (entry_row K V S A H e k b h alloc).coded.code (with_entry_items o ws))
 

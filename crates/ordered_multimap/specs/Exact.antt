@@ -11,12 +11,10 @@ use Rattle.std.specs.declared.hash.BuildHasher as builder
 use Rattle.multimap_slots.specs.CellsLends.{with_refilled}
 use Rattle.multimap_slots.specs.Ended.{become, ends_with}
 use Rattle.multimap_slots.specs.declared.cells.Cells.{Cells}
-use Rattle.multimap_slots.specs.declared.cells_of.SlotCells.{SlotCells}
-use Rattle.multimap_walks.specs.declared.links.ValueLink.{ValueLink}
 use Rattle.multimap_walks.specs.Walk.{end_rest}
 use Rattle.multimap_walks.specs.WritingWalk.{entry_values_mut_name, entry_values_mut_values}
 use Rattle.multimap_walks.specs.declared.End.{End}
-use Rattle.multimap_walks.specs.declared.writing.chain.EntryValuesMut.{EntryValuesMut}
+use Rattle.ordered_multimap.specs.ValueCells.{EntryWalk, ValueCells}
 use Rattle.ordered_multimap.specs.EntryLends.{EndsEntry, entry_row, lends_values_to_entry}
 use Rattle.ordered_multimap.specs.KeysLeft.{keys_left}
 use Rattle.ordered_multimap.specs.Lists.{lists}
@@ -57,7 +55,7 @@ module _ (K V S A H : RattleType) (key : HashMembers K.Denot)
   abbrev pub WalksAreExact : Fml
   WalksAreExact =
       fall (Multimap K.Denot V.Denot S.Denot) (λ m. fall GName (λ γ.
-      fall (SlotCells V.Denot ValueLink A.Denot) (λ made. fall (Cells V.Denot) (λ c.
+      fall (ValueCells V.Denot A.Denot) (λ made. fall (Cells V.Denot) (λ c.
       fall (EndsMap K V S m made) (λ _. fall (c.lender_context ≡ made.cells.lender_context) (λ _.
       fwand (follows (map_row K V S A H key build hash heap)
       (map_row K V S A H key build hash heap) γ c.lender_loan (with_values_of m))
@@ -113,7 +111,7 @@ module _ (K V S A H : RattleType) (e : equality.Ghosts K.Denot) (k : hashed.Ghos
   abbrev pub EntryWalksAreExact : Fml
   EntryWalksAreExact =
       fall (MutBor (OccupiedEntry K.Denot V.Denot S.Denot A.Denot H.Denot e k b h)) (λ o.
-      fall (SlotCells V.Denot ValueLink A.Denot) (λ made. fall (Cells V.Denot) (λ c.
+      fall (ValueCells V.Denot A.Denot) (λ made. fall (Cells V.Denot) (λ c.
       fall (EndsEntry K V S A H heap o.now made) (λ _.
       fall (c.lender_context ≡ made.cells.lender_context) (λ _.
       fwand (lends_values_to_entry K V S A H heap o c.lender_loan)
@@ -125,7 +123,7 @@ module _ (K V S A H : RattleType) (e : equality.Ghosts K.Denot) (k : hashed.Ghos
   KeyWalksAreExact =
       fall End (λ end.
       fall (MutBor (KeyValuesMut K.Denot V.Denot S.Denot A.Denot H.Denot e k b h)) (λ w.
-      fall (Bor K.Denot × EntryValuesMut K.Denot V.Denot A.Denot) (λ r. fall (Cells V.Denot) (λ c.
+      fall (Bor K.Denot × EntryWalk K.Denot V.Denot A.Denot) (λ r. fall (Cells V.Denot) (λ c.
       fall (EndsStepped K V S A H heap end w.now r) (λ _.
       fall (c.lender_context ≡ (entry_values_mut_values r.1).cells.lender_context) (λ _.
       fall (c.lender_loan ≡ entry_values_mut_name r.1) (λ _.

@@ -36,6 +36,7 @@ pub mod SetLists
 pub mod Sets
 pub mod TapeNumbers
 pub mod Updates
+pub mod ValueCells
 pub mod ValuesLent
 pub mod WalkLends
 pub mod WriteLends

@@ -16,12 +16,14 @@ use Rattle.multimap_slots.specs.CellsLends.{with_refilled}
 use Rattle.multimap_slots.specs.Codes.{EndsTape}
 use Rattle.multimap_slots.specs.Ownership.{final}
 use Rattle.multimap_slots.specs.TapeLends.{lends_cells}
-use Rattle.multimap_slots.specs.declared.cells_of.SlotCells.{SlotCells}
 use Rattle.multimap_walks.specs.declared.links.KeyLink.{KeyLink}
 use Rattle.multimap_walks.specs.declared.links.ValueLink.{ValueLink}
 use Rattle.multimap_walks.specs.contracts.links.ValueLink.{the_row as link_row}
+use Rattle.multimap_walks.specs.contracts.packed.PackedLink.{the_row as packed_row}
+use Rattle.multimap_walks.specs.contracts.packed.PackedLinkLinkFormValueLink.TheImpl.{ghosts}
 use Rattle.multimap_walks.specs.Chained.{pairs_of}
 use Rattle.multimap_walks.specs.Lending.{AllAreLeft}
+use Rattle.ordered_multimap.specs.ValueCells.{ValueCells}
 use Rattle.ordered_multimap.specs.Lists.{lists}
 use Rattle.ordered_multimap.specs.Multimap.{Multimap, multimap_code}
 use Rattle.ordered_multimap.specs.Agrees.{Agrees, lists_of}
@@ -61,7 +63,7 @@ module _ {K V : Type 0} where
 
   -- the keys of the map are there to be read and its values to be taken, each once
   pub record AreLent {S A : Type 0} (eq : K → K → Bool) (hash : S → K → ℕ) (m : Multimap K V S)
-      (cells : SlotCells V ValueLink A) (keys : Slots K KeyLink) : Type 0 where
+      (cells : ValueCells V A) (keys : Slots K KeyLink) : Type 0 where
     pub keys_are : keys ≡ m.slots.keys
     pub values_are : LendsSlots m.slots.values cells
     pub shown : lists_of keys (lent_slots cells) ≡ m.lists
@@ -71,7 +73,7 @@ module _ {K V : Type 0} where
 
 -- the map's values are lent; whatever items their slots end with, the pairs are then the map's own,
 -- each with the item of its place; and the lender's loan ends as what has these items
-pub record EndsAs {K V S A : Type 0} (m : Multimap K V S) (c : SlotCells V ValueLink A)
+pub record EndsAs {K V S A : Type 0} (m : Multimap K V S) (c : ValueCells V A)
     (slots whole : List (Option V) → Gv) : Type 0 where
   pub lent : LendsSlots m.slots.values c
   pub pairs : (ws : List (Option V))
@@ -81,19 +83,19 @@ pub record EndsAs {K V S A : Type 0} (m : Multimap K V S) (c : SlotCells V Value
 -- the map's values are lent; once their slots end with some items, the lender's loan ends with the
 -- map that has them
 abbrev pub EndsMap : (K V S : RattleType) → {A : Type 0} → Multimap K.Denot V.Denot S.Denot
-    → SlotCells V.Denot ValueLink A → Type 0
+    → ValueCells V.Denot A → Type 0
 EndsMap K V S m c = EndsAs m c (final V c.cells.lender_context)
     (λ ws. (multimap_code K.coded V.coded S.coded).code (with_items m ws))
 
 -- the same of a tape of values
 abbrev pub EndsTapeOfValues : (V : RattleType) → {A : Type 0} → Taped V.Denot ValueLink
-    → SlotCells V.Denot ValueLink A → Type 0
+    → ValueCells V.Denot A → Type 0
 EndsTapeOfValues V t c = EndsTape V link_row t c.cells
 
 -- once the loan of its items ends, a tape of values is as before but for them
 abbrev pub lends_tape_values : (V A : RattleType) (heap : alloc.Ghosts A.Denot)
-    → MutBor (Taped V.Denot ValueLink) → SlotCells V.Denot ValueLink A.Denot → Fml
-lends_tape_values V A heap t cells = lends_cells V link_row A heap t cells
+    → MutBor (Taped V.Denot ValueLink) → ValueCells V.Denot A.Denot → Fml
+lends_tape_values V A heap t cells = lends_cells V link_row A packed_row heap ghosts t cells
 
 module _ (K V S A H : RattleType) (key : HashMembers K.Denot)
     (build : builder.Ghosts S.Denot H.Denot) (hash : hasher.Ghosts H.Denot)

@@ -11,10 +11,8 @@ use mir.Syntax.{named}
 use Rattle.multimap_walks.specs.Walk.{end_rest}
 use Rattle.multimap_walks.specs.WritingWalk.{entry_values_mut_name, entry_values_mut_values}
 use Rattle.multimap_slots.specs.Ownership.{final}
-use Rattle.multimap_slots.specs.declared.cells_of.SlotCells.{SlotCells}
-use Rattle.multimap_walks.specs.declared.links.ValueLink.{ValueLink}
 use Rattle.multimap_walks.specs.declared.End.{End}
-use Rattle.multimap_walks.specs.declared.writing.chain.EntryValuesMut.{EntryValuesMut}
+use Rattle.ordered_multimap.specs.ValueCells.{EntryWalk, ValueCells}
 use Rattle.ordered_multimap.specs.KeysLeft.{keys_left}
 use Rattle.ordered_multimap.specs.Multimap.{Multimap}
 use Rattle.ordered_multimap.specs.ValuesLent.{with_items, with_values_of, EndsAs}
@@ -71,7 +69,7 @@ module _ (K V S A H : RattleType) {e : equality.Ghosts K.Denot} {k : hash.Ghosts
   -- the values of the walk's map are lent; and once their slots have ended with some items, the
   -- walk's loan has ended with the walk that has them in its map
   abbrev pub EndsWalk : KeyValuesMut K.Denot V.Denot S.Denot A.Denot H.Denot e k b h
-      → SlotCells V.Denot ValueLink A.Denot → Type 0
+      → ValueCells V.Denot A.Denot → Type 0
   EndsWalk w c = EndsAs w.map.now c (final V c.cells.lender_context)
       (λ ws. (walk_row K V S A H e k b h alloc).coded.code (with_walk_items w ws))
 
@@ -79,7 +77,7 @@ module _ (K V S A H : RattleType) {e : equality.Ghosts K.Denot} {k : hash.Ghosts
   -- the loan of the iterator after the step ends with the iterator that has them
   pub record EndsStepped (end : End)
       (old : KeyValuesMut K.Denot V.Denot S.Denot A.Denot H.Denot e k b h)
-      (r : Bor K.Denot × EntryValuesMut K.Denot V.Denot A.Denot) : Type 0 where
+      (r : Bor K.Denot × EntryWalk K.Denot V.Denot A.Denot) : Type 0 where
     pub walk : KeyValuesMut K.Denot V.Denot S.Denot A.Denot H.Denot e k b h
     pub same_map : walk.map ≡ old.map
     pub keys : keys_left walk ≡ end_rest end (keys_left old)
@@ -89,7 +87,7 @@ module _ (K V S A H : RattleType) {e : equality.Ghosts K.Denot} {k : hash.Ghosts
   -- iterator stays
   abbrev pub lends_key_values : End
       → MutBor (KeyValuesMut K.Denot V.Denot S.Denot A.Denot H.Denot e k b h)
-      → Option (Bor K.Denot × EntryValuesMut K.Denot V.Denot A.Denot) → Fml
+      → Option (Bor K.Denot × EntryWalk K.Denot V.Denot A.Denot) → Fml
   lends_key_values end w r =
       follows_so (walk_row K V S A H e k b h alloc) (walk_row K V S A H e k b h alloc) w.ghost_name
       (name_if_some (λ p. entry_values_mut_name p.1) r)

@@ -11,7 +11,7 @@ use Rattle.multimap_slots.specs.declared.cells_of.SlotCells.{SlotCells}
 use Rattle.multimap_slots.proofs.Lending.Refilled.{some-refilled}
 use Rattle.std.specs.Prelude.{Bool, List, Option, IsSome}
 
-module _ {T L A : Type 0} {old new : SlotCells T L A} {place : ℕ} {r : MutBor T} (t : TakesItem old place r new) where
+module _ {T L A F : Type 0} {old new : SlotCells T L A F} {place : ℕ} {r : MutBor T} (t : TakesItem old place r new) where
   -- another item is left still
   pub IsLeft-other : (q : ℕ) → q ≢ place → IsLeft old q → IsLeft new q
   IsLeft-other q differs was = record {
@@ -21,7 +21,7 @@ module _ {T L A : Type 0} {old new : SlotCells T L A} {place : ℕ} {r : MutBor 
   }
 
 -- the same items are lent where another loan is followed
-pub LendsSlots-renamed : {T L A : Type 0} {s : Slots T L} {c : SlotCells T L A} (whole : GName) (around : Option (List (Bool × Gv)))
+pub LendsSlots-renamed : {T L A F : Type 0} {s : Slots T L} {c : SlotCells T L A F} (whole : GName) (around : Option (List (Bool × Gv)))
     → LendsSlots s c
     → LendsSlots s (record c { cells = record c.cells { lender_loan = whole; lender_context = around } })
 LendsSlots-renamed whole around lent = record {

@@ -26,6 +26,7 @@ use Rattle.std.specs.contracts.option.Option.{the_row as Opt}
 use Rattle.multimap_slots.specs.Ownership.{final, loans, tied_now}
 use Rattle.multimap_slots.specs.declared.cells.Cells.{Cells}
 use Rattle.multimap_slots.specs.declared.cells_of.SlotCells.{SlotCells}
+use Rattle.multimap_slots.specs.declared.link_form.LinkForm.{Ghosts as Form}
 use Rattle.multimap_slots.specs.contracts.cells.Cells as C
 use Rattle.multimap_slots.specs.contracts.cells_of.SlotCells as S
 use Rattle.multimap_slots.proofs.Lending.Ended.{tied_on, left_stays, all_end}
@@ -52,24 +53,24 @@ module _ {M : Type 1} {𝓤 : Ura M} (𝓛 : Logic 𝓤) (a : NamedLft) (T : Rat
       (fsep Sized (fsep (tied_now T ε rim c.names c.left) (loans a.lft T z.0 c.names c.items c.left z.1)))) p $
       move ! (1 ∷ 0 ∷ []) $ fjoin ! $ move ! (1 ∷ 0 ∷ []) $ fjoin ! $ done !)
 
-  module _ (L A : RattleType) (alloc : Ghosts A.Denot) where
-    abbrev pub all_renamed : SlotCells T.Denot L.Denot A.Denot → SlotCells T.Denot L.Denot A.Denot
+  module _ (L A F : RattleType) (alloc : Ghosts A.Denot) (form : Form F.Denot L.Denot) where
+    abbrev pub all_renamed : SlotCells T.Denot L.Denot A.Denot F.Denot → SlotCells T.Denot L.Denot A.Denot F.Denot
     all_renamed s = record s { cells = renamed s.cells }
 
     abbrev Parts : List RattleType
-    Parts = (shape (S.the_type a T L A alloc)).fields
+    Parts = (shape (S.the_type a T L A F alloc form)).fields
 
-    pub slot_cells_renamed : (s : SlotCells T.Denot L.Denot A.Denot) (vs : List Val)
+    pub slot_cells_renamed : (s : SlotCells T.Denot L.Denot A.Denot F.Denot) (vs : List Val)
         → ((ws : List (Option T.Denot)) → U.coded.code (u ws) ≡ final T s.cells.lender_context ws)
         → ((ws : List (Option T.Denot)) → R.coded.code (mk (u ws)) ≡ final T rim ws)
-        → ent 𝓤 (sep 𝓤 (sem 𝓛 ((S.the_row a T L A alloc).own_val s vs)) (sem 𝓛 (after R U ε s.cells.lender_loan mk)))
-        (sem 𝓛 ((S.the_row a T L A alloc).own_val (all_renamed s) vs))
+        → ent 𝓤 (sep 𝓤 (sem 𝓛 ((S.the_row a T L A F alloc form).own_val s vs)) (sem 𝓛 (after R U ε s.cells.lender_loan mk)))
+        (sem 𝓛 ((S.the_row a T L A F alloc form).own_val (all_renamed s) vs))
     slot_cells_renamed s vs from to =
-        qed 𝓛 (‵ ((S.the_row a T L A alloc).own_val s vs) ∷ ‵ (after R U ε s.cells.lender_loan mk) ∷ []) ∵ fpick ! (λ us. fsplit3 ! $
+        qed 𝓛 (‵ ((S.the_row a T L A F alloc form).own_val s vs) ∷ ‵ (after R U ε s.cells.lender_loan mk) ∷ []) ∵ fpick ! (λ us. fsplit3 ! $
         -- [the value; the cells; the order; after]
         move ! (1 ∷ 3 ∷ []) $ use2 𝓛 (‵ ((C.the_row a T).own_val (renamed s.cells) us.0)) (cells_renamed s.cells us.0 from to) $
         move ! (0 ∷ 2 ∷ []) $ fjoin ! $ move ! (1 ∷ 0 ∷ []) $ fjoin ! $
-        fpack ! (Valss Parts) (within (shape (S.the_type a T L A alloc)) (renamed s.cells, (s.order, tt)) vs) us $ done !)
+        fpack ! (Valss Parts) (within (shape (S.the_type a T L A F alloc form)) (renamed s.cells, (s.order, tt)) vs) us $ done !)
 
 -- What a right that is given up says of the items: those handed out end as what their references last held, the others as what stood there
 module _ {M : Type 1} {𝓤 : Ura M} (𝓛 : Logic 𝓤) (a : NamedLft) (T : RattleType) where
@@ -82,7 +83,7 @@ module _ {M : Type 1} {𝓤 : Ura M} (𝓛 : Logic 𝓤) (a : NamedLft) (T : Rat
       move ! (1 ∷ 0 ∷ []) $
       use2 𝓛 (‵ (ends_with T c)) (all_end 𝓛 a.lft T p.0 c.lender_loan c.lender_context c.names c.items c.left) $ now ! $ done !)
 
-  pub slot_cells_end : (L A : RattleType) (alloc : Ghosts A.Denot) (s : SlotCells T.Denot L.Denot A.Denot) (vs : List Val)
-      → ent 𝓤 (sem 𝓛 ((S.the_row a T L A alloc).own_val s vs)) (H.⇛ (sem 𝓛 (ends_with T s.cells)))
-  slot_cells_end L A alloc s vs = qed 𝓛 (‵ ((S.the_row a T L A alloc).own_val s vs) ∷ []) ∵ updating ! $ fpick ! (λ us. fsplit3 ! $ drop ! $
+  pub slot_cells_end : (L A F : RattleType) (alloc : Ghosts A.Denot) (form : Form F.Denot L.Denot) (s : SlotCells T.Denot L.Denot A.Denot F.Denot) (vs : List Val)
+      → ent 𝓤 (sem 𝓛 ((S.the_row a T L A F alloc form).own_val s vs)) (H.⇛ (sem 𝓛 (ends_with T s.cells)))
+  slot_cells_end L A F alloc form s vs = qed 𝓛 (‵ ((S.the_row a T L A F alloc form).own_val s vs) ∷ []) ∵ updating ! $ fpick ! (λ us. fsplit3 ! $ drop ! $
       use1 𝓛 (later (‵ (ends_with T s.cells))) (cells_end s.cells us.0) $ await ! tt $ now ! $ keep ! (0 ∷ []) $ done !)

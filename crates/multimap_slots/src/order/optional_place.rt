@@ -1,11 +1,13 @@
 //! A place or none, in one word.
-ghost use Rattle.std.specs.Prelude.{◌≡◌, ◌+◌, ◌<◌, ◌^◌, ℕ, None, Some, Option, IsSome};
+ghost use Rattle.std.specs.Prelude.{◌≡◌, ◌+◌, ◌<◌, ◌^◌, ℕ, None, Some, Option, IfSome, IsSome};
 
 use std::marker::Model;
 
-/// A place, or none: 0 stands for none, and any other number for the place below it.
+/// A place or none, in one word where an `Option<usize>` takes two.
+///
+/// 0 stands for none, and any other number for the place below it.
 #[derive(Clone, Copy)]
-pub(crate) struct OptionalPlace {
+pub struct OptionalPlace {
     above: usize,
 }
 
@@ -38,9 +40,35 @@ impl OptionalPlace {
         OptionalPlace { above: place + 1 }
     }
 
+    /// Puts a place or none into one word.
+    ///
+    /// # Complexity
+    ///
+    /// *O*(1).
+    ///
+    /// # Requires
+    ///
+    /// The place is below `usize::MAX`.
     #[inline(always)]
-    pub(crate) fn get(self) -> Option<usize>
-        ensures { result ≡ self }
+    pub fn of(place: Option<usize>) -> OptionalPlace
+        requires { IfSome place (λ p. p + 1 < 2 ^ 64) }
+        ensures { result ≡ place }
+    {
+        match place {
+            Some(place) => OptionalPlace::some(place),
+            None => OptionalPlace::none(),
+        }
+    }
+
+    /// Returns the place, or `None` where there is none.
+    ///
+    /// # Complexity
+    ///
+    /// *O*(1).
+    #[inline(always)]
+    pub fn get(self) -> Option<usize>
+        ensures place { result ≡ self }
+        ensures fits { IfSome result (λ p. p + 1 < 2 ^ 64) }
     {
         if self.above == 0 {
             None

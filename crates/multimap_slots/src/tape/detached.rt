@@ -6,9 +6,10 @@ ghost use Rattle.multimap_slots.specs.Tapes.{KeepsCounts, Frees};
 
 use super::Tape;
 use crate::in_order::InOrder;
+use crate::link_form::LinkForm;
 use std::alloc::Allocator;
 
-impl<T, L: Copy, A: Allocator> Tape<T, L, A> {
+impl<T, L: Copy, A: Allocator, F: LinkForm<L>> Tape<T, L, A, F> {
     /// Takes the item at `place`, which must be in the list, out of it, which leaves a hole, and
     /// keeps it there with its link until [`Tape::take_detached`] takes it. The time is constant.
     ///
@@ -36,7 +37,7 @@ impl<T, L: Copy, A: Allocator> Tape<T, L, A> {
         ensures freed { Frees self.old self.new }
         ensures capacity { self.new.list.capacity ≡ self.old.list.capacity }
     {
-        let link = self.links[place];
+        let link = self.links[place].link();
         self.detach(place);
         link
     }
@@ -48,7 +49,7 @@ impl<T, L: Copy, A: Allocator> Tape<T, L, A> {
         ensures { HasDetached self.now.list place result.0.now result.1 }
     {
         match &self.items[place] {
-            Some(item) => (item, self.links[place]),
+            Some(item) => (item, self.links[place].link()),
             None => unreachable!(),
         }
     }
@@ -76,7 +77,7 @@ impl<T, L: Copy, A: Allocator> Tape<T, L, A> {
         ensures capacity { self.new.list.capacity ≡ self.old.list.capacity }
     {
         match self.items[place].take() {
-            Some(item) => (item, self.links[place]),
+            Some(item) => (item, self.links[place].link()),
             None => unreachable!(),
         }
     }

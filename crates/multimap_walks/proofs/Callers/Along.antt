@@ -51,10 +51,10 @@ module _ (order : List ℕ) (left : ChainEnds) (more : left.length ≡ left.leng
 
   module _ (place : ℕ) (told : place ≡ unwrap_or (neighbour_of order end (end_place end left)) (end_place end left)) where
     pub left_after : AreLeft order (ends_after end left place)
-    left_after = end_leaves (listed order) (next_of order) (previous_of order) left more are_left place end told
+    left_after = end_leaves (listed order) (next_of order) (previous_of order) left more are_left place end (λ _. told)
 
     pub takes_end : places_left order left ≡ with_end end (end_place end left) (places_left order (ends_after end left place))
-    takes_end = end_taken (listed order) (next_of order) (previous_of order) left more are_left place end told
+    takes_end = end_taken (listed order) (next_of order) (previous_of order) left more are_left place end (λ _. told)
 
   none_left : (rest : ChainEnds) → rest.length ≡ 0 → places_left order rest ≡ []
   none_left rest none = ap (path (next_of order) rest.first) none

@@ -1,5 +1,5 @@
 -- What a walk over a chain has left, and what a step at either end gives.
-use Rattle.std.proofs.Common.{◌≡◌, ◌==◌, ℕ, ◌+◌, ◌-◌, Bool, true, false, cond, List, [], ◌∷◌, length, filter, reverse, Option, Some, None}
+use Rattle.std.proofs.Common.{◌≡◌, ◌<◌, ◌==◌, ℕ, ◌+◌, ◌-◌, Bool, true, false, cond, List, [], ◌∷◌, length, filter, reverse, Option, Some, None}
 use Rattle.std.proofs.Common.{unwrap_or, refl, sym, ap, ◌∙◌, subst, inl, inr}
 use Rattle.std.specs.Prelude.{IsSome, MatchOption, ⊤, option_and_then, option_map, if◌then◌else◌}
 use Rattle.std.specs.Borrow.{Bor}
@@ -18,7 +18,7 @@ use Rattle.multimap_walks.specs.Walk.{end_rest, with_end}
 use Rattle.multimap_walks.specs.Chained.{position_in, is_value_of, chain_of, values_at, positions_at, positions_left, next_place}
 use Rattle.multimap_walks.specs.Chained.{previous_place, places_along, Stands, IsChain, IsDetachedChain, IsChained}
 use Rattle.multimap_walks.specs.ChainWalk.{AreCounted, GivesEnd, chain_walk, reads_of_step}
-use Rattle.multimap_walks.proofs.Callers.Ends.{end_leaves, end_rest-none, end_rest-with, end_taken, map-with, shows_end}
+use Rattle.multimap_walks.proofs.Callers.Ends.{end_leaves, end_named, end_rest-none, end_rest-with, end_taken, map-with, shows_end}
 use Rattle.multimap_walks.proofs.Callers.Ends.{end_stands as path_stands}
 use Rattle.multimap_walks.proofs.Callers.Paths.{Leads-agree, Leads-next_of, Leads-previous_of, is_one, path-is, path_none, front_stands}
 use Rattle.multimap_walks.proofs.Callers.Paths.{back_stands, front_rest, back_rest, length-path}
@@ -95,17 +95,24 @@ module _ {V : Type 0} (values : Slots V ValueLink) where
   -- a step at an end
   module _ (detached : Bool) (left : ChainEnds) (more : left.length ≡ left.length - 1 + 1)
       (chain : IsChain values detached left.first left.last left.length) (end : End) where
+    -- where more is left, its link leads on
+    pub end_leads : (l : ValueLink) → link_at values (end_place end left) ≡ Some l → 0 < left.length - 1
+        → IsSome (step_from end l.next l.previous)
+    end_leads l link_is some = subst IsSome (sym (link_named end (end_place end left) l link_is))
+        (end_named (Stands values detached) (next_place values) (previous_place values) left more chain some end)
+
     -- an item stands there
     pub end_stands : Stands values detached (end_place end left)
     end_stands = path_stands (Stands values detached) (next_place values) (previous_place values) left more chain end
 
     module _ (place : ℕ) (l : ValueLink) (link_is : link_at values (end_place end left) ≡ Some l)
-        (told : place ≡ unwrap_or (step_from end l.next l.previous) (end_place end left)) where
+        (told : 0 < left.length - 1 → step_from end l.next l.previous ≡ Some place) where
       abbrev rest : ChainEnds
       rest = ends_after end left place
 
-      named : place ≡ unwrap_or (step_from end (next_place values) (previous_place values) (end_place end left)) (end_place end left)
-      named = told ∙ ap (λ o. unwrap_or o (end_place end left)) (link_named end (end_place end left) l link_is)
+      named : 0 < left.length - 1
+          → place ≡ unwrap_or (step_from end (next_place values) (previous_place values) (end_place end left)) (end_place end left)
+      named more = ap (λ o. unwrap_or o (end_place end left)) (sym (told more) ∙ link_named end (end_place end left) l link_is)
 
       -- the chain that it leaves
       pub chain_leaves : IsChain values detached rest.first rest.last rest.length
@@ -133,17 +140,17 @@ module _ {V : Type 0} (values : Slots V ValueLink) where
 
   -- the chains that a step leaves, and what stands at the ends, by the numbers of `ChainEnds`
   module _ (detached : Bool) (front back m n : ℕ) (more : m ≡ n + 1) (chain : IsChain values detached front back m) where
-    pub chain_behind : (next : ℕ) (l : ValueLink) → link_at values front ≡ Some l → next ≡ unwrap_or l.next front
+    pub chain_behind : (next : ℕ) (l : ValueLink) → link_at values front ≡ Some l → (0 < n → next ≡ unwrap_or l.next front)
         → IsChain values detached next back n
     chain_behind next l link_is told =
         front_rest (Stands values detached) (next_place values) (previous_place values) front back m n more chain next
-        (told ∙ ap (λ o. unwrap_or o front) (sym (next_is front l link_is)))
+        (λ some. told some ∙ ap (λ o. unwrap_or o front) (sym (next_is front l link_is)))
 
-    pub chain_before : (previous : ℕ) (l : ValueLink) → link_at values back ≡ Some l → previous ≡ unwrap_or l.previous back
+    pub chain_before : (previous : ℕ) (l : ValueLink) → link_at values back ≡ Some l → (0 < n → previous ≡ unwrap_or l.previous back)
         → IsChain values detached front previous n
     chain_before previous l link_is told =
         back_rest (Stands values detached) (next_place values) (previous_place values) front back m n more chain previous
-        (told ∙ ap (λ o. unwrap_or o back) (sym (previous_is back l link_is)))
+        (λ some. told some ∙ ap (λ o. unwrap_or o back) (sym (previous_is back l link_is)))
 
   -- an item stands at either end of what is left
   pub first_stands : (detached : Bool) (front back m n : ℕ) → m ≡ n + 1 → IsChain values detached front back m

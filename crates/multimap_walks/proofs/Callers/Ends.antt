@@ -88,7 +88,7 @@ module _ (stands : ℕ → Type 0) (next previous : ℕ → Option ℕ) (left : 
         ≡ with_end end (end_place end left) (path next (ends_after end left place).first (ends_after end left place).length)
 
     abbrev IsNext : End → Type 0
-    IsNext end = place ≡ unwrap_or (step_from end next previous (end_place end left)) (end_place end left)
+    IsNext end = 0 < n → place ≡ unwrap_or (step_from end next previous (end_place end left)) (end_place end left)
 
     pub end_leaves : (end : End) → IsNext end → AreAfter end
     end_leaves Front told = front_rest stands next previous left.first left.last left.length n more walk place told

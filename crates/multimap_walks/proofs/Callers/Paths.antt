@@ -99,18 +99,18 @@ module _ (stands : ℕ → Type 0) (next previous : ℕ → Option ℕ) where
     taken : places ≡ front ∷ rest.places
 
   first_behind : (p : ℕ) (places : List ℕ) (front behind : ℕ) → p ≡ front → IfSome (first_of places) (λ q. next p ≡ Some q)
-      → behind ≡ unwrap_or (next front) front → IfSome (first_of places) (λ q. q ≡ behind)
+      → (0 < length places → behind ≡ unwrap_or (next front) front) → IfSome (first_of places) (λ q. q ≡ behind)
   first_behind p [] front behind first leads told = tt
   first_behind p (q ∷ places) front behind first leads told =
-      sym (told ∙ ap (λ x. unwrap_or (next x) x) (sym first) ∙ ap (λ o. unwrap_or o p) leads)
+      sym (told (omega arith) ∙ ap (λ x. unwrap_or (next x) x) (sym first) ∙ ap (λ o. unwrap_or o p) leads)
 
   last_behind : (p : ℕ) (places : List ℕ) (back : ℕ) → IfSome (last_of (p ∷ places)) (λ q. q ≡ back)
       → IfSome (last_of places) (λ q. q ≡ back)
   last_behind p [] back last = tt
   last_behind p (q ∷ places) back last = last
 
-  step : (front back behind n : ℕ) (walk : IsPath stands next previous front back (n + 1)) → behind ≡ unwrap_or (next front) front
-      → Step front back n behind walk.places
+  step : (front back behind n : ℕ) (walk : IsPath stands next previous front back (n + 1))
+      → (0 < n → behind ≡ unwrap_or (next front) front) → Step front back n behind walk.places
   step front back behind n walk told =
       from walk.places walk.onward walk.backward walk.first walk.last walk.count walk.there where
         from : (places : List ℕ) → Leads next places → Leads previous (reverse places) → IfSome (first_of places) (λ p. p ≡ front)
@@ -122,7 +122,7 @@ module _ (stands : ℕ → Type 0) (next previous : ℕ → Option ℕ) where
             places = places;
             onward = onward.1;
             backward = Leads-left previous (reverse places) (p ∷ []) (subst (Leads previous) (reverse-cons p places) backward);
-            first = first_behind p places front behind first onward.0 told;
+            first = first_behind p places front behind first onward.0 (λ some. told (omega (arith, some, count)));
             last = last_behind p places back last;
             count = omega (arith, count);
             there = λ q member. there q (inr member);
@@ -143,20 +143,20 @@ module _ (stands : ℕ → Type 0) (next previous : ℕ → Option ℕ) (front b
   grown : IsPath stands next previous front back (n + 1)
   grown = subst (IsPath stands next previous front back) more walk
 
-  at_front : (behind : ℕ) → behind ≡ unwrap_or (next front) front → Step stands next previous front back n behind grown.places
+  at_front : (behind : ℕ) → (0 < n → behind ≡ unwrap_or (next front) front) → Step stands next previous front back n behind grown.places
   at_front behind told = step stands next previous front back behind n grown told
 
   backward : IsPath stands previous next back front (n + 1)
   backward = mirrored stands next previous front back (n + 1) grown
 
-  at_back : (before : ℕ) → before ≡ unwrap_or (previous back) back → Step stands previous next back front n before backward.places
+  at_back : (before : ℕ) → (0 < n → before ≡ unwrap_or (previous back) back) → Step stands previous next back front n before backward.places
   at_back before told = step stands previous next back front before n backward told
 
   pub front_stands : stands front
-  front_stands = grown.there front (subst (IsIn front) (sym (at_front _ refl).taken) (inl refl))
+  front_stands = grown.there front (subst (IsIn front) (sym (at_front (unwrap_or (next front) front) (λ _. refl)).taken) (inl refl))
 
   pub back_stands : stands back
-  back_stands = backward.there back (subst (IsIn back) (sym (at_back _ refl).taken) (inl refl))
+  back_stands = backward.there back (subst (IsIn back) (sym (at_back (unwrap_or (previous back) back) (λ _. refl)).taken) (inl refl))
 
   -- where another place is left, each end names its neighbour
   pub front_named : 0 < n → IsSome (next front)
@@ -165,19 +165,19 @@ module _ (stands : ℕ → Type 0) (next previous : ℕ → Option ℕ) (front b
   pub back_named : 0 < n → IsSome (previous back)
   back_named some = names_on previous back backward.places backward.onward backward.first (omega (arith, backward.count, some))
 
-  pub front_rest : (behind : ℕ) → behind ≡ unwrap_or (next front) front → IsPath stands next previous behind back n
+  pub front_rest : (behind : ℕ) → (0 < n → behind ≡ unwrap_or (next front) front) → IsPath stands next previous behind back n
   front_rest behind told = (at_front behind told).rest
 
-  pub back_rest : (before : ℕ) → before ≡ unwrap_or (previous back) back → IsPath stands next previous front before n
+  pub back_rest : (before : ℕ) → (0 < n → before ≡ unwrap_or (previous back) back) → IsPath stands next previous front before n
   back_rest before told = mirrored stands previous next before front n (at_back before told).rest
 
-  pub front_taken : (behind : ℕ) → behind ≡ unwrap_or (next front) front → path next front m ≡ front ∷ path next behind n
+  pub front_taken : (behind : ℕ) → (0 < n → behind ≡ unwrap_or (next front) front) → path next front m ≡ front ∷ path next behind n
   unfolding at_front front_rest
   front_taken behind told =
       ap (path next front) more ∙ path-is stands next previous front back (n + 1) grown ∙ (at_front behind told).taken
       ∙ ap (λ ps. front ∷ ps) (sym (path-is stands next previous behind back n (front_rest behind told)))
 
-  pub back_taken : (before : ℕ) → before ≡ unwrap_or (previous back) back → path next front m ≡ path next front n ++ back ∷ []
+  pub back_taken : (before : ℕ) → (0 < n → before ≡ unwrap_or (previous back) back) → path next front m ≡ path next front n ++ back ∷ []
   unfolding mirrored backward at_back back_rest
   back_taken before told =
       let behind = (at_back before told).rest.places in

@@ -89,7 +89,7 @@ module _ {T L : Type 0} where
         fits = ∥∥₁_elim some fits_prop (λ x. x.fits);
       }
 
-  module _ {A : Type 0} (cells : SlotCells T L A) where
+  module _ {A F : Type 0} (cells : SlotCells T L A F) where
     read_is_left : (p : ℕ) → ∥ IsLeft cells p ∥₁ → IsLeft cells p
     read_is_left p some =
         let filled_prop : IsProp (IsSome (item_at (lent_slots cells) p)) = Prim.hlevel props in
@@ -115,7 +115,7 @@ module _ {T L : Type 0} where
           untaken = read_untaken (places_left order left) (∥∥₁_map some (λ x. x.untaken));
         }
 
-module _ {V A : Type 0} (cells : SlotCells V ValueLink A) (left : ChainEnds) where
+module _ {V A F : Type 0} (cells : SlotCells V ValueLink A F) (left : ChainEnds) where
   pub read_owned : {K : Type 0} (keys : Slots K KeyLink) → ∥ AreOwned keys (lent_slots cells) ∥₁ → AreOwned keys (lent_slots cells)
   read_owned keys some = λ place l member link. read_member l.key keys.order (∥∥₁_map some (λ x. x place l member link))
 

@@ -1,5 +1,5 @@
 //! The iterator over one key's values for writing.
-ghost use Rattle.std.specs.Prelude.{◌≡◌, IfSome};
+ghost use Rattle.std.specs.Prelude.{◌≡◌, IfNone, IfSome};
 ghost use Rattle.multimap_slots.specs.SlotCells.{lent_slots, IsLeft};
 ghost use Rattle.multimap_walks.specs.Chained.{places_along};
 ghost use Rattle.multimap_walks.specs.Ends.{end_place};
@@ -11,7 +11,8 @@ mod methods;
 
 use crate::End;
 use crate::links::{ChainEnds, ValueLink};
-use multimap_slots::SlotCells;
+use crate::packed::PackedLink;
+use multimap_slots::{LinkForm, SlotCells};
 use std::alloc::{Allocator, Global};
 use std::marker::PhantomData;
 
@@ -22,9 +23,9 @@ use std::marker::PhantomData;
 /// `&mut value`. It iterates from both ends, and knows its length. It has a `Drop`, so one that is
 /// held in a variable borrows the map to the end of its block; `drop` ends it sooner. Each item
 /// reads one value slot.
-pub struct EntryValuesMut<'map, K, V, A: Allocator = Global> {
+pub struct EntryValuesMut<'map, K, V, A: Allocator = Global, F: LinkForm<ValueLink> = PackedLink> {
     keys: PhantomData<&'map K>,
-    values: SlotCells<'map, V, ValueLink, A>,
+    values: SlotCells<'map, V, ValueLink, A, F>,
     left: ChainEnds,
     ghost readable: { ∥ CanReadChain values left ∥₁ },
 }
@@ -32,9 +33,9 @@ pub struct EntryValuesMut<'map, K, V, A: Allocator = Global> {
 /// Takes the place at an end from those of a key's values that are left, or returns `None` if none
 /// is left.
 #[inline(always)]
-pub(crate) fn pass_end_of_chain<V, A: Allocator>(
+pub(crate) fn pass_end_of_chain<V, A: Allocator, F: LinkForm<ValueLink>>(
     end: End,
-    cells: &SlotCells<'_, V, ValueLink, A>,
+    cells: &SlotCells<'_, V, ValueLink, A, F>,
     left: &mut ChainEnds,
 ) -> Option<usize>
     requires { CanReadChain cells.now left.old }
@@ -45,33 +46,38 @@ pub(crate) fn pass_end_of_chain<V, A: Allocator>(
         (places_along (lent_slots cells.now) left.old.first left.old.length) result
         (places_along (lent_slots cells.now) left.new.first left.new.length) }
 {
-    if left.length == 0 {
-        return None;
-    }
+    let rest = chain_after(end, cells, *left)?;
     let place = left.place_at(end);
-    *left = chain_after(end, cells, *left);
+    *left = rest;
     Some(place)
 }
 
-/// The values of a key that are left once that at an end is taken. Its link alone is read.
+/// The values of a key that are left once that at an end is taken, or `None` if none is left. Its
+/// link alone is read, and none where no other value is left.
 #[inline(always)]
-fn chain_after<V, A: Allocator>(
+fn chain_after<V, A: Allocator, F: LinkForm<ValueLink>>(
     end: End,
-    cells: &SlotCells<'_, V, ValueLink, A>,
+    cells: &SlotCells<'_, V, ValueLink, A, F>,
     left: ChainEnds,
-) -> ChainEnds
-    requires can { CanReadChain cells.now left }
-    requires more { ¬ (left.length ≡ 0) }
-    ensures can { CanReadChain cells.now result }
-    ensures taken { PassesEnd end
-        (λ ends. places_along (lent_slots cells.now) ends.first ends.length) left result }
+) -> Option<ChainEnds>
+    requires { CanReadChain cells.now left }
+    ensures none { IfNone result (left.length ≡ 0) }
+    ensures can { IfSome result (CanReadChain cells.now) }
+    ensures taken { IfSome result (PassesEnd end
+        (λ ends. places_along (lent_slots cells.now) ends.first ends.length) left) }
 {
     let place = left.place_at(end);
-    left.after(end, cells.link(place).step_from(end).unwrap_or(place))
+    if left.length > 1 {
+        Some(left.after(end, cells.link(place).beyond(end, left.length)))
+    } else if left.length == 1 {
+        Some(left.after(end, place))
+    } else {
+        None
+    }
 }
 
 /// Leaves the values that weren't yielded as they are.
-impl<'map, K, V, A: Allocator> Drop for EntryValuesMut<'map, K, V, A> {
+impl<'map, K, V, A: Allocator, F: LinkForm<ValueLink>> Drop for EntryValuesMut<'map, K, V, A, F> {
     ghost use Rattle.std.specs.Borrow.{sem};
     ghost use Rattle.multimap_slots.specs.Ended.{ends_with};
     ghost use Rattle.multimap_walks.specs.WritingWalk.{entry_values_mut_cells};

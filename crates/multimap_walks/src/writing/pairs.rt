@@ -4,8 +4,9 @@ ghost use Rattle.multimap_walks.specs.RestWalk.{CanReadPairs};
 mod methods;
 
 use crate::links::{ChainEnds, KeyLink, ValueLink};
+use crate::packed::PackedLink;
 use crate::slots::end_reads;
-use multimap_slots::{Reads, SlotCells, SlotList};
+use multimap_slots::{LinkForm, Reads, SlotCells, SlotList};
 use std::alloc::{Allocator, Global};
 
 /// A mutable iterator over the pairs of a map, in insertion order.
@@ -14,16 +15,16 @@ use std::alloc::{Allocator, Global};
 /// are `(&key, &mut value)`. It iterates from both ends, and knows its length. It has a `Drop`, so
 /// one that is held in a variable borrows the map to the end of its block; `drop` ends it sooner.
 /// Each item reads the slots of its value and of its key.
-pub struct IterMut<'map, K, V, A: Allocator = Global> {
+pub struct IterMut<'map, K, V, A: Allocator = Global, F: LinkForm<ValueLink> = PackedLink> {
     reads: Reads,
     keys: &'map SlotList<K, KeyLink, A>,
-    values: SlotCells<'map, V, ValueLink, A>,
+    values: SlotCells<'map, V, ValueLink, A, F>,
     left: ChainEnds,
     ghost readable: { ∥ CanReadPairs values left keys.now ∥₁ },
 }
 
 /// Leaves the values that weren't yielded as they are.
-impl<'map, K, V, A: Allocator> Drop for IterMut<'map, K, V, A> {
+impl<'map, K, V, A: Allocator, F: LinkForm<ValueLink>> Drop for IterMut<'map, K, V, A, F> {
     ghost use Rattle.std.specs.Borrow.{sem};
     ghost use Rattle.multimap_slots.specs.Ended.{ends_with};
     ghost use Rattle.multimap_walks.specs.WritingWalk.{iter_mut_cells};

@@ -15,14 +15,14 @@ pub(crate) mod values;
 use super::pass_end;
 use crate::End;
 use crate::links::{ChainEnds, ValueLink};
-use multimap_slots::SlotCells;
+use multimap_slots::{LinkForm, SlotCells};
 use std::alloc::Allocator;
 
 /// Reads the value at an end of those that are left, with its link.
 #[inline(always)]
-fn read<'walk, V, A: Allocator>(
+fn read<'walk, V, A: Allocator, F: LinkForm<ValueLink>>(
     end: End,
-    cells: &'walk SlotCells<'_, V, ValueLink, A>,
+    cells: &'walk SlotCells<'_, V, ValueLink, A, F>,
     left: &mut ChainEnds,
 ) -> Option<(&'walk V, ValueLink)>
     requires { CanLend cells.now left.old }

@@ -1,6 +1,7 @@
 -- A map whose values were written through a loan is the map with other values, and agrees as before.
 use Rattle.std.proofs.Common.{◌≡◌, ℕ, zero, get_or, unwrap_or, inl, inr, List, [], ◌∷◌, length, Option, Some, None, IsSome, refl, sym, ap}
 use Rattle.std.proofs.Common.{◌∙◌, subst, arith, Bool, suc, map, true, false}
+use Rattle.ordered_multimap.specs.ValueCells.{ValueCells}
 use Rattle.ordered_multimap.specs.TapeNumbers.{numbers_code}
 use Rattle.ordered_multimap.specs.MapSlots.{key_link_code, value_link_code, ends_code}
 use Rattle.multimap_slots.specs.Codes.{slots_code}
@@ -15,7 +16,6 @@ use Rattle.multimap_slots.specs.Lists.{IsIn}
 use Rattle.multimap_slots.specs.Slots.{Slots, IsSound, item_at}
 use Rattle.multimap_slots.specs.CellsLends.{with_refilled}
 use Rattle.multimap_slots.specs.SlotCells.{LendsSlots}
-use Rattle.multimap_slots.specs.declared.cells_of.SlotCells.{SlotCells}
 use Rattle.multimap_slots.specs.Taken.{refilled}
 use Rattle.multimap_slots.proofs.Lending.Refilled.{some-refilled, none-refilled}
 use Rattle.multimap_walks.specs.declared.links.KeyLink.{KeyLink}
@@ -130,7 +130,7 @@ module _ {K V : Type 0} where
 
   -- the cells of the map's values agree with its keys
   pub AreLent-made : {S A : Type 0} (eq : K → K → Bool) (hash : S → K → ℕ) (m : Multimap K V S) (keys : Slots K KeyLink)
-      (rows : FinMap nat_cmp ℕ) (values : Slots V ValueLink) (cells : SlotCells V ValueLink A)
+      (rows : FinMap nat_cmp ℕ) (values : Slots V ValueLink) (cells : ValueCells V A)
       → Agrees eq (hash m.hasher) keys rows values → lists_of keys values ≡ m.lists → keys ≡ m.slots.keys → values ≡ m.slots.values
       → LendsSlots values cells → AreLent eq hash m cells keys
   AreLent-made eq hash m keys rows values cells agrees shown keys_are values_are lent = record {
@@ -190,8 +190,8 @@ map-ended {K} {V} {S} m n rows same agrees shown ws =
 
 -- a walk lends what the call that made it lent
 pub ends_walk : {K V S A : Type 0} (m : Multimap K V S)
-    (final : Option (List (Bool × Gv)) → List (Option V) → Gv) {walk lent : SlotCells V ValueLink A} {whole : List (Option V) → Gv}
+    (final : Option (List (Bool × Gv)) → List (Option V) → Gv) {walk lent : ValueCells V A} {whole : List (Option V) → Gv}
     → walk ≡ lent
     → EndsAs m lent (final lent.cells.lender_context) whole → EndsAs m walk (final walk.cells.lender_context) whole
 ends_walk {V = V} {A = A} m final {whole = whole} same lent = subst
-    (λ (c : SlotCells V ValueLink A). EndsAs m c (final c.cells.lender_context) whole) (sym same) lent
+    (λ (c : ValueCells V A). EndsAs m c (final c.cells.lender_context) whole) (sym same) lent

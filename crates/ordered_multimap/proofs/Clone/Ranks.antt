@@ -1,7 +1,8 @@
 -- The ranks of places, noted one after another, and the ranks of the places that links name.
 use Rattle.std.proofs.Common.{◌≡◌, ℕ, ◌+◌, ◌<◌, ◌≤◌, List, [], ◌∷◌, ◌++◌, length, Some, refl, sym, ap, ◌∙◌, subst, inl, inr, arith}
 use Rattle.std.proofs.Common.{append_assoc, length-append}
-use Rattle.std.proofs.lemmas.Bool.{cases_eq}
+use Rattle.std.proofs.Common.{Option, None, IfSome, option_map, ◌^◌}
+use Rattle.std.proofs.lemmas.Bool.{cases_eq, eq-eqb, ne_eqb}
 use Rattle.std.proofs.lemmas.List.{get_or_append_left, get_or_push}
 use Rattle.multimap_slots.specs.Lists.{IsIn, Rises, first_of}
 use Rattle.multimap_slots.specs.Slots.{Slots, link_at}
@@ -11,7 +12,8 @@ use Rattle.multimap_walks.specs.declared.links.ValueLink.{ValueLink}
 use Rattle.multimap_walks.specs.Chained.{chain_of, is_value_of, position_in}
 use Rattle.ordered_multimap.specs.Private.Copies.{AreRanks, HasRankedEnds, HasRankedNeighbours}
 use Rattle.ordered_multimap.specs.Private.KeyRelocations.{new_place_in}
-use Rattle.ordered_multimap.specs.Private.Relocations.{AreChained}
+use Rattle.multimap_walks.specs.Packed.{HasSmallPlaces}
+use Rattle.ordered_multimap.specs.Private.Relocations.{AreChained, relocated_value}
 use Rattle.ordered_multimap.proofs.Callers.Members.{IsIn-kept}
 use Rattle.ordered_multimap.proofs.Callers.Places.{begins, last_of-member, position_in-split}
 use Rattle.ordered_multimap.proofs.Chains.Neighbours.{first_of-member, next_of-members, previous_of-members}
@@ -118,6 +120,21 @@ ranks-end {order} {ranks} {place = place} noted within = record {
   ];
 }
 
+-- fewer places stand before one that is listed than are listed
+position_below : (order : List ℕ) (q : ℕ) → IsIn q order → position_in order q < length order
+position_below [] q i = absurd i
+position_below (p ∷ order) q i = elim (cases_eq p q) [
+  | inl same ↦ rw (eq-eqb p q same) (omega arith)
+  | inr differs ↦ rw (ne_eqb p q differs) (elim i [
+    | inl here ↦ absurd (differs (sym here))
+    | inr later ↦ omega (arith, position_below order q later)
+  ])
+]
+
+if_small : (f : ℕ → ℕ) (o : Option ℕ) → ((q : ℕ) → o ≡ Some q → f q + 1 < 2 ^ 64) → IfSome (option_map f o) (λ p. p + 1 < 2 ^ 64)
+if_small f None each = tt
+if_small f (Some q) each = each q refl
+
 -- each place of a value that a link names has a rank
 module _ {K V : Type 0} {keys : Slots K KeyLink} {values : Slots V ValueLink} {has_rank : ℕ → Type 0} {rank : ℕ → ℕ}
     (chains : AreChained keys values) (are : AreRanks values.order has_rank rank) where
@@ -134,4 +151,19 @@ module _ {K V : Type 0} {keys : Slots K KeyLink} {values : Slots V ValueLink} {h
   ranked_neighbours q l listed is = record {
     previous = λ p e. in_chain l.key p (previous_of-members (chain_of values l.key) q p (chains.chained.previous q l listed is ∙ e)).1;
     next = λ p e. in_chain l.key p (next_of-members (chain_of values l.key) q p (chains.chained.next q l listed is ∙ e)).1;
+  }
+
+  small_rank : length values.order < 2 ^ 64 → (key q : ℕ) → IsIn q (chain_of values key) → rank q + 1 < 2 ^ 64
+  small_rank counted key q i =
+      let listed = (IsIn-kept (is_value_of values key) q values.order i).0 in
+      omega (arith, are.each q listed, position_below values.order q listed, counted)
+
+  -- these ranks are small
+  pub ranked_small : length values.order < 2 ^ 64 → (q : ℕ) (l : ValueLink) → IsIn q values.order → link_at values q ≡ Some l
+      → HasSmallPlaces (relocated_value rank l)
+  ranked_small counted q l listed is = record {
+    previous = if_small rank l.previous (λ p e.
+        small_rank counted l.key p (previous_of-members (chain_of values l.key) q p (chains.chained.previous q l listed is ∙ e)).1);
+    next = if_small rank l.next (λ p e.
+        small_rank counted l.key p (next_of-members (chain_of values l.key) q p (chains.chained.next q l listed is ∙ e)).1);
   }

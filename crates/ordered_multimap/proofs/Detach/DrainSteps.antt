@@ -150,7 +150,7 @@ module _ {V : Type 0} {values : Slots V ValueLink} (ends : ChainEnds) (some : �
     unfolding behind_ends
     places_are = front_taken (IsDetached values) (next_place values)
         (previous_place values) ends.first ends.last ends.length n more chain behind
-        (told ∙ rw link_is refl)
+        (λ _. told ∙ rw link_is refl)
 
     split : AreDistinct (ends.first ∷ drained_places values behind_ends)
     split = subst AreDistinct places_are d.distinct
@@ -158,7 +158,7 @@ module _ {V : Type 0} {values : Slots V ValueLink} (ends : ChainEnds) (some : �
     rest : IsDrained values behind_ends
     unfolding behind_ends
     rest =
-        let c = chain_behind values true ends.first ends.last ends.length n more chain behind l link_is told in
+        let c = chain_behind values true ends.first ends.last ends.length n more chain behind l link_is (λ _. told) in
         drained-chain values behind_ends c (subst AreDistinct (places_of-chain values behind_ends c) split.1)
 
     elsewhere : (p : ℕ) → IsIn p (drained_places values behind_ends) → p ≢ ends.first
@@ -205,7 +205,7 @@ module _ {V : Type 0} {values : Slots V ValueLink} (ends : ChainEnds) (some : �
     unfolding before_ends
     places_end = back_taken (IsDetached values) (next_place values)
         (previous_place values) ends.first ends.last ends.length n more chain before
-        (told ∙ rw link_is refl)
+        (λ _. told ∙ rw link_is refl)
 
     whole : AreDistinct (drained_places values before_ends ++ ends.last ∷ [])
     whole = subst AreDistinct places_end d.distinct
@@ -213,7 +213,7 @@ module _ {V : Type 0} {values : Slots V ValueLink} (ends : ChainEnds) (some : �
     front : IsDrained values before_ends
     unfolding before_ends
     front =
-        let c = chain_before values true ends.first ends.last ends.length n more chain before l link_is told in
+        let c = chain_before values true ends.first ends.last ends.length n more chain before l link_is (λ _. told) in
         drained-chain values before_ends c (subst AreDistinct (places_of-chain values before_ends c)
         (subst AreDistinct (append-nil (drained_places values before_ends))
         (AreDistinct-remove (drained_places values before_ends) ends.last [] whole)))

@@ -21,11 +21,9 @@ use Rattle.multimap_slots.specs.CellsLends.{with_refilled}
 use Rattle.multimap_slots.specs.Ownership.{final}
 use Rattle.multimap_slots.specs.Ended.{become, ends_with}
 use Rattle.multimap_slots.specs.declared.cells.Cells.{Cells}
-use Rattle.multimap_slots.specs.declared.cells_of.SlotCells.{SlotCells}
 use Rattle.multimap_walks.specs.WritingWalk.{entry_values_mut_name, entry_values_mut_values}
 use Rattle.multimap_walks.specs.declared.End.{End}
-use Rattle.multimap_walks.specs.declared.links.ValueLink.{ValueLink}
-use Rattle.multimap_walks.specs.declared.writing.chain.EntryValuesMut.{EntryValuesMut}
+use Rattle.ordered_multimap.specs.ValueCells.{EntryWalk, ValueCells}
 use Rattle.ordered_multimap.specs.Entries.{with_entry_items, with_map_values}
 use Rattle.ordered_multimap.specs.EntryLends.{EndsEntry, entry_row, lends_values_to_entry}
 use Rattle.ordered_multimap.specs.Exact.{EntryWalksAreExact, InnerWalksAreExact, IsEndedWalk, KeyWalksAreExact, WalksAreExact}
@@ -71,7 +69,7 @@ module _ {M : Type 1} {𝓤 : Ura M} (𝓛 : Logic 𝓤) (K V S A H : RattleType
   R = map_row K V S A H key build hash heap
 
   -- from the clauses of the call that made the walk, and of the walk's end
-  pub exactly : (m : Multimap K.Denot V.Denot S.Denot) (γ : GName) (made : SlotCells V.Denot ValueLink A.Denot) (c : Cells V.Denot)
+  pub exactly : (m : Multimap K.Denot V.Denot S.Denot) (γ : GName) (made : ValueCells V.Denot A.Denot) (c : Cells V.Denot)
       → EndsMap K V S m made → c.lender_context ≡ made.cells.lender_context
       → ent 𝓤 (sep 𝓤 (sem 𝓛 (follows R R γ c.lender_loan (with_values_of m))) (sem 𝓛 (ends_with V c))) (sem 𝓛 (ends_exactly K V S m γ c))
   exactly m γ made c ends same = by_items 𝓛 R V (with_values_of m) (with_items m) γ c (λ ws. fres γ (R.coded.code (ended_map m ws)))
@@ -92,7 +90,7 @@ module _ {M : Type 1} {𝓤 : Ura M} (𝓛 : Logic 𝓤) (K V S A H : RattleType
   abbrev W : RattleType
   W = walk_row K V S A H e k b h heap
 
-  pub entry_exactly : (o : MutBor E.Denot) (made : SlotCells V.Denot ValueLink A.Denot) (c : Cells V.Denot)
+  pub entry_exactly : (o : MutBor E.Denot) (made : ValueCells V.Denot A.Denot) (c : Cells V.Denot)
       → EndsEntry K V S A H heap o.now made → c.lender_context ≡ made.cells.lender_context
       → ent 𝓤 (sep 𝓤 (sem 𝓛 (lends_values_to_entry K V S A H heap o c.lender_loan)) (sem 𝓛 (ends_with V c)))
       (sem 𝓛 (entry_ends_exactly K V S A H heap o c))
@@ -112,7 +110,7 @@ module _ {M : Type 1} {𝓤 : Ura M} (𝓛 : Logic 𝓤) (K V S A H : RattleType
       (λ ws. qed 𝓛 (‵ (fres o.ghost_name (E.coded.code (over ws (with_values m ws).lists.pairs))) ∷ []) ∵
       rewrite ! 0 (λ (ps : List (K.Denot × V.Denot)). ‵ (fres o.ghost_name (E.coded.code (over ws ps)))) (ends.pairs ws) refl $ done !)
 
-  pub walk_exactly : (end : End) (w : MutBor W.Denot) (r : Bor K.Denot × EntryValuesMut K.Denot V.Denot A.Denot) (c : Cells V.Denot)
+  pub walk_exactly : (end : End) (w : MutBor W.Denot) (r : Bor K.Denot × EntryWalk K.Denot V.Denot A.Denot) (c : Cells V.Denot)
       → EndsStepped K V S A H heap end w.now r → c.lender_context ≡ (entry_values_mut_values r.1).cells.lender_context
       → c.lender_loan ≡ entry_values_mut_name r.1
       → ent 𝓤 (sep 𝓤 (sem 𝓛 (lends_key_values K V S A H heap end w (Some r))) (sem 𝓛 (ends_with V c)))

@@ -11,6 +11,9 @@ use denote.Struct.Tuple.{Tuple, tuple_laws}
 use Rattle.std.specs.contracts.option.Option.{the_row as Opt}
 use Rattle.std.proofs.option.Option.TheLaws.{the_row_laws as Opt-laws}
 use Rattle.std.specs.declared.alloc.Allocator.{Ghosts}
+use Rattle.multimap_walks.specs.contracts.packed.PackedLink as PL-type
+use Rattle.multimap_walks.specs.contracts.packed.PackedLinkLinkFormValueLink.TheImpl.{ghosts as form}
+use Rattle.multimap_walks.proofs.packed.PackedLink.TheLaws as PL-laws
 use Rattle.multimap_walks.specs.contracts.writing.chain.EntryValuesMut as W-type
 use Rattle.multimap_walks.proofs.writing.chain.EntryValuesMut.TheLaws as W-laws
 use Rattle.ordered_multimap.specs.contracts.list_ordered_multimap.key_wrapper.KeyWrapper as Key
@@ -53,5 +56,5 @@ module _ (ℓ : NamedLft) (K W : RattleType) where
 
 -- a key with its values
 module _ (ℓ : NamedLft) (K V A : RattleType) (al : Ghosts A.Denot) where
-  pub lent_values_laws : Laws K → Laws V → Laws A → Laws (Opt (LentKey ℓ K (W-type.the_row ℓ K V A al)))
-  lent_values_laws LK LV LA = lent_key_laws ℓ K (W-type.the_row ℓ K V A al) LK (W-laws.the_row_laws ℓ K V A al LK LV LA)
+  pub lent_values_laws : Laws K → Laws V → Laws A → Laws (Opt (LentKey ℓ K (W-type.the_row ℓ K V A PL-type.the_row form al)))
+  lent_values_laws LK LV LA = lent_key_laws ℓ K (W-type.the_row ℓ K V A PL-type.the_row form al) LK (W-laws.the_row_laws ℓ K V A PL-type.the_row form al LK LV LA PL-laws.the_row_laws)

@@ -10,6 +10,7 @@ use Rattle.multimap_table.specs.Table.{Table}
 use Rattle.multimap_walks.specs.declared.links.KeyLink.{KeyLink}
 use Rattle.multimap_walks.specs.declared.links.ValueLink.{ValueLink}
 use Rattle.ordered_multimap.specs.Agrees.{Agrees}
+use Rattle.multimap_walks.specs.Packed.{HasSmallPlaces}
 use Rattle.ordered_multimap.specs.Private.RemoveOne.{HasLinks, HasPair, TakesPair}
 use Rattle.ordered_multimap.specs.Private.Retain.{Asks, RetainsAt, StaysIf}
 use Rattle.ordered_multimap.specs.TapeNumbers.{TakesOut, numbers_of}
@@ -72,12 +73,13 @@ all_counted left = record { freed = omega (arith, left.freed, left.fewer); paid 
 pub asked_links : {F K V : Type 0} {calls : F → K → V → Bool → V → F → Type 0} {keys : Slots K KeyLink} {rows : FinMap nat_cmp ℕ}
     {values asked : Taped V ValueLink} {place : ℕ} {f g : F} {b : Bool} {link : ValueLink} {key_link : KeyLink}
     → HasPair keys rows values.list place → Asks calls keys values asked place f b g → link_at values.list place ≡ Some link
-    → link_at keys link.key ≡ Some key_link → HasLinks keys asked.list place link key_link
-asked_links {keys = keys} {place = place} {link = link} {key_link = key_link} s asked is key_is =
+    → link_at keys link.key ≡ Some key_link → HasSmallPlaces link → HasLinks keys asked.list place link key_link
+asked_links {keys = keys} {place = place} {link = link} {key_link = key_link} s asked is key_is small =
     subst (λ vs. HasLinks keys vs place link key_link) (sym (ap (λ t. t.list) asked.written)) (record {
       listed = s.listed;
       link_is = is;
       key_link_is = key_is;
+      small = small;
       sound = IsSound-with_item s.sound place s.listed asked.left;
       chained = IsChained-with_item s.chained place asked.left;
     })

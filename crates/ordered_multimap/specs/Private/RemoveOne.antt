@@ -12,6 +12,7 @@ use Rattle.multimap_walks.specs.declared.End.{End}
 use Rattle.multimap_walks.specs.declared.End.TheVariants.{Front, Back}
 use Rattle.multimap_walks.specs.declared.links.KeyLink.{KeyLink}
 use Rattle.multimap_walks.specs.declared.links.ValueLink.{ValueLink}
+use Rattle.multimap_walks.specs.Packed.{HasSmallPlaces}
 use Rattle.ordered_multimap.specs.Private.Remove.{KeepsRoom, TakesKey}
 use Rattle.ordered_multimap.specs.declared.list_ordered_multimap.remove.one.Taken.{Taken}
 use Rattle.ordered_multimap.specs.declared.list_ordered_multimap.remove.one.TakenKey.{TakenKey}
@@ -54,6 +55,7 @@ module _ {K V : Type 0} (keys : Slots K KeyLink) where
     pub listed : IsIn place values.order
     pub link_is : link_at values place ≡ Some link
     pub key_link_is : link_at keys link.key ≡ Some key_link
+    pub small : HasSmallPlaces link
     pub sound : IsSound values
     pub chained : IsChained keys values
 

@@ -13,7 +13,7 @@ ghost use Rattle.ordered_multimap.specs.TapeNumbers.{ArePaid, TakesOut};
 use super::ListOrderedMultimap;
 use super::links::set_key;
 use multimap_slots::{SlotList, Tape};
-use multimap_walks::{KeyLink, ValueLink};
+use multimap_walks::{KeyLink, PackedLink, ValueLink};
 use std::alloc::{AllocError, Allocator};
 use std::hash::{BuildHasher, Hash};
 
@@ -89,7 +89,7 @@ impl<K: Eq + Hash + Drop, V: Drop, S: BuildHasher, A: Allocator + Copy> ListOrde
     fn append_parts(
         &mut self,
         keys: &mut SlotList<K, KeyLink, A>,
-        values: &mut Tape<V, ValueLink, A>,
+        values: &mut Tape<V, ValueLink, A, PackedLink>,
     )
         requires chains { AreChained keys.old values.old.list }
         requires key_room { length self.old.lists.keys + length keys.old.order

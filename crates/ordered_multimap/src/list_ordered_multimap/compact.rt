@@ -7,7 +7,7 @@ ghost use Rattle.ordered_multimap.specs.Private.Relocations.{AreChained, AreDens
 
 use super::links::{link_of, set_next, set_previous};
 use multimap_slots::{SlotList, Tape};
-use multimap_walks::{KeyLink, ValueLink};
+use multimap_walks::{KeyLink, PackedLink, ValueLink};
 use std::alloc::Allocator;
 
 /// The other place, if the place is the one that has gone.
@@ -55,7 +55,7 @@ fn relink_ends<K, A: Allocator>(
 /// Takes the value at `from` down to the hole at `to`, and writes the links to its place anew.
 fn move_value<K, V: Drop, A: Allocator>(
     keys: &mut SlotList<K, KeyLink, A>,
-    values: &mut Tape<V, ValueLink, A>,
+    values: &mut Tape<V, ValueLink, A, PackedLink>,
     from: usize,
     to: usize,
 )
@@ -77,7 +77,7 @@ fn move_value<K, V: Drop, A: Allocator>(
 
 /// The place of the value behind the first `dense` ones, which stand at the lowest places.
 #[inline(always)]
-fn place_behind<V, A: Allocator>(values: &Tape<V, ValueLink, A>, dense: usize) -> usize
+fn place_behind<V, A: Allocator>(values: &Tape<V, ValueLink, A, PackedLink>, dense: usize) -> usize
     requires rises { Rises values.now.list.order }
     requires dense { AreDense values.now.list.order dense }
     requires more { dense < length values.now.list.order }
@@ -94,7 +94,7 @@ fn place_behind<V, A: Allocator>(values: &Tape<V, ValueLink, A>, dense: usize) -
 #[inline(never)]
 pub(super) fn compact<K, V: Drop, A: Allocator>(
     keys: &mut SlotList<K, KeyLink, A>,
-    values: &mut Tape<V, ValueLink, A>,
+    values: &mut Tape<V, ValueLink, A, PackedLink>,
 )
     requires chains { AreChained keys.old values.old.list }
     ensures { Compacts keys.old keys.new values.old values.new }

@@ -114,7 +114,7 @@ impl<K: Eq + Hash, V, S: BuildHasher, A: Allocator + Copy> ListOrderedMultimap<K
             state,
             keys: SlotList::new(alloc),
             table: KeyTable::new(alloc),
-            values: Tape::new(alloc),
+            values: Tape::with_form(alloc),
             left: NO_CHAIN,
         }
     }
@@ -162,7 +162,7 @@ impl<K: Eq + Hash, V, S: BuildHasher, A: Allocator + Copy> ListOrderedMultimap<K
     {
         let keys = SlotList::with_capacity(alloc, key_capacity)?;
         let table = KeyTable::with_capacity(alloc, key_capacity)?;
-        let values = Tape::with_capacity(alloc, value_capacity)?;
+        let values = Tape::with_form_and_capacity(alloc, value_capacity)?;
         Ok(ListOrderedMultimap {
             state,
             keys,

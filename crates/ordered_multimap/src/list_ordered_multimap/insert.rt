@@ -19,7 +19,7 @@ use super::remove::unlink::{KeptInPlace, TakenOut};
 use super::room::{make_end_room, make_value_room};
 use super::{ListOrderedMultimap, Refused, RefusedValue};
 use multimap_slots::{SlotList, Tape};
-use multimap_walks::{ChainEnds, KeyLink, ValueLink};
+use multimap_walks::{ChainEnds, KeyLink, PackedLink, ValueLink};
 use std::alloc::Allocator;
 use std::hash::{BuildHasher, Hash};
 
@@ -105,7 +105,7 @@ impl<K: Eq + Hash, V, S: BuildHasher, A: Allocator> ListOrderedMultimap<K, V, S,
 #[inline(always)]
 fn insert_behind<K, V: Drop, A: Allocator>(
     keys: &mut SlotList<K, KeyLink, A>,
-    values: &mut Tape<V, ValueLink, A>,
+    values: &mut Tape<V, ValueLink, A, PackedLink>,
     place: usize,
     value: V,
 ) -> V
@@ -131,7 +131,7 @@ fn insert_behind<K, V: Drop, A: Allocator>(
 /// where they stand.
 pub(super) fn insert_behind_all<K, V: Drop, A: Allocator + Copy>(
     keys: &mut SlotList<K, KeyLink, A>,
-    values: &mut Tape<V, ValueLink, A>,
+    values: &mut Tape<V, ValueLink, A, PackedLink>,
     place: usize,
     value: V,
 ) -> Result<ChainEnds, RefusedValue<V>>

@@ -14,7 +14,7 @@ use super::pop::place_at_end;
 use super::show::show_left;
 use super::{ListOrderedMultimap, UnclonedKey};
 use multimap_slots::{SlotList, Tape};
-use multimap_walks::{End, Iter, KeyLink, ValueLink};
+use multimap_walks::{End, Iter, KeyLink, PackedLink, ValueLink};
 use std::alloc::{Allocator, Global};
 use std::fmt;
 use std::hash::{BuildHasher, Hash};
@@ -32,7 +32,7 @@ use std::marker::Model;
 #[derive(Drop)]
 pub struct IntoIter<K, V, A: Allocator = Global> {
     keys: SlotList<K, KeyLink, A>,
-    values: Tape<V, ValueLink, A>,
+    values: Tape<V, ValueLink, A, PackedLink>,
 }
 
 impl<K, V, A: Allocator> Model for IntoIter<K, V, A> {
@@ -154,7 +154,7 @@ fn give_key<K: Clone, A: Allocator>(keys: &mut SlotList<K, KeyLink, A>, place: u
 /// Takes the value at a listed place out, with its key or a clone of it.
 fn give_pair<K: Clone, V, A: Allocator>(
     keys: &mut SlotList<K, KeyLink, A>,
-    values: &mut Tape<V, ValueLink, A>,
+    values: &mut Tape<V, ValueLink, A, PackedLink>,
     place: usize,
 ) -> Result<(K, V), UnclonedKey<V>>
     requires { IsCountedAt keys.old values.old.list place }

@@ -9,7 +9,7 @@ use super::ListOrderedMultimap;
 use super::pop::place_at_end;
 use super::show::show_left;
 use multimap_slots::Tape;
-use multimap_walks::{End, ValueLink, Values};
+use multimap_walks::{End, PackedLink, ValueLink, Values};
 use std::alloc::{Allocator, Global};
 use std::fmt;
 use std::hash::{BuildHasher, Hash};
@@ -23,7 +23,7 @@ use std::marker::Model;
 /// iterator.
 #[derive(Drop)]
 pub struct IntoValues<V, A: Allocator = Global> {
-    values: Tape<V, ValueLink, A>,
+    values: Tape<V, ValueLink, A, PackedLink>,
 }
 
 impl<V, A: Allocator> Model for IntoValues<V, A> {

@@ -7,14 +7,14 @@ ghost use Rattle.ordered_multimap.specs.ValuesLent.{EndsMap, EndsTapeOfValues};
 
 use super::ListOrderedMultimap;
 use multimap_slots::{SlotCells, SlotList, Tape};
-use multimap_walks::{KeyLink, ValueLink};
+use multimap_walks::{KeyLink, PackedLink, ValueLink};
 use std::alloc::Allocator;
 use std::hash::{BuildHasher, Hash};
 
 /// The cells of a tape of values, with the type parameters of the map.
 fn cells_of<K: Eq + Hash, V, S: BuildHasher, A: Allocator>(
-    values: &mut Tape<V, ValueLink, A>,
-) -> SlotCells<'_, V, ValueLink, A>
+    values: &mut Tape<V, ValueLink, A, PackedLink>,
+) -> SlotCells<'_, V, ValueLink, A, PackedLink>
     ensures* writes_back { sem 𝓛 (lends_tape_values V.row A.row A.Allocator values.entry result) }
     ensures lent { LendsSlots values.old.list result }
     ensures ends { EndsTapeOfValues V.row values.old result }
@@ -24,7 +24,12 @@ fn cells_of<K: Eq + Hash, V, S: BuildHasher, A: Allocator>(
 
 impl<K: Eq + Hash, V, S: BuildHasher, A: Allocator> ListOrderedMultimap<K, V, S, A> {
     /// The values for writing, and the keys.
-    pub(super) fn lend(&mut self) -> (SlotCells<'_, V, ValueLink, A>, &SlotList<K, KeyLink, A>)
+    pub(super) fn lend(
+        &mut self,
+    ) -> (
+        SlotCells<'_, V, ValueLink, A, PackedLink>,
+        &SlotList<K, KeyLink, A>,
+    )
         ensures* writes_back { sem 𝓛 (lends_values K.row V.row S.row A.row S.Hasher.row K.Hash
             S.BuildHasher S.Hasher.Hasher A.Allocator self.entry (cells_name result.0)) }
         ensures lent { AreLent K.eq

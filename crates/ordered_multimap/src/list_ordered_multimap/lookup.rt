@@ -5,6 +5,7 @@ ghost use Rattle.multimap_slots.specs.Slots.{HasSlot};
 ghost use Rattle.multimap_walks.specs.Walk.{end_item};
 ghost use Rattle.multimap_walks.specs.declared.End.TheVariants.{Front, Back};
 ghost use Rattle.std.specs.List.{list_any};
+ghost use Rattle.multimap_walks.specs.Packed.{HasSmallPlaces};
 ghost use Rattle.ordered_multimap.specs.Pairs.{values_of, values_where, is_present_where};
 ghost use Rattle.ordered_multimap.specs.Keys.{stored_key};
 ghost use Rattle.ordered_multimap.specs.Agrees.{HasKey, HasKeyWhere, LacksWhere, StandsAt, items_of, hash_of};
@@ -18,7 +19,7 @@ use super::ListOrderedMultimap;
 use crate::KeyQuery;
 use multimap_slots::{Reads, SlotList, Tape};
 use multimap_table::KeyTable;
-use multimap_walks::{KeyLink, ValueLink};
+use multimap_walks::{KeyLink, PackedLink, ValueLink};
 use std::alloc::Allocator;
 use std::hash::{BuildHasher, Hash};
 
@@ -35,11 +36,12 @@ pub(super) fn slot_at<T, L: Copy, A: Allocator>(slots: &SlotList<T, L, A>, place
 /// The value at the place, with its link.
 #[inline(always)]
 pub(super) fn value_at<V, A: Allocator>(
-    values: &Tape<V, ValueLink, A>,
+    values: &Tape<V, ValueLink, A, PackedLink>,
     place: usize,
 ) -> (&V, ValueLink)
     requires { IsIn place values.now.list.order }
-    ensures { HasSlot values.now.list place result.0.now result.1 }
+    ensures slot { HasSlot values.now.list place result.0.now result.1 }
+    ensures small { HasSmallPlaces result.1 }
 {
     let mut reads = Reads::new();
     values.get_listed(place, &mut reads)

@@ -16,7 +16,7 @@ use super::compact::compact;
 use super::storage::{Storage, new_storage};
 use multimap_slots::{SlotList, Tape};
 use multimap_table::KeyTable;
-use multimap_walks::{KeyLink, ValueLink};
+use multimap_walks::{KeyLink, PackedLink, ValueLink};
 use std::alloc::{AllocError, Allocator};
 use std::hash::{BuildHasher, Hash};
 
@@ -74,8 +74,8 @@ fn move_keys<K, A: Allocator>(
 /// Takes all values to the new tape in their order, with the new places of their keys. The values
 /// stand without a hole, and keep their places.
 fn move_values<V, A: Allocator>(
-    values: &mut Tape<V, ValueLink, A>,
-    packed: &mut Tape<V, ValueLink, A>,
+    values: &mut Tape<V, ValueLink, A, PackedLink>,
+    packed: &mut Tape<V, ValueLink, A, PackedLink>,
     new_places: &Vec<usize, A>,
 )
     requires dense { values.old.list.order ≡ places_below (length values.old.list.order) }
@@ -100,7 +100,7 @@ fn move_values<V, A: Allocator>(
 fn pack<K: Drop, V: Drop, A: Allocator>(
     keys: &mut SlotList<K, KeyLink, A>,
     table: &mut KeyTable<A>,
-    values: &mut Tape<V, ValueLink, A>,
+    values: &mut Tape<V, ValueLink, A, PackedLink>,
     mut storage: Storage<K, V, A>,
 )
     requires chains { AreChained keys.old values.old.list }

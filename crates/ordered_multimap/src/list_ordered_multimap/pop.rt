@@ -10,13 +10,13 @@ use super::lookup::slot_at;
 use super::remove::one::{Taken, TakenKey, take_pair_at};
 use super::{KeyWrapper, ListOrderedMultimap};
 use multimap_slots::Tape;
-use multimap_walks::{End, ValueLink};
+use multimap_walks::{End, PackedLink, ValueLink};
 use std::alloc::Allocator;
 use std::hash::{BuildHasher, Hash};
 
 /// The place of the value at an end.
 pub(super) fn place_at_end<V, A: Allocator>(
-    values: &Tape<V, ValueLink, A>,
+    values: &Tape<V, ValueLink, A, PackedLink>,
     end: End,
 ) -> Option<usize>
     ensures { result ≡ end_of_list end values.now.list.order }

@@ -8,7 +8,7 @@ ghost use Rattle.ordered_multimap.specs.Private.Relocations.{AreChained};
 use super::compact::compact;
 use multimap_slots::{SlotList, Tape};
 use multimap_table::KeyTable;
-use multimap_walks::{KeyLink, ValueLink};
+use multimap_walks::{KeyLink, PackedLink, ValueLink};
 use std::alloc::{AllocError, Allocator};
 
 /// Makes room for one more value behind the others, where half of the slots or more are free. It
@@ -17,7 +17,7 @@ use std::alloc::{AllocError, Allocator};
 #[inline(always)]
 pub(super) fn make_end_room<K, V: Drop, A: Allocator>(
     keys: &mut SlotList<K, KeyLink, A>,
-    values: &mut Tape<V, ValueLink, A>,
+    values: &mut Tape<V, ValueLink, A, PackedLink>,
 )
     requires chains { AreChained keys.old values.old.list }
     requires fits { HasTapeRoomFor values.old 0 }
@@ -37,7 +37,7 @@ pub(super) fn make_end_room<K, V: Drop, A: Allocator>(
 #[inline(always)]
 pub(super) fn make_value_room<K, V: Drop, A: Allocator + Copy>(
     keys: &mut SlotList<K, KeyLink, A>,
-    values: &mut Tape<V, ValueLink, A>,
+    values: &mut Tape<V, ValueLink, A, PackedLink>,
 ) -> Result<(), AllocError>
     requires chains { AreChained keys.old values.old.list }
     ensures { MakesValueRoom keys.old keys.new values.old values.new result }
@@ -82,7 +82,7 @@ pub(super) fn make_key_room<K, A: Allocator + Copy>(
 pub(super) fn make_room<K, V: Drop, A: Allocator + Copy>(
     keys: &mut SlotList<K, KeyLink, A>,
     table: &mut KeyTable<A>,
-    values: &mut Tape<V, ValueLink, A>,
+    values: &mut Tape<V, ValueLink, A, PackedLink>,
 ) -> Result<(), AllocError>
     requires { HasCountedChains keys.old table.old values.old.list }
     ensures { MakesPairRoom keys.old keys.new table.old table.new values.old values.new result }

@@ -14,13 +14,17 @@ ghost use Rattle.ordered_multimap.specs.TapeNumbers.{ArePaid};
 
 use super::{ListOrderedMultimap, Refused};
 use multimap_slots::Tape;
-use multimap_walks::ValueLink;
+use multimap_walks::{PackedLink, ValueLink};
 use std::alloc::Allocator;
 use std::hash::{BuildHasher, Hash};
 use std::mem::replace;
 
 /// Puts another value at a listed place, and returns the one that stood there.
-fn replace_value<V, A: Allocator>(values: &mut Tape<V, ValueLink, A>, place: usize, value: V) -> V
+fn replace_value<V, A: Allocator>(
+    values: &mut Tape<V, ValueLink, A, PackedLink>,
+    place: usize,
+    value: V,
+) -> V
     requires { IsIn place values.old.list.order }
     ensures old { item_at values.old.list place ≡ Some result }
     ensures written { values.new ≡ with_list values.old (with_item values.old.list place value) }

@@ -4,7 +4,7 @@ ghost use Rattle.ordered_multimap.specs.Private.KeyRelocations.{IsNewStorage};
 
 use multimap_slots::{SlotList, Tape};
 use multimap_table::KeyTable;
-use multimap_walks::{KeyLink, ValueLink};
+use multimap_walks::{KeyLink, PackedLink, ValueLink};
 use std::alloc::{AllocError, Allocator};
 
 /// New storage for the keys and values of a map.
@@ -12,7 +12,7 @@ use std::alloc::{AllocError, Allocator};
 pub(super) struct Storage<K, V, A: Allocator> {
     pub(super) keys: SlotList<K, KeyLink, A>,
     pub(super) table: KeyTable<A>,
-    pub(super) values: Tape<V, ValueLink, A>,
+    pub(super) values: Tape<V, ValueLink, A, PackedLink>,
     // At the old place of each key its new one.
     pub(super) new_places: Vec<usize, A>,
 }
@@ -33,7 +33,7 @@ pub(super) fn new_storage<K: Drop, V: Drop, A: Allocator + Copy>(
     let new_places = Vec::from_elem(alloc, 0, places)?;
     let keys = SlotList::with_capacity(alloc, key_capacity)?;
     let table = KeyTable::with_capacity(alloc, key_capacity)?;
-    let values = Tape::with_capacity(alloc, value_capacity)?;
+    let values = Tape::with_form_and_capacity(alloc, value_capacity)?;
     Ok(Storage {
         keys,
         table,

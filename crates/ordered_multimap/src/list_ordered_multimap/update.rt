@@ -18,14 +18,14 @@ use super::ListOrderedMultimap;
 use super::lookup::{slot_at, value_at};
 use multimap_slots::{SlotList, Tape};
 use multimap_table::KeyTable;
-use multimap_walks::{KeyLink, ValueLink};
+use multimap_walks::{KeyLink, PackedLink, ValueLink};
 use std::alloc::Allocator;
 use std::hash::{BuildHasher, Hash};
 
 /// Calls the function on the pair at a listed place.
 fn update_at<K, V, A: Allocator, F: FnMut(&K, &mut V)>(
     keys: &SlotList<K, KeyLink, A>,
-    values: &mut Tape<V, ValueLink, A>,
+    values: &mut Tape<V, ValueLink, A, PackedLink>,
     f: &mut F,
     place: usize,
 )
@@ -43,7 +43,7 @@ fn update_at<K, V, A: Allocator, F: FnMut(&K, &mut V)>(
 fn update_pairs<K: Eq, V, A: Allocator, F: FnMut(&K, &mut V)>(
     keys: &SlotList<K, KeyLink, A>,
     table: &KeyTable<A>,
-    values: &mut Tape<V, ValueLink, A>,
+    values: &mut Tape<V, ValueLink, A, PackedLink>,
     mut f: F,
 )
     requires agrees { (hash : K → ℕ)
@@ -64,7 +64,7 @@ fn update_pairs<K: Eq, V, A: Allocator, F: FnMut(&K, &mut V)>(
 /// Calls the function on the value at a listed place, and returns the place of the next value of
 /// its key.
 fn rewrite_at<V, A: Allocator, F: FnMut(&mut V)>(
-    values: &mut Tape<V, ValueLink, A>,
+    values: &mut Tape<V, ValueLink, A, PackedLink>,
     f: &mut F,
     place: usize,
 ) -> Option<usize>
@@ -82,7 +82,7 @@ fn rewrite_at<V, A: Allocator, F: FnMut(&mut V)>(
 fn rewrite_chain<K: Eq, V, A: Allocator, F: FnMut(&mut V)>(
     keys: &SlotList<K, KeyLink, A>,
     table: &KeyTable<A>,
-    values: &mut Tape<V, ValueLink, A>,
+    values: &mut Tape<V, ValueLink, A, PackedLink>,
     key_place: usize,
     mut f: F,
 )

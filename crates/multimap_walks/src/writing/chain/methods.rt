@@ -13,13 +13,13 @@ use crate::End;
 use crate::links::{KeyLink, NO_ENDS, ValueLink};
 use crate::show::show_left;
 use crate::writing::rest::chain::EntryValuesRest;
-use multimap_slots::{Cells, SlotCells, SlotList};
+use multimap_slots::{Cells, LinkForm, SlotCells, SlotList};
 use std::alloc::Allocator;
 use std::fmt;
 use std::iter::FusedIterator;
 use std::marker::PhantomData;
 
-impl<'map, K, V, A: Allocator> EntryValuesMut<'map, K, V, A> {
+impl<'map, K, V, A: Allocator, F: LinkForm<ValueLink>> EntryValuesMut<'map, K, V, A, F> {
     /// Creates an iterator over the values of a key, or an empty one for `None`.
     ///
     /// The key is given by its place and its link in `keys`. It reads no slot.
@@ -34,7 +34,7 @@ impl<'map, K, V, A: Allocator> EntryValuesMut<'map, K, V, A> {
     /// value was taken from `values`.
     pub fn new(
         keys: &'map SlotList<K, KeyLink, A>,
-        values: SlotCells<'map, V, ValueLink, A>,
+        values: SlotCells<'map, V, ValueLink, A, F>,
         key: Option<(usize, KeyLink)>,
     ) -> Self
         requires chained { IsChained keys.now (lent_slots values) }
@@ -119,7 +119,7 @@ impl<'map, K, V, A: Allocator> EntryValuesMut<'map, K, V, A> {
     /// assert!(rt; values.iter().eq(&[2]));
     /// assert_eq!(rt; values.len(), 1);
     /// ```
-    pub fn iter(&self) -> EntryValuesRest<'_, 'map, K, V, A>
+    pub fn iter(&self) -> EntryValuesRest<'_, 'map, K, V, A, F>
         ensures { result ≡ entry_values_mut_rest self.now }
     {
         EntryValuesRest::new(&self.values, self.left)
@@ -135,7 +135,8 @@ impl<'map, K, V, A: Allocator> EntryValuesMut<'map, K, V, A> {
     }
 }
 
-impl<'map, K, V, A: Allocator> Iterator for EntryValuesMut<'map, K, V, A> {
+impl<'map, K, V, A: Allocator, F: LinkForm<ValueLink>> Iterator
+    for EntryValuesMut<'map, K, V, A, F> {
     type Item = &'map mut V;
 
     ghost next_gives = { LendsFirstOfKey };
@@ -146,7 +147,6 @@ impl<'map, K, V, A: Allocator> Iterator for EntryValuesMut<'map, K, V, A> {
         self.step(End::Front)
     }
 
-    #[tactic(auto, using(crate::proofs::CountLemmas::entry_values_mut_counted))]
     fn size_hint(&self) -> (usize, Option<usize>)
         ensures { TellsLength result (entry_values_mut_rest self.now) }
     {
@@ -154,7 +154,8 @@ impl<'map, K, V, A: Allocator> Iterator for EntryValuesMut<'map, K, V, A> {
     }
 }
 
-impl<'map, K, V, A: Allocator> DoubleEndedIterator for EntryValuesMut<'map, K, V, A> {
+impl<'map, K, V, A: Allocator, F: LinkForm<ValueLink>> DoubleEndedIterator
+    for EntryValuesMut<'map, K, V, A, F> {
     ghost next_back_gives = { LendsLastOfKey };
 
     fn next_back(&mut self) -> Option<&'map mut V> {
@@ -162,16 +163,18 @@ impl<'map, K, V, A: Allocator> DoubleEndedIterator for EntryValuesMut<'map, K, V
     }
 }
 
-impl<'map, K, V, A: Allocator> ExactSizeIterator for EntryValuesMut<'map, K, V, A> {
-    #[tactic(auto, using(crate::proofs::CountLemmas::entry_values_mut_counted))]
+impl<'map, K, V, A: Allocator, F: LinkForm<ValueLink>> ExactSizeIterator
+    for EntryValuesMut<'map, K, V, A, F> {
     fn len(&self) -> usize {
         self.left.length
     }
 }
 
-impl<'map, K, V, A: Allocator> FusedIterator for EntryValuesMut<'map, K, V, A> {}
+impl<'map, K, V, A: Allocator, F: LinkForm<ValueLink>> FusedIterator
+    for EntryValuesMut<'map, K, V, A, F> {}
 
-impl<'map, K, V: fmt::Debug, A: Allocator> fmt::Debug for EntryValuesMut<'map, K, V, A> {
+impl<'map, K, V: fmt::Debug, A: Allocator, F: LinkForm<ValueLink>> fmt::Debug
+    for EntryValuesMut<'map, K, V, A, F> {
     fn fmt<W: fmt::Write>(&self, f: &mut fmt::Formatter<W>) -> fmt::Result {
         show_left(f, "EntryValuesMut", &self.iter())
     }

@@ -14,12 +14,12 @@ use crate::show::show_left;
 use crate::slots::key_at;
 use crate::writing::rest::pairs::IterRest;
 use crate::writing::{all_of, lend};
-use multimap_slots::{Cells, Reads, SlotCells, SlotList};
+use multimap_slots::{Cells, LinkForm, Reads, SlotCells, SlotList};
 use std::alloc::Allocator;
 use std::fmt;
 use std::iter::FusedIterator;
 
-impl<'map, K, V, A: Allocator> IterMut<'map, K, V, A> {
+impl<'map, K, V, A: Allocator, F: LinkForm<ValueLink>> IterMut<'map, K, V, A, F> {
     /// Creates an iterator over all pairs of a list of keys and of cells of values.
     ///
     /// It reads no slot.
@@ -33,7 +33,7 @@ impl<'map, K, V, A: Allocator> IterMut<'map, K, V, A> {
     /// The key of each value is listed, and no value was taken from `values`.
     pub fn new(
         keys: &'map SlotList<K, KeyLink, A>,
-        values: SlotCells<'map, V, ValueLink, A>,
+        values: SlotCells<'map, V, ValueLink, A, F>,
     ) -> Self
         requires owned { AreOwned keys.now (lent_slots values) }
         requires untaken { NoneIsTaken values }
@@ -111,7 +111,7 @@ impl<'map, K, V, A: Allocator> IterMut<'map, K, V, A> {
     /// assert!(rt; pairs.iter().eq([(&"page", &8)]));
     /// assert_eq!(rt; pairs.len(), 1);
     /// ```
-    pub fn iter(&self) -> IterRest<'_, 'map, K, V, A>
+    pub fn iter(&self) -> IterRest<'_, 'map, K, V, A, F>
         ensures { result ≡ iter_mut_rest self.now }
     {
         IterRest::new(self.keys, &self.values, self.left)
@@ -127,7 +127,7 @@ impl<'map, K, V, A: Allocator> IterMut<'map, K, V, A> {
     }
 }
 
-impl<'map, K, V, A: Allocator> Iterator for IterMut<'map, K, V, A> {
+impl<'map, K, V, A: Allocator, F: LinkForm<ValueLink>> Iterator for IterMut<'map, K, V, A, F> {
     type Item = (&'map K, &'map mut V);
 
     ghost next_gives = { LendsFirstPair };
@@ -138,7 +138,6 @@ impl<'map, K, V, A: Allocator> Iterator for IterMut<'map, K, V, A> {
         self.step(End::Front)
     }
 
-    #[tactic(auto, using(crate::proofs::CountLemmas::iter_mut_counted))]
     fn size_hint(&self) -> (usize, Option<usize>)
         ensures { TellsLength result (iter_mut_rest self.now) }
     {
@@ -146,7 +145,8 @@ impl<'map, K, V, A: Allocator> Iterator for IterMut<'map, K, V, A> {
     }
 }
 
-impl<'map, K, V, A: Allocator> DoubleEndedIterator for IterMut<'map, K, V, A> {
+impl<'map, K, V, A: Allocator, F: LinkForm<ValueLink>> DoubleEndedIterator
+    for IterMut<'map, K, V, A, F> {
     ghost next_back_gives = { LendsLastPair };
 
     fn next_back(&mut self) -> Option<(&'map K, &'map mut V)> {
@@ -154,16 +154,18 @@ impl<'map, K, V, A: Allocator> DoubleEndedIterator for IterMut<'map, K, V, A> {
     }
 }
 
-impl<'map, K, V, A: Allocator> ExactSizeIterator for IterMut<'map, K, V, A> {
-    #[tactic(auto, using(crate::proofs::CountLemmas::iter_mut_counted))]
+impl<'map, K, V, A: Allocator, F: LinkForm<ValueLink>> ExactSizeIterator
+    for IterMut<'map, K, V, A, F> {
     fn len(&self) -> usize {
         self.left.length
     }
 }
 
-impl<'map, K, V, A: Allocator> FusedIterator for IterMut<'map, K, V, A> {}
+impl<'map, K, V, A: Allocator, F: LinkForm<ValueLink>> FusedIterator
+    for IterMut<'map, K, V, A, F> {}
 
-impl<'map, K: fmt::Debug, V: fmt::Debug, A: Allocator> fmt::Debug for IterMut<'map, K, V, A> {
+impl<'map, K: fmt::Debug, V: fmt::Debug, A: Allocator, F: LinkForm<ValueLink>> fmt::Debug
+    for IterMut<'map, K, V, A, F> {
     fn fmt<W: fmt::Write>(&self, f: &mut fmt::Formatter<W>) -> fmt::Result {
         show_left(f, "IterMut", &self.iter())
     }

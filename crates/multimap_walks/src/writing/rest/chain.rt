@@ -7,9 +7,10 @@ ghost use Rattle.multimap_walks.specs.Walk.{TakesEnd, TellsLength};
 
 use crate::End;
 use crate::links::{ChainEnds, ValueLink};
+use crate::packed::PackedLink;
 use crate::show::show_left;
 use crate::writing::chain::pass_end_of_chain;
-use multimap_slots::SlotCells;
+use multimap_slots::{LinkForm, SlotCells};
 use std::alloc::{AllocError, Allocator, Global};
 use std::fmt;
 use std::iter::FusedIterator;
@@ -21,13 +22,21 @@ use std::marker::{Model, PhantomData};
 /// an example. Its items are `&value`. It iterates from both ends, knows its length, and can be
 /// cloned, which never fails. Each item reads one value slot.
 #[derive(Drop)]
-pub struct EntryValuesRest<'walk, 'map, K, V, A: Allocator = Global> {
+pub struct EntryValuesRest<
+    'walk,
+    'map,
+    K,
+    V,
+    A: Allocator = Global,
+    F: LinkForm<ValueLink> = PackedLink,
+> {
     keys: PhantomData<&'map K>,
-    values: &'walk SlotCells<'map, V, ValueLink, A>,
+    values: &'walk SlotCells<'map, V, ValueLink, A, F>,
     left: ChainEnds,
 }
 
-impl<'walk, 'map, K, V, A: Allocator> Model for EntryValuesRest<'walk, 'map, K, V, A> {
+impl<'walk, 'map, K, V, A: Allocator, F: LinkForm<ValueLink>> Model
+    for EntryValuesRest<'walk, 'map, K, V, A, F> {
     ghost use Rattle.std.specs.Prelude.{List};
     ghost use Rattle.multimap_walks.specs.RestWalk.{entry_rest, CanReadChain};
 
@@ -38,7 +47,14 @@ impl<'walk, 'map, K, V, A: Allocator> Model for EntryValuesRest<'walk, 'map, K, 
     ghost invariant = { λ w. CanReadChain w.values.now w.left };
 }
 
-impl<'walk, 'map, K, V, A: Allocator> EntryValuesRest<'walk, 'map, K, V, A> {
+impl<'walk, 'map, K, V, A: Allocator, F: LinkForm<ValueLink>> EntryValuesRest<
+    'walk,
+    'map,
+    K,
+    V,
+    A,
+    F,
+> {
     /// Creates an iterator over values of a key that follow each other by their links.
     ///
     /// It reads no slot.
@@ -50,7 +66,7 @@ impl<'walk, 'map, K, V, A: Allocator> EntryValuesRest<'walk, 'map, K, V, A> {
     /// # Requires
     ///
     /// None of these values was taken.
-    pub fn new(values: &'walk SlotCells<'map, V, ValueLink, A>, left: ChainEnds) -> Self
+    pub fn new(values: &'walk SlotCells<'map, V, ValueLink, A, F>, left: ChainEnds) -> Self
         requires { CanReadChain values.now left }
         ensures values { result ≡ entry_rest values.now left }
     {
@@ -71,7 +87,8 @@ impl<'walk, 'map, K, V, A: Allocator> EntryValuesRest<'walk, 'map, K, V, A> {
     }
 }
 
-impl<'walk, 'map, K, V, A: Allocator> Iterator for EntryValuesRest<'walk, 'map, K, V, A> {
+impl<'walk, 'map, K, V, A: Allocator, F: LinkForm<ValueLink>> Iterator
+    for EntryValuesRest<'walk, 'map, K, V, A, F> {
     type Item = &'walk V;
 
     ghost next_gives = { TakesFirst deref };
@@ -90,8 +107,8 @@ impl<'walk, 'map, K, V, A: Allocator> Iterator for EntryValuesRest<'walk, 'map, 
     }
 }
 
-impl<'walk, 'map, K, V, A: Allocator> DoubleEndedIterator
-    for EntryValuesRest<'walk, 'map, K, V, A> {
+impl<'walk, 'map, K, V, A: Allocator, F: LinkForm<ValueLink>> DoubleEndedIterator
+    for EntryValuesRest<'walk, 'map, K, V, A, F> {
     ghost next_back_gives = { TakesLast deref };
 
     fn next_back(&mut self) -> Option<&'walk V> {
@@ -99,27 +116,30 @@ impl<'walk, 'map, K, V, A: Allocator> DoubleEndedIterator
     }
 }
 
-impl<'walk, 'map, K, V, A: Allocator> ExactSizeIterator for EntryValuesRest<'walk, 'map, K, V, A> {
+impl<'walk, 'map, K, V, A: Allocator, F: LinkForm<ValueLink>> ExactSizeIterator
+    for EntryValuesRest<'walk, 'map, K, V, A, F> {
     #[tactic(auto, using(crate::proofs::CountLemmas::entry_rest_counted))]
     fn len(&self) -> usize {
         self.left.length
     }
 }
 
-impl<'walk, 'map, K, V, A: Allocator> FusedIterator for EntryValuesRest<'walk, 'map, K, V, A> {}
+impl<'walk, 'map, K, V, A: Allocator, F: LinkForm<ValueLink>> FusedIterator
+    for EntryValuesRest<'walk, 'map, K, V, A, F> {}
 
-impl<'walk, 'map, K, V, A: Allocator> Clone for EntryValuesRest<'walk, 'map, K, V, A> {
+impl<'walk, 'map, K, V, A: Allocator, F: LinkForm<ValueLink>> Clone
+    for EntryValuesRest<'walk, 'map, K, V, A, F> {
     ghost is_clone = { λ s r. r ≡ s };
 
     ghost is_infallible = { λ _. ⊤ };
 
-    fn clone(&self) -> Result<EntryValuesRest<'walk, 'map, K, V, A>, AllocError> {
+    fn clone(&self) -> Result<EntryValuesRest<'walk, 'map, K, V, A, F>, AllocError> {
         Ok(EntryValuesRest::new(self.values, self.left))
     }
 }
 
-impl<'walk, 'map, K, V: fmt::Debug, A: Allocator> fmt::Debug
-    for EntryValuesRest<'walk, 'map, K, V, A> {
+impl<'walk, 'map, K, V: fmt::Debug, A: Allocator, F: LinkForm<ValueLink>> fmt::Debug
+    for EntryValuesRest<'walk, 'map, K, V, A, F> {
     fn fmt<W: fmt::Write>(&self, f: &mut fmt::Formatter<W>) -> fmt::Result {
         show_left(f, "EntryValuesRest", self)
     }

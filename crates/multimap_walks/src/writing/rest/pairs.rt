@@ -11,9 +11,10 @@ ghost use Rattle.multimap_walks.specs.Walk.{TakesEnd, TellsLength};
 use super::read;
 use crate::End;
 use crate::links::{ChainEnds, KeyLink, ValueLink};
+use crate::packed::PackedLink;
 use crate::show::show_left;
 use crate::slots::key_at;
-use multimap_slots::{Reads, SlotCells, SlotList};
+use multimap_slots::{LinkForm, Reads, SlotCells, SlotList};
 use std::alloc::{AllocError, Allocator, Global};
 use std::fmt;
 use std::iter::FusedIterator;
@@ -25,14 +26,15 @@ use std::marker::Model;
 /// items are `(&key, &value)`. It iterates from both ends, knows its length, and can be cloned,
 /// which never fails. Each item reads the slots of its value and of its key.
 #[derive(Drop)]
-pub struct IterRest<'walk, 'map, K, V, A: Allocator = Global> {
+pub struct IterRest<'walk, 'map, K, V, A: Allocator = Global, F: LinkForm<ValueLink> = PackedLink> {
     keys: &'walk SlotList<K, KeyLink, A>,
-    values: &'walk SlotCells<'map, V, ValueLink, A>,
+    values: &'walk SlotCells<'map, V, ValueLink, A, F>,
     left: ChainEnds,
     reads: Reads,
 }
 
-impl<'walk, 'map, K, V, A: Allocator> Model for IterRest<'walk, 'map, K, V, A> {
+impl<'walk, 'map, K, V, A: Allocator, F: LinkForm<ValueLink>> Model
+    for IterRest<'walk, 'map, K, V, A, F> {
     ghost use Rattle.std.specs.Prelude.{List};
     ghost use Rattle.multimap_walks.specs.RestWalk.{pairs_rest, CanReadPairs};
 
@@ -43,7 +45,7 @@ impl<'walk, 'map, K, V, A: Allocator> Model for IterRest<'walk, 'map, K, V, A> {
     ghost invariant = { λ w. CanReadPairs w.values.now w.left w.keys.now };
 }
 
-impl<'walk, 'map, K, V, A: Allocator> IterRest<'walk, 'map, K, V, A> {
+impl<'walk, 'map, K, V, A: Allocator, F: LinkForm<ValueLink>> IterRest<'walk, 'map, K, V, A, F> {
     /// Creates an iterator over the pairs at places that are left.
     ///
     /// It reads no slot.
@@ -57,7 +59,7 @@ impl<'walk, 'map, K, V, A: Allocator> IterRest<'walk, 'map, K, V, A> {
     /// The key of each value is listed, and no value of these places was taken.
     pub fn new(
         keys: &'walk SlotList<K, KeyLink, A>,
-        values: &'walk SlotCells<'map, V, ValueLink, A>,
+        values: &'walk SlotCells<'map, V, ValueLink, A, F>,
         left: ChainEnds,
     ) -> Self
         requires owned { AreOwned keys.now (lent_slots values.now) }
@@ -84,7 +86,8 @@ impl<'walk, 'map, K, V, A: Allocator> IterRest<'walk, 'map, K, V, A> {
     }
 }
 
-impl<'walk, 'map, K, V, A: Allocator> Iterator for IterRest<'walk, 'map, K, V, A> {
+impl<'walk, 'map, K, V, A: Allocator, F: LinkForm<ValueLink>> Iterator
+    for IterRest<'walk, 'map, K, V, A, F> {
     type Item = (&'walk K, &'walk V);
 
     ghost next_gives = { TakesFirst deref_pair };
@@ -102,7 +105,8 @@ impl<'walk, 'map, K, V, A: Allocator> Iterator for IterRest<'walk, 'map, K, V, A
     }
 }
 
-impl<'walk, 'map, K, V, A: Allocator> DoubleEndedIterator for IterRest<'walk, 'map, K, V, A> {
+impl<'walk, 'map, K, V, A: Allocator, F: LinkForm<ValueLink>> DoubleEndedIterator
+    for IterRest<'walk, 'map, K, V, A, F> {
     ghost next_back_gives = { TakesLast deref_pair };
 
     fn next_back(&mut self) -> Option<(&'walk K, &'walk V)> {
@@ -110,20 +114,23 @@ impl<'walk, 'map, K, V, A: Allocator> DoubleEndedIterator for IterRest<'walk, 'm
     }
 }
 
-impl<'walk, 'map, K, V, A: Allocator> ExactSizeIterator for IterRest<'walk, 'map, K, V, A> {
+impl<'walk, 'map, K, V, A: Allocator, F: LinkForm<ValueLink>> ExactSizeIterator
+    for IterRest<'walk, 'map, K, V, A, F> {
     fn len(&self) -> usize {
         self.left.length
     }
 }
 
-impl<'walk, 'map, K, V, A: Allocator> FusedIterator for IterRest<'walk, 'map, K, V, A> {}
+impl<'walk, 'map, K, V, A: Allocator, F: LinkForm<ValueLink>> FusedIterator
+    for IterRest<'walk, 'map, K, V, A, F> {}
 
-impl<'walk, 'map, K, V, A: Allocator> Clone for IterRest<'walk, 'map, K, V, A> {
+impl<'walk, 'map, K, V, A: Allocator, F: LinkForm<ValueLink>> Clone
+    for IterRest<'walk, 'map, K, V, A, F> {
     ghost is_clone = { λ s r. r ≡ s };
 
     ghost is_infallible = { λ _. ⊤ };
 
-    fn clone(&self) -> Result<IterRest<'walk, 'map, K, V, A>, AllocError> {
+    fn clone(&self) -> Result<IterRest<'walk, 'map, K, V, A, F>, AllocError> {
         Ok(IterRest {
             keys: self.keys,
             values: self.values,
@@ -133,8 +140,8 @@ impl<'walk, 'map, K, V, A: Allocator> Clone for IterRest<'walk, 'map, K, V, A> {
     }
 }
 
-impl<'walk, 'map, K: fmt::Debug, V: fmt::Debug, A: Allocator> fmt::Debug
-    for IterRest<'walk, 'map, K, V, A> {
+impl<'walk, 'map, K: fmt::Debug, V: fmt::Debug, A: Allocator, F: LinkForm<ValueLink>> fmt::Debug
+    for IterRest<'walk, 'map, K, V, A, F> {
     fn fmt<W: fmt::Write>(&self, f: &mut fmt::Formatter<W>) -> fmt::Result {
         show_left(f, "IterRest", self)
     }

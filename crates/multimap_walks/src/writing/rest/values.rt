@@ -9,8 +9,9 @@ ghost use Rattle.multimap_walks.specs.Walk.{TakesEnd, TellsLength};
 use super::read;
 use crate::End;
 use crate::links::{ChainEnds, ValueLink};
+use crate::packed::PackedLink;
 use crate::show::show_left;
-use multimap_slots::SlotCells;
+use multimap_slots::{LinkForm, SlotCells};
 use std::alloc::{AllocError, Allocator, Global};
 use std::fmt;
 use std::iter::FusedIterator;
@@ -22,13 +23,21 @@ use std::marker::{Model, PhantomData};
 /// Its items are `&value`. It iterates from both ends, knows its length, and can be cloned, which
 /// never fails. Each item reads the slot of its value.
 #[derive(Drop)]
-pub struct ValuesRest<'walk, 'map, K, V, A: Allocator = Global> {
+pub struct ValuesRest<
+    'walk,
+    'map,
+    K,
+    V,
+    A: Allocator = Global,
+    F: LinkForm<ValueLink> = PackedLink,
+> {
     keys: PhantomData<&'map K>,
-    values: &'walk SlotCells<'map, V, ValueLink, A>,
+    values: &'walk SlotCells<'map, V, ValueLink, A, F>,
     left: ChainEnds,
 }
 
-impl<'walk, 'map, K, V, A: Allocator> Model for ValuesRest<'walk, 'map, K, V, A> {
+impl<'walk, 'map, K, V, A: Allocator, F: LinkForm<ValueLink>> Model
+    for ValuesRest<'walk, 'map, K, V, A, F> {
     ghost use Rattle.std.specs.Prelude.{List};
     ghost use Rattle.multimap_walks.specs.Lending.{CanLend};
     ghost use Rattle.multimap_walks.specs.RestWalk.{values_rest};
@@ -40,7 +49,7 @@ impl<'walk, 'map, K, V, A: Allocator> Model for ValuesRest<'walk, 'map, K, V, A>
     ghost invariant = { λ w. CanLend w.values.now w.left };
 }
 
-impl<'walk, 'map, K, V, A: Allocator> ValuesRest<'walk, 'map, K, V, A> {
+impl<'walk, 'map, K, V, A: Allocator, F: LinkForm<ValueLink>> ValuesRest<'walk, 'map, K, V, A, F> {
     /// Creates an iterator over the values at places that are left.
     ///
     /// It reads no slot.
@@ -52,7 +61,7 @@ impl<'walk, 'map, K, V, A: Allocator> ValuesRest<'walk, 'map, K, V, A> {
     /// # Requires
     ///
     /// None of these values was taken.
-    pub fn new(values: &'walk SlotCells<'map, V, ValueLink, A>, left: ChainEnds) -> Self
+    pub fn new(values: &'walk SlotCells<'map, V, ValueLink, A, F>, left: ChainEnds) -> Self
         requires { CanLend values.now left }
         ensures values { result ≡ values_rest values.now left }
     {
@@ -73,7 +82,8 @@ impl<'walk, 'map, K, V, A: Allocator> ValuesRest<'walk, 'map, K, V, A> {
     }
 }
 
-impl<'walk, 'map, K, V, A: Allocator> Iterator for ValuesRest<'walk, 'map, K, V, A> {
+impl<'walk, 'map, K, V, A: Allocator, F: LinkForm<ValueLink>> Iterator
+    for ValuesRest<'walk, 'map, K, V, A, F> {
     type Item = &'walk V;
 
     ghost next_gives = { TakesFirst deref };
@@ -92,7 +102,8 @@ impl<'walk, 'map, K, V, A: Allocator> Iterator for ValuesRest<'walk, 'map, K, V,
     }
 }
 
-impl<'walk, 'map, K, V, A: Allocator> DoubleEndedIterator for ValuesRest<'walk, 'map, K, V, A> {
+impl<'walk, 'map, K, V, A: Allocator, F: LinkForm<ValueLink>> DoubleEndedIterator
+    for ValuesRest<'walk, 'map, K, V, A, F> {
     ghost next_back_gives = { TakesLast deref };
 
     fn next_back(&mut self) -> Option<&'walk V> {
@@ -100,26 +111,30 @@ impl<'walk, 'map, K, V, A: Allocator> DoubleEndedIterator for ValuesRest<'walk, 
     }
 }
 
-impl<'walk, 'map, K, V, A: Allocator> ExactSizeIterator for ValuesRest<'walk, 'map, K, V, A> {
+impl<'walk, 'map, K, V, A: Allocator, F: LinkForm<ValueLink>> ExactSizeIterator
+    for ValuesRest<'walk, 'map, K, V, A, F> {
     #[tactic(auto, using(crate::proofs::CountLemmas::values_counted))]
     fn len(&self) -> usize {
         self.left.length
     }
 }
 
-impl<'walk, 'map, K, V, A: Allocator> FusedIterator for ValuesRest<'walk, 'map, K, V, A> {}
+impl<'walk, 'map, K, V, A: Allocator, F: LinkForm<ValueLink>> FusedIterator
+    for ValuesRest<'walk, 'map, K, V, A, F> {}
 
-impl<'walk, 'map, K, V, A: Allocator> Clone for ValuesRest<'walk, 'map, K, V, A> {
+impl<'walk, 'map, K, V, A: Allocator, F: LinkForm<ValueLink>> Clone
+    for ValuesRest<'walk, 'map, K, V, A, F> {
     ghost is_clone = { λ s r. r ≡ s };
 
     ghost is_infallible = { λ _. ⊤ };
 
-    fn clone(&self) -> Result<ValuesRest<'walk, 'map, K, V, A>, AllocError> {
+    fn clone(&self) -> Result<ValuesRest<'walk, 'map, K, V, A, F>, AllocError> {
         Ok(ValuesRest::new(self.values, self.left))
     }
 }
 
-impl<'walk, 'map, K, V: fmt::Debug, A: Allocator> fmt::Debug for ValuesRest<'walk, 'map, K, V, A> {
+impl<'walk, 'map, K, V: fmt::Debug, A: Allocator, F: LinkForm<ValueLink>> fmt::Debug
+    for ValuesRest<'walk, 'map, K, V, A, F> {
     fn fmt<W: fmt::Write>(&self, f: &mut fmt::Formatter<W>) -> fmt::Result {
         show_left(f, "ValuesRest", self)
     }

@@ -13,13 +13,13 @@ use crate::links::ValueLink;
 use crate::show::show_left;
 use crate::writing::rest::values::ValuesRest;
 use crate::writing::{all_of, lend};
-use multimap_slots::{Cells, SlotCells};
+use multimap_slots::{Cells, LinkForm, SlotCells};
 use std::alloc::Allocator;
 use std::fmt;
 use std::iter::FusedIterator;
 use std::marker::PhantomData;
 
-impl<'map, K, V, A: Allocator> ValuesMut<'map, K, V, A> {
+impl<'map, K, V, A: Allocator, F: LinkForm<ValueLink>> ValuesMut<'map, K, V, A, F> {
     /// Creates an iterator over all values of the cells.
     ///
     /// It reads no slot.
@@ -31,7 +31,7 @@ impl<'map, K, V, A: Allocator> ValuesMut<'map, K, V, A> {
     /// # Requires
     ///
     /// No value was taken from `values`.
-    pub fn new(values: SlotCells<'map, V, ValueLink, A>) -> Self
+    pub fn new(values: SlotCells<'map, V, ValueLink, A, F>) -> Self
         requires untaken { NoneIsTaken values }
         ensures values { values_mut_rest result
             ≡ values_at (lent_slots values.entry) (lent_slots values.entry).order }
@@ -104,7 +104,7 @@ impl<'map, K, V, A: Allocator> ValuesMut<'map, K, V, A> {
     /// assert!(rt; values.iter().eq(&[8]));
     /// assert_eq!(rt; values.len(), 1);
     /// ```
-    pub fn iter(&self) -> ValuesRest<'_, 'map, K, V, A>
+    pub fn iter(&self) -> ValuesRest<'_, 'map, K, V, A, F>
         ensures { result ≡ values_mut_rest self.now }
     {
         ValuesRest::new(&self.values, self.left)
@@ -120,7 +120,7 @@ impl<'map, K, V, A: Allocator> ValuesMut<'map, K, V, A> {
     }
 }
 
-impl<'map, K, V, A: Allocator> Iterator for ValuesMut<'map, K, V, A> {
+impl<'map, K, V, A: Allocator, F: LinkForm<ValueLink>> Iterator for ValuesMut<'map, K, V, A, F> {
     type Item = &'map mut V;
 
     ghost next_gives = { LendsFirstValue };
@@ -131,7 +131,6 @@ impl<'map, K, V, A: Allocator> Iterator for ValuesMut<'map, K, V, A> {
         self.step(End::Front)
     }
 
-    #[tactic(auto, using(crate::proofs::CountLemmas::values_mut_counted))]
     fn size_hint(&self) -> (usize, Option<usize>)
         ensures { TellsLength result (values_mut_rest self.now) }
     {
@@ -139,7 +138,8 @@ impl<'map, K, V, A: Allocator> Iterator for ValuesMut<'map, K, V, A> {
     }
 }
 
-impl<'map, K, V, A: Allocator> DoubleEndedIterator for ValuesMut<'map, K, V, A> {
+impl<'map, K, V, A: Allocator, F: LinkForm<ValueLink>> DoubleEndedIterator
+    for ValuesMut<'map, K, V, A, F> {
     ghost next_back_gives = { LendsLastValue };
 
     fn next_back(&mut self) -> Option<&'map mut V> {
@@ -147,16 +147,18 @@ impl<'map, K, V, A: Allocator> DoubleEndedIterator for ValuesMut<'map, K, V, A> 
     }
 }
 
-impl<'map, K, V, A: Allocator> ExactSizeIterator for ValuesMut<'map, K, V, A> {
-    #[tactic(auto, using(crate::proofs::CountLemmas::values_mut_counted))]
+impl<'map, K, V, A: Allocator, F: LinkForm<ValueLink>> ExactSizeIterator
+    for ValuesMut<'map, K, V, A, F> {
     fn len(&self) -> usize {
         self.left.length
     }
 }
 
-impl<'map, K, V, A: Allocator> FusedIterator for ValuesMut<'map, K, V, A> {}
+impl<'map, K, V, A: Allocator, F: LinkForm<ValueLink>> FusedIterator
+    for ValuesMut<'map, K, V, A, F> {}
 
-impl<'map, K, V: fmt::Debug, A: Allocator> fmt::Debug for ValuesMut<'map, K, V, A> {
+impl<'map, K, V: fmt::Debug, A: Allocator, F: LinkForm<ValueLink>> fmt::Debug
+    for ValuesMut<'map, K, V, A, F> {
     fn fmt<W: fmt::Write>(&self, f: &mut fmt::Formatter<W>) -> fmt::Result {
         show_left(f, "ValuesMut", &self.iter())
     }

@@ -11,7 +11,7 @@ ghost use Rattle.ordered_multimap.specs.Private.Remove.{HasChainBeforeRoom};
 use crate::list_ordered_multimap::links::set_next;
 use multimap_slots::{SlotList, Tape};
 use multimap_table::KeyTable;
-use multimap_walks::{KeyLink, ValueLink};
+use multimap_walks::{KeyLink, PackedLink, ValueLink};
 use std::alloc::Allocator;
 
 /// The link of a key with one value, at the place.
@@ -30,7 +30,7 @@ pub(crate) fn new_link(hash: u64, place: usize) -> KeyLink
 /// place.
 #[inline(always)]
 pub(crate) fn push_value<V, A: Allocator>(
-    values: &mut Tape<V, ValueLink, A>,
+    values: &mut Tape<V, ValueLink, A, PackedLink>,
     value: V,
     key: usize,
     tail: Option<usize>,
@@ -45,7 +45,8 @@ pub(crate) fn push_value<V, A: Allocator>(
         previous: tail,
         next: None,
     };
-    let place = values.push_reserved(value, link);
+    let place = values.push_place();
+    values.push_reserved(value, link);
     set_next(values, tail, Some(place));
     place
 }
@@ -54,7 +55,7 @@ pub(crate) fn push_value<V, A: Allocator>(
 #[inline(always)]
 pub(crate) fn push_behind<K, V, A: Allocator>(
     keys: &mut SlotList<K, KeyLink, A>,
-    values: &mut Tape<V, ValueLink, A>,
+    values: &mut Tape<V, ValueLink, A, PackedLink>,
     place: usize,
     value: V,
 )

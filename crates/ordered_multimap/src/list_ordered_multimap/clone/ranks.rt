@@ -6,7 +6,7 @@ ghost use Rattle.ordered_multimap.specs.Private.KeyRelocations.{new_place_in};
 ghost use Rattle.ordered_multimap.specs.Private.Relocations.{relocated_key, relocated_value};
 
 use multimap_slots::Tape;
-use multimap_walks::{KeyLink, ValueLink};
+use multimap_walks::{KeyLink, PackedLink, ValueLink};
 use std::alloc::{AllocError, Allocator};
 
 /// The ranks of the values on a tape.
@@ -28,12 +28,16 @@ pub(super) trait Ranks {
         ensures { result ≡ relocated_value (rank self.now) link };
 
     /// The place of the tape's first value.
-    fn front<V, A: Allocator>(&self, values: &Tape<V, ValueLink, A>) -> Option<usize>
+    fn front<V, A: Allocator>(&self, values: &Tape<V, ValueLink, A, PackedLink>) -> Option<usize>
         requires { AreRanks values.now.list.order (has_rank self.now) (rank self.now) }
         ensures { result ≡ first_of values.now.list.order };
 
     /// The place of the value behind the one at the place.
-    fn next<V, A: Allocator>(&self, values: &Tape<V, ValueLink, A>, place: usize) -> Option<usize>
+    fn next<V, A: Allocator>(
+        &self,
+        values: &Tape<V, ValueLink, A, PackedLink>,
+        place: usize,
+    ) -> Option<usize>
         requires ranks { AreRanks values.now.list.order (has_rank self.now) (rank self.now) }
         requires listed { IsIn place values.now.list.order }
         ensures { result ≡ next_of values.now.list.order place };
@@ -64,12 +68,16 @@ impl<B: Allocator> Ranks for Vec<usize, B> {
     }
 
     #[inline(always)]
-    fn front<V, A: Allocator>(&self, values: &Tape<V, ValueLink, A>) -> Option<usize> {
+    fn front<V, A: Allocator>(&self, values: &Tape<V, ValueLink, A, PackedLink>) -> Option<usize> {
         values.front_place()
     }
 
     #[inline(always)]
-    fn next<V, A: Allocator>(&self, values: &Tape<V, ValueLink, A>, place: usize) -> Option<usize> {
+    fn next<V, A: Allocator>(
+        &self,
+        values: &Tape<V, ValueLink, A, PackedLink>,
+        place: usize,
+    ) -> Option<usize> {
         values.next_listed_place(place)
     }
 }
@@ -94,12 +102,16 @@ impl Ranks for NoHoles {
     }
 
     #[inline(always)]
-    fn front<V, A: Allocator>(&self, values: &Tape<V, ValueLink, A>) -> Option<usize> {
+    fn front<V, A: Allocator>(&self, values: &Tape<V, ValueLink, A, PackedLink>) -> Option<usize> {
         if values.is_empty() { None } else { Some(0) }
     }
 
     #[inline(always)]
-    fn next<V, A: Allocator>(&self, values: &Tape<V, ValueLink, A>, place: usize) -> Option<usize> {
+    fn next<V, A: Allocator>(
+        &self,
+        values: &Tape<V, ValueLink, A, PackedLink>,
+        place: usize,
+    ) -> Option<usize> {
         let len = values.len();
         let next = place + 1;
         if next < len { Some(next) } else { None }
@@ -120,7 +132,7 @@ fn rank_in<A: Allocator>(ranks: &Vec<usize, A>, place: Option<usize>) -> Option<
 
 /// The ranks on a tape with holes.
 pub(super) fn ranks_of<V, A: Allocator + Copy>(
-    values: &Tape<V, ValueLink, A>,
+    values: &Tape<V, ValueLink, A, PackedLink>,
     alloc: A,
 ) -> Result<Vec<usize, A>, AllocError>
     ensures { IfOk result (λ ranks. AreRanks values.now.list.order

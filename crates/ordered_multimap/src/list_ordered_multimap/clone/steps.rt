@@ -1,15 +1,16 @@
 //! Clones of keys and values in new storage, where each link names the new places.
-ghost use Rattle.std.specs.Prelude.{◌≡◌, ◌≤◌, ◌<◌, ◌+◌, ◌/◌, ℕ, Some, length, min, option_map, IfOk, OnOk};
+ghost use Rattle.std.specs.Prelude.{◌≡◌, ◌≤◌, ◌<◌, ◌+◌, ◌/◌, ◌^◌, ℕ, Some, length, min, option_map, IfOk, OnOk};
 ghost use Rattle.std.specs.FinMap.{empty, len};
 ghost use Rattle.multimap_slots.specs.Lists.{IsIn};
 ghost use Rattle.multimap_slots.specs.Slots.{HasRoomFor, IsEmpty, IsSound, link_at};
 ghost use Rattle.multimap_slots.specs.Tapes.{HasEndRoom};
+ghost use Rattle.multimap_walks.specs.Packed.{HasSmallPlaces};
 ghost use Rattle.ordered_multimap.specs.Agrees.{hash_of};
 ghost use Rattle.ordered_multimap.specs.Private.Append.{HasListedRows, KeepsTapeRoom};
 ghost use Rattle.ordered_multimap.specs.Private.Copies.{AreCopied, AreRanks, AreStored, CopiesKey, CopiesValue, HasRankedEnds, HasRankedNeighbours, IsKeyCopy, IsValueCopy};
 ghost use Rattle.ordered_multimap.specs.Private.KeyRelocations.{HasRows, HaveNewPlaces, IsNewStorage, new_place_in};
 ghost use Rattle.ordered_multimap.specs.Private.Remove.{KeepsKeyRoom};
-ghost use Rattle.ordered_multimap.specs.Private.Relocations.{AreChained};
+ghost use Rattle.ordered_multimap.specs.Private.Relocations.{AreChained, relocated_value};
 ghost use Rattle.ordered_multimap.specs.TapeNumbers.{AreUnused, numbers_of};
 
 use super::ranks::{NoHoles, Ranks, ranks_of};
@@ -17,7 +18,7 @@ use crate::list_ordered_multimap::lookup::{slot_at, value_at};
 use crate::list_ordered_multimap::storage::{Storage, new_storage};
 use multimap_slots::{SlotList, Tape};
 use multimap_table::KeyTable;
-use multimap_walks::{KeyLink, ValueLink};
+use multimap_walks::{KeyLink, PackedLink, ValueLink};
 use std::alloc::{AllocError, Allocator};
 use std::hash::{BuildHasher, Hash};
 
@@ -94,15 +95,17 @@ fn clone_keys<K: Hash + Clone, S: BuildHasher, R: Ranks, A: Allocator>(
 /// Puts a clone of the value at the place behind the copies.
 #[inline(always)]
 fn clone_value<V: Clone, R: Ranks, A: Allocator>(
-    values: &Tape<V, ValueLink, A>,
+    values: &Tape<V, ValueLink, A, PackedLink>,
     place: usize,
     new_places: &Vec<usize, A>,
     ranks: &R,
-    copies: &mut Tape<V, ValueLink, A>,
+    copies: &mut Tape<V, ValueLink, A, PackedLink>,
 ) -> Result<(), AllocError>
     requires listed { IsIn place values.now.list.order }
     requires ranked { (l : ValueLink) → link_at values.now.list place ≡ Some l
         → HasRankedNeighbours (R.has_rank ranks.now) l }
+    requires small { (l : ValueLink) → link_at values.now.list place ≡ Some l
+        → HasSmallPlaces (relocated_value (R.rank ranks.now) l) }
     requires named { (l : ValueLink) → link_at values.now.list place ≡ Some l
         → l.key < length new_places.now.items }
     requires end_room { HasEndRoom copies.old }
@@ -122,15 +125,18 @@ fn clone_value<V: Clone, R: Ranks, A: Allocator>(
 /// Puts clones of all values on the new tape in their order, with the new places of their keys. They
 /// stand there without a hole, each at the place of its rank.
 fn clone_values<V: Clone, R: Ranks, A: Allocator>(
-    values: &Tape<V, ValueLink, A>,
+    values: &Tape<V, ValueLink, A, PackedLink>,
     new_places: &Vec<usize, A>,
     ranks: &R,
-    copies: &mut Tape<V, ValueLink, A>,
+    copies: &mut Tape<V, ValueLink, A, PackedLink>,
 ) -> Result<(), AllocError>
     requires ranks { AreRanks values.now.list.order (R.has_rank ranks.now) (R.rank ranks.now) }
     requires ranked { (q : ℕ) (l : ValueLink) → IsIn q values.now.list.order
         → link_at values.now.list q ≡ Some l
         → HasRankedNeighbours (R.has_rank ranks.now) l }
+    requires small { (q : ℕ) (l : ValueLink) → IsIn q values.now.list.order
+        → link_at values.now.list q ≡ Some l
+        → HasSmallPlaces (relocated_value (R.rank ranks.now) l) }
     requires named { (q : ℕ) (l : ValueLink) → IsIn q values.now.list.order
         → link_at values.now.list q ≡ Some l → l.key < length new_places.now.items }
     requires no_value { IsEmpty copies.old.list }
@@ -157,13 +163,14 @@ fn clone_values<V: Clone, R: Ranks, A: Allocator>(
 /// Puts clones of all keys and values into the new storage.
 fn clone_into<K: Hash + Clone, V: Clone, S: BuildHasher, R: Ranks, A: Allocator>(
     keys: &SlotList<K, KeyLink, A>,
-    values: &Tape<V, ValueLink, A>,
+    values: &Tape<V, ValueLink, A, PackedLink>,
     state: &S,
     ranks: &R,
     storage: &mut Storage<K, V, A>,
 ) -> Result<(), AllocError>
     requires chains { AreChained keys.now values.now.list }
     requires ranks { AreRanks values.now.list.order (R.has_rank ranks.now) (R.rank ranks.now) }
+    requires counted { length values.now.list.order < 2 ^ 64 }
     requires empty { IsNewStorage storage.old.keys storage.old.table storage.old.values }
     requires key_room { length keys.now.order ≤ storage.old.keys.capacity }
     requires row_room { length keys.now.order ≤ storage.old.table.capacity }
@@ -191,7 +198,7 @@ fn clone_into<K: Hash + Clone, V: Clone, S: BuildHasher, R: Ranks, A: Allocator>
 /// New storage with clones of all keys and values by these ranks, and with room for all.
 fn cloned_by_ranks<K: Hash + Clone, V: Clone, S: BuildHasher, R: Ranks, A: Allocator + Copy>(
     keys: &SlotList<K, KeyLink, A>,
-    values: &Tape<V, ValueLink, A>,
+    values: &Tape<V, ValueLink, A, PackedLink>,
     state: &S,
     ranks: &R,
 ) -> Result<Storage<K, V, A>, AllocError>
@@ -211,7 +218,7 @@ fn cloned_by_ranks<K: Hash + Clone, V: Clone, S: BuildHasher, R: Ranks, A: Alloc
 /// among the values, it allocates their ranks for that time.
 pub(super) fn cloned_storage<K: Hash + Clone, V: Clone, S: BuildHasher, A: Allocator + Copy>(
     keys: &SlotList<K, KeyLink, A>,
-    values: &Tape<V, ValueLink, A>,
+    values: &Tape<V, ValueLink, A, PackedLink>,
     state: &S,
 ) -> Result<Storage<K, V, A>, AllocError>
     requires { AreChained keys.now values.now.list }

@@ -23,7 +23,7 @@ use crate::list_ordered_multimap::{
     EntryValues, ListOrderedMultimap, NO_CHAIN, Refused, RefusedValue,
 };
 use multimap_slots::Tape;
-use multimap_walks::{ChainEnds, End, ValueLink};
+use multimap_walks::{ChainEnds, End, PackedLink, ValueLink};
 use std::alloc::Allocator;
 use std::hash::{BuildHasher, Hash};
 
@@ -192,7 +192,10 @@ impl<K: Eq + Hash, V, S: BuildHasher, A: Allocator + Copy> ListOrderedMultimap<K
 }
 
 /// Takes detached values, and drops them.
-fn drop_chain<V: Drop, A: Allocator>(values: &mut Tape<V, ValueLink, A>, ends: ChainEnds)
+fn drop_chain<V: Drop, A: Allocator>(
+    values: &mut Tape<V, ValueLink, A, PackedLink>,
+    ends: ChainEnds,
+)
     requires { IsDrained values.old.list ends }
     ensures dropped { AreDropped values.old.list ends values.new.list }
     ensures kept { KeepsSlots values.old.list values.new.list }

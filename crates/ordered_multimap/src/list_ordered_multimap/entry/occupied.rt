@@ -77,7 +77,7 @@ impl<'map, K: Eq + Hash, V, S: BuildHasher, A: Allocator> OccupiedEntry<'map, K,
     ///
     /// # Complexity
     ///
-    /// *O*(1). It reads the slots of the key and of the value.
+    /// *O*(1). It reads the slot of the value.
     ///
     /// # Examples
     ///

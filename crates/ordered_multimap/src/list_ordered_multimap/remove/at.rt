@@ -15,7 +15,7 @@ use crate::list_ordered_multimap::ListOrderedMultimap;
 use crate::list_ordered_multimap::links::link_of;
 use crate::list_ordered_multimap::remove::one::take_one;
 use multimap_slots::{SlotList, Tape};
-use multimap_walks::{KeyLink, ValueLink};
+use multimap_walks::{KeyLink, PackedLink, ValueLink};
 use std::alloc::Allocator;
 use std::hash::{BuildHasher, Hash};
 
@@ -23,7 +23,7 @@ use std::hash::{BuildHasher, Hash};
 /// the nearer end.
 fn place_at<K, V, A: Allocator>(
     keys: &SlotList<K, KeyLink, A>,
-    values: &Tape<V, ValueLink, A>,
+    values: &Tape<V, ValueLink, A, PackedLink>,
     place: usize,
     index: usize,
 ) -> usize
@@ -51,7 +51,7 @@ fn place_at<K, V, A: Allocator>(
 #[inline(always)]
 pub(crate) fn indexed<K, V, A: Allocator>(
     keys: &SlotList<K, KeyLink, A>,
-    values: &Tape<V, ValueLink, A>,
+    values: &Tape<V, ValueLink, A, PackedLink>,
     place: usize,
     index: usize,
 ) -> (usize, ValueLink)
@@ -69,7 +69,7 @@ pub(crate) fn indexed<K, V, A: Allocator>(
 /// Takes out the value at an index in the chain of the key at the place, if the key has others.
 fn take_at<K, V, A: Allocator>(
     keys: &mut SlotList<K, KeyLink, A>,
-    values: &mut Tape<V, ValueLink, A>,
+    values: &mut Tape<V, ValueLink, A, PackedLink>,
     place: usize,
     index: usize,
 ) -> Option<V>

@@ -11,14 +11,14 @@ use crate::list_ordered_multimap::links::set_previous;
 use crate::list_ordered_multimap::remove::unlink::Unlink;
 use multimap_slots::{SlotList, Tape};
 use multimap_table::KeyTable;
-use multimap_walks::{ChainEnds, KeyLink, ValueLink};
+use multimap_walks::{ChainEnds, KeyLink, PackedLink, ValueLink};
 use std::alloc::Allocator;
 
 /// Lets the first `count` values along the links from a place on leave, and returns what the first
 /// gives, and where they stood. No link is written.
 #[inline(always)]
 fn unlink_values<V, W: Unlink<V>, A: Allocator>(
-    values: &mut Tape<V, ValueLink, A>,
+    values: &mut Tape<V, ValueLink, A, PackedLink>,
     first: usize,
     count: usize,
 ) -> (W, ChainEnds)
@@ -74,7 +74,7 @@ pub(crate) fn take_key<K, A: Allocator>(
 pub(crate) fn unlink_entry<K, V, W: Unlink<V>, A: Allocator>(
     keys: &mut SlotList<K, KeyLink, A>,
     table: &mut KeyTable<A>,
-    values: &mut Tape<V, ValueLink, A>,
+    values: &mut Tape<V, ValueLink, A, PackedLink>,
     place: usize,
 ) -> (K, W, ChainEnds)
     requires { HasEntry keys.old table.old.rows values.old.list place }
@@ -90,7 +90,7 @@ pub(crate) fn unlink_entry<K, V, W: Unlink<V>, A: Allocator>(
 #[inline(always)]
 fn unlink_older<K, V, W: Unlink<V>, A: Allocator>(
     keys: &mut SlotList<K, KeyLink, A>,
-    values: &mut Tape<V, ValueLink, A>,
+    values: &mut Tape<V, ValueLink, A, PackedLink>,
     place: usize,
 ) -> (W, ChainEnds)
     requires chain { HasChain keys.old values.old.list place }
@@ -110,7 +110,7 @@ fn unlink_older<K, V, W: Unlink<V>, A: Allocator>(
 #[inline(always)]
 pub(crate) fn replace_chain<K, V, W: Unlink<V>, A: Allocator>(
     keys: &mut SlotList<K, KeyLink, A>,
-    values: &mut Tape<V, ValueLink, A>,
+    values: &mut Tape<V, ValueLink, A, PackedLink>,
     place: usize,
     value: V,
 ) -> (W, ChainEnds)

@@ -9,7 +9,7 @@ use crate::list_ordered_multimap::links::{link_of, set_link, set_next, set_previ
 use crate::list_ordered_multimap::remove::chain::take_key;
 use multimap_slots::{SlotList, Tape};
 use multimap_table::KeyTable;
-use multimap_walks::{KeyLink, ValueLink};
+use multimap_walks::{KeyLink, PackedLink, ValueLink};
 use std::alloc::Allocator;
 
 /// Where the key of a pair is that was taken out.
@@ -57,7 +57,7 @@ fn shorter_link(link: KeyLink, gone: ValueLink) -> KeyLink
 #[inline(always)]
 pub(crate) fn take_one<K, V, A: Allocator>(
     keys: &mut SlotList<K, KeyLink, A>,
-    values: &mut Tape<V, ValueLink, A>,
+    values: &mut Tape<V, ValueLink, A, PackedLink>,
     place: usize,
     link: ValueLink,
     key_link: KeyLink,
@@ -78,7 +78,7 @@ pub(crate) fn take_one<K, V, A: Allocator>(
 pub(crate) fn take_pair_at<K, V, A: Allocator>(
     keys: &mut SlotList<K, KeyLink, A>,
     table: &mut KeyTable<A>,
-    values: &mut Tape<V, ValueLink, A>,
+    values: &mut Tape<V, ValueLink, A, PackedLink>,
     place: usize,
 ) -> Taken<K, V>
     requires { HasPair keys.old table.old.rows values.old.list place }
@@ -94,7 +94,7 @@ pub(crate) fn take_pair_at<K, V, A: Allocator>(
 pub(crate) fn take_pair<K, V, A: Allocator>(
     keys: &mut SlotList<K, KeyLink, A>,
     table: &mut KeyTable<A>,
-    values: &mut Tape<V, ValueLink, A>,
+    values: &mut Tape<V, ValueLink, A, PackedLink>,
     place: usize,
     link: ValueLink,
     key_link: KeyLink,

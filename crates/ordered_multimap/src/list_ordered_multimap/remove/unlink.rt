@@ -5,7 +5,7 @@ ghost use Rattle.multimap_slots.specs.Slots.{item_at};
 ghost use Rattle.ordered_multimap.specs.Private.Remove.{UnlinksValue};
 
 use multimap_slots::Tape;
-use multimap_walks::ValueLink;
+use multimap_walks::{PackedLink, ValueLink};
 use std::alloc::Allocator;
 
 /// How a value leaves the list, and what it gives.
@@ -17,7 +17,10 @@ pub(crate) trait Unlink<V>: Drop {
     ghost gives: { Self → V → Type 0 };
 
     /// Lets the value at a listed place leave, and returns its link.
-    fn unlink<A: Allocator>(values: &mut Tape<V, ValueLink, A>, place: usize) -> (Self, ValueLink)
+    fn unlink<A: Allocator>(
+        values: &mut Tape<V, ValueLink, A, PackedLink>,
+        place: usize,
+    ) -> (Self, ValueLink)
         requires { IsIn place values.old.list.order }
         ensures left { UnlinksValue keeps values.old values.new place result.1 }
         ensures given { (v : V) → item_at values.old.list place ≡ Some v → gives result.0 v };
@@ -35,7 +38,10 @@ impl<V: Drop> Unlink<V> for TakenOut<V> {
     ghost gives = { λ taken v. taken.value ≡ v };
 
     #[inline(always)]
-    fn unlink<A: Allocator>(values: &mut Tape<V, ValueLink, A>, place: usize) -> (Self, ValueLink) {
+    fn unlink<A: Allocator>(
+        values: &mut Tape<V, ValueLink, A, PackedLink>,
+        place: usize,
+    ) -> (Self, ValueLink) {
         let (value, link) = values.take_listed(place);
         (TakenOut { value }, link)
     }
@@ -51,7 +57,10 @@ impl<V> Unlink<V> for KeptInPlace {
     ghost gives = { λ _ _. ⊤ };
 
     #[inline(always)]
-    fn unlink<A: Allocator>(values: &mut Tape<V, ValueLink, A>, place: usize) -> (Self, ValueLink) {
+    fn unlink<A: Allocator>(
+        values: &mut Tape<V, ValueLink, A, PackedLink>,
+        place: usize,
+    ) -> (Self, ValueLink) {
         let link = values.detach_linked(place);
         (KeptInPlace, link)
     }

@@ -15,7 +15,7 @@ use crate::list_ordered_multimap::remove::at::indexed;
 use crate::list_ordered_multimap::remove::one::take_pair;
 use multimap_slots::{SlotList, Tape};
 use multimap_table::KeyTable;
-use multimap_walks::{EntryValues, KeyLink, ValueLink};
+use multimap_walks::{EntryValues, KeyLink, PackedLink, ValueLink};
 use std::alloc::Allocator;
 use std::hash::{BuildHasher, Hash};
 
@@ -39,7 +39,7 @@ fn index_of<K, V: PartialEq, A: Allocator>(values: EntryValues<'_, K, V, A>, val
 fn take_indexed<K: Drop, V, A: Allocator>(
     keys: &mut SlotList<K, KeyLink, A>,
     table: &mut KeyTable<A>,
-    values: &mut Tape<V, ValueLink, A>,
+    values: &mut Tape<V, ValueLink, A, PackedLink>,
     place: usize,
     index: usize,
 ) -> Option<V>

@@ -3,6 +3,7 @@ ghost use Rattle.std.specs.Prelude.{◌≡◌, ◌-◌, ◌≤◌, ℕ, Some, le
 ghost use Rattle.multimap_slots.specs.Lists.{IsIn};
 ghost use Rattle.multimap_slots.specs.Slots.{item_at, link_at};
 ghost use Rattle.multimap_walks.specs.Chained.{chain_of, pairs_of, values_at};
+ghost use Rattle.multimap_walks.specs.Packed.{HasSmallPlaces};
 ghost use Rattle.ordered_multimap.specs.Agrees.{Agrees, HasKey};
 ghost use Rattle.ordered_multimap.specs.Keys.{keys_named_by};
 ghost use Rattle.ordered_multimap.specs.Pairs.{values_where};
@@ -18,7 +19,7 @@ use crate::list_ordered_multimap::lookup::{slot_at, value_at};
 use crate::list_ordered_multimap::remove::one::take_pair;
 use multimap_slots::{SlotList, Tape};
 use multimap_table::KeyTable;
-use multimap_walks::{KeyLink, ValueLink};
+use multimap_walks::{KeyLink, PackedLink, ValueLink};
 use std::alloc::Allocator;
 use std::hash::{BuildHasher, Hash};
 
@@ -26,7 +27,7 @@ use std::hash::{BuildHasher, Hash};
 /// value and of its key.
 fn ask_value<K, V, A: Allocator, F: FnMut(&mut V) -> bool>(
     keys: &SlotList<K, KeyLink, A>,
-    values: &mut Tape<V, ValueLink, A>,
+    values: &mut Tape<V, ValueLink, A, PackedLink>,
     f: &mut F,
     place: usize,
 ) -> (bool, ValueLink, KeyLink)
@@ -36,6 +37,7 @@ fn ask_value<K, V, A: Allocator, F: FnMut(&mut V) -> bool>(
     ensures asked { Asks (AsksAny F.FnMut) keys.now values.old values.new place
         f.old result.0 f.new }
     ensures link { link_at values.old.list place ≡ Some result.1 }
+    ensures small { HasSmallPlaces result.1 }
     ensures key_link { link_at keys.now result.1.key ≡ Some result.2 }
 {
     let (_, link) = value_at(values, place);
@@ -48,7 +50,7 @@ fn ask_value<K, V, A: Allocator, F: FnMut(&mut V) -> bool>(
 fn retain_value_at<K: Drop, V: Drop, A: Allocator, F: FnMut(&mut V) -> bool>(
     keys: &mut SlotList<K, KeyLink, A>,
     table: &mut KeyTable<A>,
-    values: &mut Tape<V, ValueLink, A>,
+    values: &mut Tape<V, ValueLink, A, PackedLink>,
     f: &mut F,
     place: usize,
 ) -> Option<usize>
@@ -71,7 +73,7 @@ fn retain_value_at<K: Drop, V: Drop, A: Allocator, F: FnMut(&mut V) -> bool>(
 fn retain_chain<K: Eq + Drop, V: Drop, A: Allocator, F: FnMut(&mut V) -> bool>(
     keys: &mut SlotList<K, KeyLink, A>,
     table: &mut KeyTable<A>,
-    values: &mut Tape<V, ValueLink, A>,
+    values: &mut Tape<V, ValueLink, A, PackedLink>,
     key_place: usize,
     mut f: F,
 )

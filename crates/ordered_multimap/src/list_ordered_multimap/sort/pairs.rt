@@ -15,7 +15,7 @@ use super::super::lookup::{slot_at, value_at};
 use super::places_of;
 use super::resorted::move_in_order;
 use multimap_slots::Tape;
-use multimap_walks::ValueLink;
+use multimap_walks::{PackedLink, ValueLink};
 use std::alloc::{AllocError, Allocator};
 use std::cmp::Ordering;
 use std::hash::{BuildHasher, Hash};
@@ -52,7 +52,7 @@ impl<K: Eq + Hash, V, S: BuildHasher, A: Allocator> ListOrderedMultimap<K, V, S,
     }
 
     /// Takes the values to the new tape in the order of these places, and drops the old one.
-    fn set_pair_order(&mut self, places: &[usize], mut tape: Tape<V, ValueLink, A>)
+    fn set_pair_order(&mut self, places: &[usize], mut tape: Tape<V, ValueLink, A, PackedLink>)
     where
         V: Drop,
         requires same { IsPermutation self.old.slots.values.order places.now }
@@ -159,7 +159,7 @@ impl<K: Eq + Hash, V, S: BuildHasher, A: Allocator + Copy> ListOrderedMultimap<K
             return Ok(());
         };
         let places = self.places_by_pair(front, cmp)?;
-        let tape = Tape::with_slots(*self.keys.allocator(), self.values.slots())?;
+        let tape = Tape::with_form_and_slots(*self.keys.allocator(), self.values.slots())?;
         self.set_pair_order(places.as_slice(), tape);
         Ok(())
     }

@@ -11,13 +11,13 @@ ghost use Rattle.ordered_multimap.specs.Private.Relocations.{AreChained};
 use crate::list_ordered_multimap::append::steps::{new_link, push_value};
 use crate::list_ordered_multimap::links::set_link;
 use multimap_slots::{Reads, SlotList, Tape};
-use multimap_walks::{KeyLink, ValueLink};
+use multimap_walks::{KeyLink, PackedLink, ValueLink};
 use std::alloc::Allocator;
 
 /// The place of the key's last value on this tape, if it has one there: `tail`, which its link
 /// names. Where it has none yet, its link still names a place on the old tape.
 fn last_value_of<V, A: Allocator>(
-    values: &Tape<V, ValueLink, A>,
+    values: &Tape<V, ValueLink, A, PackedLink>,
     key: usize,
     tail: usize,
 ) -> Option<usize>
@@ -34,7 +34,7 @@ fn last_value_of<V, A: Allocator>(
 /// Puts the value last on the tape, behind those of the key at the place that came before it.
 fn push_next<K, V, A: Allocator>(
     keys: &mut SlotList<K, KeyLink, A>,
-    values: &mut Tape<V, ValueLink, A>,
+    values: &mut Tape<V, ValueLink, A, PackedLink>,
     place: usize,
     value: V,
 )
@@ -61,8 +61,8 @@ fn push_next<K, V, A: Allocator>(
 /// its key that came before it.
 pub(super) fn move_in_order<K, V, A: Allocator>(
     keys: &mut SlotList<K, KeyLink, A>,
-    values: &mut Tape<V, ValueLink, A>,
-    sorted: &mut Tape<V, ValueLink, A>,
+    values: &mut Tape<V, ValueLink, A, PackedLink>,
+    sorted: &mut Tape<V, ValueLink, A, PackedLink>,
     places: &[usize],
 )
     requires chains { AreChained keys.old values.old.list }

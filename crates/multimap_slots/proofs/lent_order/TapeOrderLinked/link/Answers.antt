@@ -11,4 +11,4 @@ pub returns : goal.returns
 returns g c =
     let within = c.len-len.ensures.sound.within c.args.place (rw (← c.self.view_is) at c.requires) in
     rw (← c.self.view_is) (slice_get-get_or c.self.inside.links.now.items c.args.place c.index.result.now
-    (omega (arith, within, c.self.invariant)) ∙ ap Some (sym c.index.ensures))
+    (omega (arith, within, c.self.invariant)) ∙ ap Some (sym (c.link.ensures.link ∙ c.index.ensures)))

@@ -5,4 +5,4 @@ use Rattle.multimap_slots.proofs.order.OrderInOrder.back.Goals as goal
 
 pub returns : goal.returns
 returns g c =
-    rw (← c.self.view_is) (c.get.ensures ∙ back-is c.self.invariant ∙ ap last_of (sym (walk-order c.self.invariant)))
+    rw (← c.self.view_is) (c.get.ensures.place ∙ back-is c.self.invariant ∙ ap last_of (sym (walk-order c.self.invariant)))

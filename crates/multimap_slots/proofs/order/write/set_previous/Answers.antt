@@ -6,17 +6,17 @@ use Rattle.multimap_slots.proofs.order.write.set_previous.Goals as goal
 
 pub index_mut-node-requires : goal.index_mut-node-requires
 index_mut-node-requires g c =
-    omega (arith, c.args.nodes.now.ok, within_listed _ c.in-Some.place (rw (← c.in-Some.ensures) at c.requires.listed))
+    omega (arith, c.args.nodes.now.ok, within_listed _ c.in-Some.place (rw (← c.in-Some.ensures.place) at c.requires.listed))
 
 pub returns-in-Some : goal.returns-in-Some
 returns-in-Some g c =
-    let listed = rw (← c.in-Some.ensures) at c.requires.listed in
+    let listed = rw (← c.in-Some.ensures.place) at c.requires.listed in
     let within = within_listed c.args.nodes.now.items c.in-Some.place listed in
     let node = c.index_mut-node.ensures.value in
     let state_is = field_read (λ n. n.standing.state) c.args.nodes.now.items c.in-Some.place c.index_mut-node.result.now Free within node in
     record {
       items = record {
-        previouses = rw (← c.in-Some.ensures, ← ap (λ s. s.previous) c.listed-node.ensures)
+        previouses = rw (← c.in-Some.ensures.place, ← ap (λ s. s.previous) c.listed-node.ensures)
             (IsMoved-field (λ n. n.standing.previous) _ _ _ _ within);
         nexts = map-set_same _ _ _ _ _ (ap (λ n. n.next) node);
         states = map-set_same _ _ _ _ _
@@ -29,7 +29,7 @@ returns-in-Some g c =
 pub returns-in-None : goal.returns-in-None
 returns-in-None g c =
     record {
-      items = rw (← c.in-None.ensures) (record {
+      items = rw (← c.in-None.ensures.place) (record {
         previouses = IsMoved-first _ _
             _;
         nexts = refl;

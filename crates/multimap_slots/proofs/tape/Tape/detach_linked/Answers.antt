@@ -3,13 +3,13 @@ use Rattle.std.proofs.lemmas.Option.{slice_get-get_or}
 use Rattle.multimap_slots.proofs.Callers.Tapes.{listed_used}
 use Rattle.multimap_slots.proofs.tape.Tape.detach_linked.Goals as goal
 
-pub index-link-requires : goal.index-link-requires
-index-link-requires g c =
+pub index-requires : goal.index-requires
+index-requires g c =
     let within = listed_used c.self.invariant c.args.place (rw (← c.self.view_is) at c.requires) in
     omega (arith, within, c.self.invariant.links_used, c.self.inside.links.ok)
 
 pub returns-clause-link : goal.returns-clause-link
 returns-clause-link g c =
     let within = listed_used c.self.invariant c.args.place (rw (← c.self.view_is) at c.requires) in
-    rw (← c.self.view_is) (slice_get-get_or c.self.inside.links.items c.args.place c.index-link.result.now
-    (omega (arith, within, c.self.invariant.links_used)) ∙ ap Some (sym c.index-link.ensures))
+    rw (← c.self.view_is) (slice_get-get_or c.self.inside.links.items c.args.place c.index.result.now
+    (omega (arith, within, c.self.invariant.links_used)) ∙ ap Some (sym (c.link-link.ensures.link ∙ c.index.ensures)))

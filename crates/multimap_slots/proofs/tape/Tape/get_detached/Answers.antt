@@ -12,5 +12,5 @@ returns g c =
       not_listed = rw (← c.self.view_is) at c.requires.not_listed;
       item_is = get_or_default c.self.inside.items.items c.args.place None c.index.result.now within ∙ sym c.index.ensures ∙ c.in-Some.is;
       link_is = slice_get-get_or c.self.inside.links.items c.args.place c.index-in-Some.result.now
-          (omega (arith, within, c.self.invariant.items_used, c.self.invariant.links_used)) ∙ ap Some (sym c.index-in-Some.ensures);
+          (omega (arith, within, c.self.invariant.items_used, c.self.invariant.links_used)) ∙ ap Some (sym (c.link.ensures.link ∙ c.index-in-Some.ensures));
     })

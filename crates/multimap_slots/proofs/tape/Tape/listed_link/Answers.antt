@@ -8,13 +8,13 @@ index-requires g c =
     let within = listed_used c.self.invariant c.args.place (rw (← c.self.view_is) at c.requires) in
     omega (arith, within, c.self.invariant.links_used, c.self.inside.links.ok)
 
-pub returns : goal.returns
-returns g c =
+pub returns-clause-link : goal.returns-clause-link
+returns-clause-link g c =
     let listed = rw (← c.self.view_is) at c.requires in
     let within = listed_used c.self.invariant c.args.place listed in
     rw (← c.self.view_is)
     (record {
       listed = listed;
       link_is = slice_get-get_or c.self.inside.links.items c.args.place c.index.result.now
-          (omega (arith, within, c.self.invariant.links_used)) ∙ ap Some (sym c.index.ensures);
+          (omega (arith, within, c.self.invariant.links_used)) ∙ ap Some (sym (c.link.ensures.link ∙ c.index.ensures));
     })

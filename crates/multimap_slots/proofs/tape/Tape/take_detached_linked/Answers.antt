@@ -27,4 +27,4 @@ pub returns-clause-link : goal.returns-clause-link
 returns-clause-link g c =
     let within = IsSome-within c.self.inside.items.items c.args.place (rw (← c.self.view_is) at c.requires.has_item) in
     rw (← c.self.view_is) (slice_get-get_or c.self.inside.links.items c.args.place c.index.result.now
-    (omega (arith, within, c.self.invariant.items_used, c.self.invariant.links_used)) ∙ ap Some (sym c.index.ensures))
+    (omega (arith, within, c.self.invariant.items_used, c.self.invariant.links_used)) ∙ ap Some (sym (c.link.ensures.link ∙ c.index.ensures)))

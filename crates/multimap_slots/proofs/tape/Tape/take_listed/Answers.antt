@@ -5,8 +5,8 @@ use Rattle.multimap_slots.proofs.Changes.SlotLists.{Removes-set}
 use Rattle.multimap_slots.proofs.Callers.Tapes.{IsTape-remove, listed_used}
 use Rattle.multimap_slots.proofs.tape.Tape.take_listed.Goals as goal
 
-pub index-link-requires : goal.index-link-requires
-index-link-requires g c =
+pub index-requires : goal.index-requires
+index-requires g c =
     let within = listed_used c.self.invariant c.args.place (rw (← c.self.view_is) at c.requires) in
     omega (arith, within, c.self.invariant.links_used, c.self.inside.links.ok)
 
@@ -37,8 +37,8 @@ returns-clause-removed g c =
 pub returns-clause-link : goal.returns-clause-link
 returns-clause-link g c =
     let within = listed_used c.self.invariant c.args.place (rw (← c.self.view_is) at c.requires) in
-    rw (← c.self.view_is) (slice_get-get_or c.self.inside.links.items c.args.place c.index-link.result.now
-    (omega (arith, within, c.self.invariant.links_used)) ∙ ap Some (sym c.index-link.ensures))
+    rw (← c.self.view_is) (slice_get-get_or c.self.inside.links.items c.args.place c.index.result.now
+    (omega (arith, within, c.self.invariant.links_used)) ∙ ap Some (sym (c.link-link.ensures.link ∙ c.index.ensures)))
 
 pub returns-clause-freed : goal.returns-clause-freed
 returns-clause-freed g c = search rules

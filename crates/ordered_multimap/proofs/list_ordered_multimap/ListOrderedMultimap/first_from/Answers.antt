@@ -14,4 +14,4 @@ returns g c =
     subst (λ m. (k : g.row.K.Denot) → HasHead g.K.PartialEq.eq m.slots.keys k c.args.first
     → slice_get (values_of g.K.PartialEq.eq m.lists.pairs k) 0 ≡ Some c.value_at.result.0.now) c.self.view_is
     (λ k has. first_value-head g.met.K.Eq.laws c.self.invariant.agrees k c.args.first c.value_at.result.0.now has
-    c.value_at.ensures.item_is)
+    c.value_at.ensures.slot.item_is)

@@ -64,9 +64,12 @@ use Rattle.multimap_table.proofs.table.KeyTable.TheLaws as T-laws
 use Rattle.multimap_walks.specs.contracts.links.ChainEnds as E-type
 use Rattle.multimap_walks.specs.contracts.links.KeyLink as KL-type
 use Rattle.multimap_walks.specs.contracts.links.ValueLink as VL-type
+use Rattle.multimap_walks.specs.contracts.packed.PackedLink as PL-type
+use Rattle.multimap_walks.specs.contracts.packed.PackedLinkLinkFormValueLink.TheImpl.{ghosts as form}
 use Rattle.multimap_walks.proofs.links.ChainEnds.TheLaws as E-laws
 use Rattle.multimap_walks.proofs.links.KeyLink.TheLaws as KL-laws
 use Rattle.multimap_walks.proofs.links.ValueLink.TheLaws as VL-laws
+use Rattle.multimap_walks.proofs.packed.PackedLink.TheLaws as PL-laws
 use Rattle.std.specs.Prelude.{Bool, Option, Some}
 use Rattle.ordered_multimap.specs.Lists.{lists}
 use Rattle.ordered_multimap.specs.Multimap.{Multimap}
@@ -90,7 +93,7 @@ lend_spec 𝓤 𝓛 𝓜 𝓡 wired X₀ X₁ X₂ X₃ X₄ L₀ L₁ L₂ L₃
     let K : RattleType = param 0 X₀ in let V : RattleType = param 1 X₁ in let S : RattleType = param 2 X₂ in
     let A : RattleType = param 3 X₃ in let J : RattleType = param 4 X₄ in
     let KS : RattleType = L-type.the_row K KL-type.the_row A ga in let TS : RattleType = T-type.the_row A ga in
-    let VS : RattleType = P-type.the_row V VL-type.the_row A ga in let ES : RattleType = E-type.the_row in
+    let VS : RattleType = P-type.the_row V VL-type.the_row A PL-type.the_row ga form in let ES : RattleType = E-type.the_row in
     let R : RattleType = M-type.the_row K V S A J gp gk gb gj ga in let I : RattleType = I-type.the_row K V S A J gp gk gb gj ga in
     let ms : List Member = record { row = S; ty = lone S.mir } ∷ record { row = KS; ty = lone KS.mir }
     ∷ record { row = TS; ty = lone TS.mir } ∷ record { row = VS; ty = lone VS.mir } ∷ record { row = ES; ty = lone ES.mir } ∷ [] in
@@ -106,7 +109,7 @@ lend_spec 𝓤 𝓛 𝓜 𝓡 wired X₀ X₁ X₂ X₃ X₄ L₀ L₁ L₂ L₃
     → Type 0 = M-type.the_invariant K V S A J gp gk gb gj ga in
     let PK = param_laws 0 X₀ L₀ in let PV = param_laws 1 X₁ L₁ in let PS = param_laws 2 X₂ L₂ in let PA = param_laws 3 X₃ L₃ in
     let KS-is : Laws KS = L-laws.the_row_laws K KL-type.the_row A ga PK KL-laws.the_row_laws PA in
-    let VS-is : Laws VS = P-laws.the_row_laws V VL-type.the_row A ga PV VL-laws.the_row_laws PA in
+    let VS-is : Laws VS = P-laws.the_row_laws V VL-type.the_row A PL-type.the_row ga form PV VL-laws.the_row_laws PA PL-laws.the_row_laws in
     let ES-is : Laws ES = E-laws.the_row_laws in
     let TS-is : Laws TS = T-laws.the_row_laws A ga PA in
     let s = a.0.now in let γ : GName = a.0.ghost_name in let κ : Lft = κs.0 in let q = qs.0 in let b : ℕ = a.0.ref_ptr.0 in
@@ -195,8 +198,8 @@ lend_spec 𝓤 𝓛 𝓜 𝓡 wired X₀ X₁ X₂ X₃ X₄ L₀ L₁ L₂ L₃
     nothing ! $ tells κs.1 K V S A J ! five $
     move ! (1 ∷ 0 ∷ []) $ join ! $ use1 𝓛 (raw (G.pre z)) (id⊢ 𝓤 _) $
     sets ! (addr ! (through ! refl (fld ! refl (stop !)))) refl (tt, tt) $
-    let a' = named_lft 6 0 tt κs in let CR : RattleType = C-type.the_row a' V VL-type.the_row A ga in
-    let CR-is : Laws CR = C-laws.the_row_laws a' V VL-type.the_row A ga PV VL-laws.the_row_laws PA in
+    let a' = named_lft 6 0 tt κs in let CR : RattleType = C-type.the_row a' V VL-type.the_row A PL-type.the_row ga form in
+    let CR-is : Laws CR = C-laws.the_row_laws a' V VL-type.the_row A PL-type.the_row ga form PV VL-laws.the_row_laws PA PL-laws.the_row_laws in
     calls_at ! (framed 𝓤 H 𝓜 𝓣) G (met 𝓤 𝓛 𝓜 𝓡 (code.calls-ordered_multimap::list_ordered_multimap::lend::cells_of 𝓡.env wired) X₀ X₁ X₂ X₃
     X₄ L₀ L₁ L₂ L₃ L₄ ge de gp dp gk dk gb db gj dj ga da dA dJ m₁ m₂ m₃ m₄ m₅ m₆ m₇ m₈) z (and_then ! (get ! refl) (no_more !)) (λ u.
     use1 𝓛 (later (some (λ (m : CR.Denot). ((‵ (flft κ r) ⊛ ‵ (flft κs.1.0 qs.1.0) ⊛ ‵ (flft κs.1.1.0 qs.1.1.0) ⊛ ‵
@@ -230,7 +233,7 @@ lend_spec 𝓤 𝓛 𝓜 𝓡 wired X₀ X₁ X₂ X₃ X₄ L₀ L₁ L₂ L₃
     -- [the token of 'a; what the map follows; what its name follows; the cells; the other tokens; the keys]
     move ! (3 ∷ 2 ∷ []) $ use2 𝓛 (‵ (CR.own_val e (u ∷ [])))
     (slot_cells_renamed 𝓛 a' V (mem R) (mem VS) (λ h. with_items s h.list.items)
-    (λ ws. with_list v (record v.list { items = ws })) ε rim VL-type.the_row A ga m (u ∷ []) (λ ws. sym (ended ws)) (λ ws. refl)) $
+    (λ ws. with_list v (record v.list { items = ws })) ε rim VL-type.the_row A PL-type.the_row ga form m (u ∷ []) (λ ws. sym (ended ws)) (λ ws. refl)) $
     move ! (0 ∷ 4 ∷ []) $
     returns ! (look_at ! 0 refl) $ free_all ! refl $
     -- [the cells; the keys; the token of 'a; what the map follows; the other tokens]

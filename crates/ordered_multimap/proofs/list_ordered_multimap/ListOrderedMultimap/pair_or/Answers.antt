@@ -9,7 +9,7 @@ pub returns : goal.returns
 returns g c = λ p is.
     let keys = c.self.inside.keys in
     let values = c.self.inside.values.list in
-    let at = c.value_at.ensures in
+    let at = c.value_at.ensures.slot in
     let here = pair_at-is keys values _ c.value_at.result.1 c.slot_at.result.0.now c.value_at.result.0.now at.link_is
     c.slot_at.ensures.item_is at.item_is in
     rw (← c.self.view_is) (elim c.if-is_listed.branch [

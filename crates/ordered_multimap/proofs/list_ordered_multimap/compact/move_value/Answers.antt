@@ -4,14 +4,14 @@ use Rattle.std.proofs.Common.{ap, subst, sym, IfSome}
 use Rattle.multimap_slots.specs.Lists.{IsIn}
 use Rattle.ordered_multimap.proofs.list_ordered_multimap.compact.move_value.Goals as goal
 
-pub set_next-requires : goal.set_next-requires
-set_next-requires g c =
+pub set_next-requires-clause-listed : goal.set_next-requires-clause-listed
+set_next-requires-clause-listed g c =
     before_listed c.requires.chains.keys_sound c.requires.chains.sound c.requires.chains.chained c.args.from c.link_of-link.result
     c.requires.listed
     c.link_of-link.ensures.link c.args.to _ c.move_down.ensures.moved
 
-pub set_previous-requires : goal.set_previous-requires
-set_previous-requires g c =
+pub set_previous-requires-clause-listed : goal.set_previous-requires-clause-listed
+set_previous-requires-clause-listed g c =
     subst (λ ps. IfSome c.link_of-link.result.next (λ p. IsIn p ps)) (sym (ap (λ t. t.list.order) c.set_next.ensures.rest))
     (behind_listed c.requires.chains.keys_sound c.requires.chains.sound c.requires.chains.chained c.args.from c.link_of-link.result
     c.requires.listed

@@ -31,8 +31,8 @@ index-key-requires g c =
           (was_there w.coming c.requires.dense more) was,
     )
 
-pub push_reserved-requires : goal.push_reserved-requires
-push_reserved-requires g c =
+pub push_reserved-requires-clause-room : goal.push_reserved-requires-clause-room
+push_reserved-requires-clause-room g c =
     let w = c.loop-place.invariant in
     omega (
       arith,
@@ -46,6 +46,10 @@ push_reserved-requires g c =
       c.loop-place.auto.place-end,
       c.len-place-end.ensures.len,
     )
+
+pub push_reserved-requires-clause-fits : goal.push_reserved-requires-clause-fits
+push_reserved-requires-clause-fits g c =
+    let small = c.take_listed-value.ensures.fits in record { previous = small.previous; next = small.next }
 
 pub loop-place-preserved : goal.loop-place-preserved
 loop-place-preserved g c =

@@ -5,5 +5,5 @@ use Rattle.ordered_multimap.proofs.list_ordered_multimap.retain.ask.Goals as goa
 
 pub returns-clause-asked : goal.returns-clause-asked
 returns-clause-asked g c =
-    asks_by_link (CalledAtPair g.F.FnMut) c.value_at.ensures.link_is c.slot_at.ensures.item_is c.get_listed_mut.ensures.value.item_is
+    asks_by_link (CalledAtPair g.F.FnMut) c.value_at.ensures.slot.link_is c.slot_at.ensures.item_is c.get_listed_mut.ensures.value.item_is
     (record { key = _; value = _; shows = (refl, refl); left = _; called = c.f.ensures; leaves = refl }) refl

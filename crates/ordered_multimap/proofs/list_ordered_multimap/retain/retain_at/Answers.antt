@@ -7,6 +7,7 @@ ask-stays-requires-clause-owned g c = record { listed = c.requires.pair.listed; 
 pub take_pair-requires-clause-links : goal.take_pair-requires-clause-links
 take_pair-requires-clause-links g c =
     asked_links c.requires.pair c.ask-stays.ensures.asked c.ask-stays.ensures.link c.ask-stays.ensures.key_link
+    c.ask-stays.ensures.small
 
 pub take_pair-requires-clause-row : goal.take_pair-requires-clause-row
 take_pair-requires-clause-row g c = c.requires.pair.row c.ask-stays.result.1 c.ask-stays.result.2 c.ask-stays.ensures.link

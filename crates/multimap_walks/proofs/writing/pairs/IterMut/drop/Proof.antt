@@ -54,23 +54,24 @@ only [] = vunit
 only (v ∷ vs) = v
 
 pub drop_spec : {M : Type 1} → statement M
-drop_spec 𝓤 𝓛 𝓜 𝓡 wired X Y Z LX LY LZ ga da de df dg m₁ m₂ m₃ m₄ =
+drop_spec 𝓤 𝓛 𝓜 𝓡 wired X Y Z W LX LY LZ LW ga da gf db de df dg dh m₁ m₂ m₃ m₄ m₅ m₆ =
     let H = 𝓛.H in let 𝓣 = tables 𝓤 H 𝓜 𝓡 𝓡.env in
-    let K : RattleType = param 0 X in let V : RattleType = param 1 Y in let A : RattleType = param 2 Z in
-    let En = F.ended X Y Z ga da de df dg in
-    let inst = bounded (a_type ∷ a_type ∷ a_type ∷ []) (X, (Y, (Z, tt))) (dcons da (dcons de (dcons df (dcons dg dnil)))) in
-    let fn = inst_fn inst code.function in let c = F.clauses X Y Z ga da de df dg 𝓛 𝓜.mem 𝓡.returns in
-    let hs : Stays En.signature.params En.kept = (stay_dropped (plain (λ κs. S.the_row (named_lft 4 0 tt κs) K V A ga)) no, tt) in
+    let K : RattleType = param 0 X in let V : RattleType = param 1 Y in let A : RattleType = param 2 Z in let B : RattleType = param 3 W in
+    let En = F.ended X Y Z W ga da gf db de df dg dh in
+    let inst = bounded (a_type ∷ a_type ∷ a_type ∷ a_type ∷ []) (X, (Y, (Z, (W, tt))))
+    (dcons da (dcons db (dcons de (dcons df (dcons dg (dcons dh dnil)))))) in
+    let fn = inst_fn inst code.function in let c = F.clauses X Y Z W ga da gf db de df dg dh 𝓛 𝓜.mem 𝓡.returns in
+    let hs : Stays En.signature.params En.kept = (stay_dropped (plain (λ κs. S.the_row (named_lft 5 0 tt κs) K V A B gf ga)) no, tt) in
     proved_at 𝓛 En hs c 𝓜 𝓡 (
       (λ κs x f vs ok. qed 𝓛 (‵ ftrue ∷ [])
           ∵ updating ! $ nothing ! $ nothing ! $ fjoin ! $ nothing ! $ fjoin ! $ fjoin ! $ nothing ! $ fjoin ! $
           nothing ! $ fjoin ! $ now ! $ done !),
       tt,
     )
-    (#self inst) fn (code.unfolded 𝓤 H 𝓜 𝓡 wired (X, (Y, (Z, tt))) da de df dg) (λ y are.
-    let κs = y.0.0 in let qs = y.0.1 in let d = y.0.3.0 in let a = named_lft 4 0 tt κs in
-    let It : RattleType = S.the_row a K V A ga in let Rd : RattleType = Rd-type.the_row in
-    let laws = S-laws.the_row_laws a K V A ga (param_laws 0 X LX) (param_laws 1 Y LY) (param_laws 2 Z LZ) in
+    (#self inst) fn (code.unfolded 𝓤 H 𝓜 𝓡 wired (X, (Y, (Z, (W, tt)))) da db de df dg dh) (λ y are.
+    let κs = y.0.0 in let qs = y.0.1 in let d = y.0.3.0 in let a = named_lft 5 0 tt κs in
+    let It : RattleType = S.the_row a K V A B gf ga in let Rd : RattleType = Rd-type.the_row in
+    let laws = S-laws.the_row_laws a K V A B gf ga (param_laws 0 X LX) (param_laws 1 Y LY) (param_laws 2 Z LZ) (param_laws 3 W LW) in
     let At : List Val → (walk_of 𝓛 En hs c).Ghost = λ us. ((κs, qs, y.0.2, y.0.3, (us, tt)), y.1) in
     let is : Is It d y.0.4.0 = are.0 in
     let x = one_of (layout Rd) is.0.0 ((Rd-laws.the_row_laws.lawful 𝓛).typed d.reads is.0.0 is.1.1.0) in
@@ -83,7 +84,8 @@ drop_spec 𝓤 𝓛 𝓜 𝓡 wired X Y Z LX LY LZ ga da de df dg m₁ m₂ m₃
     let z : (walk_of 𝓛 En hs c).Ghost = At (v ∷ []) in let Post : Val → SProp 𝓤 = (walk_of 𝓛 En hs c).post z in
     let G₁ = triple_of 𝓛 g₁.signature (g₁.spec 𝓛 𝓜.mem 𝓡.returns) in
     qed 𝓛 (((‵ (flft κs.0 qs.0) ⊛ ‵ (flft κs.1.0 qs.1.0)
-    ⊛ ‵ (flft κs.1.1.0 qs.1.1.0) ⊛ ‵ (flft κs.1.1.1.0 qs.1.1.1.0) ⊛ ‵ ftrue)
+    ⊛ ‵ (flft κs.1.1.0 qs.1.1.0) ⊛ ‵ (flft κs.1.1.1.0 qs.1.1.1.0)
+    ⊛ ‵ (flft κs.1.1.1.1.0 qs.1.1.1.1.0) ⊛ ‵ ftrue)
     ⊛ ‵ (It.own_val d (v ∷ [])) ⊛ ‵ ftrue) ∷ raw ((c κs y.0.3).requires y.1) ∷ []) ∵
     split ! $ move ! (2 ∷ []) $ drop ! $ move ! (1 ∷ []) $ split ! $ move ! (1 ∷ []) $ drop ! $
     -- [the walk; the tokens]
@@ -93,7 +95,7 @@ drop_spec 𝓤 𝓛 𝓜 𝓡 wired X Y Z LX LY LZ ga da de df dg m₁ m₂ m₃
     -- [the counter; the keys; the cells and the rest; the tokens]
     move ! (1 ∷ []) $ drop ! $ move ! (1 ∷ []) $ fsplit ! $
     enter ! 𝓣.C 𝓣.Λ fn (v ∷ []) Post $ alloc_all ! (λ l. pass_all ! refl (fits, tt) $
-    use1 𝓛 (later (‵ (ends_with V d.values.cells))) (slot_cells_end 𝓛 a V VL-type.the_row A ga d.values us.1.1.0) $
+    use1 𝓛 (later (‵ (ends_with V d.values.cells))) (slot_cells_end 𝓛 a V VL-type.the_row A B ga gf d.values us.1.1.0) $
     await ! tt $ move ! (1 ∷ []) $ drop ! $
     -- [the end of the cells; the counter; the tokens]
     sets ! (of_opd ! (get_in ! (fld ! refl (stop !)) (sub ! 0 refl (whole !)))) refl x.2 $

@@ -1,5 +1,5 @@
 use Rattle.std.proofs.Common.{arith}
-use Rattle.ordered_multimap.proofs.Clone.Ranks.{ranked_ends, ranked_neighbours}
+use Rattle.ordered_multimap.proofs.Clone.Ranks.{ranked_ends, ranked_neighbours, ranked_small}
 use Rattle.ordered_multimap.proofs.list_ordered_multimap.clone.steps.clone_into.Goals as goal
 
 pub clone_keys-requires-clause-ranked : goal.clone_keys-requires-clause-ranked
@@ -10,6 +10,9 @@ clone_keys-requires-clause-room g c = omega (arith, c.requires.key_room, c.requi
 
 pub clone_values-requires-clause-ranked : goal.clone_values-requires-clause-ranked
 clone_values-requires-clause-ranked g c = ranked_neighbours c.requires.chains c.requires.ranks
+
+pub clone_values-requires-clause-small : goal.clone_values-requires-clause-small
+clone_values-requires-clause-small g c = ranked_small c.requires.chains c.requires.ranks c.requires.counted
 
 pub clone_values-requires-clause-named : goal.clone_values-requires-clause-named
 clone_values-requires-clause-named g c =

@@ -2,11 +2,18 @@ use Rattle.std.proofs.Common.{◌≡◌, get_or, Some, refl, sym, subst, ◌∙�
 use Rattle.std.proofs.lemmas.List.{get_or_default}
 use Rattle.multimap_slots.specs.Slots.{PushesBack}
 use Rattle.multimap_walks.specs.declared.links.ValueLink.{ValueLink}
+use Rattle.multimap_walks.specs.Packed.{HasSmallPlaces}
 use Rattle.ordered_multimap.proofs.list_ordered_multimap.clone.steps.clone_value.Goals as goal
+
+pub push_reserved-requires-clause-fits : goal.push_reserved-requires-clause-fits
+push_reserved-requires-clause-fits g c =
+    let small = subst HasSmallPlaces (sym c.ranked_value-link.ensures)
+    (c.requires.small c.value_at.result.1 c.value_at.ensures.slot.link_is) in
+    record { previous = small.previous; next = small.next }
 
 pub returns-clause-copied : goal.returns-clause-copied
 returns-clause-copied g c =
-    let v = c.value_at.ensures in
+    let v = c.value_at.ensures.slot in
     let p = c.push_reserved.ensures in
     let old : ValueLink = c.value_at.result.1 in
     let new_places = c.args.new_places.now.items in

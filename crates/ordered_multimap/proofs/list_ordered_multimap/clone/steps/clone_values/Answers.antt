@@ -25,6 +25,7 @@ clone_value-requires g c =
     record {
       listed = a.listed;
       ranked = λ l is. c.requires.ranked c.in-Some.place l a.listed is;
+      small = λ l is. c.requires.small c.in-Some.place l a.listed is;
       named = λ l is. c.requires.named c.in-Some.place l a.listed is;
       end_room = omega (arith, a.fewer, room.counts.holes, room.capacity, c.requires.no_hole, c.requires.room);
     }

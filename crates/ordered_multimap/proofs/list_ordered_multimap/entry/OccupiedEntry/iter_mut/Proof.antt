@@ -55,15 +55,17 @@ use Rattle.std.proofs.raw_atomic.Walks.{proved}
 use Rattle.std.proofs.Math.Logic.{∥∥₁_map}
 use Rattle.multimap_slots.specs.Lists.{IsIn}
 use Rattle.std.specs.Prelude.{Option, Some}
-use Rattle.multimap_slots.specs.declared.cells_of.SlotCells.{SlotCells}
 use Rattle.multimap_slots.proofs.Callers.TakenItems.{LendsSlots-renamed}
 use Rattle.multimap_slots.proofs.Lending.Late.{closes_named}
-use Rattle.multimap_walks.specs.declared.links.ValueLink.{ValueLink}
 use Rattle.multimap_walks.specs.RestWalk.{CanReadChain}
 use Rattle.multimap_walks.specs.WritingWalk.{entry_values_mut_values, entry_values_mut_name, entry_values_mut_rest}
 use Rattle.multimap_walks.specs.WritingWalk.{entry_values_mut_positions}
+use Rattle.multimap_walks.specs.contracts.packed.PackedLink as PL-type
+use Rattle.multimap_walks.proofs.packed.PackedLink.TheLaws as PL-laws
+use Rattle.multimap_walks.specs.contracts.packed.PackedLinkLinkFormValueLink.TheImpl.{ghosts as form}
 use Rattle.multimap_walks.specs.contracts.writing.chain.EntryValuesMut as W-type
 use Rattle.multimap_walks.proofs.writing.chain.EntryValuesMut.TheLaws as W-laws
+use Rattle.ordered_multimap.specs.ValueCells.{ValueCells}
 use Rattle.ordered_multimap.specs.Agrees.{HasKey}
 use Rattle.ordered_multimap.specs.Entries.{with_entry_items, with_map_values}
 use Rattle.ordered_multimap.specs.EntryLends.{EndsEntry}
@@ -198,8 +200,9 @@ iter_mut_spec 𝓤 𝓛 𝓜 𝓡 wired X₀ X₁ X₂ X₃ X₄ L₀ L₁ L₂ 
     move ! (10 ∷ 1 ∷ []) $ join ! $ join ! $
     states ! (IsIn s.place m.now.slots.keys.order) listed $ tells κs.1.1 K V S B J ! five $
     move ! (1 ∷ 0 ∷ []) $ join ! $ use1 𝓛 (raw (G.pre zc)) (id⊢ 𝓤 _) $
-    let a' = named_lft 6 0 tt κt in let CR : RattleType = W-type.the_row a' K V B ga in
-    let CR-is : Laws CR = W-laws.the_row_laws a' K V B ga (param_laws 0 X₀ L₀) (param_laws 1 X₁ L₁) (param_laws 3 X₃ L₃) in
+    let a' = named_lft 6 0 tt κt in let CR : RattleType = W-type.the_row a' K V B PL-type.the_row form ga in
+    let CR-is : Laws CR = W-laws.the_row_laws a' K V B PL-type.the_row form ga (param_laws 0 X₀ L₀) (param_laws 1 X₁ L₁) (param_laws 3 X₃ L₃)
+    PL-laws.the_row_laws in
     let Ends : CR.Denot → Type 0 = λ w. EndsEntry K V S B J ga s (entry_values_mut_values w) in
     let Values : CR.Denot → Type 0 = λ w. (key : K.Denot) → HasKey gp.eq m.now.slots.keys key s.place
     → entry_values_mut_rest w ≡ values_of gp.eq m.now.lists.pairs key in
@@ -241,7 +244,7 @@ iter_mut_spec 𝓤 𝓛 𝓜 𝓡 wired X₀ X₁ X₂ X₃ X₄ L₀ L₁ L₂ 
     -- [the other tokens; the token of 'a; what the entry follows; what its name follows; the walk]
     let rim : Option (List (Bool × Gv)) = Some ((false, (codeds (usize ∷ usize ∷ [])).code (s.place, (s.first, tt))) ∷
     (true, (coded× coded_ℕ coded_ℕ).code m.ref_ptr) ∷ (true, coded_ℕ.code δ) ∷ around_values K.coded V.coded S.coded m.now) in
-    let lent : SlotCells V.Denot ValueLink B.Denot = record w.values { cells = record w.values.cells { lender_loan = ε; lender_context = rim } } in
+    let lent : ValueCells V.Denot B.Denot = record w.values { cells = record w.values.cells { lender_loan = ε; lender_context = rim } } in
     let again : CanReadChain w.values w.left → CanReadChain lent w.left
     = λ left. record {
       chain = left.chain;

@@ -55,6 +55,9 @@ use Rattle.multimap_walks.specs.WritingWalk.{entry_values_mut_rest}
 use Rattle.multimap_walks.specs.declared.End.{End}
 use Rattle.multimap_walks.specs.contracts.End as EndType
 use Rattle.multimap_walks.proofs.End.TheLaws as End-laws
+use Rattle.multimap_walks.specs.contracts.packed.PackedLink as PL-type
+use Rattle.multimap_walks.specs.contracts.packed.PackedLinkLinkFormValueLink.TheImpl.{ghosts as form}
+use Rattle.multimap_walks.proofs.packed.PackedLink.TheLaws as PL-laws
 use Rattle.multimap_walks.specs.contracts.writing.chain.EntryValuesMut as W-type
 use Rattle.multimap_walks.proofs.writing.chain.EntryValuesMut.TheLaws as W-laws
 use Rattle.ordered_multimap.specs.Agrees.{HasKey}
@@ -107,8 +110,9 @@ step_mut_spec 𝓤 𝓛 𝓜 𝓡 wired K V S A B LK LV LS LA LB eqs dEq pe dPe 
     let γ = a.0.ghost_name in let w₀ : R.Denot = a.0.now in let m₀ : Mr.Denot = w₀.map.now in let end : End = a.1.0 in
     let O : RattleType = Opt usize in let O-is : Laws O = Opt-laws usize usize_laws in let Me : RattleType = MutRef (named 0) κs.0 R in
     let Q : RattleType = Tuple (O ∷ Me ∷ []) in
-    let ℓ = named_lft 7 0 tt κs in let CR : RattleType = W-type.the_row ℓ Kr Vr Ar al in
-    let CR-is : Laws CR = W-laws.the_row_laws ℓ Kr Vr Ar al (param_laws 0 K LK) (param_laws 1 V LV) (param_laws 3 A LA) in
+    let ℓ = named_lft 7 0 tt κs in let CR : RattleType = W-type.the_row ℓ Kr Vr Ar PL-type.the_row form al in
+    let CR-is : Laws CR = W-laws.the_row_laws ℓ Kr Vr Ar PL-type.the_row form al (param_laws 0 K LK) (param_laws 1 V LV) (param_laws 3 A LA)
+    PL-laws.the_row_laws in
     let Sk : RattleType = ShrRef (named 0) κs.0 Kr in let Tw : RattleType = Tuple (Sk ∷ CR ∷ []) in let Out : RattleType = Opt Tw in
     let toks = raw (alive 𝓛 En.signature κs qs) in
     let Rest : Out.Denot → Fml = λ out. lends_key_values Kr Vr Sr Ar Br al end a.0 out in

@@ -8,7 +8,7 @@ pub returns-clause-links : goal.returns-clause-links
 returns-clause-links g c =
     λ l is.
     indexed_links c.args.values.now.list c.args.place c.args.index c.place_at-found.result c.place_at-found.ensures c.args.keys.now _ l
-    c.link_of.ensures.link is c.link_of.ensures.sound c.requires.chain.chains.chained
+    c.link_of.ensures.link is c.link_of.ensures.small c.link_of.ensures.sound c.requires.chain.chains.chained
 
 pub returns-clause-key : goal.returns-clause-key
 returns-clause-key g c =

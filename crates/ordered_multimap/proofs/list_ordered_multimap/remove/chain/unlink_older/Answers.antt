@@ -17,8 +17,8 @@ unlink_values-left-requires-clause-row g c =
           (omega arith),
     )
 
-pub set_previous-requires : goal.set_previous-requires
-set_previous-requires g c =
+pub set_previous-requires-clause-listed : goal.set_previous-requires-clause-listed
+set_previous-requires-clause-listed g c =
     let s = c.requires.chain in
     let l = c.listed_link_mut-link.result.now in
     let is = c.listed_link_mut-link.ensures.value.link_is in

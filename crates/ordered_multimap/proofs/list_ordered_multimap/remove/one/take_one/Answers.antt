@@ -7,13 +7,13 @@ use Rattle.ordered_multimap.proofs.Append.Steps.{if_each}
 use Rattle.ordered_multimap.proofs.Chains.Parts.{before_own, behind_own, before_other, behind_other, neighbours_differ}
 use Rattle.ordered_multimap.proofs.list_ordered_multimap.remove.one.take_one.Goals as goal
 
-pub set_next-requires : goal.set_next-requires
-set_next-requires g c =
+pub set_next-requires-clause-listed : goal.set_next-requires-clause-listed
+set_next-requires-clause-listed g c =
     let s = c.requires.links in
     if_each c.args.link.previous (λ q e. (before_own s.sound s.chained c.args.place c.args.link s.listed s.link_is q e).0)
 
-pub set_previous-requires : goal.set_previous-requires
-set_previous-requires g c =
+pub set_previous-requires-clause-listed : goal.set_previous-requires-clause-listed
+set_previous-requires-clause-listed g c =
     let s = c.requires.links in
     if_each c.args.link.next (λ q e. subst (λ (t : Taped g.row.V.Denot ValueLink). IsIn q t.list.order) (sym c.set_next.ensures.rest)
     (behind_own s.sound s.chained c.args.place c.args.link s.listed s.link_is q e).0)

@@ -7,6 +7,7 @@ ask_value-stays-requires-clause-owned g c = record { listed = c.requires.pair.li
 pub take_pair-requires-clause-links : goal.take_pair-requires-clause-links
 take_pair-requires-clause-links g c =
     asked_links c.requires.pair c.ask_value-stays.ensures.asked c.ask_value-stays.ensures.link c.ask_value-stays.ensures.key_link
+    c.ask_value-stays.ensures.small
 
 pub take_pair-requires-clause-row : goal.take_pair-requires-clause-row
 take_pair-requires-clause-row g c = c.requires.pair.row c.ask_value-stays.result.1 c.ask_value-stays.result.2 c.ask_value-stays.ensures.link

@@ -1,5 +1,5 @@
 use Rattle.std.proofs.Common.{ap, arith}
-use Rattle.multimap_slots.proofs.tape.Tape.with_slots.Goals as goal
+use Rattle.multimap_slots.proofs.tape.Tape.with_form_and_slots.Goals as goal
 
 pub returns-clause-slots : goal.returns-clause-slots
 returns-clause-slots g c =
