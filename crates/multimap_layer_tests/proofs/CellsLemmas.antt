@@ -31,7 +31,7 @@ each_some None each = tt
 each_some (Some x) each = each x refl
 
 -- where every item is left, so are those of both neighbours
-module _ {T L A : Type 0} (cells : SlotCells T L A) (left : (p : ℕ) → IsIn p (lent_slots cells).order → IsLeft cells p) (p : ℕ) where
+module _ {T L A F : Type 0} (cells : SlotCells T L A F) (left : (p : ℕ) → IsIn p (lent_slots cells).order → IsLeft cells p) (p : ℕ) where
   pub next_left : IfSome (next_of (lent_slots cells).order p) (IsLeft cells)
   next_left = each_some (next_of (lent_slots cells).order p) (λ q is. left q (next_in (lent_slots cells).order p q is))
 
@@ -45,7 +45,7 @@ some_within (x ∷ xs) zero s = omega arith
 some_within (x ∷ xs) (suc p) s = omega (arith, some_within xs p s)
 
 -- what is left may be taken without the order as well
-pub can_take : {T L A : Type 0} (cells : SlotCells T L A) (p : ℕ) → IsLeft cells p → CanTake cells.cells p
+pub can_take : {T L A F : Type 0} (cells : SlotCells T L A F) (p : ℕ) → IsLeft cells p → CanTake cells.cells p
 can_take cells p is = record {
   within = some_within cells.cells.items p is.filled;
   filled = is.filled;

@@ -2,6 +2,7 @@
 mod ample;
 mod cell_uses;
 mod cells;
+mod forms;
 mod moved;
 mod refused;
 mod slots;

@@ -1,5 +1,6 @@
 pub mod FirstLemmas
 pub mod MovedLemmas
+pub mod PackedForm
 pub mod StoppedKeysLemmas
 pub mod StoppedLemmas
 pub mod TotalLemmas

@@ -32,7 +32,7 @@ use Rattle.multimap_walks.specs.WritingWalk.{entry_values_mut_values, LendsFirst
 use Rattle.multimap_walks.specs.declared.End.{End}
 use Rattle.multimap_walks.specs.declared.End.TheVariants.{Front}
 use Rattle.multimap_walks.specs.declared.links.ValueLink.{ValueLink}
-use Rattle.multimap_walks.specs.declared.writing.chain.EntryValuesMut.{EntryValuesMut}
+use Rattle.ordered_multimap.specs.ValueCells.{EntryWalk}
 use Rattle.multimap_walks.specs.Along.{places_left}
 use Rattle.multimap_walks.proofs.Callers.Squashed.{read_chain, read_left}
 use Rattle.multimap_walks.proofs.Callers.Paths.{path-is}
@@ -153,7 +153,7 @@ module _ (K V S A H : RattleType) (e : equality.Ghosts K.Denot) (k : hashed.Ghos
   Walk = KeyValuesMut K.Denot V.Denot S.Denot A.Denot H.Denot e k b h
 
   abbrev Next : Type 0
-  Next = Bor K.Denot × EntryValuesMut K.Denot V.Denot A.Denot
+  Next = Bor K.Denot × EntryWalk K.Denot V.Denot A.Denot
 
   abbrev Follows : End → MutBor Walk → Next → Cells V.Denot → Fml
   Follows end w x c = fwand (lends_key_values K V S A H heap end w (Some x))
@@ -192,7 +192,7 @@ module _ (K V S A H : RattleType) (e : equality.Ghosts K.Denot) (k : hashed.Ghos
       (via 𝓤 (sem 𝓛 (OfName end w x c)) (all_e 𝓤 (λ _. sem 𝓛 (OfName end w x c)) around)
       (all_e 𝓤 (λ _. sem 𝓛 (Follows end w x c)) name)))))))
 
-  module _ (w : Walk) (x : Next) (t : EntryValuesMut K.Denot V.Denot A.Denot) (r : MutBor V.Denot)
+  module _ (w : Walk) (x : Next) (t : EntryWalk K.Denot V.Denot A.Denot) (r : MutBor V.Denot)
       (stepped : EndsStepped K V S A H heap Front w x) (lends : LendsFirstOfKey x.1 (Some r) t) where
     abbrev place : ℕ
     place = x.1.left.first
@@ -233,7 +233,7 @@ module _ (K V S A H : RattleType) (e : equality.Ghosts K.Denot) (k : hashed.Ghos
         }
 
   -- what the walk over keys ends as, by what the reference to the first value of its next key ends with
-  pub ends_next : {M : Type 1} {𝓤 : Ura M} (𝓛 : Logic 𝓤) (w : MutBor Walk) (x : Next) (t : EntryValuesMut K.Denot V.Denot A.Denot)
+  pub ends_next : {M : Type 1} {𝓤 : Ura M} (𝓛 : Logic 𝓤) (w : MutBor Walk) (x : Next) (t : EntryWalk K.Denot V.Denot A.Denot)
       (r : MutBor V.Denot) → EndsStepped K V S A H heap Front w.now x → LendsFirstOfKey x.1 (Some r) t → SlotsAgree e.eq w.now.map.now
       → option_map (λ (n : Next). n.0.now) (Some x) ≡ end_item Front (keys_left w.now)
       → entry_values_mut_positions x.1 ≡ positions_of e.eq w.now.map.now.lists.pairs x.0.now → 0 < length (entry_values_mut_rest x.1)

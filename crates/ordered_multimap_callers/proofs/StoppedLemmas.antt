@@ -32,7 +32,9 @@ use Rattle.multimap_walks.specs.WritingWalk.{values_mut_positions, values_mut_re
 use Rattle.multimap_walks.specs.declared.End.TheVariants.{Front}
 use Rattle.multimap_walks.specs.declared.links.ChainEnds.{ChainEnds}
 use Rattle.multimap_walks.specs.declared.links.ValueLink.{ValueLink}
+use Rattle.multimap_walks.specs.declared.packed.PackedLink.{PackedLink}
 use Rattle.multimap_walks.specs.declared.writing.values.ValuesMut.{ValuesMut}
+use Rattle.multimap_walks.specs.contracts.packed.PackedLinkLinkFormValueLink.TheImpl.{ghosts}
 use Rattle.multimap_walks.proofs.Callers.Paths.{path-is}
 use Rattle.multimap_walks.proofs.Callers.Squashed.{read_lends}
 use Rattle.ordered_multimap.specs.Multimap.{Multimap, multimap_code}
@@ -41,9 +43,14 @@ use Rattle.ordered_multimap.specs.Changes.{end_written}
 use Rattle.ordered_multimap.specs.Exact.{ended_map, ends_exactly, WalksAreExact}
 use Rattle.ordered_multimap.specs.Lists.{Lists, lists}
 use Rattle.ordered_multimap.specs.PopAnswers.{map_row}
+use Rattle.ordered_multimap.specs.ValueCells.{ValueCells}
 use Rattle.ordered_multimap.specs.ValuesLent.{EndsMap, pairs_ended, with_values_of}
 use Rattle.ordered_multimap.proofs.Callers.Places.{held}
 use Rattle.ordered_multimap_callers.specs.Ends.{ends_first_written, ends_with_lists}
+
+-- the map's walk over all values
+abbrev pub ValuesWalk : Type 0 → Type 0 → Type 0 → Type 0
+ValuesWalk K V A = ValuesMut K V A PackedLink ghosts
 
 heads : {X : Type 0} (x y : X) (xs ys : List X) → x ∷ xs ≡ y ∷ ys → x ≡ y
 heads x y xs ys e = let both = e in cc
@@ -153,7 +160,7 @@ module _ {K V : Type 0} where
   front_value [] v vs e = absurd (let bad = e in cc)
   front_value (x ∷ pairs) v vs e = ap Some (heads x.1 v (all_values pairs) vs e)
 
-  module _ {S A : Type 0} (m : Multimap K V S) (s : ValuesMut K V A) (lent : LendsSlots m.slots.values s.values) where
+  module _ {S A : Type 0} (m : Multimap K V S) (s : ValuesWalk K V A) (lent : LendsSlots m.slots.values s.values) where
     -- the pairs with another item in the slot of the first value
     pub first_alone : (w : V) → values_mut_rest s ≡ all_values m.lists.pairs → values_mut_positions s ≡ all_positions m.lists.pairs
         → pairs_ended m.lists.pairs m.slots.values.order (set m.slots.values.items s.left.first (Some w)) ≡ with_value_at m.lists.pairs 0 w
@@ -194,14 +201,15 @@ module _ {M : Type 1} {𝓤 : Ura M} (𝓛 : Logic 𝓤) (V : RattleType) where
       feq_i ! (Option V.Denot) y y refl $ fjoin ! $ done !
 
   -- one slot alone was taken since all of them were lent, and its reference ended with w
-  pub taken_becomes : {L A : Type 0} (m : Slots V.Denot L) (s t : SlotCells V.Denot L A) (p : ℕ) (r : MutBor V.Denot) (w : V.Denot)
+  pub taken_becomes : {L A F : Type 0} (m : Slots V.Denot L) (s t : SlotCells V.Denot L A F) (p : ℕ) (r : MutBor V.Denot) (w : V.Denot)
       → LendsSlots m s → TakesItem s p r t → p < length m.items
       → ent 𝓤 (sem 𝓛 (fres r.ghost_name (V.coded.code w)))
       (sem 𝓛 (become V t.cells.names t.cells.items t.cells.left (set m.items p (Some w))))
   taken_becomes m s t p r w lent takes there =
       let c = t.cells in let ys : List (Option V.Denot) = m.items in
       let items_are : c.items ≡ ys = ap (λ (h : Slots _ _). h.items) takes.slots ∙ ap (λ (h : Slots _ _). h.items) lent.slots in
-      let left_are : c.left ≡ set (replicate (length ys) true) p false = takes.left ∙ ap (λ (ls : List Bool). set ls p false) lent.untaken in
+      let left_are : c.left ≡ set (replicate (length ys) true) p false = takes.left
+      ∙ ap (λ (ls : List Bool). set ls p false) lent.untaken in
       let Becomes : List GName × (List (Option V.Denot) × List Bool) → Type 1 = λ h.
       ent 𝓤 (sem 𝓛 (fres r.ghost_name (V.coded.code w))) (sem 𝓛 (become V h.0 h.1.0 h.1.1 (set ys p (Some w)))) in
       subst Becomes (sym (λ j. (takes.ends j, (items_are j, left_are j)))) (one_becomes s.cells.names ys p r.ghost_name w lent.named there)
@@ -215,22 +223,22 @@ module _ {M : Type 1} {𝓤 : Ura M} (𝓛 : Logic 𝓤) (K V S A H : RattleType
   abbrev Follows : Multimap K.Denot V.Denot S.Denot → GName → Cells V.Denot → Fml
   Follows m γ c = fwand (follows R R γ c.lender_loan (with_values_of m)) (fwand (ends_with V c) (ends_exactly K V S m γ c))
 
-  abbrev OfAround : Multimap K.Denot V.Denot S.Denot → GName → SlotCells V.Denot ValueLink A.Denot → Cells V.Denot → Fml
+  abbrev OfAround : Multimap K.Denot V.Denot S.Denot → GName → ValueCells V.Denot A.Denot → Cells V.Denot → Fml
   OfAround m γ made c = fall (c.lender_context ≡ made.cells.lender_context) (λ _. Follows m γ c)
 
-  abbrev OfCells : Multimap K.Denot V.Denot S.Denot → GName → SlotCells V.Denot ValueLink A.Denot → Cells V.Denot → Fml
+  abbrev OfCells : Multimap K.Denot V.Denot S.Denot → GName → ValueCells V.Denot A.Denot → Cells V.Denot → Fml
   OfCells m γ made c = fall (EndsMap K V S m made) (λ _. OfAround m γ made c)
 
-  abbrev OfMade : Multimap K.Denot V.Denot S.Denot → GName → SlotCells V.Denot ValueLink A.Denot → Fml
+  abbrev OfMade : Multimap K.Denot V.Denot S.Denot → GName → ValueCells V.Denot A.Denot → Fml
   OfMade m γ made = fall (Cells V.Denot) (OfCells m γ made)
 
   abbrev OfName : Multimap K.Denot V.Denot S.Denot → GName → Fml
-  OfName m γ = fall (SlotCells V.Denot ValueLink A.Denot) (OfMade m γ)
+  OfName m γ = fall (ValueCells V.Denot A.Denot) (OfMade m γ)
 
   abbrev OfMap : Multimap K.Denot V.Denot S.Denot → Fml
   OfMap m = fall GName (OfName m)
 
-  pub law_at : (m : Multimap K.Denot V.Denot S.Denot) (γ : GName) (made : SlotCells V.Denot ValueLink A.Denot) (c : Cells V.Denot)
+  pub law_at : (m : Multimap K.Denot V.Denot S.Denot) (γ : GName) (made : ValueCells V.Denot A.Denot) (c : Cells V.Denot)
       → EndsMap K V S m made → c.lender_context ≡ made.cells.lender_context
       → ent 𝓤 (sem 𝓛 (WalksAreExact K V S A H key build hash heap)) (sem 𝓛 (Follows m γ c))
   law_at m γ made c ends same =
@@ -243,7 +251,7 @@ module _ {M : Type 1} {𝓤 : Ura M} (𝓛 : Logic 𝓤) (K V S A : RattleType) 
   open 𝓛 use {A as B}
 
   -- what the map ends as, by what the reference to its first value ends with
-  pub ends_first : (m : MutBor (Multimap K.Denot V.Denot S.Denot)) (s t : ValuesMut K.Denot V.Denot A.Denot) (r : MutBor V.Denot)
+  pub ends_first : (m : MutBor (Multimap K.Denot V.Denot S.Denot)) (s t : ValuesWalk K.Denot V.Denot A.Denot) (r : MutBor V.Denot)
       → EndsMap K V S m.now s.values
       → values_mut_rest s ≡ all_values m.now.lists.pairs → values_mut_positions s ≡ all_positions m.now.lists.pairs
       → LendsFirstValue s (Some r) t

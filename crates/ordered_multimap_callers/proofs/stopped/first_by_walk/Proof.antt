@@ -7,6 +7,7 @@ use mir.Syntax.{a_type, dcons, dnil, named}
 use mir.Val.{Val, vptr, vunit}
 use mir.MapTy.{inst_fn}
 use base.Logic.{SProp, emp, id⊢, apply∗}
+use base.Fraction.{full_share}
 use base.Fml.{Fml, GName, ftrue, fsep, feq, flft, fwand}
 use types.Logic.{sem}
 use types.Kit.{‵, raw, ◌⊛◌, some, later, ◌$◌, ◌∵◌, !, qed, by, move, keep, drop, split, join, fjoin, feq_l, use0, use1, use2, pick, await}
@@ -14,7 +15,7 @@ use types.Kit.{rewrite}
 use types.Run.{enter, of_opd, addr, stop, fld, no_more, and_then, returns}
 use types.ByLocal.{alloc_all, pass_all, free_all, look_at, get, get_in, through, sets, lands_as}
 use types.Part.{whole, sub}
-use contract.BorrowLft.{◌⊑◌}
+use contract.BorrowLft.{◌⊑◌, ⊑_static}
 use contract.Lifetimes.{Lfts, Shares}
 use contract.Running.{tables}
 use contract.Monad.{fact, fact_i}
@@ -24,6 +25,7 @@ use denote.RattleType.{RattleType}
 use denote.Laws.{Is, shows}
 use denote.Ref.{MutRef, mut_vals, mut_Tells, mut_Lawful}
 use denote.Param.{param, layout, bounded}
+use denote.Param.NoDrop.{glues}
 use denote.Param.Laws.{Laws, param_laws}
 use denote.Signature.{plain, mut_ref_to, named_lft}
 use denote.Steps.{nothing, only, heard, peeks}
@@ -39,6 +41,10 @@ use Rattle.multimap_slots.specs.declared.cells.Cells.{Cells}
 use Rattle.multimap_walks.specs.Walk.{end_item}
 use Rattle.multimap_walks.specs.WritingWalk.{values_mut_name, values_mut_positions, values_mut_rest, values_mut_values, LendsFirstValue}
 use Rattle.multimap_walks.specs.declared.End.TheVariants.{Front}
+use Rattle.multimap_walks.specs.contracts.packed.PackedLink as PL-type
+use Rattle.multimap_walks.proofs.packed.PackedLink.TheLaws as PL-laws
+use Rattle.multimap_walks.specs.contracts.packed.PackedLinkLinkFormValueLink.TheImpl.{ghosts as form, dict as dForm}
+use Rattle.multimap_walks.proofs.packed.PackedLinkLinkFormValueLink.TheImpl.Met.{bound as form_met}
 use Rattle.multimap_walks.specs.contracts.writing.values.ValuesMut as W-type
 use Rattle.multimap_walks.proofs.writing.values.ValuesMut.TheLaws as W-laws
 use Rattle.ordered_multimap.specs.Exact.{ends_exactly, WalksAreExact}
@@ -48,6 +54,7 @@ use Rattle.ordered_multimap.proofs.Callers.PairsByValue.{both, both_typed, pair_
 use Rattle.ordered_multimap.specs.contracts.list_ordered_multimap.ListOrderedMultimap as Map
 use Rattle.ordered_multimap_callers.specs.Ends.{ends_first_written}
 use Rattle.ordered_multimap_callers.proofs.StoppedLemmas.{ends_first, front_value, law_at, some_left}
+use Rattle.ordered_multimap_callers.proofs.PackedForm.{Packed, drops_packed, packed_laws}
 use Rattle.ordered_multimap_callers.specs.contracts.stopped.first_by_walk as f
 use Rattle.ordered_multimap_callers.specs.contracts.stopped.first_by_walk.Key.{name as #self}
 use Rattle.ordered_multimap_callers.proofs.stopped.first_by_walk.Statement.{statement}
@@ -62,7 +69,9 @@ use Rattle.multimap_walks.specs.contracts.writing.values.ValuesMut.drop as g₅
 use Rattle.multimap_walks.proofs.writing.values.ValuesMut.drop.Met.{met as met₅}
 
 pub first_by_walk_spec : {M : Type 1} → statement M
-first_by_walk_spec 𝓤 𝓛 𝓜 𝓡 wired K V S A B LK LV LS LA LB eqs dEq pe dPe ha dHa bh dBh hg dHg al dAl dropK dropV dropA dropB mEq mPe mHa mBh
+unfolding Rattle.ordered_multimap_callers.proofs.Destruct++none.drop.Code.code
+first_by_walk_spec {M} 𝓤 𝓛 𝓜 𝓡 wired K V S A B LK LV LS LA LB eqs dEq pe dPe ha dHa bh dBh hg dHg al dAl dropK dropV dropA dropB mEq mPe mHa
+    mBh
     mHg mAl mDropK mDropV mDropA mDropB =
     let H = 𝓛.H in let 𝓣 = tables 𝓤 H 𝓜 𝓡 𝓡.env in
     let Kr : RattleType = param 0 K in let Vr : RattleType = param 1 V in let Sr : RattleType = param 2 S in
@@ -81,8 +90,9 @@ first_by_walk_spec 𝓤 𝓛 𝓜 𝓡 wired K V S A B LK LV LS LA LB eqs dEq pe
     → SProp 𝓤 = (walk_of 𝓛 En hs c).post y in
     let γ = a.0.ghost_name in let m = a.0.now in
     let Me : RattleType = MutRef (named 0) κs.0 R in let Mv : RattleType = MutRef (named 0) κs.0 Vr in
-    let ℓ = named_lft 6 0 tt κs in let W : RattleType = W-type.the_row ℓ Kr Vr Ar al in
-    let W-is : Laws W = W-laws.the_row_laws ℓ Kr Vr Ar al (param_laws 0 K LK) (param_laws 1 V LV) (param_laws 3 A LA) in
+    let ℓ = named_lft 6 0 tt κs in let W : RattleType = W-type.the_row ℓ Kr Vr Ar PL-type.the_row form al in
+    let W-is : Laws W = W-laws.the_row_laws ℓ Kr Vr Ar PL-type.the_row form al (param_laws 0 K LK) (param_laws 1 V LV)
+    (param_laws 3 A LA) PL-laws.the_row_laws in
     let Tw : RattleType = Tuple (W ∷ Mv ∷ []) in
     let inK : Type 0 = κs.1.0 ⊑ K.lives in let inV : Type 0 = κs.1.1.0 ⊑ V.lives in let inS : Type 0 = κs.1.1.1.0 ⊑ S.lives in
     let inA : Type 0 = κs.1.1.1.1.0 ⊑ A.lives in let inB : Type 0 = κs.1.1.1.1.1.0 ⊑ B.lives in
@@ -180,29 +190,42 @@ first_by_walk_spec 𝓤 𝓛 𝓜 𝓡 wired K V S A B LK LV LS LA LB eqs dEq pe
     pick ! (λ ws₃. split ! $ drop ! $ move ! (2 ∷ []) $ feq_l ! (λ e₃. lands_as ! (ap only e₃) refl (tt, tt) $
     -- [the law; the tokens from 1; the token 0; the reference; the walk; what the map follows]
     -- the walk is dropped
-    let G₅ = triple_of 𝓛 (g₅.signature K V A al dAl dropK dropV dropA) (g₅.spec K V A al dAl dropK dropV dropA 𝓛 𝓜.mem 𝓡.returns) in
-    let z₅ : G₅.Ghost = ((κ₂, q₂, (bounds.0, (bounds.1.0, (bounds.1.1.1.0, tt))), (q.0, tt), (i ∷ [], tt)), tt) in
+    let mForm = form_met 𝓡.env (code.calls-multimap_walks::packed::PackedLinkLinkFormValueLink::keep 𝓡.env wired)
+    (code.calls-multimap_walks::packed::PackedLinkLinkFormValueLink::link 𝓡.env wired) M 𝓤 𝓛 𝓜 𝓡 in
+    let tₚ = ‵ (flft [] full_share) in let toks₅ = t₀ ⊛ t₁ ⊛ t₂ ⊛ t₄ ⊛ tₚ ⊛ ‵ ftrue in let inP : Type 0 = [] ⊑ Packed.lives in
+    let κ₅ : Lfts 5 = (κs.0, (κs.1.0, (κs.1.1.0, (κs.1.1.1.1.0, ([], tt))))) in
+    let q₅ : Shares 5 = (qs.0, (qs.1.0, (qs.1.1.0, (qs.1.1.1.1.0, (full_share, tt))))) in
+    let G₅ = triple_of 𝓛 (g₅.signature K V A Packed al dAl form dForm dropK dropV dropA drops_packed)
+    (g₅.spec K V A Packed al dAl form dForm dropK dropV dropA drops_packed 𝓛 𝓜.mem 𝓡.returns) in
+    let z₅ : G₅.Ghost = ((κ₅, q₅, (bounds.0, (bounds.1.0, (bounds.1.1.1.0, (⊑_static κs.0, tt)))), (q.0, tt), (i ∷ [], tt)), tt) in
     move ! (1 ∷ []) $ split ! $ move ! (1 ∷ []) $ split ! $ move ! (1 ∷ []) $ split ! $ move ! (1 ∷ []) $ split ! $ move ! (1 ∷ []) $
     split ! $ move ! (1 ∷ []) $ drop ! $
     -- [the tokens 5, 4, 3, 2, 1; the law; the token 0; the reference; the walk; what the map follows]
-    nothing ! $ move ! (2 ∷ 0 ∷ []) $ join ! $ move ! (3 ∷ 0 ∷ []) $ join ! $ move ! (3 ∷ 0 ∷ []) $ join ! $ move ! (4 ∷ 0 ∷ []) $ join ! $
+    nothing ! $ use0 𝓛 tₚ (𝓛.lfts.lft-nil full_share) $ join ! $ move ! (2 ∷ 0 ∷ []) $ join ! $ move ! (3 ∷ 0 ∷ []) $ join ! $
+    move ! (3 ∷ 0 ∷ []) $ join ! $ move ! (4 ∷ 0 ∷ []) $ join ! $
     -- [the tokens of the walk; the tokens 5, 3; the law; the reference; the walk; what the map follows]
     nothing ! $ move ! (6 ∷ 0 ∷ []) $ fjoin ! $ move ! (1 ∷ 0 ∷ []) $ join ! $
-    nothing ! $ use0 𝓛 (raw (fact 𝓤 inA)) (fact_i 𝓤 inA (emp 𝓤) ap') $ join ! $ use0 𝓛 (raw (fact 𝓤 inV)) (fact_i 𝓤 inV (emp 𝓤) w) $
+    nothing ! $ use0 𝓛 (raw (fact 𝓤 inP)) (fact_i 𝓤 inP (emp 𝓤) (⊑_static [])) $ join ! $
+    use0 𝓛 (raw (fact 𝓤 inA)) (fact_i 𝓤 inA (emp 𝓤) ap') $ join ! $ use0 𝓛 (raw (fact 𝓤 inV)) (fact_i 𝓤 inV (emp 𝓤) w) $
     join ! $ use0 𝓛 (raw (fact 𝓤 inK)) (fact_i 𝓤 inK (emp 𝓤) k) $ join ! $ move ! (1 ∷ 0 ∷ []) $ use2 𝓛 (raw (G₅.pre z₅)) (id⊢ 𝓤 _) $
     sets ! (addr ! (through ! refl (stop !))) refl (tt, tt) $
-    calls_at ! (framed 𝓤 H 𝓜 𝓣) G₅ (met₅ 𝓤 𝓛 𝓜 𝓡 (code.calls-multimap_walks::writing::values::ValuesMut::drop 𝓡.env wired) K V A LK LV LA al
-    dAl dropK dropV dropA mAl mDropK mDropV mDropA) z₅ (and_then ! (get ! refl) (no_more !)) (λ v₅.
+    calls_at ! (framed 𝓤 H 𝓜 𝓣) G₅ (met₅ 𝓤 𝓛 𝓜 𝓡 (code.calls-multimap_walks::writing::values::ValuesMut::drop 𝓡.env wired) K V A Packed LK
+    LV LA packed_laws
+    al dAl form dForm dropK dropV dropA drops_packed mAl (record { keep = mForm.keep; link = mForm.link }) mDropK mDropV mDropA
+    (glues "ordered_multimap_callers::Destruct++none::drop" 𝓡.env
+    (code.calls-ordered_multimap_callers::Destruct++none::drop 𝓡.env wired) Packed packed_laws M 𝓤 𝓛 𝓜 𝓡)) z₅
+    (and_then ! (get ! refl) (no_more !)) (λ v₅.
     let c₁ : Cells Vr.Denot = q.0.values.cells in
-    use1 𝓛 (later (some (λ (n : Unit {0}). (toks₂ ⊛ ‵ (feq (List Val) (v₅ ∷ []) (vunit ∷ []))) ⊛
-    some (λ (ws₅ : Lasts (g₅.ended K V A al dAl dropK dropV dropA) κ₂ (q.0, tt)). ‵
-    (lasts (g₅.ended K V A al dAl dropK dropV dropA) κ₂ (q.0, tt) ws₅) ⊛ ‵ (ends_with Vr c₁))))) (id⊢ 𝓤 _) $
+    use1 𝓛 (later (some (λ (n : Unit {0}). (toks₅ ⊛ ‵ (feq (List Val) (v₅ ∷ []) (vunit ∷ []))) ⊛
+    some (λ (ws₅ : Lasts (g₅.ended K V A Packed al dAl form dForm dropK dropV dropA drops_packed) κ₅ (q.0, tt)). ‵
+    (lasts (g₅.ended K V A Packed al dAl form dForm dropK dropV dropA drops_packed) κ₅ (q.0, tt) ws₅) ⊛ ‵ (ends_with Vr c₁))))) (id⊢ 𝓤 _) $
     await ! tt $ pick ! (λ n₅. split ! $ split ! $ move ! (2 ∷ []) $
     pick ! (λ ws₅. split ! $ drop ! $ move ! (2 ∷ []) $ feq_l ! (λ e₅. lands_as ! (ap only e₅) refl (tt, tt) $
     -- [the walk's end; the tokens of the walk; the tokens 5, 3; the law; the reference; what the map follows]
     move ! (4 ∷ []) $ use1 𝓛 (‵ (fwand (follows R R γ c₁.lender_loan (with_values_of m))
     (fwand (ends_with Vr c₁) (ends_exactly Kr Vr Sr m γ c₁))))
-    (law_at 𝓛 Kr Vr Sr Ar Br (record { eq = pe.eq; hash_input = ha.hash_input }) bh hg al m γ s.values c₁ ended lends.taken.lender_context) $
+    (law_at 𝓛 Kr Vr Sr Ar Br (record { eq = pe.eq; hash_input = ha.hash_input }) bh hg al m γ s.values c₁ ended lends.taken.lender_context)
+    $
     move ! (6 ∷ []) $ rewrite ! 0 (λ (δ : GName). ‵ (follows R R γ δ (with_values_of m))) (sym lends.taken.name) refl $
     use2 𝓛 (‵ (fwand (ends_with Vr c₁) (ends_exactly Kr Vr Sr m γ c₁)))
     (apply∗ 𝓤 (sem 𝓛 (follows R R γ c₁.lender_loan (with_values_of m))) (sem 𝓛 (fwand (ends_with Vr c₁) (ends_exactly Kr Vr Sr m γ c₁)))) $

@@ -8,16 +8,17 @@ use mir.Syntax.{a_type, dcons, dnil, named, ty_unit, Body}
 use mir.Val.{Val, vptr, vunit, vcons, vnil}
 use mir.MapTy.{inst_fn}
 use base.Logic.{SProp, id⊢, apply∗}
+use base.Fraction.{full_share}
 use base.Fml.{Fml, ftrue, feq, flft, fwand}
 use prog.Wp.{Wp, after_seq, at_return}
 use types.Logic.{sem}
-use types.Kit.{‵, raw, ◌⊛◌, some, later, at_ret, any_q, ◌$◌, ◌∵◌, !, qed, by, move, keep, drop, split, join, fjoin, feq_l, use1, use2}
+use types.Kit.{‵, raw, ◌⊛◌, some, later, at_ret, any_q, ◌$◌, ◌∵◌, !, qed, by, move, keep, drop, split, join, fjoin, feq_l, use0, use1, use2}
 use types.Kit.{use3, pick, await, rewrite}
 use types.Run.{enter, of_opd, addr, stop, fld, no_more, and_then, first, switches_on, exec, returns}
 use types.ByLocal.{alloc_all, pass_all, free_all, look_at, get, get_in, get_tag, through, sets, lands_as, lands_last, env}
 use types.Match.{live, vrt, in_variant}
 use types.Part.{whole, sub}
-use contract.BorrowLft.{◌⊑◌}
+use contract.BorrowLft.{◌⊑◌, ⊑_static}
 use contract.Lifetimes.{Lfts, Shares}
 use contract.Running.{tables}
 use contract.Monad.{fact}
@@ -26,6 +27,7 @@ use denote.RattleType.{RattleType}
 use denote.Laws.{Is, shows}
 use denote.Ref.{MutRef, ShrRef, mut_vals, mut_Tells, mut_Lawful, shr_Lawful}
 use denote.Param.{param, layout, bounded}
+use denote.Param.NoDrop.{glues}
 use denote.Param.Laws.{Laws, param_laws, is_one, of_field}
 use denote.Param.Shared.{copy_shared}
 use denote.Signature.{plain, mut_ref_to, named_lft}
@@ -49,6 +51,10 @@ use Rattle.multimap_slots.specs.declared.cells.Cells.{Cells}
 use Rattle.multimap_walks.specs.Walk.{end_item}
 use Rattle.multimap_walks.specs.WritingWalk.{entry_values_mut_positions, entry_values_mut_rest, LendsFirstOfKey}
 use Rattle.multimap_walks.specs.declared.End.TheVariants.{Front}
+use Rattle.multimap_walks.specs.contracts.packed.PackedLink as PL-type
+use Rattle.multimap_walks.proofs.packed.PackedLink.TheLaws as PL-laws
+use Rattle.multimap_walks.specs.contracts.packed.PackedLinkLinkFormValueLink.TheImpl.{ghosts as form, dict as dForm}
+use Rattle.multimap_walks.proofs.packed.PackedLinkLinkFormValueLink.TheImpl.Met.{bound as form_met}
 use Rattle.multimap_walks.specs.contracts.writing.chain.EntryValuesMut as W-type
 use Rattle.multimap_walks.proofs.writing.chain.EntryValuesMut.TheLaws as W-laws
 use Rattle.ordered_multimap.specs.Exact.{InnerWalksAreExact, walk_ends_exactly}
@@ -62,6 +68,7 @@ use Rattle.ordered_multimap.specs.contracts.list_ordered_multimap.key_values_mut
 use Rattle.ordered_multimap_callers.specs.Ends.{ends_next_written}
 use Rattle.ordered_multimap_callers.proofs.WalkShows.{SlotsAgree, walk_shows}
 use Rattle.ordered_multimap_callers.proofs.StoppedKeysLemmas.{ends_next, first_has_value, inner_law_at, no_front}
+use Rattle.ordered_multimap_callers.proofs.PackedForm.{Packed, drops_packed, packed_laws}
 use Rattle.ordered_multimap_callers.specs.contracts.stopped_keys.first_of_next_key as f
 use Rattle.ordered_multimap_callers.specs.contracts.stopped_keys.first_of_next_key.Key.{name as #self}
 use Rattle.ordered_multimap_callers.proofs.stopped_keys.first_of_next_key.Statement.{statement}
@@ -76,7 +83,9 @@ use Rattle.multimap_walks.specs.contracts.writing.chain.EntryValuesMut.drop as g
 use Rattle.multimap_walks.proofs.writing.chain.EntryValuesMut.drop.Met.{met as met₅}
 
 pub first_of_next_key_spec : {M : Type 1} → statement M
-first_of_next_key_spec 𝓤 𝓛 𝓜 𝓡 wired K V S A B LK LV LS LA LB eqs dEq pe dPe ha dHa bh dBh hg dHg al dAl dropK dropV dropA dropB mEq mPe mHa
+unfolding Rattle.ordered_multimap_callers.proofs.Destruct++none.drop.Code.code
+first_of_next_key_spec {M} 𝓤 𝓛 𝓜 𝓡 wired K V S A B LK LV LS LA LB eqs dEq pe dPe ha dHa bh dBh hg dHg al dAl dropK dropV dropA dropB mEq mPe
+    mHa
     mBh mHg mAl mDropK mDropV mDropA mDropB =
     let H = 𝓛.H in let 𝓣 = tables 𝓤 H 𝓜 𝓡 𝓡.env in
     let Kr : RattleType = param 0 K in let Vr : RattleType = param 1 V in let Sr : RattleType = param 2 S in
@@ -97,8 +106,10 @@ first_of_next_key_spec 𝓤 𝓛 𝓜 𝓡 wired K V S A B LK LV LS LA LB eqs dE
     → SProp 𝓤 = (walk_of 𝓛 En hs c).post y in
     let w₀ : R.Denot = a.0.now in let pairs = w₀.map.now.lists.pairs in
     let Mv : RattleType = MutRef (named 0) κs.0 Vr in
-    let ℓ = named_lft 7 0 tt κs in let W : RattleType = W-type.the_row ℓ Kr Vr Ar al in let K-is : Laws Kr = param_laws 0 K LK in
-    let W-is : Laws W = W-laws.the_row_laws ℓ Kr Vr Ar al K-is (param_laws 1 V LV) (param_laws 3 A LA) in
+    let ℓ = named_lft 7 0 tt κs in let W : RattleType = W-type.the_row ℓ Kr Vr Ar PL-type.the_row form al in
+    let K-is : Laws Kr = param_laws 0 K LK in
+    let W-is : Laws W = W-laws.the_row_laws ℓ Kr Vr Ar PL-type.the_row form al K-is (param_laws 1 V LV)
+    (param_laws 3 A LA) PL-laws.the_row_laws in
     let Sk : RattleType = ShrRef (named 0) κs.0 Kr in let Nx : RattleType = Tuple (Sk ∷ W ∷ []) in let Out : RattleType = Opt Nx in
     let K-one = is_one Kr K-is in let Nx-is : Laws Nx = tuple_laws (Sk ∷ W ∷ []) (
       of_field (shr_ref_field ℓ Kr K-one) (shr_ref_laws ℓ Kr K-one) refl
@@ -219,23 +230,35 @@ first_of_next_key_spec 𝓤 𝓛 𝓜 𝓡 wired K V S A B LK LV LS LA LB eqs dE
     pick ! (λ ws₃. split ! $ drop ! $ move ! (2 ∷ []) $ feq_l ! (λ e₃. lands_as ! (ap only e₃) refl (tt, tt) $
     -- [the law; the tokens from 2; the token 0; the reference; the inner walk; the token 1; what the walk follows]
     -- the inner walk is dropped
-    let G₅ = triple_of 𝓛 (g₅.signature K V A al dAl dropK dropV dropA) (g₅.spec K V A al dAl dropK dropV dropA 𝓛 𝓜.mem 𝓡.returns) in
-    let z₅ : G₅.Ghost = ((κ₂, q₂, (bounds.1.0, (bounds.1.1.0, (bounds.1.1.1.1.0, tt))), (q.0, tt), (i₂ ∷ [], tt)), tt) in
+    let mForm = form_met 𝓡.env (code.calls-multimap_walks::packed::PackedLinkLinkFormValueLink::keep 𝓡.env wired)
+    (code.calls-multimap_walks::packed::PackedLinkLinkFormValueLink::link 𝓡.env wired) M 𝓤 𝓛 𝓜 𝓡 in
+    let tₚ = ‵ (flft [] full_share) in let toks₅ = t₀ ⊛ t₂ ⊛ t₃ ⊛ t₅ ⊛ tₚ ⊛ ‵ ftrue in let inP : Type 0 = [] ⊑ Packed.lives in
+    let κ₅ : Lfts 5 = (κs.0, (κs.1.1.0, (κs.1.1.1.0, (κs.1.1.1.1.1.0, ([], tt))))) in
+    let q₅ : Shares 5 = (qs.0, (qs.1.1.0, (qs.1.1.1.0, (qs.1.1.1.1.1.0, (full_share, tt))))) in
+    let G₅ = triple_of 𝓛 (g₅.signature K V A Packed al dAl form dForm dropK dropV dropA drops_packed)
+    (g₅.spec K V A Packed al dAl form dForm dropK dropV dropA drops_packed 𝓛 𝓜.mem 𝓡.returns) in
+    let z₅ : G₅.Ghost = ((κ₅, q₅, (bounds.1.0, (bounds.1.1.0, (bounds.1.1.1.1.0, (⊑_static κs.0, tt)))), (q.0, tt), (i₂ ∷ [], tt)), tt) in
     move ! (1 ∷ []) $ split ! $ move ! (1 ∷ []) $ split ! $ move ! (1 ∷ []) $ split ! $ move ! (1 ∷ []) $ split ! $ move ! (1 ∷ []) $
     split ! $ move ! (1 ∷ []) $ drop ! $
     -- [the tokens 6, 5, 4, 3, 2; the law; the token 0; the reference; the inner walk; the token 1; what the walk follows]
-    nothing ! $ move ! (2 ∷ 0 ∷ []) $ join ! $ move ! (3 ∷ 0 ∷ []) $ join ! $ move ! (3 ∷ 0 ∷ []) $ join ! $ move ! (4 ∷ 0 ∷ []) $ join ! $
+    nothing ! $ use0 𝓛 tₚ (𝓛.lfts.lft-nil full_share) $ join ! $ move ! (2 ∷ 0 ∷ []) $ join ! $ move ! (3 ∷ 0 ∷ []) $ join ! $
+    move ! (3 ∷ 0 ∷ []) $ join ! $ move ! (4 ∷ 0 ∷ []) $ join ! $
     -- [the tokens of the inner walk; the tokens 6, 4; the law; the reference; the inner walk; the token 1; what the walk follows]
     nothing ! $ move ! (6 ∷ 0 ∷ []) $ fjoin ! $ move ! (1 ∷ 0 ∷ []) $ join ! $
-    nothing ! $ states ! inA five.memory $ join ! $ states ! inV five.values $ join ! $ states ! inK five.keys $ join ! $
+    nothing ! $ states ! inP (⊑_static []) $ join ! $ states ! inA five.memory $ join ! $ states ! inV five.values $ join ! $
+    states ! inK five.keys $ join ! $
     move ! (1 ∷ 0 ∷ []) $ use2 𝓛 (raw (G₅.pre z₅)) (id⊢ 𝓤 _) $
     sets ! (addr ! (through ! refl (stop !))) refl (tt, tt) $
     calls_at_last ! (framed 𝓤 H 𝓜 𝓣) G₅ (met₅ 𝓤 𝓛 𝓜 𝓡 (code.calls-multimap_walks::writing::chain::EntryValuesMut::drop 𝓡.env wired)
-    K V A LK LV LA al dAl dropK dropV dropA mAl mDropK mDropV mDropA) z₅ (and_then ! (get ! refl) (no_more !)) (λ v₅.
+    K V A Packed LK LV LA packed_laws
+    al dAl form dForm dropK dropV dropA drops_packed mAl (record { keep = mForm.keep; link = mForm.link }) mDropK mDropV mDropA
+    (glues "ordered_multimap_callers::Destruct++none::drop" 𝓡.env
+    (code.calls-ordered_multimap_callers::Destruct++none::drop 𝓡.env wired) Packed packed_laws M 𝓤 𝓛 𝓜 𝓡)) z₅
+    (and_then ! (get ! refl) (no_more !)) (λ v₅.
     let c₁ : Cells Vr.Denot = q.0.values.cells in
-    use1 𝓛 (later (some (λ (n : Unit {0}). (toks₂ ⊛ ‵ (feq (List Val) (v₅ ∷ []) (vunit ∷ []))) ⊛
-    some (λ (ws₅ : Lasts (g₅.ended K V A al dAl dropK dropV dropA) κ₂ (q.0, tt)). ‵
-    (lasts (g₅.ended K V A al dAl dropK dropV dropA) κ₂ (q.0, tt) ws₅) ⊛ ‵ (ends_with Vr c₁))))) (id⊢ 𝓤 _) $
+    use1 𝓛 (later (some (λ (n : Unit {0}). (toks₅ ⊛ ‵ (feq (List Val) (v₅ ∷ []) (vunit ∷ []))) ⊛
+    some (λ (ws₅ : Lasts (g₅.ended K V A Packed al dAl form dForm dropK dropV dropA drops_packed) κ₅ (q.0, tt)). ‵
+    (lasts (g₅.ended K V A Packed al dAl form dForm dropK dropV dropA drops_packed) κ₅ (q.0, tt) ws₅) ⊛ ‵ (ends_with Vr c₁))))) (id⊢ 𝓤 _) $
     await ! tt $ pick ! (λ n₅. split ! $ split ! $ move ! (2 ∷ []) $
     pick ! (λ ws₅. split ! $ drop ! $ move ! (2 ∷ []) $ feq_l ! (λ e₅.
     lands_last ! refl (subst (Good ty_unit) (sym (ap only e₅)) (tt, tt)) $ exec ! 𝓣.C 𝓣.Λ Ev (after 3 fn.body) (at_ret Ev Post) $
