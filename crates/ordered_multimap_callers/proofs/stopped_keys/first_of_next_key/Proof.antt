@@ -231,7 +231,8 @@ first_of_next_key_spec {M} 𝓤 𝓛 𝓜 𝓡 wired K V S A B LK LV LS LA LB eq
     -- [the law; the tokens from 2; the token 0; the reference; the inner walk; the token 1; what the walk follows]
     -- the inner walk is dropped
     let mForm = form_met 𝓡.env (code.calls-multimap_walks::packed::PackedLinkLinkFormValueLink::keep 𝓡.env wired)
-    (code.calls-multimap_walks::packed::PackedLinkLinkFormValueLink::link 𝓡.env wired) M 𝓤 𝓛 𝓜 𝓡 in
+    (code.calls-multimap_walks::packed::PackedLinkLinkFormValueLink::link 𝓡.env wired)
+    (code.calls-multimap_walks::packed::PackedLinkLinkFormValueLink::copied 𝓡.env wired) M 𝓤 𝓛 𝓜 𝓡 in
     let tₚ = ‵ (flft [] full_share) in let toks₅ = t₀ ⊛ t₂ ⊛ t₃ ⊛ t₅ ⊛ tₚ ⊛ ‵ ftrue in let inP : Type 0 = [] ⊑ Packed.lives in
     let κ₅ : Lfts 5 = (κs.0, (κs.1.1.0, (κs.1.1.1.0, (κs.1.1.1.1.1.0, ([], tt))))) in
     let q₅ : Shares 5 = (qs.0, (qs.1.1.0, (qs.1.1.1.0, (qs.1.1.1.1.1.0, (full_share, tt))))) in
@@ -251,7 +252,8 @@ first_of_next_key_spec {M} 𝓤 𝓛 𝓜 𝓡 wired K V S A B LK LV LS LA LB eq
     sets ! (addr ! (through ! refl (stop !))) refl (tt, tt) $
     calls_at_last ! (framed 𝓤 H 𝓜 𝓣) G₅ (met₅ 𝓤 𝓛 𝓜 𝓡 (code.calls-multimap_walks::writing::chain::EntryValuesMut::drop 𝓡.env wired)
     K V A Packed LK LV LA packed_laws
-    al dAl form dForm dropK dropV dropA drops_packed mAl (record { keep = mForm.keep; link = mForm.link }) mDropK mDropV mDropA
+    al dAl form dForm dropK dropV dropA drops_packed mAl
+    (record { keep = mForm.keep; link = mForm.link; copied = mForm.copied }) mDropK mDropV mDropA
     (glues "ordered_multimap_callers::Destruct++none::drop" 𝓡.env
     (code.calls-ordered_multimap_callers::Destruct++none::drop 𝓡.env wired) Packed packed_laws M 𝓤 𝓛 𝓜 𝓡)) z₅
     (and_then ! (get ! refl) (no_more !)) (λ v₅.
