@@ -121,7 +121,8 @@ impl<'map, K, V, A: Allocator, F: LinkForm<ValueLink>> EntryValues<'map, K, V, A
         }
         let place = self.left.place_at(end);
         let (value, link) = chained_at(self.values, place, self.detached, &mut self.reads);
-        self.left = self.left.after(end, link.beyond(end, self.left.length));
+        // At the last value this is 0, and isn't used.
+        self.left = self.left.after(end, link.step_from(end).unwrap_or(0));
         Some(value)
     }
 }

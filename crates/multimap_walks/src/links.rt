@@ -1,5 +1,5 @@
 //! The links of keys in their slot list, and of values on their tape.
-ghost use Rattle.std.specs.Prelude.{◌≡◌, ◌<◌, ◌-◌, Some, IsSome, unwrap_or};
+ghost use Rattle.std.specs.Prelude.{◌≡◌, unwrap_or};
 ghost use Rattle.multimap_walks.specs.Ends.{end_place, ends_after, ends_of, step_from};
 
 use crate::End;
@@ -59,30 +59,6 @@ impl ValueLink {
         match end {
             End::Front => self.next,
             End::Back => self.previous,
-        }
-    }
-
-    /// Returns the place that a step from an end reaches where more than this value is left, or any
-    /// number where `left`, the number of those that are left, is one.
-    ///
-    /// # Complexity
-    ///
-    /// *O*(1).
-    ///
-    /// # Requires
-    ///
-    /// The link names a place on that side, unless this value is the last one left.
-    #[inline(always)]
-    pub fn beyond(&self, end: End, left: usize) -> usize
-        requires { 0 < left - 1 → IsSome (step_from end self.now.next self.now.previous) }
-        ensures { 0 < left - 1 → step_from end self.now.next self.now.previous ≡ Some result }
-    {
-        if left < 2 {
-            return 0;
-        }
-        match self.step_from(end) {
-            Some(place) => place,
-            None => unreachable!(),
         }
     }
 }

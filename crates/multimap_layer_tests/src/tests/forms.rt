@@ -169,9 +169,9 @@ fn a_copy_of_a_form_has_the_same_link(rt: HostRuntime) -> Result<(), Failed> {
 }
 
 #[test]
-fn a_link_leads_on_where_more_is_left(rt: HostRuntime) -> Result<(), Failed> {
+fn a_link_leads_on_from_each_end(rt: HostRuntime) -> Result<(), Failed> {
     let test = Test::new(rt.alloc());
-    test.expect(FIRST.beyond(End::Front, 2) == 1);
-    test.expect(LAST.beyond(End::Back, 2) == 0);
+    test.expect(FIRST.step_from(End::Front) == Some(1) && FIRST.step_from(End::Back).is_none());
+    test.expect(LAST.step_from(End::Back) == Some(0) && LAST.step_from(End::Front).is_none());
     test.end()
 }

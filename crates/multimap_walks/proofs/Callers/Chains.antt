@@ -20,8 +20,17 @@ use Rattle.multimap_walks.specs.Chained.{previous_place, places_along, Stands, I
 use Rattle.multimap_walks.specs.ChainWalk.{AreCounted, GivesEnd, chain_walk, reads_of_step}
 use Rattle.multimap_walks.proofs.Callers.Ends.{end_leaves, end_named, end_rest-none, end_rest-with, end_taken, map-with, shows_end}
 use Rattle.multimap_walks.proofs.Callers.Ends.{end_stands as path_stands}
-use Rattle.multimap_walks.proofs.Callers.Paths.{Leads-agree, Leads-next_of, Leads-previous_of, is_one, path-is, path_none, front_stands}
-use Rattle.multimap_walks.proofs.Callers.Paths.{back_stands, front_rest, back_rest, length-path}
+use Rattle.multimap_walks.proofs.Callers.Paths.{Leads-agree, Leads-next_of, Leads-previous_of, is_one, path-is, path_none, front_named, front_stands}
+use Rattle.multimap_walks.proofs.Callers.Paths.{back_named, back_stands, front_rest, back_rest, length-path}
+
+-- a default that isn't used
+any_default : (o : Option ℕ) (d e : ℕ) → IsSome o → unwrap_or o d ≡ unwrap_or o e
+any_default None d e some = absurd (let e = some in cc)
+any_default (Some p) d e some = refl
+
+-- a step to the place that a link names, or to 0
+pub steps_to : {p : ℕ} {o step : Option ℕ} → p ≡ unwrap_or o 0 → o ≡ step → p ≡ unwrap_or step 0
+steps_to is named = is ∙ ap (λ x. unwrap_or x 0) named
 
 one_read : (end : End) (p : ℕ) (ps : List ℕ) → reads_of_step (with_end end p ps) ≡ 1
 one_read Front p ps = refl
@@ -96,7 +105,7 @@ module _ {V : Type 0} (values : Slots V ValueLink) where
   module _ (detached : Bool) (left : ChainEnds) (more : left.length ≡ left.length - 1 + 1)
       (chain : IsChain values detached left.first left.last left.length) (end : End) where
     -- where more is left, its link leads on
-    pub end_leads : (l : ValueLink) → link_at values (end_place end left) ≡ Some l → 0 < left.length - 1
+    end_leads : (l : ValueLink) → link_at values (end_place end left) ≡ Some l → 0 < left.length - 1
         → IsSome (step_from end l.next l.previous)
     end_leads l link_is some = subst IsSome (sym (link_named end (end_place end left) l link_is))
         (end_named (Stands values detached) (next_place values) (previous_place values) left more chain some end)
@@ -106,13 +115,15 @@ module _ {V : Type 0} (values : Slots V ValueLink) where
     end_stands = path_stands (Stands values detached) (next_place values) (previous_place values) left more chain end
 
     module _ (place : ℕ) (l : ValueLink) (link_is : link_at values (end_place end left) ≡ Some l)
-        (told : 0 < left.length - 1 → step_from end l.next l.previous ≡ Some place) where
+        (told : place ≡ unwrap_or (step_from end l.next l.previous) 0) where
       abbrev rest : ChainEnds
       rest = ends_after end left place
 
       named : 0 < left.length - 1
           → place ≡ unwrap_or (step_from end (next_place values) (previous_place values) (end_place end left)) (end_place end left)
-      named more = ap (λ o. unwrap_or o (end_place end left)) (sym (told more) ∙ link_named end (end_place end left) l link_is)
+      named some =
+          told ∙ any_default (step_from end l.next l.previous) 0 (end_place end left) (end_leads l link_is some)
+          ∙ ap (λ o. unwrap_or o (end_place end left)) (link_named end (end_place end left) l link_is)
 
       -- the chain that it leaves
       pub chain_leaves : IsChain values detached rest.first rest.last rest.length
@@ -140,17 +151,31 @@ module _ {V : Type 0} (values : Slots V ValueLink) where
 
   -- the chains that a step leaves, and what stands at the ends, by the numbers of `ChainEnds`
   module _ (detached : Bool) (front back m n : ℕ) (more : m ≡ n + 1) (chain : IsChain values detached front back m) where
-    pub chain_behind : (next : ℕ) (l : ValueLink) → link_at values front ≡ Some l → (0 < n → next ≡ unwrap_or l.next front)
+    pub behind_named : (next : ℕ) (l : ValueLink) → link_at values front ≡ Some l → next ≡ unwrap_or l.next 0
+        → 0 < n → next ≡ unwrap_or (next_place values front) front
+    behind_named next l link_is told some =
+        let is = next_is front l link_is in
+        let leads = front_named (Stands values detached) (next_place values) (previous_place values) front back m n more chain some in
+        told ∙ any_default l.next 0 front (subst IsSome is leads) ∙ ap (λ o. unwrap_or o front) (sym is)
+
+    pub before_named : (previous : ℕ) (l : ValueLink) → link_at values back ≡ Some l → previous ≡ unwrap_or l.previous 0
+        → 0 < n → previous ≡ unwrap_or (previous_place values back) back
+    before_named previous l link_is told some =
+        let is = previous_is back l link_is in
+        let leads = back_named (Stands values detached) (next_place values) (previous_place values) front back m n more chain some in
+        told ∙ any_default l.previous 0 back (subst IsSome is leads) ∙ ap (λ o. unwrap_or o back) (sym is)
+
+    pub chain_behind : (next : ℕ) (l : ValueLink) → link_at values front ≡ Some l → next ≡ unwrap_or l.next 0
         → IsChain values detached next back n
     chain_behind next l link_is told =
         front_rest (Stands values detached) (next_place values) (previous_place values) front back m n more chain next
-        (λ some. told some ∙ ap (λ o. unwrap_or o front) (sym (next_is front l link_is)))
+        (behind_named next l link_is told)
 
-    pub chain_before : (previous : ℕ) (l : ValueLink) → link_at values back ≡ Some l → (0 < n → previous ≡ unwrap_or l.previous back)
+    pub chain_before : (previous : ℕ) (l : ValueLink) → link_at values back ≡ Some l → previous ≡ unwrap_or l.previous 0
         → IsChain values detached front previous n
     chain_before previous l link_is told =
         back_rest (Stands values detached) (next_place values) (previous_place values) front back m n more chain previous
-        (λ some. told some ∙ ap (λ o. unwrap_or o back) (sym (previous_is back l link_is)))
+        (before_named previous l link_is told)
 
   -- an item stands at either end of what is left
   pub first_stands : (detached : Bool) (front back m n : ℕ) → m ≡ n + 1 → IsChain values detached front back m

@@ -53,7 +53,7 @@ pub(crate) fn pass_end_of_chain<V, A: Allocator, F: LinkForm<ValueLink>>(
 }
 
 /// The values of a key that are left once that at an end is taken, or `None` if none is left. Its
-/// link alone is read, and none where no other value is left.
+/// link alone is read.
 #[inline(always)]
 fn chain_after<V, A: Allocator, F: LinkForm<ValueLink>>(
     end: End,
@@ -66,14 +66,12 @@ fn chain_after<V, A: Allocator, F: LinkForm<ValueLink>>(
     ensures taken { IfSome result (PassesEnd end
         (λ ends. places_along (lent_slots cells.now) ends.first ends.length) left) }
 {
-    let place = left.place_at(end);
-    if left.length > 1 {
-        Some(left.after(end, cells.link(place).beyond(end, left.length)))
-    } else if left.length == 1 {
-        Some(left.after(end, place))
-    } else {
-        None
+    if left.length == 0 {
+        return None;
     }
+    let place = left.place_at(end);
+    // At the last value this is 0, and isn't used: that costs less than a test.
+    Some(left.after(end, cells.link(place).step_from(end).unwrap_or(0)))
 }
 
 /// Leaves the values that weren't yielded as they are.

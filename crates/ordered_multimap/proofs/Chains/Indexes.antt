@@ -12,8 +12,7 @@ use Rattle.multimap_slots.proofs.Callers.PlaceLists.{AreDistinct-gone, IsIn-left
 use Rattle.multimap_walks.specs.declared.links.KeyLink.{KeyLink}
 use Rattle.multimap_walks.specs.declared.links.ValueLink.{ValueLink}
 use Rattle.multimap_walks.specs.Chained.{IsChained, position_in, is_value_of, chain_of}
-use Rattle.multimap_walks.specs.Packed.{HasSmallPlaces}
-use Rattle.ordered_multimap.specs.Private.RemoveOne.{HasLinks}
+use Rattle.ordered_multimap.specs.Private.RemoveOne.{HasKeyLink}
 use Rattle.ordered_multimap.specs.RemovedAt.{several}
 use Rattle.ordered_multimap.proofs.Agreement.Agreed.{value_owner}
 use Rattle.ordered_multimap.proofs.Callers.Members.{IsIn-kept}
@@ -126,14 +125,12 @@ module _ {V : Type 0} (values : Slots V ValueLink) (key i p : ℕ) (at : slice_g
   pub indexed_owner : {K : Type 0} (keys : Slots K KeyLink) (m : ValueLink) → link_at values p ≡ Some m → m.key ≡ key
   indexed_owner keys m is = value_owner keys values key p m is of_key.1
 
-  -- the links there, of the value and of its key
-  pub indexed_links : {K : Type 0} (keys : Slots K KeyLink) (m : ValueLink) (l : KeyLink) → link_at values p ≡ Some m
-      → link_at keys key ≡ Some l → HasSmallPlaces m → IsSound values → IsChained keys values → HasLinks keys values p m l
-  indexed_links keys m l is key_is small sound chained = record {
+  -- the link of its key
+  pub indexed_key_link : {K : Type 0} (keys : Slots K KeyLink) (l : KeyLink) → link_at keys key ≡ Some l → IsSound values
+      → IsChained keys values → HasKeyLink keys values p l
+  indexed_key_link keys l key_is sound chained = record {
     listed = indexed_listed;
-    link_is = is;
-    key_link_is = ap (link_at keys) (indexed_owner keys m is) ∙ key_is;
-    small = small;
+    key_link_is = λ m is. ap (link_at keys) (indexed_owner keys m is) ∙ key_is;
     sound = sound;
     chained = chained;
   }

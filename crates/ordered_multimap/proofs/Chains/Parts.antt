@@ -116,6 +116,15 @@ tail_left (f ∷ front) [] place before behind tail last first more e =
 tail_left front (b ∷ back) place before behind tail last first more e =
     last_or-behind None front b back ∙ sym (last_or-behind None front place (b ∷ back)) ∙ e ∙ (λ i. Some (end_left (first i) before tail))
 
+-- the link of the key that a value's link names
+pub key_link_at : {K V : Type 0} (keys : Slots K KeyLink) (values : Slots V ValueLink) (place : ℕ) {l : ValueLink} {k : KeyLink}
+    → link_at values place ≡ Some l → link_at keys l.key ≡ Some k
+    → (m : ValueLink) → link_at values place ≡ Some m → link_at keys m.key ≡ Some k
+key_link_at keys values place {l = l} is key_is m is_m =
+    let both : Some m ≡ Some l = sym is_m ∙ is in
+    let same : m ≡ l = cc in
+    ap (λ (v : ValueLink). link_at keys v.key) same ∙ key_is
+
 module _ {K V : Type 0} {keys : Slots K KeyLink} {values : Slots V ValueLink} (sound : IsSound values) (chained : IsChained keys values)
     (place : ℕ) (link : ValueLink) (listed : IsIn place values.order) (link_is : link_at values place ≡ Some link) where
   pub own : is_value_of values link.key place ≡ true

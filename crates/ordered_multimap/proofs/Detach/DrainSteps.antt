@@ -16,7 +16,7 @@ use Rattle.multimap_walks.specs.declared.links.ValueLink.{ValueLink}
 use Rattle.multimap_walks.specs.Path.{path, Leads}
 use Rattle.multimap_walks.specs.Chained.{IsDetachedChain, next_place, previous_place, values_at}
 use Rattle.multimap_walks.proofs.Callers.Paths.{Leads-agree, path-is, front_taken, back_taken, shown_first, shown_last}
-use Rattle.multimap_walks.proofs.Callers.Chains.{chain_behind, chain_before, first_stands, last_stands, length-left}
+use Rattle.multimap_walks.proofs.Callers.Chains.{behind_named, before_named, chain_behind, chain_before, first_stands, last_stands, length-left}
 use Rattle.multimap_walks.proofs.Callers.Squashed.{AreDistinct-prop, Leads-prop}
 use Rattle.ordered_multimap.specs.Agrees.{Agrees, lists_of}
 use Rattle.ordered_multimap.specs.Detaches.{IsDrained, KeepsSlots, drained, drained_places}
@@ -142,7 +142,7 @@ module _ {V : Type 0} {values : Slots V ValueLink} (ends : ChainEnds) (some : �
   pub last_detached : IsDetached values ends.last
   last_detached = last_stands values true ends.first ends.last ends.length n more chain
 
-  module _ (l : ValueLink) (behind : ℕ) (link_is : link_at values ends.first ≡ Some l) (told : behind ≡ unwrap_or l.next ends.first) where
+  module _ (l : ValueLink) (behind : ℕ) (link_is : link_at values ends.first ≡ Some l) (told : behind ≡ unwrap_or l.next 0) where
     behind_ends : ChainEnds
     behind_ends = record { first = behind; last = ends.last; length = n }
 
@@ -150,7 +150,7 @@ module _ {V : Type 0} {values : Slots V ValueLink} (ends : ChainEnds) (some : �
     unfolding behind_ends
     places_are = front_taken (IsDetached values) (next_place values)
         (previous_place values) ends.first ends.last ends.length n more chain behind
-        (λ _. told ∙ rw link_is refl)
+        (behind_named values true ends.first ends.last ends.length n more chain behind l link_is told)
 
     split : AreDistinct (ends.first ∷ drained_places values behind_ends)
     split = subst AreDistinct places_are d.distinct
@@ -158,7 +158,7 @@ module _ {V : Type 0} {values : Slots V ValueLink} (ends : ChainEnds) (some : �
     rest : IsDrained values behind_ends
     unfolding behind_ends
     rest =
-        let c = chain_behind values true ends.first ends.last ends.length n more chain behind l link_is (λ _. told) in
+        let c = chain_behind values true ends.first ends.last ends.length n more chain behind l link_is told in
         drained-chain values behind_ends c (subst AreDistinct (places_of-chain values behind_ends c) split.1)
 
     elsewhere : (p : ℕ) → IsIn p (drained_places values behind_ends) → p ≢ ends.first
@@ -197,7 +197,7 @@ module _ {V : Type 0} {values : Slots V ValueLink} (ends : ChainEnds) (some : �
           (λ p member listed. (rest.there p member).not_listed (subst (IsIn p) takes.order listed))
           (λ p member. takes.others.items p (elsewhere p member)) (λ p member. takes.others.links p (elsewhere p member))))
 
-  module _ (l : ValueLink) (before : ℕ) (link_is : link_at values ends.last ≡ Some l) (told : before ≡ unwrap_or l.previous ends.last) where
+  module _ (l : ValueLink) (before : ℕ) (link_is : link_at values ends.last ≡ Some l) (told : before ≡ unwrap_or l.previous 0) where
     before_ends : ChainEnds
     before_ends = record { first = ends.first; last = before; length = n }
 
@@ -205,7 +205,7 @@ module _ {V : Type 0} {values : Slots V ValueLink} (ends : ChainEnds) (some : �
     unfolding before_ends
     places_end = back_taken (IsDetached values) (next_place values)
         (previous_place values) ends.first ends.last ends.length n more chain before
-        (λ _. told ∙ rw link_is refl)
+        (before_named values true ends.first ends.last ends.length n more chain before l link_is told)
 
     whole : AreDistinct (drained_places values before_ends ++ ends.last ∷ [])
     whole = subst AreDistinct places_end d.distinct
@@ -213,7 +213,7 @@ module _ {V : Type 0} {values : Slots V ValueLink} (ends : ChainEnds) (some : �
     front : IsDrained values before_ends
     unfolding before_ends
     front =
-        let c = chain_before values true ends.first ends.last ends.length n more chain before l link_is (λ _. told) in
+        let c = chain_before values true ends.first ends.last ends.length n more chain before l link_is told in
         drained-chain values before_ends c (subst AreDistinct (places_of-chain values before_ends c)
         (subst AreDistinct (append-nil (drained_places values before_ends))
         (AreDistinct-remove (drained_places values before_ends) ends.last [] whole)))

@@ -27,13 +27,13 @@ module _ {V : Type 0} {values : Slots V ValueLink} (ends : ChainEnds) (some : �
 
   module _ (l : ValueLink) (place : ℕ) {values_after : Slots V ValueLink} {v : V} where
     pub end_rest : (end : End) → link_at values (end_place end ends) ≡ Some l
-        → place ≡ unwrap_or (step_from end l.next l.previous) (end_place end ends)
+        → place ≡ unwrap_or (step_from end l.next l.previous) 0
         → TakesDetached values values_after (end_place end ends) v → IsDrained values_after (ends_after end ends place)
     end_rest Front is told takes = first_rest ends some (ends.length - 1) more l place is told takes
     end_rest Back is told takes = last_rest ends some (ends.length - 1) more l place is told takes
 
     pub end_given : (end : End) → link_at values (end_place end ends) ≡ Some l
-        → place ≡ unwrap_or (step_from end l.next l.previous) (end_place end ends)
+        → place ≡ unwrap_or (step_from end l.next l.previous) 0
         → TakesDetached values values_after (end_place end ends) v
         → drained values ends ≡ with_end end v (drained values_after (ends_after end ends place))
     end_given Front is told takes = first_given ends some (ends.length - 1) more l place is told takes

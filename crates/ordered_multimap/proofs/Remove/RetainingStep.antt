@@ -2,7 +2,7 @@
 use Rattle.std.proofs.Common.{◌≡◌, ◌<◌, ◌≤◌, ◌+◌, ◌-◌, ℕ, Bool, true, false, length, Option, Some, sym, ap, ◌∙◌, subst, arith, refl}
 use Rattle.std.specs.Cmp.{IsEquivalence}
 use Rattle.std.specs.Ordering.{nat_cmp}
-use Rattle.std.specs.FinMap.{FinMap}
+use Rattle.std.specs.FinMap.{FinMap, get}
 use Rattle.multimap_slots.specs.Lists.{next_of}
 use Rattle.multimap_slots.specs.Slots.{Slots, item_at, link_at, with_item}
 use Rattle.multimap_slots.specs.Tapes.{Taped, with_list}
@@ -10,8 +10,7 @@ use Rattle.multimap_table.specs.Table.{Table}
 use Rattle.multimap_walks.specs.declared.links.KeyLink.{KeyLink}
 use Rattle.multimap_walks.specs.declared.links.ValueLink.{ValueLink}
 use Rattle.ordered_multimap.specs.Agrees.{Agrees}
-use Rattle.multimap_walks.specs.Packed.{HasSmallPlaces}
-use Rattle.ordered_multimap.specs.Private.RemoveOne.{HasLinks, HasPair, TakesPair}
+use Rattle.ordered_multimap.specs.Private.RemoveOne.{HasKeyLink, HasPair, TakesPair}
 use Rattle.ordered_multimap.specs.Private.Retain.{Asks, RetainsAt, StaysIf}
 use Rattle.ordered_multimap.specs.TapeNumbers.{TakesOut, numbers_of}
 use Rattle.ordered_multimap.proofs.Agreement.Agreed.{pair_at-is}
@@ -69,20 +68,23 @@ pub all_counted : {V : Type 0} {old new : Taped V ValueLink} → CountsLeft old 
     → TakesOut (length old.list.order - length new.list.order) (numbers_of old) (numbers_of new)
 all_counted left = record { freed = omega (arith, left.freed, left.fewer); paid = omega (arith, left.moved, left.holes, left.fewer) }
 
--- the links of a pair that was asked for, once its value is written
-pub asked_links : {F K V : Type 0} {calls : F → K → V → Bool → V → F → Type 0} {keys : Slots K KeyLink} {rows : FinMap nat_cmp ℕ}
-    {values asked : Taped V ValueLink} {place : ℕ} {f g : F} {b : Bool} {link : ValueLink} {key_link : KeyLink}
-    → HasPair keys rows values.list place → Asks calls keys values asked place f b g → link_at values.list place ≡ Some link
-    → link_at keys link.key ≡ Some key_link → HasSmallPlaces link → HasLinks keys asked.list place link key_link
-asked_links {keys = keys} {place = place} {link = link} {key_link = key_link} s asked is key_is small =
-    subst (λ vs. HasLinks keys vs place link key_link) (sym (ap (λ t. t.list) asked.written)) (record {
-      listed = s.listed;
-      link_is = is;
-      key_link_is = key_is;
-      small = small;
-      sound = IsSound-with_item s.sound place s.listed asked.left;
-      chained = IsChained-with_item s.chained place asked.left;
-    })
+-- the link of the key of a pair that was asked for, and the key's row, once its value is written
+module _ {F K V : Type 0} {calls : F → K → V → Bool → V → F → Type 0} {keys : Slots K KeyLink} {rows : FinMap nat_cmp ℕ}
+    {values asked_values : Taped V ValueLink} {place : ℕ} {f g : F} {b : Bool} {key_link : KeyLink}
+    (s : HasPair keys rows values.list place)
+    (asked : Asks calls keys values asked_values place f b g)
+    (key_is : (l : ValueLink) → link_at values.list place ≡ Some l → link_at keys l.key ≡ Some key_link) where
+  pub asked_key_link : HasKeyLink keys asked_values.list place key_link
+  asked_key_link = subst (λ vs. HasKeyLink keys vs place key_link) (sym (ap (λ t. t.list) asked.written)) (record {
+    listed = s.listed;
+    key_link_is = key_is;
+    sound = IsSound-with_item s.sound place s.listed asked.left;
+    chained = IsChained-with_item s.chained place asked.left;
+  })
+
+  pub asked_row : (l : ValueLink) → link_at asked_values.list place ≡ Some l → get rows l.key ≡ Some key_link.hash
+  asked_row = subst (λ vs. (l : ValueLink) → link_at vs place ≡ Some l → get rows l.key ≡ Some key_link.hash)
+      (sym (ap (λ t. t.list) asked.written)) (λ l is. s.row l key_link is (key_is l is))
 
 module _ {F K V : Type 0} {eq : K → K → Bool} {calls : F → K → V → Bool → V → F → Type 0} {accepts : F → K → V → Type 0}
     {old_keys : Slots K KeyLink} {old_rows : FinMap nat_cmp ℕ} {old_values : Slots V ValueLink} {first : F}

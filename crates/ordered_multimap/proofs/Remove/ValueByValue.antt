@@ -1,7 +1,7 @@
 -- The values of a chain leave one after another.
 use Rattle.std.proofs.Common.{◌≡◌, ◌≢◌, ◌==◌, ◌+◌, ◌<◌, ◌≤◌, ◌||◌, ℕ, suc, Bool, true, false, not, cond, List, [], ◌∷◌, ◌++◌, length}
 use Rattle.std.proofs.Common.{filter, Option, Some, None, refl, sym, ap, ◌∙◌, subst, inl, inr, true≢false, arith, append_assoc}
-use Rattle.std.proofs.Common.{length-append}
+use Rattle.std.proofs.Common.{length-append, unwrap_or}
 use Rattle.std.proofs.lemmas.Bool.{cases_eq, eq-eqb, ne_eqb}
 use Rattle.std.proofs.lemmas.List.{append-nil}
 use Rattle.multimap_slots.specs.Lists.{IsIn, AreDistinct, first_of, last_of, next_of, without}
@@ -117,7 +117,7 @@ module _ {V : Type 0} {values mid : Slots V ValueLink} {row : List ℕ} (n p : �
 module _ {V : Type 0} {values : Slots V ValueLink} {row : List ℕ} {n : ℕ} {following : Option ℕ} {mid : Slots V ValueLink}
     (taking : IsTaking row n following values mid) where
   -- one more is left while fewer have gone than there are
-  pub taking-more : n < length row → following ≢ None
+  taking-more : n < length row → following ≢ None
   taking-more fewer none = absurd (omega (
     arith,
     fewer,
@@ -131,6 +131,14 @@ module _ {V : Type 0} {values : Slots V ValueLink} {row : List ℕ} {n : ℕ} {f
       ended : (rest : List ℕ) → first_of rest ≡ None → rest ≡ []
       ended [] e = refl
       ended (q ∷ rest) e = absurd (cc)
+
+  -- and it is the one that was told
+  pub taking-told : {p : ℕ} → n < length row → p ≡ unwrap_or following 0 → following ≡ Some p
+  taking-told fewer told = by following (taking-more fewer) told
+    where
+      by : (o : Option ℕ) {p : ℕ} → o ≢ None → p ≡ unwrap_or o 0 → o ≡ Some p
+      by None some told = absurd (some refl)
+      by (Some q) some told = ap Some (sym told)
 
   -- all have left
   pub gone_whole : n ≡ length row → taking.gone ≡ row

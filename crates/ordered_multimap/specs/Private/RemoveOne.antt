@@ -12,7 +12,6 @@ use Rattle.multimap_walks.specs.declared.End.{End}
 use Rattle.multimap_walks.specs.declared.End.TheVariants.{Front, Back}
 use Rattle.multimap_walks.specs.declared.links.KeyLink.{KeyLink}
 use Rattle.multimap_walks.specs.declared.links.ValueLink.{ValueLink}
-use Rattle.multimap_walks.specs.Packed.{HasSmallPlaces}
 use Rattle.ordered_multimap.specs.Private.Remove.{KeepsRoom, TakesKey}
 use Rattle.ordered_multimap.specs.declared.list_ordered_multimap.remove.one.Taken.{Taken}
 use Rattle.ordered_multimap.specs.declared.list_ordered_multimap.remove.one.TakenKey.{TakenKey}
@@ -49,13 +48,12 @@ module _ {K V : Type 0} (keys : Slots K KeyLink) where
     pub row : (l : ValueLink) (k : KeyLink) → link_at values place ≡ Some l
         → link_at keys l.key ≡ Some k → get rows l.key ≡ Some k.hash
 
-  -- a value is listed at the place with this link, its key has that one, and links are chained
-  pub record HasLinks (values : Slots V ValueLink) (place : ℕ) (link : ValueLink)
-      (key_link : KeyLink) : Type 0 where
+  -- a value is listed at the place, its key has this link, and links are chained
+  pub record HasKeyLink (values : Slots V ValueLink) (place : ℕ) (key_link : KeyLink)
+      : Type 0 where
     pub listed : IsIn place values.order
-    pub link_is : link_at values place ≡ Some link
-    pub key_link_is : link_at keys link.key ≡ Some key_link
-    pub small : HasSmallPlaces link
+    pub key_link_is : (l : ValueLink) → link_at values place ≡ Some l
+        → link_at keys l.key ≡ Some key_link
     pub sound : IsSound values
     pub chained : IsChained keys values
 

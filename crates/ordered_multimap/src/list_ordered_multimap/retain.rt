@@ -3,7 +3,6 @@ ghost use Rattle.std.specs.Prelude.{◌≡◌, ◌≤◌, ◌-◌, ℕ, Some, le
 ghost use Rattle.std.specs.Map.Calls.{CallableOnEachPair, CalledAtPair, TakesPair as MayCall};
 ghost use Rattle.multimap_slots.specs.Slots.{link_at};
 ghost use Rattle.multimap_walks.specs.Chained.{pair_at, pairs_of};
-ghost use Rattle.multimap_walks.specs.Packed.{HasSmallPlaces};
 ghost use Rattle.ordered_multimap.specs.Agrees.{Agrees};
 ghost use Rattle.ordered_multimap.specs.Keys.{keys_named_by};
 ghost use Rattle.ordered_multimap.specs.Retain.{Retains};
@@ -23,26 +22,25 @@ use multimap_walks::{KeyLink, PackedLink, ValueLink};
 use std::alloc::Allocator;
 use std::hash::{BuildHasher, Hash};
 
-/// Calls the function on the pair at a listed place, and returns its result, with the links of the
-/// value and of its key.
+/// Calls the function on the pair at a listed place, and returns its result, with the key's link.
+#[inline(always)]
 fn ask<K, V, A: Allocator, F: FnMut(&K, &mut V) -> bool>(
     keys: &SlotList<K, KeyLink, A>,
     values: &mut Tape<V, ValueLink, A, PackedLink>,
     f: &mut F,
     place: usize,
-) -> (bool, ValueLink, KeyLink)
+) -> (bool, KeyLink)
     requires owned { IsOwnedAt keys.now values.old.list place }
     requires callable { (k : K) (v : V) → pair_at keys.now values.old.list place ≡ Some (k, v)
         → MayCall F.FnMut f.old k v }
     ensures asked { Asks (CalledAtPair F.FnMut) keys.now values.old values.new place
         f.old result.0 f.new }
-    ensures link { link_at values.old.list place ≡ Some result.1 }
-    ensures small { HasSmallPlaces result.1 }
-    ensures key_link { link_at keys.now result.1.key ≡ Some result.2 }
+    ensures key_link { (l : ValueLink) → link_at values.old.list place ≡ Some l
+        → link_at keys.now l.key ≡ Some result.1 }
 {
     let (_, link) = value_at(values, place);
     let (key, key_link) = slot_at(keys, link.key);
-    (f(key, values.get_listed_mut(place)), link, key_link)
+    (f(key, values.get_listed_mut(place)), key_link)
 }
 
 /// Calls the function on the pair at a listed place, and takes the pair out if it returns false.
@@ -59,9 +57,9 @@ fn retain_at<K: Drop, V: Drop, A: Allocator, F: FnMut(&K, &mut V) -> bool>(
     ensures { RetainsAt (CalledAtPair F.FnMut) keys.old keys.new table.old table.new
         values.old values.new place f.old f.new }
 {
-    let (stays, link, key_link) = ask(keys, values, f, place);
+    let (stays, key_link) = ask(keys, values, f, place);
     if !stays {
-        take_pair(keys, table, values, place, link, key_link);
+        take_pair(keys, table, values, place, key_link);
     }
 }
 

@@ -119,7 +119,8 @@ impl<K: Eq + Hash, V, S: BuildHasher, A: Allocator> ListOrderedMultimap<K, V, S,
         }
         let place = self.left.place_at(end);
         let (value, link) = self.values.take_detached_linked(place);
-        self.left = self.left.after(end, link.step_from(end).unwrap_or(place));
+        // At the last value this is 0, and isn't used.
+        self.left = self.left.after(end, link.step_from(end).unwrap_or(0));
         Some(value)
     }
 
@@ -207,6 +208,6 @@ fn drop_chain<V: Drop, A: Allocator>(
         let _len = values.len();
         let (value, link) = values.take_detached_linked(place);
         drop(value);
-        place = link.next.unwrap_or(place);
+        place = link.next.unwrap_or(0);
     }
 }

@@ -8,7 +8,6 @@ ghost use Rattle.ordered_multimap.specs.Private.KeySteps.{StaysInRoom};
 ghost use Rattle.ordered_multimap.specs.RemovedAt.{removed_at, removable_value_at};
 ghost use Rattle.ordered_multimap.specs.Private.Remove.{HasChain};
 ghost use Rattle.ordered_multimap.specs.Private.RemoveAt.{TakesAt};
-ghost use Rattle.ordered_multimap.specs.Private.RemoveOne.{HasLinks};
 ghost use Rattle.ordered_multimap.specs.TapeNumbers.{ArePaid, TakesOut, numbers_of};
 
 use crate::list_ordered_multimap::ListOrderedMultimap;
@@ -21,7 +20,7 @@ use std::hash::{BuildHasher, Hash};
 
 /// The place of the value at an index in the chain of the key at the place, along the links from
 /// the nearer end.
-fn place_at<K, V, A: Allocator>(
+pub(crate) fn place_at<K, V, A: Allocator>(
     keys: &SlotList<K, KeyLink, A>,
     values: &Tape<V, ValueLink, A, PackedLink>,
     place: usize,
@@ -47,25 +46,6 @@ fn place_at<K, V, A: Allocator>(
     found
 }
 
-/// The place of a key's value at an index below their number, with the link there.
-#[inline(always)]
-pub(crate) fn indexed<K, V, A: Allocator>(
-    keys: &SlotList<K, KeyLink, A>,
-    values: &Tape<V, ValueLink, A, PackedLink>,
-    place: usize,
-    index: usize,
-) -> (usize, ValueLink)
-    requires chain { HasChain keys.now values.now.list place }
-    requires among { (l : KeyLink) → link_at keys.now place ≡ Some l → index < l.length }
-    ensures index { slice_get (chain_of values.now.list place) index ≡ Some result.0 }
-    ensures links { (l : KeyLink) → link_at keys.now place ≡ Some l
-        → HasLinks keys.now values.now.list result.0 result.1 l }
-    ensures key { result.1.key ≡ place }
-{
-    let found = place_at(keys, values, place, index);
-    (found, link_of(values, found))
-}
-
 /// Takes out the value at an index in the chain of the key at the place, if the key has others.
 fn take_at<K, V, A: Allocator>(
     keys: &mut SlotList<K, KeyLink, A>,
@@ -82,8 +62,8 @@ fn take_at<K, V, A: Allocator>(
     if link.length < 2 || link.length <= index {
         return None;
     }
-    let (found, gone) = indexed(keys, values, place, index);
-    Some(take_one(keys, values, found, gone, link))
+    let found = place_at(keys, values, place, index);
+    Some(take_one(keys, values, found, link))
 }
 
 impl<K: Eq + Hash, V, S: BuildHasher, A: Allocator> ListOrderedMultimap<K, V, S, A> {

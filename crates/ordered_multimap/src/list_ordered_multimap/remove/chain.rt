@@ -31,16 +31,12 @@ fn unlink_values<V, W: Unlink<V>, A: Allocator>(
 {
     let (given, link) = W::unlink(values, first);
     let mut last = first;
-    let mut following = link.next;
+    let mut next = link.next.unwrap_or(0);
     for _ in 1..count {
-        match following {
-            Some(next) => {
-                let (_given, link) = W::unlink(values, next);
-                last = next;
-                following = link.next;
-            }
-            None => unreachable!(),
-        }
+        last = next;
+        let (_given, link) = W::unlink(values, next);
+        // At the last value this is 0, and isn't used.
+        next = link.next.unwrap_or(0);
     }
     let ends = ChainEnds {
         first,

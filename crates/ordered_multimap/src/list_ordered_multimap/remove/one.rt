@@ -2,8 +2,9 @@
 //! goes where that was its last value.
 ghost use Rattle.std.specs.Prelude.{◌≡◌, ◌<◌, Some};
 ghost use Rattle.std.specs.FinMap.{get};
+ghost use Rattle.multimap_slots.specs.Slots.{link_at};
 ghost use Rattle.multimap_slots.specs.Tapes.{Frees};
-ghost use Rattle.ordered_multimap.specs.Private.RemoveOne.{end_left, without_value, HasLinks, HasPair, LeavesPair, TakesOne};
+ghost use Rattle.ordered_multimap.specs.Private.RemoveOne.{end_left, without_value, HasKeyLink, HasPair, LeavesPair, TakesOne};
 
 use crate::list_ordered_multimap::links::{link_of, set_link, set_next, set_previous};
 use crate::list_ordered_multimap::remove::chain::take_key;
@@ -52,21 +53,21 @@ fn shorter_link(link: KeyLink, gone: ValueLink) -> KeyLink
     }
 }
 
-/// Takes the value at the place out, where its key has others. Its neighbours in the chain then name
-/// each other.
+/// Takes the value at the place out, where its key, with this link, has others. Its neighbours in the
+/// chain then name each other.
 #[inline(always)]
 pub(crate) fn take_one<K, V, A: Allocator>(
     keys: &mut SlotList<K, KeyLink, A>,
     values: &mut Tape<V, ValueLink, A, PackedLink>,
     place: usize,
-    link: ValueLink,
     key_link: KeyLink,
 ) -> V
-    requires links { HasLinks keys.old values.old.list place link key_link }
+    requires links { HasKeyLink keys.old values.old.list place key_link }
     requires more { 1 < key_link.length }
     ensures taken { TakesOne keys.old keys.new values.old.list values.new.list place result }
     ensures frees { Frees values.old values.new }
 {
+    let link = link_of(values, place);
     set_next(values, link.previous, link.next);
     set_previous(values, link.next, link.previous);
     set_link(keys, link.key, shorter_link(key_link, link));
@@ -84,36 +85,39 @@ pub(crate) fn take_pair_at<K, V, A: Allocator>(
     requires { HasPair keys.old table.old.rows values.old.list place }
     ensures { LeavesPair keys.old keys.new table.old table.new values.old values.new place result }
 {
-    let link = link_of(values, place);
-    let key_link = keys.listed_link(link.key);
-    take_pair(keys, table, values, place, link, key_link)
+    let key_link = keys.listed_link(link_of(values, place).key);
+    take_pair(keys, table, values, place, key_link)
 }
 
-/// Takes the value at the place out, and its key where it has no other. These are their links.
+/// Takes the value at the place out, and its key, which has this link, where it has no other.
+///
+/// Of the value's link the key's place alone is read, unless the key has others: to unpack the
+/// neighbours costs more than to read the link twice.
 #[inline(always)]
 pub(crate) fn take_pair<K, V, A: Allocator>(
     keys: &mut SlotList<K, KeyLink, A>,
     table: &mut KeyTable<A>,
     values: &mut Tape<V, ValueLink, A, PackedLink>,
     place: usize,
-    link: ValueLink,
     key_link: KeyLink,
 ) -> Taken<K, V>
-    requires links { HasLinks keys.old values.old.list place link key_link }
-    requires row { get table.old.rows link.key ≡ Some key_link.hash }
+    requires links { HasKeyLink keys.old values.old.list place key_link }
+    requires row { (l : ValueLink) → link_at values.old.list place ≡ Some l
+        → get table.old.rows l.key ≡ Some key_link.hash }
     ensures { LeavesPair keys.old keys.new table.old table.new values.old values.new place result }
 {
+    let key_place = link_of(values, place).key;
     if key_link.length == 1 {
-        let key = take_key(keys, table, link.key, key_link.hash);
+        let key = take_key(keys, table, key_place, key_link.hash);
         let (value, _) = values.take_listed(place);
         return Taken {
             key: TakenKey::Gone(key),
             value,
         };
     }
-    let value = take_one(keys, values, place, link, key_link);
+    let value = take_one(keys, values, place, key_link);
     Taken {
-        key: TakenKey::Kept(link.key),
+        key: TakenKey::Kept(key_place),
         value,
     }
 }

@@ -11,7 +11,7 @@ ghost use Rattle.ordered_multimap.specs.TapeNumbers.{TakesOut, numbers_of};
 
 use crate::KeyQuery;
 use crate::list_ordered_multimap::ListOrderedMultimap;
-use crate::list_ordered_multimap::remove::at::indexed;
+use crate::list_ordered_multimap::remove::at::place_at;
 use crate::list_ordered_multimap::remove::one::take_pair;
 use multimap_slots::{SlotList, Tape};
 use multimap_table::KeyTable;
@@ -54,8 +54,8 @@ fn take_indexed<K: Drop, V, A: Allocator>(
     if link.length <= index {
         return None;
     }
-    let (found, gone) = indexed(keys, values, place, index);
-    Some(take_pair(keys, table, values, found, gone, link).value)
+    let found = place_at(keys, values, place, index);
+    Some(take_pair(keys, table, values, found, link).value)
 }
 
 impl<K: Eq + Hash, V, S: BuildHasher, A: Allocator> ListOrderedMultimap<K, V, S, A> {

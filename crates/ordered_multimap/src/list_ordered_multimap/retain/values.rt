@@ -3,7 +3,6 @@ ghost use Rattle.std.specs.Prelude.{◌≡◌, ◌-◌, ◌≤◌, ℕ, Some, le
 ghost use Rattle.multimap_slots.specs.Lists.{IsIn};
 ghost use Rattle.multimap_slots.specs.Slots.{item_at, link_at};
 ghost use Rattle.multimap_walks.specs.Chained.{chain_of, pairs_of, values_at};
-ghost use Rattle.multimap_walks.specs.Packed.{HasSmallPlaces};
 ghost use Rattle.ordered_multimap.specs.Agrees.{Agrees, HasKey};
 ghost use Rattle.ordered_multimap.specs.Keys.{keys_named_by};
 ghost use Rattle.ordered_multimap.specs.Pairs.{values_where};
@@ -23,26 +22,27 @@ use multimap_walks::{KeyLink, PackedLink, ValueLink};
 use std::alloc::Allocator;
 use std::hash::{BuildHasher, Hash};
 
-/// Calls the function on the value at a listed place, and returns its result, with the links of the
-/// value and of its key.
+/// Calls the function on the value at a listed place, and returns its result, with the place of the
+/// key's next value, and the key's link.
+#[inline(always)]
 fn ask_value<K, V, A: Allocator, F: FnMut(&mut V) -> bool>(
     keys: &SlotList<K, KeyLink, A>,
     values: &mut Tape<V, ValueLink, A, PackedLink>,
     f: &mut F,
     place: usize,
-) -> (bool, ValueLink, KeyLink)
+) -> (bool, Option<usize>, KeyLink)
     requires owned { IsOwnedAt keys.now values.old.list place }
     requires callable { (v : V) → item_at values.old.list place ≡ Some v
         → MayAskValue F.FnMut f.old v }
     ensures asked { Asks (AsksAny F.FnMut) keys.now values.old values.new place
         f.old result.0 f.new }
-    ensures link { link_at values.old.list place ≡ Some result.1 }
-    ensures small { HasSmallPlaces result.1 }
-    ensures key_link { link_at keys.now result.1.key ≡ Some result.2 }
+    ensures next { (l : ValueLink) → link_at values.old.list place ≡ Some l → result.1 ≡ l.next }
+    ensures key_link { (l : ValueLink) → link_at values.old.list place ≡ Some l
+        → link_at keys.now l.key ≡ Some result.2 }
 {
     let (_, link) = value_at(values, place);
     let (_, key_link) = slot_at(keys, link.key);
-    (f(values.get_listed_mut(place)), link, key_link)
+    (f(values.get_listed_mut(place)), link.next, key_link)
 }
 
 /// Calls the function on the value at a listed place, takes its pair out if it returns false, and
@@ -61,11 +61,11 @@ fn retain_value_at<K: Drop, V: Drop, A: Allocator, F: FnMut(&mut V) -> bool>(
         values.old values.new place f.old f.new }
     ensures next { (l : ValueLink) → link_at values.old.list place ≡ Some l → result ≡ l.next }
 {
-    let (stays, link, key_link) = ask_value(keys, values, f, place);
+    let (stays, next, key_link) = ask_value(keys, values, f, place);
     if !stays {
-        take_pair(keys, table, values, place, link, key_link);
+        take_pair(keys, table, values, place, key_link);
     }
-    link.next
+    next
 }
 
 /// Calls the function on each value of the key at the place, in turn, and takes out those for which

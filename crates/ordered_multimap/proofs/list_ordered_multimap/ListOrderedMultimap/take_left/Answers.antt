@@ -1,6 +1,7 @@
-use Rattle.std.proofs.Common.{◌≡◌, Some, unwrap_or, sym, subst, arith, ap, ◌∙◌}
+use Rattle.std.proofs.Common.{◌≡◌, Some, sym, subst, arith, ap, ◌∙◌}
 use Rattle.multimap_slots.specs.Slots.{IsDetached, TakesDetached, link_at}
 use Rattle.multimap_walks.specs.Walk.{with_end}
+use Rattle.multimap_walks.proofs.Callers.Chains.{steps_to}
 use Rattle.ordered_multimap.specs.Detaches.{HoldsDrain, IsDrained, KeepsListed, drained, left_of}
 use Rattle.ordered_multimap.proofs.Detach.DrainSteps.{keeps_slots, agrees-listed}
 use Rattle.ordered_multimap.proofs.Detach.KeptByDrains.{end_detached, end_given, end_rest, fits-listed, paid-listed, keeps_listed}
@@ -38,7 +39,7 @@ returns-clause-drain g c =
       holds = subst (IsDrained c.take_detached_linked-value.new.self.list) (sym c.after-self-inside.ensures)
           (end_rest i.left some (omega (arith, c.if-self-eq0.false)) l c.unwrap_or.result c.args.end
           (subst (λ p. link_at i.values.list p ≡ Some l) at c.take_detached_linked-value.ensures.link)
-          (c.unwrap_or.ensures ∙ (λ j. unwrap_or (c.step_from.ensures j) (at j)))
+          (steps_to c.unwrap_or.ensures c.step_from.ensures)
           (subst (λ p. TakesDetached i.values.list c.take_detached_linked-value.new.self.list p c.take_detached_linked-value.result.0)
           at t.taken));
       kept = subst (λ m. KeepsListed m (map_of i.keys i.table.capacity c.take_detached_linked-value.new.self i.state
@@ -56,7 +57,7 @@ returns-clause-taken g c =
     ap left_of (sym c.self.view_is)
     ∙ end_given i.left ∣ subst HoldsDrain (sym c.self.view_is) c.requires ∣₁ (omega (arith, c.if-self-eq0.false)) l c.unwrap_or.result
     c.args.end (subst (λ p. link_at i.values.list p ≡ Some l) at c.take_detached_linked-value.ensures.link)
-    (c.unwrap_or.ensures ∙ (λ j. unwrap_or (c.step_from.ensures j) (at j)))
+    (steps_to c.unwrap_or.ensures c.step_from.ensures)
     (subst (λ p. TakesDetached i.values.list c.take_detached_linked-value.new.self.list p c.take_detached_linked-value.result.0)
     at c.take_detached_linked-value.ensures.taken)
     ∙ ap (λ e. with_end c.args.end c.take_detached_linked-value.result.0 (drained c.take_detached_linked-value.new.self.list e))
