@@ -45,8 +45,7 @@ pub(crate) fn push_value<V, A: Allocator>(
         previous: tail,
         next: None,
     };
-    let place = values.push_place();
-    values.push_reserved(value, link);
+    let place = values.push_reserved(value, link);
     set_next(values, tail, Some(place));
     place
 }

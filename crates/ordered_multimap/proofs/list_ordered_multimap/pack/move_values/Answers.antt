@@ -49,7 +49,7 @@ push_reserved-requires-clause-room g c =
 
 pub push_reserved-requires-clause-fits : goal.push_reserved-requires-clause-fits
 push_reserved-requires-clause-fits g c =
-    let small = c.take_listed-value.ensures.fits in record { previous = small.previous; next = small.next }
+    let small = c.take_listed-value.ensures.fits in λ _. record { previous = small.previous; next = small.next }
 
 pub loop-place-preserved : goal.loop-place-preserved
 loop-place-preserved g c =

@@ -9,7 +9,7 @@ pub push_reserved-requires-clause-fits : goal.push_reserved-requires-clause-fits
 push_reserved-requires-clause-fits g c =
     let small = subst HasSmallPlaces (sym c.ranked_value-link.ensures)
     (c.requires.small c.value_at.result.1 c.value_at.ensures.slot.link_is) in
-    record { previous = small.previous; next = small.next }
+    λ _. record { previous = small.previous; next = small.next }
 
 pub returns-clause-copied : goal.returns-clause-copied
 returns-clause-copied g c =
