@@ -8,5 +8,6 @@ pub mod NewPlaces
 pub mod Queries
 pub mod Relocated
 pub mod Renamed
+pub mod Rows
 pub mod StayingKeys
 pub mod TakenKeys

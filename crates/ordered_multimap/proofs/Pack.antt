@@ -1,4 +1,3 @@
 pub mod Capacities
 pub mod Packing
 pub mod RelocatedKeys
-pub mod Rows

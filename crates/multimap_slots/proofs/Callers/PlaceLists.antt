@@ -1,5 +1,6 @@
 -- Facts on the words for lists, for callers too.
-use Rattle.std.proofs.Common.{◌≡◌, ◌≢◌, ◌⊎◌, ℕ, List, [], ◌∷◌, ◌++◌, reverse, None, refl, sym, ap, subst, ◌∙◌, inl, inr, append_assoc}
+use Rattle.std.proofs.Common.{◌≡◌, ◌≢◌, ◌⊎◌, ℕ, Bool, true, false, cond, List, [], ◌∷◌, ◌++◌, filter, reverse, None, refl, sym, ap, subst}
+use Rattle.std.proofs.Common.{◌∙◌, inl, inr, append_assoc}
 use Rattle.std.proofs.lemmas.Bool.{cases_eq, eq-eqb, ne_eqb}
 use Rattle.std.proofs.lemmas.List.{append-nil, reverse-append}
 use Rattle.std.specs.List.{last_or}
@@ -32,6 +33,19 @@ module _ {X : Type 0} where
   IsIn-split x (y ∷ ys) (inr i) =
       let s = IsIn-split x ys i in
       record { front = y ∷ s.front; back = s.back; is = ap (λ zs. y ∷ zs) s.is }
+
+  -- what a filter keeps is a member that passes
+  pub IsIn-kept : (test : X → Bool) (x : X) (xs : List X) → IsIn x (filter test xs) → IsIn x xs × (test x ≡ true)
+  IsIn-kept test x [] i = absurd i
+  IsIn-kept test x (y ∷ xs) i =
+      let P : Bool → Type 0 = λ b. test y ≡ b → IsIn x (cond b (y ∷ filter test xs) (filter test xs)) → IsIn x (y ∷ xs) × (test x ≡ true) in
+      elim (test y) as P [
+        | true ↦ λ e among. elim among [
+          | inl here ↦ (inl here, ap test here ∙ e)
+          | inr later ↦ let rest = IsIn-kept test x xs later in (inr rest.0, rest.1)
+        ]
+        | false ↦ λ e among. let rest = IsIn-kept test x xs among in (inr rest.0, rest.1)
+      ] refl i
 
   pub AreDistinct-push : (xs : List X) (x : X) → (IsIn x xs → ⊥) → AreDistinct xs → AreDistinct (xs ++ x ∷ [])
   AreDistinct-push [] x absent distinct = (λ i. i, tt)

@@ -4,7 +4,7 @@ use Rattle.std.proofs.Common.{◌∙◌}
 use Rattle.std.proofs.lemmas.List.{get_or-set_same, get_or-set_other}
 use Rattle.multimap_slots.specs.Lists.{IsIn, without}
 use Rattle.multimap_slots.specs.Private.ListLayout.{put}
-use Rattle.multimap_slots.specs.Slots.{Slots, item_at, link_at, KeepsOthers, PushesBack, Removes, Detaches, TakesDetached}
+use Rattle.multimap_slots.specs.Slots.{Slots, item_at, KeepsOthers, PushesBack, Removes, Detaches, TakesDetached}
 use Rattle.multimap_slots.proofs.Changes.Put.{get_or-put_same, get_or-put_other, slice_get-put_same, slice_get-put_other}
 
 module _ {T L : Type 0} (old new : Slots T L) (place : ℕ) (item : T) where
@@ -17,21 +17,12 @@ module _ {T L : Type 0} (old new : Slots T L) (place : ℕ) (item : T) where
         was_absent = absent;
         was_free = was_free;
         order = order;
-        item_is = item_is;
-        link_is = link_is;
-        others = others;
-      }
-    where
-      item_is : item_at new place ≡ Some item
-      item_is = ap (λ xs. get_or xs place None) items ∙ get_or-put_same old.items place (Some item) None within
-
-      link_is : link_at new place ≡ Some link
-      link_is = ap (λ xs. slice_get xs place) links ∙ slice_get-put_same old.links place link within_links
-
-      others : KeepsOthers old new place
-      others = record {
-        items = λ q differs. ap (λ xs. get_or xs q None) items ∙ get_or-put_other old.items place q (Some item) None within differs;
-        links = λ q differs. ap (λ xs. slice_get xs q) links ∙ slice_get-put_other old.links place q link within_links differs;
+        item_is = ap (λ xs. get_or xs place None) items ∙ get_or-put_same old.items place (Some item) None within;
+        link_is = ap (λ xs. slice_get xs place) links ∙ slice_get-put_same old.links place link within_links;
+        others = record {
+          items = λ q differs. ap (λ xs. get_or xs q None) items ∙ get_or-put_other old.items place q (Some item) None within differs;
+          links = λ q differs. ap (λ xs. slice_get xs q) links ∙ slice_get-put_other old.links place q link within_links differs;
+        };
       }
 
   -- an item goes, and its place and its link stay

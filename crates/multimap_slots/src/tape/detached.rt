@@ -37,7 +37,7 @@ impl<T, L: Copy, A: Allocator, F: LinkForm<L>> Tape<T, L, A, F> {
         ensures freed { Frees self.old self.new }
         ensures capacity { self.new.list.capacity ≡ self.old.list.capacity }
     {
-        let link = self.links[place].link();
+        let link = self.listed_link(place);
         self.detach(place);
         link
     }

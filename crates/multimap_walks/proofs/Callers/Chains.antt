@@ -7,7 +7,7 @@ use Rattle.std.proofs.lemmas.Bool.Decides.{Decides-eqb}
 use Rattle.std.proofs.lemmas.List.{length-map}
 use Rattle.multimap_slots.specs.Lists.{IsIn, AreDistinct, first_of, last_of, next_of, previous_of}
 use Rattle.multimap_slots.specs.Slots.{HasLink, Slots, IsSound, item_at, link_at}
-use Rattle.multimap_slots.proofs.Callers.PlaceLists.{IsIn-reverse}
+use Rattle.multimap_slots.proofs.Callers.PlaceLists.{IsIn-kept, IsIn-reverse}
 use Rattle.multimap_walks.specs.declared.End.{End}
 use Rattle.multimap_walks.specs.declared.End.TheVariants.{Front, Back}
 use Rattle.multimap_walks.specs.declared.links.ChainEnds.{ChainEnds}
@@ -194,23 +194,11 @@ module _ {V : Type 0} (values : Slots V ValueLink) where
   chain_told (Some e) none told empty is given = subst (λ e'. IsChain values true e'.first e'.last e'.length) (sym is) given
 
 -- filtered places
-IsIn-filtered : (test : ℕ → Bool) (p : ℕ) (ps : List ℕ) → IsIn p (filter test ps) → IsIn p ps × (test p ≡ true)
-IsIn-filtered test p [] member = absurd member
-IsIn-filtered test p (q ∷ ps) member =
-    let P : Bool → Type 0 = λ b. test q ≡ b → IsIn p (cond b (q ∷ filter test ps) (filter test ps)) → IsIn p (q ∷ ps) × (test p ≡ true) in
-    elim (test q) as P [
-      | true ↦ λ e among. elim among [
-        | inl here ↦ (inl here, ap test here ∙ e)
-        | inr later ↦ let found = IsIn-filtered test p ps later in (inr found.0, found.1)
-      ]
-      | false ↦ λ e among. let found = IsIn-filtered test p ps among in (inr found.0, found.1)
-    ] refl member
-
 AreDistinct-filter : (test : ℕ → Bool) (ps : List ℕ) → AreDistinct ps → AreDistinct (filter test ps)
 AreDistinct-filter test [] distinct = tt
 AreDistinct-filter test (q ∷ ps) distinct =
     elim (test q) as (λ b. AreDistinct (cond b (q ∷ filter test ps) (filter test ps))) [
-      | true ↦ (λ member. distinct.0 (IsIn-filtered test q ps member).0, AreDistinct-filter test ps distinct.1)
+      | true ↦ (λ member. distinct.0 (IsIn-kept test q ps member).0, AreDistinct-filter test ps distinct.1)
       | false ↦ AreDistinct-filter test ps distinct.1
     ]
 
@@ -226,7 +214,7 @@ held (Some x) some = record { value = x; is = refl }
 module _ {K V : Type 0} (keys : Slots K KeyLink) (values : Slots V ValueLink) (key : ℕ) (l : KeyLink) (sound : IsSound values)
     (chained : IsChained keys values) (has : HasLink keys key l) where
   pub chain_listed : (p : ℕ) → IsIn p (chain_of values key) → IsIn p values.order
-  chain_listed p member = (IsIn-filtered (is_value_of values key) p values.order member).0
+  chain_listed p member = (IsIn-kept (is_value_of values key) p values.order member).0
 
   pub chain_distinct : AreDistinct (chain_of values key)
   chain_distinct = AreDistinct-filter (is_value_of values key) values.order sound.distinct
@@ -234,7 +222,7 @@ module _ {K V : Type 0} (keys : Slots K KeyLink) (values : Slots V ValueLink) (k
   -- the link of a place of the chain names the key
   owner : (p : ℕ) (m : ValueLink) → IsIn p (chain_of values key) → link_at values p ≡ Some m → m.key ≡ key
   owner p m member is =
-      let test : is_value_of values key p ≡ true = (IsIn-filtered (is_value_of values key) p values.order member).1 in
+      let test : is_value_of values key p ≡ true = (IsIn-kept (is_value_of values key) p values.order member).1 in
       (Decides-eqb m.key key).0 (sym (ap (λ o. unwrap_or (option_map (λ (k : ValueLink). k.key == key) o) false) is) ∙ test)
 
   -- so it names the neighbours in the chain

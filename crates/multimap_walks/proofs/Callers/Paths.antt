@@ -51,7 +51,7 @@ Leads-next_of (p ∷ places) distinct = (
 reverse-cons : (p : ℕ) (places : List ℕ) → reverse (p ∷ places) ≡ reverse places ++ p ∷ []
 reverse-cons p places = reverse-append (p ∷ []) places
 
-AreDistinct-reverse : (places : List ℕ) → AreDistinct places → AreDistinct (reverse places)
+pub AreDistinct-reverse : (places : List ℕ) → AreDistinct places → AreDistinct (reverse places)
 AreDistinct-reverse [] distinct = tt
 AreDistinct-reverse (p ∷ places) distinct =
     subst AreDistinct (sym (reverse-cons p places))

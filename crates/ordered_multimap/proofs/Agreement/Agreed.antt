@@ -9,13 +9,13 @@ use Rattle.std.specs.FinMap.{FinMap, get, len, empty, get-empty, len-empty}
 use Rattle.multimap_slots.specs.Lists.{IsIn, AreDistinct}
 use Rattle.multimap_slots.specs.Slots.{Slots, IsEmpty, IsSound, HasRoomFor, item_at, link_at}
 use Rattle.multimap_slots.specs.Tapes.{Taped}
+use Rattle.multimap_slots.proofs.Callers.PlaceLists.{IsIn-kept}
 use Rattle.multimap_walks.specs.declared.links.KeyLink.{KeyLink}
 use Rattle.multimap_walks.specs.declared.links.ValueLink.{ValueLink}
 use Rattle.multimap_walks.specs.Chained.{IsChained, is_value_of, chain_of, pair_at, pairs_of}
 use Rattle.ordered_multimap.specs.Lists.{lists, empty_lists, IsWellFormed}
 use Rattle.ordered_multimap.specs.Agrees.{Agrees, IsMap, items_of, lists_of}
 use Rattle.ordered_multimap.proofs.Callers.WellFormed.{empty_well_formed}
-use Rattle.ordered_multimap.proofs.Callers.Members.{IsIn-kept}
 use Rattle.ordered_multimap.proofs.Callers.Places.{held, length-filter_map, IsIn-filter_map, origin, begins, named_pair, pair_named}
 
 pair_key : {K V : Type 0} (p q : K × V) → Some p ≡ Some q → p.0 ≡ q.0

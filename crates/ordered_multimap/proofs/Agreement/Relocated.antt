@@ -8,14 +8,13 @@ use Rattle.std.specs.Ordering.{nat_cmp}
 use Rattle.std.specs.FinMap.{FinMap}
 use Rattle.multimap_slots.specs.Lists.{IsIn, AreDistinct, first_of, last_of, next_of, previous_of}
 use Rattle.multimap_slots.specs.Slots.{Slots, IsSound, item_at, link_at}
-use Rattle.multimap_slots.proofs.Callers.PlaceLists.{IsIn-reverse}
+use Rattle.multimap_slots.proofs.Callers.PlaceLists.{IsIn-kept, IsIn-reverse}
 use Rattle.multimap_walks.specs.declared.links.KeyLink.{KeyLink}
 use Rattle.multimap_walks.specs.declared.links.ValueLink.{ValueLink}
 use Rattle.multimap_walks.specs.Chained.{IsChained, is_value_of, chain_of, pair_at, pairs_of}
 use Rattle.ordered_multimap.specs.Agrees.{Agrees, items_of, lists_of}
 use Rattle.ordered_multimap.specs.Lists.{lists}
 use Rattle.ordered_multimap.specs.Private.Relocations.{AreChained, AreRelocated, Relocates, relocated_value, relocated_key}
-use Rattle.ordered_multimap.proofs.Callers.Members.{IsIn-kept}
 use Rattle.ordered_multimap.proofs.Callers.Places.{held, filter_map-agree}
 use Rattle.ordered_multimap.proofs.Agreement.Agreed.{pair_of, pair_at-is, is_value_of-is}
 

@@ -1,15 +1,16 @@
 -- After an append key list, table and values agree, and the two lists are the appended ones.
-use Rattle.std.proofs.Common.{◌≡◌, ◌≢◌, ℕ, ◌+◌, ◌<◌, Bool, true, false, cond, List, [], ◌∷◌, ◌++◌, length, Option, Some, None, refl, sym}
-use Rattle.std.proofs.Common.{ap, ◌∙◌, subst, inl, inr, is_some, arith, length-append, Result, Ok, Err, OnOk, OnErr}
-use Rattle.std.proofs.lemmas.Bool.{cases_eq, eq-eqb, ne_eqb}
+use Rattle.std.proofs.Common.{◌≡◌, ℕ, ◌+◌, ◌<◌, Bool, true, false, cond, List, [], ◌∷◌, ◌++◌, length, Some, None, refl, sym}
+use Rattle.std.proofs.Common.{ap, ◌∙◌, subst, inl, inr, arith, length-append, Result, Ok, Err, OnOk, OnErr}
+use Rattle.std.proofs.lemmas.Bool.{cases_eq, ne_eqb}
 use Rattle.std.proofs.lemmas.List.Elements.{filter_map-append}
 use Rattle.std.proofs.lemmas.Map.Keys.{IsDistinct-push}
-use Rattle.std.specs.Cmp.{IsEquivalence, nat_cmp_total, unsigned_tied}
+use Rattle.std.specs.Cmp.{IsEquivalence}
 use Rattle.std.specs.List.{filter_map, cons_option, IsDistinct}
 use Rattle.std.specs.Ordering.{nat_cmp}
-use Rattle.std.specs.FinMap.{FinMap, get, insert, len, get-insert, len-insert}
+use Rattle.std.specs.FinMap.{FinMap, get, insert}
 use Rattle.multimap_slots.specs.Lists.{IsIn, first_of, last_of}
 use Rattle.multimap_slots.specs.Slots.{Slots, IsSound, HasRoomFor, PushesBack, item_at, link_at, with_link}
+use Rattle.multimap_slots.proofs.Callers.PlaceLists.{IsIn-kept}
 use Rattle.multimap_walks.specs.declared.links.KeyLink.{KeyLink}
 use Rattle.multimap_walks.specs.declared.links.ValueLink.{ValueLink}
 use Rattle.multimap_walks.specs.Chained.{IsChained, is_value_of, chain_of, pairs_of}
@@ -19,17 +20,19 @@ use Rattle.ordered_multimap.specs.Changes.{appended}
 use Rattle.ordered_multimap.specs.Agrees.{Agrees, HasKey, items_of, lists_of}
 use Rattle.ordered_multimap.specs.Private.Append.{PushesValue, PushesBehind, HasListedRows, PushesRow, AppendsBehind, AppendsFirst}
 use Rattle.ordered_multimap.specs.Private.Append.{link_of_one}
-use Rattle.ordered_multimap.proofs.Callers.Members.{IsIn-kept, filter-none}
+use Rattle.ordered_multimap.proofs.Callers.Members.{filter-none}
 use Rattle.ordered_multimap.proofs.Callers.Places.{held, IsIn-filter_map, filter_map-agree, filter_shorter, last_of-member}
 use Rattle.ordered_multimap.proofs.Callers.ListedKeys.{is_listed-member, stored_key_only, stored_key_absent}
 use Rattle.ordered_multimap.proofs.Agreement.Agreed.{is_value_of-is}
 use Rattle.ordered_multimap.proofs.Chains.LongerLists.{first_of-push}
-use Rattle.ordered_multimap.proofs.Append.Steps.{old_other, old_listed, new_listed, listed_cases, IsSound-push, IsSound-with_link}
+use Rattle.ordered_multimap.proofs.Append.Steps.{old_other, listed_cases, IsSound-push, IsSound-with_link}
 use Rattle.ordered_multimap.proofs.Append.Steps.{sets_link}
 use Rattle.ordered_multimap.proofs.Append.Steps.{sets_pushed, SetsKey}
+use Rattle.ordered_multimap.specs.Private.KeyRelocations.{HasRows}
 use Rattle.ordered_multimap.specs.Private.Relocations.{AreRelocated}
 use Rattle.ordered_multimap.specs.TapeNumbers.{TapeNumbers, TakesOut, ArePaid}
 use Rattle.ordered_multimap.proofs.Append.Chained.{chained-append, pairs_of-append}
+use Rattle.ordered_multimap.proofs.Agreement.Rows.{rows-step}
 use Rattle.ordered_multimap.proofs.Agreement.Relocated.{agrees-relocated, lists_of-relocated}
 
 -- what an append ends with
@@ -95,12 +98,6 @@ module _ {K V : Type 0} {eq : K → K → Bool} (laws : IsEquivalence eq) {hash 
       } in
       subst (λ s. AppendsOne eq hash keys values key v s rows values_after) (sym sets_is) all
 
-  -- the table has no row of a place that was not listed
-  pub row_absent : {after : Slots K KeyLink} {link : KeyLink} → PushesBack keys after place key link → get rows place ≡ None
-  row_absent pushed =
-      let P : Option ℕ → Type 0 = λ o. get rows place ≡ o → o ≡ None in
-      elim (get rows place) as P [ None ↦ λ _. refl | Some h ↦ λ is. absurd (pushed.was_absent (agrees.listed place h is)) ] refl
-
   -- a first value of a key that was absent
   pub append_absent : (h : ℕ) (after : Slots K KeyLink) (rows_after : FinMap nat_cmp ℕ)
       → is_listed eq (items_of keys) key ≡ false → h ≡ hash key → HasRoomFor keys 1
@@ -125,9 +122,8 @@ module _ {K V : Type 0} {eq : K → K → Bool} (laws : IsEquivalence eq) {hash 
       ∙ ap (λ js. js ++ filter_map (item_at after) (place ∷ []))
       (filter_map-agree (item_at after) (item_at keys) keys.order (λ q i. pushed.others.items q (old_other pushed q i)))
       ∙ ap (λ o. ks ++ cons_option o []) pushed.item_is in
-      let inserted = λ (p : ℕ). get-insert nat_cmp_total rows place h p ∙ ap (λ b. cond b (Some h) (get rows p)) (unsigned_tied p place) in
-      let at_place = λ (p : ℕ) (same : p ≡ place). inserted p ∙ ap (λ b. cond b (Some h) (get rows p)) (eq-eqb p place same) in
-      let elsewhere = λ (p : ℕ) (differs : p ≢ place). inserted p ∙ ap (λ b. cond b (Some h) (get rows p)) (ne_eqb p place differs) in
+      let was : HasRows keys rows = record { in_table = agrees.in_table; listed = agrees.listed; counted = agrees.counted } in
+      let has : HasRows after (insert rows place h) = rows-step pushed refl was in
       let own : stored_key eq ks key ≡ key = stored_key_absent laws key ks unlisted in
       let all : AppendsOne eq hash keys values key v after (insert rows place h) values_after = record {
         agrees = record {
@@ -146,23 +142,9 @@ module _ {K V : Type 0} {eq : K → K → Bool} (laws : IsEquivalence eq) {hash 
                 let is_key : key ≡ k = cc in
                 ap (λ (x : KeyLink). x.hash) (sym is_link) ∙ hash_is ∙ ap hash is_key
           ];
-          in_table = λ p m listed is. elim (listed_cases pushed p listed) [
-            | inl before ↦ elsewhere p (old_other pushed p before)
-                ∙ agrees.in_table p m before (sym (sets.links p (old_other pushed p before)) ∙ is)
-            | inr here ↦
-                let both : Some link ≡ Some m = sym sets.link_is ∙ ap (link_at after) (sym here) ∙ is in
-                let is_link : link ≡ m = cc in
-                at_place p here ∙ ap (λ (x : KeyLink). Some x.hash) is_link
-          ];
-          listed = λ p x is. elim (cases_eq p place) [
-            | inl same ↦ subst (λ q. IsIn q after.order) (sym same) (new_listed pushed)
-            | inr differs ↦ old_listed pushed p (agrees.listed p x (sym (elsewhere p differs) ∙ is))
-          ];
-          counted =
-              len-insert nat_cmp_total rows place h
-              ∙ ap (λ b. cond b (len rows) (len rows + 1)) (no_row (get rows place) (row_absent pushed))
-              ∙ ap (λ m. m + 1) agrees.counted
-              ∙ sym (ap length pushed.order ∙ length-append keys.order (place ∷ []));
+          in_table = has.in_table;
+          listed = has.listed;
+          counted = has.counted;
         };
         lists =
             (λ i. lists (items i) (pairs_of-append agrees.keys_sound agrees.values_sound agrees.chained sets first i))
@@ -170,9 +152,6 @@ module _ {K V : Type 0} {eq : K → K → Bool} (laws : IsEquivalence eq) {hash 
             ∙ ap (λ s. lists (ks ++ key ∷ []) (ps ++ (s, v) ∷ [])) own);
       } in
       subst (λ r. AppendsOne eq hash keys values key v after r values_after) (sym row.rows_are) all
-    where
-      no_row : (o : Option ℕ) → o ≡ None → is_some o ≡ false
-      no_row o e = ap is_some e
 
 -- a chain is a part of the list
 module _ {K V : Type 0} {keys : Slots K KeyLink} {values : Slots V ValueLink} (chained : IsChained keys values) (place : ℕ) (l : KeyLink)

@@ -7,13 +7,12 @@ use Rattle.std.proofs.lemmas.List.Elements.{filter-append, filter_map-append}
 use Rattle.std.specs.List.{filter_map, cons_option}
 use Rattle.multimap_slots.specs.Lists.{IsIn, first_of, last_of, next_of, previous_of}
 use Rattle.multimap_slots.specs.Slots.{Slots, IsSound, item_at, link_at}
-use Rattle.multimap_slots.proofs.Callers.PlaceLists.{IsIn-append}
+use Rattle.multimap_slots.proofs.Callers.PlaceLists.{IsIn-append, IsIn-kept}
 use Rattle.multimap_walks.specs.declared.links.KeyLink.{KeyLink}
 use Rattle.multimap_walks.specs.declared.links.ValueLink.{ValueLink}
 use Rattle.multimap_walks.specs.Chained.{IsChained, is_value_of, chain_of, pair_at, pairs_of}
 use Rattle.ordered_multimap.specs.Private.Append.{PushesValue}
 use Rattle.ordered_multimap.proofs.Append.Steps.{SetsKey}
-use Rattle.ordered_multimap.proofs.Callers.Members.{IsIn-kept}
 use Rattle.ordered_multimap.proofs.Callers.Places.{held, AreDistinct-filter, filter-agree, filter_map-agree, last_of-member}
 use Rattle.ordered_multimap.proofs.Agreement.Agreed.{pair_of, pair_at-is, is_value_of-is}
 use Rattle.ordered_multimap.proofs.Chains.LongerLists.{cases_some, last_or-push, previous_of-pushed, next_of-pushed, previous_of-push}

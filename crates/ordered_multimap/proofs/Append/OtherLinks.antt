@@ -4,13 +4,12 @@ use Rattle.std.proofs.lemmas.Bool.{eq-eqb}
 use Rattle.std.proofs.lemmas.List.Elements.{filter-append}
 use Rattle.multimap_slots.specs.Lists.{IsIn, AreDistinct, first_of, last_of, next_of, previous_of}
 use Rattle.multimap_slots.specs.Slots.{Slots, link_at}
-use Rattle.multimap_slots.proofs.Callers.PlaceLists.{AreDistinct-gone, IsIn-left, IsIn-right, next_of-split, previous_of-split}
+use Rattle.multimap_slots.proofs.Callers.PlaceLists.{AreDistinct-gone, IsIn-kept, IsIn-left, IsIn-right, next_of-split, previous_of-split}
 use Rattle.multimap_walks.specs.declared.links.KeyLink.{KeyLink}
 use Rattle.multimap_walks.specs.declared.links.ValueLink.{ValueLink}
 use Rattle.multimap_walks.specs.Chained.{is_value_of, chain_of}
 use Rattle.ordered_multimap.specs.Private.Relocations.{AreChained}
 use Rattle.ordered_multimap.proofs.Agreement.Agreed.{is_value_of-is}
-use Rattle.ordered_multimap.proofs.Callers.Members.{IsIn-kept}
 use Rattle.ordered_multimap.proofs.Callers.Places.{last_of-member}
 use Rattle.ordered_multimap.proofs.Chains.LongerLists.{no_last}
 use Rattle.ordered_multimap.proofs.Chains.Neighbours.{first_of-member}

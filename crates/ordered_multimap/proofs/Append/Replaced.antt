@@ -6,7 +6,7 @@ use Rattle.std.proofs.lemmas.List.{set-set}
 use Rattle.multimap_slots.specs.Lists.{IsIn, last_of}
 use Rattle.multimap_slots.specs.Slots.{Slots, IsSound, Removes, link_at, with_link}
 use Rattle.multimap_slots.specs.Tapes.{Taped, Frees, with_list}
-use Rattle.multimap_slots.proofs.Callers.PlaceLists.{IsIn-left, IsIn-right}
+use Rattle.multimap_slots.proofs.Callers.PlaceLists.{IsIn-kept, IsIn-left, IsIn-right}
 use Rattle.multimap_slots.proofs.Callers.SlotChanges.{link_at-with_link, KeepsOthers-with_link}
 use Rattle.multimap_walks.specs.declared.links.ChainEnds.{ChainEnds}
 use Rattle.multimap_walks.specs.declared.links.KeyLink.{KeyLink}
@@ -14,7 +14,6 @@ use Rattle.multimap_walks.specs.declared.links.ValueLink.{ValueLink}
 use Rattle.multimap_walks.specs.Chained.{IsChained, is_value_of, chain_of}
 use Rattle.ordered_multimap.specs.Private.Append.{ComesLast, PushesBehind, PushesValue}
 use Rattle.ordered_multimap.specs.Private.Remove.{AreUnlinked, HasChain, ReplacesChain, TakesOlder, UnlinksValue}
-use Rattle.ordered_multimap.proofs.Callers.Members.{IsIn-kept}
 use Rattle.ordered_multimap.proofs.Callers.Places.{begins, held}
 use Rattle.ordered_multimap.proofs.Chains.Neighbours.{first_of-member}
 use Rattle.ordered_multimap.proofs.Append.Inserted.{chained-behind}

@@ -12,8 +12,8 @@ use Rattle.ordered_multimap.specs.Pairs.{has_items}
 use Rattle.ordered_multimap.specs.Changes.{kept, first_written, end_written}
 use Rattle.ordered_multimap.specs.Popped.{popped}
 use Rattle.ordered_multimap.specs.Keys.{is_listed, keys_with, keys_named_by, KeepsKeyOrder}
-use Rattle.multimap_slots.proofs.Callers.PlaceLists.{IsIn-left}
-use Rattle.ordered_multimap.proofs.Callers.Members.{IsIn-filter, IsIn-kept, filter-all, filter-none}
+use Rattle.multimap_slots.proofs.Callers.PlaceLists.{IsIn-kept, IsIn-left}
+use Rattle.ordered_multimap.proofs.Callers.Members.{IsIn-filter, filter-all, filter-none}
 use Rattle.ordered_multimap.proofs.Callers.ListedKeys.{is_listed-self, stored_key_member}
 use Rattle.ordered_multimap.proofs.Callers.Places.{filter-agree}
 

@@ -14,8 +14,8 @@ use Rattle.ordered_multimap.specs.Pairs.{has_items, is_present}
 use Rattle.ordered_multimap.specs.Keys.{is_listed, stored_key, keys_with, keys_named_by}
 use Rattle.ordered_multimap.specs.Changes.{appended, all_appended, first_occurrences, under_listed}
 use Rattle.ordered_multimap.specs.Laws.{PopUndoesAppend, IsRebuilt, IsRebuiltOfBoth}
-use Rattle.multimap_slots.proofs.Callers.PlaceLists.{IsIn-left, IsIn-right}
-use Rattle.ordered_multimap.proofs.Callers.Members.{IsIn-kept, filter-all, keys_of-append}
+use Rattle.multimap_slots.proofs.Callers.PlaceLists.{IsIn-kept, IsIn-left, IsIn-right}
+use Rattle.ordered_multimap.proofs.Callers.Members.{filter-all, keys_of-append}
 use Rattle.ordered_multimap.proofs.Callers.ListedKeys.{is_listed-self, stored_key_member, stored_key_absent, stored_key_only}
 use Rattle.ordered_multimap.proofs.Callers.WellFormed.{same_keys, is_present-keys}
 

@@ -13,8 +13,8 @@ use Rattle.ordered_multimap.specs.Popped.{popped}
 use Rattle.multimap_walks.specs.declared.End.{End}
 use Rattle.multimap_walks.specs.declared.End.TheVariants.{Front, Back}
 use Rattle.multimap_walks.specs.Walk.{end_rest}
-use Rattle.multimap_slots.proofs.Callers.PlaceLists.{IsIn-left, IsIn-right, IsIn-append}
-use Rattle.ordered_multimap.proofs.Callers.Members.{IsIn-filter, IsIn-kept, keys_of-append, keys_of-filter}
+use Rattle.multimap_slots.proofs.Callers.PlaceLists.{IsIn-append, IsIn-kept, IsIn-left, IsIn-right}
+use Rattle.ordered_multimap.proofs.Callers.Members.{IsIn-filter, keys_of-append, keys_of-filter}
 use Rattle.ordered_multimap.proofs.Agreement.Kept.{keys_of-without}
 use Rattle.ordered_multimap.proofs.Callers.ListedKeys.{any_found, any_member, is_listed-self}
 use Rattle.ordered_multimap.proofs.Callers.ListedKeys.{is_present-is_listed, stored_key_member}

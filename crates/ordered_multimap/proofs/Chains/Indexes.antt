@@ -8,14 +8,14 @@ use Rattle.std.proofs.lemmas.Option.{slice_get_within, slice_get-get_or}
 use Rattle.std.specs.List.{filter_map, cons_option, remove}
 use Rattle.multimap_slots.specs.Lists.{IsIn, AreDistinct, first_of, next_of, previous_of, without}
 use Rattle.multimap_slots.specs.Slots.{Slots, IsSound, link_at}
-use Rattle.multimap_slots.proofs.Callers.PlaceLists.{AreDistinct-gone, IsIn-left, IsIn-split, without-split}
+use Rattle.multimap_slots.proofs.Callers.PlaceLists.{AreDistinct-gone, IsIn-kept, IsIn-left, IsIn-split, without-split}
 use Rattle.multimap_walks.specs.declared.links.KeyLink.{KeyLink}
 use Rattle.multimap_walks.specs.declared.links.ValueLink.{ValueLink}
 use Rattle.multimap_walks.specs.Chained.{IsChained, position_in, is_value_of, chain_of}
+use Rattle.ordered_multimap.specs.Private.Relocations.{AreChained}
 use Rattle.ordered_multimap.specs.Private.RemoveOne.{HasKeyLink}
 use Rattle.ordered_multimap.specs.RemovedAt.{several}
 use Rattle.ordered_multimap.proofs.Agreement.Agreed.{value_owner}
-use Rattle.ordered_multimap.proofs.Callers.Members.{IsIn-kept}
 use Rattle.ordered_multimap.proofs.Chains.Neighbours.{previous_is}
 use Rattle.ordered_multimap.proofs.Callers.Places.{begins, ends, held, length-filter_map, position_in-split}
 use Rattle.ordered_multimap.proofs.Remove.ValueByValue.{distinct, onward}
@@ -126,13 +126,13 @@ module _ {V : Type 0} (values : Slots V ValueLink) (key i p : ℕ) (at : slice_g
   indexed_owner keys m is = value_owner keys values key p m is of_key.1
 
   -- the link of its key
-  pub indexed_key_link : {K : Type 0} (keys : Slots K KeyLink) (l : KeyLink) → link_at keys key ≡ Some l → IsSound values
-      → IsChained keys values → HasKeyLink keys values p l
-  indexed_key_link keys l key_is sound chained = record {
+  pub indexed_key_link : {K : Type 0} (keys : Slots K KeyLink) (l : KeyLink) → link_at keys key ≡ Some l → AreChained keys values
+      → HasKeyLink keys values p l
+  indexed_key_link keys l key_is chains = record {
     listed = indexed_listed;
     key_link_is = λ m is. ap (link_at keys) (indexed_owner keys m is) ∙ key_is;
-    sound = sound;
-    chained = chained;
+    sound = chains.sound;
+    chained = chains.chained;
   }
 
 module _ {K V : Type 0} {keys : Slots K KeyLink} {values : Slots V ValueLink} (sound : IsSound values) (chained : IsChained keys values)

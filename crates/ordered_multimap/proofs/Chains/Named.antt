@@ -2,11 +2,11 @@
 use Rattle.std.proofs.Common.{◌≡◌, ℕ, Bool, List, Option, Some, sym, ap, ◌∙◌}
 use Rattle.multimap_slots.specs.Lists.{IsIn, AreDistinct, next_of, previous_of}
 use Rattle.multimap_slots.specs.Slots.{Slots, IsSound, link_at}
+use Rattle.multimap_slots.proofs.Callers.PlaceLists.{IsIn-kept}
 use Rattle.multimap_walks.specs.declared.links.KeyLink.{KeyLink}
 use Rattle.multimap_walks.specs.declared.links.ValueLink.{ValueLink}
 use Rattle.multimap_walks.specs.Chained.{IsChained, is_value_of, chain_of}
 use Rattle.ordered_multimap.proofs.Agreement.Agreed.{value_owner}
-use Rattle.ordered_multimap.proofs.Callers.Members.{IsIn-kept}
 use Rattle.ordered_multimap.proofs.Callers.Places.{AreDistinct-filter}
 use Rattle.ordered_multimap.proofs.Chains.Neighbours.{next_is, next_of-members, previous_is, previous_of-members}
 

@@ -1,10 +1,12 @@
 -- Neighbours in a list of distinct places: each names the other, and no two stand behind each other.
 use Rattle.std.proofs.Common.{◌≡◌, ◌≢◌, ℕ, List, [], ◌∷◌, ◌++◌, reverse, Some, None, refl, sym, ap, ◌∙◌, subst, inl, inr, append_assoc}
 use Rattle.std.proofs.lemmas.Bool.{cases_eq, eq-eqb, ne_eqb}
+use Rattle.std.proofs.lemmas.List.{reverse-reverse}
 use Rattle.multimap_slots.specs.Lists.{IsIn, AreDistinct, first_of, next_of, previous_of}
 use Rattle.multimap_slots.proofs.Callers.PlaceLists.{IsIn-reverse, IsIn-split, IsIn-left, IsIn-right, AreDistinct-gone, next_of-split}
 use Rattle.multimap_slots.proofs.Callers.PlaceLists.{previous_of-split}
-use Rattle.ordered_multimap.proofs.Callers.Places.{begins, ends}
+use Rattle.multimap_walks.proofs.Callers.Paths.{AreDistinct-reverse}
+use Rattle.ordered_multimap.proofs.Callers.Places.{begins}
 use Rattle.ordered_multimap.proofs.Chains.LongerLists.{last_or-push}
 
 pub first_of-member : (ps : List ℕ) (p : ℕ) → first_of ps ≡ Some p → IsIn p ps
@@ -38,21 +40,6 @@ module _ (ps : List ℕ) (distinct : AreDistinct ps) where
       (λ j. AreDistinct-gone s.front q s.back apart (IsIn-left q s.front s.back j))) ∙ ap (λ xs. next_of xs q) (sym s.is) ∙ e) in
       record { front = s.front; back = b.rest; is = s.is ∙ ap (λ xs. s.front ++ q ∷ xs) b.is }
 
-  from_previous : (q p : ℕ) → previous_of ps p ≡ Some q → AreNeighbours q p
-  from_previous q p e =
-      let s = IsIn-split p ps (previous_of-members ps p q e).0 in
-      let apart = subst AreDistinct s.is distinct in
-      let f = ends s.front q (sym (previous_of-split s.front p s.back
-      (λ j. AreDistinct-gone s.front p s.back apart (IsIn-right p s.front s.back j))) ∙ ap (λ xs. previous_of xs p) (sym s.is) ∙ e) in
-      record { front = f.front; back = s.back; is = s.is ∙ ap (λ xs. xs ++ p ∷ s.back) f.is ∙ append_assoc f.front (q ∷ []) (p ∷ s.back) }
-
-  pub next_is : (q p : ℕ) → previous_of ps p ≡ Some q → next_of ps q ≡ Some p
-  next_is q p e =
-      let n = from_previous q p e in
-      ap (λ xs. next_of xs q) n.is
-      ∙ next_of-split n.front q (p ∷ n.back) (λ j. AreDistinct-gone n.front q (p ∷ n.back) (subst AreDistinct n.is distinct)
-      (IsIn-left q n.front (p ∷ n.back) j))
-
   pub previous_is : (q p : ℕ) → next_of ps q ≡ Some p → previous_of ps p ≡ Some q
   previous_is q p e =
       let n = from_next q p e in
@@ -72,3 +59,8 @@ module _ (ps : List ℕ) (distinct : AreDistinct ps) where
       ∙ ap (λ xs. next_of xs p) (sym is) ∙ back in
       AreDistinct-gone n.front q (p ∷ n.back) (subst AreDistinct n.is distinct)
       (IsIn-right q n.front (p ∷ n.back) (inr (first_of-member n.back q behind)))
+
+-- the other way round, in the reversed list
+pub next_is : (ps : List ℕ) → AreDistinct ps → (q p : ℕ) → previous_of ps p ≡ Some q → next_of ps q ≡ Some p
+next_is ps distinct q p e =
+    ap (λ xs. next_of xs q) (sym (reverse-reverse ps)) ∙ previous_is (reverse ps) (AreDistinct-reverse ps distinct) p q e

@@ -6,14 +6,14 @@ use Rattle.std.proofs.lemmas.List.{append-nil, reverse-append}
 use Rattle.std.specs.List.{last_or}
 use Rattle.multimap_slots.specs.Lists.{IsIn, AreDistinct, first_of, last_of, next_of, previous_of}
 use Rattle.multimap_slots.specs.Slots.{Slots, IsSound, link_at}
-use Rattle.multimap_slots.proofs.Callers.PlaceLists.{Split, IsIn-split, IsIn-left, IsIn-right, AreDistinct-gone, next_of-split}
+use Rattle.multimap_slots.proofs.Callers.PlaceLists.{AreDistinct-gone, IsIn-kept, IsIn-left, IsIn-right, IsIn-split, Split, next_of-split}
 use Rattle.multimap_slots.proofs.Callers.PlaceLists.{previous_of-split}
 use Rattle.multimap_slots.proofs.Callers.PlaceLists.{reverse-split}
 use Rattle.multimap_walks.specs.declared.links.KeyLink.{KeyLink}
 use Rattle.multimap_walks.specs.declared.links.ValueLink.{ValueLink}
 use Rattle.multimap_walks.specs.Chained.{IsChained, is_value_of, chain_of}
 use Rattle.ordered_multimap.specs.Private.RemoveOne.{end_left}
-use Rattle.ordered_multimap.proofs.Callers.Members.{IsIn-kept, IsIn-filter}
+use Rattle.ordered_multimap.proofs.Callers.Members.{IsIn-filter}
 use Rattle.ordered_multimap.proofs.Callers.Places.{begins, ends, AreDistinct-filter, last_of-member}
 use Rattle.ordered_multimap.proofs.Chains.LongerLists.{cases_some, last_or-push}
 use Rattle.ordered_multimap.proofs.Chains.Neighbours.{first_of-member}

@@ -9,6 +9,7 @@ use Rattle.std.specs.Ordering.{nat_cmp}
 use Rattle.std.specs.FinMap.{FinMap}
 use Rattle.multimap_slots.specs.Lists.{IsIn, first_of, last_of, next_of, previous_of}
 use Rattle.multimap_slots.specs.Slots.{Slots, item_at, link_at}
+use Rattle.multimap_slots.proofs.Callers.PlaceLists.{IsIn-kept}
 use Rattle.multimap_walks.specs.declared.links.KeyLink.{KeyLink}
 use Rattle.multimap_walks.specs.declared.links.ValueLink.{ValueLink}
 use Rattle.multimap_walks.specs.Chained.{IsChained, chain_of, is_value_of, pair_at, pairs_of}
@@ -21,7 +22,6 @@ use Rattle.ordered_multimap.proofs.Agreement.Agreed.{is_value_of-is, pair_at-is}
 use Rattle.ordered_multimap.proofs.Agreement.NewPlaces.{CameFrom, came_from}
 use Rattle.ordered_multimap.proofs.Agreement.Relocated.{IsIn-name, IsTold, filter-map, first_of-map, last_or-map, next_of-map}
 use Rattle.ordered_multimap.proofs.Agreement.Relocated.{previous_of-map}
-use Rattle.ordered_multimap.proofs.Callers.Members.{IsIn-kept}
 use Rattle.ordered_multimap.proofs.Callers.Places.{IsIn-filter_map}
 
 -- what both options hold is related

@@ -6,7 +6,7 @@ use Rattle.std.proofs.lemmas.Bool.{cases_eq, eq-eqb, ne_eqb}
 use Rattle.std.proofs.lemmas.List.{get_or_append_left, get_or_push}
 use Rattle.multimap_slots.specs.Lists.{IsIn, Rises, first_of}
 use Rattle.multimap_slots.specs.Slots.{Slots, link_at}
-use Rattle.multimap_slots.proofs.Callers.PlaceLists.{IsIn-append, IsIn-right}
+use Rattle.multimap_slots.proofs.Callers.PlaceLists.{IsIn-append, IsIn-kept, IsIn-right}
 use Rattle.multimap_walks.specs.declared.links.KeyLink.{KeyLink}
 use Rattle.multimap_walks.specs.declared.links.ValueLink.{ValueLink}
 use Rattle.multimap_walks.specs.Chained.{chain_of, is_value_of, position_in}
@@ -14,7 +14,6 @@ use Rattle.ordered_multimap.specs.Private.Copies.{AreRanks, HasRankedEnds, HasRa
 use Rattle.ordered_multimap.specs.Private.KeyRelocations.{new_place_in}
 use Rattle.multimap_walks.specs.Packed.{HasSmallPlaces}
 use Rattle.ordered_multimap.specs.Private.Relocations.{AreChained, relocated_value}
-use Rattle.ordered_multimap.proofs.Callers.Members.{IsIn-kept}
 use Rattle.ordered_multimap.proofs.Callers.Places.{begins, last_of-member, position_in-split}
 use Rattle.ordered_multimap.proofs.Chains.Neighbours.{first_of-member, next_of-members, previous_of-members}
 

@@ -5,12 +5,11 @@ use Rattle.std.proofs.lemmas.Bool.{cases_eq, eq-eqb, ne_eqb}
 use Rattle.std.proofs.lemmas.List.{map-append}
 use Rattle.multimap_slots.specs.Lists.{IsIn, AreDistinct, next_of, previous_of, IsRelocated}
 use Rattle.multimap_slots.specs.Slots.{Slots, IsSound, item_at, link_at}
-use Rattle.multimap_slots.proofs.Callers.PlaceLists.{IsIn-left, IsIn-right, AreDistinct-gone}
+use Rattle.multimap_slots.proofs.Callers.PlaceLists.{AreDistinct-gone, IsIn-kept, IsIn-left, IsIn-right}
 use Rattle.multimap_walks.specs.declared.links.KeyLink.{KeyLink}
 use Rattle.multimap_walks.specs.declared.links.ValueLink.{ValueLink}
 use Rattle.multimap_walks.specs.Chained.{IsChained, is_value_of, chain_of}
 use Rattle.ordered_multimap.specs.Private.Relocations.{Relocates, relocated, relocated_value, relocated_key}
-use Rattle.ordered_multimap.proofs.Callers.Members.{IsIn-kept}
 use Rattle.ordered_multimap.proofs.Callers.Places.{begins, AreDistinct-filter, last_of-member}
 use Rattle.ordered_multimap.proofs.Agreement.Agreed.{is_value_of-is}
 use Rattle.ordered_multimap.proofs.Chains.LongerLists.{cases_some}

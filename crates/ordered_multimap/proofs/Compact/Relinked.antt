@@ -4,7 +4,7 @@ use Rattle.std.proofs.Common.{subst, arith}
 use Rattle.multimap_slots.specs.Lists.{IsIn, AreDistinct, next_of}
 use Rattle.multimap_slots.specs.Slots.{Slots, IsSound, item_at, link_at, with_link}
 use Rattle.multimap_slots.specs.Tapes.{Taped, MovesDown}
-use Rattle.multimap_slots.proofs.Callers.PlaceLists.{IsIn-was, IsIn-left, AreDistinct-gone, next_of-split}
+use Rattle.multimap_slots.proofs.Callers.PlaceLists.{AreDistinct-gone, IsIn-kept, IsIn-left, IsIn-was, next_of-split}
 use Rattle.multimap_slots.proofs.Callers.TapePlaces.{previous_of-first}
 use Rattle.multimap_slots.proofs.Callers.PlaceLists.{IsIn-besides}
 use Rattle.multimap_slots.proofs.Callers.SlotChanges.{link_at-with_link, KeepsOthers-with_link}
@@ -12,7 +12,6 @@ use Rattle.multimap_walks.specs.declared.links.KeyLink.{KeyLink}
 use Rattle.multimap_walks.specs.declared.links.ValueLink.{ValueLink}
 use Rattle.multimap_walks.specs.Chained.{IsChained, is_value_of, chain_of}
 use Rattle.ordered_multimap.specs.Private.Relocations.{WritesLink, relocated, relocated_key}
-use Rattle.ordered_multimap.proofs.Callers.Members.{IsIn-kept}
 use Rattle.ordered_multimap.proofs.Callers.Places.{held, ends, AreDistinct-filter}
 use Rattle.ordered_multimap.proofs.Compact.OneMove.{relocated-other, MovesValue}
 use Rattle.ordered_multimap.proofs.Append.Steps.{if_each}

@@ -5,7 +5,7 @@ use Rattle.std.specs.Prelude.{IfSome}
 use Rattle.std.proofs.lemmas.List.{reverse-append}
 use Rattle.multimap_slots.specs.Lists.{IsIn, AreDistinct, first_of, last_of}
 use Rattle.multimap_slots.specs.Slots.{IsSound, Slots, item_at, link_at}
-use Rattle.multimap_slots.proofs.Callers.PlaceLists.{IsIn-left}
+use Rattle.multimap_slots.proofs.Callers.PlaceLists.{IsIn-kept, IsIn-left}
 use Rattle.multimap_walks.specs.declared.links.ChainEnds.{ChainEnds}
 use Rattle.multimap_walks.specs.declared.links.KeyLink.{KeyLink}
 use Rattle.multimap_walks.specs.declared.links.ValueLink.{ValueLink}
@@ -16,7 +16,6 @@ use Rattle.multimap_walks.proofs.Callers.Paths.{Leads-agree, Leads-left, is_one,
 use Rattle.multimap_walks.proofs.Callers.Chains.{along_whole, chain_whole}
 use Rattle.ordered_multimap.specs.Detaches.{IsDrained, drained, drained_places}
 use Rattle.ordered_multimap.specs.Private.Remove.{HoldsValues, IsTaking, KeepsContents, among}
-use Rattle.ordered_multimap.proofs.Callers.Members.{IsIn-kept}
 use Rattle.ordered_multimap.proofs.Callers.Places.{AreDistinct-filter, filter_map-agree}
 use Rattle.ordered_multimap.proofs.Remove.WholeKeys.{not_true}
 use Rattle.ordered_multimap.proofs.Remove.ValueByValue.{among_in, gone_whole}

@@ -4,6 +4,7 @@ use Rattle.std.proofs.lemmas.Bool.{cases_eq, eq-eqb}
 use Rattle.multimap_slots.specs.Lists.{IsIn, AreDistinct, first_of, last_of}
 use Rattle.multimap_slots.specs.Slots.{Slots, IsSound, item_at, link_at, with_link}
 use Rattle.multimap_slots.proofs.Callers.SlotChanges.{link_at-with_link, KeepsOthers-with_link}
+use Rattle.multimap_slots.proofs.Callers.PlaceLists.{IsIn-kept}
 use Rattle.multimap_walks.specs.declared.links.KeyLink.{KeyLink}
 use Rattle.multimap_walks.specs.declared.links.ValueLink.{ValueLink}
 use Rattle.multimap_walks.specs.Chained.{IsChained, is_value_of, chain_of, pairs_of}
@@ -12,7 +13,7 @@ use Rattle.ordered_multimap.specs.Private.PairSorts.{IsBegunAt, PushesNext}
 use Rattle.ordered_multimap.proofs.Agreement.Agreed.{is_value_of-is, value_owner}
 use Rattle.ordered_multimap.proofs.Append.Chained.{chained-append, pairs_of-append}
 use Rattle.ordered_multimap.proofs.Append.Steps.{SetsKey}
-use Rattle.ordered_multimap.proofs.Callers.Members.{IsIn-filter, IsIn-kept}
+use Rattle.ordered_multimap.proofs.Callers.Members.{IsIn-filter}
 use Rattle.ordered_multimap.proofs.Callers.Places.{held, filter_shorter, last_of-member}
 use Rattle.ordered_multimap.proofs.Chains.LongerLists.{first_of-push, no_last}
 

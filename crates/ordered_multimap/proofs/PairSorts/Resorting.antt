@@ -10,7 +10,7 @@ use Rattle.std.specs.Prelude.{IsPermutation}
 use Rattle.multimap_slots.specs.Lists.{IsIn, AreDistinct}
 use Rattle.multimap_slots.specs.Slots.{Slots, IsEmpty, IsSound, Removes, item_at, link_at, with_link}
 use Rattle.multimap_slots.proofs.Callers.Permuted.{permuted_in, permuted_was_in, permuted_distinct}
-use Rattle.multimap_slots.proofs.Callers.PlaceLists.{AreDistinct-gone, IsIn-append, IsIn-right}
+use Rattle.multimap_slots.proofs.Callers.PlaceLists.{AreDistinct-gone, IsIn-append, IsIn-kept, IsIn-right}
 use Rattle.multimap_slots.proofs.Callers.SlotChanges.{KeepsOthers-with_link, link_at-with_link}
 use Rattle.multimap_walks.specs.declared.links.KeyLink.{KeyLink}
 use Rattle.multimap_walks.specs.declared.links.ValueLink.{ValueLink}
@@ -19,7 +19,7 @@ use Rattle.ordered_multimap.specs.Private.PairSorts.{AreResorted, IsBegunAt, Kee
 use Rattle.ordered_multimap.specs.Private.Relocations.{AreChained}
 use Rattle.ordered_multimap.proofs.Agreement.Agreed.{PairAt, empty_sound, pair_of, value_owner}
 use Rattle.ordered_multimap.proofs.Append.Steps.{IsSound-with_link}
-use Rattle.ordered_multimap.proofs.Callers.Members.{IsIn-filter, IsIn-kept}
+use Rattle.ordered_multimap.proofs.Callers.Members.{IsIn-filter}
 use Rattle.ordered_multimap.proofs.Callers.Places.{held}
 use Rattle.ordered_multimap.proofs.Chains.Neighbours.{first_of-member}
 use Rattle.ordered_multimap.proofs.KeySorts.Reordered.{no_places}

@@ -9,7 +9,7 @@ use Rattle.std.specs.Ordering.{nat_cmp}
 use Rattle.std.specs.FinMap.{FinMap}
 use Rattle.multimap_slots.specs.Lists.{IsIn, AreDistinct, first_of, last_of, next_of, previous_of}
 use Rattle.multimap_slots.specs.Slots.{Slots, IsSound, item_at, link_at}
-use Rattle.multimap_slots.proofs.Callers.PlaceLists.{AreDistinct-gone, IsIn-left, IsIn-right, IsIn-append, next_of-split}
+use Rattle.multimap_slots.proofs.Callers.PlaceLists.{AreDistinct-gone, IsIn-append, IsIn-kept, IsIn-left, IsIn-right, next_of-split}
 use Rattle.multimap_walks.specs.declared.links.KeyLink.{KeyLink}
 use Rattle.multimap_walks.specs.declared.links.ValueLink.{ValueLink}
 use Rattle.multimap_walks.specs.Chained.{IsChained, is_value_of, chain_of, pair_at, pairs_of}
@@ -17,7 +17,7 @@ use Rattle.ordered_multimap.specs.Lists.{lists}
 use Rattle.ordered_multimap.specs.Pairs.{pairs_without}
 use Rattle.ordered_multimap.specs.Agrees.{Agrees, HasKey, items_of, lists_of}
 use Rattle.ordered_multimap.specs.Private.Remove.{TakesOlder, among}
-use Rattle.ordered_multimap.proofs.Callers.Members.{IsIn-kept, filter-none}
+use Rattle.ordered_multimap.proofs.Callers.Members.{filter-none}
 use Rattle.ordered_multimap.proofs.Agreement.Kept.{push_inj, filter-among, filter_map-filter}
 use Rattle.ordered_multimap.proofs.Callers.Places.{held, filter-agree, filter_map-agree}
 use Rattle.ordered_multimap.proofs.Agreement.Agreed.{PairAt, value_owner, pair_in, is_value_of-is}

@@ -6,13 +6,12 @@ use Rattle.std.specs.Ordering.{nat_cmp}
 use Rattle.std.specs.FinMap.{FinMap}
 use Rattle.multimap_slots.specs.Lists.{IsIn, AreDistinct, first_of, last_of, next_of, previous_of, without}
 use Rattle.multimap_slots.specs.Slots.{Slots, IsSound, HasItem, item_at, link_at}
-use Rattle.multimap_slots.proofs.Callers.PlaceLists.{Split, without-absent, without-split, IsIn-without}
+use Rattle.multimap_slots.proofs.Callers.PlaceLists.{IsIn-kept, IsIn-without, Split, without-absent, without-split}
 use Rattle.multimap_walks.specs.declared.links.KeyLink.{KeyLink}
 use Rattle.multimap_walks.specs.declared.links.ValueLink.{ValueLink}
 use Rattle.multimap_walks.specs.Chained.{IsChained, is_value_of, chain_of, pair_at}
 use Rattle.ordered_multimap.specs.Agrees.{Agrees, items_of}
 use Rattle.ordered_multimap.specs.Private.RemoveOne.{TakesOne, without_value}
-use Rattle.ordered_multimap.proofs.Callers.Members.{IsIn-kept}
 use Rattle.ordered_multimap.proofs.Callers.Places.{held, AreDistinct-filter, filter-agree, filter_shorter}
 use Rattle.ordered_multimap.proofs.Chains.LongerLists.{cases_some}
 use Rattle.ordered_multimap.proofs.Agreement.Agreed.{value_owner}

@@ -10,7 +10,7 @@ use Rattle.std.specs.FinMap.{FinMap}
 use Rattle.multimap_slots.specs.Lists.{IsIn, AreDistinct, first_of, next_of}
 use Rattle.multimap_slots.specs.Slots.{Slots, item_at, link_at}
 use Rattle.multimap_slots.specs.Tapes.{Taped}
-use Rattle.multimap_slots.proofs.Callers.PlaceLists.{AreDistinct-gone, IsIn-left, IsIn-right, next_of-split}
+use Rattle.multimap_slots.proofs.Callers.PlaceLists.{AreDistinct-gone, IsIn-kept, IsIn-left, IsIn-right, next_of-split}
 use Rattle.multimap_table.specs.Table.{Table}
 use Rattle.multimap_walks.specs.declared.links.KeyLink.{KeyLink}
 use Rattle.multimap_walks.specs.declared.links.ValueLink.{ValueLink}
@@ -22,7 +22,6 @@ use Rattle.ordered_multimap.specs.Private.Retain.{AsksAny, RetainsAt}
 use Rattle.ordered_multimap.specs.Retain.{AsksAccepted, AsksIf, MayAskEach, MayAskValue}
 use Rattle.ordered_multimap.proofs.Agreement.Agreed.{pair_in}
 use Rattle.ordered_multimap.proofs.Agreement.LookUps.{owns}
-use Rattle.ordered_multimap.proofs.Callers.Members.{IsIn-kept}
 use Rattle.ordered_multimap.proofs.Callers.Places.{places_from}
 use Rattle.ordered_multimap.proofs.Chains.Neighbours.{first_of-member}
 use Rattle.ordered_multimap.proofs.Remove.OnePair.{retains_room}

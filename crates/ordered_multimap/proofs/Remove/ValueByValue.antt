@@ -6,12 +6,12 @@ use Rattle.std.proofs.lemmas.Bool.{cases_eq, eq-eqb, ne_eqb}
 use Rattle.std.proofs.lemmas.List.{append-nil}
 use Rattle.multimap_slots.specs.Lists.{IsIn, AreDistinct, first_of, last_of, next_of, without}
 use Rattle.multimap_slots.specs.Slots.{Slots, IsSound, KeepsOthers, link_at}
-use Rattle.multimap_slots.proofs.Callers.PlaceLists.{IsIn-left, IsIn-right, AreDistinct-gone, next_of-split}
+use Rattle.multimap_slots.proofs.Callers.PlaceLists.{AreDistinct-gone, IsIn-kept, IsIn-left, IsIn-right, next_of-split}
 use Rattle.multimap_walks.specs.declared.links.KeyLink.{KeyLink}
 use Rattle.multimap_walks.specs.declared.links.ValueLink.{ValueLink}
 use Rattle.multimap_walks.specs.Chained.{IsChained, is_value_of, chain_of}
 use Rattle.ordered_multimap.specs.Private.Remove.{TakesValues, IsRow, IsTaking, among}
-use Rattle.ordered_multimap.proofs.Callers.Members.{IsIn-kept, IsIn-filter, filter-all}
+use Rattle.ordered_multimap.proofs.Callers.Members.{IsIn-filter, filter-all}
 use Rattle.ordered_multimap.proofs.Callers.Places.{begins, AreDistinct-filter, filter-agree}
 use Rattle.ordered_multimap.proofs.Agreement.Agreed.{is_value_of-is}
 use Rattle.ordered_multimap.proofs.Chains.LongerLists.{last_or-push}

@@ -10,6 +10,7 @@ use Rattle.std.specs.FinMap.{FinMap, get, remove, len, contains_key, get-remove,
 use Rattle.multimap_slots.specs.Lists.{IsIn, first_of, last_of, next_of, previous_of, without}
 use Rattle.multimap_slots.specs.Slots.{Slots, IsSound, Removes, item_at, link_at}
 use Rattle.multimap_slots.specs.Tapes.{Taped, HasTapeRoomFor}
+use Rattle.multimap_slots.proofs.Callers.PlaceLists.{IsIn-kept}
 use Rattle.multimap_walks.specs.declared.links.KeyLink.{KeyLink}
 use Rattle.multimap_walks.specs.declared.links.ValueLink.{ValueLink}
 use Rattle.multimap_walks.specs.Chained.{IsChained, is_value_of, chain_of, pair_at, pairs_of}
@@ -19,7 +20,7 @@ use Rattle.ordered_multimap.specs.Pairs.{pairs_without, values_of}
 use Rattle.ordered_multimap.specs.Changes.{removed, removed_where, kept}
 use Rattle.ordered_multimap.specs.Agrees.{Agrees, HasKey, items_of, lists_of}
 use Rattle.ordered_multimap.specs.Private.Remove.{TakesValues}
-use Rattle.ordered_multimap.proofs.Callers.Members.{IsIn-kept, IsIn-filter, filter-all}
+use Rattle.ordered_multimap.proofs.Callers.Members.{IsIn-filter, filter-all}
 use Rattle.ordered_multimap.proofs.Agreement.Kept.{filter-among, filter_map-filter, keys_of-without, is_listed-equal}
 use Rattle.ordered_multimap.proofs.Callers.Places.{begins, held, pair_named, IsIn-filter_map, AreDistinct-filter, filter-agree}
 use Rattle.ordered_multimap.proofs.Callers.Places.{filter_shorter}

@@ -10,7 +10,7 @@ use Rattle.std.proofs.lemmas.Bool.{cases_eq, cases_lt, eq-eqb}
 use Rattle.std.proofs.lemmas.List.{length-take}
 use Rattle.multimap_slots.specs.Lists.{IsIn, AreDistinct, without}
 use Rattle.multimap_slots.specs.Slots.{Removes, Slots, item_at, link_at, with_link}
-use Rattle.multimap_slots.proofs.Callers.PlaceLists.{AreDistinct-gone, IsIn-split, IsIn-without, without-absent, without-split}
+use Rattle.multimap_slots.proofs.Callers.PlaceLists.{AreDistinct-gone, IsIn-kept, IsIn-split, IsIn-without, without-absent, without-split}
 use Rattle.multimap_slots.proofs.Callers.SlotChanges.{KeepsOthers-with_link, link_at-with_link}
 use Rattle.multimap_walks.specs.declared.End.{End}
 use Rattle.multimap_walks.specs.declared.End.TheVariants.{Front, Back}
@@ -21,7 +21,7 @@ use Rattle.ordered_multimap.specs.IntoIters.{HandsOut, IsCounted, IsHanded, IsKe
 use Rattle.ordered_multimap.specs.Private.IntoIters.{IsCountedAt, GivesKey}
 use Rattle.ordered_multimap.specs.Private.RemoveOne.{end_of_list}
 use Rattle.ordered_multimap.specs.declared.list_ordered_multimap.refused.UnclonedKey.{UnclonedKey}
-use Rattle.ordered_multimap.proofs.Callers.Members.{IsIn-filter, IsIn-kept}
+use Rattle.ordered_multimap.proofs.Callers.Members.{IsIn-filter}
 use Rattle.ordered_multimap.proofs.Callers.Places.{AreDistinct-filter, IsIn-filter_map, filter-agree, held, pair_named}
 use Rattle.ordered_multimap.proofs.Chains.Parts.{filter-commute}
 use Rattle.ordered_multimap.proofs.Agreement.Agreed.{is_value_of-is, pair_at-is, value_owner}

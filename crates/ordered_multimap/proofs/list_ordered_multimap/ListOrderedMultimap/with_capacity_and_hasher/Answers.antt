@@ -4,12 +4,12 @@ use Rattle.ordered_multimap.proofs.list_ordered_multimap.ListOrderedMultimap.wit
 
 pub invariant_of-result : goal.invariant_of-result
 invariant_of-result g c =
-    empty_map _ _ _ _ _ c.in_ok-keys.ensures.empty c.in_ok-values.ensures.empty c.in_ok-table.ensures.empty c.in_ok-values.ensures.moved
-    c.in_ok-values.ensures.holes
+    let v = c.in_ok-values.ensures.unused in
+    empty_map _ _ _ _ _ c.in_ok-keys.ensures.empty v.empty c.in_ok-table.ensures.empty v.moved v.holes
 
 pub returns-clause-starts : goal.returns-clause-starts
 returns-clause-starts g c =
-    let v = c.in_ok-values.ensures in
+    let v = c.in_ok-values.ensures.unused in
     record {
       new = record {
         new = record {
@@ -17,7 +17,7 @@ returns-clause-starts g c =
           unused = record { moved = v.moved; freed = v.freed; holes = v.holes };
         };
         key_room = omega (arith, c.in_ok-keys.ensures.room, c.in_ok-table.ensures.room);
-        value_room = v.room;
+        value_room = c.in_ok-values.ensures.room;
       };
       succeeds = λ no_key no_value. refl;
     }

@@ -2,7 +2,7 @@ use Rattle.std.proofs.Common.{rules}
 use Rattle.std.proofs.Common.{length, refl, sym, ◌∙◌, ap, arith}
 use Rattle.std.proofs.lemmas.List.{length-set}
 use Rattle.ordered_multimap.proofs.Pack.Packing.{going-start, going-step, going-listed}
-use Rattle.ordered_multimap.proofs.Pack.Rows.{rows-start, rows-step}
+use Rattle.ordered_multimap.proofs.Agreement.Rows.{rows-start, rows-step}
 use Rattle.ordered_multimap.proofs.Callers.Places.{begins}
 use Rattle.ordered_multimap.proofs.list_ordered_multimap.pack.move_keys.Goals as goal
 

@@ -1,7 +1,7 @@
 use Rattle.std.proofs.Common.{length, refl, ◌∙◌, ap, arith}
 use Rattle.std.proofs.lemmas.List.{length-set}
 use Rattle.ordered_multimap.proofs.Clone.Copying.{FollowsNext, copying-end, copying-start, follows_next, keys-step}
-use Rattle.ordered_multimap.proofs.Pack.Rows.{rows-start, rows-step}
+use Rattle.ordered_multimap.proofs.Agreement.Rows.{rows-start, rows-step}
 use Rattle.ordered_multimap.proofs.list_ordered_multimap.clone.steps.clone_keys.Given.{Over}
 use Rattle.ordered_multimap.proofs.list_ordered_multimap.clone.steps.clone_keys.Goals.{In-Some}
 use Rattle.ordered_multimap.proofs.list_ordered_multimap.clone.steps.clone_keys.Goals as goal

@@ -5,9 +5,8 @@ use Rattle.ordered_multimap.proofs.list_ordered_multimap.remove.at.take_at.Goals
 
 pub take_one-requires-clause-links : goal.take_one-requires-clause-links
 take_one-requires-clause-links g c =
-    let s = c.requires.chain.chains in
     indexed_key_link c.args.values.now.list c.args.place c.args.index c.place_at-found.result c.place_at-found.ensures c.args.keys.now
-    c.listed_link-link.result c.listed_link-link.ensures.link_is s.sound s.chained
+    c.listed_link-link.result c.listed_link-link.ensures.link_is c.requires.chain.chains
 
 pub take_one-requires-clause-more : goal.take_one-requires-clause-more
 take_one-requires-clause-more g c = search rules

@@ -8,9 +8,8 @@ place_at-found-requires-clause-chain g c = c.requires.chain
 
 pub take_pair-requires-clause-links : goal.take_pair-requires-clause-links
 take_pair-requires-clause-links g c =
-    let s = c.requires.chain.chains in
     indexed_key_link c.args.values.now.list c.args.place c.args.index c.place_at-found.result c.place_at-found.ensures c.args.keys.now
-    c.listed_link-link.result c.listed_link-link.ensures.link_is s.sound s.chained
+    c.listed_link-link.result c.listed_link-link.ensures.link_is c.requires.chain.chains
 
 pub take_pair-requires-clause-row : goal.take_pair-requires-clause-row
 take_pair-requires-clause-row g c =
