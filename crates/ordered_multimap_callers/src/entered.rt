@@ -3,6 +3,7 @@ ghost use Rattle.std.specs.Prelude.{◌≡◌, true, false, length, slice_get, N
 ghost use Rattle.ordered_multimap.specs.Changes.{appended, first_written, inserted, removed};
 ghost use Rattle.ordered_multimap.specs.Pairs.{is_present, values_of};
 ghost use Rattle.ordered_multimap.specs.RemovedAt.{removed_at, removable_value_at};
+ghost use Rattle.ordered_multimap_callers.specs.Present.{ChangesPresent};
 
 use ordered_multimap::ListOrderedMultimap;
 use ordered_multimap::list_ordered_multimap::{Entry, Refused, VacantEntry};
@@ -60,10 +61,8 @@ pub fn take_value_out<K: Eq + Hash + Drop, V: Drop, S: BuildHasher, A: Allocator
     key: K,
     index: usize,
 ) -> Option<V>
-    ensures present { is_present K.eq map.old.lists.pairs key ≡ true
-        → map.new.lists ≡ removed_at K.eq map.old.lists key index }
-    ensures absent { is_present K.eq map.old.lists.pairs key ≡ false
-        → map.new.lists ≡ map.old.lists }
+    ensures lists { ChangesPresent K.eq map.old.lists map.new.lists key
+        (removed_at K.eq map.old.lists key index) }
     ensures value { result ≡ removable_value_at K.eq map.old.lists.pairs key index }
 {
     match map.entry(key) {
@@ -77,10 +76,8 @@ pub fn take_last_out<K: Eq + Hash + Drop, V: Drop, S: BuildHasher, A: Allocator>
     map: &mut ListOrderedMultimap<K, V, S, A>,
     key: K,
 ) -> Option<V>
-    ensures present { is_present K.eq map.old.lists.pairs key ≡ true
-        → map.new.lists ≡ removed K.eq map.old.lists key }
-    ensures absent { is_present K.eq map.old.lists.pairs key ≡ false
-        → map.new.lists ≡ map.old.lists }
+    ensures lists { ChangesPresent K.eq map.old.lists map.new.lists key
+        (removed K.eq map.old.lists key) }
 {
     match map.entry(key) {
         Entry::Occupied(entry) => {
@@ -132,10 +129,8 @@ pub fn set_if_present<K: Eq + Hash + Drop, V: Drop, S: BuildHasher, A: Allocator
     key: K,
     value: V,
 )
-    ensures present { is_present K.eq map.old.lists.pairs key ≡ true
-        → map.new.lists ≡ first_written K.eq map.old.lists key value }
-    ensures absent { is_present K.eq map.old.lists.pairs key ≡ false
-        → map.new.lists ≡ map.old.lists }
+    ensures lists { ChangesPresent K.eq map.old.lists map.new.lists key
+        (first_written K.eq map.old.lists key value) }
 {
     match map.entry(key) {
         Entry::Occupied(mut entry) => *entry.get_mut() = value,

@@ -8,6 +8,7 @@ ghost use Rattle.ordered_multimap.specs.Drains.{DrainsEntry};
 ghost use Rattle.ordered_multimap.specs.Entries.{IsOccupiedBy};
 ghost use Rattle.ordered_multimap.specs.Keys.{stored_key};
 ghost use Rattle.ordered_multimap.specs.Pairs.{is_present, values_of};
+ghost use Rattle.ordered_multimap_callers.specs.Present.{ChangesPresent};
 
 use crate::entered::leave_absent;
 use ordered_multimap::ListOrderedMultimap;
@@ -49,10 +50,8 @@ pub fn swap_first<K: Eq + Hash + Drop, V: Drop, S: BuildHasher, A: Allocator>(
     key: K,
     value: V,
 ) -> Option<V>
-    ensures present { is_present K.eq map.old.lists.pairs key ≡ true
-        → map.new.lists ≡ first_written K.eq map.old.lists key value }
-    ensures absent { is_present K.eq map.old.lists.pairs key ≡ false
-        → map.new.lists ≡ map.old.lists }
+    ensures lists { ChangesPresent K.eq map.old.lists map.new.lists key
+        (first_written K.eq map.old.lists key value) }
     ensures first { result ≡ slice_get (values_of K.eq map.old.lists.pairs key) 0 }
 {
     match map.entry(key) {
@@ -66,10 +65,8 @@ pub fn take_pair_out<K: Eq + Hash + Drop, V: Drop, S: BuildHasher, A: Allocator>
     map: &mut ListOrderedMultimap<K, V, S, A>,
     key: K,
 ) -> Option<(K, V)>
-    ensures present { is_present K.eq map.old.lists.pairs key ≡ true
-        → map.new.lists ≡ removed K.eq map.old.lists key }
-    ensures absent { is_present K.eq map.old.lists.pairs key ≡ false
-        → map.new.lists ≡ map.old.lists }
+    ensures lists { ChangesPresent K.eq map.old.lists map.new.lists key
+        (removed K.eq map.old.lists key) }
     ensures pair { result ≡ option_map (λ v. (stored_key K.eq map.old.lists.keys key, v))
         (slice_get (values_of K.eq map.old.lists.pairs key) 0) }
 {
@@ -107,10 +104,8 @@ pub fn take_key_out<K: Eq + Hash + Drop, V: Drop, S: BuildHasher, A: Allocator>(
     map: &mut ListOrderedMultimap<K, V, S, A>,
     key: K,
 ) -> Option<(K, usize)>
-    ensures present { is_present K.eq map.old.lists.pairs key ≡ true
-        → map.new.lists ≡ removed K.eq map.old.lists key }
-    ensures absent { is_present K.eq map.old.lists.pairs key ≡ false
-        → map.new.lists ≡ map.old.lists }
+    ensures lists { ChangesPresent K.eq map.old.lists map.new.lists key
+        (removed K.eq map.old.lists key) }
     ensures key { option_map (λ r. r.0) result
         ≡ option_map (λ _. stored_key K.eq map.old.lists.keys key)
         (slice_get (values_of K.eq map.old.lists.pairs key) 0) }

@@ -1,15 +1,16 @@
 //! Callers with queries, and of one value of a key, proved for every key, value and query: each
 //! says what it found, or what the map is afterwards, of the keys that the query stands for.
-ghost use Rattle.std.specs.Prelude.{◌≡◌, find, slice_get, ◌&&◌, true, false, IfOk, filter, not};
+ghost use Rattle.std.specs.Prelude.{◌≡◌, find, slice_get, ◌&&◌, IfOk, filter, not};
 ghost use Rattle.std.specs.Str.{bytes_eq};
 ghost use Rattle.std.specs.String.{string_bytes};
 ghost use Rattle.ordered_multimap.specs.Changes.{first_written_where, removed_where, kept};
-ghost use Rattle.ordered_multimap.specs.Pairs.{values_of, values_where, is_present};
+ghost use Rattle.ordered_multimap.specs.Pairs.{values_of, values_where};
 ghost use Rattle.std.specs.List.{list_any};
 ghost use Rattle.ordered_multimap.specs.OneValue.{first_removed, index_removed, only_written};
 ghost use Rattle.ordered_multimap.specs.Sets.{SetsValue};
 ghost use Rattle.ordered_multimap.specs.Walk.{end_item};
 ghost use Rattle.ordered_multimap.specs.End.TheVariants.{Back};
+ghost use Rattle.ordered_multimap_callers.specs.Present.{ChangesPresent};
 
 use crate::entered::leave_absent;
 use ordered_multimap::list_ordered_multimap::{Entry, Refused};
@@ -184,10 +185,8 @@ pub fn set_if_present<K: Eq + Hash + Drop, V: Drop, S: BuildHasher, A: Allocator
     key: K,
     value: V,
 ) -> Option<V>
-    ensures present { is_present K.eq map.old.lists.pairs key ≡ true
-        → map.new.lists ≡ only_written (K.eq key) map.old.lists value }
-    ensures absent { is_present K.eq map.old.lists.pairs key ≡ false
-        → map.new.lists ≡ map.old.lists }
+    ensures lists { ChangesPresent K.eq map.old.lists map.new.lists key
+        (only_written (K.eq key) map.old.lists value) }
     ensures first { result ≡ slice_get (values_of K.eq map.old.lists.pairs key) 0 }
 {
     match map.entry(key) {
