@@ -103,8 +103,8 @@ SORTED_PAIRS = [
     ("7:1 2:7 1:2 7:0 2:3 3:4 1:1 7:2 3:1 2:4", "7", "2:4 3:4 1:1 3:1 1:2 2:7 2:3", "2 1 3"),
 ]
 
-# Two keys with two values each; four values of one key; one value; and none.
-MIXED, OF_ONE = "1:11 2:12 2:13 1:14", "1:11 1:12 1:13 1:14"
+# Two keys with two values each, one inside the other, and in turn; four values of one key; one value; and none.
+MIXED, IN_TURN, OF_ONE = "1:11 2:12 2:13 1:14", "1:11 2:11 1:12 2:12", "1:11 1:12 1:13 1:14"
 # Walks over all pairs and over one key's values, with the type of each.
 WALKS = [(word, "".join(part.title() for part in word.split("_"))) for word in ("iter", "iter_mut", "into_iter", "values", "values_mut", "keys")]
 WALKS += [("pairs", "KeyValues"), ("get_all 1", "EntryValues"), ("get_all_mut 1", "EntryValuesMut"), ("remove_all 1", "EntryValuesDrain")]
@@ -217,7 +217,7 @@ def runs():
         for word, reply in zip(("into_keys", "into_values"), taken):
             left = " ".join(it for it in pairs.split() if it.split(":")[0] not in gone.split())
             runs.append([*filled(pairs), *removed(pairs, gone), *filled(behind, left), (word, reply), listed("", "")])
-    for pairs in (MIXED, OF_ONE, "1:11", ""):
+    for pairs in (MIXED, IN_TURN, OF_ONE, "1:11", ""):
         runs += [[*filled(pairs), walked(*walk, pairs, letters)] for walk in WALKS for letters in WORDS]
     for run in runs:
         given = "".join(f"{line}\n" for line, _ in run)

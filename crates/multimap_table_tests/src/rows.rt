@@ -5,11 +5,6 @@ use refusing_allocator::RefusingAllocator;
 use std::alloc::{AllocError, Allocator};
 use test_helpers::{Failed, Test, expect_text, requests_until_enough};
 
-/// Expects that the table and the list have the same rows.
-pub fn agrees<A: Allocator + Copy>(test: &Test, rows: &Compared<A>) {
-    test.expect(rows.differences() == 0);
-}
-
 /// An empty table with a plain list of this many places, and room for this many rows.
 pub fn with_room<A: Allocator + Copy>(
     alloc: A,
@@ -73,10 +68,10 @@ fn change_many(test: &Test, rows: &mut Compared, mask: u64) {
         random = next_random(next_random(random));
         change_one(test, rows, mask, random);
         if round % 4000 == 0 {
-            agrees(test, rows);
+            test.expect(rows.differences() == 0);
         }
     }
-    agrees(test, rows);
+    test.expect(rows.differences() == 0);
 }
 
 fn a_cleared_table_is_empty(test: &Test, table: &mut KeyTable) {
@@ -135,7 +130,7 @@ fn grow_with<A: Allocator + Copy>(
     let enough = rows.reserve(capacity).is_ok();
     test.expect(enough != memory.refused());
     test.expect(enough || rows.table().capacity() == capacity);
-    agrees(test, rows);
+    test.expect(rows.differences() == 0);
     enough
 }
 
@@ -151,7 +146,7 @@ fn use_room<A: Allocator + Copy>(test: &Test, memory: &RefusingAllocator, rows: 
     for place in 100..capacity {
         test.expect_at(place, rows.insert(3, place));
     }
-    agrees(test, rows);
+    test.expect(rows.differences() == 0);
 }
 
 fn refuse<A: Allocator + Copy>(test: &Test, memory: &RefusingAllocator, rows: &mut Compared<A>) {

@@ -4,6 +4,8 @@ use ordered_multimap::list_ordered_multimap::DefaultState;
 use refusing_allocator::RefusingAllocator;
 use std::alloc::{Allocator, Global};
 use std::hash::{BuildHasher, Hash};
+use std::mem;
+use std::rc::Rc;
 use test_helpers::{Checked, Constant, Failed, Plain, Step, Test, ZERO, gives, walk_difference};
 
 /// A map of numbers.
@@ -17,6 +19,9 @@ pub type Texts = ListOrderedMultimap<&'static str, &'static str>;
 
 /// The same, whose memory may be refused. A parameter costs a proof half of a type with a reference.
 pub type Refusing<A> = ListOrderedMultimap<u32, u32, DefaultState, A>;
+
+/// A map whose values are shares of one number.
+pub type Shares = ListOrderedMultimap<u8, Rc<u8>>;
 
 /// Two keys with two values each, one inside the other.
 pub const MIXED: &[(u32, u32)] = &[(1, 11), (2, 12), (2, 13), (1, 14)];
@@ -68,6 +73,23 @@ pub fn map_of<K: Eq + Hash + Copy, V: Copy>(
     map
 }
 
+/// Appends a share of the number under each of these keys.
+pub fn append_shares(test: &Test, map: &mut Shares, keys: &[u8], shared: &Rc<u8>) {
+    for key in keys {
+        match shared.clone() {
+            Ok(share) => test.expect(map.append(*key, share).is_ok()),
+            Err(_) => test.fail(),
+        }
+    }
+}
+
+/// Appends five shares. Those of the key 1 stay in their slots, where their drain is forgotten.
+pub fn fill_with_shares(test: &Test, map: &mut Shares, shared: &Rc<u8>) {
+    append_shares(test, map, &[1, 2, 1, 3, 2], shared);
+    mem::forget(map.remove_all(&1));
+    test.expect(Rc::strong_count(shared) == 6);
+}
+
 /// Expects that no memory was refused, gives all pairs and all room up, and reserves anew.
 pub fn reserve_anew<A: Allocator + Copy>(
     test: &Test,
@@ -102,7 +124,8 @@ pub fn has_lists<K: Eq + Hash + Copy, V: PartialEq + Copy, S: BuildHasher, A: Al
     pairs: &[(K, V)],
     keys: &[K],
 ) -> bool {
-    has_pairs(map, pairs) && has_keys(map, keys)
+    let same_pairs = has_pairs(map, pairs);
+    same_pairs && map.keys_len() == keys.len() && gives(&mut map.keys(), keys)
 }
 
 /// Whether a map has these pairs, in this order, and no others.
@@ -111,13 +134,6 @@ pub fn has_pairs<K: Eq + Hash + Copy, V: PartialEq + Copy, S: BuildHasher, A: Al
     pairs: &[(K, V)],
 ) -> bool {
     map.values_len() == pairs.len() && gives(&mut map.iter(), pairs)
-}
-
-fn has_keys<K: Eq + Hash + Copy, V, S: BuildHasher, A: Allocator>(
-    map: &ListOrderedMultimap<K, V, S, A>,
-    keys: &[K],
-) -> bool {
-    map.keys_len() == keys.len() && gives(&mut map.keys(), keys)
 }
 
 /// Appends a pair. It returns whether there was memory, and whether the key was there as is said.
@@ -198,6 +214,16 @@ pub fn test_on_empty<T: Checked, M: Empty, F: FnOnce(&T, &mut M)>(
     let test = T::begin(alloc);
     checks(&test, &mut M::empty(alloc));
     test.finish()
+}
+
+/// Runs a test of parts that are lent the same map of numbers, which is empty, one after another.
+#[macro_export]
+macro_rules! test_on_numbers {
+    ($alloc:expr; $($part:path),+) => {
+        test_on_empty($alloc, |test: &Test, map: &mut Numbers| {
+            test_helpers::run_parts!(test, map; $($part),+)
+        })
+    };
 }
 
 /// Runs a check that is lent an allocator that can refuse memory, and a map by it with this room.

@@ -44,6 +44,14 @@ pub fn lend<M: Drop, R, F: FnOnce(&mut M) -> R>(mut owned: M, checks: F) -> R
     checks(&mut owned)
 }
 
+/// Lends a value to what fills it, and hands it on.
+pub fn filled<M: Drop, F: FnOnce(&mut M)>(mut owned: M, fill: F) -> M
+    requires { F.IsAlwaysCallable fill }
+{
+    fill(&mut owned);
+    owned
+}
+
 /// Lends what was made to checks, or hands what was refused to others. Returns whether it was made.
 pub fn lend_made<M: Drop, E, F: FnOnce(&mut M), G: FnOnce(E)>(
     made: Result<M, E>,

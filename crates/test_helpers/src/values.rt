@@ -1,6 +1,16 @@
-//! What derives and Debug give a value.
+//! What derives and Debug give a value; and numbers that are sorted.
 use std::alloc::Global;
 use std::fmt;
+
+/// More numbers than are sorted in place.
+pub const SHUFFLED: &[u32] = &[
+    1, 9, 17, 4, 12, 20, 7, 15, 2, 10, 18, 5, 13, 21, 8, 16, 3, 11, 19, 6, 14,
+];
+
+/// The same, the least first.
+pub const ASCENDING: &[u32] = &[
+    1, 2, 3, 4, 5, 6, 7, 8, 9, 10, 11, 12, 13, 14, 15, 16, 17, 18, 19, 20, 21,
+];
 
 /// Whether a value is shown by this text.
 pub fn is_shown<T: fmt::Debug>(alloc: Global, value: &T, wanted: &str) -> bool {

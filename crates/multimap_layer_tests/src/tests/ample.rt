@@ -6,7 +6,7 @@ use crate::tests::uses::{
 use multimap_slots::{Reads, SlotList, Tape};
 use multimap_walks::{ChainEnds, End, ValueLink};
 use std::mem::size_of;
-use test_helpers::{Failed, Test, is_shown};
+use test_helpers::{Failed, Test, is_shown, test_on_new};
 
 // A place that no list of these tests has.
 const NOWHERE: usize = 1000;
@@ -140,9 +140,7 @@ fn calls_of_a_tape_answer(test: &Test, tape: &mut Items) {
 
 #[test]
 fn every_call_of_a_tape_answers(rt: HostRuntime) -> Result<(), Failed> {
-    let test = Test::new(rt.alloc());
-    calls_of_a_tape_answer(&test, &mut Tape::new(test.alloc()));
-    test.end()
+    test_on_new(rt.alloc(), Tape::new, calls_of_a_tape_answer)
 }
 
 const ROW: ChainEnds = ChainEnds {

@@ -5,20 +5,16 @@ use ordered_multimap::list_ordered_multimap::{Entry, KeyWrapper, OccupiedEntry};
 use ordered_multimap_callers::maps::{
     Numbers, ONE_KEY, Refusing, fill, has_lists, has_pairs, refill, test_on_empty,
 };
-use ordered_multimap_callers::test_with_room;
+use ordered_multimap_callers::{test_on_numbers, test_with_room};
 use refusing_allocator::RefusingAllocator;
 use std::alloc::Allocator;
 use std::cell::Cell;
-use test_helpers::{Failed, Test, is_shown, run_parts};
-
-fn numbers_answer(test: &Test, map: &mut Numbers) {
-    run_parts!(test, map; first_values_stay, values_are_counted, entries_are_shown,
-        entries_are_filled, functions_are_called_once, entries_answer)
-}
+use test_helpers::{Failed, Test, is_shown};
 
 #[test]
 fn numbers_are_entered(rt: HostRuntime) -> Result<(), Failed> {
-    test_on_empty(rt.alloc(), numbers_answer)
+    test_on_numbers!(rt.alloc(); first_values_stay, values_are_counted, entries_are_shown,
+        entries_are_filled, functions_are_called_once, entries_answer)
 }
 
 // The first value that a call gives which puts one under the key 1, unless one is there.

@@ -85,11 +85,7 @@ fn keys_change<S: BuildHasher>(test: &Test, map: &mut MapBy<S>) {
 }
 
 #[test]
-fn keys_change_their_places(rt: HostRuntime) -> Result<(), Failed> {
-    test_on_empty(rt.alloc(), keys_change)
-}
-
-#[test]
-fn keys_of_one_hash_change_their_places(rt: HostRuntime) -> Result<(), Failed> {
+fn keys_change_their_places_by_any_builder(rt: HostRuntime) -> Result<(), Failed> {
+    test_on_empty(rt.alloc(), keys_change)?;
     test_on_new(rt.alloc(), collided, keys_change)
 }

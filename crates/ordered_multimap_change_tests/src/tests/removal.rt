@@ -3,16 +3,13 @@ use ordered_multimap::list_ordered_multimap::{Entry, KeyWrapper};
 use ordered_multimap_callers::maps::{
     MapBy, Numbers, appends, collided, has_lists, refill, test_on_empty,
 };
-use test_helpers::{B, Constant, F, Failed, Test, run_parts, test_on_new, walk_difference};
-
-fn numbers_leave(test: &Test, map: &mut Numbers) {
-    run_parts!(test, map; values_are_found, values_change, values_are_retained, pairs_stay,
-        written_pairs_stay)
-}
+use ordered_multimap_callers::test_on_numbers;
+use test_helpers::{B, Constant, F, Failed, Test, test_on_new, walk_difference};
 
 #[test]
 fn pairs_of_numbers_leave(rt: HostRuntime) -> Result<(), Failed> {
-    test_on_empty(rt.alloc(), numbers_leave)
+    test_on_numbers!(rt.alloc(); values_are_found, values_change, values_are_retained, pairs_stay,
+        written_pairs_stay)
 }
 
 // Three values of the key 1, two of them equal, two of the key 2, one of the key 3.

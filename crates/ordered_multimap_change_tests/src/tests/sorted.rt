@@ -3,11 +3,13 @@ use ordered_multimap::ListOrderedMultimap;
 use ordered_multimap_callers::maps::{
     Numbers, Refusing, appends, has_lists, refill, test_on_empty,
 };
-use ordered_multimap_callers::test_with_room;
+use ordered_multimap_callers::{test_on_numbers, test_with_room};
 use refusing_allocator::RefusingAllocator;
 use std::alloc::Allocator;
 use std::cmp::Ordering;
-use test_helpers::{Failed, Test, copied, gives, requests_until_enough, run_parts, try_on_new};
+use test_helpers::{
+    ASCENDING, Failed, SHUFFLED, Test, copied, gives, requests_until_enough, try_on_new,
+};
 
 // Pairs of which two keys have two values each.
 const PAIRS: &[(u32, u32)] = &[(5, 14), (3, 12), (1, 13), (5, 11), (2, 15), (3, 10)];
@@ -74,25 +76,13 @@ fn sort_by_value(test: &Test, map: &mut Numbers) {
     has_chain(test, map, 5, &[11, 14, 9]);
 }
 
-fn pairs_sort(test: &Test, map: &mut Numbers) {
-    run_parts!(test, map; sort_by_key, sort_by_half, sort_by_no_order, sort_by_value)
-}
-
 #[test]
 fn pairs_are_sorted(rt: HostRuntime) -> Result<(), Failed> {
-    test_on_empty(rt.alloc(), pairs_sort)
+    test_on_numbers!(rt.alloc(); sort_by_key, sort_by_half, sort_by_no_order, sort_by_value)
 }
 
-// More keys than are sorted in place. Each has one value, which is greater by 100.
-const MANY: &[u32] = &[
-    1, 9, 17, 4, 12, 20, 7, 15, 2, 10, 18, 5, 13, 21, 8, 16, 3, 11, 19, 6, 14,
-];
-
-const ASCENDING: &[u32] = &[
-    1, 2, 3, 4, 5, 6, 7, 8, 9, 10, 11, 12, 13, 14, 15, 16, 17, 18, 19, 20, 21,
-];
-
-// Whether the pairs are those of the first keys, and the keys the others.
+// Whether the pairs are those of the first keys, and the keys the others. Each key has one value,
+// which is greater by 100.
 fn stand<A: Allocator>(map: &Refusing<A>, of_pairs: &[u32], keys: &[u32]) -> bool {
     let mut walk = map.iter();
     let mut same = true;
@@ -107,7 +97,7 @@ fn sorts_by_value<A: Allocator + Copy>(map: &mut Refusing<A>) -> bool {
 }
 
 fn append_many<A: Allocator + Copy>(test: &Test, map: &mut Refusing<A>) {
-    for key in MANY {
+    for key in SHUFFLED {
         test.expect(appends(map, *key, key.saturating_add(100), false));
     }
 }
@@ -116,11 +106,11 @@ fn append_many<A: Allocator + Copy>(test: &Test, map: &mut Refusing<A>) {
 fn sorts<A: Allocator + Copy>(test: &Test, map: &mut Refusing<A>, is_of_pairs: bool) -> bool {
     if is_of_pairs {
         let enough = sorts_by_value(map);
-        test.expect(stand(map, if enough { ASCENDING } else { MANY }, MANY));
+        test.expect(stand(map, if enough { ASCENDING } else { SHUFFLED }, SHUFFLED));
         return enough;
     }
     let enough = map.sort_keys().is_ok();
-    test.expect(stand(map, MANY, if enough { ASCENDING } else { MANY }));
+    test.expect(stand(map, SHUFFLED, if enough { ASCENDING } else { SHUFFLED }));
     enough
 }
 

@@ -6,31 +6,29 @@ use crate::tests::written::{
 use ordered_multimap::list_ordered_multimap::{EntryValuesMut, KeyValuesMut};
 use ordered_multimap_callers::changed::{fill_all, fill_by_reference};
 use ordered_multimap_callers::maps::{MIXED, Numbers, has_lists, has_pairs, refill, test_on_empty};
-use test_helpers::{B, F, Failed, Step, Test, run_parts, walk_difference};
-
-fn numbers_are_written(test: &Test, map: &mut Numbers) {
-    run_parts!(test, map; values_are_lent_once, keys_lend_their_values, walks_have_left,
-        values_are_updated, walks_leave_values, held_walks_end)
-}
+use ordered_multimap_callers::test_on_numbers;
+use test_helpers::{B, F, Failed, Step, Test, walk_difference};
 
 #[test]
 fn values_are_written_by_walks(rt: HostRuntime) -> Result<(), Failed> {
-    test_on_empty(rt.alloc(), numbers_are_written)
+    test_on_numbers!(rt.alloc(); values_are_lent_once, keys_lend_their_values, walks_have_left,
+        values_are_updated, walks_leave_values, held_walks_end)
 }
 
-// Whether this value alone is left.
-fn is_left_alone(walk: &EntryValuesMut<'_, u32, u32>, value: u32) -> bool {
-    walk_difference(&mut walk.iter(), &[(F, value)]).is_none()
+// Whether these steps take all that is left.
+fn are_left(walk: &EntryValuesMut<'_, u32, u32>, steps: &[Step<u32>]) -> bool {
+    walk_difference(&mut walk.iter(), steps).is_none()
 }
 
-// Writes the first and the last value while both references live, and the one between is left.
-fn write_both(map: &mut Numbers) -> bool {
+// Writes the first and the last value of the key 1 while both references live, where they are the
+// old ones and those between are left.
+fn write_both(map: &mut Numbers, old: (u32, u32), between: &[Step<u32>], new: (u32, u32)) -> bool {
     let mut walk = values_of_key(map, 1);
     match (walk.next(), walk.next_back()) {
         (Some(first), Some(last)) => {
-            let held = *first == 1 && *last == 3 && is_left_alone(&walk, 2);
-            *first = 10;
-            *last = 30;
+            let held = (*first, *last) == old && are_left(&walk, between);
+            *first = new.0;
+            *last = new.1;
             held
         }
         _ => false,
@@ -39,9 +37,15 @@ fn write_both(map: &mut Numbers) -> bool {
 
 fn both_are_written(test: &Test, map: &mut Numbers) {
     refill(test, map, &[(1, 1), (2, 7), (1, 2), (1, 3)]);
-    test.expect(write_both(map));
+    test.expect(write_both(map, (1, 3), &[(F, 2)], (10, 30)));
     let written = has_lists(map, &[(1, 10), (2, 7), (1, 2), (1, 30)], &[1, 2]);
     test.expect(written);
+}
+
+fn equal_values_are_told_apart(test: &Test, map: &mut Numbers) {
+    refill(test, map, &[(1, 5), (2, 0), (1, 5)]);
+    test.expect(write_both(map, (5, 5), &[], (6, 7)));
+    test.expect(has_lists(map, &[(1, 6), (2, 0), (1, 7)], &[1, 2]));
 }
 
 // Loops over a walk, and over the reference to the map itself.
@@ -54,6 +58,7 @@ fn loops_write(test: &Test, map: &mut Numbers) {
 
 // Each value is lent once, and is written.
 fn values_are_lent_once(test: &Test, map: &mut Numbers) {
+    equal_values_are_told_apart(test, map);
     both_are_written(test, map);
     loops_write(test, map);
 }

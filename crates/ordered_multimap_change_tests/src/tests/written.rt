@@ -35,26 +35,6 @@ fn ends_are_written(test: &Test, map: &mut Numbers) {
     test.expect(all);
 }
 
-// Writes both values of the key 1, the first by the front step.
-fn write_equal(map: &mut Numbers) -> bool {
-    let mut walk = values_of_key(map, 1);
-    match (walk.next(), walk.next_back()) {
-        (Some(first), Some(last)) => {
-            *first = 6;
-            *last = 7;
-            true
-        }
-        _ => false,
-    }
-}
-
-fn equal_values_are_told_apart(test: &Test, map: &mut Numbers) {
-    refill(test, map, &[(1, 5), (2, 0), (1, 5)]);
-    test.expect(write_equal(map));
-    let both = has_lists(map, &[(1, 6), (2, 0), (1, 7)], &[1, 2]);
-    test.expect(both);
-}
-
 // Writes an item that a walk gave, and ends the walk by its right to the others.
 macro_rules! end_by_cells {
     ($walk:ident.$step:ident(), $given:pat => $place:ident = $value:expr) => {
@@ -96,7 +76,6 @@ fn walks_are_ended(test: &Test, map: &mut Numbers) {
 /// Walks that are let go leave each value where it belongs.
 pub fn walks_leave_values(test: &Test, map: &mut Numbers) {
     ends_are_written(test, map);
-    equal_values_are_told_apart(test, map);
     walks_are_ended(test, map);
 }
 

@@ -71,15 +71,16 @@ fn add<A: Allocator + Copy>(test: &Test, map: &mut Refusing<A>, call: Try, copy:
     match call {
         Try::ExtendCopied => {
             let answer = map.extend_copied(copy.iter());
-            is_extended(test, map, answer)
+            is_extended_or_refused(test, map, answer)
         }
+        // By std's trait, which code over any collection calls, and which drops a refused pair.
         Try::ExtendByTrait => {
-            let answer = Extend::extend(map, PAIRS.iter().copied());
-            is_extended_by_trait(test, map, answer)
+            let enough = Extend::extend(map, PAIRS.iter().copied()).is_ok();
+            is_extended(test, map, enough)
         }
         Try::ExtendCopiedByTrait => {
-            let answer = Extend::extend(map, copy.iter());
-            is_extended_by_trait(test, map, answer)
+            let enough = Extend::extend(map, copy.iter()).is_ok();
+            is_extended(test, map, enough)
         }
         _ => extend(test, map),
     }
@@ -117,25 +118,25 @@ fn comes_back(test: &Test, count: usize, refused: Refused<u32, u32>) {
     test.expect(PAIRS.get(count).copied() == Some(pair));
 }
 
-// What an extension leaves; whether there was memory for all pairs.
-fn is_extended<A: Allocator + Copy>(
+// What an extension leaves. It returns whether there was memory for all pairs.
+fn is_extended<A: Allocator + Copy>(test: &Test, map: &Refusing<A>, enough: bool) -> bool {
+    let count = map.values_len();
+    let lists = has_lists(map, first(PAIRS, count), first(KEYS, count));
+    test.expect(lists && (!enough || count == 3));
+    enough
+}
+
+// The same where a refused pair comes back.
+fn is_extended_or_refused<A: Allocator + Copy>(
     test: &Test,
     map: &Refusing<A>,
     answer: Result<(), Refused<u32, u32>>,
 ) -> bool {
-    let count = map.values_len();
-    let lists = has_lists(map, first(PAIRS, count), first(KEYS, count));
-    test.expect(lists);
-    match answer {
-        Ok(()) => {
-            test.expect(count == 3);
-            true
-        }
-        Err(refused) => {
-            comes_back(test, count, refused);
-            false
-        }
+    let enough = is_extended(test, map, answer.is_ok());
+    if let Err(refused) = answer {
+        comes_back(test, map.values_len(), refused);
     }
+    enough
 }
 
 // It returns whether there was memory for all pairs. Those behind a refused one are left.
@@ -144,19 +145,7 @@ fn extend<A: Allocator + Copy>(test: &Test, map: &mut Refusing<A>) -> bool {
     let answer = map.extend(&mut pairs);
     let given = PAIRS.len().saturating_sub(pairs.len());
     test.expect(given == map.values_len().saturating_add(1).min(PAIRS.len()));
-    is_extended(test, map, answer)
-}
-
-// What std's `Extend` leaves, by which code over any collection extends. It drops the refused pair.
-fn is_extended_by_trait<A: Allocator + Copy>(
-    test: &Test,
-    map: &Refusing<A>,
-    answer: Result<(), AllocError>,
-) -> bool {
-    let count = map.values_len();
-    let lists = has_lists(map, first(PAIRS, count), first(KEYS, count));
-    test.expect(lists && (answer.is_err() || count == 3));
-    answer.is_ok()
+    is_extended_or_refused(test, map, answer)
 }
 
 fn collect_with(test: &Test, granted: u64) -> bool {

@@ -2,7 +2,8 @@
 use ordered_multimap::ListOrderedMultimap;
 use ordered_multimap::list_ordered_multimap::{KeyWrapper, Refused};
 use ordered_multimap_callers::maps::{
-    MIXED, Numbers, Refusing, appends, fill, has_lists, has_room, inserts, reserve, reserve_anew,
+    MIXED, Numbers, Refusing, Shares, append_shares, appends, fill, fill_with_shares, has_lists,
+    has_room, inserts, reserve, reserve_anew,
 };
 use ordered_multimap_callers::{run_in_room, test_with_room};
 use refusing_allocator::RefusingAllocator;
@@ -152,17 +153,6 @@ fn full_keys_refuse_only_new_ones(rt: HostRuntime) -> Result<(), Failed> {
     test_with_room!(rt.alloc(); 3, 70; present_keys_find_room)
 }
 
-type Shares = ListOrderedMultimap<u8, Rc<u8>>;
-
-fn append_shares(test: &Test, map: &mut Shares, keys: &[u8], shared: &Rc<u8>) {
-    for key in keys {
-        match shared.clone() {
-            Ok(share) => test.expect(map.append(*key, share).is_ok()),
-            Err(_) => test.fail(),
-        }
-    }
-}
-
 fn the_rest_is_dropped(test: &Test, map: &mut Shares, shared: &Rc<u8>) {
     append_shares(test, map, &[1, 1, 1], shared);
     drop(map.remove_all(&1));
@@ -182,9 +172,7 @@ fn pop_share(test: &Test, map: &mut Shares) {
 
 // The values of the key 1 stay where a drain is forgotten, and the first of the key 2 goes.
 fn packed_ones_are_dropped(test: &Test, map: &mut Shares, shared: &Rc<u8>) {
-    append_shares(test, map, &[1, 2, 1, 3, 2], shared);
-    mem::forget(map.remove_all(&1));
-    test.expect(Rc::strong_count(shared) == 6);
+    fill_with_shares(test, map, shared);
     pop_share(test, map);
     test.expect(Rc::strong_count(shared) == 5);
     test.expect(map.pack_to_fit().is_ok());

@@ -1,19 +1,11 @@
 //! Default values for absent keys, and maps by another's allocator; `map_calls` has more rows.
 use ordered_multimap::ListOrderedMultimap;
-use ordered_multimap::list_ordered_multimap::{DefaultState, Refused};
-use ordered_multimap_callers::maps::{Numbers, Refusing, fill, has_lists, test_on_empty};
-use ordered_multimap_callers::taken::empty_like;
-use ordered_multimap_callers::test_with_room;
+use ordered_multimap::list_ordered_multimap::DefaultState;
+use ordered_multimap_callers::maps::{Numbers, Refusing, fill, has_lists};
+use ordered_multimap_callers::taken::{empty_like, first_or_default};
 use refusing_allocator::RefusingAllocator;
 use std::alloc::Allocator;
 use test_helpers::{Failed, Test, lend, requests_until_enough, try_on_new};
-
-fn default<A: Allocator + Copy>(map: &mut Refusing<A>, key: u32) -> Result<u32, Refused<u32, u32>> {
-    match map.entry(key).or_default() {
-        Ok(first) => Ok(*first),
-        Err(refused) => Err(refused),
-    }
-}
 
 fn count(test: &Test, map: &mut Numbers, key: u32) {
     match map.entry(key).or_default() {
@@ -22,7 +14,8 @@ fn count(test: &Test, map: &mut Numbers, key: u32) {
     }
 }
 
-fn keys_are_counted(test: &Test, map: &mut Numbers) {
+/// A default value is put last, and written.
+pub fn keys_are_counted(test: &Test, map: &mut Numbers) {
     map.clear();
     for key in [2, 1, 2, 2] {
         count(test, map, key);
@@ -30,55 +23,47 @@ fn keys_are_counted(test: &Test, map: &mut Numbers) {
     test.expect(has_lists(map, &[(2, 3), (1, 1)], &[2, 1]));
 }
 
-#[test]
-fn a_default_value_is_put_last(rt: HostRuntime) -> Result<(), Failed> {
-    test_on_empty(rt.alloc(), keys_are_counted)
-}
-
 // Two keys with no room for a third.
 const FULL: &[(u32, u32)] = &[(1, 11), (2, 12)];
 
-fn puts_default<A: Allocator + Copy>(test: &Test, map: &mut Refusing<A>) -> bool {
-    match default(map, 3) {
-        Ok(first) => {
-            test.expect(first == 0);
-            test.expect(has_lists(map, &[(1, 11), (2, 12), (3, 0)], &[1, 2, 3]));
-            true
-        }
-        Err(refused) => {
-            test.expect(refused == Refused { key: 3, value: 0 });
-            test.expect(has_lists(map, FULL, &[1, 2]));
-            false
-        }
-    }
-}
+// A key, its first value then, and both lists.
+type Row = (u32, u32, &'static [(u32, u32)], &'static [u32]);
+
+const ABSENT: Row = (3, 0, &[(1, 11), (2, 12), (3, 0)], &[1, 2, 3]);
+
+// A key that is present needs no memory.
+const PRESENT: Row = (2, 12, FULL, &[1, 2]);
 
 fn fill_up<A: Allocator + Copy>(test: &Test, map: &mut Refusing<A>) {
     fill(test, map, FULL);
     test.expect(map.pack_to_fit().is_ok());
 }
 
-fn puts_default_with(test: &Test, granted: u64) -> bool {
-    try_on_new!(test, granted; ListOrderedMultimap::new; fill_up; puts_default)
+fn gives<A: Allocator + Copy>(test: &Test, map: &mut Refusing<A>, row: &Row) -> bool {
+    match first_or_default(map, row.0) {
+        Ok(first) => {
+            test.expect(first == row.1 && has_lists(map, row.2, row.3));
+            true
+        }
+        Err(refused) => {
+            test.expect(refused.key == row.0 && refused.value == 0);
+            test.expect(has_lists(map, FULL, &[1, 2]));
+            false
+        }
+    }
 }
 
-fn finds_present<A: Allocator + Copy>(test: &Test, map: &mut Refusing<A>) -> bool {
-    test.expect(default(map, 2) == Ok(12));
-    has_lists(map, FULL, &[1, 2])
-}
-
-// A key that is present needs no memory.
-fn finds_present_with_none(test: &Test) -> bool {
-    try_on_new!(test, 0; ListOrderedMultimap::new; fill_up; finds_present)
+fn gives_with(test: &Test, granted: u64, row: &Row) -> bool {
+    try_on_new!(test, granted; ListOrderedMultimap::new; fill_up; gives, row)
 }
 
 // Key slots, table and value slots each ask for a block.
 #[test]
 fn a_refused_default_changes_nothing(rt: HostRuntime) -> Result<(), Failed> {
     let test = Test::new(rt.alloc());
-    let enough = requests_until_enough(|granted| puts_default_with(&test, granted));
+    let enough = requests_until_enough(|granted| gives_with(&test, granted, &ABSENT));
     test.expect(enough.unwrap_or(0) >= 3);
-    test.expect(finds_present_with_none(&test));
+    test.expect(gives_with(&test, 0, &PRESENT));
     test.end()
 }
 
@@ -88,16 +73,15 @@ fn takes_memory<A: Allocator + Copy>(map: &Refusing<A>) -> bool {
     })
 }
 
-// A map made with the allocator of another one asks the same allocator.
-fn is_shared<A: Allocator + Copy>(test: &Test, memory: &RefusingAllocator, map: &mut Refusing<A>) {
+/// A map made with the allocator of another one asks the same allocator, which then refuses all.
+pub fn is_shared<A: Allocator + Copy>(
+    test: &Test,
+    memory: &RefusingAllocator,
+    map: &mut Refusing<A>,
+) {
     test.expect(takes_memory(map));
     memory.refuse_all();
     test.expect(!takes_memory(map));
     test.expect(memory.refused());
     test.expect(map.is_empty());
-}
-
-#[test]
-fn an_allocator_serves_two_maps(rt: HostRuntime) -> Result<(), Failed> {
-    test_with_room!(rt.alloc(); 0, 0; is_shared)
 }

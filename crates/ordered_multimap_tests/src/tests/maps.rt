@@ -1,30 +1,33 @@
 //! Both ends, equality, hash builders, and what a program meets first.
+use crate::tests::defaults::{is_shared, keys_are_counted};
 use ordered_multimap::ListOrderedMultimap;
 use ordered_multimap::list_ordered_multimap::{DefaultState, Entry, RandomState};
 use ordered_multimap_callers::maps::{
     MIXED, MapBy, Numbers, Refusing, appends, collided, has_lists, has_pairs, inserts, refill,
     test_on_empty,
 };
-use ordered_multimap_callers::test_with_room;
+use ordered_multimap_callers::{test_on_numbers, test_with_room};
 use refusing_allocator::RefusingAllocator;
 use std::alloc::Allocator;
 use std::collections::HashMap;
 use std::hash::BuildHasher;
 use std::{io, mem};
-use test_helpers::{
-    Constant, F, Failed, Test, copied, lend, run_parts, test_on_new, walk_difference,
-};
+use test_helpers::{F, Failed, Test, copied, lend, test_on_new, walk_difference};
 
-fn numbers_answer(test: &Test, map: &mut Numbers) {
-    run_parts!(test, map; ends_answer, are_compared)
+#[test]
+fn both_ends_answer(rt: HostRuntime) -> Result<(), Failed> {
+    test_on_numbers!(rt.alloc(); ends_are_read, ends_are_written, the_first_is_written,
+        the_last_is_written, ends_are_popped)
 }
 
 #[test]
-fn maps_of_numbers_answer(rt: HostRuntime) -> Result<(), Failed> {
-    test_on_empty(rt.alloc(), numbers_answer)
+fn maps_are_compared_and_count(rt: HostRuntime) -> Result<(), Failed> {
+    test_on_numbers!(rt.alloc(); are_compared, keys_are_counted)
 }
 
-fn ends_are_read(test: &Test, map: &Numbers) {
+// The pairs at both ends are read, and then written, and taken out by the parts behind.
+fn ends_are_read(test: &Test, map: &mut Numbers) {
+    refill(test, map, MIXED);
     test.expect(copied(map.front()) == Some((1, 11)));
     test.expect(copied(map.back()) == Some((1, 14)));
     test.expect(map.hasher().hash_one(&1u32) == DefaultState::new().hash_one(&1u32));
@@ -60,15 +63,6 @@ fn ends_are_popped(test: &Test, map: &mut Numbers) {
     let back = map.pop_back_with(|popped| popped.is_some());
     test.expect(front && back);
     test.expect(has_lists(map, &[(2, 12), (2, 13)], &[2]));
-}
-
-fn ends_answer(test: &Test, map: &mut Numbers) {
-    refill(test, map, MIXED);
-    ends_are_read(test, map);
-    ends_are_written(test, map);
-    the_first_is_written(test, map);
-    the_last_is_written(test, map);
-    ends_are_popped(test, map);
 }
 
 fn are_equal(map: &Numbers, other: &Numbers) -> bool {
@@ -113,13 +107,11 @@ fn are_compared(test: &Test, map: &mut Numbers) {
     }
 }
 
-type Collided = MapBy<Constant>;
-
-fn expect_value(test: &Test, map: &Collided, key: u32, value: u32) {
+fn expect_value<S: BuildHasher>(test: &Test, map: &MapBy<S>, key: u32, value: u32) {
     test.expect(map.get(&key).copied() == Some(value));
 }
 
-fn collided_keys_are_inserted(test: &Test, map: &mut Collided) {
+fn keys_are_inserted<S: BuildHasher>(test: &Test, map: &mut MapBy<S>) {
     test.expect(inserts(map, 1, 11, &None));
     expect_value(test, map, 1, 11);
     test.expect(inserts(map, 2, 12, &None));
@@ -127,7 +119,7 @@ fn collided_keys_are_inserted(test: &Test, map: &mut Collided) {
     expect_value(test, map, 1, 11);
 }
 
-fn collided_values_are_appended(test: &Test, map: &mut Collided) {
+fn values_are_appended<S: BuildHasher>(test: &Test, map: &mut MapBy<S>) {
     map.clear();
     test.expect(appends(map, 1, 11, false));
     test.expect(appends(map, 2, 12, false));
@@ -137,21 +129,14 @@ fn collided_values_are_appended(test: &Test, map: &mut Collided) {
     expect_value(test, map, 2, 12);
 }
 
-fn collided_keys_come(test: &Test, map: &mut Collided) {
-    collided_keys_are_inserted(test, map);
-    collided_values_are_appended(test, map);
+fn keys_are_found<S: BuildHasher>(test: &Test, map: &mut MapBy<S>) {
+    keys_are_inserted(test, map);
+    values_are_appended(test, map);
 }
 
 #[test]
 fn keys_of_one_hash_are_apart(rt: HostRuntime) -> Result<(), Failed> {
-    test_on_new(rt.alloc(), collided, collided_keys_come)
-}
-
-fn keys_are_found(test: &Test, map: &mut MapBy<RandomState>) {
-    test.expect(appends(map, 1, 11, false));
-    test.expect(appends(map, 2, 12, false));
-    test.expect(appends(map, 1, 13, true));
-    test.expect(map.get(&2).copied() == Some(12));
+    test_on_new(rt.alloc(), collided, keys_are_found)
 }
 
 fn a_builder_serves(test: &Test, state: Option<RandomState>) {
@@ -188,12 +173,13 @@ fn is_out_of_memory(answer: io::Result<()>) -> bool {
     }
 }
 
-fn a_refusal_is_an_io_error<A: Allocator + Copy>(
+// The map is lent with an allocator that refuses all memory from the first part on.
+fn memory_is_refused<A: Allocator + Copy>(
     test: &Test,
     allocator: &RefusingAllocator,
     map: &mut Refusing<A>,
 ) {
-    allocator.refuse_all();
+    is_shared(test, allocator, map);
     test.expect(is_out_of_memory(append_two(map)));
     test.expect(map.is_empty());
 }
@@ -233,8 +219,8 @@ fn an_empty_map_stands_in(rt: HostRuntime) -> Result<(), Failed> {
 }
 
 #[test]
-fn errors_are_taken_to_others(rt: HostRuntime) -> Result<(), Failed> {
-    test_with_room!(rt.alloc(); 0, 0; a_refusal_is_an_io_error)
+fn a_refusal_is_an_io_error(rt: HostRuntime) -> Result<(), Failed> {
+    test_with_room!(rt.alloc(); 0, 0; memory_is_refused)
 }
 
 #[test]

@@ -14,11 +14,7 @@ use test_helpers::{
 
 #[test]
 fn owned_texts_are_found_by_lent_ones(rt: HostRuntime) -> Result<(), Failed> {
-    test_on_empty(rt.alloc(), texts_are_queries)
-}
-
-#[test]
-fn collided_texts_are_found_by_lent_ones(rt: HostRuntime) -> Result<(), Failed> {
+    test_on_empty(rt.alloc(), texts_are_queries)?;
     test_on_new(rt.alloc(), collided, texts_are_queries)
 }
 

@@ -4,37 +4,22 @@ use ordered_multimap::list_ordered_multimap::{EntryValues, IntoIter, KeyValues};
 use ordered_multimap_callers::maps::{
     MIXED, MIXED_TEXTS, Numbers, Texts, goes_on, refill, test_on_empty,
 };
-use test_helpers::{B, F, Failed, Step, Test, is_shown, run_parts, taken, walk_difference};
-
-fn walks_answer(test: &Test, map: &mut Numbers) {
-    run_parts!(test, map; keys_are_walked, walks_are_taken)
-}
+use ordered_multimap_callers::test_on_numbers;
+use test_helpers::{B, F, Failed, Step, Test, is_shown, taken, walk_difference};
 
 #[test]
 fn walks_of_numbers_answer(rt: HostRuntime) -> Result<(), Failed> {
-    test_on_empty(rt.alloc(), walks_answer)
-}
-
-fn clones_go_on(test: &Test, map: &Numbers) {
-    let pairs = &[(B, (1, 14)), (F, (2, 12)), (F, (2, 13))];
-    test.expect(goes_on(&mut map.iter(), pairs));
-    test.expect(goes_on(&mut map.values(), &[(B, 14), (F, 12), (F, 13)]));
-    test.expect(goes_on(&mut map.keys(), &[(F, 2)]));
-    test.expect(goes_on(&mut map.get_all(&1), &[(B, 14)]));
-}
-
-// Each step at the front tells how many pairs are left.
-fn four_pairs_are_walked(test: &Test, map: &mut Numbers) {
-    refill(test, map, &[(1, 11), (2, 11), (1, 12), (2, 12)]);
-    let four = [(F, (1, 11)), (F, (2, 11)), (F, (1, 12)), (F, (2, 12))];
-    test.expect_same(walk_difference(&mut map.iter(), &four));
+    test_on_numbers!(rt.alloc(); keys_are_walked, walks_are_taken)
 }
 
 // Walks from both ends, and their clones.
 fn walks_are_taken(test: &Test, map: &mut Numbers) {
     refill(test, map, MIXED);
-    clones_go_on(test, map);
-    four_pairs_are_walked(test, map);
+    let pairs = &[(B, (1, 14)), (F, (2, 12)), (F, (2, 13))];
+    test.expect(goes_on(&mut map.iter(), pairs));
+    test.expect(goes_on(&mut map.values(), &[(B, 14), (F, 12), (F, 13)]));
+    test.expect(goes_on(&mut map.keys(), &[(F, 2)]));
+    test.expect(goes_on(&mut map.get_all(&1), &[(B, 14)]));
 }
 
 fn is_lent(item: Option<(&u32, EntryValues<'_, u32, u32>)>, key: u32, steps: &[Step<u32>]) -> bool {

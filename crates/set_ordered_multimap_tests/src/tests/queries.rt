@@ -98,10 +98,6 @@ fn texts_are_queries<S: BuildHasher>(test: &Test, set: &mut Owned<S>) {
 
 #[test]
 fn owned_texts_are_found_by_lent_ones(rt: HostRuntime) -> Result<(), Failed> {
-    test_on_new(rt.alloc(), SetOrderedMultimap::new, texts_are_queries)
-}
-
-#[test]
-fn collided_texts_are_found_by_lent_ones(rt: HostRuntime) -> Result<(), Failed> {
+    test_on_new(rt.alloc(), SetOrderedMultimap::new, texts_are_queries)?;
     test_on_new(rt.alloc(), collided, texts_are_queries)
 }

@@ -129,11 +129,7 @@ fn pairs_come_and_go<S: BuildHasher>(test: &Test, set: &mut SetBy<S>) {
 
 #[test]
 fn no_pair_stands_twice(rt: HostRuntime) -> Result<(), Failed> {
-    test_on_new(rt.alloc(), SetOrderedMultimap::new, pairs_come_and_go)
-}
-
-#[test]
-fn no_pair_of_one_hash_stands_twice(rt: HostRuntime) -> Result<(), Failed> {
+    test_on_new(rt.alloc(), SetOrderedMultimap::new, pairs_come_and_go)?;
     test_on_new(rt.alloc(), collided, pairs_come_and_go)
 }
 

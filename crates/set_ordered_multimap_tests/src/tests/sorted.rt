@@ -3,7 +3,9 @@ use crate::tests::sets::{Refusing, has_lists, refill};
 use refusing_allocator::RefusingAllocator;
 use set_ordered_multimap::SetOrderedMultimap;
 use std::alloc::Allocator;
-use test_helpers::{Failed, Test, copied, gives, requests_until_enough, try_on_new};
+use test_helpers::{
+    ASCENDING, Failed, SHUFFLED, Test, copied, gives, requests_until_enough, try_on_new,
+};
 
 #[derive(Clone, Copy)]
 enum Sort {
@@ -21,14 +23,8 @@ const SORTS: &[(Sort, &[u32], &[u32], u64)] = &[
     (Sort::Pairs, DESCENDING, KEYS, 5),
 ];
 
-// More keys than are sorted in place. Each has one value, by which the greatest key comes first.
-const KEYS: &[u32] = &[
-    1, 9, 17, 4, 12, 20, 7, 15, 2, 10, 18, 5, 13, 21, 8, 16, 3, 11, 19, 6, 14,
-];
-
-const ASCENDING: &[u32] = &[
-    1, 2, 3, 4, 5, 6, 7, 8, 9, 10, 11, 12, 13, 14, 15, 16, 17, 18, 19, 20, 21,
-];
+// The keys of the tests. Each has one value, by which the greatest key comes first.
+const KEYS: &[u32] = SHUFFLED;
 
 const DESCENDING: &[u32] = &[
     21, 20, 19, 18, 17, 16, 15, 14, 13, 12, 11, 10, 9, 8, 7, 6, 5, 4, 3, 2, 1,
