@@ -30,12 +30,18 @@ pub fn call_on_whole(
             add(other, replies)
         }
         "pop_front" => add(map.pop_front(), replies),
-        "sort_keys" => Ok(map.sort_keys()?),
-        "sort_keys_by" => Ok(map.sort_keys_by(|a, b| b.remainder().cmp(&a.remainder()))?),
-        "sort_by" => Ok(sort_pairs(map)?),
         "into_keys" => Ok(add_keys(taken(map), replies)?),
         "into_values" => Ok(add_values(taken(map), replies)?),
         "lists" => Ok(add_lists(map, replies)?),
+        _ => sort(map, word),
+    }
+}
+
+fn sort(map: &mut Map, word: &str) -> io::Result<()> {
+    match word {
+        "sort_keys" => Ok(map.sort_keys()?),
+        "sort_keys_by" => Ok(map.sort_keys_by(|a, b| b.remainder().cmp(&a.remainder()))?),
+        "sort_by" => Ok(sort_pairs(map)?),
         _ => Err(bad("not a command")),
     }
 }

@@ -36,11 +36,20 @@ pub fn parted(text: &str) -> (&str, &str) {
 fn carry_out(map: &mut Map, other: &mut Map, line: &str, replies: &mut String) -> io::Result<()> {
     let (word, operands) = parted(line);
     if operands.is_empty() {
-        return call_on_whole(map, other, word, replies);
+        call_on_whole(map, other, word, replies)
+    } else if word == "walk" {
+        walk(map, operands, replies)
+    } else {
+        carry_out_by_key(map, word, operands, replies)
     }
-    if word == "walk" {
-        return walk(map, operands, replies);
-    }
+}
+
+fn carry_out_by_key(
+    map: &mut Map,
+    word: &str,
+    operands: &str,
+    replies: &mut String,
+) -> io::Result<()> {
     let (key, number) = parted(operands);
     let key = Key::new(key)?;
     if number.is_empty() {

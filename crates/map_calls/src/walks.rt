@@ -35,6 +35,12 @@ pub fn walk(map: &mut Map, operands: &str, replies: &mut String) -> io::Result<(
         "keys" => add_steps(&mut map.keys(), word, replies),
         "values" => add_steps(&mut map.values(), word, replies),
         "pairs" => add_steps(&mut map.pairs(), word, replies),
+        _ => walk_writing(map, name, word, replies),
+    }
+}
+
+fn walk_writing(map: &mut Map, name: &str, word: &str, replies: &mut String) -> io::Result<()> {
+    match name {
         "iter_mut" => add_steps(&mut map.iter_mut(), word, replies),
         "values_mut" => add_steps(&mut map.values_mut(), word, replies),
         "into_iter" => add_steps(&mut taken(map).into_iter(), word, replies),
