@@ -57,11 +57,11 @@ impl<K: Eq + Hash, V: Eq, S: BuildHasher, A: Allocator> SetOrderedMultimap<K, V,
     /// use set_ordered_multimap::SetOrderedMultimap;
     ///
     /// let mut set = SetOrderedMultimap::new(rt.alloc());
-    /// set.insert("plan", "draft")?;
-    /// set.insert("note", "draft")?;
+    /// set.extend([("plan", "draft"), ("note", "draft")])?;
     /// assert!(rt; set.move_key_to_front("note"));
     /// assert!(rt; set.keys().eq(&["note", "plan"]));
     /// assert!(rt; set.iter().eq([(&"plan", &"draft"), (&"note", &"draft")]));
+    /// assert!(rt; !set.move_key_to_front("gone"));
     /// ```
     pub fn move_key_to_front<Q: KeyQuery<K>>(&mut self, key: Q) -> bool
         ensures present { result ≡ is_present_where (Q.equivalent key) self.old.lists.pairs }

@@ -64,10 +64,10 @@ impl<K: Eq + Hash, V, S: BuildHasher, A: Allocator> SetOrderedMultimap<K, V, S, 
     /// use set_ordered_multimap::SetOrderedMultimap;
     ///
     /// let mut set = SetOrderedMultimap::new(rt.alloc());
-    /// set.insert("plan", "draft")?;
-    /// set.insert("note", "draft")?;
+    /// set.extend([("plan", "draft"), ("note", "draft"), ("plan", "long")])?;
+    /// assert_eq!(rt; set.pop_back(), Some((KeyWrapper::Borrowed(&"plan"), "long")));
     /// assert_eq!(rt; set.pop_back(), Some((KeyWrapper::Owned("note"), "draft")));
-    /// assert_eq!(rt; set.keys_len(), 1);
+    /// assert!(rt; set.keys().eq(&["plan"]));
     /// ```
     pub fn pop_back(&mut self) -> Option<(KeyWrapper<'_, K>, V)>
         ensures* ends { sem 𝓛 (ends_set_popped K.row V.row S.row A.row S.Hasher.row K.Hash
