@@ -57,8 +57,10 @@ mod setting;
 mod value;
 
 use crate::answer::{add_answer_of_words, add_answers};
+use crate::config::Config;
 use ordered_multimap::ListOrderedMultimap;
 use program_parts::{Arguments, Fault, Program, run_program};
+use std::alloc::Global;
 use std::process::ExitCode;
 
 const PROGRAM: Program = Program {
@@ -100,11 +102,26 @@ fn main(rt: HostRuntime) -> ExitCode {
 /// What the program writes.
 fn answers_to(rt: &HostRuntime, arguments: &Arguments<'_>, input: &[u8]) -> Result<Vec<u8>, Fault> {
     let config = &mut ListOrderedMultimap::new(rt.alloc());
-    let mut answers = String::new(rt.alloc());
-    if arguments.are_none {
-        add_answers(rt.alloc(), config, input, &mut answers)?;
+    let words = if arguments.are_none {
+        None
     } else {
-        add_answer_of_words(rt.alloc(), config, input, arguments.words, &mut answers)?;
+        Some(arguments.words)
+    };
+    answers_of(rt.alloc(), config, input, words)
+}
+
+/// The answers to the command that the words are, or, without words, to the questions of the input.
+/// Its settings are read into `config`, which is empty.
+fn answers_of<'t>(
+    alloc: Global,
+    config: &mut Config<'t>,
+    input: &'t [u8],
+    words: Option<&'t [String]>,
+) -> Result<Vec<u8>, Fault> {
+    let mut answers = String::new(alloc);
+    match words {
+        None => add_answers(alloc, config, input, &mut answers)?,
+        Some(words) => add_answer_of_words(alloc, config, input, words, &mut answers)?,
     }
     Ok(answers.into_bytes())
 }
