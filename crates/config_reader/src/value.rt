@@ -244,7 +244,6 @@ fn step_in_escape(byte: u8) -> io::Result<(Mode, Effect)>
 }
 
 /// Adds a value as it can be read again: between quotes where it has to stand there.
-#[tactic(auto, using(crate::proofs::Values::written_behind_blank))]
 pub fn add_value(value: &str, text: &mut String) -> Result<(), AllocError>
     ensures written { OnOk result (string_bytes text.new ≡ string_bytes text.old
         ++ written value.now) }
@@ -255,10 +254,19 @@ pub fn add_value(value: &str, text: &mut String) -> Result<(), AllocError>
         return text.push_str(value);
     }
     text.push('"')?;
+    add_characters(value, text)?;
+    text.push('"')
+}
+
+/// Adds the characters of a value as they stand between quotes.
+fn add_characters(value: &str, text: &mut String) -> Result<(), AllocError>
+    ensures { OnOk result (string_bytes text.new ≡ string_bytes text.old
+        ++ flat_map quoted_byte value.now) }
+{
     for character in value.chars() {
         add_character(character, text)?;
     }
-    text.push('"')
+    Ok(())
 }
 
 fn add_character(character: char, text: &mut String) -> Result<(), AllocError>
