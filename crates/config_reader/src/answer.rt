@@ -10,7 +10,7 @@ ghost use Rattle.config_reader.specs.Changed.{CarriesOut, IsReadBack, KeepsConfi
 ghost use Rattle.config_reader.specs.Lines.{lined};
 ghost use Rattle.config_reader.specs.Names.{is_named_section, is_setting_of, same_name};
 ghost use Rattle.config_reader.specs.Shown.{answer_of, is_found, shown};
-ghost use Rattle.config_reader.specs.Written.{key_lines, line_of, section_lines, texts_of};
+ghost use Rattle.config_reader.specs.Written.{key_lines, line_of, section_lines, section_name, texts_of};
 ghost use Rattle.config_reader.specs.Written.{value_line, value_lines};
 ghost use Rattle.config_reader.specs.declared.command.Command.TheVariants.{Write};
 
@@ -237,12 +237,20 @@ fn add_sections(config: &Config<'_>, answers: &mut String) -> Result<bool, Alloc
     let mut is_there = false;
     for name in config.keys() {
         if name.is_named_section() {
-            name.section.add_name(answers)?;
-            answers.push('\n')?;
+            add_section(name.section, answers)?;
             is_there = true;
         }
     }
     Ok(is_there)
+}
+
+/// Adds the name of a section on a line.
+fn add_section(section: Section<'_>, answers: &mut String) -> Result<(), AllocError>
+    ensures { OnOk result (string_bytes answers.new ≡ string_bytes answers.old
+        ++ line_of (section_name section.entry)) }
+{
+    section.add_name(answers)?;
+    answers.push('\n')
 }
 
 /// Adds the text of all lines, in order.
