@@ -210,16 +210,25 @@ fn indent_in<'c>(config: &'c Config<'_>, section: Section<'_>, rank: usize) -> &
     }
 }
 
-/// The indent of the section's last setting, and a tab where there is none.
+/// The indent of the section's last setting, or else of its first one.
 fn usual_indent<'c>(config: &'c Config<'_>, section: Section<'_>) -> &'c str
     ensures blank { IsBlank result.now }
     ensures one_line { Lacks 10 result.now }
 {
-    for (name, lines) in config.iter().rev() {
+    let mut indent = first_indent(section);
+    for (name, lines) in config {
         if name.is_setting_of(section) {
-            return indent_of(lines.text.as_str());
+            indent = indent_of(lines.text.as_str());
         }
     }
+    indent
+}
+
+/// The indent of the first setting of a section: a tab, and nothing above the first section.
+fn first_indent(section: Section<'_>) -> &'static str
+    ensures blank { IsBlank result.now }
+    ensures one_line { Lacks 10 result.now }
+{
     if section == NO_SECTION { "" } else { "\t" }
 }
 

@@ -1,6 +1,6 @@
 use Rattle.std.proofs.Common.{[], ◌∷◌, refl}
 use Rattle.std.specs.Char.{encode_utf8}
-use Rattle.config_reader.proofs.change.usual_indent.Goals as goal
+use Rattle.config_reader.proofs.change.first_indent.Goals as goal
 
 pub returns-else-eq : goal.returns-else-eq
 unfolding encode_utf8
