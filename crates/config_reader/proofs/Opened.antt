@@ -13,7 +13,7 @@ use Rattle.config_reader.specs.Blocks.{OpensSection}
 use Rattle.config_reader.specs.Lines.{begins_nothing, says_nothing}
 use Rattle.config_reader.specs.Names.{Lacks}
 use Rattle.config_reader.specs.Said.{item_at}
-use Rattle.config_reader.specs.Sections.{IsTrimmed, is_outside_sub, is_outside_word, is_sub, is_word, opened}
+use Rattle.config_reader.specs.Sections.{IsTrimmed, is_outside_sub, is_outside_word, is_sub, is_word, needs_quotes, opened}
 use Rattle.config_reader.specs.Written.{in_quotes}
 use Rattle.config_reader.proofs.Blocks.{opening_line}
 use Rattle.config_reader.proofs.Called.{has_it}
@@ -149,9 +149,8 @@ module _ (b : ℕ) where
 
   word_parts : is_outside_word b ≡ false → (is_outside_sub b ≡ false) × ((b == 93) ≡ false)
   word_parts none =
-      let last = or_false (is_outside_sub b || b == 46 || b == 91) (b == 93) none in
-      let bracket = or_false (is_outside_sub b || b == 46) (b == 91) last.0 in
-      ((or_false (is_outside_sub b) (b == 46) bracket.0).0, last.1)
+      let both = or_false (is_outside_sub b) (needs_quotes b) none in
+      (both.0, (or_false (b == 46 || b == 91) (b == 93) both.1).1)
 
 -- a text that isn't empty, and has nothing that is outside
 module _ (outside : ℕ → Bool) (text : List ℕ) (allowed : (has_items text && not (list_any outside text)) ≡ true) where

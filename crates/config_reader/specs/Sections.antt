@@ -20,9 +20,12 @@ IsTrimmed cs = (skip_leading_whitespace cs ≡ cs) × (drop_trailing_whitespace 
 abbrev pub is_outside_sub : ℕ → Bool
 is_outside_sub b = b == 34 || b == 92 || b == 10
 
--- one of these, a dot, or a bracket
+-- a dot or a bracket, which only a name between quotes can have
+abbrev pub needs_quotes : ℕ → Bool
+needs_quotes b = b == 46 || b == 91 || b == 93
+
 abbrev pub is_outside_word : ℕ → Bool
-is_outside_word b = is_outside_sub b || b == 46 || b == 91 || b == 93
+is_outside_word b = is_outside_sub b || needs_quotes b
 
 -- whether a section can have this word, and this name between quotes
 abbrev pub is_word : List ℕ → Bool

@@ -122,12 +122,11 @@ fn answer_on_text<'t>(
 {
     read_config(alloc, config, text)?;
     end?;
-    Ok(carry_out(alloc, config, command, answers)?)
+    Ok(carry_out(config, command, answers)?)
 }
 
 /// Does what the command says, adds what it shows, and returns whether there is anything.
 fn carry_out<'t>(
-    alloc: Global,
     config: &mut Config<'t>,
     command: Command<'t>,
     answers: &mut String,
@@ -139,7 +138,7 @@ fn carry_out<'t>(
     ensures shown { OnOk result (string_bytes answers.new ≡ string_bytes answers.old
         ++ shown command.entry config.new.lists) }
 {
-    change(alloc, config, command)?;
+    change(config, command)?;
     show(config, command, answers)
 }
 
@@ -166,11 +165,7 @@ fn show<'t>(
 }
 
 /// Adds the last value of the name, and returns whether it has one.
-fn add_last<'t>(
-    config: &Config<'t>,
-    name: Name<'t>,
-    answers: &mut String,
-) -> Result<bool, AllocError>
+fn add_last(config: &Config<'_>, name: Name<'_>, answers: &mut String) -> Result<bool, AllocError>
     ensures found { IfOk result (λ found. found ≡ is_present same_name config.now.lists.pairs name.entry) }
     ensures shown { OnOk result (string_bytes answers.new ≡ string_bytes answers.old
         ++ value_line (end_item Back (values_of same_name config.now.lists.pairs name.entry))) }
@@ -183,11 +178,7 @@ fn add_last<'t>(
 }
 
 /// Adds each value of the name, and returns whether it has one.
-fn add_all<'t>(
-    config: &Config<'t>,
-    name: Name<'t>,
-    answers: &mut String,
-) -> Result<bool, AllocError>
+fn add_all(config: &Config<'_>, name: Name<'_>, answers: &mut String) -> Result<bool, AllocError>
     ensures found { IfOk result (λ found. found ≡ is_present same_name config.now.lists.pairs name.entry) }
     ensures shown { OnOk result (string_bytes answers.new ≡ string_bytes answers.old
         ++ value_lines (values_of same_name config.now.lists.pairs name.entry)) }

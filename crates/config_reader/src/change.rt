@@ -22,18 +22,14 @@ use std::alloc::{AllocError, Global};
 use std::borrow::CowStr;
 
 /// Does to the configuration what the command says.
-pub fn change<'t>(
-    alloc: Global,
-    config: &mut Config<'t>,
-    command: Command<'t>,
-) -> Result<(), AllocError>
+pub fn change<'t>(config: &mut Config<'t>, command: Command<'t>) -> Result<(), AllocError>
     ensures leaves { OnOk result (Leaves command.entry config.old.lists config.new.lists) }
     ensures read_back { OnOk result (IsReadBack command.entry config.new.lists) }
     ensures keeps { OnOk result (KeepsConfig command.entry config.old.lists config.new.lists) }
 {
     match command {
-        Command::Set(name, value) => set(alloc, config, name, value),
-        Command::Add(name, value) => add(alloc, config, name, value),
+        Command::Set(name, value) => set(config, name, value),
+        Command::Add(name, value) => add(config, name, value),
         Command::Unset(name) => {
             unset(config, name);
             Ok(())
@@ -45,34 +41,24 @@ pub fn change<'t>(
 
 /// Gives the name's first setting this value, and takes its others out. A new setting goes to the
 /// end of its section.
-fn set<'t>(
-    alloc: Global,
-    config: &mut Config<'t>,
-    name: Name<'t>,
-    value: &'t str,
-) -> Result<(), AllocError>
+fn set<'t>(config: &mut Config<'t>, name: Name<'t>, value: &'t str) -> Result<(), AllocError>
     ensures { OnOk result (Sets name.entry value.now config.old.lists config.new.lists) }
 {
     let Some((stored, lines)) = config.get_key_value(&name) else {
-        return add(alloc, config, name, value);
+        return add(config, name, value);
     };
     let indent = indent_of(lines.text.as_str());
-    let lines = setting(alloc, indent, stored.key, value, lines.rank)?;
+    let lines = setting(*config.allocator(), indent, stored.key, value, lines.rank)?;
     set_lines(config, name, lines)
 }
 
 /// Adds a setting at the end of its section, which is made where there is none.
-fn add<'t>(
-    alloc: Global,
-    config: &mut Config<'t>,
-    name: Name<'t>,
-    value: &'t str,
-) -> Result<(), AllocError>
+fn add<'t>(config: &mut Config<'t>, name: Name<'t>, value: &'t str) -> Result<(), AllocError>
     ensures { OnOk result (Adds name.entry value.now config.old.lists config.new.lists) }
 {
-    let rank = rank_of(alloc, config, name.section)?;
+    let rank = rank_of(config, name.section)?;
     let indent = indent_in(config, name.section, rank);
-    let lines = setting(alloc, indent, name.key, value, rank)?;
+    let lines = setting(*config.allocator(), indent, name.key, value, rank)?;
     add_lines(config, name, lines)
 }
 
@@ -109,11 +95,7 @@ fn unset<'t>(config: &mut Config<'t>, name: Name<'t>)
 }
 
 /// The rank of the section's settings. A section that isn't there is added at the end.
-fn rank_of<'t>(
-    alloc: Global,
-    config: &mut Config<'t>,
-    section: Section<'t>,
-) -> Result<usize, AllocError>
+fn rank_of<'t>(config: &mut Config<'t>, section: Section<'t>) -> Result<usize, AllocError>
     ensures { IfOk result (Opens section.entry config.old.lists config.new.lists) }
 {
     let name = Name::of_section(section);
@@ -121,22 +103,18 @@ fn rank_of<'t>(
         return Ok(0);
     }
     let Some(lines) = config.get_last(&name) else {
-        return add_section(alloc, config, name);
+        return add_section(config, name);
     };
     Ok(settings_rank(lines.rank))
 }
 
 /// Adds the line of the section of this name at the end, and returns the rank of its settings.
-fn add_section<'t>(
-    alloc: Global,
-    config: &mut Config<'t>,
-    name: Name<'t>,
-) -> Result<usize, AllocError>
+fn add_section<'t>(config: &mut Config<'t>, name: Name<'t>) -> Result<usize, AllocError>
     ensures { IfOk result (AddsSection name.entry config.old.lists config.new.lists) }
 {
     let last = config.back().map(|(_, lines)| lines.rank).unwrap_or(0);
     let rank = settings_rank(last).saturating_add(2);
-    config.append(name, section_line(alloc, name.section, rank)?)?;
+    config.append(name, section_line(*config.allocator(), name.section, rank)?)?;
     Ok(rank)
 }
 

@@ -9,7 +9,7 @@ ghost use Rattle.std.specs.String.{string_bytes};
 ghost use Rattle.std.specs.declared.io.ErrorKind.TheVariants.{InvalidData};
 ghost use Rattle.config_reader.specs.Blocks.{IsWritten, OpensSection};
 ghost use Rattle.config_reader.specs.Names.{IsCalledBy, IsCalledByDot, IsOpenAs, Lacks};
-ghost use Rattle.config_reader.specs.Sections.{IsTrimmed, has_capital_behind_dot, is_outside_sub, is_outside_word, is_sub, is_word};
+ghost use Rattle.config_reader.specs.Sections.{IsTrimmed, has_capital_behind_dot, is_outside_sub, is_sub, is_word, needs_quotes};
 ghost use Rattle.config_reader.specs.Sections.{of_dotted, opened, opened_in_quotes};
 ghost use Rattle.config_reader.specs.Sections.{of_unquoted, opened_without_quotes, spelled};
 ghost use Rattle.config_reader.specs.Written.{in_quotes, section_line, section_name};
@@ -191,17 +191,14 @@ impl<'t> Section<'t> {
 fn is_word(text: &str) -> bool
     ensures { result ≡ is_word text.now }
 {
-    if text.is_empty() {
-        return false;
-    }
-    !text.as_bytes().iter().any(|byte| is_outside_word(*byte))
+    is_sub(text) && !text.as_bytes().iter().any(|byte| needs_quotes(*byte))
 }
 
-// Whether no word of a section has the byte.
-fn is_outside_word(byte: u8) -> bool
-    ensures { result ≡ is_outside_word byte }
+// Whether only a name between quotes can have the byte.
+fn needs_quotes(byte: u8) -> bool
+    ensures { result ≡ needs_quotes byte }
 {
-    is_outside_sub(byte) || matches!(byte, b'.' | b'[' | b']')
+    matches!(byte, b'.' | b'[' | b']')
 }
 
 // Whether a letter behind the first dot is a capital.

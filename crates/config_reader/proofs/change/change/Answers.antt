@@ -20,13 +20,8 @@ returns-in-Unset-clause-read_back c =
     (ap (λ m. is_present same_name m.pairs c.in-Unset.name) c.unset.ensures
     ∙ absent_removed c.in-Unset.name c.args.config.now.lists)
 
-pub returns-in-Set-clause-keeps : goal.returns-in-Set-clause-keeps
-returns-in-Set-clause-keeps c =
-    rw c.in-Set.is (on_ok_weaker c.set.result (sets_read _ _ _ _) c.set.ensures)
-
-pub returns-in-Add-clause-keeps : goal.returns-in-Add-clause-keeps
-returns-in-Add-clause-keeps c =
-    rw c.in-Add.is (on_ok_weaker c.add.result (adds_read _ _ _ _) c.add.ensures)
+pub returns-in-Set-clause-leaves : goal.returns-in-Set-clause-leaves
+returns-in-Set-clause-leaves c = search rules
 
 pub returns-in-Unset-clause-keeps : goal.returns-in-Unset-clause-keeps
 returns-in-Unset-clause-keeps c =
@@ -34,5 +29,10 @@ returns-in-Unset-clause-keeps c =
     (λ is room config. subst IsConfig (sym c.unset.ensures)
     (removed_read c.in-Unset.name c.args.config.now.lists (has_key c.in-Unset.name is.0) config))
 
-pub returns-in-Set-clause-leaves : goal.returns-in-Set-clause-leaves
-returns-in-Set-clause-leaves c = search rules
+pub returns-in-Set-clause-keeps : goal.returns-in-Set-clause-keeps
+returns-in-Set-clause-keeps c =
+    rw c.in-Set.is (on_ok_weaker c.set.result (sets_read _ _ _ _) c.set.ensures)
+
+pub returns-in-Add-clause-keeps : goal.returns-in-Add-clause-keeps
+returns-in-Add-clause-keeps c =
+    rw c.in-Add.is (on_ok_weaker c.add.result (adds_read _ _ _ _) c.add.ensures)
