@@ -185,9 +185,9 @@ pub fn set_if_present<K: Eq + Hash + Drop, V: Drop, S: BuildHasher, A: Allocator
     key: K,
     value: V,
 ) -> Option<V>
+    ensures first { result ≡ slice_get (values_of K.eq map.old.lists.pairs key) 0 }
     ensures lists { ChangesPresent K.eq map.old.lists map.new.lists key
         (only_written (K.eq key) map.old.lists value) }
-    ensures first { result ≡ slice_get (values_of K.eq map.old.lists.pairs key) 0 }
 {
     match map.entry(key) {
         Entry::Occupied(mut entry) => Some(entry.set(value)),

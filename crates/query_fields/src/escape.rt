@@ -1,14 +1,14 @@
 //! The names and values of a query, and the texts that they stand for: `+` stands for a space, `%`
 //! and two hexadecimal digits for a byte, and any other byte for itself. Read leniently, as the URL
 //! standard has it, another `%` stands for itself, and what is no UTF-8 for U+FFFD.
-ghost use Rattle.std.specs.Prelude.{◌≡◌, ◌<◌, ◌∷◌, ◌++◌, length, IsUtf8, None, Some};
+ghost use Rattle.std.specs.Prelude.{◌≡◌, ◌<◌, ◌≤◌, ◌∷◌, ◌++◌, length, IsUtf8, None, Some};
 ghost use Rattle.std.specs.Prelude.{IfErr, IfNone, IfOk, IfSome, OnOk};
 ghost use Rattle.std.specs.Cow.{cow_str_bytes};
 ghost use Rattle.std.specs.IoError.{error_kind};
 ghost use Rattle.std.specs.declared.io.ErrorKind.TheVariants.{InvalidData};
 ghost use Rattle.std.specs.String.{string_bytes};
 ghost use Rattle.std.specs.Str.Lossy.{utf8_lossy};
-ghost use Rattle.query_fields.specs.Escape.{is_unreserved, written_byte, written, read, before};
+ghost use Rattle.query_fields.specs.Escape.{is_unreserved, written_byte, written, read, before, behind};
 ghost use Rattle.query_fields.specs.Escape.{read_any};
 
 use program_parts::bad;
@@ -75,12 +75,7 @@ pub fn strictly_decoded(alloc: Global, encoded: &str, position: usize) -> io::Re
     if !whole.contains(&b'%') && !whole.contains(&b'+') {
         return Ok(CowStr::Borrowed(encoded));
     }
-    let mut bytes = Vec::new(alloc);
-    let mut rest = whole;
-    while let Some((byte, behind)) = first_byte(rest) {
-        bytes.push(byte)?;
-        rest = behind;
-    }
+    let (bytes, rest) = good_bytes(alloc, whole)?;
     if !rest.is_empty() {
         return Err(bad_escape(alloc, position, whole.len() - rest.len()));
     }
@@ -92,6 +87,21 @@ pub fn strictly_decoded(alloc: Global, encoded: &str, position: usize) -> io::Re
             place_of(whole, error.utf8_error().valid_up_to()),
         )),
     }
+}
+
+/// The bytes that `encoded` stands for up to its first bad escape, and what stands from there on.
+#[tactic(auto, using(crate::proofs::Reading::reading))]
+fn good_bytes(alloc: Global, mut encoded: &[u8]) -> Result<(Vec<u8>, &[u8]), AllocError>
+    ensures read { IfOk result (λ r. read encoded.now ≡ behind r.0.items (read r.1.now)) }
+    ensures stop { IfOk result (λ r. 0 < length r.1.now → read r.1.now ≡ None) }
+    ensures within { IfOk result (λ r. length r.1.now ≤ length encoded.now) }
+{
+    let mut bytes = Vec::new(alloc);
+    while let Some((byte, behind)) = first_byte(encoded) {
+        bytes.push(byte)?;
+        encoded = behind;
+    }
+    Ok((bytes, encoded))
 }
 
 fn bad_escape(alloc: Global, position: usize, place: usize) -> io::Error {

@@ -12,9 +12,9 @@ use Rattle.multimap_walks.specs.declared.links.KeyLink.{KeyLink}
 use Rattle.multimap_walks.specs.declared.links.ValueLink.{ValueLink}
 use Rattle.multimap_walks.specs.Chained.{pairs_of}
 use Rattle.std.specs.Prelude.{find}
-use Rattle.ordered_multimap.specs.Agrees.{Agrees, HasKeyWhere, IsFoundBy, LacksWhere, StandsAt, items_of, lists_of}
+use Rattle.ordered_multimap.specs.Agrees.{Agrees, HasKey, HasKeyWhere, IsFoundBy, LacksWhere, StandsAt, items_of, lists_of}
 use Rattle.ordered_multimap.specs.Changes.{removed}
-use Rattle.ordered_multimap.specs.Keys.{stored_where}
+use Rattle.ordered_multimap.specs.Keys.{stored_key, stored_where}
 use Rattle.ordered_multimap.specs.Multimap.{Multimap}
 use Rattle.ordered_multimap.specs.Pairs.{has_items, is_present_where, values_where}
 use Rattle.ordered_multimap.specs.Removals.{IsRemovedWhere, LosesValues}
@@ -123,3 +123,10 @@ module _ {K : Type 0} (eq : K → K → Bool) (accepts : K → Bool) (s : K) (sa
       → IsRemovedWhere accepts eq old new
   removes_where {old = old} {new = new} lost rooms =
       subst (λ (t : K → Bool). IsRemovedWhere t eq old new) (sym same) (record { loses = lost; rooms = rooms })
+
+-- the stored key of a place that a query found is the first one that the query accepts
+pub found_at : {K : Type 0} {eq : K → K → Bool} {accepts : K → Bool} {keys : Slots K KeyLink} {place : ℕ} {key : K}
+    → StandsAt eq accepts keys place → (stored : List K) → true ≡ list_any accepts stored
+    → ((k : K) → HasKey eq keys k place → key ≡ stored_key eq stored k) → Some key ≡ find accepts stored
+found_at {eq = eq} {accepts = accepts} stands stored listed is =
+    found_stored eq accepts stands.stored stands.same stored (sym listed) (is stands.stored stands.own)

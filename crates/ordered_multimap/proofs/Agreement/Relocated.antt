@@ -90,6 +90,23 @@ module _ (name : ℕ → ℕ) where
       ap (λ o. cons_option o (filter_map f (map name ps))) (same p (inl refl))
       ∙ ap (cons_option (g p)) (filter_map-map f g ps (λ q i. same q (inr i)))
 
+-- the link that a listed place had, where each has got a new one
+module _ {X L : Type 0} (new_link : L → L) (slots : Slots X L) where
+  pub record WasLinked (place : ℕ) (l : L) : Type 0 where
+    pub listed : IsIn place slots.order
+    pub link : L
+    pub link_was : link_at slots place ≡ Some link
+    pub link_is : l ≡ new_link link
+
+  pub was_linked : (slots_after : Slots X L) → IsSound slots → slots_after.order ≡ slots.order
+      → ((place : ℕ) (l : L) → IsIn place slots.order → link_at slots place ≡ Some l → link_at slots_after place ≡ Some (new_link l))
+      → (place : ℕ) (l : L) → IsIn place slots_after.order → link_at slots_after place ≡ Some l → WasLinked place l
+  was_linked slots_after sound order links place l listed is =
+      let before = subst (IsIn place) order listed in
+      let m = held (link_at slots place) (sound.linked place before) in
+      let both : Some l ≡ Some (new_link m.value) = sym is ∙ links place m.value before m.is in
+      record { listed = before; link = m.value; link_was = m.is; link_is = let same : l ≡ new_link m.value = cc in same }
+
 module _ {K V : Type 0} (name : ℕ → ℕ) {keys keys_after : Slots K KeyLink} {values values_after : Slots V ValueLink}
     (keys_sound : IsSound keys) (values_sound : IsSound values) (chained : IsChained keys values)
     (r : Relocates name keys keys_after values values_after) where
@@ -126,18 +143,9 @@ module _ {K V : Type 0} (name : ℕ → ℕ) {keys keys_after : Slots K KeyLink}
       let same : l ≡ relocated_value name m.value = cc in
       record { old = n.place; old_listed = n.member; place_is = n.is; link = m.value; link_was = m.is; link_is = same }
 
-  record WasKey (key : ℕ) (l : KeyLink) : Type 0 where
-    key_listed : IsIn key keys.order
-    link : KeyLink
-    link_was : link_at keys key ≡ Some link
-    link_is : l ≡ relocated_key name link
-
-  was_key : (key : ℕ) (l : KeyLink) → IsIn key keys_after.order → link_at keys_after key ≡ Some l → WasKey key l
-  was_key key l listed is =
-      let before = subst (IsIn key) r.key_order listed in
-      let m = held (link_at keys key) (keys_sound.linked key before) in
-      let both : Some l ≡ Some (relocated_key name m.value) = sym is ∙ r.key_links key m.value before m.is in
-      record { key_listed = before; link = m.value; link_was = m.is; link_is = let same : l ≡ relocated_key name m.value = cc in same }
+  abbrev was_key : (key : ℕ) (l : KeyLink) → IsIn key keys_after.order → link_at keys_after key ≡ Some l
+      → WasLinked (relocated_key name) keys key l
+  was_key = was_linked (relocated_key name) keys keys_after keys_sound r.key_order r.key_links
 
   -- what is beside a value under its key, on either side, goes along
   beside : (of : List ℕ → ℕ → Option ℕ) (side : ValueLink → Option ℕ)
@@ -161,14 +169,14 @@ module _ {K V : Type 0} (name : ℕ → ℕ) {keys keys_after : Slots K KeyLink}
     head = λ key l listed is.
         let w = was_key key l listed is in
         ap first_of (chain_of-relocated key) ∙ first_of-map name (chain_of values key)
-        ∙ ap (option_map name) (chained.head key w.link w.key_listed w.link_was) ∙ ap (λ (x : KeyLink). Some x.head) (sym w.link_is);
+        ∙ ap (option_map name) (chained.head key w.link w.listed w.link_was) ∙ ap (λ (x : KeyLink). Some x.head) (sym w.link_is);
     tail = λ key l listed is.
         let w = was_key key l listed is in
         ap last_of (chain_of-relocated key) ∙ last_or-map name None (chain_of values key)
-        ∙ ap (option_map name) (chained.tail key w.link w.key_listed w.link_was) ∙ ap (λ (x : KeyLink). Some x.tail) (sym w.link_is);
+        ∙ ap (option_map name) (chained.tail key w.link w.listed w.link_was) ∙ ap (λ (x : KeyLink). Some x.tail) (sym w.link_is);
     length = λ key l listed is.
         let w = was_key key l listed is in
-        ap length (chain_of-relocated key) ∙ length-map (chain_of values key) name ∙ chained.length key w.link w.key_listed w.link_was
+        ap length (chain_of-relocated key) ∙ length-map (chain_of values key) name ∙ chained.length key w.link w.listed w.link_was
         ∙ ap (λ (x : KeyLink). x.length) (sym w.link_is);
     previous = beside previous_of (λ l. l.previous) (previous_of-map name) (λ l. refl) chained.previous;
     next = beside next_of (λ l. l.next) (next_of-map name) (λ l. refl) chained.next;
@@ -233,10 +241,10 @@ module _ {K V : Type 0} (name : ℕ → ℕ) {eq : K → K → Bool} {hash : K
     distinct = rw (items_of-relocated name agrees.keys_sound agrees.values_sound agrees.chained r) agrees.distinct;
     hashed = λ place k l listed item is.
         let w = was_key name agrees.keys_sound agrees.values_sound agrees.chained r place l listed is in
-        ap (λ (x : KeyLink). x.hash) w.link_is ∙ agrees.hashed place k w.link w.key_listed (sym (r.key_items place) ∙ item) w.link_was;
+        ap (λ (x : KeyLink). x.hash) w.link_is ∙ agrees.hashed place k w.link w.listed (sym (r.key_items place) ∙ item) w.link_was;
     in_table = λ place l listed is.
         let w = was_key name agrees.keys_sound agrees.values_sound agrees.chained r place l listed is in
-        agrees.in_table place w.link w.key_listed w.link_was ∙ ap (λ (x : KeyLink). Some x.hash) (sym w.link_is);
+        agrees.in_table place w.link w.listed w.link_was ∙ ap (λ (x : KeyLink). Some x.hash) (sym w.link_is);
     listed = λ place h e. subst (IsIn place) (sym r.key_order) (agrees.listed place h e);
     counted = agrees.counted ∙ sym (ap length r.key_order);
   }

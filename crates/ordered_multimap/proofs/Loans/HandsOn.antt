@@ -8,7 +8,7 @@ use Rattle.std.proofs.Common.{lit<}
 use lib.Dec.{T, ltb}
 use seplogic.Ra.Ura.{Ura}
 use mir.Syntax.{Ty, Callee, Fn, local, value_local, ty_ref, named, erased, mut, seq, assign, place, addr_of, deref, aggregate, int, w8}
-use mir.Syntax.{call, copy, return}
+use mir.Syntax.{Body, Local, call, copy, return}
 use mir.Val.{Val, vnil}
 use base.Logic.{SProp, id⊢}
 use base.Fml.{ftrue, fsep}
@@ -76,19 +76,25 @@ front = record { low = tt; is = ([], (refl, (tt, (refl, tt)))); good = (tt, (rec
 abbrev pub back : Written Back 1
 back = record { low = tt; is = ([], (refl, (tt, (refl, tt)))); good = (tt, (record { fits = lit< tt }, tt)) }
 
-abbrev pub hands : ℕ → List (ℕ × ℕ) → Ty → Ty → Ty → Ty → ℕ → Callee → Fn
-hands n os out held lent there k other = record {
+-- the code of a function of one argument, with its locals and its body
+abbrev pub of_one : ℕ → List (ℕ × ℕ) → List Local → Body → Fn
+of_one n os locals body = record {
   lifetimes = n;
   outlives = os;
   ty_params = [];
   givens = 0;
   params = 1;
-  locals = local out value_local ∷ local (ty_ref (named 0) mut held) value_local ∷ local (ty_ref erased mut lent) value_local
-      ∷ local (layout EndType.the_row) value_local ∷ [];
-  body = seq (assign (place 2 []) (addr_of (place 1 (deref there ∷ []))))
-      (seq (assign (place 3 []) (aggregate (int w8 k ∷ [])))
-      (seq (call other (copy (place 2 []) ∷ copy (place 3 []) ∷ []) (place 0 [])) return));
+  locals = locals;
+  body = body;
 }
+
+abbrev pub hands : ℕ → List (ℕ × ℕ) → Ty → Ty → Ty → Ty → ℕ → Callee → Fn
+hands n os out held lent there k other = of_one n os
+    (local out value_local ∷ local (ty_ref (named 0) mut held) value_local ∷ local (ty_ref erased mut lent) value_local
+    ∷ local (layout EndType.the_row) value_local ∷ [])
+    (seq (assign (place 2 []) (addr_of (place 1 (deref there ∷ []))))
+    (seq (assign (place 3 []) (aggregate (int w8 k ∷ [])))
+    (seq (call other (copy (place 2 []) ∷ copy (place 3 []) ∷ []) (place 0 [])) return)))
 
 module _ {M : Type 1} {𝓤 : Ura M} (𝓛 : Logic 𝓤) (𝓜 : Model 𝓤 𝓛.H) (𝓡 : Running 𝓤 𝓛.H 𝓜) (n : ℕ) (os : List (Outlives (suc n)))
     (R Out : Lfts (suc n) → RattleType) where

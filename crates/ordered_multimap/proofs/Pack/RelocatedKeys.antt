@@ -16,7 +16,7 @@ use Rattle.ordered_multimap.specs.Private.KeyRelocations.{AreMoved, ArePacked, H
 use Rattle.ordered_multimap.specs.Lists.{lists}
 use Rattle.ordered_multimap.proofs.Agreement.Agreed.{pair_in, pair_at-is, is_value_of-is}
 use Rattle.ordered_multimap.proofs.Callers.Places.{held, filter-agree, filter_map-agree}
-use Rattle.ordered_multimap.proofs.Agreement.Relocated.{IsIn-map, IsIn-name, filter_map-map, agrees-relocated, lists_of-relocated}
+use Rattle.ordered_multimap.proofs.Agreement.Relocated.{IsIn-map, IsIn-name, WasLinked, filter_map-map, agrees-relocated, lists_of-relocated, was_linked}
 
 module _ {K V : Type 0} (name : ℕ → ℕ) {eq : K → K → Bool} {hash : K
     → ℕ} {keys keys_after : Slots K KeyLink} {rows rows_after : FinMap nat_cmp ℕ} {values values_after : Slots V ValueLink}
@@ -41,19 +41,9 @@ module _ {K V : Type 0} (name : ℕ → ℕ) {eq : K → K → Bool} {hash : K
   item_was : (place : ℕ) (k : K) (w : WasAt place) → item_at keys_after place ≡ Some k → item_at keys w.old ≡ Some k
   item_was place k w is = sym (gone.slots w.old w.old_listed).item_is ∙ sym (ap (item_at keys_after) w.place_is) ∙ is
 
-  -- the value's link before
-  record Before (place : ℕ) (l : ValueLink) : Type 0 where
-    old_listed : IsIn place values.order
-    link : ValueLink
-    link_was : link_at values place ≡ Some link
-    link_is : l ≡ with_new_key name link
-
-  before : (place : ℕ) (l : ValueLink) → IsIn place values_after.order → link_at values_after place ≡ Some l → Before place l
-  before place l listed is =
-      let there = subst (IsIn place) come.order listed in
-      let m = held (link_at values place) (agrees.values_sound.linked place there) in
-      let both : Some l ≡ Some (with_new_key name m.value) = sym is ∙ come.links place m.value there m.is in
-      record { old_listed = there; link = m.value; link_was = m.is; link_is = let same : l ≡ with_new_key name m.value = cc in same }
+  abbrev before : (place : ℕ) (l : ValueLink) → IsIn place values_after.order → link_at values_after place ≡ Some l
+      → WasLinked (with_new_key name) values place l
+  before = was_linked (with_new_key name) values values_after agrees.values_sound come.order (λ q l. come.links q l)
 
   same_name : (p q : ℕ) → IsIn p keys.order → IsIn q keys.order → (name p == name q) ≡ (p == q)
   same_name p q i j = elim (cases_eq p q) [
@@ -78,9 +68,9 @@ module _ {K V : Type 0} (name : ℕ → ℕ) {eq : K → K → Bool} {hash : K
   chain_at : (place : ℕ) (w : WasAt place) → chain_of values_after place ≡ chain_of values w.old
   chain_at place w = ap (chain_of values_after) w.place_is ∙ same_chain w.old w.old_listed
 
-  chain_by : (place : ℕ) (l : ValueLink) (b : Before place l) → chain_of values_after l.key ≡ chain_of values b.link.key
+  chain_by : (place : ℕ) (l : ValueLink) (b : WasLinked (with_new_key name) values place l) → chain_of values_after l.key ≡ chain_of values b.link.key
   chain_by place l b = ap (λ (x : ValueLink). chain_of values_after x.key) b.link_is
-      ∙ same_chain b.link.key (agrees.chained.owned place b.link b.old_listed b.link_was)
+      ∙ same_chain b.link.key (agrees.chained.owned place b.link b.listed b.link_was)
 
   chained : IsChained keys_after values_after
   chained = record {
@@ -88,7 +78,7 @@ module _ {K V : Type 0} (name : ℕ → ℕ) {eq : K → K → Bool} {hash : K
         let b = before place l listed is in
         subst (λ q. IsIn q keys_after.order) (sym (ap (λ (x : ValueLink). x.key) b.link_is))
         (subst (IsIn (name b.link.key)) (sym gone.order)
-        (IsIn-name name b.link.key keys.order (agrees.chained.owned place b.link b.old_listed b.link_was)));
+        (IsIn-name name b.link.key keys.order (agrees.chained.owned place b.link b.listed b.link_was)));
     head = λ key l listed is. let w = was_at key listed in
         ap first_of (chain_at key w) ∙ agrees.chained.head w.old l w.old_listed (link_was key l w is);
     tail = λ key l listed is. let w = was_at key listed in
@@ -97,11 +87,11 @@ module _ {K V : Type 0} (name : ℕ → ℕ) {eq : K → K → Bool} {hash : K
         ap length (chain_at key w) ∙ agrees.chained.length w.old l w.old_listed (link_was key l w is);
     previous = λ place l listed is.
         let b = before place l listed is in
-        ap (λ ps. previous_of ps place) (chain_by place l b) ∙ agrees.chained.previous place b.link b.old_listed b.link_was
+        ap (λ ps. previous_of ps place) (chain_by place l b) ∙ agrees.chained.previous place b.link b.listed b.link_was
         ∙ ap (λ (x : ValueLink). x.previous) (sym b.link_is);
     next = λ place l listed is.
         let b = before place l listed is in
-        ap (λ ps. next_of ps place) (chain_by place l b) ∙ agrees.chained.next place b.link b.old_listed b.link_was
+        ap (λ ps. next_of ps place) (chain_by place l b) ∙ agrees.chained.next place b.link b.listed b.link_was
         ∙ ap (λ (x : ValueLink). x.next) (sym b.link_is);
   }
 

@@ -133,23 +133,21 @@ module _ {K V : Type 0} {eq : K → K → Bool} {hash : K → ℕ} {keys keys_af
       ] in
       ap (λ key. beside (chain_of values_after key) q) s.same_key ∙ left
 
-  before : (q : ℕ) (i : IsIn q values_after.order)
-      → previous_of (chain_of values_after (kept_at q i).now.key) q ≡ (kept_at q i).now.previous
-  before q i =
+  neighbours : (q : ℕ) (i : IsIn q values_after.order)
+      → (previous_of (chain_of values_after (kept_at q i).now.key) q ≡ (kept_at q i).now.previous)
+      × (next_of (chain_of values_after (kept_at q i).now.key) q ≡ (kept_at q i).now.next)
+  neighbours q i =
       let s = stays_at q i in
-      let neighbour = behind_own agrees.values_sound agrees.chained place takes.link listed takes.link_is q in
-      relinked previous_of (λ l. l.previous) q s.kept (agrees.chained.previous q s.kept.old s.kept.listed s.kept.old_is)
-      (λ whole. previous_left chain.front chain.back place q left_distinct s.other before_is behind_is whole s.behind s.not_behind)
-      (λ there. s.not_behind (λ e. there (same_key q s.kept (neighbour e).1)))
-
-  behind : (q : ℕ) (i : IsIn q values_after.order)
-      → next_of (chain_of values_after (kept_at q i).now.key) q ≡ (kept_at q i).now.next
-  behind q i =
-      let s = stays_at q i in
-      let neighbour = before_own agrees.values_sound agrees.chained place takes.link listed takes.link_is q in
-      relinked next_of (λ l. l.next) q s.kept (agrees.chained.next q s.kept.old s.kept.listed s.kept.old_is)
-      (λ whole. next_left chain.front chain.back place q left_distinct s.other before_is behind_is whole s.before s.not_before)
-      (λ there. s.not_before (λ e. there (same_key q s.kept (neighbour e).1)))
+      let own = same_key q s.kept in (
+        relinked previous_of (λ l. l.previous) q s.kept (agrees.chained.previous q s.kept.old s.kept.listed s.kept.old_is)
+            (λ whole. previous_left chain.front chain.back place q left_distinct s.other before_is behind_is whole s.behind s.not_behind)
+            (λ there. s.not_behind (λ e. there
+            (own (behind_own agrees.values_sound agrees.chained place takes.link listed takes.link_is q e).1))),
+        relinked next_of (λ l. l.next) q s.kept (agrees.chained.next q s.kept.old s.kept.listed s.kept.old_is)
+            (λ whole. next_left chain.front chain.back place q left_distinct s.other before_is behind_is whole s.before s.not_before)
+            (λ there. s.not_before (λ e. there
+            (own (before_own agrees.values_sound agrees.chained place takes.link listed takes.link_is q e).1))),
+      )
 
   -- the key's link names the ends and the length of what is left of its chain
   chained-one : IsChained keys_after values_after
@@ -172,7 +170,7 @@ module _ {K V : Type 0} {eq : K → K → Bool} {hash : K → ℕ} {keys keys_af
         length-append chain.front (place ∷ chain.back),
         count,
       ))
-      before behind
+      (λ q i. (neighbours q i).0) (λ q i. (neighbours q i).1)
 
   values_sound-one : IsSound values_after
   values_sound-one = record {

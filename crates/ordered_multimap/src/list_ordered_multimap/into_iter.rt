@@ -152,6 +152,7 @@ fn give_key<K: Clone, A: Allocator>(keys: &mut SlotList<K, KeyLink, A>, place: u
 }
 
 /// Takes the value at a listed place out, with its key or a clone of it.
+#[tactic(auto, using(crate::proofs::Walks::TakenApart::pairs_left, crate::proofs::Walks::TakenApart::counted_left))]
 fn give_pair<K: Clone, V, A: Allocator>(
     keys: &mut SlotList<K, KeyLink, A>,
     values: &mut Tape<V, ValueLink, A, PackedLink>,

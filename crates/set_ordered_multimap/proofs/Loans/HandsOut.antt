@@ -34,22 +34,17 @@ use denote.Triple.Spec.{Meets, triple_of}
 use denote.Triple.Table.{framed}
 use denote.Triple.Walked.{Stays, stay_dropped, walk_of, Goes-spent_ref}
 use Rattle.std.proofs.raw_atomic.Walks.{proved, leaves}
+use Rattle.ordered_multimap.proofs.Loans.HandsOn.{of_one}
 use Rattle.ordered_multimap.proofs.Loans.Outlived.{told, hears, tells}
 
 abbrev pub hands : ℕ → List (ℕ × ℕ) → Ty → Ty → Ty → Ty → Ty → Callee → Callee → Fn
-hands m os out held part there part_there lend other = record {
-  lifetimes = m;
-  outlives = os;
-  ty_params = [];
-  givens = 0;
-  params = 1;
-  locals = local out value_local ∷ local (ty_ref (named 0) mut held) value_local ∷ local (ty_ref erased mut part) value_local
-      ∷ local (ty_ref erased mut held) value_local ∷ local (ty_ref erased mut part) value_local ∷ [];
-  body = seq (assign (place 3 []) (addr_of (place 1 (deref there ∷ []))))
-      (seq (call lend (copy (place 3 []) ∷ []) (place 2 []))
-      (seq (assign (place 4 []) (addr_of (place 2 (deref part_there ∷ []))))
-      (seq (call other (copy (place 4 []) ∷ []) (place 0 [])) return)));
-}
+hands m os out held part there part_there lend other = of_one m os
+    (local out value_local ∷ local (ty_ref (named 0) mut held) value_local ∷ local (ty_ref erased mut part) value_local
+    ∷ local (ty_ref erased mut held) value_local ∷ local (ty_ref erased mut part) value_local ∷ [])
+    (seq (assign (place 3 []) (addr_of (place 1 (deref there ∷ []))))
+    (seq (call lend (copy (place 3 []) ∷ []) (place 2 []))
+    (seq (assign (place 4 []) (addr_of (place 2 (deref part_there ∷ []))))
+    (seq (call other (copy (place 4 []) ∷ []) (place 0 [])) return))))
 
 module _ {M : Type 1} {𝓤 : Ura M} (𝓛 : Logic 𝓤) (𝓜 : Model 𝓤 𝓛.H) (𝓡 : Running 𝓤 𝓛.H 𝓜) (os : List (Outlives 6))
     (K V S A B R T : RattleType) (Out : Lfts 6 → RattleType) where

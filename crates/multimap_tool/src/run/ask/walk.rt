@@ -9,6 +9,16 @@ use ordered_multimap::End;
 use ordered_multimap::list_ordered_multimap::{EntryValues, Iter, Keys, Values};
 use std::alloc::{AllocError, Allocator};
 
+/// Takes the item at an end of a walk.
+macro_rules! next_at {
+    ($walk:expr, $end:expr) => {
+        match $end {
+            End::Front => $walk.next(),
+            End::Back => $walk.next_back(),
+        }
+    };
+}
+
 /// A walk from both ends whose items are copied.
 pub(crate) trait Copied: Drop {
     ghost use Rattle.std.specs.Prelude.{◌≡◌, List, length};
@@ -40,11 +50,7 @@ impl<'map, K, V: Copy, A: Allocator> Copied for EntryValues<'map, K, V, A> {
     }
 
     fn take(&mut self, end: End) -> Option<V> {
-        let value = match end {
-            End::Front => self.next(),
-            End::Back => self.next_back(),
-        };
-        value.copied()
+        next_at!(self, end).copied()
     }
 }
 
@@ -58,11 +64,7 @@ impl<'map, K: Copy, A: Allocator> Copied for Keys<'map, K, A> {
     }
 
     fn take(&mut self, end: End) -> Option<K> {
-        let key = match end {
-            End::Front => self.next(),
-            End::Back => self.next_back(),
-        };
-        key.copied()
+        next_at!(self, end).copied()
     }
 }
 
@@ -76,11 +78,7 @@ impl<'map, K, V: Copy, A: Allocator> Copied for Values<'map, K, V, A> {
     }
 
     fn take(&mut self, end: End) -> Option<V> {
-        let value = match end {
-            End::Front => self.next(),
-            End::Back => self.next_back(),
-        };
-        value.copied()
+        next_at!(self, end).copied()
     }
 }
 
@@ -94,11 +92,7 @@ impl<'map, K: Copy, V: Copy, A: Allocator> Copied for Iter<'map, K, V, A> {
     }
 
     fn take(&mut self, end: End) -> Option<(K, V)> {
-        let pair = match end {
-            End::Front => self.next(),
-            End::Back => self.next_back(),
-        };
-        copied_pair(pair)
+        copied_pair(next_at!(self, end))
     }
 }
 

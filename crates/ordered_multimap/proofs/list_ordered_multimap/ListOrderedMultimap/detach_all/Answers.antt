@@ -6,7 +6,7 @@ use Rattle.ordered_multimap.specs.Pairs.{values_where}
 use Rattle.ordered_multimap.specs.Private.KeySteps.{DetachesWhere}
 use Rattle.ordered_multimap.specs.TapeNumbers.{TakesOut}
 use Rattle.ordered_multimap.proofs.Agreement.AbsentKeys.{detaches_none, has_first, removed_lacking}
-use Rattle.ordered_multimap.proofs.Agreement.Queries.{found_stored, of_key, stored_is}
+use Rattle.ordered_multimap.proofs.Agreement.Queries.{found_at, of_key, stored_is}
 use Rattle.ordered_multimap.proofs.Callers.ListedKeys.{find_none}
 use Rattle.ordered_multimap.proofs.list_ordered_multimap.ListOrderedMultimap.detach_all.Goals as goal
 
@@ -19,9 +19,7 @@ returns-in-Some-clause-detached g c =
 
 pub returns-in-Some-clause-found : goal.returns-in-Some-clause-found
 returns-in-Some-clause-found g c =
-    let stands = rw c.in-Some.is at c.look_up.ensures.stored in
-    found_stored g.K.PartialEq.eq (g.Q.KeyQuery.equivalent c.args.key) stands.stored stands.same c.args.self.now.lists.keys
-    (sym (rw c.in-Some.is at c.look_up.ensures.listed)) (c.detach_at.ensures.key stands.stored stands.own)
+    found_at (rw c.in-Some.is at c.look_up.ensures.stored) _ (rw c.in-Some.is at c.look_up.ensures.listed) c.detach_at.ensures.key
 
 pub returns-in-Some-clause-key : goal.returns-in-Some-clause-key
 returns-in-Some-clause-key g c =
