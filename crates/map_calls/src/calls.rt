@@ -76,11 +76,15 @@ fn add_values(map: Map, replies: &mut String) -> Result<(), AllocError> {
 
 /// Adds the pairs, the keys, and the values of each key from the front and from the back.
 fn add_lists(map: &Map, replies: &mut String) -> Result<(), AllocError> {
-    writeln!(replies, "{map:?}\n{:?}\n{:?}", map.keys(), map.pairs())?;
+    add_whole(map, replies)?;
     for (key, values) in map.pairs() {
         add_reversed(key, values, replies)?;
     }
     Ok(())
+}
+
+fn add_whole(map: &Map, replies: &mut String) -> Result<(), AllocError> {
+    writeln!(replies, "{map:?}\n{:?}\n{:?}", map.keys(), map.pairs())
 }
 
 fn add_reversed(

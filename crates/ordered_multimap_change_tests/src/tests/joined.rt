@@ -1,10 +1,8 @@
 //! Pairs of a map that all go to another one; `map_calls` has the rows.
 use ordered_multimap::ListOrderedMultimap;
 use ordered_multimap_callers::maps::{
-    MapBy, Numbers, Refusing, appends, collided, fill, has_lists, refill, reserve_anew,
-    test_on_empty,
+    MapBy, Numbers, Refusing, collided, fill, has_lists, refill, test_on_empty,
 };
-use ordered_multimap_callers::test_with_room;
 use refusing_allocator::RefusingAllocator;
 use std::alloc::Allocator;
 use std::hash::BuildHasher;
@@ -46,16 +44,35 @@ fn both_new<A: Allocator + Copy>(alloc: A) -> Both<A> {
     (Refusing::new(alloc), Refusing::new(alloc))
 }
 
-// It returns whether there was memory enough. Where there was not, both maps are as before.
+// Takes the pairs again behind one of its own, in the room that it has.
+fn take_again<A: Allocator + Copy>(test: &Test, map: &mut Refusing<A>, other: &mut Refusing<A>) {
+    fill(test, other, OTHER);
+    map.retain(|_key, value| *value == 2);
+    let room = (map.keys_capacity(), map.values_capacity());
+    test.expect(map.append_map(other).is_ok());
+    test.expect((map.keys_capacity(), map.values_capacity()) == room);
+    let pairs = [(2, 2), (3, 4), (1, 5), (4, 6), (3, 7)];
+    test.expect(has_lists(map, &pairs, &[2, 3, 1, 4]));
+}
+
+// Once the map has taken the pairs it needs no more memory, however often its slots are used up.
+fn take_often<A: Allocator + Copy>(test: &Test, map: &mut Refusing<A>, other: &mut Refusing<A>) {
+    for _round in 0..8u32 {
+        take_again(test, map, other);
+    }
+}
+
+// It returns whether there was memory enough, with none left. Where there was not, both maps are as
+// before.
 fn moved<A: Allocator + Copy>(test: &Test, both: &mut Both<A>) -> bool {
     let (map, other) = both;
-    let enough = map.append_map(other).is_ok();
-    if enough {
-        test.expect(has_lists(map, JOINED, &[1, 2, 3, 4]) && has_lists(other, &[], &[]));
-    } else {
+    if map.append_map(other).is_err() {
         test.expect(has_lists(map, PAIRS, &[1, 2]) && has_lists(other, OTHER, &[3, 1, 4]));
+        return false;
     }
-    enough
+    test.expect(has_lists(map, JOINED, &[1, 2, 3, 4]) && has_lists(other, &[], &[]));
+    take_often(test, map, other);
+    true
 }
 
 fn fill_both<A: Allocator + Copy>(test: &Test, both: &mut Both<A>) {
@@ -75,40 +92,4 @@ fn a_refused_request_changes_neither_map(rt: HostRuntime) -> Result<(), Failed> 
     // Two for the slots of keys, and three for those of values.
     test.expect(enough == Some(5));
     test.end()
-}
-
-// Leaves one pair, behind the holes of those that came before it.
-fn use_slots_up<A: Allocator + Copy>(test: &Test, map: &mut Refusing<A>) {
-    test.expect(appends(map, 1, 0, false));
-    for number in 1..8u32 {
-        test.expect(appends(map, 1, number, true));
-        map.retain(|_key, value| *value == number);
-    }
-}
-
-fn takes_no_memory<A: Allocator + Copy>(
-    test: &Test,
-    memory: &RefusingAllocator,
-    map: &mut Refusing<A>,
-    other: &mut Refusing<A>,
-) {
-    reserve_anew(test, memory, map, 3, 5);
-    use_slots_up(test, map);
-    let room = (map.keys_capacity(), map.values_capacity());
-    test.expect(map.append_map(other).is_ok() && !memory.refused());
-    test.expect((map.keys_capacity(), map.values_capacity()) == room);
-    let pairs = [(1, 7), (3, 4), (1, 5), (4, 6), (3, 7)];
-    test.expect(has_lists(map, &pairs, &[1, 3, 4]));
-}
-
-fn join_full<A: Allocator + Copy>(test: &Test, memory: &RefusingAllocator, map: &mut Refusing<A>) {
-    lend(Refusing::new(*map.allocator()), |other| {
-        fill(test, other, OTHER);
-        takes_no_memory(test, memory, map, other)
-    })
-}
-
-#[test]
-fn maps_are_joined_in_room(rt: HostRuntime) -> Result<(), Failed> {
-    test_with_room!(rt.alloc(); 0, 0; join_full)
 }

@@ -123,13 +123,25 @@ fn fill_both<A: Allocator + Copy>(test: &Test, both: &mut Both<A>) {
     refill(test, &mut both.1, OTHER);
 }
 
-// It returns whether there was memory enough. Where there was not, both sets are as before.
+// Takes the pairs again, in the room that it has.
+fn take_again<A: Allocator + Copy>(test: &Test, set: &mut Refusing<A>, other: &mut Refusing<A>) {
+    refill(test, other, OTHER);
+    set.retain(|_key, value| *value == 3);
+    let room = rooms(set);
+    test.expect(set.append_map(other).is_ok() && rooms(set) == room);
+    let pairs = [(1, 3), (3, 3), (4, 5), (1, 6)];
+    test.expect(has_lists(set, &pairs, &[1, 3, 4]));
+}
+
+// It returns whether there was memory enough, with none left. Where there was not, both sets are as
+// before.
 fn moved<A: Allocator + Copy>(test: &Test, both: &mut Both<A>) -> bool {
     let (set, other) = both;
     let room = rooms(other);
     let enough = set.append_map(other).is_ok();
     if enough {
         test.expect(has_lists(set, JOINED, &[1, 2, 3, 4]) && has_lists(other, &[], &[]));
+        take_again(test, set, other);
     } else {
         test.expect(has_lists(set, FULL, &[1, 2]) && has_lists(other, OTHER, &[3, 1, 4]));
     }
@@ -141,32 +153,12 @@ fn joins_with(test: &Test, granted: u64) -> bool {
     try_on_new!(test, granted; both_new; fill_both; moved)
 }
 
-fn join_and_fill_other<A: Allocator + Copy>(test: &Test, both: &mut Both<A>) {
-    fill_both(test, both);
-    let (set, other) = both;
-    test.expect(set.append_map(other).is_ok());
-    refill(test, other, OTHER);
-    set.retain(|_key, value| *value == 3);
-}
-
-// Once the set has taken the pairs it needs no memory to take them again.
-fn joins_in_room<A: Allocator + Copy>(test: &Test, both: &mut Both<A>) -> bool {
-    let (set, other) = both;
-    let room = rooms(set);
-    test.expect(set.append_map(other).is_ok() && rooms(set) == room);
-    has_lists(set, &[(1, 3), (3, 3), (4, 5), (1, 6)], &[1, 3, 4])
-}
-
 fn each_request_is_refused(test: &Test) {
     let enough = requests_until_enough(|granted| joins_with(test, granted));
     test.expect(enough.unwrap_or(0) >= 2);
 }
 
-fn room_needs_no_request(test: &Test) {
-    test.expect(try_on_new!(test, 0; both_new; join_and_fill_other; joins_in_room));
-}
-
 #[test]
 fn a_refused_request_changes_neither_set(rt: HostRuntime) -> Result<(), Failed> {
-    test_all!(rt.alloc(); each_request_is_refused, room_needs_no_request)
+    test_all!(rt.alloc(); each_request_is_refused)
 }
