@@ -24,6 +24,7 @@ is_outside_sub b = b == 34 || b == 92 || b == 10
 abbrev pub needs_quotes : ℕ → Bool
 needs_quotes b = b == 46 || b == 91 || b == 93
 
+-- what no word has: what no name between quotes has, or what only such a name can have
 abbrev pub is_outside_word : ℕ → Bool
 is_outside_word b = is_outside_sub b || needs_quotes b
 
