@@ -9,7 +9,7 @@ use std::alloc::{AllocError, Allocator};
 
 /// Returns the text of the replies, each followed by a line feed.
 ///
-/// docs/GUIDE.md says what is written for each reply.
+/// docs/TOOLS.md says what is written for each reply.
 ///
 /// # Errors
 ///

@@ -1,6 +1,6 @@
 //! Laws of steps and runs, and of maps as JSON values, for proved callers.
 //!
-//! The functions do nothing: what a function ensures is the law. See docs/PROVED_CALLERS.md.
+//! The functions do nothing: what a function ensures is the law. See CALLING.md.
 ghost use Rattle.std.specs.Prelude.{◌≡◌, ◌+◌, ℕ, List, Some, Contains, take, slice_get};
 ghost use Rattle.ordered_multimap.specs.Lists.{Lists, IsWellFormed, lists};
 ghost use Rattle.ordered_multimap.specs.Changes.{first_occurrences};

@@ -17,7 +17,7 @@
 //! ```
 //!
 //! The left column has the commands, the next one the replies, and the right one the pairs then.
-//! The commands are listed in docs/GUIDE.md; as values they are [`commands::Command`], and the
+//! The commands are listed in docs/TOOLS.md; as values they are [`commands::Command`], and the
 //! replies [`replies::Reply`]. The map keeps its pairs in insertion order, and its keys in the
 //! order in which each last became present (see the crate `ordered_multimap`). There are no
 //! commands for the set of the crate `set_ordered_multimap`, in which no pair occurs twice.
@@ -62,7 +62,7 @@
 //! assert_eq!(rt; output.as_slice(), b"new\nnew\nold 10\n2:20 1:40\n1 2\n".as_slice());
 //! ```
 //!
-//! Proved callers: see docs/PROVED_CALLERS.md.
+//! Proved callers: see CALLING.md.
 #![tactic(auto)]
 
 pub mod commands;

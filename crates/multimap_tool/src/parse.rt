@@ -20,7 +20,7 @@ use std::alloc::{AllocError, Allocator};
 /// Reads the commands of a text, one of each line.
 ///
 /// A line is a command's word and its arguments, each after one space. Each command has one
-/// spelling, which docs/GUIDE.md lists. The text may have any bytes. What follows the last line
+/// spelling, which docs/TOOLS.md lists. The text may have any bytes. What follows the last line
 /// feed is a line unless it is empty.
 ///
 /// # Errors

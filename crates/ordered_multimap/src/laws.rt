@@ -1,6 +1,6 @@
 //! Laws of the map's definitions, for proved callers.
 //!
-//! The functions do nothing: what a function ensures is the law. See docs/PROVED_CALLERS.md.
+//! The functions do nothing: what a function ensures is the law. See CALLING.md.
 ghost use Rattle.std.specs.Borrow.{sem};
 ghost use Rattle.ordered_multimap.specs.Exact.{InnerWalksAreExact, WalksAreExact};
 ghost use Rattle.ordered_multimap.specs.Lists.{Lists, IsWellFormed};

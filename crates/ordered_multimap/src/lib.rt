@@ -150,8 +150,8 @@
 //! assert_eq!(rt; map.get("line"), Some(&1));
 //! ```
 //!
-//! Proved callers: what a proof needs beyond these comments is on the page docs/PROVED_CALLERS.md.
-//! The comment of a call that has a section there says so.
+//! Proved callers: what a proof needs beyond these comments is on the page CALLING.md. The comment
+//! of a call that has a section there says so.
 #![tactic(auto)]
 
 pub mod laws;

@@ -29,7 +29,7 @@ use std::hash::Hash;
 /// is. The file `crates/ordered_multimap_tests/src/tests/queries/names.rt` looks up header names in
 /// any case.
 ///
-/// Proved callers: see docs/PROVED_CALLERS.md.
+/// Proved callers: see CALLING.md.
 ///
 /// # Examples
 ///

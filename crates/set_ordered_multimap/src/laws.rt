@@ -1,6 +1,6 @@
 //! Laws of the set's definitions, for proved callers.
 //!
-//! The functions do nothing: what a function ensures is the law. See docs/PROVED_CALLERS.md.
+//! The functions do nothing: what a function ensures is the law. See CALLING.md.
 ghost use Rattle.std.specs.Prelude.{List};
 ghost use Rattle.set_ordered_multimap.specs.Laws.{ChangesKeepSets, KeepsFirstPairs};
 

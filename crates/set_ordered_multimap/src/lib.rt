@@ -100,7 +100,7 @@
 //! assert!(rt; tags.iter().eq([(&"note", &"draft"), (&"plan", &"long")]));
 //! ```
 //!
-//! Proved callers: see docs/PROVED_CALLERS.md.
+//! Proved callers: see CALLING.md.
 #![tactic(auto)]
 
 pub mod laws;

@@ -12,7 +12,7 @@ use std::alloc::{AllocError, Global};
 /// memory. A type of your own that is written alone implements [`ToJson`](crate::json::ToJson).
 /// There is no implementation for floats: JSON has no NaN.
 ///
-/// Proved callers: see docs/PROVED_CALLERS.md.
+/// Proved callers: see CALLING.md.
 pub trait JsonPart {
     ghost use Rattle.std.specs.Prelude.{Bool};
     ghost use Rattle.serde_json.specs.Data.{Data};

@@ -11,7 +11,7 @@ use std::alloc::{AllocError, Global};
 /// Each [`JsonPart`] is one. A type of your own that can't be read implements this trait alone, as
 /// `&str` does.
 ///
-/// Proved callers: see docs/PROVED_CALLERS.md.
+/// Proved callers: see CALLING.md.
 pub trait ToJson {
     ghost use Rattle.std.specs.Prelude.{Bool};
     ghost use Rattle.serde_json.specs.Data.{Data};

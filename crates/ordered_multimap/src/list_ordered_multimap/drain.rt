@@ -99,7 +99,7 @@ impl<K: Eq + Hash, V: Drop, S: BuildHasher, A: Allocator> ListOrderedMultimap<K,
     /// [`remove_all`](Self::remove_all) says what happens to the iterator. The key may be a query
     /// ([`KeyQuery`]).
     ///
-    /// It is for proved callers: see docs/PROVED_CALLERS.md.
+    /// It is for proved callers: see CALLING.md.
     ///
     /// # Complexity
     ///
@@ -147,7 +147,7 @@ impl<K: Eq + Hash, V: Drop, S: BuildHasher, A: Allocator> ListOrderedMultimap<K,
     /// [`remove_entry_with_all`](Self::remove_entry_with_all). To get the first value only see
     /// [`remove_entry`](Self::remove_entry).
     ///
-    /// Proved callers: see docs/PROVED_CALLERS.md.
+    /// Proved callers: see CALLING.md.
     ///
     /// # Complexity
     ///

@@ -111,7 +111,7 @@ impl<K: Eq + Hash, V, S: BuildHasher, A: Allocator> ListOrderedMultimap<K, V, S,
     ///
     /// No memory is freed: later additions reuse the slots.
     ///
-    /// Proved callers: see docs/PROVED_CALLERS.md.
+    /// Proved callers: see CALLING.md.
     ///
     /// # Complexity
     ///
@@ -149,7 +149,7 @@ impl<K: Eq + Hash, V, S: BuildHasher, A: Allocator> ListOrderedMultimap<K, V, S,
     ///
     /// No memory is freed: later additions reuse the slots.
     ///
-    /// Proved callers: see docs/PROVED_CALLERS.md.
+    /// Proved callers: see CALLING.md.
     ///
     /// # Complexity
     ///
@@ -180,7 +180,7 @@ impl<K: Eq + Hash, V, S: BuildHasher, A: Allocator> ListOrderedMultimap<K, V, S,
     /// Removes the first pair, calls the function on the result of [`pop_front`](Self::pop_front),
     /// and returns what the function returns.
     ///
-    /// It is for proved callers: see docs/PROVED_CALLERS.md. Others use
+    /// It is for proved callers: see CALLING.md. Others use
     /// [`pop_front`](Self::pop_front).
     ///
     /// # Complexity
@@ -217,7 +217,7 @@ impl<K: Eq + Hash, V, S: BuildHasher, A: Allocator> ListOrderedMultimap<K, V, S,
     /// Removes the last pair, calls the function on the result of [`pop_back`](Self::pop_back), and
     /// returns what the function returns.
     ///
-    /// It is for proved callers: see docs/PROVED_CALLERS.md. Others use
+    /// It is for proved callers: see CALLING.md. Others use
     /// [`pop_back`](Self::pop_back).
     ///
     /// # Complexity

@@ -157,7 +157,7 @@ impl<K: Eq + Hash, V, S: BuildHasher, A: Allocator + Copy> ListOrderedMultimap<K
     /// see [`sort_keys`](Self::sort_keys), and by what the values say
     /// [`sort_keys_by_cached_key`](Self::sort_keys_by_cached_key).
     ///
-    /// Proved callers: see docs/PROVED_CALLERS.md.
+    /// Proved callers: see CALLING.md.
     ///
     /// # Errors
     ///

@@ -111,7 +111,7 @@ impl<K: Eq + Hash, V, S: BuildHasher, A: Allocator> ListOrderedMultimap<K, V, S,
     /// [`retain`](Self::retain). With [`iter_mut`](Self::iter_mut) a loop can stop early, begin at
     /// the back, or keep the references.
     ///
-    /// Proved callers: see docs/PROVED_CALLERS.md.
+    /// Proved callers: see CALLING.md.
     ///
     /// # Complexity
     ///
@@ -159,7 +159,7 @@ impl<K: Eq + Hash, V, S: BuildHasher, A: Allocator> ListOrderedMultimap<K, V, S,
     /// stop early, begin at the back, or keep the references. For the values of all pairs see
     /// [`update_values`](Self::update_values).
     ///
-    /// Proved callers: see docs/PROVED_CALLERS.md.
+    /// Proved callers: see CALLING.md.
     ///
     /// # Complexity
     ///

@@ -35,7 +35,7 @@ impl<K: Eq + Hash, V, S: BuildHasher, A: Allocator> ListOrderedMultimap<K, V, S,
     /// the borrow ends sooner. A `for` loop over the call itself, and [`get_mut`](Self::get_mut),
     /// need none of this.
     ///
-    /// Proved callers: see docs/PROVED_CALLERS.md.
+    /// Proved callers: see CALLING.md.
     ///
     /// # Complexity
     ///
@@ -74,7 +74,7 @@ impl<K: Eq + Hash, V, S: BuildHasher, A: Allocator> ListOrderedMultimap<K, V, S,
     /// [`iter_mut`](Self::iter_mut) says what stays the same, and how long the map is borrowed. For
     /// the values of one key see [`get_all_mut`](Self::get_all_mut).
     ///
-    /// Proved callers: see docs/PROVED_CALLERS.md.
+    /// Proved callers: see CALLING.md.
     ///
     /// # Complexity
     ///
@@ -112,7 +112,7 @@ impl<K: Eq + Hash, V, S: BuildHasher, A: Allocator> ListOrderedMultimap<K, V, S,
     /// [`update_all`](Self::update_all). The key may be a query, as `&str` for `String` keys
     /// ([`KeyQuery`]).
     ///
-    /// Proved callers: see docs/PROVED_CALLERS.md.
+    /// Proved callers: see CALLING.md.
     ///
     /// # Complexity
     ///

@@ -117,7 +117,7 @@ impl<K: Eq + Hash, V, S: BuildHasher, A: Allocator> ListOrderedMultimap<K, V, S,
 
     /// Returns the first pair of a map that isn't empty, with a mutable reference to the value.
     ///
-    /// It is for proved callers: see docs/PROVED_CALLERS.md. Others use
+    /// It is for proved callers: see CALLING.md. Others use
     /// [`front_mut`](Self::front_mut), which returns `None` if the map is empty.
     ///
     /// # Complexity
@@ -153,7 +153,7 @@ impl<K: Eq + Hash, V, S: BuildHasher, A: Allocator> ListOrderedMultimap<K, V, S,
 
     /// Returns the last pair of a map that isn't empty, with a mutable reference to the value.
     ///
-    /// It is for proved callers: see docs/PROVED_CALLERS.md. Others use
+    /// It is for proved callers: see CALLING.md. Others use
     /// [`back_mut`](Self::back_mut), which returns `None` if the map is empty.
     ///
     /// # Complexity
@@ -213,7 +213,7 @@ impl<K: Eq + Hash, V, S: BuildHasher, A: Allocator> ListOrderedMultimap<K, V, S,
     /// To read the value only see [`front`](Self::front), and to remove the pair
     /// [`pop_front`](Self::pop_front).
     ///
-    /// Proved callers: see docs/PROVED_CALLERS.md.
+    /// Proved callers: see CALLING.md.
     ///
     /// # Complexity
     ///
@@ -246,7 +246,7 @@ impl<K: Eq + Hash, V, S: BuildHasher, A: Allocator> ListOrderedMultimap<K, V, S,
     /// To read the value only see [`back`](Self::back), and to remove the pair
     /// [`pop_back`](Self::pop_back).
     ///
-    /// Proved callers: see docs/PROVED_CALLERS.md.
+    /// Proved callers: see CALLING.md.
     ///
     /// # Complexity
     ///

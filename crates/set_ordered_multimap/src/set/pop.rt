@@ -18,7 +18,7 @@ impl<K: Eq + Hash, V, S: BuildHasher, A: Allocator> SetOrderedMultimap<K, V, S, 
     /// keys. The call doesn't allocate. To remove a pair by its key and value see
     /// [`remove_value`](Self::remove_value).
     ///
-    /// Proved callers: see docs/PROVED_CALLERS.md.
+    /// Proved callers: see CALLING.md.
     ///
     /// # Complexity
     ///
@@ -51,7 +51,7 @@ impl<K: Eq + Hash, V, S: BuildHasher, A: Allocator> SetOrderedMultimap<K, V, S, 
     /// The key is owned or borrowed as that of [`pop_front`](Self::pop_front). The call doesn't
     /// allocate.
     ///
-    /// Proved callers: see docs/PROVED_CALLERS.md.
+    /// Proved callers: see CALLING.md.
     ///
     /// # Complexity
     ///
@@ -83,7 +83,7 @@ impl<K: Eq + Hash, V: Eq, S: BuildHasher, A: Allocator> SetOrderedMultimap<K, V,
     /// Removes the first pair, and returns the result of `f` on what `pop_front` returns.
     ///
     /// It is for proved callers; others take [`pop_front`](Self::pop_front), which costs the same.
-    /// See docs/PROVED_CALLERS.md.
+    /// See CALLING.md.
     ///
     /// # Complexity
     ///
@@ -115,7 +115,7 @@ impl<K: Eq + Hash, V: Eq, S: BuildHasher, A: Allocator> SetOrderedMultimap<K, V,
     /// Removes the last pair, and returns the result of `f` on what `pop_back` returns.
     ///
     /// It is for proved callers; others take [`pop_back`](Self::pop_back), which costs the same.
-    /// See docs/PROVED_CALLERS.md.
+    /// See CALLING.md.
     ///
     /// # Complexity
     ///

@@ -150,7 +150,7 @@ impl<K: Eq + Hash, V: Eq + Drop, S: BuildHasher, A: Allocator> SetOrderedMultima
     /// absent. The other keys and pairs keep their order. The call doesn't allocate. To remove one
     /// pair see [`remove_value`](Self::remove_value). The key may be a query ([`KeyQuery`]).
     ///
-    /// Proved callers: see docs/PROVED_CALLERS.md.
+    /// Proved callers: see CALLING.md.
     ///
     /// # Complexity
     ///
@@ -183,7 +183,7 @@ impl<K: Eq + Hash, V: Eq + Drop, S: BuildHasher, A: Allocator> SetOrderedMultima
     /// Removes the key with all its values, and passes each value to `f`, in insertion order.
     ///
     /// It is for proved callers; others take [`remove_all`](Self::remove_all). The stored key is
-    /// dropped. The key may be a query ([`KeyQuery`]). See docs/PROVED_CALLERS.md.
+    /// dropped. The key may be a query ([`KeyQuery`]). See CALLING.md.
     ///
     /// # Complexity
     ///

@@ -50,8 +50,8 @@ impl<'map, K, V, A: Allocator, F: LinkForm<ValueLink>> ValuesMut<'map, K, V, A, 
 
     /// Ends the iterator, and returns the right to write the values that it hasn't yielded.
     ///
-    /// It is for proved callers: `Cells::end` says what all values end as. See
-    /// docs/PROVED_CALLERS.md.
+    /// It is for proved callers: `Cells::end` says what all values end as. See CALLING.md
+    /// of the crate `ordered_multimap`.
     ///
     /// # Complexity
     ///

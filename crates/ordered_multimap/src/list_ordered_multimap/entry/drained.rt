@@ -21,7 +21,7 @@ impl<'map, K: Eq + Hash, V: Drop, S: BuildHasher, A: Allocator> OccupiedEntry<'m
     /// taken are dropped with it; if it is leaked, they are dropped when their slots are used
     /// again, or with the map. The stored key is dropped. The call doesn't allocate.
     ///
-    /// Proved callers: see docs/PROVED_CALLERS.md.
+    /// Proved callers: see CALLING.md.
     ///
     /// # Complexity
     ///
@@ -58,7 +58,7 @@ impl<'map, K: Eq + Hash, V: Drop, S: BuildHasher, A: Allocator> OccupiedEntry<'m
     /// The pairs leave the map at this call, as by [`remove_all`](Self::remove_all). The call
     /// doesn't allocate.
     ///
-    /// Proved callers: see docs/PROVED_CALLERS.md.
+    /// Proved callers: see CALLING.md.
     ///
     /// # Complexity
     ///

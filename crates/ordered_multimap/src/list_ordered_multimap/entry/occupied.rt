@@ -205,7 +205,7 @@ impl<'map, K: Eq + Hash, V, S: BuildHasher, A: Allocator> OccupiedEntry<'map, K,
     /// The pairs keep their places in both lists. The iterator has a `Drop`, so one that is held in
     /// a variable borrows the entry to the end of its block; `drop` ends it sooner.
     ///
-    /// Proved callers: see docs/PROVED_CALLERS.md.
+    /// Proved callers: see CALLING.md.
     ///
     /// # Complexity
     ///

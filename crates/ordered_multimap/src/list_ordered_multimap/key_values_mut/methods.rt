@@ -30,7 +30,7 @@ impl<K: Eq + Hash, V, S: BuildHasher, A: Allocator> ListOrderedMultimap<K, V, S,
     /// below. To read see [`pairs`](Self::pairs), and to write all values see
     /// [`values_mut`](Self::values_mut).
     ///
-    /// Proved callers: see docs/PROVED_CALLERS.md.
+    /// Proved callers: see CALLING.md.
     ///
     /// # Complexity
     ///

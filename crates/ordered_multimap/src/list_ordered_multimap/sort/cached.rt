@@ -73,7 +73,7 @@ impl<K: Eq + Hash, V, S: BuildHasher> ListOrderedMultimap<K, V, S> {
     /// The map's allocator is `Global`, since the checker can't state a function of an iterator
     /// whose allocator is a parameter.
     ///
-    /// Proved callers: see docs/PROVED_CALLERS.md.
+    /// Proved callers: see CALLING.md.
     ///
     /// # Errors
     ///
