@@ -56,9 +56,9 @@ class Block:
         self.header = spaced(" ".join(lines[first : self.last + 1]).partition(" {")[0])
         found = BLOCK.match(self.header)
         self.is_trait, rest = found[1] == "trait", self.header[found.end() :].strip()
-        given, rest = angles(rest) if not self.is_trait else ("", rest)
-        self.parameters = [re.match(r"(?:const )?([\w']+)", it)[1] for it in split_outside(given)]
-        rest = rest.partition(" where ")[0].strip()
+        self.given, rest = angles(rest) if not self.is_trait else ("", rest)
+        self.parameters = [re.match(r"(?:const )?([\w']+)", it)[1] for it in split_outside(self.given)]
+        rest, _, self.where = (it.strip() for it in rest.partition(" where "))
         trait, _, self.of = rest.rpartition(" for ") if not self.is_trait else ("", "", rest)
         self.by = trait.strip()
         self.type = re.match(r"[&\s]*(?:'\w+ )?(?:mut )?(?:\w+::)*(\w*)", self.of)[1]
@@ -166,12 +166,17 @@ def public_files(crate, module="lib"):
             yield from public_files(crate, below if module == "lib" else f"{module}/{below}")
 
 
+def passed_on(text):
+    """The paths that a file's `pub use` lines pass on."""
+    for path, names in re.findall(r"^pub use ([\w:]+?)(?:::\{([^}]*)\})?;", text, re.M):
+        yield from (f"{path}::{it}" for it in split_outside(names)) if names else [path]
+
+
 def public_types(files):
     """The types that these files declare or pass on."""
     for text in (it.read_text() for it in files):
         yield from re.findall(r"^pub (?:struct|enum|trait) (\w+)", text, re.M)
-        for names in re.findall(r"^pub use ([^;]*);", text, re.M):
-            yield from re.findall(r"\w+", names)
+        yield from (it.split("::")[-1] for it in passed_on(text))
 
 
 def encoded(kind, parameters):
