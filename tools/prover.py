@@ -93,12 +93,19 @@ class Report:
             return goal
         return field if goal.startswith("returns") else f"{goal}.{field}"
 
+    def of_closures(self, function):
+        """The goals that are left of the closures in a function's body."""
+        path = function.split("::")
+        at = len(path) - (2 if path[-2:-1] and path[-2][:1].isupper() else 1)
+        within = "::".join([*path[:at], "fn", *path[at:], ""])
+        return [goal for name, goals in self.goals.items() if name.startswith(within) for goal in goals]
+
     def of(self, function):
-        """'own', 'calls', 'proved' or 'unknown', and the goals that are left."""
+        """'own', 'calls', 'proved' or 'unknown', and the goals that are left, those of its closures too."""
         names = [it for it in self.verdicts if it == function or it.endswith(f"::{function}")]
         if len(names) != 1:
             return "unknown", []
-        verdict, goals = self.verdicts[names[0]], self.goals[names[0]]
+        verdict, goals = self.verdicts[names[0]], [*self.goals[names[0]], *self.of_closures(names[0])]
         if verdict == "proved":
             return "proved", []
         if "could not tell" in verdict:

@@ -7,6 +7,7 @@ import re
 
 TOP = pathlib.Path(__file__).resolve().parent.parent
 LAYERS = ["multimap_slots", "multimap_table", "multimap_walks", "ordered_multimap", "set_ordered_multimap", "ascii_caseless", "multimap_tool"]
+PROGRAMS = ["program_parts", "group_report", "header_store", "config_reader", "query_fields", "multimap"]
 BLOCK = re.compile(r"(?:pub(?:\([a-z]+\))? )?(?:unsafe )?(impl|trait)\b")
 HEAD = re.compile(r'( *)(pub(?:\([a-z]+\))? )?(?:const )?(?:unsafe )?(?:extern "C" )?fn (\w+)')
 CLAUSE = re.compile(r"\s*(ensures\*?|requires)(?!\w)\s*(\w*)")
