@@ -26,9 +26,11 @@ module _ {K V S T : Type 0} where
     pub appended : AppendsAll eq old other.lists.pairs new
     pub cleared : IsCleared other other_after
 
-  -- there was no memory for room; the other map is as it was, and so are the lists
+  -- there was no memory for room that this map still lacks for all of the other one; the other map
+  -- is as it was, and so are the lists
   pub record RefusesMap (old new : Multimap K V S) (other other_after : Multimap K V T) : Type 0
     where
       pub grows : OnlyGrows old new
       pub taken : TakesOut 0 old.tape new.tape
       pub other_is : other_after ≡ other
+      pub full : ¬ HasRoomForMap new other

@@ -10,16 +10,18 @@ use Rattle.ordered_multimap.specs.contracts.list_ordered_multimap.ListOrderedMul
 use Rattle.ordered_multimap.specs.declared.list_ordered_multimap.drain.EntryValuesDrain as drains
 use Rattle.ordered_multimap.specs.Detaches.{KeepsListed}
 use Rattle.ordered_multimap.specs.Multimap.{Multimap}
-use Rattle.ordered_multimap.specs.Rooms.{KeepsRooms, RaisesNoRoom}
+use Rattle.ordered_multimap.specs.Rooms.{HasPairRoom, KeepsRooms, RaisesNoRoom}
 use Rattle.ordered_multimap.specs.TapeNumbers.{TakesOut}
 
--- the lists are as they were, and no value was taken out
+-- there was no memory for room that the map still lacks; the lists are as they were, and no value
+-- was taken out
 pub record RefusesPair {K V S : Type 0} (eq : K → K → Bool) (key : K)
     (old new : Multimap K V S) : Type 0 where
   pub lists : new.lists ≡ old.lists
   pub rooms : KeepsRooms old new
   pub had_room : RaisesNoRoom eq key old new
   pub taken : TakesOut 0 old.tape new.tape
+  pub full : ¬ HasPairRoom eq new key
 
 module _ (K V S A H : RattleType) (e : equality.Ghosts K.Denot) (k : hash.Ghosts K.Denot)
     (b : builder.Ghosts S.Denot H.Denot) (h : hasher.Ghosts H.Denot)

@@ -1,12 +1,13 @@
 -- What a call makes of a map that appends the pairs of an iterator.
 use Rattle.std.specs.Prelude.{◌≡◌, Bool, List, [], ◌∷◌, ◌++◌, length, map, Option, Result}
-use Rattle.std.specs.Prelude.{IsOk, MatchResult}
+use Rattle.std.specs.Prelude.{Err, IsOk, MatchResult, OnErr}
 use Rattle.std.specs.Borrow.{Bor}
 use Rattle.std.specs.Iterator.{Count, Drains, ExtendsWithItems, HoldsAlong, Yields, size}
 use Rattle.ordered_multimap.specs.Lists.{Lists}
 use Rattle.ordered_multimap.specs.Changes.{all_appended, built_from}
 use Rattle.ordered_multimap.specs.Multimap.{Multimap}
-use Rattle.ordered_multimap.specs.Rooms.{DoublesRooms, HasRoomForPairs, KeepsRooms, SameRooms}
+use Rattle.ordered_multimap.specs.Rooms.{DoublesRooms, HasPairRoom, HasRoomForPairs}
+use Rattle.ordered_multimap.specs.Rooms.{KeepsRooms, SameRooms}
 use Rattle.ordered_multimap.specs.TapeNumbers.{AreUnused, TakesOut}
 use Rattle.ordered_multimap.specs.declared.list_ordered_multimap.refused.Refused.{Refused}
 
@@ -92,6 +93,13 @@ pub record ExtendsInRoom {K V S I T X E : Type 0} (becomes : I → T → Type 0)
   pub grows : GrowsForAll becomes steps left iter old new r
 
 module _ {K V S : Type 0} (eq : K → K → Bool) where
+  -- a call that is refused stopped at a pair, the last that was read: those before it were
+  -- appended, and there is no room for it
+  abbrev pub StoppedForRoom : (Lists K V → Lists K V → Result (Unit {0}) (Refused K V) → Type 0)
+      → Multimap K V S → Multimap K V S → {E : Type 0} → Result (Unit {0}) E → Type 0
+  StoppedForRoom appends old new r = OnErr r ((pair : Refused K V)
+      × appends old.lists new.lists (Err pair) × ¬ HasPairRoom eq new pair.key)
+
   -- each pair was appended in turn; no room is lower, one that grows at least doubles, and no value
   -- left
   pub record AppendsAll (old : Multimap K V S) (pairs : List (K × V)) (new : Multimap K V S)

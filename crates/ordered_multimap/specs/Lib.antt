@@ -25,6 +25,8 @@ pub mod OneValue
 pub mod PairSorts
 pub mod Pairs
 pub mod Popped
+pub mod Queries
+pub mod QueryLaws
 pub mod PopAnswers
 pub mod Private
 pub mod Removals

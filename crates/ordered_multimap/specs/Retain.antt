@@ -1,5 +1,5 @@
 -- Pairs kept by a function that may also change values and itself.
-use Rattle.std.specs.Prelude.{◌≡◌, Bool, true, false, cond, List, [], ◌∷◌, ◌++◌}
+use Rattle.std.specs.Prelude.{◌≡◌, Bool, true, false, cond, filter, map, List, [], ◌∷◌, ◌++◌}
 use Rattle.std.specs.Borrow.{MutBor}
 use Rattle.std.specs.Fn.{CalledAtMut, Mut, Takes}
 use Rattle.std.specs.List.{FoldsTo}
@@ -13,6 +13,17 @@ module _ {F K V : Type 0} (calls : F → K → V → Bool → V → F → Type 0
   Retains f (p ∷ old) new g =
       (b : Bool) × (w : V) × (next : F) × (rest : List (K × V))
       × calls f p.0 p.1 b w next × Retains next old rest g × (new ≡ cond b ((p.0, w) ∷ rest) rest)
+
+  -- each call of f on k and v returns this, leaves this value, and f as it was
+  abbrev pub AlwaysRetains : F → (K → V → Bool) → (K → V → V) → Type 0
+  AlwaysRetains f keep step = (k : K) (v : V) (b : Bool) (w : V) (next : F)
+      → calls f k v b w next → (b ≡ keep k v) × (w ≡ step k v) × (next ≡ f)
+
+-- the pairs that a test accepts, each with the value that a function makes of it
+abbrev pub kept_stepwise : {K V : Type 0} → (K → V → Bool) → (K → V → V) → List (K × V)
+    → List (K × V)
+kept_stepwise keep step pairs =
+    map (λ p. (p.0, step p.0 p.1)) (filter (λ p. keep p.0 p.1) pairs)
 
 -- A function that is called on the values of a key alone.
 module _ {F V : Type 0} (g : Mut F (MutBor V × Unit {0}) (Bool × (MutBor V × Unit {0}))) where
@@ -37,6 +48,11 @@ module _ {F V : Type 0} (g : Mut F (MutBor V × Unit {0}) (Bool × (MutBor V × 
   abbrev pub AsksIf : Bool → F → V → Bool → V → F → Type 0
   AsksIf true f v b w next = AsksValue f v b w next
   AsksIf false f v b w next = (b ≡ true) × (w ≡ v) × (next ≡ f)
+
+  -- each call of f at v returns this, leaves this value, and f as it was
+  abbrev pub AlwaysAnswers : F → (V → Bool) → (V → V) → Type 0
+  AlwaysAnswers f keep step = (v : V) (b : Bool) (w : V) (next : F) → AsksValue f v b w next
+      → (b ≡ keep v) × (w ≡ step v) × (next ≡ f)
 
   -- a call on the pairs of the keys that a test accepts alone
   abbrev pub AsksAccepted : {K : Type 0} → (K → Bool) → F → K → V → Bool → V → F → Type 0

@@ -1,6 +1,7 @@
 //! What a lookup takes in the place of a key.
 ghost use Rattle.std.specs.Prelude.{◌≡◌, Bool, IsTrue, Option, Some};
 
+mod joined;
 mod part;
 mod slices;
 mod texts;
@@ -14,7 +15,9 @@ use std::hash::Hash;
 ///
 /// - `&K`, for keys of any type `K`;
 /// - `&str`, for keys that are strings: `String`, `&str`, `BoxedStr`, `RcStr`, `CowStr`;
-/// - `&[T]`, for keys that are slices: `Vec<T>`, `&[T]`, `BoxedSlice<T>`, `CowSlice<T>`.
+/// - `&[T]`, for keys that are slices: `Vec<T>`, `&[T]`, `BoxedSlice<T>`, `CowSlice<T>`;
+/// - an `Option` of a query, for keys that are an `Option`, and two or three queries, for keys that
+///   are pairs or triples: `map.get(Some("line"))` for keys of the type `Option<String>`.
 ///
 /// So `map.get("line")` looks up a `String` key without allocating a `String`. It takes the place
 /// of the `Borrow` of std's lookups, and is passed by value.

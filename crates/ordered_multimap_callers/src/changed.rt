@@ -7,6 +7,7 @@ ghost use Rattle.ordered_multimap_callers.specs.Filled.{KeepsKeys};
 ghost use Rattle.ordered_multimap.specs.AppendMap.{HasRoomForMap};
 ghost use Rattle.ordered_multimap.specs.Lists.{empty_lists, lists};
 ghost use Rattle.ordered_multimap.specs.Rooms.{SameRooms};
+ghost use Rattle.ordered_multimap.specs.Retain.{kept_stepwise};
 ghost use Rattle.ordered_multimap.specs.Keys.{stored_key};
 ghost use Rattle.ordered_multimap.specs.Walk.{end_item};
 
@@ -147,6 +148,17 @@ pub fn keep_below<S: BuildHasher, A: Allocator>(
 )
     ensures { map.new.lists
         ≡ kept nat_eq map.old.lists (filter (λ p. nat_lt p.1 limit) map.old.lists.pairs) }
+{
+    map.retain(|_key, value| *value < limit);
+}
+
+/// Keeps the pairs with a value below the limit, whatever the keys.
+pub fn keep_values_below<K: Eq + Hash + Drop, S: BuildHasher, A: Allocator>(
+    map: &mut ListOrderedMultimap<K, u32, S, A>,
+    limit: u32,
+)
+    ensures { map.new.lists.pairs
+        ≡ kept_stepwise (λ _ v. nat_lt v limit) (λ _ v. v) map.old.lists.pairs }
 {
     map.retain(|_key, value| *value < limit);
 }

@@ -5,7 +5,7 @@ use Rattle.std.proofs.lemmas.List.{map-id}
 use Rattle.std.specs.Prelude.{IsOk, Option, Result}
 use Rattle.ordered_multimap.specs.Lists.{Lists}
 use Rattle.ordered_multimap.specs.Changes.{appended, all_appended}
-use Rattle.ordered_multimap.specs.Extends.{AppendsAll, Extends, ExtendsInRoom, GrowsForAll, GrowsForPairs}
+use Rattle.ordered_multimap.specs.Extends.{AppendsAll, Extends, ExtendsInRoom, GrowsForAll, GrowsForPairs, StoppedForRoom}
 use Rattle.ordered_multimap.specs.Private.Extends.{AppendsPairsOf}
 use Rattle.ordered_multimap.specs.declared.list_ordered_multimap.refused.Refused.{Refused}
 use Rattle.ordered_multimap.specs.Keys.{stored_key}
@@ -96,3 +96,10 @@ module _ {K V I T : Type 0} (eq : K → K → Bool) (becomes : I → T → Type 
     all.3 ∙ ap (all_appended eq old) (map-id all.1),
     (all.4.1, subst (λ pair. Yields steps all.0 (all.1 ++ pair ∷ []) all.4.1) all.4.3 all.4.2),
   )
+
+  -- where it stopped at a pair, it stopped at an item that is its own pair
+  pub stopped-own : {S E : Type 0} (iter : I) (old new : Multimap K V S) (r : Result (Unit {0}) E)
+      → StoppedForRoom eq (AppendsPairsOf (λ pair. pair) eq becomes steps iter) old new r
+      → StoppedForRoom eq (Extends eq becomes steps iter) old new r
+  stopped-own iter old new (Ok u) stopped = tt
+  stopped-own iter old new (Err e) stopped = (stopped.0, extends-own (Err stopped.0) stopped.1, stopped.2)

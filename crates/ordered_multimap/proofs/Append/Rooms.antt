@@ -1,7 +1,8 @@
 -- What an append makes of the rooms of a map.
 use Rattle.std.proofs.Common.{◌≡◌, ℕ, ◌≤◌, ◌<◌, ◌*◌, ◌/◌, min, Bool, false, length, Result, OnOk, OnErr, IfErr, Ok, Err, refl, sym, ap, ◌∙◌}
 use Rattle.std.proofs.Common.{arith}
-use Rattle.std.proofs.Common.{true≢false}
+use Rattle.std.proofs.Common.{IsOk, subst, true≢false}
+use Rattle.std.proofs.Math.Nat.{lt_of_not-le}
 use Rattle.std.specs.Cmp.{IsEquivalence}
 use Rattle.std.specs.Ordering.{nat_cmp}
 use Rattle.std.specs.FinMap.{FinMap}
@@ -164,3 +165,9 @@ both_on_err P Q (Err e) p q = (p, q)
 pub if_err-map : {X E P : Type 0} {Q R : E → Type 0} → ((e : E) → P → Q e → R e) → (r : Result X E) → OnErr r P → IfErr r Q → IfErr r R
 if_err-map f (Ok x) p q = tt
 if_err-map f (Err e) p q = f e p q
+
+-- a refusal that leaves the room as it was, and that doesn't come where so much fits: it doesn't fit
+pub short_on_err : {X E : Type 0} (fits : ℕ → ℕ) (now room wanted : ℕ) (r : Result X E) → OnErr r (now ≡ room)
+    → (wanted ≤ fits room → IsOk r) → OnErr r (fits now < wanted)
+short_on_err fits now room wanted (Ok x) same succeeds = tt
+short_on_err fits now room wanted (Err e) same succeeds = lt_of_not-le (λ few. true≢false (sym (succeeds (subst (λ n. wanted ≤ fits n) same few))))

@@ -1,6 +1,7 @@
 //! The traits by which an iterator is collected into a map, and by which a map is extended.
 ghost use Rattle.std.specs.Iterator.{IsFinite};
-ghost use Rattle.ordered_multimap.specs.Extends.{AppendsAll, ExtendsInRoom, IsCollected, lent_pair};
+ghost use Rattle.ordered_multimap.specs.Extends.{AppendsAll, Extends, ExtendsCopied};
+ghost use Rattle.ordered_multimap.specs.Extends.{ExtendsInRoom, IsCollected, StoppedForRoom, lent_pair};
 
 use super::ListOrderedMultimap;
 use std::alloc::{AllocError, Allocator};
@@ -76,8 +77,10 @@ impl<K: Eq + Hash + Drop, V: Drop, S: BuildHasher, A: Allocator + Copy> Extend<(
     fn extend<I: IntoIterator<Item = (K, V)>>(&mut self, iter: I) -> Result<(), AllocError>
         requires { (it : I.IntoIter) → I.into_iter_gives iter it
             → I.IntoIter.can_next it × IsFinite (I.IntoIter.remaining it) }
-        ensures { ExtendsInRoom I.into_iter_gives I.IntoIter.next_gives I.IntoIter.remaining
-            (AppendsAll K.eq) iter self.old self.new result }
+        ensures extends { ExtendsInRoom I.into_iter_gives I.IntoIter.next_gives
+            I.IntoIter.remaining (AppendsAll K.eq) iter self.old self.new result }
+        ensures stopped { StoppedForRoom K.eq (Extends K.eq I.into_iter_gives I.IntoIter.next_gives
+            iter) self.old self.new result }
     {
         self.extend_in_room(iter)
     }
@@ -119,9 +122,11 @@ impl<'a, K: Eq + Hash + Copy + 'a, V: Copy + 'a, S: BuildHasher, A: Allocator + 
     fn extend<I: IntoIterator<Item = (&'a K, &'a V)>>(&mut self, iter: I) -> Result<(), AllocError>
         requires { (it : I.IntoIter) → I.into_iter_gives iter it
             → I.IntoIter.can_next it × IsFinite (I.IntoIter.remaining it) }
-        ensures { ExtendsInRoom I.into_iter_gives I.IntoIter.next_gives I.IntoIter.remaining
-            (λ m items n. AppendsAll K.eq m (map lent_pair items) n)
+        ensures extends { ExtendsInRoom I.into_iter_gives I.IntoIter.next_gives
+            I.IntoIter.remaining (λ m items n. AppendsAll K.eq m (map lent_pair items) n)
             iter self.old self.new result }
+        ensures stopped { StoppedForRoom K.eq (ExtendsCopied K.eq I.into_iter_gives
+            I.IntoIter.next_gives iter) self.old self.new result }
     {
         self.extend_in_room(iter)
     }

@@ -2,7 +2,7 @@
 ghost use Rattle.std.specs.Prelude.{◌≡◌, IfOk, IfErr, map};
 ghost use Rattle.std.specs.Iterator.{IsFinite};
 ghost use Rattle.ordered_multimap.specs.Extends.{AppendsAll, Extends, ExtendsCopied, ExtendsInRoom, IsBuilt, IsLastRead};
-ghost use Rattle.ordered_multimap.specs.Extends.{GrowsForAll, lent_pair};
+ghost use Rattle.ordered_multimap.specs.Extends.{GrowsForAll, StoppedForRoom, lent_pair};
 ghost use Rattle.ordered_multimap.specs.Private.Extends.{AppendsPairsOf};
 ghost use Rattle.ordered_multimap.specs.Rooms.{HasPairRoom};
 ghost use Rattle.ordered_multimap.specs.TapeNumbers.{AreUnused};
@@ -182,9 +182,11 @@ impl<K: Eq + Hash + Drop, V: Drop, S: BuildHasher, A: Allocator + Copy> ListOrde
     ) -> Result<(), AllocError>
         requires { (it : I.IntoIter) → I.into_iter_gives iter it
             → I.IntoIter.can_next it × IsFinite (I.IntoIter.remaining it) }
-        ensures { ExtendsInRoom I.into_iter_gives I.IntoIter.next_gives I.IntoIter.remaining
-            (λ m items n. AppendsAll K.eq m (map X.pair_of items) n)
+        ensures extends { ExtendsInRoom I.into_iter_gives I.IntoIter.next_gives
+            I.IntoIter.remaining (λ m items n. AppendsAll K.eq m (map X.pair_of items) n)
             iter self.old self.new result }
+        ensures stopped { StoppedForRoom K.eq (AppendsPairsOf X.pair_of K.eq I.into_iter_gives
+            I.IntoIter.next_gives iter) self.old self.new result }
     {
         match self.append_all(iter) {
             Ok(()) => Ok(()),

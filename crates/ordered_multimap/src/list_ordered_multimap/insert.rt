@@ -1,6 +1,7 @@
 //! Inserting a pair in the place of all others of its key.
 ghost use Rattle.std.specs.Prelude.{◌≡◌, true, false, Some, slice_get, IfOk, IfErr, OnOk, OnErr, IsOk, ⊤};
 ghost use Rattle.multimap_slots.specs.Lists.{IsIn};
+ghost use Rattle.multimap_slots.specs.Tapes.{HasTapeRoomFor};
 ghost use Rattle.ordered_multimap.specs.Private.Append.{HandsBackAt};
 ghost use Rattle.ordered_multimap.specs.Agrees.{HasKey};
 ghost use Rattle.ordered_multimap.specs.Private.KeySteps.{StaysInRoom};
@@ -140,6 +141,7 @@ pub(super) fn insert_behind_all<K, V: Drop, A: Allocator + Copy>(
         place value) }
     ensures unchanged { OnErr result (KeepsNames keys.old keys.new values.old values.new) }
     ensures hands_back { HandsBackAt value values.old result }
+    ensures full { OnErr result (¬ HasTapeRoomFor values.new 1) }
     ensures grows { GrowsForOne keys.old keys.new values.old values.new }
 {
     if make_value_room(keys, values).is_err() {

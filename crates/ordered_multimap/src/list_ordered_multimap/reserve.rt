@@ -1,5 +1,5 @@
 //! Reserving capacity.
-ghost use Rattle.std.specs.Prelude.{◌≡◌, ◌≤◌, ◌+◌, OnOk, IsOk, length};
+ghost use Rattle.std.specs.Prelude.{◌≡◌, ◌≤◌, ◌<◌, ◌+◌, OnErr, OnOk, IsOk, length};
 ghost use Rattle.ordered_multimap.specs.Rooms.{OnlyGrows, SameRooms};
 ghost use Rattle.ordered_multimap.specs.TapeNumbers.{TakesOut};
 
@@ -49,6 +49,8 @@ impl<K: Eq + Hash, V, S: BuildHasher, A: Allocator + Copy> ListOrderedMultimap<K
             → IsOk result }
         ensures had_room { length self.old.lists.keys + additional ≤ self.old.key_room
             → SameRooms self.old self.new }
+        ensures full { OnErr result
+            (self.new.key_room < length self.old.lists.keys + additional) }
     {
         make_key_room(&mut self.keys, &mut self.table, additional)
     }
@@ -93,6 +95,8 @@ impl<K: Eq + Hash, V, S: BuildHasher, A: Allocator + Copy> ListOrderedMultimap<K
             → IsOk result }
         ensures had_room { length self.old.lists.pairs + additional ≤ self.old.value_room
             → SameRooms self.old self.new }
+        ensures full { OnErr result
+            (self.new.value_room < length self.old.lists.pairs + additional) }
     {
         self.values.reserve(additional)
     }

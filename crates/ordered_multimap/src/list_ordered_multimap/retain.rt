@@ -1,11 +1,11 @@
 //! Keeping the pairs for which a function returns `true`.
-ghost use Rattle.std.specs.Prelude.{◌≡◌, ◌≤◌, ◌-◌, ℕ, Some, length};
+ghost use Rattle.std.specs.Prelude.{◌≡◌, ◌≤◌, ◌-◌, ℕ, Bool, Some, length};
 ghost use Rattle.std.specs.Map.Calls.{CallableOnEachPair, CalledAtPair, TakesPair as MayCall};
 ghost use Rattle.multimap_slots.specs.Slots.{link_at};
 ghost use Rattle.multimap_walks.specs.Chained.{pair_at, pairs_of};
 ghost use Rattle.ordered_multimap.specs.Agrees.{Agrees};
 ghost use Rattle.ordered_multimap.specs.Keys.{keys_named_by};
-ghost use Rattle.ordered_multimap.specs.Retain.{Retains};
+ghost use Rattle.ordered_multimap.specs.Retain.{AlwaysRetains, Retains, kept_stepwise};
 ghost use Rattle.ordered_multimap.specs.Private.Retain.{Asks, IsOwnedAt, LosesSome, RetainsAt};
 ghost use Rattle.ordered_multimap.specs.Rooms.{SameRooms};
 ghost use Rattle.ordered_multimap.specs.Private.RemoveOne.{HasPair};
@@ -132,6 +132,11 @@ impl<K: Eq + Hash, V, S: BuildHasher, A: Allocator> ListOrderedMultimap<K, V, S,
             self.old.lists.pairs }
         ensures retained { (last : F) × Retains (CalledAtPair F.FnMut) f
             self.old.lists.pairs self.new.lists.pairs last }
+
+        // Where each answer and each value depends on nothing but the pair, the pairs are filtered.
+        ensures stepwise { (keep : K → V → Bool) (step : K → V → V)
+            → AlwaysRetains (CalledAtPair F.FnMut) f keep step
+            → self.new.lists.pairs ≡ kept_stepwise keep step self.old.lists.pairs }
         ensures keys { self.new.lists.keys
             ≡ keys_named_by K.eq self.old.lists.keys self.new.lists.pairs }
         ensures rooms { SameRooms self.old self.new }

@@ -1,4 +1,5 @@
 //! Look-ups by queries. None makes a text.
+mod joined;
 mod names;
 mod parts;
 

@@ -149,6 +149,7 @@ impl<K: Eq + Hash, V, S: BuildHasher, A: Allocator + Copy> ListOrderedMultimap<K
             (inserted K.eq self.old.lists key value)) }
         ensures unchanged { OnErr result (KeepsBothLists self.old self.new) }
         ensures refused { IfErr result (λ pair. pair ≡ record { key = key; value = value }) }
+        ensures full { OnErr result (¬ HasPairRoom K.eq self.new key) }
         ensures succeeds { HasPairRoom K.eq self.old key → IsOk result }
         ensures rooms { KeepsRooms self.old self.new }
         ensures had_room { RaisesNoRoom K.eq key self.old self.new }
@@ -181,6 +182,7 @@ impl<K: Eq + Hash, V, S: BuildHasher, A: Allocator + Copy> ListOrderedMultimap<K
             → DetachesValues K.eq self.old self.new k (inserted K.eq self.old.lists k value)) }
         ensures unchanged { OnErr result (KeepsBothLists self.old self.new) }
         ensures refused { IfErr result (λ r. r.value ≡ value) }
+        ensures full { OnErr result (¬ HasValueRoom self.new) }
         ensures succeeds { HasValueRoom self.old → IsOk result }
         ensures rooms { KeepsRooms self.old self.new }
         ensures had_room { (k : K) → HasKey K.eq self.old.slots.keys k place

@@ -1,5 +1,5 @@
 //! Removing one value of a key: the one at an index, or the first that is equal to a given one.
-ghost use Rattle.std.specs.Prelude.{◌≡◌, ◌+◌, cond, find, is_some, slice_get, Some};
+ghost use Rattle.std.specs.Prelude.{◌≡◌, ◌+◌, IfNone, cond, find, is_some, slice_get, Some};
 ghost use Rattle.multimap_slots.specs.Lists.{IsIn};
 ghost use Rattle.ordered_multimap.specs.Agrees.{HasKey};
 ghost use Rattle.ordered_multimap.specs.OneValue.{first_removed, index_of, index_removed};
@@ -49,6 +49,9 @@ fn take_indexed<K: Drop, V, A: Allocator>(
     ensures counts { TakesOut (cond (is_some result) 1 0)
         (numbers_of values.old) (numbers_of values.new) }
     ensures room { KeepsRoom keys.old keys.new table.old table.new values.old values.new }
+    ensures unchanged_keys { IfNone result (keys.new ≡ keys.old) }
+    ensures unchanged_rows { IfNone result (table.new ≡ table.old) }
+    ensures unchanged_values { IfNone result (values.new ≡ values.old) }
 {
     let link = keys.listed_link(place);
     if link.length <= index {
@@ -100,6 +103,7 @@ impl<K: Eq + Hash, V, S: BuildHasher, A: Allocator> ListOrderedMultimap<K, V, S,
             ≡ index_removed K.eq (Q.equivalent key) self.old.lists index }
         ensures rooms { SameRooms self.old self.new }
         ensures taken { TakesOut (cond (is_some result) 1 0) self.old.tape self.new.tape }
+        ensures unchanged { IfNone result (self.new ≡ self.old) }
     {
         match self.look_up(key).1 {
             Some(place) => self.take_index_at(place, index),
@@ -146,6 +150,7 @@ impl<K: Eq + Hash, V, S: BuildHasher, A: Allocator> ListOrderedMultimap<K, V, S,
             ≡ first_removed K.eq (Q.equivalent key) (V.eq value.now) self.old.lists }
         ensures rooms { SameRooms self.old self.new }
         ensures taken { TakesOut (cond (is_some result) 1 0) self.old.tape self.new.tape }
+        ensures unchanged { IfNone result (self.new ≡ self.old) }
     {
         match self.look_up(key).1 {
             Some(place) => {
@@ -168,6 +173,7 @@ impl<K: Eq + Hash, V, S: BuildHasher, A: Allocator> ListOrderedMultimap<K, V, S,
             → self.new.lists ≡ index_removed K.eq (K.eq k) self.old.lists index }
         ensures rooms { SameRooms self.old self.new }
         ensures taken { TakesOut (cond (is_some result) 1 0) self.old.tape self.new.tape }
+        ensures unchanged { IfNone result (self.new ≡ self.old) }
     {
         take_indexed(
             &mut self.keys,

@@ -1,14 +1,14 @@
 //! Retaining the values of one key for which a function returns true.
-ghost use Rattle.std.specs.Prelude.{◌≡◌, ◌-◌, ◌≤◌, ℕ, Some, length};
+ghost use Rattle.std.specs.Prelude.{◌≡◌, ◌-◌, ◌≤◌, ℕ, Bool, Some, cond, false, length, true};
 ghost use Rattle.multimap_slots.specs.Lists.{IsIn};
 ghost use Rattle.multimap_slots.specs.Slots.{item_at, link_at};
 ghost use Rattle.multimap_walks.specs.Chained.{chain_of, pairs_of, values_at};
 ghost use Rattle.ordered_multimap.specs.Agrees.{Agrees, HasKey};
 ghost use Rattle.ordered_multimap.specs.Keys.{keys_named_by};
-ghost use Rattle.ordered_multimap.specs.Pairs.{values_where};
+ghost use Rattle.ordered_multimap.specs.Pairs.{is_present_where, values_where};
 ghost use Rattle.ordered_multimap.specs.Private.RemoveOne.{HasPair};
 ghost use Rattle.ordered_multimap.specs.Private.Retain.{Asks, AsksAny, IsOwnedAt, LosesSome, RetainsAt};
-ghost use Rattle.ordered_multimap.specs.Retain.{AsksAccepted, MayAskEach, MayAskValue, Retains};
+ghost use Rattle.ordered_multimap.specs.Retain.{AlwaysAnswers, AsksAccepted, MayAskEach, MayAskValue, Retains, kept_stepwise};
 ghost use Rattle.ordered_multimap.specs.Rooms.{SameRooms};
 ghost use Rattle.ordered_multimap.specs.TapeNumbers.{TakesOut};
 
@@ -136,12 +136,20 @@ impl<K: Eq + Hash, V, S: BuildHasher, A: Allocator> ListOrderedMultimap<K, V, S,
         requires { MayAskEach F.FnMut f (values_where (Q.equivalent key) self.old.lists.pairs) }
         ensures retained { (last : F) × Retains (AsksAccepted F.FnMut (Q.equivalent key)) f
             self.old.lists.pairs self.new.lists.pairs last }
+
+        // Where each answer and each value depends on nothing but the value, they are filtered.
+        ensures stepwise { (keep : V → Bool) (step : V → V) → AlwaysAnswers F.FnMut f keep step
+            → self.new.lists.pairs ≡ kept_stepwise
+            (λ k v. cond (Q.equivalent key k) (keep v) true)
+            (λ k v. cond (Q.equivalent key k) (step v) v) self.old.lists.pairs }
         ensures keys { self.new.lists.keys
             ≡ keys_named_by K.eq self.old.lists.keys self.new.lists.pairs }
         ensures rooms { SameRooms self.old self.new }
         ensures taken { TakesOut (length self.old.lists.pairs - length self.new.lists.pairs)
             self.old.tape self.new.tape }
         ensures fewer { length self.new.lists.pairs ≤ length self.old.lists.pairs }
+        ensures unchanged { is_present_where (Q.equivalent key) self.old.lists.pairs ≡ false
+            → self.new ≡ self.old }
     {
         if let Some(place) = self.look_up(key).1 {
             retain_chain(&mut self.keys, &mut self.table, &mut self.values, place, f);

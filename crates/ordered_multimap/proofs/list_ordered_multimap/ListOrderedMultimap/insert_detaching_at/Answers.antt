@@ -1,10 +1,11 @@
-use Rattle.std.proofs.Common.{sym, subst, true≢false, refl}
+use Rattle.std.proofs.Common.{◌/◌, sym, subst, true≢false, refl}
 use Rattle.ordered_multimap.specs.Changes.{inserted}
 use Rattle.ordered_multimap.specs.TapeNumbers.{TakesOut, numbers_of}
 use Rattle.ordered_multimap.specs.Rooms.{HasValueRoom, RaisesNoRoom}
 use Rattle.ordered_multimap.specs.Agrees.{HasKey}
 use Rattle.ordered_multimap.specs.Private.KeySteps.{DetachesValues, KeepsBothLists}
 use Rattle.ordered_multimap.proofs.Remove.OnePair.{has_fitting_chain}
+use Rattle.ordered_multimap.proofs.Agreement.Agreed.{value_room}
 use Rattle.ordered_multimap.proofs.Agreement.LookUps.{listed_inside, own_key}
 use Rattle.ordered_multimap.proofs.Agreement.StayingKeys.{inserted_stays, relocated_stays}
 use Rattle.ordered_multimap.proofs.Append.Appended.{agrees_reserved, lists_reserved, stays_paid}
@@ -43,6 +44,12 @@ returns-in_err-left-clause-unchanged g c =
     (subst (λ m. KeepsBothLists m (map_of n.keys c.self.inside.table.capacity n.values c.self.inside.state c.self.inside.left))
     c.self.view_is
     (record { lists = lists_reserved g.met.K.Eq.laws c.self.invariant.agrees u.relocated; taken = u.counts }))
+
+pub returns-in_err-left-clause-full : goal.returns-in_err-left-clause-full
+returns-in_err-left-clause-full g c =
+    let u = c.in_err-left.ensures {u = tt} in
+    let after = agrees_reserved g.met.K.Eq.laws c.self.invariant.agrees u.unchanged.relocated in
+    on_err c.from_residual.result (λ room. u.full (value_room after (c.insert_behind_all.new.values.list.capacity / 2) room))
 
 pub returns-in_err-left-clause-succeeds : goal.returns-in_err-left-clause-succeeds
 returns-in_err-left-clause-succeeds g c = λ room. absurd (true≢false (sym ((c.in_err-left.ensures {u = tt}).hands_back.succeeds

@@ -1,9 +1,9 @@
-use Rattle.std.proofs.Common.{◌≤◌, ◌+◌, IsOk, OnOk, ap, length, refl, arith, subst}
+use Rattle.std.proofs.Common.{◌≤◌, ◌<◌, ◌+◌, ◌/◌, IsOk, OnErr, OnOk, ap, length, refl, arith, subst}
 use Rattle.std.proofs.lemmas.Result.{on_ok_weaker}
 use Rattle.ordered_multimap.specs.Agrees.{lists_of}
 use Rattle.ordered_multimap.specs.Rooms.{OnlyGrows, SameRooms}
 use Rattle.ordered_multimap.proofs.Pack.Capacities.{agrees-widened, fits_values, values_fit, same_value_rooms}
-use Rattle.ordered_multimap.proofs.Append.Rooms.{half_doubles, keeps_rooms, map_of}
+use Rattle.ordered_multimap.proofs.Append.Rooms.{half_doubles, keeps_rooms, map_of, short_on_err}
 use Rattle.ordered_multimap.proofs.list_ordered_multimap.ListOrderedMultimap.reserve_values.Goals as goal
 
 pub invariant_of-self : goal.invariant_of-self
@@ -46,3 +46,10 @@ returns-clause-grows g c =
       rooms = keeps_rooms _ _ _ _ _ _ _ _ _ _ _ _ _ (omega arith) (omega arith) c.reserve.ensures.capacity;
       doubles = record { keys = λ more. absurd (omega (arith, more)); values = half_doubles _ _ c.reserve.ensures.doubles };
     })
+
+pub returns-clause-full : goal.returns-clause-full
+returns-clause-full g c =
+    subst (λ m. OnErr c.reserve.result (c.reserve.new.self.list.capacity / 2 < length m.lists.pairs + c.args.additional)) c.self.view_is
+    (short_on_err (λ capacity. capacity / 2) c.reserve.new.self.list.capacity c.self.inside.values.list.capacity _ c.reserve.result c.reserve.ensures.refused
+    (λ few. c.reserve.ensures.succeeds (fits_values c.self.inside.keys c.self.inside.values c.self.invariant.agrees
+    c.self.inside.table.capacity c.self.inside.state c.self.inside.left c.args.additional few)))

@@ -4,4 +4,4 @@ pub extend-asks : goal.extend-asks
 extend-asks g c = λ it becomes. let asked = c.requires it becomes in (asked.0, asked.1)
 
 pub extend-tells : goal.extend-tells
-extend-tells g c = record { ran = c.ensures.ran }
+extend-tells g c = record { ran = c.ensures.extends.ran }

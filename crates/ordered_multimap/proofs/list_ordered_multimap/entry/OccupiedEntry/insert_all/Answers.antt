@@ -33,6 +33,16 @@ pub returns-in-Err : goal.returns-in-Err
 returns-in-Err g c =
     let d = c.insert_detaching_at.ensures in
     let e = c.in-Err.ensures in (
-      (refl, (λ w. tt), record { lists = e.unchanged.lists; rooms = d.rooms; had_room = d.had_room; taken = e.unchanged.taken }),
+      (
+        refl,
+        (λ w. tt),
+        record {
+          lists = e.unchanged.lists;
+          rooms = d.rooms;
+          had_room = d.had_room;
+          taken = e.unchanged.taken;
+          full = λ key is room. e.full room.value;
+        },
+      ),
       record { rest = tt; drain = tt; same_map = tt; refused = e.refused; succeeds = e.succeeds },
     )
