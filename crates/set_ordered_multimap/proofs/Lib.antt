@@ -4,5 +4,6 @@ pub mod Insertions
 pub mod Lacked
 pub mod Loans
 pub mod Removals
+pub mod Renamed
 pub mod Reordered
 pub mod Retained

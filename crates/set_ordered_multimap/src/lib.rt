@@ -12,7 +12,7 @@
 //! insert plan draft, insert note draft, insert plan long
 //!     pairs      plan=draft  note=draft  plan=long     iter, pop_front, pop_back
 //!     keys       plan  note                            keys
-//!     plan       draft, long                           get_all
+//!     plan       draft, long                           get, get_all
 //! insert plan draft: Ok(false), and both lists are as before
 //! insert note long, but out of memory
 //!     Err(Refused { key: note, value: long }), and both lists are as before
@@ -37,8 +37,9 @@
 //!   `insert` replaces the key's pairs; its `append` is the counterpart of the set's `insert`.
 //! - `remove_value` returns whether the pair was there; the map's returns the value.
 //! - The function of `retain` gets each value for reading alone.
-//! - There is no `get`, `remove` or `entry`, nor a call that reserves or gives up room: see
-//!   `get_last`, `get_all` and `remove_all`.
+//! - `append_set` drops the pairs of the other set that are there. The map's `append_map` appends
+//!   all.
+//! - There is no `remove` or `entry`: see `remove_all`.
 //!
 //! The calls that take a key take a query, an `ordered_multimap::KeyQuery`, as the map's do: a
 //! `String` key is looked up by a `&str`. `insert` takes the key itself.
@@ -50,27 +51,33 @@
 //!
 //! | Calls | Cost |
 //! |---|---|
-//! | `contains_key`, `entry_len`, `get_last` | *O*(1) expected |
-//! | `move_key_to_back`, `move_key_to_front` | *O*(1) expected |
+//! | `contains_key`, `entry_len`, `get`, `get_last` | *O*(1) expected |
+//! | `move_key_to_back`, `move_key_to_front`, `rename_key` | *O*(1) expected |
 //! | `contains`, `remove_value`, `remove_all` | *O*(*v*) expected |
 //! | `insert` | *O*(*v*) expected, amortized |
 //! | `front`, `back`, `is_empty`, lengths, capacities | *O*(1) |
 //! | `iter`, `keys`, `values`, `pairs` | *O*(1), *O*(1) for each item |
 //! | `get_all` | *O*(1) expected, *O*(1) for each item |
 //! | `pop_front`, `pop_back` | *O*(1) expected |
-//! | `sort_keys`, `sort_keys_by` | *O*(*k* log *k*) for *k* keys |
+//! | `into_keys`, `into_values` | *O*(*n*), *O*(1) for each item |
+//! | `sort_keys`, `sort_keys_by`, `sort_keys_by_cached_key` | *O*(*k* log *k*) for *k* keys |
 //! | `sort_by` | *O*(*n* log *n*) |
-//! | `retain`, `clear`, `clone`, `==` | *O*(*n*) |
-//! | `append_map` | what `clear` of the other set costs, and for each of its pairs *O*(*v*) expected |
+//! | `retain`, `clear`, `clone`, `==`, `pack_to`, `pack_to_fit` | *O*(*n*) |
+//! | `append_set` | what `clear` of the other set costs, and for each of its pairs *O*(*v*) expected |
 //!
 //! # When memory runs out
 //!
 //! An insertion returns a `Refused` with the key and the value, and both lists are as before;
 //! capacities may have grown. It never fails if an equal pair is there, or where the capacities
 //! suffice. `extend` keeps the pairs before that one, and `from_iter` drops them. The calls of the
-//! traits `Extend` and `FromIterator` do the same, and return `AllocError`. `append_map` returns
-//! `AllocError`, and both lists of both sets are as before. `clone` returns `AllocError`, and so do
-//! the sorts, after which both lists are as before. Removals and lookups can't fail.
+//! traits `Extend` and `FromIterator` do the same, and return `AllocError`. `append_set` returns
+//! `AllocError`, and both lists of both sets are as before. `clone` and the constructors with
+//! capacities return `AllocError`, and so do `reserve_keys`, `reserve_values`, `pack_to`,
+//! `pack_to_fit` and the sorts, after which both lists are as before. Removals and lookups can't
+//! fail.
+//!
+//! `rename_key` doesn't allocate. Its error, an `ordered_multimap::RenameFault`, says that the key
+//! is absent, or that another key is equal to the new one.
 //!
 //! # Keys that others choose
 //!

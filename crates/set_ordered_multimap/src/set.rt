@@ -1,15 +1,18 @@
-//! The set: its field, its constructors, its lengths and its capacities.
+//! The set: its field, its lengths and its capacities.
 ghost use Rattle.std.specs.Prelude.{◌≡◌, length};
-ghost use Rattle.set_ordered_multimap.specs.SetChanges.{IsNewSet, IsNewSetWith};
 ghost use Rattle.set_ordered_multimap.specs.SetReads.{TellsEmpty, TellsKeys, TellsRoom};
 
 mod append_set;
 mod collect;
+mod constructors;
 mod insert;
 mod lookup;
 mod move_key;
+mod pack;
 mod pop;
 mod remove;
+mod rename_key;
+mod reserve;
 mod retain;
 mod sort;
 mod walks;
@@ -18,7 +21,7 @@ mod whole;
 use ordered_multimap::ListOrderedMultimap;
 use ordered_multimap::list_ordered_multimap::DefaultState;
 use std::alloc::{Allocator, Global};
-use std::hash::{BuildHasher, BuildHasherDefault, Hash};
+use std::hash::{BuildHasher, Hash};
 use std::marker::Model;
 
 /// A multimap that keeps its pairs in insertion order, and in which no pair occurs twice.
@@ -57,63 +60,6 @@ impl<K: Eq + Hash, V, S: BuildHasher, A: Allocator> Model for SetOrderedMultimap
     ghost coded = { multimap_code K.code V.code S.code };
 
     ghost view = { λ s. s.map };
-}
-
-impl<K: Eq + Hash, V: Eq, A: Allocator + Copy> SetOrderedMultimap<K, V, DefaultState, A> {
-    /// Creates an empty set with the default hash builder.
-    ///
-    /// The call doesn't allocate. The set allocates from `alloc` later. The default hash builder
-    /// has a fixed seed: for keys that others choose see [`with_hasher`](Self::with_hasher).
-    ///
-    /// # Complexity
-    ///
-    /// *O*(1).
-    ///
-    /// # Examples
-    ///
-    /// ```
-    /// use set_ordered_multimap::SetOrderedMultimap;
-    ///
-    /// let mut set = SetOrderedMultimap::new(rt.alloc());
-    /// set.insert("plan", "draft")?;
-    /// assert_eq!(rt; set.values_len(), 1);
-    /// ```
-    pub fn new(alloc: A) -> Self
-        ensures new { IsNewSet K.eq V.eq result }
-    {
-        SetOrderedMultimap::with_hasher(alloc, BuildHasherDefault::new())
-    }
-}
-
-impl<K: Eq + Hash, V: Eq, S: BuildHasher, A: Allocator + Copy> SetOrderedMultimap<K, V, S, A> {
-    /// Creates an empty set with the given hash builder.
-    ///
-    /// The call doesn't allocate. The set allocates from `alloc` later. For keys that others choose
-    /// give it an `ordered_multimap::RandomState`, which has a random seed.
-    ///
-    /// # Complexity
-    ///
-    /// *O*(1).
-    ///
-    /// # Examples
-    ///
-    /// ```
-    /// use ordered_multimap::RandomState;
-    /// use set_ordered_multimap::SetOrderedMultimap;
-    /// use std::alloc::AllocError;
-    ///
-    /// let state = RandomState::new(&rt).map_err(|_| AllocError)?;
-    /// let mut set = SetOrderedMultimap::with_hasher(rt.alloc(), state);
-    /// set.insert("plan", "draft")?;
-    /// assert!(rt; set.contains("plan", &"draft"));
-    /// ```
-    pub fn with_hasher(alloc: A, state: S) -> Self
-        ensures new { IsNewSetWith K.eq V.eq state result }
-    {
-        SetOrderedMultimap {
-            map: ListOrderedMultimap::with_hasher(alloc, state),
-        }
-    }
 }
 
 impl<K: Eq + Hash, V, S: BuildHasher, A: Allocator> SetOrderedMultimap<K, V, S, A> {

@@ -63,7 +63,7 @@ module _ {X : Type 0} where
   AllByRecursion-zip R eq x c same (y ∷ xs) (d ∷ cs) zipped all =
       (same y d zipped.0 ∙ all.0, AllByRecursion-zip R eq x c same xs cs zipped.1 all.1)
 
-  IsDistinct-zip : (R : X → X → Type 0) (eq : X → X → Bool) → ((x c y d : X) → R x c → R y d → eq c d ≡ eq x y)
+  pub IsDistinct-zip : (R : X → X → Type 0) (eq : X → X → Bool) → ((x c y d : X) → R x c → R y d → eq c d ≡ eq x y)
       → (xs cs : List X) → AllZip R xs cs → IsDistinct eq xs → IsDistinct eq cs
   unfolding IsDistinct
   IsDistinct-zip R eq same [] [] zipped distinct = tt

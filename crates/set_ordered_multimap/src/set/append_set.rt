@@ -107,13 +107,13 @@ impl<K: Eq + Hash + Drop, V: Eq + Drop, S: BuildHasher, A: Allocator + Copy> Set
     /// other.insert("plan", "draft")?;
     /// other.insert("plan", "long")?;
     ///
-    /// set.append_map(&mut other)?;
+    /// set.append_set(&mut other)?;
     /// assert_eq!(rt; set.values_len(), 3);
     /// assert!(rt; set.get_all("plan").eq(&["draft", "long"]));
     /// assert!(rt; set.keys().eq(&["plan", "note"]));
     /// assert!(rt; other.is_empty());
     /// ```
-    pub fn append_map<T: BuildHasher>(
+    pub fn append_set<T: BuildHasher>(
         &mut self,
         other: &mut SetOrderedMultimap<K, V, T, A>,
     ) -> Result<(), AllocError>

@@ -1,5 +1,5 @@
 //! Lookups of a pair, and of a key and its values.
-ghost use Rattle.std.specs.Prelude.{◌≡◌, length, option_copied};
+ghost use Rattle.std.specs.Prelude.{◌≡◌, length, option_copied, slice_get};
 ghost use Rattle.ordered_multimap.specs.End.TheVariants.{Back};
 ghost use Rattle.ordered_multimap.specs.Pairs.{is_present_where, positions_where, values_where};
 ghost use Rattle.ordered_multimap.specs.Walk.{end_item};
@@ -92,10 +92,38 @@ impl<K: Eq + Hash, V, S: BuildHasher, A: Allocator> SetOrderedMultimap<K, V, S, 
         self.map.entry_len(key)
     }
 
+    /// Returns the first value of the key, or `None` if the key is absent.
+    ///
+    /// For the last value see [`get_last`](Self::get_last), for all values of the key
+    /// [`get_all`](Self::get_all), and to ask for a pair [`contains`](Self::contains). The key may
+    /// be a query ([`KeyQuery`]).
+    ///
+    /// # Complexity
+    ///
+    /// *O*(1) expected. It reads the slots of the key and of the value.
+    ///
+    /// # Examples
+    ///
+    /// ```
+    /// use set_ordered_multimap::SetOrderedMultimap;
+    ///
+    /// let mut set = SetOrderedMultimap::new(rt.alloc());
+    /// set.insert("plan", "draft")?;
+    /// set.insert("plan", "long")?;
+    /// assert_eq!(rt; set.get("plan"), Some(&"draft"));
+    /// assert_eq!(rt; set.get("note"), None);
+    /// ```
+    pub fn get<Q: KeyQuery<K>>(&self, key: Q) -> Option<&V>
+        ensures { option_copied result
+            ≡ slice_get (values_where (Q.equivalent key) self.now.lists.pairs) 0 }
+    {
+        self.map.get(key)
+    }
+
     /// Returns the value of the key that was inserted last, or `None` if the key is absent.
     ///
-    /// For all values of the key see [`get_all`](Self::get_all). The key may be a query
-    /// ([`KeyQuery`]).
+    /// For the first value see [`get`](Self::get), and for all values of the key
+    /// [`get_all`](Self::get_all). The key may be a query ([`KeyQuery`]).
     ///
     /// # Complexity
     ///

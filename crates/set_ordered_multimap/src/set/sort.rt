@@ -1,11 +1,13 @@
 //! Sorting the keys of a set, or its pairs.
 ghost use Rattle.std.specs.Prelude.{◌≡◌, ◌<◌, ◌≤◌, length, OnOk, OnErr, IsOk, IsSorted};
 ghost use Rattle.std.specs.List.Sorted.{IsSortedByClosure, IsStable, IsStableByClosure};
+ghost use Rattle.ordered_multimap.specs.KeySorts.{IsSortedByCachedKey, IsStableByCachedKey};
 ghost use Rattle.ordered_multimap.specs.PairSorts.{IsSortedByPairClosure, IsStableByPairClosure};
 ghost use Rattle.ordered_multimap.specs.TapeNumbers.{AreUnused};
 ghost use Rattle.set_ordered_multimap.specs.SetChanges.{ReordersSet, ReordersSetPairs};
 
 use super::SetOrderedMultimap;
+use ordered_multimap::list_ordered_multimap::EntryValues;
 use std::alloc::{AllocError, Allocator};
 use std::cmp::Ordering;
 use std::hash::{BuildHasher, Hash};
@@ -14,7 +16,8 @@ impl<K: Eq + Hash, V: Eq, S: BuildHasher, A: Allocator + Copy> SetOrderedMultima
     /// Sorts the keys, and leaves the pairs where they are.
     ///
     /// The order of all pairs stays as it is. A key that is added later goes last. To sort by
-    /// another order see [`sort_keys_by`](Self::sort_keys_by).
+    /// another order see [`sort_keys_by`](Self::sort_keys_by), and by what a key's values give
+    /// [`sort_keys_by_cached_key`](Self::sort_keys_by_cached_key).
     ///
     /// # Errors
     ///
@@ -136,5 +139,58 @@ impl<K: Eq + Hash, V: Eq, S: BuildHasher, A: Allocator + Copy> SetOrderedMultima
         ensures succeeds { length self.old.lists.pairs ≤ 1 → IsOk result }
     {
         self.map.sort_by(cmp)
+    }
+}
+
+impl<K: Eq + Hash, V: Eq, S: BuildHasher> SetOrderedMultimap<K, V, S> {
+    /// Sorts the keys by what a function returns for each key and its values, and leaves the pairs
+    /// where they are.
+    ///
+    /// `f` is called once for each key, with an iterator over its values, and what it returns is
+    /// kept until the keys are sorted. The sort is stable: keys for which `f` returns equal values
+    /// keep their order. The order of all pairs stays as it is, and so does the order of each key's
+    /// values. To sort by the keys alone see [`sort_keys`](Self::sort_keys) and
+    /// [`sort_keys_by`](Self::sort_keys_by).
+    ///
+    /// The set's allocator is `Global`, since the checker can't state a function of an iterator
+    /// whose allocator is a parameter.
+    ///
+    /// # Errors
+    ///
+    /// Returns [`AllocError`] if an allocation fails. Both lists are unchanged. It never fails for
+    /// a set of no key or of one. It allocates a list of the keys' places, and what std's
+    /// `sort_by_cached_key` of that list does.
+    ///
+    /// # Complexity
+    ///
+    /// A call of `f` for each of the *k* keys, and *O*(*k* log *k*) comparisons of what it returns.
+    ///
+    /// # Requires
+    ///
+    /// `f` may be called on any key and any values.
+    ///
+    /// # Examples
+    ///
+    /// ```
+    /// use set_ordered_multimap::SetOrderedMultimap;
+    ///
+    /// let mut set = SetOrderedMultimap::new(rt.alloc());
+    /// set.extend([("plan", 1), ("note", 8), ("word", 5), ("plan", 2)])?;
+    /// set.sort_keys_by_cached_key(|_key, values| values.len())?;
+    /// assert!(rt; set.keys().eq(&["note", "word", "plan"]));
+    /// assert!(rt; set.values().eq(&[1, 8, 5, 2]));
+    /// ```
+    pub fn sort_keys_by_cached_key<T: Ord + Drop, F: Fn(&K, EntryValues<'_, K, V>) -> T>(
+        &mut self,
+        f: F,
+    ) -> Result<(), AllocError>
+        requires { F.IsAlwaysCallable f }
+        ensures sorted { OnOk result (IsSortedByCachedKey F.FnMut T.cmp K.eq f self.new.lists) }
+        ensures stable { IsStableByCachedKey F.FnMut T.cmp K.eq f self.old.lists self.new.lists }
+        ensures reordered { ReordersSet K.eq V.eq self.old self.new }
+        ensures unchanged { OnErr result (self.new ≡ self.old) }
+        ensures succeeds { length self.old.lists.keys ≤ 1 → IsOk result }
+    {
+        self.map.sort_keys_by_cached_key(f)
     }
 }

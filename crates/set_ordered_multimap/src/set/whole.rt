@@ -1,13 +1,13 @@
-//! Calls on the set as a whole: equality, clones, `Debug`, and the iterator that takes it apart.
+//! Calls on the set as a whole: equality, clones, `Debug`, and the iterators that take it apart.
 ghost use Rattle.std.specs.Cmp.{on_equiv, on_per};
 ghost use Rattle.std.specs.Prelude.{◌≡◌, true};
 ghost use Rattle.ordered_multimap.specs.Lists.{IsIn};
-ghost use Rattle.ordered_multimap.specs.Pairs.{same_pairs};
+ghost use Rattle.ordered_multimap.specs.Pairs.{all_values, same_pairs};
 ghost use Rattle.set_ordered_multimap.specs.PairLaws.{pairs_equiv, pairs_per};
 ghost use Rattle.set_ordered_multimap.specs.SetClones.{ClonesSet};
 
 use super::SetOrderedMultimap;
-use ordered_multimap::list_ordered_multimap::{IntoIter, UnclonedKey};
+use ordered_multimap::list_ordered_multimap::{IntoIter, IntoKeys, IntoValues, UnclonedKey};
 use std::alloc::{AllocError, Allocator};
 use std::fmt;
 use std::hash::{BuildHasher, Hash};
@@ -139,5 +139,68 @@ impl<K: Eq + Hash + Clone, V: Drop, S: BuildHasher + Drop, A: Allocator> IntoIte
     fn into_iter(self) -> IntoIter<K, V, A> {
         let SetOrderedMultimap { map } = self;
         map.into_iter()
+    }
+}
+
+impl<K: Eq + Hash, V: Drop, S: BuildHasher + Drop, A: Allocator> SetOrderedMultimap<K, V, S, A> {
+    /// Consumes the set, and returns an iterator over its keys, in the order in which each last
+    /// became present.
+    ///
+    /// Each key is yielded once, however many values it has, and no key is cloned. The values are
+    /// dropped at the call. For the keys by reference see [`keys`](Self::keys).
+    ///
+    /// # Complexity
+    ///
+    /// *O*(value slots in use), to drop the values, and *O*(1) for each key.
+    ///
+    /// # Examples
+    ///
+    /// ```
+    /// use set_ordered_multimap::SetOrderedMultimap;
+    ///
+    /// let mut set = SetOrderedMultimap::new(rt.alloc());
+    /// set.extend([("plan", "draft"), ("note", "draft"), ("plan", "long")])?;
+    /// let mut keys = set.into_keys();
+    /// assert_eq!(rt; keys.len(), 2);
+    /// assert_eq!(rt; keys.next(), Some("plan"));
+    /// assert_eq!(rt; keys.next_back(), Some("note"));
+    /// assert_eq!(rt; keys.next(), None);
+    /// ```
+    pub fn into_keys(self) -> IntoKeys<K, A>
+        ensures { result ≡ self.lists.keys }
+    {
+        let SetOrderedMultimap { map } = self;
+        map.into_keys()
+    }
+}
+
+impl<K: Eq + Hash + Drop, V, S: BuildHasher + Drop, A: Allocator> SetOrderedMultimap<K, V, S, A> {
+    /// Consumes the set, and returns an iterator over the values of all pairs, in insertion order.
+    ///
+    /// A value of several keys occurs as often. The keys are dropped at the call. For the values by
+    /// reference see [`values`](Self::values), and for the pairs [`into_iter`](Self::into_iter).
+    ///
+    /// # Complexity
+    ///
+    /// *O*(key slots in use), to drop the keys, and *O*(1) for each value.
+    ///
+    /// # Examples
+    ///
+    /// ```
+    /// use set_ordered_multimap::SetOrderedMultimap;
+    ///
+    /// let mut set = SetOrderedMultimap::new(rt.alloc());
+    /// set.extend([("plan", "draft"), ("note", "short"), ("plan", "long")])?;
+    /// let mut values = set.into_values();
+    /// assert_eq!(rt; values.len(), 3);
+    /// assert_eq!(rt; values.next(), Some("draft"));
+    /// assert_eq!(rt; values.next_back(), Some("long"));
+    /// assert_eq!(rt; values.next(), Some("short"));
+    /// ```
+    pub fn into_values(self) -> IntoValues<V, A>
+        ensures { result ≡ all_values self.lists.pairs }
+    {
+        let SetOrderedMultimap { map } = self;
+        map.into_values()
     }
 }

@@ -1,8 +1,9 @@
 //! Proved callers of the set: each says by its own clauses what the set is afterwards.
-ghost use Rattle.std.specs.Prelude.{◌≡◌, filter, nat_eq, nat_lt, true, OnOk, IfOk, OnErr, ◌&&◌, length};
+ghost use Rattle.std.specs.Prelude.{◌≡◌, filter, nat_eq, nat_lt, true, false, OnOk, IfOk, OnErr, ◌&&◌, length};
 ghost use Rattle.ordered_multimap.specs.Changes.{kept, removed_where};
 ghost use Rattle.ordered_multimap.specs.End.TheVariants.{Front};
 ghost use Rattle.ordered_multimap.specs.Popped.{popped};
+ghost use Rattle.ordered_multimap.specs.Renames.{renamed_where};
 ghost use Rattle.set_ordered_multimap.specs.Set.{IsSet, set_inserted, value_removed, all_inserted, has_pair_where};
 ghost use Rattle.std.specs.Iterator.{IsFinite};
 ghost use Rattle.set_ordered_multimap.specs.Insertions.{IsSetOf};
@@ -103,7 +104,7 @@ pub fn join<K: Eq + Hash + Drop, V: Eq + Drop, S: BuildHasher, T: BuildHasher, A
     ensures set { IsSet K.eq V.eq set.old.lists → IsSet K.eq V.eq other.old.lists
         → IsSet K.eq V.eq set.new.lists }
 {
-    set.append_map(other)
+    set.append_set(other)
 }
 
 /// Inserts all pairs of the other set where there is room for them, and raises no capacity.
@@ -122,7 +123,7 @@ pub fn join_in_room<
     if key_room < other.keys_len() || value_room < other.values_len() {
         return false;
     }
-    match set.append_map(other) {
+    match set.append_set(other) {
         Ok(()) => {}
         Err(_) => unreachable!(),
     }
@@ -151,4 +152,27 @@ pub fn remove_key<K: Eq + Hash + Drop, V: Eq + Drop, Q: KeyQuery<K>, S: BuildHas
     ensures set { IsSet K.eq V.eq set.old.lists → IsSet K.eq V.eq set.new.lists }
 {
     set.remove_all_with(query, |_value| {});
+}
+
+/// Puts another key in the place of one, and returns whether it did. A set stays one either way.
+pub fn rename<K: Eq + Hash + Drop, V: Eq, Q: KeyQuery<K>, S: BuildHasher, A: Allocator>(
+    set: &mut SetOrderedMultimap<K, V, S, A>,
+    query: Q,
+    new_key: K,
+) -> bool
+    ensures renamed { result ≡ true
+        → set.new.lists ≡ renamed_where (Q.equivalent query) new_key set.old.lists }
+    ensures refused { result ≡ false → set.new ≡ set.old }
+    ensures set { IsSet K.eq V.eq set.old.lists → IsSet K.eq V.eq set.new.lists }
+{
+    match set.rename_key(query, new_key) {
+        Ok(old) => {
+            drop(old);
+            true
+        }
+        Err(fault) => {
+            drop(fault.into_key());
+            false
+        }
+    }
 }

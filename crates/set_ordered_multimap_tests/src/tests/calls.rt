@@ -1,6 +1,6 @@
 //! Calls of a set that no other test makes, proved callers, and pairs that are equal, not the same.
 use crate::tests::callers::{
-    exchange, gathered, insert_in_room, keep_below, remove_key, take_first,
+    exchange, gathered, insert_in_room, keep_below, remove_key, rename, take_first,
 };
 use crate::tests::sets::{SetBy, has_lists, refill};
 use ordered_multimap::list_ordered_multimap::{DefaultState, KeyWrapper};
@@ -9,7 +9,9 @@ use set_ordered_multimap::laws::{changes_keep_sets, insertions_keep_first_pairs}
 use std::alloc::AllocError;
 use std::fmt;
 use std::hash::BuildHasher;
-use test_helpers::{Failed, Test, is_shown, lend_made, test_all, test_on_new};
+use test_helpers::{
+    B, F, Failed, Test, filled, is_shown, lend_made, test_all, test_on_new, walk_difference,
+};
 
 type Numbers = SetBy;
 
@@ -40,7 +42,8 @@ fn callers_return(test: &Test, set: &mut Numbers) {
     test.expect(has_lists(set, &[(2, 2), (3, 3)], &[2, 3]));
     test.expect(take_first(set) == Some(2));
     test.expect(insert_in_room(set, 2, 2));
-    remove_key(set, &3);
+    test.expect(rename(set, &3, 4) && !rename(set, &3, 5));
+    remove_key(set, &4);
     test.expect(has_lists(set, &[(2, 2)], &[2]));
 }
 
@@ -80,6 +83,29 @@ fn numbers_are_gathered(test: &Test) {
 #[test]
 fn numbers_return(rt: HostRuntime) -> Result<(), Failed> {
     test_all!(rt.alloc(); numbers_are_gathered)
+}
+
+fn made(test: &Test) -> Numbers {
+    let pairs = [(2, 5), (1, 6), (2, 7), (3, 5), (2, 5)];
+    filled(
+        SetOrderedMultimap::new(test.alloc()),
+        |set| refill(test, set, &pairs),
+    )
+}
+
+fn keys_are_handed_out(test: &Test) {
+    let wanted = [(F, 2), (B, 3), (F, 1)];
+    test.expect_same(walk_difference(&mut made(test).into_keys(), &wanted));
+}
+
+fn values_are_handed_out(test: &Test) {
+    let wanted = [(F, 5), (B, 5), (B, 7), (F, 6)];
+    test.expect_same(walk_difference(&mut made(test).into_values(), &wanted));
+}
+
+#[test]
+fn keys_or_values_are_taken_out(rt: HostRuntime) -> Result<(), Failed> {
+    test_all!(rt.alloc(); keys_are_handed_out, values_are_handed_out)
 }
 
 // An ASCII letter, whose case counts for nothing.

@@ -71,7 +71,7 @@ fn join_row<S: BuildHasher, T: BuildHasher>(
     refill(test, set, row.0);
     fill_other(test, other, row.1);
     let room = rooms(other);
-    test.expect_at(at, set.append_map(other).is_ok());
+    test.expect_at(at, set.append_set(other).is_ok());
     test.expect_at(at, has_all(set, row.2, row.3));
     test.expect_at(at, other.is_empty() && rooms(other) == room);
 }
@@ -128,7 +128,7 @@ fn take_again<A: Allocator + Copy>(test: &Test, set: &mut Refusing<A>, other: &m
     refill(test, other, OTHER);
     set.retain(|_key, value| *value == 3);
     let room = rooms(set);
-    test.expect(set.append_map(other).is_ok() && rooms(set) == room);
+    test.expect(set.append_set(other).is_ok() && rooms(set) == room);
     let pairs = [(1, 3), (3, 3), (4, 5), (1, 6)];
     test.expect(has_lists(set, &pairs, &[1, 3, 4]));
 }
@@ -138,7 +138,7 @@ fn take_again<A: Allocator + Copy>(test: &Test, set: &mut Refusing<A>, other: &m
 fn moved<A: Allocator + Copy>(test: &Test, both: &mut Both<A>) -> bool {
     let (set, other) = both;
     let room = rooms(other);
-    let enough = set.append_map(other).is_ok();
+    let enough = set.append_set(other).is_ok();
     if enough {
         test.expect(has_lists(set, JOINED, &[1, 2, 3, 4]) && has_lists(other, &[], &[]));
         take_again(test, set, other);

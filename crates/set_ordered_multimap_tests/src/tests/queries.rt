@@ -42,11 +42,17 @@ fn refill<S: BuildHasher>(test: &Test, set: &mut Owned<S>) {
     }
 }
 
+// Whether look-ups find the first and the last of these values of a name.
+fn ends_are_found<S: BuildHasher>(set: &Owned<S>, name: &str, values: &[u32]) -> bool {
+    copied(set.get(name)) == copied(values.first())
+        && copied(set.get_last(name)) == copied(values.last())
+}
+
 // Whether look-ups find these values of a name.
 fn is_found<S: BuildHasher>(set: &Owned<S>, name: &str, values: &[u32]) -> bool {
     set.contains_key(name) != values.is_empty()
         && set.entry_len(name) == values.len()
-        && copied(set.get_last(name)) == copied(values.last())
+        && ends_are_found(set, name, values)
         && gives(&mut set.get_all(name), values)
 }
 

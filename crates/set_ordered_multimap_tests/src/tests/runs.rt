@@ -1,6 +1,6 @@
 //! Runs of calls on numbers, with both lists and two keys' values after each call.
 use crate::tests::sets::{SetBy, collided, has_lists, refill};
-use ordered_multimap::list_ordered_multimap::KeyWrapper;
+use ordered_multimap::list_ordered_multimap::{KeyWrapper, RenameFault};
 use set_ordered_multimap::SetOrderedMultimap;
 use std::hash::BuildHasher;
 use test_helpers::{Failed, Test, copied, test_on_new};
@@ -19,9 +19,20 @@ enum Call {
     SortByValue,
     SortByHalf,
     SortByKey,
+    // By the number of values.
+    SortKeysByLen,
     // A key that moves, and whether it is there.
     ToBack(u32, bool),
     ToFront(u32, bool),
+    // A key, the one to take its place, and what becomes of it.
+    Rename(u32, u32, Renamed),
+}
+
+#[derive(Clone, Copy)]
+enum Renamed {
+    Done,
+    Taken,
+    Absent,
 }
 
 type Pairs = &'static [(u32, u32)];
@@ -69,6 +80,21 @@ const SORTS: &[Row] = &[
     (Call::SortByKey, BY_KEY, &[1, 2, 4, 5]),
     (Call::Insert(5, 4, false), BY_KEY, &[1, 2, 4, 5]),
     (Call::Insert(3, 4, true), WITH_NEW, &[1, 2, 4, 5, 3]),
+    (Call::SortKeysByLen, WITH_NEW, &[1, 2, 3, 4, 5]),
+];
+
+// The pairs once the key 4 is the key 3.
+const RENAMED: Pairs = &[(5, 4), (3, 2), (1, 3), (5, 1), (2, 5), (3, 0)];
+
+// The run begins with the pairs, as that of the sorts.
+const RENAMES: &[Row] = &[
+    (Call::Rename(4, 3, Renamed::Done), RENAMED, &[5, 3, 1, 2]),
+    (Call::Rename(4, 6, Renamed::Absent), RENAMED, &[5, 3, 1, 2]),
+    (Call::Rename(4, 5, Renamed::Absent), RENAMED, &[5, 3, 1, 2]),
+    (Call::Rename(3, 5, Renamed::Taken), RENAMED, &[5, 3, 1, 2]),
+    (Call::Rename(3, 3, Renamed::Done), RENAMED, &[5, 3, 1, 2]),
+    (Call::Insert(3, 2, false), RENAMED, &[5, 3, 1, 2]),
+    (Call::Rename(3, 4, Renamed::Done), PAIRS, &[5, 4, 1, 2]),
 ];
 
 fn sorts_keys<S: BuildHasher>(set: &mut SetBy<S>, by_half: bool) -> bool {
@@ -78,10 +104,25 @@ fn sorts_keys<S: BuildHasher>(set: &mut SetBy<S>, by_half: bool) -> bool {
     set.sort_keys().is_ok()
 }
 
+fn sorts_by_len<S: BuildHasher>(set: &mut SetBy<S>) -> bool {
+    set.sort_keys_by_cached_key(|_key, values| values.len())
+        .is_ok()
+}
+
 fn sorts_by_value<S: BuildHasher>(set: &mut SetBy<S>, by_half: bool) -> bool {
     let divisor = if by_half { 2 } else { 1 };
     set.sort_by(|_, value, _, other| (*value / divisor).cmp(&(*other / divisor)))
         .is_ok()
+}
+
+fn renames<S: BuildHasher>(set: &mut SetBy<S>, key: u32, new_key: u32, renamed: Renamed) -> bool {
+    let answer = set.rename_key(&key, new_key);
+    answer
+        == match renamed {
+            Renamed::Done => Ok(key),
+            Renamed::Taken => Err(RenameFault::Taken(new_key)),
+            Renamed::Absent => Err(RenameFault::Absent(new_key)),
+        }
 }
 
 // Whether the call returns what is said.
@@ -89,11 +130,13 @@ fn is_called<S: BuildHasher>(set: &mut SetBy<S>, call: Call) -> bool {
     match call {
         Call::SortKeys => sorts_keys(set, false),
         Call::SortKeysByHalf => sorts_keys(set, true),
+        Call::SortKeysByLen => sorts_by_len(set),
         Call::SortByValue => sorts_by_value(set, false),
         Call::SortByHalf => sorts_by_value(set, true),
         Call::SortByKey => set.sort_by(|key, _, other, _| other.cmp(key)).is_ok(),
         Call::ToBack(key, there) => set.move_key_to_back(&key) == there,
         Call::ToFront(key, there) => set.move_key_to_front(&key) == there,
+        Call::Rename(key, new_key, renamed) => renames(set, key, new_key, renamed),
         Call::Insert(key, value, new) => set.insert(key, value) == Ok(new),
         Call::RemoveValue(key, value, there) => set.remove_value(&key, &value) == there,
         Call::PopFront(key, value) => set.pop_front() == Some((KeyWrapper::Owned(key), value)),
@@ -141,4 +184,15 @@ fn sorts_hold(test: &Test, set: &mut SetBy) {
 #[test]
 fn keys_and_pairs_are_sorted(rt: HostRuntime) -> Result<(), Failed> {
     test_on_new(rt.alloc(), SetOrderedMultimap::new, sorts_hold)
+}
+
+fn renames_hold<S: BuildHasher>(test: &Test, set: &mut SetBy<S>) {
+    refill(test, set, PAIRS);
+    rows_hold(test, set, RENAMES);
+}
+
+#[test]
+fn keys_are_renamed(rt: HostRuntime) -> Result<(), Failed> {
+    test_on_new(rt.alloc(), SetOrderedMultimap::new, renames_hold)?;
+    test_on_new(rt.alloc(), collided, renames_hold)
 }

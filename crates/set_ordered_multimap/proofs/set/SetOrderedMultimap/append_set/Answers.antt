@@ -4,7 +4,7 @@ use Rattle.set_ordered_multimap.proofs.Callers.Sets.{IsSet-all_inserted}
 use Rattle.set_ordered_multimap.proofs.Lacked.{inserts-lacked}
 use Rattle.set_ordered_multimap.specs.AppendSet.{lacked}
 use Rattle.set_ordered_multimap.specs.Set.{IsSet}
-use Rattle.set_ordered_multimap.proofs.set.SetOrderedMultimap.append_map.Goals as goal
+use Rattle.set_ordered_multimap.proofs.set.SetOrderedMultimap.append_set.Goals as goal
 
 pub returns-clause-inserted : goal.returns-clause-inserted
 returns-clause-inserted g c = λ set.
