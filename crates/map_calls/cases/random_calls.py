@@ -6,9 +6,9 @@ import sys
 LINES, KEYS, SEED = 6_000, 9, 41
 
 
-def lines(seed):
+def lines(seed, count=LINES):
     draw = random.Random(seed)
-    for _ in range(LINES):
+    for _ in range(count):
         key, value, index = "0" * draw.randrange(3) + str(draw.randrange(KEYS)), draw.randrange(-4, 5), draw.randrange(-1, 5)
         yield draw.choice(
             [f"append {key} {value}"] * 9

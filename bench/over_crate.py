@@ -1,0 +1,56 @@
+"""Builds programs over the original crate, as Debian packages it."""
+import pathlib
+import re
+import subprocess
+import sys
+
+BENCH = pathlib.Path(__file__).resolve().parent
+TOP = BENCH.parent
+OUT = BENCH / "out"
+SCRIPT = f"bench/{pathlib.Path(sys.argv[0]).name}"
+
+
+def versions():
+    """The versions of the crates that the map is compared with. Where one isn't installed, that ends the script."""
+    ran = subprocess.run([BENCH / "peers"], stdout=subprocess.PIPE, text=True)
+    if ran.returncode:
+        sys.exit(f"{SCRIPT}: nothing is compared without the crates")
+    return dict(it.split() for it in ran.stdout.strip().split(", "))
+
+
+def blocks(page, heading, mark):
+    """The code blocks of a page that have this mark, below this heading."""
+    sections = re.split(r"^## ", (TOP / page).read_text(), flags=re.M)[1:]
+    own = next((it for it in sections if it.startswith(f"{heading}\n")), "")
+    return re.findall(rf"^```{mark}\n(.*?)^```$", own, re.M | re.S)
+
+
+def write(file, text):
+    """Writes a file that differs: cargo builds anew what was written."""
+    if not file.exists() or file.read_text() != text:
+        file.parent.mkdir(parents=True, exist_ok=True)
+        file.write_text(text)
+
+
+def compiled(name, text=None):
+    """The program of that name in bench/original/, or of that text, built; and what cargo says if it can't be."""
+    project = OUT / "original"
+    for file in (it for it in (BENCH / "original").rglob("*") if it.is_file()):
+        write(project / file.relative_to(BENCH / "original"), file.read_text())
+    if text is not None:
+        write(project / f"src/bin/{name}.rs", text)
+    cargo = ["cargo", "--config", OUT / "peers.toml", "build", "--quiet", "--offline", "--target-dir", OUT / "target"]
+    piped = {"stdout": subprocess.PIPE, "stderr": subprocess.STDOUT, "text": True, "errors": "replace"}
+    try:
+        ran = subprocess.run([*cargo, "--bin", name], cwd=project, **piped)
+    except OSError as error:
+        sys.exit(f"{SCRIPT}: cargo: {error.strerror}")
+    return OUT / "target/debug" / name, ran.stdout if ran.returncode else None
+
+
+def built(name, text=None):
+    """That program. Where it can't be built, this says why and ends the script."""
+    program, fault = compiled(name, text)
+    if fault is not None:
+        sys.exit(f"{SCRIPT}: the program {name} over the crate isn't built:\n{fault}")
+    return program
