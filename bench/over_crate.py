@@ -1,21 +1,34 @@
 """Builds programs over the original crate, as Debian packages it."""
 import pathlib
 import re
+import shutil
 import subprocess
 import sys
 
 BENCH = pathlib.Path(__file__).resolve().parent
 TOP = BENCH.parent
 OUT = BENCH / "out"
-SCRIPT = f"bench/{pathlib.Path(sys.argv[0]).name}"
+SCRIPT = "/".join(pathlib.Path(sys.argv[0]).resolve().parts[-2:])
 
 
-def versions():
-    """The versions of the crates that the map is compared with. Where one isn't installed, that ends the script."""
-    ran = subprocess.run([BENCH / "peers"], stdout=subprocess.PIPE, text=True)
-    if ran.returncode:
-        sys.exit(f"{SCRIPT}: nothing is compared without the crates")
-    return dict(it.split() for it in ran.stdout.strip().split(", "))
+def peers():
+    return subprocess.run([BENCH / "peers"], capture_output=True, text=True)
+
+
+def lacking():
+    """What is missing where programs over the crate can't be built, and how to install it, or None."""
+    if not shutil.which("cargo"):
+        return "cargo is not on PATH"
+    ran = peers()
+    return ". ".join(ran.stderr.removeprefix("bench/peers: ").splitlines()) if ran.returncode else None
+
+
+def release():
+    """The crate's name and version. Where something is missing, this says what and ends the script."""
+    lacked = lacking()
+    if lacked:
+        sys.exit(f"{SCRIPT}: {lacked}")
+    return next(it for it in peers().stdout.strip().split(", ") if it.startswith("ordered-multimap "))
 
 
 def blocks(page, heading, mark):
