@@ -1,4 +1,6 @@
 """Builds programs over the original crate, as Debian packages it."""
+import contextlib
+import fcntl
 import pathlib
 import re
 import shutil
@@ -11,8 +13,18 @@ OUT = BENCH / "out"
 SCRIPT = "/".join(pathlib.Path(sys.argv[0]).resolve().parts[-2:])
 
 
+@contextlib.contextmanager
+def alone():
+    """Keeps other threads and scripts from the project and cargo's settings, while they are written and read."""
+    OUT.mkdir(exist_ok=True)
+    with open(OUT / "lock", "w") as lock:
+        fcntl.flock(lock, fcntl.LOCK_EX)
+        yield
+
+
 def peers():
-    return subprocess.run([BENCH / "peers"], capture_output=True, text=True)
+    with alone():
+        return subprocess.run([BENCH / "peers"], capture_output=True, text=True)
 
 
 def lacking():
@@ -47,18 +59,24 @@ def write(file, text):
 
 def compiled(name, text=None):
     """The program of that name in bench/original/, or of that text, built; and what cargo says if it can't be."""
-    project = OUT / "original"
-    for file in (it for it in (BENCH / "original").rglob("*") if it.is_file()):
-        write(project / file.relative_to(BENCH / "original"), file.read_text())
-    if text is not None:
-        write(project / f"src/bin/{name}.rs", text)
+    with alone():
+        for file in (it for it in (BENCH / "original").rglob("*") if it.is_file()):
+            write(OUT / "original" / file.relative_to(BENCH / "original"), file.read_text())
+        if text is not None:
+            write(OUT / f"original/src/bin/{name}.rs", text)
+        said = run_cargo(name)
+    return OUT / "target/debug" / name, said
+
+
+def run_cargo(name):
+    """Builds a program of the project, and gives what cargo says if it can't."""
     cargo = ["cargo", "--config", OUT / "peers.toml", "build", "--quiet", "--offline", "--target-dir", OUT / "target"]
     piped = {"stdout": subprocess.PIPE, "stderr": subprocess.STDOUT, "text": True, "errors": "replace"}
     try:
-        ran = subprocess.run([*cargo, "--bin", name], cwd=project, **piped)
+        ran = subprocess.run([*cargo, "--bin", name], cwd=OUT / "original", **piped)
     except OSError as error:
         sys.exit(f"{SCRIPT}: cargo: {error.strerror}")
-    return OUT / "target/debug" / name, ran.stdout if ran.returncode else None
+    return ran.stdout if ran.returncode else None
 
 
 def built(name, text=None):
