@@ -1,7 +1,8 @@
 //! Measures the layers below the map: with the word `table` the key table, and with `tape` walks over
 //! a tape with holes. It prints a line of times for each size. With no word it goes through that work
 //! at small sizes, and through the map's workloads at 64 pairs and seed 1, and prints the checksums
-//! alone: of a workload that under the map's default hash builder and that under the fast one.
+//! alone: of a workload that under the map's default hash builder, that under the fast one, and those of
+//! the kit's maps.
 #![tactic(auto)]
 
 mod table;

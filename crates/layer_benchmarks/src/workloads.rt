@@ -33,9 +33,17 @@ const NAMES: &[&str] = &[
     "extend",
     "sort_keys",
     "sort_by",
+    "request_headers",
+    "form_fields",
+    "config_section",
+    "forty_headers",
+    "hold_distinct",
+    "hold_grouped",
+    "hold_few",
 ];
 
-/// A line for each workload: its name, and its checksums under the two hash builders.
+/// A line for each workload: its name, and its checksums under the two hash builders, and on the kit's
+/// two maps, where 0 stands for no such workload.
 pub fn print_checksums(rt: &HostRuntime) -> io::Result<()> {
     for (workload, name) in NAMES.iter().enumerate() {
         print_line(rt, workload as u64, name)?;
@@ -46,5 +54,7 @@ pub fn print_checksums(rt: &HostRuntime) -> io::Result<()> {
 fn print_line(rt: &HostRuntime, workload: u64, name: &str) -> io::Result<()> {
     let default = bench(rt.alloc(), workload, 0, 64, 1);
     let fast = bench(rt.alloc(), workload, 1, 64, 1);
-    println!(rt; "{name} {default} {fast}")
+    let hash = bench(rt.alloc(), workload, 2, 64, 1);
+    let index = bench(rt.alloc(), workload, 3, 64, 1);
+    println!(rt; "{name} {default} {fast} {hash} {index}")
 }

@@ -5,6 +5,8 @@ use crate::lookups::{
     all_keys, all_lists, all_pairs, clones, hits, misses, sixteen_keys, sum_of_pairs, walks,
 };
 use crate::many::{extends, makes};
+use crate::marks::mark;
+use crate::names::{Named, named_maps};
 use crate::numbers::{Run, START, mix};
 use crate::sorts::{sorts_keys, sorts_pairs};
 use crate::writes::{adds_keys, adds_keys_by_calls, adds_numbers, adds_numbers_by_calls};
@@ -76,10 +78,18 @@ pub(crate) enum Workload {
     SortKeys,
     /// Sorts the pairs by their keys, after `AppendScattered`.
     SortBy,
+    /// Makes, fills, asks, changes and drops maps with text keys.
+    Names(Named),
+    /// Marks the memory in use after `AppendDistinct`.
+    HoldDistinct,
+    /// Marks the memory in use after `AppendGrouped`.
+    HoldGrouped,
+    /// Marks the memory in use after `AppendFew`.
+    HoldFew,
 }
 
 /// The workloads by their numbers.
-pub(crate) const WORKLOADS: [Workload; 29] = [
+pub(crate) const WORKLOADS: [Workload; 36] = [
     Workload::AppendDistinct,
     Workload::AppendFew,
     Workload::AppendGrouped,
@@ -109,6 +119,13 @@ pub(crate) const WORKLOADS: [Workload; 29] = [
     Workload::Extend,
     Workload::SortKeys,
     Workload::SortBy,
+    Workload::Names(Named::RequestHeaders),
+    Workload::Names(Named::FormFields),
+    Workload::Names(Named::ConfigSection),
+    Workload::Names(Named::FortyHeaders),
+    Workload::HoldDistinct,
+    Workload::HoldGrouped,
+    Workload::HoldFew,
 ];
 
 /// Makes a map, runs a workload on it, and lets the map go. Returns the checksum. Each hasher has
@@ -122,6 +139,9 @@ pub(crate) fn run_workload<S: BuildHasher + Clone + Default + Drop>(
 ) -> u64 {
     if matches!(workload, Workload::SmallMaps) {
         return run_small::<S>(alloc, run);
+    }
+    if let Workload::Names(named) = workload {
+        return named_maps(alloc, named, run).unwrap_or(REFUSED);
     }
     if matches!(workload, Workload::FromIter) {
         return makes(alloc, state, run).unwrap_or(REFUSED);
@@ -151,12 +171,14 @@ fn fill<S: BuildHasher>(map: &mut Map<S>, workload: Workload, run: Run) -> Optio
         | Workload::FifoChurn
         | Workload::InsertReplace
         | Workload::RetainHalf
-        | Workload::SortKeys => distinct(map, run, START),
-        Workload::AppendFew | Workload::FifoChurnFew => few(map, run, START),
+        | Workload::SortKeys
+        | Workload::HoldDistinct => distinct(map, run, START),
+        Workload::AppendFew | Workload::FifoChurnFew | Workload::HoldFew => few(map, run, START),
         Workload::AppendGrouped
         | Workload::GetAllWalk
         | Workload::GetAllMutWalk
-        | Workload::UpdateAll => grouped(map, run, START),
+        | Workload::UpdateAll
+        | Workload::HoldGrouped => grouped(map, run, START),
         Workload::AppendScattered
         | Workload::GetAllWalkScattered
         | Workload::IterAll
@@ -169,9 +191,7 @@ fn fill<S: BuildHasher>(map: &mut Map<S>, workload: Workload, run: Run) -> Optio
         | Workload::UpdateValues
         | Workload::SortBy => scattered(map, run, START),
         Workload::Extend => extends(map, run, START),
-        Workload::FifoSmall | Workload::EntryCount | Workload::SmallMaps | Workload::FromIter => {
-            Some(START)
-        }
+        _ => Some(START),
     }
 }
 
@@ -196,6 +216,9 @@ fn change<S: BuildHasher>(
         Workload::UpdateAll => Some(adds_numbers_by_calls(map, run, checksum)),
         Workload::SortKeys => sorts_keys(map, checksum),
         Workload::SortBy => sorts_pairs(map, checksum),
+        Workload::HoldDistinct | Workload::HoldGrouped | Workload::HoldFew => {
+            mark(*map.allocator(), checksum)
+        }
         _ => Some(checksum),
     }
 }
