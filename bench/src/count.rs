@@ -1,5 +1,6 @@
 //! Counts what the workloads take, by running this program under valgrind.
 use crate::SEED;
+use crate::sides::{Runner, Side, counted};
 use crate::workloads::{WORKLOADS, Workload};
 use std::hint::black_box;
 use std::io::{Error, Result};
@@ -13,7 +14,7 @@ struct Counts {
     bytes: u64,
 }
 
-/// What a column's workload takes an operation, and its map's bytes a pair.
+/// What a workload takes an operation, and its map's bytes a pair.
 struct Own {
     instructions: f64,
     blocks: f64,
@@ -24,31 +25,43 @@ struct Own {
 /// a workload, and not of the program's start.
 const HELD: usize = 1 << 20;
 
-/// Runs a workload so many times: what is counted. The words are the workload's name, the column,
-/// the pairs and the times.
+/// Runs a workload so many times: what is counted. The words are the hasher, the side, the
+/// workload, the pairs and the times.
 pub fn run_once(words: &[String]) -> Option<()> {
-    let [name, column, pairs, rounds] = words else {
+    let [hasher, side, name, pairs, rounds] = words else {
         return None;
     };
-    let workload = WORKLOADS.iter().find(|workload| workload.name == *name)?;
-    let run = workload.columns.get(column.parse::<usize>().ok()?)?;
+    let sides = counted(hasher == "default");
+    let side = sides.iter().find(|it| it.name == *side)?;
+    let runner: Runner = side.runner(name)?;
     let pairs: u64 = pairs.parse().ok()?;
     let held = black_box(vec![0u8; HELD]);
     for _ in 0..rounds.parse().ok()? {
-        black_box(run(black_box(pairs), black_box(SEED)));
+        black_box(runner.call(black_box(pairs), black_box(SEED)));
     }
     drop(held);
     Some(())
 }
 
-/// Prints the table of all workloads at so many pairs. The columns are those of the map and of the
-/// standard library's with the same hasher.
-pub fn print_counts(pairs: u64, columns: [usize; 2]) -> Result<()> {
+/// Prints the table of all workloads at so many pairs, of the map and of std's with the same
+/// hasher. The fast hasher takes no texts, so there are no maps with text keys.
+pub fn print_counts(pairs: u64, has_default_hasher: bool) -> Result<()> {
+    let sides = counted(has_default_hasher);
+    let hasher = if has_default_hasher {
+        "default"
+    } else {
+        "fast"
+    };
     println!("{pairs} pairs, each as map, std\n");
     println!("| Workload | instructions | ratio | blocks | bytes a pair at most |");
     println!("|---|---|---|---|---|");
-    for workload in &WORKLOADS {
-        let [map, std] = columns.map(|column| own(workload, column, pairs));
+    for workload in WORKLOADS
+        .iter()
+        .filter(|it| sides[1].runner(it.name).is_some())
+    {
+        let [map, std] = sides
+            .each_ref()
+            .map(|side| own(workload, (hasher, side), pairs));
         let (map, std) = (map?, std?);
         println!(
             "| `{}` | {:.0}, {:.0} | {:.2} | {:.3}, {:.3} | {:.0}, {:.0} |",
@@ -65,17 +78,17 @@ pub fn print_counts(pairs: u64, columns: [usize; 2]) -> Result<()> {
     Ok(())
 }
 
-fn own(workload: &Workload, column: usize, pairs: u64) -> Result<Own> {
-    let whole = counts(workload, column, pairs)?;
+fn own(workload: &Workload, column: (&str, &Side), pairs: u64) -> Result<Own> {
+    let whole = counts(workload.name, column, pairs)?;
     let start = match workload.start {
-        Some(place) => counts(&WORKLOADS[place], column, pairs)?,
+        Some(name) => counts(name, column, pairs)?,
         None => Counts {
             instructions: 0,
             blocks: 0,
             bytes: 0,
         },
     };
-    let operations = (workload.operations * pairs / 2) as f64;
+    let operations = (workload.operations * pairs / 16) as f64;
     Ok(Own {
         instructions: (whole.instructions - start.instructions) as f64 / operations,
         blocks: (whole.blocks - start.blocks) as f64 / operations,
@@ -85,20 +98,18 @@ fn own(workload: &Workload, column: usize, pairs: u64) -> Result<Own> {
 
 /// The counts of one round: those of a run of more rounds less those of a run of fewer, so that the
 /// start of the program isn't counted.
-fn counts(workload: &Workload, column: usize, pairs: u64) -> Result<Counts> {
+fn counts(name: &str, column: (&str, &Side), pairs: u64) -> Result<Counts> {
+    let (hasher, side) = column;
+    let words = |rounds: u64| {
+        let (pairs, rounds) = (pairs.to_string(), rounds.to_string());
+        [hasher, side.name, name, &pairs, &rounds].map(String::from)
+    };
     let instructions = |rounds| {
-        let said = valgrind(
-            "callgrind",
-            "callgrind-out-file",
-            workload,
-            column,
-            pairs,
-            rounds,
-        )?;
+        let said = valgrind("callgrind", "callgrind-out-file", words(rounds))?;
         number_behind(&said, "Collected : ")
     };
     let memory = |rounds| {
-        let said = valgrind("dhat", "dhat-out-file", workload, column, pairs, rounds)?;
+        let said = valgrind("dhat", "dhat-out-file", words(rounds))?;
         let blocks = number_behind(line_of(&said, "Total: ")?, "bytes in ")?;
         let bytes = number_behind(&said, "At t-gmax: ")?;
         Ok::<(u64, u64), Error>((blocks, bytes))
@@ -112,20 +123,13 @@ fn counts(workload: &Workload, column: usize, pairs: u64) -> Result<Counts> {
 }
 
 /// What a tool of valgrind says of a run of this program.
-fn valgrind(
-    tool: &str,
-    out_file: &str,
-    workload: &Workload,
-    column: usize,
-    pairs: u64,
-    rounds: u64,
-) -> Result<String> {
+fn valgrind(tool: &str, out_file: &str, words: [String; 5]) -> Result<String> {
     let output = Command::new("valgrind")
         .arg(format!("--tool={tool}"))
         .arg(format!("--{out_file}=/dev/null"))
         .arg(std::env::current_exe()?)
-        .args(["once", workload.name])
-        .args([column.to_string(), pairs.to_string(), rounds.to_string()])
+        .arg("once")
+        .args(words)
         .output()?;
     let said = String::from_utf8_lossy(&output.stderr).into_owned();
     if output.status.success() {

@@ -1,4 +1,4 @@
-//! The numbers of a workload: keys, values and random choices, each a function of a seed.
+//! The numbers and names of a workload: keys, values and random choices, each a function of a seed.
 
 const GOLDEN: u64 = 0x9E37_79B9_7F4A_7C15;
 const SECOND: u64 = 0x632B_E59B_D9B4_E019;
@@ -41,4 +41,17 @@ pub fn value(seed: u64, index: u64) -> u64 {
 #[inline(always)]
 pub fn choice(seed: u64, index: u64, limit: u64) -> u64 {
     (random(seed.wrapping_add(SECOND), index) >> 32).wrapping_mul(limit) >> 32
+}
+
+/// Eight pairs a key, one after another.
+pub fn grouped_pairs(n: u64, seed: u64) -> impl Iterator<Item = (u64, u64)> {
+    let rounds = move |g| (0..8).map(move |r| (key(seed, g), value(seed, 8 * g + r)));
+    (0..n / 8).flat_map(rounds)
+}
+
+/// Eight pairs a key, one in each of eight rounds over all keys.
+pub fn scattered_pairs(n: u64, seed: u64) -> impl Iterator<Item = (u64, u64)> {
+    let groups = n / 8;
+    let round = move |r| (0..groups).map(move |g| (key(seed, g), value(seed, r * groups + g)));
+    (0..8).flat_map(round)
 }
