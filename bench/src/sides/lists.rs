@@ -197,9 +197,7 @@ impl<M: Table<u64, Vec<u64>>> Multimap for Lists<M> {
 
     #[inline(always)]
     fn for_each_key(&self, mut each: impl FnMut(u64)) {
-        for key in self.keys.keys() {
-            each(*key);
-        }
+        self.keys.keys().for_each(|key| each(*key));
     }
 
     #[inline(always)]

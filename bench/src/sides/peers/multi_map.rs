@@ -134,9 +134,7 @@ impl<S: BuildHasher + Default> Multimap for Counted<u64, S> {
 
     #[inline(always)]
     fn for_each_key(&self, mut each: impl FnMut(u64)) {
-        for key in self.map.keys() {
-            each(*key);
-        }
+        self.map.keys().for_each(|key| each(*key));
     }
 
     #[inline(always)]
