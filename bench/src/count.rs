@@ -1,7 +1,7 @@
 //! Counts what the workloads take, by running this program under valgrind.
-use crate::SEED;
 use crate::sides::{Runner, Side, counted};
 use crate::workloads::{WORKLOADS, Workload};
+use crate::{SEED, VERSIONS};
 use std::hint::black_box;
 use std::io::{Error, Result};
 use std::process::Command;
@@ -44,7 +44,7 @@ pub fn run_once(words: &[String]) -> Option<()> {
 }
 
 /// Prints the table of all workloads at so many pairs, of the map and of std's with the same
-/// hasher. The fast hasher takes no texts, so there are no maps with text keys.
+/// hasher. The fast one takes no texts, so it has no maps with text keys.
 pub fn print_counts(pairs: u64, has_default_hasher: bool) -> Result<()> {
     let sides = counted(has_default_hasher);
     let hasher = if has_default_hasher {
@@ -52,7 +52,8 @@ pub fn print_counts(pairs: u64, has_default_hasher: bool) -> Result<()> {
     } else {
         "fast"
     };
-    println!("{pairs} pairs, each as map, std\n");
+    println!("{pairs} pairs, each as map, std");
+    println!("{VERSIONS}\n");
     println!("| Workload | instructions | ratio | blocks | bytes a pair at most |");
     println!("|---|---|---|---|---|");
     for workload in WORKLOADS

@@ -18,7 +18,7 @@ use workloads::Workload;
 pub const SEED: u64 = 1;
 
 /// The crates beside the map, with their versions, and the compiler.
-const VERSIONS: &str = env!("BENCH_VERSIONS", "build the benchmark by bench/build");
+pub const VERSIONS: &str = env!("BENCH_VERSIONS", "build the benchmark by bench/build");
 
 /// What the command line asks for.
 struct Wanted {

@@ -129,7 +129,7 @@ pub fn counted(has_default_hasher: bool) -> [Side; 2] {
         [
             side("map", Order::Pairs, |name| library(name, MAP)),
             side("std", Order::Any, |name| {
-                on_std::<DefaultState>(name).map(Runner::Own)
+                on_std_with_names::<DefaultState>(name).map(Runner::Own)
             }),
         ]
     } else {
