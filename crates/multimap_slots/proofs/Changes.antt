@@ -1,3 +1,4 @@
+pub mod Cleared
 pub mod Filled
 pub mod Put
 pub mod SlotLists

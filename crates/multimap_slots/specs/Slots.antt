@@ -114,6 +114,15 @@ module _ {T L : Type 0} where
     pub freed : item_at new place ≡ None
     pub others : KeepsOthers old new place
 
+  -- no place is listed, the items that stood there have gone, each detached item is as it was, and
+  -- as many fit as before
+  pub record ClearsListed (old new : Slots T L) : Type 0 where
+    pub order : new.order ≡ []
+    pub freed : (p : ℕ) → IsIn p old.order → item_at new p ≡ None
+    pub detached : (p : ℕ) (item : T) (link : L) → HasDetached old p item link
+        → HasDetached new p item link
+    pub capacity : new.capacity ≡ old.capacity
+
   -- the listed places stand in this order, and nothing else differs
   abbrev pub in_order : Slots T L → List ℕ → Slots T L
   in_order s places = record s { order = places }

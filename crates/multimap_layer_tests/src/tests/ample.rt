@@ -64,7 +64,7 @@ fn an_item_is_written(test: &Test, list: &mut List) {
 fn a_list_is_cleared(test: &Test, list: &mut List) {
     let capacity = list.capacity();
     test.expect(list.used_slots() == 2);
-    list.clear();
+    list.clear_listed();
     test.expect(list.used_slots() == 0);
     test.expect(list.is_empty());
     test.expect(list.capacity() == capacity);

@@ -24,6 +24,17 @@ fn it_has_left_the_list(test: &Test, list: &mut List, detached: usize)
     expect_slots(test, list, &[(0, 10, 1), (2, 30, 3), (3, 42, 4)]);
 }
 
+// The items of the list go, and the detached one stays.
+fn the_list_is_cleared(test: &Test, list: &mut List, detached: usize)
+    requires { IsDetached list.old detached }
+    ensures { IsDetached list.new detached }
+{
+    let capacity = list.capacity();
+    test.expect(uses::clear_beside(list, detached) == (20, 2));
+    test.expect(list.is_empty());
+    test.expect(list.capacity() == capacity);
+}
+
 // Items 10, 20 and 30: the second is detached, and 40 comes.
 fn items_leave_and_are_written(test: &Test, list: &mut List) {
     let _first = list.push_back(10, 1);
@@ -33,6 +44,7 @@ fn items_leave_and_are_written(test: &Test, list: &mut List) {
         return test.fail();
     }
     it_has_left_the_list(test, list, detached);
+    the_list_is_cleared(test, list, detached);
     test.expect(list.take_detached(detached) == 20);
 }
 

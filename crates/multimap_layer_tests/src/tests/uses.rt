@@ -1,7 +1,7 @@
 //! Callers of slot list and tape at listed places, proved from the public contracts alone.
-ghost use Rattle.std.specs.Prelude.{◌≡◌, ◌≢◌, ◌+◌, IfSome, IsTrue};
+ghost use Rattle.std.specs.Prelude.{◌≡◌, ◌≢◌, ◌+◌, [], IfSome, IsTrue};
 ghost use Rattle.multimap_slots.specs.Lists.{next_of, previous_of, without};
-ghost use Rattle.multimap_slots.specs.Slots.{HasSlot, IsDetached, PushesBack};
+ghost use Rattle.multimap_slots.specs.Slots.{HasDetached, HasSlot, IsDetached, PushesBack};
 ghost use Rattle.multimap_slots.specs.Tapes.{Frees};
 
 use crate::tests::slots::{Items, List};
@@ -38,6 +38,19 @@ pub fn push_beside(list: &mut List, item: usize, detached: usize) -> Option<usiz
         return None;
     };
     Some(place)
+}
+
+/// Clears the list while an item is detached, which stays, and returns its number and link.
+pub fn clear_beside(list: &mut List, detached: usize) -> (usize, u8)
+    requires { IsDetached list.old detached }
+    ensures empty { list.new.order ≡ [] }
+    ensures kept { HasDetached list.new detached result.0 result.1 }
+    ensures capacity { list.new.capacity ≡ list.old.capacity }
+{
+    let _found = list.get_detached(detached);
+    list.clear_listed();
+    let (item, link) = list.get_detached(detached);
+    (*item, link)
 }
 
 /// Puts an item last without a test, where there is room, and returns its place.

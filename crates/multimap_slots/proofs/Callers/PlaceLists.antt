@@ -146,3 +146,14 @@ IsIn-without q (x ∷ ps) p i = elim (cases_eq x p) [
     | inr later ↦ let rest = IsIn-without q ps p later in (inr rest.0, rest.1)
   ]
 ]
+
+-- and every other place is left
+pub IsIn-stays : (q : ℕ) (ps : List ℕ) (p : ℕ) → q ≢ p → IsIn q ps → IsIn q (without ps p)
+IsIn-stays q [] p differs i = i
+IsIn-stays q (x ∷ ps) p differs (inl e) = rw (ne_eqb x p (λ same. differs (e ∙ same))) (inl e)
+IsIn-stays q (x ∷ ps) p differs (inr later) =
+    let rest = IsIn-stays q ps p differs later in
+    elim (cases_eq x p) [
+      | inl same ↦ rw (eq-eqb x p same) rest
+      | inr other ↦ rw (ne_eqb x p other) (inr rest)
+    ]

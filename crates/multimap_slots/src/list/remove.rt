@@ -1,7 +1,7 @@
 //! Items that leave the list.
 ghost use Rattle.std.specs.Prelude.{◌≡◌, ◌+◌, ◌≤◌, ℕ, List, Some, length, IfSome, IfNone};
 ghost use Rattle.multimap_slots.specs.Lists.{IsIn};
-ghost use Rattle.multimap_slots.specs.Slots.{AreDetached, IsEmpty, Removes, link_at};
+ghost use Rattle.multimap_slots.specs.Slots.{AreDetached, ClearsListed, IsEmpty, Removes, link_at};
 
 use super::SlotList;
 use crate::in_order::{InOrder, Linked, Stored};
@@ -53,5 +53,27 @@ impl<T, L: Copy, A: Allocator> SlotList<T, L, A> {
         let (_len, _detached) = (self.order.len(), self.order.detached());
         self.items.clear();
         self.order.clear();
+    }
+
+    /// Drops every item of the list and frees its place. Detached ones stay at their places, and so
+    /// the capacity is as it was.
+    ///
+    /// Where none is detached, it goes over the slots that were used, as [`SlotList::clear`] does,
+    /// and otherwise over the items of the list.
+    pub fn clear_listed(&mut self)
+    where
+        T: Drop,
+        ensures { ClearsListed self.old self.new }
+    {
+        // The length tells the proof that no place is detached where their number is 0.
+        let _len = self.order.len();
+        if self.order.detached() == 0 {
+            self.items.clear();
+            self.order.clear();
+            return;
+        }
+        while let Some(place) = self.front_place() {
+            drop(self.take_listed(place));
+        }
     }
 }
