@@ -1,8 +1,9 @@
 //! Measures the key table: it is filled, looked into, and churned.
-use multimap_table_tests::compared::{Compared, next_random};
+use multimap_table_tests::compared::Compared;
 use std::alloc::{AllocError, Allocator, Global};
 use std::time::{Duration, Instant};
 use std::{fmt, io};
+use test_helpers::next_random;
 
 /// What was measured, in tenths of a nanosecond a call, and a checksum of the results.
 #[derive(Drop)]

@@ -3,6 +3,7 @@ use multimap_slots::{Reads, Tape};
 use std::alloc::AllocError;
 use std::io;
 use std::time::Instant;
+use test_helpers::next_random;
 
 const ROUNDS: usize = 7;
 
@@ -53,15 +54,6 @@ pub fn fill(
         }
     }
     Ok(())
-}
-
-/// A random number after this one, by shifts.
-fn next_random(state: u64) -> u64 {
-    let mut x = state;
-    x ^= x << 13;
-    x ^= x >> 7;
-    x ^= x << 17;
-    x
 }
 
 /// Mixes all items of the list, with their links, into a checksum, from the front or from the back.

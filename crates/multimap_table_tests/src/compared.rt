@@ -104,12 +104,3 @@ impl<A: Allocator + Copy> Compared<A> {
         differences
     }
 }
-
-/// A random number after this one, by shifts.
-pub fn next_random(state: u64) -> u64 {
-    let mut x = state;
-    x ^= x << 13;
-    x ^= x >> 7;
-    x ^= x << 17;
-    x
-}

@@ -1,9 +1,9 @@
 //! Rows of the key table, against a plain list of them, and where memory is refused.
-use crate::compared::{Compared, next_random};
+use crate::compared::Compared;
 use multimap_table::KeyTable;
 use refusing_allocator::RefusingAllocator;
 use std::alloc::{AllocError, Allocator};
-use test_helpers::{Failed, Test, expect_text, requests_until_enough};
+use test_helpers::{Failed, Test, expect_text, next_random, requests_until_enough};
 
 /// An empty table with a plain list of this many places, and room for this many rows.
 pub fn with_room<A: Allocator + Copy>(

@@ -1,8 +1,10 @@
-//! Runs of calls, look-ups by texts, refused requests, room, other calls, and proved callers.
+//! Runs of calls, random calls, look-ups by texts, refused requests, room, other calls, and proved callers.
 mod callers;
 mod calls;
 mod joined;
+mod lists;
 mod queries;
+mod random;
 mod refused;
 mod room;
 mod runs;

@@ -14,5 +14,5 @@ pub use hash::{Constant, ZERO};
 pub use lent::{filled, lend, lend_made, test_on_new, test_on_share};
 pub use requests::requests_until_enough;
 pub use steps::{Checked, Failed, Test, expect_text};
-pub use values::{ASCENDING, SHUFFLED, is_compared, is_copied, is_shown};
+pub use values::{ASCENDING, SHUFFLED, is_compared, is_copied, is_shown, next_random};
 pub use walks::{B, End, F, Plain, Step, copied, gives, taken, walk_difference};

@@ -1,4 +1,4 @@
-//! What derives and Debug give a value; and numbers that are sorted.
+//! What derives and Debug give a value; numbers that are sorted; and random ones.
 use std::alloc::Global;
 use std::fmt;
 
@@ -32,4 +32,13 @@ pub fn is_copied<T: PartialEq + Clone + Copy>(value: &T) -> bool {
         Ok(clone) => copy == *value && clone == *value,
         Err(_) => false,
     }
+}
+
+/// A random number after this one, by shifts.
+pub fn next_random(state: u64) -> u64 {
+    let mut x = state;
+    x ^= x << 13;
+    x ^= x >> 7;
+    x ^= x << 17;
+    x
 }

@@ -1,0 +1,94 @@
+//! A set by two plain lists, for what random calls are compared with.
+use ordered_multimap::list_ordered_multimap::RenameFault;
+use std::alloc::{AllocError, Global};
+
+/// The keys in the order in which each last became present, and all pairs.
+#[derive(Drop)]
+pub struct Lists {
+    pub keys: Vec<u32>,
+    pub pairs: Vec<(u32, u32)>,
+}
+
+fn is_named(pairs: &[(u32, u32)], key: u32) -> bool {
+    pairs.iter().any(|pair| pair.0 == key)
+}
+
+impl Lists {
+    pub fn new(alloc: Global) -> Lists {
+        Lists {
+            keys: Vec::new(alloc),
+            pairs: Vec::new(alloc),
+        }
+    }
+
+    pub fn has(&self, key: u32, value: u32) -> bool {
+        self.pairs.contains(&(key, value))
+    }
+
+    pub fn has_key(&self, key: u32) -> bool {
+        is_named(self.pairs.as_slice(), key)
+    }
+
+    /// Puts the pair last, unless it is there. Whether it is new.
+    pub fn insert(&mut self, key: u32, value: u32) -> Result<bool, AllocError> {
+        if self.has(key, value) {
+            return Ok(false);
+        }
+        if !self.has_key(key) {
+            self.keys.push(key)?;
+        }
+        self.pairs.push((key, value))?;
+        Ok(true)
+    }
+
+    /// Keeps the pairs that pass, and the keys that are named then.
+    pub fn keep<F: Fn(u32, u32) -> bool>(&mut self, passes: F)
+        requires { F.IsAlwaysCallable passes }
+    {
+        self.pairs.retain(|pair| passes(pair.0, pair.1));
+        let pairs = self.pairs.as_slice();
+        self.keys.retain(|key| is_named(pairs, *key));
+    }
+
+    /// Takes this pair out. Whether it was there.
+    pub fn remove(&mut self, key: u32, value: u32) -> bool {
+        let was = self.has(key, value);
+        self.keep(|k, v| k != key || v != value);
+        was
+    }
+
+    /// Puts a key that is there at an end of the keys. Whether it was.
+    pub fn move_key(&mut self, key: u32, to_front: bool) -> Result<bool, AllocError> {
+        if !self.has_key(key) {
+            return Ok(false);
+        }
+        self.keys.retain(|k| *k != key);
+        if to_front {
+            self.keys.insert(0, key)?;
+        } else {
+            self.keys.push(key)?;
+        }
+        Ok(true)
+    }
+
+    /// Puts another key in the place of one.
+    pub fn rename(&mut self, key: u32, new_key: u32) -> Result<u32, RenameFault<u32>> {
+        if !self.has_key(key) {
+            return Err(RenameFault::Absent(new_key));
+        }
+        if key != new_key && self.has_key(new_key) {
+            return Err(RenameFault::Taken(new_key));
+        }
+        for k in self.keys.iter_mut() {
+            if *k == key {
+                *k = new_key;
+            }
+        }
+        for pair in self.pairs.iter_mut() {
+            if pair.0 == key {
+                pair.0 = new_key;
+            }
+        }
+        Ok(key)
+    }
+}

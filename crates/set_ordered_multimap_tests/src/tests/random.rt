@@ -1,0 +1,174 @@
+//! Random calls of a set beside plain lists, with both lists after each call.
+use crate::tests::lists::Lists;
+use crate::tests::sets::{SetBy, collided, has_lists};
+use ordered_multimap::list_ordered_multimap::KeyWrapper;
+use set_ordered_multimap::SetOrderedMultimap;
+use std::alloc::AllocError;
+use std::hash::BuildHasher;
+use test_helpers::{Failed, Test, copied, next_random, test_on_new};
+
+const CALLS: usize = 4000;
+
+// What a call is made with.
+#[derive(Clone, Copy)]
+struct Drawn {
+    call: u64,
+    key: u32,
+    value: u32,
+    other: u32,
+}
+
+fn drawn(random: u64) -> Drawn {
+    Drawn {
+        call: (random >> 8) % 24,
+        key: ((random >> 20) % 6) as u32,
+        value: ((random >> 32) % 5) as u32,
+        other: ((random >> 44) % 6) as u32,
+    }
+}
+
+// Whether both say the same of a pair that comes, or of one that is inserted again.
+fn inserts<S: BuildHasher>(set: &mut SetBy<S>, lists: &mut Lists, d: Drawn) -> bool {
+    let wanted = lists.insert(d.key, d.value);
+    wanted.is_ok() && set.insert(d.key, d.value).ok() == wanted.ok()
+}
+
+// What an end of the lists gives, once it is taken out.
+fn pops(lists: &mut Lists, from_front: bool) -> Option<(u32, u32, bool)> {
+    let end = if from_front {
+        lists.pairs.first().copied()
+    } else {
+        lists.pairs.last().copied()
+    };
+    let (key, value) = end?;
+    lists.remove(key, value);
+    Some((key, value, !lists.has_key(key)))
+}
+
+fn popped(pair: Option<(KeyWrapper<'_, u32>, u32)>) -> Option<(u32, u32, bool)> {
+    match pair? {
+        (KeyWrapper::Owned(key), value) => Some((key, value, true)),
+        (KeyWrapper::Borrowed(key), value) => Some((*key, value, false)),
+    }
+}
+
+// Whether both remove the same.
+fn removes<S: BuildHasher>(set: &mut SetBy<S>, lists: &mut Lists, d: Drawn) -> bool {
+    match d.call {
+        6 | 7 => set.remove_value(&d.key, &d.value) == lists.remove(d.key, d.value),
+        8 => popped(set.pop_front()) == pops(lists, true),
+        9 => popped(set.pop_back()) == pops(lists, false),
+        10 => {
+            let mut left = 0u32;
+            set.remove_all_with(&d.key, |_value| left = left.wrapping_add(1));
+            let was = lists.pairs.len();
+            lists.keep(|key, _value| key != d.key);
+            left as usize == was - lists.pairs.len()
+        }
+        _ => {
+            set.retain(|_key, value| *value < 4);
+            lists.keep(|_key, value| value < 4);
+            true
+        }
+    }
+}
+
+// Whether both move, rename or sort alike.
+fn reorders<S: BuildHasher>(
+    set: &mut SetBy<S>,
+    lists: &mut Lists,
+    d: Drawn,
+) -> Result<bool, AllocError> {
+    match d.call {
+        12 => Ok(set.move_key_to_back(&d.key) == lists.move_key(d.key, false)?),
+        13 => Ok(set.move_key_to_front(&d.key) == lists.move_key(d.key, true)?),
+        14 | 15 => Ok(set.rename_key(&d.key, d.other) == lists.rename(d.key, d.other)),
+        16 => {
+            lists.keys.sort()?;
+            Ok(set.sort_keys().is_ok())
+        }
+        _ => {
+            lists.pairs.sort_by(|a, b| a.1.cmp(&b.1))?;
+            Ok(set.sort_by(|_, value, _, other| value.cmp(other)).is_ok())
+        }
+    }
+}
+
+// Room is made or given back, and the lists stay.
+fn makes_room<S: BuildHasher>(set: &mut SetBy<S>, d: Drawn) -> Result<bool, AllocError> {
+    match d.call {
+        18 => set.reserve_keys(d.key as usize)?,
+        19 => set.reserve_values(d.key as usize)?,
+        20 => set.pack_to_fit()?,
+        _ => {
+            let (keys, values) = (set.keys_len(), set.values_len());
+            set.pack_to(keys + d.key as usize, values + d.value as usize)?;
+        }
+    }
+    Ok(set.keys_len() <= set.keys_capacity() && set.values_len() <= set.values_capacity())
+}
+
+// Whether both append the pairs that they lack.
+fn appends<S: BuildHasher>(
+    set: &mut SetBy<S>,
+    lists: &mut Lists,
+    d: Drawn,
+) -> Result<bool, AllocError> {
+    let mut other = SetBy::with_capacity(*set.allocator(), 2, 3)?;
+    for (key, value) in [(d.key, d.value), (d.other, 0), (d.key, 1)] {
+        other.insert(key, value)?;
+        lists.insert(key, value)?;
+    }
+    set.append_set(&mut other)?;
+    Ok(other.is_empty())
+}
+
+fn is_called<S: BuildHasher>(
+    set: &mut SetBy<S>,
+    lists: &mut Lists,
+    d: Drawn,
+) -> Result<bool, AllocError> {
+    match d.call {
+        0..=5 => Ok(inserts(set, lists, d)),
+        6..=11 => Ok(removes(set, lists, d)),
+        12..=17 => reorders(set, lists, d),
+        18..=21 => makes_room(set, d),
+        22 => appends(set, lists, d),
+        _ => {
+            if d.value == 0 {
+                lists.keep(|_key, _value| false);
+                set.clear();
+            }
+            Ok(true)
+        }
+    }
+}
+
+// Whether look-ups find what stands in the lists.
+fn finds<S: BuildHasher>(set: &SetBy<S>, lists: &Lists, d: Drawn) -> bool {
+    let mut own = lists.pairs.iter().filter(|pair| pair.0 == d.key);
+    let first = own.next().map(|pair| pair.1);
+    let last = own.last().map(|pair| pair.1);
+    set.contains(&d.key, &d.value) == lists.has(d.key, d.value)
+        && set.contains_key(&d.key) == lists.has_key(d.key)
+        && copied(set.get(&d.key)) == first
+        && copied(set.get_last(&d.key)) == last.or(first)
+}
+
+fn random_calls_agree<S: BuildHasher>(test: &Test, set: &mut SetBy<S>) {
+    let mut lists = Lists::new(test.alloc());
+    let mut random = 88_172_645_463_325_252;
+    for at in 0..CALLS {
+        random = next_random(random);
+        let d = drawn(random);
+        test.expect_at(at, is_called(set, &mut lists, d) == Ok(true));
+        test.expect_at(at, has_lists(set, lists.pairs.as_slice(), lists.keys.as_slice()));
+        test.expect_at(at, finds(set, &lists, d));
+    }
+}
+
+#[test]
+fn a_set_is_as_two_lists(rt: HostRuntime) -> Result<(), Failed> {
+    test_on_new(rt.alloc(), SetOrderedMultimap::new, random_calls_agree)?;
+    test_on_new(rt.alloc(), collided, random_calls_agree)
+}
