@@ -17,7 +17,7 @@ use std::fmt;
 use std::iter::FusedIterator;
 use std::marker::{Model, PhantomData};
 
-/// An iterator over the values of one key, in insertion order.
+/// An iterator over the values of one key, in the order of the pairs.
 ///
 /// This struct is created by `ListOrderedMultimap::get_all`; see there for an example. It is also
 /// created by `OccupiedEntry::iter` and by each step of [`KeyValues`](crate::KeyValues). Its items

@@ -24,9 +24,9 @@ use std::marker::Model;
 /// An iterator over the keys of a map, each with an iterator over its values.
 ///
 /// This struct is created by `ListOrderedMultimap::pairs`; see there for an example. The keys come
-/// in the order in which each last became present. Its items are `(&key, EntryValues)`. It iterates
-/// from both ends, knows its length, and can be cloned, which never fails. Each item reads the slot
-/// of its key, and of no value.
+/// in their order. Its items are `(&key, EntryValues)`. It iterates from both ends, knows its
+/// length, and can be cloned, which never fails. Each item reads the slot of its key, and of no
+/// value.
 #[derive(Drop)]
 pub struct KeyValues<'map, K, V, A: Allocator = Global, F: LinkForm<ValueLink> = PackedLink> {
     keys: &'map SlotList<K, KeyLink, A>,

@@ -17,7 +17,7 @@ use std::fmt;
 use std::iter::FusedIterator;
 use std::marker::Model;
 
-/// An iterator over the keys of a map, in the order in which each last became present.
+/// An iterator over the keys of a map, in their order.
 ///
 /// This struct is created by `ListOrderedMultimap::keys`; see there for an example. Its items are
 /// `&key`, each key once. It iterates from both ends, knows its length, and can be cloned, which

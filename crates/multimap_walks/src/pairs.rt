@@ -17,7 +17,7 @@ use std::fmt;
 use std::iter::FusedIterator;
 use std::marker::Model;
 
-/// An iterator over the pairs of a map, in insertion order.
+/// An iterator over the pairs of a map, in their order.
 ///
 /// This struct is created by `ListOrderedMultimap::iter`, and by a loop over `&map`; see there for
 /// an example. Its items are `(&key, &value)`. It iterates from both ends, knows its length, and

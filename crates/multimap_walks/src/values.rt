@@ -17,7 +17,7 @@ use std::fmt;
 use std::iter::FusedIterator;
 use std::marker::{Model, PhantomData};
 
-/// An iterator over the values of all pairs of a map, in insertion order.
+/// An iterator over the values of all pairs of a map, in the order of the pairs.
 ///
 /// This struct is created by `ListOrderedMultimap::values`; see there for an example. Its items are
 /// `&value`. It iterates from both ends, knows its length, and can be cloned, which never fails.

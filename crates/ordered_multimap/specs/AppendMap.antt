@@ -3,14 +3,13 @@ use Rattle.std.specs.Prelude.{◌≡◌, ◌+◌, ◌≤◌, Bool, length}
 use Rattle.ordered_multimap.specs.Extends.{AppendsAll}
 use Rattle.ordered_multimap.specs.Lists.{empty_lists}
 use Rattle.ordered_multimap.specs.Multimap.{Multimap}
-use Rattle.ordered_multimap.specs.Rooms.{KeepsRooms, OnlyGrows}
+use Rattle.ordered_multimap.specs.Rooms.{OnlyGrows, SameRooms}
 use Rattle.ordered_multimap.specs.TapeNumbers.{TakesOut}
 
--- no pair is left, no room is lower, the tape has as many slots as before, and none is a hole
+-- no pair is left, all rooms are as before, and no slot is a hole
 pub record IsCleared {K V S : Type 0} (old new : Multimap K V S) : Type 0 where
   pub lists : new.lists ≡ empty_lists
-  pub rooms : KeepsRooms old new
-  pub slots : new.tape.slots ≡ old.tape.slots
+  pub rooms : SameRooms old new
   pub taken : TakesOut (length old.lists.pairs) old.tape new.tape
   pub holes : new.tape.holes ≡ 0
 

@@ -1,16 +1,11 @@
 -- The laws of queries that are made of others, from theirs.
 use Rattle.std.specs.Prelude.{◌≡◌, Bool, true, false, ◌++◌, Option, Some, None, ◌&&◌, IsTrue}
 use Rattle.std.proofs.Common.{refl, ap, sym, true≢false}
+use Rattle.std.proofs.lemmas.Bool.{and_parts}
 use Rattle.std.proofs.Math.Path.{◌∙◌}
 use Rattle.std.specs.Hash as fed
 use Rattle.std.specs.Option.{option_eq}
 use Rattle.ordered_multimap.specs.Queries.{option_equivalent}
-
--- where both of two are true, each is
-pub both_true : (a b : Bool) → IsTrue (a && b) → IsTrue a × IsTrue b
-both_true true true same = (refl, refl)
-both_true true false same = absurd (true≢false (sym same))
-both_true false b same = absurd (true≢false (sym same))
 
 module _ {Q K : Type 0} (stands : Q → K → Bool) where
   -- it is hashed as each key that it stands for
@@ -45,7 +40,7 @@ module _ {Q K R L : Type 0} (stands : Q → K → Bool) (second : R → L → Bo
       → (q : Q × R) (k : K × L) → IsTrue (stands q.0 k.0 && second q.1 k.1)
       → query_hash q.0 ++ second_hash q.1 ≡ key_hash k.0 ++ other_hash k.1
   pair_hash query_hash key_hash second_hash other_hash law other q k same =
-      let both = both_true (stands q.0 k.0) (second q.1 k.1) same in
+      let both = and_parts (stands q.0 k.0) (second q.1 k.1) same in
       ap (λ written. written ++ second_hash q.1) (law q.0 k.0 both.0)
       ∙ ap (λ written. key_hash k.0 ++ written) (other q.1 k.1 both.1)
 
@@ -55,7 +50,7 @@ module _ {Q K R L : Type 0} (stands : Q → K → Bool) (second : R → L → Bo
       → (q : Q × R) (x y : K × L) → IsTrue (stands q.0 x.0 && second q.1 x.1)
       → (stands q.0 y.0 && second q.1 y.1) ≡ (eq x.0 y.0 && other_eq x.1 y.1)
   pair_respects eq other_eq law other q x y same =
-      let both = both_true (stands q.0 x.0) (second q.1 x.1) same in
+      let both = and_parts (stands q.0 x.0) (second q.1 x.1) same in
       ap (λ is. is && second q.1 y.1) (law q.0 x.0 y.0 both.0)
       ∙ ap (λ is. eq x.0 y.0 && is) (other q.1 x.1 y.1 both.1)
 
@@ -74,8 +69,8 @@ module _ {Q K R L S M : Type 0} (stands : Q → K → Bool) (second : R → L �
       ≡ key_hash k.0 ++ other_hash k.1 ++ last_hash k.2
   triple_hash query_hash key_hash second_hash other_hash third_hash last_hash law other last q k
       same =
-      let outer = both_true (stands q.0 k.0 && second q.1 k.1) (third q.2 k.2) same in
-      let inner = both_true (stands q.0 k.0) (second q.1 k.1) outer.0 in
+      let outer = and_parts (stands q.0 k.0 && second q.1 k.1) (third q.2 k.2) same in
+      let inner = and_parts (stands q.0 k.0) (second q.1 k.1) outer.0 in
       ap (λ written. written ++ second_hash q.1 ++ third_hash q.2) (law q.0 k.0 inner.0)
       ∙ (ap (λ written. key_hash k.0 ++ written ++ third_hash q.2) (other q.1 k.1 inner.1)
       ∙ ap (λ written. key_hash k.0 ++ other_hash k.1 ++ written) (last q.2 k.2 outer.1))

@@ -2,8 +2,9 @@
 //!
 //! A [`ListOrderedMultimap`] maps each key to one or more values, and keeps two lists:
 //!
-//! - the pairs, in insertion order, unless `sort_by` sorted them;
-//! - the keys, in the order in which each last became present, unless `move_key_to_back`,
+//! - the pairs. *The order of the pairs* is the one in which they were added, unless `sort_by`
+//!   sorted them;
+//! - the keys. Theirs is the one in which each last became present, unless `move_key_to_back`,
 //!   `move_key_to_front` or a sort of the keys moved it: a key that is removed and added again goes
 //!   last.
 //!

@@ -70,11 +70,11 @@ module _ {K V : Type 0} (eq : K → K → Bool) (value_eq : V → V → Bool) wh
     lists = cleared.lists;
     set = subst (IsSet eq value_eq) (sym cleared.lists) (IsSet-empty eq value_eq);
     rooms = record {
-      keys = omega (arith, rooms.keys, cleared.rooms.keys);
-      values = omega (arith, rooms.values, cleared.rooms.values);
+      keys = cleared.rooms.keys ∙ rooms.keys;
+      values = cleared.rooms.values ∙ rooms.values;
+      slots = cleared.rooms.slots ∙ rooms.slots;
       hasher = cleared.rooms.hasher ∙ rooms.hasher;
     };
-    slots = cleared.slots ∙ rooms.slots;
     taken = record {
       freed = omega (arith, taken.freed, fewer, cleared.taken.freed);
       paid = omega (arith, taken.paid, fewer, cleared.taken.paid);

@@ -8,7 +8,7 @@ use Rattle.ordered_multimap.specs.Multimap.{Multimap}
 use Rattle.ordered_multimap.specs.PairSorts.{ReordersPairs}
 use Rattle.ordered_multimap.specs.PopAnswers.{IsPopped}
 use Rattle.ordered_multimap.specs.Removals.{IsRemovedWhere}
-use Rattle.ordered_multimap.specs.Rooms.{IsNewMap, KeepsRooms, SameRooms}
+use Rattle.ordered_multimap.specs.Rooms.{IsNewMap, SameRooms}
 use Rattle.ordered_multimap.specs.TapeNumbers.{TakesOut}
 use Rattle.set_ordered_multimap.specs.Set.{IsSet, value_removed_where}
 
@@ -24,12 +24,11 @@ module _ {K V S : Type 0} (eq : K → K → Bool) (value_eq : V → V → Bool) 
     pub hasher : m.hasher ≡ state
 
   module _ (old new : Multimap K V S) where
-    -- no pair is left; no room is lower, and the tape has as many slots and no hole
+    -- no pair is left, all rooms are as before, and no slot is a hole
     pub record IsClearedSet : Type 0 where
       pub lists : new.lists ≡ empty_lists
       pub set : IsSet eq value_eq new.lists
-      pub rooms : KeepsRooms old new
-      pub slots : new.tape.slots ≡ old.tape.slots
+      pub rooms : SameRooms old new
       pub taken : TakesOut (length old.lists.pairs) old.tape new.tape
       pub holes : new.tape.holes ≡ 0
 

@@ -1,10 +1,11 @@
-//! A multimap in which no pair occurs twice, and that keeps its pairs in insertion order.
+//! A multimap in which no pair occurs twice, and that keeps its pairs in an order.
 //!
 //! A [`SetOrderedMultimap`] is an `ordered_multimap::ListOrderedMultimap` that adds a pair only if
 //! no pair with an equal key and an equal value is there. It keeps the same two lists:
 //!
-//! - the pairs, in insertion order, unless `sort_by` sorted them;
-//! - the keys, in the order in which each last became present, unless `move_key_to_back`,
+//! - the pairs. *The order of the pairs* is the one in which they were inserted, unless `sort_by`
+//!   sorted them;
+//! - the keys. Theirs is the one in which each last became present, unless `move_key_to_back`,
 //!   `move_key_to_front` or a sort of the keys moved it: a key that is removed and inserted again
 //!   goes last.
 //!

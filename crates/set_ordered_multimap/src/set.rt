@@ -24,12 +24,13 @@ use std::alloc::{Allocator, Global};
 use std::hash::{BuildHasher, Hash};
 use std::marker::Model;
 
-/// A multimap that keeps its pairs in insertion order, and in which no pair occurs twice.
+/// A multimap that keeps its pairs in an order, and in which no pair occurs twice.
 ///
 /// No two pairs have equal keys and equal values. Of equal pairs the set keeps the one that was
-/// inserted first, and so it does of equal keys. It returns no mutable references to values, since
-/// a written value could become equal to another one of its key. See the [crate's page](crate) for
-/// when to use it, and for what its calls cost.
+/// inserted first, and so it does of equal keys. The order of the pairs is the one in which they
+/// were inserted, unless [`sort_by`](Self::sort_by) sorted them. The set returns no mutable
+/// references to values, since a written value could become equal to another one of its key. See
+/// the [crate's page](crate) for when to use it, and for what its calls cost.
 ///
 /// # Examples
 ///

@@ -16,7 +16,7 @@ use multimap_slots::{LinkForm, SlotCells};
 use std::alloc::{Allocator, Global};
 use std::marker::PhantomData;
 
-/// A mutable iterator over the values of one key, in insertion order.
+/// A mutable iterator over the values of one key, in the order of the pairs.
 ///
 /// This struct is created by `ListOrderedMultimap::get_all_mut`; see there for an example. It is
 /// also created by `OccupiedEntry::iter_mut` and by the steps of `KeyValuesMut`. Its items are

@@ -9,7 +9,7 @@ use crate::slots::end_reads;
 use multimap_slots::{LinkForm, Reads, SlotCells, SlotList};
 use std::alloc::{Allocator, Global};
 
-/// A mutable iterator over the pairs of a map, in insertion order.
+/// A mutable iterator over the pairs of a map, in their order.
 ///
 /// This struct is created by `ListOrderedMultimap::iter_mut`; see there for an example. Its items
 /// are `(&key, &mut value)`. It iterates from both ends, and knows its length. It has a `Drop`, so

@@ -9,7 +9,7 @@ use multimap_slots::{LinkForm, SlotCells};
 use std::alloc::{Allocator, Global};
 use std::marker::PhantomData;
 
-/// A mutable iterator over the values of all pairs of a map, in insertion order.
+/// A mutable iterator over the values of all pairs of a map, in the order of the pairs.
 ///
 /// This struct is created by `ListOrderedMultimap::values_mut`; see there for an example. Its items
 /// are `&mut value`. It iterates from both ends, and knows its length. It has a `Drop`, so one that

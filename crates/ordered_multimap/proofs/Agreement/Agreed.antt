@@ -148,19 +148,20 @@ empty_sound s none = record {
   fits = omega (arith, ap length none);
 }
 
-module _ {K V : Type 0} (keys : Slots K KeyLink) (values : Slots V ValueLink) (no_key : IsEmpty keys) (no_value : IsEmpty values) where
-  pub lists_of-empty : lists_of keys values ≡ empty_lists
-  lists_of-empty =
-      ap (λ ps. lists (filter_map (item_at keys) ps) (pairs_of keys values)) no_key.order
-      ∙ ap (λ ps. lists [] (filter_map (pair_at keys values) ps)) no_value.order
+pub lists_of-empty : {K V : Type 0} (keys : Slots K KeyLink) (values : Slots V ValueLink) → IsEmpty keys → IsEmpty values
+    → lists_of keys values ≡ empty_lists
+lists_of-empty keys values no_key no_value =
+    ap (λ ps. lists (filter_map (item_at keys) ps) (pairs_of keys values)) no_key.order
+    ∙ ap (λ ps. lists [] (filter_map (pair_at keys values) ps)) no_value.order
 
+module _ {K V : Type 0} (keys : Slots K KeyLink) (values : Slots V ValueLink) (no_key : keys.order ≡ []) (no_value : values.order ≡ []) where
   pub agrees_empty : (eq : K → K → Bool) (hash : K → ℕ) (rows : FinMap nat_cmp ℕ) → rows ≡ empty → Agrees eq hash keys rows values
   agrees_empty eq hash rows no_row =
-      let no_place = λ (p : ℕ). subst (IsIn p) no_key.order in
-      let no_value_place = λ (p : ℕ). subst (IsIn p) no_value.order in
+      let no_place = λ (p : ℕ). subst (IsIn p) no_key in
+      let no_value_place = λ (p : ℕ). subst (IsIn p) no_value in
       record {
-        keys_sound = empty_sound keys no_key.order;
-        values_sound = empty_sound values no_value.order;
+        keys_sound = empty_sound keys no_key;
+        values_sound = empty_sound values no_value;
         chained = record {
           owned = λ p l i e. absurd (no_value_place p i);
           head = λ p l i e. absurd (no_place p i);
@@ -169,11 +170,11 @@ module _ {K V : Type 0} (keys : Slots K KeyLink) (values : Slots V ValueLink) (n
           previous = λ p l i e. absurd (no_value_place p i);
           next = λ p l i e. absurd (no_value_place p i);
         };
-        distinct = subst (λ ps. IsDistinct eq (filter_map (item_at keys) ps)) (sym no_key.order) (empty_well_formed {V = V} eq).distinct;
+        distinct = subst (λ ps. IsDistinct eq (filter_map (item_at keys) ps)) (sym no_key) (empty_well_formed {V = V} eq).distinct;
         hashed = λ p k l i. absurd (no_place p i);
         in_table = λ p l i. absurd (no_place p i);
         listed = λ p h e. let bad : None ≡ Some h = sym (ap (λ m. get m p) no_row ∙ get-empty nat_cmp p) ∙ e in absurd (cc);
-        counted = ap len no_row ∙ len-empty nat_cmp ℕ ∙ sym (ap length no_key.order);
+        counted = ap len no_row ∙ len-empty nat_cmp ℕ ∙ sym (ap length no_key);
       }
 
 -- and an empty tape that has moved nothing
@@ -181,7 +182,7 @@ pub empty_map : {K V : Type 0} (eq : K → K → Bool) (hash : K → ℕ) (keys 
     (values : Taped V ValueLink)
     → IsEmpty keys → IsEmpty values.list → rows ≡ empty → values.moved ≡ 0 → values.holes ≡ 0 → IsMap eq hash keys rows values
 empty_map eq hash keys rows values no_key no_value no_row moved holes = record {
-  agrees = agrees_empty keys values.list no_key no_value eq hash rows no_row;
+  agrees = agrees_empty keys values.list no_key.order no_value.order eq hash rows no_row;
   fits = omega (arith, ap length no_value.order);
   paid = omega (arith, moved, holes);
 }

@@ -79,7 +79,7 @@ impl<K: Eq + Hash + Drop, V: Drop, S: BuildHasher, A: Allocator + Copy> ListOrde
         self.reserve_keys(other.keys_len())?;
         self.reserve_values(other.values_len())?;
         self.append_parts(&mut other.keys, &mut other.values);
-        other.keys.clear();
+        other.keys.clear_listed();
         other.table.clear();
         other.values.clear();
         Ok(())

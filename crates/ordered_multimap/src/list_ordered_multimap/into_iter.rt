@@ -21,7 +21,7 @@ use std::hash::{BuildHasher, Hash};
 use std::iter::FusedIterator;
 use std::marker::Model;
 
-/// An owning iterator over the pairs of a map, in insertion order.
+/// An owning iterator over the pairs of a map, in their order.
 ///
 /// This struct is created by the `into_iter` method of [`ListOrderedMultimap`]. It iterates from
 /// both ends, and knows its length. Each item is a `Result`: a pair, or [`UnclonedKey`] with the
@@ -55,7 +55,7 @@ impl<K: Eq + Hash + Clone, V: Drop, S: BuildHasher + Drop, A: Allocator> IntoIte
 
     ghost into_iter_gives = { λ m r. r ≡ m.lists.pairs };
 
-    /// Consumes the map, and returns an iterator over its pairs, in insertion order.
+    /// Consumes the map, and returns an iterator over its pairs, in their order.
     ///
     /// For the pairs by reference see [`iter`](Self::iter), and for the keys or the values alone,
     /// without a clone, [`into_keys`](Self::into_keys) and [`into_values`](Self::into_values).

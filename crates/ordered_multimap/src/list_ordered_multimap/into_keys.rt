@@ -15,7 +15,7 @@ use std::hash::{BuildHasher, Hash};
 use std::iter::FusedIterator;
 use std::marker::Model;
 
-/// An owning iterator over the keys of a map, in the order in which each last became present.
+/// An owning iterator over the keys of a map, in their order.
 ///
 /// This struct is created by [`ListOrderedMultimap::into_keys`]; see there for an example. Each key
 /// is yielded once. It iterates from both ends, and knows its length. Keys that weren't taken are
@@ -35,8 +35,7 @@ impl<K, A: Allocator> Model for IntoKeys<K, A> {
 }
 
 impl<K: Eq + Hash, V: Drop, S: BuildHasher + Drop, A: Allocator> ListOrderedMultimap<K, V, S, A> {
-    /// Consumes the map, and returns an iterator over its keys, in the order in which each last
-    /// became present.
+    /// Consumes the map, and returns an iterator over its keys, in their order.
     ///
     /// Each key is yielded once, however many values it has, and no key is cloned. The values are
     /// dropped at the call. For the keys by reference see [`keys`](Self::keys).

@@ -16,7 +16,7 @@ use std::hash::{BuildHasher, Hash};
 use std::iter::FusedIterator;
 use std::marker::Model;
 
-/// An owning iterator over the values of all pairs of a map, in insertion order.
+/// An owning iterator over the values of all pairs of a map, in the order of the pairs.
 ///
 /// This struct is created by [`ListOrderedMultimap::into_values`]; see there for an example. It
 /// iterates from both ends, and knows its length. Values that weren't taken are dropped with the
@@ -36,7 +36,8 @@ impl<V, A: Allocator> Model for IntoValues<V, A> {
 }
 
 impl<K: Eq + Hash + Drop, V, S: BuildHasher + Drop, A: Allocator> ListOrderedMultimap<K, V, S, A> {
-    /// Consumes the map, and returns an iterator over the values of all pairs, in insertion order.
+    /// Consumes the map, and returns an iterator over the values of all pairs, in the order of the
+    /// pairs.
     ///
     /// The keys are dropped at the call. For the values by reference see [`values`](Self::values),
     /// and for the pairs [`into_iter`](Self::into_iter).

@@ -7,7 +7,7 @@ ghost use Rattle.ordered_multimap.specs.Lists.{empty_lists};
 ghost use Rattle.ordered_multimap.specs.Pairs.{values_of, values_where};
 ghost use Rattle.ordered_multimap.specs.Keys.{stored_key, stored_where};
 ghost use Rattle.ordered_multimap.specs.Changes.{removed};
-ghost use Rattle.ordered_multimap.specs.Rooms.{KeepsRooms, SameRooms};
+ghost use Rattle.ordered_multimap.specs.Rooms.{SameRooms};
 ghost use Rattle.ordered_multimap.specs.TapeNumbers.{TakesOut};
 
 pub(crate) mod at;
@@ -139,8 +139,8 @@ impl<K: Eq + Hash, V, S: BuildHasher, A: Allocator> ListOrderedMultimap<K, V, S,
     /// Removes all pairs, and keeps the allocated memory for reuse.
     ///
     /// All keys and values are dropped, among them the values that a leaked
-    /// [`EntryValuesDrain`](super::EntryValuesDrain) left. No capacity is lowered: to free memory
-    /// see [`pack_to_fit`](Self::pack_to_fit). No hole is left among the slots.
+    /// [`EntryValuesDrain`](super::EntryValuesDrain) left. The capacities stay as they are: to free
+    /// memory see [`pack_to_fit`](Self::pack_to_fit). No hole is left among the slots.
     ///
     /// # Complexity
     ///
@@ -163,12 +163,11 @@ impl<K: Eq + Hash, V, S: BuildHasher, A: Allocator> ListOrderedMultimap<K, V, S,
         K: Drop,
         V: Drop,
         ensures lists { self.new.lists ≡ empty_lists }
-        ensures rooms { KeepsRooms self.old self.new }
-        ensures slots { self.new.tape.slots ≡ self.old.tape.slots }
+        ensures rooms { SameRooms self.old self.new }
         ensures taken { TakesOut (length self.old.lists.pairs) self.old.tape self.new.tape }
         ensures holes { self.new.tape.holes ≡ 0 }
     {
-        self.keys.clear();
+        self.keys.clear_listed();
         self.table.clear();
         self.values.clear();
     }

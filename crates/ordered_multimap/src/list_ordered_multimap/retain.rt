@@ -89,10 +89,10 @@ impl<K: Eq + Hash, V, S: BuildHasher, A: Allocator> ListOrderedMultimap<K, V, S,
     /// Retains only the pairs for which the function returns `true`.
     ///
     /// In other words, removes all pairs `(k, v)` for which `f(&k, &mut v)` returns `false`. It
-    /// works in place, visits each pair exactly once in insertion order, and keeps the order of the
-    /// pairs and keys that stay. So the function may decide by what it has seen before. It may also
-    /// write the value: a retained pair has the value that the call left. The removed pairs are
-    /// dropped, and a key is removed with its last pair.
+    /// works in place, visits the pairs in their order, each exactly once, and keeps the order of
+    /// the pairs and keys that stay. So the function may decide by what it has seen before. It may
+    /// also write the value: a retained pair has the value that the call left. The removed pairs
+    /// are dropped, and a key is removed with its last pair.
     ///
     /// For the values of one key see [`retain_all`](Self::retain_all), to write values only
     /// [`update_values`](Self::update_values) and [`iter_mut`](Self::iter_mut), to remove one key

@@ -6,7 +6,7 @@ use std::alloc::Allocator;
 use std::fmt;
 use std::hash::{BuildHasher, Hash};
 
-/// Formats the map as std formats a map: all pairs in insertion order, each value with its key.
+/// Formats the map as std formats a map: all pairs in their order, each value with its key.
 ///
 /// # Examples
 ///

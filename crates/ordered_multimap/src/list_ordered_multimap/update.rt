@@ -103,8 +103,8 @@ fn rewrite_chain<K: Eq, V, A: Allocator, F: FnMut(&mut V)>(
 }
 
 impl<K: Eq + Hash, V, S: BuildHasher, A: Allocator> ListOrderedMultimap<K, V, S, A> {
-    /// Calls the function once on each pair, in insertion order, with a mutable reference to the
-    /// value.
+    /// Calls the function once on each pair, in the order of the pairs, with a mutable reference to
+    /// the value.
     ///
     /// The keys, their order, and the number and order of the pairs stay the same. For the values
     /// of one key see [`update_all`](Self::update_all), and to remove pairs as well
@@ -151,7 +151,7 @@ impl<K: Eq + Hash, V, S: BuildHasher, A: Allocator> ListOrderedMultimap<K, V, S,
         update_pairs(&self.keys, &self.table, &mut self.values, f);
     }
 
-    /// Calls the function once on each value of the key, in insertion order, with a mutable
+    /// Calls the function once on each value of the key, in the order of the pairs, with a mutable
     /// reference to it.
     ///
     /// If the key is absent, the function isn't called. All else in the map stays the same. The key

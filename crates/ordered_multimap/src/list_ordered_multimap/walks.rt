@@ -12,7 +12,7 @@ use std::alloc::Allocator;
 use std::hash::{BuildHasher, Hash};
 
 impl<K: Eq + Hash, V, S: BuildHasher, A: Allocator> ListOrderedMultimap<K, V, S, A> {
-    /// Returns an iterator over all pairs, in insertion order.
+    /// Returns an iterator over all pairs, in their order.
     ///
     /// The items have the type `(&K, &V)`. The iterator is double-ended and knows its length.
     /// `for (key, value) in &map` iterates over the same pairs. To write the values see
@@ -42,7 +42,7 @@ impl<K: Eq + Hash, V, S: BuildHasher, A: Allocator> ListOrderedMultimap<K, V, S,
         Iter::new(&self.keys, &self.values)
     }
 
-    /// Returns an iterator over the keys, in the order in which each last became present.
+    /// Returns an iterator over the keys, in their order.
     ///
     /// Each key is yielded once, however many values it has. The iterator is double-ended and knows
     /// its length. For the values as well see [`pairs`](Self::pairs).
@@ -73,7 +73,7 @@ impl<K: Eq + Hash, V, S: BuildHasher, A: Allocator> ListOrderedMultimap<K, V, S,
         Keys::new(&self.keys)
     }
 
-    /// Returns an iterator over the values of all pairs, in insertion order.
+    /// Returns an iterator over the values of all pairs, in the order of the pairs.
     ///
     /// The iterator is double-ended and knows its length. For the values of one key see
     /// [`get_all`](Self::get_all), and to write values [`values_mut`](Self::values_mut).
@@ -101,9 +101,9 @@ impl<K: Eq + Hash, V, S: BuildHasher, A: Allocator> ListOrderedMultimap<K, V, S,
 
     /// Returns an iterator over the keys, each with an iterator over its values.
     ///
-    /// The keys come in the order in which each last became present, and the values of each in
-    /// insertion order. The iterator is double-ended and knows its length. To write the values see
-    /// [`pairs_mut`](Self::pairs_mut), and for all pairs in insertion order [`iter`](Self::iter).
+    /// The keys come in their order, and the values of each in the order of the pairs. The iterator
+    /// is double-ended and knows its length. To write the values see
+    /// [`pairs_mut`](Self::pairs_mut), and for all pairs in their order [`iter`](Self::iter).
     ///
     /// # Complexity
     ///
@@ -133,8 +133,8 @@ impl<K: Eq + Hash, V, S: BuildHasher, A: Allocator> ListOrderedMultimap<K, V, S,
         KeyValues::new(&self.keys, &self.values)
     }
 
-    /// Returns an iterator over the values of the key, in insertion order, which is empty if the
-    /// key is absent.
+    /// Returns an iterator over the values of the key, in the order of the pairs, which is empty if
+    /// the key is absent.
     ///
     /// The iterator is double-ended and knows its length. For the first value only see
     /// [`get`](Self::get), to write the values [`get_all_mut`](Self::get_all_mut), and to remove
@@ -187,7 +187,7 @@ impl<K: Eq + Hash, V, S: BuildHasher, A: Allocator> ListOrderedMultimap<K, V, S,
     }
 }
 
-/// Iterates over all pairs in insertion order, as [`iter`](ListOrderedMultimap::iter) does.
+/// Iterates over all pairs in their order, as [`iter`](ListOrderedMultimap::iter) does.
 ///
 /// # Examples
 ///

@@ -19,8 +19,7 @@ use std::alloc::Allocator;
 use std::hash::{BuildHasher, Hash};
 
 impl<K: Eq + Hash, V, S: BuildHasher, A: Allocator> ListOrderedMultimap<K, V, S, A> {
-    /// Returns an iterator over all pairs, in insertion order, with mutable references to the
-    /// values.
+    /// Returns an iterator over all pairs, in their order, with mutable references to the values.
     ///
     /// The items have the type `(&K, &mut V)`. The iterator is double-ended and knows its length.
     /// The keys, their order, and the number and order of the pairs stay the same, and so does a
@@ -69,7 +68,8 @@ impl<K: Eq + Hash, V, S: BuildHasher, A: Allocator> ListOrderedMultimap<K, V, S,
         IterMut::new(keys, cells)
     }
 
-    /// Returns an iterator over the values of all pairs, in insertion order, as mutable references.
+    /// Returns an iterator over the values of all pairs, in the order of the pairs, as mutable
+    /// references.
     ///
     /// [`iter_mut`](Self::iter_mut) says what stays the same, and how long the map is borrowed. For
     /// the values of one key see [`get_all_mut`](Self::get_all_mut).
@@ -104,8 +104,8 @@ impl<K: Eq + Hash, V, S: BuildHasher, A: Allocator> ListOrderedMultimap<K, V, S,
         ValuesMut::new(cells)
     }
 
-    /// Returns an iterator over the values of the key, in insertion order, as mutable references,
-    /// which is empty if the key is absent.
+    /// Returns an iterator over the values of the key, in the order of the pairs, as mutable
+    /// references, which is empty if the key is absent.
     ///
     /// [`iter_mut`](Self::iter_mut) says what stays the same, and how long the map is borrowed. For
     /// the first value only see [`get_mut`](Self::get_mut), and to write by a function

@@ -120,7 +120,7 @@ impl<K: Eq + Hash, V, S: BuildHasher, A: Allocator> SetOrderedMultimap<K, V, S, 
         self.map.get(key)
     }
 
-    /// Returns the value of the key that was inserted last, or `None` if the key is absent.
+    /// Returns the last value of the key, or `None` if the key is absent.
     ///
     /// For the first value see [`get`](Self::get), and for all values of the key
     /// [`get_all`](Self::get_all). The key may be a query ([`KeyQuery`]).
@@ -148,7 +148,7 @@ impl<K: Eq + Hash, V, S: BuildHasher, A: Allocator> SetOrderedMultimap<K, V, S, 
         self.map.get_last(key)
     }
 
-    /// Returns an iterator over the key's values, in insertion order.
+    /// Returns an iterator over the key's values, in the order of the pairs.
     ///
     /// The iterator is empty if the key is absent. It iterates from both ends, and knows its
     /// length. The key may be a query ([`KeyQuery`]).

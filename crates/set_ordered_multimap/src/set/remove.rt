@@ -180,7 +180,8 @@ impl<K: Eq + Hash, V: Eq + Drop, S: BuildHasher, A: Allocator> SetOrderedMultima
         map.remove_all(key)
     }
 
-    /// Removes the key with all its values, and passes each value to `f`, in insertion order.
+    /// Removes the key with all its values, and passes each value to `f`, in the order of the
+    /// pairs.
     ///
     /// It is for proved callers; others take [`remove_all`](Self::remove_all). The stored key is
     /// dropped. The key may be a query ([`KeyQuery`]). See CALLING.md.

@@ -68,7 +68,7 @@ impl<K: Eq + Hash, V: Eq, S: BuildHasher, A: Allocator> SetOrderedMultimap<K, V,
 
     /// Keeps the pairs for which `f` returns `true`, and removes the others.
     ///
-    /// `f` is called once on each pair, in insertion order. A key is dropped with its last pair.
+    /// `f` is called once on each pair, in their order. A key is dropped with its last pair.
     /// The pairs and keys that stay keep their order. Unlike the map's `retain`, it gets each value
     /// for reading alone, since a written value could become equal to another one. The call doesn't
     /// allocate, and leaves the capacities as they are.

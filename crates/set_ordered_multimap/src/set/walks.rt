@@ -13,8 +13,7 @@ use std::hash::{BuildHasher, Hash};
 impl<K: Eq + Hash, V, S: BuildHasher, A: Allocator> SetOrderedMultimap<K, V, S, A> {
     /// Returns the first pair, or `None` if the set is empty.
     ///
-    /// Of the pairs in the set it was inserted first. To remove it see
-    /// [`pop_front`](Self::pop_front).
+    /// To remove it see [`pop_front`](Self::pop_front).
     ///
     /// # Complexity
     ///
@@ -40,8 +39,7 @@ impl<K: Eq + Hash, V, S: BuildHasher, A: Allocator> SetOrderedMultimap<K, V, S, 
 
     /// Returns the last pair, or `None` if the set is empty.
     ///
-    /// Of the pairs in the set it was inserted last. To remove it see
-    /// [`pop_back`](Self::pop_back).
+    /// To remove it see [`pop_back`](Self::pop_back).
     ///
     /// # Complexity
     ///
@@ -66,7 +64,7 @@ impl<K: Eq + Hash, V, S: BuildHasher, A: Allocator> SetOrderedMultimap<K, V, S, 
         self.map.back()
     }
 
-    /// Returns an iterator over all pairs, in insertion order.
+    /// Returns an iterator over all pairs, in their order.
     ///
     /// It iterates from both ends, and knows its length. A loop `for (key, value) in &set` uses it
     /// too.
@@ -92,7 +90,7 @@ impl<K: Eq + Hash, V, S: BuildHasher, A: Allocator> SetOrderedMultimap<K, V, S, 
         self.map.iter()
     }
 
-    /// Returns an iterator over the keys, in the order in which each last became present.
+    /// Returns an iterator over the keys, in their order.
     ///
     /// It iterates from both ends, and knows its length. Each key occurs once.
     ///
@@ -117,7 +115,7 @@ impl<K: Eq + Hash, V, S: BuildHasher, A: Allocator> SetOrderedMultimap<K, V, S, 
         self.map.keys()
     }
 
-    /// Returns an iterator over the values of all pairs, in insertion order.
+    /// Returns an iterator over the values of all pairs, in the order of the pairs.
     ///
     /// It iterates from both ends, and knows its length. A value of several keys occurs as often.
     /// For the values of one key see [`get_all`](Self::get_all).
@@ -145,8 +143,8 @@ impl<K: Eq + Hash, V, S: BuildHasher, A: Allocator> SetOrderedMultimap<K, V, S, 
 
     /// Returns an iterator over the keys, each with an iterator over its values.
     ///
-    /// The keys come in the order of [`keys`](Self::keys), and the values of each in insertion
-    /// order. It iterates from both ends, and knows its length. For all pairs in insertion order
+    /// The keys come in the order of [`keys`](Self::keys), and the values of each in the order of
+    /// the pairs. It iterates from both ends, and knows its length. For all pairs in their order
     /// see [`iter`](Self::iter).
     ///
     /// # Complexity

@@ -108,7 +108,7 @@ impl<K: Eq + Hash + Clone, V: Drop, S: BuildHasher + Drop, A: Allocator> IntoIte
 
     ghost into_iter_gives = { λ m r. r ≡ m.lists.pairs };
 
-    /// Consumes the set, and returns an iterator over its pairs, in insertion order.
+    /// Consumes the set, and returns an iterator over its pairs, in their order.
     ///
     /// # Errors
     ///
@@ -143,8 +143,7 @@ impl<K: Eq + Hash + Clone, V: Drop, S: BuildHasher + Drop, A: Allocator> IntoIte
 }
 
 impl<K: Eq + Hash, V: Drop, S: BuildHasher + Drop, A: Allocator> SetOrderedMultimap<K, V, S, A> {
-    /// Consumes the set, and returns an iterator over its keys, in the order in which each last
-    /// became present.
+    /// Consumes the set, and returns an iterator over its keys, in their order.
     ///
     /// Each key is yielded once, however many values it has, and no key is cloned. The values are
     /// dropped at the call. For the keys by reference see [`keys`](Self::keys).
@@ -175,7 +174,8 @@ impl<K: Eq + Hash, V: Drop, S: BuildHasher + Drop, A: Allocator> SetOrderedMulti
 }
 
 impl<K: Eq + Hash + Drop, V, S: BuildHasher + Drop, A: Allocator> SetOrderedMultimap<K, V, S, A> {
-    /// Consumes the set, and returns an iterator over the values of all pairs, in insertion order.
+    /// Consumes the set, and returns an iterator over the values of all pairs, in the order of the
+    /// pairs.
     ///
     /// A value of several keys occurs as often. The keys are dropped at the call. For the values by
     /// reference see [`values`](Self::values), and for the pairs [`into_iter`](Self::into_iter).

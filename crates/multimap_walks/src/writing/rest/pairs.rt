@@ -20,7 +20,7 @@ use std::fmt;
 use std::iter::FusedIterator;
 use std::marker::Model;
 
-/// An iterator over the pairs that an `IterMut` has left, in insertion order.
+/// An iterator over the pairs that an `IterMut` has left, in their order.
 ///
 /// This struct is created by [`IterMut::iter`](crate::IterMut::iter); see there for an example. Its
 /// items are `(&key, &value)`. It iterates from both ends, knows its length, and can be cloned,

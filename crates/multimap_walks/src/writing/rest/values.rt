@@ -17,7 +17,7 @@ use std::fmt;
 use std::iter::FusedIterator;
 use std::marker::{Model, PhantomData};
 
-/// An iterator over the values that a `ValuesMut` has left, in insertion order.
+/// An iterator over the values that a `ValuesMut` has left, in the order of the pairs.
 ///
 /// This struct is created by [`ValuesMut::iter`](crate::ValuesMut::iter); see there for an example.
 /// Its items are `&value`. It iterates from both ends, knows its length, and can be cloned, which

@@ -168,7 +168,7 @@ impl<'map, K: Eq + Hash, V, S: BuildHasher, A: Allocator> OccupiedEntry<'map, K,
         map.first_mut_from(self.first)
     }
 
-    /// Returns an iterator over the key's values, in insertion order.
+    /// Returns an iterator over the key's values, in the order of the pairs.
     ///
     /// It iterates from both ends, and knows its length, as that of
     /// [`get_all`](crate::ListOrderedMultimap::get_all).
@@ -200,7 +200,7 @@ impl<'map, K: Eq + Hash, V, S: BuildHasher, A: Allocator> OccupiedEntry<'map, K,
         self.map.values_at(self.place)
     }
 
-    /// Returns an iterator over mutable references to the key's values, in insertion order.
+    /// Returns an iterator over mutable references to the key's values, in the order of the pairs.
     ///
     /// The pairs keep their places in both lists. The iterator has a `Drop`, so one that is held in
     /// a variable borrows the entry to the end of its block; `drop` ends it sooner.

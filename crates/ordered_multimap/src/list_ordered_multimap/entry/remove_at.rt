@@ -14,10 +14,10 @@ impl<'map, K: Eq + Hash, V, S: BuildHasher, A: Allocator> OccupiedEntry<'map, K,
     /// Removes the value at an index among the key's values, but never the only one, for which see
     /// [`remove_index`](crate::ListOrderedMultimap::remove_index), and returns it.
     ///
-    /// The values are counted from 0, in insertion order. Returns `None`, and changes nothing, if
-    /// the index is out of bounds, or if the key has one value alone. So the key stays present, and
-    /// keeps its place in the order of keys. To remove the key see [`remove`](Self::remove). The
-    /// call doesn't allocate.
+    /// The values are counted from 0, in the order of the pairs. Returns `None`, and changes
+    /// nothing, if the index is out of bounds, or if the key has one value alone. So the key stays
+    /// present, and keeps its place in the order of keys. To remove the key see
+    /// [`remove`](Self::remove). The call doesn't allocate.
     ///
     /// # Complexity
     ///

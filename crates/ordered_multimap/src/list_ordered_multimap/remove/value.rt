@@ -64,9 +64,10 @@ fn take_indexed<K: Drop, V, A: Allocator>(
 impl<K: Eq + Hash, V, S: BuildHasher, A: Allocator> ListOrderedMultimap<K, V, S, A> {
     /// Removes the value at an index among the values of the key, and returns it.
     ///
-    /// The values are counted from 0, in insertion order. Returns `None`, and changes nothing, if
-    /// the key is absent or the index is out of bounds. The key is removed with its last value. The
-    /// other keys and pairs keep their order. The key may be a query ([`KeyQuery`]).
+    /// The values are counted from 0, in the order of the pairs. Returns `None`, and changes
+    /// nothing, if the key is absent or the index is out of bounds. The key is removed with its
+    /// last value. The other keys and pairs keep their order. The key may be a query
+    /// ([`KeyQuery`]).
     ///
     /// To keep a key with its only value see
     /// [`OccupiedEntry::remove_at`](crate::OccupiedEntry::remove_at), and to remove an equal value

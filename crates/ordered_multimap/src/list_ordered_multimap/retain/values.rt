@@ -96,11 +96,11 @@ fn retain_chain<K: Eq + Drop, V: Drop, A: Allocator, F: FnMut(&mut V) -> bool>(
 impl<K: Eq + Hash, V, S: BuildHasher, A: Allocator> ListOrderedMultimap<K, V, S, A> {
     /// Retains only the values of the key for which the function returns `true`.
     ///
-    /// It works in place, and visits each value of the key exactly once, in insertion order. The
-    /// function may also write the value: a retained pair has the value that the call left. The
-    /// removed values are dropped, and the key is removed with its last value. If the key is absent,
-    /// the function isn't called. All other pairs and keys stay as they are. The key may be a query
-    /// ([`KeyQuery`]).
+    /// It works in place, and visits each value of the key exactly once, in the order of the pairs.
+    /// The function may also write the value: a retained pair has the value that the call left. The
+    /// removed values are dropped, and the key is removed with its last value. If the key is
+    /// absent, the function isn't called. All other pairs and keys stay as they are. The key may be
+    /// a query ([`KeyQuery`]).
     ///
     /// For the pairs of all keys see [`retain`](Self::retain), to write values and remove none
     /// [`get_all_mut`](Self::get_all_mut), and to remove one value

@@ -1,5 +1,5 @@
 use Rattle.std.proofs.Common.{rules}
-use Rattle.std.proofs.Common.{length, refl, ap, sym, ◌∙◌, subst, arith}
+use Rattle.std.proofs.Common.{◌/◌, min, length, refl, ap, sym, ◌∙◌, subst, arith}
 use Rattle.std.specs.List.{filter_map}
 use Rattle.multimap_slots.specs.Slots.{item_at}
 use Rattle.multimap_walks.specs.Chained.{pair_at, pairs_of}
@@ -45,11 +45,11 @@ append_parts-requires-clause-value_room g c = omega (
 
 pub invariant_of-other : goal.invariant_of-other
 invariant_of-other g c =
-    let keys = c.clear.ensures in
-    let values = c.clear-3.ensures in
+    let keys = c.clear_listed.ensures in
+    let values = c.clear-2.ensures in
     let used = c.append_parts.ensures.used_up in
     record {
-      agrees = agrees_empty c.clear.new.self c.clear-3.new.self.list keys.empty values.empty _ _ _ c.clear-2.ensures.empty;
+      agrees = agrees_empty c.clear_listed.new.self c.clear-2.new.self.list keys.order values.empty.order _ _ _ c.clear.ensures.empty;
       fits = omega (arith, ap length values.empty.order);
       paid = omega (
         arith,
@@ -69,7 +69,7 @@ returns-clause-ok g c =
     let parts = c.append_parts.ensures in
     let used = parts.used_up in
     let i = c.other.inside in
-    let after = map_of c.clear.new.self c.clear-2.new.self.capacity c.clear-3.new.self i.state i.left in
+    let after = map_of c.clear_listed.new.self c.clear.new.self.capacity c.clear-2.new.self i.state i.left in
     subst (λ m. AppendsMap g.K.PartialEq.eq c.args.self.now c.append_parts.new.self m after) c.other.view_is (record {
       appended = record {
         lists =
@@ -101,19 +101,20 @@ returns-clause-ok g c =
         };
       };
       cleared = record {
-        lists = λ j. lists (filter_map (item_at c.clear.new.self) (c.clear.ensures.empty.order j))
-            (filter_map (pair_at c.clear.new.self c.clear-3.new.self.list) (c.clear-3.ensures.empty.order j));
+        lists = λ j. lists (filter_map (item_at c.clear_listed.new.self) (c.clear_listed.ensures.order j))
+            (filter_map (pair_at c.clear_listed.new.self c.clear-2.new.self.list) (c.clear-2.ensures.empty.order j));
         rooms = record {
-          keys = omega (arith, c.clear.ensures.capacity, c.clear-2.ensures.capacity, used.keys_capacity);
-          values = omega (arith, c.clear-3.ensures.capacity, used.capacity);
+          keys = ap (λ n. min n c.clear.new.self.capacity) (c.clear_listed.ensures.capacity ∙ used.keys_capacity)
+              ∙ ap (min i.keys.capacity) c.clear.ensures.capacity;
+          values = ap (λ n. n / 2) (c.clear-2.ensures.capacity ∙ used.capacity);
+          slots = c.clear-2.ensures.capacity ∙ used.capacity;
           hasher = refl;
         };
-        slots = c.clear-3.ensures.capacity ∙ used.capacity;
         taken = record {
-          freed = omega (arith, c.clear-3.ensures.freed, used.freed, ap length used.none, length-pairs c.other.invariant.agrees);
-          paid = omega (arith, c.clear-3.ensures.moved, c.clear-3.ensures.holes, used.moved);
+          freed = omega (arith, c.clear-2.ensures.freed, used.freed, ap length used.none, length-pairs c.other.invariant.agrees);
+          paid = omega (arith, c.clear-2.ensures.moved, c.clear-2.ensures.holes, used.moved);
         };
-        holes = c.clear-3.ensures.holes;
+        holes = c.clear-2.ensures.holes;
       };
     })
 

@@ -12,7 +12,6 @@ returns g c =
         lists = e.lists;
         set = subst (IsSet eq value_eq) (sym e.lists) (IsSet-empty eq value_eq);
         rooms = e.rooms;
-        slots = e.slots;
         taken = e.taken;
         holes = e.holes;
       });
