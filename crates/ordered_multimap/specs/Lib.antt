@@ -37,6 +37,7 @@ pub mod Rooms
 pub mod SetLists
 pub mod Sets
 pub mod TapeNumbers
+pub mod TriedEntries
 pub mod Updates
 pub mod ValueCells
 pub mod ValuesLent

@@ -162,8 +162,8 @@ mod query;
 pub use list_ordered_multimap::{
     DefaultState, Entry, EntryValues, EntryValuesDrain, EntryValuesMut, EntryValuesRest, IntoIter,
     IntoKeys, IntoValues, Iter, IterMut, IterRest, KeyLink, KeyValues, KeyValuesMut, KeyWrapper,
-    Keys, ListOrderedMultimap, OccupiedEntry, RandomState, Refused, RefusedValue, RenameFault,
-    UnclonedKey, VacantEntry, ValueLink, Values, ValuesMut, ValuesRest,
+    Keys, ListOrderedMultimap, OccupiedEntry, OrInsertFault, RandomState, Refused, RefusedValue,
+    RenameFault, UnclonedKey, VacantEntry, ValueLink, Values, ValuesMut, ValuesRest,
 };
 pub use multimap_walks::End;
 pub use query::{KeyByPart, KeyQuery, Part};

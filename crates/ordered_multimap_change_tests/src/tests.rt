@@ -7,5 +7,6 @@ mod lending;
 mod memory;
 mod removal;
 mod sorted;
+mod tried;
 mod writing;
 mod written;

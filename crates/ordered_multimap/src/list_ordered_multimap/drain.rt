@@ -180,13 +180,13 @@ impl<K: Eq + Hash, V: Drop, S: BuildHasher, A: Allocator> ListOrderedMultimap<K,
     {
         let (stored, map) = self.detach_all_on(key);
         match stored {
-            Some(stored) => Some((stored, map.drain())),
+            Some(stored) => Some((stored, map.lend_to_drain())),
             None => None,
         }
     }
 
     /// The drain of the values that were detached.
-    pub(super) fn drain(&mut self) -> EntryValuesDrain<'_, K, V, S, A>
+    pub(super) fn lend_to_drain(&mut self) -> EntryValuesDrain<'_, K, V, S, A>
         requires { HoldsDrain self.old }
         ensures same_map { result.map.ghost_name ≡ self.entry.ghost_name }
         ensures same { result.map.now ≡ self.old }

@@ -13,6 +13,7 @@ mod occupied;
 mod or_default;
 mod remove_at;
 mod show;
+mod tried;
 mod vacant;
 
 use super::{DefaultState, ListOrderedMultimap};

@@ -1,5 +1,5 @@
 //! Calls that put a pair into a map, and what one leaves whose memory is refused.
-use ordered_multimap::list_ordered_multimap::{Entry, Refused, RefusedValue};
+use ordered_multimap::list_ordered_multimap::{Entry, OrInsertFault, Refused, RefusedValue};
 use ordered_multimap_callers::maps::{Refusing, has_lists};
 use std::alloc::Allocator;
 use test_helpers::{Test, copied};
@@ -17,6 +17,8 @@ pub enum Call {
     OrInsertWith,
     OrInsertEntry,
     OrInsertWithEntry,
+    OrTryInsertWith,
+    OrTryInsertWithEntry,
     VacantInsert,
     VacantInsertEntry,
     OccupiedAppend,
@@ -51,7 +53,18 @@ fn put_by_vacant<A: Allocator + Copy>(map: &mut Refusing<A>, call: Call) -> Answ
         Call::OrInsertWith => done(map.entry(1).or_insert_with(|| 77)),
         Call::OrInsertEntry => done(map.entry(1).or_insert_entry(77)),
         Call::OrInsertWithEntry => done(map.entry(1).or_insert_with_entry(|| 77)),
+        Call::OrTryInsertWith => tried(map.entry(1).or_try_insert_with(|| Ok(77))),
+        Call::OrTryInsertWithEntry => tried(map.entry(1).or_try_insert_with_entry(|| Ok(77))),
         _ => filled(map, call),
+    }
+}
+
+// The same of a call whose function doesn't fail.
+fn tried<G: Drop>(given: Result<G, OrInsertFault<u32, u32, u32>>) -> Answer {
+    match given {
+        Ok(_) => Ok(()),
+        Err(OrInsertFault::Refused(pair)) => Err(pair),
+        Err(OrInsertFault::Failed { key, error }) => Err(Refused { key, value: error }),
     }
 }
 

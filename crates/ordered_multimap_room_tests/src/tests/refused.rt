@@ -30,6 +30,8 @@ const TRIES: &[(Try, u64)] = &[
     (Try::PutIntoNew(Call::OrInsertWith), 3),
     (Try::PutIntoNew(Call::OrInsertEntry), 3),
     (Try::PutIntoNew(Call::OrInsertWithEntry), 3),
+    (Try::PutIntoNew(Call::OrTryInsertWith), 3),
+    (Try::PutIntoNew(Call::OrTryInsertWithEntry), 3),
     (Try::PutIntoNew(Call::VacantInsert), 3),
     (Try::PutIntoNew(Call::VacantInsertEntry), 3),
     (Try::PutIntoFull(Call::Append), 1),

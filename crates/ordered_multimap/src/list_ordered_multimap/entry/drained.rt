@@ -50,7 +50,7 @@ impl<'map, K: Eq + Hash, V: Drop, S: BuildHasher, A: Allocator> OccupiedEntry<'m
     {
         let OccupiedEntry { map, place, .. } = self;
         drop(map.detach_at(place));
-        map.drain()
+        map.lend_to_drain()
     }
 
     /// Removes the key with all its values, and returns the stored key and a draining iterator.
@@ -88,7 +88,7 @@ impl<'map, K: Eq + Hash, V: Drop, S: BuildHasher, A: Allocator> OccupiedEntry<'m
     {
         let OccupiedEntry { map, place, .. } = self;
         let stored = map.detach_at(place);
-        (stored, map.drain())
+        (stored, map.lend_to_drain())
     }
 
     /// Replaces all values of the key with one, and returns a draining iterator over the old ones.
@@ -133,7 +133,7 @@ impl<'map, K: Eq + Hash, V: Drop, S: BuildHasher, A: Allocator> OccupiedEntry<'m
     {
         let OccupiedEntry { map, place, .. } = self;
         match map.insert_detaching_at(place, value) {
-            Ok(()) => Ok(map.drain()),
+            Ok(()) => Ok(map.lend_to_drain()),
             Err(refused) => Err(refused),
         }
     }

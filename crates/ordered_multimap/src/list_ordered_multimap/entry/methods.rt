@@ -150,7 +150,8 @@ impl<'map, K: Eq + Hash, V: Drop, S: BuildHasher, A: Allocator + Copy> Entry<'ma
     /// Returns a mutable reference to the key's first value, appending the result of `f` if vacant.
     ///
     /// `f` is called only if the entry is vacant. The new pair comes last in both lists, as by
-    /// [`or_insert`](Self::or_insert).
+    /// [`or_insert`](Self::or_insert). For a function that allocates, or may fail otherwise, see
+    /// [`or_try_insert_with`](Self::or_try_insert_with).
     ///
     /// # Errors
     ///

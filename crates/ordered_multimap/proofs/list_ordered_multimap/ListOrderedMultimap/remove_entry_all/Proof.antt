@@ -1,5 +1,5 @@
 -- `remove_entry_all` holds the map for writing, and a key to read. Assumes `Logic`.
--- It calls `detach_all_on`, which detaches the values of the key, and where there are some `drain`, which lends the map to a drain of them.
+-- It calls `detach_all_on`, which detaches the values of the key, and where there are some `lend_to_drain`, which lends the map to a drain of them.
 -- It gives back the stored key with that drain and how the map then ends, or nothing, and that the map ends as it is.
 use Rattle.std.proofs.Common.{◌≡◌, List, [], ◌∷◌, refl, sym, ap, ◌∙◌, subst, length, slice_get, option_map, lit<}
 use mir.Syntax.{a_type, dcons, dnil, named, Body}
@@ -64,8 +64,8 @@ use Rattle.ordered_multimap.proofs.list_ordered_multimap.ListOrderedMultimap.rem
 use Rattle.ordered_multimap.proofs.list_ordered_multimap.ListOrderedMultimap.remove_entry_all.Code as code
 use Rattle.ordered_multimap.specs.contracts.list_ordered_multimap.ListOrderedMultimap.detach_all_on as g₁
 use Rattle.ordered_multimap.proofs.list_ordered_multimap.ListOrderedMultimap.detach_all_on.Met.{met as met₁}
-use Rattle.ordered_multimap.specs.contracts.list_ordered_multimap.ListOrderedMultimap.drain as g₂
-use Rattle.ordered_multimap.proofs.list_ordered_multimap.ListOrderedMultimap.drain.Met.{met as met₂}
+use Rattle.ordered_multimap.specs.contracts.list_ordered_multimap.ListOrderedMultimap.lend_to_drain as g₂
+use Rattle.ordered_multimap.proofs.list_ordered_multimap.ListOrderedMultimap.lend_to_drain.Met.{met as met₂}
 
 pub remove_entry_all_spec : {M : Type 1} → statement M
 remove_entry_all_spec 𝓤 𝓛 𝓜 𝓡 wired K V S A B LK LV LS LA LB eqs dEq pe dPe ha dHa bh dBh hg dHg al dAl dropV dropA dropB dropK mEq mPe mHa
@@ -193,7 +193,7 @@ remove_entry_all_spec 𝓤 𝓛 𝓜 𝓡 wired K V S A B LK LV LS LA LB eqs dEq
     states ! (HoldsDrain r.1.now) holds $
     tells κs.1.1 K V S A B ! five $
     move ! (1 ∷ 0 ∷ []) $ use2 𝓛 (raw (G₂.pre z₂)) (id⊢ 𝓤 _) $
-    calls_at ! (framed 𝓤 H 𝓜 𝓣) G₂ (met₂ 𝓤 𝓛 𝓜 𝓡 (code.calls-ordered_multimap::list_ordered_multimap::ListOrderedMultimap::drain 𝓡.env
+    calls_at ! (framed 𝓤 H 𝓜 𝓣) G₂ (met₂ 𝓤 𝓛 𝓜 𝓡 (code.calls-ordered_multimap::list_ordered_multimap::ListOrderedMultimap::lend_to_drain 𝓡.env
     wired) K V S A B LK LV LS LA LB eqs dEq pe dPe ha dHa bh dBh hg dHg al dAl dropV dropA dropB mEq mPe mHa mBh mHg mAl mDropV mDropA
     mDropB) z₂
     (and_then ! (get ! refl) (no_more !)) (λ v₂.

@@ -11,8 +11,8 @@ returns-in-Ok g c =
     let m = c.args.self.map.now in
     let d = c.insert_detaching_at.ensures in
     let ok = c.in-Ok.ensures in
-    let same = c.drain.ensures.same in (
-      (ap some (sym c.drain.ensures.same_map), (λ w. refl), tt),
+    let same = c.lend_to_drain.ensures.same in (
+      (ap some (sym c.lend_to_drain.ensures.same_map), (λ w. refl), tt),
       record {
         rest = tt;
         drain = λ k is. record {
@@ -23,7 +23,7 @@ returns-in-Ok g c =
           taken = subst (λ n. TakesOut (length (values_of g.K.PartialEq.eq m.lists.pairs k)) m.tape n.tape) (sym same)
               (ok.ok k is).loses.taken;
         };
-        same_map = c.drain.ensures.same_map;
+        same_map = c.lend_to_drain.ensures.same_map;
         refused = tt;
         succeeds = λ room. refl;
       },

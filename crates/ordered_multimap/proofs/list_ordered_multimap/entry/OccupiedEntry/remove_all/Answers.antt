@@ -2,4 +2,4 @@ use Rattle.ordered_multimap.proofs.Detach.Drains.{drains_entry}
 use Rattle.ordered_multimap.proofs.list_ordered_multimap.entry.OccupiedEntry.remove_all.Goals as goal
 
 pub returns-clause-drain : goal.returns-clause-drain
-returns-clause-drain g c = λ k is. drains_entry _ (c.detach_at.ensures.detached k is) c.detach_at.ensures.holds.rooms c.drain.ensures.same
+returns-clause-drain g c = λ k is. drains_entry _ (c.detach_at.ensures.detached k is) c.detach_at.ensures.holds.rooms c.lend_to_drain.ensures.same
