@@ -4,6 +4,7 @@ pub mod Entered
 pub mod Entries
 pub mod Extended
 pub mod Inserted
+pub mod Many
 pub mod OtherFront
 pub mod OtherLinks
 pub mod OtherMap

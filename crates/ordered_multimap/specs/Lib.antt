@@ -1,5 +1,6 @@
 pub mod Additions
 pub mod Agrees
+pub mod AppendMany
 pub mod AppendMap
 pub mod Changes
 pub mod Clones

@@ -1,4 +1,5 @@
 pub mod Append
+pub mod AppendMany
 pub mod AppendMap
 pub mod Copies
 pub mod Extends

@@ -1,5 +1,5 @@
 -- The laws of queries that are made of others, from theirs.
-use Rattle.std.specs.Prelude.{◌≡◌, Bool, true, false, ◌++◌, Option, Some, None, ◌&&◌, IsTrue}
+use Rattle.std.specs.Prelude.{◌≡◌, Bool, ◌++◌, Option, Some, None, ◌&&◌, IsTrue}
 use Rattle.std.proofs.Common.{refl, ap, sym, true≢false}
 use Rattle.std.proofs.lemmas.Bool.{and_parts}
 use Rattle.std.proofs.Math.Path.{◌∙◌}

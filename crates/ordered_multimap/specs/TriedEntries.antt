@@ -1,8 +1,9 @@
 -- What the contracts cite of an entry's calls whose function may fail.
-use Rattle.ordered_multimap.specs.declared.list_ordered_multimap.or_insert_fault.OrInsertFault as fault
+use Rattle.ordered_multimap.specs.declared.list_ordered_multimap.or_insert_fault as faults
+use faults.OrInsertFault as fault
 pub use fault.TheVariants.{Failed, Refused}
-use Rattle.std.specs.Prelude.{◌≡◌, ◌≢◌, Bool, true, Option, Result, Ok, Err, IsOk, IfErr}
-use Rattle.std.specs.Borrow.{Fml, GName, MutBor, RattleType, RestsIfErr}
+use Rattle.std.specs.Prelude.{◌≡◌, ◌≢◌, true, Result, Ok, Err, IsOk, IfErr}
+use Rattle.std.specs.Borrow.{Fml, MutBor, RattleType, RestsIfErr}
 use Rattle.std.specs.Borrow.{follows_so, name_if_ok}
 use Rattle.std.specs.declared.alloc.AllocError.{AllocError}
 use Rattle.std.specs.declared.alloc.Allocator as allocator
@@ -14,7 +15,8 @@ use Rattle.ordered_multimap.specs.contracts.list_ordered_multimap.ListOrderedMul
 use Rattle.ordered_multimap.specs.declared.list_ordered_multimap.entry.Entry.{Entry}
 use Rattle.ordered_multimap.specs.declared.list_ordered_multimap.entry.OccupiedEntry.{OccupiedEntry}
 use Rattle.ordered_multimap.specs.declared.list_ordered_multimap.refused.Refused as pairs
-use Rattle.ordered_multimap.specs.Entries.{IsEntered, IsEntryOf, RefusesEntry, entry_map, entry_map_ref, is_occupied}
+use Rattle.ordered_multimap.specs.Entries.{IsEntered, IsEntryOf, RefusesEntry}
+use Rattle.ordered_multimap.specs.Entries.{entry_map, entry_map_ref, is_occupied}
 use Rattle.ordered_multimap.specs.Multimap.{Multimap}
 use Rattle.ordered_multimap.specs.Rooms.{HasPairRoom}
 

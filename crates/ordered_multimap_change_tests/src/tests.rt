@@ -4,6 +4,7 @@ mod entry;
 mod joined;
 mod keys;
 mod lending;
+mod many;
 mod memory;
 mod removal;
 mod sorted;

@@ -26,7 +26,7 @@ module _ {K V : Type 0} (eq : K → K → Bool) where
   length-keys m [] = omega arith
   length-keys m (p ∷ pairs) = omega (arith, length-keys (appended eq m p.0 p.1) pairs, length-keys_with eq m.keys p.0)
 
-  length-pairs : (m : Lists K V) (pairs : List (K × V)) → length (all_appended eq m pairs).pairs ≡ length m.pairs + length pairs
+  pub length-pairs : (m : Lists K V) (pairs : List (K × V)) → length (all_appended eq m pairs).pairs ≡ length m.pairs + length pairs
   length-pairs m [] = omega arith
   length-pairs m (p ∷ pairs) = omega (
     arith,

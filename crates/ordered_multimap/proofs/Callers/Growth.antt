@@ -15,21 +15,21 @@ doubles-then a b c more later first second = λ grown. elim (cases_lt a b) [
   | inr same ↦ let doubled : b * 2 ≤ c = second (omega (arith, grown, same)) in omega (arith, doubled, more)
 ]
 
-takes_none-then : {a b c : TapeNumbers} → TakesOut 0 a b → TakesOut 0 b c → TakesOut 0 a c
+pub takes_none-then : {a b c : TapeNumbers} → TakesOut 0 a b → TakesOut 0 b c → TakesOut 0 a c
 takes_none-then first second = record {
   freed = omega (arith, first.freed, second.freed);
   paid = omega (arith, first.paid, second.paid);
 }
 
 module _ {K V S : Type 0} where
-  keeps_rooms-then : {a b c : Multimap K V S} → KeepsRooms a b → KeepsRooms b c → KeepsRooms a c
+  pub keeps_rooms-then : {a b c : Multimap K V S} → KeepsRooms a b → KeepsRooms b c → KeepsRooms a c
   keeps_rooms-then first second = record {
     keys = omega (arith, first.keys, second.keys);
     values = omega (arith, first.values, second.values);
     hasher = second.hasher ∙ first.hasher;
   }
 
-  doubles_rooms-then : {a b c : Multimap K V S} → KeepsRooms a b → KeepsRooms b c → DoublesRooms a b → DoublesRooms b c → DoublesRooms a c
+  pub doubles_rooms-then : {a b c : Multimap K V S} → KeepsRooms a b → KeepsRooms b c → DoublesRooms a b → DoublesRooms b c → DoublesRooms a c
   doubles_rooms-then more later first second = record {
     keys = doubles-then _ _ _ more.keys later.keys first.keys second.keys;
     values = doubles-then _ _ _ more.values later.values first.values second.values;

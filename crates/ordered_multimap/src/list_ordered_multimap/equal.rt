@@ -39,7 +39,8 @@ fn are_same<K: PartialEq, V: PartialEq, A: Allocator>(
 /// Two maps are equal if they have the same number of pairs, and equal keys and equal values at
 /// each position in the order of the pairs.
 ///
-/// The order of their keys may differ, and so may their hash builders and capacities.
+/// The order of their keys may differ, and so may their capacities and the values of their hash
+/// builders, which have one type.
 ///
 /// # Complexity
 ///

@@ -17,9 +17,10 @@ use std::hash::{BuildHasher, Hash};
 impl<K: Eq + Hash, V, S: BuildHasher, A: Allocator> ListOrderedMultimap<K, V, S, A> {
     /// Moves the key behind all other keys, and returns `true` if it was present.
     ///
-    /// The other keys keep their order, and all pairs theirs: [`iter`](Self::iter) gives what it gave
-    /// before. Returns `false`, and changes nothing, if the key is absent. The key may be a query,
-    /// as `&str` for `String` keys ([`KeyQuery`]).
+    /// The other keys keep their order, and all pairs theirs: [`iter`](Self::iter),
+    /// [`front`](Self::front) and [`pop_front`](Self::pop_front) give what they gave before. Returns
+    /// `false`, and changes nothing, if the key is absent. The key may be a query, as `&str` for
+    /// `String` keys ([`KeyQuery`]).
     ///
     /// To move it before all others see [`move_key_to_front`](Self::move_key_to_front).
     ///

@@ -17,6 +17,7 @@ enum Try {
     ExtendCopied,
     ExtendByTrait,
     ExtendCopiedByTrait,
+    AppendMany,
 }
 
 // A call, and how many requests it makes at least. Key slots, table and value slots each ask for a
@@ -46,6 +47,7 @@ const TRIES: &[(Try, u64)] = &[
     (Try::ExtendCopied, 3),
     (Try::ExtendByTrait, 3),
     (Try::ExtendCopiedByTrait, 3),
+    (Try::AppendMany, 4),
 ];
 
 fn prepare<A: Allocator + Copy>(test: &Test, map: &mut Refusing<A>, call: Try) {
@@ -84,7 +86,42 @@ fn add<A: Allocator + Copy>(test: &Test, map: &mut Refusing<A>, call: Try, copy:
             let enough = Extend::extend(map, copy.iter()).is_ok();
             is_extended(test, map, enough)
         }
+        Try::AppendMany => append_many(test, map),
         _ => extend(test, map),
+    }
+}
+
+// Values of one key, for which the slots grow twice.
+const MANY: &[(u32, u32)] = &[
+    (5, 1),
+    (5, 2),
+    (5, 3),
+    (5, 4),
+    (5, 5),
+    (5, 6),
+    (5, 7),
+    (5, 8),
+    (5, 9),
+];
+
+// It returns whether there was memory for all values. The key comes back with the first one alone.
+fn append_many<A: Allocator + Copy>(test: &Test, map: &mut Refusing<A>) -> bool {
+    let mut values = MANY.iter().map(|pair| pair.1);
+    let answer = map.append_many(5, &mut values);
+    let count = map.values_len();
+    let left = values.count();
+    test.expect(has_lists(map, first(MANY, count), first(&[5], count)));
+    match answer {
+        Ok(all) => {
+            test.expect((all, count, left) == (9, 9, 0));
+            true
+        }
+        Err(Refused { key, value }) => {
+            test.expect(key == if count == 0 { Some(5) } else { None });
+            test.expect(MANY.get(count).copied() == Some((5, value)));
+            test.expect(left == MANY.len().saturating_sub(count + 1));
+            false
+        }
     }
 }
 
