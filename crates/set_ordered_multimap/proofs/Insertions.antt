@@ -1,8 +1,10 @@
 -- Insertions in turn: their lists, how much longer these become, and how the rooms grow.
-use Rattle.std.proofs.Common.{◌≡◌, ◌+◌, ◌≤◌, Bool, true, false, cond, List, [], ◌∷◌, length, length-append, refl, sym, ap, ◌∙◌, subst}
+use Rattle.std.proofs.Common.{◌≡◌, ◌+◌, ◌≤◌, Bool, true, false, cond, List, [], ◌∷◌, ◌++◌, length, length-append, refl, sym, ap, ◌∙◌, subst}
 use Rattle.std.proofs.Common.{arith}
-use Rattle.std.proofs.Common.{Result, Ok, Err}
+use Rattle.std.proofs.Common.{Option, Result, Ok, Err}
+use Rattle.std.proofs.lemmas.List.{map-id}
 use Rattle.std.specs.Cmp.{IsEquivalence}
+use Rattle.std.specs.Iterator.{Yields}
 use Rattle.ordered_multimap.specs.Additions.{Appends, IsAppended, IsRefused}
 use Rattle.ordered_multimap.specs.Changes.{appended}
 use Rattle.ordered_multimap.specs.Extends.{GrowsForPairs}
@@ -14,7 +16,8 @@ use Rattle.ordered_multimap.proofs.Callers.Growth.{grows_for_one}
 use Rattle.ordered_multimap.proofs.Callers.ListedKeys.{length-keys_with}
 use Rattle.ordered_multimap.specs.declared.list_ordered_multimap.refused.Refused.{Refused}
 use Rattle.set_ordered_multimap.proofs.Callers.Sets.{IsSet-appended}
-use Rattle.set_ordered_multimap.specs.Insertions.{HasRoomToInsert, InsertsPairs}
+use Rattle.set_ordered_multimap.specs.Insertions.{HasRoomToInsert, InsertsAll, InsertsPairs}
+use Rattle.set_ordered_multimap.specs.Private.Insertions.{InsertsPairsOf}
 use Rattle.set_ordered_multimap.specs.Set.{IsSet, has_pair, set_inserted, all_inserted}
 
 module _ {K V : Type 0} (eq : K → K → Bool) (value_eq : V → V → Bool) where
@@ -82,3 +85,17 @@ pub inserts_pairs : {K V S : Type 0} {eq : K → K → Bool} {value_eq : V → V
     → (IsSet eq value_eq old.lists → IsSet eq value_eq new.lists) → GrowsForPairs given most old new
     → InsertsPairs eq value_eq old pairs new
 inserts_pairs lists set grows = record { lists = lists; set = set; rooms = grows.rooms; doubles = grows.doubles; taken = grows.taken }
+
+module _ {K V I T : Type 0} (eq : K → K → Bool) (value_eq : V → V → Bool) (becomes : I → T → Type 0)
+    (steps : T → Option (K × V) → T → Type 0) where
+  -- items that are their own pairs were inserted: so these pairs were
+  pub inserts-own : {iter : I} {old new : Lists K V} (r : Result (Unit {0}) (Refused K V))
+      → InsertsPairsOf (λ pair. pair) eq value_eq becomes steps iter old new r → InsertsAll eq value_eq becomes steps iter old new r
+  inserts-own {old} (Ok u) all = (all.0, all.1, all.2, all.3 ∙ ap (all_inserted eq value_eq old) (map-id all.1), all.4)
+  inserts-own {old} (Err refused) all = (
+    all.0,
+    all.1,
+    all.2,
+    all.3 ∙ ap (all_inserted eq value_eq old) (map-id all.1),
+    (all.4.1, subst (λ pair. Yields steps all.0 (all.1 ++ pair ∷ []) all.4.1) all.4.3 all.4.2),
+  )

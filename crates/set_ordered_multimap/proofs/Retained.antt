@@ -1,8 +1,13 @@
 -- What a retain leaves of a set, and which calls of its function there are.
-use Rattle.std.proofs.Common.{◌≡◌, Bool, true, false, cond, List, [], ◌∷◌, sym, ap, subst}
+use Rattle.std.proofs.Common.{◌≡◌, Bool, true, false, cond, List, [], ◌∷◌, filter, sym, ap, ◌∙◌, subst}
+use Rattle.std.proofs.lemmas.List.{map-id}
+use Rattle.std.specs.Borrow.{MutBor}
+use Rattle.std.specs.Fn.{Mut}
 use Rattle.std.specs.List.{AllByRecursion, FoldsTo, IsDistinct}
 use Rattle.std.specs.Map.Calls.{CallableOnEachPair, SomeCallAtPair}
-use Rattle.ordered_multimap.specs.Retain.{Retains}
+use Rattle.ordered_multimap.proofs.Callers.Retained.{retained_stepwise}
+use Rattle.ordered_multimap.specs.Retain.{AsksIf, AsksValue, MayAskEach, MayAskValue, Retains, SomeAnswer}
+use Rattle.set_ordered_multimap.specs.Asked.{AlwaysTells, AsksOfAccepted, AsksWhere}
 
 module _ {F K V : Type 0} (calls : F → K → V → Bool → V → F → Type 0) where
   -- a function of which something holds that each call keeps, and by which it may be called
@@ -50,3 +55,41 @@ module _ {F K V : Type 0} (calls : F → K → V → Bool → V → F → Type 0
           | true ↦ (apart, others)
           | false ↦ others
         ])
+
+-- A function that is called on the values of some keys alone.
+module _ {F V : Type 0} (g : Mut F (MutBor V × Unit {0}) (Bool × (MutBor V × Unit {0}))) where
+  -- one of which something holds that each call keeps may be called on each value
+  pub callable_values : (holds : F → Type 0) → ((f : F) (v : V) → holds f → MayAskValue g f v)
+      → ((f : F) (v : V) (b : Bool) (w : V) (next : F) → holds f → AsksValue g f v b w next → holds next)
+      → (f : F) (values : List V) → holds f → MayAskEach g f values
+  callable_values holds asks keeps f values held = record { at = λ before after next v e folds. asks next v (along before f next held folds) }
+    where
+      along : (before : List V) (f next : F) → holds f → FoldsTo (SomeAnswer g) f before next → holds next
+      along [] f next held same = subst holds same held
+      along (v ∷ before) f next held (h, (b, w, called), later) = along before h next (keeps f v b w h held called) later
+
+  -- the same calls, as they are told of what is seen of the function
+  pub asks_seen : {G : Type 0} (asked : G → V → Bool → G → Type 0) (see : F → G)
+      → ((f : F) (v : V) (b : Bool) (w : V) (next : F) → AsksValue g f v b w next → asked (see f) v b (see next) × (w ≡ v))
+      → (a : Bool) (f : F) (v : V) (b : Bool) (w : V) (next : F) → AsksIf g a f v b w next → AsksWhere asked a (see f) v b w (see next)
+  asks_seen asked see tells true f v b w next called = tells f v b w next called
+  asks_seen asked see tells false f v b w next none = (none.0, none.1, ap see none.2)
+
+module _ {F V : Type 0} (asked : F → V → Bool → F → Type 0) where
+  pub value_stays : (a : Bool) (f : F) (v : V) (b : Bool) (w : V) (next : F) → AsksWhere asked a f v b w next → w ≡ v
+  value_stays true f v b w next called = called.1
+  value_stays false f v b w next none = none.1
+
+  module _ {K : Type 0} (accepts : K → Bool) (keep : V → Bool) (f : F) (always : AlwaysTells asked f keep) where
+    tells : (a : Bool) (v : V) (b : Bool) (w : V) (next : F) → AsksWhere asked a f v b w next
+        → (b ≡ cond a (keep v) true) × (w ≡ v) × (next ≡ f)
+    tells true v b w next called = let told = always v b next called.0 in (told.0, called.1, told.1)
+    tells false v b w next none = none
+
+    -- one whose answers depend on the value alone filters the pairs of these keys
+    pub filters_accepted : (old new : List (K × V)) (last : F) → Retains (AsksOfAccepted asked accepts) f old new last
+        → new ≡ filter (λ p. cond (accepts p.0) (keep p.1) true) old
+    filters_accepted old new last r =
+        retained_stepwise (AsksOfAccepted asked accepts) (λ k v. cond (accepts k) (keep v) true) (λ k v. v) f
+        (λ k v b w next called. tells (accepts k) v b w next called) old new last r
+        ∙ map-id (filter (λ p. cond (accepts p.0) (keep p.1) true) old)

@@ -1,5 +1,5 @@
--- Calls of a function that is lent a pair for reading, or handed what a pop gives.
-use Rattle.std.specs.Prelude.{◌≡◌, Bool, List, Option, option_map}
+-- Calls of a function that is lent a pair or a value for reading, or handed what a pop gives.
+use Rattle.std.specs.Prelude.{◌≡◌, Bool, true, false, List, Option, option_map}
 use Rattle.std.specs.Borrow.{Bor}
 use Rattle.std.specs.Fn.{Called, Mut, Once}
 use Rattle.ordered_multimap.specs.End.{End}
@@ -19,6 +19,30 @@ module _ {F K V : Type 0} (g : Mut F (Bor K × (Bor V × Unit {0})) Bool) where
   -- call, is v
   abbrev pub AsksOnPair : F → K → V → Bool → V → F → Type 0
   AsksOnPair f k v b w next = AskedOnPair f k v b next × (w ≡ v)
+
+module _ {F V : Type 0} (g : Mut F (Bor V × Unit {0}) Bool) where
+  -- a call of f at a `&` to v may return b, and leave f as next
+  pub record AskedOnValue (f : F) (v : V) (b : Bool) (next : F) : Type 0 where
+    pub value : Bor V
+    pub shows : value.now ≡ v
+    pub called : Called g f (value, tt) b next
+
+-- `asked f v b next` says that f, asked for v, may return b, and be left as next
+module _ {F V : Type 0} (asked : F → V → Bool → F → Type 0) where
+  -- f was asked where the key is accepted, and else not: the pair stays, and f is as it was; w, the
+  -- value afterwards, is v
+  abbrev pub AsksWhere : Bool → F → V → Bool → V → F → Type 0
+  AsksWhere true f v b w next = asked f v b next × (w ≡ v)
+  AsksWhere false f v b w next = (b ≡ true) × (w ≡ v) × (next ≡ f)
+
+  -- f was asked for the values of the keys that a test accepts alone
+  abbrev pub AsksOfAccepted : {K : Type 0} → (K → Bool) → F → K → V → Bool → V → F → Type 0
+  AsksOfAccepted accepts f k v b w next = AsksWhere (accepts k) f v b w next
+
+  -- each time that f is asked for v, it returns this, and is left as it was
+  abbrev pub AlwaysTells : F → (V → Bool) → Type 0
+  AlwaysTells f keep = (v : V) (b : Bool) (next : F) → asked f v b next
+      → (b ≡ keep v) × (next ≡ f)
 
 -- a pop at the end gives this
 abbrev pub GivesPopped : {K V : Type 0} → (K → K → Bool) → End → List (K × V)

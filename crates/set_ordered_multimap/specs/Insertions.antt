@@ -1,9 +1,10 @@
 -- What a call makes of a set that inserts the pairs of an iterator.
-use Rattle.std.specs.Prelude.{◌≡◌, Bool, false, List, Option}
+use Rattle.std.specs.Prelude.{◌≡◌, Bool, false, List, [], ◌∷◌, ◌++◌, map, Option}
 use Rattle.std.specs.Prelude.{Result, Err, IsOk, MatchResult, OnErr}
-use Rattle.std.specs.Iterator.{Count, Drains, ExtendsWithItems, IsFinite}
+use Rattle.std.specs.Borrow.{Bor}
+use Rattle.std.specs.Iterator.{Count, Drains, ExtendsWithItems, IsFinite, Yields}
 use Rattle.ordered_multimap.specs.Changes.{built_from}
-use Rattle.ordered_multimap.specs.Extends.{GrowsForPairs, HasRoomForGiven, StopsAt}
+use Rattle.ordered_multimap.specs.Extends.{GrowsForPairs, HasRoomForGiven, StopsAt, lent_pair}
 use Rattle.ordered_multimap.specs.Lists.{Lists}
 use Rattle.ordered_multimap.specs.Multimap.{Multimap}
 use Rattle.ordered_multimap.specs.Rooms.{DoublesRooms, HasPairRoom, KeepsRooms}
@@ -30,6 +31,17 @@ module _ {K V : Type 0} (eq : K → K → Bool) (value_eq : V → V → Bool) {I
   abbrev pub IsSetOf : I → Lists K V → Type 0
   IsSetOf iter new = (it : T) × (pairs : List (K × V)) × becomes iter it
       × (new ≡ built_from eq (first_pairs eq value_eq pairs)) × Drains steps it pairs
+
+module _ {K V : Type 0} (eq : K → K → Bool) (value_eq : V → V → Bool) {I T : Type 0}
+    (becomes : I → T → Type 0) (steps : T → Option (Bor K × Bor V) → T → Type 0) where
+  -- a copy of each of these pairs was inserted in turn: of all the iterator's, or of those before
+  -- the refused one
+  abbrev pub InsertsCopied : I → Lists K V → Lists K V → Result (Unit {0}) (Refused K V) → Type 0
+  InsertsCopied iter old new r = (it : T) × (items : List (Bor K × Bor V)) × becomes iter it
+      × (new ≡ all_inserted eq value_eq old (map lent_pair items))
+      × MatchResult r (λ _. Drains steps it items)
+      (λ refused. (item : Bor K × Bor V) × (t : T) × Yields steps it (items ++ item ∷ []) t
+      × (lent_pair item ≡ (refused.key, refused.value)))
 
 module _ {K V S I T : Type 0} (becomes : I → T → Type 0) {X : Type 0}
     (steps : T → Option X → T → Type 0) where

@@ -3,6 +3,7 @@ pub mod Asked
 pub mod Insertions
 pub mod Laws
 pub mod PairLaws
+pub mod Private
 pub mod Set
 pub mod SetChanges
 pub mod SetClones

@@ -37,10 +37,16 @@
 //! - `insert` adds a pair beside the key's other pairs, and returns whether it is new. The map's
 //!   `insert` replaces the key's pairs; its `append` is the counterpart of the set's `insert`.
 //! - `remove_value` returns whether the pair was there; the map's returns the value.
-//! - The function of `retain` gets each value for reading alone.
+//! - The functions of `retain` and `retain_all` get each value for reading alone.
 //! - `append_set` drops the pairs of the other set that are there. The map's `append_map` appends
 //!   all.
-//! - There is no `remove` or `entry`: see `remove_all`.
+//! - The set lacks what writes values or lends them for writing: `set`, `entry`, `get_mut`,
+//!   `front_mut`, `back_mut`, `first_mut`, `last_mut`, `iter_mut` and `&mut set` as an iterator,
+//!   `values_mut`, `get_all_mut`, `pairs_mut`, `update_values` and `update_all`.
+//! - It lacks `insert_all`, `remove`, `remove_entry`, `remove_entry_all` and
+//!   `remove_entry_with_all`: see `remove_all` and `remove_all_with`.
+//! - It lacks std's `Extend` of borrowed pairs, for which see `extend_copied`, and `Emptied` and
+//!   `MadeWith`, by which `mem::try_take` and `or_default` make an empty map.
 //!
 //! The calls that take a key take a query, an `ordered_multimap::KeyQuery`, as the map's do: a
 //! `String` key is looked up by a `&str`. `insert` takes the key itself.
@@ -52,9 +58,10 @@
 //!
 //! | Calls | Cost |
 //! |---|---|
-//! | `contains_key`, `entry_len`, `get`, `get_last` | *O*(1) expected |
+//! | `contains_key`, `entry_len`, `get`, `get_key_value`, `get_last` | *O*(1) expected |
 //! | `move_key_to_back`, `move_key_to_front`, `rename_key` | *O*(1) expected |
-//! | `contains`, `remove_value`, `remove_all` | *O*(*v*) expected |
+//! | `contains`, `remove_value`, `remove_index`, `remove_all` | *O*(*v*) expected |
+//! | `retain_all` | *O*(*v*) expected, and as many calls of its function |
 //! | `insert` | *O*(*v*) expected, amortized |
 //! | `front`, `back`, `is_empty`, lengths, capacities | *O*(1) |
 //! | `iter`, `keys`, `values`, `pairs` | *O*(1), *O*(1) for each item |
@@ -70,12 +77,12 @@
 //!
 //! An insertion returns a `Refused` with the key and the value, and both lists are as before;
 //! capacities may have grown. It never fails if an equal pair is there, or where the capacities
-//! suffice. `extend` keeps the pairs before that one, and `from_iter` drops them. The calls of the
-//! traits `Extend` and `FromIterator` do the same, and return `AllocError`. `append_set` returns
-//! `AllocError`, and both lists of both sets are as before. `clone` and the constructors with
-//! capacities return `AllocError`, and so do `reserve_keys`, `reserve_values`, `pack_to`,
-//! `pack_to_fit` and the sorts, after which both lists are as before. Removals and lookups can't
-//! fail.
+//! suffice. `extend` and `extend_copied` keep the pairs before that one, and `from_iter` drops
+//! them. The calls of the traits `Extend` and `FromIterator` do the same, and return `AllocError`.
+//! `append_set` returns `AllocError`, and both lists of both sets are as before. `clone` and the
+//! constructors with capacities return `AllocError`, and so do `reserve_keys`, `reserve_values`,
+//! `pack_to`, `pack_to_fit` and the sorts, after which both lists are as before. Removals and
+//! lookups can't fail.
 //!
 //! `rename_key` doesn't allocate. Its error, an `ordered_multimap::RenameFault`, says that the key
 //! is absent, or that another key is equal to the new one.

@@ -1,17 +1,19 @@
 -- What of the pairs of a set is a set again.
-use Rattle.std.proofs.Common.{◌≡◌, Bool, true, false, not, cond, ◌&&◌, ◌||◌, ℕ, zero, suc, ◌-◌, List, [], ◌∷◌, filter, length, take, map}
+use Rattle.std.proofs.Common.{◌≡◌, Bool, true, false, not, cond, ◌&&◌, ◌||◌, ℕ, zero, suc, ◌-◌, List, [], ◌∷◌, filter, length, take, map, slice_get, Some, None}
 use Rattle.std.proofs.Common.{refl, sym, ap, ◌∙◌}
 use Rattle.std.proofs.lemmas.Map.Keys.{IsDistinct-push}
 use Rattle.std.specs.Cmp.{IsEquivalence, and_equiv, on_equiv}
-use Rattle.std.specs.List.{AllByRecursion, AllZip, IsDistinct, list_any}
+use Rattle.std.specs.List.{AllByRecursion, AllZip, IsDistinct, list_any, remove}
 use Rattle.ordered_multimap.proofs.Callers.ListedKeys.{IsDistinct-filter, stored_key_absent, stored_key_member}
+use Rattle.ordered_multimap.proofs.Callers.OneValue.{without}
 use Rattle.ordered_multimap.specs.Changes.{appended, kept, removed_where}
 use Rattle.ordered_multimap.specs.Clones.{AreClones, IsPairClone}
 use Rattle.ordered_multimap.specs.End.{End}
 use Rattle.ordered_multimap.specs.End.TheVariants.{Front, Back}
 use Rattle.ordered_multimap.specs.Keys.{is_listed, stored_key}
 use Rattle.ordered_multimap.specs.Lists.{Lists, empty_lists}
-use Rattle.ordered_multimap.specs.Pairs.{has_items, values_where}
+use Rattle.ordered_multimap.specs.OneValue.{index_removed}
+use Rattle.ordered_multimap.specs.Pairs.{has_items, positions_where, values_where}
 use Rattle.ordered_multimap.specs.Popped.{popped}
 use Rattle.ordered_multimap.specs.Walk.{end_rest}
 use Rattle.set_ordered_multimap.specs.Laws.{ChangesKeepSets}
@@ -52,6 +54,21 @@ module _ {X : Type 0} where
   IsDistinct-end_rest eq Front [] distinct = tt
   IsDistinct-end_rest eq Front (x ∷ xs) distinct = distinct.1
   IsDistinct-end_rest eq Back xs distinct = IsDistinct-take eq (length xs - 1) xs distinct
+
+  -- so it does of all but one
+  AllByRecursion-remove : (P : X → Type 0) (n : ℕ) (xs : List X) → AllByRecursion P xs → AllByRecursion P (remove xs n)
+  AllByRecursion-remove P zero [] all = tt
+  AllByRecursion-remove P (suc n) [] all = tt
+  AllByRecursion-remove P zero (x ∷ xs) all = all.1
+  AllByRecursion-remove P (suc n) (x ∷ xs) all = (all.0, AllByRecursion-remove P n xs all.1)
+
+  IsDistinct-remove : (eq : X → X → Bool) (n : ℕ) (xs : List X) → IsDistinct eq xs → IsDistinct eq (remove xs n)
+  unfolding IsDistinct
+  IsDistinct-remove eq zero [] distinct = tt
+  IsDistinct-remove eq (suc n) [] distinct = tt
+  IsDistinct-remove eq zero (x ∷ xs) distinct = distinct.1
+  IsDistinct-remove eq (suc n) (x ∷ xs) distinct =
+      (AllByRecursion-remove (λ y. eq x y ≡ false) n xs distinct.0, IsDistinct-remove eq n xs distinct.1)
 
   -- items that stand for those of another list, one for one, differ as those do
   AllByRecursion-zip : (R : X → X → Type 0) (eq : X → X → Bool) (x c : X)
@@ -132,6 +149,15 @@ module _ {K V : Type 0} {eq : K → K → Bool} {value_eq : V → V → Bool} (k
   pub IsSet-removed : (accepts : K → Bool) (m : Lists K V) → IsSet eq value_eq m → IsSet eq value_eq (removed_where eq accepts m)
   IsSet-removed accepts m set = IsSet-kept m (λ p. not (accepts p.0)) set
 
+  -- the pairs but the one of a value at an index
+  pub IsSet-index_removed : (accepts : K → Bool) (m : Lists K V) (index : ℕ) → IsSet eq value_eq m
+      → IsSet eq value_eq (index_removed eq accepts m index)
+  IsSet-index_removed accepts m index set = elim (slice_get (positions_where accepts m.pairs) index) as
+      (λ o. IsDistinct (same_pair eq value_eq) (without accepts m.pairs o)) [
+        | None ↦ set
+        | Some i ↦ IsDistinct-remove (same_pair eq value_eq) i m.pairs set
+      ]
+
   -- the pairs but the one at an end
   pub IsSet-popped : (end : End) (m : Lists K V) → IsSet eq value_eq m → IsSet eq value_eq (popped eq end m)
   IsSet-popped end m set = elim (has_items m.pairs) as (λ b. IsSet eq value_eq (cond b (kept eq m (end_rest end m.pairs)) m)) [
@@ -143,6 +169,7 @@ module _ {K V : Type 0} {eq : K → K → Bool} {value_eq : V → V → Bool} (k
   changes_keep_sets = record {
     inserted = IsSet-inserted;
     value_removed = λ m k v. IsSet-value_removed (eq k) m v;
+    index_removed = λ m k. IsSet-index_removed (eq k) m;
     removed = λ m k. IsSet-removed (eq k) m;
     popped = IsSet-popped;
   }

@@ -1,16 +1,44 @@
 //! Insertions, of a pair and of many.
 ghost use Rattle.std.specs.Prelude.{◌≡◌, not, true, false, IfErr, IfOk, IsOk, OnOk};
 ghost use Rattle.ordered_multimap.specs.Additions.{Appends, IsRefused};
-ghost use Rattle.ordered_multimap.specs.Extends.{IsLastRead};
+ghost use Rattle.ordered_multimap.specs.Extends.{IsLastRead, lent_pair};
 ghost use Rattle.ordered_multimap.specs.TapeNumbers.{AreUnused};
 ghost use Rattle.set_ordered_multimap.specs.Insertions.{ComesToAnEnd, GrowsForInserted, InsertsAll};
-ghost use Rattle.set_ordered_multimap.specs.Insertions.{HasRoomToInsert, IsSetOf};
+ghost use Rattle.set_ordered_multimap.specs.Insertions.{HasRoomToInsert, InsertsCopied, IsSetOf};
+ghost use Rattle.set_ordered_multimap.specs.Private.Insertions.{InsertsPairsOf};
 ghost use Rattle.set_ordered_multimap.specs.Set.{IsSet, has_pair, set_inserted};
 
 use super::SetOrderedMultimap;
 use ordered_multimap::list_ordered_multimap::Refused;
 use std::alloc::Allocator;
 use std::hash::{BuildHasher, Hash};
+
+/// An item that gives a pair to insert.
+trait IntoPair<K, V> {
+    /// The pair that an item gives.
+    ghost pair_of: { Self → K × V };
+
+    fn into_pair(self) -> (K, V)
+        ensures { result ≡ pair_of self };
+}
+
+impl<K, V> IntoPair<K, V> for (K, V) {
+    ghost pair_of = { λ pair. pair };
+
+    #[inline(always)]
+    fn into_pair(self) -> (K, V) {
+        self
+    }
+}
+
+impl<'a, K: Copy, V: Copy> IntoPair<K, V> for (&'a K, &'a V) {
+    ghost pair_of = { lent_pair };
+
+    #[inline(always)]
+    fn into_pair(self) -> (K, V) {
+        (*self.0, *self.1)
+    }
+}
 
 impl<K: Eq + Hash + Drop, V: Eq + Drop, S: BuildHasher, A: Allocator + Copy> SetOrderedMultimap<
     K,
@@ -77,6 +105,8 @@ impl<K: Eq + Hash + Drop, V: Eq + Drop, S: BuildHasher, A: Allocator + Copy> Set
     ///
     /// It inserts as [`insert`](Self::insert) does, and fails for no pair that `insert` would take.
     /// If the set has room for a key and a value for each pair, it succeeds, and no capacity grows.
+    /// For copies of pairs that are borrowed, as those of another set, see
+    /// [`extend_copied`](Self::extend_copied).
     ///
     /// # Errors
     ///
@@ -111,7 +141,77 @@ impl<K: Eq + Hash + Drop, V: Eq + Drop, S: BuildHasher, A: Allocator + Copy> Set
         ensures grows { GrowsForInserted I.into_iter_gives I.IntoIter.next_gives iter
             self.old self.new result }
     {
-        for (key, value) in iter {
+        // Each item is its pair.
+        self.insert_all(iter)
+    }
+
+    /// Inserts a copy of each pair of an iterator, in order, if no equal one is there.
+    ///
+    /// It does for borrowed pairs, as those of another set's [`iter`](Self::iter), what
+    /// [`extend`](Self::extend) does for owned ones.
+    ///
+    /// # Errors
+    ///
+    /// If memory allocation fails for a pair, returns [`Refused`] with a copy of that pair, and
+    /// reads no more of the iterator. The pairs before it stay.
+    ///
+    /// # Complexity
+    ///
+    /// What `insert` costs, for each pair.
+    ///
+    /// # Requires
+    ///
+    /// The iterator ends.
+    ///
+    /// # Examples
+    ///
+    /// ```
+    /// use set_ordered_multimap::SetOrderedMultimap;
+    ///
+    /// let mut other = SetOrderedMultimap::new(rt.alloc());
+    /// other.extend([("note", "draft"), ("plan", "draft")])?;
+    ///
+    /// let mut set = SetOrderedMultimap::new(rt.alloc());
+    /// set.insert("plan", "draft")?;
+    /// set.extend_copied(&other)?;
+    /// assert!(rt; set.iter().eq([(&"plan", &"draft"), (&"note", &"draft")]));
+    /// ```
+    pub fn extend_copied<'a, I: IntoIterator<Item = (&'a K, &'a V)>>(
+        &mut self,
+        iter: I,
+    ) -> Result<(), Refused<K, V>>
+    where
+        K: Copy + 'a,
+        V: Copy + 'a,
+        requires { ComesToAnEnd I.into_iter_gives I.IntoIter.can_next I.IntoIter.remaining iter }
+        ensures inserts { InsertsCopied K.eq V.eq I.into_iter_gives I.IntoIter.next_gives iter
+            self.old.lists self.new.lists result }
+        ensures full { IfErr result (λ pair.
+            ¬ HasRoomToInsert K.eq V.eq self.new pair.key pair.value) }
+        ensures set { IsSet K.eq V.eq self.old.lists → IsSet K.eq V.eq self.new.lists }
+        ensures grows { GrowsForInserted I.into_iter_gives I.IntoIter.next_gives iter
+            self.old self.new result }
+    {
+        // Each item lends its pair.
+        self.insert_all(iter)
+    }
+
+    /// Inserts the pair of each item of an iterator, in order, if no equal one is there.
+    fn insert_all<X: IntoPair<K, V>, I: IntoIterator<Item = X>>(
+        &mut self,
+        iter: I,
+    ) -> Result<(), Refused<K, V>>
+        requires { ComesToAnEnd I.into_iter_gives I.IntoIter.can_next I.IntoIter.remaining iter }
+        ensures inserts { InsertsPairsOf X.pair_of K.eq V.eq I.into_iter_gives I.IntoIter.next_gives
+            iter self.old.lists self.new.lists result }
+        ensures full { IfErr result (λ pair.
+            ¬ HasRoomToInsert K.eq V.eq self.new pair.key pair.value) }
+        ensures set { IsSet K.eq V.eq self.old.lists → IsSet K.eq V.eq self.new.lists }
+        ensures grows { GrowsForInserted I.into_iter_gives I.IntoIter.next_gives iter
+            self.old self.new result }
+    {
+        for item in iter {
+            let (key, value) = item.into_pair();
             if let Err(refused) = self.insert(key, value) {
                 return Err(refused);
             }

@@ -1,5 +1,5 @@
 //! Lookups of a pair, and of a key and its values.
-ghost use Rattle.std.specs.Prelude.{◌≡◌, length, option_copied, slice_get};
+ghost use Rattle.std.specs.Prelude.{◌≡◌, find, length, option_copied, option_map, slice_get};
 ghost use Rattle.ordered_multimap.specs.End.TheVariants.{Back};
 ghost use Rattle.ordered_multimap.specs.Pairs.{is_present_where, positions_where, values_where};
 ghost use Rattle.ordered_multimap.specs.Walk.{end_item};
@@ -118,6 +118,36 @@ impl<K: Eq + Hash, V, S: BuildHasher, A: Allocator> SetOrderedMultimap<K, V, S, 
             ≡ slice_get (values_where (Q.equivalent key) self.now.lists.pairs) 0 }
     {
         self.map.get(key)
+    }
+
+    /// Returns the stored key with its first value, or `None` if the key is absent.
+    ///
+    /// The stored key is the one that was inserted first, and may differ from an equal key in what
+    /// `==` doesn't compare. For the value only see [`get`](Self::get). The key may be a query
+    /// ([`KeyQuery`]).
+    ///
+    /// # Complexity
+    ///
+    /// *O*(1) expected. It reads the slots of the key and of the value.
+    ///
+    /// # Examples
+    ///
+    /// ```
+    /// use set_ordered_multimap::SetOrderedMultimap;
+    ///
+    /// let mut set = SetOrderedMultimap::new(rt.alloc());
+    /// set.insert("plan", "draft")?;
+    /// set.insert("plan", "long")?;
+    /// assert_eq!(rt; set.get_key_value("plan"), Some((&"plan", &"draft")));
+    /// assert_eq!(rt; set.get_key_value("note"), None);
+    /// ```
+    pub fn get_key_value<Q: KeyQuery<K>>(&self, key: Q) -> Option<(&K, &V)>
+        ensures key { option_map (λ r. r.0.now) result
+            ≡ find (Q.equivalent key) self.now.lists.keys }
+        ensures value { option_map (λ r. r.1.now) result
+            ≡ slice_get (values_where (Q.equivalent key) self.now.lists.pairs) 0 }
+    {
+        self.map.get_key_value(key)
     }
 
     /// Returns the last value of the key, or `None` if the key is absent.

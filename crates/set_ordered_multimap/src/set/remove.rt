@@ -1,9 +1,10 @@
 //! Removals of one pair, of all pairs of a key, and of all pairs.
-ghost use Rattle.std.specs.Prelude.{◌≡◌, ◌+◌, cond, false, length, true};
+ghost use Rattle.std.specs.Prelude.{◌≡◌, ◌+◌, IfNone, cond, false, is_some, length, slice_get, true};
 ghost use Rattle.std.specs.Borrow.{sem};
 ghost use Rattle.std.specs.List.{FoldsTo};
 ghost use Rattle.ordered_multimap.specs.Changes.{kept};
 ghost use Rattle.ordered_multimap.specs.Drains.{DrainsWhere};
+ghost use Rattle.ordered_multimap.specs.OneValue.{index_removed};
 ghost use Rattle.ordered_multimap.specs.Pairs.{values_where};
 ghost use Rattle.ordered_multimap.specs.Removals.{IsRemovedWhere};
 ghost use Rattle.ordered_multimap.specs.Rooms.{SameRooms};
@@ -99,6 +100,47 @@ impl<K: Eq + Hash, V: Eq, S: BuildHasher, A: Allocator> SetOrderedMultimap<K, V,
         }
         take_equal(&mut self.map, key, value);
         true
+    }
+
+    /// Removes the value at an index among the values of the key, and returns it.
+    ///
+    /// The values are counted from 0, in the order of the pairs. Returns `None`, and changes
+    /// nothing, if the key is absent or the index is out of bounds. The stored key is dropped with
+    /// its last value. The other keys and pairs keep their order. The call doesn't allocate, and
+    /// leaves the capacities as they are. To remove an equal value see
+    /// [`remove_value`](Self::remove_value). The key may be a query ([`KeyQuery`]).
+    ///
+    /// # Complexity
+    ///
+    /// *O*(*v*) expected for the *v* values of the key: it follows them from the nearer end, over
+    /// half of them at most.
+    ///
+    /// # Examples
+    ///
+    /// ```
+    /// use set_ordered_multimap::SetOrderedMultimap;
+    ///
+    /// let mut set = SetOrderedMultimap::new(rt.alloc());
+    /// set.insert("plan", "draft")?;
+    /// set.insert("note", "draft")?;
+    /// set.insert("plan", "long")?;
+    /// assert_eq!(rt; set.remove_index("plan", 2), None);
+    /// assert_eq!(rt; set.remove_index("plan", 0), Some("draft"));
+    /// assert!(rt; set.iter().eq([(&"note", &"draft"), (&"plan", &"long")]));
+    /// ```
+    pub fn remove_index<Q: KeyQuery<K>>(&mut self, key: Q, index: usize) -> Option<V>
+    where
+        K: Drop,
+        ensures value { result
+            ≡ slice_get (values_where (Q.equivalent key) self.old.lists.pairs) index }
+        ensures lists { self.new.lists
+            ≡ index_removed K.eq (Q.equivalent key) self.old.lists index }
+        ensures set { IsSet K.eq V.eq self.old.lists → IsSet K.eq V.eq self.new.lists }
+        ensures rooms { SameRooms self.old self.new }
+        ensures taken { TakesOut (cond (is_some result) 1 0) self.old.tape self.new.tape }
+        ensures unchanged { IfNone result (self.new ≡ self.old) }
+    {
+        self.map.remove_index(key, index)
     }
 
     /// Removes all pairs, and drops them.

@@ -1,5 +1,5 @@
 //! Proved callers of the set: each says by its own clauses what the set is afterwards.
-ghost use Rattle.std.specs.Prelude.{◌≡◌, filter, nat_eq, nat_lt, true, false, OnOk, IfOk, OnErr, ◌&&◌, length};
+ghost use Rattle.std.specs.Prelude.{◌≡◌, cond, filter, nat_eq, nat_lt, true, false, OnOk, IfOk, OnErr, ◌&&◌, length};
 ghost use Rattle.ordered_multimap.specs.Changes.{kept, removed_where};
 ghost use Rattle.ordered_multimap.specs.End.TheVariants.{Front};
 ghost use Rattle.ordered_multimap.specs.Popped.{popped};
@@ -68,6 +68,19 @@ pub fn keep_below<S: BuildHasher, A: Allocator>(
     ensures set { IsSet nat_eq nat_eq set.old.lists → IsSet nat_eq nat_eq set.new.lists }
 {
     set.retain(|_key, value| *value < limit);
+}
+
+/// Keeps the values of the key that are below the limit, and all pairs of other keys.
+pub fn keep_values_below<S: BuildHasher, A: Allocator>(
+    set: &mut SetOrderedMultimap<u32, u32, S, A>,
+    key: u32,
+    limit: u32,
+)
+    ensures pairs { set.new.lists.pairs ≡ filter
+        (λ p. cond (nat_eq key p.0) (nat_lt p.1 limit) true) set.old.lists.pairs }
+    ensures set { IsSet nat_eq nat_eq set.old.lists → IsSet nat_eq nat_eq set.new.lists }
+{
+    set.retain_all(&key, |value| *value < limit);
 }
 
 /// Inserts what the iterator gives into an empty set, by one call for each pair.

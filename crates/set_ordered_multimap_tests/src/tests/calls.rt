@@ -152,6 +152,8 @@ fn letters_stay(test: &Test, set: &mut Letters) {
         test.expect_at(row, inserts(set, *key, *value, *new));
     }
     test.expect(is_shown(test.alloc(), set, "{'A': 'x', 'A': 'y', 'B': 'X'}"));
+    let stored = set.get_key_value(&Letter::new(b'b'));
+    test.expect(stored.is_some_and(|pair| pair.0.letter == b'B' && pair.1.letter == b'X'));
     let gone = set.remove_value(&Letter::new(b'a'), &Letter::new(b'Y'));
     test.expect(gone);
     test.expect(is_shown(test.alloc(), set, "{'A': 'x', 'B': 'X'}"));

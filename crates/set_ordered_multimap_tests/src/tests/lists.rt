@@ -57,6 +57,14 @@ impl Lists {
         was
     }
 
+    /// Takes the value at an index among those of a key out.
+    pub fn remove_index(&mut self, key: u32, index: usize) -> Option<u32> {
+        let mut own = self.pairs.iter().filter(|pair| pair.0 == key);
+        let (_key, value) = own.nth(index).copied()?;
+        self.remove(key, value);
+        Some(value)
+    }
+
     /// Puts a key that is there at an end of the keys. Whether it was.
     pub fn move_key(&mut self, key: u32, to_front: bool) -> Result<bool, AllocError> {
         if !self.has_key(key) {

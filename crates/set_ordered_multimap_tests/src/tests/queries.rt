@@ -48,11 +48,20 @@ fn ends_are_found<S: BuildHasher>(set: &Owned<S>, name: &str, values: &[u32]) ->
         && copied(set.get_last(name)) == copied(values.last())
 }
 
+// Whether a look-up finds the name with the first of these values.
+fn entry_is_found<S: BuildHasher>(set: &Owned<S>, name: &str, values: &[u32]) -> bool {
+    match set.get_key_value(name) {
+        Some((key, value)) => key.as_str() == name && Some(*value) == copied(values.first()),
+        None => values.is_empty(),
+    }
+}
+
 // Whether look-ups find these values of a name.
 fn is_found<S: BuildHasher>(set: &Owned<S>, name: &str, values: &[u32]) -> bool {
     set.contains_key(name) != values.is_empty()
         && set.entry_len(name) == values.len()
         && ends_are_found(set, name, values)
+        && entry_is_found(set, name, values)
         && gives(&mut set.get_all(name), values)
 }
 
@@ -78,6 +87,21 @@ fn value_leaves<S: BuildHasher>(test: &Test, set: &mut Owned<S>, row: &Row) {
     test.expect(is_shown(test.alloc(), set, row.2));
 }
 
+// Takes the value 2 of the name out by its index, which is out of bounds where there is none.
+fn index_leaves<S: BuildHasher>(test: &Test, set: &mut Owned<S>, row: &Row) {
+    refill(test, set);
+    let index = row.1.iter().position(|value| *value == 2);
+    let gone = set.remove_index(row.0, index.unwrap_or(row.1.len()));
+    test.expect(gone == index.map(|_index| 2));
+    test.expect(is_shown(test.alloc(), set, row.2));
+}
+
+fn others_stay<S: BuildHasher>(test: &Test, set: &mut Owned<S>, row: &Row) {
+    refill(test, set);
+    set.retain_all(row.0, |value| *value != 2);
+    test.expect(is_shown(test.alloc(), set, row.2));
+}
+
 fn values_leave<S: BuildHasher>(test: &Test, set: &mut Owned<S>, row: &Row) {
     refill(test, set);
     test.expect(gives(&mut set.remove_all(row.0), row.1));
@@ -97,6 +121,8 @@ fn texts_are_queries<S: BuildHasher>(test: &Test, set: &mut Owned<S>) {
         test.expect_at(at, is_found(set, row.0, row.1));
         test.expect_at(at, pairs_are_found(set, row.0, row.1));
         value_leaves(test, set, row);
+        index_leaves(test, set, row);
+        others_stay(test, set, row);
         values_leave(test, set, row);
         values_are_handed_out(test, set, row);
     }

@@ -18,9 +18,9 @@ struct Drawn {
     other: u32,
 }
 
-fn drawn(random: u64) -> Drawn {
+fn draw(random: u64) -> Drawn {
     Drawn {
-        call: (random >> 8) % 24,
+        call: (random >> 8) % 27,
         key: ((random >> 20) % 6) as u32,
         value: ((random >> 32) % 5) as u32,
         other: ((random >> 44) % 6) as u32,
@@ -63,7 +63,7 @@ fn removes<S: BuildHasher>(set: &mut SetBy<S>, lists: &mut Lists, d: Drawn) -> b
             set.remove_all_with(&d.key, |_value| left = left.wrapping_add(1));
             let was = lists.pairs.len();
             lists.keep(|key, _value| key != d.key);
-            left as usize == was - lists.pairs.len()
+            left as usize == was.saturating_sub(lists.pairs.len())
         }
         _ => {
             set.retain(|_key, value| *value < 4);
@@ -71,6 +71,17 @@ fn removes<S: BuildHasher>(set: &mut SetBy<S>, lists: &mut Lists, d: Drawn) -> b
             true
         }
     }
+}
+
+// Whether both take values of a key out alike.
+fn loses_values<S: BuildHasher>(set: &mut SetBy<S>, lists: &mut Lists, d: Drawn) -> bool {
+    if d.call == 24 {
+        let index = (d.other % 3) as usize;
+        return set.remove_index(&d.key, index) == lists.remove_index(d.key, index);
+    }
+    set.retain_all(&d.key, |value| *value < d.value);
+    lists.keep(|key, value| key != d.key || value < d.value);
+    true
 }
 
 // Whether both move, rename or sort alike.
@@ -102,13 +113,16 @@ fn makes_room<S: BuildHasher>(set: &mut SetBy<S>, d: Drawn) -> Result<bool, Allo
         20 => set.pack_to_fit()?,
         _ => {
             let (keys, values) = (set.keys_len(), set.values_len());
-            set.pack_to(keys + d.key as usize, values + d.value as usize)?;
+            set.pack_to(
+                keys.saturating_add(d.key as usize),
+                values.saturating_add(d.value as usize),
+            )?;
         }
     }
     Ok(set.keys_len() <= set.keys_capacity() && set.values_len() <= set.values_capacity())
 }
 
-// Whether both append the pairs that they lack.
+// Whether both add the pairs that they lack, of a set that is emptied or copied.
 fn appends<S: BuildHasher>(
     set: &mut SetBy<S>,
     lists: &mut Lists,
@@ -119,8 +133,12 @@ fn appends<S: BuildHasher>(
         other.insert(key, value)?;
         lists.insert(key, value)?;
     }
-    set.append_set(&mut other)?;
-    Ok(other.is_empty())
+    if d.call == 22 {
+        set.append_set(&mut other)?;
+    } else {
+        set.extend_copied(&other)?;
+    }
+    Ok(other.is_empty() == (d.call == 22))
 }
 
 fn is_called<S: BuildHasher>(
@@ -133,7 +151,8 @@ fn is_called<S: BuildHasher>(
         6..=11 => Ok(removes(set, lists, d)),
         12..=17 => reorders(set, lists, d),
         18..=21 => makes_room(set, d),
-        22 => appends(set, lists, d),
+        22 | 23 => appends(set, lists, d),
+        24 | 25 => Ok(loses_values(set, lists, d)),
         _ => {
             if d.value == 0 {
                 lists.keep(|_key, _value| false);
@@ -142,6 +161,12 @@ fn is_called<S: BuildHasher>(
             Ok(true)
         }
     }
+}
+
+// Whether a look-up finds the key with its first value.
+fn finds_entry<S: BuildHasher>(set: &SetBy<S>, lists: &Lists, d: Drawn) -> bool {
+    let mut own = lists.pairs.iter().filter(|pair| pair.0 == d.key);
+    copied(set.get_key_value(&d.key)) == own.next().copied()
 }
 
 // Whether look-ups find what stands in the lists.
@@ -160,10 +185,13 @@ fn random_calls_agree<S: BuildHasher>(test: &Test, set: &mut SetBy<S>) {
     let mut random = 88_172_645_463_325_252;
     for at in 0..CALLS {
         random = next_random(random);
-        let d = drawn(random);
+        let d = draw(random);
         test.expect_at(at, is_called(set, &mut lists, d) == Ok(true));
-        test.expect_at(at, has_lists(set, lists.pairs.as_slice(), lists.keys.as_slice()));
-        test.expect_at(at, finds(set, &lists, d));
+        test.expect_at(
+            at,
+            has_lists(set, lists.pairs.as_slice(), lists.keys.as_slice()),
+        );
+        test.expect_at(at, finds(set, &lists, d) && finds_entry(set, &lists, d));
     }
 }
 

@@ -1,10 +1,13 @@
 //! Each call that grows is refused each request in turn; what needs no memory is refused all.
 use crate::tests::sets::{Refusing, has_lists, refill};
+use ordered_multimap::ListOrderedMultimap;
 use ordered_multimap::list_ordered_multimap::{DefaultState, Refused};
 use refusing_allocator::RefusingAllocator;
 use set_ordered_multimap::SetOrderedMultimap;
 use std::alloc::{AllocError, Allocator};
-use test_helpers::{Failed, Test, copied, lend_made, requests_until_enough, try_on_new};
+use test_helpers::{
+    Failed, Test, copied, lend_made, requests_until_enough, test_on_new, try_on_new,
+};
 
 type Pairs = &'static [(u32, u32)];
 
@@ -134,9 +137,17 @@ fn need_none<A: Allocator + Copy>(test: &Test, set: &mut Refusing<A>) -> bool {
     test.expect(set.remove_value(&2, &2));
     test.expect(set.insert(2, 7) == Ok(true));
     set.retain(|_key, value| *value != 7);
+    values_leave(test, set);
     ends_leave(test, set);
     test.expect(has_lists(set, &[], &[]));
     true
+}
+
+fn values_leave<A: Allocator + Copy>(test: &Test, set: &mut Refusing<A>) {
+    test.expect(set.insert(1, 5) == Ok(true) && set.insert(3, 5) == Ok(true));
+    test.expect(set.remove_index(&1, 1) == Some(5));
+    set.retain_all(&3, |value| *value != 5);
+    test.expect(has_lists(set, &[(1, 1), (3, 3)], &[1, 3]));
 }
 
 fn ends_leave<A: Allocator + Copy>(test: &Test, set: &mut Refusing<A>) {
@@ -200,4 +211,31 @@ fn a_refused_request_changes_nothing(rt: HostRuntime) -> Result<(), Failed> {
     test.expect(tries_with(&test, 0, Try::NeedNone));
     test.expect(tries_with(&test, 0, Try::ExtendByPresent));
     test.end()
+}
+
+// A map of the pairs, of which one comes twice.
+type Lender = ListOrderedMultimap<u32, u32>;
+
+// Inserts copies of all pairs. The refused one is the one behind those that the set has then.
+fn extend_copied<A: Allocator + Copy>(test: &Test, set: &mut Refusing<A>, lender: &Lender) -> bool {
+    let mut pairs = lender.iter();
+    let given = set.extend_copied(&mut pairs).map_err(refused_pair);
+    let count = stopped(test, set, pairs.len());
+    test.expect(FIRST.get(count).copied() == given.err());
+    given.is_ok()
+}
+
+fn copies_with(test: &Test, granted: u64, lender: &Lender) -> bool {
+    try_on_new!(test, granted; SetOrderedMultimap::new; refill, &[]; extend_copied, lender)
+}
+
+fn each_copy_is_refused(test: &Test, lender: &mut Lender) {
+    test.expect(lender.extend(PAIRS.iter().copied()).is_ok());
+    let enough = requests_until_enough(|granted| copies_with(test, granted, lender));
+    test.expect(enough.unwrap_or(0) >= 3);
+}
+
+#[test]
+fn a_refused_copy_comes_back(rt: HostRuntime) -> Result<(), Failed> {
+    test_on_new(rt.alloc(), ListOrderedMultimap::new, each_copy_is_refused)
 }

@@ -1,4 +1,5 @@
 //! Runs of calls on numbers, with both lists and two keys' values after each call.
+use crate::tests::callers::keep_values_below;
 use crate::tests::sets::{SetBy, collided, has_lists, refill};
 use ordered_multimap::list_ordered_multimap::{KeyWrapper, RenameFault};
 use set_ordered_multimap::SetOrderedMultimap;
@@ -10,6 +11,10 @@ enum Call {
     // A pair, and whether it is new, or whether it is there.
     Insert(u32, u32, bool),
     RemoveValue(u32, u32, bool),
+    // A key, an index, and the value that leaves.
+    RemoveIndex(u32, usize, Option<u32>),
+    // A key, of whose values those below this one stay.
+    RetainBelow(u32, u32),
     // The pair that leaves, whose key goes with it.
     PopFront(u32, u32),
     SortKeys,
@@ -97,6 +102,34 @@ const RENAMES: &[Row] = &[
     (Call::Rename(3, 4, Renamed::Done), PAIRS, &[5, 4, 1, 2]),
 ];
 
+const THREE_LEFT: Pairs = &[(1, 3), (2, 5), (4, 0)];
+
+// The run begins with the pairs, as that of the sorts.
+const REMOVALS: &[Row] = &[
+    (Call::RemoveIndex(4, 2, None), PAIRS, &[5, 4, 1, 2]),
+    (Call::RemoveIndex(3, 0, None), PAIRS, &[5, 4, 1, 2]),
+    (Call::RetainBelow(3, 0), PAIRS, &[5, 4, 1, 2]),
+    (Call::RetainBelow(5, 5), PAIRS, &[5, 4, 1, 2]),
+    (
+        Call::RemoveIndex(5, 1, Some(1)),
+        &[(5, 4), (4, 2), (1, 3), (2, 5), (4, 0)],
+        &[5, 4, 1, 2],
+    ),
+    (
+        Call::RetainBelow(4, 2),
+        &[(5, 4), (1, 3), (2, 5), (4, 0)],
+        &[5, 4, 1, 2],
+    ),
+    (Call::RemoveIndex(5, 0, Some(4)), THREE_LEFT, &[4, 1, 2]),
+    (Call::RetainBelow(2, 5), &[(1, 3), (4, 0)], &[4, 1]),
+    (
+        Call::Insert(5, 4, true),
+        &[(1, 3), (4, 0), (5, 4)],
+        &[4, 1, 5],
+    ),
+    (Call::RetainBelow(5, 0), &[(1, 3), (4, 0)], &[4, 1]),
+];
+
 fn sorts_keys<S: BuildHasher>(set: &mut SetBy<S>, by_half: bool) -> bool {
     if by_half {
         return set.sort_keys_by(|a, b| (*a / 2).cmp(&(*b / 2))).is_ok();
@@ -125,6 +158,11 @@ fn renames<S: BuildHasher>(set: &mut SetBy<S>, key: u32, new_key: u32, renamed: 
         }
 }
 
+fn retains_below<S: BuildHasher>(set: &mut SetBy<S>, key: u32, limit: u32) -> bool {
+    keep_values_below(set, key, limit);
+    set.get_all(&key).all(|value| *value < limit)
+}
+
 // Whether the call returns what is said.
 fn is_called<S: BuildHasher>(set: &mut SetBy<S>, call: Call) -> bool {
     match call {
@@ -139,6 +177,8 @@ fn is_called<S: BuildHasher>(set: &mut SetBy<S>, call: Call) -> bool {
         Call::Rename(key, new_key, renamed) => renames(set, key, new_key, renamed),
         Call::Insert(key, value, new) => set.insert(key, value) == Ok(new),
         Call::RemoveValue(key, value, there) => set.remove_value(&key, &value) == there,
+        Call::RemoveIndex(key, index, value) => set.remove_index(&key, index) == value,
+        Call::RetainBelow(key, limit) => retains_below(set, key, limit),
         Call::PopFront(key, value) => set.pop_front() == Some((KeyWrapper::Owned(key), value)),
     }
 }
@@ -195,4 +235,15 @@ fn renames_hold<S: BuildHasher>(test: &Test, set: &mut SetBy<S>) {
 fn keys_are_renamed(rt: HostRuntime) -> Result<(), Failed> {
     test_on_new(rt.alloc(), SetOrderedMultimap::new, renames_hold)?;
     test_on_new(rt.alloc(), collided, renames_hold)
+}
+
+fn removals_hold<S: BuildHasher>(test: &Test, set: &mut SetBy<S>) {
+    refill(test, set, PAIRS);
+    rows_hold(test, set, REMOVALS);
+}
+
+#[test]
+fn values_of_a_key_leave(rt: HostRuntime) -> Result<(), Failed> {
+    test_on_new(rt.alloc(), SetOrderedMultimap::new, removals_hold)?;
+    test_on_new(rt.alloc(), collided, removals_hold)
 }
