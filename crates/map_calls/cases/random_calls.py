@@ -14,6 +14,7 @@ def lines(seed, count=LINES):
             [f"append {key} {value}"] * 9
             + [f"{it} {key} {value}" for it in ("insert", "set", "entry_set", "contains", "remove_value", "retain_all")]
             + [f"remove_index {key} {index}"] * 2
+            + [draw.choice([f"append_many {key} {index}", f"try_insert {key} {value}"])]
             + [f"{it} {key}" for it in ("or_default", "get_last", "get_key_value", "remove")]
             + [draw.choice([f"move_back {key}", f"move_front {key}", f"rename {key} {'0' * draw.randrange(3)}{draw.randrange(KEYS)}"])]
             + [draw.choice(["sort_keys", "sort_keys_by", "sort_by"])]
@@ -180,6 +181,14 @@ def of_key(lists, word, key, number):
     first = old[0] if old else None
     if word == "append":
         return lists.append(key, number)
+    if word == "append_many":
+        for value in range(number):
+            lists.append(key, value)
+        return max(number, 0)
+    if word == "try_insert":
+        if not old and number >= 0:
+            lists.append(key, number)
+        return first if old else number if number >= 0 else None
     if word in ("insert", "remove"):
         lists.insert(key, number) if word == "insert" else lists.without(places)
     elif word == "set" or word == "entry_set" and old:

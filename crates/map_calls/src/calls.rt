@@ -1,7 +1,7 @@
 //! The calls, and what each writes.
 use crate::command::Map;
 use crate::key::Key;
-use ordered_multimap::{Entry, EntryValues, ListOrderedMultimap};
+use ordered_multimap::{Entry, EntryValues, ListOrderedMultimap, OrInsertFault};
 use program_parts::bad;
 use std::alloc::AllocError;
 use std::fmt::Debug;
@@ -132,9 +132,11 @@ pub fn call_with_number(
 ) -> io::Result<Option<i64>> {
     match word {
         "append" => Ok(map.append(key, number)?.then_some(number)),
+        "append_many" => Ok(i64::try_from(map.append_many(key, 0..number)?).ok()),
         "insert" => Ok(map.insert(key, number)?),
         "set" => Ok(map.set(key, number)?),
         "entry_set" => Ok(entry_set(map, key, number)),
+        "try_insert" => Ok(try_insert(map, key, number)?),
         "contains" => Ok(map.contains(&key, &number).then_some(number)),
         "remove_index" => Ok(remove_index(map, key, number)),
         "remove_value" => Ok(map.remove_value(&key, &number)),
@@ -147,6 +149,16 @@ fn entry_set(map: &mut Map, key: Key, value: i64) -> Option<i64> {
     match map.entry(key) {
         Entry::Occupied(mut entry) => Some(entry.set(value)),
         Entry::Vacant(_) => None,
+    }
+}
+
+// The first value then, where the function doesn't fail.
+fn try_insert(map: &mut Map, key: Key, value: i64) -> Result<Option<i64>, AllocError> {
+    let made = || if value < 0 { Err(value) } else { Ok(value) };
+    match map.entry(key).or_try_insert_with(made) {
+        Ok(first) => Ok(Some(*first)),
+        Err(OrInsertFault::Failed { .. }) => Ok(None),
+        Err(OrInsertFault::Refused(pair)) => Err(AllocError::from(pair)),
     }
 }
 

@@ -2,15 +2,17 @@
 //!
 //! Standard input holds a command on each line. A key is a whole number of 32 bits, with any zeros
 //! in front: `7` and `07` are one key, spelled differently. `VALUE`, `BOUND` and `INDEX` are whole
-//! numbers of 64 bits with a sign. All commands are about the first map, and `swap` makes the
+//! numbers of 64 bits with a sign, and so is `COUNT`. All commands are about the first map, and `swap` makes the
 //! second one the first.
 //!
 //! | Command | What it does | What it writes |
 //! |---|---|---|
 //! | `append KEY VALUE` | `append` | the value if the key was there |
+//! | `append_many KEY COUNT` | `append_many` of the numbers from 0 on that are below the count | how many |
 //! | `insert KEY VALUE` | `insert` | the old first value |
 //! | `set KEY VALUE` | `set` | the old first value |
 //! | `entry_set KEY VALUE` | `OccupiedEntry::set`, nothing for an absent key | the old first value |
+//! | `try_insert KEY VALUE` | `Entry::or_try_insert_with` of a function that fails for a value below 0 | the first value, if there is one then |
 //! | `or_default KEY` | `Entry::or_default`, then adds 1 to the value | the value |
 //! | `contains KEY VALUE` | `contains` | the value if it is there |
 //! | `get_last KEY` | `get_last` | the value |
