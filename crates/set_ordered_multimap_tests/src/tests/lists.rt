@@ -79,6 +79,24 @@ impl Lists {
         Ok(true)
     }
 
+    /// Sorts the keys by how many values each has.
+    pub fn sort_keys_by_len(&mut self) -> Result<(), AllocError> {
+        let pairs = self.pairs.as_slice();
+        let len = |key: u32| pairs.iter().filter(|pair| pair.0 == key).count();
+        self.keys.sort_by(|a, b| len(*a).cmp(&len(*b)))
+    }
+
+    /// The keys, each where the first pair names it.
+    pub fn first_occurrences(&self, alloc: Global) -> Result<Vec<u32>, AllocError> {
+        let mut keys = Vec::new(alloc);
+        for (key, _value) in self.pairs.iter() {
+            if !keys.contains(key) {
+                keys.push(*key)?;
+            }
+        }
+        Ok(keys)
+    }
+
     /// Puts another key in the place of one.
     pub fn rename(&mut self, key: u32, new_key: u32) -> Result<u32, RenameFault<u32>> {
         if !self.has_key(key) {

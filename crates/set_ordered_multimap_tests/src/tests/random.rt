@@ -5,7 +5,7 @@ use ordered_multimap::list_ordered_multimap::KeyWrapper;
 use set_ordered_multimap::SetOrderedMultimap;
 use std::alloc::AllocError;
 use std::hash::BuildHasher;
-use test_helpers::{Failed, Test, copied, next_random, test_on_new};
+use test_helpers::{Failed, Test, ZERO, copied, next_random, test_on_new};
 
 const CALLS: usize = 4000;
 
@@ -20,7 +20,7 @@ struct Drawn {
 
 fn draw(random: u64) -> Drawn {
     Drawn {
-        call: (random >> 8) % 27,
+        call: (random >> 8) % 28,
         key: ((random >> 20) % 6) as u32,
         value: ((random >> 32) % 5) as u32,
         other: ((random >> 44) % 6) as u32,
@@ -94,6 +94,11 @@ fn reorders<S: BuildHasher>(
         12 => Ok(set.move_key_to_back(&d.key) == lists.move_key(d.key, false)?),
         13 => Ok(set.move_key_to_front(&d.key) == lists.move_key(d.key, true)?),
         14 | 15 => Ok(set.rename_key(&d.key, d.other) == lists.rename(d.key, d.other)),
+        16 if d.value < 2 => {
+            lists.sort_keys_by_len()?;
+            let sorted = set.sort_keys_by_cached_key(|_key, values| values.len());
+            Ok(sorted.is_ok())
+        }
         16 => {
             lists.keys.sort()?;
             Ok(set.sort_keys().is_ok())
@@ -141,6 +146,17 @@ fn appends<S: BuildHasher>(
     Ok(other.is_empty() == (d.call == 22))
 }
 
+// Whether a copy hands out the keys, each where it first comes, or the values.
+fn hands_out<S: BuildHasher>(set: &SetBy<S>, lists: &Lists, d: Drawn) -> Result<bool, AllocError> {
+    let mut copy = SetBy::with_capacity_and_hasher(*set.allocator(), 2, 3, ZERO)?;
+    copy.extend_copied(set.iter())?;
+    if d.value < 2 {
+        let keys = lists.first_occurrences(*set.allocator())?;
+        return Ok(copy.into_keys().eq(keys));
+    }
+    Ok(copy.into_values().eq(lists.pairs.iter().map(|pair| pair.1)))
+}
+
 fn is_called<S: BuildHasher>(
     set: &mut SetBy<S>,
     lists: &mut Lists,
@@ -153,6 +169,7 @@ fn is_called<S: BuildHasher>(
         18..=21 => makes_room(set, d),
         22 | 23 => appends(set, lists, d),
         24 | 25 => Ok(loses_values(set, lists, d)),
+        26 => hands_out(set, lists, d),
         _ => {
             if d.value == 0 {
                 lists.keep(|_key, _value| false);
