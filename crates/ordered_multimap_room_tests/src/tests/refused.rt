@@ -104,12 +104,14 @@ const MANY: &[(u32, u32)] = &[
     (5, 9),
 ];
 
+const VALUES: &[u32] = &[1, 2, 3, 4, 5, 6, 7, 8, 9];
+
 // It returns whether there was memory for all values. The key comes back with the first one alone.
 fn append_many<A: Allocator + Copy>(test: &Test, map: &mut Refusing<A>) -> bool {
-    let mut values = MANY.iter().map(|pair| pair.1);
+    let mut values = VALUES.iter().copied();
     let answer = map.append_many(5, &mut values);
     let count = map.values_len();
-    let left = values.count();
+    let left = values.len();
     test.expect(has_lists(map, first(MANY, count), first(&[5], count)));
     match answer {
         Ok(all) => {
@@ -119,7 +121,7 @@ fn append_many<A: Allocator + Copy>(test: &Test, map: &mut Refusing<A>) -> bool 
         Err(Refused { key, value }) => {
             test.expect(key == if count == 0 { Some(5) } else { None });
             test.expect(MANY.get(count).copied() == Some((5, value)));
-            test.expect(left == MANY.len().saturating_sub(count + 1));
+            test.expect(left == MANY.len().saturating_sub(count.saturating_add(1)));
             false
         }
     }
