@@ -18,7 +18,7 @@ def lines(seed, count=LINES):
             + [f"{it} {key}" for it in ("or_default", "get_last", "get_key_value", "remove")]
             + [draw.choice([f"move_back {key}", f"move_front {key}", f"rename {key} {'0' * draw.randrange(3)}{draw.randrange(KEYS)}"])]
             + [draw.choice(["sort_keys", "sort_keys_by", "sort_by"])]
-            + ["pop_front", "lists", draw.choice(["swap", "swap", "append_map", draw.choice(["lists", "into_keys", "into_values"])])]
+            + ["pop_front", "lists", draw.choice(["swap", "swap", draw.choice(["append_map", "insert_map"]), draw.choice(["lists", "into_keys", "into_values"])])]
         )
 
 
@@ -169,6 +169,8 @@ def whole(lists, other, word):
     if word == "swap":
         lists.keys, lists.pairs, other.keys, other.pairs = other.keys, other.pairs, lists.keys, lists.pairs
         return None
+    if word == "insert_map":
+        lists.pairs = [it for it in lists.pairs if not other.places(it[0])]
     for pair in other.pairs:
         lists.append(*pair)
     other.keys, other.pairs = [], []

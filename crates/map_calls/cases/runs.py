@@ -122,18 +122,20 @@ WORDS = ("fbfbffbfb", "bffbb", "fffff")
 # More keys than are sorted without memory.
 MANY = [str(7 * number % 25) for number in range(25)]
 
-# Pairs of a map; pairs of another one, and pairs that then replace those of their key there; and both lists of the first
-# map once all went to it.
+# Pairs of a map; pairs of another one, and pairs that then replace those of their key there; and of the first map once all
+# went to it the pairs, where they went behind those of their keys and where they replaced these, and the keys.
 JOINED = [
-    ("", "", "", "", ""),
-    ("1:11 2:12 1:13", "", "", "1:11 2:12 1:13", "1 2"),
-    ("", "1:11 2:12 2:13 1:14 3:15 1:16", "", "1:11 2:12 2:13 1:14 3:15 1:16", "1 2 3"),
-    ("1:11 2:12 1:13", "2:21 3:22 1:23 3:24 2:25", "", "1:11 2:12 1:13 2:21 3:22 1:23 3:24 2:25", "1 2 3"),
+    ("", "", "", "", "", ""),
+    ("1:11 2:12 1:13", "", "", "1:11 2:12 1:13", "1:11 2:12 1:13", "1 2"),
+    ("", "1:11 2:12 2:13 1:14 3:15 1:16", "", "1:11 2:12 2:13 1:14 3:15 1:16", "1:11 2:12 2:13 1:14 3:15 1:16", "1 2 3"),
+    ("1:11 2:12 1:13", "2:21 3:22 1:23 3:24 2:25", "", "1:11 2:12 1:13 2:21 3:22 1:23 3:24 2:25", "2:21 3:22 1:23 3:24 2:25", "1 2 3"),
+    # A key that the other map lacks keeps its pairs.
+    ("1:11 2:12 3:13 1:14", "3:21 1:22 3:23", "", "1:11 2:12 3:13 1:14 3:21 1:22 3:23", "2:12 3:21 1:22 3:23", "1 2 3"),
     # The key 1 is the first of the other map, and its pair the last.
-    ("", "1:11 2:12 3:13", "1:14", "2:12 3:13 1:14", "2 3 1"),
-    ("3:1", "1:11 2:12 3:13 2:14", "1:15 2:16", "3:1 3:13 1:15 2:16", "3 1 2"),
+    ("", "1:11 2:12 3:13", "1:14", "2:12 3:13 1:14", "2:12 3:13 1:14", "2 3 1"),
+    ("3:1", "1:11 2:12 3:13 2:14", "1:15 2:16", "3:1 3:13 1:15 2:16", "3:13 1:15 2:16", "3 1 2"),
     # Of equal keys the one that was there first stays.
-    ("1:1 2:2", "03:3 01:4 02:5 3:6", "", "1:1 2:2 03:3 1:4 2:5 03:6", "1 2 03"),
+    ("1:1 2:2", "03:3 01:4 02:5 3:6", "", "1:1 2:2 03:3 1:4 2:5 03:6", "03:3 1:4 2:5 03:6", "1 2 03"),
 ]
 
 # Pairs, keys that are removed then, pairs behind them; and what a map of these gives, taken apart for its keys and for its
@@ -218,9 +220,10 @@ def runs():
     by_key = " ".join(sorted(many.split(), key=lambda it: by_remainder(it.split(":")[0])))
     for pairs, gone, by_pair, keys in [*SORTED_PAIRS, (many, "", by_key, " ".join(MANY))]:
         runs.append([*filled(pairs), *removed(pairs, gone), ("sort_by", None), listed(by_pair, keys)])
-    for pairs, other, inserted, joined, keys in JOINED:
-        lines = [*filled(other), *replaced(other, inserted), ("swap", None), *filled(pairs), ("append_map", "{}")]
-        runs.append([*lines, listed(joined, keys), ("swap", None), listed("", "")])
+    for pairs, other, inserted, *made, keys in JOINED:
+        for word, left in zip(("append_map", "insert_map"), made):
+            lines = [*filled(other), *replaced(other, inserted), ("swap", None), *filled(pairs), (word, "{}")]
+            runs.append([*lines, listed(left, keys), ("swap", None), listed("", "")])
     for pairs, gone, behind, *taken in TAKEN:
         for word, reply in zip(("into_keys", "into_values"), taken):
             left = " ".join(it for it in pairs.split() if it.split(":")[0] not in gone.split())

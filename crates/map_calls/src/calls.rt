@@ -29,6 +29,10 @@ pub fn call_on_whole(
             map.append_map(other)?;
             add(other, replies)
         }
+        "insert_map" => {
+            map.insert_map(other)?;
+            add(other, replies)
+        }
         "pop_front" => add(map.pop_front(), replies),
         "into_keys" => Ok(add_keys(taken(map), replies)?),
         "into_values" => Ok(add_values(taken(map), replies)?),

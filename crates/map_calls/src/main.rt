@@ -25,6 +25,7 @@
 //! | `retain_all KEY BOUND` | `retain_all` of what is at least the bound, with 1 added | the last value that it was called on |
 //! | `pop_front` | `pop_front` | the key and the value |
 //! | `append_map` | `append_map` of the second map | the second map |
+//! | `insert_map` | `insert_map` of the second map | the second map |
 //! | `swap` | swaps the maps | nothing |
 //! | `into_keys` | `into_keys`, which leaves an empty map | the first key, the last of the others, and the rest |
 //! | `into_values` | `into_values`, which leaves an empty map | the first value, the last of the others, and the rest |

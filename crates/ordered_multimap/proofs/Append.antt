@@ -5,10 +5,12 @@ pub mod Entries
 pub mod Extended
 pub mod Inserted
 pub mod Many
+pub mod Merged
 pub mod OtherFront
 pub mod OtherLinks
 pub mod OtherMap
 pub mod OtherStep
+pub mod PutPairs
 pub mod Replaced
 pub mod Rooms
 pub mod Steps

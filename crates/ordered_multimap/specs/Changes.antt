@@ -2,7 +2,8 @@
 use Rattle.std.specs.Prelude.{Bool, not, List, [], ◌∷◌, ◌++◌, filter, map}
 use Rattle.multimap_walks.specs.declared.End.{End}
 use Rattle.ordered_multimap.specs.Lists.{Lists, lists, empty_lists}
-use Rattle.ordered_multimap.specs.Pairs.{pairs_except, pairs_without, with_first_where}
+use Rattle.ordered_multimap.specs.Pairs.{is_present, pairs_except, pairs_without}
+use Rattle.ordered_multimap.specs.Pairs.{with_first_where}
 use Rattle.ordered_multimap.specs.Pairs.{with_value_at, end_position}
 use Rattle.ordered_multimap.specs.Keys.{stored_key, keys_with, keys_named_by}
 
@@ -40,6 +41,10 @@ module _ {K : Type 0} (eq : K → K → Bool) {V : Type 0} where
   abbrev pub all_appended : Lists K V → List (K × V) → Lists K V
   all_appended m [] = m
   all_appended m (p ∷ pairs) = all_appended (appended m p.0 p.1) pairs
+
+  -- the pairs of the keys that these pairs have go, and each of these is appended in turn
+  abbrev pub merged : Lists K V → List (K × V) → Lists K V
+  merged m pairs = all_appended (lists m.keys (pairs_except (is_present eq pairs) m.pairs)) pairs
 
   -- what appending the pairs makes of the empty lists
   abbrev pub built_from : List (K × V) → Lists K V

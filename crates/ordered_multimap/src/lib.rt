@@ -79,8 +79,8 @@
 //!   the pairs before it, and `from_iter` drops them. std's `Extend` and `FromIterator` drop that
 //!   pair too.
 //! - The constructors with capacities, `reserve_keys`, `reserve_values`, `pack_to`, `pack_to_fit`,
-//!   `clone` and `append_map` return `AllocError`. After `append_map` both maps are as before;
-//!   capacities may have grown.
+//!   `clone`, `append_map` and `insert_map` return `AllocError`. After the last two both maps are as
+//!   before; capacities may have grown.
 //! - The sorts return `AllocError`, and both lists are as before.
 //! - An item of [`IntoIter`] is a `Result`, because a key is cloned while another of its values is
 //!   left: [`UnclonedKey`] has the value. [`IntoKeys`] and [`IntoValues`] clone nothing.

@@ -141,6 +141,29 @@ pub fn append_in_room<
     }
 }
 
+/// Lays overrides over the defaults: each key of theirs has the values that it has there.
+pub fn override_defaults<
+    K: Eq + Hash + Drop,
+    V: Drop,
+    S: BuildHasher,
+    T: BuildHasher,
+    A: Allocator + Copy,
+>(
+    defaults: &mut ListOrderedMultimap<K, V, S, A>,
+    overrides: &mut ListOrderedMultimap<K, V, T, A>,
+) -> Result<(), AllocError>
+    ensures laid { OnOk result (defaults.new.lists ≡ all_appended K.eq
+        (lists defaults.old.lists.keys
+        (filter (λ p. not (is_present K.eq overrides.old.lists.pairs p.0))
+        defaults.old.lists.pairs))
+        overrides.old.lists.pairs) }
+    ensures emptied { OnOk result (overrides.new.lists ≡ empty_lists) }
+    ensures unchanged { OnErr result (defaults.new.lists ≡ defaults.old.lists) }
+    ensures kept { OnErr result (overrides.new ≡ overrides.old) }
+{
+    defaults.insert_map(overrides)
+}
+
 /// Keeps the pairs with a value below the limit.
 pub fn keep_below<S: BuildHasher, A: Allocator>(
     map: &mut ListOrderedMultimap<u32, u32, S, A>,

@@ -3,6 +3,7 @@ pub mod Ends
 pub mod Insertions
 pub mod Lacked
 pub mod Loans
+pub mod Merged
 pub mod Removals
 pub mod Renamed
 pub mod Reordered

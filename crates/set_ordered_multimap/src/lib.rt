@@ -39,7 +39,7 @@
 //! - `remove_value` returns whether the pair was there; the map's returns the value.
 //! - The functions of `retain` and `retain_all` get each value for reading alone.
 //! - `append_set` drops the pairs of the other set that are there. The map's `append_map` appends
-//!   all.
+//!   all. `insert_set` is the map's `insert_map`.
 //! - The set lacks what writes values or lends them for writing: `set`, `entry`, `get_mut`,
 //!   `front_mut`, `back_mut`, `first_mut`, `last_mut`, `iter_mut` and `&mut set` as an iterator,
 //!   `values_mut`, `get_all_mut`, `pairs_mut`, `update_values` and `update_all`.
@@ -72,6 +72,7 @@
 //! | `sort_by` | *O*(*n* log *n*) |
 //! | `retain`, `clear`, `clone`, `==`, `pack_to`, `pack_to_fit` | *O*(*n*) |
 //! | `append_set` | what `clear` of the other set costs, and for each of its pairs *O*(*v*) expected |
+//! | `insert_set` | what `clear` of the other set costs, and *O*(1) for each pair that comes or goes |
 //!
 //! # When memory runs out
 //!
@@ -79,7 +80,7 @@
 //! capacities may have grown. It never fails if an equal pair is there, or where the capacities
 //! suffice. `extend` and `extend_copied` keep the pairs before that one, and `from_iter` drops
 //! them. The calls of the traits `Extend` and `FromIterator` do the same, and return `AllocError`.
-//! `append_set` returns `AllocError`, and both lists of both sets are as before. `clone` and the
+//! `append_set` and `insert_set` return `AllocError`, and both lists of both sets are as before. `clone` and the
 //! constructors with capacities return `AllocError`, and so do `reserve_keys`, `reserve_values`,
 //! `pack_to`, `pack_to_fit` and the sorts, after which both lists are as before. Removals and
 //! lookups can't fail.

@@ -6,6 +6,7 @@ mod append_set;
 mod collect;
 mod constructors;
 mod insert;
+mod insert_set;
 mod lookup;
 mod move_key;
 mod pack;

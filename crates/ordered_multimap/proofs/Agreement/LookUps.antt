@@ -128,7 +128,8 @@ module _ {K V : Type 0} {eq : K → K → Bool} (laws : IsEquivalence eq) {hash 
             | false ↦ λ _. refl
           ] refl
 
-  values_along : (k : K) (place : ℕ) → HasKey eq keys k place → (qs : List ℕ) → ((q : ℕ) → IsIn q qs → IsIn q values.order)
+  -- the key's values at some of the places
+  pub values_along : (k : K) (place : ℕ) → HasKey eq keys k place → (qs : List ℕ) → ((q : ℕ) → IsIn q qs → IsIn q values.order)
       → values_of eq (filter_map (pair_at keys values) qs) k ≡ values_at values (filter (is_value_of values place) qs)
   values_along k place has [] listed = refl
   values_along k place has (q ∷ qs) listed =

@@ -1,5 +1,5 @@
--- The pair of another map at the front, which is appended.
-use Rattle.std.proofs.Common.{◌≡◌, ◌≢◌, ◌⊎◌, ◌==◌, ◌+◌, ◌<◌, ◌≤◌, ℕ, Bool, true, not, cond, List, [], ◌∷◌, ◌++◌, filter, length}
+-- The pair of another map at the front, which is put last.
+use Rattle.std.proofs.Common.{◌≡◌, ◌≢◌, ◌⊎◌, ◌==◌, ◌+◌, ◌<◌, ◌≤◌, ℕ, Bool, true, false, not, cond, List, [], ◌∷◌, ◌++◌, filter, length}
 use Rattle.std.proofs.Common.{Option, Some, None, refl, sym, ap, ◌∙◌, subst, inl, inr, arith}
 use Rattle.std.proofs.lemmas.Bool.{ne_eqb}
 use Rattle.std.specs.Prelude.{IfSome}
@@ -12,13 +12,14 @@ use Rattle.multimap_walks.specs.declared.links.ValueLink.{ValueLink}
 use Rattle.multimap_walks.specs.Chained.{is_value_of}
 use Rattle.ordered_multimap.specs.Agrees.{HasKey}
 use Rattle.ordered_multimap.specs.Multimap.{Multimap}
-use Rattle.ordered_multimap.specs.Private.AppendMap.{AppendsAfter, AppendsFirstOf, AppendsKeyAt, AppendsLaterOf, AppendsTaken}
-use Rattle.ordered_multimap.specs.Private.AppendMap.{CanAppendTaken}
+use Rattle.ordered_multimap.specs.Private.AppendMap.{PutsAfter, PutsFirstOf, PutsKeyAt, PutsLaterOf, PutsTaken}
+use Rattle.ordered_multimap.specs.Private.AppendMap.{CanPutTaken}
 use Rattle.ordered_multimap.specs.Private.AppendMap.{IsKeyAt}
 use Rattle.ordered_multimap.specs.Private.Relocations.{AreChained}
 use Rattle.ordered_multimap.proofs.Agreement.Agreed.{PairAt, pair_of}
+use Rattle.ordered_multimap.proofs.Append.Merged.{put-keys}
 use Rattle.ordered_multimap.proofs.Append.OtherLinks as links
-use Rattle.ordered_multimap.proofs.Append.OtherMap.{IsAppending}
+use Rattle.ordered_multimap.proofs.Append.OtherMap.{IsMoving}
 use Rattle.ordered_multimap.proofs.Callers.ListedKeys.{length-keys_with}
 use Rattle.ordered_multimap.proofs.Callers.Members.{IsIn-filter}
 use Rattle.ordered_multimap.proofs.Callers.Places.{begins}
@@ -31,9 +32,9 @@ some_listed q (p ∷ ps) i = omega arith
 pub same_some : {X : Type 0} (x y : X) → Some x ≡ Some y → x ≡ y
 same_some x y e = cc
 
-module _ {K V S : Type 0} {eq : K → K → Bool} {old : Multimap K V S} {keys : Slots K KeyLink} {values : Taped V ValueLink}
+module _ {K V S : Type 0} {eq : K → K → Bool} {replaces : Bool} {old : Multimap K V S} {keys : Slots K KeyLink} {values : Taped V ValueLink}
     (chains : AreChained keys values.list) {now : Multimap K V S} {keys_now : Slots K KeyLink} {values_now : Taped V ValueLink}
-    (w : IsAppending eq old now keys keys_now values values_now) (p : ℕ) (front : first_of values_now.list.order ≡ Some p) where
+    (w : IsMoving eq replaces old now keys keys_now values values_now) (p : ℕ) (front : first_of values_now.list.order ≡ Some p) where
   abbrev pub rest : List ℕ
   rest = (begins values_now.list.order p front).rest
 
@@ -66,18 +67,18 @@ module _ {K V S : Type 0} {eq : K → K → Bool} {old : Multimap K V S} {keys :
 
   module _ (link : ValueLink) (link_is : link_at values_now.list p ≡ Some link) where
     -- the key of the pair is still among those of the other map
-    record IsFirst : Type 0 where
-      none : at.link.previous ≡ None
+    pub record IsFirst : Type 0 where
+      pub none : at.link.previous ≡ None
       same : link ≡ at.link
 
     -- or the link names where it stands
-    record IsLater : Type 0 where
-      previous : ℕ
-      some : at.link.previous ≡ Some previous
+    pub record IsLater : Type 0 where
+      pub previous : ℕ
+      pub some : at.link.previous ≡ Some previous
       same : link ≡ record at.link { key = link.key }
       stands : HasKey eq now.slots.keys at.key link.key
 
-    first_or_later : IsFirst ⊎ IsLater
+    pub first_or_later : IsFirst ⊎ IsLater
     first_or_later =
         let left = w.links p at.link front_listed at.link_is in
         let P : Option ℕ → Type 0 = λ o. at.link.previous ≡ o → IsFirst ⊎ IsLater in
@@ -100,8 +101,8 @@ module _ {K V S : Type 0} {eq : K → K → Bool} {old : Multimap K V S} {keys :
         ] refl
 
     -- there is room for the pair, and its key is found
-    pub can_append : CanAppendTaken now keys_now link
-    can_append = record {
+    pub can_put : CanPutTaken now keys_now link
+    can_put = record {
       value_room = omega (arith, w.value_room, ap length rest_is);
       key_at = elim first_or_later [
         | inl first ↦
@@ -131,32 +132,39 @@ module _ {K V S : Type 0} {eq : K → K → Bool} {old : Multimap K V S} {keys :
         by None each = tt
         by (Some q) each = each q refl
 
-    -- the pair was appended
+    -- the pair was put last
     module _ (value : V) (new : Multimap K V S) (keys_new : Slots K KeyLink) (place : ℕ) where
       -- which keys of the other map are left, and that there is room for them
-      pub record AppendsPair : Type 0 where
-        pub pair : AppendsKeyAt eq at.key value now new place
+      pub record PutsPair : Type 0 where
+        pub replaced : Bool
+        pub first : IsFirst → replaced ≡ replaces
+        pub later : IsLater → replaced ≡ false
+        pub pair : PutsKeyAt eq replaced at.key value now new place
         pub key_room : length new.lists.keys + length keys_new.order ≤ length now.lists.keys + length keys_now.order
         pub others : (q : ℕ) → q ≢ at.link.key → IsIn q keys_now.order → IsIn q keys_new.order × (item_at keys_new q ≡ item_at keys_now q)
         pub capacity : keys_new.capacity ≡ keys_now.capacity
 
-      first_pair : AppendsTaken eq value link now new keys_now keys_new place → IsFirst → AppendsPair
+      first_pair : PutsTaken eq replaces value link now new keys_now keys_new place → IsFirst → PutsPair
       first_pair done first =
           let names = ap (λ (l : ValueLink). l.key) first.same in
           let left = w.keys_left at.link.key at.key_listed
           (links.none_before chains w.taken p rest order at.link at.link_is first.none) in
           let none = ap (λ (l : ValueLink). l.previous) first.same ∙ first.none in
-          let taken : AppendsFirstOf eq value link now new keys_now keys_new place =
-          subst (AppendsAfter eq value link now new keys_now keys_new place) none done in
+          let taken : PutsFirstOf eq replaces value link now new keys_now keys_new place =
+          subst (PutsAfter eq replaces value link now new keys_now keys_new place) none done in
           let removed : Removes keys_now keys_new at.link.key taken.key = subst
           (λ q. Removes keys_now keys_new q taken.key) names taken.removed in
           let key : taken.key ≡ at.key = same_some taken.key at.key (sym removed.had ∙ left.1 ∙ at.key_is) in
-          let pair : AppendsKeyAt eq at.key value now new place = subst (λ k. AppendsKeyAt eq k value now new place) key taken.appended in
+          let pair : PutsKeyAt eq replaces at.key value now new place = subst (λ k. PutsKeyAt eq replaces k value now new place) key taken.pair in
           record {
+            replaced = replaces;
+            first = λ _. refl;
+            later = λ is. absurd (let bad = sym first.none ∙ is.some in cc);
             pair = pair;
             key_room = omega (
               arith,
-              ap (λ m. length m.keys) pair.appended.lists,
+              ap (λ m. length m.keys) pair.pair.lists,
+              ap length (put-keys eq replaces now.lists at.key value),
               length-keys_with eq now.lists.keys at.key,
               removed.shorter,
             );
@@ -168,13 +176,16 @@ module _ {K V S : Type 0} {eq : K → K → Bool} {old : Multimap K V S} {keys :
             capacity = removed.capacity;
           }
 
-      later_pair : AppendsTaken eq value link now new keys_now keys_new place → IsLater → AppendsPair
+      later_pair : PutsTaken eq replaces value link now new keys_now keys_new place → IsLater → PutsPair
       later_pair done later =
           let some = ap (λ (l : ValueLink). l.previous) later.same ∙ later.some in
-          let taken : AppendsLaterOf eq value link now new keys_now keys_new place =
-          subst (AppendsAfter eq value link now new keys_now keys_new place) some done in
+          let taken : PutsLaterOf eq replaces value link now new keys_now keys_new place =
+          subst (PutsAfter eq replaces value link now new keys_now keys_new place) some done in
           record {
-            pair = taken.appended at.key later.stands;
+            replaced = false;
+            first = λ is. absurd (let bad = sym is.none ∙ later.some in cc);
+            later = λ _. refl;
+            pair = taken.pair at.key later.stands;
             key_room = omega (arith, ap length taken.same_keys, ap (λ (s : Slots K KeyLink). length s.order) taken.keys_are);
             others = λ q differs i. (
               subst (λ (s : Slots K KeyLink). IsIn q s.order) (sym taken.keys_are) i,
@@ -183,5 +194,5 @@ module _ {K V S : Type 0} {eq : K → K → Bool} {old : Multimap K V S} {keys :
             capacity = ap (λ (s : Slots K KeyLink). s.capacity) taken.keys_are;
           }
 
-      pub appends_pair : AppendsTaken eq value link now new keys_now keys_new place → AppendsPair
-      appends_pair done = elim first_or_later [ inl first ↦ first_pair done first | inr later ↦ later_pair done later ]
+      pub puts_pair : PutsTaken eq replaces value link now new keys_now keys_new place → PutsPair
+      puts_pair done = elim first_or_later [ inl first ↦ first_pair done first | inr later ↦ later_pair done later ]

@@ -56,8 +56,11 @@ module _ {K V : Type 0} {keys : Slots K KeyLink} {values : Slots V ValueLink} (c
           ∙ ap (λ ps. next_of ps p) (sym chain_is) ∙ chains.chained.next p l listed_here link_is
 
       -- the one before it was taken, or none was of its key, and the next one is still there
+      pub before_own : (q : ℕ) → l.previous ≡ Some q → IsIn q (filter own taken)
+      before_own q e = last_of-member (filter own taken) q (previous ∙ e)
+
       pub before : (q : ℕ) → l.previous ≡ Some q → IsIn q taken
-      before q e = (IsIn-kept own q taken (last_of-member (filter own taken) q (previous ∙ e))).0
+      before q e = (IsIn-kept own q taken (before_own q e)).0
 
       pub none_before : l.previous ≡ None → filter own taken ≡ []
       none_before e = no_last (filter own taken) (previous ∙ e)

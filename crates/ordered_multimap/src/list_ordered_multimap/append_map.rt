@@ -1,12 +1,11 @@
-//! Appending all pairs of another map.
-ghost use Rattle.std.specs.Prelude.{◌≡◌, ◌≤◌, ◌+◌, ℕ, [], length, OnOk, OnErr, IsOk};
+//! Moving all pairs of another map to the end of this one.
+ghost use Rattle.std.specs.Prelude.{◌≡◌, ◌≤◌, ◌+◌, ℕ, true, false, length, OnOk, OnErr, IsOk};
 ghost use Rattle.multimap_slots.specs.Lists.{IsIn};
 ghost use Rattle.multimap_walks.specs.Chained.{pairs_of};
 ghost use Rattle.ordered_multimap.specs.Agrees.{HasKey};
 ghost use Rattle.ordered_multimap.specs.AppendMap.{AppendsMap, HasRoomForMap, RefusesMap};
-ghost use Rattle.ordered_multimap.specs.Changes.{all_appended};
-ghost use Rattle.ordered_multimap.specs.Private.AppendMap.{AppendsTaken, AppendsInRoom, CanAppendTaken, IsUsedUp};
-ghost use Rattle.ordered_multimap.specs.Private.Relocations.{AreChained};
+ghost use Rattle.ordered_multimap.specs.Private.AppendMap.{AgreeBySome, CanPutTaken, IsUsedUp, MovesMap, PutsInRoom, PutsTaken};
+ghost use Rattle.ordered_multimap.specs.Private.AppendMap.{all_put, count_for_all};
 ghost use Rattle.ordered_multimap.specs.Rooms.{HasPairRoom, HasValueRoom, SameRooms};
 ghost use Rattle.ordered_multimap.specs.TapeNumbers.{ArePaid, TakesOut};
 
@@ -30,7 +29,8 @@ impl<K: Eq + Hash + Drop, V: Drop, S: BuildHasher, A: Allocator + Copy> ListOrde
     /// its place among the keys, and the other map's key is dropped. New keys go last, in the order
     /// of their first pairs, which can differ from that of the other map's [`keys`](Self::keys).
     /// Nothing is cloned, and the keys are hashed anew, by the builder of this map. The other map
-    /// keeps its capacities, as after [`clear`](Self::clear). To append copies of its pairs see
+    /// keeps its capacities, as after [`clear`](Self::clear). To remove the pairs that this map has
+    /// of the other's keys see [`insert_map`](Self::insert_map), to append copies of its pairs
     /// [`extend_copied`](Self::extend_copied).
     ///
     /// # Errors
@@ -74,66 +74,85 @@ impl<K: Eq + Hash + Drop, V: Drop, S: BuildHasher, A: Allocator + Copy> ListOrde
         ensures had_room { HasRoomForMap self.old other.old → SameRooms self.old self.new }
         ensures paid { ArePaid self.new.tape }
     {
+        self.move_all(other, false)
+    }
+
+    /// Moves all pairs of the other map to the end of this one, behind those of their keys or in the
+    /// place of these.
+    pub(super) fn move_all<T: BuildHasher>(
+        &mut self,
+        other: &mut ListOrderedMultimap<K, V, T, A>,
+        replaces: bool,
+    ) -> Result<(), AllocError>
+        ensures ok { OnOk result (MovesMap K.eq replaces self.old self.new other.old other.new) }
+        ensures refused { OnErr result (RefusesMap self.old self.new other.old other.new) }
+        ensures succeeds { HasRoomForMap self.old other.old → IsOk result }
+        ensures had_room { HasRoomForMap self.old other.old → SameRooms self.old self.new }
+        ensures paid { ArePaid self.new.tape }
+    {
         // The field tells the proof that the moves are paid for.
         let _state = &self.state;
         self.reserve_keys(other.keys_len())?;
         self.reserve_values(other.values_len())?;
-        self.append_parts(&mut other.keys, &mut other.values);
+        self.move_parts(&mut other.keys, &mut other.values, replaces);
         other.keys.clear_listed();
         other.table.clear();
         other.values.clear();
         Ok(())
     }
 
-    /// Appends each value of another map under its key, for which there is room.
-    fn append_parts(
+    /// Puts each value of another map last, under its key, for which there is room.
+    fn move_parts(
         &mut self,
         keys: &mut SlotList<K, KeyLink, A>,
         values: &mut Tape<V, ValueLink, A, PackedLink>,
+        replaces: bool,
     )
-        requires chains { AreChained keys.old values.old.list }
+        requires agrees { AgreeBySome K.eq keys.old values.old.list }
         requires key_room { length self.old.lists.keys + length keys.old.order
             ≤ self.old.key_room }
         requires value_room { length self.old.lists.pairs + length values.old.list.order
             ≤ self.old.value_room }
-        ensures lists { self.new.lists ≡ all_appended K.eq self.old.lists
+        ensures lists { self.new.lists ≡ all_put K.eq replaces self.old.lists
             (pairs_of keys.old values.old.list) }
         ensures rooms { SameRooms self.old self.new }
-        ensures taken { TakesOut 0 self.old.tape self.new.tape }
+        ensures taken { TakesOut (count_for_all K.eq replaces self.old.lists
+            (pairs_of keys.old values.old.list)) self.old.tape self.new.tape }
         ensures used_up { IsUsedUp keys.old keys.new values.old values.new }
     {
         while let Some(place) = values.front_place() {
             let (value, link) = values.take_listed(place);
-            let key = self.append_taken(keys, value, link);
+            let key = self.move_taken(keys, value, link, replaces);
             // The next value of the key names the key's place in this map from now on.
             set_key(values, link.next, key);
         }
     }
 
-    /// Appends a value that had this link, and returns the place of its key. A first value takes
+    /// Puts a value that had this link last, and returns the place of its key. A first value takes
     /// its key out of `keys`, and the link of a later one names the key's place in this map.
-    fn append_taken(
+    fn move_taken(
         &mut self,
         keys: &mut SlotList<K, KeyLink, A>,
         value: V,
         link: ValueLink,
+        replaces: bool,
     ) -> usize
-        requires { CanAppendTaken self.old keys.old link }
-        ensures { AppendsTaken K.eq value link self.old self.new keys.old keys.new result }
+        requires { CanPutTaken self.old keys.old link }
+        ensures { PutsTaken K.eq replaces value link self.old self.new keys.old keys.new result }
     {
         if link.previous.is_some() {
             self.append_at_reserved(link.key, value);
             return link.key;
         }
         let (key, _) = keys.take_listed(link.key);
-        self.append_reserved(key, value)
+        self.put_reserved(key, value, replaces)
     }
 
-    /// Appends a pair for which there is room, and returns the place of its key.
-    fn append_reserved(&mut self, key: K, value: V) -> usize
+    /// Puts a pair for which there is room last, and returns the place of its key.
+    fn put_reserved(&mut self, key: K, value: V, replaces: bool) -> usize
         requires { HasPairRoom K.eq self.old key }
         ensures found { HasKey K.eq self.new.slots.keys key result }
-        ensures appended { AppendsInRoom K.eq key value self.old self.new }
+        ensures put { PutsInRoom K.eq replaces key value self.old self.new }
     {
         let (hash, place) = self.look_up(&key);
         let Some(place) = place else {
@@ -142,8 +161,31 @@ impl<K: Eq + Hash + Drop, V: Drop, S: BuildHasher, A: Allocator + Copy> ListOrde
                 Err(_) => unreachable!(),
             };
         };
-        self.append_at_reserved(place, value);
+        self.put_at_reserved(place, value, replaces);
         place
+    }
+
+    /// Puts a value of the key at the place last, for which there is room.
+    fn put_at_reserved(&mut self, place: usize, value: V, replaces: bool)
+        requires listed { IsIn place self.old.slots.keys.order }
+        requires room { HasValueRoom self.old }
+        ensures put { (k : K) → HasKey K.eq self.old.slots.keys k place
+            → PutsInRoom K.eq replaces k value self.old self.new }
+    {
+        if replaces {
+            self.insert_at_reserved(place, value);
+        } else {
+            self.append_at_reserved(place, value);
+        }
+    }
+
+    /// Puts a value of the key at the place last, and drops the others.
+    fn insert_at_reserved(&mut self, place: usize, value: V)
+        requires { IsIn place self.old.slots.keys.order }
+        ensures put { (k : K) → HasKey K.eq self.old.slots.keys k place
+            → PutsInRoom K.eq true k value self.old self.new }
+    {
+        self.insert_at(place, value);
     }
 
     /// Appends a value of the key at the place, for which there is room.
@@ -152,8 +194,8 @@ impl<K: Eq + Hash + Drop, V: Drop, S: BuildHasher, A: Allocator + Copy> ListOrde
         requires listed { IsIn place self.old.slots.keys.order }
         requires room { HasValueRoom self.old }
         ensures keys { self.new.lists.keys ≡ self.old.lists.keys }
-        ensures appended { (k : K) → HasKey K.eq self.old.slots.keys k place
-            → AppendsInRoom K.eq k value self.old self.new }
+        ensures put { (k : K) → HasKey K.eq self.old.slots.keys k place
+            → PutsInRoom K.eq false k value self.old self.new }
     {
         match self.append_at(place, value) {
             Ok(()) => {}

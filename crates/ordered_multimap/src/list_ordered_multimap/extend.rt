@@ -44,9 +44,12 @@ impl<K: Eq + Hash + Drop, V: Drop, S: BuildHasher, A: Allocator + Copy> ListOrde
     S,
     A,
 > {
-    /// Appends all pairs of the iterator, in its order.
+    /// Appends all pairs of the iterator, in its order, and removes none.
     ///
-    /// Each pair is added as by [`append`](Self::append), so a present key keeps its old values.
+    /// Each pair is added as by [`append`](Self::append), so a present key keeps its old values:
+    /// [`get`](Self::get) returns the first of these. To replace them collect the pairs in a map, by
+    /// [`from_iter`](Self::from_iter), and pass it to [`insert_map`](Self::insert_map).
+    ///
     /// For copies of pairs that are borrowed, as those of another map, see
     /// [`extend_copied`](Self::extend_copied), and to move all pairs of another map
     /// [`append_map`](Self::append_map). [`Extend::extend`] does the same for generic code, but its

@@ -4,7 +4,7 @@ ghost use Rattle.multimap_slots.specs.Lists.{IsIn};
 ghost use Rattle.multimap_slots.specs.Tapes.{HasTapeRoomFor};
 ghost use Rattle.ordered_multimap.specs.Private.Append.{HandsBackAt};
 ghost use Rattle.ordered_multimap.specs.Agrees.{HasKey};
-ghost use Rattle.ordered_multimap.specs.Private.KeySteps.{StaysInRoom};
+ghost use Rattle.ordered_multimap.specs.Private.KeySteps.{KeepsPlaces, StaysInRoom};
 ghost use Rattle.ordered_multimap.specs.Removals.{LosesValues};
 ghost use Rattle.ordered_multimap.specs.Private.Remove.{GrowsForOne, HasFittingChain, Inserts, KeepsNames};
 ghost use Rattle.ordered_multimap.specs.Private.Relocations.{KeepsCapacities};
@@ -90,6 +90,7 @@ impl<K: Eq + Hash, V, S: BuildHasher, A: Allocator> ListOrderedMultimap<K, V, S,
         V: Drop,
         requires { IsIn place self.old.slots.keys.order }
         ensures stays { StaysInRoom K.eq self.old self.new place }
+        ensures places { KeepsPlaces K.eq self.old self.new }
         ensures value { (k : K) → HasKey K.eq self.old.slots.keys k place
             → slice_get (values_of K.eq self.old.lists.pairs k) 0 ≡ Some result }
         ensures inserted { (k : K) → HasKey K.eq self.old.slots.keys k place

@@ -3,7 +3,7 @@ use Rattle.ordered_multimap.specs.Pairs.{values_of}
 use Rattle.ordered_multimap.specs.Changes.{inserted}
 use Rattle.ordered_multimap.specs.TapeNumbers.{TakesOut, numbers_of}
 use Rattle.ordered_multimap.specs.Agrees.{HasKey}
-use Rattle.ordered_multimap.specs.Private.KeySteps.{StaysInRoom}
+use Rattle.ordered_multimap.specs.Private.KeySteps.{KeepsPlaces, StaysInRoom}
 use Rattle.ordered_multimap.specs.Removals.{LosesValues}
 use Rattle.ordered_multimap.proofs.Remove.OnePair.{has_fitting_chain}
 use Rattle.ordered_multimap.proofs.Append.Rooms.{map_of, same_rooms}
@@ -42,6 +42,13 @@ returns-clause-stays g c =
       };
       rooms = same_rooms i.keys n.keys i.table.capacity i.table.capacity i.values n.values i.state i.left i.left e.capacities refl;
     })
+
+pub returns-clause-places : goal.returns-clause-places
+returns-clause-places g c =
+    let n = c.insert_behind.new in
+    let i = c.self.inside in
+    subst (λ m. KeepsPlaces g.K.PartialEq.eq m (map_of n.keys i.table.capacity n.values i.state i.left)) c.self.view_is
+    (λ k place has. inserted_stays (g.K.PartialEq.eq k) place c.insert_behind.ensures.inserted.1.done has)
 
 pub returns-clause-value : goal.returns-clause-value
 returns-clause-value g c =

@@ -4,13 +4,12 @@ use Rattle.std.specs.List.{filter_map}
 use Rattle.multimap_slots.specs.Slots.{item_at}
 use Rattle.multimap_walks.specs.Chained.{pair_at, pairs_of}
 use Rattle.ordered_multimap.specs.Lists.{lists}
-use Rattle.ordered_multimap.specs.AppendMap.{AppendsMap}
-use Rattle.ordered_multimap.specs.Changes.{all_appended}
+use Rattle.ordered_multimap.specs.Private.AppendMap.{MovesMap, all_put, count_for_all}
 use Rattle.ordered_multimap.specs.TapeNumbers.{ArePaid}
 use Rattle.ordered_multimap.proofs.Agreement.Agreed.{agrees_empty, length-keys, length-pairs}
 use Rattle.ordered_multimap.proofs.Append.Appended.{stays_paid}
 use Rattle.ordered_multimap.proofs.Append.Rooms.{map_of}
-use Rattle.ordered_multimap.proofs.list_ordered_multimap.ListOrderedMultimap.append_map.Goals as goal
+use Rattle.ordered_multimap.proofs.list_ordered_multimap.ListOrderedMultimap.move_all.Goals as goal
 
 pub returns-in_err-reserve_keys-clause-paid : goal.returns-in_err-reserve_keys-clause-paid
 returns-in_err-reserve_keys-clause-paid g c =
@@ -21,8 +20,8 @@ returns-in_err-reserve_values-clause-paid g c =
     stays_paid c.reserve_values.ensures.taken
     (subst ArePaid (sym c.reserve_keys.ensures.tape) (subst (λ m. ArePaid m.tape) c.self.view_is c.self.invariant.paid))
 
-pub append_parts-requires-clause-key_room : goal.append_parts-requires-clause-key_room
-append_parts-requires-clause-key_room g c = omega (
+pub move_parts-requires-clause-key_room : goal.move_parts-requires-clause-key_room
+move_parts-requires-clause-key_room g c = omega (
   arith,
   c.in_ok-reserve_keys.ensures.room,
   c.keys_len.ensures.len,
@@ -33,8 +32,8 @@ append_parts-requires-clause-key_room g c = omega (
   c.reserve_values.ensures.keys,
 )
 
-pub append_parts-requires-clause-value_room : goal.append_parts-requires-clause-value_room
-append_parts-requires-clause-value_room g c = omega (
+pub move_parts-requires-clause-value_room : goal.move_parts-requires-clause-value_room
+move_parts-requires-clause-value_room g c = omega (
   arith,
   c.in_ok-reserve_values.ensures.room,
   c.values_len.ensures,
@@ -47,7 +46,7 @@ pub invariant_of-other : goal.invariant_of-other
 invariant_of-other g c =
     let keys = c.clear_listed.ensures in
     let values = c.clear-2.ensures in
-    let used = c.append_parts.ensures.used_up in
+    let used = c.move_parts.ensures.used_up in
     record {
       agrees = agrees_empty c.clear_listed.new.self c.clear-2.new.self.list keys.order values.empty.order _ _ _ c.clear.ensures.empty;
       fits = omega (arith, ap length values.empty.order);
@@ -66,39 +65,31 @@ pub returns-clause-ok : goal.returns-clause-ok
 returns-clause-ok g c =
     let keys = c.reserve_keys.ensures in
     let values = c.reserve_values.ensures in
-    let parts = c.append_parts.ensures in
+    let parts = c.move_parts.ensures in
     let used = parts.used_up in
     let i = c.other.inside in
+    let same = values.grows.lists ∙ keys.grows.lists in
+    let gone = ap (λ m. count_for_all g.K.PartialEq.eq c.args.replaces m (pairs_of i.keys i.values.list)) same in
     let after = map_of c.clear_listed.new.self c.clear.new.self.capacity c.clear-2.new.self i.state i.left in
-    subst (λ m. AppendsMap g.K.PartialEq.eq c.args.self.now c.append_parts.new.self m after) c.other.view_is (record {
-      appended = record {
-        lists =
-            parts.lists
-            ∙ ap (λ m. all_appended g.K.PartialEq.eq m (pairs_of i.keys i.values.list)) (values.grows.lists ∙ keys.grows.lists);
-        rooms = record {
-          keys = omega (arith, keys.grows.rooms.keys, values.keys, parts.rooms.keys);
-          values = omega (arith, values.grows.rooms.values, keys.values, parts.rooms.values);
-          hasher = parts.rooms.hasher ∙ values.grows.rooms.hasher ∙ keys.grows.rooms.hasher;
-        };
-        doubles = record {
-          keys = λ more. omega (
-            arith,
-            keys.grows.doubles.keys
-                (omega (arith, more, values.keys, parts.rooms.keys)),
-            values.keys,
-            parts.rooms.keys,
-          );
-          values = λ more. omega (
-            arith,
-            values.grows.doubles.values (omega (arith, more, keys.values, parts.rooms.values)),
-            keys.values,
-            parts.rooms.values,
-          );
-        };
-        taken = record {
-          freed = omega (arith, parts.taken.freed, values.taken.freed, ap (λ t. t.freed) keys.tape);
-          paid = omega (arith, parts.taken.paid, values.taken.paid, ap (λ t. t.moved) keys.tape, ap (λ t. t.holes) keys.tape);
-        };
+    subst (λ m. MovesMap g.K.PartialEq.eq c.args.replaces c.args.self.now c.move_parts.new.self m after) c.other.view_is (record {
+      lists = parts.lists ∙ ap (λ m. all_put g.K.PartialEq.eq c.args.replaces m (pairs_of i.keys i.values.list)) same;
+      rooms = record {
+        keys = omega (arith, keys.grows.rooms.keys, values.keys, parts.rooms.keys);
+        values = omega (arith, values.grows.rooms.values, keys.values, parts.rooms.values);
+        hasher = parts.rooms.hasher ∙ values.grows.rooms.hasher ∙ keys.grows.rooms.hasher;
+      };
+      doubles = record {
+        keys = λ more. omega (arith, keys.grows.doubles.keys (omega (arith, more, values.keys, parts.rooms.keys)), values.keys, parts.rooms.keys);
+        values = λ more. omega (
+          arith,
+          values.grows.doubles.values (omega (arith, more, keys.values, parts.rooms.values)),
+          keys.values,
+          parts.rooms.values,
+        );
+      };
+      taken = record {
+        freed = omega (arith, parts.taken.freed, gone, values.taken.freed, ap (λ t. t.freed) keys.tape);
+        paid = omega (arith, parts.taken.paid, gone, values.taken.paid, ap (λ t. t.moved) keys.tape, ap (λ t. t.holes) keys.tape);
       };
       cleared = record {
         lists = λ j. lists (filter_map (item_at c.clear_listed.new.self) (c.clear_listed.ensures.order j))
@@ -120,7 +111,7 @@ returns-clause-ok g c =
 
 pub returns-clause-paid : goal.returns-clause-paid
 returns-clause-paid g c =
-    stays_paid c.append_parts.ensures.taken (stays_paid c.reserve_values.ensures.taken
+    stays_paid c.move_parts.ensures.taken (stays_paid c.reserve_values.ensures.taken
     (subst ArePaid (sym c.reserve_keys.ensures.tape) (subst (λ m. ArePaid m.tape) c.self.view_is c.self.invariant.paid)))
 
 pub returns-clause-refused : goal.returns-clause-refused
