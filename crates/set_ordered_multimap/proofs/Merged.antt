@@ -3,18 +3,17 @@ use Rattle.std.proofs.Common.{◌≡◌, Bool, true, false, not, cond, ◌&&◌,
 use Rattle.std.specs.Cmp.{IsEquivalence}
 use Rattle.std.specs.List.{IsDistinct, list_any}
 use Rattle.std.specs.Map.{keys_of}
-use Rattle.multimap_slots.specs.Lists.{IsIn}
 use Rattle.ordered_multimap.proofs.Callers.ListedKeys.{IsDistinct-filter, is_listed-member, is_present-is_listed}
 use Rattle.ordered_multimap.proofs.Callers.Members.{filter-all}
 use Rattle.ordered_multimap.proofs.Callers.Places.{pair_named}
 use Rattle.ordered_multimap.specs.AppendMap.{InsertsMap, RefusesMap}
 use Rattle.ordered_multimap.specs.Changes.{all_appended, merged}
-use Rattle.ordered_multimap.specs.Lists.{Lists, lists}
+use Rattle.ordered_multimap.specs.Lists.{IsIn, Lists, lists}
 use Rattle.ordered_multimap.specs.Multimap.{Multimap}
 use Rattle.ordered_multimap.specs.Pairs.{is_present, pairs_except}
-use Rattle.set_ordered_multimap.proofs.Callers.Sets.{IsSet-all_inserted, pair_laws}
+use Rattle.set_ordered_multimap.proofs.Callers.Sets.{IsSet-all_inserted, IsSet-empty, pair_laws}
 use Rattle.set_ordered_multimap.proofs.Lacked.{inserts-lacked}
-use Rattle.set_ordered_multimap.specs.AppendSet.{lacked}
+use Rattle.set_ordered_multimap.specs.AppendSet.{InsertsSet, lacked}
 use Rattle.set_ordered_multimap.specs.Set.{IsSet, all_inserted, has_pair, same_pair}
 
 module _ {K V : Type 0} {eq : K → K → Bool} {value_eq : V → V → Bool} (keys : IsEquivalence eq) (values : IsEquivalence value_eq) where
@@ -51,10 +50,15 @@ module _ {K V : Type 0} {eq : K → K → Bool} {value_eq : V → V → Bool} (k
       subst (IsSet eq value_eq) (sym (inserts-lacked eq value_eq keys values left pairs distinct) ∙ ap (all_appended eq left) none)
       (IsSet-all_inserted keys values left pairs kept)
 
-  -- a set into which another one was merged, or which refused it
-  pub inserts_keep_sets : {S T X E : Type 0} {old new : Multimap K V S} {other after : Multimap K V T} (r : Result X E)
-      → OnOk r (InsertsMap eq old new other after) → OnErr r (RefusesMap old new other after)
-      → IsSet eq value_eq old.lists → IsSet eq value_eq other.lists → IsSet eq value_eq new.lists
-  inserts_keep_sets {old = old} {other = other} (Ok x) ok refused set others =
-      subst (IsSet eq value_eq) (sym ok.lists) (IsSet-merged old.lists other.lists.pairs set others)
-  inserts_keep_sets (Err e) ok refused set others = subst (IsSet eq value_eq) (sym refused.grows.lists) set
+  module _ {S T X E : Type 0} (old new : Multimap K V S) (other after : Multimap K V T) where
+    -- a set into which another one was merged, or which refused it
+    pub inserts_keep_sets : (r : Result X E) → OnOk r (InsertsMap eq old new other after) → OnErr r (RefusesMap old new other after)
+        → IsSet eq value_eq old.lists → IsSet eq value_eq other.lists → IsSet eq value_eq new.lists
+    inserts_keep_sets (Ok x) ok refused set others =
+        subst (IsSet eq value_eq) (sym ok.lists) (IsSet-merged old.lists other.lists.pairs set others)
+    inserts_keep_sets (Err e) ok refused set others = subst (IsSet eq value_eq) (sym refused.grows.lists) set
+
+    -- the other one is an empty set then
+    pub inserts_set : (r : Result X E) → OnOk r (InsertsMap eq old new other after) → OnOk r (InsertsSet eq value_eq old new other after)
+    inserts_set (Ok x) ok = record { inserted = ok; emptied = subst (IsSet eq value_eq) (sym ok.cleared.lists) (IsSet-empty eq value_eq) }
+    inserts_set (Err e) ok = tt

@@ -58,7 +58,6 @@ impl<K: Eq + Hash + Drop, V: Eq + Drop, S: BuildHasher, A: Allocator + Copy> Set
     /// assert!(rt; set.keys().eq(&["plan", "note"]));
     /// assert!(rt; other.is_empty());
     /// ```
-    #[tactic(auto, using(crate::proofs::Merged::inserts_keep_sets))]
     pub fn insert_set<T: BuildHasher>(
         &mut self,
         other: &mut SetOrderedMultimap<K, V, T, A>,

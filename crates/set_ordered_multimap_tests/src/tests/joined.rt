@@ -1,4 +1,5 @@
-//! Pairs of a set that all go to another one. Those that this one has are dropped.
+//! Pairs of a set that all go to another one. Those that this one has are dropped, or all that it has
+//! of their keys.
 use crate::tests::callers::{join, join_in_room};
 use crate::tests::sets::{Refusing, SetBy, collided, has_lists, refill};
 use refusing_allocator::RefusingAllocator;
@@ -9,29 +10,38 @@ use test_helpers::{Failed, Test, lend, requests_until_enough, test_all, test_on_
 
 type Pairs = &'static [(u32, u32)];
 
-// The pairs of a set and of the other one, whose first key is 1; and both lists then.
-type Row = (Pairs, Pairs, Pairs, &'static [u32]);
+// The pairs of a set and of the other one, whose first key is 1; the pairs then, where those that
+// were there stay, and where those of the other's keys go; and the keys.
+type Row = (Pairs, Pairs, Pairs, Pairs, &'static [u32]);
 
 const THREE: Pairs = &[(1, 1), (2, 2), (1, 3)];
 
 const ROWS: &[Row] = &[
-    (&[], &[], &[], &[]),
-    (THREE, &[], THREE, &[1, 2]),
-    (&[], THREE, THREE, &[1, 2]),
+    (&[], &[], &[], &[], &[]),
+    (THREE, &[], THREE, THREE, &[1, 2]),
+    (&[], THREE, THREE, THREE, &[1, 2]),
     // Some pairs of a key are in both sets.
     (
         THREE,
         &[(3, 2), (1, 3), (2, 3), (1, 2), (2, 2)],
         &[(1, 1), (2, 2), (1, 3), (3, 2), (2, 3), (1, 2)],
+        &[(3, 2), (1, 3), (2, 3), (1, 2), (2, 2)],
         &[1, 2, 3],
     ),
     // All are, in another order.
-    (THREE, &[(1, 3), (2, 2), (1, 1)], THREE, &[1, 2]),
+    (
+        THREE,
+        &[(1, 3), (2, 2), (1, 1)],
+        THREE,
+        &[(1, 3), (2, 2), (1, 1)],
+        &[1, 2],
+    ),
     // The keys have other values.
     (
         &[(1, 1), (2, 2)],
         &[(2, 1), (1, 2)],
         &[(1, 1), (2, 2), (2, 1), (1, 2)],
+        &[(2, 1), (1, 2)],
         &[1, 2],
     ),
     // The other set has the keys in the order 1, 2, 3, and pairs that first name 2, 3 and then 1.
@@ -39,6 +49,7 @@ const ROWS: &[Row] = &[
         &[(4, 1), (3, 3)],
         &[(2, 2), (3, 3), (3, 4), (1, 5), (1, 1)],
         &[(4, 1), (3, 3), (2, 2), (3, 4), (1, 5), (1, 1)],
+        &[(4, 1), (2, 2), (3, 3), (3, 4), (1, 5), (1, 1)],
         &[4, 3, 2, 1],
     ),
 ];
@@ -72,13 +83,29 @@ fn join_row<S: BuildHasher, T: BuildHasher>(
     fill_other(test, other, row.1);
     let room = rooms(other);
     test.expect_at(at, set.append_set(other).is_ok());
-    test.expect_at(at, has_all(set, row.2, row.3));
+    test.expect_at(at, has_all(set, row.2, row.4));
+    test.expect_at(at, other.is_empty() && rooms(other) == room);
+}
+
+fn merge_row<S: BuildHasher, T: BuildHasher>(
+    test: &Test,
+    set: &mut SetBy<S>,
+    other: &mut SetBy<T>,
+    at: usize,
+    row: &Row,
+) {
+    refill(test, set, row.0);
+    fill_other(test, other, row.1);
+    let room = rooms(other);
+    test.expect_at(at, set.insert_set(other).is_ok());
+    test.expect_at(at, has_all(set, row.3, row.4));
     test.expect_at(at, other.is_empty() && rooms(other) == room);
 }
 
 fn join_all<S: BuildHasher, T: BuildHasher>(test: &Test, set: &mut SetBy<S>, other: &mut SetBy<T>) {
     for (at, row) in ROWS.iter().enumerate() {
         join_row(test, set, other, at, row);
+        merge_row(test, set, other, at, row);
     }
 }
 
@@ -110,6 +137,8 @@ const FULL: Pairs = &[(1, 1), (2, 2), (1, 3), (2, 4)];
 const OTHER: Pairs = &[(3, 3), (1, 3), (4, 5), (1, 6)];
 
 const JOINED: Pairs = &[(1, 1), (2, 2), (1, 3), (2, 4), (3, 3), (4, 5), (1, 6)];
+
+const MERGED: Pairs = &[(2, 2), (2, 4), (3, 3), (1, 3), (4, 5), (1, 6)];
 
 // A set, and the other one.
 type Both<A> = (Refusing<A>, Refusing<A>);
@@ -153,9 +182,29 @@ fn joins_with(test: &Test, granted: u64) -> bool {
     try_on_new!(test, granted; both_new; fill_both; moved)
 }
 
+// The same where the pairs replace those of their keys.
+fn merged<A: Allocator + Copy>(test: &Test, both: &mut Both<A>) -> bool {
+    let (set, other) = both;
+    let room = rooms(other);
+    let enough = set.insert_set(other).is_ok();
+    if enough {
+        test.expect(has_lists(set, MERGED, &[1, 2, 3, 4]) && has_lists(other, &[], &[]));
+    } else {
+        test.expect(has_lists(set, FULL, &[1, 2]) && has_lists(other, OTHER, &[3, 1, 4]));
+    }
+    test.expect(rooms(other) == room);
+    enough
+}
+
+fn merges_with(test: &Test, granted: u64) -> bool {
+    try_on_new!(test, granted; both_new; fill_both; merged)
+}
+
 fn each_request_is_refused(test: &Test) {
     let enough = requests_until_enough(|granted| joins_with(test, granted));
     test.expect(enough.unwrap_or(0) >= 2);
+    let merging = requests_until_enough(|granted| merges_with(test, granted));
+    test.expect(merging == enough);
 }
 
 #[test]

@@ -34,11 +34,16 @@ impl Lists {
         if self.has(key, value) {
             return Ok(false);
         }
-        if !self.has_key(key) {
+        if !self.keys.contains(&key) {
             self.keys.push(key)?;
         }
         self.pairs.push((key, value))?;
         Ok(true)
+    }
+
+    /// Takes the pairs of a key out, whose place is kept for others.
+    pub fn make_way(&mut self, key: u32) {
+        self.pairs.retain(|pair| pair.0 != key);
     }
 
     /// Keeps the pairs that pass, and the keys that are named then.

@@ -127,18 +127,26 @@ fn makes_room<S: BuildHasher>(set: &mut SetBy<S>, d: Drawn) -> Result<bool, Allo
     Ok(set.keys_len() <= set.keys_capacity() && set.values_len() <= set.values_capacity())
 }
 
-// Whether both add the pairs that they lack, of a set that is emptied or copied.
+// Whether both add the pairs that they lack, or first take those of their keys out, of a set that is
+// emptied or copied.
 fn appends<S: BuildHasher>(
     set: &mut SetBy<S>,
     lists: &mut Lists,
     d: Drawn,
 ) -> Result<bool, AllocError> {
+    let replaces = d.call == 22 && d.value < 2;
     let mut other = SetBy::with_capacity(*set.allocator(), 2, 3)?;
+    if replaces {
+        lists.make_way(d.key);
+        lists.make_way(d.other);
+    }
     for (key, value) in [(d.key, d.value), (d.other, 0), (d.key, 1)] {
         other.insert(key, value)?;
         lists.insert(key, value)?;
     }
-    if d.call == 22 {
+    if replaces {
+        set.insert_set(&mut other)?;
+    } else if d.call == 22 {
         set.append_set(&mut other)?;
     } else {
         set.extend_copied(&other)?;
