@@ -41,3 +41,11 @@ module _ (K V S A H : RattleType) (e : equality.Ghosts K.Denot) (k : hash.Ghosts
   ends_removed r =
       RestsIfNone (the_row K V S A H e k b h alloc) m (λ p. p.1.map.ghost_name) r
       (KeepsListed m.now)
+
+  -- at `None` the map ends as it is; else it ends as what the drain leaves
+  abbrev pub ends_key_popped :
+      Option (K.Denot × drains.EntryValuesDrain K.Denot V.Denot S.Denot A.Denot H.Denot e k b h)
+      → Fml
+  ends_key_popped r =
+      RestsIfNone (the_row K V S A H e k b h alloc) m (λ p. p.1.map.ghost_name) r
+      (λ n. n ≡ m.now)

@@ -6,6 +6,7 @@ mod keys;
 mod lending;
 mod many;
 mod memory;
+mod popped_keys;
 mod removal;
 mod sorted;
 mod tried;

@@ -16,7 +16,7 @@ module _ {X : Type 0} where
   has_items-with Front x xs = refl
   has_items-with Back x xs = has_items-push xs x
 
-  end_item-none : (end : End) → end_item end (let none : List X = [] in none) ≡ None
+  pub end_item-none : (end : End) → end_item end (let none : List X = [] in none) ≡ None
   end_item-none Front = refl
   end_item-none Back = refl
 

@@ -1,8 +1,11 @@
 -- What a step at the place of a key leaves of the map. No public clause cites this module.
-use Rattle.std.specs.Prelude.{◌≡◌, ℕ, Bool}
+use Rattle.std.specs.Prelude.{◌≡◌, ℕ, Bool, Some}
 use Rattle.multimap_slots.specs.Lists.{IsIn}
+use Rattle.multimap_walks.specs.Walk.{end_item}
+use Rattle.multimap_walks.specs.declared.End.{End}
 use Rattle.ordered_multimap.specs.Agrees.{HasKey}
 use Rattle.ordered_multimap.specs.Detaches.{HoldsDrain, left_of}
+use Rattle.ordered_multimap.specs.Keys.{stored_key}
 use Rattle.ordered_multimap.specs.Lists.{Lists}
 use Rattle.ordered_multimap.specs.Multimap.{Multimap}
 use Rattle.ordered_multimap.specs.Pairs.{values_where}
@@ -45,3 +48,11 @@ pub record HoldsInRoom {K V S : Type 0} (old new : Multimap K V S) : Type 0 wher
 pub record KeepsBothLists {K V S : Type 0} (old new : Multimap K V S) : Type 0 where
   pub lists : new.lists ≡ old.lists
   pub taken : TakesOut 0 old.tape new.tape
+
+-- the key at an end of the keys stands at the place
+pub record HasEndKey {K V S : Type 0} (eq : K → K → Bool) (end : End) (m : Multimap K V S)
+    (place : ℕ) : Type 0 where
+  pub key : K
+  pub there : HasKey eq m.slots.keys key place
+  pub stored : stored_key eq m.lists.keys key ≡ key
+  pub at_end : end_item end m.lists.keys ≡ Some key

@@ -5,6 +5,7 @@ ghost use Rattle.std.specs.Iterator.SizeHint.{IsWithinCount};
 ghost use Rattle.ordered_multimap.specs.Detaches.{HoldsDrain};
 
 mod insert_all;
+mod pop_key;
 pub(crate) mod steps;
 
 use super::show::show_left;
@@ -19,8 +20,9 @@ use std::iter::FusedIterator;
 /// A double-ended iterator over the removed values of one key.
 ///
 /// This type is returned by [`ListOrderedMultimap::remove_all`],
-/// [`ListOrderedMultimap::remove_entry_all`], [`ListOrderedMultimap::insert_all`] and the calls of
-/// these names of an [`OccupiedEntry`](super::OccupiedEntry); see there for examples. It borrows
+/// [`ListOrderedMultimap::remove_entry_all`], [`ListOrderedMultimap::insert_all`], the calls of
+/// these names of an [`OccupiedEntry`](super::OccupiedEntry), and by
+/// [`ListOrderedMultimap::pop_front_key`] and its like; see there for examples. It borrows
 /// the map, which no longer has the pairs. When it is dropped, it drops the values that it hasn't
 /// returned, in *O*(1) for each.
 ///
@@ -145,7 +147,8 @@ impl<K: Eq + Hash, V: Drop, S: BuildHasher, A: Allocator> ListOrderedMultimap<K,
     /// The call itself removes the pairs; [`remove_all`](Self::remove_all) says what happens to the
     /// iterator. The key is a `&K`. For a query see
     /// [`remove_entry_with_all`](Self::remove_entry_with_all). To get the first value only see
-    /// [`remove_entry`](Self::remove_entry).
+    /// [`remove_entry`](Self::remove_entry), and for the key at an end
+    /// [`pop_front_key`](Self::pop_front_key) and [`pop_back_key`](Self::pop_back_key).
     ///
     /// Proved callers: see CALLING.md.
     ///

@@ -22,7 +22,8 @@ impl<K: Eq + Hash, V, S: BuildHasher, A: Allocator> ListOrderedMultimap<K, V, S,
     /// `false`, and changes nothing, if the key is absent. The key may be a query, as `&str` for
     /// `String` keys ([`KeyQuery`]).
     ///
-    /// To move it before all others see [`move_key_to_front`](Self::move_key_to_front).
+    /// To move it before all others see [`move_key_to_front`](Self::move_key_to_front), and to take
+    /// the first key out [`pop_front_key`](Self::pop_front_key).
     ///
     /// # Complexity
     ///

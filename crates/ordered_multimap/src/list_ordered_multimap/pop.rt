@@ -107,7 +107,8 @@ impl<K: Eq + Hash, V, S: BuildHasher, A: Allocator> ListOrderedMultimap<K, V, S,
     /// If that was the last value of its key, the key is removed too, and returned as
     /// [`KeyWrapper::Owned`]. Otherwise the key keeps its place among the keys, and is returned by
     /// reference, as [`KeyWrapper::Borrowed`]. To read the pair without removing it see
-    /// [`front`](Self::front), and to remove a key with all its values [`remove`](Self::remove).
+    /// [`front`](Self::front), and to remove the first key with all its values
+    /// [`pop_front_key`](Self::pop_front_key).
     ///
     /// No memory is freed: later additions reuse the slots.
     ///
@@ -145,7 +146,8 @@ impl<K: Eq + Hash, V, S: BuildHasher, A: Allocator> ListOrderedMultimap<K, V, S,
     /// If that was the last value of its key, the key is removed too, and returned as
     /// [`KeyWrapper::Owned`]. Otherwise the key keeps its place among the keys, and is returned by
     /// reference, as [`KeyWrapper::Borrowed`]. To read the pair without removing it see
-    /// [`back`](Self::back).
+    /// [`back`](Self::back), and to remove the last key with all its values
+    /// [`pop_back_key`](Self::pop_back_key).
     ///
     /// No memory is freed: later additions reuse the slots.
     ///

@@ -31,6 +31,14 @@ pub fn entry_drain_of(map: &mut Numbers, key: u32) -> Option<(u32, Drain<'_>)> {
     map.remove_entry_all(&key)
 }
 
+pub fn first_key_of(map: &mut Numbers) -> Option<(u32, Drain<'_>)> {
+    map.pop_front_key()
+}
+
+pub fn last_key_of(map: &mut Numbers) -> Option<(u32, Drain<'_>)> {
+    map.pop_back_key()
+}
+
 pub fn replaced_by(map: &mut Numbers, key: u32, value: u32) -> Option<Drain<'_>> {
     map.insert_all(key, value).ok()
 }

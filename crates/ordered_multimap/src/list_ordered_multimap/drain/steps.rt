@@ -68,7 +68,7 @@ impl<K: Eq + Hash, V, S: BuildHasher, A: Allocator> ListOrderedMultimap<K, V, S,
     }
 
     /// Nothing is left for a drain.
-    fn detach_none(&mut self)
+    pub(super) fn detach_none(&mut self)
         ensures { EndsDrain self.old self.new }
     {
         self.left = NO_CHAIN;
