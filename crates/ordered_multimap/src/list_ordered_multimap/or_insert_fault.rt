@@ -102,6 +102,11 @@ impl<K: Drop, V: Drop> From<OrInsertFault<K, V, AllocError>> for AllocError {
 }
 
 impl<K: Drop, V: Drop> From<OrInsertFault<K, V, io::Error>> for io::Error {
+    ghost use Rattle.std.specs.IoError.{error_kind};
+    ghost use Rattle.std.specs.declared.io.ErrorKind.TheVariants.{OutOfMemory};
+
+    ghost from_gives = { IsErrorOf (λ _ e. error_kind e ≡ OutOfMemory) };
+
     fn from(fault: OrInsertFault<K, V, io::Error>) -> io::Error {
         fault.into_error()
     }
