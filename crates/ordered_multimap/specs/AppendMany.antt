@@ -1,14 +1,17 @@
 -- What appending many values under one key leaves.
 use Rattle.std.specs.Prelude.{◌≡◌, ◌+◌, ◌≤◌, ℕ, Bool, true, false, List, [], ◌∷◌, ◌++◌, length}
-use Rattle.std.specs.Prelude.{map, Option, Some, None, Result, IsOk, MatchResult}
+use Rattle.std.specs.Prelude.{map, Option, Some, None, Result, IsOk, MatchResult, OnErr}
 use Rattle.std.specs.Iterator.{Count, Drains, HoldsAlong, Yields, size}
+use Rattle.ordered_multimap.specs.Agrees.{HasKey}
 use Rattle.ordered_multimap.specs.Changes.{all_appended}
 use Rattle.ordered_multimap.specs.Lists.{Lists}
 use Rattle.ordered_multimap.specs.Multimap.{Multimap}
 use Rattle.ordered_multimap.specs.Pairs.{is_present}
-use Rattle.ordered_multimap.specs.Rooms.{DoublesRooms, HasKeyRoom, KeepsRooms, SameRooms}
+use Rattle.ordered_multimap.specs.Rooms.{DoublesRooms, HasKeyRoom, HasValueRoom, KeepsRooms}
+use Rattle.ordered_multimap.specs.Rooms.{SameRooms}
 use Rattle.ordered_multimap.specs.TapeNumbers.{TakesOut}
 use Rattle.ordered_multimap.specs.declared.list_ordered_multimap.refused.Refused.{Refused}
+use Rattle.ordered_multimap.specs.declared.list_ordered_multimap.refused.RefusedValue.{RefusedValue}
 
 -- the pairs of the key with these values
 abbrev pub under_key : {K V : Type 0} → K → List V → List (K × V)
@@ -71,3 +74,31 @@ module _ {K V S : Type 0} (eq : K → K → Bool) (key : K) where
       pub grows : GrowsForMany (HasRoomForMostValues left values old) old new
       pub succeeds : HasRoomForGivenValues steps values old → IsOk r
       pub succeeds_for_most : HasRoomForMostValues left values old → IsOk r
+
+module _ {K V S : Type 0} where
+  -- so many more values fit
+  abbrev pub HasValueRoomFor : Multimap K V S → ℕ → Type 0
+  HasValueRoomFor m n = length m.lists.pairs + n ≤ m.value_room
+
+  -- no room for keys has grown; where so many more values fit, no room has
+  pub record GrowsBehind (most : Type 0) (old new : Multimap K V S) : Type 0 where
+    pub rooms : KeepsRooms old new
+    pub keys : new.key_room ≡ old.key_room
+    pub doubles : DoublesRooms old new
+    pub taken : TakesOut 0 old.tape new.tape
+    pub had_room : most → SameRooms old new
+
+  -- these values of an iterator were appended in turn under the key at the place: all of them, or
+  -- those before one for which there was no room, which comes back
+  pub record AppendsManyAt (eq : K → K → Bool) (place : ℕ) {T : Type 0}
+      (steps : T → Option V → T → Type 0) (left : T → Count) (it : T) (old new : Multimap K V S)
+      (r : Result ℕ (RefusedValue V)) : Type 0 where
+    pub given : List V
+    pub lists : (k : K) → HasKey eq old.slots.keys k place
+        → new.lists ≡ all_appended eq old.lists (under_key k given)
+    pub read : MatchResult r (λ count. (count ≡ length given) × Drains steps it given)
+        (λ refused. (t : T) × Yields steps it (given ++ refused.value ∷ []) t)
+    pub full : OnErr r (¬ HasValueRoom new)
+    pub grows : GrowsBehind (HasValueRoomFor old (size (left it))) old new
+    pub succeeds : HoldsAlong steps it (λ values. HasValueRoomFor old (length values)) → IsOk r
+    pub succeeds_for_most : HasValueRoomFor old (size (left it)) → IsOk r

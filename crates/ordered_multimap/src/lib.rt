@@ -49,15 +49,18 @@
 //! | `get`, `get_mut`, `get_last`, `get_key_value` | *O*(1) expected |
 //! | `contains_key`, `entry_len`, `entry` | *O*(1) expected |
 //! | `front`, `back`, `front_mut`, `back_mut`, `is_empty`, lengths, capacities | *O*(1) |
-//! | `hasher`, `allocator` | *O*(1) |
+//! | `hasher`, `allocator`, `Entry::key` | *O*(1) |
 //! | `iter`, `keys`, `values`, `pairs`, and their `_mut` | *O*(1), *O*(1) for each item |
 //! | `get_all`, `get_all_mut` | *O*(1) expected, *O*(1) for each item |
 //! | `append`, `entry(..).or_insert`, `entry(..).or_default` | *O*(1) expected, amortized |
+//! | `entry(..).or_try_insert_with` | the same, and the function's cost |
+//! | `append_many` | *O*(*m*) expected, amortized, for *m* values |
 //! | `set`, `insert`, `insert_all` | *O*(*v*) expected, amortized |
 //! | `contains`, `remove_index`, `remove_value`, `retain_all` | *O*(*v*) expected |
 //! | `remove`, `remove_entry`, `remove_all`, `remove_entry_all` | *O*(*v*) expected |
 //! | `move_key_to_back`, `move_key_to_front`, `rename_key` | *O*(1) expected |
 //! | `pop_front`, `pop_back` | *O*(1) expected |
+//! | `pop_front_key`, `pop_back_key` | *O*(*v*) expected |
 //! | `into_iter` | *O*(1), *O*(1) for each item, and a clone of a key that has values left |
 //! | `into_keys`, `into_values` | *O*(*n*), *O*(1) for each item |
 //! | `sort_keys`, `sort_keys_by`, `sort_keys_by_cached_key` | *O*(*k* log *k*) for *k* keys |
@@ -77,7 +80,7 @@
 //!   where an [`OccupiedEntry`] has the key. Both lists are as before; capacities may have grown.
 //! - `extend` and `from_iter` return a `Refused` with the pair that wasn't added. `extend` keeps
 //!   the pairs before it, and `from_iter` drops them. std's `Extend` and `FromIterator` drop that
-//!   pair too.
+//!   pair too. `append_many` returns the value that wasn't added, and keeps those before it.
 //! - The constructors with capacities, `reserve_keys`, `reserve_values`, `pack_to`, `pack_to_fit`,
 //!   `clone`, `append_map` and `insert_map` return `AllocError`. After the last two both maps are as
 //!   before; capacities may have grown.

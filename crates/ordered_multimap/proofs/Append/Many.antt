@@ -3,13 +3,12 @@ use Rattle.std.proofs.Common.{◌≡◌, ◌+◌, ◌≤◌, ℕ, Bool, true, fa
 use Rattle.std.proofs.lemmas.List.{length-map, map-append}
 use Rattle.ordered_multimap.specs.Additions.{IsAppendedAt}
 use Rattle.ordered_multimap.specs.Agrees.{HasKey}
-use Rattle.ordered_multimap.specs.AppendMany.{GrowsForMany, HasRoomForValues, under_key}
+use Rattle.ordered_multimap.specs.AppendMany.{GrowsBehind, GrowsForMany, HasRoomForValues, HasValueRoomFor, under_key}
 use Rattle.ordered_multimap.specs.Changes.{all_appended, appended}
 use Rattle.ordered_multimap.specs.Keys.{stored_key}
 use Rattle.ordered_multimap.specs.Lists.{Lists}
 use Rattle.ordered_multimap.specs.Multimap.{Multimap}
 use Rattle.ordered_multimap.specs.Pairs.{is_present}
-use Rattle.ordered_multimap.specs.Private.AppendMany.{GrowsBehind, HasValueRoomFor}
 use Rattle.ordered_multimap.specs.Private.KeySteps.{KeepsPlaces}
 use Rattle.ordered_multimap.specs.Rooms.{GrowsForValue, HasPairRoom, HasValueRoom, KeepsRooms, OnlyGrows, RaisesNoRoom, SameRooms}
 use Rattle.ordered_multimap.specs.TapeNumbers.{TakesOut}
@@ -140,6 +139,25 @@ grows_rest fits first rest = record {
   key_room = λ room. rest.keys ∙ first.key_room room;
   had_room = λ most.
       let before = first.had_room most in let after = rest.had_room (fits most) in
+      record {
+        keys = after.keys ∙ before.keys;
+        values = after.values ∙ before.values;
+        slots = after.slots ∙ before.slots;
+        hasher = after.hasher ∙ before.hasher;
+      };
+}
+
+-- room was reserved, and then values were appended behind the others of a key
+pub grows_behind-reserved : {K V S : Type 0} {most left : Type 0} {old reserved new : Multimap K V S} → OnlyGrows old reserved
+    → reserved.key_room ≡ old.key_room → TakesOut 0 old.tape reserved.tape → (most → SameRooms old reserved) → (most → left)
+    → GrowsBehind left reserved new → GrowsBehind most old new
+grows_behind-reserved grows keys taken had_room fits rest = record {
+  rooms = keeps_rooms-then grows.rooms rest.rooms;
+  keys = rest.keys ∙ keys;
+  doubles = doubles_rooms-then grows.rooms rest.rooms grows.doubles rest.doubles;
+  taken = takes_none-then taken rest.taken;
+  had_room = λ most.
+      let before = had_room most in let after = rest.had_room (fits most) in
       record {
         keys = after.keys ∙ before.keys;
         values = after.values ∙ before.values;

@@ -3,8 +3,10 @@ ghost use Rattle.std.specs.Prelude.{IfErr, IfOk};
 ghost use Rattle.std.specs.Iterator.{IsFinite};
 ghost use Rattle.ordered_multimap.specs.Additions.{Appends};
 ghost use Rattle.ordered_multimap.specs.Agrees.{HasKey};
-ghost use Rattle.ordered_multimap.specs.AppendMany.{AppendsMany, GrowsForAllValues};
+ghost use Rattle.multimap_slots.specs.Lists.{IsIn};
+ghost use Rattle.ordered_multimap.specs.AppendMany.{AppendsMany, AppendsManyAt, GrowsForAllValues};
 ghost use Rattle.ordered_multimap.specs.Private.AppendMany.{AppendsRest};
+ghost use Rattle.ordered_multimap.specs.Private.KeySteps.{KeepsPlace};
 ghost use Rattle.ordered_multimap.specs.Rooms.{HasPairRoom};
 
 use super::{ListOrderedMultimap, Refused, RefusedValue};
@@ -81,6 +83,27 @@ impl<K: Eq + Hash, V: Drop, S: BuildHasher, A: Allocator + Copy> ListOrderedMult
         match self.append_rest(place, items) {
             Ok(()) => Ok(self.values_len() - before),
             Err(RefusedValue { value }) => Err(Refused { key: None, value }),
+        }
+    }
+
+    /// Appends each value of the iterator under the key at the place, and returns how many they are.
+    pub(super) fn append_many_at<I: Iterator<Item = V>>(
+        &mut self,
+        place: usize,
+        items: I,
+    ) -> Result<usize, RefusedValue<V>>
+        requires listed { IsIn place self.old.slots.keys.order }
+        requires finite { I.can_next items × IsFinite (I.remaining items) }
+        ensures stays { KeepsPlace K.eq self.old self.new place }
+        ensures appended { AppendsManyAt K.eq place I.next_gives I.remaining items
+            self.old self.new result }
+    {
+        let old_len = self.values.len();
+        // Ignored if refused: each append makes the room that it needs.
+        let _reserved = self.reserve_values(items.size_hint().0);
+        match self.append_rest(place, items) {
+            Ok(()) => Ok(self.values_len() - old_len),
+            Err(refused) => Err(refused),
         }
     }
 

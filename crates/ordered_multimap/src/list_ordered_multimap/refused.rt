@@ -72,7 +72,8 @@ impl<K: Drop, V: Drop> From<Refused<K, V>> for io::Error {
 
 /// The error of an addition under a present key that ran out of memory, with the value.
 ///
-/// It is returned by [`OccupiedEntry::append`](crate::OccupiedEntry::append) and
+/// It is returned by [`OccupiedEntry::append`](crate::OccupiedEntry::append),
+/// [`OccupiedEntry::append_many`](crate::OccupiedEntry::append_many) and
 /// [`OccupiedEntry::insert_all`](crate::OccupiedEntry::insert_all). `?` converts it into an
 /// [`AllocError`] or an [`io::Error`], and drops the value. For an error type of your own that has
 /// a `From<AllocError>`, write `map_err(AllocError::from)?`.

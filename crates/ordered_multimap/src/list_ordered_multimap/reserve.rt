@@ -89,6 +89,7 @@ impl<K: Eq + Hash, V, S: BuildHasher, A: Allocator + Copy> ListOrderedMultimap<K
         ensures grows { OnlyGrows self.old self.new }
         ensures keys { self.new.key_room ≡ self.old.key_room }
         ensures taken { TakesOut 0 self.old.tape self.new.tape }
+        ensures slots { self.new.slots.keys ≡ self.old.slots.keys }
 
         // Where there is room already, nothing grows and nothing is refused.
         ensures succeeds { length self.old.lists.pairs + additional ≤ self.old.value_room

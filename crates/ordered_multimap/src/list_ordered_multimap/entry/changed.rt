@@ -3,7 +3,9 @@
 
 ghost use Rattle.std.specs.Prelude.{◌≡◌, Some, slice_get};
 ghost use Rattle.std.specs.Prelude.{OnOk, IfErr, IsOk};
+ghost use Rattle.std.specs.Iterator.{IsFinite};
 ghost use Rattle.ordered_multimap.specs.Additions.{IsAppendedAt, RefusesValue};
+ghost use Rattle.ordered_multimap.specs.AppendMany.{AppendsManyAt};
 ghost use Rattle.ordered_multimap.specs.Changes.{inserted};
 ghost use Rattle.ordered_multimap.specs.Entries.{IsOccupiedBy, IsSameEntry, IsSameEntryInRoom, RemovesEntry};
 ghost use Rattle.ordered_multimap.specs.Keys.{stored_key};
@@ -22,7 +24,8 @@ impl<'map, K: Eq + Hash, V, S: BuildHasher, A: Allocator> OccupiedEntry<'map, K,
     /// Appends a value under the entry's key.
     ///
     /// The new pair comes last in the order of pairs, and the key keeps its place in the order of
-    /// keys. To replace the key's values see [`insert`](Self::insert).
+    /// keys. To append several values see [`append_many`](Self::append_many), and to replace the key's
+    /// values [`insert`](Self::insert).
     ///
     /// # Errors
     ///
@@ -61,6 +64,61 @@ impl<'map, K: Eq + Hash, V, S: BuildHasher, A: Allocator> OccupiedEntry<'map, K,
         let result = self.map.append_at(place, value);
         self.first = self.map.first_place(place);
         result
+    }
+
+    /// Appends all values of the iterator under the entry's key, in their order, and returns how many
+    /// they are.
+    ///
+    /// Each pair is added as by [`append`](Self::append). Without values nothing changes. For a key
+    /// that may be absent see [`append_many`](crate::ListOrderedMultimap::append_many) of the map.
+    ///
+    /// # Errors
+    ///
+    /// Returns [`RefusedValue`] with the first value for which an allocation fails. The values before
+    /// it stay in the map; capacities may have grown. The iterator isn't read further: pass
+    /// `&mut iter` to keep the values after it. It never fails if there is room for the values.
+    ///
+    /// # Complexity
+    ///
+    /// For each value what [`append`](Self::append) takes. It first reserves room for as many values
+    /// as the lower bound of the iterator's `size_hint`, and goes on if that allocation fails.
+    ///
+    /// # Requires
+    ///
+    /// The iterator is finite.
+    ///
+    /// # Examples
+    ///
+    /// ```
+    /// use ordered_multimap::{Entry, ListOrderedMultimap};
+    ///
+    /// let mut map = ListOrderedMultimap::new(rt.alloc());
+    /// map.append("line", 1)?;
+    /// map.append("page", 8)?;
+    /// if let Entry::Occupied(mut entry) = map.entry("line") {
+    ///     assert_eq!(rt; entry.append_many([2, 3])?, 2);
+    /// }
+    /// assert!(rt; map.get_all("line").eq(&[1, 2, 3]));
+    /// assert!(rt; map.iter().eq([(&"line", &1), (&"page", &8), (&"line", &2), (&"line", &3)]));
+    /// ```
+    pub fn append_many<I: IntoIterator<Item = V>>(
+        &mut self,
+        values: I,
+    ) -> Result<usize, RefusedValue<V>>
+    where
+        V: Drop,
+        A: Copy,
+        requires { (it : I.IntoIter) → I.into_iter_gives values it
+            → I.IntoIter.can_next it × IsFinite (I.IntoIter.remaining it) }
+        ensures same_entry { IsSameEntry self.old self.new }
+        ensures appended { (it : I.IntoIter) × I.into_iter_gives values it
+            × AppendsManyAt K.eq self.old.place I.IntoIter.next_gives I.IntoIter.remaining it
+            self.old.map.now self.new.map.now result }
+    {
+        let place = self.place;
+        let appended = self.map.append_many_at(place, values.into_iter());
+        self.first = self.map.first_place(place);
+        appended
     }
 
     /// Replaces all values of the key with one, and returns the first of the old values.

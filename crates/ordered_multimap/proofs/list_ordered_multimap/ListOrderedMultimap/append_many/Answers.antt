@@ -1,11 +1,10 @@
 use Rattle.std.proofs.Common.{◌≡◌, ◌≤◌, ◌+◌, ℕ, List, [], ◌∷◌, length, length-append, true≢false, Some, refl, sym, ap, ◌∙◌, subst, arith}
 use Rattle.std.specs.Iterator.{Yields, size}
 use Rattle.std.proofs.iter.Next.{on}
-use Rattle.ordered_multimap.specs.AppendMany.{HasRoomForGivenValues, HasRoomForMostValues, under_key}
+use Rattle.ordered_multimap.specs.AppendMany.{HasRoomForGivenValues, HasRoomForMostValues, HasValueRoomFor, under_key}
 use Rattle.ordered_multimap.specs.Changes.{all_appended, appended}
 use Rattle.ordered_multimap.specs.Keys.{stored_key}
 use Rattle.ordered_multimap.specs.Lists.{Lists}
-use Rattle.ordered_multimap.specs.Private.AppendMany.{HasValueRoomFor}
 use Rattle.ordered_multimap.specs.Rooms.{HasPairRoom, SameRooms}
 use Rattle.ordered_multimap.proofs.Append.Many.{fits_one, grows_first, grows_rest, length-many}
 use Rattle.ordered_multimap.proofs.list_ordered_multimap.ListOrderedMultimap.append_many.Given.{Over}

@@ -1,7 +1,8 @@
 use Rattle.std.proofs.Common.{◌≤◌, ◌+◌, List, [], ◌∷◌, ◌++◌, length, length-append, true≢false, Err, refl, sym, ◌∙◌, subst, arith}
 use Rattle.std.specs.Iterator.{Yields, size}
 use Rattle.std.proofs.iter.Next.{Yields-more, on}
-use Rattle.ordered_multimap.specs.Private.AppendMany.{AppendsRest, HasValueRoomFor}
+use Rattle.ordered_multimap.specs.AppendMany.{HasValueRoomFor}
+use Rattle.ordered_multimap.specs.Private.AppendMany.{AppendsRest}
 use Rattle.ordered_multimap.proofs.Append.Many.{behind-step, grows_behind-then, still_room}
 use Rattle.ordered_multimap.proofs.list_ordered_multimap.ListOrderedMultimap.append_rest.Given.{Over}
 use Rattle.ordered_multimap.proofs.list_ordered_multimap.ListOrderedMultimap.append_rest.Goals.{In-Some}
@@ -56,6 +57,7 @@ returns-in-Err g c =
             (given g at),
       );
       full = e.full;
+      places = λ k p own. c.append_at.ensures.places k p (w.places k p own);
       grows = grows_behind-then (λ most. still_room w (room_for_most g at most)) w.grows e.grows e.taken;
       succeeds = λ room. absurd (true≢false (sym (c.in-Err.ensures.succeeds (still_room w
           (omega (

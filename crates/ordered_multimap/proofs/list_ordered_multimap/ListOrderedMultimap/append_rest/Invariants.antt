@@ -1,5 +1,5 @@
 use Rattle.std.proofs.Common.{◌≤◌, ◌+◌, length}
-use Rattle.ordered_multimap.specs.Private.AppendMany.{HasValueRoomFor}
+use Rattle.ordered_multimap.specs.AppendMany.{HasValueRoomFor}
 use Rattle.ordered_multimap.proofs.Append.Many.{IsBehind}
 use Rattle.ordered_multimap.proofs.list_ordered_multimap.ListOrderedMultimap.append_rest.Given as goal
 
