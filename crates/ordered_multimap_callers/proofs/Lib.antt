@@ -1,4 +1,5 @@
 pub mod FirstLemmas
+pub mod GivenLemmas
 pub mod MovedLemmas
 pub mod PackedForm
 pub mod StoppedKeysLemmas

@@ -3,17 +3,18 @@
 ghost use Rattle.std.specs.Prelude.{◌≡◌, true, false, length, option_map, slice_get, Some, IfErr, IfOk, IfSome, IsOk, OnErr, OnOk};
 ghost use Rattle.std.specs.Map.Calls.{MayWrite};
 ghost use Rattle.std.specs.Option.{UnwrapsOrElse};
-ghost use Rattle.ordered_multimap.specs.Changes.{appended, first_written, inserted, removed};
+ghost use Rattle.ordered_multimap.specs.AppendMany.{under_key};
+ghost use Rattle.ordered_multimap.specs.Changes.{all_appended, appended, first_written, inserted, removed};
 ghost use Rattle.ordered_multimap.specs.Drains.{DrainsEntry};
 ghost use Rattle.ordered_multimap.specs.Entries.{IsOccupiedBy};
 ghost use Rattle.ordered_multimap.specs.Keys.{stored_key};
-ghost use Rattle.ordered_multimap.specs.Pairs.{is_present, values_of};
+ghost use Rattle.ordered_multimap.specs.Pairs.{all_values, is_present, values_of};
 ghost use Rattle.ordered_multimap_callers.specs.Present.{ChangesPresent};
 
 use crate::entered::leave_absent;
 use ordered_multimap::ListOrderedMultimap;
 use ordered_multimap::list_ordered_multimap::{
-    Entry, EntryValuesDrain, OccupiedEntry, Refused, RefusedValue,
+    Entry, EntryValuesDrain, OccupiedEntry, OrInsertFault, Refused, RefusedValue,
 };
 use std::alloc::Allocator;
 use std::hash::{BuildHasher, Hash};
@@ -227,4 +228,47 @@ where
 {
     let entry = map.entry(key).or_insert_with_entry(make)?;
     Ok(entry.len())
+}
+
+/// The key's first value, which is what the function returns where the key is absent, if it doesn't
+/// fail.
+pub fn first_or_tried<K, V, S, A, F, E>(
+    map: &mut ListOrderedMultimap<K, V, S, A>,
+    key: K,
+    make: F,
+) -> Result<V, OrInsertFault<K, V, E>>
+where
+    K: Eq + Hash + Drop,
+    V: Copy,
+    S: BuildHasher,
+    A: Allocator + Copy,
+    F: FnOnce() -> Result<V, E>,
+    requires { is_present K.eq map.old.lists.pairs key ≡ false → F.pre make }
+    ensures present { is_present K.eq map.old.lists.pairs key ≡ true
+        → map.new.lists ≡ map.old.lists }
+    ensures absent { is_present K.eq map.old.lists.pairs key ≡ false
+        → IfOk result (λ v. map.new.lists ≡ appended K.eq map.old.lists key v) }
+    ensures unchanged { OnErr result (map.new.lists ≡ map.old.lists) }
+    ensures occupied { is_present K.eq map.old.lists.pairs key ≡ true → IsOk result }
+{
+    let first = map.entry(key).or_try_insert_with(make)?;
+    Ok(*first)
+}
+
+/// Appends all values of another map under the entry's key, and returns how many they are.
+pub fn append_values_to<K, V, S, A>(
+    entry: &mut OccupiedEntry<'_, K, V, S, A>,
+    other: ListOrderedMultimap<K, V, S, A>,
+) -> Result<usize, RefusedValue<V>>
+where
+    K: Eq + Hash + Drop,
+    V: Drop,
+    S: BuildHasher + Drop,
+    A: Allocator + Copy,
+    ensures lists { (k : K) → IsOccupiedBy entry.old k → OnOk result (entry.new.map.now.lists
+        ≡ all_appended K.eq entry.old.map.now.lists
+        (under_key k (all_values other.lists.pairs))) }
+    ensures count { IfOk result (λ n. n ≡ length (all_values other.lists.pairs)) }
+{
+    entry.append_many(other.into_values())
 }

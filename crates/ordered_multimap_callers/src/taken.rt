@@ -1,8 +1,10 @@
 //! Callers that own a map and take its keys or its values out, and callers of `allocator` and of
 //! `or_default`, proved for every key and value type.
-ghost use Rattle.std.specs.Prelude.{◌≡◌, ◌++◌, true, false, length, slice_get, IfErr, IfOk, IsOk, OnErr, OnOk};
+ghost use Rattle.std.specs.Prelude.{◌≡◌, ◌++◌, true, false, length, option_map, slice_get};
+ghost use Rattle.std.specs.Prelude.{IfErr, IfNone, IfOk, IfSome, IsOk, OnErr, OnOk};
 ghost use Rattle.std.specs.Option.{UnwrapsOrElse};
-ghost use Rattle.ordered_multimap.specs.Changes.{appended};
+ghost use Rattle.ordered_multimap.specs.AppendMany.{under_key};
+ghost use Rattle.ordered_multimap.specs.Changes.{all_appended, appended, removed};
 ghost use Rattle.ordered_multimap.specs.Pairs.{all_values, is_present, values_of};
 ghost use Rattle.ordered_multimap.specs.End.TheVariants.{Front, Back};
 ghost use Rattle.ordered_multimap.specs.Rooms.{IsNewMap};
@@ -63,6 +65,38 @@ pub fn values_at_ends<K: Eq + Hash + Drop, V: Drop, S: BuildHasher + Drop, A: Al
     let last = values.next_back();
     let first = values.next();
     (last, first)
+}
+
+/// Appends all values of another map under the key, in their order, and returns how many they are.
+pub fn append_values_of<K, V, S, A>(
+    map: &mut ListOrderedMultimap<K, V, S, A>,
+    key: K,
+    other: ListOrderedMultimap<K, V, S, A>,
+) -> Result<usize, Refused<Option<K>, V>>
+where
+    K: Eq + Hash + Drop,
+    V: Drop,
+    S: BuildHasher + Drop,
+    A: Allocator + Copy,
+    ensures lists { OnOk result (map.new.lists ≡ all_appended K.eq map.old.lists
+        (under_key key (all_values other.lists.pairs))) }
+    ensures count { IfOk result (λ n. n ≡ length (all_values other.lists.pairs)) }
+{
+    map.append_many(key, other.into_values())
+}
+
+/// Takes the first key of a map out, and returns it with the number of its values.
+pub fn take_first_key<K: Eq + Hash + Drop, V: Drop, S: BuildHasher, A: Allocator>(
+    map: &mut ListOrderedMultimap<K, V, S, A>,
+) -> Option<(K, usize)>
+    ensures key { option_map (λ r. r.0) result ≡ end_item Front map.old.lists.keys }
+    ensures count { IfSome result (λ r. r.1 ≡ length (values_of K.eq map.old.lists.pairs r.0)) }
+    ensures lists { IfSome result (λ r. map.new.lists ≡ removed K.eq map.old.lists r.0) }
+    ensures unchanged { IfNone result (map.new.lists ≡ map.old.lists) }
+{
+    let mut stored = None;
+    let count = map.pop_front_key_with_all(&mut stored).len();
+    stored.map(|key| (key, count))
 }
 
 /// An empty map with the allocator of another one, and its type of hash builder.
