@@ -1,9 +1,10 @@
 //! Keys that leave at an end of the keys, with all their values.
-use crate::tests::lending::{Drain, first_key_of, last_key_of};
+use crate::tests::drained::lend_drain;
+use crate::tests::lending::{first_key_of, last_key_of};
 use ordered_multimap_callers::maps::{Numbers, has_lists, refill, test_on_empty};
 use ordered_multimap_callers::test_on_numbers;
 use std::mem;
-use test_helpers::{B, F, Failed, Step, Test, walk_difference};
+use test_helpers::{B, F, Failed, Test, walk_difference};
 
 #[test]
 fn keys_leave_at_ends(rt: HostRuntime) -> Result<(), Failed> {
@@ -28,30 +29,29 @@ fn refill_and_move(test: &Test, map: &mut Numbers) {
 }
 
 // Expects this key, with a drain of these values.
-fn is_popped(test: &Test, popped: Option<(u32, Drain<'_>)>, key: u32, steps: &[Step<u32>]) {
-    match popped {
-        Some((stored, mut drain)) => {
-            test.expect(stored == key);
-            test.expect_same(walk_difference(&mut drain, steps));
-        }
-        None => test.fail(),
-    }
+macro_rules! is_popped {
+    ($test:ident, $popped:expr, $key:expr, $steps:expr) => {
+        $test.expect(lend_drain($popped, false, |entry| {
+            $test.expect(entry.0 == $key);
+            $test.expect_same(walk_difference(&mut entry.1, $steps));
+        }))
+    };
 }
 
 fn keys_leave_in_their_order(test: &Test, map: &mut Numbers) {
     refill_and_move(test, map);
-    is_popped(test, first_key_of(map), 2, &[(F, 7)]);
+    is_popped!(test, first_key_of(map), 2, &[(F, 7)]);
     test.expect(has_lists(map, &[(1, 1), (1, 2), (3, 5)], &[3, 1]));
-    is_popped(test, first_key_of(map), 3, &[(B, 5)]);
-    is_popped(test, first_key_of(map), 1, &[(F, 1), (F, 2)]);
+    is_popped!(test, first_key_of(map), 3, &[(B, 5)]);
+    is_popped!(test, first_key_of(map), 1, &[(F, 1), (F, 2)]);
     test.expect(map.is_empty());
 }
 
 fn keys_leave_from_the_back(test: &Test, map: &mut Numbers) {
     refill_and_move(test, map);
-    is_popped(test, last_key_of(map), 1, &[(B, 2), (B, 1)]);
+    is_popped!(test, last_key_of(map), 1, &[(B, 2), (B, 1)]);
     test.expect(has_lists(map, &[(2, 7), (3, 5)], &[2, 3]));
-    is_popped(test, last_key_of(map), 3, &[(F, 5)]);
+    is_popped!(test, last_key_of(map), 3, &[(F, 5)]);
     test.expect(has_lists(map, &[(2, 7)], &[2]));
 }
 

@@ -10,7 +10,7 @@ use test_helpers::{Failed, Test, is_compared, is_shown};
 #[test]
 fn values_are_tried(rt: HostRuntime) -> Result<(), Failed> {
     test_on_numbers!(rt.alloc(); first_values_stay, entries_come, failures_change_nothing,
-        entries_tell_their_key, faults_are_errors)
+        entries_tell_their_key, faults_are_errors, errors_are_taken_out)
 }
 
 type Tried = Result<u32, OrInsertFault<u32, u32, u8>>;
@@ -79,6 +79,15 @@ const PAIR: Refused<u32, u32> = Refused { key: 1, value: 2 };
 
 type MemoryFault = OrInsertFault<u32, u32, AllocError>;
 
+type IoFault = OrInsertFault<u32, u32, io::Error>;
+
+fn invalid() -> IoFault {
+    OrInsertFault::Failed {
+        key: 1,
+        error: io::Error::from(io::ErrorKind::InvalidData),
+    }
+}
+
 fn faults_are_errors(test: &Test, _map: &mut Numbers) {
     let fault = MemoryFault::Failed {
         key: 1,
@@ -90,11 +99,12 @@ fn faults_are_errors(test: &Test, _map: &mut Numbers) {
     test.expect(is_shown(test.alloc(), &refused, "Refused(..)"));
     test.expect(AllocError::from(fault) == AllocError);
     test.expect(AllocError::from(MemoryFault::Refused(PAIR)) == AllocError);
-    let refused: OrInsertFault<u32, u32, io::Error> = OrInsertFault::Refused(PAIR);
-    test.expect(io::Error::from(refused).kind() == io::ErrorKind::OutOfMemory);
-    let invalid: OrInsertFault<u32, u32, io::Error> = OrInsertFault::Failed {
-        key: 1,
-        error: io::Error::from(io::ErrorKind::InvalidData),
-    };
-    test.expect(io::Error::from(invalid).kind() == io::ErrorKind::InvalidData);
+    test.expect(io::Error::from(IoFault::Refused(PAIR)).kind() == io::ErrorKind::OutOfMemory);
+    test.expect(io::Error::from(invalid()).kind() == io::ErrorKind::InvalidData);
+}
+
+fn errors_are_taken_out(test: &Test, _map: &mut Numbers) {
+    test.expect(OrInsertFault::into_error(MemoryFault::Refused(PAIR)) == AllocError);
+    test.expect(IoFault::Refused(PAIR).into_error().kind() == io::ErrorKind::OutOfMemory);
+    test.expect(invalid().into_error().kind() == io::ErrorKind::InvalidData);
 }
