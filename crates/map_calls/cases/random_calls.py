@@ -14,11 +14,12 @@ def lines(seed, count=LINES):
             [f"append {key} {value}"] * 9
             + [f"{it} {key} {value}" for it in ("insert", "set", "entry_set", "contains", "remove_value", "retain_all")]
             + [f"remove_index {key} {index}"] * 2
-            + [draw.choice([f"append_many {key} {index}", f"try_insert {key} {value}"])]
+            + [draw.choice([f"append_many {key} {index}", f"entry_append_many {key} {index}", f"try_insert {key} {value}"])]
             + [f"{it} {key}" for it in ("or_default", "get_last", "get_key_value", "remove")]
             + [draw.choice([f"move_back {key}", f"move_front {key}", f"rename {key} {'0' * draw.randrange(3)}{draw.randrange(KEYS)}"])]
             + [draw.choice(["sort_keys", "sort_keys_by", "sort_by"])]
-            + ["pop_front", "lists", draw.choice(["swap", "swap", draw.choice(["append_map", "insert_map"]), draw.choice(["lists", "into_keys", "into_values"])])]
+            + [draw.choice(["pop_front", "pop_front", "pop_front_key", "pop_back_key"])]
+            + ["lists", draw.choice(["swap", "swap", draw.choice(["append_map", "insert_map"]), draw.choice(["lists", "into_keys", "into_values"])])]
         )
 
 
@@ -148,11 +149,22 @@ class Lists:
         self.without([0])
         return f"Some(({'Borrowed' if self.places(key) else 'Owned'}({key}), {value}))"
 
+    def pop_key(self, place):
+        """Takes the key at this place among the keys out, with all its values."""
+        if not self.keys:
+            return "None"
+        key = self.keys[place]
+        values = self.values(key)
+        self.without(self.places(key))
+        return f"Some(({key}, EntryValuesDrain({values})))"
+
 
 def whole(lists, other, word):
     """The reply to a command that names no key, or None if there is none."""
     if word == "pop_front":
         return lists.pop()
+    if word in ("pop_front_key", "pop_back_key"):
+        return lists.pop_key(0 if word == "pop_front_key" else -1)
     if word == "lists":
         return shown(lists.keys, lists.pairs)
     if word in ("sort_keys", "sort_keys_by"):
@@ -183,7 +195,9 @@ def of_key(lists, word, key, number):
     first = old[0] if old else None
     if word == "append":
         return lists.append(key, number)
-    if word == "append_many":
+    if word == "entry_append_many" and not old:
+        return None
+    if word in ("append_many", "entry_append_many"):
         for value in range(number):
             lists.append(key, value)
         return max(number, 0)

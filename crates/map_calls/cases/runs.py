@@ -16,6 +16,10 @@ CALLS = [
     ("append_many 04 3", "Some(3)", PAIRS + " 04:0 04:1 04:2", "1 2 3 04"),
     ("append_many 4 0", "Some(0)", PAIRS, "1 2 3"),
     ("append_many 4 -1", "Some(0)", PAIRS, "1 2 3"),
+    ("entry_append_many 2 2", "Some(2)", PAIRS + " 2:0 2:1", "1 2 3"),
+    ("entry_append_many 01 1", "Some(1)", PAIRS + " 1:0", "1 2 3"),
+    ("entry_append_many 1 0", "Some(0)", PAIRS, "1 2 3"),
+    ("entry_append_many 4 2", "None", PAIRS, "1 2 3"),
     ("try_insert 2 9", "Some(6)", PAIRS, "1 2 3"),
     ("try_insert 02 -9", "Some(6)", PAIRS, "1 2 3"),
     ("try_insert 04 9", "Some(9)", PAIRS + " 04:9", "1 2 3 04"),
@@ -69,6 +73,8 @@ CALLS = [
     ("rename 3 1", "Err(Taken(..))", PAIRS, "1 2 3"),
     ("rename 4 5", "Err(Absent(..))", PAIRS, "1 2 3"),
     ("rename 4 1", "Err(Absent(..))", PAIRS, "1 2 3"),
+    ("pop_front_key", "Some((1, EntryValuesDrain([5, 7, 5])))", "2:6 3:8 2:6", "2 3"),
+    ("pop_back_key", "Some((3, EntryValuesDrain([8])))", "1:5 2:6 1:7 1:5 2:6", "1 2"),
 ]
 
 # Calls on the pairs of an only key, of two values, and on none: the reply, and both lists then.
@@ -77,9 +83,13 @@ ALONE = [
     ("1:5 1:7", "move_front 01", "true", "1:5 1:7", "1"),
     ("1:5 1:7", "rename 1 2", "Ok(1)", "2:5 2:7", "2"),
     ("1:5 1:7", "rename 1 001", "Ok(1)", "001:5 001:7", "001"),
+    ("1:5 1:7", "pop_front_key", "Some((1, EntryValuesDrain([5, 7])))", "", ""),
+    ("1:5 1:7", "pop_back_key", "Some((1, EntryValuesDrain([5, 7])))", "", ""),
     ("", "move_back 1", "false", "", ""),
     ("", "move_front 1", "false", "", ""),
     ("", "rename 1 1", "Err(Absent(..))", "", ""),
+    ("", "pop_front_key", "None", "", ""),
+    ("", "pop_back_key", "None", "", ""),
 ]
 
 # Calls after each other on the first pairs, whose replies are true or the old key, then one that finds the keys where
@@ -88,6 +98,9 @@ MOVED = [
     ("move_front 3;move_front 2;move_back 3", "true true true", "get_last 3", "Some(8)", PAIRS, "2 1 3"),
     ("rename 1 4;rename 2 1;rename 4 2", "Ok(1) Ok(2) Ok(4)", "get_last 1", "Some(6)", "2:5 1:6 2:7 3:8 2:5 1:6", "2 1 3"),
     ("rename 2 7;move_front 7", "Ok(2) true", "get_last 2", "None", "1:5 7:6 1:7 3:8 1:5 7:6", "7 1 3"),
+    # The first key isn't that of the first pair, and the last one isn't that of the last.
+    ("move_back 1", "true", "pop_front_key", "Some((2, EntryValuesDrain([6, 6])))", "1:5 1:7 3:8 1:5", "3 1"),
+    ("move_back 1", "true", "pop_back_key", "Some((1, EntryValuesDrain([5, 7, 5])))", "2:6 3:8 2:6", "2 3"),
     ("move_back 1;rename 1 9", "true Ok(1)", "append 9 0", "Some(0)", "9:5 2:6 9:7 3:8 9:5 2:6 9:0", "2 3 9"),
 ]
 

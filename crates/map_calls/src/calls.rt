@@ -34,6 +34,8 @@ pub fn call_on_whole(
             add(other, replies)
         }
         "pop_front" => add(map.pop_front(), replies),
+        "pop_front_key" => add(map.pop_front_key(), replies),
+        "pop_back_key" => add(map.pop_back_key(), replies),
         "into_keys" => Ok(add_keys(taken(map), replies)?),
         "into_values" => Ok(add_values(taken(map), replies)?),
         "lists" => Ok(add_lists(map, replies)?),
@@ -137,6 +139,7 @@ pub fn call_with_number(
     match word {
         "append" => Ok(map.append(key, number)?.then_some(number)),
         "append_many" => Ok(i64::try_from(map.append_many(key, 0..number)?).ok()),
+        "entry_append_many" => Ok(entry_append_many(map, key, number)?),
         "insert" => Ok(map.insert(key, number)?),
         "set" => Ok(map.set(key, number)?),
         "entry_set" => Ok(entry_set(map, key, number)),
@@ -146,6 +149,13 @@ pub fn call_with_number(
         "remove_value" => Ok(map.remove_value(&key, &number)),
         "retain_all" => Ok(retain_all(map, key, number)),
         _ => Err(bad("not a command")),
+    }
+}
+
+fn entry_append_many(map: &mut Map, key: Key, count: i64) -> Result<Option<i64>, AllocError> {
+    match map.entry(key) {
+        Entry::Occupied(mut entry) => Ok(i64::try_from(entry.append_many(0..count)?).ok()),
+        Entry::Vacant(_) => Ok(None),
     }
 }
 

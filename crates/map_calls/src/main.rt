@@ -9,6 +9,7 @@
 //! |---|---|---|
 //! | `append KEY VALUE` | `append` | the value if the key was there |
 //! | `append_many KEY COUNT` | `append_many` of the numbers from 0 on that are below the count | how many |
+//! | `entry_append_many KEY COUNT` | `OccupiedEntry::append_many` of the same, nothing for an absent key | how many |
 //! | `insert KEY VALUE` | `insert` | the old first value |
 //! | `set KEY VALUE` | `set` | the old first value |
 //! | `entry_set KEY VALUE` | `OccupiedEntry::set`, nothing for an absent key | the old first value |
@@ -24,6 +25,7 @@
 //! | `remove_value KEY VALUE` | `remove_value` | the value |
 //! | `retain_all KEY BOUND` | `retain_all` of what is at least the bound, with 1 added | the last value that it was called on |
 //! | `pop_front` | `pop_front` | the key and the value |
+//! | `pop_front_key`, `pop_back_key` | the same call | the key and a drain of its values |
 //! | `append_map` | `append_map` of the second map | the second map |
 //! | `insert_map` | `insert_map` of the second map | the second map |
 //! | `swap` | swaps the maps | nothing |

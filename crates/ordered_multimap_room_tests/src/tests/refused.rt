@@ -2,7 +2,7 @@
 use crate::tests::additions::{Call, fill_up, first, puts};
 use crate::tests::room::pack_to;
 use ordered_multimap::ListOrderedMultimap;
-use ordered_multimap::list_ordered_multimap::{DefaultState, Refused};
+use ordered_multimap::list_ordered_multimap::{DefaultState, Entry, Refused, RefusedValue};
 use ordered_multimap_callers::maps::{Numbers, Refusing, appends, has_lists, has_room, map_of};
 use refusing_allocator::RefusingAllocator;
 use std::alloc::{AllocError, Allocator};
@@ -18,6 +18,7 @@ enum Try {
     ExtendByTrait,
     ExtendCopiedByTrait,
     AppendMany,
+    EntryAppendMany,
 }
 
 // A call, and how many requests it makes at least. Key slots, table and value slots each ask for a
@@ -48,12 +49,14 @@ const TRIES: &[(Try, u64)] = &[
     (Try::ExtendByTrait, 3),
     (Try::ExtendCopiedByTrait, 3),
     (Try::AppendMany, 4),
+    (Try::EntryAppendMany, 1),
 ];
 
 fn prepare<A: Allocator + Copy>(test: &Test, map: &mut Refusing<A>, call: Try) {
     match call {
         Try::PutIntoFull(_) => fill_up(test, map),
         Try::Room(_) => keep_three(test, map),
+        Try::EntryAppendMany => test.expect(map.append(5, 1) == Ok(false)),
         _ => {}
     }
 }
@@ -87,6 +90,7 @@ fn add<A: Allocator + Copy>(test: &Test, map: &mut Refusing<A>, call: Try, copy:
             is_extended(test, map, enough)
         }
         Try::AppendMany => append_many(test, map),
+        Try::EntryAppendMany => entry_append_many(test, map),
         _ => extend(test, map),
     }
 }
@@ -120,6 +124,30 @@ fn append_many<A: Allocator + Copy>(test: &Test, map: &mut Refusing<A>) -> bool 
         }
         Err(Refused { key, value }) => {
             test.expect(key == if count == 0 { Some(5) } else { None });
+            test.expect(MANY.get(count).copied() == Some((5, value)));
+            test.expect(left == MANY.len().saturating_sub(count.saturating_add(1)));
+            false
+        }
+    }
+}
+
+// The same by the entry of the key, which has the first value. The entry hands no key back.
+fn entry_append_many<A: Allocator + Copy>(test: &Test, map: &mut Refusing<A>) -> bool {
+    let mut values = VALUES.iter().copied();
+    test.expect(values.next() == Some(1));
+    let answer = match map.entry(5) {
+        Entry::Occupied(mut entry) => entry.append_many(&mut values),
+        Entry::Vacant(_) => Ok(0),
+    };
+    let count = map.values_len();
+    let left = values.len();
+    test.expect(has_lists(map, first(MANY, count), &[5]));
+    match answer {
+        Ok(all) => {
+            test.expect((all, count, left) == (8, 9, 0));
+            true
+        }
+        Err(RefusedValue { value }) => {
             test.expect(MANY.get(count).copied() == Some((5, value)));
             test.expect(left == MANY.len().saturating_sub(count.saturating_add(1)));
             false
