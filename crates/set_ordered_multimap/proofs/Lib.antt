@@ -1,6 +1,7 @@
 pub mod Callers
 pub mod Ends
 pub mod Insertions
+pub mod KeyPops
 pub mod Lacked
 pub mod Loans
 pub mod Merged

@@ -1,3 +1,4 @@
 pub mod HandsOut
+pub mod KeyPops
 pub mod Passed
 pub mod Pops

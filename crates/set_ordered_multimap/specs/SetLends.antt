@@ -1,6 +1,7 @@
 -- What a set ends as, once a call's result that borrows it has ended.
-use Rattle.std.specs.Prelude.{⊤}
+use Rattle.std.specs.Prelude.{◌≡◌, ⊤, IfNone, OnSome, Option}
 use Rattle.std.specs.Borrow.{Fml, GName, Lends, MutBor, RattleType, follows, follows_so}
+use Rattle.std.specs.Borrow.{name_if_some}
 use Rattle.std.specs.HashMap.Lent.{HashMembers}
 use Rattle.std.specs.declared.alloc.Allocator as alloc
 use Rattle.std.specs.declared.hash.Hasher as hasher
@@ -28,6 +29,13 @@ module _ (K V S A H : RattleType) (key : HashMembers K.Denot)
   abbrev pub ends_as_map : MutBor (Multimap K.Denot V.Denot S.Denot) → GName → Fml
   ends_as_map s name =
       follows set_row (map_row K V S A H key build hash heap) s.ghost_name name (λ m. m)
+
+  -- at `None` the set ends as it is; else it ends as the map whose loan has the name
+  abbrev pub ends_set_key_popped : {D : Type 0} → (D → GName)
+      → MutBor (Multimap K.Denot V.Denot S.Denot) → Option (K.Denot × D) → Fml
+  ends_set_key_popped name s r =
+      follows_so set_row (map_row K V S A H key build hash heap) s.ghost_name
+      (name_if_some (λ p. name p.1) r) (λ x n. OnSome r (n ≡ x)) (λ n. IfNone r (n ≡ s.now))
 
   -- a pair was popped at an end of the set
   abbrev pub ends_set_popped : End → MutBor (Multimap K.Denot V.Denot S.Denot) → Fml

@@ -61,6 +61,7 @@
 //! | `contains_key`, `entry_len`, `get`, `get_key_value`, `get_last` | *O*(1) expected |
 //! | `move_key_to_back`, `move_key_to_front`, `rename_key` | *O*(1) expected |
 //! | `contains`, `remove_value`, `remove_index`, `remove_all` | *O*(*v*) expected |
+//! | `pop_front_key`, `pop_back_key` | *O*(*v*) expected |
 //! | `retain_all` | *O*(*v*) expected, and as many calls of its function |
 //! | `insert` | *O*(*v*) expected, amortized |
 //! | `front`, `back`, `is_empty`, lengths, capacities | *O*(1) |

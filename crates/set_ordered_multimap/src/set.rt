@@ -11,6 +11,7 @@ mod lookup;
 mod move_key;
 mod pack;
 mod pop;
+mod pop_key;
 mod remove;
 mod rename_key;
 mod reserve;

@@ -3,6 +3,7 @@ mod callers;
 mod calls;
 mod joined;
 mod lists;
+mod popped_keys;
 mod queries;
 mod random;
 mod refused;
