@@ -25,7 +25,7 @@ const fn after(start: Option<&'static str>, name: &'static str, operations: u64)
 }
 
 /// Every workload that is timed. Its place is its number in the static library.
-pub const WORKLOADS: [Workload; 33] = [
+pub const WORKLOADS: [Workload; 35] = [
     after(None, "append_distinct", 16),
     after(None, "append_few", 16),
     after(None, "append_grouped", 16),
@@ -59,6 +59,8 @@ pub const WORKLOADS: [Workload; 33] = [
     after(None, "form_fields", 1),
     after(None, "config_section", 1),
     after(None, "forty_headers", 1),
+    after(SCATTERED, "set_over_eight", 2),
+    after(DISTINCT, "remove_single", 8),
 ];
 
 /// The workloads whose memory is measured, by the numbers behind those.

@@ -16,6 +16,29 @@ pub fn insert_replace<M: Multimap>(n: u64, seed: u64) -> u64 {
     with_lens(checksum, &map.lens())
 }
 
+pub fn set_over_eight<M: Multimap>(n: u64, seed: u64) -> u64 {
+    let Filled {
+        mut map,
+        mut checksum,
+    } = scattered::<M>(n, seed);
+    for g in 0..n / 8 {
+        let old = map.set(key(seed, g), value(seed, n + g));
+        checksum = mix(checksum, old.unwrap_or(0));
+    }
+    with_lens(checksum, &map.lens())
+}
+
+pub fn remove_single<M: Multimap>(n: u64, seed: u64) -> u64 {
+    let Filled {
+        mut map,
+        mut checksum,
+    } = distinct::<M>(n, seed);
+    for half in 0..n / 2 {
+        checksum = mix(checksum, map.remove(key(seed, 2 * half)).unwrap_or(0));
+    }
+    with_lens(checksum, &map.lens())
+}
+
 pub fn remove_all_half<M: Multimap>(n: u64, seed: u64) -> u64 {
     let Filled {
         mut map,

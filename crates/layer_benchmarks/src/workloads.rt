@@ -37,6 +37,8 @@ const NAMES: &[&str] = &[
     "form_fields",
     "config_section",
     "forty_headers",
+    "set_over_eight",
+    "remove_single",
     "hold_distinct",
     "hold_grouped",
     "hold_few",

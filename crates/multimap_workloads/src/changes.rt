@@ -69,6 +69,32 @@ pub(crate) fn replaces<S: BuildHasher>(map: &mut Map<S>, run: Run, start: u64) -
     Some(ends(map, checksum))
 }
 
+/// Sets each key, which has eight values, so that it has one.
+#[inline(never)]
+pub(crate) fn sets<S: BuildHasher>(map: &mut Map<S>, run: Run, start: u64) -> Option<u64> {
+    let mut checksum = start;
+    for group in 0..run.pairs / 8 {
+        let value = run.value(run.pairs.wrapping_add(group));
+        let old = match map.set(run.key(group), value) {
+            Ok(old) => old,
+            Err(_) => return None,
+        };
+        checksum = mix(checksum, old.unwrap_or(0));
+    }
+    Some(ends(map, checksum))
+}
+
+/// Takes out every other key with its only value.
+#[inline(never)]
+pub(crate) fn removes_single<S: BuildHasher>(map: &mut Map<S>, run: Run, start: u64) -> u64 {
+    let mut checksum = start;
+    for half in 0..run.pairs / 2 {
+        let old = map.remove(&run.key(half.wrapping_mul(2)));
+        checksum = mix(checksum, old.unwrap_or(0));
+    }
+    ends(map, checksum)
+}
+
 /// Takes out every other key with its eight values.
 pub(crate) fn removes<S: BuildHasher>(map: &mut Map<S>, run: Run, start: u64) -> u64 {
     let mut checksum = start;

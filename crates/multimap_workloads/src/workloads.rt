@@ -1,6 +1,8 @@
 //! The workloads, each on a map of its own under any hash builder.
 use crate::appends::{Map, distinct, ends, few, grouped, scattered, spread_over_twelve};
-use crate::changes::{counts, fifo, fifo_few, fifo_small, removes, replaces, retains};
+use crate::changes::{
+    counts, fifo, fifo_few, fifo_small, removes, removes_single, replaces, retains, sets,
+};
 use crate::lookups::{
     all_keys, all_lists, all_pairs, clones, hits, misses, sixteen_keys, sum_of_pairs, walks,
 };
@@ -80,6 +82,10 @@ pub(crate) enum Workload {
     SortBy,
     /// Makes, fills, asks, changes and drops maps with text keys.
     Names(Named),
+    /// Sets each key, which has eight values, after `AppendScattered`.
+    SetOverEight,
+    /// Takes out half of the keys, which have a value each, after `AppendDistinct`.
+    RemoveSingle,
     /// Marks the memory in use after `AppendDistinct`.
     HoldDistinct,
     /// Marks the memory in use after `AppendGrouped`.
@@ -89,7 +95,7 @@ pub(crate) enum Workload {
 }
 
 /// The workloads by their numbers.
-pub(crate) const WORKLOADS: [Workload; 36] = [
+pub(crate) const WORKLOADS: [Workload; 38] = [
     Workload::AppendDistinct,
     Workload::AppendFew,
     Workload::AppendGrouped,
@@ -123,6 +129,8 @@ pub(crate) const WORKLOADS: [Workload; 36] = [
     Workload::Names(Named::FormFields),
     Workload::Names(Named::ConfigSection),
     Workload::Names(Named::FortyHeaders),
+    Workload::SetOverEight,
+    Workload::RemoveSingle,
     Workload::HoldDistinct,
     Workload::HoldGrouped,
     Workload::HoldFew,
@@ -172,6 +180,7 @@ fn fill<S: BuildHasher>(map: &mut Map<S>, workload: Workload, run: Run) -> Optio
         | Workload::InsertReplace
         | Workload::RetainHalf
         | Workload::SortKeys
+        | Workload::RemoveSingle
         | Workload::HoldDistinct => distinct(map, run, START),
         Workload::AppendFew | Workload::FifoChurnFew | Workload::HoldFew => few(map, run, START),
         Workload::AppendGrouped
@@ -189,6 +198,7 @@ fn fill<S: BuildHasher>(map: &mut Map<S>, workload: Workload, run: Run) -> Optio
         | Workload::Clone
         | Workload::IterMutAll
         | Workload::UpdateValues
+        | Workload::SetOverEight
         | Workload::SortBy => scattered(map, run, START),
         Workload::Extend => extends(map, run, START),
         _ => Some(START),
@@ -208,6 +218,8 @@ fn change<S: BuildHasher>(
         Workload::FifoSmall => fifo_small(map, run, checksum),
         Workload::InsertReplace => replaces(map, run, checksum),
         Workload::RemoveAllHalf => Some(removes(map, run, checksum)),
+        Workload::RemoveSingle => Some(removes_single(map, run, checksum)),
+        Workload::SetOverEight => sets(map, run, checksum),
         Workload::RetainHalf | Workload::RetainHalfMulti => Some(retains(map, checksum)),
         Workload::EntryCount => counts(map, run, checksum),
         Workload::IterMutAll => Some(adds_keys(map, checksum)),

@@ -37,6 +37,11 @@ impl<S: BuildHasher + Default> Multimap for Original<u64, S> {
     }
 
     #[inline(always)]
+    fn remove(&mut self, key: u64) -> Option<u64> {
+        self.0.remove(&key)
+    }
+
+    #[inline(always)]
     fn retain(&mut self, mut keeps: impl FnMut(u64) -> bool) {
         self.0.retain(|_, value| keeps(*value));
     }
