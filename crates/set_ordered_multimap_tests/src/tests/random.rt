@@ -127,15 +127,15 @@ fn makes_room<S: BuildHasher>(set: &mut SetBy<S>, d: Drawn) -> Result<bool, Allo
     Ok(set.keys_len() <= set.keys_capacity() && set.values_len() <= set.values_capacity())
 }
 
-// Whether both add the pairs that they lack, or first take those of their keys out, of a set that is
-// emptied or copied.
-fn appends<S: BuildHasher>(
+// Inserts three pairs into the other set and the lists, and takes all into this set: those that it
+// lacks, or first those of their keys out. Whether that emptied the other one where it should.
+fn takes<S: BuildHasher>(
     set: &mut SetBy<S>,
     lists: &mut Lists,
+    other: &mut SetBy,
     d: Drawn,
 ) -> Result<bool, AllocError> {
     let replaces = d.call == 22 && d.value < 2;
-    let mut other = SetBy::with_capacity(*set.allocator(), 2, 3)?;
     if replaces {
         lists.make_way(d.key);
         lists.make_way(d.other);
@@ -145,13 +145,23 @@ fn appends<S: BuildHasher>(
         lists.insert(key, value)?;
     }
     if replaces {
-        set.insert_set(&mut other)?;
+        set.insert_set(other)?;
     } else if d.call == 22 {
-        set.append_set(&mut other)?;
+        set.append_set(other)?;
     } else {
-        set.extend_copied(&other)?;
+        set.extend_copied(&*other)?;
     }
     Ok(other.is_empty() == (d.call == 22))
+}
+
+// The same of a set that is made for it.
+fn appends<S: BuildHasher>(
+    set: &mut SetBy<S>,
+    lists: &mut Lists,
+    d: Drawn,
+) -> Result<bool, AllocError> {
+    let mut other = SetBy::with_capacity(*set.allocator(), 2, 3)?;
+    takes(set, lists, &mut other, d)
 }
 
 // Whether a copy hands out the keys, each where it first comes, or the values.
