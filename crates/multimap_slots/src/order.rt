@@ -16,7 +16,7 @@ use node::{Node, Standing, State};
 use optional_place::OptionalPlace;
 use std::alloc::{AllocError, Allocator};
 use std::marker::Model;
-use write::{claim, set_next};
+use write::{claim, release, set_next, unlink};
 
 /// Places in an order, each with a link.
 #[derive(Drop)]
@@ -109,8 +109,10 @@ impl<L: Copy, A: Allocator> Order<L, A> {
         requires { IsIn place self.old.order }
         ensures { RemovesPlace self.old self.new place }
     {
-        self.detach(place);
-        self.free_detached(place);
+        unlink(&mut self.nodes, &mut self.front, &mut self.back, place);
+        release(&mut self.nodes, place, self.free);
+        self.free = OptionalPlace::some(place);
+        self.len -= 1;
     }
 
     /// Gives up every place, and keeps the capacity.

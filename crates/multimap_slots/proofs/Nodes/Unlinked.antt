@@ -207,6 +207,29 @@ module _ {L : Type 0} where
         m : Marks both new place Detached
         m = Marks-detached both new place written
 
+    -- the place that has left is the first free one
+    pub IsOrdered-release : Releases both new place free
+        → HasOrder new front' back' (Some place) (len - 1) detached (s.front ++ s.back)
+    IsOrdered-release freed =
+        subst (λ d. HasOrder new front' back' (Some place) (len - 1) d (s.front ++ s.back)) none_more
+        (IsOrdered-unlink o s u m (λ e. cc) (Some place) (suc o.vacant) (omega arith) (
+          place,
+          refl,
+          rw length-map (omega (arith, marks-length m, within_both o s u m)),
+          marks-same m (within_both o s u m),
+          subst (IsFreeList (nexts new) (states new) o.vacant) (sym behind) (frees_kept o s u m),
+        ))
+      where
+        m : Marks both new place Free
+        m = Marks-free both new place free freed
+
+        none_more : detached + 0 ≡ detached
+        none_more = omega arith
+
+        behind : get_or (nexts new) place None ≡ free
+        behind = ap (λ ns. get_or ns place None) freed.nexts
+            ∙ get_or-set_same (nexts both) place free None (rw length-map (within_both o s u m))
+
   -- a detached place is the first free one
   pub IsOrdered-free : {old new : List (Node L)} {front back free : Option ℕ} {len detached place : ℕ}
       (o : IsOrdered old front back free len detached)
