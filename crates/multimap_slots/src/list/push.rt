@@ -10,11 +10,9 @@ use crate::in_order::Stored;
 use std::alloc::{AllocError, Allocator};
 use std::mem;
 
-/// The slots that the first growth gives at least, and the second one. So a list of few items asks
-/// for memory twice. From then on the slots double.
-const FIRST_SLOTS: usize = 4;
-
-const SECOND_SLOTS: usize = 12;
+/// The slots that the first growth gives at least, so that a list of few items asks for memory once.
+/// From then on the slots double.
+const FIRST_SLOTS: usize = 12;
 
 /// Writes the item at an empty slot, or right behind the slots.
 fn put_item<T, A: Allocator>(items: &mut Vec<Option<T>, A>, place: usize, item: T)
@@ -78,12 +76,7 @@ impl<T, L: Copy, A: Allocator> SlotList<T, L, A> {
         let Some(slots) = self.items.len().checked_add(missing) else {
             return Err(AllocError);
         };
-        let least = if self.items.len() == 0 {
-            FIRST_SLOTS
-        } else {
-            SECOND_SLOTS
-        };
-        let slots = slots.max(least);
+        let slots = slots.max(FIRST_SLOTS);
         if self.items.capacity() <= self.order.capacity() {
             self.order.grow_to(slots)?;
             grow_to(&mut self.items, slots)

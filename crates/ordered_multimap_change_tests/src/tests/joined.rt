@@ -85,8 +85,7 @@ fn both_new<A: Allocator + Copy>(alloc: A) -> Both<A> {
     (Refusing::new(alloc), Refusing::new(alloc))
 }
 
-// Takes the pairs again behind one of its own, in the room that it has. Those that replace others
-// take their place.
+// Takes the pairs again, in the room that it has: behind one of its own, or in the place of three.
 fn take_again<A: Allocator + Copy>(
     test: &Test,
     call: Call,
@@ -94,9 +93,8 @@ fn take_again<A: Allocator + Copy>(
     other: &mut Refusing<A>,
 ) {
     fill(test, other, OTHER);
-    if !call.inserts {
-        map.retain(|_key, value| *value == 2);
-    }
+    let inserts = call.inserts;
+    map.retain(|_key, value| if inserts { *value != 7 } else { *value == 2 });
     let room = (map.keys_capacity(), map.values_capacity());
     test.expect(move_all(call, map, other));
     test.expect((map.keys_capacity(), map.values_capacity()) == room);

@@ -1,4 +1,5 @@
 //! Calls that put a pair into a map, and what one leaves whose memory is refused.
+use crate::tests::room::pack_to;
 use ordered_multimap::list_ordered_multimap::{Entry, OrInsertFault, Refused, RefusedValue};
 use ordered_multimap_callers::maps::{Refusing, has_lists};
 use std::alloc::Allocator;
@@ -133,8 +134,7 @@ pub fn puts<A: Allocator + Copy>(test: &Test, map: &mut Refusing<A>, call: Call)
 
 /// Appends the pairs, all of one key, as long as there is room.
 pub fn fill_up<A: Allocator + Copy>(test: &Test, map: &mut Refusing<A>) {
-    test.expect(map.reserve_keys(1).is_ok());
-    test.expect(map.reserve_values(2).is_ok());
+    test.expect(pack_to(test, map, 1, 4));
     for (key, value) in first(PAIRS, map.values_capacity()) {
         test.expect(map.append(*key, *value).is_ok());
     }

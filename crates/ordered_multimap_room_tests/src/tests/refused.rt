@@ -106,9 +106,17 @@ const MANY: &[(u32, u32)] = &[
     (5, 7),
     (5, 8),
     (5, 9),
+    (5, 10),
+    (5, 11),
+    (5, 12),
+    (5, 13),
+    (5, 14),
+    (5, 15),
+    (5, 16),
+    (5, 17),
 ];
 
-const VALUES: &[u32] = &[1, 2, 3, 4, 5, 6, 7, 8, 9];
+const VALUES: &[u32] = &[1, 2, 3, 4, 5, 6, 7, 8, 9, 10, 11, 12, 13, 14, 15, 16, 17];
 
 // It returns whether there was memory for all values. The key comes back with the first one alone.
 fn append_many<A: Allocator + Copy>(test: &Test, map: &mut Refusing<A>) -> bool {
@@ -119,7 +127,7 @@ fn append_many<A: Allocator + Copy>(test: &Test, map: &mut Refusing<A>) -> bool 
     test.expect(has_lists(map, first(MANY, count), first(&[5], count)));
     match answer {
         Ok(all) => {
-            test.expect((all, count, left) == (9, 9, 0));
+            test.expect((all, count, left) == (17, 17, 0));
             true
         }
         Err(Refused { key, value }) => {
@@ -144,7 +152,7 @@ fn entry_append_many<A: Allocator + Copy>(test: &Test, map: &mut Refusing<A>) ->
     test.expect(has_lists(map, first(MANY, count), &[5]));
     match answer {
         Ok(all) => {
-            test.expect((all, count, left) == (8, 9, 0));
+            test.expect((all, count, left) == (16, 17, 0));
             true
         }
         Err(RefusedValue { value }) => {

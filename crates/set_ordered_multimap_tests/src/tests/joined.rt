@@ -149,6 +149,7 @@ fn both_new<A: Allocator + Copy>(alloc: A) -> Both<A> {
 
 fn fill_both<A: Allocator + Copy>(test: &Test, both: &mut Both<A>) {
     refill(test, &mut both.0, FULL);
+    test.expect(both.0.pack_to_fit().is_ok());
     refill(test, &mut both.1, OTHER);
 }
 

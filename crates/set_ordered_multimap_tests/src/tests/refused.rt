@@ -13,7 +13,7 @@ type Pairs = &'static [(u32, u32)];
 
 #[derive(Clone, Copy)]
 enum Try {
-    // Of a new pair of the key 1, where the set has these pairs, of these keys.
+    // Of a new pair of the key 1, where the set has these pairs, of these keys, and no more room.
     Insert(Pairs, &'static [u32]),
     Extend,
     // By std's trait.
@@ -26,7 +26,7 @@ enum Try {
 }
 
 // A call, and how many requests it makes at least. A new set makes key slots, a table and value
-// slots. Four pairs fill the first value slots, so that a fifth one wants more.
+// slots.
 const TRIES: &[(Try, u64)] = &[
     (Try::Insert(&[], &[]), 3),
     (Try::Insert(FULL, &[1]), 1),
@@ -42,7 +42,7 @@ const NEW: (u32, u32) = (1, 5);
 // next to so many of the set.
 const PAIRS: &[(u32, u32)] = &[(1, 1), (2, 2), (1, 1), (3, 3)];
 
-// Pairs that fill the first value slots.
+// Pairs of a set that has no more room.
 const FULL: &[(u32, u32)] = &[(1, 1), (1, 2), (1, 3), (1, 4)];
 
 const FIRST: &[(u32, u32)] = &[(1, 1), (2, 2), (3, 3)];
@@ -164,6 +164,14 @@ fn pairs_before(call: Try) -> &'static [(u32, u32)] {
     }
 }
 
+fn fill<A: Allocator + Copy>(test: &Test, set: &mut Refusing<A>, call: Try) {
+    refill(test, set, pairs_before(call));
+    match call {
+        Try::Insert(..) | Try::ExtendByPresent => test.expect(set.pack_to_fit().is_ok()),
+        _ => {}
+    }
+}
+
 fn tries<A: Allocator + Copy>(test: &Test, set: &mut Refusing<A>, call: Try) -> bool {
     match call {
         Try::Insert(before, keys) => put(test, set, before, keys),
@@ -176,8 +184,7 @@ fn tries<A: Allocator + Copy>(test: &Test, set: &mut Refusing<A>, call: Try) -> 
 }
 
 fn tries_with(test: &Test, granted: u64, call: Try) -> bool {
-    let pairs = pairs_before(call);
-    try_on_new!(test, granted; SetOrderedMultimap::new; refill, pairs; tries, call)
+    try_on_new!(test, granted; SetOrderedMultimap::new; fill, call; tries, call)
 }
 
 fn from_iter_with(test: &Test, granted: u64) -> bool {
