@@ -45,14 +45,19 @@ fn keys_are_put_into_an_option(test: &Test, set: &mut SetBy) {
     test.expect(stored == Some(1) && has_lists(set, &[(3, 5)], &[3]));
 }
 
-fn without_a_key_nothing_leaves(test: &Test, set: &mut SetBy) {
-    set.clear();
+fn no_key_leaves(test: &Test, set: &mut SetBy) {
     test.expect(set.pop_front_key().is_none() && set.pop_back_key().is_none());
     let mut stored = Some(9);
     test.expect(set.pop_front_key_with_all(&mut stored).next() == None && stored == None);
     stored = Some(9);
     test.expect(set.pop_back_key_with_all(&mut stored).next() == None && stored == None);
-    test.expect(set.insert(4, 9) == Ok(true) && has_lists(set, &[(4, 9)], &[4]));
+}
+
+fn without_a_key_nothing_leaves(test: &Test, set: &mut SetBy) {
+    set.clear();
+    no_key_leaves(test, set);
+    refill(test, set, &[(4, 9)]);
+    test.expect(has_lists(set, &[(4, 9)], &[4]));
 }
 
 fn keys_leave(test: &Test, set: &mut SetBy) {

@@ -115,16 +115,22 @@ fn values_are_handed_out<S: BuildHasher>(test: &Test, set: &mut Owned<S>, row: &
     test.expect(is_shown(test.alloc(), set, row.3));
 }
 
+fn a_text_is_a_query<S: BuildHasher>(test: &Test, set: &mut Owned<S>, at: usize, row: &Row) {
+    refill(test, set);
+    test.expect_at(
+        at,
+        is_found(set, row.0, row.1) && pairs_are_found(set, row.0, row.1),
+    );
+    value_leaves(test, set, row);
+    index_leaves(test, set, row);
+    others_stay(test, set, row);
+    values_leave(test, set, row);
+    values_are_handed_out(test, set, row);
+}
+
 fn texts_are_queries<S: BuildHasher>(test: &Test, set: &mut Owned<S>) {
     for (at, row) in ROWS.iter().enumerate() {
-        refill(test, set);
-        test.expect_at(at, is_found(set, row.0, row.1));
-        test.expect_at(at, pairs_are_found(set, row.0, row.1));
-        value_leaves(test, set, row);
-        index_leaves(test, set, row);
-        others_stay(test, set, row);
-        values_leave(test, set, row);
-        values_are_handed_out(test, set, row);
+        a_text_is_a_query(test, set, at, row);
     }
 }
 

@@ -5,7 +5,7 @@ use ordered_multimap::list_ordered_multimap::KeyWrapper;
 use set_ordered_multimap::SetOrderedMultimap;
 use std::alloc::AllocError;
 use std::hash::BuildHasher;
-use test_helpers::{Failed, Test, ZERO, copied, next_random, test_on_new};
+use test_helpers::{Failed, Test, copied, next_random, test_on_new};
 
 const CALLS: usize = 4000;
 
@@ -84,7 +84,26 @@ fn loses_values<S: BuildHasher>(set: &mut SetBy<S>, lists: &mut Lists, d: Drawn)
     true
 }
 
-// Whether both move, rename or sort alike.
+// Whether both sort alike.
+fn sorts<S: BuildHasher>(
+    set: &mut SetBy<S>,
+    lists: &mut Lists,
+    d: Drawn,
+) -> Result<bool, AllocError> {
+    if d.call == 17 {
+        lists.pairs.sort_by(|a, b| a.1.cmp(&b.1))?;
+        return Ok(set.sort_by(|_, value, _, other| value.cmp(other)).is_ok());
+    }
+    if d.value < 2 {
+        lists.sort_keys_by_len()?;
+        let sorted = set.sort_keys_by_cached_key(|_key, values| values.len());
+        return Ok(sorted.is_ok());
+    }
+    lists.keys.sort()?;
+    Ok(set.sort_keys().is_ok())
+}
+
+// Whether both move or rename alike.
 fn reorders<S: BuildHasher>(
     set: &mut SetBy<S>,
     lists: &mut Lists,
@@ -93,20 +112,7 @@ fn reorders<S: BuildHasher>(
     match d.call {
         12 => Ok(set.move_key_to_back(&d.key) == lists.move_key(d.key, false)?),
         13 => Ok(set.move_key_to_front(&d.key) == lists.move_key(d.key, true)?),
-        14 | 15 => Ok(set.rename_key(&d.key, d.other) == lists.rename(d.key, d.other)),
-        16 if d.value < 2 => {
-            lists.sort_keys_by_len()?;
-            let sorted = set.sort_keys_by_cached_key(|_key, values| values.len());
-            Ok(sorted.is_ok())
-        }
-        16 => {
-            lists.keys.sort()?;
-            Ok(set.sort_keys().is_ok())
-        }
-        _ => {
-            lists.pairs.sort_by(|a, b| a.1.cmp(&b.1))?;
-            Ok(set.sort_by(|_, value, _, other| value.cmp(other)).is_ok())
-        }
+        _ => Ok(set.rename_key(&d.key, d.other) == lists.rename(d.key, d.other)),
     }
 }
 
@@ -164,15 +170,21 @@ fn appends<S: BuildHasher>(
     takes(set, lists, &mut other, d)
 }
 
+// A set of the same pairs.
+fn copy_of<S: BuildHasher>(set: &SetBy<S>) -> Result<SetBy, AllocError> {
+    let mut copy = SetBy::with_capacity(*set.allocator(), 2, 3)?;
+    copy.extend_copied(set.iter())?;
+    Ok(copy)
+}
+
 // Whether a copy hands out the keys, each where it first comes, or the values.
 fn hands_out<S: BuildHasher>(set: &SetBy<S>, lists: &Lists, d: Drawn) -> Result<bool, AllocError> {
-    let mut copy = SetBy::with_capacity_and_hasher(*set.allocator(), 2, 3, ZERO)?;
-    copy.extend_copied(set.iter())?;
     if d.value < 2 {
         let keys = lists.first_occurrences(*set.allocator())?;
-        return Ok(copy.into_keys().eq(keys));
+        return Ok(copy_of(set)?.into_keys().eq(keys));
     }
-    Ok(copy.into_values().eq(lists.pairs.iter().map(|pair| pair.1)))
+    let values = lists.pairs.iter().map(|pair| pair.1);
+    Ok(copy_of(set)?.into_values().eq(values))
 }
 
 fn is_called<S: BuildHasher>(
@@ -183,7 +195,8 @@ fn is_called<S: BuildHasher>(
     match d.call {
         0..=5 => Ok(inserts(set, lists, d)),
         6..=11 => Ok(removes(set, lists, d)),
-        12..=17 => reorders(set, lists, d),
+        12..=15 => reorders(set, lists, d),
+        16 | 17 => sorts(set, lists, d),
         18..=21 => makes_room(set, d),
         22 | 23 => appends(set, lists, d),
         24 | 25 => Ok(loses_values(set, lists, d)),
@@ -215,19 +228,32 @@ fn finds<S: BuildHasher>(set: &SetBy<S>, lists: &Lists, d: Drawn) -> bool {
         && copied(set.get_last(&d.key)) == last.or(first)
 }
 
-fn random_calls_agree<S: BuildHasher>(test: &Test, set: &mut SetBy<S>) {
-    let mut lists = Lists::new(test.alloc());
+fn call_agrees<S: BuildHasher>(
+    test: &Test,
+    set: &mut SetBy<S>,
+    lists: &mut Lists,
+    at: usize,
+    d: Drawn,
+) {
+    test.expect_at(at, is_called(set, lists, d) == Ok(true));
+    let same = has_lists(set, lists.pairs.as_slice(), lists.keys.as_slice());
+    test.expect_at(
+        at,
+        same && finds(set, lists, d) && finds_entry(set, lists, d),
+    );
+}
+
+fn calls_agree<S: BuildHasher>(test: &Test, set: &mut SetBy<S>, lists: &mut Lists) {
     let mut random = 88_172_645_463_325_252;
     for at in 0..CALLS {
         random = next_random(random);
-        let d = draw(random);
-        test.expect_at(at, is_called(set, &mut lists, d) == Ok(true));
-        test.expect_at(
-            at,
-            has_lists(set, lists.pairs.as_slice(), lists.keys.as_slice()),
-        );
-        test.expect_at(at, finds(set, &lists, d) && finds_entry(set, &lists, d));
+        call_agrees(test, set, lists, at, draw(random));
     }
+}
+
+fn random_calls_agree<S: BuildHasher>(test: &Test, set: &mut SetBy<S>) {
+    let mut lists = Lists::new(test.alloc());
+    calls_agree(test, set, &mut lists);
 }
 
 #[test]
