@@ -1,8 +1,10 @@
 pub mod AtEnds
 pub mod ByIndex
+pub mod LaterValues
 pub mod OlderValues
 pub mod OneLink
 pub mod OnePair
+pub mod OneStays
 pub mod OneValue
 pub mod OneValueOut
 pub mod PassedOver

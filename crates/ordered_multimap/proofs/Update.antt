@@ -1,5 +1,4 @@
 pub mod FirstValue
 pub mod OneKey
-pub mod OnlyValue
 pub mod Rewriting
 pub mod Updates

@@ -201,9 +201,6 @@ module _ {K V : Type 0} {eq : K → K → Bool} (laws : IsEquivalence eq) {hash 
   pub pushed_has : HasKey eq done.keys_pushed k place
   pushed_has = has_pushed
 
-  pub pushed_order : done.pushed_values.order ≡ done.reserved.order ++ done.older.link.tail ∷ []
-  pushed_order = order_is
-
   pub pushed_pairs : pairs_of done.keys_pushed done.pushed_values ≡ pairs_of keys values ++ (stored_key eq (items_of keys) k, v) ∷ []
   pushed_pairs = pairs_pushed
 

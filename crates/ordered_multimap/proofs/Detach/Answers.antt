@@ -19,7 +19,7 @@ use Rattle.ordered_multimap.proofs.Callers.ListedKeys.{is_listed-member, stored_
 use Rattle.ordered_multimap.proofs.Agreement.Kept.{push_inj}
 use Rattle.ordered_multimap.proofs.Callers.Places.{IsIn-filter_map, held}
 use Rattle.ordered_multimap.proofs.Agreement.LookUps.{values_of-chain}
-use Rattle.ordered_multimap.proofs.Append.Inserted.{pushed_agrees, pushed_has, pushed_order, pushed_pairs, values_of-append}
+use Rattle.ordered_multimap.proofs.Append.Inserted.{pushed_agrees, pushed_has, pushed_pairs, values_of-append}
 use Rattle.ordered_multimap.proofs.Remove.OlderValues.{parts, tail_own}
 
 module _ {K V : Type 0} {eq : K → K → Bool} (laws : IsEquivalence eq) {hash : K
@@ -36,8 +36,7 @@ module _ {K V : Type 0} {eq : K → K → Bool} (laws : IsEquivalence eq) {hash 
       let there = pushed_has laws agrees k v place has d in
       let tail = d.older.link.tail in
       let item = held (item_at d.pushed_values tail)
-      (after.values_sound.filled tail (tail_own laws after k place there d.older d.reserved.order
-      (pushed_order laws agrees k v place has d)).0) in
+      (after.values_sound.filled tail (tail_own laws after k place there d.older).0) in
       let listed = is_listed-member laws k has.stored (items_of keys)
       (IsIn-filter_map (item_at keys) place has.stored keys.order has.listed has.item_is) has.equal in
       let own = (stored_key_member laws k (items_of keys) listed).1 in
@@ -48,6 +47,6 @@ module _ {K V : Type 0} {eq : K → K → Bool} (laws : IsEquivalence eq) {hash 
       ∙ sym (values_of-append eq k (pairs_of keys values) ((stored_key eq (items_of keys) k, v) ∷ []))
       ∙ ap (λ ps. values_of eq ps k) (sym (pushed_pairs laws agrees k v place has d))
       ∙ values_of-chain laws after k place there
-      ∙ ap (values_at d.pushed_values) (parts laws after k place there d.older d.reserved.order (pushed_order laws agrees k v place has d))
+      ∙ ap (values_at d.pushed_values) (parts laws after k place there d.older)
       ∙ filter_map-append (item_at d.pushed_values) d.older.taking.gone (tail ∷ [])
       ∙ ap (λ o. values_at d.pushed_values d.older.taking.gone ++ cons_option o []) item.is)).0

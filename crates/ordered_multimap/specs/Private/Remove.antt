@@ -1,6 +1,6 @@
 -- Values that leave the map, and the key that goes with its last one. No public clause cites this
 -- module.
-use Rattle.std.specs.Prelude.{◌≡◌, ◌==◌, ℕ, Bool, true, false, not, List, ◌++◌, length, filter}
+use Rattle.std.specs.Prelude.{◌≡◌, ◌==◌, ℕ, Bool, true, false, not, List, ◌∷◌, ◌++◌, length, filter}
 use Rattle.std.specs.Prelude.{◌≢◌, ◌+◌, ◌≤◌, Option, Some, None}
 use Rattle.std.specs.List.{list_any}
 use Rattle.std.specs.Ordering.{nat_cmp}
@@ -154,6 +154,22 @@ pub record TakesOlder {K V : Type 0} (keys keys_after : Slots K KeyLink)
   pub keys_are : keys_after ≡ with_link keys place
       (record { hash = link.hash; head = link.tail; tail = link.tail; length = 1 })
 
+-- all values of the key at the place have left but its first one, whose link and that of the key
+-- name no other
+pub record TakesLater {K V : Type 0} (keys keys_after : Slots K KeyLink)
+    (values values_after : Slots V ValueLink) (place : ℕ) : Type 0 where
+  pub link : KeyLink
+  pub link_is : link_at keys place ≡ Some link
+  pub gone : List ℕ
+  pub parts : chain_of values place ≡ link.head ∷ gone
+  pub left : Slots V ValueLink
+  pub taken : TakesValues (among gone) values left
+  pub rest : values_after ≡ record left { links = values_after.links }
+  pub alone : (l : ValueLink) → link_at left link.head ≡ Some l
+      → link_at values_after link.head ≡ Some (record l { next = None })
+  pub links : (q : ℕ) → q ≢ link.head → link_at values_after q ≡ link_at left q
+  pub keys_are : keys_after ≡ with_link keys place (record link { tail = link.head; length = 1 })
+
 -- the end has room, a value was put behind the others of the key at the place, and these have left
 pub record InsertsBehind {K V : Type 0} (keys keys_after : Slots K KeyLink)
     (values values_after : Slots V ValueLink) (place : ℕ) (value : V) : Type 0 where
@@ -164,6 +180,12 @@ pub record InsertsBehind {K V : Type 0} (keys keys_after : Slots K KeyLink)
   pub pushed_values : Slots V ValueLink
   pub pushed : PushesBehind keys_reserved keys_pushed reserved pushed_values place value
   pub older : TakesOlder keys_pushed keys_after pushed_values values_after place
+
+-- all values of the key at the place have left but its first one, and they are counted
+pub record UnlinksLater {K V : Type 0} (keys keys_after : Slots K KeyLink)
+    (values values_after : Taped V ValueLink) (place : ℕ) : Type 0 where
+  pub later : TakesLater keys keys_after values.list values_after.list place
+  pub counts : TakesOut (length later.gone) (numbers_of values) (numbers_of values_after)
 
 -- values of a key leave in a way that keeps them in their slots or not, and this is said of the
 -- first of them; where they are kept, a drain of them may be made

@@ -12,6 +12,7 @@ ghost use Rattle.ordered_multimap.specs.Rooms.{HasInsertRoom, SameNumbers};
 ghost use Rattle.ordered_multimap.specs.Sets.{SetsValue, LeavesOnly};
 ghost use Rattle.ordered_multimap.specs.TapeNumbers.{ArePaid};
 
+use super::remove::chain::drop_later;
 use super::{ListOrderedMultimap, Refused};
 use multimap_slots::Tape;
 use multimap_walks::{PackedLink, ValueLink};
@@ -101,11 +102,24 @@ impl<K: Eq + Hash, V, S: BuildHasher, A: Allocator> ListOrderedMultimap<K, V, S,
         ensures paid { ArePaid self.new.tape }
     {
         let first = self.replace_first(place, value);
-        let others = self.len_at(place) - 1;
-        for _ in 0..others {
-            drop(self.take_value_at(place, 1));
-        }
+        self.drop_others(place);
         first
+    }
+
+    /// Takes all values of the key at the place out but the first one.
+    fn drop_others(&mut self, place: usize)
+    where
+        V: Drop,
+        requires { IsIn place self.old.slots.keys.order }
+        ensures stays { StaysInRoom K.eq self.old self.new place }
+        ensures only { (k : K) (first : V) → HasKey K.eq self.old.slots.keys k place
+            → slice_get (values_of K.eq self.old.lists.pairs k) 0 ≡ Some first
+            → LeavesOnly K.eq k first self.old self.new }
+        ensures paid { ArePaid self.new.tape }
+    {
+        if self.keys.listed_link(place).length > 1 {
+            drop_later(&mut self.keys, &mut self.values, place);
+        }
     }
 
     /// Puts another first value under the key at the place, and returns the one that it had.

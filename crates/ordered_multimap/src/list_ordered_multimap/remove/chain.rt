@@ -4,11 +4,11 @@ ghost use Rattle.std.specs.FinMap.{get};
 ghost use Rattle.multimap_slots.specs.Lists.{IsIn};
 ghost use Rattle.multimap_slots.specs.Slots.{Removes, item_at, link_at};
 ghost use Rattle.ordered_multimap.specs.Private.Remove.{AreUnlinked, HasChain, HasChainBeforeRoom, HasEntry};
-ghost use Rattle.ordered_multimap.specs.Private.Remove.{IsRow, UnlinksEntry, UnlinksOlder, ReplacesChain, TakesRow};
+ghost use Rattle.ordered_multimap.specs.Private.Remove.{IsRow, UnlinksEntry, UnlinksLater, UnlinksOlder, ReplacesChain, TakesRow};
 
 use crate::list_ordered_multimap::append::steps::push_behind;
-use crate::list_ordered_multimap::links::set_previous;
-use crate::list_ordered_multimap::remove::unlink::Unlink;
+use crate::list_ordered_multimap::links::{set_next, set_previous};
+use crate::list_ordered_multimap::remove::unlink::{TakenOut, Unlink};
 use multimap_slots::{SlotList, Tape};
 use multimap_table::KeyTable;
 use multimap_walks::{ChainEnds, KeyLink, PackedLink, ValueLink};
@@ -100,6 +100,26 @@ fn unlink_older<K, V, W: Unlink<V>, A: Allocator>(
     link.head = link.tail;
     link.length = 1;
     left
+}
+
+/// Takes all values of the key at the place out but the first one.
+#[inline(always)]
+pub(crate) fn drop_later<K, V: Drop, A: Allocator>(
+    keys: &mut SlotList<K, KeyLink, A>,
+    values: &mut Tape<V, ValueLink, A, PackedLink>,
+    place: usize,
+)
+    requires chain { HasChain keys.old values.old.list place }
+    requires more { (l : KeyLink) → link_at keys.old place ≡ Some l → 1 < l.length }
+    ensures { UnlinksLater keys.old keys.new values.old values.new place }
+{
+    let link = keys.listed_link_mut(place);
+    // The key has more than one value, so there is a second place.
+    let second = values.listed_link(link.head).next.unwrap_or(0);
+    let _left: (TakenOut<V>, ChainEnds) = unlink_values(values, second, link.length - 1);
+    set_next(values, Some(link.head), None);
+    link.tail = link.head;
+    link.length = 1;
 }
 
 /// Puts the value last, behind the others of the key at the place, and lets these leave.
