@@ -1,3 +1,4 @@
+pub mod DensePlaces
 pub mod MovedPlaces
 pub mod Permuted
 pub mod PlaceLists

@@ -40,6 +40,10 @@ module _ {T L : Type 0} where
   abbrev pub HasRoomFor : Slots T L → ℕ → Type 0
   HasRoomFor s n = length s.order + n ≤ s.capacity
 
+  -- each slot in use has an item of the list
+  abbrev pub HasNoHole : Slots T L → Type 0
+  HasNoHole s = length s.items ≡ length s.order
+
   -- only the capacity may differ
   abbrev pub KeepsItems : Slots T L → Slots T L → Type 0
   KeepsItems old new = new ≡ record old { capacity = new.capacity }

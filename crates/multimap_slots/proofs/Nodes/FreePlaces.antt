@@ -59,6 +59,7 @@ module _ {L : Type 0} where
         was_free = rw same at l.3;
         written = sym (put-set old place node within);
         fills = λ at_end. absurd (omega arith);
+        behind = λ none. absurd (let e = none in cc);
         frees = λ k whole.
             let count = free-count (nexts old) (states old) k (suc n) (Some place) whole l in
             let rest = free-agree (nexts old) (nexts (set old place node)) (states old) (states (set old place node)) n next
@@ -99,6 +100,7 @@ module _ {L : Type 0} where
         was_free = get_or_past (states old) (length old) Free (omega (arith, length-map old (λ (n : Node L). n.standing.state)));
         written = sym (put-push old (length old) node (omega arith));
         fills = λ _. free-none (nexts old) (states old);
+        behind = λ _. refl;
         frees = λ k whole. (0, omega (arith, length_push old node, free-none (nexts old) (states old) k whole), refl);
       }
 

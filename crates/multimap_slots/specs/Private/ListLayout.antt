@@ -197,6 +197,7 @@ module _ {L : Type 0} where
     pub within_links : place ≤ length old.links
     pub fills : place ≡ length old.states
         → length old.order + old.detached ≡ length old.states
+    pub behind : length old.order ≡ length old.states → place ≡ length old.states
     pub order : new.order ≡ old.order ++ place ∷ []
     pub states : new.states ≡ put old.states place Listed
     pub links : new.links ≡ put old.links place link
@@ -216,6 +217,7 @@ module _ {L : Type 0} where
     pub was_free : get_or (states old) place Free ≡ Free
     pub written : new ≡ put old place node
     pub fills : place ≡ length old → (n : ℕ) → IsFreeList (nexts old) (states old) n free → n ≡ 0
+    pub behind : free ≡ None → place ≡ length old
     pub frees : (n : ℕ) → IsFreeList (nexts old) (states old) n free
         → (m : ℕ) × (m + length old + 1 ≡ n + length new)
         × IsFreeList (nexts new) (states new) m free'

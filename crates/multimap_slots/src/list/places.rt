@@ -1,12 +1,28 @@
 //! The order of the list: both ends, and the neighbours of a place. None of these counts as a read.
-ghost use Rattle.std.specs.Prelude.{◌≡◌, ℕ, Some};
-ghost use Rattle.multimap_slots.specs.Lists.{IsIn, first_of, last_of, next_of, previous_of};
+ghost use Rattle.std.specs.Prelude.{◌≡◌, ◌↔◌, ℕ, Some, IsTrue, length};
+ghost use Rattle.multimap_slots.specs.Lists.{IsIn, first_of, last_of, next_of, places_below, previous_of};
 
 use super::SlotList;
 use crate::in_order::{InOrder, Stored};
 use std::alloc::Allocator;
 
 impl<T, L: Copy, A: Allocator> SlotList<T, L, A> {
+    /// Whether the items stand in order at the places from 0 on. It goes along the order until an item
+    /// stands elsewhere, and reads no item.
+    pub fn is_dense(&self) -> bool
+        ensures { IsTrue result ↔ (self.now.order ≡ places_below (length self.now.order)) }
+    {
+        let len = self.len();
+        let mut following = self.front_place();
+        for place in 0..len {
+            if following != Some(place) {
+                return false;
+            }
+            following = self.next_listed_place(place);
+        }
+        true
+    }
+
     /// The place of the first item, or None where there is none.
     pub fn front_place(&self) -> Option<usize>
         ensures { result ≡ first_of self.now.order }

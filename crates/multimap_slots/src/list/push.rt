@@ -1,6 +1,6 @@
 //! Room, and items that come into the list.
 ghost use Rattle.std.specs.Prelude.{◌≡◌, ◌<◌, ◌≤◌, ◌+◌, length, IfOk, IfErr, OnOk, OnErr, IsOk, Some, None, get_or, vec_capacity};
-ghost use Rattle.multimap_slots.specs.Slots.{DoublesIfGrown, HasRoomFor, KeepsItems, PushesBack};
+ghost use Rattle.multimap_slots.specs.Slots.{DoublesIfGrown, HasNoHole, HasRoomFor, KeepsItems, PushesBack};
 ghost use Rattle.multimap_slots.specs.Private.ListLayout.{GrowsFor, put};
 ghost use Rattle.multimap_slots.specs.Private.Vectors.{Rewrites};
 
@@ -114,6 +114,10 @@ impl<T, L: Copy, A: Allocator> SlotList<T, L, A> {
         requires { HasRoomFor self.old 1 }
         ensures pushed { PushesBack self.old self.new result item link }
         ensures capacity { self.new.capacity ≡ self.old.capacity }
+
+        // Where no slot is a hole, the item comes to a new one behind them.
+        ensures behind { HasNoHole self.old → result ≡ length self.old.order }
+        ensures no_hole { HasNoHole self.old → HasNoHole self.new }
     {
         let place = self.order.push_back(link);
         put_item(&mut self.items, place, item);
