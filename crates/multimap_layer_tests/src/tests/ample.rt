@@ -1,12 +1,13 @@
 //! The calls of slot list and tape with ample memory, and a step from the ends of a row.
 use crate::tests::slots::{Items, List, expect_on, expect_slots};
 use crate::tests::uses::{
-    Used, push_at_end, push_with_room, take_from, take_from_tape, use_listed, use_listed_on_tape,
+    Used, push_at_end, push_linked_as, push_with_room, take_from, take_from_tape, use_listed,
+    use_listed_on_tape,
 };
 use multimap_slots::{Reads, SlotList, Tape};
 use multimap_walks::{ChainEnds, End, ValueLink};
 use std::mem::size_of;
-use test_helpers::{Failed, Test, is_shown, test_on_new};
+use test_helpers::{Failed, Test, is_shown, lend, test_on_new};
 
 // A place that no list of these tests has.
 const NOWHERE: usize = 1000;
@@ -32,6 +33,7 @@ fn items_keep_their_places(test: &Test, list: &mut List) {
 fn one_comes_and_the_first_goes(test: &Test, list: &mut List, a: usize, c: usize) {
     let d = push(test, list, 40);
     expect_slots(test, list, &[(a, 10, 1), (c, 30, 1), (d, 40, 1)]);
+    test.expect(!list.is_dense());
     test.expect(list.remove(a) == Some(10));
     test.expect(list.front_place() == Some(c));
 }
@@ -40,6 +42,7 @@ fn two_are_pushed(test: &Test, list: &mut List) {
     test.expect(push(test, list, 10) == 0);
     test.expect(push(test, list, 20) == 1);
     test.expect(is_shown(test.alloc(), list, "{0: 10, 1: 20}"));
+    test.expect(list.is_dense());
 }
 
 // Writes the value at a place, and returns whether there is one.
@@ -66,7 +69,7 @@ fn a_list_is_cleared(test: &Test, list: &mut List) {
     test.expect(list.used_slots() == 2);
     list.clear_listed();
     test.expect(list.used_slots() == 0);
-    test.expect(list.is_empty());
+    test.expect(list.is_empty() && list.is_dense());
     test.expect(list.capacity() == capacity);
 }
 
@@ -124,6 +127,14 @@ fn an_item_of_a_tape_is_written(test: &Test, tape: &mut Items) {
     expect_on(test, tape, &[(0, 11, 9), (1, 21, 3)]);
 }
 
+fn a_link_is_copied(test: &Test, tape: &Items, copies: &mut Items) {
+    test.expect(push_linked_as(copies, 5, tape, 1).is_none());
+    test.expect(copies.reserve(1).is_ok());
+    test.expect(push_linked_as(copies, 5, tape, NOWHERE).is_none());
+    test.expect(push_linked_as(copies, 31, tape, 1) == Some(0));
+    expect_on(test, copies, &[(0, 31, 3)]);
+}
+
 fn an_item_of_a_tape_is_taken(test: &Test, tape: &mut Items) {
     test.expect(take_from_tape(tape, 0) == Some((11, 9)));
     test.expect(take_from_tape(tape, 0).is_none());
@@ -135,6 +146,10 @@ fn an_item_of_a_tape_is_taken(test: &Test, tape: &mut Items) {
 fn calls_of_a_tape_answer(test: &Test, tape: &mut Items) {
     listed_slots_of_a_tape_answer(test, tape);
     an_item_of_a_tape_is_written(test, tape);
+    lend(
+        Tape::new(test.alloc()),
+        |copies| a_link_is_copied(test, tape, copies),
+    );
     an_item_of_a_tape_is_taken(test, tape);
 }
 

@@ -1,7 +1,7 @@
 //! Callers of slot list and tape at listed places, proved from the public contracts alone.
-ghost use Rattle.std.specs.Prelude.{◌≡◌, ◌≢◌, ◌+◌, [], IfSome, IsTrue};
+ghost use Rattle.std.specs.Prelude.{◌≡◌, ◌≢◌, ◌+◌, ℕ, [], Some, IfSome, IsTrue};
 ghost use Rattle.multimap_slots.specs.Lists.{next_of, previous_of, without};
-ghost use Rattle.multimap_slots.specs.Slots.{HasDetached, HasSlot, IsDetached, PushesBack};
+ghost use Rattle.multimap_slots.specs.Slots.{HasDetached, HasSlot, IsDetached, PushesBack, link_at};
 ghost use Rattle.multimap_slots.specs.Tapes.{Frees};
 
 use crate::tests::slots::{Items, List};
@@ -71,6 +71,17 @@ pub fn push_at_end(tape: &mut Items, item: usize, link: u8) -> Option<usize>
         return None;
     }
     Some(tape.push_reserved(item, link))
+}
+
+/// Puts an item at the end of a tape, where a slot is left, with the link of an item of another one.
+pub fn push_linked_as(tape: &mut Items, item: usize, other: &Items, place: usize) -> Option<usize>
+    ensures { IfSome result (λ to. (link : ℕ) → link_at other.now.list place ≡ Some link
+        → PushesBack tape.old.list tape.new.list to item link) }
+{
+    if !tape.has_end_room() || !other.is_listed(place) {
+        return None;
+    }
+    Some(tape.push_linked(item, other, place))
 }
 
 /// What stands before an item, its number and link as they were written, and what stands behind.

@@ -60,7 +60,7 @@ module _ {order : List ℕ} {following : Option ℕ} (distinct : AreDistinct ord
   keys-step {new_places = new_places} w copied within = record {
     done = w.done ++ place ∷ [];
     passed = passing-step distinct w.passed place here next next_is;
-    have = noted-step new_places w.have copied.pushed copied.stands copied.new_places_are (passing-new distinct w.passed place here) within;
+    have = noted-step new_places w.have copied.adds.pushed copied.adds.stands copied.new_places_are (passing-new distinct w.passed place here) within;
   }
 
   -- one more value, at the place of its rank

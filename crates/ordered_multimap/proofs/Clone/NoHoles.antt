@@ -1,9 +1,9 @@
 -- The places on a tape without holes: each is its own rank.
-use Rattle.std.proofs.Common.{◌≡◌, ℕ, suc, ◌+◌, ◌<◌, ◌≤◌, List, [], ◌∷◌, ◌++◌, length, length-append, append_assoc, Some, None}
+use Rattle.std.proofs.Common.{◌≡◌, ℕ, zero, suc, ◌+◌, ◌<◌, ◌≤◌, List, [], ◌∷◌, ◌++◌, length, length-append, append_assoc, Some, None}
 use Rattle.std.proofs.Common.{refl, sym, ap, ◌∙◌, subst, inl, inr, arith}
 use Rattle.std.specs.Prelude.{⊤}
 use Rattle.std.proofs.lemmas.Bool.{eq-eqb, ne_eqb}
-use Rattle.multimap_slots.specs.Lists.{AreDistinct, IsIn, Rises, first_of, next_of}
+use Rattle.multimap_slots.specs.Lists.{AreDistinct, IsIn, Rises, first_of, next_of, places_below}
 use Rattle.multimap_slots.proofs.Callers.PlaceLists.{Split, AreDistinct-gone, IsIn-left, IsIn-right, IsIn-split, next_of-split}
 use Rattle.multimap_walks.specs.Chained.{position_in}
 use Rattle.ordered_multimap.specs.Private.Copies.{AreRanks}
@@ -35,6 +35,41 @@ none_missing (p ∷ ps) low rises above below q i =
           rw (ne_eqb p q (λ e. omega (arith, e, higher))) (omega (arith, is))
     ]
 
+-- the numbers from one on, so many
+abbrev numbers_from : ℕ → ℕ → List ℕ
+numbers_from low zero = []
+numbers_from low (suc n) = low ∷ numbers_from (suc low) n
+
+numbers_from-push : (low n : ℕ) → numbers_from low (suc n) ≡ numbers_from low n ++ (low + n) ∷ []
+numbers_from-push low zero =
+    let same : low ≡ low + 0 = omega arith in
+    ap (λ m. m ∷ []) same
+numbers_from-push low (suc n) =
+    let same : suc low + n ≡ low + suc n = omega arith in
+    ap (λ ms. low ∷ ms) (numbers_from-push (suc low) n) ∙ ap (λ m. low ∷ (numbers_from (suc low) n ++ m ∷ [])) same
+
+numbers_from-below : (n : ℕ) → numbers_from 0 n ≡ places_below n
+numbers_from-below zero = refl
+numbers_from-below (suc n) =
+    let same : 0 + n ≡ n = omega arith in
+    numbers_from-push 0 n ∙ (λ i. numbers_from-below n i ++ same i ∷ [])
+
+all_numbers : (ps : List ℕ) (low : ℕ) → Rises ps → ((q : ℕ) → IsIn q ps → low ≤ q) → ((q : ℕ) → IsIn q ps → q < low + length ps)
+    → ps ≡ numbers_from low (length ps)
+all_numbers [] low rises above below = refl
+all_numbers (p ∷ ps) low rises above below =
+    let rest = rises_between ps (suc p) (low + suc (length ps)) (omega (arith, below p (inl refl))) rises.1
+    (λ r j. omega (arith, rises.0 r j)) (λ r j. below r (inr j)) in
+    let first : p ≡ low = omega (arith, rest, above p (inl refl)) in
+    let others = all_numbers ps (suc low) rises.1 (λ r j. let over : p < r = rises.0 r j in omega (arith, over, first))
+    (λ r j. omega (arith, below r (inr j))) in
+    (λ i. first i ∷ others i)
+
+-- places below their number are those from 0 on
+pub all_dense : (order : List ℕ) → Rises order → ((q : ℕ) → IsIn q order → q < length order) → order ≡ places_below (length order)
+all_dense order rises below =
+    all_numbers order 0 rises (λ p j. omega arith) (λ p j. omega (arith, below p j)) ∙ numbers_from-below (length order)
+
 -- the ranks of values whose places are below their number
 pub no_holes : (order : List ℕ) → Rises order → ((q : ℕ) → IsIn q order → q < length order) → AreRanks order (λ q. ⊤) (λ q. q)
 no_holes order rises below = record {
@@ -55,7 +90,8 @@ module _ (order : List ℕ) (are : AreRanks order (λ q. ⊤) (λ q. q)) where
     split = IsIn-split place order listed
 
     absent : IsIn place split.front → ⊥
-    absent i = AreDistinct-gone split.front place split.back (subst AreDistinct split.is distinct) (IsIn-left place split.front split.back i)
+    absent i = AreDistinct-gone split.front place split.back (subst AreDistinct split.is distinct)
+        (IsIn-left place split.front split.back i)
 
     before : place ≡ length split.front
     before = are.each place listed ∙ ap (λ ps. position_in ps place) split.is ∙ position_in-split split.front place split.back absent
@@ -78,7 +114,8 @@ module _ (order : List ℕ) (are : AreRanks order (λ q. ⊤) (λ q. q)) where
             let new : IsIn next done → ⊥ = λ i.
             AreDistinct-gone done next back (subst AreDistinct further distinct) (IsIn-left next done back i) in
             let there : IsIn next order = subst (IsIn next) (sym further) (IsIn-right next done (next ∷ back) (inl refl)) in
-            let rank : next ≡ length done = are.each next there ∙ ap (λ ps. position_in ps next) further ∙ position_in-split done next back new in
+            let rank : next ≡ length done = are.each next there ∙ ap (λ ps. position_in ps next) further
+            ∙ position_in-split done next back new in
             ap Some (omega (arith, rank, before, length-append split.front (place ∷ [])))
 
     pub next-none : length order ≤ place + 1 → None ≡ next_of order place

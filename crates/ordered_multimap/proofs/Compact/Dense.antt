@@ -1,27 +1,18 @@
 -- The values come to the lowest places, one after the other, and relocations in a row are one relocation.
-use Rattle.std.proofs.Common.{◌≡◌, ℕ, zero, suc, ◌<◌, ◌≤◌, ◌-◌, List, [], ◌∷◌, ◌++◌, map, length, Option, Some, None, IsSome, option_map, unwrap_or, refl, sym, ap}
+use Rattle.std.proofs.Common.{◌≡◌, ℕ, zero, suc, ◌<◌, ◌≤◌, ◌-◌, List, [], ◌∷◌, ◌++◌, map, length, Option, Some, None, IsSome, option_map}
+use Rattle.std.proofs.Common.{unwrap_or, refl, sym, ap}
 use Rattle.std.proofs.Common.{◌∙◌, subst, inl, inr, arith, length-append, append_assoc}
 use Rattle.std.proofs.lemmas.List.{length-map, map-append, append-nil}
-use Rattle.multimap_slots.specs.Lists.{IsIn, Rises, first_of, next_of, end_of}
+use Rattle.multimap_slots.specs.Lists.{IsIn, Rises, first_of, next_of, end_of, places_below}
 use Rattle.multimap_slots.specs.Slots.{Slots, IsSound, KeepsItems}
 use Rattle.multimap_slots.specs.Tapes.{Taped, CutsEnd, KeepsTape}
+use Rattle.multimap_slots.proofs.Callers.DensePlaces.{below-less, length-below}
 use Rattle.multimap_slots.proofs.Callers.PlaceLists.{IsIn-append, next_of-split}
 use Rattle.multimap_walks.specs.declared.links.KeyLink.{KeyLink}
 use Rattle.multimap_walks.specs.declared.links.ValueLink.{ValueLink}
-use Rattle.ordered_multimap.specs.Private.Relocations.{AreRelocated, AreDense, FollowsDense, Relocates, places_below, relocated}
+use Rattle.ordered_multimap.specs.Private.Relocations.{AreRelocated, AreDense, FollowsDense, Relocates, relocated}
 use Rattle.ordered_multimap.proofs.Chains.LongerLists.{last_or-push}
 use Rattle.ordered_multimap.proofs.Compact.OneMove.{relocated-from, relocated-none}
-
-pub below-less : (n q : ℕ) → IsIn q (places_below n) → q < n
-below-less zero q i = absurd i
-below-less (suc n) q i = elim (IsIn-append q (places_below n) (n ∷ []) i) [
-  | inl low ↦ omega (arith, below-less n q low)
-  | inr last ↦ elim last [ inl e ↦ omega (arith, e) | inr none ↦ absurd none ]
-]
-
-pub length-below : (n : ℕ) → length (places_below n) ≡ n
-length-below zero = refl
-length-below (suc n) = length-append (places_below n) (n ∷ []) ∙ omega (arith, length-below n)
 
 -- what rises around a place
 record Around (xs : List ℕ) (p : ℕ) (ys : List ℕ) : Type 0 where
@@ -209,7 +200,8 @@ relocates-then f g {keys} {keys_mid} {keys_end} {values} {values_mid} {values_en
     there q i = subst (IsIn (f q)) (sym a.order) (in_map q values.order i)
 
 -- the holes at the end are given up
-pub relocates-cut : {K V : Type 0} (f : ℕ → ℕ) {keys keys_after : Slots K KeyLink} {values : Slots V ValueLink} (mid end : Taped V ValueLink)
+pub relocates-cut : {K V : Type 0} (f : ℕ → ℕ) {keys keys_after : Slots K KeyLink} {values : Slots V ValueLink}
+    (mid end : Taped V ValueLink)
     → Relocates f keys keys_after values mid.list → CutsEnd mid end → Relocates f keys keys_after values end.list
 relocates-cut f {keys} {keys_after} {values} mid end a cut = record {
   apart = a.apart;

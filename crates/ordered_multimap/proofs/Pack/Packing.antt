@@ -4,15 +4,14 @@ use Rattle.std.proofs.Common.{refl, sym, ap, ◌∙◌, subst, inl, inr, arith, 
 use Rattle.std.proofs.lemmas.Bool.{cases_eq, ne_eqb}
 use Rattle.std.specs.Ordering.{nat_cmp}
 use Rattle.std.specs.FinMap.{FinMap}
-use Rattle.multimap_slots.specs.Lists.{IsIn, AreDistinct, first_of, without}
+use Rattle.multimap_slots.specs.Lists.{IsIn, AreDistinct, first_of, places_below, without}
 use Rattle.multimap_slots.specs.Slots.{Slots, IsEmpty, IsSound, PushesBack, Removes, item_at, link_at}
+use Rattle.multimap_slots.proofs.Callers.DensePlaces.{below-less, in-below, length-below}
 use Rattle.multimap_slots.proofs.Callers.PlaceLists.{AreDistinct-gone, IsIn-append, IsIn-left, IsIn-right, IsIn-without, without-split}
 use Rattle.multimap_walks.specs.declared.links.KeyLink.{KeyLink}
 use Rattle.multimap_walks.specs.declared.links.ValueLink.{ValueLink}
 use Rattle.ordered_multimap.specs.Private.KeyRelocations.{AreMoved, HaveCome, HaveNewPlaces, MovesKey, new_place_in, with_new_key}
-use Rattle.ordered_multimap.specs.Private.Relocations.{places_below}
 use Rattle.ordered_multimap.proofs.Agreement.NewPlaces.{noted-step, places-start}
-use Rattle.ordered_multimap.proofs.Compact.Dense.{below-less, length-below}
 use Rattle.ordered_multimap.proofs.Callers.Members.{IsIn-filter}
 use Rattle.ordered_multimap.proofs.Callers.Places.{Begins, begins}
 
@@ -42,7 +41,8 @@ going-start new_places keys packed none = record {
   left_links = λ q i. refl;
 }
 
-module _ {K : Type 0} {left left_after packed packed_after : Slots K KeyLink} {rows rows_after : FinMap nat_cmp ℕ} {new_places new_places_after : List
+module _ {K : Type 0} {left left_after packed packed_after : Slots K KeyLink} {rows rows_after : FinMap nat_cmp ℕ} {new_places
+    new_places_after : List
     ℕ} {place : ℕ}
     (moves : MovesKey left left_after packed packed_after rows rows_after new_places new_places_after place) where
   module _ {keys : Slots K KeyLink} (sound : IsSound keys) (going : AreGoing new_places keys left packed) (b : Begins left.order place)
@@ -74,18 +74,12 @@ module _ {K : Type 0} {left left_after packed packed_after : Slots K KeyLink} {r
         still q i = IsIn-without q left.order place (subst (IsIn q) moves.removed.order i)
 
 -- the next key is one of all
-pub going-listed : {K : Type 0} {new_places : List ℕ} {keys left packed : Slots K KeyLink} {place : ℕ} → AreGoing new_places keys left packed
+pub going-listed : {K : Type 0} {new_places : List ℕ} {keys left packed : Slots K KeyLink} {place : ℕ}
+    → AreGoing new_places keys left packed
     → first_of left.order ≡ Some place → IsIn place keys.order
 going-listed {keys = keys} {left} {place = place} going first =
     let b = begins left.order place first in
     subst (IsIn place) (sym going.parts) (IsIn-right place going.part left.order (subst (IsIn place) (sym b.is) (inl refl)))
-
-in-below : (n q : ℕ) → q < n → IsIn q (places_below n)
-in-below zero q below = absurd (omega (arith, below))
-in-below (suc n) q below = elim (cases_eq q n) [
-  | inl same ↦ IsIn-right q (places_below n) (n ∷ []) (inl same)
-  | inr differs ↦ IsIn-left q (places_below n) (n ∷ []) (in-below n q (omega (arith, below, differs)))
-]
 
 pub coming-start : {V : Type 0} (name : ℕ → ℕ) (values packed : Slots V ValueLink) → IsEmpty packed → AreComing name 0 values values packed
 coming-start name values packed none = record {

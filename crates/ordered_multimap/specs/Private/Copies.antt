@@ -48,15 +48,20 @@ module _ {K : Type 0} (is_clone : K → K → Type 0) (hash : K → ℕ) (rank :
   abbrev pub IsKeyCopy : ℕ → Option K → Option KeyLink → Type 0
   IsKeyCopy = IsCopy is_clone keys (λ copy l. record (relocated_key rank l) { hash = hash copy })
 
-  -- a clone of the key at the place stands last, with a row of its hash, and its place is noted
-  pub record CopiesKey (copies copies_after : Slots K KeyLink) (rows rows_after : FinMap nat_cmp ℕ)
-      (new_places new_places_after : List ℕ) (place : ℕ) : Type 0 where
+  -- a clone of the key at the place stands last, at the place `to`, with a row of its hash
+  pub record AddsKeyCopy (copies copies_after : Slots K KeyLink)
+      (rows rows_after : FinMap nat_cmp ℕ) (place to : ℕ) : Type 0 where
     pub copy : K
     pub link : KeyLink
-    pub to : ℕ
     pub stands : IsKeyCopy place (Some copy) (Some link)
     pub pushed : PushesBack copies copies_after to copy link
     pub rows_are : rows_after ≡ insert rows to link.hash
+
+  -- a clone of the key at the place stands last, with a row of its hash, and its place is noted
+  pub record CopiesKey (copies copies_after : Slots K KeyLink) (rows rows_after : FinMap nat_cmp ℕ)
+      (new_places new_places_after : List ℕ) (place : ℕ) : Type 0 where
+    pub to : ℕ
+    pub adds : AddsKeyCopy copies copies_after rows rows_after place to
     pub new_places_are : new_places_after ≡ set new_places place to
 
 module _ {V : Type 0} (is_clone : V → V → Type 0) (name rank : ℕ → ℕ)

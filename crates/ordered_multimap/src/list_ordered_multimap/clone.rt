@@ -5,6 +5,7 @@ ghost use Rattle.ordered_multimap.specs.Clones.{AreClones};
 ghost use Rattle.ordered_multimap.specs.Pairs.{all_values};
 ghost use Rattle.ordered_multimap.specs.TapeNumbers.{AreUnused};
 
+mod in_place;
 mod ranks;
 mod steps;
 
@@ -34,9 +35,11 @@ impl<
     /// # Complexity
     ///
     /// *O*(slots in use) expected. It reads each pair once and hashes each key once. All room of
-    /// the clone is allocated before a key is cloned. During the call it allocates a number for
-    /// each slot of a key that is in use. If there are holes among the values' slots, it also
-    /// allocates one for each of these slots that is in use.
+    /// the clone is allocated before a key is cloned. Nothing else is allocated if there are no
+    /// holes among the values' slots and the keys fill the first slots in order, as in a map to
+    /// which pairs were only appended. Otherwise, it allocates during the call a number for each
+    /// slot of a key that is in use. If there are holes among the values' slots, it also allocates
+    /// one for each of these slots that is in use.
     ///
     /// # Requires
     ///

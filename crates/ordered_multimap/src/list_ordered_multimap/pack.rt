@@ -2,11 +2,11 @@
 //! dropped.
 ghost use Rattle.std.specs.Prelude.{◌≡◌, ◌≤◌, ◌<◌, ℕ, Some, length};
 ghost use Rattle.std.specs.FinMap.{empty, len};
-ghost use Rattle.multimap_slots.specs.Lists.{IsIn};
+ghost use Rattle.multimap_slots.specs.Lists.{IsIn, places_below};
 ghost use Rattle.multimap_slots.specs.Slots.{HasRoomFor, IsEmpty, IsSound, link_at};
 ghost use Rattle.ordered_multimap.specs.Private.Append.{HasListedRows, KeepsTapeRoom};
 ghost use Rattle.ordered_multimap.specs.Private.KeyRelocations.{ArePacked, AreMoved, HasRows, HaveCome, HaveNewPlaces, IsNewStorage, MovesKey, new_place_in};
-ghost use Rattle.ordered_multimap.specs.Private.Relocations.{AreChained, places_below};
+ghost use Rattle.ordered_multimap.specs.Private.Relocations.{AreChained};
 ghost use Rattle.ordered_multimap.specs.Rooms.{Packs};
 ghost use Rattle.ordered_multimap.specs.Private.Remove.{KeepsKeyRoom, KeepsRoom};
 ghost use Rattle.ordered_multimap.specs.TapeNumbers.{AreUnused, numbers_of};

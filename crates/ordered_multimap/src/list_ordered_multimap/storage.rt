@@ -18,6 +18,7 @@ pub(super) struct Storage<K, V, A: Allocator> {
 }
 
 /// Empty storage with room for so many keys and values, and with a name for each of so many places.
+#[inline(always)]
 pub(super) fn new_storage<K: Drop, V: Drop, A: Allocator + Copy>(
     alloc: A,
     key_capacity: usize,

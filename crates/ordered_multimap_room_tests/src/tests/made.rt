@@ -94,46 +94,99 @@ fn insert<A: Allocator + Copy>(test: &Test, map: &mut Texts<A>, pair: (char, cha
     test.expect(map.insert(key, value).is_ok());
 }
 
-// The keys a, b and the pairs (a, z), (b, y).
-fn has_both<A: Allocator + Copy>(test: &Test, map: &Texts<A>) {
-    test.expect(is_shown(test.alloc(), &map.keys(), r#"Keys(["a", "b"])"#));
-    test.expect(is_shown(test.alloc(), map, r#"{"a": "z", "b": "y"}"#));
+/// What a map is made of, and what it is then: the pairs that are inserted, a key that is removed then,
+/// one that becomes the last key, and the keys and the pairs as they are shown.
+struct Made {
+    pairs: &'static [(char, char)],
+    removed: &'static str,
+    last: &'static str,
+    keys: &'static str,
+    shown: &'static str,
 }
 
-const WITHOUT_HOLES: &[(char, char)] = &[('a', 'z'), ('b', 'y')];
+fn has_lists_of<A: Allocator + Copy>(test: &Test, map: &Texts<A>, made: &Made) {
+    test.expect(is_shown(test.alloc(), &map.keys(), made.keys));
+    test.expect(is_shown(test.alloc(), map, made.shown));
+}
 
-// The second pair replaces the first, which leaves a hole.
-const WITH_A_HOLE: &[(char, char)] = &[('a', 'x'), ('a', 'z'), ('b', 'y')];
+/// How maps are made, and how many requests their clones take.
+const CLONED: &[(Made, u64)] = &[
+    // Two each for keys and table, three for values, four for texts.
+    (
+        Made {
+            pairs: &[('a', 'z'), ('b', 'y')],
+            removed: "",
+            last: "",
+            keys: r#"Keys(["a", "b"])"#,
+            shown: r#"{"a": "z", "b": "y"}"#,
+        },
+        11,
+    ),
+    // And one for the keys' new places, since the first key comes last.
+    (
+        Made {
+            pairs: &[('a', 'z'), ('b', 'y')],
+            removed: "",
+            last: "a",
+            keys: r#"Keys(["b", "a"])"#,
+            shown: r#"{"a": "z", "b": "y"}"#,
+        },
+        12,
+    ),
+    // And one for the values' ranks: the second pair replaces the first, which leaves a hole.
+    (
+        Made {
+            pairs: &[('a', 'x'), ('a', 'z'), ('b', 'y')],
+            removed: "",
+            last: "",
+            keys: r#"Keys(["a", "b"])"#,
+            shown: r#"{"a": "z", "b": "y"}"#,
+        },
+        13,
+    ),
+    // A key that goes leaves a hole among the keys too.
+    (
+        Made {
+            pairs: &[('c', 'x'), ('a', 'z'), ('b', 'y')],
+            removed: "c",
+            last: "",
+            keys: r#"Keys(["a", "b"])"#,
+            shown: r#"{"a": "z", "b": "y"}"#,
+        },
+        13,
+    ),
+];
 
-fn insert_all<A: Allocator + Copy>(test: &Test, map: &mut Texts<A>, pairs: &[(char, char)]) {
-    for pair in pairs {
+fn make<A: Allocator + Copy>(test: &Test, map: &mut Texts<A>, made: &Made) {
+    for pair in made.pairs {
         insert(test, map, *pair);
     }
+    let _removed = map.remove(made.removed);
+    let _moved = map.move_key_to_back(made.last);
 }
 
 // The map is as it was. It returns whether there was memory for a clone.
-fn clones<A: Allocator + Copy>(test: &Test, map: &mut Texts<A>) -> bool {
-    let is_copy = |copy: &mut Texts<A>| has_both(test, copy);
+fn clones<A: Allocator + Copy>(test: &Test, map: &mut Texts<A>, made: &Made) -> bool {
+    let is_copy = |copy: &mut Texts<A>| has_lists_of(test, copy, made);
     let cloned = lend_made(map.clone(), is_copy, |_refused| {});
-    has_both(test, map);
+    has_lists_of(test, map, made);
     cloned
 }
 
-fn clone_with(test: &Test, granted: u64, pairs: &[(char, char)]) -> bool {
-    try_on_new!(test, granted; ListOrderedMultimap::new; insert_all, pairs; clones)
+fn clone_with(test: &Test, granted: u64, made: &Made) -> bool {
+    try_on_new!(test, granted; ListOrderedMultimap::new; make, made; clones, made)
 }
 
-fn clone_needs(test: &Test, pairs: &[(char, char)], requests: u64) {
-    let enough = requests_until_enough(|granted| clone_with(test, granted, pairs));
-    test.expect(enough == Some(requests));
+fn clone_needs(test: &Test, at: usize, made: &Made, requests: u64) {
+    let enough = requests_until_enough(|granted| clone_with(test, granted, made));
+    test.expect_at(at, enough == Some(requests));
 }
 
 #[test]
 fn a_refused_clone_leaves_the_map(rt: HostRuntime) -> Result<(), Failed> {
     let test = Test::new(rt.alloc());
-    // One for the keys' new places, two each for keys and table, three for values, four for texts.
-    clone_needs(&test, WITHOUT_HOLES, 12);
-    // And one for the values' ranks.
-    clone_needs(&test, WITH_A_HOLE, 13);
+    for (at, (made, requests)) in CLONED.iter().enumerate() {
+        clone_needs(&test, at, made, *requests);
+    }
     test.end()
 }

@@ -13,6 +13,7 @@ ghost use Rattle.ordered_multimap.specs.Private.Remove.{KeepsKeyRoom};
 ghost use Rattle.ordered_multimap.specs.Private.Relocations.{AreChained, relocated_value};
 ghost use Rattle.ordered_multimap.specs.TapeNumbers.{AreUnused, numbers_of};
 
+use super::in_place::cloned_in_place;
 use super::ranks::{NoHoles, Ranks, ranks_of};
 use crate::list_ordered_multimap::lookup::{slot_at, value_at};
 use crate::list_ordered_multimap::storage::{Storage, new_storage};
@@ -214,8 +215,9 @@ fn cloned_by_ranks<K: Hash + Clone, V: Clone, S: BuildHasher, R: Ranks, A: Alloc
     Ok(storage)
 }
 
-/// New storage with clones of all keys and values, and with room for all. Where there are holes
-/// among the values, it allocates their ranks for that time.
+/// New storage with clones of all keys and values, and with room for all. Where no slot of a value is
+/// a hole and the keys fill the first slots in order, each clone has the place of its original. Where
+/// there are holes among the values, it allocates their ranks for that time.
 pub(super) fn cloned_storage<K: Hash + Clone, V: Clone, S: BuildHasher, A: Allocator + Copy>(
     keys: &SlotList<K, KeyLink, A>,
     values: &Tape<V, ValueLink, A, PackedLink>,
@@ -227,6 +229,9 @@ pub(super) fn cloned_storage<K: Hash + Clone, V: Clone, S: BuildHasher, A: Alloc
         keys.now s.keys s.table values.now.list s.values) }
 {
     if values.push_place() == values.len() {
+        if keys.is_dense() {
+            return cloned_in_place(keys, values, state);
+        }
         return cloned_by_ranks(keys, values, state, &NoHoles);
     }
     let ranks = ranks_of(values, *keys.allocator())?;

@@ -1,5 +1,6 @@
 use Rattle.std.proofs.Common.{◌≡◌, length, refl, ap, ◌∙◌, arith, add-one}
-use Rattle.ordered_multimap.specs.Private.Relocations.{places_below, relocated}
+use Rattle.multimap_slots.specs.Lists.{places_below}
+use Rattle.ordered_multimap.specs.Private.Relocations.{relocated}
 use Rattle.ordered_multimap.proofs.Agreement.Relocated.{chains-relocated}
 use Rattle.ordered_multimap.proofs.Compact.Dense.{dense-start, following-listed, following-holes, dense-stay, dense-move}
 use Rattle.ordered_multimap.proofs.Compact.Dense.{dense-end, dense-all, relocated-room, relocates-then, relocates-cut}

@@ -48,7 +48,7 @@ loop-following-preserved g c =
           keys-step c.len-len.ensures.sound.distinct c.in-Some.place c.in-Some.is
           c.next_listed_place-following.result c.next_listed_place-following.ensures w.copying m
           (omega (arith, w.new_places, c.requires.within c.in-Some.place a.listed));
-      rows = rows-step m.pushed m.rows_are w.rows;
+      rows = rows-step m.adds.pushed m.adds.rows_are w.rows;
       new_places = ap length m.new_places_are ∙ length-set _ _ _ ∙ w.new_places;
       rooms = record {
         key_room = c.clone_key.ensures.rooms.key_room ∙ w.rooms.key_room;
