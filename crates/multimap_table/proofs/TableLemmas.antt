@@ -6,7 +6,7 @@ use Rattle.std.specs.Ordering.{nat_cmp}
 use Rattle.std.specs.FinMap.{FinMap, get, len, empty, len-empty}
 use Rattle.multimap_table.specs.declared.group.Row.{Row}
 use Rattle.multimap_table.specs.Private.Entries.{entries, IsUnique, rows_of, row_at}
-use Rattle.multimap_table.specs.Private.Layout.{IsGroupCount, HoldsHash, HasRoom, IsLaidOut, IsTable, group_count}
+use Rattle.multimap_table.specs.Private.Layout.{IsGroupCount, CanFind, HoldsHash, HasRoom, IsLaidOut, IsTable, group_count}
 use Rattle.multimap_table.proofs.EntryLemmas.{lane_of, LaneOf, find_full, room_from_count, entries-replicate}
 use Rattle.multimap_table.proofs.RowLemmas.{len-rows_of, get-rows_of, rows_of-nil}
 
@@ -40,6 +40,30 @@ pub get_of : (tags : List ℕ) (rows : List Row) (n hash lane : ℕ) → IsTable
 get_of tags rows n hash lane table holds =
     get-rows_of tags rows (row_at rows lane).place
     ∙ find_full tags rows lane (unique_of tags rows n table) table.row_each holds.in_range holds.full ∙ ap Some holds.same_hash
+
+-- the invariant, of the slices that are looked through
+pub table_along : (tags tags' : List ℕ) (rows rows' : List Row) (n : ℕ) → tags' ≡ tags → rows' ≡ rows → IsTable tags rows n
+    → IsTable tags' rows' n
+table_along tags tags' rows rows' n same_tags same_rows table = subst (λ ts. IsTable ts rows' n) (sym same_tags)
+    (subst (λ rs. IsTable tags rs n) (sym same_rows) table)
+
+-- a look-up can be made for a hash whose places may all be asked about
+pub can_find_of : (tags : List ℕ) (rows : List Row) (n hash : ℕ) (MayAsk : ℕ → Type 0) → IsTable tags rows n → 0 < length tags
+    → ((place : ℕ) → get (rows_of tags rows) place ≡ Some hash → MayAsk place) → CanFind tags rows hash MayAsk
+can_find_of tags rows n hash MayAsk table some may =
+    let laid = laid_out_of tags rows n table some in
+    record {
+      sized = laid.sized;
+      reachable = laid.reachable;
+      callable = λ lane holds. may (row_at rows lane).place (get_of tags rows n hash lane table holds);
+    }
+
+-- what is so of the place of each lane of a hash is so of each place of that hash
+pub of_each_lane : (tags : List ℕ) (rows : List Row) (place hash : ℕ) (Holds : ℕ → Type 0) → get (rows_of tags rows) place ≡ Some hash
+    → ((lane : ℕ) → HoldsHash tags rows hash lane → Holds (row_at rows lane).place) → Holds place
+of_each_lane tags rows place hash Holds there each =
+    let at = holds_of tags rows place hash there in
+    subst Holds at.same_place (each at.lane (record { in_range = at.in_range; full = at.full; same_hash = at.same_hash }))
 
 pub lanes_of_get : (tags : List ℕ) (rows : List Row) (place hash : ℕ) → get (rows_of tags rows) place ≡ Some hash → 0 < length tags
 lanes_of_get tags rows place hash there = let w = holds_of tags rows place hash there in omega (arith, w.in_range)

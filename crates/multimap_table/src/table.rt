@@ -118,6 +118,34 @@ impl<A: Allocator> KeyTable<A> {
         self.len -= 1;
     }
 
+    /// Takes out a row of this hash whose place passes the test, and returns the place. The test is
+    /// called on places of this hash alone.
+    ///
+    /// Finds the row as `find` does and takes it out as `remove` does, in one probe.
+    #[inline(always)]
+    pub fn take<F: Fn(usize) -> bool>(&mut self, hash: u64, test: F) -> Option<usize>
+        requires callable { (place : ℕ) → HasRow self.old place hash → F.pre test place }
+        ensures found { IfSome result (λ place. HasRow self.old place hash
+            × F.post test place true) }
+        ensures rows { IfSome result (λ place. self.new.rows ≡ map.remove self.old.rows place) }
+        ensures absent { IfNone result ((place : ℕ) → HasRow self.old place hash
+            → F.post test place false) }
+        ensures unchanged { IfNone result (self.new ≡ self.old) }
+        ensures capacity { self.new.capacity ≡ self.old.capacity }
+    {
+        if self.tags.is_empty() {
+            return None;
+        }
+        let found = find_lane(self.tags.as_slice(), self.rows.as_slice(), hash, &test);
+        let Some(lane) = found else {
+            return None;
+        };
+        let place = self.rows[lane].place;
+        remove_row(&mut self.tags, &mut self.rows, lane);
+        self.len -= 1;
+        Some(place)
+    }
+
     /// Takes all rows out. The capacity stays. Writes the tag of each lane.
     pub fn clear(&mut self)
         ensures empty { self.new.rows ≡ map.empty }

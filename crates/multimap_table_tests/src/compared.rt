@@ -80,6 +80,30 @@ impl<A: Allocator + Copy> Compared<A> {
         true
     }
 
+    /// Takes out a row of this hash whose place passes the test. Returns the place.
+    #[inline(always)]
+    pub fn take<F: Fn(usize) -> bool>(&mut self, hash: u64, test: F) -> Option<usize>
+        requires { F.IsAlwaysCallable test }
+    {
+        let Some(place) = self.table.take(hash, test) else {
+            return None;
+        };
+        self.hashes[place] = None;
+        Some(place)
+    }
+
+    /// Takes the row of the place out as `remove` does, by the table's `take`.
+    #[inline(always)]
+    pub fn take_at(&mut self, place: usize) -> bool {
+        if place >= self.hashes.len() {
+            return false;
+        }
+        let Some(hash) = self.hashes[place] else {
+            return false;
+        };
+        self.take(hash, |other| other == place) == Some(place)
+    }
+
     /// Makes room in the table for this many more rows.
     pub fn reserve(&mut self, additional: usize) -> Result<(), AllocError> {
         self.table.reserve(additional)

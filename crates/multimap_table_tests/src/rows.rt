@@ -50,13 +50,82 @@ fn a_row_is_found_by_hash_and_test(rt: HostRuntime) -> Result<(), Failed> {
     test.end()
 }
 
+fn rows_are_taken(test: &Test, rows: &mut Compared) {
+    for (hash, place) in [(7, 0), (7, 3), (7, 1), (9, 4)] {
+        test.expect(rows.insert(hash, place));
+    }
+    test.expect(rows.take(8, |_| true).is_none());
+    test.expect(rows.take(7, |place| place == 4).is_none());
+    test.expect(rows.table().len() == 4);
+    test.expect(rows.take(7, |place| place == 3) == Some(3));
+    test.expect(rows.take(7, |place| place == 3).is_none());
+    test.expect(rows.differences() == 0);
+}
+
+fn the_rest_is_taken(test: &Test, rows: &mut Compared) {
+    test.expect(rows.take(7, |place| place > 0) == Some(1));
+    test.expect(rows.take(9, |_| true) == Some(4));
+    let shown = format!(in test.alloc(); "{:?}", rows.table());
+    expect_text(test, shown, "[(7, 0)]");
+    test.expect(rows.take(7, |_| true) == Some(0));
+    test.expect(rows.table().is_empty());
+}
+
+#[test]
+fn a_row_is_taken_by_hash_and_test(rt: HostRuntime) -> Result<(), Failed> {
+    let test = Test::new(rt.alloc());
+    match Compared::with_places(test.alloc(), 5) {
+        Ok(mut rows) => {
+            test.expect(rows.take(7, |_| true).is_none());
+            test.expect(rows.reserve(4).is_ok());
+            test.expect(rows.take(7, |_| true).is_none());
+            rows_are_taken(&test, &mut rows);
+            the_rest_is_taken(&test, &mut rows);
+        }
+        Err(_) => test.fail(),
+    }
+    test.end()
+}
+
+// Rows of one hash fill the first two groups, so that others move back into each gap.
+fn full_groups_are_taken_from(test: &Test, rows: &mut Compared) {
+    for place in 0..40usize {
+        test.expect(rows.insert(5, place));
+    }
+    for step in 0..40usize {
+        let place = step * 7 % 40;
+        test.expect_at(step, rows.take(5, |other| other == place) == Some(place));
+        test.expect_at(step, rows.differences() == 0);
+    }
+    test.expect(rows.table().is_empty());
+}
+
+#[test]
+fn rows_move_back_when_one_is_taken(rt: HostRuntime) -> Result<(), Failed> {
+    let test = Test::new(rt.alloc());
+    match with_room(test.alloc(), 40, 40) {
+        Ok(mut rows) => full_groups_are_taken_from(&test, &mut rows),
+        Err(_) => test.fail(),
+    }
+    test.end()
+}
+
 // These leave few different hashes, few tags, few groups to start from, or all hashes apart.
 const MASKS: &[u64] = &[0xF, 0xFF00_0000_0000_0007, 0x0F00_0000_0000_FFFF, u64::MAX];
+
+// Takes a row out by one of the two calls. Returns whether the place had one.
+fn take_out(rows: &mut Compared, place: usize, random: u64) -> bool {
+    if random & 1 == 0 {
+        rows.remove(place)
+    } else {
+        rows.take_at(place)
+    }
+}
 
 // Takes a row out, or puts one in where the place has none.
 fn change_one(test: &Test, rows: &mut Compared, mask: u64, random: u64) {
     let place = (random >> 20) as usize % 2000;
-    if !rows.remove(place) {
+    if !take_out(rows, place, random) {
         test.expect(rows.reserve(1).is_ok());
         test.expect(rows.insert(next_random(random) & mask, place));
     }

@@ -1,18 +1,10 @@
-use Rattle.std.proofs.Common.{◌≡◌, ℕ, ◌<◌, false, List, length, subst, sym, ap, ◌∙◌, arith, eqb-true}
+use Rattle.std.proofs.Common.{◌≡◌, ℕ, ◌<◌, false, length, sym, ap, ◌∙◌, arith, eqb-true}
 use Rattle.std.proofs.lemmas.Grind.{common_steps}
 use Rattle.std.specs.FinMap.{get}
-use Rattle.multimap_table.specs.declared.group.Row.{Row}
 use Rattle.multimap_table.specs.Table.{Table}
 use Rattle.multimap_table.specs.Private.Entries.{rows_of, row_at}
-use Rattle.multimap_table.specs.Private.Layout.{IsTable}
-use Rattle.multimap_table.proofs.TableLemmas.{laid_out_of, lanes_of_get, get_of, holds_of}
+use Rattle.multimap_table.proofs.TableLemmas.{table_along, can_find_of, lanes_of_get, get_of, of_each_lane}
 use Rattle.multimap_table.proofs.table.KeyTable.find.Goals as goal
-
--- the invariant and the map, of the slices that are looked through
-table_along : (tags tags' : List ℕ) (rows rows' : List Row) (n : ℕ) → tags' ≡ tags → rows' ≡ rows → IsTable tags rows n
-    → IsTable tags' rows' n
-table_along tags tags' rows rows' n same_tags same_rows table = subst (λ ts. IsTable ts rows' n) (sym same_tags)
-    (subst (λ rs. IsTable tags rs n) (sym same_rows) table)
 
 pub returns-then-is_empty-clause-absent : goal.returns-then-is_empty-clause-absent
 returns-then-is_empty-clause-absent g c = λ place there.
@@ -29,13 +21,8 @@ find_lane-requires g c =
     let same : rows_of tags rows ≡ c.args.self.now.rows = (λ i. rows_of (c.as_slice.ensures.value i) (c.as_slice-rows.ensures.value i))
     ∙ ap (λ (t : Table). t.rows) c.self.view_is in
     let some : 0 < length tags = grind (arith, common_steps) in
-    let laid = laid_out_of tags rows _ table some in
-    record {
-      sized = laid.sized;
-      reachable = laid.reachable;
-      callable = λ lane holds. c.requires.callable (row_at rows lane).place
-          (ap (λ m. get m (row_at rows lane).place) (sym same) ∙ get_of tags rows _ c.args.hash lane table holds);
-    }
+    can_find_of tags rows _ c.args.hash _ table some
+    (λ place there. c.requires.callable place (ap (λ m. get m place) (sym same) ∙ there))
 
 pub returns-in-Some-clause-found : goal.returns-in-Some-clause-found
 returns-in-Some-clause-found g c =
@@ -54,6 +41,5 @@ returns-clause-absent g c = λ place there.
     let rows = c.as_slice-rows.result.now in
     let same : rows_of tags rows ≡ c.args.self.now.rows = (λ i. rows_of (c.as_slice.ensures.value i) (c.as_slice-rows.ensures.value i))
     ∙ ap (λ (t : Table). t.rows) c.self.view_is in
-    let at = holds_of tags rows place c.args.hash (ap (λ m. get m place) same ∙ there) in
-    subst (λ p. goal.F-post g c.args.test p false) at.same_place
-    ((c.in-None.ensures {u = tt}).absent at.lane (record { in_range = at.in_range; full = at.full; same_hash = at.same_hash }))
+    of_each_lane tags rows place c.args.hash (λ p. goal.F-post g c.args.test p false)
+    (ap (λ m. get m place) same ∙ there) (c.in-None.ensures {u = tt}).absent
