@@ -1,5 +1,6 @@
 pub mod AtEnds
 pub mod ByIndex
+pub mod FoundKeys
 pub mod LaterValues
 pub mod OlderValues
 pub mod OneLink
@@ -14,4 +15,5 @@ pub mod RetainingStep
 pub mod SomePairs
 pub mod ValueByValue
 pub mod WaysOut
+pub mod WholeEntries
 pub mod WholeKeys

@@ -23,10 +23,10 @@ use Rattle.ordered_multimap.proofs.Callers.ListedKeys.{any_member, find_stored, 
 use Rattle.ordered_multimap.proofs.Callers.Places.{held, IsIn-filter_map}
 use Rattle.ordered_multimap.proofs.Callers.WellFormed.{same_any}
 use Rattle.ordered_multimap.proofs.Agreement.Agreed.{well_formed}
-use Rattle.ordered_multimap.proofs.Agreement.LookUps.{AreKeyed}
+use Rattle.ordered_multimap.proofs.Agreement.LookUps.{AreKeyed, keyed}
 
 -- keys that a test accepts are found by their hash
-pub found_by : {K : Type 0} {eq : K → K → Bool} {hash : K → ℕ} {keys : Slots K KeyLink} {rows : FinMap nat_cmp ℕ}
+found_by : {K : Type 0} {eq : K → K → Bool} {hash : K → ℕ} {keys : Slots K KeyLink} {rows : FinMap nat_cmp ℕ}
     → AreKeyed eq hash keys rows
     → (accepts : K → Bool) (h : ℕ) → ((y : K) → accepts y ≡ true → h ≡ hash y) → IsFoundBy accepts keys rows h
 found_by {keys = keys} keyed accepts h alike = record {
@@ -35,6 +35,14 @@ found_by {keys = keys} keyed accepts h alike = record {
       let l = held (link_at keys place) (keyed.sound.linked place listed) in
       keyed.in_table place l.value listed l.is ∙ ap Some (keyed.hashed place j l.value listed item l.is ∙ sym (alike j accepted));
 }
+
+-- the keys that a query stands for are found by the hash of what is hashed of it
+pub found_hashed : {K V X : Type 0} {eq : K → K → Bool} (laws : IsEquivalence eq) (hash : X → ℕ) {input : K → X} {keys : Slots K KeyLink}
+    {rows : FinMap nat_cmp ℕ} {values : Slots V ValueLink} → Agrees eq (λ k. hash (input k)) keys rows values → (accepts : K → Bool)
+    {h : ℕ} {x : X} → h ≡ hash x → ((y : K) → accepts y ≡ true → x ≡ input y) → IsFoundBy accepts keys rows h
+found_hashed laws hash {keys = keys} {rows = rows} agrees accepts {x = x} is alike =
+    subst (IsFoundBy accepts keys rows) (sym is)
+    (found_by (keyed laws agrees) accepts (hash x) (λ y accepted. ap hash (alike y accepted)))
 
 -- where the test accepts no listed key, none is in the list
 pub none_accepted : {K : Type 0} (accepts : K → Bool) (keys : Slots K KeyLink) (places : List ℕ)

@@ -18,7 +18,7 @@ use Rattle.ordered_multimap.specs.Lists.{Lists, lists, IsWellFormed}
 use Rattle.ordered_multimap.specs.Changes.{kept}
 use Rattle.ordered_multimap.specs.Private.Relocations.{AreChained}
 use Rattle.ordered_multimap.specs.Private.Retain.{RetainsAt, StaysIf}
-use Rattle.ordered_multimap.specs.Private.Remove.{HasEntry, HasFittingChain, HasChain, KeepsRoom, UnlinksEntry}
+use Rattle.ordered_multimap.specs.Private.Remove.{HasEntry, HasFittingChain, HasChain, KeepsRoom, TakesRow, UnlinksKey}
 use Rattle.ordered_multimap.specs.Private.RemoveOne.{HasPair, TakesOne, TakesLast, TakesPair, TakesByKey, TakesOneOfSeveral}
 use Rattle.ordered_multimap.specs.declared.list_ordered_multimap.remove.one.Taken.{Taken}
 use Rattle.ordered_multimap.specs.declared.list_ordered_multimap.remove.one.TakenKey.{TakenKey}
@@ -75,13 +75,13 @@ has_entry agrees place listed = record {
 pub map_left : {K V : Type 0} {eq : K → K → Bool} (laws : IsEquivalence eq) {hash : K → ℕ} {keys keys_after : Slots K KeyLink}
     {table table_after : Table} {values values_after : Taped V ValueLink} {keeps : Bool} {gives : V → Type 0} {key : K} {ends : ChainEnds}
     → IsMap eq hash keys table.rows values → (place : ℕ) → IsIn place keys.order
-    → UnlinksEntry keeps gives keys keys_after table table_after values values_after place key ends
+    → UnlinksKey keeps gives keys keys_after values values_after place key ends → TakesRow table table_after place
     → IsMap eq hash keys_after table_after.rows values_after
-map_left laws {table_after = table_after} {values = values} {values_after = values_after} m place listed t = record {
+map_left laws {table_after = table_after} {values = values} {values_after = values_after} m place listed t row = record {
   agrees =
       let own = own_key laws m.agrees place listed in
-      agrees-taken laws m.agrees own.0 place own.1 t.entry.taken t.entry.removed table_after.rows t.entry.rows_are;
-  fits = fits-taken values values_after t.entry.taken m.fits;
+      agrees-taken laws m.agrees own.0 place own.1 t.taken t.removed table_after.rows row.rows;
+  fits = fits-taken values values_after t.taken m.fits;
   paid = stays_paid t.counts m.paid;
 }
 

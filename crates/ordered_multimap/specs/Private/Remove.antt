@@ -192,17 +192,22 @@ pub record UnlinksLater {K V : Type 0} (keys keys_after : Slots K KeyLink)
 module _ {K V : Type 0} (keeps : Bool) (gives : V → Type 0)
     (keys keys_after : Slots K KeyLink) where
   -- all have left, and the key at the place with them
-  pub record UnlinksEntry (table table_after : Table) (values values_after : Taped V ValueLink)
-      (place : ℕ) (key : K) (ends : ChainEnds) : Type 0 where
-    pub entry : TakesKey keys keys_after table.rows table_after.rows
-        values.list values_after.list place key
+  pub record UnlinksKey (values values_after : Taped V ValueLink) (place : ℕ) (key : K)
+      (ends : ChainEnds) : Type 0 where
+    pub taken : TakesValues (is_value_of values.list place) values.list values_after.list
+    pub removed : Removes keys keys_after place key
     pub first : (l : KeyLink) (v : V) → link_at keys place ≡ Some l
         → item_at values.list l.head ≡ Some v → gives v
     pub counts : TakesOut (length (chain_of values.list place))
         (numbers_of values) (numbers_of values_after)
-    pub row_room : table_after.capacity ≡ table.capacity
     pub drain : keeps ≡ true → HoldsValues values_after.list ends
         (values_at values.list (chain_of values.list place))
+
+  -- and its row has gone, too
+  pub record UnlinksEntry (table table_after : Table) (values values_after : Taped V ValueLink)
+      (place : ℕ) (key : K) (ends : ChainEnds) : Type 0 where
+    pub entry : UnlinksKey values values_after place key ends
+    pub row : TakesRow table table_after place
 
   module _ (values values_after : Taped V ValueLink) (place : ℕ) where
     -- all but the last one have left

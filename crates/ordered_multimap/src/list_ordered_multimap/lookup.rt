@@ -48,7 +48,7 @@ pub(super) fn value_at<V, A: Allocator>(
 }
 
 /// Whether the query stands for the key at the place.
-fn is_at<K: Eq + Hash, Q: KeyQuery<K>, A: Allocator>(
+pub(super) fn is_at<K: Eq + Hash, Q: KeyQuery<K>, A: Allocator>(
     keys: &SlotList<K, KeyLink, A>,
     place: usize,
     query: Q,

@@ -17,7 +17,7 @@ pub(crate) mod unlink;
 pub(crate) mod value;
 
 use super::ListOrderedMultimap;
-use super::remove::chain::unlink_entry;
+use super::remove::chain::{take_row, unlink_entry, unlink_key};
 use super::remove::unlink::TakenOut;
 use crate::KeyQuery;
 use std::alloc::Allocator;
@@ -109,10 +109,16 @@ impl<K: Eq + Hash, V, S: BuildHasher, A: Allocator> ListOrderedMultimap<K, V, S,
             (slice_get (values_where (Q.equivalent key) self.old.lists.pairs) 0)) }
         ensures removed { IsRemovedWhere (Q.equivalent key) K.eq self.old self.new }
     {
-        match self.look_up(key).1 {
-            Some(place) => Some(self.take_entry_at(place)),
-            None => None,
-        }
+        let hash = self.state.hash_one(key);
+        let Some(place) = take_row(&self.keys, &mut self.table, hash, key) else {
+            return None;
+        };
+        let (stored, first, _) = unlink_key::<K, V, TakenOut<V>, A>(
+            &mut self.keys,
+            &mut self.values,
+            place,
+        );
+        Some((stored, first.value))
     }
 
     /// Takes the key at the place out with all its values, and returns it with the first of them.

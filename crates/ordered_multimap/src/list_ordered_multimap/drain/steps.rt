@@ -17,7 +17,7 @@ ghost use Rattle.ordered_multimap.specs.Detaches.{KeepsSlots, LeavesDrain, left_
 
 use crate::KeyQuery;
 use crate::list_ordered_multimap::insert::insert_behind_all;
-use crate::list_ordered_multimap::remove::chain::unlink_entry;
+use crate::list_ordered_multimap::remove::chain::{take_row, unlink_entry, unlink_key};
 use crate::list_ordered_multimap::remove::unlink::KeptInPlace;
 use crate::list_ordered_multimap::{
     EntryValues, ListOrderedMultimap, NO_CHAIN, Refused, RefusedValue,
@@ -39,13 +39,18 @@ impl<K: Eq + Hash, V, S: BuildHasher, A: Allocator> ListOrderedMultimap<K, V, S,
             (slice_get (values_where (Q.equivalent key) self.old.lists.pairs) 0)) }
         ensures absent { IfNone result (KeepsListed self.old self.new) }
     {
-        match self.look_up(key).1 {
-            Some(place) => Some(self.detach_at(place)),
-            None => {
-                self.detach_none();
-                None
-            }
-        }
+        let hash = self.state.hash_one(key);
+        let Some(place) = take_row(&self.keys, &mut self.table, hash, key) else {
+            self.detach_none();
+            return None;
+        };
+        let (stored, _, left) = unlink_key::<K, V, KeptInPlace, A>(
+            &mut self.keys,
+            &mut self.values,
+            place,
+        );
+        self.left = left;
+        Some(stored)
     }
 
     /// Takes the key at the place out, detaches all its values for a drain, and returns the key.

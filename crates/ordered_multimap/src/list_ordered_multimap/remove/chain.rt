@@ -1,18 +1,23 @@
 //! Steps of a removal: how values leave the list, and the key with its last one.
-ghost use Rattle.std.specs.Prelude.{◌≡◌, ◌<◌, ℕ, List, Some};
+ghost use Rattle.std.specs.Prelude.{◌≡◌, ◌<◌, ℕ, List, Some, IfSome, IfNone, false};
 ghost use Rattle.std.specs.FinMap.{get};
+ghost use Rattle.std.specs.List.{list_any};
 ghost use Rattle.multimap_slots.specs.Lists.{IsIn};
 ghost use Rattle.multimap_slots.specs.Slots.{Removes, item_at, link_at};
+ghost use Rattle.ordered_multimap.specs.Agrees.{HasKeyWhere, IsFoundBy, SaysWhetherAccepted, items_of};
 ghost use Rattle.ordered_multimap.specs.Private.Remove.{AreUnlinked, HasChain, HasChainBeforeRoom, HasEntry};
-ghost use Rattle.ordered_multimap.specs.Private.Remove.{IsRow, UnlinksEntry, UnlinksLater, UnlinksOlder, ReplacesChain, TakesRow};
+ghost use Rattle.ordered_multimap.specs.Private.Remove.{IsRow, UnlinksEntry, UnlinksKey, UnlinksLater, UnlinksOlder, ReplacesChain, TakesRow};
 
+use crate::KeyQuery;
 use crate::list_ordered_multimap::append::steps::push_behind;
 use crate::list_ordered_multimap::links::{set_next, set_previous};
+use crate::list_ordered_multimap::lookup::is_at;
 use crate::list_ordered_multimap::remove::unlink::{TakenOut, Unlink};
 use multimap_slots::{SlotList, Tape};
 use multimap_table::KeyTable;
 use multimap_walks::{ChainEnds, KeyLink, PackedLink, ValueLink};
 use std::alloc::Allocator;
+use std::hash::Hash;
 
 /// Lets the first `count` values along the links from a place on leave, and returns what the first
 /// gives, and where they stood. No link is written.
@@ -64,8 +69,47 @@ pub(crate) fn take_key<K, A: Allocator>(
     key
 }
 
-/// Takes the key at the place out, and unlinks all its values. No link is written, since the
-/// links of a chain name only each other.
+/// Takes out the row of the key that the query stands for, where the query's hash is `hash`, and
+/// returns the key's place. The key itself stays in its list.
+#[inline(always)]
+pub(crate) fn take_row<K: Eq + Hash, Q: KeyQuery<K>, A: Allocator>(
+    keys: &SlotList<K, KeyLink, A>,
+    table: &mut KeyTable<A>,
+    hash: u64,
+    query: Q,
+) -> Option<usize>
+    requires { IsFoundBy (Q.equivalent query) keys.now table.old.rows hash }
+    ensures found { IfSome result (HasKeyWhere (Q.equivalent query) keys.now) }
+    ensures row { IfSome result (TakesRow table.old table.new) }
+    ensures absent { IfNone result
+        (list_any (Q.equivalent query) (items_of keys.now) ≡ false) }
+    ensures unchanged { IfNone result (table.new ≡ table.old) }
+{
+    let stands_for = |place|
+        requires { IsIn place keys.now.order }
+        ensures { SaysWhetherAccepted (Q.equivalent query) keys.entry.now place result }
+    { is_at(keys, place, query) };
+    table.take(hash, stands_for)
+}
+
+/// Takes the key at the place out of its list, and unlinks all its values. No link is written,
+/// since the links of a chain name only each other. The row in the table is left to the caller.
+#[inline(always)]
+pub(crate) fn unlink_key<K, V, W: Unlink<V>, A: Allocator>(
+    keys: &mut SlotList<K, KeyLink, A>,
+    values: &mut Tape<V, ValueLink, A, PackedLink>,
+    place: usize,
+) -> (K, W, ChainEnds)
+    requires { HasChain keys.old values.old.list place }
+    ensures { UnlinksKey W.keeps (W.gives result.1) keys.old keys.new values.old values.new place
+        result.0 result.2 }
+{
+    let (key, link) = keys.take_listed(place);
+    let (first, ends) = unlink_values(values, link.head, link.length);
+    (key, first, ends)
+}
+
+/// Takes the key at the place out of list and table, and unlinks all its values.
 #[inline(always)]
 pub(crate) fn unlink_entry<K, V, W: Unlink<V>, A: Allocator>(
     keys: &mut SlotList<K, KeyLink, A>,
@@ -78,8 +122,8 @@ pub(crate) fn unlink_entry<K, V, W: Unlink<V>, A: Allocator>(
         values.old values.new place result.0 result.2 }
 {
     let link = keys.listed_link(place);
-    let (first, ends) = unlink_values(values, link.head, link.length);
-    (take_key(keys, table, place, link.hash), first, ends)
+    table.remove(link.hash, place);
+    unlink_key(keys, values, place)
 }
 
 /// Lets all values of the key at the place leave but the last one.

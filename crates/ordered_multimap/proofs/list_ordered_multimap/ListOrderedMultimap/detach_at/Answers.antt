@@ -1,13 +1,13 @@
-use Rattle.std.proofs.Common.{◌≡◌, refl, sym, ◌∙◌, subst}
+use Rattle.std.proofs.Common.{◌≡◌, refl, sym, subst}
 use Rattle.ordered_multimap.specs.Keys.{stored_key}
 use Rattle.ordered_multimap.specs.Changes.{removed}
-use Rattle.ordered_multimap.specs.TapeNumbers.{TakesOut, numbers_of}
 use Rattle.ordered_multimap.specs.Agrees.{HasKey}
 use Rattle.ordered_multimap.specs.Private.KeySteps.{DetachesValues, HoldsInRoom}
 use Rattle.ordered_multimap.proofs.Remove.OnePair.{has_entry, map_left}
-use Rattle.ordered_multimap.proofs.Append.Rooms.{map_of, same_rooms}
-use Rattle.ordered_multimap.proofs.Agreement.LookUps.{listed_inside, values_of-chain}
-use Rattle.ordered_multimap.proofs.Remove.WholeKeys.{entry_count, lists_of-taken, removed_key}
+use Rattle.ordered_multimap.proofs.Append.Rooms.{map_of}
+use Rattle.ordered_multimap.proofs.Agreement.LookUps.{listed_inside}
+use Rattle.ordered_multimap.proofs.Remove.WholeEntries.{entry_detached, entry_held}
+use Rattle.ordered_multimap.proofs.Remove.WholeKeys.{removed_key}
 use Rattle.ordered_multimap.proofs.list_ordered_multimap.ListOrderedMultimap.detach_at.Goals as goal
 
 pub unlink_entry-key-requires : goal.unlink_entry-key-requires
@@ -16,24 +16,17 @@ unlink_entry-key-requires g c =
 
 pub invariant_of-self : goal.invariant_of-self
 invariant_of-self g c =
-    map_left g.met.K.Eq.laws c.self.invariant c.args.place (listed_inside _ c.self.view_is c.requires) c.unlink_entry-key.ensures
+    map_left g.met.K.Eq.laws c.self.invariant c.args.place (listed_inside _ c.self.view_is c.requires) c.unlink_entry-key.ensures.entry
+    c.unlink_entry-key.ensures.row
 
 pub returns-clause-detached : goal.returns-clause-detached
 returns-clause-detached g c =
-    let t = c.unlink_entry-key.ensures in
     let n = c.unlink_entry-key.new in
+    let i = c.self.inside in
     subst (λ m. (k : g.row.K.Denot) → HasKey g.K.PartialEq.eq m.slots.keys k c.args.place
-    → DetachesValues g.K.PartialEq.eq m (map_of n.keys n.table.capacity n.values c.self.inside.state c.unlink_entry-key.result.2) k
+    → DetachesValues g.K.PartialEq.eq m (map_of n.keys n.table.capacity n.values i.state c.unlink_entry-key.result.2) k
     (removed g.K.PartialEq.eq m.lists k)) c.self.view_is
-    (λ k has. record {
-      left = (t.drain refl).left ∙ sym (values_of-chain g.met.K.Eq.laws c.self.invariant.agrees k c.args.place has);
-      loses = record {
-        lists = lists_of-taken g.met.K.Eq.laws c.self.invariant.agrees k c.args.place has t.entry.taken t.entry.removed n.table.rows
-            t.entry.rows_are;
-        taken = subst (λ m. TakesOut m (numbers_of c.self.inside.values) (numbers_of n.values))
-            (sym (entry_count g.met.K.Eq.laws c.self.invariant.agrees k c.args.place has)) t.counts;
-      };
-    })
+    (entry_detached g.met.K.Eq.laws c.self.invariant c.unlink_entry-key.ensures.entry c.unlink_entry-key.ensures.row i.state i.left refl)
 
 pub returns-clause-key : goal.returns-clause-key
 returns-clause-key g c =
@@ -43,12 +36,7 @@ returns-clause-key g c =
 
 pub returns-clause-holds : goal.returns-clause-holds
 returns-clause-holds g c =
-    let t = c.unlink_entry-key.ensures in
     let n = c.unlink_entry-key.new in
     let i = c.self.inside in
     subst (λ m. HoldsInRoom m (map_of n.keys n.table.capacity n.values i.state c.unlink_entry-key.result.2)) c.self.view_is
-    (record {
-      drain = (t.drain refl).chain;
-      rooms = same_rooms i.keys n.keys i.table.capacity n.table.capacity i.values n.values i.state i.left c.unlink_entry-key.result.2
-          (record { keys_capacity = t.entry.removed.capacity; capacity = t.entry.taken.capacity }) t.row_room;
-    })
+    (entry_held g.met.K.Eq.laws c.self.invariant c.unlink_entry-key.ensures.entry c.unlink_entry-key.ensures.row i.state i.left refl)

@@ -1,21 +1,17 @@
 use Rattle.std.proofs.Common.{◌≡◌, sym, ap, ◌∙◌, subst}
 use Rattle.std.specs.Prelude.{IfSome, IfNone, is_some}
 use Rattle.std.specs.List.{list_any}
-use Rattle.ordered_multimap.specs.Agrees.{HasKeyWhere, IsFoundBy, LacksWhere, StandsAt, hash_of, items_of}
+use Rattle.ordered_multimap.specs.Agrees.{HasKeyWhere, LacksWhere, StandsAt, hash_of, items_of}
 use Rattle.ordered_multimap.specs.Pairs.{is_present_where}
-use Rattle.ordered_multimap.proofs.Agreement.LookUps.{keyed}
-use Rattle.ordered_multimap.proofs.Agreement.Queries.{found_by, lacks_where, listed_as_found, present_where, stands_at}
+use Rattle.ordered_multimap.proofs.Agreement.Queries.{found_hashed, lacks_where, listed_as_found, present_where, stands_at}
 use Rattle.ordered_multimap.proofs.list_ordered_multimap.ListOrderedMultimap.look_up.Given.{Over}
 use Rattle.ordered_multimap.proofs.list_ordered_multimap.ListOrderedMultimap.look_up.Goals.{After-place_of}
 use Rattle.ordered_multimap.proofs.list_ordered_multimap.ListOrderedMultimap.look_up.Goals as goal
 
 pub place_of-requires : goal.place_of-requires
 place_of-requires g c =
-    let accepts = g.Q.KeyQuery.equivalent c.args.query in
-    let hash = hash_of g.S.BuildHasher g.S.Hasher.Hasher c.self.inside.state in
-    subst (IsFoundBy accepts c.self.inside.keys c.self.inside.table.rows) (sym c.hash_one-hash.ensures)
-    (found_by (keyed g.met.K.Eq.laws c.self.invariant.agrees) accepts (hash (g.Q.Hash.hash_input c.args.query))
-    (λ y accepted. ap hash (g.met.Q.KeyQuery.respects_hash c.args.query y accepted)))
+    found_hashed g.met.K.Eq.laws (hash_of g.S.BuildHasher g.S.Hasher.Hasher c.self.inside.state) c.self.invariant.agrees
+    (g.Q.KeyQuery.equivalent c.args.query) c.hash_one-hash.ensures (g.met.Q.KeyQuery.respects_hash c.args.query)
 
 pub returns-clause-hash : goal.returns-clause-hash
 returns-clause-hash g c = c.hash_one-hash.ensures
