@@ -1,5 +1,5 @@
 -- Pairs of a set that take the place of those of their keys make a set again.
-use Rattle.std.proofs.Common.{◌≡◌, Bool, true, false, not, cond, ◌&&◌, ◌||◌, List, [], ◌∷◌, filter, refl, sym, ap, ◌∙◌, subst, true≢false, Result, Ok, Err, OnOk, OnErr}
+use Rattle.std.proofs.Common.{◌≡◌, Bool, true, false, not, cond, ◌&&◌, ◌||◌, List, [], ◌∷◌, refl, sym, ap, ◌∙◌, subst, true≢false, Result, Ok, Err, OnOk, OnErr}
 use Rattle.std.specs.Cmp.{IsEquivalence}
 use Rattle.std.specs.List.{IsDistinct, list_any}
 use Rattle.std.specs.Map.{keys_of}
@@ -14,7 +14,7 @@ use Rattle.ordered_multimap.specs.Pairs.{is_present, pairs_except}
 use Rattle.set_ordered_multimap.proofs.Callers.Sets.{IsSet-all_inserted, IsSet-empty, pair_laws}
 use Rattle.set_ordered_multimap.proofs.Lacked.{inserts-lacked}
 use Rattle.set_ordered_multimap.specs.AppendSet.{InsertsSet, lacked}
-use Rattle.set_ordered_multimap.specs.Set.{IsSet, all_inserted, has_pair, same_pair}
+use Rattle.set_ordered_multimap.specs.Set.{IsSet, has_pair, same_pair}
 
 module _ {K V : Type 0} {eq : K → K → Bool} {value_eq : V → V → Bool} (keys : IsEquivalence eq) (values : IsEquivalence value_eq) where
   -- pairs whose keys the others lack are equal to none of these

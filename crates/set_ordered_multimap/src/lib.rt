@@ -81,10 +81,10 @@
 //! capacities may have grown. It never fails if an equal pair is there, or where the capacities
 //! suffice. `extend` and `extend_copied` keep the pairs before that one, and `from_iter` drops
 //! them. The calls of the traits `Extend` and `FromIterator` do the same, and return `AllocError`.
-//! `append_set` and `insert_set` return `AllocError`, and both lists of both sets are as before. `clone` and the
-//! constructors with capacities return `AllocError`, and so do `reserve_keys`, `reserve_values`,
-//! `pack_to`, `pack_to_fit` and the sorts, after which both lists are as before. Removals and
-//! lookups can't fail.
+//! `append_set` and `insert_set` return `AllocError`, and both lists of both sets are as before.
+//! `clone` and the constructors with capacities return `AllocError`, and so do `reserve_keys`,
+//! `reserve_values`, `pack_to`, `pack_to_fit` and the sorts, after which both lists are as before.
+//! Removals and lookups can't fail.
 //!
 //! `rename_key` doesn't allocate. Its error, an `ordered_multimap::RenameFault`, says that the key
 //! is absent, or that another key is equal to the new one.

@@ -1,6 +1,6 @@
 -- The loan of a slice of slots becomes a loan of each slot, under a name of its own, at which an item stands at the end exactly where one
 -- stood. Assumes `Logic`.
-use mathlib.Core.Path.{◌≡◌, refl, ap, sym}
+use mathlib.Core.Path.{◌≡◌, refl, ap}
 use Prim.Native.Nat.{ℕ, suc, ◌+◌}
 use mathlib.Core.List.{List, [], ◌∷◌}
 use mathlib.Core.Bool.{Bool, true, false}
@@ -10,7 +10,7 @@ use base.Logic.{SProp, ent, sep, ex, wand, emp, all_e, apply∗, never_e, id⊢}
 use base.Fml.{Fml, Lft, GName, Share, ftrue, ffalse, fsep, flft, fobs, fres, fbor}
 use base.Stored.{Gv, coded_list}
 use types.Logic.{Logic, sem}
-use types.Kit.{rewrite, ‵, raw, ◌⊛◌, some, later, ◌$◌, ◌∵◌, !, qed, by, move, keep, drop, use1, use2, use3, split, split3}
+use types.Kit.{‵, raw, ◌⊛◌, some, later, ◌$◌, ◌∵◌, !, qed, by, move, keep, drop, use1, use2, use3, split, split3}
 use types.Kit.{join, group, pick, fsplit, fjoin, feq_i, feq_l, each, assume, show, await, updating, now, done}
 use types.SemTy.{SemTy, Body, Arr, cells}
 use types.Tokens.{name_done}

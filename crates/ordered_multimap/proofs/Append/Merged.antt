@@ -1,5 +1,5 @@
 -- Pairs that take the place of those of their keys.
-use Rattle.std.proofs.Common.{◌≡◌, ◌+◌, Bool, true, false, not, cond, ◌||◌, ◌&&◌, List, [], ◌∷◌, ◌++◌, filter, length, map, refl, sym, ap, ◌∙◌}
+use Rattle.std.proofs.Common.{◌≡◌, ◌+◌, Bool, true, false, not, cond, ◌||◌, List, [], ◌∷◌, ◌++◌, filter, length, refl, sym, ap, ◌∙◌}
 use Rattle.std.proofs.Common.{arith, append_assoc, length-append}
 use Rattle.std.proofs.Math.Bool.{or-false}
 use Rattle.std.proofs.lemmas.Bool.{or_parts}
@@ -13,7 +13,7 @@ use Rattle.std.specs.Map.{keys_of}
 use Rattle.ordered_multimap.specs.Changes.{appended, all_appended, inserted, merged}
 use Rattle.ordered_multimap.specs.Keys.{is_listed, keys_with, stored_key}
 use Rattle.ordered_multimap.specs.Lists.{Lists, lists}
-use Rattle.ordered_multimap.specs.Pairs.{is_present, pairs_except, pairs_without, values_where}
+use Rattle.ordered_multimap.specs.Pairs.{is_present, pairs_except, pairs_without}
 use Rattle.ordered_multimap.specs.Private.AppendMap.{all_put, count_for, count_for_all, put}
 use Rattle.ordered_multimap.proofs.Append.Extended.{all_appended-push, length-pairs}
 use Rattle.ordered_multimap.proofs.Callers.ListedKeys.{is_present-is_listed, stored_key_absent, stored_key_member}

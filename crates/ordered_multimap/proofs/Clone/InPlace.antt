@@ -1,5 +1,5 @@
 -- Copies at the places of the originals, where these are the places from 0 on.
-use Rattle.std.proofs.Common.{◌≡◌, ℕ, suc, ◌+◌, ◌<◌, List, [], length, Option, Some, refl, sym, ap, ◌∙◌, subst, arith}
+use Rattle.std.proofs.Common.{◌≡◌, ℕ, suc, ◌+◌, ◌<◌, List, length, Option, Some, refl, sym, ap, ◌∙◌, subst, arith}
 use Rattle.std.proofs.lemmas.Iterator.Adapters.{option_map_id}
 use Rattle.multimap_slots.specs.Lists.{IsIn, places_below}
 use Rattle.multimap_slots.specs.Slots.{Slots, HasNoHole, IsEmpty, PushesBack}

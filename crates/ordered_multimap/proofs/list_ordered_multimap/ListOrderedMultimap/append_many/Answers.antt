@@ -8,7 +8,7 @@ use Rattle.ordered_multimap.specs.Lists.{Lists}
 use Rattle.ordered_multimap.specs.Rooms.{HasPairRoom, SameRooms}
 use Rattle.ordered_multimap.proofs.Append.Many.{fits_one, grows_first, grows_rest, length-many}
 use Rattle.ordered_multimap.proofs.list_ordered_multimap.ListOrderedMultimap.append_many.Given.{Over}
-use Rattle.ordered_multimap.proofs.list_ordered_multimap.ListOrderedMultimap.append_many.Goals.{In-Some, In-Ok, In-Ok-append_rest}
+use Rattle.ordered_multimap.proofs.list_ordered_multimap.ListOrderedMultimap.append_many.Goals.{In-Some, In-Ok}
 use Rattle.ordered_multimap.proofs.list_ordered_multimap.ListOrderedMultimap.append_many.Goals as goal
 
 -- the iterator gave a first value
