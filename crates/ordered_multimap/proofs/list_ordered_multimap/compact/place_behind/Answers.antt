@@ -1,4 +1,4 @@
-use Rattle.std.proofs.Common.{◌∙◌, sym, ap, subst, IsSome, unwrap_or}
+use Rattle.std.proofs.Common.{◌∙◌, sym, ap, subst, IsSome, unwrap_or, rules}
 use Rattle.ordered_multimap.proofs.Compact.Dense.{dense-listed, dense-next, rest-some, follows-dense}
 use Rattle.ordered_multimap.proofs.list_ordered_multimap.compact.place_behind.Goals as goal
 
@@ -18,3 +18,6 @@ returns-else-dense-eq0 g c =
     follows-dense order c.args.dense c.requires.dense c.requires.more c.requires.rises c.following_listed_place.result
     (sym (ap (λ o. unwrap_or o 0)
     (sym (dense-next order c.args.dense c.requires.dense c.if-dense-eq0.false) ∙ c.following_listed_place.ensures)))
+
+pub returns-then-dense-eq0 : goal.returns-then-dense-eq0
+returns-then-dense-eq0 g c = search rules
