@@ -9,6 +9,7 @@ pub mod KeyMoves
 pub mod KeyRelocations
 pub mod KeySorts
 pub mod KeySteps
+pub mod Lowered
 pub mod PairSorts
 pub mod Remove
 pub mod RemoveAt

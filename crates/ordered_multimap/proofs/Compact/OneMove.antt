@@ -58,6 +58,14 @@ module _ (from to : ℕ) where
   relocated-none [] absent = refl
   relocated-none (p ∷ ps) absent = λ i. relocated-other p (λ e. absent (inl (sym e))) i ∷ relocated-none ps (λ j. absent (inr j)) i
 
+-- an order of distinct places in which one has become another
+pub order-relocated : {old new : List ℕ} {from to : ℕ} → AreDistinct old → IsRelocated old new from to → new ≡ map (relocated from to) old
+order-relocated {old} {new} {from} {to} distinct r =
+    let gone = AreDistinct-gone r.front from r.back (subst AreDistinct r.was distinct) in
+    r.is ∙ sym (ap (map (relocated from to)) r.was ∙ map-append (relocated from to) r.front (from ∷ r.back)
+    ∙ (λ i. relocated-none from to r.front (λ j. gone (IsIn-left from r.front r.back j)) i
+    ++ relocated-from from to from refl i ∷ relocated-none from to r.back (λ j. gone (IsIn-right from r.front r.back j)) i))
+
 module _ {K V : Type 0} {keys keys_after : Slots K KeyLink} {values values_after : Slots V ValueLink} {from to : ℕ} {l : ValueLink}
     (keys_sound : IsSound keys) (values_sound : IsSound values) (chained : IsChained keys values)
     (m : MovesValue keys keys_after values values_after from to l) where
@@ -160,14 +168,6 @@ module _ {K V : Type 0} {keys keys_after : Slots K KeyLink} {values values_after
         ∙ ap (λ t. Some (record k { tail = t })) (relocated-other from to k.tail (away k.tail tail_in)))
   ]
 
-  order_relocated : values_after.order ≡ map (relocated from to) values.order
-  order_relocated =
-      let r = m.order in
-      let gone = AreDistinct-gone r.front from r.back (subst AreDistinct r.was values_sound.distinct) in
-      r.is ∙ sym (ap (map (relocated from to)) r.was ∙ map-append (relocated from to) r.front (from ∷ r.back)
-      ∙ (λ i. relocated-none from to r.front (λ j. gone (IsIn-left from r.front r.back j)) i
-      ++ relocated-from from to from refl i ∷ relocated-none from to r.back (λ j. gone (IsIn-right from r.front r.back j)) i))
-
   pub relocates-moved : Relocates (relocated from to) keys keys_after values values_after
   relocates-moved = record {
     apart = λ p q p_listed q_listed e. elim (cases_eq p from) [
@@ -184,7 +184,7 @@ module _ {K V : Type 0} {keys keys_after : Slots K KeyLink} {values values_after
     key_items = m.key_items;
     key_links = key_relocated;
     key_room = m.key_room;
-    order = order_relocated;
+    order = order-relocated values_sound.distinct m.order;
     items = λ q listed. elim (cases_eq q from) [
       | inl same ↦ ap (item_at values_after) (relocated-from from to q same) ∙ m.item_is ∙ ap (item_at values) (sym same)
       | inr differs ↦ ap (item_at values_after) (relocated-other from to q differs) ∙ m.items q differs (to_other q listed)

@@ -20,12 +20,12 @@ use Rattle.ordered_multimap.proofs.Chains.Neighbours.{next_of-members, previous_
 module _ {K V : Type 0} {keys : Slots K KeyLink} {values : Slots V ValueLink} (keys_sound : IsSound keys) (values_sound : IsSound values)
     (chained : IsChained keys values)
     (from : ℕ) (l : ValueLink) (listed : IsIn from values.order) (had : link_at values from ≡ Some l) where
-  previous_listed : (q : ℕ) → l.previous ≡ Some q → IsIn q values.order
+  pub previous_listed : (q : ℕ) → l.previous ≡ Some q → IsIn q values.order
   previous_listed q e =
       (IsIn-kept (is_value_of values l.key) q values.order
       (previous_of-members (chain_of values l.key) from q (chained.previous from l listed had ∙ e)).1).0
 
-  next_listed : (q : ℕ) → l.next ≡ Some q → IsIn q values.order
+  pub next_listed : (q : ℕ) → l.next ≡ Some q → IsIn q values.order
   next_listed q e =
       (IsIn-kept (is_value_of values l.key) q values.order
       (next_of-members (chain_of values l.key) from q (chained.next from l listed had ∙ e)).1).0

@@ -5,7 +5,10 @@ ghost use Rattle.multimap_slots.specs.Slots.{link_at};
 ghost use Rattle.multimap_slots.specs.Tapes.{CountsMove};
 ghost use Rattle.ordered_multimap.specs.Private.Relocations.{AreChained, AreDense, Compacts, FollowsDense, KeepsCapacities, RelinksKey, Relocates, relocated, relocated_key};
 
+mod lowering;
+
 use super::links::{link_of, set_next, set_previous};
+use lowering::lower_all;
 use multimap_slots::{SlotList, Tape};
 use multimap_walks::{KeyLink, PackedLink, ValueLink};
 use std::alloc::Allocator;
@@ -91,8 +94,7 @@ fn place_behind<V, A: Allocator>(values: &Tape<V, ValueLink, A, PackedLink>, den
 }
 
 /// Takes each value down to the lowest hole before it, and gives up the holes.
-#[inline(never)]
-pub(super) fn compact<K, V: Drop, A: Allocator>(
+fn close_holes<K, V: Drop, A: Allocator>(
     keys: &mut SlotList<K, KeyLink, A>,
     values: &mut Tape<V, ValueLink, A, PackedLink>,
 )
@@ -108,4 +110,23 @@ pub(super) fn compact<K, V: Drop, A: Allocator>(
         }
     }
     values.cut_end();
+}
+
+/// Takes all values down to the first places, and gives up the holes. Where all holes stand before
+/// the first value, each value goes down by one distance, and no value looks at its neighbours.
+#[inline(never)]
+pub(super) fn compact<K, V: Drop, A: Allocator>(
+    keys: &mut SlotList<K, KeyLink, A>,
+    values: &mut Tape<V, ValueLink, A, PackedLink>,
+)
+    requires chains { AreChained keys.old values.old.list }
+    ensures { Compacts keys.old keys.new values.old values.new }
+{
+    let len = values.len();
+    let by = values.front_place().unwrap_or(0);
+    if 0 < by && values.push_place() - by == len {
+        lower_all(keys, values, by);
+    } else {
+        close_holes(keys, values);
+    }
 }

@@ -1,6 +1,6 @@
 use Rattle.std.proofs.Common.{◌≡◌, ◌≤◌, ◌+◌, length}
 use Rattle.ordered_multimap.specs.Private.Relocations.{AreRelocated, AreDense, KeepsCapacities}
-use Rattle.ordered_multimap.proofs.list_ordered_multimap.compact.compact.Given as goal
+use Rattle.ordered_multimap.proofs.list_ordered_multimap.compact.close_holes.Given as goal
 
 abbrev pub invariant-loop-to : goal.invariant-loop-to
 invariant-loop-to g l = record {
