@@ -86,14 +86,13 @@ fn answer_to<'t>(
 
 /// Reads the settings into `config`, which is empty, and adds what the command shows of them, or the
 /// whole text as the command leaves it, behind the byte order mark that it had.
-pub fn add_answer_of_words<'t>(
+pub fn add_answer_of_command<'t>(
     alloc: Global,
     config: &mut Config<'t>,
     input: &'t [u8],
-    words: &'t [String],
+    command: Command<'t>,
     answers: &mut String,
 ) -> Result<(), Fault> {
-    let command = Command::of_words(words)?;
     let (text, end) = text_of_input(input);
     if command.writes_text() && !mark_of(input).is_empty() {
         answers.push('\u{feff}')?;

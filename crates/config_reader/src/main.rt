@@ -56,10 +56,11 @@ mod section;
 mod setting;
 mod value;
 
-use crate::answer::{add_answer_of_words, add_answers};
+use crate::answer::{add_answer_of_command, add_answers};
+use crate::command::Command;
 use crate::config::Config;
 use ordered_multimap::ListOrderedMultimap;
-use program_parts::{Arguments, Fault, Program, run_program};
+use program_parts::{Arguments, Fault, Program, read_input, run_program};
 use std::alloc::Global;
 use std::process::ExitCode;
 
@@ -100,28 +101,29 @@ fn main(rt: HostRuntime) -> ExitCode {
 }
 
 /// What the program writes.
-fn answers_to(rt: &HostRuntime, arguments: &Arguments<'_>, input: &[u8]) -> Result<Vec<u8>, Fault> {
-    let config = &mut ListOrderedMultimap::new(rt.alloc());
-    let words = if arguments.are_none {
+fn answers_to(rt: &HostRuntime, arguments: &Arguments<'_>) -> Result<Vec<u8>, Fault> {
+    let command = if arguments.are_none {
         None
     } else {
-        Some(arguments.words)
+        Some(Command::of_words(arguments.words)?)
     };
-    answers_of(rt.alloc(), config, input, words)
+    let input = read_input(rt, &PROGRAM, arguments)?;
+    let config = &mut ListOrderedMultimap::new(rt.alloc());
+    answers_of(rt.alloc(), config, &input, command)
 }
 
-/// The answers to the command that the words are, or, without words, to the questions of the input.
-/// Its settings are read into `config`, which is empty.
+/// The answers to the command, or, without one, to the questions of the input. Its settings are read
+/// into `config`, which is empty.
 fn answers_of<'t>(
     alloc: Global,
     config: &mut Config<'t>,
     input: &'t [u8],
-    words: Option<&'t [String]>,
+    command: Option<Command<'t>>,
 ) -> Result<Vec<u8>, Fault> {
     let mut answers = String::new(alloc);
-    match words {
+    match command {
         None => add_answers(alloc, config, input, &mut answers)?,
-        Some(words) => add_answer_of_words(alloc, config, input, words, &mut answers)?,
+        Some(command) => add_answer_of_command(alloc, config, input, command, &mut answers)?,
     }
     Ok(answers.into_bytes())
 }

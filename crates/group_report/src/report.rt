@@ -13,23 +13,17 @@ pub fn report_of(
     alloc: Global,
     report: &mut Report<'_>,
     options: &Options,
-    bound: Option<i64>,
+    bound: Option<i128>,
 ) -> Result<Vec<u8>, Fault> {
     let mut text = Vec::new(alloc);
     sort(&mut report.summaries, options.order)?;
-    add_report(alloc, report, options, b"all groups", &mut text)?;
+    add_report(report, options, &mut text)?;
     if let Some(bound) = bound {
         report
             .summaries
-            .retain(|_group, summary| summary.sum >= i128::from(bound));
+            .retain(|_group, summary| summary.sum >= bound);
         text.push(b'\n')?;
-        add_report(
-            alloc,
-            report,
-            options,
-            b"the groups that are left",
-            &mut text,
-        )?;
+        add_report(report, options, &mut text)?;
     }
     Ok(text)
 }
@@ -45,39 +39,77 @@ fn sort(summaries: &mut Summaries<&[u8]>, order: Order) -> Result<(), AllocError
     }
 }
 
-/// Adds the lines of each group, and the line of totals. `groups` says which they are.
-fn add_report(
-    alloc: Global,
-    report: &Report<'_>,
-    options: &Options,
-    groups: &[u8],
-    text: &mut Vec<u8>,
-) -> Result<(), Fault> {
+/// Adds the lines of each group, and the line of totals.
+fn add_report(report: &Report<'_>, options: &Options, text: &mut Vec<u8>) -> Result<(), Fault> {
+    if options.has_columns {
+        return Ok(add_table(&report.summaries, options.counts, text)?);
+    }
     let mut total = Some(NOTHING);
     for (group, own) in report.summaries.pairs() {
         for summary in own {
-            add_group(alloc, report, options, group, *summary, text)?;
+            add_group(report, options, group, *summary, text)?;
             total = total.and_then(|total| total.join(*summary));
         }
     }
-    let total = fitting(alloc, total, groups)?;
-    Ok(add_total(report.summaries.keys_len(), total, options.counts, text)?)
+    match total {
+        Some(total) => Ok(add_total(report.summaries.keys_len(), total, options.counts, text)?),
+        None => Err(Fault::input(bad("the sum of all groups doesn't fit 128 bits"))),
+    }
 }
 
 fn add_group(
-    alloc: Global,
     report: &Report<'_>,
     options: &Options,
     group: &[u8],
     summary: Summary,
     text: &mut Vec<u8>,
-) -> Result<(), Fault> {
-    let summary = fitting(alloc, Some(summary), group)?;
+) -> io::Result<()> {
     text.extend_from_slice(group)?;
     add_summary(": ", summary, options.counts, text)?;
     if options.lists {
         add_values(&report.values, group, text)?;
     }
+    Ok(())
+}
+
+/// Adds a line with the names of the columns, and one for each group.
+fn add_table(summaries: &Summaries<&[u8]>, counts: bool, text: &mut Vec<u8>) -> io::Result<()> {
+    let head = if counts {
+        "group\tcount\n"
+    } else {
+        "group\tcount\tsum\tleast\tgreatest\n"
+    };
+    text.extend_from_slice(head.as_bytes())?;
+    for (group, own) in summaries.pairs() {
+        for summary in own {
+            add_escaped(group, text)?;
+            add_columns(*summary, counts, text)?;
+        }
+    }
+    Ok(())
+}
+
+/// Adds the group as a column has it: `\t`, `\r` and `\\` stand for a tab, a carriage return and a
+/// backslash.
+fn add_escaped(group: &[u8], text: &mut Vec<u8>) -> io::Result<()> {
+    for byte in group {
+        match *byte {
+            b'\t' => text.extend_from_slice(b"\\t")?,
+            b'\r' => text.extend_from_slice(b"\\r")?,
+            b'\\' => text.extend_from_slice(b"\\\\")?,
+            byte => text.push(byte)?,
+        }
+    }
+    Ok(())
+}
+
+fn add_columns(summary: Summary, counts: bool, text: &mut Vec<u8>) -> io::Result<()> {
+    write!(text, "\t{}", summary.count)?;
+    if !counts {
+        let (least, greatest) = (summary.least, summary.greatest);
+        write!(text, "\t{}\t{least}\t{greatest}", summary.sum)?;
+    }
+    text.push(b'\n')?;
     Ok(())
 }
 
@@ -103,21 +135,5 @@ fn add_summary(before: &str, summary: Summary, counts: bool, text: &mut Vec<u8>)
         writeln!(text, "{before}count {}", summary.count)
     } else {
         writeln!(text, "{before}{summary}")
-    }
-}
-
-/// The summary of these groups, if there is one and its sum fits 64 bits.
-fn fitting(alloc: Global, summary: Option<Summary>, groups: &[u8]) -> Result<Summary, Fault> {
-    match summary.and_then(|summary| summary.fitting()) {
-        Some(summary) => Ok(summary),
-        None => Err(Fault::input(too_large(alloc, groups))),
-    }
-}
-
-fn too_large(alloc: Global, groups: &[u8]) -> io::Error {
-    let groups = str::from_utf8(groups).unwrap_or("a group");
-    match format!(in alloc; "the sum of {groups} doesn't fit 64 bits") {
-        Ok(reason) => bad(&reason),
-        Err(error) => io::Error::from(error),
     }
 }

@@ -1,6 +1,8 @@
 //! The summary of each group.
-ghost use Rattle.std.specs.Prelude.{◌≡◌, ◌++◌, ◌∷◌, [], List, ℤ, IfOk, OnOk};
-ghost use Rattle.group_report.specs.Sums.{Summarizes, summary_with};
+ghost use Rattle.std.specs.IoError.{error_kind};
+ghost use Rattle.std.specs.Prelude.{◌≡◌, ◌⊎◌, ◌++◌, ◌∷◌, [], List, ℤ, IfErr, IfOk, OnOk};
+ghost use Rattle.std.specs.declared.io.ErrorKind.TheVariants.{InvalidData, OutOfMemory};
+ghost use Rattle.group_report.specs.Sums.{FitsOneMore, Summarizes, summary_in, summary_with};
 
 use crate::summary::{NOTHING, Summary};
 use ordered_multimap::ListOrderedMultimap;
@@ -41,6 +43,8 @@ pub fn add_value<G: Eq + Hash + Copy + Drop>(
     ensures added { OnOk result ((entries : List (G × ℤ))
         → Summarizes G.eq entries summaries.old.lists
         → Summarizes G.eq (entries ++ (group, value) ∷ []) summaries.new.lists) }
+    ensures refused { IfErr result (λ error. (error_kind error ≡ OutOfMemory)
+        ⊎ ¬ FitsOneMore (summary_in G.eq summaries.old.lists group) value) }
 {
     match summaries.get_mut(&group) {
         Some(summary) => {
@@ -55,6 +59,7 @@ pub fn add_value<G: Eq + Hash + Copy + Drop>(
 
 fn with(summary: Summary, value: i64) -> io::Result<Summary>
     ensures with { IfOk result (λ all. all ≡ summary_with summary value) }
+    ensures refused { IfErr result (λ _. ¬ FitsOneMore summary value) }
 {
     match summary.with(value) {
         Some(all) => Ok(all),

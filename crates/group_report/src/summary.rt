@@ -1,12 +1,11 @@
 //! What a report says of the values of a group.
-ghost use Rattle.std.specs.Int.{int_max, int_min, w64, w128};
+ghost use Rattle.std.specs.Int.{int_max, int_min, w128};
 ghost use Rattle.std.specs.Prelude.{◌≡◌, ◌+◌, ◌<◌, ◌^◌, ◌+ℤ◌, ◌↔◌, IfSome, IsSome, FitsSigned};
 ghost use Rattle.group_report.specs.Sums.{summary_with};
 
 use std::fmt;
 
-/// How many values there are, their sum, the least and the greatest of them. The sum may leave 64
-/// bits and come back.
+/// How many values there are, their sum, the least and the greatest of them.
 #[derive(Clone, Copy)]
 pub struct Summary {
     pub count: usize,
@@ -46,14 +45,6 @@ impl Summary {
         ensures with { IfSome result (λ all. all ≡ summary_with self value) }
     {
         self.join(Summary::of(value))
-    }
-
-    /// The summary, or none exactly if its sum doesn't fit 64 bits.
-    pub fn fitting(self) -> Option<Summary>
-        ensures fits { IsSome result ↔ FitsSigned w64 self.sum }
-        ensures same { IfSome result (λ summary. summary ≡ self) }
-    {
-        i64::try_from(self.sum).is_ok().then_some(self)
     }
 
     /// The summary of the values of both, or none exactly if their number overflows a `usize` or

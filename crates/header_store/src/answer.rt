@@ -69,13 +69,12 @@ fn answer_to<'t>(
 /// # Errors
 ///
 /// [`Fault::Absent`] if the command shows the values of a name that no header has.
-pub fn add_answer_of_words<'t>(
+pub fn add_answer_of_command<'t>(
     headers: &mut Headers<'t>,
     input: &'t [u8],
-    words: &'t [String],
+    command: Command<'t>,
     answers: &mut Vec<u8>,
 ) -> Result<(), Fault> {
-    let command = Command::of_words(words)?;
     let frame = read_message(headers, input)?;
     if carry_out(headers, frame, command, answers)? {
         Ok(())

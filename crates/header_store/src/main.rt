@@ -38,10 +38,11 @@ mod field;
 mod message;
 mod name;
 
-use crate::answer::{add_answer_of_words, add_answers};
+use crate::answer::{add_answer_of_command, add_answers};
+use crate::command::Command;
 use ordered_multimap::ListOrderedMultimap;
 use ordered_multimap::list_ordered_multimap::RandomState;
-use program_parts::{Arguments, Fault, Program, run_program};
+use program_parts::{Arguments, Fault, Program, read_input, run_program};
 use std::process::ExitCode;
 
 const PROGRAM: Program = Program {
@@ -79,14 +80,19 @@ fn main(rt: HostRuntime) -> ExitCode {
 }
 
 /// What the program writes.
-fn answers_to(rt: &HostRuntime, arguments: &Arguments<'_>, input: &[u8]) -> Result<Vec<u8>, Fault> {
+fn answers_to(rt: &HostRuntime, arguments: &Arguments<'_>) -> Result<Vec<u8>, Fault> {
+    let command = if arguments.are_none {
+        None
+    } else {
+        Some(Command::of_words(arguments.words)?)
+    };
+    let input = read_input(rt, &PROGRAM, arguments)?;
     // Who sends headers may choose names that share a hash, so the hash has a seed of its own.
     let headers = &mut ListOrderedMultimap::with_hasher(rt.alloc(), RandomState::new(rt)?);
     let mut answers = Vec::new(rt.alloc());
-    if arguments.are_none {
-        add_answers(headers, input, &mut answers)?;
-    } else {
-        add_answer_of_words(headers, input, arguments.words, &mut answers)?;
+    match command {
+        None => add_answers(headers, &input, &mut answers)?,
+        Some(command) => add_answer_of_command(headers, &input, command, &mut answers)?,
     }
     Ok(answers)
 }

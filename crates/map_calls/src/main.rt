@@ -50,7 +50,7 @@ mod walks;
 
 use crate::command::{Map, carry_out_all};
 use ordered_multimap::ListOrderedMultimap;
-use program_parts::{Arguments, Fault, Program, run_program};
+use program_parts::{Arguments, Fault, Program, read_input, run_program};
 use std::io;
 use std::process::ExitCode;
 
@@ -66,14 +66,11 @@ fn main(rt: HostRuntime) -> ExitCode {
     run_program(&rt, &PROGRAM, replies_to)
 }
 
-fn replies_to(
-    rt: &HostRuntime,
-    _arguments: &Arguments<'_>,
-    input: &[u8],
-) -> Result<Vec<u8>, Fault> {
+fn replies_to(rt: &HostRuntime, arguments: &Arguments<'_>) -> Result<Vec<u8>, Fault> {
+    let input = read_input(rt, &PROGRAM, arguments)?;
     let mut replies = String::new(rt.alloc());
     let mut line = 0usize;
-    match add_replies(rt, input, &mut replies, &mut line) {
+    match add_replies(rt, &input, &mut replies, &mut line) {
         Ok(()) => Ok(replies.into_bytes()),
         Err(error) => Err(Fault::at_line(line, error)),
     }

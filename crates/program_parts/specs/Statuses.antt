@@ -3,7 +3,7 @@ use Rattle.std.specs.Prelude.{ℕ}
 use Rattle.std.specs.IoError.{error_kind}
 use Rattle.std.specs.declared.io.Error.{Error}
 use Rattle.std.specs.declared.io.ErrorKind.{ErrorKind}
-use Rattle.std.specs.declared.io.ErrorKind.TheVariants.{InvalidData, OutOfMemory}
+use Rattle.std.specs.declared.io.ErrorKind.TheVariants.{BrokenPipe, InvalidData, OutOfMemory}
 use Rattle.program_parts.specs.declared.fault.Fault.{Fault}
 use Rattle.program_parts.specs.declared.fault.Fault.TheVariants.{Absent, Usage, Line}
 use Rattle.program_parts.specs.declared.fault.Fault.TheVariants.{Input, System}
@@ -11,9 +11,11 @@ use Rattle.program_parts.specs.declared.fault.Fault.TheVariants.{Input, System}
 abbrev pub status_of_kind : ErrorKind → ℕ
 status_of_kind InvalidData = 2
 status_of_kind OutOfMemory = 3
+status_of_kind BrokenPipe = 141
 status_of_kind _ = 4
 
--- 2 where the input is bad, 3 when out of memory, 4 where reading or writing failed
+-- 2 where the input is bad, 3 when out of memory, 141 where nobody reads the output any more, 4
+-- where else reading or writing failed
 abbrev pub status_of_error : Error → ℕ
 status_of_error error = status_of_kind (error_kind error)
 

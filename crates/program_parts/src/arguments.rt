@@ -11,7 +11,7 @@ pub struct Program {
     pub help: &'static str,
     /// The options, as `--list`.
     pub flags: &'static [&'static str],
-    /// The options that a value follows, as `--bound N`.
+    /// The options that have a value, as `--bound N`, `--bound=N`, `-d CHAR` and `-dCHAR`.
     pub valued: &'static [&'static str],
     /// What messages call the first word where it is the input itself. Else it names a file.
     pub text: Option<&'static str>,
@@ -28,8 +28,8 @@ impl Program {
     }
 }
 
-/// The arguments of a program. Options stand in front, and end at `--` or at the first word that is
-/// none.
+/// The arguments of a program. Options stand in front of the first word and right behind it. Those
+/// behind `--` are words.
 #[derive(Drop)]
 pub struct Arguments<'w> {
     /// Whether there is no argument at all.
@@ -58,15 +58,24 @@ impl<'w> Arguments<'w> {
     {
         let are_none = words.is_empty();
         let mut options = Vec::new(alloc);
-        let behind = read_options(alloc, program, words, &mut options)?;
-        let (first, words) = match behind.split_first() {
-            Some((first, behind)) => (Some(first.as_str()), behind),
-            None => (None, behind),
+        let (behind, ended) = read_options(alloc, program, words, &mut options)?;
+        let Some((first, behind)) = behind.split_first() else {
+            return Ok(Arguments {
+                are_none,
+                options,
+                first: None,
+                words: behind,
+            });
+        };
+        let words = if ended {
+            behind
+        } else {
+            read_options(alloc, program, behind, &mut options)?.0
         };
         Ok(Arguments {
             are_none,
             options,
-            first,
+            first: Some(first.as_str()),
             words,
         })
     }
@@ -88,46 +97,75 @@ impl<'w> Arguments<'w> {
     }
 }
 
-/// Adds the options in front of the words to `options`, and returns the words behind them.
+/// Adds the options in front of the words to `options`, and returns the words behind them, and
+/// whether `--` ended the options.
 fn read_options<'w>(
     alloc: Global,
     program: &Program,
     words: &'w [String],
     options: &mut Vec<(&'w str, &'w str)>,
-) -> Result<&'w [String], Fault> {
+) -> Result<(&'w [String], bool), Fault> {
     let mut rest = words;
     while let Some((word, behind)) = rest.split_first() {
         let word = word.as_str();
         if word == "--" {
-            return Ok(behind);
+            return Ok((behind, true));
         }
         if word == "-" || !word.starts_with('-') {
-            return Ok(rest);
+            return Ok((rest, false));
         }
-        let (value, behind) = value_of_option(alloc, program, word, behind)?;
-        options.push((word, value))?;
+        let (option, behind) = read_option(alloc, program, word, behind)?;
+        options.push(option)?;
         rest = behind;
     }
-    Ok(rest)
+    Ok((rest, false))
 }
 
-/// The value of the option, which is the next word if it takes one, and the words behind it.
-fn value_of_option<'w>(
+/// The option with its value, which is the next word if it takes one and the word has none, and the
+/// words behind it.
+fn read_option<'w>(
     alloc: Global,
     program: &Program,
-    option: &str,
+    word: &'w str,
     behind: &'w [String],
-) -> Result<(&'w str, &'w [String]), Fault>
-    ensures shorter { IfOk result (λ value. length value.1.now ≤ length behind.now) }
+) -> Result<((&'w str, &'w str), &'w [String]), Fault>
+    ensures shorter { IfOk result (λ option. length option.1.now ≤ length behind.now) }
 {
-    if option == "--help" || program.flags.contains(&option) {
-        return Ok(("", behind));
+    let (name, value) = parts_of(program, word);
+    if name == "-h" || name == "--help" {
+        return Ok((("--help", ""), behind));
     }
-    if !program.valued.contains(&option) {
-        return Err(unknown(alloc, "unknown option", option));
+    if name == "--version" || program.flags.contains(&name) {
+        return match value {
+            None => Ok(((name, ""), behind)),
+            Some(_) => Err(unknown(alloc, "this option takes no value", name)),
+        };
     }
-    match behind.split_first() {
-        Some((value, behind)) => Ok((value.as_str(), behind)),
-        None => Err(unknown(alloc, "no value behind", option)),
+    if !program.valued.contains(&name) {
+        return Err(unknown(alloc, "unknown option", name));
     }
+    match (value, behind.split_first()) {
+        (Some(value), _) => Ok(((name, value), behind)),
+        (None, Some((value, behind))) => Ok(((name, value.as_str()), behind)),
+        (None, None) => Err(unknown(alloc, "no value behind", name)),
+    }
+}
+
+/// The option that the word is, and the value in the same word, as in `--bound=3` and `-d,`.
+fn parts_of<'w>(program: &Program, word: &'w str) -> (&'w str, Option<&'w str>) {
+    if word.starts_with("--") {
+        return match word.split_once('=') {
+            Some((name, value)) => (name, Some(value)),
+            None => (word, None),
+        };
+    }
+    for option in program.valued {
+        if option.len() == 2
+            && let Some(value) = word.strip_prefix(*option)
+            && !value.is_empty()
+        {
+            return (*option, Some(value));
+        }
+    }
+    (word, None)
 }

@@ -5,6 +5,7 @@ ghost use Rattle.std.specs.declared.io.ErrorKind.TheVariants.{InvalidData, Inval
 ghost use Rattle.program_parts.specs.declared.fault.Fault.TheVariants.{System};
 ghost use Rattle.program_parts.specs.Statuses.{status_of_error, status_of_fault};
 
+use crate::lines::OneLine;
 use std::alloc::{AllocError, AllocFailed, Global};
 use std::io;
 use std::io::ErrorKind;
@@ -82,14 +83,15 @@ impl<T: Drop> From<AllocFailed<T>> for Fault {
     }
 }
 
-/// The exit status of a program that failed so: 2 where its input is bad, 3 when out of memory, and 4
-/// where reading or writing failed.
+/// The exit status of a program that failed so: 2 where its input is bad, 3 when out of memory, 141
+/// where nobody reads its output any more, and 4 where else reading or writing failed.
 pub fn status_of(error: &io::Error) -> u8
     ensures { result ≡ status_of_error error.now }
 {
     match error.kind() {
         ErrorKind::InvalidData => 2,
         ErrorKind::OutOfMemory => 3,
+        ErrorKind::BrokenPipe => 141,
         _ => 4,
     }
 }
@@ -104,7 +106,7 @@ pub fn bad(reason: &str) -> io::Error
 /// The fault of arguments that the program doesn't take: the reason, and behind it the word that is
 /// bad.
 pub fn unknown(alloc: Global, reason: &str, word: &str) -> Fault {
-    match format!(in alloc; "{reason}: {word}") {
+    match format!(in alloc; "{reason}: {}", OneLine(word)) {
         Ok(reason) => usage(&reason),
         Err(error) => Fault::from(error),
     }

@@ -10,10 +10,15 @@
 //! | 2 | an argument or a line of the input is bad |
 //! | 3 | out of memory |
 //! | 4 | reading or writing failed |
+//! | 141 | nobody reads the output any more |
 //!
-//! From 2 on, a line on standard error says why: `NAME: FILE: line N: REASON`, where `FILE` is
+//! From 2 to 4, a line on standard error says why: `NAME: FILE: line N: REASON`, where `FILE` is
 //! `standard input` if that was read, or `NAME: REASON`.
 #![tactic(auto)]
+
+ghost use Rattle.std.specs.Prelude.{◌≡◌};
+ghost use Rattle.std.specs.Process.{exit_status};
+ghost use Rattle.program_parts.specs.Statuses.{status_of_fault};
 
 mod arguments;
 mod fault;
@@ -21,19 +26,22 @@ mod lines;
 
 pub use crate::arguments::{Arguments, Program};
 pub use crate::fault::{Fault, bad, status_of, unknown, usage};
-pub use crate::lines::{mark_of, text_of, without_mark, without_return};
+pub use crate::lines::{OneLine, mark_of, text_of, without_mark, without_return};
 use std::alloc::Global;
-use std::io::{Read, Write};
+use std::io::{ErrorKind, Read, Write};
 use std::process::ExitCode;
 use std::{env, fs, io};
 
-/// Runs a program. `answer` is handed the arguments and all of the input, and returns what the program
-/// writes on standard output.
+/// What `--version` writes behind a program's name: the newest day of the changelog.
+const VERSION: &str = "2026-12-01";
+
+/// Runs a program. `answer` is handed the arguments, reads the input once it has found them good
+/// ([`read_input`]), and returns what the program writes on standard output.
 ///
 /// # Requires
 ///
-/// `answer` can be called on any arguments and input.
-pub fn run_program<F: FnOnce(&HostRuntime, &Arguments<'_>, &[u8]) -> Result<Vec<u8>, Fault>>(
+/// `answer` can be called on any arguments.
+pub fn run_program<F: FnOnce(&HostRuntime, &Arguments<'_>) -> Result<Vec<u8>, Fault>>(
     rt: &HostRuntime,
     program: &Program,
     answer: F,
@@ -51,7 +59,7 @@ fn read_words(rt: &HostRuntime) -> io::Result<Vec<String>> {
     Ok(env::args(rt)?.collect(rt.alloc())?)
 }
 
-fn run_with_words<F: FnOnce(&HostRuntime, &Arguments<'_>, &[u8]) -> Result<Vec<u8>, Fault>>(
+fn run_with_words<F: FnOnce(&HostRuntime, &Arguments<'_>) -> Result<Vec<u8>, Fault>>(
     rt: &HostRuntime,
     program: &Program,
     words: &[String],
@@ -70,7 +78,7 @@ fn run_with_words<F: FnOnce(&HostRuntime, &Arguments<'_>, &[u8]) -> Result<Vec<u
 }
 
 /// Writes the answers once all of them are there, or the help.
-fn write_answers<F: FnOnce(&HostRuntime, &Arguments<'_>, &[u8]) -> Result<Vec<u8>, Fault>>(
+fn write_answers<F: FnOnce(&HostRuntime, &Arguments<'_>) -> Result<Vec<u8>, Fault>>(
     rt: &HostRuntime,
     program: &Program,
     arguments: &Arguments<'_>,
@@ -81,8 +89,12 @@ fn write_answers<F: FnOnce(&HostRuntime, &Arguments<'_>, &[u8]) -> Result<Vec<u8
     if arguments.has("--help") {
         return Ok(write_out(rt, program.help.as_bytes())?);
     }
-    let input = read_input(rt, program, arguments)?;
-    let answers = answer(rt, arguments, &input)?;
+    if arguments.has("--version") {
+        let name = program.name;
+        let version = format!(in rt.alloc(); "{name} {VERSION}\n")?;
+        return Ok(write_out(rt, version.as_bytes())?);
+    }
+    let answers = answer(rt, arguments)?;
     Ok(write_out(rt, &answers)?)
 }
 
@@ -93,7 +105,11 @@ fn write_out(rt: &HostRuntime, answers: &[u8]) -> io::Result<()> {
 }
 
 /// The whole of the file that the first word names, or of standard input, or that word itself.
-fn read_input(
+///
+/// # Errors
+///
+/// [`Fault::Input`] if it can't be read; out of memory.
+pub fn read_input(
     rt: &HostRuntime,
     program: &Program,
     arguments: &Arguments<'_>,
@@ -121,9 +137,12 @@ fn read_standard_input(rt: &HostRuntime) -> io::Result<Vec<u8>> {
     Ok(input)
 }
 
-/// Says on standard error why the program failed, and returns its status.
-fn fail(rt: &HostRuntime, program: &Program, source: &str, fault: &Fault) -> ExitCode {
-    let name = program.name;
+/// Says on standard error why the program failed, unless nobody reads what it writes, and returns its
+/// status.
+fn fail(rt: &HostRuntime, program: &Program, source: &str, fault: &Fault) -> ExitCode
+    ensures { exit_status result ≡ status_of_fault fault.now }
+{
+    let (name, source) = (program.name, OneLine(source));
     // Nothing is left to be told where standard error fails.
     let _ = match fault {
         Fault::Absent => Ok(()),
@@ -132,6 +151,7 @@ fn fail(rt: &HostRuntime, program: &Program, source: &str, fault: &Fault) -> Exi
             eprintln!(rt; "{name}: {source}: line {number}: {reason}")
         }
         Fault::Input(error) => eprintln!(rt; "{name}: {source}: {error}"),
+        Fault::System(error) if matches!(error.kind(), ErrorKind::BrokenPipe) => Ok(()),
         Fault::System(error) => eprintln!(rt; "{name}: {error}"),
     };
     ExitCode::from(fault.status())

@@ -6,7 +6,7 @@ ghost use Rattle.std.specs.declared.io.ErrorKind.TheVariants.{InvalidData};
 ghost use Rattle.program_parts.specs.Lines.{mark_of, without_mark, without_return};
 
 use crate::fault::bad;
-use std::io;
+use std::{fmt, io};
 
 /// The input without a byte order mark at its start.
 pub fn without_mark(input: &[u8]) -> &[u8]
@@ -40,5 +40,22 @@ pub fn text_of(line: &[u8]) -> io::Result<&str>
     match str::from_utf8(without_return(line)) {
         Ok(text) => Ok(text),
         Err(_) => Err(bad("not UTF-8")),
+    }
+}
+
+/// A text for a message, which has one line: control characters are escaped.
+#[derive(Clone, Copy)]
+pub struct OneLine<'t>(pub &'t str);
+
+impl fmt::Display for OneLine<'_> {
+    fn fmt<W: fmt::Write>(&self, f: &mut fmt::Formatter<W>) -> fmt::Result {
+        for character in self.0.chars() {
+            if character.is_control() {
+                write!(f, "{}", character.escape_default())?;
+            } else {
+                write!(f, "{character}")?;
+            }
+        }
+        Ok(())
     }
 }

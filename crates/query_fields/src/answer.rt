@@ -5,21 +5,20 @@ use program_parts::{Fault, bad, text_of, unknown, usage, without_mark, without_r
 use std::alloc::Global;
 use std::io;
 
-/// Reads the query into `fields`, which is empty, carries out the command that the words are, and
-/// adds what it writes to `answers`.
+/// Reads the query into `fields`, which is empty, carries out the command, and adds what it writes
+/// to `answers`.
 ///
 /// # Errors
 ///
-/// No such command; a bad query; a name that is asked for and absent; out of memory.
+/// A bad query; a name that is asked for and absent; out of memory.
 pub fn answer_command<'t>(
     alloc: Global,
     fields: &mut Fields<'t>,
     query: &'t [u8],
     reading: Reading,
-    words: &'t [String],
+    command: Command<'t>,
     answers: &mut String,
 ) -> Result<(), Fault> {
-    let command = command_of(alloc, words)?;
     if let Err(error) = read_query(alloc, query, reading, fields) {
         return Err(Fault::input(error));
     }
@@ -32,7 +31,12 @@ pub fn answer_command<'t>(
     Ok(())
 }
 
-fn command_of(alloc: Global, words: &[String]) -> Result<Command<'_>, Fault> {
+/// The command that the words are.
+///
+/// # Errors
+///
+/// No such command; out of memory.
+pub fn command_of(alloc: Global, words: &[String]) -> Result<Command<'_>, Fault> {
     let Some((word, behind)) = words.split_first() else {
         return Err(usage("no command behind the query"));
     };

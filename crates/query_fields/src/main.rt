@@ -31,11 +31,11 @@ mod command;
 mod escape;
 mod fields;
 
-use crate::answer::{answer_command, answer_lines};
+use crate::answer::{answer_command, answer_lines, command_of};
 use crate::fields::Reading;
 use ordered_multimap::ListOrderedMultimap;
 use ordered_multimap::list_ordered_multimap::RandomState;
-use program_parts::{Arguments, Fault, Program, run_program};
+use program_parts::{Arguments, Fault, Program, read_input, run_program};
 use std::process::ExitCode;
 
 const PROGRAM: Program = Program {
@@ -65,25 +65,25 @@ fn main(rt: HostRuntime) -> ExitCode {
     run_program(&rt, &PROGRAM, answers_to)
 }
 
-fn answers_to(rt: &HostRuntime, arguments: &Arguments<'_>, input: &[u8]) -> Result<Vec<u8>, Fault> {
+fn answers_to(rt: &HostRuntime, arguments: &Arguments<'_>) -> Result<Vec<u8>, Fault> {
+    let command = match arguments.first {
+        Some(_) => Some(command_of(rt.alloc(), arguments.words)?),
+        None => None,
+    };
     let reading = if arguments.has("--strict") {
         Reading::Strict
     } else {
         Reading::Lenient
     };
+    let input = read_input(rt, &PROGRAM, arguments)?;
     // Who sends a query may choose names that share a hash, so the hash has a seed of its own.
     let fields = &mut ListOrderedMultimap::with_hasher(rt.alloc(), RandomState::new(rt)?);
     let mut answers = String::new(rt.alloc());
-    match arguments.first {
-        Some(_) => answer_command(
-            rt.alloc(),
-            fields,
-            input,
-            reading,
-            arguments.words,
-            &mut answers,
-        )?,
-        None => answer_lines(rt.alloc(), fields, input, reading, &mut answers)?,
+    match command {
+        Some(command) => {
+            answer_command(rt.alloc(), fields, &input, reading, command, &mut answers)?
+        }
+        None => answer_lines(rt.alloc(), fields, &input, reading, &mut answers)?,
     }
     Ok(answers.into_bytes())
 }
