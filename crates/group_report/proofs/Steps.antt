@@ -1,12 +1,13 @@
 -- One entry more: what it makes of the summaries.
 use Rattle.std.proofs.Common.{◌≡◌, ◌+◌, ℕ, Bool, true, false, cond, List, [], ◌∷◌, ◌++◌, filter, map, slice_get, sum_by}
-use Rattle.std.proofs.Common.{Some, None, ℤ, refl, sym, ap, ◌∙◌, arith, add_assoc, length-append}
+use Rattle.std.proofs.Common.{Some, None, ℤ, refl, sym, ap, subst, ◌∙◌, arith, add_assoc, length-append, not, ◌||◌}
 use Rattle.std.proofs.lemmas.List.Sums.{fold-append, sum_by-append, sum_by-cons}
 use Rattle.std.specs.Cmp.{IsEquivalence}
-use Rattle.ordered_multimap.specs.Changes.{appended, first_written}
-use Rattle.ordered_multimap.specs.Keys.{is_listed, stored_key}
+use Rattle.ordered_multimap.specs.Changes.{appended, first_occurrences, first_written}
+use Rattle.ordered_multimap.specs.Keys.{is_listed, keys_with, stored_key}
 use Rattle.ordered_multimap.specs.Lists.{Lists}
 use Rattle.ordered_multimap.specs.Pairs.{values_of, values_where, with_first_where}
+use Rattle.ordered_multimap.proofs.Callers.Laws.{first_occurrences-push, is_listed-others}
 use Rattle.ordered_multimap.proofs.Callers.ListedKeys.{stored_key_absent, stored_key_member}
 use Rattle.ordered_multimap.proofs.Callers.OnlyValue.{with_first-step}
 use Rattle.group_report.specs.Sums.{Summarizes, nothing, summaries_of, summary_of, summary_with}
@@ -33,7 +34,8 @@ module _ {K V : Type 0} (accepts : K → Bool) where
   -- a pair more
   values_where-push : (pairs : List (K × V)) (k : K) (v : V)
       → values_where accepts (pairs ++ (k, v) ∷ []) ≡ values_where accepts pairs ++ one (accepts k) v
-  values_where-push [] k v = elim (accepts k) as (λ b. map (λ (q : K × V). q.1) (cond b ((k, v) ∷ []) []) ≡ one b v) [ true ↦ refl | false ↦ refl ]
+  values_where-push [] k v = elim (accepts k) as (λ b. map (λ (q : K × V). q.1)
+      (cond b ((k, v) ∷ []) []) ≡ one b v) [ true ↦ refl | false ↦ refl ]
   values_where-push (p ∷ pairs) k v =
       elim (accepts p.0) as (λ b. map (λ (q : K × V). q.1) (cond b (p ∷ filter (λ q. accepts q.0) (pairs ++ (k, v) ∷ []))
       (filter (λ q. accepts q.0) (pairs ++ (k, v) ∷ [])))
@@ -49,7 +51,8 @@ module _ {K V : Type 0} (accepts : K → Bool) where
   with_first-accepted [] v = refl
   with_first-accepted (p ∷ pairs) v =
       ap (values_where accepts) (with_first-step accepts p pairs v)
-      ∙ elim (accepts p.0) as (λ b. accepts p.0 ≡ b → values_where accepts (cond b ((p.0, v) ∷ pairs) (p ∷ with_first_where accepts pairs v))
+      ∙ elim (accepts p.0) as (λ b. accepts p.0 ≡ b
+      → values_where accepts (cond b ((p.0, v) ∷ pairs) (p ∷ with_first_where accepts pairs v))
       ≡ with_head v (map (λ (q : K × V). q.1) (cond b (p ∷ filter (λ q. accepts q.0) pairs) (filter (λ q. accepts q.0) pairs)))) [
         | true ↦ λ e. rw e refl
         | false ↦ λ e. rw e (with_first-accepted pairs v)
@@ -64,7 +67,8 @@ module _ {K V : Type 0} (accepts : K → Bool) where
       ∙ elim (accepts p.0) as (λ b. accepts p.0 ≡ b → values_where others (cond b ((p.0, v) ∷ pairs) (p ∷ with_first_where accepts pairs v))
       ≡ values_where others (p ∷ pairs)) [
         | true ↦ λ e. rw (apart p.0 e) refl
-        | false ↦ λ e. elim (others p.0) as (λ b. map (λ (q : K × V). q.1) (cond b (p ∷ filter (λ q. others q.0) (with_first_where accepts pairs v))
+        | false ↦ λ e. elim (others p.0) as (λ b. map (λ (q : K × V). q.1)
+            (cond b (p ∷ filter (λ q. others q.0) (with_first_where accepts pairs v))
             (filter (λ q. others q.0) (with_first_where accepts pairs v)))
             ≡ map (λ (q : K × V). q.1) (cond b (p ∷ filter (λ q. others q.0) pairs) (filter (λ q. others q.0) pairs))) [
               | true ↦ ap (λ vs. p.1 ∷ vs) (with_first-others others apart pairs v)
@@ -129,13 +133,26 @@ module _ {G : Type 0} {eq : G → G → Bool} (laws : IsEquivalence eq) where
     | false ↦ λ e. ap (eq g) (stored_key_absent laws k keys e)
   ] refl
 
+  -- a group with a summary is one of those that occur
+  listed_first : (entries : List (G × ℤ)) (k : G) (s : Summary) → slice_get (summaries_of (values_of eq entries k)) 0 ≡ Some s
+      → is_listed eq (first_occurrences eq entries) k ≡ true
+  listed_first [] k s first = cc
+  listed_first (p ∷ entries) k s first =
+      elim (eq k p.0) as (λ b. eq k p.0 ≡ b → (b || is_listed eq (filter (λ i. not (eq p.0 i)) (first_occurrences eq entries)) k) ≡ true) [
+        | true ↦ λ e. refl
+        | false ↦ λ e. is_listed-others laws p.0 k (first_occurrences eq entries) e
+            ∙ listed_first entries k s (subst (λ b. slice_get (summaries_of (map (λ (q : G × ℤ). q.1)
+            (cond b (p ∷ filter (λ q. eq k q.0) entries) (filter (λ q. eq k q.0) entries)))) 0 ≡ Some s) e first)
+      ] refl
+
   module _ (entries : List (G × ℤ)) (m : Lists G Summary) (k : G) (value : ℤ) (before : Summarizes eq entries m) where
     -- the group has a summary, which is written again
     pub summarizes-present : (s : Summary) → slice_get (values_of eq m.pairs k) 0 ≡ Some s
         → Summarizes eq (entries ++ (k, value) ∷ []) (first_written eq m k (summary_with s value))
     summarizes-present s first = record {
       summaries = λ g. elim (eq g k) as (λ b. eq g k ≡ b
-          → values_of eq (first_written eq m k (summary_with s value)).pairs g ≡ summaries_of (values_of eq (entries ++ (k, value) ∷ []) g)) [
+          → values_of eq (first_written eq m k (summary_with s value)).pairs g ≡ summaries_of
+          (values_of eq (entries ++ (k, value) ∷ []) g)) [
             | true ↦ λ e.
                 ap (λ test. values_where test (first_written eq m k (summary_with s value)).pairs) (same_keys g k e)
                 ∙ with_first-accepted (eq k) m.pairs (summary_with s value)
@@ -149,6 +166,9 @@ module _ {G : Type 0} {eq : G → G → Bool} (laws : IsEquivalence eq) where
                 ∙ ap summaries_of (sym (values_where-push (eq g) entries k value ∙ ap (λ b. values_where (eq g) entries ++ one b value) e
                 ∙ append_none (values_of eq entries g)))
           ] refl;
+      order = before.order ∙ sym (first_occurrences-push laws entries k value
+          ∙ ap (λ b. cond b (first_occurrences eq entries) (first_occurrences eq entries ++ k ∷ []))
+          (listed_first entries k s (ap (λ vs. slice_get vs 0) (sym (before.summaries k)) ∙ first)));
       counts = with_first-counted (eq k) (λ all. all.count) m.pairs s (summary_with s value) first refl
           ∙ ap (λ n. n + 1) before.counts
           ∙ sym (length-append entries ((k, value) ∷ []));
@@ -159,7 +179,8 @@ module _ {G : Type 0} {eq : G → G → Bool} (laws : IsEquivalence eq) where
         → Summarizes eq (entries ++ (k, value) ∷ []) (appended eq m k (summary_with nothing value))
     summarizes-absent none = record {
       summaries = λ g. elim (eq g k) as (λ b. eq g k ≡ b
-          → values_of eq (appended eq m k (summary_with nothing value)).pairs g ≡ summaries_of (values_of eq (entries ++ (k, value) ∷ []) g)) [
+          → values_of eq (appended eq m k (summary_with nothing value)).pairs g ≡ summaries_of
+          (values_of eq (entries ++ (k, value) ∷ []) g)) [
             | true ↦ λ e.
                 values_where-push (eq g) m.pairs (stored_key eq m.keys k) (summary_with nothing value)
                 ∙ ap (λ b. values_where (eq g) m.pairs ++ one b (summary_with nothing value)) (stored_alike k m.keys g ∙ e)
@@ -176,6 +197,7 @@ module _ {G : Type 0} {eq : G → G → Bool} (laws : IsEquivalence eq) where
                 ∙ ap summaries_of (sym (values_where-push (eq g) entries k value ∙ ap (λ b. values_where (eq g) entries ++ one b value) e
                 ∙ append_none (values_of eq entries g)))
           ] refl;
+      order = ap (λ keys. keys_with eq keys k) before.order ∙ sym (first_occurrences-push laws entries k value);
       counts = sum_by-append (λ p. p.1.count) m.pairs ((stored_key eq m.keys k, summary_with nothing value) ∷ [])
           ∙ ap (λ n. n + 1) before.counts
           ∙ sym (length-append entries ((k, value) ∷ []));

@@ -3,6 +3,7 @@ use Rattle.std.specs.Int.{int_max, int_min, w128}
 use Rattle.std.specs.List.{fold, sum_by}
 use Rattle.std.specs.Prelude.{◌≡◌, Bool, List, [], ◌∷◌, ℤ, pos, negsuc, ◌+◌, ◌+ℤ◌, ◌<◌, ◌^◌, length}
 use Rattle.std.specs.Prelude.{FitsSigned, slice_get, unwrap_or}
+use Rattle.ordered_multimap.specs.Changes.{first_occurrences}
 use Rattle.ordered_multimap.specs.Lists.{Lists}
 use Rattle.ordered_multimap.specs.Pairs.{values_of}
 use Rattle.group_report.specs.declared.summary.Summary.{Summary}
@@ -43,8 +44,10 @@ abbrev pub summary_in : {G : Type 0} → (G → G → Bool) → Lists G Summary 
 summary_in eq m g = unwrap_or (slice_get (values_of eq m.pairs g) 0) nothing
 
 -- Of entries, each a group and a value, the map has one summary for each group, which is that of
--- the values of its entries in order, and the summaries count all entries.
+-- the values of its entries in order; the groups stand as they first occur; and the summaries count
+-- all entries.
 pub record Summarizes {G : Type 0} (eq : G → G → Bool) (entries : List (G × ℤ))
     (m : Lists G Summary) : Type 0 where
   pub summaries : (g : G) → values_of eq m.pairs g ≡ summaries_of (values_of eq entries g)
+  pub order : m.keys ≡ first_occurrences eq entries
   pub counts : sum_by (λ p. p.1.count) m.pairs ≡ length entries

@@ -1,7 +1,7 @@
 //! The summary of each group.
 ghost use Rattle.std.specs.IoError.{error_kind};
 ghost use Rattle.std.specs.Prelude.{◌≡◌, ◌⊎◌, ◌++◌, ◌∷◌, [], List, ℤ, IfErr, IfOk, OnOk};
-ghost use Rattle.std.specs.declared.io.ErrorKind.TheVariants.{InvalidData, OutOfMemory};
+ghost use Rattle.std.specs.declared.io.ErrorKind.TheVariants.{OutOfMemory};
 ghost use Rattle.group_report.specs.Sums.{FitsOneMore, Summarizes, summary_in, summary_with};
 
 use crate::summary::{NOTHING, Summary};

@@ -87,7 +87,7 @@ module _ {K : Type 0} {eq : K → K → Bool} (laws : IsEquivalence eq) where
       ] refl
 
 module _ {K V : Type 0} {eq : K → K → Bool} (laws : IsEquivalence eq) where
-  first_occurrences-push : (pairs : List (K × V)) (k : K) (v : V)
+  pub first_occurrences-push : (pairs : List (K × V)) (k : K) (v : V)
       → first_occurrences eq (pairs ++ (k, v) ∷ []) ≡ keys_with eq (first_occurrences eq pairs) k
   first_occurrences-push [] k v = refl
   first_occurrences-push (q ∷ pairs) k v =
