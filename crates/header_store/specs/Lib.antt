@@ -1,4 +1,5 @@
 pub mod Answered
 pub mod Changed
 pub mod Fields
+pub mod Message
 pub mod Written

@@ -1,15 +1,19 @@
 //! What commands do to the headers, and what they show of them.
-ghost use Rattle.std.specs.Prelude.{◌≡◌, ◌↔◌, ◌++◌, ℕ, List, [], map, IfOk, OnOk};
+ghost use Rattle.std.specs.Prelude.{◌≡◌, ◌++◌, ℕ, List, map, IfOk, OnOk};
 ghost use Rattle.std.specs.Str.{str_eq_ignore_ascii_case, str_to_ascii_lowercase};
 ghost use Rattle.ordered_multimap.specs.Pairs.{has_items, values_where};
-ghost use Rattle.header_store.specs.Written.{all_behind, ended, header_lines, line_of, shown, value_lines};
+ghost use Rattle.header_store.specs.Fields.{value_of};
+ghost use Rattle.header_store.specs.Written.{all_behind, header_lines, listed, name_lines};
+ghost use Rattle.header_store.specs.Written.{shown, value_lines};
 ghost use Rattle.header_store.specs.Changed.{changed, is_found, label_of};
 ghost use Rattle.header_store.specs.Answered.{absence, answer_of, message_of, output_of};
 ghost use Rattle.header_store.specs.Answered.{values_or_absence};
 
 use crate::command::{Command, Form};
+use crate::field::Field;
 use crate::message::{Frame, Headers, read_message};
 use crate::name::Name;
+use crate::write::{add_header, add_label, add_line, add_listed, add_start, add_value};
 use ordered_multimap::EntryValues;
 use program_parts::{Fault, without_return};
 use std::alloc::AllocError;
@@ -24,7 +28,7 @@ pub fn add_answers<'t>(
 ) -> Result<(), Fault> {
     let frame = read_message(headers, input)?;
     for (index, line) in frame.rest.split(|byte| *byte == b'\n').enumerate() {
-        if let Err(error) = add_answer(headers, frame.start, without_return(line), answers) {
+        if let Err(error) = add_answer(headers, frame, without_return(line), answers) {
             let number = frame.lines.saturating_add(index).saturating_add(1);
             return Err(Fault::at_line(number, error));
         }
@@ -35,12 +39,12 @@ pub fn add_answers<'t>(
 /// Does what a line commands, and adds what that shows.
 fn add_answer<'t>(
     headers: &mut Headers<'t>,
-    start: Option<&[u8]>,
+    frame: Frame<'t>,
     line: &'t [u8],
     answers: &mut Vec<u8>,
 ) -> io::Result<()> {
     if !line.is_empty() {
-        answer_to(headers, start, Command::of_line(line)?, answers)?;
+        answer_to(headers, frame, Command::of_line(line)?, answers)?;
     }
     Ok(())
 }
@@ -48,17 +52,19 @@ fn add_answer<'t>(
 /// Does what a line's command says, and adds what that shows.
 fn answer_to<'t>(
     headers: &mut Headers<'t>,
-    start: Option<&[u8]>,
+    frame: Frame<'t>,
     command: Command<'t>,
     answers: &mut Vec<u8>,
 ) -> Result<(), AllocError>
     ensures headers { OnOk result (headers.new.lists ≡ changed command.entry headers.old.lists) }
     ensures shown { OnOk result (answers.new.items ≡ answers.old.items
-        ++ answer_of start.entry command.entry headers.old.lists) }
+        ++ answer_of frame.entry command.entry headers.old.lists) }
 {
     match command {
         Command::Show(name, form) => add_values_or_absence(answers, form, name, headers),
-        Command::Write => add_message(answers, start, b"\n", headers),
+        Command::Names => add_names(answers, headers),
+        Command::Headers => add_all_headers(answers, headers),
+        Command::Write => add_message(answers, frame, headers),
         Command::Set(_, _) | Command::Add(_, _) | Command::Remove(_) => change(headers, command),
     }
 }
@@ -96,14 +102,24 @@ fn carry_out<'t>(
     ensures shown { OnOk result (answers.new.items ≡ answers.old.items
         ++ output_of frame.entry command.entry headers.new.lists) }
 {
-    if let Command::Show(name, form) = command {
-        return add_values(answers, form, None, values_of(headers, name));
+    match command {
+        Command::Show(name, form) => add_values(answers, form, None, values_of(headers, name)),
+        Command::Names => {
+            add_names(answers, headers)?;
+            Ok(headers.keys_len() > 0)
+        }
+        Command::Headers => {
+            add_all_headers(answers, headers)?;
+            Ok(headers.values_len() > 0)
+        }
+        _ => {
+            change(headers, command)?;
+            answers.extend_from_slice(frame.mark)?;
+            add_message(answers, frame, headers)?;
+            answers.extend_from_slice(frame.rest)?;
+            Ok(true)
+        }
     }
-    change(headers, command)?;
-    answers.extend_from_slice(frame.mark)?;
-    add_message(answers, frame.start, frame.line_end, headers)?;
-    answers.extend_from_slice(frame.rest)?;
-    Ok(true)
 }
 
 /// Does to the headers what the command says.
@@ -112,15 +128,15 @@ fn change<'t>(headers: &mut Headers<'t>, command: Command<'t>) -> Result<(), All
 {
     match command {
         Command::Set(name, value) => {
-            headers.set(name, value)?;
+            headers.set(name, Field::Written(value))?;
         }
         Command::Add(name, value) => {
-            headers.append(name, value)?;
+            headers.append(name, Field::Written(value))?;
         }
         Command::Remove(name) => {
             headers.remove(&name);
         }
-        Command::Show(_, _) | Command::Write => {}
+        Command::Show(_, _) | Command::Names | Command::Headers | Command::Write => {}
     }
     Ok(())
 }
@@ -130,7 +146,7 @@ fn change<'t>(headers: &mut Headers<'t>, command: Command<'t>) -> Result<(), All
 fn values_of<'m, 't>(
     headers: &'m Headers<'t>,
     name: Name<'t>,
-) -> EntryValues<'m, Name<'t>, &'t [u8]>
+) -> EntryValues<'m, Name<'t>, Field<'t>>
     ensures found { result.left ≡ values_where
         (λ stored. str_eq_ignore_ascii_case name.entry.text.0.now stored.text.0.now)
         headers.now.lists.pairs }
@@ -149,17 +165,17 @@ fn add_values<'t>(
     answers: &mut Vec<u8>,
     form: Form,
     name: Option<Name<'t>>,
-    mut values: EntryValues<'_, Name<'t>, &'t [u8]>,
+    mut values: EntryValues<'_, Name<'t>, Field<'t>>,
 ) -> Result<bool, AllocError>
     ensures found { IfOk result (λ found. found ≡ has_items values.entry.left) }
     ensures shown { OnOk result (answers.new.items ≡ answers.old.items
-        ++ shown form (label_of name.entry) (map (λ v. v.now) values.entry.left)) }
+        ++ shown form (label_of name.entry) (map value_of values.entry.left)) }
 {
     let Some(first) = values.next() else {
         return Ok(false);
     };
     add_label(answers, name)?;
-    answers.extend_from_slice(first)?;
+    add_value(answers, *first)?;
     if let Form::Joined(separator) = form {
         add_all_behind(answers, separator, values)?;
         answers.push(b'\n')?;
@@ -176,14 +192,15 @@ fn add_values<'t>(
 fn add_lines<'t>(
     answers: &mut Vec<u8>,
     name: Option<Name<'t>>,
-    values: EntryValues<'_, Name<'t>, &'t [u8]>,
+    values: EntryValues<'_, Name<'t>, Field<'t>>,
 ) -> Result<(), AllocError>
     ensures { OnOk result (answers.new.items ≡ answers.old.items
-        ++ value_lines (label_of name.entry) (map (λ v. v.now) values.entry.left)) }
+        ++ value_lines (label_of name.entry) (map value_of values.entry.left)) }
 {
     for value in values {
         add_label(answers, name)?;
-        add_line(answers, value)?;
+        add_value(answers, *value)?;
+        answers.push(b'\n')?;
     }
     Ok(())
 }
@@ -192,39 +209,15 @@ fn add_lines<'t>(
 fn add_all_behind<'t>(
     answers: &mut Vec<u8>,
     separator: &[u8],
-    values: EntryValues<'_, Name<'t>, &'t [u8]>,
+    values: EntryValues<'_, Name<'t>, Field<'t>>,
 ) -> Result<(), AllocError>
     ensures { OnOk result (answers.new.items ≡ answers.old.items
-        ++ all_behind separator.now (map (λ v. v.now) values.entry.left)) }
+        ++ all_behind separator.now (map value_of values.entry.left)) }
 {
     for value in values {
         answers.extend_from_slice(separator)?;
-        answers.extend_from_slice(value)?;
+        add_value(answers, *value)?;
     }
-    Ok(())
-}
-
-fn add_label(answers: &mut Vec<u8>, name: Option<Name<'_>>) -> Result<(), AllocError>
-    ensures { OnOk result (answers.new.items ≡ answers.old.items ++ label_of name.entry) }
-{
-    if let Some(name) = name {
-        answers.extend_from_slice(name.as_bytes())?;
-        answers.extend_from_slice(b": ")?;
-    }
-    Ok(())
-}
-
-fn add_line(answers: &mut Vec<u8>, text: &[u8]) -> Result<(), AllocError>
-    ensures { OnOk result (answers.new.items ≡ answers.old.items ++ line_of text.now) }
-{
-    add_ended(answers, text, b"\n")
-}
-
-fn add_ended(answers: &mut Vec<u8>, text: &[u8], line_end: &[u8]) -> Result<(), AllocError>
-    ensures { OnOk result (answers.new.items ≡ answers.old.items ++ ended line_end.now text.now) }
-{
-    answers.extend_from_slice(text)?;
-    answers.extend_from_slice(line_end)?;
     Ok(())
 }
 
@@ -252,34 +245,52 @@ fn add_absence(answers: &mut Vec<u8>, name: Name<'_>) -> Result<(), AllocError>
     add_line(answers, name.as_bytes())
 }
 
-/// Adds the request or status line, if there is one, and all headers in order, on lines that end so.
+/// Adds the request or status line, if there is one, and all headers in order, as they stand.
 fn add_message(
     answers: &mut Vec<u8>,
-    start: Option<&[u8]>,
-    line_end: &[u8],
+    frame: Frame<'_>,
     headers: &Headers<'_>,
 ) -> Result<(), AllocError>
     ensures { OnOk result (answers.new.items ≡ answers.old.items
-        ++ message_of line_end.now start.entry headers.now.lists) }
+        ++ message_of frame.entry.line_end.now frame.entry.start.now headers.now.lists) }
 {
-    if let Some(start) = start {
-        add_ended(answers, start, line_end)?;
-    }
-    add_headers(answers, line_end, headers)
+    add_start(answers, frame.line_end, frame.start)?;
+    add_headers(answers, frame.line_end, headers)
 }
 
-/// Adds all headers in order, each name as it was first spelled.
+/// Adds all headers in order, each as it stands.
 fn add_headers(
     answers: &mut Vec<u8>,
     line_end: &[u8],
     headers: &Headers<'_>,
 ) -> Result<(), AllocError>
-    ensures { OnOk result (answers.new.items ≡ answers.old.items ++ header_lines line_end.now
-        (map (λ p. (p.0.text.0.now, p.1.now)) headers.now.lists.pairs)) }
+    ensures { OnOk result (answers.new.items ≡ answers.old.items
+        ++ header_lines line_end.now headers.now.lists.pairs) }
 {
-    for (name, value) in headers {
-        add_label(answers, Some(*name))?;
-        add_ended(answers, value, line_end)?;
+    for (name, field) in headers {
+        add_header(answers, line_end, *name, *field)?;
+    }
+    Ok(())
+}
+
+/// Adds each name on a line, as it was first spelled.
+fn add_names(answers: &mut Vec<u8>, headers: &Headers<'_>) -> Result<(), AllocError>
+    ensures { OnOk result (answers.new.items ≡ answers.old.items
+        ++ name_lines headers.now.lists.keys) }
+{
+    for name in headers.keys() {
+        add_line(answers, name.as_bytes())?;
+    }
+    Ok(())
+}
+
+/// Adds all headers in order, each on a line.
+fn add_all_headers(answers: &mut Vec<u8>, headers: &Headers<'_>) -> Result<(), AllocError>
+    ensures { OnOk result (answers.new.items ≡ answers.old.items
+        ++ listed headers.now.lists.pairs) }
+{
+    for (name, field) in headers {
+        add_listed(answers, *name, *field)?;
     }
     Ok(())
 }

@@ -20,7 +20,11 @@ pub enum Command<'t> {
     Add(Name<'t>, &'t [u8]),
     /// The headers of the name go.
     Remove(Name<'t>),
-    /// All headers are written.
+    /// Each name, once.
+    Names,
+    /// Each header, with its value on one line.
+    Headers,
+    /// The message is written.
     Write,
 }
 
@@ -50,7 +54,7 @@ impl<'t> Command<'t> {
                 let (name, value) = field_of(operands, b' ')?;
                 Ok(Command::Add(name, value))
             }
-            b"write" if operands.is_empty() => Ok(Command::Write),
+            _ if operands.is_empty() => Command::alone(word),
             b"get" | b"all" | b"joined" | b"remove" => Command::of_name(word, name_of(operands)?),
             _ => Err(bad("not a command")),
         }
@@ -70,13 +74,21 @@ impl<'t> Command<'t> {
         }
     }
 
+    /// Whether the command writes the whole message.
+    pub fn writes_message(self) -> bool {
+        matches!(
+            &self,
+            Command::Set(..) | Command::Add(..) | Command::Remove(_) | Command::Write
+        )
+    }
+
     fn parse(words: &'t [String]) -> io::Result<Command<'t>> {
         match words {
             [word, name] => Command::of_name(word.as_bytes(), name_of(name.as_bytes())?),
             [word, name, value] => {
                 Command::of_pair(word.as_bytes(), name_of(name.as_bytes())?, value.as_bytes())
             }
-            [word] if word.as_str() == "write" => Ok(Command::Write),
+            [word] => Command::alone(word.as_bytes()),
             [word, ..] => Err(no_command(word.as_bytes())),
             [] => Err(bad("no command behind the file")),
         }
@@ -89,6 +101,18 @@ impl<'t> Command<'t> {
         match word {
             b"set" => Ok(Command::Set(name, value)),
             b"add" => Ok(Command::Add(name, value)),
+            _ => Err(no_command(word)),
+        }
+    }
+
+    /// The command of this word, where it takes nothing.
+    fn alone(word: &[u8]) -> io::Result<Command<'t>>
+        ensures bad { IfErr result (λ error. error_kind error ≡ InvalidData) }
+    {
+        match word {
+            b"names" => Ok(Command::Names),
+            b"list" => Ok(Command::Headers),
+            b"write" => Ok(Command::Write),
             _ => Err(no_command(word)),
         }
     }
@@ -117,6 +141,8 @@ fn no_command(word: &[u8]) -> io::Error
         b"set" => bad("set takes NAME and VALUE"),
         b"add" => bad("add takes NAME and VALUE"),
         b"remove" => bad("remove takes NAME"),
+        b"names" => bad("names takes nothing"),
+        b"list" => bad("list takes nothing"),
         b"write" => bad("write takes nothing"),
         _ => bad("not a command"),
     }

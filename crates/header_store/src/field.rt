@@ -9,6 +9,16 @@ use crate::name::Name;
 use program_parts::bad;
 use std::io;
 
+/// What a name has in a message.
+#[derive(Clone, Copy)]
+pub enum Field<'t> {
+    /// The lines on which the header stands, with what ends them, and its value within them, without
+    /// the blanks around it.
+    Read(&'t [u8], &'t [u8]),
+    /// A value that a command gave it.
+    Written(&'t [u8]),
+}
+
 /// The name and the value that stand before and behind the first separator, the value without the
 /// blanks around it. Without a separator the whole text is the name, and the value is empty. It
 /// fails exactly if RFC 9110 forbids what stands before the separator as a name, or what stands
@@ -76,4 +86,18 @@ fn place_of(text: &[u8], byte: u8) -> Option<usize>
     ensures { result ≡ position (λ other. other == byte) text.now }
 {
     text.iter().position(|other| *other == byte)
+}
+
+/// Whether the byte is a space or a tab.
+pub fn is_blank(byte: u8) -> bool
+    ensures { result ≡ rfc.is_blank byte }
+{
+    byte == b' ' || byte == b'\t'
+}
+
+/// Whether the byte ends a line.
+pub fn is_line_end(byte: u8) -> bool
+    ensures { result ≡ rfc.is_line_end byte }
+{
+    byte == b'\n' || byte == b'\r'
 }

@@ -42,7 +42,7 @@ impl<'t> Name<'t> {
 }
 
 /// Whether the byte may stand in a token.
-fn is_token_byte(byte: u8) -> bool
+pub fn is_token_byte(byte: u8) -> bool
     ensures { result ≡ rfc.is_token_byte byte }
 {
     byte.is_ascii_alphanumeric() || b"!#$%&'*+-.^_`|~".contains(&byte)

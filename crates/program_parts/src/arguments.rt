@@ -1,8 +1,12 @@
 //! The arguments of a program: options, the file or the text that it reads, and words.
-ghost use Rattle.std.specs.Prelude.{◌≡◌, ◌≤◌, ◌↔◌, IfOk, IsTrue, length};
+ghost use Rattle.std.specs.Prelude.{◌≡◌, ◌≤◌, ◌↔◌, IfErr, IfOk, IsTrue, length};
+ghost use Rattle.program_parts.specs.Statuses.{status_of_fault};
 
-use crate::fault::{Fault, unknown};
+use crate::fault::{Fault, unknown, usage};
 use std::alloc::Global;
+
+/// The option by which a program writes into the file that it reads; `-i` for short.
+pub const IN_PLACE: &str = "--in-place";
 
 /// What a program is called, and what it takes.
 pub struct Program {
@@ -80,6 +84,27 @@ impl<'w> Arguments<'w> {
         })
     }
 
+    /// Whether what the program changes goes into the file. `writes` is whether it writes the whole
+    /// text of the file.
+    ///
+    /// # Errors
+    ///
+    /// [`Fault::Usage`] if it should and there is no such text, or no file.
+    pub fn is_in_place(&self, writes: bool) -> Result<bool, Fault>
+        ensures bad { IfErr result (λ fault. status_of_fault fault ≡ 2) }
+    {
+        if !self.has(IN_PLACE) {
+            return Ok(false);
+        }
+        if !writes {
+            return Err(usage("--in-place goes with a command that changes the file"));
+        }
+        match self.first {
+            None | Some("-") => Err(usage("--in-place takes a file, not standard input")),
+            Some(_) => Ok(true),
+        }
+    }
+
     /// Whether the option is there.
     pub fn has(&self, option: &str) -> bool {
         self.value_of(option).is_some()
@@ -134,6 +159,9 @@ fn read_option<'w>(
     let (name, value) = parts_of(program, word);
     if name == "-h" || name == "--help" {
         return Ok((("--help", ""), behind));
+    }
+    if name == "-i" && program.flags.contains(&IN_PLACE) {
+        return Ok(((IN_PLACE, ""), behind));
     }
     if name == "--version" || program.flags.contains(&name) {
         return match value {

@@ -23,10 +23,12 @@ ghost use Rattle.program_parts.specs.Statuses.{status_of_fault};
 mod arguments;
 mod fault;
 mod lines;
+mod replace;
 
-pub use crate::arguments::{Arguments, Program};
+pub use crate::arguments::{Arguments, IN_PLACE, Program};
 pub use crate::fault::{Fault, bad, status_of, unknown, usage};
 pub use crate::lines::{OneLine, mark_of, text_of, without_mark, without_return};
+use crate::replace::replace_file;
 use std::alloc::Global;
 use std::io::{ErrorKind, Read, Write};
 use std::process::ExitCode;
@@ -36,7 +38,8 @@ use std::{env, fs, io};
 const VERSION: &str = "2026-12-01";
 
 /// Runs a program. `answer` is handed the arguments, reads the input once it has found them good
-/// ([`read_input`]), and returns what the program writes on standard output.
+/// ([`read_input`]), and returns what the program writes on standard output, or, with [`IN_PLACE`],
+/// into the file that the first word names.
 ///
 /// # Requires
 ///
@@ -95,7 +98,22 @@ fn write_answers<F: FnOnce(&HostRuntime, &Arguments<'_>) -> Result<Vec<u8>, Faul
         return Ok(write_out(rt, version.as_bytes())?);
     }
     let answers = answer(rt, arguments)?;
-    Ok(write_out(rt, &answers)?)
+    match arguments.first {
+        Some(file) if arguments.has(IN_PLACE) => write_in_place(rt, program, file, &answers),
+        _ => Ok(write_out(rt, &answers)?),
+    }
+}
+
+fn write_in_place(
+    rt: &HostRuntime,
+    program: &Program,
+    file: &str,
+    content: &[u8],
+) -> Result<(), Fault> {
+    match replace_file(rt, file, program.name, content) {
+        Ok(()) => Ok(()),
+        Err(error) => Err(Fault::input(error)),
+    }
 }
 
 fn write_out(rt: &HostRuntime, answers: &[u8]) -> io::Result<()> {

@@ -1,10 +1,9 @@
-use Rattle.std.proofs.Common.{◌≡◌, ◌++◌, map}
+use Rattle.std.proofs.Common.{◌≡◌, ◌++◌}
 use Rattle.header_store.specs.Written.{header_lines}
 use Rattle.header_store.proofs.answer.add_headers.Given as goal
 
 -- those that were added, and then those that are left
 abbrev pub invariant-loop-name : goal.invariant-loop-name
 invariant-loop-name l =
-    l.answers.items ++ header_lines l.line_end (map (λ p. (p.0.text.0.now, p.1.now)) l.name-iterator)
-    ≡ l.fn.answers.items
-    ++ header_lines l.fn.line_end (map (λ p. (p.0.text.0.now, p.1.now)) l.fn.headers.lists.pairs)
+    l.answers.items ++ header_lines l.line_end l.name-iterator
+    ≡ l.fn.answers.items ++ header_lines l.fn.line_end l.fn.headers.lists.pairs
