@@ -9,7 +9,7 @@ use Rattle.std.specs.Prelude.{IsUtf8}
 use Rattle.std.specs.Str.Lossy.{utf8_lossy}
 use Rattle.ordered_multimap.specs.Pairs.{has_items}
 use Rattle.query_fields.specs.Escape.{is_unreserved, escape_of, written_byte, written, read_any}
-use Rattle.query_fields.specs.Queries.{AreBytes, AreTexts, field_read, query_read, text_read, written_field, written_fields, written_query}
+use Rattle.query_fields.specs.Queries.{AreBytes, AreTexts, field_read, fields_in, query_read, text_read, written_field, written_fields, written_query}
 use Rattle.query_fields.proofs.Reading.{digits_hold, form_holds, kept}
 use Rattle.query_fields.proofs.ReadingAny.{space_any, other_any, escape_any, nothing_any}
 
@@ -53,7 +53,7 @@ written_byte_lacks b h =
     (λ plain. let no = plain_lacks b plain in ((no.0, tt), (no.1, tt))) ((refl, tt), (refl, tt))
     ((refl, (high.0, (low.0, tt))), (refl, (high.1, (low.1, tt))))
 
-written_lacks : (text : List ℕ) → AreBytes text → Lacks 38 (written text) × Lacks 61 (written text)
+pub written_lacks : (text : List ℕ) → AreBytes text → Lacks 38 (written text) × Lacks 61 (written text)
 written_lacks [] bytes = (tt, tt)
 written_lacks (b ∷ text) bytes =
     let first = written_byte_lacks b bytes.0 in let rest = written_lacks text bytes.1 in
@@ -68,13 +68,13 @@ split_last : (xs : List ℕ) → Lacks 38 xs → slice_split (λ b. b == 38) xs 
 split_last [] lacks = refl
 split_last (x ∷ xs) lacks = rw lacks.0 (ap (onto_first x) (split_last xs lacks.1))
 
-before_at : (xs ys : List ℕ) → Lacks 61 xs → before_first (λ b. b == 61) (xs ++ (61 ∷ ys)) ≡ xs
+pub before_at : (xs ys : List ℕ) → Lacks 61 xs → before_first (λ b. b == 61) (xs ++ (61 ∷ ys)) ≡ xs
 before_at [] ys lacks = refl
 before_at (x ∷ xs) ys lacks =
     let one : 1 + position_or_len (λ b. b == 61) (xs ++ (61 ∷ ys)) ≡ suc (position_or_len (λ b. b == 61) (xs ++ (61 ∷ ys))) = omega arith in
     rw lacks.0 (rw one (ap (λ bs. x ∷ bs) (before_at xs ys lacks.1)))
 
-after_at : (xs ys : List ℕ) → Lacks 61 xs → after_first (λ b. b == 61) (xs ++ (61 ∷ ys)) ≡ ys
+pub after_at : (xs ys : List ℕ) → Lacks 61 xs → after_first (λ b. b == 61) (xs ++ (61 ∷ ys)) ≡ ys
 after_at [] ys lacks = refl
 after_at (x ∷ xs) ys lacks =
     let one : (1 + position_or_len (λ b. b == 61) (xs ++ (61 ∷ ys))) + 1
@@ -126,10 +126,11 @@ read_fields [] texts = refl
 read_fields (p ∷ pairs) texts = λ i.
     field_again p.0 p.1 texts.0.0.1 texts.0.1.1 texts.0.0.0 texts.0.1.0 i ∷ read_fields pairs texts.1 i
 
--- so the query of fields is read as these fields
+-- the fields of a query are those that were written
+pub fields_again : (pairs : List (List ℕ × List ℕ)) → AreTexts pairs → fields_in (written_query pairs) ≡ map written_field pairs
+fields_again [] texts = refl
+fields_again (p ∷ pairs) texts = ap (filter has_items) (split_fields p pairs texts) ∙ kept_fields (p ∷ pairs) texts
+
+-- and it is read as the pairs
 pub query_again : (pairs : List (List ℕ × List ℕ)) → AreTexts pairs → query_read (written_query pairs) ≡ pairs
-query_again [] texts = refl
-query_again (p ∷ pairs) texts =
-    ap (λ fields. map field_read (filter has_items fields)) (split_fields p pairs texts)
-    ∙ ap (map field_read) (kept_fields (p ∷ pairs) texts)
-    ∙ read_fields (p ∷ pairs) texts
+query_again pairs texts = ap (map field_read) (fields_again pairs texts) ∙ read_fields pairs texts

@@ -1,13 +1,13 @@
 -- What a command writes, and what it leaves of the fields.
 use Rattle.std.specs.Cow.{cow_str_bytes}
-use Rattle.std.specs.Prelude.{◌≡◌, ℕ, true, false, List, [], ◌∷◌, ◌++◌}
+use Rattle.std.specs.Prelude.{◌≡◌, ℕ, Bool, true, false, List, [], ◌∷◌, ◌++◌}
 use Rattle.std.specs.Str.{bytes_eq}
 use Rattle.std.specs.declared.borrow.CowStr.{CowStr}
 use Rattle.std.specs.declared.borrow.CowStr.TheVariants.{Borrowed}
 use Rattle.ordered_multimap.specs.Changes.{appended, removed_where}
 use Rattle.ordered_multimap.specs.Lists.{Lists}
 use Rattle.ordered_multimap.specs.OneValue.{only_written}
-use Rattle.ordered_multimap.specs.Pairs.{is_present}
+use Rattle.ordered_multimap.specs.Pairs.{has_items, is_present}
 use Rattle.query_fields.specs.declared.command.Command.{Command}
 use Rattle.query_fields.specs.declared.command.Command.TheVariants.{Get, All, Set, Add}
 use Rattle.query_fields.specs.declared.command.Command.TheVariants.{Remove, Write}
@@ -23,6 +23,15 @@ module _ {A : Type 0} where
   written_by (Add name value) pairs = []
   written_by (Remove name) pairs = []
   written_by Write pairs = written_query (texts_of pairs) ++ (10 ∷ [])
+
+  -- whether there is what the command asks for
+  abbrev pub is_found : Command → List (CowStr A × CowStr A) → Bool
+  is_found (Get name) pairs = has_items (values_named name.now pairs)
+  is_found (All name) pairs = has_items (values_named name.now pairs)
+  is_found (Set name value) pairs = true
+  is_found (Add name value) pairs = true
+  is_found (Remove name) pairs = true
+  is_found Write pairs = true
 
   -- what the command leaves of both lists
   abbrev pub Leaves : Command → Lists (CowStr A) (CowStr A) → Lists (CowStr A) (CowStr A) → Type 0

@@ -8,7 +8,7 @@ ghost use Rattle.ordered_multimap.specs.OneValue.{only_written};
 ghost use Rattle.ordered_multimap.specs.Pairs.{is_present};
 ghost use Rattle.std.specs.String.{string_bytes};
 ghost use Rattle.ordered_multimap.specs.Pairs.{has_items};
-ghost use Rattle.query_fields.specs.Commands.{Leaves, written_by};
+ghost use Rattle.query_fields.specs.Commands.{Leaves, is_found, written_by};
 ghost use Rattle.query_fields.specs.Queries.{lines_of, only_first, same_name, values_named};
 
 use crate::fields::{Fields, Text, add_query};
@@ -61,15 +61,26 @@ impl<'t> Command<'t> {
     ) -> Result<bool, AllocError>
         ensures written { OnOk result (string_bytes answers.new
             ≡ string_bytes answers.old ++ written_by self.entry fields.old.lists.pairs) }
+        ensures found { IfOk result (λ found.
+            found ≡ is_found self.entry fields.old.lists.pairs) }
         ensures leaves { OnOk result (
             Leaves self.entry fields.old.lists fields.new.lists) }
     {
         match self {
             Command::Get(name) => add_first(fields, name, answers),
             Command::All(name) => add_all(fields, name, answers),
-            Command::Set(name, value) => set(fields, name, value),
-            Command::Add(name, value) => add(fields, name, value),
-            Command::Remove(name) => Ok(remove(fields, name)),
+            Command::Set(name, value) => {
+                set(fields, name, value)?;
+                Ok(true)
+            }
+            Command::Add(name, value) => {
+                add(fields, name, value)?;
+                Ok(true)
+            }
+            Command::Remove(name) => {
+                remove(fields, name);
+                Ok(true)
+            }
             Command::Write => {
                 add_query(fields, answers)?;
                 Ok(true)
@@ -90,7 +101,7 @@ fn name_and_value(field: &str) -> (&str, &str) {
     field.split_once('=').unwrap_or((field, ""))
 }
 
-fn set<'t>(fields: &mut Fields<'t>, name: &'t str, value: &'t str) -> Result<bool, AllocError>
+fn set<'t>(fields: &mut Fields<'t>, name: &'t str, value: &'t str) -> Result<(), AllocError>
     ensures present { OnOk result (
         is_present same_name fields.old.lists.pairs (Borrowed name.entry) ≡ true
         → fields.new.lists ≡ only_written (same_name (Borrowed name.entry)) fields.old.lists
@@ -101,24 +112,23 @@ fn set<'t>(fields: &mut Fields<'t>, name: &'t str, value: &'t str) -> Result<boo
         (Borrowed value.entry)) }
 {
     fields.set(Text::Borrowed(name), Text::Borrowed(value))?;
-    Ok(true)
+    Ok(())
 }
 
-fn add<'t>(fields: &mut Fields<'t>, name: &'t str, value: &'t str) -> Result<bool, AllocError>
+fn add<'t>(fields: &mut Fields<'t>, name: &'t str, value: &'t str) -> Result<(), AllocError>
     ensures added { OnOk result (fields.new.lists
         ≡ appended same_name fields.old.lists (Borrowed name.entry) (Borrowed value.entry)) }
 {
     fields.append(Text::Borrowed(name), Text::Borrowed(value))?;
-    Ok(true)
+    Ok(())
 }
 
-fn remove(fields: &mut Fields<'_>, name: &str) -> bool
+fn remove(fields: &mut Fields<'_>, name: &str)
     ensures removed { fields.new.lists
         ≡ removed_where same_name (λ stored. bytes_eq name.now (cow_str_bytes stored))
         fields.old.lists }
 {
     let _ = fields.remove(name);
-    true
 }
 
 /// Adds the first value of a name, if it has one, and says whether it does.

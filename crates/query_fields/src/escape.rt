@@ -68,6 +68,7 @@ fn first_of_any(encoded: &[u8]) -> Option<(u8, &[u8])>
 #[tactic(auto, using(crate::proofs::Reading::reading))]
 pub fn strictly_decoded(alloc: Global, encoded: &str, position: usize) -> io::Result<CowStr<'_>>
     ensures text { IfOk result (λ text. read encoded.now ≡ Some (cow_str_bytes text)) }
+    ensures utf8 { IfOk result (λ text. IsUtf8 (cow_str_bytes text)) }
     ensures bad { IfErr result (λ error. error_kind error ≡ InvalidData
         → IfSome (read encoded.now) (λ bytes. ¬ IsUtf8 bytes)) }
 {

@@ -1,11 +1,16 @@
 //! The fields of a query, in order.
 ghost use Rattle.std.specs.Cow.{cow_str_bytes};
-ghost use Rattle.std.specs.Prelude.{◌≡◌, ◌∷◌, [], ◌++◌, OnOk};
+ghost use Rattle.std.specs.IoError.{error_kind};
+ghost use Rattle.std.specs.Prelude.{◌≡◌, ◌≤◌, ◌∷◌, [], ◌++◌, length, Some, None, IfErr, IfOk, OnOk};
 ghost use Rattle.std.specs.String.{string_bytes};
-ghost use Rattle.query_fields.specs.Queries.{AreTexts, query_read, texts_of};
-ghost use Rattle.query_fields.specs.Queries.{written_field, written_query};
+ghost use Rattle.std.specs.declared.io.ErrorKind.TheVariants.{InvalidData, OutOfMemory};
+ghost use Rattle.query_fields.specs.declared.fields.Reading.{Reading};
+ghost use Rattle.query_fields.specs.Queries.{AreTexts, texts_of, written_field, written_query};
+ghost use Rattle.query_fields.specs.Queries.{pairs_and, piece_read_by, query_read_by, text_read_by};
+ghost use Rattle.query_fields.specs.Queries.{without_question};
 
 use crate::escape::{add_encoded, decoded, strictly_decoded};
+use crate::split::split_at_byte;
 use ordered_multimap::ListOrderedMultimap;
 use ordered_multimap::list_ordered_multimap::RandomState;
 use program_parts::bad;
@@ -29,46 +34,61 @@ pub enum Reading {
 }
 
 /// Appends the fields of a query, from which one leading `?` is cut. A name without `=` has the empty
-/// value, and what is empty between two `&` is no field.
+/// value, and what is empty between two `&` is no field. After an error, fields in front of the bad
+/// one may be there.
 pub fn read_query<'t>(
     alloc: Global,
     query: &'t [u8],
     reading: Reading,
     fields: &mut Fields<'t>,
-) -> io::Result<()> {
-    let all = query.strip_prefix(b"?").unwrap_or(query);
-    let mut position = 1 + (query.len() - all.len());
-    for field in all.split(|byte| *byte == b'&') {
-        if !field.is_empty() {
-            read_field(alloc, field, reading, position, fields)?;
-        }
-        position = position.saturating_add(field.len()).saturating_add(1);
+) -> io::Result<()>
+    ensures read { OnOk result (pairs_and (texts_of fields.old.lists.pairs)
+        (query_read_by reading (without_question query.now))
+        ≡ Some (texts_of fields.new.lists.pairs)) }
+    ensures bad { IfErr result (λ error. error_kind error ≡ InvalidData
+        → query_read_by reading (without_question query.now) ≡ None) }
+{
+    let mut rest = without_question(query);
+    let mut position = 1 + (query.len() - rest.len());
+    while !rest.is_empty() {
+        let (piece, behind) = split_at_byte(rest, b'&');
+        read_piece(alloc, piece, reading, position, fields)?;
+        position = position.saturating_add(piece.len()).saturating_add(1);
+        rest = behind;
     }
     Ok(())
 }
 
-/// Appends the field that begins at this byte of the query, counted from 1.
-fn read_field<'t>(
+/// The query without one leading `?`.
+fn without_question(query: &[u8]) -> &[u8]
+    ensures rest { result.now ≡ without_question query.now }
+    ensures within { length result.now ≤ length query.now }
+{
+    query.strip_prefix(b"?").unwrap_or(query)
+}
+
+/// Appends the field that stands between two `&`, if it isn't empty. It begins at this byte of the
+/// query, counted from 1.
+fn read_piece<'t>(
     alloc: Global,
-    field: &'t [u8],
+    piece: &'t [u8],
     reading: Reading,
     position: usize,
     fields: &mut Fields<'t>,
-) -> io::Result<()> {
-    let (name, value) = name_and_value(field);
+) -> io::Result<()>
+    ensures read { OnOk result (pairs_and (texts_of fields.old.lists.pairs)
+        (piece_read_by reading piece.now) ≡ Some (texts_of fields.new.lists.pairs)) }
+    ensures bad { IfErr result (λ error.
+        error_kind error ≡ InvalidData → piece_read_by reading piece.now ≡ None) }
+{
+    if piece.is_empty() {
+        return Ok(());
+    }
+    let (name, value) = split_at_byte(piece, b'=');
     let behind = position.saturating_add(name.len()).saturating_add(1);
     let name = text_of(alloc, name, reading, position)?;
     let value = text_of(alloc, value, reading, behind)?;
-    fields.append(name, value)?;
-    Ok(())
-}
-
-/// What stands before the first `=`, and what stands behind it.
-fn name_and_value(field: &[u8]) -> (&[u8], &[u8]) {
-    match field.iter().position(|byte| *byte == b'=') {
-        Some(place) => (&field[..place], &field[place + 1..]),
-        None => (field, b""),
-    }
+    append(fields, name, value)
 }
 
 fn text_of<'t>(
@@ -76,7 +96,12 @@ fn text_of<'t>(
     encoded: &'t [u8],
     reading: Reading,
     position: usize,
-) -> io::Result<Text<'t>> {
+) -> io::Result<Text<'t>>
+    ensures read { IfOk result (λ text.
+        text_read_by reading encoded.now ≡ Some (cow_str_bytes text)) }
+    ensures bad { IfErr result (λ error.
+        error_kind error ≡ InvalidData → text_read_by reading encoded.now ≡ None) }
+{
     match reading {
         Reading::Lenient => Ok(decoded(alloc, encoded)?),
         Reading::Strict => match str::from_utf8(encoded) {
@@ -86,13 +111,22 @@ fn text_of<'t>(
     }
 }
 
+fn append<'t>(fields: &mut Fields<'t>, name: Text<'t>, value: Text<'t>) -> io::Result<()>
+    ensures added { OnOk result (texts_of fields.new.lists.pairs ≡ texts_of fields.old.lists.pairs
+        ++ (cow_str_bytes name.entry, cow_str_bytes value.entry) ∷ []) }
+    ensures refused { IfErr result (λ error. error_kind error ≡ OutOfMemory) }
+{
+    fields.append(name, value)?;
+    Ok(())
+}
+
 /// Adds the query of all fields in order, and a line feed.
 pub fn add_query(fields: &Fields<'_>, query: &mut String) -> Result<(), AllocError>
     ensures written { OnOk result (string_bytes query.new ≡ string_bytes query.old
         ++ (written_query (texts_of fields.now.lists.pairs) ++ (10 ∷ []))) }
-    ensures read_again { AreTexts (texts_of fields.now.lists.pairs)
-        → query_read (written_query (texts_of fields.now.lists.pairs))
-        ≡ texts_of fields.now.lists.pairs }
+    ensures read_again { (reading : Reading) → AreTexts (texts_of fields.now.lists.pairs)
+        → query_read_by reading (without_question (written_query (texts_of fields.now.lists.pairs)))
+        ≡ Some (texts_of fields.now.lists.pairs) }
 {
     let mut is_first = true;
     for (name, value) in fields {

@@ -30,6 +30,7 @@ mod answer;
 mod command;
 mod escape;
 mod fields;
+mod split;
 
 use crate::answer::{answer_command, answer_lines, command_of};
 use crate::fields::Reading;
