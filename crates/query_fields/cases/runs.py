@@ -2,7 +2,7 @@
 """What the program should print, by the URL standard's rules as Python's urllib has them: queries and commands at random.
 
 urllib differs from the standard in what stands between `&` without `=`, which it keeps as a field of an empty value only
-where it is told so, and in `?`, which it keeps; both are told here.
+where it is told so, in `?`, which it keeps, and in which of `*` and `~` it escapes; all are told here.
 """
 import random
 from urllib.parse import parse_qsl, quote_plus
@@ -21,7 +21,8 @@ def parts_of(query):
 
 
 def written(text):
-    return quote_plus(text, safe="~")
+    """The text, escaped: urllib leaves `~` as it is, which the standard escapes."""
+    return quote_plus(text, safe="*").replace("~", "%7E")
 
 
 def query_of(fields):

@@ -8,7 +8,7 @@ use Rattle.std.proofs.lemmas.Str.Ascii.{IsAscii-cons, IsAscii-nil}
 use Rattle.std.specs.Fmt.{digit_glyph}
 use Rattle.std.specs.List.{after_first, before_first}
 use Rattle.std.specs.Str.{bytes_eq}
-use Rattle.query_fields.specs.Escape.{is_unreserved, written_byte, written}
+use Rattle.query_fields.specs.Escape.{is_plain, written_byte, written}
 use Rattle.query_fields.specs.Queries.{AreBytes, AreTexts, IsText, all_read_strictly, field_read_strictly, pair_before, pair_of, query_read_by}
 use Rattle.query_fields.specs.Queries.{text_read_strictly, without_question, written_field, written_fields, written_query}
 use Rattle.query_fields.specs.declared.fields.Reading.{Reading}
@@ -64,7 +64,7 @@ all_strictly_again (p ∷ pairs) texts = λ i.
     pair_before (field_strictly_again p.0 p.1 texts.0.0 texts.0.1 i) (all_strictly_again pairs texts.1 i)
 
 -- no `?` is written
-plain_is_no_question : (b : ℕ) → is_unreserved b ≡ true → (b == 63) ≡ false
+plain_is_no_question : (b : ℕ) → is_plain b ≡ true → (b == 63) ≡ false
 plain_is_no_question b plain = grind (arith, nat_tests)
 
 byte_no_question : (b : ℕ) (rest : List ℕ) → bytes_eq (take 1 (written_byte b ++ rest)) (63 ∷ []) ≡ false

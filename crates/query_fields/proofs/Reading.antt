@@ -10,7 +10,7 @@ use Rattle.std.proofs.lemmas.Fmt.{hex_byte}
 use Rattle.std.specs.Char.{digit_value, is_digit}
 use Rattle.std.specs.Fmt.{digit_glyph}
 use Rattle.std.specs.List.{list_any}
-use Rattle.query_fields.specs.Escape.{is_unreserved, escape_of, written_byte, written, read_byte, before, behind, read}
+use Rattle.query_fields.specs.Escape.{is_plain, escape_of, written_byte, written, read_byte, before, behind, read}
 
 -- a byte that isn't `%`
 byte_read : (b : ℕ) (rest : List ℕ) → (b == 37) ≡ false → read (b ∷ rest) ≡ before (read_byte b) (read rest)
@@ -83,14 +83,14 @@ escape_of_read b rest h =
     digits_hold (λ high low v. read (37 ∷ high ∷ low ∷ rest) ≡ before v (read rest)) b h (λ high low x y. escape_read high low rest x y)
 
 -- what stands for itself is no `%` and no `+`
-pub kept : (b : ℕ) → is_unreserved b ≡ true → (b ≢ 37) × (b ≢ 43)
+pub kept : (b : ℕ) → is_plain b ≡ true → (b ≢ 37) × (b ≢ 43)
 kept b plain = (grind (arith, nat_tests), grind (arith, nat_tests))
 
-pub kept_is_ascii : (b : ℕ) → is_unreserved b ≡ true → b < 128
+pub kept_is_ascii : (b : ℕ) → is_plain b ≡ true → b < 128
 kept_is_ascii b plain = grind (arith, nat_tests)
 
 -- the three forms of a byte that is written
-pub plain_written : (b : ℕ) → is_unreserved b ≡ true → written_byte b ≡ b ∷ []
+pub plain_written : (b : ℕ) → is_plain b ≡ true → written_byte b ≡ b ∷ []
 unfolding written_byte
 plain_written b plain = rw plain
 
@@ -98,16 +98,16 @@ pub space_written : written_byte 32 ≡ 43 ∷ []
 unfolding written_byte
 space_written = refl
 
-pub escape_written : (b : ℕ) → is_unreserved b ≡ false → b ≢ 32 → written_byte b ≡ escape_of b
+pub escape_written : (b : ℕ) → is_plain b ≡ false → b ≢ 32 → written_byte b ≡ escape_of b
 unfolding written_byte
 escape_written b other no_space = rw (other, ne_eqb b 32 no_space)
 
 -- what holds of each form holds of what is written of a byte
-pub form_holds : (Holds : ℕ → List ℕ → Type 0) (b : ℕ) → (is_unreserved b ≡ true → Holds b (b ∷ [])) → Holds 32 (43 ∷ [])
+pub form_holds : (Holds : ℕ → List ℕ → Type 0) (b : ℕ) → (is_plain b ≡ true → Holds b (b ∷ [])) → Holds 32 (43 ∷ [])
     → Holds b (escape_of b) → Holds b (written_byte b)
-form_holds Holds b plain space escape = by_kind (is_unreserved b) (b == 32) refl refl
+form_holds Holds b plain space escape = by_kind (is_plain b) (b == 32) refl refl
   where
-    by_kind : (u s : Bool) → is_unreserved b ≡ u → (b == 32) ≡ s → Holds b (written_byte b)
+    by_kind : (u s : Bool) → is_plain b ≡ u → (b == 32) ≡ s → Holds b (written_byte b)
     by_kind true s is_plain is_space = rw (plain_written b is_plain) (plain is_plain)
     by_kind false true is_plain is_space = rw (eqb-true b 32 is_space, space_written) space
     by_kind false false is_plain is_space = rw (escape_written b is_plain (grind (arith, nat_tests))) escape

@@ -8,7 +8,7 @@ use Rattle.std.specs.List.{after_first, before_first, onto_first, position_or_le
 use Rattle.std.specs.Prelude.{IsUtf8}
 use Rattle.std.specs.Str.Lossy.{utf8_lossy}
 use Rattle.ordered_multimap.specs.Pairs.{has_items}
-use Rattle.query_fields.specs.Escape.{is_unreserved, escape_of, written_byte, written, read_any}
+use Rattle.query_fields.specs.Escape.{is_plain, escape_of, written_byte, written, read_any}
 use Rattle.query_fields.specs.Queries.{AreBytes, AreTexts, field_read, fields_in, query_read, text_read, written_field, written_fields, written_query}
 use Rattle.query_fields.proofs.Reading.{digits_hold, form_holds, kept}
 use Rattle.query_fields.proofs.ReadingAny.{space_any, other_any, escape_any, nothing_any}
@@ -42,7 +42,7 @@ Lacks-append m (x ∷ xs) ys h k = (h.0, Lacks-append m xs ys h.1 k)
 glyph_lacks : (d : ℕ) → d < 16 → ((digit_glyph true d == 38) ≡ false) × ((digit_glyph true d == 61) ≡ false)
 glyph_lacks d h = (grind (arith, nat_tests), grind (arith, nat_tests))
 
-plain_lacks : (b : ℕ) → is_unreserved b ≡ true → ((b == 38) ≡ false) × ((b == 61) ≡ false)
+plain_lacks : (b : ℕ) → is_plain b ≡ true → ((b == 38) ≡ false) × ((b == 61) ≡ false)
 plain_lacks b plain = (grind (arith, nat_tests), grind (arith, nat_tests))
 
 written_byte_lacks : (b : ℕ) → b < 256 → Lacks 38 (written_byte b) × Lacks 61 (written_byte b)

@@ -6,10 +6,10 @@ use Rattle.std.specs.List.{flat_map}
 use Rattle.std.specs.Char.{digit_value, is_digit}
 use Rattle.std.specs.Fmt.{digit_glyph}
 
--- a letter, a digit or one of `-._~`
-abbrev pub is_unreserved : ℕ → Bool
-is_unreserved b = is_in_range 65 90 b || is_in_range 97 122 b || is_in_range 48 57 b || b == 45
-    || b == 46 || b == 95 || b == 126
+-- a byte that is written as it is: a letter, a digit or one of `*-._`
+abbrev pub is_plain : ℕ → Bool
+is_plain b = is_in_range 65 90 b || is_in_range 97 122 b || is_in_range 48 57 b || b == 42
+    || b == 45 || b == 46 || b == 95
 
 -- `%` and the two upper-case hexadecimal digits of a byte
 abbrev pub escape_of : ℕ → List ℕ
@@ -17,7 +17,7 @@ escape_of b = 37 ∷ digit_glyph true (b / 16) ∷ digit_glyph true (b % 16) ∷
 
 -- a byte as it is written; a space is a `+`
 unfoldable pub written_byte : ℕ → List ℕ
-written_byte b = if is_unreserved b then b ∷ [] else (if b == 32 then 43 ∷ [] else escape_of b)
+written_byte b = if is_plain b then b ∷ [] else (if b == 32 then 43 ∷ [] else escape_of b)
 
 -- a text as it is written
 abbrev pub written : List ℕ → List ℕ

@@ -8,7 +8,7 @@ ghost use Rattle.std.specs.IoError.{error_kind};
 ghost use Rattle.std.specs.declared.io.ErrorKind.TheVariants.{InvalidData};
 ghost use Rattle.std.specs.String.{string_bytes};
 ghost use Rattle.std.specs.Str.Lossy.{utf8_lossy};
-ghost use Rattle.query_fields.specs.Escape.{is_unreserved, written_byte, written, read, before, behind};
+ghost use Rattle.query_fields.specs.Escape.{is_plain, written_byte, written, read, before, behind};
 ghost use Rattle.query_fields.specs.Escape.{read_any};
 
 use program_parts::bad;
@@ -154,7 +154,7 @@ fn escaped_byte(digits: &[u8]) -> Option<(u8, &[u8])>
     Some(((16 * high + low) as u8, behind))
 }
 
-/// Adds a text as it stands in a query: letters, digits and `-._~` as they are, a space as `+`, and
+/// Adds a text as it stands in a query: letters, digits and `*-._` as they are, a space as `+`, and
 /// each other byte as `%` and two digits.
 pub fn add_encoded(text: &str, query: &mut String) -> Result<(), AllocError>
     ensures written { OnOk result (string_bytes query.new
@@ -172,7 +172,7 @@ pub fn add_encoded(text: &str, query: &mut String) -> Result<(), AllocError>
 fn add_byte(byte: u8, query: &mut String) -> Result<(), AllocError>
     ensures { OnOk result (string_bytes query.new ≡ string_bytes query.old ++ written_byte byte) }
 {
-    if is_unreserved(byte) {
+    if is_plain(byte) {
         query.push(char::from(byte))
     } else if byte == b' ' {
         query.push('+')
@@ -181,8 +181,8 @@ fn add_byte(byte: u8, query: &mut String) -> Result<(), AllocError>
     }
 }
 
-fn is_unreserved(byte: u8) -> bool
-    ensures { result ≡ is_unreserved byte }
+fn is_plain(byte: u8) -> bool
+    ensures { result ≡ is_plain byte }
 {
-    matches!(byte, b'A'..=b'Z' | b'a'..=b'z' | b'0'..=b'9' | b'-' | b'.' | b'_' | b'~')
+    matches!(byte, b'A'..=b'Z' | b'a'..=b'z' | b'0'..=b'9' | b'*' | b'-' | b'.' | b'_')
 }
