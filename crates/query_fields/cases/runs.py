@@ -8,6 +8,7 @@ import random
 from urllib.parse import parse_qsl, quote_plus
 
 HELP = "; see query_fields --help\n"
+BARE = ("names", "list", "write")
 
 
 def fields_of(query):
@@ -30,7 +31,7 @@ def query_of(fields):
 
 
 def carried_out(fields, word, operand):
-    """The fields afterwards, and what is written, or None where the name is absent."""
+    """The fields afterwards, and what is written, or None where what is asked for is absent."""
     name, _, value = operand.partition("=")
     if word == "get":
         found = [it[1] for it in fields if it[0] == operand]
@@ -38,6 +39,10 @@ def carried_out(fields, word, operand):
     if word == "all":
         found = [it[1] for it in fields if it[0] == operand]
         return fields, "".join(f"{it}\n" for it in found) if found else None
+    if word == "names":
+        return fields, "".join(f"{it}\n" for it in dict.fromkeys(it[0] for it in fields)) or None
+    if word == "list":
+        return fields, "".join(f"{query_of([it])}\n" for it in fields) or None
     if word == "set":
         first = next((place for place, it in enumerate(fields) if it[0] == name), len(fields))
         kept = [it for place, it in enumerate(fields) if place < first or it[0] != name]
@@ -54,13 +59,13 @@ def by_lines(query, commands):
     for word, operand in commands:
         fields, answer = carried_out(fields, word, operand)
         said += ("none\n" if word == "get" else "") if answer is None else answer
-    text = query + b"\n" + "".join(f"{word} {operand}".rstrip(" ") + "\n" if word == "write" else f"{word} {operand}\n" for word, operand in commands).encode()
+    text = query + b"\n" + "".join(f"{word}\n" if word in BARE else f"{word} {operand}\n" for word, operand in commands).encode()
     return text, (said.encode(), b"", 0)
 
 
 def by_words(query, word, operand):
     fields, answer = carried_out(fields_of(query), word, operand)
-    words = ["--", query.decode(), word, *([] if word == "write" else [operand])]
+    words = ["--", query.decode(), word, *([] if word in BARE else [operand])]
     if answer is None:
         return (b"", words), (b"", b"", 1)
     changes = word in ("set", "add", "remove")
@@ -83,6 +88,8 @@ FAULTS = [
     (["a=1", "add"], b"query_fields: add takes NAME=VALUE" + HELP.encode()),
     (["a=1", "remove"], b"query_fields: remove takes NAME" + HELP.encode()),
     (["a=1", "write", "a"], b"query_fields: write takes nothing" + HELP.encode()),
+    (["a=1", "names", "a"], b"query_fields: names takes nothing" + HELP.encode()),
+    (["a=1", "list", "a"], b"query_fields: list takes nothing" + HELP.encode()),
     (["a=1", "get", "a", "b"], b"query_fields: one word at most behind the command: b" + HELP.encode()),
     (["--lax", "a=1", "get", "a"], b"query_fields: unknown option: --lax" + HELP.encode()),
     (["--strict", "a=%", "get", "a"], b"query_fields: query: bad escape at byte 3\n"),
@@ -98,8 +105,8 @@ def random_query(draw):
 def runs():
     draw = random.Random(3)
     for query in [*QUERIES, *(random_query(draw) for _ in range(60))]:
-        commands = [(draw.choice(["get", "all", "set", "add", "remove", "write"]), draw.choice(NAMES)) for _ in range(6)]
-        commands = [(word, f"{name}={draw.choice(['', '1', 'x=y', 'ü &'])}" if word in ("set", "add") else "" if word == "write" else name)
+        commands = [(draw.choice(["get", "all", "set", "add", "remove", *BARE]), draw.choice(NAMES)) for _ in range(6)]
+        commands = [(word, f"{name}={draw.choice(['', '1', 'x=y', 'ü &'])}" if word in ("set", "add") else "" if word in BARE else name)
                     for word, name in commands]
         yield by_lines(query, [*commands, ("write", "")])
         for command in commands[:3]:

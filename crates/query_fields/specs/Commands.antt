@@ -1,6 +1,6 @@
 -- What a command writes, and what it leaves of the fields.
 use Rattle.std.specs.Cow.{cow_str_bytes}
-use Rattle.std.specs.Prelude.{◌≡◌, ℕ, Bool, true, false, List, [], ◌∷◌, ◌++◌}
+use Rattle.std.specs.Prelude.{◌≡◌, ℕ, Bool, true, false, List, [], ◌∷◌, ◌++◌, map}
 use Rattle.std.specs.Str.{bytes_eq}
 use Rattle.std.specs.declared.borrow.CowStr.{CowStr}
 use Rattle.std.specs.declared.borrow.CowStr.TheVariants.{Borrowed}
@@ -10,28 +10,32 @@ use Rattle.ordered_multimap.specs.OneValue.{only_written}
 use Rattle.ordered_multimap.specs.Pairs.{has_items, is_present}
 use Rattle.query_fields.specs.declared.command.Command.{Command}
 use Rattle.query_fields.specs.declared.command.Command.TheVariants.{Get, All, Set, Add}
-use Rattle.query_fields.specs.declared.command.Command.TheVariants.{Remove, Write}
+use Rattle.query_fields.specs.declared.command.Command.TheVariants.{Remove, Write, Names, Pairs}
 use Rattle.query_fields.specs.Queries.{lines_of, only_first, same_name, texts_of}
-use Rattle.query_fields.specs.Queries.{values_named, written_query}
+use Rattle.query_fields.specs.Queries.{values_named, written_field, written_query}
 
 module _ {A : Type 0} where
   -- what the command adds to the answers
-  abbrev pub written_by : Command → List (CowStr A × CowStr A) → List ℕ
-  written_by (Get name) pairs = lines_of (only_first (values_named name.now pairs))
-  written_by (All name) pairs = lines_of (values_named name.now pairs)
-  written_by (Set name value) pairs = []
-  written_by (Add name value) pairs = []
-  written_by (Remove name) pairs = []
-  written_by Write pairs = written_query (texts_of pairs) ++ (10 ∷ [])
+  abbrev pub written_by : Command → Lists (CowStr A) (CowStr A) → List ℕ
+  written_by (Get name) lists = lines_of (only_first (values_named name.now lists.pairs))
+  written_by (All name) lists = lines_of (values_named name.now lists.pairs)
+  written_by (Set name value) lists = []
+  written_by (Add name value) lists = []
+  written_by (Remove name) lists = []
+  written_by Write lists = written_query (texts_of lists.pairs) ++ (10 ∷ [])
+  written_by Names lists = lines_of (map cow_str_bytes lists.keys)
+  written_by Pairs lists = lines_of (map written_field (texts_of lists.pairs))
 
   -- whether there is what the command asks for
-  abbrev pub is_found : Command → List (CowStr A × CowStr A) → Bool
-  is_found (Get name) pairs = has_items (values_named name.now pairs)
-  is_found (All name) pairs = has_items (values_named name.now pairs)
-  is_found (Set name value) pairs = true
-  is_found (Add name value) pairs = true
-  is_found (Remove name) pairs = true
-  is_found Write pairs = true
+  abbrev pub is_found : Command → Lists (CowStr A) (CowStr A) → Bool
+  is_found (Get name) lists = has_items (values_named name.now lists.pairs)
+  is_found (All name) lists = has_items (values_named name.now lists.pairs)
+  is_found (Set name value) lists = true
+  is_found (Add name value) lists = true
+  is_found (Remove name) lists = true
+  is_found Write lists = true
+  is_found Names lists = has_items lists.keys
+  is_found Pairs lists = has_items lists.pairs
 
   -- what the command leaves of both lists
   abbrev pub Leaves : Command → Lists (CowStr A) (CowStr A) → Lists (CowStr A) (CowStr A) → Type 0
@@ -46,3 +50,5 @@ module _ {A : Type 0} where
   Leaves (Remove name) old new =
       new ≡ removed_where same_name (λ stored. bytes_eq name.now (cow_str_bytes stored)) old
   Leaves Write old new = new ≡ old
+  Leaves Names old new = new ≡ old
+  Leaves Pairs old new = new ≡ old

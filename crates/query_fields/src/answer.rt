@@ -51,10 +51,12 @@ pub fn command_of(alloc: Global, words: &[String]) -> Result<Command<'_>, Fault>
         (None, "set") => Err(usage("set takes NAME=VALUE")),
         (None, "add") => Err(usage("add takes NAME=VALUE")),
         (None, "remove") => Err(usage("remove takes NAME")),
-        _ => match Command::parse(word, operand) {
-            Some(command) => Ok(command),
-            None if word == "write" => Err(usage("write takes nothing")),
-            None => Err(unknown(alloc, "not a command", word)),
+        _ => match (Command::parse(word, operand), word) {
+            (Some(command), _) => Ok(command),
+            (None, "names") => Err(usage("names takes nothing")),
+            (None, "list") => Err(usage("list takes nothing")),
+            (None, "write") => Err(usage("write takes nothing")),
+            (None, _) => Err(unknown(alloc, "not a command", word)),
         },
     }
 }

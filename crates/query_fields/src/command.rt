@@ -1,6 +1,6 @@
 //! Commands, what they do to the fields, and what they write.
 ghost use Rattle.std.specs.Cow.{cow_str_bytes};
-ghost use Rattle.std.specs.Prelude.{◌≡◌, ◌∷◌, [], ◌++◌, IfOk, OnOk, true, false};
+ghost use Rattle.std.specs.Prelude.{◌≡◌, ◌∷◌, [], ◌++◌, IfOk, OnOk, map, true, false};
 ghost use Rattle.std.specs.Str.{bytes_eq};
 ghost use Rattle.std.specs.declared.borrow.CowStr.TheVariants.{Borrowed};
 ghost use Rattle.ordered_multimap.specs.Changes.{appended, removed_where};
@@ -9,9 +9,10 @@ ghost use Rattle.ordered_multimap.specs.Pairs.{is_present};
 ghost use Rattle.std.specs.String.{string_bytes};
 ghost use Rattle.ordered_multimap.specs.Pairs.{has_items};
 ghost use Rattle.query_fields.specs.Commands.{Leaves, is_found, written_by};
-ghost use Rattle.query_fields.specs.Queries.{lines_of, only_first, same_name, values_named};
+ghost use Rattle.query_fields.specs.Queries.{lines_of, only_first, same_name, texts_of, values_named};
+ghost use Rattle.query_fields.specs.Queries.{written_field};
 
-use crate::fields::{Fields, Text, add_query};
+use crate::fields::{Fields, Text, add_field, add_query};
 use std::alloc::AllocError;
 
 /// A command. Names and values are plain text.
@@ -29,6 +30,10 @@ pub enum Command<'t> {
     Remove(&'t str),
     /// Writes the query of all fields.
     Write,
+    /// Writes each name once.
+    Names,
+    /// Writes each field as it stands in a query.
+    Pairs,
 }
 
 impl<'t> Command<'t> {
@@ -48,6 +53,8 @@ impl<'t> Command<'t> {
             }
             ("remove", Some(name)) => Some(Command::Remove(name)),
             ("write", None | Some("")) => Some(Command::Write),
+            ("names", None | Some("")) => Some(Command::Names),
+            ("list", None | Some("")) => Some(Command::Pairs),
             _ => None,
         }
     }
@@ -60,9 +67,8 @@ impl<'t> Command<'t> {
         answers: &mut String,
     ) -> Result<bool, AllocError>
         ensures written { OnOk result (string_bytes answers.new
-            ≡ string_bytes answers.old ++ written_by self.entry fields.old.lists.pairs) }
-        ensures found { IfOk result (λ found.
-            found ≡ is_found self.entry fields.old.lists.pairs) }
+            ≡ string_bytes answers.old ++ written_by self.entry fields.old.lists) }
+        ensures found { IfOk result (λ found. found ≡ is_found self.entry fields.old.lists) }
         ensures leaves { OnOk result (
             Leaves self.entry fields.old.lists fields.new.lists) }
     {
@@ -85,6 +91,8 @@ impl<'t> Command<'t> {
                 add_query(fields, answers)?;
                 Ok(true)
             }
+            Command::Names => add_names(fields, answers),
+            Command::Pairs => add_pairs(fields, answers),
         }
     }
 
@@ -157,6 +165,35 @@ fn add_all(fields: &Fields<'_>, name: &str, answers: &mut String) -> Result<bool
     for value in fields.get_all(name) {
         is_present = true;
         add_line(value, answers)?;
+    }
+    Ok(is_present)
+}
+
+/// Adds each name once, in the order of the keys, and says whether there is one.
+fn add_names(fields: &Fields<'_>, answers: &mut String) -> Result<bool, AllocError>
+    ensures there { IfOk result (λ there. there ≡ has_items fields.now.lists.keys) }
+    ensures written { OnOk result (string_bytes answers.new ≡ string_bytes answers.old
+        ++ lines_of (map cow_str_bytes fields.now.lists.keys)) }
+{
+    let mut is_present = false;
+    for name in fields.keys() {
+        is_present = true;
+        add_line(name, answers)?;
+    }
+    Ok(is_present)
+}
+
+/// Adds each field as it stands in a query, in order, and says whether there is one.
+fn add_pairs(fields: &Fields<'_>, answers: &mut String) -> Result<bool, AllocError>
+    ensures there { IfOk result (λ there. there ≡ has_items fields.now.lists.pairs) }
+    ensures written { OnOk result (string_bytes answers.new ≡ string_bytes answers.old
+        ++ lines_of (map written_field (texts_of fields.now.lists.pairs))) }
+{
+    let mut is_present = false;
+    for (name, value) in fields {
+        is_present = true;
+        add_field(name, value, answers)?;
+        answers.push('\n')?;
     }
     Ok(is_present)
 }

@@ -139,7 +139,8 @@ pub fn add_query(fields: &Fields<'_>, query: &mut String) -> Result<(), AllocErr
     query.push('\n')
 }
 
-fn add_field(name: &Text<'_>, value: &Text<'_>, query: &mut String) -> Result<(), AllocError>
+/// Adds a field as it stands in a query.
+pub fn add_field(name: &Text<'_>, value: &Text<'_>, query: &mut String) -> Result<(), AllocError>
     ensures { OnOk result (string_bytes query.new ≡ string_bytes query.old
         ++ written_field (cow_str_bytes name.now, cow_str_bytes value.now)) }
 {

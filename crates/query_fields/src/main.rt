@@ -12,16 +12,18 @@
 //! |---|---|
 //! | `get NAME` | writes the name's first value |
 //! | `all NAME` | writes each value of the name |
+//! | `names` | writes each name once, in the order in which they first stand |
+//! | `list` | writes each field `NAME=VALUE` as `write` does, on a line each |
 //! | `set NAME=VALUE` | gives the name's first field this value, and removes its others |
 //! | `add NAME=VALUE` | adds a field at the end |
 //! | `remove NAME` | removes the fields of the name |
 //! | `write` | writes the query of all fields, in order |
 //!
-//! As an argument, a command that changes fields also writes the query, and `get` and `all` of an
-//! absent name end with status 1 and write nothing. On a line, `get` of an absent name writes `none`,
-//! and `get` or `all` alone ask for the empty name. `set` of an absent name adds a field at the end.
-//! A name without `=` has the empty value. `get` and `all` write a value as it is, with a line feed
-//! in it too. Empty lines among the commands are ignored.
+//! As an argument, a command that changes fields also writes the query, and a command that finds
+//! nothing to write, as `get` of an absent name, ends with status 1. On a line, `get` of an absent
+//! name writes `none`, and `get` or `all` alone ask for the empty name. `set` of an absent name adds
+//! a field at the end. A name without `=` has the empty value. `get`, `all` and `names` write a text
+//! as it is, with a line feed in it too. Empty lines among the commands are ignored.
 //!
 //! The exit statuses are those of `program_parts`; 4 also says that the system gave no random seed.
 #![tactic(auto)]
@@ -46,6 +48,8 @@ usage: query_fields [--strict] [QUERY COMMAND]
 
   get NAME          prints the first value of NAME
   all NAME          prints each value of NAME
+  names             prints each name once
+  list              prints each field as NAME=VALUE, escaped
   set NAME=VALUE    gives NAME this value alone, and prints the query
   add NAME=VALUE    adds a field at the end, and prints the query
   remove NAME       removes the fields of NAME, and prints the query
@@ -53,7 +57,7 @@ usage: query_fields [--strict] [QUERY COMMAND]
   --strict          refuses an escape that stands for no text
 
 Without QUERY, reads it from the first line of standard input, and commands from
-the lines below. The status is 1 where NAME is absent.
+the lines below. The status is 1 where NAME is absent, or no field is there to print.
 
 Example: query_fields 'tag=a%26b&page=1' get tag
 ",
