@@ -30,7 +30,7 @@ def query_of(fields):
     return "&".join(f"{written(name)}={written(value)}" for name, value in fields)
 
 
-def carried_out(fields, word, operand):
+def carried_out(fields, word, operand, shown=query_of):
     """The fields afterwards, and what is written, or None where what is asked for is absent."""
     name, _, value = operand.partition("=")
     if word == "get":
@@ -51,7 +51,7 @@ def carried_out(fields, word, operand):
         return [*fields, (name, value)], ""
     if word == "remove":
         return [it for it in fields if it[0] != operand], ""
-    return fields, query_of(fields) + "\n"
+    return fields, shown(fields) + "\n"
 
 
 def by_lines(query, commands):
@@ -63,13 +63,21 @@ def by_lines(query, commands):
     return text, (said.encode(), b"", 0)
 
 
-def by_words(query, word, operand):
-    fields, answer = carried_out(fields_of(query), word, operand)
-    words = ["--", query.decode(), word, *([] if word in BARE else [operand])]
+def by_words(query, word, operand, around=None):
+    """A run on the query, or on the URL that has these texts before and behind its `?` and its query, of which no `?` is cut."""
+    text, shown, fields = query.decode(), query_of, fields_of(query)
+    if around:
+        text, fields = f"{around[0]}?{text}{around[1]}", fields_of(b"?" + query)
+
+        def shown(fields):
+            return around[0] + ("?" + query_of(fields) if fields else "") + around[1]
+
+    fields, answer = carried_out(fields, word, operand, shown)
+    words = ["--", text, word, *([] if word in BARE else [operand])]
     if answer is None:
         return (b"", words), (b"", b"", 1)
     changes = word in ("set", "add", "remove")
-    return (b"", words), ((answer + (query_of(fields) + "\n" if changes else "")).encode(), b"", 0)
+    return (b"", words), ((answer + (shown(fields) + "\n" if changes else "")).encode(), b"", 0)
 
 
 QUERIES = [
@@ -77,7 +85,12 @@ QUERIES = [
     b"a=%%41", b"a=%2541", b"a=%c3%a9", b"a=%C3", b"a=%E2%82", b"a=%f0%9f%8d%95", b"a=%ff%fe", b"a=%ed%a0%80", b"a=%c0%af", b"a=%EF%BB%BFb",
     b"a=%00%0a", "a=é&ü=ß".encode(), b"utf8=%E2%9C%93&name=Zo%C3%AB&name=%5B%5D", b"a=b;c=d", b"a=~-._*'()!", b"x=%25&x=+%2B",
 ]
+AROUND = [("https://example.org/", ""), ("a+b-c.1://", "#"), ("http://u:p@h:1/a=1&b/é", "#a?b=1#c"), ("X:///=", "#=\r")]
 NAMES = ["a", "b", "", "a b", "name", "x", "utf8", "ü", "é=", "none"]
+AS_IT_IS = [
+    (["\ufeffa=1\rb", "write"], b"%EF%BB%BFa=1%0Db\n"),
+    (["a=1\n", "write"], b"a=1%0A\n"),
+]
 RAW = [b"a=\xe9", b"\xff=\xfe&a=\xc3%a9", b"a=\xc3\xa9\xc3"]
 FAULTS = [
     (["a=1"], b"query_fields: no command behind the query" + HELP.encode()),
@@ -111,7 +124,10 @@ def runs():
         yield by_lines(query, [*commands, ("write", "")])
         for command in commands[:3]:
             yield by_words(query, *command)
+        yield by_words(query, *commands[3], draw.choice(AROUND))
     for query in RAW:
         yield by_lines(query, [("write", ""), ("all", "a")])
+    for words, output in AS_IT_IS:
+        yield (b"", words), (output, b"", 0)
     for words, message in FAULTS:
         yield (b"", words), (b"", message, 2)

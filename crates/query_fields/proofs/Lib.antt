@@ -1,4 +1,6 @@
 pub mod FirstLines
+pub mod Marked
+pub mod NoUrl
 pub mod ReadAgain
 pub mod ReadBy
 pub mod Reading

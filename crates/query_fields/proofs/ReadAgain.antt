@@ -11,8 +11,10 @@ use Rattle.std.specs.Str.{bytes_eq}
 use Rattle.query_fields.specs.Escape.{is_plain, written_byte, written}
 use Rattle.query_fields.specs.Queries.{AreBytes, AreTexts, IsText, all_read_strictly, field_read_strictly, pair_before, pair_of, query_read_by}
 use Rattle.query_fields.specs.Queries.{text_read_strictly, without_question, written_field, written_fields, written_query}
+use Rattle.query_fields.specs.Urls.{query_in}
 use Rattle.query_fields.specs.declared.fields.Reading.{Reading}
 use Rattle.query_fields.specs.declared.fields.Reading.TheVariants.{Lenient, Strict}
+use Rattle.query_fields.proofs.NoUrl.{query_alone}
 use Rattle.query_fields.proofs.ReadBy.{strictly_text}
 use Rattle.query_fields.proofs.Reading.{form_holds, kept_is_ascii, written_read}
 use Rattle.query_fields.proofs.WrittenAgain.{after_at, before_at, fields_again, query_again, written_lacks}
@@ -88,7 +90,9 @@ query_kept (p ∷ pairs) =
 
 -- the query that is written is read as the same pairs
 pub query_read_again : (reading : Reading) (pairs : List (List ℕ × List ℕ)) → AreTexts pairs
-    → query_read_by reading (without_question (written_query pairs)) ≡ Some pairs
-query_read_again Lenient pairs texts = ap (query_read_by Lenient) (query_kept pairs) ∙ ap Some (query_again pairs texts)
+    → query_read_by reading (query_in (written_query pairs)) ≡ Some pairs
+query_read_again Lenient pairs texts =
+    ap (query_read_by Lenient) (query_alone pairs texts ∙ query_kept pairs) ∙ ap Some (query_again pairs texts)
 query_read_again Strict pairs texts =
-    ap (query_read_by Strict) (query_kept pairs) ∙ ap all_read_strictly (fields_again pairs texts) ∙ all_strictly_again pairs texts
+    ap (query_read_by Strict) (query_alone pairs texts ∙ query_kept pairs)
+    ∙ ap all_read_strictly (fields_again pairs texts) ∙ all_strictly_again pairs texts

@@ -30,11 +30,11 @@ written_any [] bytes = nothing_any [] refl
 written_any (b ∷ text) bytes = written_byte_any b (written text) bytes.0 ∙ ap (λ bs. b ∷ bs) (written_any text bytes.1)
 
 -- a byte that no list of these has
-abbrev Lacks : ℕ → List ℕ → Type 0
+abbrev pub Lacks : ℕ → List ℕ → Type 0
 Lacks m [] = Unit {0}
 Lacks m (b ∷ bs) = ((b == m) ≡ false) × Lacks m bs
 
-Lacks-append : (m : ℕ) (xs ys : List ℕ) → Lacks m xs → Lacks m ys → Lacks m (xs ++ ys)
+pub Lacks-append : (m : ℕ) (xs ys : List ℕ) → Lacks m xs → Lacks m ys → Lacks m (xs ++ ys)
 Lacks-append m [] ys h k = k
 Lacks-append m (x ∷ xs) ys h k = (h.0, Lacks-append m xs ys h.1 k)
 

@@ -12,19 +12,21 @@ use Rattle.query_fields.specs.declared.command.Command.{Command}
 use Rattle.query_fields.specs.declared.command.Command.TheVariants.{Get, All, Set, Add}
 use Rattle.query_fields.specs.declared.command.Command.TheVariants.{Remove, Write, Names, Pairs}
 use Rattle.query_fields.specs.Queries.{lines_of, only_first, same_name, texts_of}
-use Rattle.query_fields.specs.Queries.{values_named, written_field, written_query}
+use Rattle.query_fields.specs.Queries.{values_named, written_field}
+use Rattle.query_fields.specs.Urls.{written_url}
+use Rattle.query_fields.specs.declared.url.Url.{Url}
 
 module _ {A : Type 0} where
   -- what the command adds to the answers
-  abbrev pub written_by : Command → Lists (CowStr A) (CowStr A) → List ℕ
-  written_by (Get name) lists = lines_of (only_first (values_named name.now lists.pairs))
-  written_by (All name) lists = lines_of (values_named name.now lists.pairs)
-  written_by (Set name value) lists = []
-  written_by (Add name value) lists = []
-  written_by (Remove name) lists = []
-  written_by Write lists = written_query (texts_of lists.pairs) ++ (10 ∷ [])
-  written_by Names lists = lines_of (map cow_str_bytes lists.keys)
-  written_by Pairs lists = lines_of (map written_field (texts_of lists.pairs))
+  abbrev pub written_by : Command → Url → Lists (CowStr A) (CowStr A) → List ℕ
+  written_by (Get name) url lists = lines_of (only_first (values_named name.now lists.pairs))
+  written_by (All name) url lists = lines_of (values_named name.now lists.pairs)
+  written_by (Set name value) url lists = []
+  written_by (Add name value) url lists = []
+  written_by (Remove name) url lists = []
+  written_by Write url lists = written_url url (texts_of lists.pairs) ++ (10 ∷ [])
+  written_by Names url lists = lines_of (map cow_str_bytes lists.keys)
+  written_by Pairs url lists = lines_of (map written_field (texts_of lists.pairs))
 
   -- whether there is what the command asks for
   abbrev pub is_found : Command → Lists (CowStr A) (CowStr A) → Bool

@@ -1,3 +1,4 @@
 pub mod Commands
 pub mod Escape
 pub mod Queries
+pub mod Urls

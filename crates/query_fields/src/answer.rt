@@ -1,34 +1,49 @@
 //! The two ways to ask: by arguments, and by lines of standard input.
 use crate::command::Command;
-use crate::fields::{Fields, Reading, add_query, read_query};
+use crate::fields::{Fields, Reading, read_query};
+use crate::split::split_at_byte;
+use crate::url::Url;
 use program_parts::{Fault, bad, text_of, unknown, usage, without_mark, without_return};
 use std::alloc::Global;
 use std::io;
 
-/// Reads the query into `fields`, which is empty, carries out the command, and adds what it writes
-/// to `answers`.
+/// Reads the query, or that in a URL, into `fields`, which is empty, carries out the command, and
+/// adds what it writes to `answers`.
 ///
 /// # Errors
 ///
-/// A bad query; a name that is asked for and absent; out of memory.
+/// A bad query; what is asked for is absent; out of memory.
 pub fn answer_command<'t>(
     alloc: Global,
     fields: &mut Fields<'t>,
-    query: &'t [u8],
+    text: &'t [u8],
     reading: Reading,
     command: Command<'t>,
     answers: &mut String,
 ) -> Result<(), Fault> {
-    if let Err(error) = read_query(alloc, query, reading, fields) {
-        return Err(Fault::input(error));
-    }
-    if !command.carry_out(fields, answers)? {
+    let url = match read_url(alloc, fields, text, reading) {
+        Ok(url) => url,
+        Err(error) => return Err(Fault::input(error)),
+    };
+    if !command.carry_out(&url, fields, answers)? {
         return Err(Fault::Absent);
     }
     if command.changes() {
-        add_query(fields, answers)?;
+        url.add_to(fields, answers)?;
     }
     Ok(())
+}
+
+/// The parts of the text, of whose query the fields are added.
+fn read_url<'t>(
+    alloc: Global,
+    fields: &mut Fields<'t>,
+    text: &'t [u8],
+    reading: Reading,
+) -> io::Result<Url<'t>> {
+    let url = Url::parse(text)?;
+    read_query(alloc, url.query, url.place, reading, fields)?;
+    Ok(url)
 }
 
 /// The command that the words are.
@@ -61,8 +76,8 @@ pub fn command_of(alloc: Global, words: &[String]) -> Result<Command<'_>, Fault>
     }
 }
 
-/// Reads the query on the first line of the input into `fields`, which is empty, and adds what the
-/// commands below it answer. A bad line, also one below a command, ends this.
+/// Reads the query or the URL on the first line of the input into `fields`, which is empty, and adds
+/// what the commands below it answer. A bad line, also one below a command, ends this.
 pub fn answer_lines<'t>(
     alloc: Global,
     fields: &mut Fields<'t>,
@@ -70,14 +85,14 @@ pub fn answer_lines<'t>(
     reading: Reading,
     answers: &mut String,
 ) -> Result<(), Fault> {
-    for (index, line) in without_mark(input).split(|byte| *byte == b'\n').enumerate() {
-        let answered = if index == 0 {
-            read_query(alloc, without_return(line), reading, fields)
-        } else {
-            answer_line(fields, line, answers)
-        };
-        if let Err(error) = answered {
-            return Err(Fault::at_line(index.saturating_add(1), error));
+    let (first, behind) = split_at_byte(without_mark(input), b'\n');
+    let url = match read_url(alloc, fields, without_return(first), reading) {
+        Ok(url) => url,
+        Err(error) => return Err(Fault::at_line(1, error)),
+    };
+    for (index, line) in behind.split(|byte| *byte == b'\n').enumerate() {
+        if let Err(error) = answer_line(&url, fields, line, answers) {
+            return Err(Fault::at_line(index.saturating_add(2), error));
         }
     }
     Ok(())
@@ -85,6 +100,7 @@ pub fn answer_lines<'t>(
 
 /// Carries out the command on a line. A name that is absent has the answer `none` to `get`.
 fn answer_line<'t>(
+    url: &Url<'_>,
     fields: &mut Fields<'t>,
     line: &'t [u8],
     answers: &mut String,
@@ -96,7 +112,7 @@ fn answer_line<'t>(
     let Some(command) = command_on(line) else {
         return Err(bad("not a command"));
     };
-    let is_there = command.carry_out(fields, answers)?;
+    let is_there = command.carry_out(url, fields, answers)?;
     if !is_there && matches!(&command, Command::Get(_)) {
         answers.push_str("none\n")?;
     }

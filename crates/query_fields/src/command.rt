@@ -12,7 +12,8 @@ ghost use Rattle.query_fields.specs.Commands.{Leaves, is_found, written_by};
 ghost use Rattle.query_fields.specs.Queries.{lines_of, only_first, same_name, texts_of, values_named};
 ghost use Rattle.query_fields.specs.Queries.{written_field};
 
-use crate::fields::{Fields, Text, add_field, add_query};
+use crate::fields::{Fields, Text, add_field};
+use crate::url::Url;
 use std::alloc::AllocError;
 
 /// A command. Names and values are plain text.
@@ -28,7 +29,7 @@ pub enum Command<'t> {
     Add(&'t str, &'t str),
     /// Removes the fields of the name.
     Remove(&'t str),
-    /// Writes the query of all fields.
+    /// Writes the URL or the query of all fields.
     Write,
     /// Writes each name once.
     Names,
@@ -59,15 +60,16 @@ impl<'t> Command<'t> {
         }
     }
 
-    /// Carries the command out, adds what it writes to `answers`, and says whether what it asks for
-    /// is there.
+    /// Carries the command out on the fields of a URL or a query, adds what it writes to `answers`,
+    /// and says whether what it asks for is there.
     pub fn carry_out(
         self,
+        url: &Url<'_>,
         fields: &mut Fields<'t>,
         answers: &mut String,
     ) -> Result<bool, AllocError>
         ensures written { OnOk result (string_bytes answers.new
-            ≡ string_bytes answers.old ++ written_by self.entry fields.old.lists) }
+            ≡ string_bytes answers.old ++ written_by self.entry url.now fields.old.lists) }
         ensures found { IfOk result (λ found. found ≡ is_found self.entry fields.old.lists) }
         ensures leaves { OnOk result (
             Leaves self.entry fields.old.lists fields.new.lists) }
@@ -88,7 +90,7 @@ impl<'t> Command<'t> {
                 Ok(true)
             }
             Command::Write => {
-                add_query(fields, answers)?;
+                url.add_to(fields, answers)?;
                 Ok(true)
             }
             Command::Names => add_names(fields, answers),

@@ -7,7 +7,7 @@ ghost use Rattle.std.specs.declared.io.ErrorKind.TheVariants.{InvalidData, OutOf
 ghost use Rattle.query_fields.specs.declared.fields.Reading.{Reading};
 ghost use Rattle.query_fields.specs.Queries.{AreTexts, texts_of, written_field, written_query};
 ghost use Rattle.query_fields.specs.Queries.{pairs_and, piece_read_by, query_read_by, text_read_by};
-ghost use Rattle.query_fields.specs.Queries.{without_question};
+ghost use Rattle.query_fields.specs.Urls.{query_in};
 
 use crate::escape::{add_encoded, decoded, strictly_decoded};
 use crate::split::split_at_byte;
@@ -33,23 +33,23 @@ pub enum Reading {
     Strict,
 }
 
-/// Appends the fields of a query, from which one leading `?` is cut. A name without `=` has the empty
-/// value, and what is empty between two `&` is no field. After an error, fields in front of the bad
-/// one may be there.
+/// Appends the fields of a query that begins at this byte of the input, counted from 1. A name
+/// without `=` has the empty value, and what is empty between two `&` is no field. After an error,
+/// fields in front of the bad one may be there.
 pub fn read_query<'t>(
     alloc: Global,
     query: &'t [u8],
+    place: usize,
     reading: Reading,
     fields: &mut Fields<'t>,
 ) -> io::Result<()>
     ensures read { OnOk result (pairs_and (texts_of fields.old.lists.pairs)
-        (query_read_by reading (without_question query.now))
-        ≡ Some (texts_of fields.new.lists.pairs)) }
-    ensures bad { IfErr result (λ error. error_kind error ≡ InvalidData
-        → query_read_by reading (without_question query.now) ≡ None) }
+        (query_read_by reading query.now) ≡ Some (texts_of fields.new.lists.pairs)) }
+    ensures bad { IfErr result (λ error.
+        error_kind error ≡ InvalidData → query_read_by reading query.now ≡ None) }
 {
-    let mut rest = without_question(query);
-    let mut position = 1 + (query.len() - rest.len());
+    let mut rest = query;
+    let mut position = place;
     while !rest.is_empty() {
         let (piece, behind) = split_at_byte(rest, b'&');
         read_piece(alloc, piece, reading, position, fields)?;
@@ -59,16 +59,8 @@ pub fn read_query<'t>(
     Ok(())
 }
 
-/// The query without one leading `?`.
-fn without_question(query: &[u8]) -> &[u8]
-    ensures rest { result.now ≡ without_question query.now }
-    ensures within { length result.now ≤ length query.now }
-{
-    query.strip_prefix(b"?").unwrap_or(query)
-}
-
 /// Appends the field that stands between two `&`, if it isn't empty. It begins at this byte of the
-/// query, counted from 1.
+/// input, counted from 1.
 fn read_piece<'t>(
     alloc: Global,
     piece: &'t [u8],
@@ -120,12 +112,12 @@ fn append<'t>(fields: &mut Fields<'t>, name: Text<'t>, value: Text<'t>) -> io::R
     Ok(())
 }
 
-/// Adds the query of all fields in order, and a line feed.
+/// Adds the query of all fields in order.
 pub fn add_query(fields: &Fields<'_>, query: &mut String) -> Result<(), AllocError>
     ensures written { OnOk result (string_bytes query.new ≡ string_bytes query.old
-        ++ (written_query (texts_of fields.now.lists.pairs) ++ (10 ∷ []))) }
+        ++ written_query (texts_of fields.now.lists.pairs)) }
     ensures read_again { (reading : Reading) → AreTexts (texts_of fields.now.lists.pairs)
-        → query_read_by reading (without_question (written_query (texts_of fields.now.lists.pairs)))
+        → query_read_by reading (query_in (written_query (texts_of fields.now.lists.pairs)))
         ≡ Some (texts_of fields.now.lists.pairs) }
 {
     let mut is_first = true;
@@ -136,7 +128,7 @@ pub fn add_query(fields: &Fields<'_>, query: &mut String) -> Result<(), AllocErr
         is_first = false;
         add_field(name, value, query)?;
     }
-    query.push('\n')
+    Ok(())
 }
 
 /// Adds a field as it stands in a query.

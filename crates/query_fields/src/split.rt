@@ -1,6 +1,6 @@
 //! What stands before and behind a byte.
-ghost use Rattle.std.specs.List.{after_first, before_first};
-ghost use Rattle.std.specs.Prelude.{◌≡◌, ◌<◌, ◌==◌, length, position};
+ghost use Rattle.std.specs.List.{after_first, before_first, position_or_len};
+ghost use Rattle.std.specs.Prelude.{◌≡◌, ◌<◌, ◌==◌, drop, length, position};
 
 /// What stands before the first such byte, and what stands behind it; the whole text and nothing
 /// where there is none.
@@ -11,6 +11,18 @@ pub fn split_at_byte(text: &[u8], separator: u8) -> (&[u8], &[u8])
 {
     match place_of(text, separator) {
         Some(place) => (&text[..place], &text[place + 1..]),
+        None => (text, b""),
+    }
+}
+
+/// What stands before the first such byte, and what stands from it on.
+pub fn split_before_byte(text: &[u8], separator: u8) -> (&[u8], &[u8])
+    ensures before { result.0.now ≡ before_first (λ byte. byte == separator) text.now }
+    ensures behind { result.1.now
+        ≡ drop (position_or_len (λ byte. byte == separator) text.now) text.now }
+{
+    match place_of(text, separator) {
+        Some(place) => (&text[..place], &text[place..]),
         None => (text, b""),
     }
 }
