@@ -5,4 +5,5 @@ pub mod ReadAgain
 pub mod ReadBy
 pub mod Reading
 pub mod ReadingAny
+pub mod UrlAgain
 pub mod WrittenAgain

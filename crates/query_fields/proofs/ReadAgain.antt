@@ -1,6 +1,6 @@
 -- What is written is read again, strictly too, and no `?` is cut from it.
-use Rattle.std.proofs.Common.{◌≡◌, ℕ, ◌/◌, ◌%◌, ◌<◌, true, false, ◌==◌, List, [], ◌∷◌, ◌++◌, map, take, All, Option, Some}
-use Rattle.std.proofs.Common.{IsUtf8, IsAscii, refl, ap, ◌∙◌, arith, append_assoc}
+use Rattle.std.proofs.Common.{◌≡◌, ℕ, ◌/◌, ◌%◌, ◌<◌, true, false, ◌==◌, List, [], ◌∷◌, ◌++◌, map, take, All, Some}
+use Rattle.std.proofs.Common.{IsAscii, refl, ap, ◌∙◌, arith, append_assoc}
 use Rattle.std.proofs.lemmas.Bool.Decides.{nat_tests}
 use Rattle.std.proofs.lemmas.List.Elements.{All-cons, All-nil}
 use Rattle.std.proofs.lemmas.Str.{IsUtf8-from_ascii, IsAscii-append}
@@ -9,7 +9,8 @@ use Rattle.std.specs.Fmt.{digit_glyph}
 use Rattle.std.specs.List.{after_first, before_first}
 use Rattle.std.specs.Str.{bytes_eq}
 use Rattle.query_fields.specs.Escape.{is_plain, written_byte, written}
-use Rattle.query_fields.specs.Queries.{AreBytes, AreTexts, IsText, all_read_strictly, field_read_strictly, pair_before, pair_of, query_read_by}
+use Rattle.query_fields.specs.Queries.{AreBytes, AreTexts, IsText, all_read_strictly, field_read_strictly, pair_before, pair_of}
+use Rattle.query_fields.specs.Queries.{query_read_by}
 use Rattle.query_fields.specs.Queries.{text_read_strictly, without_question, written_field, written_fields, written_query}
 use Rattle.query_fields.specs.Urls.{query_in}
 use Rattle.query_fields.specs.declared.fields.Reading.{Reading}
@@ -46,7 +47,8 @@ all_bytes (b ∷ text) bytes = All-cons (λ b. b < 256) b text bytes.0 (all_byte
 -- so a text is read again strictly
 text_strictly_again : (text : List ℕ) → IsText text → text_read_strictly (written text) ≡ Some text
 text_strictly_again text is =
-    strictly_text (written text) text (IsUtf8-from_ascii (written text) (written_ascii text is.1)) (written_read text (all_bytes text is.1)) is.0
+    strictly_text (written text) text (IsUtf8-from_ascii (written text) (written_ascii text is.1))
+    (written_read text (all_bytes text is.1)) is.0
 
 -- and a field
 field_strictly_again : (name value : List ℕ) → IsText name → IsText value
@@ -89,10 +91,12 @@ query_kept (p ∷ pairs) =
     rw none
 
 -- the query that is written is read as the same pairs
+pub written_read_by : (reading : Reading) (pairs : List (List ℕ × List ℕ)) → AreTexts pairs
+    → query_read_by reading (written_query pairs) ≡ Some pairs
+written_read_by Lenient pairs texts = ap Some (query_again pairs texts)
+written_read_by Strict pairs texts = ap all_read_strictly (fields_again pairs texts) ∙ all_strictly_again pairs texts
+
 pub query_read_again : (reading : Reading) (pairs : List (List ℕ × List ℕ)) → AreTexts pairs
     → query_read_by reading (query_in (written_query pairs)) ≡ Some pairs
-query_read_again Lenient pairs texts =
-    ap (query_read_by Lenient) (query_alone pairs texts ∙ query_kept pairs) ∙ ap Some (query_again pairs texts)
-query_read_again Strict pairs texts =
-    ap (query_read_by Strict) (query_alone pairs texts ∙ query_kept pairs)
-    ∙ ap all_read_strictly (fields_again pairs texts) ∙ all_strictly_again pairs texts
+query_read_again reading pairs texts =
+    ap (query_read_by reading) (query_alone pairs texts ∙ query_kept pairs) ∙ written_read_by reading pairs texts

@@ -1,5 +1,5 @@
 -- What is read of a query, piece by piece, leniently and strictly.
-use Rattle.std.proofs.Common.{◌≡◌, ℕ, ◌+◌, ◌≤◌, ◌==◌, ◌++◌, length, Bool, true, false, List, [], ◌∷◌, filter, map, Option, Some, None}
+use Rattle.std.proofs.Common.{◌≡◌, ℕ, ◌+◌, ◌==◌, ◌++◌, length, Bool, true, false, List, [], ◌∷◌, filter, map, Option, Some, None}
 use Rattle.std.proofs.Common.{option_and_then}
 use Rattle.std.proofs.Common.{IfErr, IfOk, IfSome, IsUtf8, Result, Ok, Err, refl, sym, ap, subst, ◌∙◌, arith, append-nil, append_assoc}
 use Rattle.std.proofs.Common.{take_all, inl, inr}

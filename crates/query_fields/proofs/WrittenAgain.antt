@@ -9,7 +9,8 @@ use Rattle.std.specs.Prelude.{IsUtf8}
 use Rattle.std.specs.Str.Lossy.{utf8_lossy}
 use Rattle.ordered_multimap.specs.Pairs.{has_items}
 use Rattle.query_fields.specs.Escape.{is_plain, escape_of, written_byte, written, read_any}
-use Rattle.query_fields.specs.Queries.{AreBytes, AreTexts, field_read, fields_in, query_read, text_read, written_field, written_fields, written_query}
+use Rattle.query_fields.specs.Queries.{AreBytes, AreTexts, field_read, fields_in, query_read, text_read, written_field, written_fields}
+use Rattle.query_fields.specs.Queries.{written_query}
 use Rattle.query_fields.proofs.Reading.{digits_hold, form_holds, kept}
 use Rattle.query_fields.proofs.ReadingAny.{space_any, other_any, escape_any, nothing_any}
 

@@ -1,9 +1,10 @@
 -- The query in a whole URL, and what stands around it.
 use Rattle.std.specs.Char.{is_ascii_alphabetic, is_ascii_alphanumeric}
 use Rattle.std.specs.List.{after_first, before_first, position_or_len, starts_with}
-use Rattle.std.specs.Prelude.{ℕ, Bool, false, not, nat_eq, ◌==◌, ◌&&◌, ◌||◌, if◌then◌else◌}
-use Rattle.std.specs.Prelude.{List, [], ◌∷◌, ◌++◌, drop}
-use Rattle.query_fields.specs.Queries.{without_question, written_query}
+use Rattle.std.specs.Prelude.{◌≡◌, ℕ, Bool, false, not, nat_eq, ◌==◌, ◌&&◌, ◌||◌, if◌then◌else◌}
+use Rattle.std.specs.Prelude.{List, [], ◌∷◌, ◌++◌, drop, Some}
+use Rattle.query_fields.specs.Queries.{query_read_by, without_question, written_query}
+use Rattle.query_fields.specs.declared.fields.Reading.{Reading}
 use Rattle.query_fields.specs.declared.url.Url.{Url}
 
 -- a byte that a scheme may have: a letter, a digit or one of `+-.`
@@ -50,3 +51,17 @@ marked_query (p ∷ pairs) = 63 ∷ written_query (p ∷ pairs)
 abbrev pub written_url : Url → List (List ℕ × List ℕ) → List ℕ
 written_url url pairs = if url.is_whole
     then url.before.now ++ (marked_query pairs ++ url.behind.now) else written_query pairs
+
+-- the URL has what stands around the query of the text
+pub record IsAround (text : List ℕ) (url : Url) : Type 0 where
+  pub whole : url.is_whole ≡ is_url text
+  pub before : url.before.now ≡ before_query text
+  pub behind : url.behind.now ≡ behind_query text
+
+-- the same stands around the query of the new text as around that of the old one, and it is read as
+-- these pairs
+pub record IsReadWith (reading : Reading) (pairs : List (List ℕ × List ℕ))
+    (old new : List ℕ) : Type 0 where
+  pub before : before_query new ≡ before_query old
+  pub behind : behind_query new ≡ behind_query old
+  pub query : query_read_by reading (query_in new) ≡ Some pairs

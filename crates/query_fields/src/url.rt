@@ -1,12 +1,13 @@
 //! The query in a whole URL, and what stands around it.
 ghost use Rattle.std.specs.IoError.{error_kind};
-ghost use Rattle.std.specs.Prelude.{◌≡◌, ◌++◌, ◌∷◌, [], false, not, position, IfErr, IfOk, IsUtf8, OnOk};
+ghost use Rattle.std.specs.Prelude.{◌≡◌, ◌++◌, ◌∷◌, [], ℕ, List, false, not, position, IfErr, IfOk, IsUtf8, OnOk};
 ghost use Rattle.std.specs.String.{string_bytes};
 ghost use Rattle.std.specs.declared.io.ErrorKind.TheVariants.{InvalidData};
-ghost use Rattle.query_fields.specs.Queries.{texts_of, without_question};
+ghost use Rattle.query_fields.specs.Queries.{AreTexts, texts_of, without_question};
 ghost use Rattle.query_fields.specs.Urls.{before_query, behind_query, query_in, is_url};
 ghost use Rattle.query_fields.specs.Urls.{behind_scheme, is_scheme_byte};
-ghost use Rattle.query_fields.specs.Urls.{marked_query, written_url};
+ghost use Rattle.query_fields.specs.Urls.{IsAround, IsReadWith, marked_query, written_url};
+ghost use Rattle.query_fields.specs.declared.fields.Reading.{Reading};
 
 use crate::fields::{Fields, add_query};
 use crate::split::{split_at_byte, split_before_byte};
@@ -85,6 +86,10 @@ impl<'t> Url<'t> {
     pub fn add_to(&self, fields: &Fields<'_>, answers: &mut String) -> Result<(), AllocError>
         ensures written { OnOk result (string_bytes answers.new ≡ string_bytes answers.old
             ++ (written_url self.now (texts_of fields.now.lists.pairs) ++ (10 ∷ []))) }
+        ensures read_again { (reading : Reading) (text : List ℕ) → IsAround text self.now
+            → AreTexts (texts_of fields.now.lists.pairs)
+            → IsReadWith reading (texts_of fields.now.lists.pairs) text
+            (written_url self.now (texts_of fields.now.lists.pairs)) }
     {
         if self.is_whole {
             answers.push_str(self.before)?;

@@ -1,4 +1,4 @@
-use Rattle.std.proofs.Common.{◌≡◌, length}
+use Rattle.std.proofs.Common.{length}
 use Rattle.query_fields.specs.Queries.{texts_of}
 use Rattle.query_fields.proofs.ReadBy.{IsReadTo}
 use Rattle.query_fields.proofs.fields.read_query.Given as goal
