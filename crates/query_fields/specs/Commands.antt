@@ -54,3 +54,14 @@ module _ {A : Type 0} where
   Leaves Write old new = new ≡ old
   Leaves Names old new = new ≡ old
   Leaves Pairs old new = new ≡ old
+
+-- the command changes fields
+abbrev pub is_change : Command → Bool
+is_change (Get name) = false
+is_change (All name) = false
+is_change (Set name value) = true
+is_change (Add name value) = true
+is_change (Remove name) = true
+is_change Write = false
+is_change Names = false
+is_change Pairs = false

@@ -1,3 +1,4 @@
+pub mod Answers
 pub mod Commands
 pub mod Escape
 pub mod Queries

@@ -1,4 +1,11 @@
 //! The two ways to ask: by arguments, and by lines of standard input.
+ghost use Rattle.std.specs.Prelude.{◌≡◌, [], IfErr, IfOk, OnOk, Some};
+ghost use Rattle.std.specs.String.{string_bytes};
+ghost use Rattle.program_parts.specs.Statuses.{status_of_fault};
+ghost use Rattle.query_fields.specs.Answers.{IsAbsent, IsAnswer};
+ghost use Rattle.query_fields.specs.Queries.{pairs_and, query_read_by, texts_of};
+ghost use Rattle.query_fields.specs.Urls.{IsAround, query_in};
+
 use crate::command::Command;
 use crate::fields::{Fields, Reading, read_query};
 use crate::split::split_at_byte;
@@ -20,7 +27,14 @@ pub fn answer_command<'t>(
     reading: Reading,
     command: Command<'t>,
     answers: &mut String,
-) -> Result<(), Fault> {
+) -> Result<(), Fault>
+    ensures answered { fields.old.lists.pairs ≡ [] → string_bytes answers.old ≡ []
+        → OnOk result (IsAnswer command.entry reading fields.new.lists text.now
+        (string_bytes answers.new)) }
+    ensures absent { fields.old.lists.pairs ≡ [] → IfErr result (λ fault.
+        status_of_fault fault ≡ 1
+        → IsAbsent command.entry reading fields.new.lists text.now) }
+{
     let url = match read_url(alloc, fields, text, reading) {
         Ok(url) => url,
         Err(error) => return Err(Fault::input(error)),
@@ -29,7 +43,7 @@ pub fn answer_command<'t>(
         return Err(Fault::Absent);
     }
     if command.changes() {
-        url.add_to(fields, answers)?;
+        return Ok(url.add_to(fields, answers)?);
     }
     Ok(())
 }
@@ -40,7 +54,11 @@ fn read_url<'t>(
     fields: &mut Fields<'t>,
     text: &'t [u8],
     reading: Reading,
-) -> io::Result<Url<'t>> {
+) -> io::Result<Url<'t>>
+    ensures around { IfOk result (IsAround text.now) }
+    ensures read { OnOk result (pairs_and (texts_of fields.old.lists.pairs)
+        (query_read_by reading (query_in text.now)) ≡ Some (texts_of fields.new.lists.pairs)) }
+{
     let url = Url::parse(text)?;
     read_query(alloc, url.query, url.place, reading, fields)?;
     Ok(url)

@@ -8,7 +8,7 @@ ghost use Rattle.ordered_multimap.specs.OneValue.{only_written};
 ghost use Rattle.ordered_multimap.specs.Pairs.{is_present};
 ghost use Rattle.std.specs.String.{string_bytes};
 ghost use Rattle.ordered_multimap.specs.Pairs.{has_items};
-ghost use Rattle.query_fields.specs.Commands.{Leaves, is_found, written_by};
+ghost use Rattle.query_fields.specs.Commands.{Leaves, is_change, is_found, written_by};
 ghost use Rattle.query_fields.specs.Queries.{lines_of, only_first, same_name, texts_of, values_named};
 ghost use Rattle.query_fields.specs.Queries.{written_field};
 
@@ -99,7 +99,9 @@ impl<'t> Command<'t> {
     }
 
     /// Whether the command changes fields.
-    pub fn changes(self) -> bool {
+    pub fn changes(self) -> bool
+        ensures { result ≡ is_change self.entry }
+    {
         matches!(
             &self,
             Command::Set(..) | Command::Add(..) | Command::Remove(_)
