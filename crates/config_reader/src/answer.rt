@@ -118,6 +118,9 @@ fn answer_on_text<'t>(
         ≡ string_bytes answers.old ++ (texts_of config.old.lists.pairs ++ lined text.now)) }
     ensures carries_out { config.old.lists ≡ empty_lists → OnOk result
         (CarriesOut text.now command.entry config.new.lists) }
+    ensures found { IfOk result (λ found. found ≡ is_found command.entry config.new.lists) }
+    ensures shown { OnOk result (string_bytes answers.new ≡ string_bytes answers.old
+        ++ shown command.entry config.new.lists) }
 {
     read_config(alloc, config, text)?;
     end?;
