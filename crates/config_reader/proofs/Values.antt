@@ -11,7 +11,7 @@ use Rattle.config_reader.specs.declared.value.Effect.{Effect}
 use Rattle.config_reader.specs.declared.value.Effect.TheVariants.{Add, Blank, Keep, Skip}
 use Rattle.config_reader.specs.declared.value.Mode.{Mode}
 use Rattle.config_reader.specs.declared.value.Mode.TheVariants.{Gap, Quotes, QuotesEscape, Word}
-use Rattle.config_reader.specs.Values.{affected, begins_blank, ended, ends_blank, ends_value, step_in_escape, step_in_plain, is_mark}
+use Rattle.config_reader.specs.Values.{affected, begins_blank, ended, ends_blank, ends_value, step_in_plain, is_mark}
 use Rattle.config_reader.specs.Values.{is_plain, is_special, may_end, quoted_byte, read_on, stepped, value_read, written}
 
 module _ (mode : Mode) (value gap : List ℕ) where
@@ -81,7 +81,7 @@ read_behind mode value gap (b ∷ text) r is =
     by_end false ends same later = by_step (stepped mode b) same later
 
 -- an escape is read as the byte that it stands for
-escape_read : (e c : ℕ) (value rest : List ℕ) → (e == 10 && false) ≡ false → step_in_escape e ≡ Some (Quotes, Add c)
+escape_read : (e c : ℕ) (value rest : List ℕ) → (e == 10 && false) ≡ false → stepped QuotesEscape e ≡ Some (Quotes, Add c)
     → read_on Quotes value [] (92 ∷ e ∷ rest) ≡ read_on Quotes (value ++ c ∷ []) [] rest
 escape_read e c value rest goes is =
     step_read Quotes value [] 92 (e ∷ rest) (QuotesEscape, Skip) refl refl

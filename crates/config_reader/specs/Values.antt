@@ -31,14 +31,13 @@ step_in_quotes b =
     if b == 34 then (Word, Skip) else
     if b == 92 then (QuotesEscape, Skip) else (Quotes, Add b)
 
--- the same behind a backslash in quotes, or none where the byte is at fault
-abbrev pub step_in_escape : ℕ → Option (Mode × Effect)
-step_in_escape b =
-    if b == 13 then Some (QuotesJoin, Skip) else
-    if b == 10 then Some (Quotes, Skip) else
-    if b == 34 || b == 92 then Some (Quotes, Add b) else
-    if b == 110 then Some (Quotes, Add 10) else
-    if b == 116 then Some (Quotes, Add 9) else None
+-- the same behind a backslash, and behind that byte again what stood in front of the backslash; or
+-- none where the byte is at fault
+abbrev pub step_in_escape : Mode → ℕ → Option (Mode × Effect)
+step_in_escape within b =
+    if b == 34 || b == 92 then Some (within, Add b) else
+    if b == 110 then Some (within, Add 10) else
+    if b == 116 then Some (within, Add 9) else None
 
 -- what a byte does, and what the next one belongs to, or none where the byte is at fault
 abbrev pub stepped : Mode → ℕ → Option (Mode × Effect)
@@ -51,7 +50,9 @@ stepped WordEscape b =
     if b == 13 then Some (WordJoin, Skip) else
     if b == 10 then Some (Joined, Skip) else None
 stepped WordJoin b = if b == 10 then Some (Joined, Skip) else None
-stepped QuotesEscape b = step_in_escape b
+stepped QuotesEscape b =
+    if b == 13 then Some (QuotesJoin, Skip) else
+    if b == 10 then Some (Quotes, Skip) else step_in_escape Quotes b
 stepped QuotesJoin b = if b == 10 then Some (Quotes, Skip) else None
 
 -- whether a line feed there ends the value

@@ -6,16 +6,14 @@
 //! quote, a backslash, a line feed and a tab.
 ghost use Rattle.std.specs.IoError.{error_kind};
 ghost use Rattle.std.specs.Prelude.{◌≡◌, ◌==◌, ◌&&◌, ◌<◌, ◌∷◌, ◌++◌, [], ℕ, List, None, Some};
-ghost use Rattle.std.specs.Prelude.{length};
-ghost use Rattle.std.specs.Prelude.{IfErr, IfNone, IfOk, IfSome, IsUtf8, OnOk};
+ghost use Rattle.std.specs.Prelude.{length, IfErr, IfNone, IfOk, IfSome, IsUtf8, OnOk};
 ghost use Rattle.std.specs.Char.{encode_utf8};
 ghost use Rattle.std.specs.List.{flat_map};
 ghost use Rattle.std.specs.String.{string_bytes};
 ghost use Rattle.std.specs.declared.io.ErrorKind.TheVariants.{InvalidData};
 ghost use Rattle.config_reader.specs.Faults.{IsBadOrRefused};
-ghost use Rattle.config_reader.specs.Values.{affected, ended, ends_value, step_in_escape, step_in_plain};
-ghost use Rattle.config_reader.specs.Values.{step_in_quotes, is_mark, is_plain, is_special};
-ghost use Rattle.config_reader.specs.Values.{quoted_byte, read_on, stepped, value_read, written};
+ghost use Rattle.config_reader.specs.Values.{affected, ended, ends_value, is_mark, is_plain, is_special, quoted_byte, read_on};
+ghost use Rattle.config_reader.specs.Values.{step_in_escape, step_in_plain, step_in_quotes, stepped, value_read, written};
 
 use program_parts::bad;
 use std::alloc::{AllocError, Global};
@@ -194,7 +192,9 @@ fn step(mode: Mode, byte: u8) -> io::Result<(Mode, Effect)>
         Mode::WordEscape if byte == b'\r' => Ok((Mode::WordJoin, Effect::Skip)),
         Mode::WordEscape | Mode::WordJoin if byte == b'\n' => Ok((Mode::Joined, Effect::Skip)),
         Mode::WordEscape | Mode::WordJoin => Err(bad("a backslash without quotes")),
-        Mode::QuotesEscape => step_in_escape(byte),
+        Mode::QuotesEscape if byte == b'\r' => Ok((Mode::QuotesJoin, Effect::Skip)),
+        Mode::QuotesEscape if byte == b'\n' => Ok((Mode::Quotes, Effect::Skip)),
+        Mode::QuotesEscape => step_in_escape(Mode::Quotes, byte),
         Mode::QuotesJoin if byte == b'\n' => Ok((Mode::Quotes, Effect::Skip)),
         Mode::QuotesJoin => Err(bad("unknown escape")),
     }
@@ -228,17 +228,16 @@ fn step_in_quotes(byte: u8) -> (Mode, Effect)
     }
 }
 
-fn step_in_escape(byte: u8) -> io::Result<(Mode, Effect)>
-    ensures step { IfOk result (λ step. step_in_escape byte ≡ Some step) }
-    ensures bad { IfErr result (λ error. step_in_escape byte ≡ None) }
+/// The step behind a backslash, where the bytes in front of it and behind it belong to `within`.
+fn step_in_escape(within: Mode, byte: u8) -> io::Result<(Mode, Effect)>
+    ensures step { IfOk result (λ step. step_in_escape within byte ≡ Some step) }
+    ensures bad { IfErr result (λ error. step_in_escape within byte ≡ None) }
     ensures fault { IfErr result IsBadOrRefused }
 {
     match byte {
-        b'\r' => Ok((Mode::QuotesJoin, Effect::Skip)),
-        b'\n' => Ok((Mode::Quotes, Effect::Skip)),
-        b'"' | b'\\' => Ok((Mode::Quotes, Effect::Add(byte))),
-        b'n' => Ok((Mode::Quotes, Effect::Add(b'\n'))),
-        b't' => Ok((Mode::Quotes, Effect::Add(b'\t'))),
+        b'"' | b'\\' => Ok((within, Effect::Add(byte))),
+        b'n' => Ok((within, Effect::Add(b'\n'))),
+        b't' => Ok((within, Effect::Add(b'\t'))),
         _ => Err(bad("unknown escape")),
     }
 }
