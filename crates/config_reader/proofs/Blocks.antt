@@ -125,7 +125,7 @@ mapped f None y is = absurd cc
 mapped f (Some z) y is = (z, refl, the_same is)
 
 -- the sign that a line has is in the text
-sign_in : (text : List ℕ) → list_any (λ b. b == 61) (first_line text) ≡ true → list_any (λ b. b == 61) text ≡ true
+pub sign_in : (text : List ℕ) → list_any (λ b. b == 61) (first_line text) ≡ true → list_any (λ b. b == 61) text ≡ true
 sign_in text some = by (line_cut text).is
   where
     longer : (rest : List ℕ) → list_any (λ b. b == 61) (first_line text ++ rest) ≡ true

@@ -2,7 +2,7 @@
 use Rattle.std.proofs.Common.{◌≡◌, ◌≢◌, ℕ, suc, ◌==◌, ◌<◌, Bool, true, false, ◌||◌, List, [], ◌∷◌, ◌++◌}
 use Rattle.std.proofs.Common.{refl, sym, ap, ◌∙◌, arith, length, get_or, ne_eqb}
 use Rattle.std.specs.List.{list_any}
-use Rattle.std.specs.Prelude.{IfOk, Result, Ok, Err}
+use Rattle.std.specs.Prelude.{IfErr, IfOk, Result, Ok, Err}
 use Rattle.std.specs.Str.{NoCharPasses, trim}
 use Rattle.std.proofs.lemmas.Bool.{true≢false}
 use Rattle.std.proofs.lemmas.Str.Pattern.{NoCharPasses-char}
@@ -84,6 +84,11 @@ pub IfOk-three : {T E : Type 0} (r : Result T E) {P Q R S : T → Type 0} → ((
     → IfOk r P → IfOk r Q → IfOk r R → IfOk r S
 IfOk-three (Ok x) f p q r = f x p q r
 IfOk-three (Err e) f p q r = p
+
+-- a failure, told otherwise
+pub IfErr-then : {T E : Type 0} (r : Result T E) {P Q : E → Type 0} → ((e : E) → P e → Q e) → IfErr r P → IfErr r Q
+IfErr-then (Ok x) f p = p
+IfErr-then (Err e) f p = f e p
 
 -- the three forms of a section's name
 pub by_dot : (text word name : List ℕ) (section : Section) → text ≡ word ++ 46 ∷ name → Lacks 46 word

@@ -85,6 +85,10 @@ pub alone_at : (text line key behind : List ℕ) → line ≡ first_line text
 alone_at text line key behind line_is none key_is allowed behind_is =
     rw (sym line_is, no_byte 61 line none, ap is_key (sym key_is) ∙ allowed, sym key_is, sym behind_is) refl
 
+pub alone_refused : (text line : List ℕ) → line ≡ first_line text → position_or_len (λ b. b == 61) line ≡ length line
+    → is_key (trim line) ≡ false → setting_at text ≡ None
+alone_refused text line line_is none bad = rw (sym line_is, no_byte 61 line none, bad) refl
+
 pub with_value_at : (text line key value behind : List ℕ) → line ≡ first_line text
     → position_or_len (λ b. b == 61) line < length line → key ≡ trim (before_first (λ b. b == 61) line)
     → is_key key ≡ true → value_read (after_first (λ b. b == 61) text) ≡ Some (value, behind)

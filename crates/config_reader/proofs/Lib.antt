@@ -11,8 +11,10 @@ mod Items
 mod Kept
 mod Levels
 mod ReadBack
+mod Refused
 mod Removed
 mod Opened
+mod OpenValues
 mod Ranked
 mod Replaced
 mod Sections
@@ -21,4 +23,5 @@ mod Spelled
 mod Stable
 mod Texts
 mod Values
+mod ValueTexts
 mod WholeLines

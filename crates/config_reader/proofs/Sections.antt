@@ -1,14 +1,15 @@
 -- The sections that lines open.
-use Rattle.std.proofs.Common.{◌≡◌, ◌⊎◌, ℕ, ◌<◌, ◌==◌, ◌&&◌, Bool, true, false, not, inl, inr, List, [], ◌∷◌, ◌++◌, Some}
+use Rattle.std.proofs.Common.{◌≡◌, ◌≢◌, ◌⊎◌, ℕ, ◌<◌, ◌==◌, ◌&&◌, Bool, true, false, not, inl, inr, List, [], ◌∷◌, ◌++◌, None, Some}
 use Rattle.std.proofs.Common.{refl, sym, ap, ◌∙◌, arith, length, drop}
+use Rattle.std.proofs.lemmas.Bool.{eqb-true}
 use Rattle.std.proofs.lemmas.Str.{encode_ascii}
 use Rattle.std.specs.Prelude.{if◌then◌else◌}
 use Rattle.std.specs.List.{after_first, before_first, list_any, position_or_len}
 use Rattle.std.specs.Str.{trim}
 use Rattle.std.specs.Str.Pattern.{FindsCharPrefix, StripsPrefix}
 use Rattle.config_reader.specs.declared.section.Section.{Section}
-use Rattle.config_reader.specs.Lines.{begins_nothing}
-use Rattle.config_reader.specs.Sections.{is_sub, is_word, of_dotted, of_parts}
+use Rattle.config_reader.specs.Lines.{begins_nothing, says_nothing}
+use Rattle.config_reader.specs.Sections.{is_closed, is_sub, is_word, of_dotted, of_parts, of_unquoted}
 use Rattle.config_reader.specs.Sections.{opened, opened_in_quotes, opened_without_quotes, spelled}
 use Rattle.config_reader.proofs.Cuts.{no_byte, some_byte}
 
@@ -43,25 +44,50 @@ module _ (section : Section) where
       rw (no_byte 46 text none, ap is_word (sym word_is) ∙ allowed, word_is, sub_is) refl
 
 -- the section that a line opens
-pub opened_with : (inside word quoted : List ℕ) (section : Section) → position_or_len (λ b. b == 34) inside < length inside
+pub opened_with : (inside word quoted : List ℕ) → position_or_len (λ b. b == 34) inside < length inside
     → word ≡ before_first (λ b. b == 34) inside → quoted ≡ after_first (λ b. b == 34) inside
-    → list_any (λ b. b == 93) word ≡ false → opened_in_quotes word quoted ≡ Some (spelled section)
-    → opened inside ≡ Some (spelled section)
-opened_with inside word quoted section less word_is quoted_is none is =
-    rw (some_byte 34 inside less, sym word_is, none, sym quoted_is) is
+    → list_any (λ b. b == 93) word ≡ false → opened inside ≡ opened_in_quotes word quoted
+opened_with inside word quoted less word_is quoted_is none = rw (some_byte 34 inside less, sym word_is, none, sym quoted_is) refl
 
 pub some_bracket : (inside word : List ℕ) → word ≡ before_first (λ b. b == 34) inside → list_any (λ b. b == 93) word ≡ true
     → list_any (λ b. b == 93) (before_first (λ b. b == 34) inside) ≡ true
 some_bracket inside word word_is some = ap (list_any (λ b. b == 93)) (sym word_is) ∙ some
 
-pub opened_without : (inside : List ℕ) (section : Section)
+pub opened_without : (inside : List ℕ)
     → (list_any (λ b. b == 34) inside ≡ false) ⊎ (list_any (λ b. b == 93) (before_first (λ b. b == 34) inside) ≡ true)
-    → opened_without_quotes inside ≡ Some (spelled section) → opened inside ≡ Some (spelled section)
-opened_without inside section (inl none) is = rw none is
-opened_without inside section (inr some) is = by (list_any (λ b. b == 34) inside)
+    → opened inside ≡ opened_without_quotes inside
+opened_without inside (inl none) = rw none refl
+opened_without inside (inr some) = by (list_any (λ b. b == 34) inside)
   where
     by : (quote : Bool) → (if quote && not (list_any (λ b. b == 93) (before_first (λ b. b == 34) inside))
         then opened_in_quotes (before_first (λ b. b == 34) inside) (after_first (λ b. b == 34) inside)
-        else opened_without_quotes inside) ≡ Some (spelled section)
-    by true = rw some is
-    by false = is
+        else opened_without_quotes inside) ≡ opened_without_quotes inside
+    by true = rw some refl
+    by false = refl
+
+-- a line that no bracket closes, up to a comment
+pub not_closed : (text : List ℕ) → ((rest : List ℕ) → text ≢ 93 ∷ rest)
+    ⊎ ((rest : List ℕ) × (text ≡ 93 ∷ rest) × (says_nothing rest ≡ false))
+    → is_closed text ≡ false
+not_closed text (inr found) = ap is_closed found.1 ∙ rw found.2 refl
+not_closed [] (inl other) = refl
+not_closed (b ∷ rest) (inl other) = by (b == 93) refl
+  where
+    by : (bracket : Bool) → (b == 93) ≡ bracket → (bracket && says_nothing rest) ≡ false
+    by true is = absurd (other rest (ap (λ c. c ∷ rest) (eqb-true b 93 is)))
+    by false is = refl
+
+-- it opens no section
+pub quotes_refused : (word quoted : List ℕ) → is_closed (after_first (λ b. b == 34) quoted) ≡ false → opened_in_quotes word quoted ≡ None
+quotes_refused word quoted none = rw none refl
+
+pub word_refused : (inside : List ℕ)
+    → (list_any (λ b. b == 93) inside ≡ false) ⊎ (says_nothing (after_first (λ b. b == 93) inside) ≡ false)
+    → opened_without_quotes inside ≡ None
+word_refused inside (inl none) = rw none refl
+word_refused inside (inr words) = by (list_any (λ b. b == 93) inside)
+  where
+    by : (bracket : Bool) → (if bracket && says_nothing (after_first (λ b. b == 93) inside)
+        then of_unquoted (trim (before_first (λ b. b == 93) inside)) else None) ≡ None
+    by true = rw words refl
+    by false = refl

@@ -13,7 +13,7 @@ use Rattle.config_reader.specs.declared.section.Section.{Section}
 use Rattle.config_reader.specs.Lines.{IsReadTo, behind_line, first_line, is_lined, lined}
 use Rattle.config_reader.specs.Lines.{says_nothing}
 use Rattle.config_reader.specs.Names.{has_no_key, is_key, is_no_section}
-use Rattle.config_reader.specs.Said.{indent_of, is_deeper, item_at, lowered, said, setting_of}
+use Rattle.config_reader.specs.Said.{Item, indent_of, is_deeper, item_at, lowered, said, setting_of}
 use Rattle.config_reader.specs.Sections.{spelled}
 use Rattle.config_reader.specs.Written.{section_line, texts_of}
 
@@ -120,6 +120,10 @@ HaveKeys (name ∷ names) =
 abbrev pub place_of : Reader → ℕ → Place
 place_of reader rank =
     record { section = spelled reader.section; above = reader.indent; rank = rank }
+
+-- the first item of what the reader still has to read
+abbrev pub item_of_rest : Reader → Option Item
+item_of_rest reader = item_at (spelled reader.section) reader.indent reader.rest.now
 
 -- the lines and the reader have this text, kept or still to be read
 abbrev pub KeepsAll : Reader → Lists Name Lines → List ℕ → Type 0

@@ -1,15 +1,18 @@
 //! Reading a text as a configuration, item by item.
 ghost use Rattle.std.specs.Cow.{cow_str_bytes};
 ghost use Rattle.std.specs.Prelude.{◌≡◌, ◌⊎◌, ◌<◌, ◌+◌, ◌++◌, [], ℕ, List, length, true, false};
-ghost use Rattle.std.specs.Prelude.{IfErr, IfOk, OnOk};
+ghost use Rattle.std.specs.IoError.{error_kind};
+ghost use Rattle.std.specs.Prelude.{IfErr, IfOk, None, OnOk};
+ghost use Rattle.std.specs.declared.io.ErrorKind.TheVariants.{InvalidData};
 ghost use Rattle.ordered_multimap.specs.Lists.{empty_lists};
+ghost use Rattle.program_parts.specs.Statuses.{status_of_fault};
 ghost use Rattle.config_reader.specs.Faults.{IsBadOrRefused, IsLineOrRefused};
 ghost use Rattle.config_reader.specs.Items.{AddsItem};
 ghost use Rattle.config_reader.specs.Blocks.{IsConfig, IsKept, IsSectionLine, IsSettingLine, KeepsAll};
-ghost use Rattle.config_reader.specs.Blocks.{place_of, start};
+ghost use Rattle.config_reader.specs.Blocks.{item_of_rest, place_of, start};
 ghost use Rattle.config_reader.specs.Changed.{HasRoom};
 ghost use Rattle.config_reader.specs.Lines.{IsBehindLines, lined};
-ghost use Rattle.config_reader.specs.Said.{is_deeper};
+ghost use Rattle.config_reader.specs.Said.{is_deeper, text_says};
 ghost use Rattle.config_reader.specs.Written.{texts_of};
 ghost use Rattle.config_reader.specs.declared.reader.Part.TheVariants.{Whole};
 
@@ -34,6 +37,8 @@ pub fn read_config<'t>(alloc: Global, config: &mut Config<'t>, text: &'t str) ->
         ≡ texts_of config.old.lists.pairs ++ lined text.now) }
     ensures reads { config.old.lists ≡ empty_lists → OnOk result (IsConfig config.new.lists) }
     ensures room { config.old.lists ≡ empty_lists → OnOk result (HasRoom config.new.lists) }
+    ensures refused { config.old.lists ≡ empty_lists → IfErr result (λ fault.
+        status_of_fault fault ≡ 2 → text_says (lined text.now) ≡ None) }
     ensures fault { IfErr result IsLineOrRefused }
 {
     let mut reader = Reader::new(alloc, text);
@@ -86,7 +91,7 @@ struct Reader<'t> {
 }
 
 /// The rank of the settings above which no section is opened, which leaves room for one that is
-/// added.
+/// added. A text with that many sections fits no memory.
 const HIGHEST_RANK: usize = usize::MAX / 2;
 
 impl<'t> Reader<'t> {
@@ -114,6 +119,9 @@ impl<'t> Reader<'t> {
         ensures whole { part ≡ Whole → OnOk result (self.new.rest.now ≡ []) }
         ensures reads { IsKept self.old self.old.rank config.old.lists
             → OnOk result (IsKept self.new (self.new.rank + 1) config.new.lists) }
+        ensures refused { (all : List ℕ) → KeepsAll self.old config.old.lists all
+            → IsKept self.old self.old.rank config.old.lists
+            → IfErr result (λ fault. status_of_fault fault ≡ 2 → text_says all ≡ None) }
         ensures fault { IfErr result IsLineOrRefused }
     {
         while !self.is_at_end(part) {
@@ -147,6 +155,8 @@ impl<'t> Reader<'t> {
         ensures reads { 0 < length self.old.rest.now
             → IsKept self.old self.old.rank config.old.lists
             → OnOk result (IsKept self.new self.new.rank config.new.lists) }
+        ensures refused { 0 < length self.old.rest.now → IfErr result (λ error.
+            error_kind error ≡ InvalidData → item_of_rest self.old ≡ None) }
         ensures fault { IfErr result IsBadOrRefused }
     {
         let (line, behind) = first_line(self.rest);
@@ -174,10 +184,13 @@ impl<'t> Reader<'t> {
         ensures reads { IsSectionLine self.old.rest.now inside.now behind.now
             → IsKept self.old self.old.rank config.old.lists
             → OnOk result (IsKept self.new self.new.rank config.new.lists) }
+        ensures refused { IsSectionLine self.old.rest.now inside.now behind.now
+            → IfErr result (λ error. error_kind error ≡ InvalidData
+            → item_of_rest self.old ≡ None) }
         ensures fault { IfErr result IsBadOrRefused }
     {
         if self.rank > HIGHEST_RANK {
-            return Err(bad("too many sections"));
+            return Err(io::Error::from(AllocError));
         }
         self.add_between(config, self.rank + 1)?;
         self.section = Section::of_line(inside)?;
@@ -195,6 +208,8 @@ impl<'t> Reader<'t> {
         ensures reads { IsSettingLine self.old.rest.now line.now
             → IsKept self.old self.old.rank config.old.lists
             → OnOk result (IsKept self.new self.new.rank config.new.lists) }
+        ensures refused { IsSettingLine self.old.rest.now line.now → IfErr result (λ error.
+            error_kind error ≡ InvalidData → item_of_rest self.old ≡ None) }
         ensures fault { IfErr result IsBadOrRefused }
     {
         self.add_between(config, self.rank)?;

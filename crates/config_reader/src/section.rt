@@ -1,6 +1,6 @@
 //! Names of sections.
 ghost use Rattle.std.specs.IoError.{error_kind};
-ghost use Rattle.std.specs.Prelude.{◌≡◌, ◌++◌, [], Some, true};
+ghost use Rattle.std.specs.Prelude.{◌≡◌, ◌++◌, [], None, Some, false, true};
 ghost use Rattle.std.specs.Prelude.{IfErr, IfOk, OnOk};
 ghost use Rattle.std.specs.Char.{is_ascii_uppercase};
 ghost use Rattle.std.specs.List.{list_any};
@@ -10,7 +10,7 @@ ghost use Rattle.std.specs.declared.io.ErrorKind.TheVariants.{InvalidData};
 ghost use Rattle.config_reader.specs.Blocks.{IsWritten, OpensSection};
 ghost use Rattle.config_reader.specs.Names.{IsCalledBy, IsCalledByDot, IsOpenAs, Lacks};
 ghost use Rattle.config_reader.specs.Sections.{IsTrimmed, has_capital_behind_dot, is_outside_sub, is_sub, is_word, needs_quotes};
-ghost use Rattle.config_reader.specs.Sections.{of_dotted, opened, opened_in_quotes};
+ghost use Rattle.config_reader.specs.Sections.{of_dotted, of_parts, opened, opened_in_quotes};
 ghost use Rattle.config_reader.specs.Sections.{of_unquoted, opened_without_quotes, spelled};
 ghost use Rattle.config_reader.specs.Written.{in_quotes, section_line, section_name};
 
@@ -71,6 +71,7 @@ impl<'t> Section<'t> {
     fn of_dotted(text: &'t str) -> io::Result<Section<'t>>
         ensures called { IfOk result (λ section. IsCalledByDot text.now section) }
         ensures dotted { IfOk result (λ section. of_dotted text.now ≡ Some (spelled section)) }
+        ensures refused { IfErr result (λ _. of_dotted text.now ≡ None) }
         ensures written { IfOk result (λ section.
             OpensSection (section_line section) (spelled section)) }
         ensures bad { IfErr result (λ error. error_kind error ≡ InvalidData) }
@@ -85,6 +86,7 @@ impl<'t> Section<'t> {
     /// behind it.
     pub fn of_line(inside: &'t str) -> io::Result<Section<'t>>
         ensures opened { IfOk result (λ section. opened inside.now ≡ Some (spelled section)) }
+        ensures refused { IfErr result (λ _. opened inside.now ≡ None) }
         ensures bad { IfErr result (λ error. error_kind error ≡ InvalidData) }
     {
         match inside.split_once('"') {
@@ -97,6 +99,7 @@ impl<'t> Section<'t> {
     fn of_quoted(word: &'t str, quoted: &'t str) -> io::Result<Section<'t>>
         ensures opened { IfOk result (λ section.
             opened_in_quotes word.now quoted.now ≡ Some (spelled section)) }
+        ensures refused { IfErr result (λ _. opened_in_quotes word.now quoted.now ≡ None) }
         ensures bad { IfErr result (λ error. error_kind error ≡ InvalidData) }
     {
         let Some((sub, behind)) = quoted.split_once('"') else {
@@ -112,6 +115,7 @@ impl<'t> Section<'t> {
     fn of_unquoted(inside: &'t str) -> io::Result<Section<'t>>
         ensures opened { IfOk result (λ section.
             opened_without_quotes inside.now ≡ Some (spelled section)) }
+        ensures refused { IfErr result (λ _. opened_without_quotes inside.now ≡ None) }
         ensures bad { IfErr result (λ error. error_kind error ≡ InvalidData) }
     {
         match inside.split_once(']') {
@@ -124,6 +128,7 @@ impl<'t> Section<'t> {
     // small letters, and others read it as it is spelled.
     fn of_name(name: &'t str) -> io::Result<Section<'t>>
         ensures unquoted { IfOk result (λ section. of_unquoted name.now ≡ Some (spelled section)) }
+        ensures refused { IfErr result (λ _. of_unquoted name.now ≡ None) }
         ensures bad { IfErr result (λ error. error_kind error ≡ InvalidData) }
     {
         if has_capital_behind_dot(name) {
@@ -136,6 +141,7 @@ impl<'t> Section<'t> {
         ensures word { IfOk result (λ section. section.word.0.now ≡ word.now) }
         ensures sub { IfOk result (λ section. section.sub.now ≡ []) }
         ensures allowed { IfOk result (λ section. is_word word.now ≡ true) }
+        ensures refused { IfErr result (λ _. is_word word.now ≡ false) }
         ensures written { IsTrimmed (chars word.now) → Lacks 46 word.now → IfOk result (λ section.
             OpensSection (section_line section) (spelled section)) }
         ensures bad { IfErr result (λ error. error_kind error ≡ InvalidData) }
@@ -151,6 +157,7 @@ impl<'t> Section<'t> {
         ensures word { IfOk result (λ section. section.word.0.now ≡ word.now) }
         ensures sub { IfOk result (λ section. section.sub.now ≡ sub.now) }
         ensures allowed { IfOk result (λ section. (is_word word.now ≡ true) × (is_sub sub.now ≡ true)) }
+        ensures refused { IfErr result (λ _. of_parts word.now sub.now ≡ None) }
         ensures written { IsTrimmed (chars word.now) → IfOk result (λ section.
             OpensSection (section_line section) (spelled section)) }
         ensures bad { IfErr result (λ error. error_kind error ≡ InvalidData) }

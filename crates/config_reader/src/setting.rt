@@ -1,8 +1,8 @@
 //! A setting at the start of a text: its key and its value.
 ghost use Rattle.std.specs.Cow.{cow_str_bytes};
 ghost use Rattle.std.specs.IoError.{error_kind};
-ghost use Rattle.std.specs.List.{after_first};
-ghost use Rattle.std.specs.Prelude.{◌≡◌, ◌==◌, ◌<◌, Some, length, true};
+ghost use Rattle.std.specs.List.{after_first, list_any};
+ghost use Rattle.std.specs.Prelude.{◌≡◌, ◌==◌, ◌<◌, None, Some, false, length, true};
 ghost use Rattle.std.specs.Prelude.{IfErr, IfOk};
 ghost use Rattle.std.specs.Str.{trim};
 ghost use Rattle.std.specs.String.{string_bytes};
@@ -31,6 +31,8 @@ pub fn setting_of<'t>(
 ) -> io::Result<(AsciiCaseless<&'t str>, CowStr<'t>, &'t str)>
     ensures setting { line.now ≡ first_line rest.now → IfOk result (λ r.
         setting_at rest.now ≡ Some (r.0.0.now, cow_str_bytes r.1, r.2.now)) }
+    ensures refused { line.now ≡ first_line rest.now → IfErr result (λ error.
+        error_kind error ≡ InvalidData → setting_at rest.now ≡ None) }
     ensures allowed { IfOk result (λ r. is_key r.0.0.now ≡ true) }
     ensures lines { IfOk result (λ setting. IsBehindLines rest.now setting.2.now) }
     ensures shorter { IfOk result (λ setting. 0 < length rest.now
@@ -49,6 +51,7 @@ pub fn setting_of<'t>(
 fn key_of(text: &str) -> io::Result<AsciiCaseless<&str>>
     ensures key { IfOk result (λ key. key.0.now ≡ trim text.now) }
     ensures allowed { IfOk result (λ key. is_key key.0.now ≡ true) }
+    ensures refused { IfErr result (λ _. is_key (trim text.now) ≡ false) }
     ensures bad { IfErr result (λ error. error_kind error ≡ InvalidData) }
 {
     let key = text.trim();
@@ -62,6 +65,8 @@ fn key_of(text: &str) -> io::Result<AsciiCaseless<&str>>
 fn value_behind_sign(alloc: Global, rest: &str) -> io::Result<(String, &str)>
     ensures value { IfOk result (λ r.
         value_read (after_first (λ b. b == 61) rest.now) ≡ Some (string_bytes r.0, r.1.now)) }
+    ensures refused { list_any (λ b. b == 61) rest.now ≡ true → IfErr result (λ error.
+        error_kind error ≡ InvalidData → value_read (after_first (λ b. b == 61) rest.now) ≡ None) }
     ensures lines { IfOk result (λ r. IsBehindLines rest.now r.1.now) }
     ensures shorter { IfOk result (λ r. 0 < length rest.now → length r.1.now < length rest.now) }
     ensures fault { IfErr result IsBadOrRefused }

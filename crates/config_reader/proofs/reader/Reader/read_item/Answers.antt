@@ -11,13 +11,15 @@ use Rattle.config_reader.proofs.reader.Reader.read_item.Goals as goal
 pub returns-then-says_nothing-clause-kept : goal.returns-then-says_nothing-clause-kept
 returns-then-says_nothing-clause-kept c = λ all is.
     let old = c.args.self.now in
-    read_on (texts_of c.args.config.now.lists.pairs) old.between.now old.rest.now c.first_line.result.1.now all is c.first_line.ensures.lines
+    read_on (texts_of c.args.config.now.lists.pairs) old.between.now old.rest.now c.first_line.result.1.now all is
+    c.first_line.ensures.lines
 
 pub returns-then-says_nothing-clause-reads : goal.returns-then-says_nothing-clause-reads
 returns-then-says_nothing-clause-reads c = λ some kept.
     let says : says_nothing (first_line c.args.self.now.rest.now) ≡ true =
     ap says_nothing (sym c.first_line.ensures.line) ∙ sym c.says_nothing.ensures ∙ c.if-says_nothing.true in
-    silence_kept c.args.self.now _ c.args.self.now.rank c.args.config.now.lists kept some says c.first_line.ensures.behind refl refl refl refl
+    silence_kept c.args.self.now _ c.args.self.now.rank c.args.config.now.lists kept some says c.first_line.ensures.behind refl refl refl
+    refl
 
 pub returns-in-Some-clause-reads : goal.returns-in-Some-clause-reads
 returns-in-Some-clause-reads c = λ some kept.
@@ -38,5 +40,20 @@ returns-in-None-clause-reads c = λ some kept.
       some = some;
       line_is = c.first_line.ensures.line;
       says = says;
-      other = λ inside begins. c.in-None.ensures.cases inside (same ∙ begins ∙ ap (λ first. first ++ inside) (sym (encode_ascii 91 (omega arith))));
+      other = λ inside begins. c.in-None.ensures.cases inside
+          (same ∙ begins ∙ ap (λ first. first ++ inside) (sym (encode_ascii 91 (omega arith))));
     }) kept
+
+pub returns-in-None-clause-refused : goal.returns-in-None-clause-refused
+returns-in-None-clause-refused c = λ some.
+    let says : says_nothing (first_line c.args.self.now.rest.now) ≡ false =
+    ap says_nothing (sym c.first_line.ensures.line) ∙ sym c.says_nothing.ensures ∙ c.if-says_nothing.false in
+    let same : c.trim_start.result.now ≡ trim_start (first_line c.args.self.now.rest.now) =
+    c.trim_start.ensures.trim ∙ ap trim_start c.first_line.ensures.line in
+    c.read_setting.ensures.refused (record {
+      some = some;
+      line_is = c.first_line.ensures.line;
+      says = says;
+      other = λ inside begins. c.in-None.ensures.cases inside
+          (same ∙ begins ∙ ap (λ first. first ++ inside) (sym (encode_ascii 91 (omega arith))));
+    })
