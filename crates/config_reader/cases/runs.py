@@ -28,12 +28,28 @@ GOOD = [
     ("[A.b]\nk = 1\n", ["get", "a.b.k"], "1\n"),
     ('[A "B"]\nk = 1\n', ["get", "a.B.k"], "1\n"),
     ('[a "b.C"]\nk = 1\n', ["get", "a.b.C.k"], "1\n"),
+    # Blanks belong to the name between quotes, also where a question has it behind a dot.
+    ('[a "x"]\nk = 1\n[a "x "]\nl = 2\n', ["keys", "a.x "], "l\n"),
+    ('[a "x"]\nk = 1\n[a "x "]\nk = 2\n', ["get", "a.x .k"], "2\n"),
+    ('[a "x"]\nk = 1\n[a " x"]\nk = 2\n', ["get", "a. x.k"], "2\n"),
+    ('[a "x "]\nk = 2\n', ["get", 'a "x ".k'], "2\n"),
+    ('[a "x"]\nk = 1\n', ["set", "a.x .k", "v"], '[a "x"]\nk = 1\n[a "x "]\n\tk = v\n'),
+    ('[a "x "]\nk = 1\n', ["add", "a.x .l", "v"], '[a "x "]\nk = 1\nl = v\n'),
+    # Around the word and the key they count for nothing.
+    ("[a]\nk = 1\n", ["get", " a . k "], "1\n"),
+    ("[a]\nk = 1\n", ["keys", " a "], "k\n"),
     # A byte order mark stays where the whole text is written.
     ("\ufeff[a]\nk = 1\n", ["get", "a.k"], "1\n"),
     ("\ufeff[a]\nk = 1\n", ["write"], "\ufeff[a]\nk = 1\n"),
     ("\ufeff[a]\nk = 1\n", ["set", "a.k", "2"], "\ufeff[a]\nk = 2\n"),
     ("\ufeff[a]\nk = 1\n", ["add", "a.l", "2"], "\ufeff[a]\nk = 1\nl = 2\n"),
     ("\ufeff[a]\nk = 1\n", ["unset", "a.k"], "\ufeff[a]\n"),
+]
+
+# Standard input, the output.
+QUESTIONS = [
+    ('[a "x"]\nk = 1\n[a "x "]\nl = 2\n---\nkeys a.x \n  keys  a.x\r\nget a.x .l \r\n', "l\nk\n2\n"),
+    ("[a]\nk = 1\n---\nkeys \n sections \n \r\nget a.k", "a\n1\n"),
 ]
 
 # A text, the words, what stands on standard error behind the program's name.
@@ -79,5 +95,7 @@ def runs():
         if words[0] == "add":
             yield (b"", ["file", "write"], {"file": written.encode()}), (written.encode(), b"", 0)
             yield (b"", ["file", "get", words[1]], {"file": written.encode()}), (f"{words[2]}\n".encode(), b"", 0)
+    for text, written in QUESTIONS:
+        yield text.encode(), (written.encode(), b"", 0)
     for text, words, reason in BAD:
         yield (b"", ["file", *words], {"file": text.encode()}), (b"", f"config_reader: {reason}\n".encode(), 2)

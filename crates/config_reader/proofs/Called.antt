@@ -3,7 +3,7 @@ use Rattle.std.proofs.Common.{◌≡◌, ◌≢◌, ℕ, suc, ◌==◌, ◌<◌,
 use Rattle.std.proofs.Common.{refl, sym, ap, ◌∙◌, arith, length, get_or, ne_eqb}
 use Rattle.std.specs.List.{list_any}
 use Rattle.std.specs.Prelude.{IfErr, IfOk, Result, Ok, Err}
-use Rattle.std.specs.Str.{NoCharPasses, trim}
+use Rattle.std.specs.Str.{NoCharPasses, trim, trim_end}
 use Rattle.std.proofs.lemmas.Bool.{true≢false}
 use Rattle.std.proofs.lemmas.Str.Pattern.{NoCharPasses-char}
 use Rattle.ordered_multimap.specs.Pairs.{has_items}
@@ -106,19 +106,22 @@ by_word text section none word_is name_is = record {
   alone = λ lacking. (word_is, name_is);
 }
 
-pub by_quotes : (text word name : List ℕ) (section : Section) → text ≡ word ++ 34 ∷ (name ++ 34 ∷ []) → Lacks 34 word
+pub by_quotes : (text trimmed word name : List ℕ) (section : Section) → trimmed ≡ trim_end text → (Lacks 34 text → Lacks 34 trimmed)
+    → trimmed ≡ word ++ 34 ∷ (name ++ 34 ∷ []) → Lacks 34 word
     → section.word.0.now ≡ trim word → section.sub.now ≡ name → IsCalledBy text section
-by_quotes text word name section is none word_is name_is = record {
-  quoted = λ w n same lacking. let cut = first_cut 34 word (name ++ 34 ∷ []) w (n ++ 34 ∷ []) (sym is ∙ same) none lacking in
+by_quotes text trimmed word name section is_trimmed part is none word_is name_is = record {
+  quoted = λ w n same lacking.
+      let cut = first_cut 34 word (name ++ 34 ∷ []) w (n ++ 34 ∷ []) (sym is ∙ is_trimmed ∙ same) none lacking in
       (word_is ∙ ap trim cut.0, name_is ∙ same_start name n cut.1);
-  other = λ lacking. no_cut 34 text word (name ++ 34 ∷ []) is lacking;
+  other = λ lacking. no_cut 34 trimmed word (name ++ 34 ∷ []) is (part lacking);
 }
   where
     same_start : (a b : List ℕ) → a ++ 34 ∷ [] ≡ b ++ 34 ∷ [] → a ≡ b
     same_start a b is = (last_cut 34 a [] b [] is refl refl).0
 
-pub without_quotes : (text : List ℕ) (section : Section) → Lacks 34 text → IsCalledByDot text section → IsCalledBy text section
-without_quotes text section none called = record {
-  quoted = λ w n same lacking. no_cut 34 text w (n ++ 34 ∷ []) same none;
+pub without_quotes : (text trimmed : List ℕ) (section : Section) → trimmed ≡ trim_end text → Lacks 34 trimmed
+    → IsCalledByDot text section → IsCalledBy text section
+without_quotes text trimmed section is_trimmed none called = record {
+  quoted = λ w n same lacking. no_cut 34 trimmed w (n ++ 34 ∷ []) (is_trimmed ∙ same) none;
   other = λ lacking. called;
 }

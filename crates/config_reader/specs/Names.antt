@@ -2,7 +2,7 @@
 use Rattle.std.specs.Char.{is_whitespace}
 use Rattle.std.specs.List.{list_any}
 use Rattle.std.specs.Prelude.{◌≡◌, ℕ, ◌==◌, Bool, true, false, not, ◌&&◌, ◌||◌, List, [], ◌∷◌, ◌++◌}
-use Rattle.std.specs.Str.{bytes_eq, chars, str_eq_ignore_ascii_case, trim}
+use Rattle.std.specs.Str.{bytes_eq, chars, str_eq_ignore_ascii_case, trim, trim_end}
 use Rattle.ordered_multimap.specs.Pairs.{has_items}
 use Rattle.config_reader.specs.declared.name.Name.{Name}
 use Rattle.config_reader.specs.declared.section.Section.{Section}
@@ -60,9 +60,9 @@ pub record IsCalledByDot (text : List ℕ) (section : Section) : Type 0 where
       → IsCalled word name section
   pub alone : Lacks 46 text → IsCalled text [] section
 
--- or its word and a name between quotes
+-- or its word and a name between quotes, behind which blanks may stand
 pub record IsCalledBy (text : List ℕ) (section : Section) : Type 0 where
-  pub quoted : (word name : List ℕ) → text ≡ word ++ 34 ∷ (name ++ 34 ∷ []) → Lacks 34 word
+  pub quoted : (word name : List ℕ) → trim_end text ≡ word ++ 34 ∷ (name ++ 34 ∷ []) → Lacks 34 word
       → IsCalled word name section
   pub other : Lacks 34 text → IsCalledByDot text section
 

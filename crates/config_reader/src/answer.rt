@@ -50,7 +50,8 @@ pub fn add_answers<'t>(
     let (text, end) = text_of_input(input);
     let (lines, questions) = read_to_bar(alloc, config, text)?;
     for (index, line) in questions.split('\n').enumerate() {
-        if let Err(error) = add_answer(config, line.trim(), answers) {
+        let line = line.strip_suffix('\r').unwrap_or(line);
+        if let Err(error) = add_answer(config, line.trim_start(), answers) {
             let number = lines.saturating_add(index).saturating_add(1);
             return Err(Fault::at_line(number, error));
         }

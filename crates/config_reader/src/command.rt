@@ -32,12 +32,13 @@ pub enum Command<'t> {
 }
 
 impl<'t> Command<'t> {
-    /// The question on a line: a word, and behind a space what it asks for.
+    /// The question on a line: a word, and behind a space what it asks for. Blanks in front of that
+    /// count for nothing; those behind it may belong to the name of a section.
     pub fn of_line(line: &'t str) -> io::Result<Command<'t>>
         ensures bad { IfErr result (λ error. error_kind error ≡ InvalidData) }
     {
         let (word, operand) = line.split_once(' ').unwrap_or((line, ""));
-        Command::of_operand(word, operand.trim())
+        Command::of_operand(word, operand.trim_start())
     }
 
     /// The command that the words say.
@@ -72,7 +73,7 @@ impl<'t> Command<'t> {
             [word, operand] if word.as_str() == "unset" => {
                 Ok(Command::Unset(Name::parse(operand.as_str())?))
             }
-            [word, operand] => Command::of_operand(word.as_str(), operand.as_str().trim()),
+            [word, operand] => Command::of_operand(word.as_str(), operand.as_str()),
             [word, name, value] => {
                 Command::of_pair(word.as_str(), Name::parse(name.as_str())?, value.as_str())
             }

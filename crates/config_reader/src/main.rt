@@ -16,8 +16,9 @@
 //! above the first one of none. `KEY` alone, and `keys` alone, ask for those. A section is a word, or
 //! a word and a name between quotes, `[remote "origin"]`, which a question calls `remote.origin`. The
 //! case of words and keys doesn't matter, that of the quoted name does. Sections of one name are
-//! one. A question parts section and key by the last dot, and ignores blanks around both, so a key
-//! has none. A key may stand several times, or alone on its line, with the empty value.
+//! one. A question parts section and key by the last dot. It ignores blanks around the word and around
+//! the key, so those have none, and takes the quoted name as it stands. A key may stand several times,
+//! or alone on its line, with the empty value.
 //!
 //! A value goes to the end of its line, without the blanks around it. A backslash at the end joins
 //! the next line. A comment is `#` or `;` at the start of a line, or with a blank in front of it.

@@ -64,7 +64,7 @@ impl<'t> Name<'t> {
         ensures key { IfOk result (λ name. is_key name.key.0.now ≡ true) }
         ensures dot { IfOk result (λ name. (section key : List ℕ)
             → text.now ≡ section ++ 46 ∷ key → Lacks 46 key
-            → (name.key.0.now ≡ trim key) × IsOpenAs (trim section) name.section) }
+            → (name.key.0.now ≡ trim key) × IsOpenAs section name.section) }
         ensures alone { IfOk result (λ name. Lacks 46 text.now
             → (name.key.0.now ≡ trim text.now) × IsOpenAs [] name.section) }
         ensures written { IfOk result (λ name. IsWritten name.section) }
@@ -76,7 +76,7 @@ impl<'t> Name<'t> {
             return Err(bad("not the name of a setting"));
         }
         Ok(Name {
-            section: Section::parse_or_none(section.trim())?,
+            section: Section::parse_or_none(section)?,
             key: AsciiCaseless(key),
         })
     }

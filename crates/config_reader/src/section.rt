@@ -46,7 +46,8 @@ impl<'t> Section<'t> {
             OpensSection (section_line section) (spelled section)) }
         ensures bad { IfErr result (λ error. error_kind error ≡ InvalidData) }
     {
-        let Some((word, quoted)) = text.split_once('"') else {
+        // Blanks behind a dot belong to the name, but none behind quotes.
+        let Some((word, quoted)) = text.trim_end().split_once('"') else {
             return Section::of_dotted(text);
         };
         match quoted.strip_suffix('"') {
