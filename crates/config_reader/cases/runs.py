@@ -50,6 +50,19 @@ GOOD = [
 QUESTIONS = [
     ('[a "x"]\nk = 1\n[a "x "]\nl = 2\n---\nkeys a.x \n  keys  a.x\r\nget a.x .l \r\n', "l\nk\n2\n"),
     ("[a]\nk = 1\n---\nkeys \n sections \n \r\nget a.k", "a\n1\n"),
+    ("[A]\nK = 1\n---\nlist\nlist \n", "a.k=1\na.k=1\n"),
+]
+
+# A text, what `list` writes, what it writes behind `-z`.
+LISTED = [
+    (
+        '[A "B"]\nKey\nx = 1\nX =\n[a.b]\ny = "2\\n3"\n',
+        "a.B.key\na.B.x=1\na.B.x=\na.b.y=2\n3\n",
+        "a.B.key\0a.B.x\n1\0a.B.x\n\0a.b.y\n2\n3\0",
+    ),
+    ("k = 1\n[a]\n", "k=1\n", "k\n1\0"),
+    ('[a "x y"]\nk = "=" # =\n', "a.x y.k==\n", "a.x y.k\n=\0"),
+    ("[a]\nl = 2\n[b]\nk = 1\n[a]\nl = 3\n", "a.l=2\nb.k=1\na.l=3\n", "a.l\n2\0b.k\n1\0a.l\n3\0"),
 ]
 
 # A text, the words, what stands on standard error behind the program's name.
@@ -84,6 +97,10 @@ BAD = [
     ("", ["sections", "a"], "sections takes nothing; see config_reader --help"),
     ("", ["add", "a.b"], "add takes SECTION.KEY and VALUE; see config_reader --help"),
     ("", ["unset"], "unset takes SECTION.KEY; see config_reader --help"),
+    ("", ["list", "a"], "list takes nothing, and -z stands in front of it; see config_reader --help"),
+    ("", ["list", "-z"], "list takes nothing, and -z stands in front of it; see config_reader --help"),
+    ("", ["-z", "get", "a.b"], "-z is for list alone; see config_reader --help"),
+    ("", ["-z", "set", "a.b", "c"], "-z is for list alone; see config_reader --help"),
     ("", ["write", "a"], "write takes nothing; see config_reader --help"),
 ]
 
@@ -97,5 +114,10 @@ def runs():
             yield (b"", ["file", "get", words[1]], {"file": written.encode()}), (f"{words[2]}\n".encode(), b"", 0)
     for text, written in QUESTIONS:
         yield text.encode(), (written.encode(), b"", 0)
+    for text, lines, zeros in LISTED:
+        yield (b"", ["file", "list"], {"file": text.encode()}), (lines.encode(), b"", 0)
+        yield (b"", ["-z", "file", "list"], {"file": text.encode()}), (zeros.encode(), b"", 0)
+    for words in (["file", "list"], ["file", "-z", "list"]):
+        yield (b"", words, {"file": b"[a]\n"}), (b"", b"", 1)
     for text, words, reason in BAD:
         yield (b"", ["file", *words], {"file": text.encode()}), (b"", f"config_reader: {reason}\n".encode(), 2)

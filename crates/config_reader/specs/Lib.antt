@@ -3,6 +3,7 @@ pub mod Changed
 pub mod Faults
 pub mod Items
 pub mod Lines
+pub mod Listed
 pub mod Names
 pub mod Said
 pub mod Sections

@@ -18,6 +18,7 @@ use crate::change::change;
 use crate::command::Command;
 use crate::config::Config;
 use crate::lines::lines_in;
+use crate::list::add_settings;
 use crate::name::Name;
 use crate::reader::{read_config, read_to_bar};
 use crate::section::Section;
@@ -160,6 +161,7 @@ fn show<'t>(
         Command::All(name) => add_all(config, name, answers),
         Command::Keys(section) => add_keys(config, section, answers),
         Command::Sections => add_sections(config, answers),
+        Command::Settings(form) => add_settings(config, form, answers),
         Command::Set(_, _) | Command::Add(_, _) | Command::Unset(_) | Command::Write => {
             add_texts(config, answers)?;
             Ok(true)

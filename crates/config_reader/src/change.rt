@@ -35,7 +35,7 @@ pub fn change<'t>(config: &mut Config<'t>, command: Command<'t>) -> Result<(), A
             Ok(())
         }
         Command::Get(_) | Command::All(_) | Command::Keys(_) => Ok(()),
-        Command::Sections | Command::Write => Ok(()),
+        Command::Sections | Command::Settings(_) | Command::Write => Ok(()),
     }
 }
 

@@ -7,7 +7,7 @@ ghost use Rattle.config_reader.specs.Changed.{IsAllowed, IsOfSetting};
 
 use crate::name::Name;
 use crate::section::{NO_SECTION, Section};
-use program_parts::{Fault, bad};
+use program_parts::{Fault, bad, usage};
 use std::io;
 
 /// What is asked of a configuration.
@@ -21,6 +21,8 @@ pub enum Command<'t> {
     Keys(Section<'t>),
     /// The names of all sections.
     Sections,
+    /// All settings.
+    Settings(Form),
     /// The name's first setting gets the value, and its others go.
     Set(Name<'t>, &'t str),
     /// A setting is added at the end of its section.
@@ -29,6 +31,15 @@ pub enum Command<'t> {
     Unset(Name<'t>),
     /// The whole text is written.
     Write,
+}
+
+/// How settings are listed.
+#[derive(Clone, Copy)]
+pub enum Form {
+    /// `NAME=VALUE` on a line.
+    Line,
+    /// The name, a line feed and the value, and a zero byte behind them.
+    Zero,
 }
 
 impl<'t> Command<'t> {
@@ -41,18 +52,32 @@ impl<'t> Command<'t> {
         Command::of_operand(word, operand.trim_start())
     }
 
-    /// The command that the words say.
+    /// The command that the words say, where settings are listed in this form.
     ///
     /// # Errors
     ///
-    /// [`Fault::Usage`] if they say none.
-    pub fn of_words(words: &'t [String]) -> Result<Command<'t>, Fault>
+    /// [`Fault::Usage`] if they say none, or one that lists no settings behind `-z`.
+    pub fn of_words(words: &'t [String], form: Form) -> Result<Command<'t>, Fault>
         ensures allowed { IfOk result IsAllowed }
         ensures bad { IfErr result (λ fault. status_of_fault fault ≡ 2) }
     {
         match Command::parse(words) {
-            Ok(command) => Ok(command),
+            Ok(command) => command.in_form(form),
             Err(error) => Err(Fault::Usage(error)),
+        }
+    }
+
+    /// The command, where settings are listed in this form.
+    fn in_form(self, form: Form) -> Result<Command<'t>, Fault>
+        ensures allowed { IsAllowed self.entry → IfOk result IsAllowed }
+        ensures bad { IfErr result (λ fault. status_of_fault fault ≡ 2) }
+    {
+        if let Command::Settings(_) = self {
+            return Ok(Command::Settings(form));
+        }
+        match form {
+            Form::Line => Ok(self),
+            Form::Zero => Err(usage("-z is for list alone")),
         }
     }
 
@@ -103,6 +128,7 @@ impl<'t> Command<'t> {
             "keys" if operand.is_empty() => Ok(Command::Keys(NO_SECTION)),
             "keys" => Ok(Command::Keys(Section::parse(operand)?)),
             "sections" if operand.is_empty() => Ok(Command::Sections),
+            "list" if operand.is_empty() => Ok(Command::Settings(Form::Line)),
             "write" if operand.is_empty() => Ok(Command::Write),
             _ => Err(no_command(word)),
         }
@@ -118,6 +144,7 @@ fn no_command(word: &str) -> io::Error
         "all" => bad("all takes SECTION.KEY"),
         "keys" => bad("keys takes SECTION or nothing"),
         "sections" => bad("sections takes nothing"),
+        "list" => bad("list takes nothing, and -z stands in front of it"),
         "set" => bad("set takes SECTION.KEY and VALUE"),
         "add" => bad("add takes SECTION.KEY and VALUE"),
         "unset" => bad("unset takes SECTION.KEY"),

@@ -6,6 +6,8 @@
 //! config_reader FILE all SECTION.KEY          each of its values, on a line each
 //! config_reader FILE keys [SECTION]           the keys of the section, each once
 //! config_reader FILE sections                 the names of all sections
+//! config_reader FILE list                     all settings, as SECTION.KEY=VALUE on a line each
+//! config_reader FILE -z list                  the same for programs: SECTION.KEY, a line feed, VALUE, a zero byte
 //! config_reader FILE set SECTION.KEY VALUE    gives the key's first setting this value, removes its others
 //! config_reader FILE add SECTION.KEY VALUE    adds a setting at the end of the section
 //! config_reader FILE unset SECTION.KEY        removes the settings of the key
@@ -31,16 +33,19 @@
 //! behind its dot, with a dot in front of its quotes, or without quotes and with a capital behind its
 //! dot. No name has a line feed.
 //!
+//! `list` writes words and keys in small letters, and values byte for byte, as `git config --list`
+//! does. Of a key alone on its line it writes neither value nor `=`.
+//!
 //! `set`, `add`, `unset` and `write` write the whole text. Lines that aren't touched stay as they are,
 //! with comments and empty lines; a last line without a line feed gets one. `set` of an absent key
 //! adds a setting. Where the section is absent, it is added at the end.
 //!
 //! Without arguments the program reads settings from standard input, up to a line `---`, and then a
-//! question on each line: `get`, `all`, `keys`, `sections` or `write`. Of an absent key `get` writes
-//! `none`.
+//! question on each line: `get`, `all`, `keys`, `sections`, `list` or `write`. Of an absent key `get`
+//! writes `none`.
 //!
-//! The exit status is 0, or 1 where there is nothing of what `get`, `all`, `keys` or `sections` asks
-//! for, 2 where an argument or a line is bad, 3 when out of memory, or 4 where reading or writing
+//! The exit status is 0, or 1 where there is nothing of what `get`, `all`, `keys`, `sections` or `list`
+//! asks for, 2 where an argument or a line is bad, 3 when out of memory, or 4 where reading or writing
 //! failed. Then nothing but a message on standard error is written, unless it is the output that
 //! failed. The map has the default hash builder, whose seed is fixed: for settings that somebody
 //! hostile names it may become slow.
@@ -51,6 +56,7 @@ mod change;
 mod command;
 mod config;
 mod lines;
+mod list;
 mod name;
 mod reader;
 mod section;
@@ -58,7 +64,7 @@ mod setting;
 mod value;
 
 use crate::answer::{add_answer_of_command, add_answers};
-use crate::command::Command;
+use crate::command::{Command, Form};
 use crate::config::Config;
 use ordered_multimap::ListOrderedMultimap;
 use program_parts::{Arguments, Fault, Program, read_input, run_program};
@@ -68,7 +74,7 @@ use std::process::ExitCode;
 const PROGRAM: Program = Program {
     name: "config_reader",
     help: "\
-usage: config_reader FILE COMMAND
+usage: config_reader [-z] FILE COMMAND
        config_reader < SETTINGS_AND_QUESTIONS
 
 Reads and changes settings. FILE has lines [SECTION], [SECTION \"NAME\"] and
@@ -80,6 +86,8 @@ commands:
   all SECTION.KEY          write each of its values
   keys [SECTION]           write the keys of the section
   sections                 write the names of all sections
+  list                     write all settings, SECTION.KEY=VALUE on a line each; with -z
+                           a line feed stands for the =, and a zero byte ends each
   set SECTION.KEY VALUE    give its first setting this value, and remove its others
   add SECTION.KEY VALUE    add a setting at the end of the section
   unset SECTION.KEY        remove all its settings
@@ -90,9 +98,10 @@ stands for [SECTION \"NAME\"]. The exit status is 1 where nothing is found.
 
 examples:
   config_reader .git/config get remote.origin.url
+  config_reader -z .git/config list
   config_reader old.ini set core.editor vim > new.ini
 ",
-    flags: &[],
+    flags: &["-z"],
     valued: &[],
     text: None,
 };
@@ -106,7 +115,12 @@ fn answers_to(rt: &HostRuntime, arguments: &Arguments<'_>) -> Result<Vec<u8>, Fa
     let command = if arguments.are_none {
         None
     } else {
-        Some(Command::of_words(arguments.words)?)
+        let form = if arguments.has("-z") {
+            Form::Zero
+        } else {
+            Form::Line
+        };
+        Some(Command::of_words(arguments.words, form)?)
     };
     let input = read_input(rt, &PROGRAM, arguments)?;
     let config = &mut ListOrderedMultimap::new(rt.alloc());

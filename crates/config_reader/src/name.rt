@@ -2,17 +2,20 @@
 ghost use Rattle.std.specs.IoError.{error_kind};
 ghost use Rattle.std.specs.List.{list_any};
 ghost use Rattle.std.specs.Prelude.{◌≡◌, ◌==◌, ◌∷◌, ◌++◌, [], ℕ, List, not, true, false};
-ghost use Rattle.std.specs.Prelude.{IfErr, IfOk, IsTrue};
+ghost use Rattle.std.specs.Prelude.{IfErr, IfOk, IsTrue, OnOk};
 ghost use Rattle.std.specs.Str.{trim};
+ghost use Rattle.std.specs.String.{string_bytes};
 ghost use Rattle.std.specs.declared.io.ErrorKind.TheVariants.{InvalidData};
 ghost use Rattle.config_reader.specs.Blocks.{IsWritten};
+ghost use Rattle.config_reader.specs.Listed.{listed_name};
 ghost use Rattle.config_reader.specs.Names.{has_no_key, is_key, is_named_section};
 ghost use Rattle.config_reader.specs.Names.{is_outside_key, is_setting_of};
 ghost use Rattle.config_reader.specs.Names.{IsOpenAs, Lacks};
 
-use crate::section::{NO_SECTION, Section};
+use crate::section::{NO_SECTION, Section, add_lowercase};
 use ascii_caseless::AsciiCaseless;
 use program_parts::bad;
+use std::alloc::{AllocError, Global};
 use std::io;
 
 /// The name of a line: its section, and the key of its setting. Lines that are no setting have an
@@ -57,6 +60,18 @@ impl<'t> Name<'t> {
         ensures { result ≡ is_named_section self.now }
     {
         !self.is_setting() && self.section != NO_SECTION
+    }
+
+    /// Adds the name as `list` has it, with the word of the section and the key in small letters.
+    pub fn add_listed(&self, alloc: Global, text: &mut String) -> Result<(), AllocError>
+        ensures { OnOk result (string_bytes text.new ≡ string_bytes text.old
+            ++ listed_name self.now) }
+    {
+        if self.section != NO_SECTION {
+            self.section.add_listed(alloc, text)?;
+            text.push('.')?;
+        }
+        add_lowercase(alloc, self.key.as_str(), text)
     }
 
     /// The name `SECTION.KEY`, or a `KEY` above the first section.

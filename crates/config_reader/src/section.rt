@@ -4,7 +4,7 @@ ghost use Rattle.std.specs.Prelude.{◌≡◌, ◌++◌, [], None, Some, false, 
 ghost use Rattle.std.specs.Prelude.{IfErr, IfOk, OnOk};
 ghost use Rattle.std.specs.Char.{is_ascii_uppercase};
 ghost use Rattle.std.specs.List.{list_any};
-ghost use Rattle.std.specs.Str.{chars};
+ghost use Rattle.std.specs.Str.{chars, str_to_ascii_lowercase};
 ghost use Rattle.std.specs.String.{string_bytes};
 ghost use Rattle.std.specs.declared.io.ErrorKind.TheVariants.{InvalidData};
 ghost use Rattle.config_reader.specs.Blocks.{IsWritten, OpensSection};
@@ -12,12 +12,13 @@ ghost use Rattle.config_reader.specs.Names.{IsCalledBy, IsCalledByDot, IsOpenAs,
 ghost use Rattle.config_reader.specs.Sections.{IsTrimmed, has_capital_behind_dot, is_outside_sub, is_sub, is_word, needs_quotes};
 ghost use Rattle.config_reader.specs.Sections.{of_dotted, of_parts, opened, opened_in_quotes};
 ghost use Rattle.config_reader.specs.Sections.{of_unquoted, opened_without_quotes, spelled};
-ghost use Rattle.config_reader.specs.Written.{in_quotes, section_line, section_name};
+ghost use Rattle.config_reader.specs.Listed.{listed_section};
+ghost use Rattle.config_reader.specs.Written.{behind_dot, in_quotes, section_line, section_name};
 
 use crate::lines::says_nothing;
 use ascii_caseless::AsciiCaseless;
 use program_parts::bad;
-use std::alloc::AllocError;
+use std::alloc::{AllocError, Global};
 use std::io;
 
 /// The name of a section: a word without case, and behind it perhaps a name with case.
@@ -176,11 +177,16 @@ impl<'t> Section<'t> {
             ++ section_name self.now) }
     {
         text.push_str(self.word.as_str())?;
-        if self.sub.is_empty() {
-            return Ok(());
-        }
-        text.push('.')?;
-        text.push_str(self.sub)
+        add_behind_dot(self.sub, text)
+    }
+
+    /// Adds the name as `list` has it, with the word in small letters.
+    pub fn add_listed(&self, alloc: Global, text: &mut String) -> Result<(), AllocError>
+        ensures { OnOk result (string_bytes text.new ≡ string_bytes text.old
+            ++ listed_section self.now) }
+    {
+        add_lowercase(alloc, self.word.as_str(), text)?;
+        add_behind_dot(self.sub, text)
     }
 
     /// Adds the line that opens the section.
@@ -240,6 +246,26 @@ fn is_outside_sub(byte: u8) -> bool
     ensures { result ≡ is_outside_sub byte }
 {
     matches!(byte, b'"' | b'\\' | b'\n')
+}
+
+// Adds the name behind a dot, if there is one.
+fn add_behind_dot(sub: &str, text: &mut String) -> Result<(), AllocError>
+    ensures { OnOk result (string_bytes text.new ≡ string_bytes text.old ++ behind_dot sub.now) }
+{
+    if sub.is_empty() {
+        return Ok(());
+    }
+    text.push('.')?;
+    text.push_str(sub)
+}
+
+/// Adds a word in small letters.
+pub fn add_lowercase(alloc: Global, word: &str, text: &mut String) -> Result<(), AllocError>
+    ensures { OnOk result (string_bytes text.new ≡ string_bytes text.old
+        ++ str_to_ascii_lowercase word.now) }
+{
+    let word = word.to_ascii_lowercase(alloc)?;
+    text.push_str(word.as_str())
 }
 
 // Adds the name between quotes and behind a blank, if there is one.
