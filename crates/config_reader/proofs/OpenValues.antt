@@ -90,18 +90,19 @@ quotes_not_joined b = by (b == 34) (b == 92)
 
 escape_not_joined : (mode : Mode) (b : ℕ) (step : Mode × Effect) → is_joined mode ≡ false → step_in_escape mode b ≡ Some step
     → is_joined step.0 ≡ false
-escape_not_joined mode b step none = by (b == 34 || b == 92) (b == 110) (b == 116)
+escape_not_joined mode b step none = by (b == 34 || b == 92) (b == 110) (b == 116) (b == 98)
   where
     stays : (effect : Effect) → Some (mode, effect) ≡ Some step → is_joined step.0 ≡ false
     stays effect is = ap (λ s. is_joined s.0) (the_step is) ∙ none
 
-    by : (own feed tab : Bool)
-        → (if own then Some (mode, Add b) else if feed then Some (mode, Add 10) else if tab then Some (mode, Add 9) else None) ≡ Some step
-        → is_joined step.0 ≡ false
-    by true feed tab is = stays (Add b) is
-    by false true tab is = stays (Add 10) is
-    by false false true is = stays (Add 9) is
-    by false false false is = no_step is
+    by : (own feed tab back : Bool)
+        → (if own then Some (mode, Add b) else if feed then Some (mode, Add 10) else if tab then Some (mode, Add 9) else
+        if back then Some (mode, Add 8) else None) ≡ Some step → is_joined step.0 ≡ false
+    by true feed tab back is = stays (Add b) is
+    by false true tab back is = stays (Add 10) is
+    by false false true back is = stays (Add 9) is
+    by false false false true is = stays (Add 8) is
+    by false false false false is = no_step is
 
 by_feed : (b : ℕ) (feeds : Mode) (other : Option (Mode × Effect)) (step : Mode × Effect) → (b == 10) ≡ false
     → (other ≡ Some step → is_joined step.0 ≡ false)
@@ -134,7 +135,8 @@ not_joined Gap b step other is = by (is_mark b) is
 not_joined Word b step other is = word_not_joined b step is
 not_joined Joined b step other is = word_not_joined b step is
 not_joined Quotes b step other is = ap (λ s. is_joined s.0) (the_step is) ∙ quotes_not_joined b
-not_joined WordEscape b step other is = no_join b WordJoin Joined None step other refl no_step is
+not_joined WordEscape b step other is = no_join b WordJoin Joined (step_in_escape Word b) step other refl
+    (escape_not_joined Word b step refl) is
 not_joined WordJoin b step other is = by_feed b Joined None step other no_step is
 not_joined QuotesEscape b step other is = no_join b QuotesJoin Quotes (step_in_escape Quotes b) step other refl
     (escape_not_joined Quotes b step refl) is

@@ -132,7 +132,7 @@ join_step b c mode other step small comment later = by (b == c) refl
 
 -- an escape stands for an ASCII byte
 escape_step : (mode : Mode) (b : ℕ) (step : Mode × Effect) → is_comment mode ≡ false → step_in_escape mode b ≡ Some step → IsStep b step
-escape_step mode b step comment = by (b == 34 || b == 92) refl (b == 110) refl (b == 116) refl
+escape_step mode b step comment = by (b == 34 || b == 92) refl (b == 110) refl (b == 116) refl (b == 98) refl
   where
     adds : (c : ℕ) → b < 128 → c < 128 → Some (mode, Add c) ≡ Some step → IsStep b step
     adds c small fits is = subst (IsStep b) (the_step is) (inl (small, fits, λ now. absurd (true≢false (sym now ∙ comment))))
@@ -141,12 +141,14 @@ escape_step mode b step comment = by (b == 34 || b == 92) refl (b == 110) refl (
     either_small is = grind (arith, nat_tests)
 
     by : (own : Bool) → (b == 34 || b == 92) ≡ own → (feed : Bool) → (b == 110) ≡ feed → (tab : Bool) → (b == 116) ≡ tab
-        → (if own then Some (mode, Add b) else if feed then Some (mode, Add 10) else if tab then Some (mode, Add 9) else None) ≡ Some step
-        → IsStep b step
-    by true o feed f tab t is = adds b (either_small o) (either_small o) is
-    by false o true f tab t is = adds 10 (small_of b 110 (omega arith) f) (omega arith) is
-    by false o false f true t is = adds 9 (small_of b 116 (omega arith) t) (omega arith) is
-    by false o false f false t is = no_step is
+        → (back : Bool) → (b == 98) ≡ back
+        → (if own then Some (mode, Add b) else if feed then Some (mode, Add 10) else if tab then Some (mode, Add 9) else
+        if back then Some (mode, Add 8) else None) ≡ Some step → IsStep b step
+    by true o feed f tab t back k is = adds b (either_small o) (either_small o) is
+    by false o true f tab t back k is = adds 10 (small_of b 110 (omega arith) f) (omega arith) is
+    by false o false f true t back k is = adds 9 (small_of b 116 (omega arith) t) (omega arith) is
+    by false o false f false t true k is = adds 8 (small_of b 98 (omega arith) k) (omega arith) is
+    by false o false f false t false k is = no_step is
 
 word_step : (b : ℕ) (step : Mode × Effect) → (if is_mark b then None else Some (step_in_plain b)) ≡ Some step → IsStep b step
 word_step b step = by (is_mark b)
@@ -166,8 +168,8 @@ step_is Word b step none is = word_step b step is
 step_is Joined b step none is = word_step b step is
 step_is Quotes b step none is = subst (IsStep b) (the_step is) (quotes_step b)
 step_is WordEscape b step none is =
-    join_step b 13 WordJoin (if b == 10 then Some (Joined, Skip) else None) step (omega arith) refl
-    (join_step b 10 Joined None step (omega arith) refl no_step) is
+    join_step b 13 WordJoin (if b == 10 then Some (Joined, Skip) else step_in_escape Word b) step (omega arith) refl
+    (join_step b 10 Joined (step_in_escape Word b) step (omega arith) refl (escape_step Word b step refl)) is
 step_is WordJoin b step none is = join_step b 10 Joined None step (omega arith) refl no_step is
 step_is QuotesEscape b step none is =
     join_step b 13 QuotesJoin (if b == 10 then Some (Quotes, Skip) else step_in_escape Quotes b) step (omega arith) refl

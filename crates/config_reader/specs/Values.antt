@@ -37,7 +37,8 @@ abbrev pub step_in_escape : Mode → ℕ → Option (Mode × Effect)
 step_in_escape within b =
     if b == 34 || b == 92 then Some (within, Add b) else
     if b == 110 then Some (within, Add 10) else
-    if b == 116 then Some (within, Add 9) else None
+    if b == 116 then Some (within, Add 9) else
+    if b == 98 then Some (within, Add 8) else None
 
 -- what a byte does, and what the next one belongs to, or none where the byte is at fault
 abbrev pub stepped : Mode → ℕ → Option (Mode × Effect)
@@ -48,7 +49,7 @@ stepped Joined b = if is_mark b then None else Some (step_in_plain b)
 stepped Quotes b = Some (step_in_quotes b)
 stepped WordEscape b =
     if b == 13 then Some (WordJoin, Skip) else
-    if b == 10 then Some (Joined, Skip) else None
+    if b == 10 then Some (Joined, Skip) else step_in_escape Word b
 stepped WordJoin b = if b == 10 then Some (Joined, Skip) else None
 stepped QuotesEscape b =
     if b == 13 then Some (QuotesJoin, Skip) else

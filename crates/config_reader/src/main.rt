@@ -24,14 +24,14 @@
 //!
 //! A value goes to the end of its line, without the blanks around it. A backslash at the end joins
 //! the next line. A comment is `#` or `;` at the start of a line, or with a blank in front of it.
-//! Between quotes blanks, `#` and `;` belong to the value, and `\"`, `\\`, `\n` and `\t` stand for a
-//! quote, a backslash, a line feed and a tab.
+//! Between quotes blanks, `#` and `;` belong to the value. With quotes and without, `\"`, `\\`, `\n`,
+//! `\t` and `\b` stand for a quote, a backslash, a line feed, a tab and a backspace.
 //!
 //! What programs read in several ways is a bad line: a setting that is indented more than the one
-//! above it, `KEY: VALUE`, `#` or `;` within a word, a backslash without quotes or at the end of the
-//! text, any other escape, a quote without an end, and a section with nothing between its quotes or
-//! behind its dot, with a dot in front of its quotes, or without quotes and with a capital behind its
-//! dot. No name has a line feed.
+//! above it, `KEY: VALUE`, `#` or `;` within a word, any other escape, a backslash at the end of the
+//! text, a quote without an end, and a section with nothing between its quotes or behind its dot, with a
+//! dot in front of its quotes, or without quotes and with a capital behind its dot. No name has a line
+//! feed.
 //!
 //! `list` writes words and keys in small letters, and values byte for byte, as `git config --list`
 //! does. Of a key alone on its line it writes neither value nor `=`.

@@ -2,8 +2,8 @@
 //!
 //! A value goes to the end of its line. A backslash at the end joins the next line. Blanks around it
 //! count for nothing, and neither does a comment: `#` or `;` with a blank in front, and all behind.
-//! Between quotes blanks, `#` and `;` belong to the value, and `\"`, `\\`, `\n` and `\t` stand for a
-//! quote, a backslash, a line feed and a tab.
+//! Between quotes blanks, `#` and `;` belong to the value. There and elsewhere `\"`, `\\`, `\n`, `\t`
+//! and `\b` stand for a quote, a backslash, a line feed, a tab and a backspace.
 ghost use Rattle.std.specs.IoError.{error_kind};
 ghost use Rattle.std.specs.Prelude.{◌≡◌, ◌==◌, ◌&&◌, ◌<◌, ◌∷◌, ◌++◌, [], ℕ, List, None, Some};
 ghost use Rattle.std.specs.Prelude.{length, IfErr, IfNone, IfOk, IfSome, IsUtf8, OnOk};
@@ -23,8 +23,7 @@ use std::io;
 ///
 /// # Errors
 ///
-/// What other readers take in several ways: a quote without an end, any other backslash, and `#` or
-/// `;` within a word.
+/// A quote without an end, any other backslash, and `#` or `;` within a word.
 pub fn read_value(alloc: Global, text: &[u8]) -> io::Result<(String, &[u8])>
     ensures value { IfOk result (λ r. value_read text.now ≡ Some (string_bytes r.0, r.1.now)) }
     ensures bad { IfErr result (λ error. error_kind error ≡ InvalidData
@@ -191,7 +190,8 @@ fn step(mode: Mode, byte: u8) -> io::Result<(Mode, Effect)>
         Mode::Quotes => Ok(step_in_quotes(byte)),
         Mode::WordEscape if byte == b'\r' => Ok((Mode::WordJoin, Effect::Skip)),
         Mode::WordEscape | Mode::WordJoin if byte == b'\n' => Ok((Mode::Joined, Effect::Skip)),
-        Mode::WordEscape | Mode::WordJoin => Err(bad("a backslash without quotes")),
+        Mode::WordEscape => step_in_escape(Mode::Word, byte),
+        Mode::WordJoin => Err(bad("unknown escape")),
         Mode::QuotesEscape if byte == b'\r' => Ok((Mode::QuotesJoin, Effect::Skip)),
         Mode::QuotesEscape if byte == b'\n' => Ok((Mode::Quotes, Effect::Skip)),
         Mode::QuotesEscape => step_in_escape(Mode::Quotes, byte),
@@ -228,7 +228,7 @@ fn step_in_quotes(byte: u8) -> (Mode, Effect)
     }
 }
 
-/// The step behind a backslash, where the bytes in front of it and behind it belong to `within`.
+/// The step behind a backslash, which stands in a word or in quotes.
 fn step_in_escape(within: Mode, byte: u8) -> io::Result<(Mode, Effect)>
     ensures step { IfOk result (λ step. step_in_escape within byte ≡ Some step) }
     ensures bad { IfErr result (λ error. step_in_escape within byte ≡ None) }
@@ -238,6 +238,7 @@ fn step_in_escape(within: Mode, byte: u8) -> io::Result<(Mode, Effect)>
         b'"' | b'\\' => Ok((within, Effect::Add(byte))),
         b'n' => Ok((within, Effect::Add(b'\n'))),
         b't' => Ok((within, Effect::Add(b'\t'))),
+        b'b' => Ok((within, Effect::Add(8))),
         _ => Err(bad("unknown escape")),
     }
 }
