@@ -38,7 +38,9 @@
 //!
 //! `set`, `add`, `unset` and `write` write the whole text. Lines that aren't touched stay as they are,
 //! with comments and empty lines; a last line without a line feed gets one. `set` of an absent key
-//! adds a setting. Where the section is absent, it is added at the end.
+//! adds a setting. Where the section is absent, it is added at the end. With `--in-place` the text goes
+//! into the file and not to standard output, by a file beside it that is renamed once its data is on
+//! disk.
 //!
 //! Without arguments the program reads settings from standard input, up to a line `---`, and then a
 //! question on each line: `get`, `all`, `keys`, `sections`, `list` or `write`. Of an absent key `get`
@@ -67,14 +69,14 @@ use crate::answer::{add_answer_of_command, add_answers};
 use crate::command::{Command, Form};
 use crate::config::Config;
 use ordered_multimap::ListOrderedMultimap;
-use program_parts::{Arguments, Fault, Program, read_input, run_program};
+use program_parts::{Arguments, Fault, IN_PLACE, Program, read_input, run_program};
 use std::alloc::Global;
 use std::process::ExitCode;
 
 const PROGRAM: Program = Program {
     name: "config_reader",
     help: "\
-usage: config_reader [-z] FILE COMMAND
+usage: config_reader [--in-place | -z] FILE COMMAND
        config_reader < SETTINGS_AND_QUESTIONS
 
 Reads and changes settings. FILE has lines [SECTION], [SECTION \"NAME\"] and
@@ -96,12 +98,15 @@ commands:
 The last four write the whole text, and leave other lines as they are. SECTION.NAME
 stands for [SECTION \"NAME\"]. The exit status is 1 where nothing is found.
 
+  -i, --in-place           write the text into FILE, and not to standard output;
+                           > FILE would empty it before it is read
+
 examples:
   config_reader .git/config get remote.origin.url
   config_reader -z .git/config list
-  config_reader old.ini set core.editor vim > new.ini
+  config_reader -i .git/config set core.editor vim
 ",
-    flags: &["-z"],
+    flags: &[IN_PLACE, "-z"],
     valued: &[],
     text: None,
 };
@@ -120,7 +125,9 @@ fn answers_to(rt: &HostRuntime, arguments: &Arguments<'_>) -> Result<Vec<u8>, Fa
         } else {
             Form::Line
         };
-        Some(Command::of_words(arguments.words, form)?)
+        let command = Command::of_words(arguments.words, form)?;
+        arguments.is_in_place(command.writes_text())?;
+        Some(command)
     };
     let input = read_input(rt, &PROGRAM, arguments)?;
     let config = &mut ListOrderedMultimap::new(rt.alloc());
