@@ -51,6 +51,9 @@ GOOD = [
     # Around the word and the key they count for nothing.
     ("[a]\nk = 1\n", ["get", " a . k "], "1\n"),
     ("[a]\nk = 1\n", ["keys", " a "], "k\n"),
+    # A form feed is no blank. Other readers strip it, so it is written between quotes.
+    ("[a]\nk = \fb\f \n", ["get", "a.k"], "\fb\f\n"),
+    ("", ["add", "a.k", "b\f"], '[a]\n\tk = "b\f"\n'),
     # A byte order mark stays where the whole text is written.
     ("\ufeff[a]\nk = 1\n", ["get", "a.k"], "1\n"),
     ("\ufeff[a]\nk = 1\n", ["write"], "\ufeff[a]\nk = 1\n"),

@@ -10,9 +10,9 @@ use Rattle.config_reader.specs.declared.value.Mode.TheVariants.{Comment, Gap, Wo
 use Rattle.config_reader.specs.declared.value.Mode.TheVariants.{WordJoin, Quotes, QuotesEscape}
 use Rattle.config_reader.specs.declared.value.Mode.TheVariants.{Joined, QuotesJoin}
 
--- a space, a tab, a line feed, a form feed or a carriage return
+-- a space, a tab, a line feed or a carriage return
 abbrev pub is_blank : ℕ → Bool
-is_blank b = b == 32 || b == 9 || b == 10 || b == 12 || b == 13
+is_blank b = b == 32 || b == 9 || b == 10 || b == 13
 
 -- a `#` or a `;`
 abbrev pub is_mark : ℕ → Bool
@@ -98,9 +98,10 @@ read_on mode value gap (b ∷ rest) =
 abbrev pub value_read : List ℕ → Option (List ℕ × List ℕ)
 value_read text = read_on Gap [] [] text
 
--- whether a byte has a meaning of its own outside of quotes, or is a blank other than a space
+-- whether a byte has a meaning of its own outside of quotes, or is a blank other than a space; to
+-- some readers a form feed is a blank
 abbrev pub is_special : ℕ → Bool
-is_special b = b == 34 || b == 92 || is_mark b || is_blank b && not (b == 32)
+is_special b = b == 34 || b == 92 || is_mark b || b == 12 || is_blank b && not (b == 32)
 
 -- whether the first byte is a space, and whether the last one is
 abbrev pub begins_blank : List ℕ → Bool

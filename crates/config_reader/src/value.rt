@@ -213,7 +213,7 @@ fn step_in_plain(byte: u8) -> (Mode, Effect)
     match byte {
         b'"' => (Mode::Quotes, Effect::Keep),
         b'\\' => (Mode::WordEscape, Effect::Keep),
-        _ if byte.is_ascii_whitespace() => (Mode::Gap, Effect::Blank),
+        b' ' | b'\t' | b'\n' | b'\r' => (Mode::Gap, Effect::Blank),
         _ => (Mode::Word, Effect::Add(byte)),
     }
 }
@@ -296,5 +296,5 @@ fn is_plain(value: &str) -> bool
 fn is_special(byte: u8) -> bool
     ensures { result ≡ is_special byte }
 {
-    matches!(byte, b'"' | b'\\' | b'#' | b';') || byte != b' ' && byte.is_ascii_whitespace()
+    is_mark(byte) || matches!(byte, b'"' | b'\\' | b'\t' | b'\n' | b'\r' | 12)
 }
