@@ -51,6 +51,10 @@ GOOD = [
     # Around the word and the key they count for nothing.
     ("[a]\nk = 1\n", ["get", " a . k "], "1\n"),
     ("[a]\nk = 1\n", ["keys", " a "], "k\n"),
+    # A key that git doesn't allow is read, and taken out.
+    ("[a]\nline_width = 1\nk-2 = 3\n", ["get", "a.line_width"], "1\n"),
+    ("[a]\nline_width = 1\nk-2 = 3\n", ["unset", "a.line_width"], "[a]\nk-2 = 3\n"),
+    ("[a]\nk-2 = 3\n", ["add", "a.K-2", "4"], "[a]\nk-2 = 3\nK-2 = 4\n"),
     # A form feed is no blank. Other readers strip it, so it is written between quotes.
     ("[a]\nk = \fb\f \n", ["get", "a.k"], "\fb\f\n"),
     ("", ["add", "a.k", "b\f"], '[a]\n\tk = "b\f"\n'),
@@ -109,6 +113,10 @@ BAD = [
     ("[a.B]\nk = 1\n", ["write"], "file: line 1: capital behind the dot of a section; put the name between quotes"),
     ('[a.b "c"]\nk = 1\n', ["write"], "file: line 1: not the name of a section"),
     ("", ["add", 'a.b "c".k', "1"], "not the name of a section; see config_reader --help"),
+    # git could not read the file.
+    ("", ["set", "a.line_width", "3"], "git has keys of letters, digits and -, with a letter first; see config_reader --help"),
+    ("", ["add", "a.1st", "3"], "git has keys of letters, digits and -, with a letter first; see config_reader --help"),
+    ("[a]\nk\u00e4 = 1\n", ["set", "a.k\u00e4", "3"], "git has keys of letters, digits and -, with a letter first; see config_reader --help"),
     # A command with too few words or too many.
     ("", ["get"], "get takes SECTION.KEY; see config_reader --help"),
     ("", ["all"], "all takes SECTION.KEY; see config_reader --help"),

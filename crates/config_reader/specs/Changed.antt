@@ -21,7 +21,7 @@ use Rattle.config_reader.specs.declared.section.Section.{Section}
 use Rattle.config_reader.specs.Blocks.{AreSetting, IsBlank, IsConfig, IsWritten}
 use Rattle.config_reader.specs.Blocks.{settings_rank}
 use Rattle.config_reader.specs.Lines.{first_line, lined}
-use Rattle.config_reader.specs.Names.{has_no_key, is_key, is_no_section, same_name}
+use Rattle.config_reader.specs.Names.{has_no_key, is_git_key, is_key, is_no_section, same_name}
 use Rattle.config_reader.specs.Said.{indent_of, settings_of, text_says}
 use Rattle.config_reader.specs.Values.{written}
 use Rattle.config_reader.specs.Written.{line_of, section_line, texts_of}
@@ -140,6 +140,12 @@ IsAllowed (Set name value) = IsOfSetting name
 IsAllowed (Add name value) = IsOfSetting name
 IsAllowed (Unset name) = IsOfSetting name
 IsAllowed _ = Unit {0}
+
+-- git allows the key that a command writes
+abbrev pub WritesGitKey : Command → Type 0
+WritesGitKey (Set name value) = is_git_key name.key.0.now ≡ true
+WritesGitKey (Add name value) = is_git_key name.key.0.now ≡ true
+WritesGitKey _ = Unit {0}
 
 -- such a command leaves lines that are read as what they stand for
 abbrev pub KeepsConfig : Command → Lists Name Lines → Lists Name Lines → Type 0

@@ -1,5 +1,5 @@
 -- When two names are the same, and what they name.
-use Rattle.std.specs.Char.{is_whitespace}
+use Rattle.std.specs.Char.{is_ascii_alphabetic, is_ascii_alphanumeric, is_whitespace}
 use Rattle.std.specs.List.{list_any}
 use Rattle.std.specs.Prelude.{◌≡◌, ℕ, ◌==◌, Bool, true, false, not, ◌&&◌, ◌||◌, List, [], ◌∷◌, ◌++◌}
 use Rattle.std.specs.Str.{bytes_eq, chars, str_eq_ignore_ascii_case, trim, trim_end}
@@ -45,6 +45,14 @@ is_outside_key c =
 -- whether a setting can have this key
 abbrev pub is_key : List ℕ → Bool
 is_key text = has_items text && not (list_any is_outside_key (chars text))
+
+-- git allows keys of letters, digits and `-` that begin with a letter
+abbrev pub is_outside_git : ℕ → Bool
+is_outside_git b = not (is_ascii_alphanumeric b || b == 45)
+
+abbrev pub is_git_key : List ℕ → Bool
+is_git_key [] = false
+is_git_key (b ∷ bytes) = is_ascii_alphabetic b && not (list_any is_outside_git bytes)
 
 -- the byte stands nowhere in the text
 abbrev pub Lacks : ℕ → List ℕ → Type 0

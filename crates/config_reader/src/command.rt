@@ -3,7 +3,7 @@ ghost use Rattle.std.specs.IoError.{error_kind};
 ghost use Rattle.std.specs.Prelude.{◌≡◌, IfErr, IfOk};
 ghost use Rattle.std.specs.declared.io.ErrorKind.TheVariants.{InvalidData};
 ghost use Rattle.program_parts.specs.Statuses.{status_of_fault};
-ghost use Rattle.config_reader.specs.Changed.{IsAllowed, IsOfSetting};
+ghost use Rattle.config_reader.specs.Changed.{IsAllowed, IsOfSetting, WritesGitKey};
 
 use crate::name::Name;
 use crate::section::{NO_SECTION, Section};
@@ -59,6 +59,7 @@ impl<'t> Command<'t> {
     /// [`Fault::Usage`] if they say none, or one that lists no settings behind `-z`.
     pub fn of_words(words: &'t [String], form: Form) -> Result<Command<'t>, Fault>
         ensures allowed { IfOk result IsAllowed }
+        ensures git_key { IfOk result WritesGitKey }
         ensures bad { IfErr result (λ fault. status_of_fault fault ≡ 2) }
     {
         match Command::parse(words) {
@@ -70,6 +71,7 @@ impl<'t> Command<'t> {
     /// The command, where settings are listed in this form.
     fn in_form(self, form: Form) -> Result<Command<'t>, Fault>
         ensures allowed { IsAllowed self.entry → IfOk result IsAllowed }
+        ensures git_key { WritesGitKey self.entry → IfOk result WritesGitKey }
         ensures bad { IfErr result (λ fault. status_of_fault fault ≡ 2) }
     {
         if let Command::Settings(_) = self {
@@ -91,6 +93,7 @@ impl<'t> Command<'t> {
 
     fn parse(words: &'t [String]) -> io::Result<Command<'t>>
         ensures allowed { IfOk result IsAllowed }
+        ensures git_key { IfOk result WritesGitKey }
         ensures bad { IfErr result (λ error. error_kind error ≡ InvalidData) }
     {
         match words {
@@ -109,17 +112,19 @@ impl<'t> Command<'t> {
 
     fn of_pair(word: &str, name: Name<'t>, value: &'t str) -> io::Result<Command<'t>>
         ensures allowed { IsOfSetting name.entry → IfOk result IsAllowed }
+        ensures git_key { IfOk result WritesGitKey }
         ensures bad { IfErr result (λ error. error_kind error ≡ InvalidData) }
     {
         match word {
-            "set" => Ok(Command::Set(name, value)),
-            "add" => Ok(Command::Add(name, value)),
+            "set" => Ok(Command::Set(name.for_git()?, value)),
+            "add" => Ok(Command::Add(name.for_git()?, value)),
             _ => Err(no_command(word)),
         }
     }
 
     fn of_operand(word: &str, operand: &'t str) -> io::Result<Command<'t>>
         ensures allowed { IfOk result IsAllowed }
+        ensures git_key { IfOk result WritesGitKey }
         ensures bad { IfErr result (λ error. error_kind error ≡ InvalidData) }
     {
         match word {

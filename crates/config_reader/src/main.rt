@@ -38,9 +38,10 @@
 //!
 //! `set`, `add`, `unset` and `write` write the whole text. Lines that aren't touched stay as they are,
 //! with comments and empty lines; a last line without a line feed gets one. `set` of an absent key
-//! adds a setting. Where the section is absent, it is added at the end. With `--in-place` the text goes
-//! into the file and not to standard output, by a file beside it that is renamed once its data is on
-//! disk.
+//! adds a setting. Where the section is absent, it is added at the end. Neither `set` nor `add` writes
+//! a key that git doesn't allow: git has letters, digits and `-`, and a letter first. With `--in-place`
+//! the text goes into the file and not to standard output, by a file beside it that is renamed once its
+//! data is on disk.
 //!
 //! Without arguments the program reads settings from standard input, up to a line `---`, and then a
 //! question on each line: `get`, `all`, `keys`, `sections`, `list` or `write`. Of an absent key `get`

@@ -9,7 +9,7 @@ ghost use Rattle.std.specs.declared.io.ErrorKind.TheVariants.{InvalidData};
 ghost use Rattle.config_reader.specs.Blocks.{IsWritten};
 ghost use Rattle.config_reader.specs.Listed.{listed_name};
 ghost use Rattle.config_reader.specs.Names.{has_no_key, is_key, is_named_section};
-ghost use Rattle.config_reader.specs.Names.{is_outside_key, is_setting_of};
+ghost use Rattle.config_reader.specs.Names.{is_git_key, is_outside_git, is_outside_key, is_setting_of};
 ghost use Rattle.config_reader.specs.Names.{IsOpenAs, Lacks};
 
 use crate::section::{NO_SECTION, Section, add_lowercase};
@@ -74,6 +74,23 @@ impl<'t> Name<'t> {
         add_lowercase(alloc, self.key.as_str(), text)
     }
 
+    /// The name, for a command that writes its key.
+    ///
+    /// # Errors
+    ///
+    /// A key that git doesn't allow, which would make the file one that git can't read.
+    pub fn for_git(self) -> io::Result<Name<'t>>
+        ensures same { IfOk result (λ name. name ≡ self.entry) }
+        ensures git_key { IfOk result (λ name. is_git_key name.key.0.now ≡ true) }
+        ensures refused { IfErr result (λ _. is_git_key self.entry.key.0.now ≡ false) }
+        ensures bad { IfErr result (λ error. error_kind error ≡ InvalidData) }
+    {
+        if !is_git_key(self.key.as_str()) {
+            return Err(bad("git has keys of letters, digits and -, with a letter first"));
+        }
+        Ok(self)
+    }
+
     /// The name `SECTION.KEY`, or a `KEY` above the first section.
     pub fn parse(text: &'t str) -> io::Result<Name<'t>>
         ensures key { IfOk result (λ name. is_key name.key.0.now ≡ true) }
@@ -119,6 +136,29 @@ pub fn is_key(text: &str) -> bool
         return false;
     }
     !text.chars().any(|character| is_outside_key(character))
+}
+
+// Whether git allows the key.
+fn is_git_key(text: &str) -> bool
+    ensures { result ≡ is_git_key text.now }
+{
+    match text.as_bytes().split_first() {
+        Some((first, behind)) => first.is_ascii_alphabetic() && is_of_git(behind),
+        None => false,
+    }
+}
+
+fn is_of_git(text: &[u8]) -> bool
+    ensures { result ≡ not (list_any is_outside_git text.now) }
+{
+    !text.iter().any(|byte| is_outside_git(*byte))
+}
+
+// Whether git allows no such byte in a key.
+fn is_outside_git(byte: u8) -> bool
+    ensures { result ≡ is_outside_git byte }
+{
+    !(byte.is_ascii_alphanumeric() || byte == b'-')
 }
 
 // Whether no key has the character.
