@@ -27,11 +27,8 @@
 //! Between quotes blanks, `#` and `;` belong to the value. With quotes and without, `\"`, `\\`, `\n`,
 //! `\t` and `\b` stand for a quote, a backslash, a line feed, a tab and a backspace.
 //!
-//! What programs read in several ways is a bad line: a setting that is indented more than the one
-//! above it, `KEY: VALUE`, `#` or `;` within a word, any other escape, a backslash at the end of the
-//! text, a quote without an end, and a section with nothing between its quotes or behind its dot, with a
-//! dot in front of its quotes, or without quotes and with a capital behind its dot. No name has a line
-//! feed.
+//! What git and others read in two ways is a bad line. docs/TOOLS.md lists which lines are bad, and why.
+//! No name has a line feed.
 //!
 //! `list` writes words and keys in small letters, and values byte for byte, as `git config --list`
 //! does. Of a key alone on its line it writes neither value nor `=`.
