@@ -51,6 +51,9 @@ GOOD = [
     # Around the word and the key they count for nothing.
     ("[a]\nk = 1\n", ["get", " a . k "], "1\n"),
     ("[a]\nk = 1\n", ["keys", " a "], "k\n"),
+    # Blanks between the word and the quotes.
+    ('[a\t"x"]\nk = 1\n', ["get", "a.x.k"], "1\n"),
+    ('[a \t "x"]\nk = 1\n', ["get", "a.x.k"], "1\n"),
     # A key that git doesn't allow is read, and taken out.
     ("[a]\nline_width = 1\nk-2 = 3\n", ["get", "a.line_width"], "1\n"),
     ("[a]\nline_width = 1\nk-2 = 3\n", ["unset", "a.line_width"], "[a]\nk-2 = 3\n"),
@@ -113,6 +116,16 @@ BAD = [
     ("[a.B]\nk = 1\n", ["write"], "file: line 1: capital behind the dot of a section; put the name between quotes"),
     ('[a.b "c"]\nk = 1\n', ["write"], "file: line 1: not the name of a section"),
     ("", ["add", 'a.b "c".k', "1"], "not the name of a section; see config_reader --help"),
+    # git refuses blanks in the name of a section and around it, but for those in front of the quotes.
+    ("[ a]\n", ["write"], "file: line 1: not the name of a section"),
+    ("[a ]\n", ["write"], "file: line 1: not the name of a section"),
+    ("[a b]\n", ["write"], "file: line 1: not the name of a section"),
+    ("[a. b]\n", ["write"], "file: line 1: not the name of a section"),
+    ("[a.b[c]\n", ["write"], "file: line 1: not the name of a section"),
+    ('[a"x"]\n', ["write"], "file: line 1: not the name of a section"),
+    ('[ a "x"]\n', ["write"], "file: line 1: not the name of a section"),
+    ('[a b "x"]\n', ["write"], "file: line 1: not the name of a section"),
+    ("", ["set", "a b.k", "1"], "not the name of a section; see config_reader --help"),
     # git could not read the file.
     ("", ["set", "a.line_width", "3"], "git has keys of letters, digits and -, with a letter first; see config_reader --help"),
     ("", ["add", "a.1st", "3"], "git has keys of letters, digits and -, with a letter first; see config_reader --help"),

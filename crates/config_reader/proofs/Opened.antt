@@ -1,8 +1,9 @@
 -- The line of a section that is written opens that section.
-use Rattle.std.proofs.Common.{◌≡◌, ◌⊎◌, ℕ, ◌==◌, ◌&&◌, ◌||◌, ◌<◌, ◌≤◌, Bool, true, false, not, cond, List, [], ◌∷◌, ◌++◌}
+use Rattle.std.proofs.Common.{◌≡◌, ◌⊎◌, ℕ, ◌==◌, ◌&&◌, ◌<◌, ◌≤◌, Bool, true, false, not, cond, List, [], ◌∷◌, ◌++◌}
 use Rattle.std.proofs.Common.{append_assoc, append-nil, refl, sym, ap, subst, ◌∙◌, arith, length, drop, take, Some, inl, inr}
 use Rattle.std.proofs.lemmas.Bool.{and_parts, not-true, true≢false}
-use Rattle.std.proofs.lemmas.Str.{IsUtf8-append, chars-append, chars-encodes, chars_from_encodes, encode_ascii, encodes-chars, scalars-chars}
+use Rattle.std.proofs.lemmas.Str.{IsUtf8-append, chars-append, chars-encodes, chars_from_encodes, encode_ascii, encodes-chars}
+use Rattle.std.proofs.lemmas.Str.{scalars-chars}
 use Rattle.std.proofs.Math.Utf8.{scalar, scalars}
 use Rattle.std.specs.Char.{encode_utf8, is_whitespace}
 use Rattle.std.specs.List.{list_any}
@@ -13,11 +14,13 @@ use Rattle.config_reader.specs.Blocks.{OpensSection}
 use Rattle.config_reader.specs.Lines.{begins_nothing, says_nothing}
 use Rattle.config_reader.specs.Names.{Lacks}
 use Rattle.config_reader.specs.Said.{item_at}
-use Rattle.config_reader.specs.Sections.{IsTrimmed, is_outside_sub, is_outside_word, is_sub, is_word, needs_quotes, opened}
+use Rattle.config_reader.specs.Sections.{IsTrimmed, is_outside_sub, is_outside_unquoted, is_outside_word, is_sub, is_word}
+use Rattle.config_reader.specs.Sections.{opened}
 use Rattle.config_reader.specs.Written.{in_quotes}
 use Rattle.config_reader.proofs.Blocks.{opening_line}
 use Rattle.config_reader.proofs.Called.{has_it}
 use Rattle.config_reader.proofs.Cuts.{no_place, none_after}
+use Rattle.config_reader.proofs.Sections.{sub_parts, unquoted_parts, word_front, word_parts}
 use Rattle.config_reader.proofs.Spelled.{first_stays, lacks_both}
 use Rattle.config_reader.proofs.Stable.{after_cut, before_cut}
 use Rattle.config_reader.proofs.Texts.{utf8_before}
@@ -34,12 +37,14 @@ dropped_again (c ∷ cs) = by (is_whitespace c && length (drop_trailing_whitespa
     by true is again = refl
     by false is again = rw (again, is) refl
 
-skipped_again : (cs : List ℕ) → skip_leading_whitespace (drop_trailing_whitespace (skip_leading_whitespace cs)) ≡ drop_trailing_whitespace (skip_leading_whitespace cs)
+skipped_again : (cs : List ℕ) → skip_leading_whitespace (drop_trailing_whitespace (skip_leading_whitespace cs)) ≡ drop_trailing_whitespace
+    (skip_leading_whitespace cs)
 skipped_again [] = refl
 skipped_again (c ∷ cs) = by (is_whitespace c) refl (skipped_again cs)
   where
     by : (white : Bool) → is_whitespace c ≡ white
-        → skip_leading_whitespace (drop_trailing_whitespace (skip_leading_whitespace cs)) ≡ drop_trailing_whitespace (skip_leading_whitespace cs)
+        → skip_leading_whitespace (drop_trailing_whitespace (skip_leading_whitespace cs)) ≡ drop_trailing_whitespace
+        (skip_leading_whitespace cs)
         → skip_leading_whitespace (drop_trailing_whitespace (cond white (skip_leading_whitespace cs) (c ∷ cs)))
         ≡ drop_trailing_whitespace (cond white (skip_leading_whitespace cs) (c ∷ cs))
     by true is again = again
@@ -93,7 +98,8 @@ skipped_short : (cs : List ℕ) → length (skip_leading_whitespace cs) ≤ leng
 skipped_short [] = omega arith
 skipped_short (c ∷ cs) = by (is_whitespace c) (skipped_short cs)
   where
-    by : (white : Bool) → length (skip_leading_whitespace cs) ≤ length cs → length (cond white (skip_leading_whitespace cs) (c ∷ cs)) ≤ length (c ∷ cs)
+    by : (white : Bool) → length (skip_leading_whitespace cs) ≤ length cs
+        → length (cond white (skip_leading_whitespace cs) (c ∷ cs)) ≤ length (c ∷ cs)
     by true short = omega (arith, short)
     by false short = omega arith
 
@@ -139,19 +145,6 @@ any_less p q (b ∷ text) less none =
     let both = or_false (q b) (list_any q text) none in
     rw (less b both.0) (any_less p q text less both.1)
 
--- the parts of a test that none passes
-module _ (b : ℕ) where
-  sub_parts : is_outside_sub b ≡ false → ((b == 34) ≡ false) × ((b == 92) ≡ false) × ((b == 10) ≡ false)
-  sub_parts none =
-      let first = or_false (b == 34 || b == 92) (b == 10) none in
-      let second = or_false (b == 34) (b == 92) first.0 in
-      (second.0, second.1, first.1)
-
-  word_parts : is_outside_word b ≡ false → (is_outside_sub b ≡ false) × ((b == 93) ≡ false)
-  word_parts none =
-      let both = or_false (is_outside_sub b) (needs_quotes b) none in
-      (both.0, (or_false (b == 46 || b == 91) (b == 93) both.1).1)
-
 -- a text that isn't empty, and has nothing that is outside
 module _ (outside : ℕ → Bool) (text : List ℕ) (allowed : (has_items text && not (list_any outside text)) ≡ true) where
   parts : (has_items text ≡ true) × (list_any outside text ≡ false)
@@ -189,7 +182,7 @@ module _ (word : List ℕ) (utf8 : IsUtf8 word) (is : IsTrimmed (chars word)) (a
         after_cut 93 word [] no_bracket,
         before_cut 93 word [] no_bracket,
         nothing,
-        same,
+        any_less is_outside_unquoted is_outside_word word unquoted_parts (parts is_outside_word word allowed).1,
         none_after 46 word (no_place 46 word no_dot),
         no_dot,
         same,
@@ -214,6 +207,7 @@ module _ (word : List ℕ) (utf8 : IsUtf8 word) (is : IsTrimmed (chars word)) (a
           after_cut 34 sub (93 ∷ []) sub_quote,
           before_cut 34 sub (93 ∷ []) sub_quote,
           nothing,
+          word_front word (parts is_outside_word word allowed).0 (parts is_outside_word word allowed).1,
           blank_trimmed word utf8 is (parts is_outside_word word allowed).0,
           allowed,
           sub_is,
@@ -255,7 +249,8 @@ line_opens inside inner utf8 lacks opens = record {
 }
 
 -- the line that is written for a section
-module _ (word sub : List ℕ) (utf8 : IsUtf8 word) (sub_utf8 : IsUtf8 sub) (is : IsTrimmed (chars word)) (allowed : is_word word ≡ true) where
+module _ (word sub : List ℕ) (utf8 : IsUtf8 word) (sub_utf8 : IsUtf8 sub) (is : IsTrimmed (chars word))
+    (allowed : is_word word ≡ true) where
   word_line : Lacks 46 word → OpensSection (codes "[" ++ word ++ [] ++ codes "]\n") (word, [])
   unfolding encode_utf8
   word_line no_dot =
@@ -264,7 +259,8 @@ module _ (word sub : List ℕ) (utf8 : IsUtf8 word) (sub_utf8 : IsUtf8 sub) (is 
       (line_opens (word ++ 93 ∷ []) (word, []) (IsUtf8-append word (93 ∷ []) utf8 (93 ∷ [], (refl, refl)))
       (lacks_both 10 word (93 ∷ []) (no_feed word utf8 is allowed) refl) (alone_opens word utf8 is allowed no_dot))
 
-  quoted_line : (sub : List ℕ) → IsUtf8 sub → is_sub sub ≡ true → OpensSection (codes "[" ++ word ++ (codes " \"" ++ sub ++ codes "\"") ++ codes "]\n") (word, sub)
+  quoted_line : (sub : List ℕ) → IsUtf8 sub → is_sub sub ≡ true
+      → OpensSection (codes "[" ++ word ++ (codes " \"" ++ sub ++ codes "\"") ++ codes "]\n") (word, sub)
   unfolding encode_utf8
   quoted_line sub sub_utf8 sub_is =
       let quoted : List ℕ = 34 ∷ (sub ++ 34 ∷ 93 ∷ []) in
@@ -275,16 +271,20 @@ module _ (word sub : List ℕ) (utf8 : IsUtf8 word) (sub_utf8 : IsUtf8 sub) (is 
       ∙ ap (λ t. word ++ 32 ∷ 34 ∷ t) (append_assoc sub (34 ∷ 93 ∷ []) (10 ∷ []) ∙ sym (append_assoc sub (34 ∷ []) (93 ∷ 10 ∷ [])))
       ∙ sym (append_assoc word (32 ∷ 34 ∷ (sub ++ 34 ∷ [])) (93 ∷ 10 ∷ [])) in
       let quoted_utf8 : IsUtf8 quoted =
-      IsUtf8-append (34 ∷ []) (sub ++ 34 ∷ 93 ∷ []) (34 ∷ [], (refl, refl)) (IsUtf8-append sub (34 ∷ 93 ∷ []) sub_utf8 (34 ∷ 93 ∷ [], (refl, refl))) in
+      IsUtf8-append (34 ∷ []) (sub ++ 34 ∷ 93 ∷ []) (34 ∷ [], (refl, refl))
+      (IsUtf8-append sub (34 ∷ 93 ∷ []) sub_utf8 (34 ∷ 93 ∷ [], (refl, refl))) in
       let sub_feed : Lacks 10 sub = sub_lacks word utf8 is allowed sub sub_is 10 (λ c none. (sub_parts c none).2) in
       subst (λ t. OpensSection (91 ∷ t) (word, sub)) all
       (line_opens ((word ++ 32 ∷ []) ++ quoted) (word, sub)
       (IsUtf8-append (word ++ 32 ∷ []) quoted (IsUtf8-append word (32 ∷ []) utf8 (32 ∷ [], (refl, refl))) quoted_utf8)
-      (lacks_both 10 (word ++ 32 ∷ []) quoted (lacks_both 10 word (32 ∷ []) (no_feed word utf8 is allowed) refl) (lacks_both 10 sub (34 ∷ 93 ∷ []) sub_feed refl))
+      (lacks_both 10 (word ++ 32 ∷ []) quoted (lacks_both 10 word (32 ∷ []) (no_feed word utf8 is allowed) refl)
+      (lacks_both 10 sub (34 ∷ 93 ∷ []) sub_feed refl))
       (quoted_opens word utf8 is allowed sub sub_is))
 
-  pub section_opens : ((sub ≡ []) × Lacks 46 word) ⊎ (is_sub sub ≡ true) → OpensSection (codes "[" ++ word ++ in_quotes sub ++ codes "]\n") (word, sub)
-  section_opens (inl none) = subst (λ s. OpensSection (codes "[" ++ word ++ in_quotes s ++ codes "]\n") (word, s)) (sym none.0) (word_line none.1)
+  pub section_opens : ((sub ≡ []) × Lacks 46 word) ⊎ (is_sub sub ≡ true)
+      → OpensSection (codes "[" ++ word ++ in_quotes sub ++ codes "]\n") (word, sub)
+  section_opens (inl none) = subst (λ s. OpensSection (codes "[" ++ word ++ in_quotes s ++ codes "]\n") (word, s)) (sym none.0)
+      (word_line none.1)
   section_opens (inr some) = by sub sub_utf8 some
     where
       by : (s : List ℕ) → IsUtf8 s → is_sub s ≡ true → OpensSection (codes "[" ++ word ++ in_quotes s ++ codes "]\n") (word, s)

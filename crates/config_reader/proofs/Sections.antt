@@ -1,7 +1,7 @@
 -- The sections that lines open.
-use Rattle.std.proofs.Common.{◌≡◌, ◌≢◌, ◌⊎◌, ℕ, ◌<◌, ◌==◌, ◌&&◌, Bool, true, false, not, inl, inr, List, [], ◌∷◌, ◌++◌, None, Some}
+use Rattle.std.proofs.Common.{◌≡◌, ◌≢◌, ◌⊎◌, ℕ, ◌<◌, ◌==◌, ◌&&◌, ◌||◌, Bool, true, false, not, inl, inr, List, [], ◌∷◌, ◌++◌, None, Some}
 use Rattle.std.proofs.Common.{refl, sym, ap, ◌∙◌, arith, length, drop}
-use Rattle.std.proofs.lemmas.Bool.{eqb-true}
+use Rattle.std.proofs.lemmas.Bool.{eqb-true, true≢false}
 use Rattle.std.proofs.lemmas.Str.{encode_ascii}
 use Rattle.std.specs.Prelude.{if◌then◌else◌}
 use Rattle.std.specs.List.{after_first, before_first, list_any, position_or_len}
@@ -9,9 +9,13 @@ use Rattle.std.specs.Str.{trim}
 use Rattle.std.specs.Str.Pattern.{FindsCharPrefix, StripsPrefix}
 use Rattle.config_reader.specs.declared.section.Section.{Section}
 use Rattle.config_reader.specs.Lines.{begins_nothing, says_nothing}
-use Rattle.config_reader.specs.Sections.{is_closed, is_sub, is_word, of_dotted, of_parts, of_unquoted}
+use Rattle.config_reader.specs.Sections.{ends_in_blank, is_closed, is_front, is_outside_sub, is_outside_unquoted, is_outside_word, is_space}
+use Rattle.config_reader.specs.Sections.{is_sub, is_word, needs_quotes, of_dotted, of_parts, of_unquoted}
+use Rattle.config_reader.specs.Values.{is_blank}
 use Rattle.config_reader.specs.Sections.{opened, opened_in_quotes, opened_without_quotes, spelled}
+use Rattle.ordered_multimap.specs.Pairs.{has_items}
 use Rattle.config_reader.proofs.Cuts.{no_byte, some_byte}
+use Rattle.config_reader.proofs.Values.{or_false}
 
 pub nothing_begins : (word : List ℕ) → length word ≡ 0 → begins_nothing word ≡ true
 nothing_begins [] none = refl
@@ -81,6 +85,12 @@ not_closed (b ∷ rest) (inl other) = by (b == 93) refl
 pub quotes_refused : (word quoted : List ℕ) → is_closed (after_first (λ b. b == 34) quoted) ≡ false → opened_in_quotes word quoted ≡ None
 quotes_refused word quoted none = rw none refl
 
+-- the byte at the end
+pub last_blank : (text : List ℕ) (b : ℕ) → ends_in_blank (text ++ b ∷ []) ≡ is_blank b
+last_blank [] b = refl
+last_blank (c ∷ []) b = refl
+last_blank (c ∷ d ∷ text) b = last_blank (d ∷ text) b
+
 pub word_refused : (inside : List ℕ)
     → (list_any (λ b. b == 93) inside ≡ false) ⊎ (says_nothing (after_first (λ b. b == 93) inside) ≡ false)
     → opened_without_quotes inside ≡ None
@@ -88,6 +98,37 @@ word_refused inside (inl none) = rw none refl
 word_refused inside (inr words) = by (list_any (λ b. b == 93) inside)
   where
     by : (bracket : Bool) → (if bracket && says_nothing (after_first (λ b. b == 93) inside)
-        then of_unquoted (trim (before_first (λ b. b == 93) inside)) else None) ≡ None
+        then of_unquoted (before_first (λ b. b == 93) inside) else None) ≡ None
     by true = rw words refl
     by false = refl
+
+-- the parts of a test that none passes
+module _ (b : ℕ) where
+  pub sub_parts : is_outside_sub b ≡ false → ((b == 34) ≡ false) × ((b == 92) ≡ false) × ((b == 10) ≡ false)
+  sub_parts none =
+      let first = or_false (b == 34 || b == 92) (b == 10) none in
+      let second = or_false (b == 34) (b == 92) first.0 in
+      (second.0, second.1, first.1)
+
+  pub word_parts : is_outside_word b ≡ false → (is_outside_sub b ≡ false) × ((b == 93) ≡ false)
+  word_parts none =
+      let both = or_false (is_outside_sub b) (needs_quotes b) none in
+      (both.0, (or_false (b == 46 || b == 91) (b == 93) (or_false (b == 46 || b == 91 || b == 93) (is_space b) both.1).0).1)
+
+  pub space_parts : is_outside_word b ≡ false → is_space b ≡ false
+  space_parts none =
+      let both = or_false (is_outside_sub b) (needs_quotes b) none in
+      (or_false (b == 46 || b == 91 || b == 93) (is_space b) both.1).1
+
+  pub unquoted_parts : is_outside_word b ≡ false → is_outside_unquoted b ≡ false
+  unquoted_parts none =
+      let both = or_false (is_outside_sub b) (needs_quotes b) none in
+      let quoted = or_false (b == 46 || b == 91 || b == 93) (is_space b) both.1 in
+      let bracket = or_false (b == 46) (b == 91) (or_false (b == 46 || b == 91) (b == 93) quoted.0).0 in
+      rw (quoted.1, bracket.1) refl
+
+-- a word with a space behind it
+pub word_front : (word : List ℕ) → has_items word ≡ true → list_any is_outside_word word ≡ false → is_front (word ++ 32 ∷ []) ≡ true
+word_front [] some none = absurd (true≢false (sym some))
+word_front (b ∷ word) some none =
+    rw (space_parts b (or_false (is_outside_word b) (list_any is_outside_word word) none).0, last_blank (b ∷ word) 32) refl

@@ -7,6 +7,7 @@ use Rattle.std.specs.Str.{drop_trailing_whitespace, skip_leading_whitespace, tri
 use Rattle.ordered_multimap.specs.Pairs.{has_items}
 use Rattle.config_reader.specs.declared.section.Section.{Section}
 use Rattle.config_reader.specs.Lines.{says_nothing}
+use Rattle.config_reader.specs.Values.{is_blank}
 
 -- a section by its word and the name between quotes, as they are spelled
 abbrev pub spelled : Section → List ℕ × List ℕ
@@ -20,9 +21,13 @@ IsTrimmed cs = (skip_leading_whitespace cs ≡ cs) × (drop_trailing_whitespace 
 abbrev pub is_outside_sub : ℕ → Bool
 is_outside_sub b = b == 34 || b == 92 || b == 10
 
--- a dot or a bracket, which only a name between quotes can have
+-- a blank of ASCII other than a line feed
+abbrev pub is_space : ℕ → Bool
+is_space b = b == 32 || b == 9 || b == 11 || b == 12 || b == 13
+
+-- a dot, a bracket or a blank, which only a name between quotes can have
 abbrev pub needs_quotes : ℕ → Bool
-needs_quotes b = b == 46 || b == 91 || b == 93
+needs_quotes b = b == 46 || b == 91 || b == 93 || is_space b
 
 -- what no word has: what no name between quotes has, or what only such a name can have
 abbrev pub is_outside_word : ℕ → Bool
@@ -54,25 +59,41 @@ abbrev pub is_closed : List ℕ → Bool
 is_closed [] = false
 is_closed (b ∷ behind) = b == 93 && says_nothing behind
 
+-- whether a text has a blank as its last byte, and none as its first one
+abbrev pub ends_in_blank : List ℕ → Bool
+ends_in_blank [] = false
+ends_in_blank (b ∷ []) = is_blank b
+ends_in_blank (b ∷ c ∷ text) = ends_in_blank (c ∷ text)
+
+abbrev pub is_front : List ℕ → Bool
+is_front [] = false
+is_front (b ∷ text) = not (is_space b) && ends_in_blank (b ∷ text)
+
 -- the section that a line opens, by what stands in front of its first quote and behind it
 abbrev pub opened_in_quotes : List ℕ → List ℕ → Option (List ℕ × List ℕ)
 opened_in_quotes word quoted =
-    if is_closed (after_first (λ b. b == 34) quoted)
+    if is_closed (after_first (λ b. b == 34) quoted) && is_front word
     then of_parts (trim word) (before_first (λ b. b == 34) quoted) else None
 
 -- whether a letter behind the first dot is a capital
 abbrev pub has_capital_behind_dot : List ℕ → Bool
 has_capital_behind_dot name = list_any is_ascii_uppercase (after_first (λ b. b == 46) name)
 
+-- a blank or a bracket, which no name without quotes has
+abbrev pub is_outside_unquoted : ℕ → Bool
+is_outside_unquoted b = is_space b || b == 91
+
 -- the section of the name that a line without quotes has
 abbrev pub of_unquoted : List ℕ → Option (List ℕ × List ℕ)
-of_unquoted name = if has_capital_behind_dot name then None else of_dotted name
+of_unquoted name =
+    if list_any is_outside_unquoted name || has_capital_behind_dot name
+    then None else of_dotted name
 
 -- the section that a line without quotes opens
 abbrev pub opened_without_quotes : List ℕ → Option (List ℕ × List ℕ)
 opened_without_quotes inside =
     if list_any (λ b. b == 93) inside && says_nothing (after_first (λ b. b == 93) inside)
-    then of_unquoted (trim (before_first (λ b. b == 93) inside)) else None
+    then of_unquoted (before_first (λ b. b == 93) inside) else None
 
 -- the section that a line opens, by what stands behind its first bracket
 abbrev pub opened : List ℕ → Option (List ℕ × List ℕ)

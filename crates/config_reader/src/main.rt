@@ -61,6 +61,7 @@ mod name;
 mod reader;
 mod section;
 mod setting;
+mod spaces;
 mod value;
 
 use crate::answer::{add_answer_of_command, add_answers};

@@ -16,6 +16,7 @@ ghost use Rattle.config_reader.specs.Listed.{listed_section};
 ghost use Rattle.config_reader.specs.Written.{behind_dot, in_quotes, section_line, section_name};
 
 use crate::lines::says_nothing;
+use crate::spaces::{has_outside_unquoted, is_front, is_space};
 use ascii_caseless::AsciiCaseless;
 use program_parts::bad;
 use std::alloc::{AllocError, Global};
@@ -104,6 +105,9 @@ impl<'t> Section<'t> {
         ensures refused { IfErr result (λ _. opened_in_quotes word.now quoted.now ≡ None) }
         ensures bad { IfErr result (λ error. error_kind error ≡ InvalidData) }
     {
+        if !is_front(word) {
+            return Err(bad("not the name of a section"));
+        }
         let Some((sub, behind)) = quoted.split_once('"') else {
             return Err(bad("not a section or a setting"));
         };
@@ -121,7 +125,7 @@ impl<'t> Section<'t> {
         ensures bad { IfErr result (λ error. error_kind error ≡ InvalidData) }
     {
         match inside.split_once(']') {
-            Some((name, behind)) if says_nothing(behind) => Section::of_name(name.trim()),
+            Some((name, behind)) if says_nothing(behind) => Section::of_name(name),
             _ => Err(bad("not a section or a setting")),
         }
     }
@@ -133,6 +137,9 @@ impl<'t> Section<'t> {
         ensures refused { IfErr result (λ _. of_unquoted name.now ≡ None) }
         ensures bad { IfErr result (λ error. error_kind error ≡ InvalidData) }
     {
+        if has_outside_unquoted(name) {
+            return Err(bad("not the name of a section"));
+        }
         if has_capital_behind_dot(name) {
             return Err(bad("capital behind the dot of a section; put the name between quotes"));
         }
@@ -212,7 +219,7 @@ fn is_word(text: &str) -> bool
 fn needs_quotes(byte: u8) -> bool
     ensures { result ≡ needs_quotes byte }
 {
-    matches!(byte, b'.' | b'[' | b']')
+    matches!(byte, b'.' | b'[' | b']') || is_space(byte)
 }
 
 // Whether a letter behind the first dot is a capital.
